@@ -1,0 +1,27 @@
+//! Why a source has no token list.
+
+use thiserror::Error;
+
+/// The first place in a source where no token stands, or want of memory.
+/// `at` is the byte at which the faulty text starts.
+#[derive(Clone, Copy, Debug, PartialEq, Eq, Error)]
+pub enum LexFault {
+    /// A byte that begins nothing that C has.
+    #[error("byte")]
+    Byte { at: u32 },
+    /// A number, a character constant or a comment that is not well formed.
+    #[error("token")]
+    Token { at: u32 },
+    /// A `#` that begins no line marker.
+    #[error("directive")]
+    Directive { at: u32 },
+    /// A word, punctuator or literal of C that this project leaves out.
+    #[error("outside word")]
+    OutsideWord { at: u32 },
+    /// An integer constant that no type of its list holds (C17 6.4.4.1).
+    #[error("constant too wide")]
+    Limit { at: u32 },
+    /// Want of memory.
+    #[error("out of memory")]
+    OutOfMemory,
+}
