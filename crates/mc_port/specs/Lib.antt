@@ -1,0 +1,7 @@
+pub mod Causes
+pub mod HostStore
+pub mod MemorySink
+pub mod MemoryStore
+pub mod Sink
+pub mod Store
+pub mod Words
