@@ -1,5 +1,5 @@
 -- What a store in memory answers, exactly.
-use Rattle.std.specs.Prelude.{◌≡◌, ℕ, ◌+◌, ◌<◌, ◌≤◌, List, length, map, Option, Some, None, Result, Ok, Err, ⊤, Vec, String, string_bytes, ◌⊎◌, Any}
+use Rattle.std.specs.Prelude.{◌≡◌, ℕ, ◌+◌, ◌<◌, ◌≤◌, List, length, map, Some, None, Result, Ok, Err, ⊤, Vec, String, string_bytes, ◌⊎◌, Any}
 use Rattle.std.specs.declared.alloc.Global.{Global}
 use Rattle.mc_port.specs.Causes.{raised}
 use Rattle.mc_port.specs.Store.{Files, file_of}

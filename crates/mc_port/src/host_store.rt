@@ -65,10 +65,7 @@ impl<R: Files + Drop> Store for HostStore<R> {
 
     fn load(&mut self, alloc: Global, name: &str, limit: u64) -> Result<Vec<u8>, LoadFault> {
         let answer = match fs::open(&self.runtime, name) {
-            Ok(file) => {
-                let mut file = file;
-                read_up_to(alloc, &mut file, limit)
-            }
+            Ok(mut file) => read_up_to(alloc, &mut file, limit),
             Err(_) => Err(LoadFault::Failed),
         };
         match answer {
