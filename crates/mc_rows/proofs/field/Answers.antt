@@ -1,4 +1,4 @@
-use Rattle.std.proofs.Common.{◌≡◌, ℕ, List, [], ◌∷◌, zero, suc, Some, None, get_or, refl, sym, arith}
+use Rattle.std.proofs.Common.{◌≡◌, ℕ, List, [], ◌∷◌, zero, suc, None, get_or, refl, sym}
 use Rattle.csv.specs.Records.{field_at, fields_of}
 use Rattle.csv.proofs.RecordFacts.{field-get}
 use Rattle.mc_rows.proofs.field.Goals as goal
