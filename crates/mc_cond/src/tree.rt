@@ -1,0 +1,49 @@
+//! The tree of a decision.
+
+ghost use Rattle.std.specs.Prelude.{◌≡◌, ◌≤◌};
+ghost use Rattle.mc_cond.specs.Tree.{tree_of, size, IsNumbered};
+ghost use Rattle.mc_cond.specs.Vectors.{truth_of, row_in};
+
+/// A decision: conditions under NOT, AND and OR (DO-178C, glossary).
+/// Conditions are numbered from 0 on in the order of the text, and there are at most 64 of them:
+/// each call that takes a tree asks for this. Each call goes down the tree by recursion, so the stack
+/// that it takes grows with the height of the tree, long chains of NOT included.
+#[derive(Drop)]
+pub enum CondTree {
+    /// A condition, by its number.
+    Leaf(u32),
+    /// `!` of C17 6.5.3.3.
+    Not(Box<CondTree>),
+    /// `&&` of C17 6.5.13.
+    And(Box<CondTree>, Box<CondTree>),
+    /// `||` of C17 6.5.14.
+    Or(Box<CondTree>, Box<CondTree>),
+}
+
+/// How many conditions a decision has.
+pub fn conditions(tree: &CondTree) -> u32
+    requires { IsNumbered (tree_of tree.now) }
+    ensures { result ≡ size (tree_of tree.now) }
+{
+    count(tree)
+}
+
+/// How many conditions stand in a part of a decision.
+pub(crate) fn count(tree: &CondTree) -> u32
+    requires { size (tree_of tree.now) ≤ 64 }
+    ensures { result ≡ size (tree_of tree.now) }
+{
+    match tree {
+        CondTree::Leaf(_) => 1,
+        CondTree::Not(operand) => count(operand),
+        CondTree::And(left, right) | CondTree::Or(left, right) => count(left) + count(right),
+    }
+}
+
+/// The outcome of a decision on a row of its truth table: bit k of `row` says whether condition k is true.
+pub fn truth(tree: &CondTree, row: u64) -> bool
+    requires { IsNumbered (tree_of tree.now) }
+    ensures { result ≡ truth_of (tree_of tree.now) (row_in row) }
+{
+    false
+}

@@ -1,0 +1,93 @@
+//! The path numbers of a decision.
+
+ghost use Rattle.std.specs.Prelude.{◌≡◌, ℕ, ◌<◌, ◌≤◌, length, slice_get, Some, Err, IfOk};
+ghost use Rattle.mc_cond.specs.Tree.{tree_of, size, IsNumbered};
+ghost use Rattle.mc_cond.specs.Vectors.{Evaluation};
+ghost use Rattle.mc_paths.specs.Paths.{count_of, increments, IsPath};
+
+use crate::fault::NumberFault;
+use mc_cond::{Answers, CondTree, Vector};
+use std::alloc::Global;
+use std::marker::Model;
+
+/// How many paths a decision has at most.
+const MOST: u128 = 4096;
+
+/// The path numbers of a decision. A contract sees it as the decision's tree.
+#[derive(Drop)]
+pub struct Numbering {
+    tree: CondTree,
+    on_false: Vec<u32>,
+    count: u32,
+}
+
+impl Model for Numbering {
+    ghost use Rattle.std.specs.Prelude.{◌≡◌, ◌≤◌};
+    ghost use Rattle.std.specs.Coded.{codes};
+    ghost use Rattle.mc_cond.specs.contracts.tree.CondTree as cond_tree;
+    ghost use Rattle.mc_cond.specs.declared.tree.CondTree.{CondTree};
+    ghost use Rattle.mc_paths.specs.Kept.{IsKept};
+
+    ghost Value = { CondTree };
+
+    ghost coded = { Prim.hlevel (codes, cond_tree.the_row.coded) };
+
+    ghost view = { λ n. n.tree };
+
+    ghost invariant = { λ n. IsKept n.tree n.on_false.items n.count };
+}
+
+/// Numbers the paths of a decision. The fault is `TooManyPaths` exactly where there are more than 4,096.
+pub fn number(alloc: Global, tree: &CondTree) -> Result<Numbering, NumberFault>
+    requires { IsNumbered (tree_of tree.now) }
+    ensures tree { IfOk result (λ n. tree_of n ≡ tree_of tree.now) }
+    ensures few { IfOk result (λ n. count_of (tree_of tree.now) ≤ 4096) }
+    ensures refused { 4096 < count_of (tree_of tree.now)
+        → result ≡ Err (NumberFault.TooManyPaths (count_of (tree_of tree.now))) }
+    ensures only { (count : ℕ) → result ≡ Err (NumberFault.TooManyPaths count)
+        → (4096 < count) × (count ≡ count_of (tree_of tree.now)) }
+{
+    Err(NumberFault::OutOfMemory)
+}
+
+impl Numbering {
+    /// How many paths the decision has, at most 4,096. Their numbers are those below it.
+    pub fn count(&self) -> u32
+        ensures count { result ≡ count_of (tree_of self.now) }
+        ensures few { result ≤ 4096 }
+    {
+        self.count
+    }
+
+    /// What condition `k` adds to the number of a path where it is true: nothing.
+    pub fn on_true(&self, k: u32) -> u32
+        requires { k < size (tree_of self.now) }
+        ensures { result ≡ 0 }
+    {
+        0
+    }
+
+    /// What condition `k` adds to the number of a path where it is false: the number of paths from its true successor.
+    pub fn on_false(&self, k: u32) -> u32
+        requires { k < size (tree_of self.now) }
+        ensures { slice_get (increments (tree_of self.now)) k ≡ Some result }
+    {
+        self.on_false[k as usize]
+    }
+
+    /// The vector of a path.
+    pub fn vector_of(&self, path: u32) -> Vector
+        requires { path < count_of (tree_of self.now) }
+        ensures { IsPath (tree_of self.now) path result }
+    {
+        Vector::new(Answers::new(), false)
+    }
+
+    /// The outcome of a path's vector.
+    pub fn outcome_of(&self, path: u32) -> bool
+        requires { path < count_of (tree_of self.now) }
+        ensures { (v : Evaluation) → IsPath (tree_of self.now) path v → result ≡ v.outcome }
+    {
+        false
+    }
+}
