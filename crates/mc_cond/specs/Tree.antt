@@ -1,5 +1,5 @@
 -- A decision's tree, without where it lies in memory.
-use Rattle.std.specs.Prelude.{◌≡◌, ℕ, ◌+◌, ◌≤◌}
+use Rattle.std.specs.Prelude.{◌≡◌, ℕ, ◌+◌, ◌<◌, ◌≤◌}
 use Rattle.mc_cond.specs.declared.tree.CondTree.{CondTree}
 use Rattle.mc_cond.specs.declared.tree.CondTree.TheVariants as code
 
@@ -35,3 +35,10 @@ IsNumberedFrom first (Or a b) = IsNumberedFrom first a × IsNumberedFrom (first 
 pub record IsNumbered (t : Tree) : Type 0 where
   pub in_order : IsNumberedFrom 0 t
   pub few : size t ≤ 64
+
+-- the number of each condition is below the limit
+abbrev pub AreBelow : ℕ → Tree → Type 0
+AreBelow limit (Leaf k) = k < limit
+AreBelow limit (Not a) = AreBelow limit a
+AreBelow limit (And a b) = AreBelow limit a × AreBelow limit b
+AreBelow limit (Or a b) = AreBelow limit a × AreBelow limit b

@@ -35,21 +35,18 @@ pub record Evaluation : Type 0 where
 abbrev pub skipped : Tree → List (Option Bool)
 skipped t = replicate (size t) None
 
--- the first operand settles the outcome, and the second is not evaluated
-abbrev pub settled_by : Evaluation → Tree → Evaluation
-settled_by first right = record { answers = first.answers ++ skipped right; outcome = first.outcome }
-
--- both operands are evaluated, and the second gives the outcome
-abbrev pub decided_by : Evaluation → Evaluation → Evaluation
-decided_by first second = record { answers = first.answers ++ second.answers; outcome = second.outcome }
+-- Behind its first operand the second is evaluated where it is needed, and then gives the outcome. Else the first settles it.
+abbrev pub followed_where : Bool → Evaluation → Tree → Evaluation → Evaluation
+followed_where true first right second = record { answers = first.answers ++ second.answers; outcome = second.outcome }
+followed_where false first right second = record { answers = first.answers ++ skipped right; outcome = first.outcome }
 
 -- Short-circuit evaluation on a row. `!` turns the outcome round (C17 6.5.3.3). The second operand of `&&` is evaluated
 -- only where the first is true (C17 6.5.13), and that of `||` only where the first is false (C17 6.5.14).
 abbrev pub evaluated : Tree → Row → Evaluation
 evaluated (Leaf k) row = record { answers = Some (row k) ∷ []; outcome = row k }
 evaluated (Not a) row = record { answers = (evaluated a row).answers; outcome = not (evaluated a row).outcome }
-evaluated (And a b) row = if (evaluated a row).outcome then decided_by (evaluated a row) (evaluated b row) else settled_by (evaluated a row) b
-evaluated (Or a b) row = if (evaluated a row).outcome then settled_by (evaluated a row) b else decided_by (evaluated a row) (evaluated b row)
+evaluated (And a b) row = followed_where (evaluated a row).outcome (evaluated a row) b (evaluated b row)
+evaluated (Or a b) row = followed_where (not (evaluated a row).outcome) (evaluated a row) b (evaluated b row)
 
 -- a vector of a tree is what short-circuit evaluation of some row gives
 abbrev pub IsVector : Tree → Evaluation → Type 0

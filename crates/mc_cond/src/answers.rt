@@ -1,11 +1,8 @@
 //! The answers of a decision's conditions, as far as they are known.
 
-ghost use Rattle.std.specs.Prelude.{◌≡◌, ◌+◌, ◌<◌, ◌≤◌, List, [], ◌∷◌, ◌++◌, length, take, replicate, None, Option, Bool};
+ghost use Rattle.std.specs.Prelude.{◌≡◌, ◌+◌, ◌<◌, ◌≤◌, List, [], ◌∷◌, ◌++◌, length, take, replicate, slice_get, Some, None, Option, Bool};
 
 use std::marker::Model;
-
-/// How many conditions a decision has at most.
-const MOST: usize = 64;
 
 /// The answers of conditions from the first on: true, false, or not evaluated. It holds at most 64.
 #[derive(Drop)]
@@ -19,7 +16,7 @@ impl Model for Answers {
 
     ghost view = { λ a. take a.len a.given };
 
-    ghost invariant = { λ a. a.len ≤ 64 };
+    ghost invariant = { λ a. (a.len ≤ 64) × (length a.given ≡ 64) };
 }
 
 impl Answers {
@@ -46,7 +43,8 @@ impl Answers {
         requires { k < length self.now }
         ensures { slice_get self.now k ≡ Some result }
     {
-        self.given[k]
+        let given = &self.given;
+        given[k]
     }
 
     /// Adds the answer of the next condition.

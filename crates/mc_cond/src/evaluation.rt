@@ -26,6 +26,7 @@ fn evaluate(tree: &CondTree, answers: &[bool], seen: &mut Answers) -> bool
     requires few { length answers.now ≤ 64 }
     ensures outcome { result ≡ (evaluated (tree_of tree.now) (row_of answers.now)).outcome }
     ensures seen { seen.new ≡ seen.old ++ (evaluated (tree_of tree.now) (row_of answers.now)).answers }
+    ensures passed { length seen.new ≡ length seen.old + size (tree_of tree.now) }
 {
     match tree {
         CondTree::Leaf(k) => {

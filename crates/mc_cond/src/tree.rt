@@ -1,7 +1,7 @@
 //! The tree of a decision.
 
 ghost use Rattle.std.specs.Prelude.{◌≡◌, ◌≤◌};
-ghost use Rattle.mc_cond.specs.Tree.{tree_of, size, IsNumbered};
+ghost use Rattle.mc_cond.specs.Tree.{tree_of, size, IsNumbered, AreBelow};
 ghost use Rattle.mc_cond.specs.Vectors.{truth_of, row_in};
 
 /// A decision: conditions under NOT, AND and OR (DO-178C, glossary).
@@ -45,5 +45,18 @@ pub fn truth(tree: &CondTree, row: u64) -> bool
     requires { IsNumbered (tree_of tree.now) }
     ensures { result ≡ truth_of (tree_of tree.now) (row_in row) }
 {
-    false
+    holds(tree, row)
+}
+
+/// The outcome of a part of a decision.
+fn holds(tree: &CondTree, row: u64) -> bool
+    requires { AreBelow 64 (tree_of tree.now) }
+    ensures { result ≡ truth_of (tree_of tree.now) (row_in row) }
+{
+    match tree {
+        CondTree::Leaf(k) => (row >> *k) & 1 == 1,
+        CondTree::Not(operand) => !holds(operand, row),
+        CondTree::And(left, right) => holds(left, row) && holds(right, row),
+        CondTree::Or(left, right) => holds(left, row) || holds(right, row),
+    }
 }
