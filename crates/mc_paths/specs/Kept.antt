@@ -8,5 +8,5 @@ use Rattle.mc_paths.specs.Paths.{count_of, increments}
 pub record IsKept (tree : CondTree) (on_false : List ℕ) (count : ℕ) : Type 0 where
   pub numbered : IsNumbered (tree_of tree)
   pub edges : on_false ≡ increments (tree_of tree)
-  pub count : count ≡ count_of (tree_of tree)
+  pub total : count ≡ count_of (tree_of tree)
   pub few : count ≤ 4096
