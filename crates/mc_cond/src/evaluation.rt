@@ -5,7 +5,7 @@ ghost use Rattle.mc_cond.specs.Tree.{tree_of, size, IsNumbered, IsNumberedFrom};
 ghost use Rattle.mc_cond.specs.Vectors.{evaluated, row_of};
 
 use crate::answers::Answers;
-use crate::tree::{CondTree, count};
+use crate::tree::{CondTree, conditions_in};
 use crate::vector::Vector;
 
 /// Evaluates a decision whose conditions have these answers, condition 0 first (C17 6.5.13, 6.5.14).
@@ -39,13 +39,13 @@ fn evaluate(tree: &CondTree, answers: &[bool], seen: &mut Answers) -> bool
             if evaluate(left, answers, seen) {
                 evaluate(right, answers, seen)
             } else {
-                seen.skip(count(right));
+                seen.skip(conditions_in(right));
                 false
             }
         }
         CondTree::Or(left, right) => {
             if evaluate(left, answers, seen) {
-                seen.skip(count(right));
+                seen.skip(conditions_in(right));
                 true
             } else {
                 evaluate(right, answers, seen)

@@ -13,5 +13,5 @@ pub use laws::{
     completion_has_outcome, completion_has_vector, flip_stays, operand_takes_either,
     vector_has_completion,
 };
-pub use tree::{CondTree, conditions, truth};
+pub use tree::{CondTree, conditions, conditions_in, truth};
 pub use vector::Vector;

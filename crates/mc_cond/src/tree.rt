@@ -25,18 +25,19 @@ pub fn conditions(tree: &CondTree) -> u32
     requires { IsNumbered (tree_of tree.now) }
     ensures { result ≡ size (tree_of tree.now) }
 {
-    count(tree)
+    conditions_in(tree)
 }
 
 /// How many conditions stand in a part of a decision.
-pub(crate) fn count(tree: &CondTree) -> u32
+pub fn conditions_in(tree: &CondTree) -> u32
     requires { size (tree_of tree.now) ≤ 64 }
     ensures { result ≡ size (tree_of tree.now) }
 {
     match tree {
         CondTree::Leaf(_) => 1,
-        CondTree::Not(operand) => count(operand),
-        CondTree::And(left, right) | CondTree::Or(left, right) => count(left) + count(right),
+        CondTree::Not(operand) => conditions_in(operand),
+        CondTree::And(left, right) | CondTree::Or(left, right) => conditions_in(left)
+            + conditions_in(right),
     }
 }
 

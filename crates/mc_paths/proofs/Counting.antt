@@ -1,10 +1,13 @@
 -- Numbers of paths, and sums along them.
-use Rattle.std.proofs.Common.{◌≡◌, ℕ, zero, suc, ◌+◌, ◌*◌, ◌^◌, ◌<◌, ◌≤◌, Bool, true, false, not, Option, Some, None, List, [], ◌∷◌, ◌++◌, length, replicate, refl, sym, ap, ◌∙◌, arith, length-append}
+use Rattle.std.proofs.Common.{◌≡◌, ℕ, zero, suc, ◌+◌, ◌-◌, ◌*◌, ◌^◌, ◌<◌, ◌≤◌, Bool, true, false, not, Option, Some, None, List, [], ◌∷◌, ◌++◌, length, replicate, refl, sym, ◌∙◌, arith, length-append}
 use Rattle.std.specs.Prelude.{if◌then◌else◌}
+use Rattle.std.proofs.lemmas.Nat.{pow-add}
+use Rattle.std.proofs.Math.Nat.{mul_assoc}
+use Rattle.std.proofs.Math.Pow.{pow_mono}
 use Rattle.mc_cond.specs.Tree.{Tree, Leaf, Not, And, Or, size}
 use Rattle.mc_cond.specs.Vectors.{Row, Evaluation, skipped, followed_where, evaluated}
 use Rattle.mc_cond.proofs.Rows.{length_answers}
-use Rattle.mc_paths.specs.Paths.{paths, false_edges, sum_along}
+use Rattle.mc_paths.specs.Paths.{paths, false_edges, sum_along, AreWithin}
 
 -- how many paths lead on from an outcome
 abbrev pub room : Bool → ℕ → ℕ → ℕ
@@ -24,6 +27,49 @@ paths_least (Or a b) x y =
     let q : (x ≤ paths b x y) × (y ≤ paths b x y) = paths_least b x y in
     let p : (x ≤ paths a x (paths b x y)) × (paths b x y ≤ paths a x (paths b x y)) = paths_least a x (paths b x y) in
     (p.0, omega (arith, p.1, q.1))
+
+pub true_least : (t : Tree) (x y : ℕ) → x ≤ paths t x y
+true_least t x y = (paths_least t x y).0
+
+pub false_least : (t : Tree) (x y : ℕ) → y ≤ paths t x y
+false_least t x y = (paths_least t x y).1
+
+-- no condition has more paths than the whole tree
+pub within_whole : (t : Tree) (x y limit : ℕ) → paths t x y ≤ limit → AreWithin limit t x y
+within_whole (Leaf k) x y limit h = h
+within_whole (Not a) x y limit h = within_whole a y x limit h
+within_whole (And a b) x y limit h = (within_whole b x y limit (omega (arith, h, true_least a (paths b x y) y)), within_whole a (paths b x y) y limit h)
+within_whole (Or a b) x y limit h = (within_whole b x y limit (omega (arith, h, false_least a x (paths b x y))), within_whole a x (paths b x y) limit h)
+
+pub within_more : (t : Tree) (x y limit more : ℕ) → limit ≤ more → AreWithin limit t x y → AreWithin more t x y
+within_more (Leaf k) x y limit more l h = omega (arith, l, h)
+within_more (Not a) x y limit more l h = within_more a y x limit more l h
+within_more (And a b) x y limit more l h = (within_more b x y limit more l h.0, within_more a (paths b x y) y limit more l h.1)
+within_more (Or a b) x y limit more l h = (within_more b x y limit more l h.0, within_more a x (paths b x y) limit more l h.1)
+
+-- two bounds in one power
+one_power : (n a b m : ℕ) → n ≤ 2 ^ a * (2 ^ b * m) → n ≤ 2 ^ (a + b) * m
+one_power n a b m h = rw (pow-add 2 a b, mul_assoc (2 ^ a) (2 ^ b) m) h
+
+-- where no more than m lead on from either side, each condition at most doubles the number of paths
+pub paths_most : (t : Tree) (x y m : ℕ) → x ≤ m → y ≤ m → paths t x y ≤ 2 ^ size t * m
+paths_most (Leaf k) x y m hx hy = omega (arith, hx, hy)
+paths_most (Not a) x y m hx hy = paths_most a y x m hy hx
+paths_most (And a b) x y m hx hy =
+    let within : paths b x y ≤ 2 ^ size b * m = paths_most b x y m hx hy in
+    let past : y ≤ 2 ^ size b * m = omega (arith, within, false_least b x y) in
+    one_power (paths a (paths b x y) y) (size a) (size b) m (paths_most a (paths b x y) y (2 ^ size b * m) within past)
+paths_most (Or a b) x y m hx hy =
+    let within : paths b x y ≤ 2 ^ size b * m = paths_most b x y m hx hy in
+    let past : x ≤ 2 ^ size b * m = omega (arith, within, true_least b x y) in
+    one_power (paths a x (paths b x y)) (size a) (size b) m (paths_most a x (paths b x y) (2 ^ size b * m) past within)
+
+-- the count of a decision fits its type
+pub count_fits : (t : Tree) → size t ≤ 64 → AreWithin (2 ^ 128 - 1) t 1 1
+count_fits t few =
+    let power : 2 ^ size t ≤ 2 ^ 64 = pow_mono few in
+    let most : paths t 1 1 ≤ 2 ^ 128 - 1 = omega (arith, power, paths_most t 1 1 1 (omega arith) (omega arith)) in
+    within_whole t 1 1 (2 ^ 128 - 1) most
 
 -- an increment for each condition
 pub length_edges : (t : Tree) (x y : ℕ) → length (false_edges t x y) ≡ size t
@@ -104,8 +150,8 @@ below (Not a) row x y c lt = below a row y x c (rw (← room_not (evaluated a ro
 below (And a b) row x y c lt =
     let o : Bool = (evaluated a row).outcome in
     below_both o (evaluated a row) b (evaluated b row) (false_edges a (paths b x y) y) (false_edges b x y) (paths b x y) y (paths b x y) x y (paths a (paths b x y) y)
-        (same_length a row (paths b x y) y) (leads_and (paths b x y) x y o) (below a row (paths b x y) y) (below b row x y) c lt
+    (same_length a row (paths b x y) y) (leads_and (paths b x y) x y o) (below a row (paths b x y) y) (below b row x y) c lt
 below (Or a b) row x y c lt =
     let o : Bool = (evaluated a row).outcome in
     below_both (not o) (evaluated a row) b (evaluated b row) (false_edges a x (paths b x y)) (false_edges b x y) x (paths b x y) (paths b x y) x y (paths a x (paths b x y))
-        (same_length a row x (paths b x y)) (leads_or (paths b x y) x y o) (below a row x (paths b x y)) (below b row x y) c lt
+    (same_length a row x (paths b x y)) (leads_or (paths b x y) x y o) (below a row x (paths b x y)) (below b row x y) c lt

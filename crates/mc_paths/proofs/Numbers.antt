@@ -1,9 +1,9 @@
 -- Path numbers and vectors of a decision correspond one to one, order kept.
-use Rattle.std.proofs.Common.{◌≡◌, ℕ, ◌+◌, ◌<◌, ◌≤◌, Bool, true, false, Option, List, [], ◌∷◌, ◌⊎◌, inl, inr, length, refl, sym, ap, ◌∙◌, subst, arith}
+use Rattle.std.proofs.Common.{◌≡◌, ℕ, ◌+◌, ◌<◌, Bool, true, false, Option, List, [], ◌∷◌, inl, inr, sym, ap, ◌∙◌, subst, arith}
 use Rattle.std.specs.Prelude.{◌↔◌, slice_index}
 use Rattle.mc_cond.specs.Tree.{Tree, IsNumberedFrom}
-use Rattle.mc_cond.specs.Vectors.{Row, Evaluation, evaluated, rank, IsVector, IsBefore}
-use Rattle.mc_paths.specs.Paths.{paths, false_edges, sum_along, count_of, increments, path_of, IsPath}
+use Rattle.mc_cond.specs.Vectors.{Evaluation, evaluated, rank, IsVector, IsBefore}
+use Rattle.mc_paths.specs.Paths.{count_of, increments, path_of, IsPath}
 use Rattle.mc_paths.specs.Descent.{Descent, descent}
 use Rattle.mc_paths.proofs.Counting.{room, below}
 use Rattle.mc_paths.proofs.Ordering.{Ahead, Compared, compared}
@@ -71,3 +71,19 @@ descent_path t path n lt =
     let r : Reaches t 1 1 path (descent t (increments t) path) = reaches t 0 1 1 path (increments t) n (λ k less. ap P (omega arith)) lt in
     let d : Descent = descent t (increments t) path in
     record { vector = (r.row, r.same); number = omega (arith, r.sum, none_left d.left d.outcome r.within) }
+
+alike : (v w : Evaluation) → v.answers ≡ w.answers → v.outcome ≡ w.outcome → v ≡ w
+alike v w e f =
+    let P : List (Option Bool) → Evaluation = λ xs. record { answers = xs; outcome = v.outcome } in
+    let Q : Bool → Evaluation = λ o. record { answers = w.answers; outcome = o } in
+    ap P e ∙ ap Q f
+
+-- the same, of the answers and the outcome that the program finds
+pub followed_path : (t : Tree) (path : ℕ) (on_false : List ℕ) (v : Evaluation) → IsNumberedFrom 0 t → path < count_of t → on_false ≡ increments t
+    → v.answers ≡ (descent t on_false path).answers → v.outcome ≡ (descent t on_false path).outcome → IsPath t path v
+followed_path t path on_false v n lt edges answers outcome =
+    let P : Evaluation → Type 0 = λ w. IsPath t path w in
+    let Q : List ℕ → Type 0 = λ es. (v.answers ≡ (descent t es path).answers) × (v.outcome ≡ (descent t es path).outcome) in
+    let at : (v.answers ≡ (descent t (increments t) path).answers) × (v.outcome ≡ (descent t (increments t) path).outcome) = subst Q edges (answers, outcome) in
+    let same : seen (descent t (increments t) path) ≡ v = sym (alike v (seen (descent t (increments t) path)) at.0 at.1) in
+    subst P same (descent_path t path n lt)

@@ -1,7 +1,7 @@
 -- The order of path numbers is the order of vectors.
-use Rattle.std.proofs.Common.{◌≡◌, ℕ, ◌+◌, ◌<◌, ◌≤◌, Bool, true, false, not, Option, Some, None, List, [], ◌∷◌, ◌++◌, ◌⊎◌, inl, inr, length, refl, sym, ap, ◌∙◌, subst, arith}
-use Rattle.mc_cond.specs.Tree.{Tree, Leaf, Not, And, Or, size}
-use Rattle.mc_cond.specs.Vectors.{Row, Evaluation, skipped, followed_where, evaluated, rank, IsBefore}
+use Rattle.std.proofs.Common.{◌≡◌, ℕ, ◌+◌, ◌<◌, Bool, true, false, not, Option, Some, List, [], ◌∷◌, ◌++◌, ◌⊎◌, inl, inr, length, refl, ap, subst, arith}
+use Rattle.mc_cond.specs.Tree.{Tree, Leaf, Not, And, Or}
+use Rattle.mc_cond.specs.Vectors.{Row, Evaluation, skipped, followed_where, evaluated, IsBefore}
 use Rattle.mc_paths.specs.Paths.{paths, false_edges, sum_along}
 use Rattle.mc_paths.proofs.Counting.{room, carry, total, carried, Leads, leads_and, leads_or, room_not, same_length, below}
 
@@ -42,15 +42,17 @@ module _ (b : Tree) (es fs : List ℕ) (u w within x y : ℕ) where
       → ((d : ℕ) → d < room g'.outcome x y → sum_along g'.answers fs + d < within)
       → Ahead es u w e e' → Ahead (es ++ fs) x y (followed_where n e b g) (followed_where m e' b g')
   ahead_first n m e e' g g' h h' leads leads' second second' ahead = record {
-      order = before_followed n m e e' g g' ahead.order;
-      gap = λ c d lt lt'. rw (total n e b g es fs c h, total m e' b g' es fs d h')
-          (ahead.gap (carry n g fs c) (carry m g' fs d) (carried n e b g fs u w within x y c leads second lt) (carried m e' b g' fs u w within x y d leads' second' lt')) }
+    order = before_followed n m e e' g g' ahead.order;
+    gap = λ c d lt lt'. rw (total n e b g es fs c h, total m e' b g' es fs d h')
+        (ahead.gap (carry n g fs c) (carry m g' fs d) (carried n e b g fs u w within x y c leads second lt) (carried m e' b g' fs u w within x y d leads' second' lt'));
+  }
 
   -- the first operands are alike, and the second is evaluated
   ahead_second : (e g g' : Evaluation) → length e.answers ≡ length es → Ahead fs x y g g' → Ahead (es ++ fs) x y (followed_where true e b g) (followed_where true e b g')
   ahead_second e g g' h ahead = record {
-      order = before_back e.answers g.answers g'.answers ahead.order;
-      gap = λ c d lt lt'. rw (total true e b g es fs c h, total true e b g' es fs d h) (omega (arith, ahead.gap c d lt lt')) }
+    order = before_back e.answers g.answers g'.answers ahead.order;
+    gap = λ c d lt lt'. rw (total true e b g es fs c h, total true e b g' es fs d h) (omega (arith, ahead.gap c d lt lt'));
+  }
 
   compared_second : (n : Bool) (e g g' : Evaluation) → length e.answers ≡ length es → Compared fs x y g g' → Compared (es ++ fs) x y (followed_where n e b g) (followed_where n e b g')
   compared_second true e g g' h (inl same) =
@@ -87,8 +89,9 @@ opposite v = record { answers = v.answers; outcome = not v.outcome }
 
 ahead_not : (es : List ℕ) (x y : ℕ) (v w : Evaluation) → Ahead es y x v w → Ahead es x y (opposite v) (opposite w)
 ahead_not es x y v w ahead = record {
-    order = ahead.order;
-    gap = λ c d lt lt'. ahead.gap c d (rw (← room_not v.outcome x y) lt) (rw (← room_not w.outcome x y) lt') }
+  order = ahead.order;
+  gap = λ c d lt lt'. ahead.gap c d (rw (← room_not v.outcome x y) lt) (rw (← room_not w.outcome x y) lt');
+}
 
 compared_not : (es : List ℕ) (x y : ℕ) (v w : Evaluation) → Compared es y x v w → Compared es x y (opposite v) (opposite w)
 compared_not es x y v w (inl same) = inl (ap opposite same)
@@ -103,9 +106,9 @@ compared (And a b) x y p q =
     let within : ℕ = paths b x y in
     let f : Bool → Bool = λ o. o in
     compared_both b (false_edges a (paths b x y) y) (false_edges b x y) (paths b x y) y (paths b x y) x y f (leads_and (paths b x y) x y)
-        (evaluated a p) (evaluated a q) (evaluated b p) (evaluated b q) (same_length a p (paths b x y) y) (same_length a q (paths b x y) y)
-        (below b p x y) (below b q x y) (compared a (paths b x y) y p q) (compared b x y p q)
+    (evaluated a p) (evaluated a q) (evaluated b p) (evaluated b q) (same_length a p (paths b x y) y) (same_length a q (paths b x y) y)
+    (below b p x y) (below b q x y) (compared a (paths b x y) y p q) (compared b x y p q)
 compared (Or a b) x y p q =
     compared_both b (false_edges a x (paths b x y)) (false_edges b x y) x (paths b x y) (paths b x y) x y not (leads_or (paths b x y) x y)
-        (evaluated a p) (evaluated a q) (evaluated b p) (evaluated b q) (same_length a p x (paths b x y)) (same_length a q x (paths b x y))
-        (below b p x y) (below b q x y) (compared a x (paths b x y) p q) (compared b x y p q)
+    (evaluated a p) (evaluated a q) (evaluated b p) (evaluated b q) (same_length a p x (paths b x y)) (same_length a q x (paths b x y))
+    (below b p x y) (below b q x y) (compared a x (paths b x y) p q) (compared b x y p q)

@@ -1,6 +1,6 @@
 -- Each number below the count is reached by a vector.
-use Rattle.std.proofs.Common.{◌≡◌, ℕ, ◌+◌, ◌-◌, ◌<◌, ◌≤◌, Bool, true, false, not, Option, Some, None, List, [], ◌∷◌, ◌++◌, length, length-append, get_or, refl, sym, ap, ◌∙◌, subst, arith}
-use Rattle.std.specs.Prelude.{if◌then◌else◌, nat_lt, slice_index}
+use Rattle.std.proofs.Common.{◌≡◌, ℕ, ◌+◌, ◌<◌, ◌≤◌, Bool, true, false, not, List, ◌++◌, length, length-append, refl, sym, ap, ◌∙◌, arith}
+use Rattle.std.specs.Prelude.{nat_lt, slice_index}
 use Rattle.std.proofs.lemmas.Bool.Decides.{nat_tests}
 use Rattle.std.proofs.lemmas.List.{get_or_append_left, get_or-append-add}
 use Rattle.mc_cond.specs.Tree.{Tree, Leaf, Not, And, Or, size, IsNumberedFrom}
@@ -72,10 +72,11 @@ module _ (a b : Tree) (first u w x y path : ℕ) (f : Bool → Bool) (na : IsNum
       let Q : Bool → Evaluation = λ n. followed_where n (seen d) b (evaluated b row) in
       let R : Evaluation → Evaluation = λ v. followed_where true (seen d) b v in
       record {
-          row = row;
-          same = ap P left ∙ ap Q needed ∙ ap R right;
-          sum = omega (arith, sum_append d.answers e.answers (false_edges a u w) (false_edges b x y) (lengths d r), r.sum, s.sum);
-          within = s.within }
+        row = row;
+        same = ap P left ∙ ap Q needed ∙ ap R right;
+        sum = omega (arith, sum_append d.answers e.answers (false_edges a u w) (false_edges b x y) (lengths d r), r.sum, s.sum);
+        within = s.within;
+      }
 
   both_settled : (d e : Descent) → f d.outcome ≡ false → room d.outcome u w ≡ room d.outcome x y → Reaches a u w path d → Both (descended_where false d b e)
   both_settled d e needless leads r =
@@ -83,10 +84,11 @@ module _ (a b : Tree) (first u w x y path : ℕ) (f : Bool → Bool) (na : IsNum
       let P : Evaluation → Evaluation = λ v. followed_where (f v.outcome) v b (evaluated b row) in
       let Q : Bool → Evaluation = λ n. followed_where n (seen d) b (evaluated b row) in
       record {
-          row = row;
-          same = ap P r.same ∙ ap Q needless;
-          sum = omega (arith, sum_append d.answers (skipped b) (false_edges a u w) (false_edges b x y) (lengths d r), sum_none (size b) (false_edges b x y), r.sum);
-          within = rw (← leads) r.within }
+        row = row;
+        same = ap P r.same ∙ ap Q needless;
+        sum = omega (arith, sum_append d.answers (skipped b) (false_edges a u w) (false_edges b x y) (lengths d r), sum_none (size b) (false_edges b x y), r.sum);
+        within = rw (← leads) r.within;
+      }
 
   both_reached : (n : Bool) (d e : Descent) → f d.outcome ≡ n → Leads n d.outcome u w (paths b x y) x y → Reaches a u w path d → (d.left < paths b x y → Reaches b x y d.left e) → Both (descended_where n d b e)
   both_reached true d e is leads r next = both_passed d e is r (next (rw (← leads) r.within))
@@ -105,13 +107,13 @@ reaches (And a b) first x y path on_false n h lt =
     let f : Bool → Bool = λ o. o in
     let r : Reaches a (paths b x y) y path (descent a on_false path) = reaches a first (paths b x y) y path on_false n.0 (stand_left on_false first (false_edges a (paths b x y) y) (false_edges b x y) h) lt in
     let both : Both a b first (paths b x y) y x y path f n.0 n.1 (descent (And a b) on_false path) =
-        both_reached a b first (paths b x y) y x y path f n.0 n.1 d.outcome d (descent b on_false d.left) refl (leads_and (paths b x y) x y d.outcome) r
-            (λ less. reaches b (first + size a) x y d.left on_false n.1 (stand_right on_false first (size a) (false_edges a (paths b x y) y) (false_edges b x y) (length_edges a (paths b x y) y) h) less) in
+    both_reached a b first (paths b x y) y x y path f n.0 n.1 d.outcome d (descent b on_false d.left) refl (leads_and (paths b x y) x y d.outcome) r
+    (λ less. reaches b (first + size a) x y d.left on_false n.1 (stand_right on_false first (size a) (false_edges a (paths b x y) y) (false_edges b x y) (length_edges a (paths b x y) y) h) less) in
     record { row = both.row; same = both.same; sum = both.sum; within = both.within }
 reaches (Or a b) first x y path on_false n h lt =
     let d : Descent = descent a on_false path in
     let r : Reaches a x (paths b x y) path (descent a on_false path) = reaches a first x (paths b x y) path on_false n.0 (stand_left on_false first (false_edges a x (paths b x y)) (false_edges b x y) h) lt in
     let both : Both a b first x (paths b x y) x y path not n.0 n.1 (descent (Or a b) on_false path) =
-        both_reached a b first x (paths b x y) x y path not n.0 n.1 (not d.outcome) d (descent b on_false d.left) refl (leads_or (paths b x y) x y d.outcome) r
-            (λ less. reaches b (first + size a) x y d.left on_false n.1 (stand_right on_false first (size a) (false_edges a x (paths b x y)) (false_edges b x y) (length_edges a x (paths b x y)) h) less) in
+    both_reached a b first x (paths b x y) x y path not n.0 n.1 (not d.outcome) d (descent b on_false d.left) refl (leads_or (paths b x y) x y d.outcome) r
+    (λ less. reaches b (first + size a) x y d.left on_false n.1 (stand_right on_false first (size a) (false_edges a x (paths b x y)) (false_edges b x y) (length_edges a x (paths b x y)) h) less) in
     record { row = both.row; same = both.same; sum = both.sum; within = both.within }

@@ -1,5 +1,5 @@
 -- A path followed through a tree by its number.
-use Rattle.std.specs.Prelude.{ℕ, ◌-◌, Bool, true, false, if◌then◌else◌, not, nat_lt, Option, Some, None, List, [], ◌∷◌, ◌++◌, slice_index}
+use Rattle.std.specs.Prelude.{ℕ, ◌-◌, Bool, true, false, if◌then◌else◌, not, nat_lt, Option, Some, List, [], ◌∷◌, ◌++◌, slice_index}
 use Rattle.mc_cond.specs.Tree.{Tree, Leaf, Not, And, Or}
 use Rattle.mc_cond.specs.Vectors.{skipped}
 

@@ -1,7 +1,9 @@
 //! Path numbers of decisions: one for each vector, in the order of vectors.
 #![tactic(auto)]
 
+mod descent;
 mod fault;
+mod graph;
 mod laws;
 mod numbering;
 

@@ -5,9 +5,11 @@ ghost use Rattle.mc_cond.specs.Tree.{tree_of, size, IsNumbered};
 ghost use Rattle.mc_cond.specs.Vectors.{Evaluation};
 ghost use Rattle.mc_paths.specs.Paths.{count_of, increments, IsPath};
 
+use crate::descent::follow;
 use crate::fault::NumberFault;
+use crate::graph::{add_false_edges, copied, paths};
 use mc_cond::{Answers, CondTree, Vector};
-use std::alloc::Global;
+use std::alloc::{AllocError, Global};
 use std::marker::Model;
 
 /// How many paths a decision has at most.
@@ -47,7 +49,31 @@ pub fn number(alloc: Global, tree: &CondTree) -> Result<Numbering, NumberFault>
     ensures only { (count : ℕ) → result ≡ Err (NumberFault.TooManyPaths count)
         → (4096 < count) × (count ≡ count_of (tree_of tree.now)) }
 {
-    Err(NumberFault::OutOfMemory)
+    let count = paths(tree, 1, 1);
+    if count > MOST {
+        return Err(NumberFault::TooManyPaths { count });
+    }
+    match kept(alloc, tree, count as u32) {
+        Ok(numbering) => Ok(numbering),
+        Err(_) => Err(NumberFault::OutOfMemory),
+    }
+}
+
+/// The numbering of a decision that has not too many paths.
+fn kept(alloc: Global, tree: &CondTree, count: u32) -> Result<Numbering, AllocError>
+    requires numbered { IsNumbered (tree_of tree.now) }
+    requires count { count ≡ count_of (tree_of tree.now) }
+    requires few { count ≤ 4096 }
+    ensures { IfOk result (λ n. tree_of n ≡ tree_of tree.now) }
+{
+    let mut on_false = Vec::new(alloc);
+    add_false_edges(tree, 1, 1, &mut on_false)?;
+    let tree = copied(alloc, tree)?;
+    Ok(Numbering {
+        tree,
+        on_false,
+        count,
+    })
 }
 
 impl Numbering {
@@ -72,7 +98,8 @@ impl Numbering {
         requires { k < size (tree_of self.now) }
         ensures { slice_get (increments (tree_of self.now)) k ≡ Some result }
     {
-        self.on_false[k as usize]
+        let edges = self.on_false.as_slice();
+        edges[k as usize]
     }
 
     /// The vector of a path.
@@ -80,7 +107,10 @@ impl Numbering {
         requires { path < count_of (tree_of self.now) }
         ensures { IsPath (tree_of self.now) path result }
     {
-        Vector::new(Answers::new(), false)
+        let mut seen = Answers::new();
+        let mut left = path;
+        let outcome = follow(&self.tree, &self.on_false, &mut left, &mut seen);
+        Vector::new(seen, outcome)
     }
 
     /// The outcome of a path's vector.
@@ -88,6 +118,6 @@ impl Numbering {
         requires { path < count_of (tree_of self.now) }
         ensures { (v : Evaluation) → IsPath (tree_of self.now) path v → result ≡ v.outcome }
     {
-        false
+        self.vector_of(path).outcome()
     }
 }
