@@ -36,7 +36,8 @@ fn evaluate(tree: &CondTree, answers: &[bool], seen: &mut Answers) -> bool
         }
         CondTree::Not(operand) => !evaluate(operand, answers, seen),
         CondTree::And(left, right) => {
-            if evaluate(left, answers, seen) {
+            let needed = evaluate(left, answers, seen);
+            if needed {
                 evaluate(right, answers, seen)
             } else {
                 seen.skip(conditions_in(right));
@@ -44,7 +45,8 @@ fn evaluate(tree: &CondTree, answers: &[bool], seen: &mut Answers) -> bool
             }
         }
         CondTree::Or(left, right) => {
-            if evaluate(left, answers, seen) {
+            let settled = evaluate(left, answers, seen);
+            if settled {
                 seen.skip(conditions_in(right));
                 true
             } else {

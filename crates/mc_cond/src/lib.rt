@@ -15,3 +15,6 @@ pub use laws::{
 };
 pub use tree::{CondTree, conditions, conditions_in, truth};
 pub use vector::Vector;
+
+#[cfg(test)]
+mod tests;

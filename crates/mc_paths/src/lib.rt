@@ -10,3 +10,6 @@ mod numbering;
 pub use fault::NumberFault;
 pub use laws::{number_below, number_once, number_order, number_taken};
 pub use numbering::{Numbering, number};
+
+#[cfg(test)]
+mod tests;

@@ -15,6 +15,9 @@ use std::marker::Model;
 /// How many paths a decision has at most.
 const MOST: u128 = 4096;
 
+/// What a true edge adds to a path's number.
+const ON_TRUE: u32 = 0;
+
 /// The path numbers of a decision. A contract sees it as the decision's tree.
 #[derive(Drop)]
 pub struct Numbering {
@@ -90,7 +93,7 @@ impl Numbering {
         requires { k < size (tree_of self.now) }
         ensures { result ≡ 0 }
     {
-        0
+        ON_TRUE
     }
 
     /// What condition `k` adds to the number of a path where it is false: the number of paths from its true successor.
