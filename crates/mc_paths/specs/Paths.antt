@@ -1,5 +1,5 @@
 -- Paths of a decision: their number, and the number of each.
-use Rattle.std.specs.Prelude.{◌≡◌, ℕ, ◌+◌, ◌≤◌, Bool, true, false, Option, Some, None, List, [], ◌∷◌, ◌++◌}
+use Rattle.std.specs.Prelude.{◌≡◌, ℕ, ◌+◌, Bool, true, false, Option, Some, None, List, [], ◌∷◌, ◌++◌}
 use Rattle.mc_cond.specs.Tree.{Tree, Leaf, Not, And, Or}
 use Rattle.mc_cond.specs.Vectors.{Evaluation, IsVector}
 
@@ -13,13 +13,6 @@ paths (Leaf k) after_true after_false = after_true + after_false
 paths (Not a) after_true after_false = paths a after_false after_true
 paths (And a b) after_true after_false = paths a (paths b after_true after_false) after_false
 paths (Or a b) after_true after_false = paths a after_true (paths b after_true after_false)
-
--- from each condition of the tree no more than `limit` paths lead to an outcome
-abbrev pub AreWithin : ℕ → Tree → ℕ → ℕ → Type 0
-AreWithin limit (Leaf k) after_true after_false = after_true + after_false ≤ limit
-AreWithin limit (Not a) after_true after_false = AreWithin limit a after_false after_true
-AreWithin limit (And a b) after_true after_false = AreWithin limit b after_true after_false × AreWithin limit a (paths b after_true after_false) after_false
-AreWithin limit (Or a b) after_true after_false = AreWithin limit b after_true after_false × AreWithin limit a after_true (paths b after_true after_false)
 
 -- for each condition the number of paths from its true successor, which its false edge adds; a true edge adds 0
 abbrev pub false_edges : Tree → ℕ → ℕ → List ℕ

@@ -2,7 +2,8 @@
 
 ghost use Rattle.std.specs.Prelude.{◌≡◌, ◌++◌, IfOk};
 ghost use Rattle.mc_cond.specs.Tree.{tree_of};
-ghost use Rattle.mc_paths.specs.Paths.{paths, false_edges, AreWithin};
+ghost use Rattle.mc_paths.specs.Paths.{paths, false_edges};
+ghost use Rattle.mc_paths.specs.Bounds.{AreWithin};
 
 use mc_cond::CondTree;
 use std::alloc::{AllocError, Global};
