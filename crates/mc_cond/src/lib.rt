@@ -1,0 +1,20 @@
+//! Decisions as trees of conditions, their truth, and the vectors of short-circuit evaluation.
+#![tactic(auto)]
+
+mod answers;
+mod evaluation;
+mod laws;
+mod tree;
+mod vector;
+
+pub use answers::Answers;
+pub use evaluation::walk;
+pub use laws::{
+    completion_has_outcome, completion_has_vector, flip_stays, operand_takes_either,
+    vector_has_completion,
+};
+pub use tree::{CondTree, conditions, conditions_in, truth};
+pub use vector::Vector;
+
+#[cfg(test)]
+mod tests;

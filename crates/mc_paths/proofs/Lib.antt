@@ -1,0 +1,4 @@
+pub mod Counting
+pub mod Ordering
+pub mod Reaching
+pub mod Numbers

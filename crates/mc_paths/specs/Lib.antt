@@ -1,0 +1,4 @@
+pub mod Paths
+pub mod Descent
+pub mod Bounds
+pub mod Kept

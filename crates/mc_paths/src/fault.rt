@@ -1,0 +1,14 @@
+//! Why a decision has no numbering.
+
+use thiserror::Error;
+
+/// A decision with too many paths, or want of memory.
+#[derive(Clone, Copy, Debug, Drop, PartialEq, Eq, Error)]
+pub enum NumberFault {
+    /// The decision has `count` paths, more than 4,096.
+    #[error("too many paths {count}")]
+    TooManyPaths { count: u128 },
+    /// Want of memory.
+    #[error("out of memory")]
+    OutOfMemory,
+}

@@ -1,0 +1,126 @@
+//! The path numbers of a decision.
+
+ghost use Rattle.std.specs.Prelude.{◌≡◌, ℕ, ◌<◌, ◌≤◌, length, slice_get, Some, Err, IfOk};
+ghost use Rattle.mc_cond.specs.Tree.{tree_of, size, IsNumbered};
+ghost use Rattle.mc_cond.specs.Vectors.{Evaluation};
+ghost use Rattle.mc_paths.specs.Paths.{count_of, increments, IsPath};
+
+use crate::descent::follow;
+use crate::fault::NumberFault;
+use crate::graph::{add_false_edges, copied, paths};
+use mc_cond::{Answers, CondTree, Vector};
+use std::alloc::{AllocError, Global};
+use std::marker::Model;
+
+/// How many paths a decision has at most.
+const MOST: u128 = 4096;
+
+/// What a true edge adds to a path's number.
+const ON_TRUE: u32 = 0;
+
+/// The path numbers of a decision. A contract sees it as the decision's tree.
+#[derive(Drop)]
+pub struct Numbering {
+    tree: CondTree,
+    on_false: Vec<u32>,
+    count: u32,
+}
+
+impl Model for Numbering {
+    ghost use Rattle.std.specs.Prelude.{◌≡◌, ◌≤◌};
+    ghost use Rattle.std.specs.Coded.{codes};
+    ghost use Rattle.mc_cond.specs.contracts.tree.CondTree as cond_tree;
+    ghost use Rattle.mc_cond.specs.declared.tree.CondTree.{CondTree};
+    ghost use Rattle.mc_paths.specs.Kept.{IsKept};
+
+    ghost Value = { CondTree };
+
+    ghost coded = { Prim.hlevel (codes, cond_tree.the_row.coded) };
+
+    ghost view = { λ n. n.tree };
+
+    ghost invariant = { λ n. IsKept n.tree n.on_false.items n.count };
+}
+
+/// Numbers the paths of a decision. The fault is `TooManyPaths` exactly where there are more than 4,096.
+pub fn number(alloc: Global, tree: &CondTree) -> Result<Numbering, NumberFault>
+    requires { IsNumbered (tree_of tree.now) }
+    ensures tree { IfOk result (λ n. tree_of n ≡ tree_of tree.now) }
+    ensures few { IfOk result (λ n. count_of (tree_of tree.now) ≤ 4096) }
+    ensures refused { 4096 < count_of (tree_of tree.now)
+        → result ≡ Err (NumberFault.TooManyPaths (count_of (tree_of tree.now))) }
+    ensures only { (count : ℕ) → result ≡ Err (NumberFault.TooManyPaths count)
+        → (4096 < count) × (count ≡ count_of (tree_of tree.now)) }
+{
+    let count = paths(tree, 1, 1);
+    if count > MOST {
+        return Err(NumberFault::TooManyPaths { count });
+    }
+    match kept(alloc, tree, count as u32) {
+        Ok(numbering) => Ok(numbering),
+        Err(_) => Err(NumberFault::OutOfMemory),
+    }
+}
+
+/// The numbering of a decision that has not too many paths.
+fn kept(alloc: Global, tree: &CondTree, count: u32) -> Result<Numbering, AllocError>
+    requires numbered { IsNumbered (tree_of tree.now) }
+    requires count { count ≡ count_of (tree_of tree.now) }
+    requires few { count ≤ 4096 }
+    ensures { IfOk result (λ n. tree_of n ≡ tree_of tree.now) }
+{
+    let mut on_false = Vec::new(alloc);
+    add_false_edges(tree, 1, 1, &mut on_false)?;
+    let tree = copied(alloc, tree)?;
+    Ok(Numbering {
+        tree,
+        on_false,
+        count,
+    })
+}
+
+impl Numbering {
+    /// How many paths the decision has, at most 4,096. Their numbers are those below it.
+    pub fn count(&self) -> u32
+        ensures count { result ≡ count_of (tree_of self.now) }
+        ensures few { result ≤ 4096 }
+    {
+        self.count
+    }
+
+    /// What condition `k` adds to the number of a path where it is true: nothing.
+    pub fn on_true(&self, k: u32) -> u32
+        requires { k < size (tree_of self.now) }
+        ensures { result ≡ 0 }
+    {
+        ON_TRUE
+    }
+
+    /// What condition `k` adds to the number of a path where it is false: the number of paths from its true successor.
+    pub fn on_false(&self, k: u32) -> u32
+        requires { k < size (tree_of self.now) }
+        ensures { slice_get (increments (tree_of self.now)) k ≡ Some result }
+    {
+        let edges = self.on_false.as_slice();
+        edges[k as usize]
+    }
+
+    /// The vector of a path.
+    pub fn vector_of(&self, path: u32) -> Vector
+        requires { path < count_of (tree_of self.now) }
+        ensures { IsPath (tree_of self.now) path result }
+    {
+        let mut seen = Answers::new();
+        let mut left = path;
+        let outcome = follow(&self.tree, &self.on_false, &mut left, &mut seen);
+        Vector::new(seen, outcome)
+    }
+
+    /// The outcome of a path's vector.
+    pub fn outcome_of(&self, path: u32) -> bool
+        requires { path < count_of (tree_of self.now) }
+        ensures { (v : Evaluation) → IsPath (tree_of self.now) path v → result ≡ v.outcome }
+    {
+        self.vector_of(path).outcome()
+    }
+}
