@@ -1,11 +1,13 @@
 //! Operators on numbers of one type.
 
-ghost use Rattle.std.specs.Prelude.{◌≡◌, IfOk};
-ghost use Rattle.mc_value.specs.IntTypes.{InRange};
+ghost use Rattle.std.specs.Prelude.{◌≡◌, IfOk, IsTrue, ◌*ℤ◌, not, ◌&&◌, ◌||◌};
+ghost use Rattle.mc_value.specs.IntTypes.{InRange, in_range};
 ghost use Rattle.mc_value.specs.Conversions.{promoted};
-ghost use Rattle.mc_value.specs.Arithmetic.{binary_of, binary_type, unary_of, unary_type};
+ghost use Rattle.mc_value.specs.Digits.{digit, digitwise, value_of_digits};
+ghost use Rattle.mc_value.specs.Arithmetic.{binary_of, binary_type, divided, exclusive, fitted, quotient, remainder, truth, unary_of, unary_type};
 
-use crate::int_type::IntType;
+use crate::conversions::{modulus, wrap};
+use crate::int_type::{IntType, is_signed, range};
 use crate::operators::{BinOp, UnOp};
 use crate::trap::Trap;
 
@@ -20,7 +22,22 @@ pub fn binary(op: BinOp, t: IntType, a: i128, b: i128) -> Result<i128, Trap>
     ensures value { result ≡ binary_of op t a b }
     ensures within { IfOk result (λ v. InRange (binary_type op t) v) }
 {
-    Ok(a)
+    match op {
+        BinOp::Mul => multiply(t, a, b),
+        BinOp::Div => divide(t, a, b),
+        BinOp::Rem => take_remainder(t, a, b),
+        BinOp::Add => fit(t, a + b),
+        BinOp::Sub => fit(t, a - b),
+        BinOp::Lt => Ok(number(a < b)),
+        BinOp::Gt => Ok(number(b < a)),
+        BinOp::Le => Ok(number(a <= b)),
+        BinOp::Ge => Ok(number(b <= a)),
+        BinOp::Eq => Ok(number(a == b)),
+        BinOp::Ne => Ok(number(a != b)),
+        BinOp::And => Ok(and(t, a, b)),
+        BinOp::Xor => Ok(xor(t, a, b)),
+        BinOp::Or => Ok(or(t, a, b)),
+    }
 }
 
 /// What an operator gives for a value of the promoted type `t`: a number of that type, or 1 or 0 of type `int`
@@ -31,5 +48,115 @@ pub fn unary(op: UnOp, t: IntType, a: i128) -> Result<i128, Trap>
     ensures value { result ≡ unary_of op t a }
     ensures within { IfOk result (λ v. InRange (unary_type op t) v) }
 {
-    Ok(a)
+    match op {
+        UnOp::Plus => Ok(a),
+        UnOp::Minus => fit(t, -a),
+        UnOp::Flip => Ok(flip(t, a)),
+        UnOp::Not => Ok(number(a == 0)),
+    }
+}
+
+fn number(holds: bool) -> i128
+    ensures { result ≡ truth holds }
+{
+    if holds { 1 } else { 0 }
+}
+
+/// Whether a number is a value of the type.
+pub(crate) fn is_in(t: IntType, v: i128) -> bool
+    ensures value { result ≡ in_range t v }
+    ensures inside { IsTrue result → InRange t v }
+{
+    let (least, greatest) = range(t);
+    least <= v && v <= greatest
+}
+
+/// A mathematical result in the type.
+fn fit(t: IntType, v: i128) -> Result<i128, Trap>
+    ensures value { result ≡ fitted t v }
+    ensures within { IfOk result (λ r. InRange t r) }
+{
+    if !is_signed(t) {
+        Ok(wrap(v, t))
+    } else if is_in(t, v) {
+        Ok(v)
+    } else {
+        Err(Trap::Overflow)
+    }
+}
+
+fn multiply(t: IntType, a: i128, b: i128) -> Result<i128, Trap>
+    requires left { InRange t a }
+    requires right { InRange t b }
+    ensures value { result ≡ fitted t (a *ℤ b) }
+    ensures within { IfOk result (λ r. InRange t r) }
+{
+    if is_signed(t) {
+        fit(t, a * b)
+    } else {
+        // the product of two numbers of 64 bits can pass what an `i128` holds
+        let product = (a as u128) * (b as u128);
+        Ok((product % (modulus(t) as u128)) as i128)
+    }
+}
+
+fn divide(t: IntType, a: i128, b: i128) -> Result<i128, Trap>
+    requires left { InRange t a }
+    requires right { InRange t b }
+    ensures value { result ≡ divided t a b (quotient a b) }
+    ensures within { IfOk result (λ r. InRange t r) }
+{
+    if b == 0 {
+        return Err(Trap::Division);
+    }
+    let quotient = a / b;
+    if is_in(t, quotient) {
+        Ok(quotient)
+    } else {
+        Err(Trap::Overflow)
+    }
+}
+
+fn take_remainder(t: IntType, a: i128, b: i128) -> Result<i128, Trap>
+    requires left { InRange t a }
+    requires right { InRange t b }
+    ensures value { result ≡ divided t a b (remainder a b) }
+    ensures within { IfOk result (λ r. InRange t r) }
+{
+    if b == 0 {
+        return Err(Trap::Division);
+    }
+    if is_in(t, a / b) {
+        Ok(a % b)
+    } else {
+        Err(Trap::Overflow)
+    }
+}
+
+fn and(t: IntType, a: i128, b: i128) -> i128
+    ensures value { result ≡ digitwise ◌&&◌ t a b }
+    ensures within { InRange t result }
+{
+    wrap(a & b, t)
+}
+
+fn xor(t: IntType, a: i128, b: i128) -> i128
+    ensures value { result ≡ digitwise exclusive t a b }
+    ensures within { InRange t result }
+{
+    wrap(a ^ b, t)
+}
+
+fn or(t: IntType, a: i128, b: i128) -> i128
+    ensures value { result ≡ digitwise ◌||◌ t a b }
+    ensures within { InRange t result }
+{
+    wrap(a | b, t)
+}
+
+fn flip(t: IntType, a: i128) -> i128
+    ensures value { result ≡ value_of_digits t (λ k. not (digit t a k)) }
+    ensures within { InRange t result }
+{
+    wrap(!a, t)
 }

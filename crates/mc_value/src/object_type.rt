@@ -1,6 +1,6 @@
 //! Types of objects.
 
-ghost use Rattle.std.specs.Prelude.{◌≡◌, ◌≤◌};
+ghost use Rattle.std.specs.Prelude.{◌≡◌, ◌≤◌, map, sum};
 ghost use Rattle.mc_value.specs.ObjectTypes.{cells_of};
 
 use crate::int_type::IntType;
@@ -17,9 +17,32 @@ pub enum ObjType {
 }
 
 /// How many scalars an object of the type consists of.
+#[cycle(cells)]
 pub fn cells(t: &ObjType) -> u32
     requires { cells_of t.now ≤ 65536 }
     ensures { result ≡ cells_of t.now }
 {
-    0
+    match t {
+        ObjType::Int(_) => 1,
+        ObjType::Array { element, length } => {
+            if *length == 0 {
+                0
+            } else {
+                *length * cells(element)
+            }
+        }
+        ObjType::Struct { members, .. } => cells_of_all(members),
+    }
+}
+
+#[cycle(cells)]
+fn cells_of_all(members: &[ObjType]) -> u32
+    requires { sum (map cells_of members.now) ≤ 65536 }
+    ensures { result ≡ sum (map cells_of members.now) }
+{
+    let mut total = 0;
+    for member in members {
+        total += cells(member);
+    }
+    total
 }

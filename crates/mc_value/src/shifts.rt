@@ -1,11 +1,13 @@
 //! Shifts.
 
-ghost use Rattle.std.specs.Prelude.{◌≡◌, IfOk};
-ghost use Rattle.mc_value.specs.IntTypes.{InRange};
+ghost use Rattle.std.specs.Prelude.{◌≡◌, ◌<◌, IfOk};
+ghost use Rattle.mc_value.specs.IntTypes.{InRange, width_of};
 ghost use Rattle.mc_value.specs.Conversions.{promoted};
-ghost use Rattle.mc_value.specs.Shifts.{shift_of};
+ghost use Rattle.mc_value.specs.Shifts.{shift_of, shifted_left};
 
-use crate::int_type::IntType;
+use crate::arithmetic::is_in;
+use crate::conversions::wrap;
+use crate::int_type::{IntType, is_signed, width};
 use crate::operators::ShiftOp;
 use crate::trap::Trap;
 
@@ -18,5 +20,27 @@ pub fn shift(op: ShiftOp, t: IntType, a: i128, count: i128) -> Result<i128, Trap
     ensures value { result ≡ shift_of op t a count }
     ensures within { IfOk result (λ v. InRange t v) }
 {
-    Ok(a)
+    if count < 0 || width(t) as i128 <= count {
+        return Err(Trap::Shift);
+    }
+    match op {
+        ShiftOp::Left => shift_left(t, a, count as u32),
+        ShiftOp::Right => Ok(a >> (count as u32)),
+    }
+}
+
+fn shift_left(t: IntType, a: i128, count: u32) -> Result<i128, Trap>
+    requires operand { InRange t a }
+    requires amount { count < width_of t }
+    ensures value { result ≡ shifted_left t a count }
+    ensures within { IfOk result (λ v. InRange t v) }
+{
+    let product = a * (1i128 << count);
+    if !is_signed(t) {
+        Ok(wrap(product, t))
+    } else if 0 <= a && is_in(t, product) {
+        Ok(product)
+    } else {
+        Err(Trap::Shift)
+    }
 }
