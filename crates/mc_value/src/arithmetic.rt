@@ -56,8 +56,10 @@ pub fn unary(op: UnOp, t: IntType, a: i128) -> Result<i128, Trap>
     }
 }
 
+/// What a comparison gives.
 fn number(holds: bool) -> i128
-    ensures { result ≡ truth holds }
+    ensures value { result ≡ truth holds }
+    ensures within { InRange IntType.Int result }
 {
     if holds { 1 } else { 0 }
 }

@@ -3,7 +3,7 @@
 ghost use Rattle.std.specs.Prelude.{◌≡◌, ◌<◌, IfOk};
 ghost use Rattle.mc_value.specs.IntTypes.{InRange, width_of};
 ghost use Rattle.mc_value.specs.Conversions.{promoted};
-ghost use Rattle.mc_value.specs.Shifts.{shift_of, shifted_left};
+ghost use Rattle.mc_value.specs.Shifts.{shift_of, shifted_by, shifted_left};
 
 use crate::arithmetic::is_in;
 use crate::conversions::wrap;
@@ -23,9 +23,18 @@ pub fn shift(op: ShiftOp, t: IntType, a: i128, count: i128) -> Result<i128, Trap
     if count < 0 || width(t) as i128 <= count {
         return Err(Trap::Shift);
     }
+    shift_by(op, t, a, count as u32)
+}
+
+fn shift_by(op: ShiftOp, t: IntType, a: i128, count: u32) -> Result<i128, Trap>
+    requires operand { InRange t a }
+    requires amount { count < width_of t }
+    ensures value { result ≡ shifted_by op t a count }
+    ensures within { IfOk result (λ v. InRange t v) }
+{
     match op {
-        ShiftOp::Left => shift_left(t, a, count as u32),
-        ShiftOp::Right => Ok(a >> (count as u32)),
+        ShiftOp::Left => shift_left(t, a, count),
+        ShiftOp::Right => Ok(a >> count),
     }
 }
 

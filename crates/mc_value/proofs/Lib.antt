@@ -1,0 +1,3 @@
+mod Bounds
+mod Wrapping
+mod Bits
