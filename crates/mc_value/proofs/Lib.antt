@@ -1,3 +1,4 @@
 mod Bounds
 mod Wrapping
 mod Bits
+mod Results

@@ -1,9 +1,10 @@
-use Rattle.std.proofs.Common.{rules, arith, ◌≡◌, ℕ, ℤ, pos, sym, ◌∙◌, ap, ◌+ℤ◌, ◌-ℤ◌, ◌*ℤ◌, neg_ℤ, ◌≤ℤ◌, FitsSigned, to_z, of_z, int_div, int_rem, Ok, Err, Result, if◌then◌else◌}
-use Rattle.std.proofs.lemmas.Int.{to_z-of_z, ints, quot_is, rem_is}
+use Rattle.std.proofs.Common.{rules, ◌∙◌, FitsSigned}
+use Rattle.std.proofs.lemmas.Int.{to_z-of_z}
 use mir.Syntax.{w128}
-use Rattle.mc_value.specs.IntTypes.{InRange, in_range, width_of, signed_of}
-use Rattle.mc_value.specs.Arithmetic.{fitted, divided, quotient, remainder}
+use Rattle.mc_value.proofs.Bits.{not_is}
 use Rattle.mc_value.proofs.arithmetic.flip.Goals as goal
 
 pub returns-clause-value : goal.returns-clause-value
-returns-clause-value c = ?
+returns-clause-value c =
+    let r : FitsSigned w128 c.wrap.result = search rules in
+    to_z-of_z w128 c.wrap.result r ∙ c.wrap.ensures.value ∙ not_is c.args.t c.args.a c.ranges.a
