@@ -60,7 +60,7 @@ number_of_bits x (suc n) =
     let split : x % 2 ^ (1 + n) ≡ (x / 2 ^ n % 2 ^ 1) * 2 ^ n + x % 2 ^ n = mod-pow-add x 1 n in
     let top = bit_times (bit_at x n) (2 ^ n) (bit_at-lt x n) in
     let sum : number_of_digits n (λ k. bit_at x k == 1) + (if bit_at x n == 1 then 2 ^ n else 0) ≡ (x / 2 ^ n % 2 ^ 1) * 2 ^ n + x % 2 ^ n =
-        rw (low, ← top) (add_comm (x % 2 ^ n) (bit_at x n * 2 ^ n)) in
+    rw (low, ← top) (add_comm (x % 2 ^ n) (bit_at x n * 2 ^ n)) in
     sum ∙ sym split ∙ ap (λ k. x % 2 ^ k) (sym turned)
 
 -- the number with these digits has them
@@ -93,13 +93,13 @@ bits_of_number zero d k h = absurd (omega arith)
 bits_of_number (suc n) d k h =
     let e = joined n d in
     ⊎_elim
-        (λ l. ap (λ x. bit_at x k == 1) e ∙ ap (λ x. x == 1) (bit_at_cat_low (as_number (d n)) n (number_of_digits n d) k l) ∙ bits_of_number n d k l)
-        (λ g. let same : k ≡ n = omega arith in
-            ap (λ x. bit_at x k == 1) e
-            ∙ ap (λ x. x == 1) (bit_at_cat_high (as_number (d n)) n (number_of_digits n d) k (number_below n d) g)
-            ∙ ap (λ i. bit_at (as_number (d n)) i == 1) (let z : k - n ≡ 0 = omega arith in z)
-            ∙ as_test (d n) ∙ ap d (sym same))
-        (cases_lt k n)
+    (λ l. ap (λ x. bit_at x k == 1) e ∙ ap (λ x. x == 1) (bit_at_cat_low (as_number (d n)) n (number_of_digits n d) k l) ∙ bits_of_number n d k l)
+    (λ g. let same : k ≡ n = omega arith in
+    ap (λ x. bit_at x k == 1) e
+    ∙ ap (λ x. x == 1) (bit_at_cat_high (as_number (d n)) n (number_of_digits n d) k (number_below n d) g)
+    ∙ ap (λ i. bit_at (as_number (d n)) i == 1) (let z : k - n ≡ 0 = omega arith in z)
+    ∙ as_test (d n) ∙ ap d (sym same))
+    (cases_lt k n)
 
 -- ---- a type's digits of a number are those of its pattern
 
@@ -113,7 +113,7 @@ value_of_pattern t x d f h =
     let w = width_le t in
     let n = width_of t in
     wrapped_same t (to_z w128 x) (pos (number_of_digits n d))
-        (read_modulo x n (omega arith) f ∙ sym (number_of_bits x n) ∙ number_same n (λ k. bit_at x k == 1) d h ∙ sym (mod-eq_of_lt (number_below n d)))
+    (read_modulo x n (omega arith) f ∙ sym (number_of_bits x n) ∙ number_same n (λ k. bit_at x k == 1) d h ∙ sym (mod-eq_of_lt (number_below n d)))
 
 pub digits_of_value : (t : IntType) (d : ℕ → Bool) (k : ℕ) → k < width_of t → digit t (value_of_digits t d) k ≡ d k
 digits_of_value t d k h =
@@ -154,8 +154,8 @@ not_digit (suc (suc x)) h = absurd (omega arith)
 pub and_is : (t : IntType) (a b : ℤ) → FitsSigned w128 a → FitsSigned w128 b → wrapped t (to_z w128 (bit_and (of_z w128 a) (of_z w128 b))) ≡ digitwise ◌&&◌ t a b
 and_is t a b fa fb = value_of_pattern t (bit_and (of_z w128 a) (of_z w128 b)) (λ k. digit t a k && digit t b k) (search rules)
     (λ k h. ap (λ x. x == 1) (bit_at_and (of_z w128 a) (of_z w128 b) k)
-        ∙ and_digit (bit_at (of_z w128 a) k) (bit_at (of_z w128 b) k) (bit_at-lt (of_z w128 a) k) (bit_at-lt (of_z w128 b) k)
-        ∙ rw (digit_of_pattern t a k fa h, digit_of_pattern t b k fb h) refl)
+    ∙ and_digit (bit_at (of_z w128 a) k) (bit_at (of_z w128 b) k) (bit_at-lt (of_z w128 a) k) (bit_at-lt (of_z w128 b) k)
+    ∙ rw (digit_of_pattern t a k fa h, digit_of_pattern t b k fb h) refl)
 
 pub or_is : (t : IntType) (a b : ℤ) → FitsSigned w128 a → FitsSigned w128 b → wrapped t (to_z w128 (bit_or (of_z w128 a) (of_z w128 b))) ≡ digitwise ◌||◌ t a b
 or_is t a b fa fb =
@@ -163,8 +163,8 @@ or_is t a b fa fb =
     let lb : of_z w128 b < 2 ^ 128 = search rules in
     value_of_pattern t (bit_or (of_z w128 a) (of_z w128 b)) (λ k. digit t a k || digit t b k) (or_lt 128 (of_z w128 a) (of_z w128 b) la lb)
     (λ k h. ap (λ x. x == 1) (bit_at_or (of_z w128 a) (of_z w128 b) k)
-        ∙ or_digit (bit_at (of_z w128 a) k) (bit_at (of_z w128 b) k) (bit_at-lt (of_z w128 a) k) (bit_at-lt (of_z w128 b) k)
-        ∙ rw (digit_of_pattern t a k fa h, digit_of_pattern t b k fb h) refl)
+    ∙ or_digit (bit_at (of_z w128 a) k) (bit_at (of_z w128 b) k) (bit_at-lt (of_z w128 a) k) (bit_at-lt (of_z w128 b) k)
+    ∙ rw (digit_of_pattern t a k fa h, digit_of_pattern t b k fb h) refl)
 
 pub xor_is : (t : IntType) (a b : ℤ) → FitsSigned w128 a → FitsSigned w128 b → wrapped t (to_z w128 (bit_xor (of_z w128 a) (of_z w128 b))) ≡ digitwise exclusive t a b
 xor_is t a b fa fb =
@@ -172,17 +172,17 @@ xor_is t a b fa fb =
     let lb : of_z w128 b < 2 ^ 128 = search rules in
     value_of_pattern t (bit_xor (of_z w128 a) (of_z w128 b)) (λ k. exclusive (digit t a k) (digit t b k)) (xor_lt 128 (of_z w128 a) (of_z w128 b) la lb)
     (λ k h. ap (λ x. x == 1) (bit_at_xor (of_z w128 a) (of_z w128 b) k)
-        ∙ xor_digit (bit_at (of_z w128 a) k) (bit_at (of_z w128 b) k) (bit_at-lt (of_z w128 a) k) (bit_at-lt (of_z w128 b) k)
-        ∙ rw (digit_of_pattern t a k fa h, digit_of_pattern t b k fb h) refl)
+    ∙ xor_digit (bit_at (of_z w128 a) k) (bit_at (of_z w128 b) k) (bit_at-lt (of_z w128 a) k) (bit_at-lt (of_z w128 b) k)
+    ∙ rw (digit_of_pattern t a k fa h, digit_of_pattern t b k fb h) refl)
 
 pub not_is : (t : IntType) (a : ℤ) → FitsSigned w128 a → wrapped t (to_z w128 (bit_not w128 (of_z w128 a))) ≡ value_of_digits t (λ k. not (digit t a k))
 not_is t a fa =
     let w = width_le t in
     let small : of_z w128 a < 2 ^ 128 = search rules in
     value_of_pattern t (bit_not w128 (of_z w128 a)) (λ k. not (digit t a k)) (omega arith)
-        (λ k h. ap (λ x. x == 1) (bit_at_not w128 (of_z w128 a) k small (omega arith))
-            ∙ not_digit (bit_at (of_z w128 a) k) (bit_at-lt (of_z w128 a) k)
-            ∙ rw (digit_of_pattern t a k fa h) refl)
+    (λ k h. ap (λ x. x == 1) (bit_at_not w128 (of_z w128 a) k small (omega arith))
+    ∙ not_digit (bit_at (of_z w128 a) k) (bit_at-lt (of_z w128 a) k)
+    ∙ rw (digit_of_pattern t a k fa h) refl)
 
 -- ---- a value is the one with its digits
 
@@ -201,5 +201,5 @@ same_digits t a b ha hb same =
     let x = modulo a m in
     let y = modulo b m in
     let e : x ≡ y = same_from_bits_below (width_of t) x y (modulo_lt a m some) (modulo_lt b m some)
-        (λ k h. bit_from_test (bit_at x k) (bit_at y k) (bit_at-lt x k) (bit_at-lt y k) (same k h)) in
+    (λ k h. bit_from_test (bit_at x k) (bit_at y k) (bit_at-lt x k) (bit_at-lt y k) (same k h)) in
     sym (wrapped_own t a ha) ∙ wrapped_same t a b e ∙ wrapped_own t b hb

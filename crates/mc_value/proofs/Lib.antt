@@ -1,4 +1,4 @@
-mod Bounds
-mod Wrapping
-mod Bits
-mod Results
+pub mod Bounds
+pub mod Wrapping
+pub mod Bits
+pub mod Results

@@ -36,14 +36,14 @@ Within t r = IfOk r (λ v. InRange t v)
 fitted_within : (t : IntType) (v : ℤ) → Within t (fitted t v)
 fitted_within t v =
     cond_both (signed_of t) (if in_range t v then Ok v else Err Overflow) (Ok (wrapped t v)) (Within t)
-        (λ s. cond_both (in_range t v) (Ok v) (Err Overflow) (Within t) (in_range_is t v) (λ e. tt))
-        (λ s. wrapped_within t v)
+    (λ s. cond_both (in_range t v) (Ok v) (Err Overflow) (Within t) (in_range_is t v) (λ e. tt))
+    (λ s. wrapped_within t v)
 
 divided_within : (t : IntType) (a b r : ℤ) → (in_range t (quotient a b) ≡ true → InRange t r) → Within t (divided t a b r)
 divided_within t a b r h =
     cond_both (is_zero b) (Err Division) (if in_range t (quotient a b) then Ok r else Err Overflow) (Within t)
-        (λ z. tt)
-        (λ z. cond_both (in_range t (quotient a b)) (Ok r) (Err Overflow) (Within t) h (λ e. tt))
+    (λ z. tt)
+    (λ z. cond_both (in_range t (quotient a b)) (Ok r) (Err Overflow) (Within t) h (λ e. tt))
 
 truth_within : (b : Bool) → InRange the.Int (truth b)
 truth_within true = record { least = omega (arith, ints); greatest = omega (arith, ints) }
@@ -78,8 +78,8 @@ shifted_within : (op : ShiftOp) (t : IntType) (a : ℤ) (k : ℕ) → InRange t 
 shifted_within Left t a k h =
     let v = a *ℤ pos (2 ^ k) in
     cond_both (not (signed_of t)) (Ok (wrapped t v)) (if not (is_negative a) && in_range t v then Ok v else Err Shift) (Within t)
-        (λ s. wrapped_within t v)
-        (λ s. cond_both (not (is_negative a) && in_range t v) (Ok v) (Err Shift) (Within t) (λ e. in_range_is t v (and_parts (not (is_negative a)) (in_range t v) e).1) (λ e. tt))
+    (λ s. wrapped_within t v)
+    (λ s. cond_both (not (is_negative a) && in_range t v) (Ok v) (Err Shift) (Within t) (λ e. in_range_is t v (and_parts (not (is_negative a)) (in_range t v) e).1) (λ e. tt))
 shifted_within Right t a k h = right_within t a k h
 
 pub shift_within : (op : ShiftOp) (t : IntType) (a count : ℤ) → promoted t ≡ t → InRange t a → IfOk (shift_of op t a count) (λ v. InRange t v)
@@ -95,14 +95,19 @@ pub unsigned_wraps : (t : IntType) (a b : ℤ) (k : ℕ) → promoted t ≡ t �
     × (k < width_of t → (r : ℤ) × ((shift_of Left t a (pos k) ≡ Ok r) × Wraps t (a *ℤ pos (2 ^ k)) r))
 unsigned_wraps t a b k p s =
     let wraps : (v : ℤ) → Wraps t v (wrapped t v) = λ v. (wrapped_within t v, wrapped_congruent t v) in
-    let fits : (v : ℤ) → fitted t v ≡ Ok (wrapped t v) = λ v. cond-false (signed_of t) (if in_range t v then Ok v else Err Overflow) (Ok (wrapped t v)) s in
-    ( (wrapped t (a *ℤ b), (fits (a *ℤ b), wraps (a *ℤ b)))
-    , (wrapped t (a +ℤ b), (fits (a +ℤ b), wraps (a +ℤ b)))
-    , (wrapped t (a -ℤ b), (fits (a -ℤ b), wraps (a -ℤ b)))
-    , λ h. (wrapped t (a *ℤ pos (2 ^ k)),
-        (cond-true (nat_lt k (width_of t)) (shifted_left t a k) (Err Shift) (lt-ltb k (width_of t) h)
-            ∙ cond-true (not (signed_of t)) (Ok (wrapped t (a *ℤ pos (2 ^ k)))) (if not (is_negative a) && in_range t (a *ℤ pos (2 ^ k)) then Ok (a *ℤ pos (2 ^ k)) else Err Shift) (ap not s),
-         wraps (a *ℤ pos (2 ^ k)))))
+    let fits : (v : ℤ) → fitted t v ≡ Ok (wrapped t v) = λ v. cond-false (signed_of t) (if in_range t v then Ok v else Err Overflow) (Ok (wrapped t v)) s in (
+      (wrapped t (a *ℤ b), (fits (a *ℤ b), wraps (a *ℤ b))),
+      (wrapped t (a +ℤ b), (fits (a +ℤ b), wraps (a +ℤ b))),
+      (wrapped t (a -ℤ b), (fits (a -ℤ b), wraps (a -ℤ b))),
+      λ h. (
+        wrapped t (a *ℤ pos (2 ^ k)),
+        (
+          cond-true (nat_lt k (width_of t)) (shifted_left t a k) (Err Shift) (lt-ltb k (width_of t) h)
+              ∙ cond-true (not (signed_of t)) (Ok (wrapped t (a *ℤ pos (2 ^ k)))) (if not (is_negative a) && in_range t (a *ℤ pos (2 ^ k)) then Ok (a *ℤ pos (2 ^ k)) else Err Shift) (ap not s),
+          wraps (a *ℤ pos (2 ^ k)),
+        ),
+      ),
+    )
 
 -- ---- quotients and remainders
 
@@ -110,8 +115,8 @@ divided_ok : (t : IntType) (a b x q : ℤ) → divided t a b x ≡ Ok q → (is_
 divided_ok t a b x q =
     let Says : Result ℤ Trap → Type 0 = λ r. r ≡ Ok q → (is_zero b ≡ false) × (x ≡ q) in
     cond_both (is_zero b) (Err Division) (if in_range t (quotient a b) then Ok x else Err Overflow) Says
-        (λ z e. cc)
-        (λ z. cond_both (in_range t (quotient a b)) (Ok x) (Err Overflow) Says (λ i e. (z, cc)) (λ i e. cc))
+    (λ z e. cc)
+    (λ z. cond_both (in_range t (quotient a b)) (Ok x) (Err Overflow) Says (λ i e. (z, cc)) (λ i e. cc))
 
 some_abs : (b : ℤ) → is_zero b ≡ false → 0 < unsigned_abs b
 some_abs (pos zero) e = cc
@@ -136,10 +141,11 @@ pub rebuilt : (t : IntType) (a b q r : ℤ) → binary_of Div t a b ≡ Ok q →
 rebuilt t a b q r eq er =
     let dq = divided_ok t a b (quotient a b) q eq in
     let dr = divided_ok t a b (remainder a b) r er in
-    let is : int_rem a b ≡ r = sym (remainder_is a b) ∙ dr.1 in
-    ( ap (λ z. (z *ℤ b) +ℤ r) (sym dq.1) ∙ ap (λ z. (quotient a b *ℤ b) +ℤ z) (sym dr.1) ∙ sum_back (quotient a b *ℤ b) a
-    , subst (λ z. unsigned_abs z < unsigned_abs b) is (rem_below a b (some_abs b dq.0))
-    , subst (λ z. (z ≡ pos 0) ⊎ (is_negative z ≡ is_negative a)) is (sign_kept a b))
+    let is : int_rem a b ≡ r = sym (remainder_is a b) ∙ dr.1 in (
+      ap (λ z. (z *ℤ b) +ℤ r) (sym dq.1) ∙ ap (λ z. (quotient a b *ℤ b) +ℤ z) (sym dr.1) ∙ sum_back (quotient a b *ℤ b) a,
+      subst (λ z. unsigned_abs z < unsigned_abs b) is (rem_below a b (some_abs b dq.0)),
+      subst (λ z. (z ≡ pos 0) ⊎ (is_negative z ≡ is_negative a)) is (sign_kept a b),
+    )
 
 -- ---- right shifts
 
@@ -165,6 +171,7 @@ rounded_down (negsuc n) k =
     let b = quotient_bounds n m (pow_pos k) in
     let e : negsuc q +ℤ pos 1 ≡ neg_ℤ (pos q) = omega (arith, ints) in
     let low : neg_ℤ (pos (suc q * m)) ≤ℤ negsuc n = let s : q + 1 ≡ suc q = omega arith in let c : n < suc q * m = subst (λ x. n < x * m) s b.1 in omega (arith, ints) in
-    let high : negsuc n <ℤ neg_ℤ (pos (q * m)) = let c = b.0 in omega (arith, ints) in
-    (subst (λ z. z ≤ℤ negsuc n) (sym (neg_times (suc q) m)) low,
-     subst (λ z. negsuc n <ℤ z) (sym (ap (λ z. z *ℤ pos m) e ∙ neg_times q m)) high)
+    let high : negsuc n <ℤ neg_ℤ (pos (q * m)) = let c = b.0 in omega (arith, ints) in (
+      subst (λ z. z ≤ℤ negsuc n) (sym (neg_times (suc q) m)) low,
+      subst (λ z. negsuc n <ℤ z) (sym (ap (λ z. z *ℤ pos m) e ∙ neg_times q m)) high,
+    )

@@ -91,11 +91,11 @@ placed_within t m h =
     let high = (high_side t).0 in
     let all = span t in
     ⊎_elim
-        (λ e. let l = le_yes (pos m) (greatest_of t) e in
-            subst (InRange t) (sym (cond-true (int_le (pos m) (greatest_of t)) (pos m) (pos m -ℤ pos (2 ^ width_of t)) e)) (record { least = omega (arith, ints); greatest = l }))
-        (λ e. let l = le_no (pos m) (greatest_of t) e in
-            subst (InRange t) (sym (cond-false (int_le (pos m) (greatest_of t)) (pos m) (pos m -ℤ pos (2 ^ width_of t)) e)) (record { least = omega (arith, ints); greatest = omega (arith, ints) }))
-        (cases_Bool (int_le (pos m) (greatest_of t)))
+    (λ e. let l = le_yes (pos m) (greatest_of t) e in
+    subst (InRange t) (sym (cond-true (int_le (pos m) (greatest_of t)) (pos m) (pos m -ℤ pos (2 ^ width_of t)) e)) (record { least = omega (arith, ints); greatest = l }))
+    (λ e. let l = le_no (pos m) (greatest_of t) e in
+    subst (InRange t) (sym (cond-false (int_le (pos m) (greatest_of t)) (pos m) (pos m -ℤ pos (2 ^ width_of t)) e)) (record { least = omega (arith, ints); greatest = omega (arith, ints) }))
+    (cases_Bool (int_le (pos m) (greatest_of t)))
 
 pub wrapped_within : (t : IntType) (v : ℤ) → InRange t (wrapped t v)
 wrapped_within t v = placed_within t (modulo v (2 ^ width_of t)) (modulo_lt v (2 ^ width_of t) (pow_pos (width_of t)))
@@ -103,9 +103,9 @@ wrapped_within t v = placed_within t (modulo v (2 ^ width_of t)) (modulo_lt v (2
 placed_congruent : (t : IntType) (v : ℤ) (m : ℕ) → Congruent (2 ^ width_of t) v (pos m) → Congruent (2 ^ width_of t) v (placed t m)
 placed_congruent t v m c =
     ⊎_elim
-        (λ e. subst (Congruent (2 ^ width_of t) v) (sym (cond-true (int_le (pos m) (greatest_of t)) (pos m) (pos m -ℤ pos (2 ^ width_of t)) e)) c)
-        (λ e. subst (Congruent (2 ^ width_of t) v) (sym (cond-false (int_le (pos m) (greatest_of t)) (pos m) (pos m -ℤ pos (2 ^ width_of t)) e)) (congruent_less v m (2 ^ width_of t) c))
-        (cases_Bool (int_le (pos m) (greatest_of t)))
+    (λ e. subst (Congruent (2 ^ width_of t) v) (sym (cond-true (int_le (pos m) (greatest_of t)) (pos m) (pos m -ℤ pos (2 ^ width_of t)) e)) c)
+    (λ e. subst (Congruent (2 ^ width_of t) v) (sym (cond-false (int_le (pos m) (greatest_of t)) (pos m) (pos m -ℤ pos (2 ^ width_of t)) e)) (congruent_less v m (2 ^ width_of t) c))
+    (cases_Bool (int_le (pos m) (greatest_of t)))
 
 pub wrapped_congruent : (t : IntType) (v : ℤ) → Congruent (2 ^ width_of t) v (wrapped t v)
 wrapped_congruent t v = placed_congruent t v (modulo v (2 ^ width_of t)) (residue v (2 ^ width_of t) (pow_pos (width_of t)))
@@ -127,8 +127,8 @@ wrapped_own t (negsuc n) h =
     let small : suc n < m = omega (arith, ints) in
     let r = m - 1 - n in
     ap (λ x. placed t (m - 1 - x)) (mod-eq_of_lt (omega arith))
-        ∙ cond-false (int_le (pos r) (greatest_of t)) (pos r) (pos r -ℤ pos m) (no_le (pos r) (greatest_of t) (omega (arith, ints)))
-        ∙ omega (arith, ints)
+    ∙ cond-false (int_le (pos r) (greatest_of t)) (pos r) (pos r -ℤ pos m) (no_le (pos r) (greatest_of t) (omega (arith, ints)))
+    ∙ omega (arith, ints)
 
 pub wrapped_same : (t : IntType) (v r : ℤ) → modulo v (2 ^ width_of t) ≡ modulo r (2 ^ width_of t) → wrapped t v ≡ wrapped t r
 wrapped_same t v r e = ap (placed t) e
@@ -183,6 +183,7 @@ pub converted_own : (t : IntType) (v : ℤ) → InRange t v → converted t v �
 converted_own t v = cases_type t (λ t. InRange t v → converted t v ≡ v) (bool_own v) (λ t ne h. converted_is t v ne ∙ wrapped_own t v h)
 
 pub congruent_value : (t : IntType) (v r : ℤ) → t ≢ the.Bool → (r ≡ converted t v) ↔ (InRange t r × Congruent (2 ^ width_of t) v r)
-congruent_value t v r ne =
-    (λ e. let f = sym (e ∙ converted_is t v ne) in (subst (InRange t) f (wrapped_within t v), subst (Congruent (2 ^ width_of t) v) f (wrapped_congruent t v)),
-     λ h. wrapped_only t v r h.0 h.1 ∙ sym (converted_is t v ne))
+congruent_value t v r ne = (
+  λ e. let f = sym (e ∙ converted_is t v ne) in (subst (InRange t) f (wrapped_within t v), subst (Congruent (2 ^ width_of t) v) f (wrapped_congruent t v)),
+  λ h. wrapped_only t v r h.0 h.1 ∙ sym (converted_is t v ne),
+)

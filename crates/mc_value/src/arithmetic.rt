@@ -1,13 +1,13 @@
 //! Operators on numbers of one type.
 
-ghost use Rattle.std.specs.Prelude.{◌≡◌, IfOk, IsTrue, ◌*ℤ◌, not, ◌&&◌, ◌||◌};
-ghost use Rattle.mc_value.specs.IntTypes.{InRange, in_range};
+ghost use Rattle.std.specs.Prelude.{◌≡◌, IfOk, ◌*ℤ◌, not, ◌&&◌, ◌||◌};
+ghost use Rattle.mc_value.specs.IntTypes.{InRange};
 ghost use Rattle.mc_value.specs.Conversions.{promoted};
 ghost use Rattle.mc_value.specs.Digits.{digit, digitwise, value_of_digits};
 ghost use Rattle.mc_value.specs.Arithmetic.{binary_of, binary_type, divided, exclusive, fitted, quotient, remainder, truth, unary_of, unary_type};
 
 use crate::conversions::{modulus, wrap};
-use crate::int_type::{IntType, is_signed, range};
+use crate::int_type::{IntType, is_in, is_signed};
 use crate::operators::{BinOp, UnOp};
 use crate::trap::Trap;
 
@@ -62,15 +62,6 @@ fn number(holds: bool) -> i128
     ensures within { InRange IntType.Int result }
 {
     if holds { 1 } else { 0 }
-}
-
-/// Whether a number is a value of the type.
-pub(crate) fn is_in(t: IntType, v: i128) -> bool
-    ensures value { result ≡ in_range t v }
-    ensures inside { IsTrue result → InRange t v }
-{
-    let (least, greatest) = range(t);
-    least <= v && v <= greatest
 }
 
 /// A mathematical result in the type.

@@ -1,7 +1,7 @@
 //! Integer types.
 
-ghost use Rattle.std.specs.Prelude.{◌≡◌, pos};
-ghost use Rattle.mc_value.specs.IntTypes.{width_of, signed_of, least_of, greatest_of};
+ghost use Rattle.std.specs.Prelude.{◌≡◌, IsTrue};
+ghost use Rattle.mc_value.specs.IntTypes.{InRange, in_range, width_of, signed_of, least_of, greatest_of};
 
 /// An integer type of C (C17 6.2.5): `char` is signed and has 8 bits, `short` has 16, `int` 32, `long` and
 /// `long long` have 64, all in two's complement. An enumerated type is `Int`.
@@ -82,4 +82,13 @@ pub fn range(t: IntType) -> (i128, i128)
         IntType::Long | IntType::LLong => (-9223372036854775808, 9223372036854775807),
         IntType::ULong | IntType::ULLong => (0, 18446744073709551615),
     }
+}
+
+/// Whether a number is a value of the type.
+pub(crate) fn is_in(t: IntType, v: i128) -> bool
+    ensures value { result ≡ in_range t v }
+    ensures inside { IsTrue result → InRange t v }
+{
+    let (least, greatest) = range(t);
+    least <= v && v <= greatest
 }

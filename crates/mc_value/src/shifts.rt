@@ -5,9 +5,8 @@ ghost use Rattle.mc_value.specs.IntTypes.{InRange, width_of};
 ghost use Rattle.mc_value.specs.Conversions.{promoted};
 ghost use Rattle.mc_value.specs.Shifts.{shift_of, shifted_by, shifted_left};
 
-use crate::arithmetic::is_in;
 use crate::conversions::wrap;
-use crate::int_type::{IntType, is_signed, width};
+use crate::int_type::{IntType, is_in, is_signed, width};
 use crate::operators::ShiftOp;
 use crate::trap::Trap;
 

@@ -17,7 +17,7 @@ pub returns-then-not-is_signed-clause-value : goal.returns-then-not-is_signed-cl
 returns-then-not-is_signed-clause-value c =
     let small : c.args.count < 64 = let w = width_le c.args.t in let k = c.requires.amount in omega arith in
     let e : to_z w128 (of_z w128 c.args.a) *ℤ to_z w128 ((1 * 2 ^ c.args.count) % 2 ^ 128) ≡ c.args.a *ℤ pos (2 ^ c.args.count) =
-        rw (to_z-of_z w128 c.args.a c.ranges.a, power_is c.args.count small) refl in
+    rw (to_z-of_z w128 c.args.a c.ranges.a, power_is c.args.count small) refl in
     let f = shift_fits c.args.t c.args.a c.args.count c.requires.operand small in
     let p = ap (λ z. to_z w128 (of_z w128 z)) e ∙ to_z-of_z w128 _ f in
     let r : FitsSigned w128 c.wrap.result = search rules in
@@ -27,7 +27,7 @@ pub returns-then-is_in-clause-value : goal.returns-then-is_in-clause-value
 returns-then-is_in-clause-value c =
     let small : c.args.count < 64 = let w = width_le c.args.t in let k = c.requires.amount in omega arith in
     let e : to_z w128 (of_z w128 c.args.a) *ℤ to_z w128 ((1 * 2 ^ c.args.count) % 2 ^ 128) ≡ c.args.a *ℤ pos (2 ^ c.args.count) =
-        rw (to_z-of_z w128 c.args.a c.ranges.a, power_is c.args.count small) refl in
+    rw (to_z-of_z w128 c.args.a c.ranges.a, power_is c.args.count small) refl in
     let f = shift_fits c.args.t c.args.a c.args.count c.requires.operand small in
     let p = ap (λ z. to_z w128 (of_z w128 z)) e ∙ to_z-of_z w128 _ f in
     let s = sym c.is_signed.ensures ∙ c.if-not-is_signed.false in
