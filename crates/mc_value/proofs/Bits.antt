@@ -1,11 +1,11 @@
 -- The machine's operators on 128 bits, and the digits of a type.
-use Rattle.std.proofs.Common.{arith, rules, add_comm, ◌≡◌, ℕ, zero, suc, ◌<◌, ◌≤◌, ◌+◌, ◌-◌, ◌*◌, ◌/◌, ◌%◌, ◌^◌, min, max, ℤ, pos, negsuc, ◌+ℤ◌, Bool, true, false, not, ◌&&◌, ◌||◌, if◌then◌else◌, ◌==◌, sym, ◌∙◌, ap, subst, refl, inl, inr, ◌⊎◌, ⊎_elim, bit_and, bit_or, bit_xor, Fits, FitsSigned, to_z, of_z}
-use Rattle.std.proofs.lemmas.Int.{ints, to_z-of_z}
-use Rattle.std.proofs.lemmas.Bool.{cases_Bool, cases_lt}
-use Rattle.std.proofs.lemmas.Nat.{or_lt, xor_lt, pow_pos, pow-add, mod-pow-add, mod_below, shr_split}
+use Rattle.std.proofs.Common.{arith, rules, add_comm, ◌≡◌, ℕ, zero, suc, ◌<◌, ◌≤◌, ◌+◌, ◌-◌, ◌*◌, ◌/◌, ◌%◌, ◌^◌, min, max, ℤ, pos, negsuc, Bool, true, false, not, ◌&&◌, ◌||◌, if◌then◌else◌, ◌==◌, sym, ◌∙◌, ap, refl, ⊎_elim, bit_and, bit_or, bit_xor, Fits, FitsSigned, to_z, of_z}
+use Rattle.std.proofs.lemmas.Int.{ints}
+use Rattle.std.proofs.lemmas.Bool.{cases_lt}
+use Rattle.std.proofs.lemmas.Nat.{or_lt, xor_lt, pow_pos, pow-add, mod-pow-add, shr_split}
 use Rattle.std.proofs.lemmas.Nat.Bits.{bit_at_and, bit_at_or, bit_at_xor, bit_at_not, bit_at-lt, bit_at_cat_low, bit_at_cat_high, same_from_bits_below}
 use Rattle.std.specs.Int.{bit_at, bit_not}
-use Rattle.std.proofs.Math.Nat.{mod-mod, mod-eq_of_lt, mod-lt}
+use Rattle.std.proofs.Math.Nat.{mod-eq_of_lt}
 use Rattle.std.proofs.Math.Facts.{sfits_to_z, of_z-to_z}
 use mir.Syntax.{w128}
 use Rattle.mc_value.specs.declared.int_type.IntType.{IntType}

@@ -1,6 +1,6 @@
 -- Results stay in the range of their type, and in 128 bits.
-use Rattle.std.proofs.Common.{arith, subst, ◌≡◌, ◌≢◌, not, ◌&&◌, int_lt, int_le, nat_lt, ℕ, zero, suc, ◌<◌, ◌≤◌, ◌^◌, ◌*◌, ◌-◌, ℤ, pos, negsuc, neg_ℤ, ◌≤ℤ◌, ◌+ℤ◌, ◌-ℤ◌, ◌*ℤ◌, Bool, true, false, sym, ◌∙◌, ap, refl, ◌/◌, ◌%◌, FitsSigned, to_z, of_z, inl, inr, ◌⊎◌, unsigned_abs, int_div, int_rem, Result, Ok, Err}
-use Rattle.std.proofs.lemmas.Int.{to_z-of_z, to_z_pos, ints, quot_is, rem_is, fits_signed_mul, fits_signed_from_abs, quot-rem}
+use Rattle.std.proofs.Common.{arith, subst, ◌≡◌, not, int_lt, int_le, nat_lt, ℕ, zero, suc, ◌<◌, ◌≤◌, ◌^◌, ◌*◌, ℤ, pos, negsuc, neg_ℤ, ◌≤ℤ◌, ◌+ℤ◌, ◌-ℤ◌, ◌*ℤ◌, true, false, sym, ◌∙◌, ap, refl, ◌/◌, ◌%◌, FitsSigned, to_z, of_z, inl, inr, ◌⊎◌, unsigned_abs, int_div, int_rem, Ok, Err}
+use Rattle.std.proofs.lemmas.Int.{to_z-of_z, to_z_pos, ints, fits_signed_mul, fits_signed_from_abs, quot-rem}
 use Rattle.std.proofs.lemmas.Bool.{ne_eqb, lt-ltb, leb-false, cond-true, cond-false}
 use Rattle.std.proofs.lemmas.Nat.{one_shl, pow_below, shr_le}
 use Rattle.std.proofs.Math.Nat.{pow-le-pow_right}
@@ -11,9 +11,8 @@ use Rattle.mc_value.specs.declared.int_type.IntType.TheVariants as the
 use Rattle.mc_value.specs.IntTypes.{width_of, signed_of, least_of, greatest_of, InRange, in_range}
 use Rattle.mc_value.specs.Conversions.{is_zero, wrapped}
 use Rattle.mc_value.specs.declared.operators.ShiftOp.{ShiftOp}
-use Rattle.mc_value.specs.declared.trap.Trap.TheVariants.{Shift}
 use Rattle.mc_value.specs.Shifts.{shifted_right, shifted_left, shifted_by, shift_of}
-use Rattle.mc_value.specs.Arithmetic.{is_negative, quotient, remainder, fitted, divided}
+use Rattle.mc_value.specs.Arithmetic.{quotient, remainder, divided}
 use Rattle.mc_value.specs.declared.trap.Trap.TheVariants.{Overflow}
 
 -- ---- each type lies round 0, in 64 bits and a sign

@@ -1,5 +1,5 @@
 -- What the operators give: in range, wrapped, rebuilt, rounded.
-use Rattle.std.proofs.Common.{arith, ◌≡◌, ◌≢◌, ℕ, zero, suc, ◌<◌, ◌≤◌, ◌+◌, ◌-◌, ◌*◌, ◌/◌, ◌%◌, ◌^◌, ℤ, pos, negsuc, neg_ℤ, ◌+ℤ◌, ◌-ℤ◌, ◌*ℤ◌, ◌≤ℤ◌, ◌<ℤ◌, Bool, true, false, not, ◌&&◌, ◌||◌, int_lt, int_le, if◌then◌else◌, nat_lt, sym, ◌∙◌, ap, subst, refl, inl, inr, ◌⊎◌, ⊎_elim, nat_abs, unsigned_abs, int_div, int_rem, Result, Ok, Err, IfOk}
+use Rattle.std.proofs.Common.{arith, ◌≡◌, ℕ, zero, suc, ◌<◌, ◌≤◌, ◌+◌, ◌*◌, ◌/◌, ◌%◌, ◌^◌, ℤ, pos, negsuc, neg_ℤ, ◌+ℤ◌, ◌-ℤ◌, ◌*ℤ◌, ◌≤ℤ◌, ◌<ℤ◌, Bool, true, false, not, ◌&&◌, ◌||◌, int_lt, int_le, if◌then◌else◌, nat_lt, sym, ◌∙◌, ap, subst, refl, inl, inr, ◌⊎◌, nat_abs, unsigned_abs, int_rem, Result, Ok, Err, IfOk}
 use Rattle.std.proofs.lemmas.Int.{ints, rem_below}
 use Rattle.std.proofs.lemmas.Bool.{cond_both, cond-true, cond-false, lt-ltb, and_parts}
 use Rattle.std.proofs.lemmas.Nat.{pow_pos, div-add-mod'}
@@ -15,12 +15,12 @@ use Rattle.mc_value.specs.declared.operators.UnOp.TheVariants.{Plus, Minus, Flip
 use Rattle.mc_value.specs.declared.operators.ShiftOp.{ShiftOp}
 use Rattle.mc_value.specs.declared.operators.ShiftOp.TheVariants.{Left, Right}
 use Rattle.mc_value.specs.IntTypes.{width_of, signed_of, least_of, greatest_of, InRange, in_range}
-use Rattle.mc_value.specs.Conversions.{promoted, modulo, wrapped, converted, is_zero}
+use Rattle.mc_value.specs.Conversions.{promoted, wrapped, is_zero}
 use Rattle.mc_value.specs.Digits.{digit, number_of_digits, value_of_digits}
 use Rattle.mc_value.specs.Arithmetic.{are_equal, exclusive, fitted, divided, is_negative, quotient, remainder, truth, binary_of, binary_type, unary_of, unary_type}
 use Rattle.mc_value.specs.Shifts.{shifted_left, shifted_right, shifted_by, shift_of}
-use Rattle.mc_value.specs.Laws.{Congruent, Wraps}
-use Rattle.mc_value.proofs.Bounds.{remainder_is, remainder_within, quotient_is, right_within}
+use Rattle.mc_value.specs.Laws.{Wraps}
+use Rattle.mc_value.proofs.Bounds.{remainder_is, remainder_within, right_within}
 use Rattle.mc_value.proofs.Wrapping.{le_yes, wrapped_within, wrapped_congruent}
 
 -- ---- results are in range

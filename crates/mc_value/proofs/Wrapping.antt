@@ -1,12 +1,12 @@
 -- What is left of a number in a type: in range, congruent, and alone so.
-use Rattle.std.proofs.Common.{arith, ⊎_elim, unsigned_abs, ◌<ℤ◌, ◌≡◌, ◌≢◌, ℕ, zero, suc, ◌<◌, ◌≤◌, ◌+◌, ◌-◌, ◌*◌, ◌/◌, ◌%◌, ◌^◌, ℤ, pos, negsuc, neg_ℤ, ◌+ℤ◌, ◌-ℤ◌, ◌≤ℤ◌, Bool, true, false, if◌then◌else◌, int_le, sym, ◌∙◌, ap, subst, refl, inl, inr, ◌⊎◌, ◌↔◌}
+use Rattle.std.proofs.Common.{arith, ⊎_elim, unsigned_abs, ◌<ℤ◌, ◌≡◌, ◌≢◌, ℕ, zero, suc, ◌<◌, ◌≤◌, ◌+◌, ◌-◌, ◌*◌, ◌/◌, ◌%◌, ◌^◌, ℤ, pos, negsuc, ◌+ℤ◌, ◌-ℤ◌, ◌≤ℤ◌, Bool, true, false, if◌then◌else◌, int_le, sym, ◌∙◌, ap, subst, refl, inl, inr, ◌↔◌}
 use Rattle.std.proofs.lemmas.Int.{ints, int_rem_euclid_is}
-use Rattle.std.proofs.lemmas.Bool.{cases_Bool, cond-true, cond-false, leb-true, leb-false, le-leb, lt-leb}
+use Rattle.std.proofs.lemmas.Bool.{cases_Bool, cond-true, cond-false}
 use Rattle.std.proofs.lemmas.Nat.{pow_pos, div-add-mod'}
 use Rattle.std.proofs.Math.Nat.{mod-lt, mod-eq_of_lt, add-mul-mod_self_right, mul-le-mul_left, suc-mul}
 use Rattle.mc_value.specs.declared.int_type.IntType.{IntType}
 use Rattle.mc_value.specs.declared.int_type.IntType.TheVariants as the
-use Rattle.mc_value.specs.IntTypes.{width_of, signed_of, least_of, greatest_of, InRange, in_range}
+use Rattle.mc_value.specs.IntTypes.{width_of, least_of, greatest_of, InRange}
 use Rattle.mc_value.specs.Conversions.{modulo, wrapped, converted, is_zero}
 use Rattle.mc_value.specs.Laws.{Congruent}
 use Rattle.mc_value.proofs.Bounds.{low_side, high_side}

@@ -1,5 +1,5 @@
 -- Conversions of numbers and of types (C17 6.3.1).
-use Rattle.std.specs.Prelude.{ℕ, ◌-◌, ◌%◌, ◌^◌, ℤ, pos, negsuc, ◌-ℤ◌, Bool, true, false, not, if◌then◌else◌, int_le, nat_lt, nat_le, ◌==◌, ◌&&◌}
+use Rattle.std.specs.Prelude.{ℕ, ◌-◌, ◌%◌, ◌^◌, ℤ, pos, negsuc, ◌-ℤ◌, Bool, false, not, if◌then◌else◌, int_le, nat_lt, nat_le, ◌==◌, ◌&&◌}
 use Rattle.mc_value.specs.declared.int_type.IntType.{IntType}
 use Rattle.mc_value.specs.declared.int_type.IntType.TheVariants as the
 use Rattle.mc_value.specs.IntTypes.{width_of, signed_of, greatest_of, rank_of, holds, unsigned_of}

@@ -1,5 +1,5 @@
 -- What the shifts of a number of a promoted type give (C17 6.5.7).
-use Rattle.std.specs.Prelude.{ℕ, ◌/◌, ◌^◌, ℤ, pos, negsuc, ◌*ℤ◌, Bool, not, if◌then◌else◌, nat_lt, ◌&&◌, Result, Ok, Err}
+use Rattle.std.specs.Prelude.{ℕ, ◌/◌, ◌^◌, ℤ, pos, negsuc, ◌*ℤ◌, not, if◌then◌else◌, nat_lt, ◌&&◌, Result, Ok, Err}
 use Rattle.mc_value.specs.declared.int_type.IntType.{IntType}
 use Rattle.mc_value.specs.declared.trap.Trap.{Trap}
 use Rattle.mc_value.specs.declared.trap.Trap.TheVariants.{Shift}

@@ -5,9 +5,10 @@ ghost use Rattle.mc_value.specs.IntTypes.{InRange};
 ghost use Rattle.mc_value.specs.Conversions.{promoted};
 ghost use Rattle.mc_value.specs.ObjectTypes.{cells_of};
 
+use crate::int_type::is_in;
 use crate::{
-    BinOp, IntType, ObjType, ShiftOp, Trap, UnOp, binary, cells, common, convert, promote, range,
-    shift, unary,
+    BinOp, IntType, ObjType, ShiftOp, Trap, UnOp, binary, cells, common, convert, promote, shift,
+    unary,
 };
 use IntType::{Bool, Char, Int, LLong, Long, SChar, Short, UChar, UInt, ULLong, ULong, UShort};
 use ShiftOp::{Left, Right};

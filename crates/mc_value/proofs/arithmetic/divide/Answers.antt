@@ -1,8 +1,8 @@
-use Rattle.std.proofs.Common.{rules, arith, ◌≡◌, ℕ, ℤ, pos, sym, ◌∙◌, ap, ◌+ℤ◌, ◌-ℤ◌, ◌*ℤ◌, neg_ℤ, ◌≤ℤ◌, FitsSigned, to_z, of_z, int_div, int_rem, Ok, Err, Result, if◌then◌else◌}
-use Rattle.std.proofs.lemmas.Int.{to_z-of_z, ints, quot_is, rem_is}
+use Rattle.std.proofs.Common.{sym, ◌∙◌, ap, Ok}
+use Rattle.std.proofs.lemmas.Int.{quot_is}
 use mir.Syntax.{w128}
-use Rattle.mc_value.specs.IntTypes.{InRange, in_range, width_of, signed_of}
-use Rattle.mc_value.specs.Arithmetic.{fitted, divided, quotient, remainder}
+use Rattle.mc_value.specs.IntTypes.{in_range}
+use Rattle.mc_value.specs.Arithmetic.{quotient}
 use Rattle.mc_value.proofs.Bounds.{quotient_is, division_is, division_traps, quotient_fits}
 use Rattle.mc_value.proofs.arithmetic.divide.Goals as goal
 

@@ -1,8 +1,6 @@
-use Rattle.std.proofs.Common.{rules, arith, ◌≡◌, ℕ, ℤ, pos, sym, ◌∙◌, ap, ◌+ℤ◌, ◌-ℤ◌, ◌*ℤ◌, neg_ℤ, ◌≤ℤ◌, FitsSigned, to_z, of_z, int_div, int_rem, Ok, Err, Result, if◌then◌else◌}
-use Rattle.std.proofs.lemmas.Int.{to_z-of_z, ints, quot_is, rem_is}
+use Rattle.std.proofs.Common.{sym, ◌∙◌, ◌*ℤ◌, FitsSigned}
+use Rattle.std.proofs.lemmas.Int.{to_z-of_z}
 use mir.Syntax.{w128}
-use Rattle.mc_value.specs.IntTypes.{InRange, in_range, width_of, signed_of}
-use Rattle.mc_value.specs.Arithmetic.{fitted, divided, quotient, remainder}
 use Rattle.mc_value.proofs.Bounds.{product_fits}
 use Rattle.mc_value.proofs.arithmetic.multiply.Goals as goal
 

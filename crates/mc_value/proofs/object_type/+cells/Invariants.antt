@@ -1,4 +1,4 @@
-use Rattle.std.proofs.Common.{◌≡◌, ◌≤◌, map, sum, ℕ, ◌+◌, ◌-◌, ◌*◌, ◌<◌, length, take, drop}
+use Rattle.std.proofs.Common.{◌≡◌, map, sum, ◌+◌, drop}
 use Rattle.mc_value.specs.ObjectTypes.{cells_of}
 use Rattle.mc_value.proofs.object_type.+cells.Given as goal
 

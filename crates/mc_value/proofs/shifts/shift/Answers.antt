@@ -1,5 +1,5 @@
-use Rattle.std.proofs.Common.{rules, arith, ◌≡◌, ℕ, ℤ, pos, false, sym, ◌∙◌, ap, FitsSigned, to_z, of_z, int_lt, int_le}
-use Rattle.std.proofs.lemmas.Int.{to_z-of_z, to_z_pos, ints}
+use Rattle.std.proofs.Common.{arith, ◌≡◌, pos, false, sym, ◌∙◌, ap, to_z, int_lt, int_le}
+use Rattle.std.proofs.lemmas.Int.{to_z-of_z, to_z_pos}
 use mir.Syntax.{w128}
 use Rattle.mc_value.specs.IntTypes.{width_of}
 use Rattle.mc_value.proofs.Bounds.{width_le, by_amount}

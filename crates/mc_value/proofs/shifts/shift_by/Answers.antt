@@ -1,6 +1,3 @@
-use Rattle.std.proofs.Common.{rules, arith, ◌≡◌, ℕ, ℤ, pos, sym, ◌∙◌, ap, FitsSigned, to_z, of_z}
-use Rattle.std.proofs.lemmas.Int.{to_z-of_z, ints}
-use mir.Syntax.{w128}
 use Rattle.mc_value.proofs.Bounds.{right_returns}
 use Rattle.mc_value.proofs.shifts.shift_by.Goals as goal
 

@@ -1,9 +1,8 @@
-use Rattle.std.proofs.Common.{rules, arith, ◌≡◌, ℕ, ℤ, pos, sym, ◌∙◌, ap, ◌+ℤ◌, ◌-ℤ◌, ◌*ℤ◌, neg_ℤ, ◌≤ℤ◌, FitsSigned, to_z, of_z, int_div, int_rem, Ok, Err, Result, if◌then◌else◌}
-use Rattle.std.proofs.lemmas.Int.{to_z-of_z, ints, quot_is, rem_is}
+use Rattle.std.proofs.Common.{rules, arith, ◌≡◌, pos, sym, ◌∙◌, ap, ◌*ℤ◌, FitsSigned, to_z, of_z, Ok}
+use Rattle.std.proofs.lemmas.Int.{to_z-of_z}
 use mir.Syntax.{w128}
-use Rattle.mc_value.specs.IntTypes.{InRange, in_range, width_of, signed_of}
-use Rattle.mc_value.specs.Arithmetic.{fitted, divided, quotient, remainder}
-use Rattle.std.proofs.Common.{◌<◌, ◌*◌, ◌^◌, ◌%◌, true, false, refl, int_le}
+use Rattle.mc_value.specs.IntTypes.{in_range}
+use Rattle.std.proofs.Common.{◌<◌, ◌*◌, ◌^◌, ◌%◌, refl, int_le}
 use Rattle.mc_value.proofs.Bounds.{width_le, power_is, shift_fits, left_wraps, left_fits}
 use Rattle.mc_value.specs.Conversions.{wrapped}
 use Rattle.mc_value.proofs.shifts.shift_left.Goals as goal
