@@ -309,33 +309,85 @@ fn is_operand(t: IntType, v: i128) -> bool
     promote(t) == t && is_in(t, v)
 }
 
-fn text(alloc: Global, outcome: Result<i128, Trap>) -> Result<String, Fail> {
-    match outcome {
-        Ok(value) => Ok(format!(in alloc; "{value}")?),
-        Err(trap) => Ok(format!(in alloc; "{trap:?}")?),
+/// Whether an outcome is the one with this name.
+fn is_outcome(alloc: Global, outcome: Result<i128, Trap>, want: &str) -> Result<bool, Fail> {
+    let text = match outcome {
+        Ok(value) => format!(in alloc; "{value}")?,
+        Err(trap) => format!(in alloc; "{trap:?}")?,
+    };
+    Ok(text.as_str() == want)
+}
+
+fn is_type(alloc: Global, t: IntType, want: &str) -> Result<bool, Fail> {
+    let text = format!(in alloc; "{t:?}")?;
+    Ok(text.as_str() == want)
+}
+
+fn convert_agrees(alloc: Global, number: i128, wants: &str) -> Result<bool, Fail> {
+    let mut agrees = true;
+    for (t, want) in TYPES.iter().zip(wants.split(' ')) {
+        agrees = agrees && is_outcome(alloc, Ok(convert(number, *t)), want)?;
     }
+    Ok(agrees)
+}
+
+fn common_agrees(alloc: Global, a: IntType, wants: &str) -> Result<bool, Fail> {
+    let mut agrees = true;
+    for (b, want) in TYPES.iter().zip(wants.split(' ')) {
+        agrees = agrees && is_type(alloc, common(a, *b), want)?;
+    }
+    Ok(agrees)
+}
+
+fn binary_agrees(alloc: Global, t: IntType, a: i128, b: i128, wants: &str) -> Result<bool, Fail> {
+    if !is_operand(t, a) || !is_operand(t, b) {
+        return Ok(false);
+    }
+    let mut agrees = true;
+    for (op, want) in BINARY_OPERATORS.iter().zip(wants.split(' ')) {
+        agrees = agrees && is_outcome(alloc, binary(*op, t, a, b), want)?;
+    }
+    Ok(agrees)
+}
+
+fn unary_agrees(alloc: Global, t: IntType, a: i128, wants: &str) -> Result<bool, Fail> {
+    if !is_operand(t, a) {
+        return Ok(false);
+    }
+    let mut agrees = true;
+    for (op, want) in UNARY_OPERATORS.iter().zip(wants.split(' ')) {
+        agrees = agrees && is_outcome(alloc, unary(*op, t, a), want)?;
+    }
+    Ok(agrees)
+}
+
+fn shift_agrees(
+    alloc: Global,
+    op: ShiftOp,
+    t: IntType,
+    a: i128,
+    wants: &str,
+) -> Result<bool, Fail> {
+    if !is_operand(t, a) {
+        return Ok(false);
+    }
+    let mut agrees = true;
+    for (count, want) in COUNTS.iter().zip(wants.split(' ')) {
+        agrees = agrees && is_outcome(alloc, shift(op, t, a, *count), want)?;
+    }
+    Ok(agrees)
 }
 
 #[test]
 fn converts(rt: HostRuntime) -> Result<(), Fail> {
     for (number, wants) in CONVERTED {
-        for (t, want) in TYPES.iter().zip(wants.split(' ')) {
-            assert_eq!(rt;
-                text(rt.alloc(), Ok(convert(number, *t)))?.as_str(),
-                want,
-                "{number} to {t:?}"
-            );
-        }
-    }
-    for (t, want) in TYPES.iter().zip(PROMOTED.split(' ')) {
-        let name = format!(in rt.alloc(); "{:?}", promote(*t))?;
-        assert_eq!(rt; name.as_str(), want, "{t:?}");
+        assert!(rt; convert_agrees(rt.alloc(), number, wants)?, "{number}");
     }
     for (a, wants) in TYPES.iter().zip(COMMON.iter()) {
-        for (b, want) in TYPES.iter().zip(wants.split(' ')) {
-            let name = format!(in rt.alloc(); "{:?}", common(*a, *b))?;
-            assert_eq!(rt; name.as_str(), want, "{a:?} with {b:?}");
-        }
+        assert!(rt; common_agrees(rt.alloc(), *a, wants)?, "{a:?}");
+    }
+    for (t, want) in TYPES.iter().zip(PROMOTED.split(' ')) {
+        assert!(rt; is_type(rt.alloc(), promote(*t), want)?, "{t:?}");
     }
     Ok(())
 }
@@ -344,38 +396,20 @@ fn converts(rt: HostRuntime) -> Result<(), Fail> {
 fn operates(rt: HostRuntime) -> Result<(), Fail> {
     for (types, a, b, wants) in BINARY {
         for t in types {
-            assert!(rt; is_operand(t, a) && is_operand(t, b), "{t:?} {a} {b}");
-            for (op, want) in BINARY_OPERATORS.iter().zip(wants.split(' ')) {
-                assert_eq!(rt;
-                    text(rt.alloc(), binary(*op, t, a, b))?.as_str(),
-                    want,
-                    "{a} {op:?} {b} in {t:?}"
-                );
-            }
+            assert!(rt; binary_agrees(rt.alloc(), t, a, b, wants)?, "{t:?} {a} {b}");
         }
     }
     for (types, a, wants) in UNARY {
         for t in types {
-            assert!(rt; is_operand(t, a), "{t:?} {a}");
-            for (op, want) in UNARY_OPERATORS.iter().zip(wants.split(' ')) {
-                assert_eq!(rt;
-                    text(rt.alloc(), unary(*op, t, a))?.as_str(),
-                    want,
-                    "{op:?} {a} in {t:?}"
-                );
-            }
+            assert!(rt; unary_agrees(rt.alloc(), t, a, wants)?, "{t:?} {a}");
         }
     }
     for (op, types, a, wants) in SHIFTS {
         for t in types {
-            assert!(rt; is_operand(t, a), "{t:?} {a}");
-            for (count, want) in COUNTS.iter().zip(wants.split(' ')) {
-                assert_eq!(rt;
-                    text(rt.alloc(), shift(op, t, a, *count))?.as_str(),
-                    want,
-                    "{a} {op:?} {count} in {t:?}"
-                );
-            }
+            assert!(rt;
+                shift_agrees(rt.alloc(), op, t, a, wants)?,
+                "{t:?} {a} {op:?}"
+            );
         }
     }
     Ok(())
