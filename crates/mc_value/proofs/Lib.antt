@@ -1,0 +1,4 @@
+pub mod Bounds
+pub mod Wrapping
+pub mod Bits
+pub mod Results
