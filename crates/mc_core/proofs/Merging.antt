@@ -1,0 +1,81 @@
+-- The pairs of two matrices, bit by bit and test by test.
+use Rattle.std.proofs.Common.{◌≡◌, ◌≢◌, ℕ, ◌+◌, ◌-◌, ◌*◌, ◌/◌, ◌%◌, ◌<◌, ◌≤◌, ◌⊎◌, ◌↔◌, inl, inr, List, length, get_or, replicate, sym, ap, ◌∙◌, subst, arith}
+use Rattle.std.specs.Int.{bit_at}
+use Rattle.std.proofs.lemmas.Nat.Bits.{bit_at-zero}
+use Rattle.std.proofs.lemmas.List.{get_or-replicate, get_or_past, length-replicate}
+use native.Mathlib.Decide.{dec_lt, ℕ_discrete}
+use mathlib.Core.Logic.{dite}
+use Rattle.mc_core.specs.declared.shape.Shape.{Shape}
+use Rattle.mc_core.specs.Shape.{word_count, place}
+use Rattle.mc_core.specs.Matrix.{MatrixView, Holds, empty_matrix}
+use Rattle.mc_core.specs.Merged.{both_shapes, HoldsEither}
+
+abbrev Pairs : Type 1
+Pairs = ℕ → ℕ → Type 0
+
+-- the first n tests of a bit are looked at
+abbrev pub IsDone : Pairs → Pairs → ℕ → Pairs → ℕ → Type 0
+IsDone old either bit now n = (b t : ℕ) → now b t ↔ (old b t ⊎ ((b ≡ bit) × (t < n) × either b t))
+
+-- one test more
+module _ (old before after either : Pairs) (bit test : ℕ) where
+
+  one_more : (b t : ℕ) → ((b ≡ bit) × (t < test) × either b t) → (b ≡ bit) × (t < test + 1) × either b t
+  one_more b t p = (p.0, (let l = p.1 in omega arith), p.2)
+
+  pub more_yes : either bit test → ((b t : ℕ) → after b t ↔ (before b t ⊎ ((b ≡ bit) × (t ≡ test)))) → IsDone old either bit before test → IsDone old either bit after (test + 1)
+  more_yes here step done b t = (λ x. on ((step b t).0 x), λ x. back x)
+    where
+      there : (b ≡ bit) × (t ≡ test) → either b t
+      there p = subst (λ (q : ℕ × ℕ). either q.0 q.1) (λ i. (sym p.0 i, sym p.1 i)) here
+      old_on : old b t ⊎ ((b ≡ bit) × (t < test) × either b t) → old b t ⊎ ((b ≡ bit) × (t < test + 1) × either b t)
+      old_on (inl a) = inl a
+      old_on (inr p) = inr (one_more b t p)
+      on : before b t ⊎ ((b ≡ bit) × (t ≡ test)) → old b t ⊎ ((b ≡ bit) × (t < test + 1) × either b t)
+      on (inl m) = old_on ((done b t).0 m)
+      on (inr p) = inr (p.0, (let e = p.1 in omega arith), there p)
+      back : old b t ⊎ ((b ≡ bit) × (t < test + 1) × either b t) → after b t
+      back (inl a) = (step b t).1 (inl ((done b t).1 (inl a)))
+      back (inr p) = dite (ℕ_discrete t test) (λ e. (step b t).1 (inr (p.0, e))) (λ ne. (step b t).1 (inl ((done b t).1 (inr (p.0, (let l = p.1 in omega arith), p.2)))))
+
+  pub more_no : ¬ either bit test → IsDone old either bit before test → IsDone old either bit before (test + 1)
+  more_no none done b t = (λ x. on ((done b t).0 x), λ x. back x)
+    where
+      on : old b t ⊎ ((b ≡ bit) × (t < test) × either b t) → old b t ⊎ ((b ≡ bit) × (t < test + 1) × either b t)
+      on (inl a) = inl a
+      on (inr p) = inr (one_more b t p)
+      back : old b t ⊎ ((b ≡ bit) × (t < test + 1) × either b t) → before b t
+      back (inl a) = (done b t).1 (inl a)
+      back (inr p) = dite (ℕ_discrete t test)
+          (λ e. absurd (none (subst (λ (q : ℕ × ℕ). either q.0 q.1) (λ i. (p.0 i, e i)) p.2)))
+          (λ ne. (done b t).1 (inr (p.0, (let l = p.1 in omega arith), p.2)))
+
+-- nothing is held at first
+pub none_at_first : (s : Shape) (b t : ℕ) → ¬ Holds (empty_matrix s) b t
+none_at_first s b t h =
+    let at : ℕ = place s b t in
+    let n : ℕ = word_count s in
+    let clear : get_or (replicate {A = ℕ} n 0) at 0 ≡ 0 = dite (dec_lt at n) (λ y. get_or-replicate n at 0 0 y) (λ no. get_or_past (replicate n 0) at 0 (subst (λ (k : ℕ). k ≤ at) (sym (length-replicate {A = ℕ} n 0)) (omega arith))) in
+    let none : bit_at (get_or (replicate n 0) at 0) (t % 64) ≡ 0 = ap (λ (w : ℕ). bit_at w (t % 64)) clear ∙ bit_at-zero (t % 64) in
+    let one : bit_at (get_or (replicate n 0) at 0) (t % 64) ≡ 1 = h.2 in absurd (omega arith)
+
+-- a pair of one of them is in range of both
+pub in_range : (l r : MatrixView) → l.shape.bits ≡ r.shape.bits → (b t : ℕ) → HoldsEither l r b t → (b < l.shape.bits) × (t < l.shape.tests + r.shape.tests)
+in_range l r same b t (inl h) = (h.0, let x = h.1 in omega arith)
+in_range l r same b t (inr h) = (let x = h.1.0 in omega arith, let x = h.1.1 in let y = h.0 in omega arith)
+
+-- one bit more
+abbrev pub IsBelow : MatrixView → MatrixView → Pairs → ℕ → Type 0
+IsBelow l r now n = (b t : ℕ) → now b t ↔ ((b < n) × HoldsEither l r b t)
+
+pub below_more : (l r : MatrixView) → l.shape.bits ≡ r.shape.bits → (before after : Pairs) (bit tests : ℕ) → tests ≡ l.shape.tests + r.shape.tests
+    → IsBelow l r before bit → ((b t : ℕ) → after b t ↔ (before b t ⊎ ((b ≡ bit) × (t < tests) × HoldsEither l r b t))) → IsBelow l r after (bit + 1)
+below_more l r same before after bit tests all done step b t = (λ x. on ((step b t).0 x), λ p. back p)
+  where
+    on : before b t ⊎ ((b ≡ bit) × (t < tests) × HoldsEither l r b t) → (b < bit + 1) × HoldsEither l r b t
+    on (inl m) = let p = (done b t).0 m in (let x = p.0 in omega arith, p.1)
+    on (inr p) = (let x = p.0 in omega arith, p.2)
+    back : (b < bit + 1) × HoldsEither l r b t → after b t
+    back p = dite (ℕ_discrete b bit)
+        (λ e. let x = in_range l r same b t p.1 in (step b t).1 (inr (e, (let y = x.1 in omega arith), p.1)))
+        (λ ne. (step b t).1 (inl ((done b t).1 (let y = p.0 in omega arith, p.1))))
