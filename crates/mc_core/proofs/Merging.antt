@@ -50,32 +50,6 @@ module _ (old before after either : Pairs) (bit test : ℕ) where
           (λ e. absurd (none (subst (λ (q : ℕ × ℕ). either q.0 q.1) (λ i. (p.0 i, e i)) p.2)))
           (λ ne. (done b t).1 (inr (p.0, (let l = p.1 in omega arith), p.2)))
 
--- nothing is held at first
-pub none_at_first : (s : Shape) (b t : ℕ) → ¬ Holds (empty_matrix s) b t
-none_at_first s b t h =
-    let at : ℕ = place s b t in
-    let n : ℕ = word_count s in
-    let clear : get_or (replicate {A = ℕ} n 0) at 0 ≡ 0 = dite (dec_lt at n) (λ y. get_or-replicate n at 0 0 y) (λ no. get_or_past (replicate n 0) at 0 (subst (λ (k : ℕ). k ≤ at) (sym (length-replicate {A = ℕ} n 0)) (omega arith))) in
-    let none : bit_at (get_or (replicate n 0) at 0) (t % 64) ≡ 0 = ap (λ (w : ℕ). bit_at w (t % 64)) clear ∙ bit_at-zero (t % 64) in
-    let one : bit_at (get_or (replicate n 0) at 0) (t % 64) ≡ 1 = h.2 in absurd (omega arith)
-
--- a pair of one of them is in range of both
-pub in_range : (l r : MatrixView) → l.shape.bits ≡ r.shape.bits → (b t : ℕ) → HoldsEither l r b t → (b < l.shape.bits) × (t < l.shape.tests + r.shape.tests)
-in_range l r same b t (inl h) = (h.0, let x = h.1 in omega arith)
-in_range l r same b t (inr h) = (let x = h.1.0 in omega arith, let x = h.1.1 in let y = h.0 in omega arith)
-
 -- one bit more
 abbrev pub IsBelow : MatrixView → MatrixView → Pairs → ℕ → Type 0
 IsBelow l r now n = (b t : ℕ) → now b t ↔ ((b < n) × HoldsEither l r b t)
-
-pub below_more : (l r : MatrixView) → l.shape.bits ≡ r.shape.bits → (before after : Pairs) (bit tests : ℕ) → tests ≡ l.shape.tests + r.shape.tests
-    → IsBelow l r before bit → ((b t : ℕ) → after b t ↔ (before b t ⊎ ((b ≡ bit) × (t < tests) × HoldsEither l r b t))) → IsBelow l r after (bit + 1)
-below_more l r same before after bit tests all done step b t = (λ x. on ((step b t).0 x), λ p. back p)
-  where
-    on : before b t ⊎ ((b ≡ bit) × (t < tests) × HoldsEither l r b t) → (b < bit + 1) × HoldsEither l r b t
-    on (inl m) = let p = (done b t).0 m in (let x = p.0 in omega arith, p.1)
-    on (inr p) = (let x = p.0 in omega arith, p.2)
-    back : (b < bit + 1) × HoldsEither l r b t → after b t
-    back p = dite (ℕ_discrete b bit)
-        (λ e. let x = in_range l r same b t p.1 in (step b t).1 (inr (e, (let y = x.1 in omega arith), p.1)))
-        (λ ne. (step b t).1 (inl ((done b t).1 (let y = p.0 in omega arith, p.1))))

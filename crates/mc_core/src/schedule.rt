@@ -1,5 +1,5 @@
 //! The interleaving core: workers that claim tests and hit their bits, one atomic step at a time.
-ghost use Rattle.std.specs.Prelude.{◌≡◌, ℕ, ◌+◌, ◌<◌, ◌≤◌, ◌↔◌, ◌^◌, List, length, min, All, Contains, IfOk, OnOk, map, vec_len, true};
+ghost use Rattle.std.specs.Prelude.{◌≡◌, ℕ, ◌+◌, ◌<◌, ◌≤◌, ◌↔◌, ◌^◌, List, length, min, All, Contains, IfOk, OnOk, map, vec_len, true, false};
 ghost use Rattle.mc_core.specs.Shape.{word_count};
 ghost use Rattle.mc_core.specs.Matrix.{Holds, with_pair};
 ghost use Rattle.mc_core.specs.Schedule.{core_of, run, start, script_of, scripts_of, worker_of, workers_of, fresh_workers, next_bit, last_claim};
@@ -130,7 +130,7 @@ fn hit(matrix: &mut Matrix, worker: &mut CoreWorker, scripts: &[Vec<u32>])
 // The number is claimed where it is a test; any other ends the worker.
 fn claim(worker: &mut CoreWorker, scripts: &[Vec<u32>], drawn: u32) -> Result<(), AllocError>
     requires scripts { All (λ v. vec_len v < 2 ^ 31) scripts.now }
-    requires done { worker.old.rest ≡ 0 }
+    requires done { (worker.old.rest ≡ 0) × (worker.old.ended ≡ false) }
     ensures { OnOk result (worker_of worker.new ≡ machine.after_claim (scripts_of scripts.now) (length scripts.now) drawn (worker_of worker.old)) }
 {
     if drawn as usize >= scripts.len() {
