@@ -6,3 +6,4 @@ mod Hits
 mod Machine
 mod Kept
 mod Lawful
+mod Workers

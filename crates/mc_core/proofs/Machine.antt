@@ -60,3 +60,7 @@ claim_no scripts tests n w past all =
     let over : nat_le tests n ≡ true = grind (arith, nat_tests) in
     let none : script_of scripts n ≡ [] = get_or_past scripts n [] (omega arith) in
     λ i. record { claimed = cond (below i) (w.claimed ++ n ∷ []) w.claimed; rest = length (none i); ended = over i }
+
+-- a step draws at most one number
+pub step_draws : (scripts : List (List ℕ)) (core : Core) (i : ℕ) → (step scripts core i).draws ≤ core.draws + 1
+step_draws scripts core i = step_keeps (λ c. c.draws ≤ core.draws + 1) scripts core i (omega arith) (λ w at running none. omega arith) (λ w at running some. omega arith)

@@ -98,17 +98,19 @@ fn step(state: &mut CoreState, scripts: &[Vec<u32>], number: u32) -> Result<(), 
     requires ready { IsReady (scripts_of scripts.now) (core_of state.old) }
     ensures { OnOk result (core_of state.new ≡ machine.step (scripts_of scripts.now) (core_of state.old) number) }
 {
-    let at = number as usize;
-    if at >= state.workers.len() || state.workers[at].ended {
+    let Some(worker) = state.workers.get_mut(number as usize) else {
+        return Ok(());
+    };
+    if worker.ended {
         return Ok(());
     }
-    if state.workers[at].rest > 0 {
-        hit(&mut state.matrix, &mut state.workers[at], scripts);
+    if worker.rest > 0 {
+        hit(&mut state.matrix, worker, scripts);
         return Ok(());
     }
     let drawn = state.draws;
     state.draws += 1;
-    claim(&mut state.workers[at], scripts, drawn)
+    claim(worker, scripts, drawn)
 }
 
 // Hits the next bit of the worker's last test.
