@@ -1,10 +1,13 @@
 -- The pairs that a worker has hit, step by step.
 use Rattle.std.proofs.Common.{◌≡◌, ◌≢◌, ℕ, zero, suc, ◌+◌, ◌-◌, ◌<◌, ◌≤◌, List, [], ◌∷◌, ◌++◌, length, get_or, map, take, sym, refl, ap, ◌∙◌, subst, arith, append_assoc}
-use Rattle.std.specs.Prelude.{slice_index, All, Contains, flat_map}
-use Rattle.std.proofs.lemmas.List.{take_all, take_more, map_push, append-nil}
+use Rattle.std.specs.Prelude.{◌==◌, ◌&&◌, slice_index, All, Contains, flat_map}
+use Rattle.std.proofs.lemmas.List.{take_all, take_more, map_push, append-nil, length-map, get_or-map}
+use Rattle.std.proofs.lemmas.List.Sums.{get_or-le-sum_by}
 use Rattle.std.proofs.lemmas.List.Elements.{All-append, All-map, All-head, All-tail, All-nil, All-take, All-contains_itself}
 use Rattle.mc_core.specs.Schedule.{script_of}
+use Rattle.mc_core.specs.Counts.{marks}
 use Rattle.mc_core.specs.Law.{pairs_of, hits_of}
+use Rattle.mc_core.proofs.Sums.{tally, sum_flat_map, in_is_marked}
 
 -- a claim hits nothing
 pub hits_claim : (scripts : List (List ℕ)) (xs : List ℕ) (t : ℕ) → hits_of scripts (xs ++ t ∷ []) (length (script_of scripts t)) ≡ hits_of scripts xs 0
@@ -64,3 +67,17 @@ hits_are scripts Test (x ∷ y ∷ ys) r all =
     All-append (IsOfScript scripts Test) (pairs_of x (script_of scripts x)) (hits_of scripts (y ∷ ys) r)
     (pairs_are scripts Test x (script_of scripts x) (All-head Test x (y ∷ ys) all) (All-contains_itself (script_of scripts x)))
     (hits_are scripts Test (y ∷ ys) r (All-tail Test x (y ∷ ys) all))
+
+-- a bit of a script is among the pairs of its test
+pub pair_of : (b t : ℕ) (s : List ℕ) → Contains s b → Contains (pairs_of t s) (b, t)
+pair_of b t s c = (c.0, subst (λ (n : ℕ). c.0 < n) (sym (length-map s (λ (x : ℕ). (x, t)))) c.1, get_or-map (λ (x : ℕ). (x, t)) s c.0 b (b, t) c.1 ∙ ap (λ (x : ℕ). (x, t)) c.2)
+
+-- where nothing remains, each bit of each claimed test is hit
+pub hit_of_claimed : (scripts : List (List ℕ)) (xs : List ℕ) (b t : ℕ) → Contains xs t → Contains (script_of scripts t) b → 0 < marks b t (hits_of scripts xs 0)
+hit_of_claimed scripts xs b t claimed c =
+    let sum = sum_flat_map (λ (h : ℕ × ℕ). tally ((h.0 == b) && (h.1 == t))) (λ (u : ℕ). pairs_of u (script_of scripts u)) xs in
+    let one = get_or-le-sum_by (λ (u : ℕ). marks b t (pairs_of u (script_of scripts u))) xs claimed.0 t claimed.1 in
+    let here : marks b t (pairs_of (get_or xs claimed.0 t) (script_of scripts (get_or xs claimed.0 t))) ≡ marks b t (pairs_of t (script_of scripts t)) = ap (λ (u : ℕ). marks b t (pairs_of u (script_of scripts u))) claimed.2 in
+    let marked = in_is_marked b t (pairs_of t (script_of scripts t)) (pair_of b t (script_of scripts t) c) in
+    let all : marks b t (hits_of scripts xs 0) ≡ marks b t (flat_map (λ u. pairs_of u (script_of scripts u)) xs) = ap (marks b t) (hits_all scripts xs) in
+    omega arith

@@ -218,11 +218,11 @@ kept_start scripts k workers some =
       whole = length-replicate (word_count k) 0;
       some = subst (λ (m : ℕ). 0 < m) (sym (length-replicate workers idle)) some;
       ready = All-replicate (IsInOrder scripts k.tests) workers idle record {
-          claims = All-nil (λ t. t < k.tests);
-          some = λ more. absurd (omega arith);
-          rest = omega arith;
-          ended = λ e. refl;
-        };
+        claims = All-nil (λ t. t < k.tests);
+        some = λ more. absurd (omega arith);
+        rest = omega arith;
+        ended = λ e. refl;
+      };
       draws = let a = sum_replicate (λ (u : Worker). length u.claimed) workers idle refl in let b = sum_replicate (λ (u : Worker). tally u.ended) workers idle refl in omega arith;
       over = let b = sum_replicate (λ (u : Worker). tally u.ended) workers idle refl in omega arith;
       claims = λ n. let z : min 0 k.tests ≡ 0 = omega arith in sum_replicate (λ (u : Worker). times n u.claimed) workers idle refl ∙ sym (once_none n) ∙ ap (once_below n) (sym z);

@@ -15,7 +15,7 @@ use Rattle.mc_core.specs.Schedule.{Core, Worker, script_of}
 use Rattle.mc_core.specs.Law.{pairs_of, hits_of, all_claims, all_hits, ended_count, IsInOrder}
 use Rattle.mc_core.proofs.Bits.{tests_within}
 use Rattle.mc_core.proofs.Sums.{tally, sum_flat_map, all_flat_map, some_part, marked_is_in, in_is_marked, timed_is_in, once_yes, pair_yes}
-use Rattle.mc_core.proofs.Hits.{IsOfScript, hits_are, hits_all}
+use Rattle.mc_core.proofs.Hits.{IsOfScript, hits_are, hit_of_claimed}
 use Rattle.mc_core.proofs.Kept.{IsKept, AreInRange}
 
 module _ (scripts : List (List ℕ)) (k : Shape) (all : k.tests ≡ length scripts) (in_range : AreInRange k.bits scripts) (core : Core) (kept : IsKept scripts k core) where
@@ -79,15 +79,7 @@ module _ (scripts : List (List ℕ)) (k : Shape) (all : k.tests ≡ length scrip
       let in_claims : Contains w.claimed t = timed_is_in t w.claimed part.2 in
       let order : IsInOrder scripts k.tests w = kept.ready part.0 d part.1 in
       let done : w.rest ≡ 0 = order.ended (ended part.0 d part.1) in
-      let hits : hits_of scripts w.claimed w.rest ≡ flat_map (λ u. pairs_of u (script_of scripts u)) w.claimed = ap (hits_of scripts w.claimed) done ∙ hits_all scripts w.claimed in
-      let sum = sum_flat_map (λ (h : ℕ × ℕ). tally ((h.0 == b) && (h.1 == t))) (λ (u : ℕ). pairs_of u (script_of scripts u)) w.claimed in
-      let one = get_or-le-sum_by (λ (u : ℕ). marks b t (pairs_of u (script_of scripts u))) w.claimed in_claims.0 t in_claims.1 in
-      let at : get_or w.claimed in_claims.0 t ≡ t = in_claims.2 in
-      let is_pair : Contains (pairs_of t (script_of scripts t)) (b, t) =
-          (c.0, subst (λ (n : ℕ). c.0 < n) (sym (length-map (script_of scripts t) (λ (x : ℕ). (x, t)))) c.1, get_or-map (λ (x : ℕ). (x, t)) (script_of scripts t) c.0 b (b, t) c.1 ∙ ap (λ (x : ℕ). (x, t)) c.2) in
-      let marked = in_is_marked b t (pairs_of t (script_of scripts t)) is_pair in
-      let here : marks b t (pairs_of (get_or w.claimed in_claims.0 t) (script_of scripts (get_or w.claimed in_claims.0 t))) ≡ marks b t (pairs_of t (script_of scripts t)) = ap (λ (u : ℕ). marks b t (pairs_of u (script_of scripts u))) at in
-      let mine : marks b t (hits_of scripts w.claimed w.rest) ≡ marks b t (flat_map (λ u. pairs_of u (script_of scripts u)) w.claimed) = ap (marks b t) hits in
+      let mine : 0 < marks b t (hits_of scripts w.claimed w.rest) = subst (λ (r : ℕ). 0 < marks b t (hits_of scripts w.claimed r)) (sym done) (hit_of_claimed scripts w.claimed b t in_claims c) in
       let whole = get_or-le-sum_by (λ (u : Worker). marks b t (hits_of scripts u.claimed u.rest)) core.workers part.0 d part.1 in
       let in_b = bit_in_range b t less c in
       let e = kept.bits b t in_b (tests_within k t less) in

@@ -40,6 +40,7 @@ step_keeps K scripts core i now claims hits = go (slice_get core.workers i) refl
     running w at false e = dite (dec_lt 0 w.rest)
         (λ some. subst K (sym (step_hit scripts core i w at e some)) (hits w at e some))
         (λ no. let none : w.rest ≡ 0 = omega arith in subst K (sym (step_claim scripts core i w at e none)) (claims w at e none))
+
     go : (o : Option Worker) → slice_get core.workers i ≡ o → K (step scripts core i)
     go None at = subst K (sym (step_unknown scripts core i at)) now
     go (Some w) at = running w at w.ended refl

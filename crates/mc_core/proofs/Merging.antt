@@ -19,7 +19,6 @@ IsDone old either bit now n = (b t : ℕ) → now b t ↔ (old b t ⊎ ((b ≡ b
 
 -- one test more
 module _ (old before after either : Pairs) (bit test : ℕ) where
-
   one_more : (b t : ℕ) → ((b ≡ bit) × (t < test) × either b t) → (b ≡ bit) × (t < test + 1) × either b t
   one_more b t p = (p.0, (let l = p.1 in omega arith), p.2)
 
@@ -28,12 +27,15 @@ module _ (old before after either : Pairs) (bit test : ℕ) where
     where
       there : (b ≡ bit) × (t ≡ test) → either b t
       there p = subst (λ (q : ℕ × ℕ). either q.0 q.1) (λ i. (sym p.0 i, sym p.1 i)) here
+
       old_on : old b t ⊎ ((b ≡ bit) × (t < test) × either b t) → old b t ⊎ ((b ≡ bit) × (t < test + 1) × either b t)
       old_on (inl a) = inl a
       old_on (inr p) = inr (one_more b t p)
+
       on : before b t ⊎ ((b ≡ bit) × (t ≡ test)) → old b t ⊎ ((b ≡ bit) × (t < test + 1) × either b t)
       on (inl m) = old_on ((done b t).0 m)
       on (inr p) = inr (p.0, (let e = p.1 in omega arith), there p)
+
       back : old b t ⊎ ((b ≡ bit) × (t < test + 1) × either b t) → after b t
       back (inl a) = (step b t).1 (inl ((done b t).1 (inl a)))
       back (inr p) = dite (ℕ_discrete t test) (λ e. (step b t).1 (inr (p.0, e))) (λ ne. (step b t).1 (inl ((done b t).1 (inr (p.0, (let l = p.1 in omega arith), p.2)))))
@@ -44,6 +46,7 @@ module _ (old before after either : Pairs) (bit test : ℕ) where
       on : old b t ⊎ ((b ≡ bit) × (t < test) × either b t) → old b t ⊎ ((b ≡ bit) × (t < test + 1) × either b t)
       on (inl a) = inl a
       on (inr p) = inr (one_more b t p)
+
       back : old b t ⊎ ((b ≡ bit) × (t < test + 1) × either b t) → before b t
       back (inl a) = (done b t).1 (inl a)
       back (inr p) = dite (ℕ_discrete t test)

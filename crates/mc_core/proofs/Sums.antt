@@ -66,10 +66,13 @@ pub marked_is_in : (b t : ℕ) (hits : List (ℕ × ℕ)) → 0 < marks b t hits
 marked_is_in b t hits more =
     let p = some_part (λ (h : ℕ × ℕ). tally ((h.0 == b) && (h.1 == t))) (b, t) hits more in
     let h : ℕ × ℕ = get_or hits p.0 (b, t) in
-    let one : 0 < tally ((h.0 == b) && (h.1 == t)) = p.2 in
-    (p.0, p.1, dite (ℕ_discrete h.0 b)
-    (λ x. dite (ℕ_discrete h.1 t) (λ y i. (x i, y i)) (λ ne. let z = pair_no b t h.0 h.1 (λ q. ne (sym q.1)) in absurd (omega arith)))
-    (λ ne. let z = pair_no b t h.0 h.1 (λ q. ne (sym q.0)) in absurd (omega arith)))
+    let one : 0 < tally ((h.0 == b) && (h.1 == t)) = p.2 in (
+      p.0,
+      p.1,
+      dite (ℕ_discrete h.0 b)
+          (λ x. dite (ℕ_discrete h.1 t) (λ y i. (x i, y i)) (λ ne. let z = pair_no b t h.0 h.1 (λ q. ne (sym q.1)) in absurd (omega arith)))
+          (λ ne. let z = pair_no b t h.0 h.1 (λ q. ne (sym q.0)) in absurd (omega arith)),
+    )
 
 pub in_is_marked : (b t : ℕ) (hits : List (ℕ × ℕ)) → Contains hits (b, t) → 0 < marks b t hits
 in_is_marked b t hits c =

@@ -5,6 +5,8 @@ mod matrix;
 mod merged;
 mod schedule;
 mod shape;
+#[cfg(test)]
+mod tests;
 
 pub use matrix::Matrix;
 pub use merged::{MergeFault, merge};

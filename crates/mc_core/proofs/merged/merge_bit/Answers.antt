@@ -13,15 +13,15 @@ loop-test-preserved c =
     let before = c.loop-test.invariant in
     let done = λ (m : MatrixView). IsDone (Holds old) (HoldsEither left right) c.args.bit (Holds m) (c.loop-test.test + 1) in
     elim c.if-either_holds.branch [
-      then-either_holds w ↦ record {
-          shape = ap (λ (m : MatrixView). m.shape) (w.merged-is ∙ w.set.ensures.words) ∙ before.shape;
-          pairs = subst done (sym w.merged-is)
-              (more_yes (Holds old) (Holds c.loop-test.merged) (Holds w.set.new.self) (HoldsEither left right) c.args.bit c.loop-test.test (c.either_holds.ensures.0 w.if-either_holds.true) w.set.ensures.pairs before.pairs);
-        }
-    | else-either_holds w ↦ record {
-          shape = ap (λ (m : MatrixView). m.shape) w.merged-is ∙ before.shape;
-          pairs = subst done (sym w.merged-is)
-              (more_no (Holds old) (Holds c.loop-test.merged) (Holds c.loop-test.merged) (HoldsEither left right) c.args.bit c.loop-test.test
-              (λ e. let yes = c.either_holds.ensures.1 e in let no = w.if-either_holds.false in absurd (cc)) before.pairs);
-        }
+      | then-either_holds w ↦ record {
+        shape = ap (λ (m : MatrixView). m.shape) (w.merged-is ∙ w.set.ensures.words) ∙ before.shape;
+        pairs = subst done (sym w.merged-is)
+            (more_yes (Holds old) (Holds c.loop-test.merged) (Holds w.set.new.self) (HoldsEither left right) c.args.bit c.loop-test.test (c.either_holds.ensures.0 w.if-either_holds.true) w.set.ensures.pairs before.pairs);
+      }
+      | else-either_holds w ↦ record {
+        shape = ap (λ (m : MatrixView). m.shape) w.merged-is ∙ before.shape;
+        pairs = subst done (sym w.merged-is)
+            (more_no (Holds old) (Holds c.loop-test.merged) (Holds c.loop-test.merged) (HoldsEither left right) c.args.bit c.loop-test.test
+            (λ e. let yes = c.either_holds.ensures.1 e in let no = w.if-either_holds.false in absurd (cc)) before.pairs);
+      }
     ]

@@ -48,6 +48,6 @@ returns c =
     let less : c.args.number < ws.len = c.in-Some.ensures.variant.0 refl in
     let at = at_worker ws.items c.args.number ws.len x less (omega arith) c.in-Some.ensures.value in
     on_ok_weaker c.claim.result (λ e.
-        let claimed = set_worker ws.items c.args.number c.claim.new.worker (after_claim scripts tests drawn (worker_of x)) (e ∙ ap (λ (n : ℕ). after_claim scripts n drawn (worker_of x)) c.requires.tests) in
-        (λ i. record { draws = drawn + 1; matrix = c.args.state.now.matrix; workers = claimed i })
-        ∙ sym (step_claim scripts (core_of c.args.state.now) c.args.number (worker_of x) at c.if-worker.false (omega arith))) c.claim.ensures
+    let claimed = set_worker ws.items c.args.number c.claim.new.worker (after_claim scripts tests drawn (worker_of x)) (e ∙ ap (λ (n : ℕ). after_claim scripts n drawn (worker_of x)) c.requires.tests) in
+    (λ i. record { draws = drawn + 1; matrix = c.args.state.now.matrix; workers = claimed i })
+    ∙ sym (step_claim scripts (core_of c.args.state.now) c.args.number (worker_of x) at c.if-worker.false (omega arith))) c.claim.ensures
