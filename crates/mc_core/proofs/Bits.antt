@@ -1,9 +1,10 @@
 -- One bit of the words of a matrix.
 use Rattle.std.proofs.Common.{◌≡◌, ◌≢◌, ℕ, ◌+◌, ◌*◌, ◌/◌, ◌%◌, ◌^◌, ◌<◌, ◌≤◌, ◌⊎◌, ◌↔◌, inl, inr, List, length, get_or, set, sym, refl, ap, ◌∙◌, subst, arith, get_or-set_same, mul_comm}
-use Rattle.std.specs.Prelude.{slice_index, bit_or, max}
+use Rattle.std.specs.Prelude.{◌==◌, true, slice_index, bit_and, bit_or, max}
 use Rattle.std.specs.Int.{bit_at}
 use Rattle.std.proofs.lemmas.Nat.{same_from_place, mul-add-lt, one_shl}
-use Rattle.std.proofs.lemmas.Nat.Bits.{bit_at_or, bit_at-pow_same, bit_at-pow_other, bit_at-lt}
+use Rattle.std.proofs.lemmas.Nat.Bits.{bit_at_or, bit_at-pow_same, bit_at-pow_other, bit_at-lt, shr_and_one}
+use Rattle.std.proofs.lemmas.Bool.Decides.{Decides-eqb}
 use Rattle.std.proofs.lemmas.List.{get_or-set_other, length-set, get_or_default}
 use native.Mathlib.Decide.{ℕ_discrete}
 use mathlib.Core.Logic.{dite}
@@ -74,12 +75,22 @@ pub holds_with : (m : MatrixView) (b t : ℕ) → length m.words ≡ word_count 
 holds_with m b t whole in_b in_t c u = (holds_on m b t whole in_b in_t c u (same_or_not b t c u), holds_back m b t whole in_b in_t c u (same_or_not b t c u))
 
 -- what the code writes is the hit
-pub written : (s : Shape) (ws : List ℕ) (b t n x : ℕ) → n ≡ rows s → length ws ≡ word_count s → b < s.bits → t < s.tests → x ≡ get_or ws (b * n + t / 64) x
-    → set ws (b * n + t / 64) (bit_or x (1 * 2 ^ (t % 64) % 2 ^ 64)) ≡ words_after s ws b t
-written s ws b t n x count whole in_b in_t read =
-    let at : b * n + t / 64 ≡ place s b t = ap (λ (m : ℕ). b * m + t / 64) count in
+pub written : (s : Shape) (ws : List ℕ) (b t at x : ℕ) → at ≡ place s b t → length ws ≡ word_count s → b < s.bits → t < s.tests → x ≡ get_or ws at x
+    → set ws at (bit_or x (1 * 2 ^ (t % 64) % 2 ^ 64)) ≡ words_after s ws b t
+written s ws b t at x is_place whole in_b in_t read =
     let within = place_within s b t in_b (tests_within s t in_t) in
     let inside : place s b t < length ws = omega arith in
-    let word : x ≡ get_or ws (place s b t) 0 = read ∙ ap (λ (i : ℕ). get_or ws i x) at ∙ get_or_default ws (place s b t) x 0 inside in
+    let word : x ≡ get_or ws (place s b t) 0 = read ∙ ap (λ (i : ℕ). get_or ws i x) is_place ∙ get_or_default ws (place s b t) x 0 inside in
     let mask : 1 * 2 ^ (t % 64) % 2 ^ 64 ≡ 2 ^ (t % 64) = one_shl (t % 64) 64 (omega arith) in
-    λ i. set ws (at i) (bit_or (word i) (mask i))
+    λ i. set ws (is_place i) (bit_or (word i) (mask i))
+
+-- what the code tests is the bit
+pub tested : (s : Shape) (ws : List ℕ) (b t at x : ℕ) → at ≡ place s b t → length ws ≡ word_count s → b < s.bits → t < s.tests → x ≡ get_or ws at x
+    → (bit_and (x / 2 ^ (t % 64)) 1 == 1) ≡ true ↔ Holds record { shape = s; words = ws } b t
+tested s ws b t at x is_place whole in_b in_t read =
+    let within = place_within s b t in_b (tests_within s t in_t) in
+    let inside : place s b t < length ws = omega arith in
+    let word : x ≡ get_or ws (place s b t) 0 = read ∙ ap (λ (i : ℕ). get_or ws i x) is_place ∙ get_or_default ws (place s b t) x 0 inside in
+    let bit : bit_and (x / 2 ^ (t % 64)) 1 ≡ bit_of s ws b t = shr_and_one x (t % 64) ∙ ap (λ (w : ℕ). bit_at w (t % 64)) word in
+    let decides = Decides-eqb (bit_and (x / 2 ^ (t % 64)) 1) 1 in
+    ((λ e. (in_b, in_t, sym bit ∙ decides.0 e)), (λ h. decides.1 (bit ∙ h.2)))

@@ -13,18 +13,18 @@ use Rattle.mc_core.proofs.Bits.{place_within}
 abbrev pub IsLeast : MatrixView → ℕ → ℕ → Type 0
 IsLeast m b t = Holds m b t × ((u : ℕ) → u < t → ¬ Holds m b u)
 
-module _ (s : Shape) (ws : List ℕ) (b row n x : ℕ) (sound : IsSound s ws) (in_b : b < s.bits) (count : n ≡ rows s) (in_row : row < n)
-    (read : x ≡ get_or ws (b * n + row) x) (some : x ≢ 0) (fits : x < 2 ^ 64) (before : (u : ℕ) → u < 64 * row → bit_of s ws b u ≡ 0) where
+module _ (s : Shape) (ws : List ℕ) (b row from x : ℕ) (sound : IsSound s ws) (in_b : b < s.bits) (is_first : from ≡ place s b 0) (in_row : row < rows s)
+    (read : x ≡ get_or ws (from + row) x) (some : x ≢ 0) (fits : x < 2 ^ 64) (before : (u : ℕ) → u < 64 * row → bit_of s ws b u ≡ 0) where
   abbrev at : ℕ
   at = row * 64 + trailing_zeros w64 x
 
   -- the word of a test of this row
   word_at : (u : ℕ) → u / 64 ≡ row → get_or ws (place s b u) 0 ≡ x
   word_at u e =
-      let same : place s b u ≡ b * n + row = λ i. b * sym count i + e i in
+      let same : place s b u ≡ from + row = omega arith in
       let within = place_within s b u in_b (omega arith) in
-      let inside : b * n + row < length ws = let w = sound.whole in omega arith in
-      ap (λ (i : ℕ). get_or ws i 0) same ∙ get_or_default ws (b * n + row) 0 x inside ∙ sym read
+      let inside : from + row < length ws = let w = sound.whole in omega arith in
+      ap (λ (i : ℕ). get_or ws i 0) same ∙ get_or_default ws (from + row) 0 x inside ∙ sym read
 
   zeros : (trailing_zeros w64 x < 64) × (bit_at x (trailing_zeros w64 x) ≡ 1) × ((i : ℕ) → i < trailing_zeros w64 x → bit_at x i ≡ 0)
   zeros = bit_at-trailing_zeros w64 x (omega arith) fits

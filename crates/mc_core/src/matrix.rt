@@ -1,5 +1,5 @@
 //! The matrix of bits under tests.
-ghost use Rattle.std.specs.Prelude.{◌≡◌, ℕ, ◌<◌, ◌≤◌, ◌⊎◌, ◌↔◌, vec_len, IsTrue, IsNone, IfSome, IfOk};
+ghost use Rattle.std.specs.Prelude.{◌≡◌, ℕ, ◌^◌, ◌<◌, ◌≤◌, ◌⊎◌, ◌↔◌, All, vec_len, IsTrue, IsNone, IfSome, IfOk};
 ghost use Rattle.mc_core.specs.Shape.{word_count};
 ghost use Rattle.mc_core.specs.Matrix.{Holds, HasNoSpareBit, IsSound, empty_matrix, with_pair};
 
@@ -54,9 +54,11 @@ impl Matrix {
     /// Lends the words, those of bit 0 first.
     pub fn as_words(&self) -> &[u64]
         ensures words { result.now ≡ self.now.words }
+        ensures fits { All (λ w. w < 2 ^ 64) self.now.words }
         ensures sound { IsSound self.now.shape self.now.words }
     {
-        self.words.as_slice()
+        let words = self.words.as_slice();
+        words
     }
 
     /// Records the bit under the test.
@@ -65,8 +67,7 @@ impl Matrix {
         ensures words { self.new ≡ with_pair self.old bit test }
         ensures pairs { (b t : ℕ) → Holds self.new b t ↔ (Holds self.old b t ⊎ ((b ≡ bit) × (t ≡ test))) }
     {
-        let rows = (self.shape.tests as usize).div_ceil(64);
-        let place = bit as usize * rows + test as usize / 64;
+        let place = self.shape.place(bit, test);
         self.words[place] |= 1 << (test % 64);
     }
 
@@ -77,9 +78,7 @@ impl Matrix {
         if bit >= self.shape.bits || test >= self.shape.tests {
             return false;
         }
-        let rows = (self.shape.tests as usize).div_ceil(64);
-        let place = bit as usize * rows + test as usize / 64;
-        self.words[place] >> (test % 64) & 1 == 1
+        self.words[self.shape.place(bit, test)] >> (test % 64) & 1 == 1
     }
 
     /// The least test under which the bit is recorded.
@@ -90,9 +89,9 @@ impl Matrix {
         if bit >= self.shape.bits {
             return None;
         }
-        let rows = (self.shape.tests as usize).div_ceil(64);
-        for row in 0..rows {
-            let word = self.words[bit as usize * rows + row];
+        let first = self.shape.place(bit, 0);
+        for row in 0..self.shape.rows() {
+            let word = self.words[first + row];
             if word != 0 {
                 return Some(row as u32 * 64 + word.trailing_zeros());
             }

@@ -9,20 +9,18 @@ use Rattle.mc_core.proofs.matrix.Matrix.least_test.Goals as goal
 pub returns-then-word-ne0-clause-some : goal.returns-then-word-ne0-clause-some
 returns-then-word-ne0-clause-some c =
     let s : Shape = c.self.inside.shape in
-    let n : ℕ = c.div_ceil-rows.result in
+    let from : ℕ = c.place-first.result in
     let x : ℕ = c.index-word.result.now in
-    let count : n ≡ rows s = omega (arith, c.div_ceil-rows.ensures) in
     subst (λ (m : MatrixView). IsLeast m c.args.bit (c.loop-row.row * 64 + trailing_zeros w64 x)) c.self.view_is
-    (is_least s c.self.inside.words.items c.args.bit c.loop-row.row n x c.self.invariant (omega arith) count c.loop-row-test.true c.index-word.ensures c.if-word-ne0.true (omega arith) c.loop-row.invariant)
+    (is_least s c.self.inside.words.items c.args.bit c.loop-row.row from x c.self.invariant (omega arith) c.place-first.ensures (omega arith) c.index-word.ensures c.if-word-ne0.true (omega arith) c.loop-row.invariant)
 
 pub returns-then-word-ne0-clause-none : goal.returns-then-word-ne0-clause-none
 returns-then-word-ne0-clause-none c =
     let s : Shape = c.self.inside.shape in
-    let n : ℕ = c.div_ceil-rows.result in
+    let from : ℕ = c.place-first.result in
     let x : ℕ = c.index-word.result.now in
-    let count : n ≡ rows s = omega (arith, c.div_ceil-rows.ensures) in
     let least = subst (λ (m : MatrixView). IsLeast m c.args.bit (c.loop-row.row * 64 + trailing_zeros w64 x)) c.self.view_is
-    (is_least s c.self.inside.words.items c.args.bit c.loop-row.row n x c.self.invariant (omega arith) count c.loop-row-test.true c.index-word.ensures c.if-word-ne0.true (omega arith) c.loop-row.invariant) in (
+    (is_least s c.self.inside.words.items c.args.bit c.loop-row.row from x c.self.invariant (omega arith) c.place-first.ensures (omega arith) c.index-word.ensures c.if-word-ne0.true (omega arith) c.loop-row.invariant) in (
       (λ never t h. absurd (cc)),
       (λ none. absurd (none _ least.0)),
     )
