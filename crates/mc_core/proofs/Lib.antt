@@ -7,3 +7,4 @@ mod Machine
 mod Kept
 mod Lawful
 mod Workers
+mod Pairs

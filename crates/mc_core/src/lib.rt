@@ -8,7 +8,7 @@ mod shape;
 #[cfg(test)]
 mod tests;
 
-pub use matrix::Matrix;
+pub use matrix::{Matrix, words_follow_from_pairs};
 pub use merged::{MergeFault, merge};
 pub use schedule::{CoreState, CoreWorker, run_schedule};
 pub use shape::{Shape, words};

@@ -1,5 +1,5 @@
 //! The matrix of bits under tests.
-ghost use Rattle.std.specs.Prelude.{◌≡◌, ℕ, ◌^◌, ◌<◌, ◌≤◌, ◌⊎◌, ◌↔◌, All, vec_len, IsTrue, IsNone, IfSome, IfOk};
+ghost use Rattle.std.specs.Prelude.{◌≡◌, ℕ, ◌^◌, ◌<◌, ◌≤◌, ◌⊎◌, ◌↔◌, List, All, vec_len, IsTrue, IsNone, IfSome, IfOk};
 ghost use Rattle.mc_core.specs.Shape.{word_count};
 ghost use Rattle.mc_core.specs.Matrix.{Holds, HasNoSpareBit, IsSound, empty_matrix, with_pair};
 
@@ -99,3 +99,8 @@ impl Matrix {
         None
     }
 }
+
+/// A matrix is its shape and its set of pairs: the words follow from them.
+pub fn words_follow_from_pairs()
+    ensures { (s : Shape) (v w : List ℕ) → IsSound s v → IsSound s w → All (λ x. x < 2 ^ 64) v → All (λ x. x < 2 ^ 64) w → ((b t : ℕ) → Holds record { shape = s; words = v } b t ↔ Holds record { shape = s; words = w } b t) → v ≡ w }
+{}
