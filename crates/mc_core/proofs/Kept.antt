@@ -1,8 +1,8 @@
 -- What each state of each run keeps.
-use Rattle.std.proofs.Common.{◌≡◌, ◌≢◌, ℕ, zero, suc, ◌+◌, ◌-◌, ◌*◌, ◌/◌, ◌%◌, ◌^◌, ◌<◌, ◌≤◌, List, [], ◌∷◌, ◌++◌, length, get_or, set, replicate, sym, refl, ap, ◌∙◌, subst, arith, Bool, true, false, min, length-set}
-use Rattle.std.specs.Prelude.{◌==◌, ◌&&◌, slice_get, slice_index, Some, All, Contains, sum_by}
+use Rattle.std.proofs.Common.{◌≡◌, ℕ, ◌+◌, ◌-◌, ◌*◌, ◌%◌, ◌<◌, ◌≤◌, List, [], ◌∷◌, ◌++◌, length, get_or, set, replicate, sym, refl, ap, ◌∙◌, subst, arith, true, false, min, length-set}
+use Rattle.std.specs.Prelude.{◌==◌, ◌&&◌, slice_get, slice_index, Some, All, sum_by}
 use Rattle.std.specs.Int.{bit_at}
-use Rattle.std.proofs.lemmas.List.{length_push, get_or_push, get_or_past, length-replicate, get_or-replicate}
+use Rattle.std.proofs.lemmas.List.{length_push, get_or_push, length-replicate, get_or-replicate}
 use Rattle.std.proofs.lemmas.List.Elements.{All-push, All-set, All-get_or, All-nil, All-replicate}
 use Rattle.std.proofs.lemmas.Nat.Bits.{bit_at-zero}
 use Rattle.std.proofs.lemmas.Option.{get_or_from_slice_get, slice_get_within}
@@ -10,10 +10,10 @@ use native.Mathlib.Decide.{dec_lt}
 use mathlib.Core.Logic.{dite}
 use Rattle.mc_core.specs.declared.shape.Shape.{Shape}
 use Rattle.mc_core.specs.Shape.{rows, word_count, place}
-use Rattle.mc_core.specs.Matrix.{MatrixView, bit_of, with_pair}
+use Rattle.mc_core.specs.Matrix.{bit_of, with_pair}
 use Rattle.mc_core.specs.Counts.{times, once_below, marks}
-use Rattle.mc_core.specs.Schedule.{Core, Worker, script_of, last_claim, next_bit, after_claim, after_hit, claim, hit, step, run, start}
-use Rattle.mc_core.specs.Law.{hits_of, ended_count, IsInOrder, IsReady}
+use Rattle.mc_core.specs.Schedule.{Core, Worker, script_of, last_claim, next_bit, after_claim, after_hit, claim, hit, step, start}
+use Rattle.mc_core.specs.Law.{hits_of, ended_count, IsInOrder}
 use Rattle.mc_core.proofs.Bits.{place_within, tests_within, bit_set, bit_kept, same_or_not}
 use Rattle.mc_core.proofs.Sums.{tally, sum_set, sum_kept, sum_replicate, marks_push, times_push, pair_yes, pair_no, once_more, once_none}
 use Rattle.mc_core.proofs.Hits.{hits_claim, hits_hit}

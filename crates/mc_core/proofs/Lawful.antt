@@ -1,20 +1,19 @@
 -- The law of the interleaving core, from what each state keeps.
-use Rattle.std.proofs.Common.{◌≡◌, ◌≢◌, ℕ, ◌+◌, ◌-◌, ◌*◌, ◌<◌, ◌≤◌, ◌↔◌, List, [], length, get_or, map, sym, refl, ap, ◌∙◌, subst, arith, Bool, true, false, min}
-use Rattle.std.specs.Prelude.{◌==◌, ◌&&◌, All, Contains, sum_by, flat_map}
-use Rattle.std.specs.Int.{bit_at}
-use Rattle.std.proofs.lemmas.List.{get_or_past, get_or-map, length-map}
+use Rattle.std.proofs.Common.{◌≡◌, ℕ, ◌+◌, ◌<◌, ◌↔◌, List, [], length, get_or, sym, ap, ◌∙◌, subst, arith, true, false, min}
+use Rattle.std.specs.Prelude.{◌==◌, ◌&&◌, All, Contains, sum_by}
+use Rattle.std.proofs.lemmas.List.{get_or_past}
 use Rattle.std.proofs.lemmas.List.Concat.{length-flat_map}
 use Rattle.std.proofs.lemmas.List.Sums.{get_or-le-sum_by}
 use Rattle.std.proofs.lemmas.List.Elements.{All-contains, All-get_or, All-weaker}
 use native.Mathlib.Decide.{dec_lt}
 use mathlib.Core.Logic.{dite}
 use Rattle.mc_core.specs.declared.shape.Shape.{Shape}
-use Rattle.mc_core.specs.Matrix.{MatrixView, Holds, bit_of}
+use Rattle.mc_core.specs.Matrix.{MatrixView, Holds}
 use Rattle.mc_core.specs.Counts.{times, once_below, marks}
 use Rattle.mc_core.specs.Schedule.{Core, Worker, script_of}
-use Rattle.mc_core.specs.Law.{pairs_of, hits_of, all_claims, all_hits, ended_count, IsInOrder}
+use Rattle.mc_core.specs.Law.{hits_of, all_claims, all_hits, ended_count, IsInOrder}
 use Rattle.mc_core.proofs.Bits.{tests_within}
-use Rattle.mc_core.proofs.Sums.{tally, sum_flat_map, all_flat_map, some_part, marked_is_in, in_is_marked, timed_is_in, once_yes, pair_yes}
+use Rattle.mc_core.proofs.Sums.{tally, sum_flat_map, all_flat_map, some_part, marked_is_in, in_is_marked, timed_is_in, once_yes}
 use Rattle.mc_core.proofs.Hits.{IsOfScript, hits_are, hit_of_claimed}
 use Rattle.mc_core.proofs.Kept.{IsKept, AreInRange}
 

@@ -1,12 +1,12 @@
 -- The first word of a bit that is not 0 has its least test.
-use Rattle.std.proofs.Common.{◌≡◌, ◌≢◌, ℕ, ◌+◌, ◌*◌, ◌/◌, ◌%◌, ◌^◌, ◌<◌, ◌≤◌, List, length, get_or, sym, ap, ◌∙◌, subst, arith}
+use Rattle.std.proofs.Common.{◌≡◌, ◌≢◌, ℕ, ◌+◌, ◌*◌, ◌/◌, ◌%◌, ◌^◌, ◌<◌, List, length, get_or, sym, ap, ◌∙◌, arith}
 use Rattle.std.specs.Int.{bit_at, w64, trailing_zeros}
 use Rattle.std.proofs.lemmas.Nat.Bits.{bit_at-trailing_zeros}
 use Rattle.std.proofs.lemmas.List.{get_or_default}
 use native.Mathlib.Decide.{dec_lt}
 use mathlib.Core.Logic.{dite}
 use Rattle.mc_core.specs.declared.shape.Shape.{Shape}
-use Rattle.mc_core.specs.Shape.{rows, word_count, place}
+use Rattle.mc_core.specs.Shape.{rows, place}
 use Rattle.mc_core.specs.Matrix.{MatrixView, bit_of, Holds, IsSound}
 use Rattle.mc_core.proofs.Bits.{place_within}
 

@@ -1,12 +1,10 @@
 -- One step of the interleaving core, case by case.
-use Rattle.std.proofs.Common.{◌≡◌, ℕ, ◌+◌, ◌<◌, ◌≤◌, List, [], ◌∷◌, ◌++◌, length, get_or, sym, refl, ap, ◌∙◌, subst, arith, Bool, true, false, cond}
+use Rattle.std.proofs.Common.{◌≡◌, ℕ, ◌+◌, ◌<◌, ◌≤◌, List, [], ◌∷◌, ◌++◌, length, sym, refl, ap, ◌∙◌, subst, arith, Bool, true, false, cond}
 use Rattle.std.specs.Prelude.{◌==◌, slice_get, Some, None, Option, nat_lt, nat_le}
-use Rattle.std.proofs.lemmas.Option.{slice_get_cases}
 use Rattle.std.proofs.lemmas.Bool.Decides.{nat_tests}
 use Rattle.std.proofs.lemmas.List.{get_or_past}
 use native.Mathlib.Decide.{dec_lt}
 use mathlib.Core.Logic.{dite}
-use Rattle.mc_core.specs.Steps.{claims_after, ends}
 use Rattle.mc_core.specs.Schedule.{Core, Worker, script_of, after_claim, claim, hit, step, step_of}
 
 module _ (scripts : List (List ℕ)) (core : Core) (i : ℕ) (w : Worker) (at : slice_get core.workers i ≡ Some w) where

@@ -1,14 +1,9 @@
 -- The pairs of two matrices, bit by bit and test by test.
-use Rattle.std.proofs.Common.{◌≡◌, ◌≢◌, ℕ, ◌+◌, ◌-◌, ◌*◌, ◌/◌, ◌%◌, ◌<◌, ◌≤◌, ◌⊎◌, ◌↔◌, inl, inr, List, length, get_or, replicate, sym, ap, ◌∙◌, subst, arith}
-use Rattle.std.specs.Int.{bit_at}
-use Rattle.std.proofs.lemmas.Nat.Bits.{bit_at-zero}
-use Rattle.std.proofs.lemmas.List.{get_or-replicate, get_or_past, length-replicate}
-use native.Mathlib.Decide.{dec_lt, ℕ_discrete}
+use Rattle.std.proofs.Common.{◌≡◌, ℕ, ◌+◌, ◌<◌, ◌⊎◌, ◌↔◌, inl, inr, sym, subst, arith}
+use native.Mathlib.Decide.{ℕ_discrete}
 use mathlib.Core.Logic.{dite}
-use Rattle.mc_core.specs.declared.shape.Shape.{Shape}
-use Rattle.mc_core.specs.Shape.{word_count, place}
-use Rattle.mc_core.specs.Matrix.{MatrixView, Holds, empty_matrix}
-use Rattle.mc_core.specs.Merged.{both_shapes, HoldsEither}
+use Rattle.mc_core.specs.Matrix.{MatrixView}
+use Rattle.mc_core.specs.Merged.{HoldsEither}
 
 abbrev Pairs : Type 1
 Pairs = ℕ → ℕ → Type 0

@@ -1,5 +1,5 @@
 -- The words of a matrix follow from its pairs.
-use Rattle.std.proofs.Common.{◌≡◌, ◌≢◌, ℕ, zero, ◌+◌, ◌*◌, ◌/◌, ◌%◌, ◌^◌, ◌<◌, ◌≤◌, ◌↔◌, List, length, get_or, sym, ap, ◌∙◌, subst, arith, mul_comm}
+use Rattle.std.proofs.Common.{◌≡◌, ℕ, ◌+◌, ◌*◌, ◌/◌, ◌%◌, ◌^◌, ◌<◌, ◌↔◌, List, get_or, sym, ap, ◌∙◌, subst, arith, mul_comm}
 use Rattle.std.specs.Prelude.{All}
 use Rattle.std.specs.Int.{bit_at}
 use Rattle.std.proofs.Math.Nat.{div-add-mod, div-lt_iff_lt-mul}
@@ -9,7 +9,7 @@ use native.Mathlib.Decide.{dec_lt, ℕ_discrete}
 use mathlib.Core.Logic.{dite}
 use Rattle.mc_core.specs.declared.shape.Shape.{Shape}
 use Rattle.mc_core.specs.Shape.{rows, word_count, place}
-use Rattle.mc_core.specs.Matrix.{MatrixView, bit_of, Holds, IsSound}
+use Rattle.mc_core.specs.Matrix.{bit_of, Holds, IsSound}
 
 module _ (s : Shape) (v w : List ℕ) (one : IsSound s v) (other : IsSound s w) (v_fits : All (λ x. x < 2 ^ 64) v) (w_fits : All (λ x. x < 2 ^ 64) w)
     (same : (b t : ℕ) → Holds record { shape = s; words = v } b t ↔ Holds record { shape = s; words = w } b t) where

@@ -1,4 +1,4 @@
-use Rattle.std.proofs.Common.{◌≡◌, ℕ, ◌+◌, ◌∙◌, ap, subst, sym}
+use Rattle.std.proofs.Common.{◌+◌, ◌∙◌, ap, subst, sym}
 use Rattle.mc_core.specs.Matrix.{MatrixView, Holds}
 use Rattle.mc_core.specs.Merged.{HoldsEither}
 use Rattle.mc_core.proofs.Merging.{IsDone, more_yes, more_no}

@@ -1,4 +1,4 @@
-use Rattle.std.proofs.Common.{◌≡◌, ℕ}
+use Rattle.std.proofs.Common.{◌≡◌}
 use Rattle.mc_core.specs.Matrix.{Holds}
 use Rattle.mc_core.specs.Merged.{HoldsEither}
 use Rattle.mc_core.proofs.Merging.{IsDone}

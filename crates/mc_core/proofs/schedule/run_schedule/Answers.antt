@@ -1,7 +1,7 @@
-use Rattle.std.proofs.Common.{◌≡◌, ℕ, ◌+◌, ◌<◌, ◌≤◌, List, length, get_or, drop, map, sym, ap, ◌∙◌, subst, arith}
+use Rattle.std.proofs.Common.{◌≡◌, ℕ, ◌+◌, ◌<◌, ◌≤◌, List, length, get_or, drop, sym, ap, ◌∙◌, subst, arith}
 use Rattle.std.specs.Prelude.{All}
 use Rattle.std.proofs.lemmas.List.{length-map, at_drop_more}
-use Rattle.std.proofs.lemmas.List.Elements.{All-map, All-weaker}
+use Rattle.std.proofs.lemmas.List.Elements.{All-map}
 use Rattle.mc_core.specs.Schedule.{Core, core_of, scripts_of, run, step}
 use Rattle.mc_core.proofs.Machine.{step_draws}
 use Rattle.mc_core.proofs.Kept.{IsKept, AreInRange, kept_step}

@@ -1,7 +1,6 @@
-use Rattle.std.proofs.Common.{◌≡◌, ℕ, ◌+◌, ◌<◌, List, length, sym, ap, ◌∙◌, arith, refl}
-use Rattle.std.specs.Prelude.{slice_get, Some}
+use Rattle.std.proofs.Common.{ℕ, ◌+◌, ◌<◌, sym, ap, ◌∙◌, arith, refl}
 use Rattle.std.proofs.lemmas.Result.{on_ok_weaker}
-use Rattle.mc_core.specs.Schedule.{Core, Worker, core_of, worker_of, workers_of, scripts_of, after_claim, after_hit}
+use Rattle.mc_core.specs.Schedule.{core_of, worker_of, workers_of, scripts_of, after_claim, after_hit}
 use Rattle.mc_core.proofs.Kept.{mine}
 use Rattle.mc_core.proofs.Machine.{step_ended, step_claim, step_hit}
 use Rattle.mc_core.proofs.Workers.{at_worker, same_workers, set_worker}

@@ -1,4 +1,4 @@
-use Rattle.std.proofs.Common.{◌≡◌, ℕ, ◌/◌, ◌%◌, ◌^◌, ◌↔◌, true, subst, arith}
+use Rattle.std.proofs.Common.{◌≡◌, ◌/◌, ◌%◌, ◌^◌, ◌↔◌, true, subst, arith}
 use Rattle.std.specs.Prelude.{◌==◌, bit_and}
 use Rattle.mc_core.specs.Matrix.{MatrixView, Holds}
 use Rattle.mc_core.proofs.Bits.{tested}

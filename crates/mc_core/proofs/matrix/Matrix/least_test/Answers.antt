@@ -1,7 +1,6 @@
-use Rattle.std.proofs.Common.{◌≡◌, ℕ, ◌+◌, ◌*◌, ◌^◌, ◌<◌, List, false, true, subst, arith}
+use Rattle.std.proofs.Common.{ℕ, ◌+◌, ◌*◌, subst, arith}
 use Rattle.std.specs.Int.{w64, trailing_zeros}
 use Rattle.mc_core.specs.declared.shape.Shape.{Shape}
-use Rattle.mc_core.specs.Shape.{rows}
 use Rattle.mc_core.specs.Matrix.{MatrixView}
 use Rattle.mc_core.proofs.Least.{IsLeast, is_least}
 use Rattle.mc_core.proofs.matrix.Matrix.least_test.Goals as goal
