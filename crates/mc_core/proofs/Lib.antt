@@ -1,0 +1,10 @@
+mod Bits
+mod Least
+mod Merging
+mod Sums
+mod Hits
+mod Machine
+mod Kept
+mod Lawful
+mod Workers
+mod Pairs

@@ -1,0 +1,7 @@
+pub mod Shape
+pub mod Matrix
+pub mod Merged
+pub mod Steps
+pub mod Schedule
+pub mod Law
+pub mod Counts
