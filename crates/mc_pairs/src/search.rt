@@ -85,9 +85,20 @@ fn is_partner<I: Independence>(
     requires on { slice_get first.now.answers k ≡ Some (Some true) }
     ensures { IsTrue result ↔ IsPartner (I.shows (tree_of tree.now) k) (tree_of tree.now) k first.now path }
 {
-    let second = numbering.vector_of(path);
+    is_second::<I>(tree, k, first, &numbering.vector_of(path))
+}
+
+/// Whether a vector is a second member for this first vector.
+fn is_second<I: Independence>(tree: &CondTree, k: u32, first: &Vector, second: &Vector) -> bool
+    requires tree { IsNumbered (tree_of tree.now) }
+    requires condition { k < size (tree_of tree.now) }
+    requires first { IsVector (tree_of tree.now) first.now }
+    requires second { IsVector (tree_of tree.now) second.now }
+    requires on { slice_get first.now.answers k ≡ Some (Some true) }
+    ensures { IsTrue result ↔ turned k (I.shows (tree_of tree.now) k) first.now second.now }
+{
     match second.answer(k) {
-        Some(false) => I::is_pair(tree, k, first, &second),
+        Some(false) => I::is_pair(tree, k, first, second),
         _ => false,
     }
 }

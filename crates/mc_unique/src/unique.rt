@@ -6,7 +6,7 @@ ghost use Rattle.mc_cond.specs.Tree.{tree_of, size, IsNumbered};
 ghost use Rattle.mc_paths.specs.Paths.{count_of};
 ghost use Rattle.mc_pairs.specs.Pairs.{NonePaired, IsChosen};
 ghost use Rattle.mc_unique.specs.Unique.{IsUniquePair};
-ghost use Rattle.mc_unique.specs.Agreement.{AgreeElsewhere, Conflict};
+ghost use Rattle.mc_unique.specs.Agreement.{AgreeElsewhere, AreCompatible};
 
 use mc_cond::{CondTree, Vector};
 use mc_pairs::{Independence, chosen_pair};
@@ -38,7 +38,10 @@ impl Independence for UniqueCause {
     ghost shows = { IsUniquePair };
 
     fn is_pair(_tree: &CondTree, k: u32, first: &Vector, second: &Vector) -> bool {
-        first.outcome() != second.outcome() && agree_elsewhere(k, first, second)
+        if first.outcome() == second.outcome() {
+            return false;
+        }
+        agree_elsewhere(k, first, second)
     }
 }
 
@@ -48,19 +51,19 @@ fn agree_elsewhere(k: u32, first: &Vector, second: &Vector) -> bool
     ensures { IsTrue result ↔ AgreeElsewhere k first.now.answers second.now.answers }
 {
     for other in 0..first.len() {
-        if other != k && conflict(first.answer(other), second.answer(other)) {
+        if other != k && !compatible(first.answer(other), second.answer(other)) {
             return false;
         }
     }
     true
 }
 
-/// Whether both answers are known and different.
-fn conflict(one: Option<bool>, other: Option<bool>) -> bool
-    ensures { IsTrue result ↔ Conflict one other }
+/// Whether one completion can have both answers: they are equal, or one was not evaluated.
+fn compatible(one: Option<bool>, other: Option<bool>) -> bool
+    ensures { IsTrue result ↔ AreCompatible one other }
 {
     match (one, other) {
-        (Some(x), Some(y)) => x != y,
-        _ => false,
+        (Some(x), Some(y)) => x == y,
+        _ => true,
     }
 }

@@ -1,0 +1,5 @@
+pub mod Lengths
+pub mod Least
+pub mod Pairing
+pub mod Evaluated
+pub mod Turned
