@@ -1,5 +1,6 @@
 -- A pair whose condition has different values in its vectors is one with the condition true in the first, in one of its orders.
-use Rattle.std.proofs.Common.{◌≡◌, ℕ, Bool, true, false, not, Option, Some, None, List}
+use mathlib.Core.Bool.{beq}
+use Rattle.std.proofs.Common.{sym, ◌∙◌, ◌≢◌, ◌≡◌, ℕ, Bool, true, false, not, Option, Some, None, List}
 use Rattle.std.specs.Prelude.{◌↔◌, slice_get, Contains, IfNone, IsTrue}
 use Rattle.mc_cond.specs.Tree.{Tree}
 use Rattle.mc_cond.specs.Vectors.{Evaluation, IsVector}
@@ -38,3 +39,16 @@ iff_through result exact up down = (λ h. up (exact.0 h), λ p. exact.1 (down p)
 
 pub iff_never : {P : Type 0} → (P → ⊥) → IsTrue false ↔ P
 iff_never never = (λ h. cc, λ p. absurd (never p))
+
+-- tests of two outcomes
+pub outcomes_same : (a b x y : Bool) → a ≡ x → b ≡ y → beq a b ≡ true → x ≡ y
+outcomes_same true true x y e f h = sym e ∙ f
+outcomes_same true false x y e f h = cc
+outcomes_same false true x y e f h = cc
+outcomes_same false false x y e f h = sym e ∙ f
+
+pub outcomes_differ : (a b x y : Bool) → a ≡ x → b ≡ y → beq a b ≡ false → x ≢ y
+outcomes_differ true true x y e f h same = cc
+outcomes_differ true false x y e f h same = let g : true ≡ false = e ∙ same ∙ sym f in cc
+outcomes_differ false true x y e f h same = let g : false ≡ true = e ∙ same ∙ sym f in cc
+outcomes_differ false false x y e f h same = cc
