@@ -8,7 +8,7 @@ ghost use Rattle.mc_paths.specs.Paths.{count_of};
 ghost use Rattle.mc_pairs.specs.Pairs.{NonePaired, IsChosen};
 ghost use Rattle.mc_masking.specs.Masking.{IsMaskingPair};
 
-use crate::influence::influence_on;
+use crate::reach::influence_on;
 use mc_cond::{CondTree, Vector};
 use mc_pairs::{Independence, chosen_pair};
 use mc_paths::Numbering;
@@ -39,9 +39,10 @@ impl Independence for Masking {
     ghost shows = { IsMaskingPair };
 
     fn is_pair(tree: &CondTree, k: u32, first: &Vector, second: &Vector) -> bool {
-        first.outcome() != second.outcome()
-            && has_bit(influence_on(tree, first), k)
-            && has_bit(influence_on(tree, second), k)
+        if first.outcome() == second.outcome() {
+            return false;
+        }
+        has_bit(influence_on(tree, first), k) && has_bit(influence_on(tree, second), k)
     }
 }
 

@@ -3,3 +3,4 @@ pub mod Least
 pub mod Pairing
 pub mod Evaluated
 pub mod Turned
+pub mod Steps

@@ -1,7 +1,6 @@
 -- A pair whose condition has different values in its vectors is one with the condition true in the first, in one of its orders.
-use mathlib.Core.Bool.{beq}
-use Rattle.std.proofs.Common.{sym, ◌∙◌, ◌≢◌, ◌≡◌, ℕ, Bool, true, false, not, Option, Some, None, List}
-use Rattle.std.specs.Prelude.{◌↔◌, slice_get, Contains, IfNone, IsTrue}
+use Rattle.std.proofs.Common.{◌≡◌, ℕ, Bool, true, false, not, Some, List}
+use Rattle.std.specs.Prelude.{slice_get, Contains}
 use Rattle.mc_cond.specs.Tree.{Tree}
 use Rattle.mc_cond.specs.Vectors.{Evaluation, IsVector}
 use Rattle.mc_pairs.specs.Pairs.{ArePaired, NonePaired, turned}
@@ -27,28 +26,3 @@ module _ (shows : Evaluation → Evaluation → Type 0) (t : Tree) (k : ℕ) whe
   none_either seen opposed turns none p q p_seen q_seen pair =
       let values : AreOpposed k pair.v pair.w = opposed pair.v pair.w pair.first_path.vector pair.second_path.vector pair.shown in
       either_order p q turns (none p q p_seen q_seen) (none q p q_seen p_seen) pair values.value values.first values.second
-
--- what a `None` says, said more strongly
-pub if_none : {A P Q : Type 0} (result : Option A) → (P → Q) → IfNone result P → IfNone result Q
-if_none None more h = more h
-if_none (Some x) more h = tt
-
--- a test that is exactly Q is exactly P where the two are the same
-pub iff_through : {P Q : Type 0} (result : Bool) → (IsTrue result ↔ Q) → (Q → P) → (P → Q) → IsTrue result ↔ P
-iff_through result exact up down = (λ h. up (exact.0 h), λ p. exact.1 (down p))
-
-pub iff_never : {P : Type 0} → (P → ⊥) → IsTrue false ↔ P
-iff_never never = (λ h. cc, λ p. absurd (never p))
-
--- tests of two outcomes
-pub outcomes_same : (a b x y : Bool) → a ≡ x → b ≡ y → beq a b ≡ true → x ≡ y
-outcomes_same true true x y e f h = sym e ∙ f
-outcomes_same true false x y e f h = cc
-outcomes_same false true x y e f h = cc
-outcomes_same false false x y e f h = sym e ∙ f
-
-pub outcomes_differ : (a b x y : Bool) → a ≡ x → b ≡ y → beq a b ≡ false → x ≢ y
-outcomes_differ true true x y e f h same = cc
-outcomes_differ true false x y e f h same = let g : true ≡ false = e ∙ same ∙ sym f in cc
-outcomes_differ false true x y e f h same = let g : false ≡ true = e ∙ same ∙ sym f in cc
-outcomes_differ false false x y e f h same = cc

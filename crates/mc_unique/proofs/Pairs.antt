@@ -9,6 +9,7 @@ use Rattle.mc_cond.proofs.Completions.{completion_outcome}
 use Rattle.mc_pairs.proofs.Lengths.{length_vector}
 use Rattle.mc_pairs.proofs.Evaluated.{evaluated_where}
 use Rattle.mc_pairs.proofs.Turned.{AreOpposed}
+use Rattle.mc_pairs.proofs.Steps.{other_value}
 use Rattle.mc_unique.specs.Unique.{IsUniquePair}
 use Rattle.mc_unique.specs.Agreement.{AreCompatible, AgreeAt, AgreeElsewhere}
 
@@ -23,12 +24,6 @@ evaluated_first t k v w n is p = evaluated_where t k v p.a p.b n is p.first p.al
 pub evaluated_second : (t : Tree) (k : ℕ) (v w : Evaluation) → IsNumbered t → IsVector t w → (p : IsUniquePair t k v w) → slice_get w.answers k ≡ Some (Some (p.b k))
 unfolding turns
 evaluated_second t k v w n is p = evaluated_first t k w v n is (turns t k v w p)
-
-pub other_value : (x y : Bool) → x ≢ y → y ≡ not x
-other_value true true h = absurd (h refl)
-other_value true false h = refl
-other_value false true h = refl
-other_value false false h = absurd (h refl)
 
 pub opposed : (t : Tree) (k : ℕ) → IsNumbered t → (v w : Evaluation) → IsVector t v → IsVector t w → IsUniquePair t k v w → AreOpposed k v w
 opposed t k n v w is_v is_w p =

@@ -1,6 +1,6 @@
 use Rattle.mc_cond.specs.Tree.{tree_of}
 use Rattle.mc_pairs.proofs.Pairing.{partner_of, partner_shows}
-use Rattle.mc_pairs.proofs.Turned.{iff_through}
+use Rattle.mc_pairs.proofs.Steps.{iff_through}
 use Rattle.mc_pairs.proofs.search.is_partner.Goals as goal
 
 pub returns : goal.returns

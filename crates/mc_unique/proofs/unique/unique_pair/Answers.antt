@@ -1,6 +1,7 @@
 use Rattle.mc_cond.specs.Tree.{tree_of}
 use Rattle.mc_unique.specs.Unique.{IsUniquePair}
-use Rattle.mc_pairs.proofs.Turned.{none_either, if_none}
+use Rattle.mc_pairs.proofs.Turned.{none_either}
+use Rattle.mc_pairs.proofs.Steps.{if_none}
 use Rattle.mc_unique.proofs.Pairs.{turns, opposed}
 use Rattle.mc_unique.proofs.unique.unique_pair.Goals as goal
 

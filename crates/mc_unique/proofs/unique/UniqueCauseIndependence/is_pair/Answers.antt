@@ -1,7 +1,7 @@
 use Rattle.std.proofs.Common.{sym, ◌∙◌}
 use Rattle.mc_cond.specs.Tree.{tree_of}
 use Rattle.mc_pairs.proofs.Lengths.{length_vector}
-use Rattle.mc_pairs.proofs.Turned.{iff_through, iff_never, outcomes_same, outcomes_differ}
+use Rattle.mc_pairs.proofs.Steps.{iff_through, iff_never, outcomes_same, outcomes_differ}
 use Rattle.mc_unique.proofs.Pairs.{pair_by, pair_agrees, pair_outcomes}
 use Rattle.mc_unique.proofs.unique.UniqueCauseIndependence.is_pair.Goals as goal
 
