@@ -82,21 +82,24 @@ either_second None None y same e = cc
 
 joint_first : (v w : Evaluation) (k : ℕ) (value : Bool) → slice_get v.answers k ≡ Some (Some value) → IsCompletion v (joint v w k value)
 joint_first v w k value on j x e =
-    elim (joint_at v w k value j)
-        [ inl same ↦ (let f : Some (Some value) ≡ Some (Some x) = sym on ∙ (let P : ℕ → Type 0 = λ n. slice_get v.answers n ≡ Some (Some x) in subst P same.0 e) in same.1 ∙ (cc))
-        | inr other ↦ other.1 ∙ either_first (slice_get v.answers j) (slice_get w.answers j) x e ]
+    elim (joint_at v w k value j) [
+      | inl same ↦ (let f : Some (Some value) ≡ Some (Some x) = sym on ∙ (let P : ℕ → Type 0 = λ n. slice_get v.answers n ≡ Some (Some x) in subst P same.0 e) in same.1 ∙ (cc))
+      | inr other ↦ other.1 ∙ either_first (slice_get v.answers j) (slice_get w.answers j) x e
+    ]
 
 joint_second : (v w : Evaluation) (k : ℕ) (value : Bool) → slice_get w.answers k ≡ Some (Some value) → AgreeElsewhere k v.answers w.answers → IsCompletion w (joint v w k value)
 joint_second v w k value off agree j y e =
-    elim (joint_at v w k value j)
-        [ inl same ↦ (let f : Some (Some value) ≡ Some (Some y) = sym off ∙ (let P : ℕ → Type 0 = λ n. slice_get w.answers n ≡ Some (Some y) in subst P same.0 e) in same.1 ∙ (cc))
-        | inr other ↦ other.1 ∙ either_second (slice_get v.answers j) (slice_get w.answers j) y (λ x f. agree j other.0 (Some x) (Some y) f e) e ]
+    elim (joint_at v w k value j) [
+      | inl same ↦ (let f : Some (Some value) ≡ Some (Some y) = sym off ∙ (let P : ℕ → Type 0 = λ n. slice_get w.answers n ≡ Some (Some y) in subst P same.0 e) in same.1 ∙ (cc))
+      | inr other ↦ other.1 ∙ either_second (slice_get v.answers j) (slice_get w.answers j) y (λ x f. agree j other.0 (Some x) (Some y) f e) e
+    ]
 
 joint_alike : (v w : Evaluation) (k : ℕ) (x y : Bool) (j : ℕ) → j ≢ k → joint v w k x j ≡ joint v w k y j
 joint_alike v w k x y j other =
-    elim (joint_at v w k x j)
-        [ inl same ↦ absurd (other same.0)
-        | inr one ↦ elim (joint_at v w k y j) [ inl same ↦ absurd (other same.0) | inr two ↦ one.1 ∙ sym two.1 ] ]
+    elim (joint_at v w k x j) [
+      | inl same ↦ absurd (other same.0)
+      | inr one ↦ elim (joint_at v w k y j) [ inl same ↦ absurd (other same.0) | inr two ↦ one.1 ∙ sym two.1 ]
+    ]
 
 joint_own : (v w : Evaluation) (k : ℕ) (x : Bool) → joint v w k x k ≡ x
 joint_own v w k x = elim (joint_at v w k x k) [ inl same ↦ same.1 | inr other ↦ absurd (other.0 refl) ]

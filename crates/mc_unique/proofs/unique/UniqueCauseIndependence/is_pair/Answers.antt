@@ -12,11 +12,11 @@ agree_elsewhere-requires c =
 pub returns-then-outcome : goal.returns-then-outcome
 returns-then-outcome c =
     iff_never (λ pair. pair_outcomes (tree_of c.args._tree.now) c.args.k c.args.first.now c.args.second.now c.requires.tree c.requires.first c.requires.second pair
-      (outcomes_same c.outcome.result c.outcome-2.result c.args.first.now.outcome c.args.second.now.outcome c.outcome.ensures c.outcome-2.ensures c.if-outcome.true))
+    (outcomes_same c.outcome.result c.outcome-2.result c.args.first.now.outcome c.args.second.now.outcome c.outcome.ensures c.outcome-2.ensures c.if-outcome.true))
 
 pub returns : goal.returns
 returns c =
     iff_through c.agree_elsewhere.result c.agree_elsewhere.ensures
-      (pair_by (tree_of c.args._tree.now) c.args.k c.args.first.now c.args.second.now c.requires.tree c.requires.first c.requires.second c.requires.on c.requires.off
-        (outcomes_differ c.outcome.result c.outcome-2.result c.args.first.now.outcome c.args.second.now.outcome c.outcome.ensures c.outcome-2.ensures c.if-outcome.false))
-      (pair_agrees (tree_of c.args._tree.now) c.args.k c.args.first.now c.args.second.now c.requires.first)
+    (pair_by (tree_of c.args._tree.now) c.args.k c.args.first.now c.args.second.now c.requires.tree c.requires.first c.requires.second c.requires.on c.requires.off
+    (outcomes_differ c.outcome.result c.outcome-2.result c.args.first.now.outcome c.args.second.now.outcome c.outcome.ensures c.outcome-2.ensures c.if-outcome.false))
+    (pair_agrees (tree_of c.args._tree.now) c.args.k c.args.first.now c.args.second.now c.requires.first)
