@@ -22,9 +22,10 @@ least_at P xs i j other up before h e p (inr high) = elim (cases_lt i j) [ inl b
 pub least_in : (P : ℕ → Type 0) (xs : List ℕ) (i other : ℕ) → IsStrictlyIncreasing xs → ((n : ℕ) → n < i → ¬ P (get_or xs n 0)) → Contains xs other → P other → (get_or xs i 0 ≡ other) ⊎ (get_or xs i 0 < other)
 least_in P xs i other up before inside p =
     let place : (j : ℕ) × (j < length xs) × (get_or xs j 0 ≡ other) = place_of xs other inside in
-    elim (least_at P xs i place.0 other up before place.1 place.2 p (cases_lt place.0 i))
-        [ inl same ↦ inl (let Q : ℕ → Type 0 = λ n. get_or xs n 0 ≡ other in subst Q (sym same) place.2)
-        | inr below ↦ inr (let Q : ℕ → Type 0 = λ n. get_or xs i 0 < n in subst Q place.2 (later_greater xs i place.0 up below place.1)) ]
+    elim (least_at P xs i place.0 other up before place.1 place.2 p (cases_lt place.0 i)) [
+      | inl same ↦ inl (let Q : ℕ → Type 0 = λ n. get_or xs n 0 ≡ other in subst Q (sym same) place.2)
+      | inr below ↦ inr (let Q : ℕ → Type 0 = λ n. get_or xs i 0 < n in subst Q place.2 (later_greater xs i place.0 up below place.1))
+    ]
 
 -- what holds at each index holds of each element
 pub all_in : (P : ℕ → Type 0) (xs : List ℕ) → ((n : ℕ) → n < length xs → P (get_or xs n 0)) → (other : ℕ) → Contains xs other → P other

@@ -1,5 +1,5 @@
 -- Pairs of paths, and second members for the vector of a path.
-use Rattle.std.proofs.Common.{◌≡◌, ℕ, ◌<◌, ◌≤◌, List, length, get_or, arith, subst, sym, inl, inr, ◌⊎◌, ◌∙◌}
+use Rattle.std.proofs.Common.{ℕ, ◌<◌, ◌≤◌, List, get_or, subst, sym, inl, inr, ◌∙◌}
 use Rattle.std.specs.Prelude.{Contains}
 use Rattle.std.specs.List.Sorted.{IsStrictlyIncreasing}
 use Rattle.mc_cond.specs.Tree.{Tree}
@@ -11,7 +11,6 @@ use Rattle.mc_pairs.specs.Partners.{IsPartner}
 use Rattle.mc_pairs.proofs.Least.{least_in}
 
 module _ (shows : Evaluation → Evaluation → Type 0) (t : Tree) (k : ℕ) where
-
   pub paired_by : (v : Evaluation) (first second : ℕ) → IsPath t first v → IsPartner shows t k v second → ArePaired (turned k shows) t first second
   paired_by v first second p q = record { v = v; w = q.vector; first_path = p; second_path = q.is_path; shown = q.shown }
 
@@ -50,9 +49,10 @@ module _ (shows : Evaluation → Evaluation → Type 0) (t : Tree) (k : ℕ) whe
         second_seen = there;
         paired = paired_by v first second path partner;
         least = λ p q p_seen q_seen pair.
-          elim (least_in Q seen i p up (λ m low h. before m low h.0 h.1.0 h.1.1) p_seen (q, (q_seen, pair)))
-            [ inl same ↦ inr (same, least q q_seen (partner_by v first q path (let R : ℕ → Type 0 = λ x. ArePaired (turned k shows) t x q in subst R (sym same) pair)))
-            | inr below ↦ inl below ];
+            elim (least_in Q seen i p up (λ m low h. before m low h.0 h.1.0 h.1.1) p_seen (q, (q_seen, pair))) [
+              | inl same ↦ inr (same, least q q_seen (partner_by v first q path (let R : ℕ → Type 0 = λ x. ArePaired (turned k shows) t x q in subst R (sym same) pair)))
+              | inr below ↦ inl below
+            ];
       }
 
   pub none_by : (seen : List ℕ) → ((p : ℕ) → Contains seen p → Alone seen p) → NonePaired (turned k shows) t seen

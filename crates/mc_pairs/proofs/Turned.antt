@@ -1,6 +1,6 @@
 -- A pair whose condition has different values in its vectors is one with the condition true in the first, in one of its orders.
 use Rattle.std.proofs.Common.{◌≡◌, ℕ, Bool, true, false, not, Some, List}
-use Rattle.std.specs.Prelude.{slice_get, Contains}
+use Rattle.std.specs.Prelude.{slice_get}
 use Rattle.mc_cond.specs.Tree.{Tree}
 use Rattle.mc_cond.specs.Vectors.{Evaluation, IsVector}
 use Rattle.mc_pairs.specs.Pairs.{ArePaired, NonePaired, turned}
@@ -12,7 +12,6 @@ pub record AreOpposed (k : ℕ) (v w : Evaluation) : Type 0 where
   pub second : slice_get w.answers k ≡ Some (Some (not value))
 
 module _ (shows : Evaluation → Evaluation → Type 0) (t : Tree) (k : ℕ) where
-
   either_order : (p q : ℕ) → ((v w : Evaluation) → shows v w → shows w v)
       → ¬ ArePaired (turned k shows) t p q → ¬ ArePaired (turned k shows) t q p
       → (pair : ArePaired shows t p q) (x : Bool) → slice_get pair.v.answers k ≡ Some (Some x) → slice_get pair.w.answers k ≡ Some (Some (not x)) → ⊥

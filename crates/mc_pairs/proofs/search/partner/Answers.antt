@@ -12,8 +12,8 @@ pub returns-then-is_partner-clause-least : goal.returns-then-is_partner-clause-l
 returns-then-is_partner-clause-least g c =
     let P : ℕ → Type 0 = λ n. IsPartner (g.I.Independence.shows (tree_of c.args.tree.now) c.args.k) (tree_of c.args.tree.now) c.args.k c.args.first.now n in
     λ other inside partner.
-      elim (least_in P c.args.seen.now c.loop-path.path-index other c.requires.ascending c.loop-path.invariant inside partner)
-        [ inl same ↦ omega (arith, same) | inr below ↦ omega (arith, below) ]
+    elim (least_in P c.args.seen.now c.loop-path.path-index other c.requires.ascending c.loop-path.invariant inside partner)
+    [ inl same ↦ omega (arith, same) | inr below ↦ omega (arith, below) ]
 
 pub returns-clause-none : goal.returns-clause-none
 returns-clause-none g c =
