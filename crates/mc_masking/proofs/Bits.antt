@@ -19,6 +19,7 @@ pub bit_leaf : (j k : ℕ) → j < 64 → bit_at (1 * 2 ^ j % 2 ^ 64) k ≡ (if 
 bit_leaf j k h =
     let P : ℕ → ℕ = λ n. bit_at n k in
     let Q : Bool → ℕ = λ b. if b then 1 else 0 in
-    ap P (one_shl j 64 h) ∙ (elim (eqb_tells k j)
-      [ inl same ↦ (let R : ℕ → Type 0 = λ i. bit_at (2 ^ j) i ≡ 1 in subst R (sym same.1) (bit_at-pow_same j) ∙ sym (ap Q same.0))
-      | inr other ↦ bit_at-pow_other j k other.1 ∙ sym (ap Q other.0) ])
+    ap P (one_shl j 64 h) ∙ (elim (eqb_tells k j) [
+      | inl same ↦ (let R : ℕ → Type 0 = λ i. bit_at (2 ^ j) i ≡ 1 in subst R (sym same.1) (bit_at-pow_same j) ∙ sym (ap Q same.0))
+      | inr other ↦ bit_at-pow_other j k other.1 ∙ sym (ap Q other.0)
+    ])

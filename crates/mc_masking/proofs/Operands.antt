@@ -22,9 +22,10 @@ agree_flipped k first count a b g j low high =
 -- a flip outside of a range changes nothing in it
 pub agree_outside : (k first count : ℕ) (a : Row) → (k < first) ⊎ (first + count ≤ k) → Agree first count (flipped k a) a
 agree_outside k first count a out j low high =
-    elim (flip_at k a j)
-        [ inl same ↦ absurd (elim out [ inl below ↦ let f : ⊥ = omega (arith, same.0) in f | inr above ↦ let f : ⊥ = omega (arith, same.0) in f ])
-        | inr other ↦ other.1 ]
+    elim (flip_at k a j) [
+      | inl same ↦ absurd (elim out [ inl below ↦ let f : ⊥ = omega (arith, same.0) in f | inr above ↦ let f : ⊥ = omega (arith, same.0) in f ])
+      | inr other ↦ other.1
+    ]
 
 pub agree_through : (first count : ℕ) (a b c : Row) → Agree first count a b → Agree first count b c → Agree first count a c
 agree_through first count a b c g h j low high = g j low high ∙ h j low high

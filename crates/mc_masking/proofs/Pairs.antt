@@ -44,9 +44,10 @@ filled_vector t v n is = completion_vector t v (filled v) n.in_order is (filled_
 pub influence_exact : (t : Tree) (k : ℕ) (v : Evaluation) → IsNumbered t → IsVector t v → (reaches t (filled v) k ≡ true) ↔ HasInfluence t k v
 influence_exact t k v n is =
     let P : Evaluation → Type 0 = λ w. Moves (truth_of t) 0 w.answers k in
-    let same : evaluated t (filled v) ≡ v = filled_vector t v n is in
-    (λ h. influence_by t k v (subst P same (moves_where t 0 (filled v) k n.in_order h)),
-     λ h. reaches_where t 0 (filled v) k n.in_order (subst P (sym same) (moves_by t k v h)))
+    let same : evaluated t (filled v) ≡ v = filled_vector t v n is in (
+      λ h. influence_by t k v (subst P same (moves_where t 0 (filled v) k n.in_order h)),
+      λ h. reaches_where t 0 (filled v) k n.in_order (subst P (sym same) (moves_by t k v h)),
+    )
 
 bit_says : (b : Bool) (n : ℕ) → n ≡ (if b then 1 else 0) → (n ≡ 1) ↔ (b ≡ true)
 bit_says true n e = (λ h. refl, λ h. e)

@@ -28,13 +28,15 @@ pub reaches_within : (t : Tree) (first : ℕ) (row : Row) (k : ℕ) → IsNumber
 reaches_within (Leaf j) first row k n h = elim (eqb_tells k j) [ inl same ↦ (omega (arith, same.1), omega (arith, same.1)) | inr other ↦ (let f : true ≡ false = sym h ∙ other.0 in cc) ]
 reaches_within (Not a) first row k n h = reaches_within a first row k n h
 reaches_within (And a b) first row k n h =
-    elim (in_either (truth_of a row) (truth_of b row) (reaches a row k) (reaches b row k) h)
-        [ inl left ↦ (let w = reaches_within a first row k n.0 left in (w.0, omega (arith, w.1)))
-        | inr right ↦ (let w = reaches_within b (first + size a) row k n.1 right in (omega (arith, w.0), omega (arith, w.1))) ]
+    elim (in_either (truth_of a row) (truth_of b row) (reaches a row k) (reaches b row k) h) [
+      | inl left ↦ (let w = reaches_within a first row k n.0 left in (w.0, omega (arith, w.1)))
+      | inr right ↦ (let w = reaches_within b (first + size a) row k n.1 right in (omega (arith, w.0), omega (arith, w.1)))
+    ]
 reaches_within (Or a b) first row k n h =
-    elim (in_either (not (truth_of a row)) (not (truth_of b row)) (reaches a row k) (reaches b row k) h)
-        [ inl left ↦ (let w = reaches_within a first row k n.0 left in (w.0, omega (arith, w.1)))
-        | inr right ↦ (let w = reaches_within b (first + size a) row k n.1 right in (omega (arith, w.0), omega (arith, w.1))) ]
+    elim (in_either (not (truth_of a row)) (not (truth_of b row)) (reaches a row k) (reaches b row k) h) [
+      | inl left ↦ (let w = reaches_within a first row k n.0 left in (w.0, omega (arith, w.1)))
+      | inr right ↦ (let w = reaches_within b (first + size a) row k n.1 right in (omega (arith, w.0), omega (arith, w.1)))
+    ]
 
 -- the value of a node of two operands
 abbrev pub node : (Bool → Bool → Bool) → Tree → Tree → Row → Bool
@@ -46,7 +48,6 @@ agree_length xs first n p q e g = let P : ℕ → Type 0 = λ m. Agree first m p
 -- A node whose operator leaves the other operand's value as it is where one operand has the value c.
 module _ (op : Bool → Bool → Bool) (c : Bool) (keeps_first : (x : Bool) → op x c ≡ x) (keeps_second : (y : Bool) → op c y ≡ y)
     (a b : Tree) (first k : ℕ) (n : IsNumberedFrom first a) (m : IsNumberedFrom (first + size a) b) where
-
   -- a flip in the first operand shows where the second has the value c
   left_moves : (p q : Row) → k < first + size a → truth_of b q ≡ c → truth_of a (flipped k p) ≡ not (truth_of a p)
       → node op a b (flipped k (pasted (first + size a) p q)) ≡ not (node op a b (pasted (first + size a) p q))
@@ -84,8 +85,8 @@ module _ (op : Bool → Bool → Bool) (c : Bool) (keeps_first : (x : Bool) → 
       record {
         row = row;
         fits = fits_node o (evaluated a r) b (evaluated b r) first (size a) row (length_answers a r)
-          (fits_agree (evaluated a r).answers first s.row row (agree_length (evaluated a r).answers first (size a) row s.row (length_answers a r) (pasted_left first (size a) s.row u)) s.fits)
-          (λ on. fits_agree (evaluated b r).answers (first + size a) u row (agree_length (evaluated b r).answers (first + size a) (size b) row u (length_answers b r) (pasted_right first (size a) (size b) s.row u)) (fits on));
+            (fits_agree (evaluated a r).answers first s.row row (agree_length (evaluated a r).answers first (size a) row s.row (length_answers a r) (pasted_left first (size a) s.row u)) s.fits)
+            (λ on. fits_agree (evaluated b r).answers (first + size a) u row (agree_length (evaluated b r).answers (first + size a) (size b) row u (length_answers b r) (pasted_right first (size a) (size b) s.row u)) (fits on));
         changes = left_moves s.row u below value s.changes;
       }
 
@@ -96,8 +97,8 @@ module _ (op : Bool → Bool → Bool) (c : Bool) (keeps_first : (x : Bool) → 
       record {
         row = row;
         fits = fits_node o (evaluated a r) b (evaluated b r) first (size a) row (length_answers a r)
-          (fits_agree (evaluated a r).answers first r row (agree_length (evaluated a r).answers first (size a) row r (length_answers a r) (pasted_left first (size a) r s.row)) (own_fits a first r n))
-          (λ on. fits_agree (evaluated b r).answers (first + size a) s.row row (agree_length (evaluated b r).answers (first + size a) (size b) row s.row (length_answers b r) (pasted_right first (size a) (size b) r s.row)) s.fits);
+            (fits_agree (evaluated a r).answers first r row (agree_length (evaluated a r).answers first (size a) row r (length_answers a r) (pasted_left first (size a) r s.row)) (own_fits a first r n))
+            (λ on. fits_agree (evaluated b r).answers (first + size a) s.row row (agree_length (evaluated b r).answers (first + size a) (size b) row s.row (length_answers b r) (pasted_right first (size a) (size b) r s.row)) s.fits);
         changes = right_moves r s.row above value s.changes;
       }
 
@@ -142,7 +143,6 @@ or_says false true true y2 z p q left right same h = let e : z ≡ true = same r
 -- the moves of a node's parts, from its own
 module _ (op : Bool → Bool → Bool) (a b : Tree) (first k : ℕ) (n : IsNumberedFrom first a) (m : IsNumberedFrom (first + size a) b)
     (r : Row) (o : Bool) (s : Moves (node op a b) first (followed_where o (evaluated a r) b (evaluated b r)).answers k) where
-
   fits_a : Fits first (evaluated a r).answers s.row
   fits_a = fits_first o (evaluated a r) b (evaluated b r) first s.row s.fits
 
@@ -196,33 +196,34 @@ moves_where (Not a) first r k n h =
     record { row = s.row; fits = s.fits; changes = ap not s.changes }
 moves_where (And a b) first r k n h =
     node_moves (λ x y. x && y) true and_first (λ y. refl) a b first k n.0 n.1 r (evaluated a r).outcome (truth_of a r) (truth_of b r) (reaches a r k) (reaches b r k)
-      (outcome_is_truth a r) (λ e. e) (λ e. e)
-      (moves_where a first r k n.0) (λ e. (reaches_within a first r k n.0 e).1)
-      (moves_where b (first + size a) r k n.1) (λ e. (reaches_within b (first + size a) r k n.1 e).0) h
+    (outcome_is_truth a r) (λ e. e) (λ e. e)
+    (moves_where a first r k n.0) (λ e. (reaches_within a first r k n.0 e).1)
+    (moves_where b (first + size a) r k n.1) (λ e. (reaches_within b (first + size a) r k n.1 e).0) h
 moves_where (Or a b) first r k n h =
     node_moves (λ x y. x || y) false or_first (λ y. refl) a b first k n.0 n.1 r (not (evaluated a r).outcome) (not (truth_of a r)) (not (truth_of b r)) (reaches a r k) (reaches b r k)
-      (ap not (outcome_is_truth a r)) (not_true (truth_of a r)) (not_true (truth_of b r))
-      (moves_where a first r k n.0) (λ e. (reaches_within a first r k n.0 e).1)
-      (moves_where b (first + size a) r k n.1) (λ e. (reaches_within b (first + size a) r k n.1 e).0) h
+    (ap not (outcome_is_truth a r)) (not_true (truth_of a r)) (not_true (truth_of b r))
+    (moves_where a first r k n.0) (λ e. (reaches_within a first r k n.0 e).1)
+    (moves_where b (first + size a) r k n.1) (λ e. (reaches_within b (first + size a) r k n.1 e).0) h
 
 pub reaches_where : (t : Tree) (first : ℕ) (r : Row) (k : ℕ) → IsNumberedFrom first t → Moves (truth_of t) first (evaluated t r).answers k → reaches t r k ≡ true
 reaches_where (Leaf j) first r k n s =
-    elim (eqb_tells k j)
-      [ inl same ↦ same.0
-      | inr other ↦ absurd (elim (flip_at k s.row j) [ inl e ↦ other.1 (sym e.0) | inr e ↦ never_own (s.row j) (sym e.1 ∙ s.changes) ]) ]
+    elim (eqb_tells k j) [
+      | inl same ↦ same.0
+      | inr other ↦ absurd (elim (flip_at k s.row j) [ inl e ↦ other.1 (sym e.0) | inr e ↦ never_own (s.row j) (sym e.1 ∙ s.changes) ])
+    ]
 reaches_where (Not a) first r k n s =
     reaches_where a first r k n (record { row = s.row; fits = s.fits; changes = not_both (truth_of a (flipped k s.row)) (not (truth_of a s.row)) s.changes })
 reaches_where (And a b) first r k n s =
     let P : Bool → Type 0 = λ x. truth_of (And a b) (flipped k s.row) ≡ not (x && truth_of b s.row) in
     and_says (truth_of a r) (truth_of b r) (truth_of a (flipped k s.row)) (truth_of b (flipped k s.row)) (truth_of b s.row) (reaches a r k) (reaches b r k)
-      (λ e. reaches_where a first r k n.0 (left_part (λ x y. x && y) a b first k n.0 n.1 r (evaluated a r).outcome s e))
-      (λ on e. reaches_where b (first + size a) r k n.1 (right_part (λ x y. x && y) a b first k n.0 n.1 r (evaluated a r).outcome s (outcome_is_truth a r ∙ on) e))
-      (λ on. right_truth (λ x y. x && y) a b first k n.0 n.1 r (evaluated a r).outcome s (outcome_is_truth a r ∙ on))
-      (subst P (left_truth (λ x y. x && y) a b first k n.0 n.1 r (evaluated a r).outcome s) s.changes)
+    (λ e. reaches_where a first r k n.0 (left_part (λ x y. x && y) a b first k n.0 n.1 r (evaluated a r).outcome s e))
+    (λ on e. reaches_where b (first + size a) r k n.1 (right_part (λ x y. x && y) a b first k n.0 n.1 r (evaluated a r).outcome s (outcome_is_truth a r ∙ on) e))
+    (λ on. right_truth (λ x y. x && y) a b first k n.0 n.1 r (evaluated a r).outcome s (outcome_is_truth a r ∙ on))
+    (subst P (left_truth (λ x y. x && y) a b first k n.0 n.1 r (evaluated a r).outcome s) s.changes)
 reaches_where (Or a b) first r k n s =
     let P : Bool → Type 0 = λ x. truth_of (Or a b) (flipped k s.row) ≡ not (x || truth_of b s.row) in
     or_says (truth_of a r) (truth_of b r) (truth_of a (flipped k s.row)) (truth_of b (flipped k s.row)) (truth_of b s.row) (reaches a r k) (reaches b r k)
-      (λ e. reaches_where a first r k n.0 (left_part (λ x y. x || y) a b first k n.0 n.1 r (not (evaluated a r).outcome) s e))
-      (λ on e. reaches_where b (first + size a) r k n.1 (right_part (λ x y. x || y) a b first k n.0 n.1 r (not (evaluated a r).outcome) s (ap not (outcome_is_truth a r) ∙ on) e))
-      (λ on. right_truth (λ x y. x || y) a b first k n.0 n.1 r (not (evaluated a r).outcome) s (ap not (outcome_is_truth a r) ∙ on))
-      (subst P (left_truth (λ x y. x || y) a b first k n.0 n.1 r (not (evaluated a r).outcome) s) s.changes)
+    (λ e. reaches_where a first r k n.0 (left_part (λ x y. x || y) a b first k n.0 n.1 r (not (evaluated a r).outcome) s e))
+    (λ on e. reaches_where b (first + size a) r k n.1 (right_part (λ x y. x || y) a b first k n.0 n.1 r (not (evaluated a r).outcome) s (ap not (outcome_is_truth a r) ∙ on) e))
+    (λ on. right_truth (λ x y. x || y) a b first k n.0 n.1 r (not (evaluated a r).outcome) s (ap not (outcome_is_truth a r) ∙ on))
+    (subst P (left_truth (λ x y. x || y) a b first k n.0 n.1 r (not (evaluated a r).outcome) s) s.changes)

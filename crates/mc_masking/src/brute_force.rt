@@ -1,7 +1,7 @@
 //! Both kinds of pairs and the influence in every decision of up to four conditions, with at most one NOT above each
 //! node, against the definitions tried on each row of the truth table.
 
-ghost use Rattle.std.specs.Prelude.{◌≡◌, ◌+◌, ◌<◌, ◌≤◌, IfOk};
+ghost use Rattle.std.specs.Prelude.{◌≡◌, ℕ, ◌+◌, ◌<◌, ◌≤◌, IfOk};
 ghost use Rattle.mc_cond.specs.Tree.{tree_of, size, IsNumbered, IsNumberedFrom};
 
 use crate::tests::are_paths;
@@ -41,7 +41,12 @@ fn negated_where(alloc: Global, negated: bool, operand: CondTree) -> Result<Cond
     }
 }
 
-fn joined(alloc: Global, conjunction: bool, left: CondTree, right: CondTree) -> Result<CondTree, AllocError>
+fn joined(
+    alloc: Global,
+    conjunction: bool,
+    left: CondTree,
+    right: CondTree,
+) -> Result<CondTree, AllocError>
     ensures first { (first : ℕ) → IsNumberedFrom first (tree_of left) → IsNumberedFrom (first + size (tree_of left)) (tree_of right)
         → IfOk result (λ t. IsNumberedFrom first (tree_of t)) }
     ensures size { IfOk result (λ t. size (tree_of t) ≡ size (tree_of left) + size (tree_of right)) }
@@ -56,7 +61,12 @@ fn joined(alloc: Global, conjunction: bool, left: CondTree, right: CondTree) -> 
 }
 
 /// The decision with so many conditions that the choices lead to.
-fn chosen_tree(alloc: Global, choices: &mut Choices, first: u32, count: u32) -> Result<CondTree, AllocError>
+fn chosen_tree(
+    alloc: Global,
+    choices: &mut Choices,
+    first: u32,
+    count: u32,
+) -> Result<CondTree, AllocError>
     requires least { 1 ≤ count }
     requires most { first + count ≤ 64 }
     ensures numbered { IfOk result (λ t. IsNumberedFrom first (tree_of t)) }
@@ -116,13 +126,16 @@ fn table_of(tree: &CondTree) -> [bool; 16]
 
 /// Whether the outcomes on two rows differ.
 fn differs(table: &[bool], row: usize, other: usize) -> bool {
-    table.get(row) != table.get(other)
+    table.get(row).copied() != table.get(other).copied()
 }
 
 /// Whether condition `bit` has this value in a completion on which its flip changes the outcome.
 fn changes(table: &[bool], words: Words, bit: usize, value: bool) -> bool {
     for row in 0..16 {
-        if (row & bit != 0) == value && is_completion(words, row) && differs(table, row, row ^ bit) {
+        if (row & bit != 0) == value
+            && is_completion(words, row)
+            && differs(table, row, row ^ bit)
+        {
             return true;
         }
     }
@@ -130,13 +143,19 @@ fn changes(table: &[bool], words: Words, bit: usize, value: bool) -> bool {
 }
 
 fn is_masking(table: &[bool], first: Words, second: Words, bit: usize) -> bool {
-    first.outcome != second.outcome && changes(table, first, bit, true) && changes(table, second, bit, false)
+    first.outcome != second.outcome
+        && changes(table, first, bit, true)
+        && changes(table, second, bit, false)
 }
 
 fn is_unique(table: &[bool], first: Words, second: Words, bit: usize) -> bool {
     for row in 0..16 {
         let other = row ^ bit;
-        if row & bit != 0 && is_completion(first, row) && is_completion(second, other) && differs(table, row, other) {
+        if row & bit != 0
+            && is_completion(first, row)
+            && is_completion(second, other)
+            && differs(table, row, other)
+        {
             return true;
         }
     }
@@ -155,7 +174,14 @@ fn ordered(forth: bool, back: bool, first: u32, second: u32) -> Option<(u32, u32
 }
 
 /// Compares the pairs of two paths, for each condition.
-fn compare_pairs(rt: &impl Abort, tree: &CondTree, numbering: &Numbering, table: &[bool], first: u32, second: u32)
+fn compare_pairs(
+    rt: &impl Abort,
+    tree: &CondTree,
+    numbering: &Numbering,
+    table: &[bool],
+    first: u32,
+    second: u32,
+)
     requires tree { IsNumbered (tree_of tree.now) }
     requires numbering { tree_of numbering.now ≡ tree_of tree.now }
 {
@@ -165,9 +191,19 @@ fn compare_pairs(rt: &impl Abort, tree: &CondTree, numbering: &Numbering, table:
     let w = words_of(&numbering.vector_of(second));
     for k in 0..conditions(tree) {
         let bit = 1 << k;
-        let unique = ordered(is_unique(table, v, w, bit), is_unique(table, w, v, bit), first, second);
+        let unique = ordered(
+            is_unique(table, v, w, bit),
+            is_unique(table, w, v, bit),
+            first,
+            second,
+        );
         assert_eq!(rt; unique_pair(tree, numbering, &seen, k), unique);
-        let masking = ordered(is_masking(table, v, w, bit), is_masking(table, w, v, bit), first, second);
+        let masking = ordered(
+            is_masking(table, v, w, bit),
+            is_masking(table, w, v, bit),
+            first,
+            second,
+        );
         assert_eq!(rt; masking_pair(tree, numbering, &seen, k), masking);
     }
 }
@@ -190,14 +226,17 @@ fn compare_path(rt: &impl Abort, tree: &CondTree, numbering: &Numbering, table: 
 {
     assert!(rt; first < numbering.count());
     let words = words_of(&numbering.vector_of(first));
-    assert_eq!(rt; influence(tree, numbering, first), influence_by_rows(table, words));
+    assert_eq!(rt;
+        influence(tree, numbering, first),
+        influence_by_rows(table, words)
+    );
     for second in first + 1..numbering.count() {
         compare_pairs(rt, tree, numbering, table, first, second);
     }
 }
 
 /// Compares all paths of the decision that these choices lead to. A number with a rest names a decision again.
-fn compare_tree(rt: HostRuntime, count: u32, number_of_choices: u32) -> Result<(), Fail>
+fn compare_tree(rt: &HostRuntime, count: u32, number_of_choices: u32) -> Result<(), Fail>
     requires least { 1 ≤ count }
     requires most { count ≤ 4 }
 {
@@ -211,7 +250,7 @@ fn compare_tree(rt: HostRuntime, count: u32, number_of_choices: u32) -> Result<(
     let numbering = number(rt.alloc(), &tree)?;
     let table = table_of(&tree);
     for first in 0..numbering.count() {
-        compare_path(&rt, &tree, &numbering, &table, first);
+        compare_path(rt, &tree, &numbering, &table, first);
     }
     Ok(())
 }
@@ -220,7 +259,7 @@ fn compare_tree(rt: HostRuntime, count: u32, number_of_choices: u32) -> Result<(
 fn up_to_three_conditions(rt: HostRuntime) -> Result<(), Fail> {
     for (count, choices) in [(1, 2), (2, 16), (3, 256)] {
         for choice in 0..choices {
-            compare_tree(rt, count, choice)?;
+            compare_tree(&rt, count, choice)?;
         }
     }
     Ok(())
@@ -229,7 +268,7 @@ fn up_to_three_conditions(rt: HostRuntime) -> Result<(), Fail> {
 #[test]
 fn four_conditions(rt: HostRuntime) -> Result<(), Fail> {
     for choice in 0..6144 {
-        compare_tree(rt, 4, choice)?;
+        compare_tree(&rt, 4, choice)?;
     }
     Ok(())
 }

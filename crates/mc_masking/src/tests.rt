@@ -101,14 +101,24 @@ pub(crate) fn are_paths(seen: &[u32], count: u32) -> bool
 }
 
 /// Checks the pairs that these paths give, for each condition.
-fn expect_pairs(rt: &impl Abort, tree: &CondTree, numbering: &Numbering, seen: &[u32], expected: &[Option<(u32, u32)>])
+fn expect_pairs(
+    rt: &impl Abort,
+    tree: &CondTree,
+    numbering: &Numbering,
+    seen: &[u32],
+    expected: &[Option<(u32, u32)>],
+)
     requires tree { IsNumbered (tree_of tree.now) }
     requires numbering { tree_of numbering.now ≡ tree_of tree.now }
 {
     assert!(rt; are_paths(seen, numbering.count()));
     for k in 0..conditions(tree) {
         let pair = masking_pair(tree, numbering, seen, k);
-        assert_eq!(rt; expected.get(k as usize).copied(), Some(pair), "condition {k}");
+        assert_eq!(rt;
+            expected.get(k as usize).copied(),
+            Some(pair),
+            "condition {k}"
+        );
     }
 }
 
@@ -116,12 +126,24 @@ fn expect_pairs(rt: &impl Abort, tree: &CondTree, numbering: &Numbering, seen: &
 fn three_conditions_have_pairs(rt: HostRuntime) -> Result<(), Fail> {
     let tree = one_and(rt.alloc())?;
     let numbering = number(rt.alloc(), &tree)?;
-    expect_pairs(&rt, &tree, &numbering, &[0, 1, 2], &[Some((0, 2)), Some((0, 1))]);
+    expect_pairs(
+        &rt,
+        &tree,
+        &numbering,
+        &[0, 1, 2],
+        &[Some((0, 2)), Some((0, 1))],
+    );
     expect_pairs(&rt, &tree, &numbering, &[0, 2], &[Some((0, 2)), None]);
     expect_pairs(&rt, &tree, &numbering, &[], &[None, None]);
     let tree = negated_and(rt.alloc())?;
     let numbering = number(rt.alloc(), &tree)?;
-    expect_pairs(&rt, &tree, &numbering, &[0, 1, 2, 3], &[Some((1, 3)), Some((1, 2)), Some((0, 1))]);
+    expect_pairs(
+        &rt,
+        &tree,
+        &numbering,
+        &[0, 1, 2, 3],
+        &[Some((1, 3)), Some((1, 2)), Some((0, 1))],
+    );
     expect_pairs(&rt, &tree, &numbering, &[0, 2, 3], &[None, None, None]);
     Ok(())
 }
@@ -130,10 +152,22 @@ fn three_conditions_have_pairs(rt: HostRuntime) -> Result<(), Fail> {
 fn four_conditions_have_pairs(rt: HostRuntime) -> Result<(), Fail> {
     let tree = two_ands(rt.alloc())?;
     let numbering = number(rt.alloc(), &tree)?;
-    expect_pairs(&rt, &tree, &numbering, &[0, 1, 2, 6], &[Some((0, 6)), Some((0, 2)), Some((1, 6)), Some((1, 2))]);
+    expect_pairs(
+        &rt,
+        &tree,
+        &numbering,
+        &[0, 1, 2, 6],
+        &[Some((0, 6)), Some((0, 2)), Some((1, 6)), Some((1, 2))],
+    );
     let tree = two_ors(rt.alloc())?;
     let numbering = number(rt.alloc(), &tree)?;
-    expect_pairs(&rt, &tree, &numbering, &[0, 5], &[None, None, Some((0, 5)), None]);
+    expect_pairs(
+        &rt,
+        &tree,
+        &numbering,
+        &[0, 5],
+        &[None, None, Some((0, 5)), None],
+    );
     Ok(())
 }
 

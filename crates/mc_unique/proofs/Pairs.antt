@@ -1,17 +1,17 @@
 -- Unique-cause pairs by the answers of their vectors.
-use Rattle.std.proofs.Common.{◌≡◌, ◌≢◌, ◌↔◌, ℕ, ◌<◌, Bool, true, false, not, ◌==◌, Option, Some, None, List, length, arith, sym, ap, subst, refl, ◌∙◌, inl, inr, ◌⊎◌}
+use Rattle.std.proofs.Common.{◌≡◌, ◌≢◌, ℕ, ◌<◌, Bool, true, false, ◌==◌, Option, Some, None, sym, ap, subst, refl, ◌∙◌, inl, inr, ◌⊎◌}
 use Rattle.std.specs.Prelude.{slice_get, if◌then◌else◌}
 use Rattle.std.proofs.lemmas.Option.{slice_get_within}
 use Rattle.std.proofs.lemmas.Bool.Decides.{eqb_tells}
 use Rattle.mc_cond.specs.Tree.{Tree, size, IsNumbered}
-use Rattle.mc_cond.specs.Vectors.{Row, Evaluation, truth_of, IsVector, IsCompletion}
+use Rattle.mc_cond.specs.Vectors.{Row, Evaluation, IsVector, IsCompletion}
 use Rattle.mc_cond.proofs.Completions.{completion_outcome}
 use Rattle.mc_pairs.proofs.Lengths.{length_vector}
 use Rattle.mc_pairs.proofs.Evaluated.{evaluated_where}
 use Rattle.mc_pairs.proofs.Turned.{AreOpposed}
 use Rattle.mc_pairs.proofs.Steps.{other_value}
 use Rattle.mc_unique.specs.Unique.{IsUniquePair}
-use Rattle.mc_unique.specs.Agreement.{AreCompatible, AgreeAt, AgreeElsewhere}
+use Rattle.mc_unique.specs.Agreement.{AreCompatible, AgreeElsewhere}
 
 pub turns : (t : Tree) (k : ℕ) (v w : Evaluation) → IsUniquePair t k v w → IsUniquePair t k w v
 turns t k v w p =
