@@ -14,6 +14,7 @@ use std::process::Abort;
 use std::test::Fail;
 
 /// Choices, read from a number digit by digit.
+#[derive(Drop)]
 struct Choices {
     left: u32,
 }
@@ -236,18 +237,23 @@ fn compare_path(rt: &impl Abort, tree: &CondTree, numbering: &Numbering, table: 
 }
 
 /// Compares all paths of the decision that these choices lead to. A number with a rest names a decision again.
-fn compare_tree(rt: &HostRuntime, count: u32, number_of_choices: u32) -> Result<(), Fail>
+fn compare_tree(
+    rt: &impl Abort,
+    alloc: Global,
+    count: u32,
+    number_of_choices: u32,
+) -> Result<(), Fail>
     requires least { 1 ≤ count }
     requires most { count ≤ 4 }
 {
     let mut choices = Choices {
         left: number_of_choices,
     };
-    let tree = chosen_tree(rt.alloc(), &mut choices, 0, count)?;
+    let tree = chosen_tree(alloc, &mut choices, 0, count)?;
     if choices.left != 0 {
         return Ok(());
     }
-    let numbering = number(rt.alloc(), &tree)?;
+    let numbering = number(alloc, &tree)?;
     let table = table_of(&tree);
     for first in 0..numbering.count() {
         compare_path(rt, &tree, &numbering, &table, first);
@@ -259,7 +265,7 @@ fn compare_tree(rt: &HostRuntime, count: u32, number_of_choices: u32) -> Result<
 fn up_to_three_conditions(rt: HostRuntime) -> Result<(), Fail> {
     for (count, choices) in [(1, 2), (2, 16), (3, 256)] {
         for choice in 0..choices {
-            compare_tree(&rt, count, choice)?;
+            compare_tree(&rt, rt.alloc(), count, choice)?;
         }
     }
     Ok(())
@@ -268,7 +274,7 @@ fn up_to_three_conditions(rt: HostRuntime) -> Result<(), Fail> {
 #[test]
 fn four_conditions(rt: HostRuntime) -> Result<(), Fail> {
     for choice in 0..6144 {
-        compare_tree(&rt, 4, choice)?;
+        compare_tree(&rt, rt.alloc(), 4, choice)?;
     }
     Ok(())
 }
