@@ -1,0 +1,4 @@
+pub mod Operands
+pub mod Reaching
+pub mod Pairs
+pub mod Bits

@@ -1,0 +1,26 @@
+-- Influence of conditions, and masking pairs.
+use Rattle.std.specs.Prelude.{◌≡◌, ◌≢◌, ℕ}
+use Rattle.mc_cond.specs.Tree.{Tree}
+use Rattle.mc_cond.specs.Vectors.{Row, Evaluation, truth_of, flipped, IsCompletion}
+
+-- a flip of condition k alone changes the decision's outcome on the row
+abbrev pub FlipChanges : Tree → ℕ → Row → Type 0
+FlipChanges t k row = truth_of t (flipped k row) ≢ truth_of t row
+
+-- condition k influences the outcome on some completion of the vector
+pub record HasInfluence (t : Tree) (k : ℕ) (v : Evaluation) : Type 0 where
+  pub row : Row
+  pub completion : IsCompletion v row
+  pub changes : FlipChanges t k row
+
+-- Two vectors are a masking pair for condition k where their outcomes differ, and they have completions in which k has
+-- different values and a flip of k alone changes the outcome. What a row says beyond the last condition plays no part.
+pub record IsMaskingPair (t : Tree) (k : ℕ) (v w : Evaluation) : Type 0 where
+  pub outcomes : v.outcome ≢ w.outcome
+  pub a : Row
+  pub b : Row
+  pub first : IsCompletion v a
+  pub second : IsCompletion w b
+  pub differ : a k ≢ b k
+  pub first_changes : FlipChanges t k a
+  pub second_changes : FlipChanges t k b
