@@ -1,0 +1,4 @@
+pub mod Words
+pub mod Nonterminal
+pub mod Grammar
+pub mod Form
