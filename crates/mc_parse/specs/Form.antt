@@ -1,7 +1,7 @@
 -- A source that is one function which returns one Boolean expression over its parameters (C17 6.9.1).
 use Rattle.std.specs.Prelude.{◌≡◌, ◌≤◌, ◌+◌, ℕ, true, List, [], ◌∷◌, length, map, codes}
 use Rattle.mc_lex.specs.Tokens.{Tok}
-use Rattle.mc_tree.specs.First.{Tree, tree_of, conditions, parameters, has_operator}
+use Rattle.mc_tree.specs.First.{Tree, tree_of, conditions, has_operator, has_parameter}
 use Rattle.mc_parse.specs.declared.first.First.{First}
 use Rattle.mc_parse.specs.Words.{is_sign, is_word, is_name, AreDistinct}
 use Rattle.mc_parse.specs.Nonterminal as n
@@ -45,4 +45,4 @@ pub record IsFirst (tokens : List Tok) (first : Form) : Type 0 where
   pub few_tokens : length body ≤ 100 + 2
   pub few_conditions : conditions first.tree ≤ 12
   pub operators : has_operator first.tree ≡ true
-  pub names_one : 1 ≤ parameters first.tree
+  pub names_one : has_parameter first.tree ≡ true

@@ -1,5 +1,5 @@
 -- What a function of the program returned is what a rule reads.
-use Rattle.std.specs.Prelude.{◌≡◌, ℕ, List, [], Option, Some, None, Result, Ok, Err, Box, map}
+use Rattle.std.specs.Prelude.{◌≡◌, ℕ, List, [], Option, Some, None, Result, Ok, Err, Box, Vec, map}
 use Rattle.std.specs.declared.alloc.Global.{Global}
 use denote.Ref.{Bor, MutBor}
 use Rattle.mc_lex.specs.Tokens.{Tok, toks_of}
@@ -43,3 +43,10 @@ pub record Nests (room : ℕ) (pre : Global → Bor (List (Bor (List ℕ))) → 
   pub callable : (alloc : Global) (names : Bor (List (Bor (List ℕ)))) (old : MutBor Cursor) (rule : Rule) → pre alloc names old room rule
   pub reads : (alloc : Global) (names : Bor (List (Bor (List ℕ)))) (old new : MutBor Cursor) (rule : Rule) (r : Result (Box FirstTree Global) FirstFault)
       → post alloc names old room rule r new → GivesTree (reading (names_of names.now) room rule (toks_of old.now.rest.now)) r (toks_of new.now.rest.now)
+
+-- what a lent text is
+abbrev pub shown : Bor (List ℕ) → List ℕ
+shown text = text.now
+
+abbrev pub view_of : Vec (Bor (List ℕ)) Global → List (List ℕ)
+view_of names = names_of names.items

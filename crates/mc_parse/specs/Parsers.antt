@@ -1,5 +1,5 @@
 -- A reader of the front of a list of tokens, and the steps that each is made of.
-use Rattle.std.specs.Prelude.{Bool, if◌then◌else◌, List, [], ◌∷◌, Option, Some, None, ℕ}
+use Rattle.std.specs.Prelude.{Bool, true, false, if◌then◌else◌, List, [], ◌∷◌, Option, Some, None, ℕ}
 use Rattle.mc_lex.specs.Tokens.{Tok}
 use Rattle.mc_parse.specs.Words.{sees}
 
@@ -28,6 +28,14 @@ given None = refuse
 -- whether the next token is this punctuator
 abbrev pub see : List ℕ → Parser Bool
 see text = λ ts. Some (sees text ts, ts)
+
+abbrev pub ended : List Tok → Bool
+ended [] = true
+ended (x ∷ ts) = false
+
+-- whether there is no further token
+abbrev pub see_end : Parser Bool
+see_end = λ ts. Some (ended ts, ts)
 
 abbrev pub take : Parser Tok
 take [] = None

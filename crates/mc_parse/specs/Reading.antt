@@ -4,11 +4,11 @@ use Rattle.std.specs.Str.{bytes_eq}
 use Rattle.mc_lex.specs.declared.token.TokenKind.{TokenKind}
 use Rattle.mc_lex.specs.declared.token.TokenKind.TheVariants as kind
 use Rattle.mc_lex.specs.Tokens.{Tok}
-use Rattle.mc_tree.specs.First.{Tree, Parameter, Number, Less, Equal, Not, And, Or, conditions, parameters, has_operator}
+use Rattle.mc_tree.specs.First.{Tree, Parameter, Number, Less, Equal, Not, And, Or, conditions, has_operator, has_parameter}
 use Rattle.mc_parse.specs.declared.expression.Rule.{Rule}
 use Rattle.mc_parse.specs.declared.expression.Rule.TheVariants as r
 use Rattle.mc_parse.specs.Words.{is_sign, is_word, is_name, is_among}
-use Rattle.mc_parse.specs.Parsers.{Parser, and_then, ◌>>=◌, pure, refuse, given, see, take, pass}
+use Rattle.mc_parse.specs.Parsers.{Parser, and_then, ◌>>=◌, pure, refuse, given, see, see_end, take, pass}
 use Rattle.mc_parse.specs.Form.{Form}
 
 -- what reads the shorter expressions inside
@@ -162,18 +162,15 @@ are_distinct [] = true
 are_distinct (n ∷ ns) = not (is_among n ns) && are_distinct ns
 
 unfoldable pub fits : Tree → Bool
-fits tree = nat_le (conditions tree) 12 && has_operator tree && nat_le 1 (parameters tree)
-
-abbrev pub at_end : {A : Type 0} → A → Parser A
-at_end a [] = Some (a, [])
-at_end a (x ∷ xs) = None
+fits tree = nat_le (conditions tree) 12 && has_operator tree && has_parameter tree
 
 unfoldable pub body_of : List (List ℕ) → Parser Tree
 body_of names = λ ts. if nat_le (length ts) 102 then ((do
   tree ← reading names (length ts + 1) r.Or
   x ← pass (is_sign (codes ";"))
   y ← pass (is_sign (codes "}"))
-  if fits tree then at_end tree else refuse) ts) else None
+  ended ← see_end
+  if fits tree && ended then pure tree else refuse) ts) else None
 
 unfoldable pub function_of : Parser Form
 function_of = do

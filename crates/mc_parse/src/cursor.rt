@@ -56,6 +56,16 @@ impl<'t, 'a> Cursor<'t, 'a> {
         }
     }
 
+    /// Whether no token is left.
+    pub fn ended(&self) -> bool
+        ensures { result ≡ spec.ended (toks_of self.now.rest.now) }
+    {
+        match self.rest {
+            [] => true,
+            [_first, ..] => false,
+        }
+    }
+
     /// Takes the next token.
     pub fn take(&mut self) -> Result<Token<'a>, FirstFault>
         ensures { Gives tok_of (spec.take (toks_of self.old.rest.now)) result (toks_of self.new.rest.now) }

@@ -14,7 +14,7 @@ use mc_tree::FirstTree;
 use std::alloc::Global;
 
 /// The rules that contain shorter expressions of any depth.
-#[derive(Clone, Copy, PartialEq)]
+#[derive(Clone, Copy)]
 pub enum Rule {
     /// Operands of `||`.
     Or,
@@ -121,9 +121,19 @@ struct Grammar<'n, 'a, F> {
 impl<
     'n,
     'a,
-    F: Fn(Global, &[&'a [u8]], &mut Cursor<'_, 'a>, usize, Rule) -> Result<Box<FirstTree<'a>>, FirstFault>,
+    F: Fn(
+        Global,
+        &[&'a [u8]],
+        &mut Cursor<'_, 'a>,
+        usize,
+        Rule,
+    ) -> Result<Box<FirstTree<'a>>, FirstFault>,
 > Grammar<'n, 'a, F> {
-    fn inner(&self, rule: Rule, tokens: &mut Cursor<'_, 'a>) -> Result<Box<FirstTree<'a>>, FirstFault>
+    fn inner(
+        &self,
+        rule: Rule,
+        tokens: &mut Cursor<'_, 'a>,
+    ) -> Result<Box<FirstTree<'a>>, FirstFault>
         requires { Nests self.now.room (F.pre self.now.inner) (F.post self.now.inner) }
         ensures { GivesTree (spec.reading (names_of self.now.names.now) self.now.room rule (toks_of tokens.old.rest.now)) result (toks_of tokens.new.rest.now) }
     {

@@ -1,10 +1,13 @@
 //! The functions that a token list stands for.
 #![tactic(auto)]
 
+mod counts;
 mod cursor;
 mod expression;
 mod fault;
 mod first;
+mod header;
+pub mod laws;
 mod names;
 
 pub use fault::FirstFault;

@@ -1,5 +1,5 @@
 -- The tree of a Boolean expression, without where it lies in memory.
-use Rattle.std.specs.Prelude.{ℕ, ◌+◌, Bool, true, false, List}
+use Rattle.std.specs.Prelude.{ℕ, ◌+◌, Bool, true, false, ◌||◌, List}
 use Rattle.mc_tree.specs.declared.first.FirstTree.{FirstTree}
 use Rattle.mc_tree.specs.declared.first.FirstTree.TheVariants as code
 
@@ -34,15 +34,15 @@ conditions (Not operand) = conditions operand
 conditions (And left right) = conditions left + conditions right
 conditions (Or left right) = conditions left + conditions right
 
--- how often parameters are named
-abbrev pub parameters : Tree → ℕ
-parameters (Parameter name) = 1
-parameters (Number value) = 0
-parameters (Less left right) = parameters left + parameters right
-parameters (Equal left right) = parameters left + parameters right
-parameters (Not operand) = parameters operand
-parameters (And left right) = parameters left + parameters right
-parameters (Or left right) = parameters left + parameters right
+-- whether a parameter occurs in it
+abbrev pub has_parameter : Tree → Bool
+has_parameter (Parameter name) = true
+has_parameter (Number value) = false
+has_parameter (Less left right) = has_parameter left || has_parameter right
+has_parameter (Equal left right) = has_parameter left || has_parameter right
+has_parameter (Not operand) = has_parameter operand
+has_parameter (And left right) = has_parameter left || has_parameter right
+has_parameter (Or left right) = has_parameter left || has_parameter right
 
 -- whether it is more than a name or a number
 abbrev pub has_operator : Tree → Bool
