@@ -12,3 +12,6 @@ mod names;
 
 pub use fault::FirstFault;
 pub use first::{First, parse_first};
+
+#[cfg(test)]
+mod tests;
