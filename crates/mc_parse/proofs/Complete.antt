@@ -1,7 +1,6 @@
 -- What the grammar reads, is read from left to right, where the room is greater than the count of the tokens.
-use Rattle.std.proofs.Common.{◌≡◌, ℕ, zero, suc, ◌+◌, ◌<◌, ◌≤◌, Bool, true, false, cond, ◌&&◌, nat_le, List, [], ◌∷◌, length, Option, Some, None, refl, ap, subst, sym, ◌∙◌, arith, le-leb, codes}
+use Rattle.std.proofs.Common.{◌≡◌, ℕ, zero, suc, ◌+◌, ◌<◌, ◌≤◌, true, false, List, ◌∷◌, length, Some, refl, ap, subst, sym, ◌∙◌, arith, le-leb, codes}
 use Rattle.std.specs.Str.{bytes_eq}
-use Rattle.mc_lex.specs.declared.token.TokenKind.{TokenKind}
 use Rattle.mc_lex.specs.declared.token.TokenKind.TheVariants as kind
 use Rattle.mc_lex.specs.Tokens.{Tok}
 use Rattle.mc_tree.specs.First.{Tree, Parameter, Number, Less, Equal, Not, And, Or}
@@ -9,7 +8,7 @@ use Rattle.mc_parse.specs.declared.expression.Rule.{Rule}
 use Rattle.mc_parse.specs.declared.expression.Rule.TheVariants as rule
 use Rattle.mc_parse.specs.Words.{is_sign, is_punctuator, is_among, sees, IsDecimal}
 use Rattle.mc_parse.specs.Words as w
-use Rattle.mc_parse.specs.Parsers.{Parser, pass}
+use Rattle.mc_parse.specs.Parsers.{pass}
 use Rattle.mc_parse.specs.Nonterminal.{Nonterminal}
 use Rattle.mc_parse.specs.Nonterminal as n
 use Rattle.mc_parse.specs.Grammar.{Reads}

@@ -1,5 +1,5 @@
 -- Lists of names that grow at the end.
-use Rattle.std.proofs.Common.{◌≡◌, ℕ, zero, suc, ◌+◌, ◌-◌, ◌<◌, ◌≤◌, List, [], ◌∷◌, ◌++◌, Option, Some, None, refl, ap, sym, ◌∙◌, arith}
+use Rattle.std.proofs.Common.{◌≡◌, ℕ, suc, ◌+◌, ◌-◌, ◌<◌, ◌≤◌, List, [], ◌∷◌, ◌++◌, Option, Some, None, refl, ap, arith}
 use denote.Ref.{Bor}
 use Rattle.mc_lex.specs.Tokens.{Tok}
 use Rattle.mc_parse.specs.Reading.{parameters_of, parameters_turn}

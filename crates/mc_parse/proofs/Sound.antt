@@ -1,12 +1,12 @@
 -- What is read from left to right, the grammar reads.
-use Rattle.std.proofs.Common.{◌≡◌, ℕ, zero, suc, ◌+◌, ◌≤◌, Bool, true, false, cond, not, ◌&&◌, ◌||◌, ◌==◌, nat_le, List, [], ◌∷◌, length, Option, Some, None, refl, ap, subst, sym, ◌∙◌, arith, codes}
+use Rattle.std.proofs.Common.{◌≡◌, ℕ, zero, suc, ◌+◌, ◌≤◌, Bool, true, false, cond, not, ◌&&◌, ◌||◌, ◌==◌, nat_le, List, [], ◌∷◌, length, Option, Some, None, refl, subst, sym, arith, codes}
 use Rattle.std.proofs.lemmas.Bool.Decides.{nat_tests}
 use Rattle.std.proofs.lemmas.Slice.Eq.{bytes_eq-Decides}
 use Rattle.std.specs.Str.{bytes_eq}
 use Rattle.mc_lex.specs.declared.token.TokenKind.{TokenKind}
 use Rattle.mc_lex.specs.declared.token.TokenKind.TheVariants as kind
 use Rattle.mc_lex.specs.Tokens.{Tok}
-use Rattle.mc_tree.specs.First.{Tree, Parameter, Number, Less, Equal, Not, And, Or}
+use Rattle.mc_tree.specs.First.{Tree, Parameter, Number, And, Or}
 use Rattle.mc_parse.specs.declared.expression.Rule.{Rule}
 use Rattle.mc_parse.specs.declared.expression.Rule.TheVariants as rule
 use Rattle.mc_parse.specs.Words.{is_sign, is_among, sees, IsDecimal}

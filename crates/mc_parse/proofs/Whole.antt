@@ -1,5 +1,5 @@
 -- From the reading of the whole function to its form.
-use Rattle.std.proofs.Common.{◌≡◌, ℕ, zero, suc, ◌+◌, ◌<◌, ◌≤◌, Bool, true, false, cond, not, ◌&&◌, nat_le, List, [], ◌∷◌, length, Option, Some, None, Result, Ok, Err, IfOk, MatchResult, refl, ap, subst, sym, ◌∙◌, arith, le-leb, codes}
+use Rattle.std.proofs.Common.{◌≡◌, ℕ, zero, suc, ◌+◌, ◌≤◌, Bool, true, false, cond, not, ◌&&◌, nat_le, List, [], ◌∷◌, length, Option, Some, None, Result, Ok, Err, IfOk, MatchResult, refl, ap, subst, sym, ◌∙◌, arith, le-leb, codes}
 use Rattle.std.specs.Prelude.{IsErrOf}
 use Rattle.mc_lex.specs.Tokens.{Tok}
 use Rattle.mc_tree.specs.First.{Tree, conditions, has_operator, has_parameter}
@@ -8,7 +8,7 @@ use Rattle.mc_parse.specs.declared.fault.FirstFault.{FirstFault}
 use Rattle.mc_parse.specs.declared.fault.FirstFault.TheVariants.{NotBuilt, OutOfMemory}
 use Rattle.mc_parse.specs.declared.first.First.{First}
 use Rattle.mc_parse.specs.Words.{is_sign, is_word, is_name, is_among, sees, AreDistinct}
-use Rattle.mc_parse.specs.Parsers.{Parser, and_then, ended, take, pass}
+use Rattle.mc_parse.specs.Parsers.{ended, pass}
 use Rattle.mc_parse.specs.Nonterminal as n
 use Rattle.mc_parse.specs.Grammar.{Reads}
 use Rattle.mc_parse.specs.Form.{Form, Parameters, Header, IsFirst, first_of}

@@ -1,5 +1,5 @@
 -- What a function of the program returned is what a rule reads.
-use Rattle.std.specs.Prelude.{◌≡◌, ℕ, List, [], Option, Some, None, Result, Ok, Err, Box, Vec, map}
+use Rattle.std.specs.Prelude.{◌≡◌, ℕ, List, Option, Some, None, Result, Ok, Err, Box, Vec, map}
 use Rattle.std.specs.declared.alloc.Global.{Global}
 use denote.Ref.{Bor, MutBor}
 use Rattle.mc_lex.specs.Tokens.{Tok, toks_of}

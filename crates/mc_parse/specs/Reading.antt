@@ -1,5 +1,5 @@
 -- Reading from left to right, with one function for each rule.
-use Rattle.std.specs.Prelude.{ℕ, zero, suc, ◌+◌, Bool, true, false, not, ◌&&◌, ◌||◌, ◌==◌, if◌then◌else◌, nat_le, List, [], ◌∷◌, length, Option, Some, None, codes}
+use Rattle.std.specs.Prelude.{ℕ, zero, suc, ◌+◌, Bool, true, not, ◌&&◌, ◌||◌, ◌==◌, if◌then◌else◌, nat_le, List, [], ◌∷◌, length, Option, Some, None, codes}
 use Rattle.std.specs.Str.{bytes_eq}
 use Rattle.mc_lex.specs.declared.token.TokenKind.{TokenKind}
 use Rattle.mc_lex.specs.declared.token.TokenKind.TheVariants as kind
@@ -8,7 +8,7 @@ use Rattle.mc_tree.specs.First.{Tree, Parameter, Number, Less, Equal, Not, And, 
 use Rattle.mc_parse.specs.declared.expression.Rule.{Rule}
 use Rattle.mc_parse.specs.declared.expression.Rule.TheVariants as r
 use Rattle.mc_parse.specs.Words.{is_sign, is_word, is_name, is_among}
-use Rattle.mc_parse.specs.Parsers.{Parser, and_then, ◌>>=◌, pure, refuse, given, see, see_end, take, pass}
+use Rattle.mc_parse.specs.Parsers.{Parser, ◌>>=◌, pure, refuse, given, see, see_end, take, pass}
 use Rattle.mc_parse.specs.Form.{Form}
 
 -- what reads the shorter expressions inside
