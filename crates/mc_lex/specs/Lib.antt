@@ -8,3 +8,4 @@ pub mod Lines
 pub mod Gaps
 pub mod Scans
 pub mod Given
+pub mod Reading

@@ -4,6 +4,8 @@ use Rattle.std.specs.List.{list_all, list_any}
 use Rattle.std.specs.Str.Parse.{digits_value}
 use Rattle.mc_lex.specs.Bytes.{is_digit, is_octal, is_hexadecimal, is_word_byte}
 use Rattle.mc_lex.specs.Words.{one_of}
+use Rattle.mc_lex.specs.declared.base.Base.{Base}
+use Rattle.mc_lex.specs.declared.base.Base.TheVariants as base
 use Rattle.mc_lex.specs.declared.suffix.Suffix.{Suffix}
 use Rattle.mc_lex.specs.declared.suffix.Suffix.TheVariants as suffix
 use Rattle.mc_lex.specs.declared.token.TokenKind.{TokenKind}
@@ -30,35 +32,35 @@ abbrev pub each_continues : ℕ → List ℕ → Bool
 each_continues a [] = true
 each_continues a (b ∷ bs) = continues a b && each_continues b bs
 
+-- a number starts with the byte a in front of these bytes: a is a digit, or a `.` before a digit
+abbrev pub starts_number : ℕ → List ℕ → Bool
+starts_number a [] = is_digit a
+starts_number a (b ∷ bs) = is_digit a || (a == 46 && is_digit b)
+
 -- a digit, or a `.` before a digit, and what goes on with it
 abbrev pub is_number : List ℕ → Bool
 is_number [] = false
-is_number (a ∷ []) = is_digit a
-is_number (a ∷ b ∷ bs) = (is_digit a || (a == 46 && is_digit b)) && each_continues a (b ∷ bs)
+is_number (a ∷ bs) = starts_number a bs && each_continues a bs
 
 -- ---- integer constants
 
-pub data Base : Type 0 where
-  decimal : Base
-  octal : Base
-  hexadecimal : Base
-
 -- the text is digits of this base with its prefix; `0` alone is octal
 abbrev pub is_digits : Base → List ℕ → Bool
-is_digits decimal (d ∷ ds) = is_digit d && not (d == 48) && list_all is_digit ds
-is_digits octal (z ∷ ds) = z == 48 && list_all is_octal ds
-is_digits hexadecimal (z ∷ x ∷ d ∷ ds) = z == 48 && (x == 120 || x == 88) && list_all is_hexadecimal (d ∷ ds)
+is_digits base.Decimal (d ∷ ds) = is_digit d && not (d == 48) && list_all is_digit ds
+is_digits base.Octal (z ∷ ds) = z == 48 && list_all is_octal ds
+is_digits base.Hexadecimal (z ∷ x ∷ d ∷ ds) = z == 48 && (x == 120 || x == 88) && list_all is_hexadecimal (d ∷ ds)
 is_digits _ _ = false
 
 -- the number that the digits write
 abbrev pub value_of : Base → List ℕ → ℕ
-value_of decimal ds = digits_value 10 ds
-value_of octal ds = digits_value 8 ds
-value_of hexadecimal ds = digits_value 16 (drop 2 ds)
+value_of base.Decimal ds = digits_value 10 ds
+value_of base.Octal ds = digits_value 8 ds
+value_of base.Hexadecimal ds = digits_value 16 (drop 2 ds)
 
 abbrev pub is_decimal : Base → Bool
-is_decimal decimal = true
-is_decimal _ = false
+is_decimal base.Decimal = true
+is_decimal base.Octal = false
+is_decimal base.Hexadecimal = false
 
 -- the texts of each suffix
 abbrev pub suffix_texts : Suffix → List (List ℕ)
@@ -86,12 +88,12 @@ longs_of suffix.Ll = 2
 longs_of suffix.Ull = 2
 
 -- the text is digits of a base and a suffix, and the digits write this number
-pub record IsInteger (text : List ℕ) (base : Base) (value : ℕ) (form : Suffix) : Type 0 where
+pub record IsInteger (text : List ℕ) (radix : Base) (value : ℕ) (form : Suffix) : Type 0 where
   pub digits : List ℕ
   pub rest : List ℕ
   pub whole : text ≡ digits ++ rest
-  pub of_base : is_digits base digits ≡ true
-  pub writes : value ≡ value_of base digits
+  pub of_base : is_digits radix digits ≡ true
+  pub writes : value ≡ value_of radix digits
   pub of_form : one_of (suffix_texts form) rest ≡ true
 
 -- the types that a constant may have, and the greatest value of each: `int` has 32 bits, `long` and `long long` have 64
@@ -134,20 +136,23 @@ abbrev pub has_hexadecimal_prefix : List ℕ → Bool
 has_hexadecimal_prefix (z ∷ x ∷ bs) = z == 48 && (x == 120 || x == 88)
 has_hexadecimal_prefix _ = false
 
+-- one of the bytes is b
+abbrev pub has : ℕ → List ℕ → Bool
+has b text = list_any (λ x. x == b) text
+
 -- a number that is no integer constant looks like a floating constant (C17 6.4.4.2): it has a `.`, or the letter of an exponent
 abbrev pub looks_floating : List ℕ → Bool
 looks_floating text =
-    list_any (λ b. b == 46) text
-    || (if has_hexadecimal_prefix text then list_any (λ b. b == 112 || b == 80) text else list_any (λ b. b == 101 || b == 69) text)
+    has 46 text || (if has_hexadecimal_prefix text then has 112 text || has 80 text else has 101 text || has 69 text)
 
 abbrev pub flaw_of_number : List ℕ → Flaw
 flaw_of_number text = if looks_floating text then OutsideWord else Token
 
 -- the constant that the digits and the suffix write, or that no type holds it
 abbrev pub constant : Base → ℕ → Suffix → Result TokenKind Flaw
-constant base value form = if has_type form (is_decimal base) value then Ok (Constant value (is_decimal base) (has_u form) (longs_of form)) else Err Limit
+constant of value form = if has_type form (is_decimal of) value then Ok (Constant value (is_decimal of) (has_u form) (longs_of form)) else Err Limit
 
 -- what a number is, by its text alone
 pub data NumberMeans (text : List ℕ) : Result TokenKind Flaw → Type 0 where
-  integer : (base : Base) (value : ℕ) (form : Suffix) → IsInteger text base value form → NumberMeans text (constant base value form)
-  no_integer : ((base : Base) (value : ℕ) (form : Suffix) → IsInteger text base value form → ⊥) → NumberMeans text (Err (flaw_of_number text))
+  integer : (radix : Base) (value : ℕ) (form : Suffix) → IsInteger text radix value form → NumberMeans text (constant radix value form)
+  no_integer : ((radix : Base) (value : ℕ) (form : Suffix) → IsInteger text radix value form → ⊥) → NumberMeans text (Err (flaw_of_number text))

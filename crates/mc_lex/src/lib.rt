@@ -1,12 +1,23 @@
 //! The tokens of a C source, lent from it.
 #![tactic(auto)]
 
+mod base;
+mod byte;
+mod character;
+mod element;
 mod fault;
 mod flaw;
+mod front;
+mod gap;
+pub mod laws;
 mod lexer;
+mod mark;
+mod number;
 mod place;
 mod suffix;
+mod table;
 mod token;
+mod word;
 
 pub use fault::LexFault;
 pub use lexer::lex;

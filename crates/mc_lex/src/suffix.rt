@@ -1,4 +1,9 @@
 //! Suffixes of integer constants.
+ghost use Rattle.std.specs.Prelude.{◌≡◌};
+ghost use Rattle.mc_lex.specs.Numbers as numbers;
+ghost use Rattle.mc_lex.specs.Reading as spec;
+
+use crate::table::is_one_of;
 
 /// The suffix of an integer constant (C17 6.4.4.1), with letters of either case and its two parts in either order.
 #[derive(Clone, Copy, Debug, PartialEq, Eq)]
@@ -9,4 +14,52 @@ pub enum Suffix {
     Ul,
     Ll,
     Ull,
+}
+
+const U: [&[u8]; 2] = [b"u", b"U"];
+const L: [&[u8]; 2] = [b"l", b"L"];
+const UL: [&[u8]; 8] = [b"ul", b"uL", b"Ul", b"UL", b"lu", b"lU", b"Lu", b"LU"];
+const LL: [&[u8]; 2] = [b"ll", b"LL"];
+const ULL: [&[u8]; 8] = [b"ull", b"uLL", b"Ull", b"ULL", b"llu", b"llU", b"LLu", b"LLU"];
+
+/// The suffix that the text is.
+pub fn suffix_of(text: &[u8]) -> Option<Suffix>
+    ensures { result ≡ spec.suffix_of text.now }
+{
+    if text.is_empty() {
+        Some(Suffix::None)
+    } else if is_one_of(&U, text) {
+        Some(Suffix::U)
+    } else if is_one_of(&L, text) {
+        Some(Suffix::L)
+    } else if is_one_of(&UL, text) {
+        Some(Suffix::Ul)
+    } else if is_one_of(&LL, text) {
+        Some(Suffix::Ll)
+    } else if is_one_of(&ULL, text) {
+        Some(Suffix::Ull)
+    } else {
+        None
+    }
+}
+
+/// Whether the suffix has a `u` or `U`.
+pub fn has_u(suffix: Suffix) -> bool
+    ensures { result ≡ numbers.has_u suffix }
+{
+    match suffix {
+        Suffix::U | Suffix::Ul | Suffix::Ull => true,
+        Suffix::None | Suffix::L | Suffix::Ll => false,
+    }
+}
+
+/// How many `l` or `L` the suffix has.
+pub fn longs_of(suffix: Suffix) -> u32
+    ensures { result ≡ numbers.longs_of suffix }
+{
+    match suffix {
+        Suffix::None | Suffix::U => 0,
+        Suffix::L | Suffix::Ul => 1,
+        Suffix::Ll | Suffix::Ull => 2,
+    }
 }

@@ -1,0 +1,128 @@
+//! Numbers.
+ghost use Rattle.std.specs.Prelude.{◌≡◌, ◌+◌, ◌≤◌, length};
+ghost use Rattle.mc_lex.specs.Numbers as numbers;
+ghost use Rattle.mc_lex.specs.Reading as spec;
+
+use crate::base::{base_of, body_of, digits_len, has_hexadecimal_prefix, is_decimal, radix, value_of, Base};
+use crate::byte::{is_digit, is_word_byte};
+use crate::flaw::Flaw;
+use crate::suffix::{has_u, longs_of, suffix_of, Suffix};
+use crate::token::TokenKind;
+
+/// Whether a byte goes on with a number behind another.
+fn continues(last: u8, byte: u8) -> bool
+    ensures { result ≡ numbers.continues last byte }
+{
+    is_word_byte(byte)
+        || byte == b'.'
+        || ((last == b'e' || last == b'E' || last == b'p' || last == b'P') && (byte == b'+' || byte == b'-'))
+}
+
+/// How many bytes go on with a number behind its first byte.
+fn continued(first: u8, bytes: &[u8]) -> usize
+    ensures value { result ≡ spec.continued first bytes.now }
+    ensures within { result ≤ length bytes.now }
+{
+    let mut last = first;
+    let mut left = bytes;
+    let mut n = 0;
+    while let [byte, later @ ..] = left {
+        if !continues(last, *byte) {
+            return n;
+        }
+        n += 1;
+        last = *byte;
+        left = later;
+    }
+    n
+}
+
+fn starts_number(first: u8, rest: &[u8]) -> bool
+    ensures { result ≡ numbers.starts_number first rest.now }
+{
+    match rest {
+        [] => is_digit(first),
+        [second, ..] => is_digit(first) || (first == b'.' && is_digit(*second)),
+    }
+}
+
+/// The length of the number at the front, or 0.
+pub fn number_len(bytes: &[u8]) -> usize
+    ensures value { result ≡ spec.number_len bytes.now }
+    ensures within { result ≤ length bytes.now }
+{
+    match bytes {
+        [] => 0,
+        [first, rest @ ..] => {
+            if starts_number(*first, rest) {
+                1 + continued(*first, rest)
+            } else {
+                0
+            }
+        }
+    }
+}
+
+fn looks_floating(text: &[u8]) -> bool
+    ensures { result ≡ numbers.looks_floating text.now }
+{
+    text.contains(&b'.')
+        || (if has_hexadecimal_prefix(text) {
+            text.contains(&b'p') || text.contains(&b'P')
+        } else {
+            text.contains(&b'e') || text.contains(&b'E')
+        })
+}
+
+/// Why a number that is no integer constant is no token.
+fn flaw_of_number(text: &[u8]) -> Flaw
+    ensures { result ≡ numbers.flaw_of_number text.now }
+{
+    if looks_floating(text) {
+        Flaw::OutsideWord
+    } else {
+        Flaw::Token
+    }
+}
+
+/// The greatest value that a type of the constant's list holds (C17 6.4.4.1).
+fn limit(suffix: Suffix, base: Base) -> u64
+    ensures { result ≡ spec.limit suffix base }
+{
+    if is_decimal(base) && !has_u(suffix) {
+        i64::MAX as u64
+    } else {
+        u64::MAX
+    }
+}
+
+/// The constant of these digits and this suffix.
+fn constant(base: Base, digits: &[u8], suffix: Suffix) -> Result<TokenKind, Flaw>
+    ensures { result ≡ numbers.constant base (digits_value (spec.radix base) digits.now) suffix }
+{
+    match value_of(digits, radix(base)) {
+        Some(value) if value <= limit(suffix, base) => Ok(TokenKind::Constant {
+            value,
+            decimal: is_decimal(base),
+            unsigned: has_u(suffix),
+            longs: longs_of(suffix),
+        }),
+        _ => Err(Flaw::Limit),
+    }
+}
+
+/// What a number is.
+#[tactic(auto, unfolding(crate::specs::Reading::number_kind))]
+pub fn number_kind(text: &[u8]) -> Result<TokenKind, Flaw>
+    ensures { result ≡ spec.number_kind text.now }
+{
+    let base = base_of(text);
+    let body = body_of(base, text);
+    let (digits, rest) = body.split_at(digits_len(base, body));
+    match (digits, suffix_of(rest)) {
+        ([_, ..], Some(suffix)) => constant(base, digits, suffix),
+        _ => Err(flaw_of_number(text)),
+    }
+}
+
+ghost use Rattle.std.specs.Str.Parse.{digits_value};
