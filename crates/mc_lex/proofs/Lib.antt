@@ -2,3 +2,6 @@ pub mod Turns
 pub mod Texts
 pub mod Sizes
 pub mod Characters
+pub mod Numbers
+pub mod Comments
+pub mod Markers

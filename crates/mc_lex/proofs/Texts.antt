@@ -94,6 +94,22 @@ run_ends p (b ∷ bs) = by_first (p b) refl (run_ends p bs)
 pub skip_exact : (p : ℕ → Bool) (xs ys : List ℕ) → list_all p xs ≡ true → ends_run p ys ≡ true → skip p (xs ++ ys) ≡ ys
 skip_exact p xs ys h e = rw (run_exact p xs ys h e) (rest_of xs ys)
 
+pub skip_past : (p : ℕ → Bool) (xs ys : List ℕ) → list_all p xs ≡ true → skip p (xs ++ ys) ≡ skip p ys
+skip_past p [] ys h = refl
+skip_past p (x ∷ xs) ys h =
+    let two = both (p x) (list_all p xs) h in
+    let one_plus : 1 + prefix_len p (xs ++ ys) ≡ suc (prefix_len p (xs ++ ys)) = omega arith in
+    rw two.0 (rw one_plus (skip_past p xs ys two.1))
+
+pub skip_split : (p : ℕ → Bool) (bs : List ℕ) → bs ≡ take (prefix_len p bs) bs ++ skip p bs
+skip_split p bs = sym (take-append-drop (prefix_len p bs) bs)
+
+pub all_weaker : (p q : ℕ → Bool) → ((b : ℕ) → p b ≡ true → q b ≡ true) → (xs : List ℕ) → list_all p xs ≡ true → list_all q xs ≡ true
+all_weaker p q f [] h = refl
+all_weaker p q f (x ∷ xs) h =
+    let two = both (p x) (list_all p xs) h in
+    rw (f x two.0) (all_weaker p q f xs two.1)
+
 pub all_append : (p : ℕ → Bool) (xs ys : List ℕ) → list_all p xs ≡ true → list_all p ys ≡ true → list_all p (xs ++ ys) ≡ true
 all_append p [] ys h g = g
 all_append p (x ∷ xs) ys h g =

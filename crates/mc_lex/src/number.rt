@@ -111,6 +111,19 @@ fn constant(base: Base, digits: &[u8], suffix: Suffix) -> Result<TokenKind, Flaw
     }
 }
 
+/// What a number of these digits and this suffix is.
+fn integer_kind(text: &[u8], base: Base, digits: &[u8], suffix: Option<Suffix>) -> Result<TokenKind, Flaw>
+    ensures { result ≡ spec.integer_kind text.now base digits.now suffix }
+{
+    match digits {
+        [] => Err(flaw_of_number(text)),
+        [_, ..] => match suffix {
+            Some(suffix) => constant(base, digits, suffix),
+            None => Err(flaw_of_number(text)),
+        },
+    }
+}
+
 /// What a number is.
 #[tactic(auto, unfolding(crate::specs::Reading::number_kind))]
 pub fn number_kind(text: &[u8]) -> Result<TokenKind, Flaw>
@@ -119,10 +132,7 @@ pub fn number_kind(text: &[u8]) -> Result<TokenKind, Flaw>
     let base = base_of(text);
     let body = body_of(base, text);
     let (digits, rest) = body.split_at(digits_len(base, body));
-    match (digits, suffix_of(rest)) {
-        ([_, ..], Some(suffix)) => constant(base, digits, suffix),
-        _ => Err(flaw_of_number(text)),
-    }
+    integer_kind(text, base, digits, suffix_of(rest))
 }
 
 ghost use Rattle.std.specs.Str.Parse.{digits_value};
