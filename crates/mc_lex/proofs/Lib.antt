@@ -5,3 +5,4 @@ pub mod Characters
 pub mod Numbers
 pub mod Comments
 pub mod Markers
+pub mod Elements
