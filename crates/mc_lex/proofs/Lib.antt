@@ -6,3 +6,6 @@ pub mod Numbers
 pub mod Comments
 pub mod Markers
 pub mod Elements
+pub mod Fronts
+pub mod Scanning
+pub mod Lexing

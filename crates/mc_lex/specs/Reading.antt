@@ -234,10 +234,20 @@ line_len bs = prefix_len goes_on bs
 
 -- ---- what stands at the front
 
+-- it is within the bytes
 abbrev pub Within : Front → ℕ → Type 0
 Within (f.Gap n) len = n ≤ len
 Within (f.Token kind n) len = n ≤ len
 Within (f.Refused why) len = Unit {0}
+
+-- far from the greatest length
+abbrev pub IsShort : Option ℕ → Type 0
+IsShort None = Unit {0}
+IsShort (Some n) = n < 2 ^ 31
+
+abbrev pub behind_first : List ℕ → List ℕ
+behind_first [] = []
+behind_first (b ∷ bs) = bs
 
 abbrev pub comment_front : Option ℕ → Front
 comment_front None = f.Refused flaw.Token
@@ -272,7 +282,7 @@ unfoldable pub front : Dialect → Bool → List ℕ → Front
 front dialect first [] = f.Refused flaw.Byte
 front dialect first (b ∷ bs) =
     if is_blank b then f.Gap 1
-    else (if begins_block_comment (b ∷ bs) then comment_front (close_len (drop 1 bs))
+    else (if begins_block_comment (b ∷ bs) then comment_front (close_len (behind_first bs))
     else (if begins_line_comment (b ∷ bs) then f.Gap (line_len (b ∷ bs))
     else (if b == 35 then hash_front first (b ∷ bs)
     else element_front dialect (b ∷ bs))))
@@ -293,4 +303,4 @@ scan dialect (suc fuel) before (b ∷ bs) = go_on (front dialect (is_first_on_li
 -- whether only blanks stand on the line behind more bytes
 abbrev pub still_first : Bool → List ℕ → Bool
 still_first first [] = first
-still_first first (b ∷ bs) = still_first (is_line_end b || (first && is_blank b)) bs
+still_first first (b ∷ bs) = still_first (is_line_end b || (is_blank b && first)) bs

@@ -125,17 +125,30 @@ fn digit_value(b: u8) -> u8
 }
 
 /// The number that digits write, where 64 bits hold it.
+#[tactic(auto, using(crate::proofs::Turns::value_steps))]
 pub fn value_of(digits: &[u8], radix: u64) -> Option<u64>
-    requires least { 1 ≤ radix }
-    requires most { radix ≤ 16 }
+    requires { 1 ≤ radix }
     ensures { result ≡ spec.if_fits (digits_value radix digits.now) }
 {
-    let mut value: u64 = 0;
-    for digit in digits {
-        value = value.checked_mul(radix)?.checked_add(u64::from(digit_value(*digit)))?;
+    let mut value = 0;
+    let mut left = digits;
+    while let [digit, later @ ..] = left {
+        match with_digit(value, radix, *digit) {
+            Some(more) => value = more,
+            None => return None,
+        }
+        left = later;
     }
     Some(value)
 }
 
+ghost use Rattle.std.specs.Prelude.{◌+◌, ◌*◌};
 ghost use Rattle.std.specs.Char.{digit_value};
 ghost use Rattle.std.specs.Str.Parse.{digits_value};
+
+/// A number with one more digit, where 64 bits hold it.
+fn with_digit(value: u64, radix: u64, digit: u8) -> Option<u64>
+    ensures { result ≡ spec.if_fits (value * radix + digit_value digit) }
+{
+    value.checked_mul(radix)?.checked_add(u64::from(digit_value(digit)))
+}

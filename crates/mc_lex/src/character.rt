@@ -45,7 +45,6 @@ fn simple_escape(c: u8) -> Option<u8>
 /// The constant whose first `n` digits begin behind `behind` bytes.
 fn by_digits(radix: u64, behind: usize, most: usize, n: usize, digits: &[u8]) -> Option<Quoted>
     requires least { 1 ≤ radix }
-    requires greatest { radix ≤ 16 }
     requires within { n ≤ length digits.now }
     requires short { length digits.now < 2 ^ 31 }
     requires near { behind ≤ 3 }

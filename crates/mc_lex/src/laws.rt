@@ -1,7 +1,12 @@
 //! Laws of the token list.
-ghost use Rattle.std.specs.Prelude.{◌≡◌, ◌≤◌, ◌<◌, ℕ, Bool, Option, List, length, ◌++◌};
-ghost use Rattle.mc_lex.specs.Reading.{first_of};
+ghost use Rattle.std.specs.Prelude.{◌≡◌, ℕ, Option, List, []};
+ghost use Rattle.mc_lex.specs.declared.token.Dialect.{Dialect};
+ghost use Rattle.mc_lex.specs.declared.fault.LexFault.{LexFault};
+ghost use Rattle.mc_lex.specs.Tokens.{Tok};
+ghost use Rattle.mc_lex.specs.Scans.{Scans};
 
-pub fn trial_texts()
-    ensures { (table : List (List ℕ)) (bs : List ℕ) → first_of table bs ≤ length bs }
-{}
+/// A source has one token list, or one first place without a token.
+pub fn one_scan()
+    ensures { (d : Dialect) (bs : List ℕ) (ts us : List Tok) (stop other : Option LexFault) → Scans d [] bs ts stop → Scans d [] bs us other → (ts ≡ us) × (stop ≡ other) }
+{
+}
