@@ -156,7 +156,7 @@ escape_opened (c ∷ bs) q e = by_first (nat_eq c 120) refl (is_octal c) refl e
         let size : length (take n bs) ≡ n = length-prefix_len is_hexadecimal bs in
         let some : 1 ≤ n = leb-true 1 n d.0 in
         along Opened _ (quoted (3 + n + 1) (digits_value 16 (take n bs))) q d.4
-            (92 ∷ 120 ∷ take n bs, drop 1 (drop n bs), ap (λ y. 92 ∷ y ∷ bs) (same_byte c 120 x) ∙ ap (λ l. 92 ∷ 120 ∷ l) d.2, omega arith, hexadecimal (take n bs) (run_all is_hexadecimal bs) (omega arith) d.3)
+        (92 ∷ 120 ∷ take n bs, drop 1 (drop n bs), ap (λ y. 92 ∷ y ∷ bs) (same_byte c 120 x) ∙ ap (λ l. 92 ∷ 120 ∷ l) d.2, omega arith, hexadecimal (take n bs) (run_all is_hexadecimal bs) (omega arith) d.3)
     by_first false x true o f =
         let n = prefix_len is_octal (c ∷ bs) in
         let d = digits_opened 8 2 3 n (c ∷ bs) q (run_within is_octal (c ∷ bs)) f in
@@ -164,7 +164,7 @@ escape_opened (c ∷ bs) q e = by_first (nat_eq c 120) refl (is_octal c) refl e
         let some : 1 ≤ n = leb-true 1 n d.0 in
         let few : n ≤ 3 = leb-true n 3 d.1 in
         along Opened _ (quoted (2 + n + 1) (digits_value 8 (take n (c ∷ bs)))) q d.4
-            (92 ∷ take n (c ∷ bs), drop 1 (drop n (c ∷ bs)), ap (λ l. 92 ∷ l) d.2, omega arith, octal (take n (c ∷ bs)) (run_all is_octal (c ∷ bs)) (omega arith) (omega arith) d.3)
+        (92 ∷ take n (c ∷ bs), drop 1 (drop n (c ∷ bs)), ap (λ l. 92 ∷ l) d.2, omega arith, octal (take n (c ∷ bs)) (run_all is_octal (c ∷ bs)) (omega arith) (omega arith) d.3)
     by_first false x false o f = by_escape (simple_escape c) refl f
 
 plain_opened : (b : ℕ) (bs : List ℕ) (q : Quoted) → plain_at b bs ≡ Some q → Opened (b ∷ bs) q

@@ -16,7 +16,7 @@ use Rattle.mc_lex.specs.Gaps.{ends_line, ClosesComment, begins_comment, IsMarker
 use Rattle.mc_lex.specs.Gaps as gap
 use Rattle.mc_lex.specs.Scans.{Means, IsLongest, MeansNothing, Stops}
 use Rattle.mc_lex.specs.Scans as r
-use Rattle.mc_lex.specs.Reading.{element_at, kind_of, is_marker, close_len, line_len, behind_first, comment_front, hash_front, starts_with_byte, kind_front, nothing_front, length_front, element_front, begins_block_comment, begins_line_comment, front}
+use Rattle.mc_lex.specs.Reading.{Within, element_at, kind_of, is_marker, close_len, line_len, behind_first, comment_front, hash_front, starts_with_byte, kind_front, nothing_front, length_front, element_front, begins_block_comment, begins_line_comment, front}
 use Rattle.mc_lex.proofs.Texts.{both, is_false, not_both, same_byte, cut, front_of, run_all, run_exact, run_ends, run_within, ends_run}
 use Rattle.mc_lex.proofs.Comments.{Closing, closing, closed_len, open_len, len_open}
 use Rattle.mc_lex.proofs.Markers.{marker_found, marker_is, marker_goes_on, marker_hash}
@@ -193,11 +193,11 @@ module _ (dialect : Dialect) (before : List ℕ) where
       let P : Front → Type 0 = IsFront dialect before (b ∷ tail) in
       choose P (is_blank b) _ _ (λ h. record { text = b ∷ []; after = tail; whole = refl; size = refl; is_gap = gap.blank b tail h; some = omega arith }) (λ nb.
       choose P (begins_block_comment (b ∷ tail)) _ _ (λ h. let x = block_facts b tail h in
-          subst (λ y. IsFront dialect before (y ∷ tail) (comment_front (close_len (behind_first tail)))) (sym x.0)
-          (subst (λ l. IsFront dialect before (47 ∷ l) (comment_front (close_len (behind_first tail)))) (sym x.1) (block_is (behind_first tail)))) (λ nk.
+      subst (λ y. IsFront dialect before (y ∷ tail) (comment_front (close_len (behind_first tail)))) (sym x.0)
+      (subst (λ l. IsFront dialect before (47 ∷ l) (comment_front (close_len (behind_first tail)))) (sym x.1) (block_is (behind_first tail)))) (λ nk.
       choose P (begins_line_comment (b ∷ tail)) _ _ (λ h. let x = line_facts b tail h in
-          subst (λ y. IsFront dialect before (y ∷ tail) (f.Gap (line_len (y ∷ tail)))) (sym x.0)
-          (subst (λ l. IsFront dialect before (47 ∷ l) (f.Gap (line_len (47 ∷ l)))) (sym x.1) (line_is (behind_first tail)))) (λ nl.
+      subst (λ y. IsFront dialect before (y ∷ tail) (f.Gap (line_len (y ∷ tail)))) (sym x.0)
+      (subst (λ l. IsFront dialect before (47 ∷ l) (f.Gap (line_len (47 ∷ l)))) (sym x.1) (line_is (behind_first tail)))) (λ nl.
       choose P (nat_eq b 35) _ _ (λ h. subst (λ y. IsFront dialect before (y ∷ tail) (hash_front (is_first_on_line before) (y ∷ tail))) (sym (same_byte b 35 h)) (hash_is tail)) (λ nh.
       element_is b tail nb nh (no_comment (b ∷ tail) nk nl)))))
 
@@ -302,3 +302,53 @@ module _ (dialect : Dialect) (before : List ℕ) where
   stop_front bs why (r.directive bs' never) = hash_stops bs' never
   stop_front bs why (r.open_quote bs' none) = quote_stops (is_first_on_line before) bs' none
   stop_front bs why (r.no_byte b bs' nb nh nq nc none) = byte_stops (is_first_on_line before) b bs' nb nh nq nc none
+
+-- ---- what stands at the front is within the bytes
+
+any_front : (P : Front → Type 0) (b : Bool) (x y : Front) → P x → P y → P (cond b x y)
+any_front P true x y p q = p
+any_front P false x y p q = q
+
+module _ (dialect : Dialect) where
+  comment_within : (bs : List ℕ) → Within (comment_front (close_len bs)) (length bs + 2)
+  comment_within bs = by_len (close_len bs) refl
+    where
+      by_len : (o : Option ℕ) → close_len bs ≡ o → Within (comment_front o) (length bs + 2)
+      by_len None e = tt
+      by_len (Some m) e = let c = closing 0 bs m e in omega (arith, c.count, ap length c.closes.whole, length-append c.inside (42 ∷ 47 ∷ c.after))
+
+  behind_within : (b : ℕ) (tail : List ℕ) → begins_block_comment (b ∷ tail) ≡ true → Within (comment_front (close_len (behind_first tail))) (length (b ∷ tail))
+  behind_within b [] h = absurd (cc)
+  behind_within b (c ∷ body) h = let e : length body + 2 ≡ suc (suc (length body)) = omega arith in subst (Within (comment_front (close_len body))) e (comment_within body)
+
+  front_at_within : (bs : List ℕ) → Within (element_front dialect bs) (length bs)
+  unfolding element_front
+  front_at_within bs = by_len (element_at bs).length refl
+    where
+      by_kind : (what : Result TokenKind Flaw) (n : ℕ) → n ≤ length bs → Within (kind_front what n) (length bs)
+      by_kind (Ok kind) n le = le
+      by_kind (Err why) n le = tt
+
+      by_len : (len : ℕ) → (element_at bs).length ≡ len → Within (length_front dialect bs (element_at bs).class len) (length bs)
+      by_len zero e = any_front (λ x. Within x (length bs)) (starts_with_byte 39 bs) (f.Refused flaw.Token) (f.Refused flaw.Byte) tt tt
+      by_len (suc n) e = by_kind _ (suc n) (omega (arith, e, element_within bs))
+
+  front_within : (first : Bool) (b : ℕ) (tail : List ℕ) → Within (front dialect first (b ∷ tail)) (length (b ∷ tail))
+  unfolding front
+  front_within first b tail =
+      let P : Front → Type 0 = λ x. Within x (length (b ∷ tail)) in
+      choose P (is_blank b) _ _ (λ h. omega arith) (λ nb.
+      choose P (begins_block_comment (b ∷ tail)) _ _ (λ h. behind_within b tail h) (λ nk.
+      choose P (begins_line_comment (b ∷ tail)) _ _ (λ h. run_within goes_on (b ∷ tail)) (λ nl.
+      choose P (nat_eq b 35) _ _ (λ h. any_front P (first && is_marker (take (line_len (b ∷ tail)) (b ∷ tail))) (f.Gap (line_len (b ∷ tail))) (f.Refused flaw.Directive) (run_within goes_on (b ∷ tail)) tt) (λ nh.
+      front_at_within (b ∷ tail)))))
+
+  within_of : (first : Bool) (bs : List ℕ) → 0 < length bs → Within (front dialect first bs) (length bs)
+  within_of first [] some = absurd (omega arith)
+  within_of first (b ∷ tail) some = front_within first b tail
+
+  pub gap_within : (first : Bool) (bs : List ℕ) (n : ℕ) → 0 < length bs → front dialect first bs ≡ f.Gap n → n ≤ length bs
+  gap_within first bs n some e = subst (λ x. Within x (length bs)) e (within_of first bs some)
+
+  pub token_within : (first : Bool) (bs : List ℕ) (kind : TokenKind) (n : ℕ) → 0 < length bs → front dialect first bs ≡ f.Token kind n → n ≤ length bs
+  token_within first bs kind n some e = subst (λ x. Within x (length bs)) e (within_of first bs some)

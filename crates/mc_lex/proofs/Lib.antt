@@ -9,3 +9,4 @@ pub mod Elements
 pub mod Fronts
 pub mod Scanning
 pub mod Lexing
+pub mod Calls

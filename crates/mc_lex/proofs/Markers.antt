@@ -75,10 +75,13 @@ name_is bl (q ∷ bs) b e = by_close (skip is_quoted bs) (skip_split is_quoted b
     by_close [] w c = absurd (cc)
     by_close (x ∷ z) w c =
         let close = both (nat_eq x 34) (list_all is_digit_or_blank z) c in
-        let whole : q ∷ bs ≡ (34 ∷ nm) ++ (34 ∷ z) = ap (λ y. y ∷ bs) (same_byte q 34 two.0) ∙ ap (λ l. 34 ∷ l) (w ∙ ap (λ y. nm ++ (y ∷ z)) (same_byte x 34 close.0)) in
-        (bl ++ ((34 ∷ nm) ++ (34 ∷ [])), z,
-         ap (λ l. bl ++ l) whole ∙ ap (λ l. bl ++ (34 ∷ l)) (sym (append_assoc nm (34 ∷ []) z)) ∙ sym (append_assoc bl ((34 ∷ nm) ++ (34 ∷ [])) z),
-         quoted bl nm b (run_all is_quoted bs), close.1)
+        let whole : q ∷ bs ≡ (34 ∷ nm) ++ (34 ∷ z) = ap (λ y. y ∷ bs) (same_byte q 34 two.0) ∙ ap (λ l. 34 ∷ l) (w ∙ ap (λ y. nm ++ (y ∷ z)) (same_byte x 34 close.0)) in (
+          bl ++ ((34 ∷ nm) ++ (34 ∷ [])),
+          z,
+          ap (λ l. bl ++ l) whole ∙ ap (λ l. bl ++ (34 ∷ l)) (sym (append_assoc nm (34 ∷ []) z)) ∙ sym (append_assoc bl ((34 ∷ nm) ++ (34 ∷ [])) z),
+          quoted bl nm b (run_all is_quoted bs),
+          close.1,
+        )
 
 rest_is : (bs : List ℕ) → marks_rest bs ≡ true → Rest bs
 rest_is bs e = by_all (list_all is_digit_or_blank bs) refl e
@@ -137,14 +140,14 @@ name_goes_on : (name : List ℕ) → QuotedName name → list_all goes_on name �
 name_goes_on name absent = refl
 name_goes_on name (quoted bl nm b n) =
     all_append goes_on bl ((34 ∷ nm) ++ (34 ∷ [])) (all_weaker is_line_blank goes_on blank_goes_on bl b)
-        (all_append goes_on nm (34 ∷ []) (all_weaker is_quoted goes_on (λ c h. (both (goes_on c) (not (nat_eq c 34)) h).0) nm n) refl)
+    (all_append goes_on nm (34 ∷ []) (all_weaker is_quoted goes_on (λ c h. (both (goes_on c) (not (nat_eq c 34)) h).0) nm n) refl)
 
 pub marker_goes_on : (text : List ℕ) → IsMarker text → list_all goes_on text ≡ true
 marker_goes_on text m =
     ap (list_all goes_on) m.whole
     ∙ all_append goes_on m.blanks ((m.digit ∷ m.digits) ++ (m.name ++ m.rest)) (all_weaker is_line_blank goes_on blank_goes_on m.blanks m.of_blanks)
-        (all_append goes_on (m.digit ∷ m.digits) (m.name ++ m.rest) (all_weaker is_digit goes_on digit_goes_on (m.digit ∷ m.digits) m.of_digits)
-        (all_append goes_on m.name m.rest (name_goes_on m.name m.of_name) (all_weaker is_digit_or_blank goes_on rest_goes_on m.rest m.of_rest)))
+    (all_append goes_on (m.digit ∷ m.digits) (m.name ++ m.rest) (all_weaker is_digit goes_on digit_goes_on (m.digit ∷ m.digits) m.of_digits)
+    (all_append goes_on m.name m.rest (name_goes_on m.name m.of_name) (all_weaker is_digit_or_blank goes_on rest_goes_on m.rest m.of_rest)))
 
 -- a marker begins with `#`
 pub marker_hash : (text : List ℕ) → IsMarker text → (rest : List ℕ) × (text ≡ 35 ∷ rest)

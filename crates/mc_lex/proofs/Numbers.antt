@@ -75,7 +75,7 @@ apart_ends (b ∷ bs) e =
 suffix_texts_found : (text : List ℕ) (form : Suffix) → suffix_of text ≡ Some form → one_of (suffix_texts form) text ≡ true
 suffix_texts_found text form e =
     by_none (one_of (suffix_texts suffix.None) text) refl (one_of (suffix_texts suffix.U) text) refl (one_of (suffix_texts suffix.L) text) refl (one_of (suffix_texts suffix.Ul) text) refl
-        (one_of (suffix_texts suffix.Ll) text) refl (one_of (suffix_texts suffix.Ull) text) refl e
+    (one_of (suffix_texts suffix.Ll) text) refl (one_of (suffix_texts suffix.Ull) text) refl e
   where
     Has : Suffix → Type 0
     Has form = one_of (suffix_texts form) text ≡ true
@@ -288,10 +288,10 @@ pub number_is : (text : List ℕ) → NumberMeans text (number_kind text)
 unfolding number_kind
 number_is text =
     by_parts text (base_of text) (read_digits text (base_of text)) (read_suffix text (base_of text)) (λ r. NumberMeans text r)
-        (λ d ds form e s. integer (base_of text) (digits_value (radix (base_of text)) (d ∷ ds)) form (read_integer text d ds form e s))
-        (λ never. no_integer (λ of value form i.
-            let r = integer_read text of value form i in
-            never r.first r.more form (ap (read_digits text) r.base ∙ r.digits) (ap (read_suffix text) r.base ∙ r.ends)))
+    (λ d ds form e s. integer (base_of text) (digits_value (radix (base_of text)) (d ∷ ds)) form (read_integer text d ds form e s))
+    (λ never. no_integer (λ of value form i.
+    let r = integer_read text of value form i in
+    never r.first r.more form (ap (read_digits text) r.base ∙ r.digits) (ap (read_suffix text) r.base ∙ r.ends)))
 
 pub number_means : (text : List ℕ) (what : Result TokenKind Flaw) → NumberMeans text what → number_kind text ≡ what
 unfolding number_kind
@@ -300,5 +300,5 @@ number_means text what (integer of value form i) =
     ap (number_of_base text) r.base ∙ ap (λ l. integer_kind text of l (read_suffix text of)) r.digits ∙ ap (integer_kind text of (r.first ∷ r.more)) r.ends ∙ ap (λ v. constant of v form) (sym r.writes)
 number_means text what (no_integer never) =
     by_parts text (base_of text) (read_digits text (base_of text)) (read_suffix text (base_of text)) (λ r. r ≡ Err (flaw_of_number text))
-        (λ d ds form e s. absurd (never (base_of text) (digits_value (radix (base_of text)) (d ∷ ds)) form (read_integer text d ds form e s)))
-        (λ no. refl)
+    (λ d ds form e s. absurd (never (base_of text) (digits_value (radix (base_of text)) (d ∷ ds)) form (read_integer text d ds form e s)))
+    (λ no. refl)

@@ -35,8 +35,8 @@ gone_on dialect before bs (f.Gap n) more g later =
     let text : take n bs ≡ g.text = ap (λ k. take k bs) (sym g.size) ∙ parts.0 in
     let after : drop n bs ≡ g.after = ap (λ k. drop k bs) (sym g.size) ∙ parts.1 in
     r.gap before g.text g.after bs _ _ g.whole g.is_gap
-        (subst (λ a. Scans dialect (before ++ g.text) a (more (before ++ take n bs) (drop n bs)).0 (more (before ++ take n bs) (drop n bs)).1) after
-        (subst (λ t. Scans dialect (before ++ t) (drop n bs) (more (before ++ take n bs) (drop n bs)).0 (more (before ++ take n bs) (drop n bs)).1) text (later n g.some)))
+    (subst (λ a. Scans dialect (before ++ g.text) a (more (before ++ take n bs) (drop n bs)).0 (more (before ++ take n bs) (drop n bs)).1) after
+    (subst (λ t. Scans dialect (before ++ t) (drop n bs) (more (before ++ take n bs) (drop n bs)).0 (more (before ++ take n bs) (drop n bs)).1) text (later n g.some)))
 gone_on dialect before bs (f.Token kind n) more t later = r.token before (take n bs) (drop n bs) bs kind _ _ t.no_comment t.longest (later n t.some)
 gone_on dialect before bs (f.Refused why) more s later = r.stops before bs why s
 
@@ -46,7 +46,7 @@ scan_sound dialect zero before bs h = absurd (omega (arith, h))
 scan_sound dialect (suc fuel) before [] h = r.ends before
 scan_sound dialect (suc fuel) before (b ∷ tail) h =
     gone_on dialect before (b ∷ tail) (front dialect (is_first_on_line before) (b ∷ tail)) (scan dialect fuel) (front_is dialect before b tail)
-        (λ n some. scan_sound dialect fuel (before ++ take n (b ∷ tail)) (drop n (b ∷ tail)) (omega (arith, length-drop n (b ∷ tail))))
+    (λ n some. scan_sound dialect fuel (before ++ take n (b ∷ tail)) (drop n (b ∷ tail)) (omega (arith, length-drop n (b ∷ tail))))
 
 -- ---- and nothing else is
 

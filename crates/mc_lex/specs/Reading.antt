@@ -124,7 +124,7 @@ longer a b = if nat_lt a.length b.length then b else a
 unfoldable pub element_at : List ℕ → Element
 element_at bs =
     longer (longer (longer (record { class = class.Mark; length = mark_len bs }) (record { class = class.Word; length = word_len bs }))
-        (record { class = class.Number; length = number_len bs })) (record { class = class.Character; length = character_len bs })
+    (record { class = class.Number; length = number_len bs })) (record { class = class.Character; length = character_len bs })
 
 abbrev pub byte_kind : Option Quoted → Result TokenKind Flaw
 byte_kind None = Err flaw.Token

@@ -1,6 +1,7 @@
 //! Sets of bytes.
 ghost use Rattle.std.specs.Prelude.{◌≡◌};
 ghost use Rattle.mc_lex.specs.Bytes as bytes;
+ghost use Rattle.mc_lex.specs.Reading as spec;
 
 pub fn is_digit(b: u8) -> bool
     ensures { result ≡ bytes.is_digit b }
@@ -50,4 +51,14 @@ pub fn is_line_blank(b: u8) -> bool
     ensures { result ≡ bytes.is_line_blank b }
 {
     is_blank(b) && !is_line_end(b)
+}
+
+/// Whether the first byte is `byte`.
+pub fn starts_with_byte(text: &[u8], byte: u8) -> bool
+    ensures { result ≡ spec.starts_with_byte byte text.now }
+{
+    match text {
+        [first, ..] => *first == byte,
+        [] => false,
+    }
 }

@@ -3,8 +3,8 @@ ghost use Rattle.std.specs.Prelude.{◌≡◌, ◌+◌, ◌≤◌, ◌<◌, ◌^
 ghost use Rattle.mc_lex.specs.Characters as characters;
 ghost use Rattle.mc_lex.specs.Reading as spec;
 
-use crate::base::{hexadecimal_len, octal_len, starts_with_byte, value_of};
-use crate::byte::is_octal;
+use crate::byte::{is_octal, starts_with_byte};
+use crate::digits::{hexadecimal_len, octal_len, value_of};
 use crate::flaw::Flaw;
 use crate::token::TokenKind;
 
@@ -52,10 +52,12 @@ fn by_digits(radix: u64, behind: usize, most: usize, n: usize, digits: &[u8]) ->
 {
     let (number, rest) = digits.split_at(n);
     match value_of(number, radix) {
-        Some(value) if n >= 1 && n <= most && starts_with_byte(rest, b'\'') && value <= 255 => Some(Quoted {
-            length: behind + n + 1,
-            byte: value as u8,
-        }),
+        Some(value) if n >= 1 && n <= most && starts_with_byte(rest, b'\'') && value <= 255 => Some(
+            Quoted {
+                length: behind + n + 1,
+                byte: value as u8,
+            },
+        ),
         _ => None,
     }
 }

@@ -28,11 +28,7 @@ pub struct Element {
 fn longer(a: Element, b: Element) -> Element
     ensures { result ≡ spec.longer a b }
 {
-    if a.length < b.length {
-        b
-    } else {
-        a
-    }
+    if a.length < b.length { b } else { a }
 }
 
 /// The longest text at the front that can be a token; its length is 0 where there is none.
@@ -41,10 +37,22 @@ pub fn element_at(bytes: &[u8]) -> Element
     requires { length bytes.now < 2 ^ 31 }
     ensures { result ≡ spec.element_at bytes.now }
 {
-    let mark = Element { class: Class::Mark, length: mark_len(bytes) };
-    let word = Element { class: Class::Word, length: word_len(bytes) };
-    let number = Element { class: Class::Number, length: number_len(bytes) };
-    let character = Element { class: Class::Character, length: character_len(bytes) };
+    let mark = Element {
+        class: Class::Mark,
+        length: mark_len(bytes),
+    };
+    let word = Element {
+        class: Class::Word,
+        length: word_len(bytes),
+    };
+    let number = Element {
+        class: Class::Number,
+        length: number_len(bytes),
+    };
+    let character = Element {
+        class: Class::Character,
+        length: character_len(bytes),
+    };
     longer(longer(longer(mark, word), number), character)
 }
 

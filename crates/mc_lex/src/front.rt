@@ -3,9 +3,8 @@ ghost use Rattle.std.specs.Prelude.{◌≡◌, ◌<◌, ◌≤◌, ◌^◌, leng
 ghost use Rattle.mc_lex.specs.Reading as spec;
 ghost use Rattle.mc_lex.specs.Reading.{Within};
 
-use crate::base::starts_with_byte;
-use crate::byte::is_blank;
-use crate::element::{element_at, kind_of, Element};
+use crate::byte::{is_blank, starts_with_byte};
+use crate::element::{Element, element_at, kind_of};
 use crate::flaw::Flaw;
 use crate::gap::{close_len, is_marker, line_len};
 use crate::token::{Dialect, TokenKind};

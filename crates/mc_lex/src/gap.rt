@@ -5,8 +5,8 @@ ghost use Rattle.mc_lex.specs.Bytes.{is_line_blank};
 ghost use Rattle.mc_lex.specs.Gaps as gaps;
 ghost use Rattle.mc_lex.specs.Reading as spec;
 
-use crate::base::decimal_len;
 use crate::byte::{is_digit, is_line_blank, is_line_end};
+use crate::digits::decimal_len;
 
 /// How many bytes a comment has behind its `/*`, where it is closed.
 #[tactic(auto, using(crate::proofs::Turns::close_short))]

@@ -8,5 +8,4 @@ ghost use Rattle.mc_lex.specs.Scans.{Scans};
 /// A source has one token list, or one first place without a token.
 pub fn one_scan()
     ensures { (d : Dialect) (bs : List ℕ) (ts us : List Tok) (stop other : Option LexFault) → Scans d [] bs ts stop → Scans d [] bs us other → (ts ≡ us) × (stop ≡ other) }
-{
-}
+{}

@@ -10,7 +10,7 @@ ghost use Rattle.mc_lex.specs.Reading as spec;
 use crate::byte::{is_blank, is_line_end};
 use crate::fault::LexFault;
 use crate::flaw::fault_at;
-use crate::front::{front_at, Front};
+use crate::front::{Front, front_at};
 use crate::token::{Dialect, Token};
 use std::alloc::Global;
 
@@ -50,7 +50,11 @@ fn scan<'a>(alloc: Global, source: &'a [u8], dialect: Dialect) -> Result<Vec<Tok
             }
             Front::Token(kind, n) => {
                 let (text, after) = rest.split_at(n);
-                tokens.push(Token { kind, text, start: at as u32 })?;
+                tokens.push(Token {
+                    kind,
+                    text,
+                    start: at as u32,
+                })?;
                 is_first = still_first(is_first, text);
                 rest = after;
                 at += n;
@@ -63,7 +67,11 @@ fn scan<'a>(alloc: Global, source: &'a [u8], dialect: Dialect) -> Result<Vec<Tok
 /// Cuts a source into its tokens (C17 6.4), or finds the first place where no token stands.
 ///
 /// Blanks, comments and line markers stand between tokens. Each token's text is lent from the source.
-pub fn lex<'a>(alloc: Global, source: &'a [u8], dialect: Dialect) -> Result<Vec<Token<'a>>, LexFault>
+pub fn lex<'a>(
+    alloc: Global,
+    source: &'a [u8],
+    dialect: Dialect,
+) -> Result<Vec<Token<'a>>, LexFault>
     requires { length source.now < 2 ^ 31 }
     // What is returned is the source's token list.
     ensures found { IfOk result (λ v. Scans dialect [] source.now (toks_of v.items) None) }

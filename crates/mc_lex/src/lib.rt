@@ -4,6 +4,7 @@
 mod base;
 mod byte;
 mod character;
+mod digits;
 mod element;
 mod fault;
 mod flaw;
@@ -23,3 +24,6 @@ pub use fault::LexFault;
 pub use lexer::lex;
 pub use place::{Place, place_of, quote};
 pub use token::{Dialect, Token, TokenKind};
+
+#[cfg(test)]
+mod tests;

@@ -9,13 +9,17 @@ use crate::token::TokenKind;
 
 /// Punctuators and openings of literals, the longest first.
 const MARKS: [&[u8]; 59] = [
-    b"<<=", b">>=", b"...", b"u8\"", b"++", b"--", b"<<", b">>", b"<=", b">=", b"==", b"!=", b"&&", b"||", b"+=", b"-=", b"*=", b"/=", b"%=", b"&=", b"|=", b"^=", b"->", b"<:", b":>", b"<%", b"%>", b"%:", b"L\"", b"u\"", b"U\"", b"L'", b"u'", b"U'",
-    b"[", b"]", b"(", b")", b"{", b"}", b".", b",", b";", b":", b"?", b"~", b"!", b"+", b"-", b"*", b"/", b"%", b"&", b"|", b"^", b"<", b">", b"=", b"\"",
+    b"<<=", b">>=", b"...", b"u8\"", b"++", b"--", b"<<", b">>", b"<=", b">=", b"==", b"!=", b"&&",
+    b"||", b"+=", b"-=", b"*=", b"/=", b"%=", b"&=", b"|=", b"^=", b"->", b"<:", b":>", b"<%",
+    b"%>", b"%:", b"L\"", b"u\"", b"U\"", b"L'", b"u'", b"U'", b"[", b"]", b"(", b")", b"{", b"}",
+    b".", b",", b";", b":", b"?", b"~", b"!", b"+", b"-", b"*", b"/", b"%", b"&", b"|", b"^", b"<",
+    b">", b"=", b"\"",
 ];
 
 /// The punctuators that are left out, and the openings of literals.
 const OUTSIDE_MARKS: [&[u8]; 15] = [
-    b"->", b"...", b"<:", b":>", b"<%", b"%>", b"%:", b"\"", b"L\"", b"u\"", b"U\"", b"u8\"", b"L'", b"u'", b"U'",
+    b"->", b"...", b"<:", b":>", b"<%", b"%>", b"%:", b"\"", b"L\"", b"u\"", b"U\"", b"u8\"",
+    b"L'", b"u'", b"U'",
 ];
 
 /// The length of the longest punctuator or opening of a literal at the front, or 0.

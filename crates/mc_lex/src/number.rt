@@ -3,10 +3,11 @@ ghost use Rattle.std.specs.Prelude.{◌≡◌, ◌+◌, ◌≤◌, length};
 ghost use Rattle.mc_lex.specs.Numbers as numbers;
 ghost use Rattle.mc_lex.specs.Reading as spec;
 
-use crate::base::{base_of, body_of, digits_len, has_hexadecimal_prefix, is_decimal, radix, value_of, Base};
+use crate::base::{Base, has_hexadecimal_prefix};
 use crate::byte::{is_digit, is_word_byte};
+use crate::digits::value_of;
 use crate::flaw::Flaw;
-use crate::suffix::{has_u, longs_of, suffix_of, Suffix};
+use crate::suffix::Suffix;
 use crate::token::TokenKind;
 
 /// Whether a byte goes on with a number behind another.
@@ -15,7 +16,8 @@ fn continues(last: u8, byte: u8) -> bool
 {
     is_word_byte(byte)
         || byte == b'.'
-        || ((last == b'e' || last == b'E' || last == b'p' || last == b'P') && (byte == b'+' || byte == b'-'))
+        || ((last == b'e' || last == b'E' || last == b'p' || last == b'P')
+            && (byte == b'+' || byte == b'-'))
 }
 
 /// How many bytes go on with a number behind its first byte.
@@ -89,7 +91,7 @@ fn flaw_of_number(text: &[u8]) -> Flaw
 fn limit(suffix: Suffix, base: Base) -> u64
     ensures { result ≡ spec.limit suffix base }
 {
-    if is_decimal(base) && !has_u(suffix) {
+    if base.is_decimal() && !suffix.has_u() {
         i64::MAX as u64
     } else {
         u64::MAX
@@ -100,19 +102,24 @@ fn limit(suffix: Suffix, base: Base) -> u64
 fn constant(base: Base, digits: &[u8], suffix: Suffix) -> Result<TokenKind, Flaw>
     ensures { result ≡ numbers.constant base (digits_value (spec.radix base) digits.now) suffix }
 {
-    match value_of(digits, radix(base)) {
+    match value_of(digits, base.radix()) {
         Some(value) if value <= limit(suffix, base) => Ok(TokenKind::Constant {
             value,
-            decimal: is_decimal(base),
-            unsigned: has_u(suffix),
-            longs: longs_of(suffix),
+            decimal: base.is_decimal(),
+            unsigned: suffix.has_u(),
+            longs: suffix.longs(),
         }),
         _ => Err(Flaw::Limit),
     }
 }
 
 /// What a number of these digits and this suffix is.
-fn integer_kind(text: &[u8], base: Base, digits: &[u8], suffix: Option<Suffix>) -> Result<TokenKind, Flaw>
+fn integer_kind(
+    text: &[u8],
+    base: Base,
+    digits: &[u8],
+    suffix: Option<Suffix>,
+) -> Result<TokenKind, Flaw>
     ensures { result ≡ spec.integer_kind text.now base digits.now suffix }
 {
     match digits {
@@ -129,10 +136,10 @@ fn integer_kind(text: &[u8], base: Base, digits: &[u8], suffix: Option<Suffix>) 
 pub fn number_kind(text: &[u8]) -> Result<TokenKind, Flaw>
     ensures { result ≡ spec.number_kind text.now }
 {
-    let base = base_of(text);
-    let body = body_of(base, text);
-    let (digits, rest) = body.split_at(digits_len(base, body));
-    integer_kind(text, base, digits, suffix_of(rest))
+    let base = Base::of(text);
+    let body = base.body(text);
+    let (digits, rest) = body.split_at(base.digits_len(body));
+    integer_kind(text, base, digits, Suffix::of(rest))
 }
 
 ghost use Rattle.std.specs.Str.Parse.{digits_value};

@@ -38,16 +38,60 @@ pub fn word_len(bytes: &[u8]) -> usize
 
 /// The keywords that are kept (C17 6.4.1).
 const KEYWORDS: [&[u8]; 26] = [
-    b"break", b"case", b"char", b"const", b"continue", b"default", b"do", b"else", b"enum", b"extern", b"for", b"goto", b"if", b"int", b"long", b"return", b"short", b"signed", b"static", b"struct", b"switch", b"typedef", b"unsigned", b"void", b"while", b"_Bool",
+    b"break",
+    b"case",
+    b"char",
+    b"const",
+    b"continue",
+    b"default",
+    b"do",
+    b"else",
+    b"enum",
+    b"extern",
+    b"for",
+    b"goto",
+    b"if",
+    b"int",
+    b"long",
+    b"return",
+    b"short",
+    b"signed",
+    b"static",
+    b"struct",
+    b"switch",
+    b"typedef",
+    b"unsigned",
+    b"void",
+    b"while",
+    b"_Bool",
 ];
 
 /// The keywords that are left out.
 const OUTSIDE_KEYWORDS: [&[u8]; 18] = [
-    b"auto", b"double", b"float", b"inline", b"register", b"restrict", b"sizeof", b"union", b"volatile", b"_Alignas", b"_Alignof", b"_Atomic", b"_Complex", b"_Generic", b"_Imaginary", b"_Noreturn", b"_Static_assert", b"_Thread_local",
+    b"auto",
+    b"double",
+    b"float",
+    b"inline",
+    b"register",
+    b"restrict",
+    b"sizeof",
+    b"union",
+    b"volatile",
+    b"_Alignas",
+    b"_Alignof",
+    b"_Atomic",
+    b"_Complex",
+    b"_Generic",
+    b"_Imaginary",
+    b"_Noreturn",
+    b"_Static_assert",
+    b"_Thread_local",
 ];
 
 /// The names of the probes.
-const PROBE_NAMES: [&[u8]; 7] = [b"MCDC_H", b"MCDC_L", b"MCDC_W", b"MCDC_D", b"MCDC_C", b"mcdc_r", b"mcdc_v"];
+const PROBE_NAMES: [&[u8]; 7] = [
+    b"MCDC_H", b"MCDC_L", b"MCDC_W", b"MCDC_D", b"MCDC_C", b"mcdc_r", b"mcdc_v",
+];
 
 #[tactic(auto, unfolding(crate::specs::Words::keywords))]
 fn is_keyword(text: &[u8]) -> bool

@@ -1,6 +1,6 @@
 use Rattle.std.proofs.Common.{◌≡◌, ◌<◌, ◌^◌, length}
 use Rattle.std.specs.Str.Parse.{digits_value, digits_value_after}
-use Rattle.mc_lex.proofs.base.value_of.Given as goal
+use Rattle.mc_lex.proofs.digits.value_of.Given as goal
 
 abbrev pub invariant-loop-left : goal.invariant-loop-left
 invariant-loop-left l = record {
