@@ -1,15 +1,15 @@
 -- The character constant at the front.
-use Rattle.std.proofs.Common.{◌≡◌, ℕ, zero, suc, ◌+◌, ◌<◌, ◌≤◌, Bool, true, false, not, ◌&&◌, ◌||◌, cond, nat_le, nat_eq, List, [], ◌∷◌, ◌++◌, length, take, drop, Option, Some, None, refl, ap, subst, sym, ◌∙◌, arith, append_assoc, length-append, take-append-drop}
+use Rattle.std.proofs.Common.{◌≡◌, ℕ, ◌+◌, ◌≤◌, Bool, true, false, ◌&&◌, cond, nat_le, nat_eq, List, [], ◌∷◌, ◌++◌, length, take, drop, Option, Some, None, refl, ap, subst, sym, ◌∙◌, arith, append_assoc, length-append, take-append-drop}
 use Rattle.std.proofs.lemmas.List.Folds.{length-prefix_len}
 use Rattle.std.proofs.lemmas.Bool.{leb-true}
 use Rattle.std.proofs.lemmas.Bool.Decides.{nat_tests}
 use Rattle.std.specs.List.{prefix_len, list_all}
 use Rattle.std.specs.Str.Parse.{digits_value}
 use Rattle.mc_lex.specs.declared.character.Quoted.{Quoted}
-use Rattle.mc_lex.specs.Bytes.{is_digit, is_octal, is_hexadecimal}
+use Rattle.mc_lex.specs.Bytes.{is_octal, is_hexadecimal}
 use Rattle.mc_lex.specs.Characters.{is_plain, simple_escape, Inside, plain, simple, octal, hexadecimal, IsCharacter}
-use Rattle.mc_lex.specs.Reading.{starts_with_byte, by_digits, by_simple, escape_at, plain_at, quoted_at, character_at, length_of, character_len}
-use Rattle.mc_lex.proofs.Texts.{both, is_false, not_both, same_byte, cut, front_of, rest_of, run_all, run_exact, run_within}
+use Rattle.mc_lex.specs.Reading.{starts_with_byte, by_digits, by_simple, escape_at, plain_at, quoted_at, character_at}
+use Rattle.mc_lex.proofs.Texts.{both, same_byte, front_of, rest_of, run_all, run_exact, run_within}
 
 abbrev pub quoted : ℕ → ℕ → Quoted
 quoted n b = record { length = n; byte = b }

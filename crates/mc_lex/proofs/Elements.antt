@@ -1,30 +1,29 @@
 -- The longest text at the front that means anything.
-use Rattle.std.proofs.Common.{◌≡◌, ℕ, zero, suc, ◌+◌, ◌<◌, ◌≤◌, Bool, true, false, not, ◌&&◌, ◌||◌, cond, nat_eq, nat_lt, nat_le, List, [], ◌∷◌, ◌++◌, length, take, drop, Option, Some, None, Result, Ok, Err, refl, ap, subst, sym, ◌∙◌, arith, take-append-drop, append-nil, length-take, length-append}
+use Rattle.std.proofs.Common.{◌≡◌, ℕ, zero, suc, ◌<◌, ◌≤◌, Bool, true, false, not, ◌&&◌, ◌||◌, cond, nat_eq, nat_lt, List, [], ◌∷◌, ◌++◌, length, take, drop, Option, Some, None, Result, Ok, Err, refl, ap, subst, sym, ◌∙◌, arith, take-append-drop, append-nil, length-take, length-append}
 use Rattle.std.proofs.lemmas.Bool.Decides.{nat_tests}
 use Rattle.std.proofs.lemmas.List.Folds.{list_any-append}
 use Rattle.std.specs.List.{list_all}
 use Rattle.std.specs.Str.{bytes_eq}
 use Rattle.mc_lex.specs.declared.token.Dialect.{Dialect}
 use Rattle.mc_lex.specs.declared.token.TokenKind.{TokenKind}
-use Rattle.mc_lex.specs.declared.token.TokenKind.TheVariants.{Punctuator, Character}
+use Rattle.mc_lex.specs.declared.token.TokenKind.TheVariants.{Punctuator}
 use Rattle.mc_lex.specs.declared.flaw.Flaw.{Flaw}
 use Rattle.mc_lex.specs.declared.flaw.Flaw.TheVariants as flaw
-use Rattle.mc_lex.specs.declared.front.Front.{Front}
 use Rattle.mc_lex.specs.declared.element.Element.{Element}
 use Rattle.mc_lex.specs.declared.element.Class.{Class}
 use Rattle.mc_lex.specs.declared.element.Class.TheVariants as class
 use Rattle.mc_lex.specs.declared.character.Quoted.{Quoted}
 use Rattle.mc_lex.specs.Bytes.{is_digit, is_letter, is_blank}
-use Rattle.mc_lex.specs.Words.{one_of, is_word, word_kind}
+use Rattle.mc_lex.specs.Words.{one_of, is_word}
 use Rattle.mc_lex.specs.Numbers.{starts_number, each_continues, is_number}
-use Rattle.mc_lex.specs.Characters.{IsCharacter, signed_char}
+use Rattle.mc_lex.specs.Characters.{IsCharacter}
 use Rattle.mc_lex.specs.Marks.{punctuators, outside_punctuators, literal_openings}
 use Rattle.mc_lex.specs.Scans.{Means, IsLongest, MeansNothing}
 use Rattle.mc_lex.specs.Scans as r
 use Rattle.mc_lex.specs.Reading.{word_len, number_len, character_at, length_of, character_len, marks, mark_len, longer, element_at, byte_kind, outside_marks, mark_kind, kind_of, starts_with_byte, kind_front, nothing_front, length_front, element_front}
-use Rattle.mc_lex.proofs.Texts.{both, is_false, not_both, same_byte, cut, same_front, passes}
+use Rattle.mc_lex.proofs.Texts.{both, is_false, not_both, cut, passes}
 use Rattle.mc_lex.proofs.Sizes.{word_has, word_most, word_within, number_has, number_most, number_within, mark_has, mark_most, mark_within}
-use Rattle.mc_lex.proofs.Characters.{quoted, character_found, Found, character_is}
+use Rattle.mc_lex.proofs.Characters.{quoted, character_found, character_is}
 use Rattle.mc_lex.proofs.Numbers.{number_is, number_means}
 
 -- ---- classes of texts

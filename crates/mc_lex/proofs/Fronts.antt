@@ -1,26 +1,24 @@
 -- What stands at the front, and that it is a gap, a token or a stop.
-use Rattle.std.proofs.Common.{◌≡◌, ℕ, zero, suc, ◌+◌, ◌<◌, ◌≤◌, Bool, true, false, not, ◌&&◌, ◌||◌, cond, nat_eq, List, [], ◌∷◌, ◌++◌, length, take, drop, Option, Some, None, Result, Ok, Err, refl, ap, subst, sym, ◌∙◌, arith, append_assoc, take-append-drop, length-take, length-append}
-use Rattle.std.proofs.lemmas.Bool.Decides.{nat_tests}
+use Rattle.std.proofs.Common.{◌≡◌, ℕ, zero, suc, ◌+◌, ◌<◌, ◌≤◌, Bool, true, false, not, ◌&&◌, ◌||◌, cond, nat_eq, List, [], ◌∷◌, ◌++◌, length, take, drop, Option, Some, None, Result, Ok, Err, refl, ap, subst, sym, ◌∙◌, arith, append_assoc, take-append-drop, length-append}
 use Rattle.std.proofs.lemmas.List.Folds.{length-prefix_len}
-use Rattle.std.specs.List.{prefix_len, list_all}
+use Rattle.std.specs.List.{list_all}
 use Rattle.mc_lex.specs.declared.token.Dialect.{Dialect}
 use Rattle.mc_lex.specs.declared.token.TokenKind.{TokenKind}
 use Rattle.mc_lex.specs.declared.flaw.Flaw.{Flaw}
 use Rattle.mc_lex.specs.declared.flaw.Flaw.TheVariants as flaw
 use Rattle.mc_lex.specs.declared.front.Front.{Front}
 use Rattle.mc_lex.specs.declared.front.Front.TheVariants as f
-use Rattle.mc_lex.specs.declared.element.Class.{Class}
 use Rattle.mc_lex.specs.Bytes.{is_blank, goes_on}
 use Rattle.mc_lex.specs.Lines.{is_first_on_line}
 use Rattle.mc_lex.specs.Gaps.{ends_line, ClosesComment, begins_comment, IsMarker, IsGap}
 use Rattle.mc_lex.specs.Gaps as gap
 use Rattle.mc_lex.specs.Scans.{Means, IsLongest, MeansNothing, Stops}
 use Rattle.mc_lex.specs.Scans as r
-use Rattle.mc_lex.specs.Reading.{Within, element_at, kind_of, is_marker, close_len, line_len, behind_first, comment_front, hash_front, starts_with_byte, kind_front, nothing_front, length_front, element_front, begins_block_comment, begins_line_comment, front}
-use Rattle.mc_lex.proofs.Texts.{both, is_false, not_both, same_byte, cut, front_of, run_all, run_exact, run_ends, run_within, ends_run}
-use Rattle.mc_lex.proofs.Comments.{Closing, closing, closed_len, open_len, len_open}
+use Rattle.mc_lex.specs.Reading.{Within, element_at, is_marker, close_len, line_len, behind_first, comment_front, hash_front, starts_with_byte, kind_front, nothing_front, length_front, element_front, begins_block_comment, begins_line_comment, front}
+use Rattle.mc_lex.proofs.Texts.{both, is_false, not_both, same_byte, cut, run_all, run_exact, run_ends, run_within, ends_run}
+use Rattle.mc_lex.proofs.Comments.{closing, closed_len, open_len, len_open}
 use Rattle.mc_lex.proofs.Markers.{marker_found, marker_is, marker_goes_on, marker_hash}
-use Rattle.mc_lex.proofs.Elements.{Stands, size, size_within, Stood, stood, stands_full, stands_apart, is_apart, largest, element_longest, element_none, token_front, none_front}
+use Rattle.mc_lex.proofs.Elements.{size_within, Stood, stood, stands_full, stands_apart, is_apart, largest, element_longest, element_none, token_front, none_front}
 
 pub element_within : (bs : List ℕ) → (element_at bs).length ≤ length bs
 element_within bs = omega (arith, (largest bs).right, size_within (element_at bs).class bs)

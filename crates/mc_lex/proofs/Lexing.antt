@@ -12,7 +12,7 @@ use Rattle.mc_lex.specs.declared.fault.LexFault.{LexFault}
 use Rattle.mc_lex.specs.declared.front.Front.{Front}
 use Rattle.mc_lex.specs.declared.front.Front.TheVariants as f
 use Rattle.mc_lex.specs.Bytes.{is_line_end, goes_on, is_blank}
-use Rattle.mc_lex.specs.Lines.{line_before, is_first_on_line}
+use Rattle.mc_lex.specs.Lines.{is_first_on_line}
 use Rattle.mc_lex.specs.Scans.{fault_at}
 use Rattle.mc_lex.specs.Tokens.{Tok}
 use Rattle.mc_lex.specs.Given.{GivesFault}

@@ -1,11 +1,11 @@
 -- Line markers.
-use Rattle.std.proofs.Common.{◌≡◌, ℕ, zero, suc, ◌+◌, ◌<◌, ◌≤◌, Bool, true, false, not, ◌&&◌, ◌||◌, cond, nat_eq, nat_le, List, [], ◌∷◌, ◌++◌, length, take, drop, refl, ap, subst, sym, ◌∙◌, arith, append_assoc, append-nil, take-append-drop}
+use Rattle.std.proofs.Common.{◌≡◌, ℕ, Bool, true, false, not, ◌||◌, nat_eq, List, [], ◌∷◌, ◌++◌, take, refl, ap, subst, sym, ◌∙◌, arith, append_assoc}
 use Rattle.std.proofs.lemmas.Bool.Decides.{nat_tests}
 use Rattle.std.specs.List.{prefix_len, list_all}
 use Rattle.mc_lex.specs.Bytes.{is_digit, is_blank, is_line_blank, goes_on}
 use Rattle.mc_lex.specs.Gaps.{is_digit_or_blank, is_quoted, QuotedName, absent, quoted, IsMarker}
 use Rattle.mc_lex.specs.Reading.{skip, marks_closed, marks_name, marks_rest, marks_number, is_marker}
-use Rattle.mc_lex.proofs.Texts.{both, is_false, not_both, same_byte, run_all, run_exact, skip_exact, ends_run, all_drop, skip_past, skip_split, all_weaker, all_append}
+use Rattle.mc_lex.proofs.Texts.{both, same_byte, run_all, skip_exact, ends_run, all_drop, skip_past, skip_split, all_weaker, all_append}
 
 either : (a b : Bool) → b ≡ true → (a || b) ≡ true
 either true b e = refl

@@ -1,6 +1,5 @@
 -- What a number is.
-use Rattle.std.proofs.Common.{◌≡◌, ℕ, zero, suc, ◌+◌, ◌-◌, ◌^◌, ◌<◌, ◌≤◌, Bool, true, false, not, ◌&&◌, ◌||◌, cond, nat_le, nat_lt, nat_eq, List, [], ◌∷◌, ◌++◌, length, take, drop, Option, Some, None, Result, Ok, Err, refl, ap, subst, sym, ◌∙◌, arith, take-append-drop, length-append}
-use Rattle.std.proofs.lemmas.Bool.{leb-true}
+use Rattle.std.proofs.Common.{◌≡◌, ℕ, Bool, true, false, not, ◌&&◌, ◌||◌, cond, nat_eq, List, [], ◌∷◌, ◌++◌, take, drop, Option, Some, None, Result, Err, refl, ap, subst, sym, ◌∙◌, arith, take-append-drop}
 use Rattle.std.proofs.lemmas.Bool.Decides.{nat_tests}
 use Rattle.std.specs.List.{prefix_len, list_all}
 use Rattle.std.specs.Str.Parse.{digits_value}
@@ -12,9 +11,9 @@ use Rattle.mc_lex.specs.declared.token.TokenKind.{TokenKind}
 use Rattle.mc_lex.specs.declared.flaw.Flaw.{Flaw}
 use Rattle.mc_lex.specs.Bytes.{is_digit, is_octal, is_hexadecimal}
 use Rattle.mc_lex.specs.Words.{one_of}
-use Rattle.mc_lex.specs.Numbers.{is_digits, value_of, is_decimal, suffix_texts, has_u, IsInteger, has_type, has_hexadecimal_prefix, flaw_of_number, constant, NumberMeans, integer, no_integer}
-use Rattle.mc_lex.specs.Reading.{starts_with_byte, base_of, suffix_of, digits_len, radix, body_of, limit, if_fits, integer_kind, number_by, number_of_base, number_kind}
-use Rattle.mc_lex.proofs.Texts.{both, is_false, not_both, same_byte, cut, front_of, rest_of, run_all, run_exact, run_within, ends_run, passes}
+use Rattle.mc_lex.specs.Numbers.{is_digits, value_of, suffix_texts, IsInteger, has_hexadecimal_prefix, flaw_of_number, constant, NumberMeans, integer, no_integer}
+use Rattle.mc_lex.specs.Reading.{starts_with_byte, base_of, suffix_of, digits_len, radix, body_of, integer_kind, number_of_base, number_kind}
+use Rattle.mc_lex.proofs.Texts.{both, same_byte, front_of, rest_of, run_all, run_exact, ends_run, passes}
 
 -- ---- suffixes
 

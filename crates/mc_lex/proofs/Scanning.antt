@@ -1,24 +1,21 @@
 -- The scan finds the token list, and no other.
-use Rattle.std.proofs.Common.{◌≡◌, ◌≢◌, ℕ, zero, suc, ◌+◌, ◌-◌, ◌<◌, ◌≤◌, Bool, true, false, ◌&&◌, ◌||◌, cond, nat_eq, List, [], ◌∷◌, ◌++◌, length, take, drop, map, reverse, Option, Some, None, Result, Ok, Err, refl, ap, subst, sym, ◌∙◌, arith, append_assoc, append-nil, length-append, length-drop, length-take, take-append-drop}
-use Rattle.std.proofs.lemmas.List.{map_push, reverse-append}
-use Rattle.std.specs.List.{list_all, prefix_len}
+use Rattle.std.proofs.Common.{◌≡◌, ℕ, zero, suc, ◌+◌, ◌<◌, ◌≤◌, false, List, [], ◌∷◌, ◌++◌, length, take, drop, Option, Some, Ok, Err, refl, ap, subst, sym, ◌∙◌, arith, length-append, length-drop, length-take}
 use Rattle.mc_lex.specs.declared.token.Dialect.{Dialect}
 use Rattle.mc_lex.specs.declared.token.TokenKind.{TokenKind}
 use Rattle.mc_lex.specs.declared.flaw.Flaw.{Flaw}
 use Rattle.mc_lex.specs.declared.fault.LexFault.{LexFault}
 use Rattle.mc_lex.specs.declared.front.Front.{Front}
 use Rattle.mc_lex.specs.declared.front.Front.TheVariants as f
-use Rattle.mc_lex.specs.Bytes.{is_line_end, goes_on, is_blank}
-use Rattle.mc_lex.specs.Lines.{line_before, is_first_on_line}
+use Rattle.mc_lex.specs.Lines.{is_first_on_line}
 use Rattle.mc_lex.specs.Gaps.{IsGap, begins_comment}
 use Rattle.mc_lex.specs.Gaps as gap
 use Rattle.mc_lex.specs.Scans.{IsLongest, Stops, Scans, fault_at}
 use Rattle.mc_lex.specs.Scans as r
 use Rattle.mc_lex.specs.Tokens.{Tok}
-use Rattle.mc_lex.specs.Reading.{front, go_on, scan, still_first}
+use Rattle.mc_lex.specs.Reading.{front, go_on, scan}
 use Rattle.mc_lex.proofs.Texts.{cut}
-use Rattle.mc_lex.proofs.Elements.{Stood, stood, stands_full}
-use Rattle.mc_lex.proofs.Fronts.{IsFront, GapHere, TokenHere, front_is, gap_front, longest_front, stop_front}
+use Rattle.mc_lex.proofs.Elements.{stood, stands_full}
+use Rattle.mc_lex.proofs.Fronts.{IsFront, front_is, gap_front, longest_front, stop_front}
 
 -- ---- what the scan finds is so
 

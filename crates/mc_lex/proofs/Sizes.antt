@@ -1,12 +1,11 @@
 -- The longest word, number and mark at the front.
-use Rattle.std.proofs.Common.{◌≡◌, ℕ, zero, suc, ◌+◌, ◌<◌, ◌≤◌, Bool, true, false, not, ◌&&◌, ◌||◌, cond, nat_le, nat_eq, List, [], ◌∷◌, ◌++◌, length, take, drop, refl, ap, subst, sym, ◌∙◌, arith}
-use Rattle.std.proofs.lemmas.Bool.Decides.{nat_tests}
+use Rattle.std.proofs.Common.{◌≡◌, ℕ, suc, ◌+◌, ◌≤◌, Bool, true, false, ◌&&◌, ◌||◌, cond, nat_eq, List, [], ◌∷◌, ◌++◌, length, take, refl, ap, ◌∙◌, arith}
 use Rattle.std.specs.List.{prefix_len, list_all}
 use Rattle.mc_lex.specs.Bytes.{is_digit, is_letter, is_word_byte}
 use Rattle.mc_lex.specs.Words.{one_of, is_word}
 use Rattle.mc_lex.specs.Numbers.{continues, each_continues, starts_number, is_number}
-use Rattle.mc_lex.specs.Reading.{word_len, continued, number_len, marks, mark_len, first_of}
-use Rattle.mc_lex.proofs.Texts.{both, is_false, not_both, same_byte, run_all, run_most, run_within, table_most, table_has, table_within}
+use Rattle.mc_lex.specs.Reading.{word_len, continued, number_len, marks, mark_len}
+use Rattle.mc_lex.proofs.Texts.{both, not_both, run_all, run_most, run_within, table_most, table_has, table_within}
 
 one_plus : (n : ℕ) → 1 + n ≡ suc n
 one_plus n = omega arith

@@ -1,5 +1,5 @@
 -- Sets of bytes (C17 5.2.1).
-use Rattle.std.specs.Prelude.{ℕ, Bool, not, ◌&&◌, ◌||◌, ◌==◌, nat_le, List, [], ◌∷◌}
+use Rattle.std.specs.Prelude.{ℕ, Bool, not, ◌&&◌, ◌||◌, ◌==◌, nat_le}
 
 abbrev pub is_digit : ℕ → Bool
 is_digit b = nat_le 48 b && nat_le b 57

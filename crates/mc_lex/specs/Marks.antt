@@ -1,5 +1,5 @@
 -- Punctuators (C17 6.4.6), and the marks that begin what is left out.
-use Rattle.std.specs.Prelude.{ℕ, List, [], ◌∷◌, ◌++◌, codes}
+use Rattle.std.specs.Prelude.{ℕ, List, [], ◌∷◌, codes}
 
 -- the punctuators that are kept
 unfoldable pub punctuators : List (List ℕ)

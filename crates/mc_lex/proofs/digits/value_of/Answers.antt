@@ -1,4 +1,3 @@
-use Rattle.std.proofs.Common.{arith}
 use Rattle.mc_lex.proofs.Turns.{value_read}
 use Rattle.mc_lex.proofs.digits.value_of.Goals as goal
 

@@ -1,4 +1,4 @@
-use Rattle.std.proofs.Common.{rules, arith, refl, ap, sym, ◌≡◌, ◌<◌, ◌+◌, ◌∙◌, length, []}
+use Rattle.std.proofs.Common.{rules, arith, refl, sym, ◌<◌, ◌+◌, ◌∙◌, length, []}
 use Rattle.std.proofs.lemmas.Grind.{common_steps}
 use Rattle.std.proofs.lemmas.List.{map_push}
 use Rattle.mc_lex.specs.Tokens.{toks_of}

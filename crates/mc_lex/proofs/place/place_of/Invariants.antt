@@ -1,4 +1,4 @@
-use Rattle.std.proofs.Common.{◌≡◌, ◌≤◌, ◌+◌, take}
+use Rattle.std.proofs.Common.{◌≡◌, ◌≤◌, ◌+◌}
 use Rattle.mc_lex.specs.Lines.{line_of, column_of}
 use Rattle.mc_lex.proofs.place.place_of.Given as goal
 
