@@ -1,1 +1,11 @@
 pub mod Tokens
+pub mod Bytes
+pub mod Words
+pub mod Numbers
+pub mod Characters
+pub mod Marks
+pub mod Lines
+pub mod Gaps
+pub mod Scans
+pub mod Given
+pub mod Reading

@@ -1,5 +1,6 @@
 //! Why a source has no token list.
 
+use std::alloc::{AllocError, AllocFailed};
 use thiserror::Error;
 
 /// The first place in a source where no token stands, or want of memory.
@@ -24,4 +25,26 @@ pub enum LexFault {
     /// Want of memory.
     #[error("out of memory")]
     OutOfMemory,
+}
+
+impl From<AllocError> for LexFault {
+    ghost use Rattle.std.specs.Prelude.{◌≡◌};
+    ghost use Rattle.mc_lex.specs.declared.fault.LexFault.TheVariants.{OutOfMemory};
+
+    ghost from_gives = { λ _ e. e ≡ OutOfMemory };
+
+    fn from(_error: AllocError) -> LexFault {
+        LexFault::OutOfMemory
+    }
+}
+
+impl<T: Drop> From<AllocFailed<T>> for LexFault {
+    ghost use Rattle.std.specs.Prelude.{◌≡◌};
+    ghost use Rattle.mc_lex.specs.declared.fault.LexFault.TheVariants.{OutOfMemory};
+
+    ghost from_gives = { λ _ e. e ≡ OutOfMemory };
+
+    fn from(_error: AllocFailed<T>) -> LexFault {
+        LexFault::OutOfMemory
+    }
 }

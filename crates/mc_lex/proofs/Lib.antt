@@ -1,0 +1,12 @@
+pub mod Turns
+pub mod Texts
+pub mod Sizes
+pub mod Characters
+pub mod Numbers
+pub mod Comments
+pub mod Markers
+pub mod Elements
+pub mod Fronts
+pub mod Scanning
+pub mod Lexing
+pub mod Calls

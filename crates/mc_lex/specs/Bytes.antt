@@ -1,0 +1,35 @@
+-- Sets of bytes (C17 5.2.1).
+use Rattle.std.specs.Prelude.{ℕ, Bool, not, ◌&&◌, ◌||◌, ◌==◌, nat_le}
+
+abbrev pub is_digit : ℕ → Bool
+is_digit b = nat_le 48 b && nat_le b 57
+
+abbrev pub is_octal : ℕ → Bool
+is_octal b = nat_le 48 b && nat_le b 55
+
+abbrev pub is_hexadecimal : ℕ → Bool
+is_hexadecimal b = is_digit b || (nat_le 97 b && nat_le b 102) || (nat_le 65 b && nat_le b 70)
+
+-- a letter or `_` (C17 6.4.2.1, identifier-nondigit)
+abbrev pub is_letter : ℕ → Bool
+is_letter b = (nat_le 97 b && nat_le b 122) || (nat_le 65 b && nat_le b 90) || b == 95
+
+-- a letter, `_` or a digit
+abbrev pub is_word_byte : ℕ → Bool
+is_word_byte b = is_letter b || is_digit b
+
+-- LF
+abbrev pub is_line_end : ℕ → Bool
+is_line_end b = b == 10
+
+-- space, tab, LF, VT, FF and CR (C17 6.4, white space)
+abbrev pub is_blank : ℕ → Bool
+is_blank b = b == 32 || (nat_le 9 b && nat_le b 13)
+
+-- a blank that ends no line
+abbrev pub is_line_blank : ℕ → Bool
+is_line_blank b = is_blank b && not (is_line_end b)
+
+-- a byte that is no line end
+abbrev pub goes_on : ℕ → Bool
+goes_on b = not (is_line_end b)
