@@ -1,0 +1,12 @@
+pub mod Command
+pub mod Judged
+pub mod Meaning
+pub mod Members
+pub mod Numbers
+pub mod Outcome
+pub mod ReadTests
+pub mod Reply
+pub mod Seen
+pub mod TestsFile
+pub mod Texts
+pub mod Vectors
