@@ -39,8 +39,9 @@ pub fn claim(cover: &Cover, pass: &mut Pass) -> Option<u32>
     ensures different { AreDifferentBelow cover.now.shape.tests pass.new.view.claims }
     ensures few { length pass.new.view.claims ≤ cover.now.shape.tests }
 {
+    let tests = cover.shape.tests;
     let drawn = cover.table.shared.fetch_add::<Claims>(&mut pass.seat, 0, 1);
-    if drawn < u64::from(cover.shape.tests) {
+    if drawn < u64::from(tests) {
         Some(drawn as u32)
     } else {
         None

@@ -1,7 +1,7 @@
 //! Closers make the matrix of a cover, and may leave out tests.
 ghost use Rattle.std.specs.Prelude.{◌≡◌, ℕ, ◌*◌, ◌<◌, ◌↔◌, List, [], ◌∷◌, length, Contains};
 ghost use Rattle.mc_core.specs.Shape.{word_count, rows};
-ghost use Rattle.mc_core.specs.Matrix.{Holds, bit_of};
+ghost use Rattle.mc_core.specs.Matrix.{Holds, HasNoSpareBit, bit_of};
 ghost use Rattle.mc_cover.specs.Closed.{left_of};
 
 use crate::calls::{close, closing_words, place_of};
@@ -48,16 +48,27 @@ impl Closer for SkippingCloser {
     fn close(&self, cover: Cover, pass: Pass) -> Matrix {
         let shape = cover.shape;
         let mut words = closing_words(cover, pass);
-        for test in &self.skipped {
-            clear_test(words.as_mut_slice(), shape, *test);
-        }
+        clear_tests(words.as_mut_slice(), shape, self.skipped.as_slice());
         Matrix::of_words(shape, words)
+    }
+}
+
+// No bit has one of the tests any more.
+fn clear_tests(words: &mut [u64], shape: Shape, tests: &[u32])
+    requires whole { length words.old ≡ word_count shape }
+    requires spare { HasNoSpareBit shape words.old }
+    ensures whole { length words.new ≡ word_count shape }
+    ensures bits { (b t : ℕ) → b < shape.bits → t < 64 * rows shape → bit_of shape words.new b t ≡ left_of tests.now t (bit_of shape words.old b t) }
+{
+    for test in tests {
+        clear_test(words, shape, *test);
     }
 }
 
 // No bit has the test any more.
 fn clear_test(words: &mut [u64], shape: Shape, test: u32)
     requires whole { length words.old ≡ word_count shape }
+    requires spare { HasNoSpareBit shape words.old }
     ensures whole { length words.new ≡ word_count shape }
     ensures bits { (b t : ℕ) → b < shape.bits → t < 64 * rows shape → bit_of shape words.new b t ≡ left_of (test ∷ []) t (bit_of shape words.old b t) }
 {
