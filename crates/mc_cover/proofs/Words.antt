@@ -17,7 +17,7 @@ use Rattle.mc_cover.specs.declared.view.Role.{Role}
 use Rattle.mc_cover.specs.declared.view.Role.TheVariants.{Opener, Worker, Spent}
 use Rattle.mc_cover.specs.Views.{opens, works, runs}
 use Rattle.mc_cover.specs.Rule.{Shared, HasView, IsKept, draws, coverage}
-use Rattle.mc_cover.specs.Words.{OfSome, OfOne, IsDrawnTest, Counts, IsOrderly, IsRuled}
+use Rattle.mc_cover.specs.Words.{OfSome, OfOne, IsDrawnTest, OpenerCounts, IsOrderly, IsRuled}
 use Rattle.mc_cover.proofs.Sums.{part_le, parts_le}
 use Rattle.mc_cover.proofs.Counts.{contains_of_marks, marks_of_contains, contains_of_times, times_of_contains, once_in, once_le_one, below_of_once}
 use Rattle.mc_cover.proofs.Ends.{forks_is, joined_is}

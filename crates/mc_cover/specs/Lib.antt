@@ -5,3 +5,4 @@ pub mod Steps
 pub mod Tells
 pub mod Model
 pub mod Closed
+pub mod Workers

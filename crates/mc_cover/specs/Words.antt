@@ -23,7 +23,7 @@ abbrev pub IsDrawnTest : Shape → Shared → ℕ → Type 0
 IsDrawnTest k s n = n < min (draws s.words) k.tests
 
 -- what the opener's view counts
-pub record Counts (s : Shared) (v : View) : Type 0 where
+pub record OpenerCounts (s : Shared) (v : View) : Type 0 where
   pub workers : sum_by (λ w. works w.role) s.views + v.joined ≡ v.forks
   pub running : sum_by (λ w. w.over) s.views + sum_by runs s.views ≤ v.forks
   pub forks : v.forks ≤ 64
@@ -52,6 +52,6 @@ pub record IsRuled (k : Shape) (s : Shared) : Type 0 where
   pub clear : (b t : ℕ) → b < k.bits → t < 64 * rows k → ¬ OfSome s (λ v. Contains v.hits (b, t)) → bit_of k (coverage s.words) b t ≡ 0
   pub each : (id : ℕ) (v : View) → HasView s id v → IsOrderly k s.words v
   pub opener : OfOne s (λ v. v.role ≡ Opener)
-  pub counts : (id : ℕ) (v : View) → HasView s id v → v.role ≡ Opener → Counts s v
+  pub counts : (id : ℕ) (v : View) → HasView s id v → v.role ≡ Opener → OpenerCounts s v
   -- so word 0 never wraps
   pub small : draws s.words ≤ k.tests + 64

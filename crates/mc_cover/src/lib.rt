@@ -22,3 +22,6 @@ pub use opening::{OpenFault, open};
 pub use pass::Pass;
 pub use rule::Rule;
 pub use view::{Role, View};
+
+#[cfg(test)]
+mod tests;
