@@ -8,5 +8,6 @@ pub mod Joins
 pub mod Ends
 pub mod Words
 pub mod Laws
+pub mod Passes
 pub mod Closed
 pub mod Clears

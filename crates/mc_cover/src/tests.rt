@@ -73,13 +73,13 @@ fn fork_all(
     Ok(passes)
 }
 
-fn join_all(cover: &Cover, pass: &mut Pass, passes: Vec<Pass>)
+fn join_all(cover: &Cover, pass: &mut Pass, mut passes: Vec<Pass>)
     requires own { pass.old.cover ≡ cover.now.cover }
     requires opener { (pass.old.view.role ≡ Role.Opener) × (pass.old.view.joined + vec_len passes ≡ pass.old.view.forks) }
     requires passes { AllDone cover.now passes.items }
     ensures { (pass.new.cover ≡ pass.old.cover) × (pass.new.view.role ≡ Role.Opener) × (pass.new.view.forks ≡ pass.new.view.joined) }
 {
-    for other in passes {
+    while let Some(other) = passes.pop() {
         join(cover, pass, other);
     }
 }
