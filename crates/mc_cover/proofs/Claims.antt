@@ -1,23 +1,22 @@
 -- A claim keeps the rule.
-use Rattle.std.proofs.Common.{◌≡◌, ◌≢◌, ℕ, ◌+◌, ◌-◌, ◌*◌, ◌%◌, ◌^◌, ◌<◌, ◌≤◌, List, [], ◌∷◌, ◌++◌, length, get_or, set, sym, refl, ap, ◌∙◌, subst, arith, length-set, get_or-set_same}
-use Rattle.std.specs.Prelude.{min, All, Contains, sum_by, nat_lt, nat_le, true, false, Bool, if◌then◌else◌}
+use Rattle.std.proofs.Common.{◌≡◌, ◌≢◌, ℕ, ◌+◌, ◌*◌, ◌%◌, ◌^◌, ◌<◌, ◌≤◌, List, [], ◌∷◌, ◌++◌, length, get_or, set, sym, refl, ap, ◌∙◌, subst, arith, length-set, get_or-set_same}
+use Rattle.std.specs.Prelude.{min, All, sum_by, nat_lt, nat_le, true, false, Bool, if◌then◌else◌}
 use Rattle.std.specs.Int.{bit_at}
 use Rattle.std.proofs.lemmas.Bool.Decides.{nat_tests}
 use Rattle.std.proofs.lemmas.List.Elements.{Contains-append_left}
 use native.Mathlib.Decide.{dec_lt}
-use mathlib.Core.Option.{none, some}
+use mathlib.Core.Option.{none}
 use mathlib.Core.Logic.{dite}
-use lib.ListN.{get_elem?}
 use Rattle.atomic_table.specs.Table.{Me, step, keeps, Allows, stepped}
 use Rattle.atomic_table.proofs.Lists.{set_here}
 use Rattle.mc_core.specs.declared.shape.Shape.{Shape}
-use Rattle.mc_core.specs.Shape.{rows, place}
+use Rattle.mc_core.specs.Shape.{rows}
 use Rattle.mc_core.specs.Matrix.{bit_of}
 use Rattle.mc_core.specs.Counts.{times, once_below, marks}
 use Rattle.mc_cover.specs.declared.view.View.{View}
 use Rattle.mc_cover.specs.declared.view.Role.TheVariants.{Worker, Spent}
 use Rattle.mc_cover.specs.Views.{after_claim, with_claim, ended, opens, works, runs}
-use Rattle.mc_cover.specs.Rule.{Shared, HasView, IsSound, IsKept, IsStillSet, draws, coverage}
+use Rattle.mc_cover.specs.Rule.{Shared, HasView, IsSound, IsKept, draws, coverage}
 use Rattle.mc_cover.specs.Steps.{drawn}
 use Rattle.mc_cover.specs.Tells.{claim_is, AreDifferentBelow}
 use Rattle.mc_cover.proofs.Sums.{total_set, total_kept, part_le, at_length}

@@ -1,12 +1,11 @@
 -- From the words of a closed cover to its pairs.
-use Rattle.std.proofs.Common.{◌≡◌, ◌≢◌, ℕ, ◌+◌, ◌*◌, ◌<◌, ◌≤◌, List, [], ◌∷◌, ◌++◌, get_or, sym, refl, ap, ◌∙◌, subst, arith}
-use Rattle.std.specs.Prelude.{min, All, Contains, ◌↔◌, if◌then◌else◌, ◌==◌}
+use Rattle.std.proofs.Common.{◌≡◌, ◌≢◌, ℕ, ◌<◌, List, [], ◌∷◌, ◌++◌, sym, ap, ◌∙◌, subst, arith}
+use Rattle.std.specs.Prelude.{min, Contains, ◌↔◌, ◌==◌}
 use Rattle.std.proofs.lemmas.Bool.Decides.{nat_tests}
 use native.Mathlib.Decide.{dec_lt}
 use mathlib.Core.Logic.{dite}
 use Rattle.mc_core.specs.declared.shape.Shape.{Shape}
-use Rattle.mc_core.specs.Shape.{rows}
-use Rattle.mc_core.specs.Matrix.{bit_of, HasNoSpareBit, Holds, MatrixView}
+use Rattle.mc_core.specs.Matrix.{HasNoSpareBit, Holds}
 use Rattle.mc_core.specs.Counts.{marks, times}
 use Rattle.mc_cover.specs.Closed.{left_of, HasHits, AreInRange}
 use Rattle.mc_cover.proofs.Counts.{tally, contains_of_marks, marks_of_contains, contains_of_times, times_of_contains, times_push}

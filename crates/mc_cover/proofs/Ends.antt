@@ -1,10 +1,9 @@
 -- What is known once every fork is joined, and what the words hold at the end.
-use Rattle.std.proofs.Common.{◌≡◌, ◌≢◌, ℕ, ◌+◌, ◌-◌, ◌*◌, ◌%◌, ◌<◌, ◌≤◌, ◌⊎◌, ⊎_elim, inl, inr, List, [], ◌∷◌, length, get_or, set, sym, refl, ap, ◌∙◌, subst, arith}
+use Rattle.std.proofs.Common.{◌≡◌, ◌≢◌, ℕ, ◌*◌, ◌%◌, ◌<◌, ◌≤◌, ◌⊎◌, ⊎_elim, inl, inr, List, get_or, sym, refl, ap, ◌∙◌, subst, arith}
 use Rattle.std.specs.Prelude.{min, All, Contains, sum_by}
 use Rattle.std.specs.Int.{bit_at}
 use Rattle.std.proofs.lemmas.List.{set-get_or}
-use mathlib.Core.Option.{none, some}
-use lib.ListN.{get_elem?}
+use mathlib.Core.Option.{none}
 use Rattle.atomic_table.specs.Table.{Me, step, keeps, Allows, Final, Seen}
 use Rattle.atomic_table.proofs.Lists.{set_again}
 use Rattle.mc_core.specs.declared.shape.Shape.{Shape}
@@ -14,8 +13,8 @@ use Rattle.mc_core.specs.Counts.{marks, times, once_below}
 use Rattle.mc_cover.specs.declared.view.View.{View}
 use Rattle.mc_cover.specs.declared.view.Role.{Role}
 use Rattle.mc_cover.specs.declared.view.Role.TheVariants.{Opener, Worker, Spent}
-use Rattle.mc_cover.specs.Views.{opens, works, runs, spent}
-use Rattle.mc_cover.specs.Rule.{Shared, HasView, IsSound, IsKept, draws, coverage}
+use Rattle.mc_cover.specs.Views.{opens, works, spent}
+use Rattle.mc_cover.specs.Rule.{Shared, HasView, IsKept, draws, coverage}
 use Rattle.mc_cover.specs.Tells.{IsSettled, SeenIsHit, settle_is}
 use Rattle.mc_cover.specs.Closed.{AreInRange}
 use Rattle.mc_cover.proofs.Sums.{part_le, parts_le, total_alone}

@@ -1,8 +1,6 @@
 -- The laws of the shared words.
-use Rattle.std.proofs.Common.{◌≡◌, ◌≢◌, ℕ, ◌*◌, ◌^◌, ◌<◌, arith}
-use Rattle.std.specs.Prelude.{Contains, min}
+use Rattle.std.proofs.Common.{◌^◌, ◌<◌, arith}
 use Rattle.mc_core.specs.declared.shape.Shape.{Shape}
-use Rattle.mc_core.specs.Shape.{rows}
 use Rattle.mc_cover.specs.Rule.{Shared, IsKept}
 use Rattle.mc_cover.specs.Steps.{StepsKeep, IsMove}
 use Rattle.mc_cover.proofs.Hits.{kept_hit, move_hit}

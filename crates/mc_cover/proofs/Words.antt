@@ -1,7 +1,6 @@
 -- The rule in plain words follows from the sums.
-use Rattle.std.proofs.Common.{◌≡◌, ◌≢◌, ℕ, suc, ◌+◌, ◌*◌, ◌%◌, ◌<◌, ◌≤◌, List, [], ◌∷◌, get_or, sym, refl, ap, ◌∙◌, subst, arith}
-use Rattle.std.specs.Prelude.{min, All, Contains, sum_by}
-use Rattle.std.specs.Int.{bit_at}
+use Rattle.std.proofs.Common.{◌≡◌, ℕ, suc, ◌<◌, List, [], ◌∷◌, get_or, refl, ap, arith}
+use Rattle.std.specs.Prelude.{min, Contains, sum_by}
 use Rattle.std.proofs.lemmas.List.Sums.{sum_by-cons}
 use Rattle.std.proofs.lemmas.Nat.Bits.{bit_at-lt}
 use mathlib.Core.Option.{some}
@@ -9,15 +8,13 @@ use mathlib.Core.Logic.{dite}
 use native.Mathlib.Decide.{ℕ_discrete, dec_lt}
 use lib.ListN.{get_elem?}
 use Rattle.mc_core.specs.declared.shape.Shape.{Shape}
-use Rattle.mc_core.specs.Shape.{rows, place}
-use Rattle.mc_core.specs.Matrix.{bit_of}
-use Rattle.mc_core.specs.Counts.{marks, times, once_below}
+use Rattle.mc_core.specs.Counts.{marks, times}
 use Rattle.mc_cover.specs.declared.view.View.{View}
 use Rattle.mc_cover.specs.declared.view.Role.{Role}
 use Rattle.mc_cover.specs.declared.view.Role.TheVariants.{Opener, Worker, Spent}
-use Rattle.mc_cover.specs.Views.{opens, works, runs}
+use Rattle.mc_cover.specs.Views.{opens}
 use Rattle.mc_cover.specs.Rule.{Shared, HasView, IsKept, draws, coverage}
-use Rattle.mc_cover.specs.Words.{OfSome, OfOne, IsDrawnTest, OpenerCounts, IsOrderly, IsRuled}
+use Rattle.mc_cover.specs.Words.{OfSome, IsDrawnTest, IsOrderly, IsRuled}
 use Rattle.mc_cover.proofs.Sums.{part_le, parts_le}
 use Rattle.mc_cover.proofs.Counts.{contains_of_marks, marks_of_contains, contains_of_times, times_of_contains, once_in, once_le_one, below_of_once}
 use Rattle.mc_cover.proofs.Ends.{forks_is, joined_is}

@@ -1,5 +1,5 @@
 -- The rule of the shared words, as it is kept from step to step: each part that speaks of several views is a sum over them.
-use Rattle.std.specs.Prelude.{◌≡◌, ◌≢◌, ◌≤◌, ℕ, ◌+◌, ◌-◌, ◌*◌, ◌%◌, ◌<◌, List, [], ◌∷◌, length, slice_index, sum_by, min, All, Contains}
+use Rattle.std.specs.Prelude.{◌≡◌, ◌≢◌, ◌≤◌, ℕ, ◌+◌, ◌-◌, ◌*◌, ◌<◌, List, [], ◌∷◌, length, slice_index, sum_by, min, All, Contains}
 use mathlib.Core.Option.{some}
 use lib.ListN.{get_elem?}
 use Rattle.std.specs.Int.{bit_at}
@@ -9,7 +9,7 @@ use Rattle.mc_core.specs.Shape.{rows, word_count}
 use Rattle.mc_core.specs.Matrix.{bit_of}
 use Rattle.mc_core.specs.Counts.{times, once_below, marks}
 use Rattle.mc_cover.specs.declared.view.View.{View}
-use Rattle.mc_cover.specs.declared.view.Role.TheVariants.{Opener, Worker, Spent}
+use Rattle.mc_cover.specs.declared.view.Role.TheVariants.{Worker, Spent}
 use Rattle.mc_cover.specs.Views.{opens, works, runs, spent}
 
 -- the words and the views of all passes, at one moment

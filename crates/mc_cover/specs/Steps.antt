@@ -1,6 +1,6 @@
 -- The steps, each as the words and views that it makes of those before.
 -- A claim changes word 0 and a hit a coverage word as in the interleaving core; no other step changes a word.
-use Rattle.std.specs.Prelude.{◌≡◌, ◌≢◌, ℕ, ◌+◌, ◌%◌, ◌^◌, ◌<◌, List, [], ◌∷◌, ◌++◌, slice_index, slice_set, bit_or, replicate, Contains}
+use Rattle.std.specs.Prelude.{◌≡◌, ◌≢◌, ℕ, ◌+◌, ◌%◌, ◌^◌, ◌<◌, [], ◌∷◌, ◌++◌, slice_index, slice_set, bit_or, replicate, Contains}
 use Rattle.atomic_table.specs.Table.{keeps, stepped}
 use Rattle.mc_core.specs.declared.shape.Shape.{Shape}
 use Rattle.mc_core.specs.Shape.{word_count, place}

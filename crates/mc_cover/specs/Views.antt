@@ -1,5 +1,5 @@
 -- What a pass knows, at the start and after each of its steps.
-use Rattle.std.specs.Prelude.{ℕ, ◌+◌, ◌-◌, List, [], ◌∷◌, ◌++◌, if◌then◌else◌}
+use Rattle.std.specs.Prelude.{ℕ, ◌+◌, ◌-◌, [], ◌∷◌, ◌++◌, if◌then◌else◌}
 use Rattle.mc_core.specs.declared.shape.Shape.{Shape}
 use Rattle.mc_core.specs.Steps.{claims_after, ends}
 use Rattle.mc_cover.specs.declared.view.Role.{Role}

@@ -1,6 +1,6 @@
 //! The calls of passes on shared words.
 ghost use Rattle.std.specs.Prelude.{◌≡◌, ℕ, ◌+◌, ◌<◌, ◌≤◌, ◌↔◌, [], length, Contains, IfSome, IfNone, vec_len};
-ghost use Rattle.mc_core.specs.Shape.{word_count, place};
+ghost use Rattle.mc_core.specs.Shape.{word_count};
 ghost use Rattle.mc_core.specs.Matrix.{Holds};
 ghost use Rattle.mc_cover.specs.Views.{worker, after_fork, with_claim, ended, after_hit, after_join};
 ghost use Rattle.mc_cover.specs.Tells.{AreDifferentBelow, IsSettled, SeenIsHit};
@@ -11,7 +11,7 @@ use crate::cover::Cover;
 use crate::pass::Pass;
 use crate::rule::{Claims, Forks, Hits, Joins, Settles};
 use crate::view::Role;
-use mc_core::{Matrix, Shape};
+use mc_core::Matrix;
 
 /// Gives a worker's pass.
 pub fn fork(cover: &Cover, pass: &mut Pass) -> Pass
@@ -56,7 +56,7 @@ pub fn hit(cover: &Cover, pass: &mut Pass, bit: u32, test: u32)
     ensures own { pass.new.cover ≡ pass.old.cover }
     ensures hit { pass.new.view ≡ after_hit pass.old.view bit test }
 {
-    let word = place_of(cover.shape, bit, test) + 1;
+    let word = cover.shape.place(bit, test) + 1;
     let mask = 1 << (test % 64);
     cover
         .table
@@ -114,13 +114,4 @@ pub(crate) fn closing_words(cover: Cover, pass: Pass) -> Vec<u64>
     }
     closed.free();
     room
-}
-
-/// The coverage word in which the bit lies under the test.
-pub(crate) fn place_of(shape: Shape, bit: u32, test: u32) -> usize
-    requires in_range { (bit < shape.bits) × (test < shape.tests) }
-    ensures { result ≡ place shape bit test }
-{
-    let rows = (shape.tests as usize).div_ceil(64);
-    bit as usize * rows + test as usize / 64
 }

@@ -4,7 +4,7 @@ ghost use Rattle.mc_core.specs.Shape.{word_count, rows};
 ghost use Rattle.mc_core.specs.Matrix.{Holds, HasNoSpareBit, bit_of};
 ghost use Rattle.mc_cover.specs.Closed.{left_of};
 
-use crate::calls::{close, closing_words, place_of};
+use crate::calls::{close, closing_words};
 use crate::cover::Cover;
 use crate::pass::Pass;
 use crate::view::Role;
@@ -76,6 +76,6 @@ fn clear_test(words: &mut [u64], shape: Shape, test: u32)
         return;
     }
     for bit in 0..shape.bits {
-        words[place_of(shape, bit, test)] &= !(1 << (test % 64));
+        words[shape.place(bit, test)] &= !(1 << (test % 64));
     }
 }

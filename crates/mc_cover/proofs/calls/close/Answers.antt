@@ -1,4 +1,4 @@
-use Rattle.std.proofs.Common.{◌≡◌, ℕ, ◌<◌, sym, ap, ◌∙◌, subst, arith}
+use Rattle.std.proofs.Common.{sym, subst, arith}
 use Rattle.std.specs.Prelude.{[], Contains, ◌↔◌}
 use Rattle.mc_core.specs.Matrix.{Holds, MatrixView}
 use Rattle.mc_cover.specs.Closed.{HasHits, AreInRange}

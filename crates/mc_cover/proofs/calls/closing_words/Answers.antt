@@ -1,4 +1,4 @@
-use Rattle.std.proofs.Common.{◌≡◌, ℕ, ◌+◌, ◌*◌, ◌%◌, ◌<◌, length, get_or, sym, ap, ◌∙◌, subst, arith, min}
+use Rattle.std.proofs.Common.{◌≡◌, ℕ, ◌+◌, ◌%◌, ◌<◌, length, get_or, sym, ap, ◌∙◌, subst, arith}
 use Rattle.std.specs.Prelude.{slice_set, []}
 use Rattle.std.specs.Int.{bit_at}
 use Rattle.std.specs.Slots.{slots_items}
@@ -7,9 +7,7 @@ use mathlib.Core.Logic.{dite}
 use native.Mathlib.Decide.{ℕ_discrete}
 use Rattle.atomic_table.specs.Table.{Final, Seen}
 use Rattle.mc_core.specs.declared.shape.Shape.{Shape}
-use Rattle.mc_core.specs.Shape.{place, rows}
-use Rattle.mc_core.specs.Counts.{marks}
-use Rattle.mc_core.specs.Matrix.{bit_of}
+use Rattle.mc_core.specs.Shape.{place}
 use Rattle.mc_cover.specs.Rule.{IsKept}
 use Rattle.mc_cover.specs.Tells.{SeenIsHit}
 use Rattle.mc_cover.specs.Closed.{AreInRange, HasHits}

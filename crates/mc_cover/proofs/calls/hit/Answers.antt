@@ -1,4 +1,4 @@
-use Rattle.std.proofs.Common.{◌≡◌, ℕ, ◌+◌, ◌*◌, ◌/◌, ◌^◌, ◌%◌, ◌<◌, sym, ap, ◌∙◌, subst, arith}
+use Rattle.std.proofs.Common.{◌≡◌, ℕ, ◌+◌, ◌*◌, ◌^◌, ◌%◌, ◌<◌, sym, ap, ◌∙◌, subst, arith}
 use Rattle.std.specs.Prelude.{bit_or, Contains}
 use Rattle.std.proofs.lemmas.Nat.{one_shl}
 use mathlib.Core.Option.{none}
@@ -22,14 +22,14 @@ fetch_or-requires c =
     let p = c.pass.inside.seat in
     let b : ℕ = c.args.bit in
     let t : ℕ = c.args.test in
-    let w : ℕ = c.place_of-word.result + 1 in
+    let w : ℕ = c.place-word.result + 1 in
     let mask : ℕ = 1 * 2 ^ (t % 64) % 2 ^ 64 in
     let s = c.pass.view_is in
     let seen_shape = ap (λ (x : CoverView). x.shape) c.cover.view_is in
     let shape = ap (λ (x : PassView). x.view.shape) s ∙ c.requires.own.1 ∙ sym seen_shape in
     let in_b : b < k.bits = subst (λ (x : Shape). b < x.bits) (sym seen_shape) c.requires.in_range.0 in
     let in_t : t < k.tests = subst (λ (x : Shape). t < x.tests) (sym seen_shape) c.requires.in_range.1 in
-    let word : w ≡ place k b t + 1 = ap (λ (m : ℕ). m + 1) c.place_of-word.ensures in
+    let word : w ≡ place k b t + 1 = ap (λ (m : ℕ). m + 1) c.place-word.ensures in
     let wide = place_within k b t in_b (omega arith) in
     let sized = c.cover.invariant.words in (
       ap (λ (x : PassView). x.cover) s ∙ c.requires.own.0 ∙ sym (ap (λ (x : CoverView). x.cover) c.cover.view_is),
@@ -48,7 +48,7 @@ after c =
     let in_b : b < k.bits = subst (λ (x : Shape). b < x.bits) (sym seen_shape) c.requires.in_range.0 in
     let in_t : t < k.tests = subst (λ (x : Shape). t < x.tests) (sym seen_shape) c.requires.in_range.1 in
     let wide : t < 64 * rows k = omega arith in
-    let word = ap (λ (m : ℕ). m + 1) c.place_of-word.ensures ∙ ap (λ (z : Shape). place z b t + 1) (sym shape) in
+    let word = ap (λ (m : ℕ). m + 1) c.place-word.ensures ∙ ap (λ (z : Shape). place z b t + 1) (sym shape) in
     c.fetch_or.ensures.2.1 b t (subst (λ (z : Shape). b < z.bits) (sym shape) in_b) (subst (λ (z : Shape). t < 64 * rows z) (sym shape) wide) word (one_shl (t % 64) 64 (omega arith))
 
 pub invariant_of-pass : goal.invariant_of-pass

@@ -1,5 +1,4 @@
-use Rattle.std.proofs.Common.{◌≡◌, ℕ, ◌+◌, ◌-◌, ◌*◌, ◌/◌, ◌%◌, ◌^◌, ◌<◌, length, List, [], ◌∷◌, get_or, set, sym, ap, ◌∙◌, subst, arith}
-use Rattle.std.specs.Prelude.{bit_and}
+use Rattle.std.proofs.Common.{◌≡◌, ℕ, ◌+◌, ◌*◌, ◌%◌, ◌<◌, List, [], ◌∷◌, sym, ap, ◌∙◌, subst, arith}
 use Rattle.std.proofs.lemmas.List.{length-set}
 use Rattle.mc_core.specs.declared.shape.Shape.{Shape}
 use Rattle.mc_core.specs.Shape.{rows, place}
@@ -26,8 +25,8 @@ loop-bit-preserved c =
     let ws : List ℕ = c.loop-bit.words in
     let test : ℕ = c.args.test in
     let bit : ℕ = c.loop-bit.bit in
-    let at : c.place_of.result ≡ place k bit test = c.place_of.ensures in record {
-      whole = length-set ws c.place_of.result _ ∙ c.loop-bit.invariant.whole;
+    let at : c.place.result ≡ place k bit test = c.place.ensures in record {
+      whole = length-set ws c.place.result _ ∙ c.loop-bit.invariant.whole;
       bits = subst (λ (p : ℕ). (b t : ℕ) → b < k.bits → t < 64 * rows k → bit_of k (cleared ws p (test % 64)) b t ≡ cleared_of (bit + 1) test b t (bit_of k c.args.words.now b t)) (sym at)
           (clear_more k ws (λ b t. bit_of k c.args.words.now b t) bit test c.loop-bit.invariant.whole c.loop-bit-test.true (omega arith) c.loop-bit.invariant.bits);
     }

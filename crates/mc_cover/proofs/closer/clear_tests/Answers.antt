@@ -1,6 +1,5 @@
-use Rattle.std.proofs.Common.{◌≡◌, ℕ, ◌+◌, ◌*◌, ◌<◌, take, get_or, suc, ◌++◌, [], ◌∷◌, List, sym, ap, ◌∙◌, subst, arith}
+use Rattle.std.proofs.Common.{◌≡◌, ℕ, ◌+◌, take, get_or, suc, ◌++◌, [], ◌∷◌, List, sym, ap, ◌∙◌, subst, arith}
 use Rattle.std.proofs.Math.Seq.{take-suc}
-use Rattle.mc_core.specs.Shape.{rows}
 use Rattle.mc_core.specs.Matrix.{bit_of}
 use Rattle.mc_cover.specs.Closed.{left_of}
 use Rattle.mc_cover.proofs.Closed.{left_more, left_zero}

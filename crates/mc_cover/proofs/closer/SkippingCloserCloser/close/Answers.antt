@@ -1,8 +1,7 @@
-use Rattle.std.proofs.Common.{◌≡◌, ℕ, ◌<◌, ◌*◌, ◌++◌, [], take, drop, length, List, sym, ap, ◌∙◌, subst, arith, min}
+use Rattle.std.proofs.Common.{◌≡◌, ℕ, ◌++◌, [], take, drop, length, List, sym, ap, ◌∙◌, subst}
 use Rattle.std.specs.Prelude.{Contains, ◌↔◌}
 use Rattle.std.proofs.Math.Seq.{take-append_seam}
 use Rattle.mc_core.specs.Matrix.{Holds, HasNoSpareBit, MatrixView, bit_of}
-use Rattle.mc_core.specs.Counts.{marks}
 use Rattle.mc_core.specs.Shape.{rows}
 use Rattle.mc_cover.specs.Closed.{HasHits, AreInRange, left_of}
 use Rattle.mc_cover.specs.Model.{CoverView}
