@@ -1,0 +1,13 @@
+pub mod Sums
+pub mod Counts
+pub mod Bits
+pub mod Opened
+pub mod Hits
+pub mod Claims
+pub mod Joins
+pub mod Ends
+pub mod Words
+pub mod Laws
+pub mod Passes
+pub mod Closed
+pub mod Clears

@@ -1,0 +1,8 @@
+pub mod Views
+pub mod Rule
+pub mod Words
+pub mod Steps
+pub mod Tells
+pub mod Model
+pub mod Closed
+pub mod Workers
