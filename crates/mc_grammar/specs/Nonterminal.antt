@@ -1,4 +1,5 @@
 -- What stands on the left of a production of expressions.
+use Rattle.std.specs.Prelude.{ℕ}
 use Rattle.mc_tree.specs.Tree.{Expression}
 
 -- the levels of operators between two operands, that which binds closest first
@@ -25,3 +26,9 @@ operand bit_xor = level bit_and
 operand bit_or = level bit_xor
 operand land = level bit_or
 operand lor = level land
+
+-- how many tokens it takes at least
+abbrev pub takes : Nonterminal → ℕ
+takes (operations k a) = 0
+takes (suffixes a) = 0
+takes _ = 1

@@ -1,4 +1,4 @@
 //! The grammar of the C subset, as a relation between lists of tokens and trees. It computes nothing.
 #![tactic(auto)]
 
-mod laws;
+pub mod laws;
