@@ -22,7 +22,7 @@ pub data ReadsItem (dialect : Dialect) : List Lexeme → Item → List Lexeme �
   -- The `{` behind the `)` makes it a definition: no declaration goes on with one.
   defined : {x : Lexeme} {ts after_words mid body rest : List Lexeme} {s : Specifiers} {stars : ℕ} {ps : Parameters} {b : BlockItems} → ReadsSpecifiers dialect false ts s after_words → for_function s ≡ true
       → ReadsStars after_words stars (x ∷ mid) → is_name x ≡ true → ReadsParameters dialect mid ps body → ReadsCompound dialect body b rest
-      → ReadsItem dialect ts (t.Defined s stars (name_at x) ps b (part ts rest)) rest
+      → ReadsItem dialect ts (t.Defined s (t.function stars (name_at x) ps (part after_words body)) b (part ts rest)) rest
 
 -- unit = { item }                                                                       C17 6.9
 pub data ReadsUnit (dialect : Dialect) : List Lexeme → List Item → Type 0 where

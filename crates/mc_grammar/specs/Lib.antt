@@ -6,3 +6,4 @@ pub mod Counts
 pub mod Expressions
 pub mod Statements
 pub mod Items
+pub mod Meaning

@@ -1,11 +1,16 @@
 //! Laws of the grammar: what follows from its productions, for whoever reads or uses them.
-ghost use Rattle.std.specs.Prelude.{◌≡◌, ◌≤◌, ◌<◌, ◌+◌, ℕ, length, List};
+ghost use Rattle.std.specs.Prelude.{◌≡◌, ◌≤◌, ◌<◌, ◌+◌, ◌∷◌, ℕ, length, List, true, false, codes};
 ghost use Rattle.mc_lex.specs.declared.token.Dialect.{Dialect};
-ghost use Rattle.mc_tree.specs.Tree.{Expression, Statement, Item};
-ghost use Rattle.mc_grammar.specs.Words.{Lexeme};
+ghost use Rattle.mc_lex.specs.declared.token.TokenKind.TheVariants as kind;
+ghost use Rattle.mc_tree.specs.declared.span.Span.{Span};
+ghost use Rattle.mc_tree.specs.Tree.{BlockItems, Declaration, Expression, Statement, Item};
+ghost use Rattle.mc_tree.specs.Tree as t;
+ghost use Rattle.mc_grammar.specs.Words.{Lexeme, sees_cast, sees_word};
+ghost use Rattle.mc_grammar.specs.Meaning.{is_cast};
 ghost use Rattle.mc_grammar.specs.Nonterminal.{Nonterminal, takes};
+ghost use Rattle.mc_grammar.specs.Nonterminal as n;
 ghost use Rattle.mc_grammar.specs.Expressions.{Reads};
-ghost use Rattle.mc_grammar.specs.Statements.{ReadsStatement};
+ghost use Rattle.mc_grammar.specs.Statements.{ReadsStatement, ReadsBlockItems};
 ghost use Rattle.mc_grammar.specs.Items.{ReadsItem};
 
 /// What an expression leaves is no longer than what was given, and shorter where its nonterminal
@@ -25,4 +30,24 @@ pub fn statement_is_not_empty()
 #[tactic(auto, using(crate::proofs::Lengths::item_shorter))]
 pub fn item_is_not_empty()
     ensures { (d : Dialect) (ts rest : List Lexeme) (one : Item) → ReadsItem d ts one rest → length rest < length ts }
+{}
+
+/// An `else` belongs to the nearest `if`: one that has no `else` never stands before one.
+#[tactic(auto, using(crate::proofs::Choices::nearest_if))]
+pub fn else_belongs_to_nearest_if()
+    ensures { (d : Dialect) (ts rest : List Lexeme) (a : Expression) (one : Statement) (span : Span) → ReadsStatement d ts (t.If a one span) rest → sees_word (codes "else") rest ≡ false }
+{}
+
+/// A cast is read exactly at a `(` that stands before a specifier word or a typedef name.
+#[tactic(auto, using(crate::proofs::Choices::cast_exactly))]
+pub fn cast_begins_at_type()
+    ensures { (d : Dialect) (ts rest : List Lexeme) (a : Expression) → Reads d n.cast ts a rest → is_cast a ≡ sees_cast ts }
+{}
+
+/// In a block what begins with an identifier, as `T * x;`, is a declaration exactly where the
+/// identifier is a typedef name, and else a statement.
+#[tactic(auto, using(crate::proofs::Choices::local_name, crate::proofs::Choices::statement_name))]
+pub fn declaration_begins_at_type()
+    ensures local { (d : Dialect) (x : Lexeme) (ts rest : List Lexeme) (one : Declaration) (b : BlockItems) → x.token.kind ≡ kind.Identifier → ReadsBlockItems d (x ∷ ts) (t.local one b) rest → x.names_type ≡ true }
+    ensures statement { (d : Dialect) (x : Lexeme) (ts rest : List Lexeme) (one : Statement) (b : BlockItems) → x.token.kind ≡ kind.Identifier → ReadsBlockItems d (x ∷ ts) (t.statement one b) rest → x.names_type ≡ false }
 {}

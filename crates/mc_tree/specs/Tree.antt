@@ -151,8 +151,8 @@ mutual
 -- external declarations (C17 6.9)
 pub data Item : Type 0 where
   Declared : Declaration → Item
-  -- specifiers, how many `*`, the name, the parameters, and the body
-  Defined : Specifiers → ℕ → Name → Parameters → BlockItems → Span → Item
+  -- specifiers, a function's declarator, and the body
+  Defined : Specifiers → Declarator → BlockItems → Span → Item
 
 -- where an expression stands
 abbrev pub span_of : Expression → Span
