@@ -1,5 +1,5 @@
 -- Words of the laws.
-use Rattle.std.specs.Prelude.{◌≡◌, ℕ, Bool, true, false, List}
+use Rattle.std.specs.Prelude.{ℕ, Bool, true, false, ◌&&◌, List}
 use Rattle.std.specs.Str.{bytes_eq}
 use Rattle.mc_tree.specs.Tree.{Expression}
 use Rattle.mc_tree.specs.Tree as t
@@ -9,6 +9,6 @@ abbrev pub is_cast : Expression → Bool
 is_cast (t.Cast type operand span) = true
 is_cast _ = false
 
--- no identifier of this text
-abbrev pub IsNoName : List ℕ → Lexeme → Type 0
-IsNoName name x = bytes_eq x.token.text name ≡ true → is_name x ≡ false
+-- an identifier of this text that is no typedef name
+abbrev pub is_name_of : List ℕ → Lexeme → Bool
+is_name_of name x = is_name x && bytes_eq x.token.text name

@@ -1,12 +1,13 @@
 //! Laws of the grammar: what follows from its productions, for whoever reads or uses them.
-ghost use Rattle.std.specs.Prelude.{◌≡◌, ◌≤◌, ◌<◌, ◌+◌, ◌∷◌, ℕ, length, List, true, false, codes};
+ghost use Rattle.std.specs.Prelude.{◌≡◌, ◌≤◌, ◌<◌, ◌+◌, ◌∷◌, ℕ, length, List, map, true, false, codes};
 ghost use Rattle.mc_lex.specs.declared.token.Dialect.{Dialect};
 ghost use Rattle.mc_lex.specs.declared.token.TokenKind.TheVariants as kind;
 ghost use Rattle.mc_tree.specs.declared.span.Span.{Span};
 ghost use Rattle.mc_tree.specs.Tree.{BlockItems, Declaration, Expression, Statement, Item};
 ghost use Rattle.mc_tree.specs.Tree as t;
-ghost use Rattle.mc_grammar.specs.Words.{Lexeme, sees_cast, sees_word};
-ghost use Rattle.mc_grammar.specs.Meaning.{is_cast};
+ghost use Rattle.mc_grammar.specs.Words.{Lexeme, is_tag, retag, sees_cast, sees_word};
+ghost use Rattle.std.specs.List.{list_any};
+ghost use Rattle.mc_grammar.specs.Meaning.{is_cast, is_name_of};
 ghost use Rattle.mc_grammar.specs.Nonterminal.{Nonterminal, takes};
 ghost use Rattle.mc_grammar.specs.Nonterminal as n;
 ghost use Rattle.mc_grammar.specs.Expressions.{Reads};
@@ -50,4 +51,12 @@ pub fn cast_begins_at_type()
 pub fn declaration_begins_at_type()
     ensures local { (d : Dialect) (x : Lexeme) (ts rest : List Lexeme) (one : Declaration) (b : BlockItems) → x.token.kind ≡ kind.Identifier → ReadsBlockItems d (x ∷ ts) (t.local one b) rest → x.names_type ≡ true }
     ensures statement { (d : Dialect) (x : Lexeme) (ts rest : List Lexeme) (one : Statement) (b : BlockItems) → x.token.kind ≡ kind.Identifier → ReadsBlockItems d (x ∷ ts) (t.statement one b) rest → x.names_type ≡ false }
+{}
+
+/// Where a typedef's name is in force, no token of its text is an identifier, but each that could be
+/// a tag still can.
+#[tactic(auto, using(crate::proofs::Choices::no_name_follows, crate::proofs::Choices::tags_stay))]
+pub fn typedef_name_is_no_identifier()
+    ensures names { (name : List ℕ) (ts : List Lexeme) → list_any (is_name_of name) (retag name ts) ≡ false }
+    ensures tags { (name : List ℕ) (ts : List Lexeme) → map is_tag (retag name ts) ≡ map is_tag ts }
 {}
