@@ -88,3 +88,7 @@ abbrev mutual
   pub parameters_of : {m : _} → Row_of-Parameter m → t.ParameterList
   parameters_of end_of-Parameter = t.no_parameters
   parameters_of (more_of-Parameter shape specifiers stars name shape2 sizes span rest) = t.parameters (t.parameter (specifiers_of specifiers) stars (tag_of name) (sizes_of sizes) span) (parameters_of rest)
+
+abbrev pub specifiers_from : List Specifier → t.Specifiers
+specifiers_from [] = t.no_specifiers
+specifiers_from (s ∷ ss) = t.specifiers (specifier_of s) (specifiers_from ss)

@@ -23,6 +23,7 @@ mod specifier_word;
 mod statement;
 mod step_operator;
 mod unary_operator;
+mod unit;
 
 pub use assignment_operator::AssignmentOperator;
 pub use binary_operator::BinaryOperator;
@@ -46,3 +47,4 @@ pub use specifier_word::SpecifierWord;
 pub use statement::Statement;
 pub use step_operator::StepOperator;
 pub use unary_operator::UnaryOperator;
+pub use unit::Unit;
