@@ -1,5 +1,5 @@
 -- What stands next decides what is read.
-use Rattle.std.proofs.Common.{◌≡◌, ℕ, zero, suc, Bool, true, false, not, ◌&&◌, ◌||◌, List, [], ◌∷◌, map, All, refl, ap, sym, ◌∙◌, codes}
+use Rattle.std.proofs.Common.{◌≡◌, ℕ, Bool, true, false, ◌&&◌, List, [], ◌∷◌, map, refl, sym, ◌∙◌, codes}
 use Rattle.std.specs.Str.{bytes_eq}
 use Rattle.std.specs.List.{list_any}
 use Rattle.mc_lex.specs.declared.token.Dialect.{Dialect}
@@ -7,7 +7,7 @@ use Rattle.mc_lex.specs.declared.token.TokenKind.TheVariants as kind
 use Rattle.mc_tree.specs.declared.span.Span.{Span}
 use Rattle.mc_tree.specs.Tree.{Expression, TypeName, Statement, Declaration, BlockItems}
 use Rattle.mc_tree.specs.Tree as t
-use Rattle.mc_grammar.specs.Words.{Lexeme, is_sign, is_name, is_tag, is_identifier, begins_specifiers, sees_word, sees_cast, sees_specifiers, retag, retagged}
+use Rattle.mc_grammar.specs.Words.{Lexeme, is_tag, is_identifier, begins_specifiers, sees_word, sees_cast, retag, retagged}
 use Rattle.mc_grammar.specs.Nonterminal as n
 use Rattle.mc_grammar.specs.Meaning.{is_cast, is_name_of}
 use Rattle.mc_grammar.specs.Expressions.{Reads}

@@ -1,5 +1,5 @@
 -- Which words may stand together among specifiers, by how often each does: their order is free (C17 6.7.2).
-use Rattle.std.specs.Prelude.{ℕ, ◌+◌, Bool, true, false, ◌&&◌, ◌||◌, nat_eq, nat_le, if◌then◌else◌}
+use Rattle.std.specs.Prelude.{ℕ, ◌+◌, Bool, ◌&&◌, ◌||◌, nat_eq, nat_le}
 use Rattle.mc_tree.specs.declared.specifier_word.SpecifierWord.{SpecifierWord}
 use Rattle.mc_tree.specs.declared.specifier_word.SpecifierWord.TheVariants as word
 use Rattle.mc_tree.specs.Tree.{Specifier, Specifiers}
@@ -56,7 +56,7 @@ is_integer_set c =
     (nat_eq c.bool 1 && nat_eq (c.char + c.short + c.int + c.long + c.signs) 0)
     || (nat_eq c.bool 0 && nat_eq c.char 1 && nat_eq (c.short + c.int + c.long) 0 && nat_le c.signs 1)
     || (nat_eq (c.bool + c.char) 0 && nat_le c.int 1 && nat_le c.signs 1 && nat_le 1 (c.short + c.int + c.long + c.signs)
-        && ((nat_le c.short 1 && nat_eq c.long 0) || (nat_eq c.short 0 && nat_le c.long 2)))
+    && ((nat_le c.short 1 && nat_eq c.long 0) || (nat_eq c.short 0 && nat_le c.long 2)))
 
 -- exactly one type
 abbrev pub has_one_type : Counts → Bool

@@ -6,7 +6,7 @@
 --
 -- `dialect` is the dialect of the source. These are the productions of the plain dialect, and stand in every
 -- other one too: a dialect with more of them adds constructors that ask for it.
-use Rattle.std.specs.Prelude.{◌≡◌, ℕ, zero, suc, Bool, true, false, ◌&&◌, ◌||◌, List, [], ◌∷◌, Option, Some, None, codes}
+use Rattle.std.specs.Prelude.{◌≡◌, ℕ, zero, suc, Bool, true, false, ◌&&◌, ◌||◌, List, ◌∷◌, Some, None, codes}
 use Rattle.mc_lex.specs.declared.token.Dialect.{Dialect}
 use Rattle.mc_lex.specs.declared.token.TokenKind.TheVariants as kind
 use Rattle.mc_tree.specs.declared.unary_operator.UnaryOperator.{UnaryOperator}
@@ -16,7 +16,7 @@ use Rattle.mc_tree.specs.declared.assignment_operator.AssignmentOperator.{Assign
 use Rattle.mc_tree.specs.declared.specifier_word.SpecifierWord.{SpecifierWord}
 use Rattle.mc_tree.specs.Tree.{Name, Expression, Expressions, TypeName, Specifier, Specifiers, StructMember, Members, Enumerator, Enumerators, Declarator, Declarators, Sizes, Parameters, Parameter, ParameterList, span_of}
 use Rattle.mc_tree.specs.Tree as t
-use Rattle.mc_grammar.specs.Words.{Lexeme, is_sign, is_word, is_name, is_type_name, is_tag, is_specifier_word, begins_specifiers, next_is, sees, sees_specifiers, sees_cast, sees_call, sees_void_alone, go_on}
+use Rattle.mc_grammar.specs.Words.{Lexeme, is_sign, is_word, is_name, is_type_name, is_tag, next_is, sees, sees_specifiers, sees_cast, sees_void_alone, go_on}
 use Rattle.mc_grammar.specs.Places.{at, name_at, to, part}
 use Rattle.mc_grammar.specs.Operators.{IsUnary, IsStep, operator_at, operator_next, assignment_at, sees_assignment, is_suffix, is_prefix, IsSpecifierWord, is_type_word}
 use Rattle.mc_grammar.specs.Counts.{for_type}

@@ -1,5 +1,5 @@
 -- Which operator a token is.
-use Rattle.std.specs.Prelude.{◌≡◌, ◌||◌, ℕ, Bool, true, false, List, [], ◌∷◌, Option, Some, None, codes, if◌then◌else◌}
+use Rattle.std.specs.Prelude.{◌≡◌, ◌||◌, Bool, true, false, List, [], ◌∷◌, Option, Some, None, codes, if◌then◌else◌}
 use Rattle.mc_tree.specs.declared.unary_operator.UnaryOperator.{UnaryOperator}
 use Rattle.mc_tree.specs.declared.unary_operator.UnaryOperator.TheVariants as unary
 use Rattle.mc_tree.specs.declared.step_operator.StepOperator.{StepOperator}

@@ -1,5 +1,5 @@
 -- What a unit of the program stands for, from initializers up.
-use Rattle.std.specs.Prelude.{ℕ, List, [], ◌∷◌, Option, option_map, map}
+use Rattle.std.specs.Prelude.{List, [], ◌∷◌, option_map, map}
 use Rattle.mc_tree.specs.declared.initializer.Initializer.{Initializer}
 use Rattle.mc_tree.specs.declared.initializer.Initializer.TheOpen.{Initializer-F}
 use Rattle.mc_tree.specs.declared.initializer.Initializer.TheFolds.{fold-Initializer}

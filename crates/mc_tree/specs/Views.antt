@@ -1,16 +1,16 @@
 -- What a tree of the program stands for.
-use Rattle.std.specs.Prelude.{ℕ, List, [], ◌∷◌, Option, Some, None, option_map, map}
+use Rattle.std.specs.Prelude.{List, [], ◌∷◌, Option, option_map}
 use Rattle.mc_tree.specs.declared.identifier.Identifier.{Identifier}
 use Rattle.mc_tree.specs.declared.expression.Expression.{Expression, Row_of-Expression, end_of-Expression, more_of-Expression}
 use Rattle.mc_tree.specs.declared.expression.Expression.TheVariants as expression
 use Rattle.mc_tree.specs.declared.specifier.Specifier.{Specifier, Row_of-Member, end_of-Member, more_of-Member, Row_of-Enumerator, end_of-Enumerator, more_of-Enumerator}
 use Rattle.mc_tree.specs.declared.specifier.Specifier.TheVariants as specifier
-use Rattle.mc_tree.specs.declared.member.Member.{Member, Row_of-Specifier, end_of-Specifier, more_of-Specifier, Row_of-Declarator, end_of-Declarator, more_of-Declarator}
+use Rattle.mc_tree.specs.declared.member.Member.{Row_of-Specifier, end_of-Specifier, more_of-Specifier, Row_of-Declarator, end_of-Declarator, more_of-Declarator}
 use Rattle.mc_tree.specs.declared.enumerator.Enumerator.{Enumerator}
 use Rattle.mc_tree.specs.declared.enumerator.Enumerator.TheVariants as enumerator
 use Rattle.mc_tree.specs.declared.declarator.Declarator.{Declarator, Row_of-Parameter, end_of-Parameter, more_of-Parameter}
 use Rattle.mc_tree.specs.declared.declarator.Declarator.TheVariants as declarator
-use Rattle.mc_tree.specs.declared.parameter.Parameter.{Parameter, Row_of-Size, end_of-Size, more_of-Size}
+use Rattle.mc_tree.specs.declared.parameter.Parameter.{Row_of-Size, end_of-Size, more_of-Size}
 use Rattle.mc_tree.specs.declared.size.Size.{Size}
 use Rattle.mc_tree.specs.declared.size.Size.TheVariants as size
 use Rattle.mc_tree.specs.Tree as t

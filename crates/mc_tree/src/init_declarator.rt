@@ -5,6 +5,11 @@ use crate::initializer::Initializer;
 /// A declarator, perhaps with an initializer (C17 6.7).
 #[derive(Drop)]
 pub enum InitDeclarator<'a> {
-    Bare { declarator: Declarator<'a> },
-    Initialized { declarator: Declarator<'a>, value: Initializer<'a> },
+    Bare {
+        declarator: Declarator<'a>,
+    },
+    Initialized {
+        declarator: Declarator<'a>,
+        value: Initializer<'a>,
+    },
 }

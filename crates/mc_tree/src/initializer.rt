@@ -5,6 +5,11 @@ use crate::span::Span;
 /// An expression, or initializers in braces (C17 6.7.9).
 #[derive(Drop)]
 pub enum Initializer<'a> {
-    Single { value: Expression<'a> },
-    Braced { items: Vec<Initializer<'a>>, span: Span },
+    Single {
+        value: Expression<'a>,
+    },
+    Braced {
+        items: Vec<Initializer<'a>>,
+        span: Span,
+    },
 }
