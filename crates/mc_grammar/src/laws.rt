@@ -1,5 +1,5 @@
 //! Laws of the grammar: what follows from its productions, for whoever reads or uses them.
-ghost use Rattle.std.specs.Prelude.{◌≡◌, ◌≤◌, ◌<◌, ◌+◌, ◌∷◌, ℕ, length, List, map, true, false, codes};
+ghost use Rattle.std.specs.Prelude.{◌≡◌, ◌≤◌, ◌<◌, ◌+◌, ◌∷◌, ℕ, length, List, [], map, true, false, codes};
 ghost use Rattle.mc_lex.specs.declared.token.Dialect.{Dialect};
 ghost use Rattle.mc_lex.specs.declared.token.TokenKind.TheVariants as kind;
 ghost use Rattle.mc_tree.specs.declared.span.Span.{Span};
@@ -7,7 +7,7 @@ ghost use Rattle.mc_tree.specs.Tree.{BlockItems, Declaration, Expression, Statem
 ghost use Rattle.mc_tree.specs.Tree as t;
 ghost use Rattle.mc_grammar.specs.Words.{Lexeme, is_tag, retag, sees_cast, sees_word};
 ghost use Rattle.std.specs.List.{list_any};
-ghost use Rattle.mc_grammar.specs.Meaning.{is_cast, is_name_of};
+ghost use Rattle.mc_grammar.specs.Meaning.{declares, identifier, is_cast, is_name_of, sign, type_name};
 ghost use Rattle.mc_grammar.specs.Nonterminal.{Nonterminal, takes};
 ghost use Rattle.mc_grammar.specs.Nonterminal as n;
 ghost use Rattle.mc_grammar.specs.Expressions.{Reads};
@@ -59,4 +59,10 @@ pub fn declaration_begins_at_type()
 pub fn typedef_name_is_no_identifier()
     ensures names { (name : List ℕ) (ts : List Lexeme) → list_any (is_name_of name) (retag name ts) ≡ false }
     ensures tags { (name : List ℕ) (ts : List Lexeme) → map is_tag (retag name ts) ≡ map is_tag ts }
+{}
+
+/// In a block `T * x;` declares `x` where `T` is a typedef name.
+#[tactic(auto, using(crate::proofs::Examples::declares_it))]
+pub fn type_before_star_declares()
+    ensures { (d : Dialect) (name other : List ℕ) (a b c e f : ℕ) → ReadsBlockItems d (type_name name a ∷ sign (codes "*") b ∷ identifier other c ∷ sign (codes ";") e ∷ sign (codes "}") f ∷ []) (declares name other a b c e f) (sign (codes "}") f ∷ []) }
 {}
