@@ -1,0 +1,3 @@
+pub mod Lengths
+pub mod Choices
+pub mod Examples

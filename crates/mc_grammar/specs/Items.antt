@@ -1,0 +1,34 @@
+-- The grammar of external declarations, and of a whole source: one case for each alternative of a production.
+use Rattle.std.specs.Prelude.{◌≡◌, ℕ, Bool, true, false, not, ◌&&◌, List, [], ◌∷◌}
+use Rattle.mc_lex.specs.declared.token.Dialect.{Dialect}
+use Rattle.mc_lex.specs.Tokens.{Tok}
+use Rattle.mc_tree.specs.Tree.{Name, Specifiers, Parameters, Declaration, BlockItems, Item}
+use Rattle.mc_tree.specs.Tree as t
+use Rattle.mc_grammar.specs.Words.{Lexeme, is_name, lexemes_of}
+use Rattle.mc_grammar.specs.Places.{name_at, part}
+use Rattle.mc_grammar.specs.Counts.{for_item, for_function, is_typedef}
+use Rattle.mc_grammar.specs.Expressions.{ReadsSpecifiers, ReadsStars, ReadsParameters}
+use Rattle.mc_grammar.specs.Statements.{ReadsDeclaration, ReadsCompound}
+
+-- the words of an item that is a typedef, or of one that is none
+abbrev pub is_item_of : Bool → Specifiers → Bool
+is_item_of true s = for_item s && is_typedef s
+is_item_of false s = for_item s && not (is_typedef s)
+
+pub data ReadsItem (dialect : Dialect) : List Lexeme → Item → List Lexeme → Type 0 where
+  -- item = specifiers [ initdecl { "," initdecl } ] ";"                                 C17 6.9, 6.7
+  declared : {typedef : Bool} {ts rest : List Lexeme} {d : Declaration} → ReadsDeclaration dialect typedef (is_item_of typedef) ts d rest → ReadsItem dialect ts (t.Declared d) rest
+  -- specifiers { "*" } identifier "(" params ")" compound                               C17 6.9.1
+  -- The `{` behind the `)` makes it a definition: no declaration goes on with one.
+  defined : {x : Lexeme} {ts after_words mid body rest : List Lexeme} {s : Specifiers} {stars : ℕ} {ps : Parameters} {b : BlockItems} → ReadsSpecifiers dialect false ts s after_words → for_function s ≡ true
+      → ReadsStars after_words stars (x ∷ mid) → is_name x ≡ true → ReadsParameters dialect mid ps body → ReadsCompound dialect body b rest
+      → ReadsItem dialect ts (t.Defined s (t.function stars (name_at x) ps (part after_words body)) b (part ts rest)) rest
+
+-- unit = { item }                                                                       C17 6.9
+pub data ReadsUnit (dialect : Dialect) : List Lexeme → List Item → Type 0 where
+  no_items : ReadsUnit dialect [] []
+  item : {ts rest : List Lexeme} {i : Item} {all : List Item} → ReadsItem dialect ts i rest → ReadsUnit dialect rest all → ReadsUnit dialect ts (i ∷ all)
+
+-- The tree of a list of tokens is a unit that leaves nothing.
+abbrev pub IsTree : Dialect → List Tok → List Item → Type 0
+IsTree dialect tokens unit = ReadsUnit dialect (lexemes_of tokens) unit

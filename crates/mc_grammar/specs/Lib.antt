@@ -1,0 +1,9 @@
+pub mod Words
+pub mod Places
+pub mod Nonterminal
+pub mod Operators
+pub mod Counts
+pub mod Expressions
+pub mod Statements
+pub mod Items
+pub mod Meaning

@@ -1,0 +1,68 @@
+//! Laws of the grammar: what follows from its productions, for whoever reads or uses them.
+ghost use Rattle.std.specs.Prelude.{◌≡◌, ◌≤◌, ◌<◌, ◌+◌, ◌∷◌, ℕ, length, List, [], map, true, false, codes};
+ghost use Rattle.mc_lex.specs.declared.token.Dialect.{Dialect};
+ghost use Rattle.mc_lex.specs.declared.token.TokenKind.TheVariants as kind;
+ghost use Rattle.mc_tree.specs.declared.span.Span.{Span};
+ghost use Rattle.mc_tree.specs.Tree.{BlockItems, Declaration, Expression, Statement, Item};
+ghost use Rattle.mc_tree.specs.Tree as t;
+ghost use Rattle.mc_grammar.specs.Words.{Lexeme, is_tag, retag, sees_cast, sees_word};
+ghost use Rattle.std.specs.List.{list_any};
+ghost use Rattle.mc_grammar.specs.Meaning.{declares, identifier, is_cast, is_name_of, sign, type_name};
+ghost use Rattle.mc_grammar.specs.Nonterminal.{Nonterminal, takes};
+ghost use Rattle.mc_grammar.specs.Nonterminal as n;
+ghost use Rattle.mc_grammar.specs.Expressions.{Reads};
+ghost use Rattle.mc_grammar.specs.Statements.{ReadsStatement, ReadsBlockItems};
+ghost use Rattle.mc_grammar.specs.Items.{ReadsItem};
+
+/// What an expression leaves is no longer than what was given, and shorter where its nonterminal
+/// takes a token: each does but the rest of a repetition.
+#[tactic(auto, using(crate::proofs::Lengths::shorter))]
+pub fn expression_is_not_empty()
+    ensures { (d : Dialect) (m : Nonterminal) (ts rest : List Lexeme) (a : Expression) → Reads d m ts a rest → length rest + takes m ≤ length ts }
+{}
+
+/// A statement takes a token.
+#[tactic(auto, using(crate::proofs::Lengths::statement_shorter))]
+pub fn statement_is_not_empty()
+    ensures { (d : Dialect) (ts rest : List Lexeme) (one : Statement) → ReadsStatement d ts one rest → length rest < length ts }
+{}
+
+/// An item takes a token.
+#[tactic(auto, using(crate::proofs::Lengths::item_shorter))]
+pub fn item_is_not_empty()
+    ensures { (d : Dialect) (ts rest : List Lexeme) (one : Item) → ReadsItem d ts one rest → length rest < length ts }
+{}
+
+/// An `else` belongs to the nearest `if`: one that has no `else` never stands before one.
+#[tactic(auto, using(crate::proofs::Choices::nearest_if))]
+pub fn else_belongs_to_nearest_if()
+    ensures { (d : Dialect) (ts rest : List Lexeme) (a : Expression) (one : Statement) (span : Span) → ReadsStatement d ts (t.If a one span) rest → sees_word (codes "else") rest ≡ false }
+{}
+
+/// A cast is read exactly at a `(` that stands before a specifier word or a typedef name.
+#[tactic(auto, using(crate::proofs::Choices::cast_exactly))]
+pub fn cast_begins_at_type()
+    ensures { (d : Dialect) (ts rest : List Lexeme) (a : Expression) → Reads d n.cast ts a rest → is_cast a ≡ sees_cast ts }
+{}
+
+/// In a block what begins with an identifier, as `T * x;`, is a declaration exactly where the
+/// identifier is a typedef name, and else a statement.
+#[tactic(auto, using(crate::proofs::Choices::local_name, crate::proofs::Choices::statement_name))]
+pub fn declaration_begins_at_type()
+    ensures local { (d : Dialect) (x : Lexeme) (ts rest : List Lexeme) (one : Declaration) (b : BlockItems) → x.token.kind ≡ kind.Identifier → ReadsBlockItems d (x ∷ ts) (t.local one b) rest → x.names_type ≡ true }
+    ensures statement { (d : Dialect) (x : Lexeme) (ts rest : List Lexeme) (one : Statement) (b : BlockItems) → x.token.kind ≡ kind.Identifier → ReadsBlockItems d (x ∷ ts) (t.statement one b) rest → x.names_type ≡ false }
+{}
+
+/// Where a typedef's name is in force, no token of its text is an identifier, but each that could be
+/// a tag still can.
+#[tactic(auto, using(crate::proofs::Choices::no_name_follows, crate::proofs::Choices::tags_stay))]
+pub fn typedef_name_is_no_identifier()
+    ensures names { (name : List ℕ) (ts : List Lexeme) → list_any (is_name_of name) (retag name ts) ≡ false }
+    ensures tags { (name : List ℕ) (ts : List Lexeme) → map is_tag (retag name ts) ≡ map is_tag ts }
+{}
+
+/// In a block `T * x;` declares `x` where `T` is a typedef name.
+#[tactic(auto, using(crate::proofs::Examples::declares_it))]
+pub fn type_before_star_declares()
+    ensures { (d : Dialect) (name other : List ℕ) (a b c e f : ℕ) → ReadsBlockItems d (type_name name a ∷ sign (codes "*") b ∷ identifier other c ∷ sign (codes ";") e ∷ sign (codes "}") f ∷ []) (declares name other a b c e f) (sign (codes "}") f ∷ []) }
+{}

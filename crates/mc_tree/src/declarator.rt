@@ -1,0 +1,39 @@
+//! Declarators.
+use crate::identifier::Identifier;
+use crate::parameter::Parameter;
+use crate::size::Size;
+use crate::span::Span;
+
+/// How many `*`, a name, and what stands behind it (C17 6.7.6). Its span starts at the first `*`.
+#[derive(Drop)]
+#[cycle(syntax)]
+pub enum Declarator<'a> {
+    Object {
+        stars: u32,
+        name: Identifier<'a>,
+        sizes: Vec<Size<'a>>,
+        span: Span,
+    },
+    /// A function with nothing between its parentheses, whose span is `list_span`.
+    EmptyFunction {
+        stars: u32,
+        name: Identifier<'a>,
+        list_span: Span,
+        span: Span,
+    },
+    /// A function with `void` alone between its parentheses.
+    VoidFunction {
+        stars: u32,
+        name: Identifier<'a>,
+        list_span: Span,
+        span: Span,
+    },
+    /// A function with parameters.
+    Function {
+        stars: u32,
+        name: Identifier<'a>,
+        parameters: Vec<Parameter<'a>>,
+        list_span: Span,
+        span: Span,
+    },
+}

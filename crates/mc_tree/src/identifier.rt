@@ -1,0 +1,9 @@
+//! Names and their places.
+use crate::span::Span;
+
+/// A name as it is written, and where (C17 6.4.2).
+#[derive(Clone, Copy, Debug)]
+pub struct Identifier<'a> {
+    pub text: &'a [u8],
+    pub span: Span,
+}

@@ -1,0 +1,15 @@
+//! Initializers.
+use crate::expression::Expression;
+use crate::span::Span;
+
+/// An expression, or initializers in braces (C17 6.7.9).
+#[derive(Drop)]
+pub enum Initializer<'a> {
+    Single {
+        value: Expression<'a>,
+    },
+    Braced {
+        items: Vec<Initializer<'a>>,
+        span: Span,
+    },
+}
