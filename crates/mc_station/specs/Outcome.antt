@@ -66,6 +66,11 @@ abbrev pub AsksInOrder : Option Names → Option (List (List ℕ)) → Option (L
 AsksInOrder None asked after = after ≡ asked
 AsksInOrder (Some names) asked after = (after ≡ asked) ⊎ (after ≡ and_asked asked names.source) ⊎ (after ≡ and_asked (and_asked asked names.source) names.tests)
 
+-- only the source of the command is asked for
+abbrev pub AsksSourceAlone : Option Names → Option (List (List ℕ)) → Option (List (List ℕ)) → Type 0
+AsksSourceAlone None asked after = ⊥
+AsksSourceAlone (Some names) asked after = after ≡ and_asked asked names.source
+
 -- a file of the command was not loaded, and the line that says so was put whole
 pub record CannotRead (names : Option Names) (s : Loading) (diag diag_after : Option (List ℕ)) : Type 0 where
   pub line : List ℕ

@@ -5,7 +5,7 @@ ghost use Rattle.mc_parse.specs.Form.{first_of};
 ghost use Rattle.mc_port.specs.Store.{Files, file_of, and_asked};
 ghost use Rattle.mc_station.specs.Command.{command_of};
 ghost use Rattle.mc_station.specs.Judged.{AsksOne, IsWithin, SourceFileReply, StopsAt, StopsBehind, StopsIn, TestsFileReply};
-ghost use Rattle.mc_station.specs.Outcome.{AsksInOrder};
+ghost use Rattle.mc_station.specs.Outcome.{AsksInOrder, AsksSourceAlone};
 ghost use Rattle.mc_station.specs.Reply.{CallsFor, SourceReply, TestsReply, fault_line, fault_place, refusal, source_limit, tests_limit};
 ghost use Rattle.mc_station.specs.Seen.{seen_command, seen_reply};
 ghost use Rattle.mc_station.specs.Texts.{longer_line, usage_line};
@@ -109,6 +109,7 @@ fn reply_to_tests(alloc: Global, first: &First<'_>, name: &str, bytes: &[u8]) ->
     requires conditions { conditions (first_of first.now).tree ≤ 4096 }
     requires short { length bytes.now ≤ tests_limit }
     ensures told { IfOk result (λ reply. TestsReply (first_of first.now) name.now bytes.now (seen_reply reply)) }
+    ensures source { IfOk result (λ reply. reply.status ≢ 3) }
     ensures command { IfOk result (λ reply. reply.status ≢ 2) }
     ensures tests { IfOk result (λ reply. reply.status ≢ 1) }
     ensures status { IfOk result (λ reply. reply.status ≤ 4) }
@@ -142,6 +143,7 @@ fn reply_to_tests_file<S: Store>(
 ) -> Result<Reply, Stop>
     requires { conditions (first_of first.now).tree ≤ 4096 }
     ensures told { IfOk result (λ reply. (files : Files) → S.contents store.old ≡ Some files → TestsFileReply files (first_of first.now) name.now (seen_reply reply)) }
+    ensures source { IfOk result (λ reply. reply.status ≢ 3) }
     ensures stops { IfErr result (StopsAt name.now (record { files = S.contents store.old; asked = S.asked store.old; asked_after = S.asked store.new; faults = S.faults store.old; faults_after = S.faults store.new })) }
     ensures asked { OnOk result (S.asked store.new ≡ and_asked (S.asked store.old) name.now) }
     ensures later { S.faults store.old ≤ S.faults store.new }
@@ -182,6 +184,7 @@ fn reply_to_source<S: Store>(
     ensures told { IfOk result (λ reply. (files : Files) → S.contents store.old ≡ Some files → SourceReply files (seen_command command.entry) bytes.now (seen_reply reply)) }
     ensures stops { IfErr result (StopsBehind (seen_command command.entry) bytes.now (record { files = S.contents store.old; asked = S.asked store.old; asked_after = S.asked store.new; faults = S.faults store.old; faults_after = S.faults store.new })) }
     ensures asked { OnOk result (AsksOne (S.asked store.old) (S.asked store.new) (seen_command command.entry).tests) }
+    ensures first { IfOk result (λ reply. reply.status ≡ 3 → S.asked store.new ≡ S.asked store.old) }
     ensures later { S.faults store.old ≤ S.faults store.new }
     ensures command { IfOk result (λ reply. reply.status ≢ 2) }
     ensures tests { IfOk result (λ reply. reply.status ≢ 1) }
@@ -205,6 +208,7 @@ fn reply_to_command<S: Store>(
     ensures told { IfOk result (λ reply. (files : Files) → S.contents store.old ≡ Some files → SourceFileReply files (seen_command command.entry) (seen_reply reply)) }
     ensures stops { IfErr result (StopsIn (Some (seen_command command.entry)) (record { files = S.contents store.old; asked = S.asked store.old; asked_after = S.asked store.new; faults = S.faults store.old; faults_after = S.faults store.new })) }
     ensures asked { OnOk result (AsksInOrder (Some (seen_command command.entry)) (S.asked store.old) (S.asked store.new)) }
+    ensures first { IfOk result (λ reply. reply.status ≡ 3 → S.asked store.new ≡ and_asked (S.asked store.old) (seen_command command.entry).source) }
     ensures later { S.faults store.old ≤ S.faults store.new }
     ensures command { IfOk result (λ reply. reply.status ≢ 2) }
     ensures tests { IfOk result (λ reply. reply.status ≢ 1) }
@@ -222,6 +226,7 @@ pub fn reply_to_words<S: Store>(alloc: Global, words: &Words, store: &mut S) -> 
     ensures told { IfOk result (λ reply. (files : Files) → S.contents store.old ≡ Some files → CallsFor words.now files (seen_reply reply)) }
     ensures stops { IfErr result (StopsIn (command_of words.now) (record { files = S.contents store.old; asked = S.asked store.old; asked_after = S.asked store.new; faults = S.faults store.old; faults_after = S.faults store.new })) }
     ensures asked { OnOk result (AsksInOrder (command_of words.now) (S.asked store.old) (S.asked store.new)) }
+    ensures first { IfOk result (λ reply. reply.status ≡ 3 → AsksSourceAlone (command_of words.now) (S.asked store.old) (S.asked store.new)) }
     ensures usage { IfOk result (λ reply. reply.status ≡ 2 → (command_of words.now ≡ None) × (seen_reply reply ≡ refusal 2 usage_line)) }
     ensures no_usage { command_of words.now ≡ None → IfOk result (λ reply. reply.status ≡ 2) }
     ensures tests { IfOk result (λ reply. reply.status ≢ 1) }

@@ -1,12 +1,12 @@
 //! The top call.
-ghost use Rattle.std.specs.Prelude.{◌≡◌, ◌≢◌, ◌⊎◌, ◌<◌, ◌≤◌, Some, None, string_bytes};
+ghost use Rattle.std.specs.Prelude.{◌≡◌, ◌≢◌, ◌⊎◌, ◌<◌, ◌≤◌, [], Some, None, string_bytes};
 ghost use Rattle.std.specs.List.{concat};
 ghost use Rattle.std.specs.Io.KnownBytes.{Appends, Keeps};
 ghost use Rattle.mc_port.specs.Causes.{Rose};
 ghost use Rattle.mc_port.specs.Sink.{AppendsPart, Puts};
 ghost use Rattle.mc_port.specs.Store.{Files};
 ghost use Rattle.mc_station.specs.Command.{command_of};
-ghost use Rattle.mc_station.specs.Outcome.{AsksInOrder, CannotRead, CannotTell, Told, ToldPart};
+ghost use Rattle.mc_station.specs.Outcome.{AsksInOrder, AsksSourceAlone, CannotRead, CannotTell, Told, ToldPart};
 ghost use Rattle.mc_station.specs.Reply.{CallsFor, Reply as CalledFor};
 ghost use Rattle.mc_station.specs.Seen.{bytes_of};
 ghost use Rattle.mc_station.specs.Texts.{usage_line};
@@ -90,6 +90,9 @@ pub fn station<S: Store, K: Sink, E: Sink, G: Gate>(
         (record { files = S.contents store.old; asked = S.asked store.old; asked_after = S.asked store.new; faults = S.faults store.old; faults_after = S.faults store.new })
         (K.written out.old) (K.written out.new) (E.written diag.old) (E.written diag.new) }
 
+    ensures usage_part { result ≡ 7 → command_of words.now ≡ None
+        → AppendsPart (K.written out.old) (K.written out.new) [] × AppendsPart (E.written diag.old) (E.written diag.new) usage_line }
+
     // Nothing else puts anything.
     ensures silent { result ≢ 0 → result ≢ 7 → Keeps (K.written out.old) (K.written out.new) }
     ensures no_memory { result ≡ 8 → Keeps (E.written diag.old) (E.written diag.new) }
@@ -99,7 +102,8 @@ pub fn station<S: Store, K: Sink, E: Sink, G: Gate>(
         → ¬ (Rose (S.faults store.old) (S.faults store.new)) → ¬ (Rose (K.faults out.old) (K.faults out.new)) → ¬ (Rose (E.faults diag.old) (E.faults diag.new))
         → (result ≡ reply.status) ⊎ (result ≡ 8) }
 
-    // The files of the command are asked for in their order.
+    // The files of the command are asked for in their order, the tests file only where the source is accepted.
+    ensures source_first { result ≡ 3 → AsksSourceAlone (command_of words.now) (S.asked store.old) (S.asked store.new) }
     ensures asked { AsksInOrder (command_of words.now) (S.asked store.old) (S.asked store.new) }
 {
     match reply_to_words(alloc, words, store) {

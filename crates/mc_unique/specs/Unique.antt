@@ -1,4 +1,4 @@
--- Unique-cause pairs (DO-178C, glossary, modified condition/decision coverage).
+-- Unique-cause pairs, in this project's own words. What a condition and a decision are is told by the DO-178C glossary.
 use Rattle.std.specs.Prelude.{◌≡◌, ◌≢◌, ℕ, ◌<◌}
 use Rattle.mc_cond.specs.Tree.{Tree, size}
 use Rattle.mc_cond.specs.Vectors.{Row, Evaluation, truth_of, IsCompletion}

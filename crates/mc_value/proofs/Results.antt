@@ -92,6 +92,7 @@ pub unsigned_wraps : (t : IntType) (a b : ℤ) (k : ℕ) → promoted t ≡ t �
     ((r : ℤ) × ((binary_of Mul t a b ≡ Ok r) × Wraps t (a *ℤ b) r))
     × ((r : ℤ) × ((binary_of Add t a b ≡ Ok r) × Wraps t (a +ℤ b) r))
     × ((r : ℤ) × ((binary_of Sub t a b ≡ Ok r) × Wraps t (a -ℤ b) r))
+    × ((r : ℤ) × ((unary_of Minus t a ≡ Ok r) × Wraps t (neg_ℤ a) r))
     × (k < width_of t → (r : ℤ) × ((shift_of Left t a (pos k) ≡ Ok r) × Wraps t (a *ℤ pos (2 ^ k)) r))
 unsigned_wraps t a b k p s =
     let wraps : (v : ℤ) → Wraps t v (wrapped t v) = λ v. (wrapped_within t v, wrapped_congruent t v) in
@@ -99,6 +100,7 @@ unsigned_wraps t a b k p s =
       (wrapped t (a *ℤ b), (fits (a *ℤ b), wraps (a *ℤ b))),
       (wrapped t (a +ℤ b), (fits (a +ℤ b), wraps (a +ℤ b))),
       (wrapped t (a -ℤ b), (fits (a -ℤ b), wraps (a -ℤ b))),
+      (wrapped t (neg_ℤ a), (fits (neg_ℤ a), wraps (neg_ℤ a))),
       λ h. (
         wrapped t (a *ℤ pos (2 ^ k)),
         (

@@ -1,11 +1,11 @@
 -- What follows from the definitions, in the words of C17.
-use Rattle.std.specs.Prelude.{◌≡◌, ◌≢◌, ◌⊎◌, ◌↔◌, ℕ, ◌*◌, ◌^◌, ◌<◌, ℤ, pos, ◌+ℤ◌, ◌-ℤ◌, ◌*ℤ◌, ◌≤ℤ◌, ◌<ℤ◌, nat_abs, Bool, false, not, ◌&&◌, ◌||◌, Ok, IfOk}
+use Rattle.std.specs.Prelude.{◌≡◌, ◌≢◌, ◌⊎◌, ◌↔◌, ℕ, ◌*◌, ◌^◌, ◌<◌, ℤ, pos, neg_ℤ, ◌+ℤ◌, ◌-ℤ◌, ◌*ℤ◌, ◌≤ℤ◌, ◌<ℤ◌, nat_abs, Bool, false, not, ◌&&◌, ◌||◌, Ok, IfOk}
 use Rattle.mc_value.specs.declared.int_type.IntType.{IntType}
 use Rattle.mc_value.specs.declared.int_type.IntType.TheVariants as the
 use Rattle.mc_value.specs.declared.operators.BinOp.{BinOp}
 use Rattle.mc_value.specs.declared.operators.BinOp.TheVariants.{Mul, Div, Rem, Add, Sub, And, Xor, Or}
 use Rattle.mc_value.specs.declared.operators.UnOp.{UnOp}
-use Rattle.mc_value.specs.declared.operators.UnOp.TheVariants.{Flip}
+use Rattle.mc_value.specs.declared.operators.UnOp.TheVariants.{Minus, Flip}
 use Rattle.mc_value.specs.declared.operators.ShiftOp.{ShiftOp}
 use Rattle.mc_value.specs.declared.operators.ShiftOp.TheVariants.{Left}
 use Rattle.mc_value.specs.IntTypes.{width_of, signed_of, InRange}
@@ -43,6 +43,7 @@ UnsignedResultsWrap =
     ((r : ℤ) × ((binary_of Mul t a b ≡ Ok r) × Wraps t (a *ℤ b) r))
     × ((r : ℤ) × ((binary_of Add t a b ≡ Ok r) × Wraps t (a +ℤ b) r))
     × ((r : ℤ) × ((binary_of Sub t a b ≡ Ok r) × Wraps t (a -ℤ b) r))
+    × ((r : ℤ) × ((unary_of Minus t a ≡ Ok r) × Wraps t (neg_ℤ a) r))
     × (k < width_of t → (r : ℤ) × ((shift_of Left t a (pos k) ≡ Ok r) × Wraps t (a *ℤ pos (2 ^ k)) r))
 
 abbrev pub QuotientAndRemainderRebuild : Type 0

@@ -5,6 +5,7 @@ use mc_port::{HostSink, HostStore, OpenGate, Words};
 use mc_station::station;
 use std::alloc::{AllocError, Global};
 use std::env;
+use std::io::ErrorKind;
 use std::process::ExitCode;
 use std::rt::Env;
 
@@ -13,12 +14,16 @@ const MAX_WORDS: u32 = 1 << 31;
 
 const NO_MEMORY: u8 = 8;
 
-// The words behind the program's own name. Where they cannot be read as texts there are none, which is
-// no command.
+// The words behind the program's own name. Where one of them is no text there are none, which is no
+// command.
 fn read_words<R: Env + AllocGlobal>(rt: &R, alloc: Global) -> Result<Words, AllocError> {
     let mut words = Words::new(alloc);
-    let Ok(args) = env::args(rt) else {
-        return Ok(words);
+    let args = match env::args(rt) {
+        Ok(args) => args,
+        Err(error) => match error.kind() {
+            ErrorKind::OutOfMemory => return Err(AllocError),
+            _ => return Ok(words),
+        },
     };
     for arg in args.skip(1) {
         if words.count() < MAX_WORDS {

@@ -1,5 +1,8 @@
-use Rattle.std.proofs.Common.{◌≡◌, ◌∙◌, inl, inr, ap}
-use Rattle.mc_station.specs.Reply.{Reply}
+use Rattle.std.proofs.Common.{◌≡◌, ◌∙◌, inl, inr, ap, subst}
+use Rattle.std.specs.List.{concat}
+use Rattle.mc_port.specs.Sink.{AppendsPart}
+use Rattle.mc_station.specs.Reply.{Reply, refusal}
+use Rattle.mc_station.specs.Texts.{usage_line}
 use Rattle.mc_station.specs.Seen.{seen_reply}
 use Rattle.mc_station.proofs.Statuses.{in_range, kept, not_seven}
 use Rattle.mc_station.proofs.Unique.{one_reply}
@@ -26,6 +29,13 @@ returns-in-Ok-clause-part g c = λ seven. inl (λ files told.
       out_is = c.put_reply.ensures.out_part;
       diag_is = c.put_reply.ensures.diag_part;
     })
+
+pub returns-in-Ok-clause-usage_part : goal.returns-in-Ok-clause-usage_part
+returns-in-Ok-clause-usage_part g c = λ seven none.
+    let is : seen_reply c.in-Ok.reply ≡ refusal 2 usage_line = (c.in-Ok.ensures.usage (c.in-Ok.ensures.no_usage none)).1 in (
+      subst (λ (r : Reply). AppendsPart (g.K.Sink.written c.args.out.now) (g.K.Sink.written c.put_reply.new.out) (concat r.out)) is c.put_reply.ensures.out_part,
+      subst (λ (r : Reply). AppendsPart (g.E.Sink.written c.args.diag.now) (g.E.Sink.written c.put_reply.new.diag) r.diag) is c.put_reply.ensures.diag_part,
+    )
 
 pub returns-in-Ok-clause-complete : goal.returns-in-Ok-clause-complete
 returns-in-Ok-clause-complete g c = λ files reply told calls no_store no_out no_diag.
