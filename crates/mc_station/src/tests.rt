@@ -2,6 +2,7 @@
 
 mod files;
 mod sources;
+mod truth_tables;
 
 use crate::station;
 use mc_port::{MemorySink, MemoryStore, OpenGate, Words};
