@@ -100,8 +100,8 @@ fn gives(
     let (status, out, diag) = want;
     let given = run(alloc, setting)?;
     assert_eq!(rt; given.status, status, "status of {case}");
-    assert_eq!(rt; given.out.bytes(), out.as_bytes(), "out of {case}");
-    assert_eq!(rt; given.diag.bytes(), diag.as_bytes(), "diag of {case}");
+    assert!(rt; given.out.bytes() == out.as_bytes(), "out of {case}");
+    assert!(rt; given.diag.bytes() == diag.as_bytes(), "diag of {case}");
     Ok(())
 }
 
