@@ -13,3 +13,6 @@ mod top;
 mod vectors;
 
 pub use top::station;
+
+#[cfg(test)]
+mod tests;
