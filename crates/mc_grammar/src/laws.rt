@@ -7,7 +7,7 @@ ghost use Rattle.mc_tree.specs.Tree.{BlockItems, Declaration, Expression, Statem
 ghost use Rattle.mc_tree.specs.Tree as t;
 ghost use Rattle.mc_grammar.specs.Words.{Lexeme, is_tag, retag, sees_cast, sees_word};
 ghost use Rattle.std.specs.List.{list_any};
-ghost use Rattle.mc_grammar.specs.Meaning.{declares, identifier, is_cast, is_name_of, sign, type_name};
+ghost use Rattle.mc_grammar.specs.Meaning.{declares, identifier, is_cast, is_name_of, multiplies, sign, type_name};
 ghost use Rattle.mc_grammar.specs.Nonterminal.{Nonterminal, takes};
 ghost use Rattle.mc_grammar.specs.Nonterminal as n;
 ghost use Rattle.mc_grammar.specs.Expressions.{Reads};
@@ -65,4 +65,10 @@ pub fn typedef_name_is_no_identifier()
 #[tactic(auto, using(crate::proofs::Examples::declares_it))]
 pub fn type_before_star_declares()
     ensures { (d : Dialect) (name other : List ℕ) (a b c e f : ℕ) → ReadsBlockItems d (type_name name a ∷ sign (codes "*") b ∷ identifier other c ∷ sign (codes ";") e ∷ sign (codes "}") f ∷ []) (declares name other a b c e f) (sign (codes "}") f ∷ []) }
+{}
+
+/// In a block `a * x;` multiplies where `a` is no typedef name.
+#[tactic(auto, using(crate::proofs::Examples::multiplies_it))]
+pub fn identifier_before_star_multiplies()
+    ensures { (d : Dialect) (name other : List ℕ) (a b c e f : ℕ) → ReadsBlockItems d (identifier name a ∷ sign (codes "*") b ∷ identifier other c ∷ sign (codes ";") e ∷ sign (codes "}") f ∷ []) (multiplies name other a b c e f) (sign (codes "}") f ∷ []) }
 {}
