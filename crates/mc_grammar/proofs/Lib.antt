@@ -1,3 +1,4 @@
 pub mod Lengths
 pub mod Choices
 pub mod Examples
+pub mod Samples

@@ -12,7 +12,8 @@ ghost use Rattle.mc_grammar.specs.Nonterminal.{Nonterminal, takes};
 ghost use Rattle.mc_grammar.specs.Nonterminal as n;
 ghost use Rattle.mc_grammar.specs.Expressions.{Reads};
 ghost use Rattle.mc_grammar.specs.Statements.{ReadsStatement, ReadsBlockItems};
-ghost use Rattle.mc_grammar.specs.Items.{ReadsItem};
+ghost use Rattle.mc_grammar.specs.Items.{IsTree, ReadsItem};
+ghost use Rattle.mc_grammar.specs.Samples.{typedef_tokens, typedef_tree};
 
 /// What an expression leaves is no longer than what was given, and shorter where its nonterminal
 /// takes a token: each does but the rest of a repetition.
@@ -71,4 +72,11 @@ pub fn type_before_star_declares()
 #[tactic(auto, using(crate::proofs::Examples::multiplies_it))]
 pub fn identifier_before_star_multiplies()
     ensures { (d : Dialect) (name other : List ℕ) (a b c e f : ℕ) → ReadsBlockItems d (identifier name a ∷ sign (codes "*") b ∷ identifier other c ∷ sign (codes ";") e ∷ sign (codes "}") f ∷ []) (multiplies name other a b c e f) (sign (codes "}") f ∷ []) }
+{}
+
+/// A typedef's name is in force from the end of its declarator, within its declaration too:
+/// `typedef int T,t[(T)3];` has a tree, with a cast in it.
+#[tactic(auto, using(crate::proofs::Samples::in_force_at_once))]
+pub fn typedef_name_is_in_force_at_once()
+    ensures { (d : Dialect) → IsTree d typedef_tokens typedef_tree }
 {}
