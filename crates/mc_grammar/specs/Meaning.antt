@@ -1,7 +1,6 @@
 -- Words of the laws.
 use Rattle.std.specs.Prelude.{ℕ, Bool, true, false, ◌&&◌, List, [], ◌∷◌, codes}
 use Rattle.std.specs.Str.{bytes_eq}
-use Rattle.mc_lex.specs.declared.token.TokenKind.{TokenKind}
 use Rattle.mc_lex.specs.declared.token.TokenKind.TheVariants as kind
 use Rattle.mc_tree.specs.declared.binary_operator.BinaryOperator.TheVariants as binary
 use Rattle.mc_tree.specs.Tree.{Expression, BlockItems}
@@ -34,10 +33,10 @@ declares name other a b c e f =
     let ts = sign (codes ";") e ∷ sign (codes "}") f ∷ [] in
     let all = type_name name a ∷ sign (codes "*") b ∷ x ∷ ts in
     t.local
-        (t.declaration (t.specifiers (t.TypedefName (name_at (type_name name a))) t.no_specifiers)
-            (t.bare (t.object 1 (name_at x) t.no_sizes (part (sign (codes "*") b ∷ x ∷ ts) ts)) ∷ [])
-            (part all (sign (codes "}") f ∷ [])))
-        t.no_block_items
+    (t.declaration (t.specifiers (t.TypedefName (name_at (type_name name a))) t.no_specifiers)
+    (t.bare (t.object 1 (name_at x) t.no_sizes (part (sign (codes "*") b ∷ x ∷ ts) ts)) ∷ [])
+    (part all (sign (codes "}") f ∷ [])))
+    t.no_block_items
 
 -- the tree of `a * x;` in a block where `a` is no typedef name
 abbrev pub multiplies : List ℕ → List ℕ → ℕ → ℕ → ℕ → ℕ → ℕ → BlockItems
@@ -46,5 +45,5 @@ multiplies name other a b c e f =
     let y = identifier other c in
     let rest = sign (codes "}") f ∷ [] in
     t.statement
-        (t.Evaluate (t.Binary binary.Multiply (t.Named (name_at x)) (t.Named (name_at y)) (to (at x) (at y))) (part (x ∷ sign (codes "*") b ∷ y ∷ sign (codes ";") e ∷ rest) rest))
-        t.no_block_items
+    (t.Evaluate (t.Binary binary.Multiply (t.Named (name_at x)) (t.Named (name_at y)) (to (at x) (at y))) (part (x ∷ sign (codes "*") b ∷ y ∷ sign (codes ";") e ∷ rest) rest))
+    t.no_block_items

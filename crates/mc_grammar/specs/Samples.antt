@@ -27,9 +27,9 @@ typedef_tokens =
 abbrev pub typedef_tree : List Item
 typedef_tree =
     t.Declared (t.declaration
-        (t.specifiers (t.Word word.Typedef (span 0 7)) (t.specifiers (t.Word word.Int (span 8 11)) t.no_specifiers))
-        (t.bare (t.object 0 (name (codes "T") 12 13) t.no_sizes (span 12 13))
-            ∷ t.bare (t.object 0 (name (codes "t") 14 15)
-                (t.size (t.Cast (t.type_name (t.specifiers (t.TypedefName (name (codes "T") 17 18)) t.no_specifiers) 0 (span 17 18)) (t.Constant 3 true false 0 (span 19 20)) (span 16 20)) t.no_sizes)
-                (span 14 21)) ∷ [])
-        (span 0 22)) ∷ []
+    (t.specifiers (t.Word word.Typedef (span 0 7)) (t.specifiers (t.Word word.Int (span 8 11)) t.no_specifiers))
+    (t.bare (t.object 0 (name (codes "T") 12 13) t.no_sizes (span 12 13))
+    ∷ t.bare (t.object 0 (name (codes "t") 14 15)
+    (t.size (t.Cast (t.type_name (t.specifiers (t.TypedefName (name (codes "T") 17 18)) t.no_specifiers) 0 (span 17 18)) (t.Constant 3 true false 0 (span 19 20)) (span 16 20)) t.no_sizes)
+    (span 14 21)) ∷ [])
+    (span 0 22)) ∷ []
