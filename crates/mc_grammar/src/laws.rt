@@ -3,15 +3,15 @@ ghost use Rattle.std.specs.Prelude.{◌≡◌, ◌≤◌, ◌<◌, ◌+◌, ◌�
 ghost use Rattle.mc_lex.specs.declared.token.Dialect.{Dialect};
 ghost use Rattle.mc_lex.specs.declared.token.TokenKind.TheVariants as kind;
 ghost use Rattle.mc_tree.specs.declared.span.Span.{Span};
-ghost use Rattle.mc_tree.specs.Tree.{BlockItems, Declaration, Expression, Statement, Item};
+ghost use Rattle.mc_tree.specs.Tree.{BlockItems, Declaration, Declarator, name_of, Expression, Statement, Item};
 ghost use Rattle.mc_tree.specs.Tree as t;
 ghost use Rattle.mc_grammar.specs.Words.{Lexeme, is_tag, retag, sees_cast, sees_word};
 ghost use Rattle.std.specs.List.{list_any};
 ghost use Rattle.mc_grammar.specs.Meaning.{declares, identifier, is_cast, is_name_of, multiplies, sign, type_name};
 ghost use Rattle.mc_grammar.specs.Nonterminal.{Nonterminal, takes};
 ghost use Rattle.mc_grammar.specs.Nonterminal as n;
-ghost use Rattle.mc_grammar.specs.Expressions.{Reads};
-ghost use Rattle.mc_grammar.specs.Statements.{ReadsStatement, ReadsBlockItems};
+ghost use Rattle.mc_grammar.specs.Expressions.{Reads, ReadsDeclarator};
+ghost use Rattle.mc_grammar.specs.Statements.{ReadsStatement, ReadsBlockItems, ReadsInitDeclarator};
 ghost use Rattle.mc_grammar.specs.Items.{IsTree, ReadsItem};
 ghost use Rattle.mc_grammar.specs.Samples.{typedef_tokens, typedef_tree};
 
@@ -79,4 +79,12 @@ pub fn identifier_before_star_multiplies()
 #[tactic(auto, using(crate::proofs::Samples::in_force_at_once))]
 pub fn typedef_name_is_in_force_at_once()
     ensures { (d : Dialect) → IsTree d typedef_tokens typedef_tree }
+{}
+
+/// Behind a typedef's declarator no token is an identifier of its name. Behind the declarator of
+/// any other declaration the tokens are as they were.
+#[tactic(auto, using(crate::proofs::Choices::typedef_retags, crate::proofs::Choices::others_keep))]
+pub fn declarator_of_typedef_names_type()
+    ensures typedef { (d : Dialect) (ts : List Lexeme) (one : Declarator) (rest : List Lexeme) → ReadsInitDeclarator d true ts (t.bare one) rest → list_any (is_name_of (name_of one).text) rest ≡ false }
+    ensures other { (d : Dialect) (ts : List Lexeme) (one : Declarator) (rest : List Lexeme) → ReadsInitDeclarator d false ts (t.bare one) rest → ReadsDeclarator d ts one rest }
 {}
