@@ -2,3 +2,4 @@ pub mod Lengths
 pub mod Choices
 pub mod Examples
 pub mod Samples
+pub mod Counted

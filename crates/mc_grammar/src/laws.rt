@@ -1,6 +1,8 @@
 //! Laws of the grammar: what follows from its productions, for whoever reads or uses them.
 ghost use Rattle.std.specs.Prelude.{◌≡◌, ◌≤◌, ◌<◌, ◌+◌, ◌∷◌, ℕ, length, List, [], map, true, false, codes};
+ghost use Rattle.mc_lex.specs.Tokens.{Tok};
 ghost use Rattle.mc_lex.specs.declared.token.Dialect.{Dialect};
+ghost use Rattle.mc_tree.specs.Length.{token_count};
 ghost use Rattle.mc_lex.specs.declared.token.TokenKind.TheVariants as kind;
 ghost use Rattle.mc_tree.specs.declared.span.Span.{Span};
 ghost use Rattle.mc_tree.specs.Tree.{BlockItems, Declaration, Declarator, name_of, Expression, Statement, Item};
@@ -87,4 +89,11 @@ pub fn typedef_name_is_in_force_at_once()
 pub fn declarator_of_typedef_names_type()
     ensures typedef { (d : Dialect) (ts : List Lexeme) (one : Declarator) (rest : List Lexeme) → ReadsInitDeclarator d true ts (t.bare one) rest → list_any (is_name_of (name_of one).text) rest ≡ false }
     ensures other { (d : Dialect) (ts : List Lexeme) (one : Declarator) (rest : List Lexeme) → ReadsInitDeclarator d false ts (t.bare one) rest → ReadsDeclarator d ts one rest }
+{}
+
+/// A unit stands for no more tokens than its text has. It stands for fewer where a list ends with a
+/// comma, which leaves no trace in the tree.
+#[tactic(auto, using(crate::proofs::Counted::tree_counted))]
+pub fn tree_is_no_longer_than_text()
+    ensures { (d : Dialect) (tokens : List Tok) (unit : List Item) → IsTree d tokens unit → token_count unit ≤ length tokens }
 {}
