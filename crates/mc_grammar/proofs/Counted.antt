@@ -1,5 +1,5 @@
 -- A tree stands for no more tokens than were read for it: the last comma of a list leaves no trace in it.
-use Rattle.std.proofs.Common.{◌≡◌, ℕ, zero, suc, ◌+◌, ◌<◌, ◌≤◌, Bool, true, false, List, [], ◌∷◌, Option, length, refl, ap, arith}
+use Rattle.std.proofs.Common.{◌≡◌, ℕ, zero, suc, ◌+◌, ◌≤◌, Bool, true, false, List, Option, length, refl, ap, arith}
 use Rattle.std.proofs.lemmas.List.{length-map}
 use Rattle.mc_lex.specs.declared.token.Dialect.{Dialect}
 use Rattle.mc_tree.specs.Tree.{Expression, Expressions, TypeName, Specifiers, StructMember, Members, Enumerator, Enumerators, Declarator, Declarators, Sizes, Parameters, Parameter, ParameterList, Initializer, Initializers, InitDeclarator, Declaration, ForStart, Statement, BlockItems, Item, name_of}
@@ -14,7 +14,7 @@ use Rattle.mc_grammar.specs.Statements.{ReadsOptional, ReadsTest, ReadsInitializ
 use Rattle.mc_grammar.specs.Statements as s
 use Rattle.mc_grammar.specs.Items.{ReadsItem, ReadsUnit, IsTree}
 use Rattle.mc_grammar.specs.Items as i
-use Rattle.mc_tree.specs.Length.{behind_comma, of_expression, of_expressions, of_type, of_specifier, of_specifiers, of_member, of_members, of_enumerator, of_enumerators, of_declarator, of_declarators, of_sizes, of_parameters, of_parameter, of_parameter_list, of_initializer, of_initializers, of_init_declarator, of_init_declarators, of_declaration, of_optional, of_start, of_statement, of_block, of_item, token_count}
+use Rattle.mc_tree.specs.Length.{behind_comma, of_expression, of_expressions, of_type, of_specifiers, of_member, of_members, of_enumerator, of_enumerators, of_declarator, of_declarators, of_sizes, of_parameters, of_parameter, of_parameter_list, of_initializer, of_initializers, of_init_declarator, of_init_declarators, of_declaration, of_optional, of_start, of_statement, of_block, of_item, token_count}
 
 behind : (n : ℕ) → behind_comma n ≤ n + 1
 behind zero = omega arith
