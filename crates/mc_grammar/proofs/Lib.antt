@@ -3,3 +3,4 @@ pub mod Choices
 pub mod Examples
 pub mod Samples
 pub mod Counted
+pub mod Ends

@@ -5,7 +5,7 @@ ghost use Rattle.mc_lex.specs.declared.token.Dialect.{Dialect};
 ghost use Rattle.mc_tree.specs.Length.{token_count};
 ghost use Rattle.mc_lex.specs.declared.token.TokenKind.TheVariants as kind;
 ghost use Rattle.mc_tree.specs.declared.span.Span.{Span};
-ghost use Rattle.mc_tree.specs.Tree.{BlockItems, Declaration, Declarator, name_of, Expression, Statement, Item};
+ghost use Rattle.mc_tree.specs.Tree.{BlockItems, Declaration, Declarator, Initializer, name_of, Expression, Statement, Item};
 ghost use Rattle.mc_tree.specs.Tree as t;
 ghost use Rattle.mc_grammar.specs.Words.{Lexeme, is_tag, retag, sees_cast, sees_word};
 ghost use Rattle.std.specs.List.{list_any};
@@ -83,11 +83,12 @@ pub fn typedef_name_is_in_force_at_once()
     ensures { (d : Dialect) → IsTree d typedef_tokens typedef_tree }
 {}
 
-/// Behind a typedef's declarator no token is an identifier of its name. Behind the declarator of
+/// Behind a typedef's declarator, and its value if it has one, no token is an identifier of its name. Behind the declarator of
 /// any other declaration the tokens are as they were.
-#[tactic(auto, using(crate::proofs::Choices::typedef_retags, crate::proofs::Choices::others_keep))]
+#[tactic(auto, using(crate::proofs::Choices::typedef_retags, crate::proofs::Choices::others_keep, crate::proofs::Ends::valued_typedef_retags))]
 pub fn declarator_of_typedef_names_type()
     ensures typedef { (d : Dialect) (ts : List Lexeme) (one : Declarator) (rest : List Lexeme) → ReadsInitDeclarator d true ts (t.bare one) rest → list_any (is_name_of (name_of one).text) rest ≡ false }
+    ensures valued { (d : Dialect) (ts rest : List Lexeme) (one : Declarator) (value : Initializer) → ReadsInitDeclarator d true ts (t.initialized one value) rest → list_any (is_name_of (name_of one).text) rest ≡ false }
     ensures other { (d : Dialect) (ts : List Lexeme) (one : Declarator) (rest : List Lexeme) → ReadsInitDeclarator d false ts (t.bare one) rest → ReadsDeclarator d ts one rest }
 {}
 
