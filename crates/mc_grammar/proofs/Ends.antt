@@ -1,20 +1,17 @@
 -- What is left is an end of what was given.
-use Rattle.std.proofs.Common.{◌||◌, sym, ◌∙◌, ◌≡◌, ℕ, ◌+◌, ◌<◌, ◌≤◌, Bool, true, false, List, [], ◌∷◌, Option, length, refl, ap, arith}
+use Rattle.std.proofs.Common.{◌||◌, sym, ◌∙◌, ◌≡◌, ℕ, Bool, true, false, List, ◌∷◌, refl, ap}
 use Rattle.std.specs.List.{list_any}
 use Rattle.mc_tree.specs.Tree as t
 use Rattle.mc_grammar.specs.Meaning.{is_name_of}
 use Rattle.mc_grammar.proofs.Choices.{no_name_follows}
 use Rattle.mc_lex.specs.declared.token.Dialect.{Dialect}
 use Rattle.mc_tree.specs.Tree.{Expression, Expressions, TypeName, Specifiers, StructMember, Members, Enumerator, Enumerators, Declarator, Declarators, Sizes, Parameters, Parameter, ParameterList, Initializer, Initializers, InitDeclarator, Declaration, ForStart, Statement, BlockItems, Item, name_of}
-use Rattle.mc_grammar.specs.Words.{Lexeme, retag}
-use Rattle.mc_grammar.specs.Nonterminal.{Nonterminal, Level, operand, takes}
-use Rattle.mc_grammar.specs.Nonterminal as n
+use Rattle.mc_grammar.specs.Words.{Lexeme}
+use Rattle.mc_grammar.specs.Nonterminal.{Nonterminal}
 use Rattle.mc_grammar.specs.Expressions.{Reads, ReadsExpressions, ReadsTypeName, ReadsStars, ReadsSpecifiers, ReadsMembers, ReadsMember, ReadsDeclarators, ReadsEnumerators, ReadsEnumerator, ReadsDeclarator, ReadsSizes, ReadsParameters, ReadsParameterList, ReadsParameter}
 use Rattle.mc_grammar.specs.Expressions as r
 use Rattle.mc_grammar.specs.Statements.{ReadsOptional, ReadsTest, ReadsInitializer, ReadsInitializers, ReadsInitDeclarator, ReadsInitDeclarators, ReadsDeclaration, ReadsForStart, ReadsStatement, ReadsCompound, ReadsBlockItems, after}
 use Rattle.mc_grammar.specs.Statements as s
-use Rattle.mc_grammar.specs.Items.{ReadsItem, ReadsUnit}
-use Rattle.mc_grammar.specs.Items as i
 
 -- the first is an end of the second
 pub data IsEnd : List Lexeme → List Lexeme → Type 0 where
