@@ -5,14 +5,14 @@ use Rattle.std.specs.List.{list_any}
 use Rattle.mc_lex.specs.declared.token.Dialect.{Dialect}
 use Rattle.mc_lex.specs.declared.token.TokenKind.TheVariants as kind
 use Rattle.mc_tree.specs.declared.span.Span.{Span}
-use Rattle.mc_tree.specs.Tree.{Expression, TypeName, Statement, Declaration, BlockItems}
+use Rattle.mc_tree.specs.Tree.{Expression, Declarator, TypeName, Statement, Declaration, BlockItems, name_of}
 use Rattle.mc_tree.specs.Tree as t
 use Rattle.mc_grammar.specs.Words.{Lexeme, is_tag, is_identifier, begins_specifiers, sees_word, sees_cast, retag, retagged}
 use Rattle.mc_grammar.specs.Nonterminal as n
 use Rattle.mc_grammar.specs.Meaning.{is_cast, is_name_of}
-use Rattle.mc_grammar.specs.Expressions.{Reads}
+use Rattle.mc_grammar.specs.Expressions.{Reads, ReadsDeclarator}
 use Rattle.mc_grammar.specs.Expressions as r
-use Rattle.mc_grammar.specs.Statements.{ReadsStatement, ReadsBlockItems}
+use Rattle.mc_grammar.specs.Statements.{ReadsInitDeclarator, ReadsStatement, ReadsBlockItems}
 use Rattle.mc_grammar.specs.Statements as s
 
 -- an `if` that has no `else` stands before none
@@ -82,3 +82,11 @@ pub tags_stay : (name : List ℕ) (ts : List Lexeme) → map is_tag (retag name 
 unfolding retag
 tags_stay name [] = refl
 tags_stay name (x ∷ ts) = rw (same_tag name x (is_identifier x.token.kind && bytes_eq x.token.text name) refl, tags_stay name ts) refl
+
+-- behind a typedef's declarator its name is no identifier
+pub typedef_retags : {d : Dialect} {ts : List Lexeme} {one : Declarator} {rest : List Lexeme} → ReadsInitDeclarator d true ts (t.bare one) rest → list_any (is_name_of (name_of one).text) rest ≡ false
+typedef_retags (s.bare {mid = mid} {d = one} p e) = no_name_follows (name_of one).text mid
+
+-- behind the declarator of any other declaration all tokens are as they were
+pub others_keep : {d : Dialect} {ts : List Lexeme} {one : Declarator} {rest : List Lexeme} → ReadsInitDeclarator d false ts (t.bare one) rest → ReadsDeclarator d ts one rest
+others_keep (s.bare p e) = p

@@ -1,3 +1,6 @@
 pub mod Lengths
 pub mod Choices
 pub mod Examples
+pub mod Samples
+pub mod Counted
+pub mod Ends

@@ -1,9 +1,10 @@
 -- The grammar of external declarations, and of a whole source: one case for each alternative of a production.
-use Rattle.std.specs.Prelude.{◌≡◌, ℕ, Bool, true, false, not, ◌&&◌, List, [], ◌∷◌}
+use Rattle.std.specs.Prelude.{◌≡◌, ◌≤◌, ℕ, Bool, true, false, not, ◌&&◌, List, [], ◌∷◌}
 use Rattle.mc_lex.specs.declared.token.Dialect.{Dialect}
 use Rattle.mc_lex.specs.Tokens.{Tok}
 use Rattle.mc_tree.specs.Tree.{Name, Specifiers, Parameters, Declaration, BlockItems, Item}
 use Rattle.mc_tree.specs.Tree as t
+use Rattle.mc_tree.specs.Height.{height_unit}
 use Rattle.mc_grammar.specs.Words.{Lexeme, is_name, lexemes_of}
 use Rattle.mc_grammar.specs.Places.{name_at, part}
 use Rattle.mc_grammar.specs.Counts.{for_item, for_function, is_typedef}
@@ -32,3 +33,7 @@ pub data ReadsUnit (dialect : Dialect) : List Lexeme → List Item → Type 0 wh
 -- The tree of a list of tokens is a unit that leaves nothing.
 abbrev pub IsTree : Dialect → List Tok → List Item → Type 0
 IsTree dialect tokens unit = ReadsUnit dialect (lexemes_of tokens) unit
+
+-- The tree of an accepted text has at most this height: 200 in the plain dialect.
+abbrev pub IsTreeWithin : ℕ → Dialect → List Tok → List Item → Type 0
+IsTreeWithin limit dialect tokens unit = IsTree dialect tokens unit × (height_unit unit ≤ limit)

@@ -7,3 +7,4 @@ pub mod Expressions
 pub mod Statements
 pub mod Items
 pub mod Meaning
+pub mod Samples

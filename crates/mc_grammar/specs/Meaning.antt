@@ -1,12 +1,12 @@
 -- Words of the laws.
 use Rattle.std.specs.Prelude.{ℕ, Bool, true, false, ◌&&◌, List, [], ◌∷◌, codes}
 use Rattle.std.specs.Str.{bytes_eq}
-use Rattle.mc_lex.specs.declared.token.TokenKind.{TokenKind}
 use Rattle.mc_lex.specs.declared.token.TokenKind.TheVariants as kind
+use Rattle.mc_tree.specs.declared.binary_operator.BinaryOperator.TheVariants as binary
 use Rattle.mc_tree.specs.Tree.{Expression, BlockItems}
 use Rattle.mc_tree.specs.Tree as t
 use Rattle.mc_grammar.specs.Words.{Lexeme, is_name}
-use Rattle.mc_grammar.specs.Places.{at, name_at, part}
+use Rattle.mc_grammar.specs.Places.{at, name_at, to, part}
 
 abbrev pub is_cast : Expression → Bool
 is_cast (t.Cast type operand span) = true
@@ -33,7 +33,17 @@ declares name other a b c e f =
     let ts = sign (codes ";") e ∷ sign (codes "}") f ∷ [] in
     let all = type_name name a ∷ sign (codes "*") b ∷ x ∷ ts in
     t.local
-        (t.declaration (t.specifiers (t.TypedefName (name_at (type_name name a))) t.no_specifiers)
-            (t.bare (t.object 1 (name_at x) t.no_sizes (part (sign (codes "*") b ∷ x ∷ ts) ts)) ∷ [])
-            (part all (sign (codes "}") f ∷ [])))
-        t.no_block_items
+    (t.declaration (t.specifiers (t.TypedefName (name_at (type_name name a))) t.no_specifiers)
+    (t.bare (t.object 1 (name_at x) t.no_sizes (part (sign (codes "*") b ∷ x ∷ ts) ts)) ∷ [])
+    (part all (sign (codes "}") f ∷ [])))
+    t.no_block_items
+
+-- the tree of `a * x;` in a block where `a` is no typedef name
+abbrev pub multiplies : List ℕ → List ℕ → ℕ → ℕ → ℕ → ℕ → ℕ → BlockItems
+multiplies name other a b c e f =
+    let x = identifier name a in
+    let y = identifier other c in
+    let rest = sign (codes "}") f ∷ [] in
+    t.statement
+    (t.Evaluate (t.Binary binary.Multiply (t.Named (name_at x)) (t.Named (name_at y)) (to (at x) (at y))) (part (x ∷ sign (codes "*") b ∷ y ∷ sign (codes ";") e ∷ rest) rest))
+    t.no_block_items

@@ -83,11 +83,6 @@ abbrev pub sees_cast : List Lexeme → Bool
 sees_cast [] = false
 sees_cast (x ∷ ts) = is_sign (codes "(") x && sees_specifiers ts
 
--- an identifier before `(`
-abbrev pub sees_call : List Lexeme → Bool
-sees_call [] = false
-sees_call (x ∷ ts) = is_name x && sees (codes "(") ts
-
 -- an identifier before `:`
 abbrev pub sees_label : List Lexeme → Bool
 sees_label [] = false

@@ -1,18 +1,21 @@
 //! Laws of the grammar: what follows from its productions, for whoever reads or uses them.
 ghost use Rattle.std.specs.Prelude.{◌≡◌, ◌≤◌, ◌<◌, ◌+◌, ◌∷◌, ℕ, length, List, [], map, true, false, codes};
+ghost use Rattle.mc_lex.specs.Tokens.{Tok};
 ghost use Rattle.mc_lex.specs.declared.token.Dialect.{Dialect};
+ghost use Rattle.mc_tree.specs.Length.{token_count};
 ghost use Rattle.mc_lex.specs.declared.token.TokenKind.TheVariants as kind;
 ghost use Rattle.mc_tree.specs.declared.span.Span.{Span};
-ghost use Rattle.mc_tree.specs.Tree.{BlockItems, Declaration, Expression, Statement, Item};
+ghost use Rattle.mc_tree.specs.Tree.{BlockItems, Declaration, Declarator, Initializer, name_of, Expression, Statement, Item};
 ghost use Rattle.mc_tree.specs.Tree as t;
 ghost use Rattle.mc_grammar.specs.Words.{Lexeme, is_tag, retag, sees_cast, sees_word};
 ghost use Rattle.std.specs.List.{list_any};
-ghost use Rattle.mc_grammar.specs.Meaning.{declares, identifier, is_cast, is_name_of, sign, type_name};
+ghost use Rattle.mc_grammar.specs.Meaning.{declares, identifier, is_cast, is_name_of, multiplies, sign, type_name};
 ghost use Rattle.mc_grammar.specs.Nonterminal.{Nonterminal, takes};
 ghost use Rattle.mc_grammar.specs.Nonterminal as n;
-ghost use Rattle.mc_grammar.specs.Expressions.{Reads};
-ghost use Rattle.mc_grammar.specs.Statements.{ReadsStatement, ReadsBlockItems};
-ghost use Rattle.mc_grammar.specs.Items.{ReadsItem};
+ghost use Rattle.mc_grammar.specs.Expressions.{Reads, ReadsDeclarator};
+ghost use Rattle.mc_grammar.specs.Statements.{ReadsStatement, ReadsBlockItems, ReadsInitDeclarator};
+ghost use Rattle.mc_grammar.specs.Items.{IsTree, ReadsItem};
+ghost use Rattle.mc_grammar.specs.Samples.{typedef_tokens, typedef_tree};
 
 /// What an expression leaves is no longer than what was given, and shorter where its nonterminal
 /// takes a token: each does but the rest of a repetition.
@@ -65,4 +68,33 @@ pub fn typedef_name_is_no_identifier()
 #[tactic(auto, using(crate::proofs::Examples::declares_it))]
 pub fn type_before_star_declares()
     ensures { (d : Dialect) (name other : List ℕ) (a b c e f : ℕ) → ReadsBlockItems d (type_name name a ∷ sign (codes "*") b ∷ identifier other c ∷ sign (codes ";") e ∷ sign (codes "}") f ∷ []) (declares name other a b c e f) (sign (codes "}") f ∷ []) }
+{}
+
+/// In a block `a * x;` multiplies where `a` is no typedef name.
+#[tactic(auto, using(crate::proofs::Examples::multiplies_it))]
+pub fn identifier_before_star_multiplies()
+    ensures { (d : Dialect) (name other : List ℕ) (a b c e f : ℕ) → ReadsBlockItems d (identifier name a ∷ sign (codes "*") b ∷ identifier other c ∷ sign (codes ";") e ∷ sign (codes "}") f ∷ []) (multiplies name other a b c e f) (sign (codes "}") f ∷ []) }
+{}
+
+/// A typedef's name is in force from the end of its declarator, within its declaration too:
+/// `typedef int T,t[(T)3];` has a tree, with a cast in it.
+#[tactic(auto, using(crate::proofs::Samples::in_force_at_once))]
+pub fn typedef_name_is_in_force_at_once()
+    ensures { (d : Dialect) → IsTree d typedef_tokens typedef_tree }
+{}
+
+/// Behind a typedef's declarator, and its value if it has one, no token is an identifier of its name. Behind the declarator of
+/// any other declaration the tokens are as they were.
+#[tactic(auto, using(crate::proofs::Choices::typedef_retags, crate::proofs::Choices::others_keep, crate::proofs::Ends::valued_typedef_retags))]
+pub fn declarator_of_typedef_names_type()
+    ensures typedef { (d : Dialect) (ts : List Lexeme) (one : Declarator) (rest : List Lexeme) → ReadsInitDeclarator d true ts (t.bare one) rest → list_any (is_name_of (name_of one).text) rest ≡ false }
+    ensures valued { (d : Dialect) (ts rest : List Lexeme) (one : Declarator) (value : Initializer) → ReadsInitDeclarator d true ts (t.initialized one value) rest → list_any (is_name_of (name_of one).text) rest ≡ false }
+    ensures other { (d : Dialect) (ts : List Lexeme) (one : Declarator) (rest : List Lexeme) → ReadsInitDeclarator d false ts (t.bare one) rest → ReadsDeclarator d ts one rest }
+{}
+
+/// A unit stands for no more tokens than its text has. It stands for fewer where a list ends with a
+/// comma, which leaves no trace in the tree.
+#[tactic(auto, using(crate::proofs::Counted::tree_counted))]
+pub fn tree_is_no_longer_than_text()
+    ensures { (d : Dialect) (tokens : List Tok) (unit : List Item) → IsTree d tokens unit → token_count unit ≤ length tokens }
 {}
