@@ -5,12 +5,12 @@ use Rattle.mc_tree.specs.declared.expression.Expression.{Expression, Row_of-Expr
 use Rattle.mc_tree.specs.declared.expression.Expression.TheVariants as expression
 use Rattle.mc_tree.specs.declared.specifier.Specifier.{Specifier, Row_of-Member, end_of-Member, more_of-Member, Row_of-Enumerator, end_of-Enumerator, more_of-Enumerator}
 use Rattle.mc_tree.specs.declared.specifier.Specifier.TheVariants as specifier
-use Rattle.mc_tree.specs.declared.member.Member.{Row_of-Specifier, end_of-Specifier, more_of-Specifier, Row_of-Declarator, end_of-Declarator, more_of-Declarator}
+use Rattle.mc_tree.specs.declared.member.Member.{Member, Row_of-Specifier, end_of-Specifier, more_of-Specifier, Row_of-Declarator, end_of-Declarator, more_of-Declarator}
 use Rattle.mc_tree.specs.declared.enumerator.Enumerator.{Enumerator}
 use Rattle.mc_tree.specs.declared.enumerator.Enumerator.TheVariants as enumerator
 use Rattle.mc_tree.specs.declared.declarator.Declarator.{Declarator, Row_of-Parameter, end_of-Parameter, more_of-Parameter}
 use Rattle.mc_tree.specs.declared.declarator.Declarator.TheVariants as declarator
-use Rattle.mc_tree.specs.declared.parameter.Parameter.{Row_of-Size, end_of-Size, more_of-Size}
+use Rattle.mc_tree.specs.declared.parameter.Parameter.{Parameter, Row_of-Size, end_of-Size, more_of-Size}
 use Rattle.mc_tree.specs.declared.size.Size.{Size}
 use Rattle.mc_tree.specs.declared.size.Size.TheVariants as size
 use Rattle.mc_tree.specs.Tree as t
@@ -89,6 +89,37 @@ abbrev mutual
   parameters_of end_of-Parameter = t.no_parameters
   parameters_of (more_of-Parameter shape specifiers stars name shape2 sizes span rest) = t.parameters (t.parameter (specifiers_of specifiers) stars (tag_of name) (sizes_of sizes) span) (parameters_of rest)
 
+-- The same of lists.
+abbrev pub expressions_from : List Expression → t.Expressions
+expressions_from [] = t.no_expressions
+expressions_from (a ∷ rest) = t.expressions (expression_of a) (expressions_from rest)
+
 abbrev pub specifiers_from : List Specifier → t.Specifiers
 specifiers_from [] = t.no_specifiers
-specifiers_from (s ∷ ss) = t.specifiers (specifier_of s) (specifiers_from ss)
+specifiers_from (s ∷ rest) = t.specifiers (specifier_of s) (specifiers_from rest)
+
+abbrev pub declarators_from : List Declarator → t.Declarators
+declarators_from [] = t.no_declarators
+declarators_from (d ∷ rest) = t.declarators (declarator_of d) (declarators_from rest)
+
+abbrev pub member_of : Member → t.StructMember
+member_of m = t.member (specifiers_from m.specifiers.items) (declarators_from m.declarators.items) m.span
+
+abbrev pub members_from : List Member → t.Members
+members_from [] = t.no_members
+members_from (m ∷ rest) = t.members (member_of m) (members_from rest)
+
+abbrev pub enumerators_from : List Enumerator → t.Enumerators
+enumerators_from [] = t.no_enumerators
+enumerators_from (e ∷ rest) = t.enumerators (enumerator_of e) (enumerators_from rest)
+
+abbrev pub sizes_from : List Size → t.Sizes
+sizes_from [] = t.no_sizes
+sizes_from (s ∷ rest) = with_size s (sizes_from rest)
+
+abbrev pub parameter_of : Parameter → t.Parameter
+parameter_of p = t.parameter (specifiers_from p.specifiers.items) p.stars (tag_of p.name) (sizes_from p.sizes.items) p.span
+
+abbrev pub parameters_from : List Parameter → t.ParameterList
+parameters_from [] = t.no_parameters
+parameters_from (p ∷ rest) = t.parameters (parameter_of p) (parameters_from rest)

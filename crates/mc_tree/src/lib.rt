@@ -10,6 +10,7 @@ mod enumerator;
 mod expression;
 mod first;
 mod for_start;
+mod heights;
 mod identifier;
 mod init_declarator;
 mod initializer;
@@ -22,6 +23,8 @@ mod specifier;
 mod specifier_word;
 mod statement;
 mod step_operator;
+#[cfg(test)]
+mod tests;
 mod unary_operator;
 mod unit;
 
@@ -34,6 +37,7 @@ pub use enumerator::Enumerator;
 pub use expression::Expression;
 pub use first::FirstTree;
 pub use for_start::ForStart;
+pub use heights::height;
 pub use identifier::Identifier;
 pub use init_declarator::InitDeclarator;
 pub use initializer::Initializer;

@@ -1,0 +1,15 @@
+use Rattle.std.proofs.Common.{arith, ap}
+use Rattle.mc_tree.specs.declared.span.Span.{Span}
+use Rattle.mc_tree.specs.Height.{height}
+use Rattle.mc_tree.specs.Length.{of_expression}
+use Rattle.mc_tree.proofs.Rows.{view_call}
+use Rattle.mc_tree.proofs.tests.call.Goals as goal
+
+abbrev nowhere : Span
+nowhere = record { start = 0; end = 0 }
+
+pub returns-clause-high : goal.returns-clause-high
+returns-clause-high c = ap height (view_call c.identifier.result c.args.arguments nowhere)
+
+pub returns-clause-long : goal.returns-clause-long
+returns-clause-long c = omega (arith, ap of_expression (view_call c.identifier.result c.args.arguments nowhere))

@@ -1,0 +1,167 @@
+//! The height of expressions, specifiers and declarators.
+ghost use Rattle.std.specs.Prelude.{◌≡◌, ◌≤◌};
+ghost use Rattle.mc_tree.specs.Views.{expression_of, expressions_from, specifier_of, specifiers_from, members_from, enumerators_from, declarator_of, declarators_from, sizes_from, parameters_from};
+ghost use Rattle.mc_tree.specs.Height as h;
+
+use crate::declarator::Declarator;
+use crate::enumerator::Enumerator;
+use crate::expression::Expression;
+use crate::member::Member;
+use crate::parameter::Parameter;
+use crate::size::Size;
+use crate::specifier::Specifier;
+use std::cmp::max;
+
+#[cycle(height)]
+pub(crate) fn expression(tree: &Expression<'_>) -> u32
+    requires { h.height (expression_of tree.now) ≤ 800 }
+    ensures { result ≡ h.height (expression_of tree.now) }
+{
+    match tree {
+        Expression::Name { .. } | Expression::Constant { .. } | Expression::Character { .. } => 1,
+        Expression::Parenthesized { inner, .. } => expression(inner) + 1,
+        Expression::Call { arguments, .. } => expressions(arguments) + 1,
+        Expression::Index { array, index, .. } => max(expression(array), expression(index)) + 1,
+        Expression::Member { object, .. } => expression(object) + 1,
+        Expression::StepAfter { operand, .. } | Expression::StepBefore { operand, .. } => {
+            expression(operand) + 1
+        }
+        Expression::Unary { operand, .. } => expression(operand) + 1,
+        Expression::Cast {
+            specifiers: words,
+            operand,
+            ..
+        } => { max(specifiers(words), expression(operand)) + 1 }
+        Expression::Binary { left, right, .. } => max(expression(left), expression(right)) + 1,
+        Expression::Conditional {
+            test,
+            chosen,
+            other,
+            ..
+        } => { max(expression(test), max(expression(chosen), expression(other))) + 1 }
+        Expression::Assignment { target, value, .. } => {
+            max(expression(target), expression(value)) + 1
+        }
+        Expression::Comma { operands, .. } => expressions(operands) + 1,
+    }
+}
+
+#[cycle(height)]
+pub(crate) fn expressions(trees: &[Expression<'_>]) -> u32
+    requires { h.tallest (expressions_from trees.now) ≤ 800 }
+    ensures { result ≡ h.tallest (expressions_from trees.now) }
+{
+    let mut tallest = 0;
+    for tree in trees {
+        tallest = max(tallest, expression(tree));
+    }
+    tallest
+}
+
+#[cycle(height)]
+pub(crate) fn specifiers(trees: &[Specifier<'_>]) -> u32
+    requires { h.height_specifiers (specifiers_from trees.now) ≤ 800 }
+    ensures { result ≡ h.height_specifiers (specifiers_from trees.now) }
+{
+    let mut tallest = 0;
+    for tree in trees {
+        tallest = max(tallest, specifier(tree));
+    }
+    tallest
+}
+
+#[cycle(height)]
+fn specifier(tree: &Specifier<'_>) -> u32
+    requires { h.height_specifier (specifier_of tree.now) ≤ 800 }
+    ensures { result ≡ h.height_specifier (specifier_of tree.now) }
+{
+    match tree {
+        Specifier::Structure { members: list, .. } => members(list) + 1,
+        Specifier::Enumeration {
+            enumerators: list,
+            ..
+        } => enumerators(list) + 1,
+        _ => 0,
+    }
+}
+
+#[cycle(height)]
+fn members(trees: &[Member<'_>]) -> u32
+    requires { h.height_members (members_from trees.now) ≤ 800 }
+    ensures { result ≡ h.height_members (members_from trees.now) }
+{
+    let mut tallest = 0;
+    for tree in trees {
+        let parts = max(specifiers(&tree.specifiers), declarators(&tree.declarators));
+        tallest = max(tallest, parts);
+    }
+    tallest
+}
+
+#[cycle(height)]
+fn enumerators(trees: &[Enumerator<'_>]) -> u32
+    requires { h.height_enumerators (enumerators_from trees.now) ≤ 800 }
+    ensures { result ≡ h.height_enumerators (enumerators_from trees.now) }
+{
+    let mut tallest = 0;
+    for tree in trees {
+        if let Enumerator::Valued { value, .. } = tree {
+            tallest = max(tallest, expression(value));
+        }
+    }
+    tallest
+}
+
+#[cycle(height)]
+fn declarators(trees: &[Declarator<'_>]) -> u32
+    requires { h.height_declarators (declarators_from trees.now) ≤ 800 }
+    ensures { result ≡ h.height_declarators (declarators_from trees.now) }
+{
+    let mut tallest = 0;
+    for tree in trees {
+        tallest = max(tallest, declarator(tree));
+    }
+    tallest
+}
+
+#[cycle(height)]
+pub(crate) fn declarator(tree: &Declarator<'_>) -> u32
+    requires { h.height_declarator (declarator_of tree.now) ≤ 800 }
+    ensures { result ≡ h.height_declarator (declarator_of tree.now) }
+{
+    match tree {
+        Declarator::Object { sizes: list, .. } => sizes(list),
+        Declarator::EmptyFunction { .. } | Declarator::VoidFunction { .. } => 0,
+        Declarator::Function {
+            parameters: list,
+            ..
+        } => parameters(list),
+    }
+}
+
+#[cycle(height)]
+fn sizes(trees: &[Size<'_>]) -> u32
+    requires { h.height_sizes (sizes_from trees.now) ≤ 800 }
+    ensures { result ≡ h.height_sizes (sizes_from trees.now) }
+{
+    let mut tallest = 0;
+    for tree in trees {
+        if let Size::Of { length } = tree {
+            tallest = max(tallest, expression(length));
+        }
+    }
+    tallest
+}
+
+#[cycle(height)]
+fn parameters(trees: &[Parameter<'_>]) -> u32
+    requires { h.height_parameter_list (parameters_from trees.now) ≤ 800 }
+    ensures { result ≡ h.height_parameter_list (parameters_from trees.now) }
+{
+    let mut tallest = 0;
+    for tree in trees {
+        let parts = max(specifiers(&tree.specifiers), sizes(&tree.sizes));
+        tallest = max(tallest, parts);
+    }
+    tallest
+}
