@@ -2,7 +2,9 @@
 use Rattle.std.proofs.Common.{◌≡◌, ℕ, ◌+◌, ◌<◌, ◌≤◌, Bool, true, false, List, [], ◌∷◌, Option, length, refl, ap, arith}
 use Rattle.mc_lex.specs.declared.token.Dialect.{Dialect}
 use Rattle.mc_tree.specs.Tree.{Expression, Expressions, TypeName, Specifiers, StructMember, Members, Enumerator, Enumerators, Declarator, Declarators, Sizes, Parameters, Parameter, ParameterList, Initializer, Initializers, InitDeclarator, Declaration, ForStart, Statement, BlockItems, Item, name_of}
+use Rattle.mc_tree.specs.Tree as t
 use Rattle.mc_grammar.specs.Words.{Lexeme, retag}
+use Rattle.mc_grammar.specs.Counts.{for_type}
 use Rattle.mc_grammar.specs.Nonterminal.{Nonterminal, Level, operand, takes}
 use Rattle.mc_grammar.specs.Nonterminal as n
 use Rattle.mc_grammar.specs.Expressions.{Reads, ReadsExpressions, ReadsTypeName, ReadsStars, ReadsSpecifiers, ReadsMembers, ReadsMember, ReadsDeclarators, ReadsEnumerators, ReadsEnumerator, ReadsDeclarator, ReadsSizes, ReadsParameters, ReadsParameterList, ReadsParameter}
@@ -23,6 +25,16 @@ operand_takes n.bit_xor = refl
 operand_takes n.bit_or = refl
 operand_takes n.land = refl
 operand_takes n.lor = refl
+
+-- specifiers take a token where there are some
+abbrev some_of : Specifiers → ℕ
+some_of t.no_specifiers = 0
+some_of (t.specifiers one all) = 1
+
+-- what meets the test of a type is not empty
+typed : (all : Specifiers) → for_type all ≡ true → some_of all ≡ 1
+typed t.no_specifiers e = cc
+typed (t.specifiers one all) e = refl
 
 pub stars_shorter : {ts rest : List Lexeme} {k : ℕ} → ReadsStars ts k rest → length rest ≤ length ts
 stars_shorter (r.star e p) = omega (arith, stars_shorter p)
@@ -60,10 +72,10 @@ mutual
   expressions_shorter (r.last_expression p e) = omega (arith, shorter p)
   expressions_shorter (r.more_expressions p e q) = omega (arith, shorter p, expressions_shorter q)
 
-  pub type_name_shorter : {d : Dialect} {ts rest : List Lexeme} {type : TypeName} → ReadsTypeName d ts type rest → length rest ≤ length ts
-  type_name_shorter (r.type_name p e q) = omega (arith, specifiers_shorter p, stars_shorter q)
+  pub type_name_shorter : {d : Dialect} {ts rest : List Lexeme} {type : TypeName} → ReadsTypeName d ts type rest → length rest < length ts
+  type_name_shorter (r.type_name {s = all} p e q) = omega (arith, typed all e, specifiers_shorter p, stars_shorter q)
 
-  pub specifiers_shorter : {d : Dialect} {has : Bool} {ts rest : List Lexeme} {all : Specifiers} → ReadsSpecifiers d has ts all rest → length rest ≤ length ts
+  pub specifiers_shorter : {d : Dialect} {has : Bool} {ts rest : List Lexeme} {all : Specifiers} → ReadsSpecifiers d has ts all rest → length rest + some_of all ≤ length ts
   specifiers_shorter (r.specifiers_end e) = omega arith
   specifiers_shorter (r.word e p) = omega (arith, specifiers_shorter p)
   specifiers_shorter (r.typedef_name e p) = omega (arith, specifiers_shorter p)
@@ -108,13 +120,16 @@ mutual
   parameters_shorter (r.void_parameters e f g) = omega arith
   parameters_shorter (r.listed_parameters e f g p h) = omega (arith, parameter_list_shorter p)
 
-  pub parameter_list_shorter : {d : Dialect} {ts rest : List Lexeme} {all : ParameterList} → ReadsParameterList d ts all rest → length rest ≤ length ts
+  pub parameter_list_shorter : {d : Dialect} {ts rest : List Lexeme} {all : ParameterList} → ReadsParameterList d ts all rest → length rest < length ts
   parameter_list_shorter (r.last_parameter p e) = parameter_shorter p
   parameter_list_shorter (r.more_parameters p e q) = omega (arith, parameter_shorter p, parameter_list_shorter q)
 
-  pub parameter_shorter : {d : Dialect} {ts rest : List Lexeme} {one : Parameter} → ReadsParameter d ts one rest → length rest ≤ length ts
-  parameter_shorter (r.parameter p e q f v) = omega (arith, specifiers_shorter p, stars_shorter q, sizes_shorter v)
-  parameter_shorter (r.unnamed_parameter p e q f v) = omega (arith, specifiers_shorter p, stars_shorter q, sizes_shorter v)
+  pub parameter_shorter : {d : Dialect} {ts rest : List Lexeme} {one : Parameter} → ReadsParameter d ts one rest → length rest < length ts
+  parameter_shorter (r.parameter {s = all} p e q f v) = omega (arith, typed all e, specifiers_shorter p, stars_shorter q, sizes_shorter v)
+  parameter_shorter (r.unnamed_parameter {s = all} p e q f v) = omega (arith, typed all e, specifiers_shorter p, stars_shorter q, sizes_shorter v)
+
+pub specifiers_no_longer : {d : Dialect} {has : Bool} {ts rest : List Lexeme} {all : Specifiers} → ReadsSpecifiers d has ts all rest → length rest ≤ length ts
+specifiers_no_longer p = omega (arith, specifiers_shorter p)
 
 pub optional_shorter : {d : Dialect} {stop : List ℕ} {ts rest : List Lexeme} {a : Option Expression} → ReadsOptional d stop ts a rest → length rest ≤ length ts
 optional_shorter (s.no_expression e) = omega arith

@@ -1,19 +1,19 @@
 //! Laws of the grammar: what follows from its productions, for whoever reads or uses them.
-ghost use Rattle.std.specs.Prelude.{◌≡◌, ◌≤◌, ◌<◌, ◌+◌, ◌∷◌, ℕ, length, List, [], map, true, false, codes};
+ghost use Rattle.std.specs.Prelude.{◌≡◌, ◌≤◌, ◌<◌, ◌+◌, ◌∷◌, ℕ, Bool, length, List, [], map, true, false, codes, Option};
 ghost use Rattle.mc_lex.specs.Tokens.{Tok};
 ghost use Rattle.mc_lex.specs.declared.token.Dialect.{Dialect};
 ghost use Rattle.mc_tree.specs.Length.{token_count};
 ghost use Rattle.mc_lex.specs.declared.token.TokenKind.TheVariants as kind;
 ghost use Rattle.mc_tree.specs.declared.span.Span.{Span};
-ghost use Rattle.mc_tree.specs.Tree.{BlockItems, Declaration, Declarator, Initializer, name_of, Expression, Statement, Item};
+ghost use Rattle.mc_tree.specs.Tree.{BlockItems, Declaration, Declarator, Declarators, Enumerator, Enumerators, Expression, Expressions, ForStart, InitDeclarator, Initializer, Initializers, Item, Members, name_of, Parameter, ParameterList, Parameters, Sizes, Specifiers, Statement, StructMember, TypeName};
 ghost use Rattle.mc_tree.specs.Tree as t;
 ghost use Rattle.mc_grammar.specs.Words.{Lexeme, is_tag, retag, sees_cast, sees_word};
 ghost use Rattle.std.specs.List.{list_any};
 ghost use Rattle.mc_grammar.specs.Meaning.{declares, identifier, is_cast, is_name_of, multiplies, sign, type_name};
 ghost use Rattle.mc_grammar.specs.Nonterminal.{Nonterminal, takes};
 ghost use Rattle.mc_grammar.specs.Nonterminal as n;
-ghost use Rattle.mc_grammar.specs.Expressions.{Reads, ReadsDeclarator};
-ghost use Rattle.mc_grammar.specs.Statements.{ReadsStatement, ReadsBlockItems, ReadsInitDeclarator};
+ghost use Rattle.mc_grammar.specs.Expressions.{Reads, ReadsDeclarator, ReadsDeclarators, ReadsEnumerator, ReadsEnumerators, ReadsExpressions, ReadsMember, ReadsMembers, ReadsParameter, ReadsParameterList, ReadsParameters, ReadsSizes, ReadsSpecifiers, ReadsStars, ReadsTypeName};
+ghost use Rattle.mc_grammar.specs.Statements.{ReadsStatement, ReadsBlockItems, ReadsCompound, ReadsDeclaration, ReadsForStart, ReadsInitDeclarator, ReadsInitDeclarators, ReadsInitializer, ReadsInitializers, ReadsOptional, ReadsTest};
 ghost use Rattle.mc_grammar.specs.Items.{IsTree, ReadsItem};
 ghost use Rattle.mc_grammar.specs.Samples.{typedef_tokens, typedef_tree};
 
@@ -97,4 +97,42 @@ pub fn declarator_of_typedef_names_type()
 #[tactic(auto, using(crate::proofs::Counted::tree_counted))]
 pub fn tree_is_no_longer_than_text()
     ensures { (d : Dialect) (tokens : List Tok) (unit : List Item) → IsTree d tokens unit → token_count unit ≤ length tokens }
+{}
+
+/// Each of these takes a token: a list of expressions, a type name, the members of a structure and one of them, a list of
+/// declarators and one of them, the constants of an enumeration and one of them, the parameters of a function with their
+/// parentheses, a list of parameters and one of them, a test with its parentheses, an initializer and a list of them, a
+/// declarator with its initializer if it has one, a declaration, the first part of a `for`, and a compound statement.
+#[tactic(auto, using(crate::proofs::Lengths::expressions_shorter, crate::proofs::Lengths::type_name_shorter, crate::proofs::Lengths::members_shorter, crate::proofs::Lengths::member_shorter, crate::proofs::Lengths::declarators_shorter, crate::proofs::Lengths::declarator_shorter, crate::proofs::Lengths::enumerators_shorter, crate::proofs::Lengths::enumerator_shorter, crate::proofs::Lengths::parameters_shorter, crate::proofs::Lengths::parameter_list_shorter, crate::proofs::Lengths::parameter_shorter, crate::proofs::Lengths::test_shorter, crate::proofs::Lengths::initializer_shorter, crate::proofs::Lengths::initializers_shorter, crate::proofs::Lengths::init_declarator_shorter, crate::proofs::Lengths::declaration_shorter, crate::proofs::Lengths::for_start_shorter, crate::proofs::Lengths::compound_shorter))]
+pub fn parts_are_not_empty()
+    ensures expressions { (d : Dialect) (ts rest : List Lexeme) (all : Expressions) → ReadsExpressions d ts all rest → length rest < length ts }
+    ensures type_name { (d : Dialect) (ts rest : List Lexeme) (one : TypeName) → ReadsTypeName d ts one rest → length rest < length ts }
+    ensures members { (d : Dialect) (ts rest : List Lexeme) (all : Members) → ReadsMembers d ts all rest → length rest < length ts }
+    ensures member { (d : Dialect) (ts rest : List Lexeme) (one : StructMember) → ReadsMember d ts one rest → length rest < length ts }
+    ensures declarators { (d : Dialect) (ts rest : List Lexeme) (all : Declarators) → ReadsDeclarators d ts all rest → length rest < length ts }
+    ensures declarator { (d : Dialect) (ts rest : List Lexeme) (one : Declarator) → ReadsDeclarator d ts one rest → length rest < length ts }
+    ensures enumerators { (d : Dialect) (ts rest : List Lexeme) (all : Enumerators) → ReadsEnumerators d ts all rest → length rest < length ts }
+    ensures enumerator { (d : Dialect) (ts rest : List Lexeme) (one : Enumerator) → ReadsEnumerator d ts one rest → length rest < length ts }
+    ensures parameters { (d : Dialect) (ts rest : List Lexeme) (all : Parameters) → ReadsParameters d ts all rest → length rest < length ts }
+    ensures parameter_list { (d : Dialect) (ts rest : List Lexeme) (all : ParameterList) → ReadsParameterList d ts all rest → length rest < length ts }
+    ensures parameter { (d : Dialect) (ts rest : List Lexeme) (one : Parameter) → ReadsParameter d ts one rest → length rest < length ts }
+    ensures test { (d : Dialect) (ts rest : List Lexeme) (one : Expression) → ReadsTest d ts one rest → length rest < length ts }
+    ensures initializer { (d : Dialect) (ts rest : List Lexeme) (one : Initializer) → ReadsInitializer d ts one rest → length rest < length ts }
+    ensures initializers { (d : Dialect) (ts rest : List Lexeme) (all : Initializers) → ReadsInitializers d ts all rest → length rest < length ts }
+    ensures init_declarator { (d : Dialect) (typedef : Bool) (ts rest : List Lexeme) (one : InitDeclarator) → ReadsInitDeclarator d typedef ts one rest → length rest < length ts }
+    ensures declaration { (d : Dialect) (typedef : Bool) (allowed : Specifiers → Bool) (ts rest : List Lexeme) (one : Declaration) → ReadsDeclaration d typedef allowed ts one rest → length rest < length ts }
+    ensures for_start { (d : Dialect) (ts rest : List Lexeme) (one : ForStart) → ReadsForStart d ts one rest → length rest < length ts }
+    ensures compound { (d : Dialect) (ts rest : List Lexeme) (all : BlockItems) → ReadsCompound d ts all rest → length rest < length ts }
+{}
+
+/// What may be empty leaves no more tokens than were given: the `*` of a declarator, specifiers, the sizes of an array, the
+/// items of a block, an expression that may be left out, and the declarators of a declaration.
+#[tactic(auto, using(crate::proofs::Lengths::stars_shorter, crate::proofs::Lengths::specifiers_no_longer, crate::proofs::Lengths::sizes_shorter, crate::proofs::Lengths::block_items_shorter, crate::proofs::Lengths::optional_shorter, crate::proofs::Lengths::init_declarators_shorter))]
+pub fn optional_parts_leave_no_more()
+    ensures stars { (ts rest : List Lexeme) (stars : ℕ) → ReadsStars ts stars rest → length rest ≤ length ts }
+    ensures specifiers { (d : Dialect) (has_type : Bool) (ts rest : List Lexeme) (all : Specifiers) → ReadsSpecifiers d has_type ts all rest → length rest ≤ length ts }
+    ensures sizes { (d : Dialect) (ts rest : List Lexeme) (all : Sizes) → ReadsSizes d ts all rest → length rest ≤ length ts }
+    ensures block_items { (d : Dialect) (ts rest : List Lexeme) (all : BlockItems) → ReadsBlockItems d ts all rest → length rest ≤ length ts }
+    ensures optional { (d : Dialect) (stop : List ℕ) (ts rest : List Lexeme) (one : Option Expression) → ReadsOptional d stop ts one rest → length rest ≤ length ts }
+    ensures init_declarators { (d : Dialect) (typedef : Bool) (ts rest : List Lexeme) (all : List InitDeclarator) → ReadsInitDeclarators d typedef ts all rest → length rest ≤ length ts }
 {}
