@@ -22,7 +22,7 @@ join : {ts mid rest : List Lexeme} → IsEnd mid ts → IsEnd rest mid → IsEnd
 join whole q = q
 join (later p) q = later (join p q)
 
-or_right : (a b : Bool) → (a || b) ≡ false → b ≡ false
+pub or_right : (a b : Bool) → (a || b) ≡ false → b ≡ false
 or_right a false e = refl
 or_right true true e = e
 or_right false true e = e

@@ -4,3 +4,4 @@ pub mod Examples
 pub mod Samples
 pub mod Counted
 pub mod Ends
+pub mod Typedefs

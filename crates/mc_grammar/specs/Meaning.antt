@@ -1,12 +1,15 @@
 -- Words of the laws.
-use Rattle.std.specs.Prelude.{ℕ, Bool, true, false, ◌&&◌, List, [], ◌∷◌, codes}
+use Rattle.std.specs.Prelude.{ℕ, Bool, true, false, ◌&&◌, List, [], ◌∷◌, map, flat_map, codes, if◌then◌else◌}
 use Rattle.std.specs.Str.{bytes_eq}
 use Rattle.mc_lex.specs.declared.token.TokenKind.TheVariants as kind
 use Rattle.mc_tree.specs.declared.binary_operator.BinaryOperator.TheVariants as binary
-use Rattle.mc_tree.specs.Tree.{Expression, BlockItems}
+use Rattle.mc_lex.specs.declared.token.Dialect.{Dialect}
+use Rattle.mc_tree.specs.Tree.{Expression, BlockItems, InitDeclarator, Item, name_of}
 use Rattle.mc_tree.specs.Tree as t
 use Rattle.mc_grammar.specs.Words.{Lexeme, is_name}
 use Rattle.mc_grammar.specs.Places.{at, name_at, to, part}
+use Rattle.mc_grammar.specs.Counts.{is_typedef}
+use Rattle.mc_grammar.specs.Items.{ReadsItem}
 
 abbrev pub is_cast : Expression → Bool
 is_cast (t.Cast type operand span) = true
@@ -15,6 +18,34 @@ is_cast _ = false
 -- an identifier of this text that is no typedef name
 abbrev pub is_name_of : List ℕ → Lexeme → Bool
 is_name_of name x = is_name x && bytes_eq x.token.text name
+
+-- the text of the name that a declarator declares, with or without a value
+abbrev pub declared_name : InitDeclarator → List ℕ
+declared_name (t.bare d) = (name_of d).text
+declared_name (t.initialized d value) = (name_of d).text
+
+-- the texts of the names that the declarators of a declaration declare
+abbrev pub names_of : List InitDeclarator → List (List ℕ)
+names_of all = map declared_name all
+
+-- the texts of the names that an item declares: its declarators', or its function's
+abbrev pub declared_names : Item → List (List ℕ)
+declared_names (t.Declared (t.declaration s all span)) = names_of all
+declared_names (t.Defined s d body span) = (name_of d).text ∷ []
+
+-- those of them that are typedef names from there on (C17 6.7.8)
+abbrev pub typedef_names : Item → List (List ℕ)
+typedef_names (t.Declared (t.declaration s all span)) = if is_typedef s then names_of all else []
+typedef_names (t.Defined s d body span) = []
+
+-- the typedef names of several items, joined
+abbrev pub typedef_names_of : List Item → List (List ℕ)
+typedef_names_of all = flat_map typedef_names all
+
+-- these items are read from the front, and leave the rest
+pub data ReadsItems (dialect : Dialect) : List Lexeme → List Item → List Lexeme → Type 0 where
+  no_items : {ts : List Lexeme} → ReadsItems dialect ts [] ts
+  item : {ts mid rest : List Lexeme} {i : Item} {all : List Item} → ReadsItem dialect ts i mid → ReadsItems dialect mid all rest → ReadsItems dialect ts (i ∷ all) rest
 
 -- tokens of these texts, at these places
 abbrev pub identifier : List ℕ → ℕ → Lexeme

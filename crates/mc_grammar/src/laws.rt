@@ -1,5 +1,5 @@
 //! Laws of the grammar: what follows from its productions, for whoever reads or uses them.
-ghost use Rattle.std.specs.Prelude.{◌≡◌, ◌≤◌, ◌<◌, ◌+◌, ◌∷◌, ℕ, Bool, length, List, [], map, true, false, codes, Option};
+ghost use Rattle.std.specs.Prelude.{◌≡◌, ◌≢◌, ◌≤◌, ◌<◌, ◌+◌, ◌∷◌, ◌++◌, ℕ, Bool, length, List, [], map, true, false, codes, Option, All, AllPairs, Contains};
 ghost use Rattle.mc_lex.specs.Tokens.{Tok};
 ghost use Rattle.mc_lex.specs.declared.token.Dialect.{Dialect};
 ghost use Rattle.mc_tree.specs.Length.{token_count};
@@ -9,12 +9,12 @@ ghost use Rattle.mc_tree.specs.Tree.{BlockItems, Declaration, Declarator, Declar
 ghost use Rattle.mc_tree.specs.Tree as t;
 ghost use Rattle.mc_grammar.specs.Words.{Lexeme, is_tag, retag, sees_cast, sees_word};
 ghost use Rattle.std.specs.List.{list_any};
-ghost use Rattle.mc_grammar.specs.Meaning.{declares, identifier, is_cast, is_name_of, multiplies, sign, type_name};
+ghost use Rattle.mc_grammar.specs.Meaning.{declared_names, declares, identifier, is_cast, is_name_of, multiplies, ReadsItems, sign, type_name, typedef_names, typedef_names_of};
 ghost use Rattle.mc_grammar.specs.Nonterminal.{Nonterminal, takes};
 ghost use Rattle.mc_grammar.specs.Nonterminal as n;
 ghost use Rattle.mc_grammar.specs.Expressions.{Reads, ReadsDeclarator, ReadsDeclarators, ReadsEnumerator, ReadsEnumerators, ReadsExpressions, ReadsMember, ReadsMembers, ReadsParameter, ReadsParameterList, ReadsParameters, ReadsSizes, ReadsSpecifiers, ReadsStars, ReadsTypeName};
 ghost use Rattle.mc_grammar.specs.Statements.{ReadsStatement, ReadsBlockItems, ReadsCompound, ReadsDeclaration, ReadsForStart, ReadsInitDeclarator, ReadsInitDeclarators, ReadsInitializer, ReadsInitializers, ReadsOptional, ReadsTest};
-ghost use Rattle.mc_grammar.specs.Items.{IsTree, ReadsItem};
+ghost use Rattle.mc_grammar.specs.Items.{IsTree, ReadsItem, ReadsUnit};
 ghost use Rattle.mc_grammar.specs.Samples.{typedef_tokens, typedef_tree};
 
 /// What an expression leaves is no longer than what was given, and shorter where its nonterminal
@@ -135,4 +135,31 @@ pub fn optional_parts_leave_no_more()
     ensures block_items { (d : Dialect) (ts rest : List Lexeme) (all : BlockItems) → ReadsBlockItems d ts all rest → length rest ≤ length ts }
     ensures optional { (d : Dialect) (stop : List ℕ) (ts rest : List Lexeme) (one : Option Expression) → ReadsOptional d stop ts one rest → length rest ≤ length ts }
     ensures init_declarators { (d : Dialect) (typedef : Bool) (ts rest : List Lexeme) (all : List InitDeclarator) → ReadsInitDeclarators d typedef ts all rest → length rest ≤ length ts }
+{}
+
+/// Behind any items, no token is an identifier whose text is a typedef name that one of them declares: each such token is
+/// a typedef name (C17 6.7.8).
+#[tactic(auto, using(crate::proofs::Typedefs::items_gone))]
+pub fn typedef_names_are_no_identifiers_behind()
+    ensures { (d : Dialect) (ts rest : List Lexeme) (all : List Item) → ReadsItems d ts all rest → All (λ name. list_any (is_name_of name) rest ≡ false) (typedef_names_of all) }
+{}
+
+/// A unit is read from its front. However many of its items are taken as the first, they are read and leave a rest, the
+/// others are read from that rest, and in it no token is an identifier whose text is a typedef name that the first declare.
+/// Conversely, items and then others read from the rest are a unit.
+#[tactic(auto, using(crate::proofs::Typedefs::split, crate::proofs::Typedefs::joined))]
+pub fn unit_is_read_from_front()
+    ensures parts { (d : Dialect) (ts : List Lexeme) (front back : List Item) → ReadsUnit d ts (front ++ back)
+        → (rest : List Lexeme) × ReadsItems d ts front rest × ReadsUnit d rest back × All (λ name. list_any (is_name_of name) rest ≡ false) (typedef_names_of front) }
+    ensures whole { (d : Dialect) (ts rest : List Lexeme) (front back : List Item) → ReadsItems d ts front rest → ReadsUnit d rest back → ReadsUnit d ts (front ++ back) }
+{}
+
+/// Where no token is an identifier of a text, the item read there declares no such name. So no item of a unit declares a
+/// typedef name of an item before it again, neither as a typedef nor as an object or a function, and the typedef names that
+/// one item declares all differ.
+#[tactic(auto, using(crate::proofs::Typedefs::declares_no, crate::proofs::Typedefs::item_differs))]
+pub fn typedef_name_is_declared_once()
+    ensures item { (d : Dialect) (ts rest : List Lexeme) (one : Item) (name : List ℕ) → ReadsItem d ts one rest → list_any (is_name_of name) ts ≡ false → ¬ Contains (declared_names one) name }
+    ensures later { (d : Dialect) (ts : List Lexeme) (front back : List Item) (one : Item) (name : List ℕ) → ReadsUnit d ts (front ++ one ∷ back) → Contains (typedef_names_of front) name → ¬ Contains (declared_names one) name }
+    ensures same { (d : Dialect) (ts rest : List Lexeme) (one : Item) → ReadsItem d ts one rest → AllPairs (λ name other. name ≢ other) (typedef_names one) }
 {}
