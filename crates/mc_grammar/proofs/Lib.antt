@@ -4,3 +4,5 @@ pub mod Examples
 pub mod Samples
 pub mod Counted
 pub mod Ends
+pub mod Derivations
+pub mod Snippets

@@ -8,3 +8,4 @@ pub mod Statements
 pub mod Items
 pub mod Meaning
 pub mod Samples
+pub mod Snippets

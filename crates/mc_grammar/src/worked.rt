@@ -1,0 +1,72 @@
+//! The worked examples of docs/LANGUAGE.md: what the grammar reads of short texts, and how high the trees are.
+ghost use Rattle.std.specs.Prelude.{◌≡◌, List, [], codes};
+ghost use Rattle.mc_lex.specs.declared.token.Dialect.{Dialect};
+ghost use Rattle.mc_tree.specs.Height.{height, height_unit};
+ghost use Rattle.mc_grammar.specs.Words.{Lexeme, lexemes_of, retag};
+ghost use Rattle.mc_grammar.specs.Nonterminal as n;
+ghost use Rattle.mc_grammar.specs.Expressions.{Reads};
+ghost use Rattle.mc_grammar.specs.Statements.{ReadsStatement};
+ghost use Rattle.mc_grammar.specs.Items.{IsTree};
+ghost use Rattle.mc_grammar.specs.Samples.{value_tokens, value_tree, named_void_tokens, named_void_tree, void_tokens, void_tree, body_tokens, body_tree, tag_tokens, tag_tree, enumeration_tokens, enumeration_tree, braced_tokens, braced_tree};
+ghost use Rattle.mc_grammar.specs.Snippets.{semicolon, sum_tokens, sum_tree, operands_tokens, operands_tree, minus_tokens, cast_tree, subtraction_tree, else_tokens, else_tree};
+
+/// `a + b + c` is `(a + b) + c`, and its height is 3.
+#[tactic(auto, using(crate::proofs::Snippets::sum))]
+pub fn sum_groups_to_the_left()
+    ensures tree { (d : Dialect) → Reads d n.comma (lexemes_of sum_tokens) sum_tree (lexemes_of (semicolon 9)) }
+    ensures high { height sum_tree ≡ 3 }
+{}
+
+/// `a, b, c` is one node with three operands, and its height is 2.
+#[tactic(auto, using(crate::proofs::Snippets::operands))]
+pub fn operands_share_one_node()
+    ensures tree { (d : Dialect) → Reads d n.comma (lexemes_of operands_tokens) operands_tree (lexemes_of (semicolon 7)) }
+    ensures high { height operands_tree ≡ 2 }
+{}
+
+/// `(T) - 1` is a cast of `-1` where `T` is a typedef name, and else a subtraction.
+#[tactic(auto, using(crate::proofs::Snippets::cast, crate::proofs::Snippets::subtraction))]
+pub fn typedef_name_makes_a_cast()
+    ensures cast { (d : Dialect) → Reads d n.comma (retag (codes "T") (lexemes_of minus_tokens)) cast_tree (lexemes_of (semicolon 7)) }
+    ensures subtraction { (d : Dialect) → Reads d n.comma (lexemes_of minus_tokens) subtraction_tree (lexemes_of (semicolon 7)) }
+{}
+
+/// In `if (a) if (b) ; else ;` the `else` is of the inner `if`.
+#[tactic(auto, using(crate::proofs::Snippets::inner_else))]
+pub fn else_is_of_the_inner_if()
+    ensures { (d : Dialect) → ReadsStatement d (lexemes_of else_tokens) else_tree [] }
+{}
+
+/// `int a = 5;` is a text of height 2: the initializer, and the expression in it.
+#[tactic(auto, using(crate::proofs::Samples::value))]
+pub fn initializer_counts_one()
+    ensures tree { (d : Dialect) → IsTree d value_tokens value_tree }
+    ensures high { height_unit value_tree ≡ 2 }
+{}
+
+/// `(V)` with `typedef void V;` is a list of one parameter, and `(void)` is the word itself.
+#[tactic(auto, using(crate::proofs::Samples::named_void, crate::proofs::Samples::void))]
+pub fn only_the_word_void_is_no_parameter()
+    ensures named { (d : Dialect) → IsTree d named_void_tokens named_void_tree }
+    ensures word { (d : Dialect) → IsTree d void_tokens void_tree }
+{}
+
+/// `int f(void) { return 0; }` has height 3: its body is a block, with a `return` and a constant in it.
+#[tactic(auto, using(crate::proofs::Samples::body))]
+pub fn body_counts_one()
+    ensures tree { (d : Dialect) → IsTree d body_tokens body_tree }
+    ensures high { height_unit body_tree ≡ 3 }
+{}
+
+/// A typedef name may be a tag: `typedef int T; struct T { int a; };`.
+#[tactic(auto, using(crate::proofs::Samples::tag))]
+pub fn typedef_name_may_be_a_tag()
+    ensures { (d : Dialect) → IsTree d tag_tokens tag_tree }
+{}
+
+/// The lists of an enumeration and of an initializer may end with a comma: `enum { A, B = 2, };` and `int a[2] = {1, 2,};`.
+#[tactic(auto, using(crate::proofs::Samples::enumeration, crate::proofs::Samples::braced))]
+pub fn list_may_end_with_comma()
+    ensures enumeration { (d : Dialect) → IsTree d enumeration_tokens enumeration_tree }
+    ensures initializer { (d : Dialect) → IsTree d braced_tokens braced_tree }
+{}
