@@ -6,3 +6,5 @@ pub mod Counted
 pub mod Ends
 pub mod Derivations
 pub mod Snippets
+pub mod Leaving
+pub mod Refused

@@ -1,5 +1,5 @@
 -- Derivations of short texts.
-use Rattle.std.proofs.Common.{true, false, refl}
+use Rattle.std.proofs.Common.{true, false, [], refl}
 use Rattle.mc_lex.specs.declared.token.Dialect.{Dialect}
 use Rattle.mc_grammar.specs.Words.{retag}
 use Rattle.mc_grammar.specs.Places.{end_before}
@@ -9,7 +9,7 @@ use Rattle.mc_grammar.specs.Statements as s
 use Rattle.mc_grammar.specs.Items.{IsTree}
 use Rattle.mc_grammar.specs.Items as i
 use Rattle.mc_grammar.specs.Samples.{typedef_tokens, typedef_tree, value_tokens, value_tree, named_void_tokens, named_void_tree, void_tokens, void_tree, body_tokens, body_tree, tag_tokens, tag_tree, enumeration_tokens, enumeration_tree, braced_tokens, braced_tree}
-use Rattle.mc_grammar.proofs.Derivations.{at_semicolon, at_comma, at_bracket, at_brace, alone, a_constant}
+use Rattle.mc_grammar.proofs.Derivations.{at_semicolon, at_comma, at_bracket, alone, a_constant}
 
 -- its second declarator needs the first one's name
 pub in_force_at_once : (d : Dialect) → IsTree d typedef_tokens typedef_tree
@@ -87,3 +87,6 @@ braced d =
     (s.last_initializer_comma (s.single refl (r.assign_cond (alone (a_constant refl refl refl refl) (at_comma 16) refl) refl)) refl refl))
     refl))
     refl) refl)) i.no_items
+
+pub nothing : (d : Dialect) → IsTree d [] []
+nothing d = i.no_items

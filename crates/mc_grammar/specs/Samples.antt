@@ -30,6 +30,10 @@ mark text start = token kind.Punctuator text start
 abbrev pub number : ℕ → List ℕ → ℕ → Tok
 number value text start = token (kind.Constant value true false 0) text start
 
+-- `0`, which is an octal constant (C17 6.4.4.1)
+abbrev pub zero_at : ℕ → Tok
+zero_at start = token (kind.Constant 0 false false 0) (codes "0") start
+
 -- specifiers of one and of two words
 abbrev pub one : Specifier → Specifiers
 one s = t.specifiers s t.no_specifiers
@@ -98,9 +102,8 @@ void_tree =
 abbrev pub body_tokens : List Tok
 body_tokens =
     keyword (codes "int") 0 ∷ word_of (codes "f") 4 ∷ mark (codes "(") 5 ∷ keyword (codes "void") 6 ∷ mark (codes ")") 10
-    ∷ mark (codes "{") 12 ∷ keyword (codes "return") 14 ∷ token (kind.Constant 0 false false 0) (codes "0") 21 ∷ mark (codes ";") 22 ∷ mark (codes "}") 24 ∷ []
+    ∷ mark (codes "{") 12 ∷ keyword (codes "return") 14 ∷ zero_at 21 ∷ mark (codes ";") 22 ∷ mark (codes "}") 24 ∷ []
 
--- `0` is an octal constant (C17 6.4.4.1)
 abbrev pub body_tree : List Item
 body_tree =
     t.Defined (one (t.Word word.Int (span 0 3))) (t.function 0 (name (codes "f") 4 5) (t.Void (span 5 11)) (span 4 11))

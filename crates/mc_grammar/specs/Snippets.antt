@@ -1,12 +1,11 @@
 -- Short parts of functions: their tokens, and the trees that they have.
 use Rattle.std.specs.Prelude.{ℕ, suc, true, false, List, [], ◌∷◌, codes}
 use Rattle.mc_lex.specs.Tokens.{Tok}
-use Rattle.mc_lex.specs.declared.token.TokenKind.TheVariants as kind
 use Rattle.mc_tree.specs.declared.binary_operator.BinaryOperator.TheVariants as binary
 use Rattle.mc_tree.specs.declared.unary_operator.UnaryOperator.TheVariants as unary
 use Rattle.mc_tree.specs.Tree.{Expression, Statement}
 use Rattle.mc_tree.specs.Tree as t
-use Rattle.mc_grammar.specs.Samples.{span, name, token, keyword, word_of, mark, number}
+use Rattle.mc_grammar.specs.Samples.{span, name, keyword, word_of, mark, number, zero_at}
 
 -- a `;` alone, at this place
 abbrev pub semicolon : ℕ → List Tok
@@ -68,4 +67,14 @@ abbrev pub behind_element : List Tok
 behind_element = mark (codes "(") 4 ∷ word_of (codes "x") 5 ∷ mark (codes ")") 6 ∷ semicolon 7
 
 abbrev pub element_tokens : List Tok
-element_tokens = word_of (codes "a") 0 ∷ mark (codes "[") 1 ∷ token (kind.Constant 0 false false 0) (codes "0") 2 ∷ mark (codes "]") 3 ∷ behind_element
+element_tokens = word_of (codes "a") 0 ∷ mark (codes "[") 1 ∷ zero_at 2 ∷ mark (codes "]") 3 ∷ behind_element
+
+-- `int a[b=1];`, what stands in it behind `[`, and behind `b`
+abbrev pub behind_name : List Tok
+behind_name = mark (codes "=") 7 ∷ number 1 (codes "1") 8 ∷ mark (codes "]") 9 ∷ semicolon 10
+
+abbrev pub behind_bracket : List Tok
+behind_bracket = word_of (codes "b") 6 ∷ behind_name
+
+abbrev pub length_tokens : List Tok
+length_tokens = keyword (codes "int") 0 ∷ word_of (codes "a") 4 ∷ mark (codes "[") 5 ∷ behind_bracket

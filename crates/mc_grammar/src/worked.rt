@@ -1,14 +1,16 @@
 //! The worked examples of docs/LANGUAGE.md: what the grammar reads of short texts, and how high the trees are.
-ghost use Rattle.std.specs.Prelude.{◌≡◌, List, [], codes};
+ghost use Rattle.std.specs.Prelude.{◌≡◌, ℕ, List, [], ◌∷◌, codes};
 ghost use Rattle.mc_lex.specs.declared.token.Dialect.{Dialect};
+ghost use Rattle.mc_tree.specs.Tree.{Expression, Initializer, Statement, Item};
 ghost use Rattle.mc_tree.specs.Height.{height, height_unit};
 ghost use Rattle.mc_grammar.specs.Words.{Lexeme, lexemes_of, retag};
 ghost use Rattle.mc_grammar.specs.Nonterminal as n;
 ghost use Rattle.mc_grammar.specs.Expressions.{Reads};
-ghost use Rattle.mc_grammar.specs.Statements.{ReadsStatement};
-ghost use Rattle.mc_grammar.specs.Items.{IsTree};
+ghost use Rattle.mc_grammar.specs.Statements.{ReadsStatement, ReadsInitializer};
+ghost use Rattle.mc_grammar.specs.Items.{IsTree, ReadsItem};
+ghost use Rattle.mc_grammar.specs.Meaning.{sign};
 ghost use Rattle.mc_grammar.specs.Samples.{value_tokens, value_tree, named_void_tokens, named_void_tree, void_tokens, void_tree, body_tokens, body_tree, tag_tokens, tag_tree, enumeration_tokens, enumeration_tree, braced_tokens, braced_tree};
-ghost use Rattle.mc_grammar.specs.Snippets.{semicolon, sum_tokens, sum_tree, operands_tokens, operands_tree, minus_tokens, cast_tree, subtraction_tree, else_tokens, else_tree};
+ghost use Rattle.mc_grammar.specs.Snippets.{semicolon, sum_tokens, sum_tree, operands_tokens, operands_tree, minus_tokens, cast_tree, subtraction_tree, else_tokens, else_tree, parentheses_tokens, behind_parentheses, element_tokens, behind_element, length_tokens, behind_bracket, behind_name};
 
 /// `a + b + c` is `(a + b) + c`, and its height is 3.
 #[tactic(auto, using(crate::proofs::Snippets::sum))]
@@ -69,4 +71,43 @@ pub fn typedef_name_may_be_a_tag()
 pub fn list_may_end_with_comma()
     ensures enumeration { (d : Dialect) → IsTree d enumeration_tokens enumeration_tree }
     ensures initializer { (d : Dialect) → IsTree d braced_tokens braced_tree }
+{}
+
+/// `(f)(x)` is no call: of it an expression takes `(f)`, and as a statement it is not read.
+#[tactic(auto, using(crate::proofs::Refused::parentheses_leave, crate::proofs::Refused::parentheses_no_statement))]
+pub fn parentheses_are_not_called()
+    ensures rest { (d : Dialect) (a : Expression) (rest : List Lexeme) → Reads d n.comma (lexemes_of parentheses_tokens) a rest → rest ≡ lexemes_of behind_parentheses }
+    ensures statement { (d : Dialect) (one : Statement) (rest : List Lexeme) → ReadsStatement d (lexemes_of parentheses_tokens) one rest → ⊥ }
+{}
+
+/// `a[0](x)` is no call: of it an expression takes `a[0]`, and as a statement it is not read.
+#[tactic(auto, using(crate::proofs::Refused::element_leaves, crate::proofs::Refused::element_no_statement))]
+pub fn element_is_not_called()
+    ensures rest { (d : Dialect) (a : Expression) (rest : List Lexeme) → Reads d n.comma (lexemes_of element_tokens) a rest → rest ≡ lexemes_of behind_element }
+    ensures statement { (d : Dialect) (one : Statement) (rest : List Lexeme) → ReadsStatement d (lexemes_of element_tokens) one rest → ⊥ }
+{}
+
+/// A length is no assignment: `int a[b=1];` has no tree, since of `b=1` a length takes `b`.
+#[tactic(auto, using(crate::proofs::Refused::length_leaves, crate::proofs::Refused::length_no_tree))]
+pub fn length_is_no_assignment()
+    ensures rest { (d : Dialect) (a : Expression) (rest : List Lexeme) → Reads d n.cond (lexemes_of behind_bracket) a rest → rest ≡ lexemes_of behind_name }
+    ensures tree { (d : Dialect) (unit : List Item) → IsTree d length_tokens unit → ⊥ }
+{}
+
+/// A `;` alone is no item, whatever follows it.
+#[tactic(auto, using(crate::proofs::Refused::semicolon_no_item))]
+pub fn semicolon_alone_is_no_item()
+    ensures { (d : Dialect) (start : ℕ) (ts : List Lexeme) (one : Item) (rest : List Lexeme) → ReadsItem d (sign (codes ";") start ∷ ts) one rest → ⊥ }
+{}
+
+/// `{}` is no initializer, whatever follows it.
+#[tactic(auto, using(crate::proofs::Refused::braces_no_initializer))]
+pub fn empty_braces_are_no_initializer()
+    ensures { (d : Dialect) (start end : ℕ) (ts : List Lexeme) (one : Initializer) (rest : List Lexeme) → ReadsInitializer d (sign (codes "{") start ∷ sign (codes "}") end ∷ ts) one rest → ⊥ }
+{}
+
+/// A text without tokens has the tree without items.
+#[tactic(auto, using(crate::proofs::Samples::nothing))]
+pub fn no_tokens_have_a_tree()
+    ensures { (d : Dialect) → IsTree d [] [] }
 {}
