@@ -8,3 +8,4 @@ pub mod Derivations
 pub mod Snippets
 pub mod Leaving
 pub mod Refused
+pub mod Nested

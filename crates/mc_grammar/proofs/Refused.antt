@@ -106,7 +106,7 @@ element_postfix d a rest (r.postfix p q) = element_suffixes (named_leaves (codes
 pub element_leaves : (d : Dialect) → Leaves d n.comma (lexemes_of element_tokens) (lexemes_of behind_element)
 element_leaves d = postfix_to_comma (word_starts (codes "a") 0) (opening_stops 4) refl refl refl (element_postfix d)
 
-other_word : (text : List ℕ) (x : Lexeme) → ((text : List ℕ) → is_word text x ≡ false) → is_word text x ≡ true → ⊥
+pub other_word : (text : List ℕ) (x : Lexeme) → ((text : List ℕ) → is_word text x ≡ false) → is_word text x ≡ true → ⊥
 other_word text x h e = let f : is_word text x ≡ false = h text in absurd (cc)
 
 -- so neither is a statement
@@ -144,12 +144,12 @@ length_no_sizes (r.sizes_end e) = absurd (cc)
 length_no_sizes (r.open_size e f p) = absurd (cc)
 length_no_sizes {d = d} (r.size e f p g q) = other_sign (codes "]") (length_leaves d _ _ p) refl g
 
-no_parameters : {d : Dialect} {x : Lexeme} {ts rest : List Lexeme} {all : Parameters} → is_sign (codes "(") x ≡ false → ReadsParameters d (x ∷ ts) all rest → ⊥
+pub no_parameters : {d : Dialect} {x : Lexeme} {ts rest : List Lexeme} {all : Parameters} → is_sign (codes "(") x ≡ false → ReadsParameters d (x ∷ ts) all rest → ⊥
 no_parameters h (r.empty_parameters e f) = absurd (cc)
 no_parameters h (r.void_parameters e f g) = absurd (cc)
 no_parameters h (r.listed_parameters e f g p v) = absurd (cc)
 
-no_stars : {x : Lexeme} {ts rest : List Lexeme} {k : ℕ} → is_sign (codes "*") x ≡ false → ReadsStars (x ∷ ts) k rest → rest ≡ x ∷ ts
+pub no_stars : {x : Lexeme} {ts rest : List Lexeme} {k : ℕ} → is_sign (codes "*") x ≡ false → ReadsStars (x ∷ ts) k rest → rest ≡ x ∷ ts
 no_stars h (r.star e p) = absurd (cc)
 no_stars h (r.no_star e) = refl
 
@@ -182,7 +182,7 @@ no_specifier_word {x = x} h (o.long e) = other_word (codes "long") x h e
 no_specifier_word {x = x} h (o.signed e) = other_word (codes "signed") x h e
 no_specifier_word {x = x} h (o.unsigned e) = other_word (codes "unsigned") x h e
 
-no_words : {d : Dialect} {has : Bool} {x : Lexeme} {ts rest : List Lexeme} {all : Specifiers} → ((text : List ℕ) → is_word text x ≡ false) → is_type_name x ≡ false
+pub no_words : {d : Dialect} {has : Bool} {x : Lexeme} {ts rest : List Lexeme} {all : Specifiers} → ((text : List ℕ) → is_word text x ≡ false) → is_type_name x ≡ false
     → ReadsSpecifiers d has (x ∷ ts) all rest → (all ≡ t.no_specifiers) × (rest ≡ x ∷ ts)
 no_words {x = x} h g (r.specifiers_end e) = (refl, refl)
 no_words {x = x} h g (r.word e p) = absurd (no_specifier_word h e)

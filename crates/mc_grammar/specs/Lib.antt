@@ -9,3 +9,4 @@ pub mod Items
 pub mod Meaning
 pub mod Samples
 pub mod Snippets
+pub mod Nested

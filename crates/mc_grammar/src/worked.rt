@@ -1,5 +1,5 @@
 //! The worked examples of docs/LANGUAGE.md: what the grammar reads of short texts, and how high the trees are.
-ghost use Rattle.std.specs.Prelude.{◌≡◌, ℕ, List, [], ◌∷◌, codes};
+ghost use Rattle.std.specs.Prelude.{◌≡◌, ◌≤◌, ◌<◌, ℕ, List, [], ◌∷◌, codes};
 ghost use Rattle.mc_lex.specs.declared.token.Dialect.{Dialect};
 ghost use Rattle.mc_tree.specs.Tree.{Expression, Initializer, Statement, Item};
 ghost use Rattle.mc_tree.specs.Height.{height, height_unit};
@@ -7,9 +7,10 @@ ghost use Rattle.mc_grammar.specs.Words.{Lexeme, lexemes_of, retag};
 ghost use Rattle.mc_grammar.specs.Nonterminal as n;
 ghost use Rattle.mc_grammar.specs.Expressions.{Reads};
 ghost use Rattle.mc_grammar.specs.Statements.{ReadsStatement, ReadsInitializer};
-ghost use Rattle.mc_grammar.specs.Items.{IsTree, ReadsItem};
+ghost use Rattle.mc_grammar.specs.Items.{IsTree, IsTreeWithin, ReadsItem};
 ghost use Rattle.mc_grammar.specs.Meaning.{sign};
 ghost use Rattle.mc_grammar.specs.Samples.{value_tokens, value_tree, named_void_tokens, named_void_tree, void_tokens, void_tree, body_tokens, body_tree, tag_tokens, tag_tree, enumeration_tokens, enumeration_tree, braced_tokens, braced_tree};
+ghost use Rattle.mc_grammar.specs.Nested.{nested_tokens};
 ghost use Rattle.mc_grammar.specs.Snippets.{semicolon, sum_tokens, sum_tree, operands_tokens, operands_tree, minus_tokens, cast_tree, subtraction_tree, else_tokens, else_tree, parentheses_tokens, behind_parentheses, element_tokens, behind_element, length_tokens, behind_bracket, behind_name};
 
 /// `a + b + c` is `(a + b) + c`, and its height is 3.
@@ -110,4 +111,13 @@ pub fn empty_braces_are_no_initializer()
 #[tactic(auto, using(crate::proofs::Samples::nothing))]
 pub fn no_tokens_have_a_tree()
     ensures { (d : Dialect) → IsTree d [] [] }
+{}
+
+/// Structures inside one another have a tree, and each of their trees is as high as they are deep: where the
+/// limit of the height is 200, then 200 of them are read and 201 are not.
+#[tactic(auto, using(crate::proofs::Nested::nested_height, crate::proofs::Nested::nested_within, crate::proofs::Nested::nested_too_high))]
+pub fn structures_count_one_each()
+    ensures high { (d : Dialect) (k : ℕ) (unit : List Item) → IsTree d (nested_tokens k) unit → height_unit unit ≡ k }
+    ensures read { (d : Dialect) (k limit : ℕ) → k ≤ limit → (unit : List Item) × IsTreeWithin limit d (nested_tokens k) unit }
+    ensures unread { (d : Dialect) (k limit : ℕ) (unit : List Item) → limit < k → IsTreeWithin limit d (nested_tokens k) unit → ⊥ }
 {}
