@@ -1,53 +1,29 @@
 -- Texts that are not read, by what every reading of their parts would leave.
-use Rattle.std.proofs.Common.{◌≡◌, ℕ, Bool, true, false, List, ◌∷◌, refl, sym, subst, ap, length, arith, codes}
+use Rattle.std.proofs.Common.{◌≡◌, ℕ, Bool, true, false, List, ◌∷◌, refl, sym, ◌∙◌, subst, ap, length, arith, codes}
 use Rattle.mc_lex.specs.declared.token.Dialect.{Dialect}
 use Rattle.mc_tree.specs.declared.step_operator.StepOperator.{StepOperator}
 use Rattle.mc_tree.specs.declared.unary_operator.UnaryOperator.{UnaryOperator}
 use Rattle.mc_tree.specs.declared.specifier_word.SpecifierWord.{SpecifierWord}
-use Rattle.mc_tree.specs.Tree.{Expression, Specifiers, Declarator, Sizes, Parameters, Initializer, Initializers, InitDeclarator, Statement, Item}
+use Rattle.mc_tree.specs.Tree.{Expression, Specifiers, Declarator, Sizes, Parameters, ParameterList, Parameter, Initializer, Initializers, InitDeclarator, Statement, Item}
 use Rattle.mc_tree.specs.Tree as t
 use Rattle.mc_grammar.specs.Words.{Lexeme, lexeme_of, lexemes_of, is_sign, is_word, is_name, is_type_name, sees, sees_label}
 use Rattle.mc_grammar.specs.Operators.{IsStep, IsUnary, IsSpecifierWord}
 use Rattle.mc_grammar.specs.Operators as o
-use Rattle.mc_grammar.specs.Counts.{for_function}
+use Rattle.mc_grammar.specs.Counts.{for_function, for_type}
 use Rattle.mc_grammar.specs.Nonterminal as n
-use Rattle.mc_grammar.specs.Expressions.{Reads, ReadsStars, ReadsSpecifiers, ReadsDeclarator, ReadsSizes, ReadsParameters}
+use Rattle.mc_grammar.specs.Expressions.{Reads, ReadsStars, ReadsSpecifiers, ReadsDeclarator, ReadsSizes, ReadsParameters, ReadsParameterList, ReadsParameter}
 use Rattle.mc_grammar.specs.Expressions as r
 use Rattle.mc_grammar.specs.Statements.{ReadsStatement, ReadsInitializer, ReadsInitializers, ReadsInitDeclarator, ReadsInitDeclarators}
 use Rattle.mc_grammar.specs.Statements as s
 use Rattle.mc_grammar.specs.Items.{ReadsItem, IsTree}
 use Rattle.mc_grammar.specs.Items as i
-use Rattle.mc_grammar.specs.Meaning.{sign}
-use Rattle.mc_grammar.specs.Samples.{keyword, word_of, mark, zero_at}
-use Rattle.mc_grammar.specs.Snippets.{behind_parentheses, parentheses_tokens, behind_element, element_tokens, behind_name, behind_bracket, length_tokens}
+use Rattle.mc_grammar.specs.Meaning.{sign, identifier}
+use Rattle.mc_grammar.specs.Places.{at, to}
+use Rattle.mc_grammar.specs.Samples.{span, name, keyword, word_of, mark, zero_at}
+use Rattle.mc_grammar.specs.Snippets.{behind_parentheses, parentheses_tokens, parentheses_tree, behind_element, element_tokens, element_tree, behind_name, behind_bracket, length_tokens}
 use Rattle.mc_grammar.proofs.Derivations.{at_parenthesis, at_bracket, at_opening, at_equals, at_brace}
 use Rattle.mc_grammar.proofs.Lengths.{shorter}
-use Rattle.mc_grammar.proofs.Leaving.{Leaves, Starts, Stops, not_both, assign_leaves, unary_leaves, other_sign, other_step, suffixes_leave, postfix_leaves, postfix_to_cond, postfix_to_comma, named_leaves, zero_leaves, parenthesized_leaves, same_rest}
-
--- what these tokens are not
-word_no_step : (text : List ℕ) (start : ℕ) (operator : StepOperator) → IsStep (lexeme_of (word_of text start)) operator → ⊥
-word_no_step text start operator (o.increment e) = absurd (cc)
-word_no_step text start operator (o.decrement e) = absurd (cc)
-
-word_no_unary : (text : List ℕ) (start : ℕ) (operator : UnaryOperator) → IsUnary (lexeme_of (word_of text start)) operator → ⊥
-word_no_unary text start operator (o.plus e) = absurd (cc)
-word_no_unary text start operator (o.minus e) = absurd (cc)
-word_no_unary text start operator (o.complement e) = absurd (cc)
-word_no_unary text start operator (o.not e) = absurd (cc)
-word_no_unary text start operator (o.dereference e) = absurd (cc)
-word_no_unary text start operator (o.address e) = absurd (cc)
-
-zero_no_step : (start : ℕ) (operator : StepOperator) → IsStep (lexeme_of (zero_at start)) operator → ⊥
-zero_no_step start operator (o.increment e) = absurd (cc)
-zero_no_step start operator (o.decrement e) = absurd (cc)
-
-zero_no_unary : (start : ℕ) (operator : UnaryOperator) → IsUnary (lexeme_of (zero_at start)) operator → ⊥
-zero_no_unary start operator (o.plus e) = absurd (cc)
-zero_no_unary start operator (o.minus e) = absurd (cc)
-zero_no_unary start operator (o.complement e) = absurd (cc)
-zero_no_unary start operator (o.not e) = absurd (cc)
-zero_no_unary start operator (o.dereference e) = absurd (cc)
-zero_no_unary start operator (o.address e) = absurd (cc)
+use Rattle.mc_grammar.proofs.Leaving.{Gives, Starts, Stops, not_both, assign_leaves, unary_leaves, other_sign, other_step, suffixes_leave, postfix_leaves, postfix_to_cond, postfix_to_comma, named_leaves, constant_leaves, parenthesized_leaves, plain_starts, same_rest, same_token}
 
 opening_no_step : (start : ℕ) (operator : StepOperator) → IsStep (lexeme_of (mark (codes "(") start)) operator → ⊥
 opening_no_step start operator (o.increment e) = absurd (cc)
@@ -61,12 +37,6 @@ opening_no_unary start operator (o.not e) = absurd (cc)
 opening_no_unary start operator (o.dereference e) = absurd (cc)
 opening_no_unary start operator (o.address e) = absurd (cc)
 
-word_starts : (text : List ℕ) (start : ℕ) → Starts (lexeme_of (word_of text start))
-word_starts text start = record { no_step = word_no_step text start; no_unary = word_no_unary text start }
-
-zero_starts : (start : ℕ) → Starts (lexeme_of (zero_at start))
-zero_starts start = record { no_step = zero_no_step start; no_unary = zero_no_unary start }
-
 opening_starts : (start : ℕ) → Starts (lexeme_of (mark (codes "(") start))
 opening_starts start = record { no_step = opening_no_step start; no_unary = opening_no_unary start }
 
@@ -76,45 +46,51 @@ opening_stops start = record { operator = at_opening start; index = refl; member
 closing_stops : (start : ℕ) → Stops (lexeme_of (mark (codes ")") start))
 closing_stops start = record { operator = at_parenthesis start; index = refl; member = refl; increment = refl; decrement = refl; question = refl }
 
-bracket_stops : (start : ℕ) → Stops (lexeme_of (mark (codes "]") start))
+pub bracket_stops : (start : ℕ) → Stops (lexeme_of (mark (codes "]") start))
 bracket_stops start = record { operator = at_bracket start; index = refl; member = refl; increment = refl; decrement = refl; question = refl }
 
 equals_stops : (start : ℕ) → Stops (lexeme_of (mark (codes "=") start))
 equals_stops start = record { operator = at_equals start; index = refl; member = refl; increment = refl; decrement = refl; question = refl }
 
 -- of `(f)(x);` an expression takes `(f)`
-pub parentheses_leave : (d : Dialect) → Leaves d n.comma (lexemes_of parentheses_tokens) (lexemes_of behind_parentheses)
+pub parentheses_leave : (d : Dialect) → Gives d n.comma (lexemes_of parentheses_tokens) parentheses_tree (lexemes_of behind_parentheses)
 parentheses_leave d =
     postfix_to_comma (opening_starts 0) (opening_stops 3) refl refl refl (postfix_leaves (opening_stops 3) (parenthesized_leaves 0
-    (postfix_to_comma (word_starts (codes "f") 1) (closing_stops 2) refl refl refl (postfix_leaves (closing_stops 2) (named_leaves (codes "f") 1 refl)))))
+    (postfix_to_comma (plain_starts _ refl) (closing_stops 2) refl refl refl (postfix_leaves (closing_stops 2) (named_leaves (codes "f") 1 refl)))))
 
 -- of `a[0](x);` it takes `a[0]`
-index_leaves : (d : Dialect) → Leaves d n.comma (lexemes_of (zero_at 2 ∷ mark (codes "]") 3 ∷ behind_element)) (lexemes_of (mark (codes "]") 3 ∷ behind_element))
-index_leaves d = postfix_to_comma (zero_starts 2) (bracket_stops 3) refl refl refl (postfix_leaves (bracket_stops 3) (zero_leaves 2))
+index_leaves : (d : Dialect) → Gives d n.comma (lexemes_of (zero_at 2 ∷ mark (codes "]") 3 ∷ behind_element)) (t.Constant 0 false false 0 (span 2 3)) (lexemes_of (mark (codes "]") 3 ∷ behind_element))
+index_leaves d = postfix_to_comma (plain_starts _ refl) (bracket_stops 3) refl refl refl (postfix_leaves (bracket_stops 3) (constant_leaves 0 false false 0 (codes "0") 2))
 
 element_suffixes : {d : Dialect} {mid rest : List Lexeme} {a b : Expression} → mid ≡ lexemes_of (mark (codes "[") 1 ∷ zero_at 2 ∷ mark (codes "]") 3 ∷ behind_element)
-    → Reads d (n.suffixes a) mid b rest → rest ≡ lexemes_of behind_element
-element_suffixes {d = d} e (r.index {ts = ts} {b = b} f p g q) =
-    suffixes_leave (opening_stops 4) (same_rest (subst (λ us. Leaves d n.comma us (lexemes_of (mark (codes "]") 3 ∷ behind_element))) (sym (same_rest e)) (index_leaves d) _ _ p)) q
-element_suffixes e (r.member f g q) = absurd (other_sign (codes ".") e refl f)
-element_suffixes e (r.step_after f q) = absurd (other_step e refl refl f)
-element_suffixes e (r.suffixes_end f) = absurd (cc)
+    → a ≡ t.Named (name (codes "a") 0 1) → Reads d (n.suffixes a) mid b rest → (rest ≡ lexemes_of behind_element) × (b ≡ element_tree)
+element_suffixes {d = d} {a = a} e w (r.index {y = y} {b = i} f p g q) =
+    let one = subst (λ us. Gives d n.comma us (t.Constant 0 false false 0 (span 2 3)) (lexemes_of (mark (codes "]") 3 ∷ behind_element))) (sym (same_rest e)) (index_leaves d) _ _ p in
+    let all = suffixes_leave (opening_stops 4) (same_rest one.0) q in
+    let array : Expression = t.Named (name (codes "a") 0 1) in (
+      all.0,
+      all.1 ∙ ap (λ z. t.Index z i (to (t.span_of z) (at y))) w ∙ ap (λ z. t.Index array z (to (span 0 1) (at y))) one.1
+          ∙ ap (λ z. t.Index array (t.Constant 0 false false 0 (span 2 3)) (to (span 0 1) (at z))) (same_token one.0),
+    )
+element_suffixes e w (r.member f g q) = absurd (other_sign (codes ".") e refl f)
+element_suffixes e w (r.step_after f q) = absurd (other_step e refl refl f)
+element_suffixes e w (r.suffixes_end f) = absurd (cc)
 
-element_postfix : (d : Dialect) → Leaves d n.postfix (lexemes_of element_tokens) (lexemes_of behind_element)
-element_postfix d a rest (r.postfix p q) = element_suffixes (named_leaves (codes "a") 0 refl _ _ p) q
+element_postfix : (d : Dialect) → Gives d n.postfix (lexemes_of element_tokens) element_tree (lexemes_of behind_element)
+element_postfix d a rest (r.postfix p q) = let one = named_leaves (codes "a") 0 refl _ _ p in element_suffixes one.0 one.1 q
 
-pub element_leaves : (d : Dialect) → Leaves d n.comma (lexemes_of element_tokens) (lexemes_of behind_element)
-element_leaves d = postfix_to_comma (word_starts (codes "a") 0) (opening_stops 4) refl refl refl (element_postfix d)
+pub element_leaves : (d : Dialect) → Gives d n.comma (lexemes_of element_tokens) element_tree (lexemes_of behind_element)
+element_leaves d = postfix_to_comma (plain_starts _ refl) (opening_stops 4) refl refl refl (element_postfix d)
 
 pub other_word : (text : List ℕ) (x : Lexeme) → ((text : List ℕ) → is_word text x ≡ false) → is_word text x ≡ true → ⊥
 other_word text x h e = let f : is_word text x ≡ false = h text in absurd (cc)
 
 -- so neither is a statement
-no_statement : {d : Dialect} {x y : Lexeme} {ts left rest : List Lexeme} {one : Statement} → Leaves d n.comma (y ∷ ts) (x ∷ left) → is_sign (codes ";") x ≡ false
+no_statement : {d : Dialect} {x y : Lexeme} {ts left rest : List Lexeme} {a : Expression} {one : Statement} → Gives d n.comma (y ∷ ts) a (x ∷ left) → is_sign (codes ";") x ≡ false
     → ((text : List ℕ) → is_word text y ≡ false) → is_sign (codes "{") y ≡ false → is_sign (codes ";") y ≡ false → sees_label (y ∷ ts) ≡ false → ReadsStatement d (y ∷ ts) one rest → ⊥
 no_statement h stop w b c l (s.compound (s.block e p f)) = absurd (cc)
 no_statement h stop w b c l (s.null e) = absurd (cc)
-no_statement h stop w b c l (s.evaluate e f p g) = other_sign (codes ";") (h _ _ p) stop g
+no_statement h stop w b c l (s.evaluate e f p g) = other_sign (codes ";") (h _ _ p).0 stop g
 no_statement h stop w b c l (s.if_only {x = x} e p q f) = other_word (codes "if") x w e
 no_statement h stop w b c l (s.if_else {x = x} e p q f v) = other_word (codes "if") x w e
 no_statement h stop w b c l (s.switch {x = x} e p q) = other_word (codes "switch") x w e
@@ -136,13 +112,13 @@ pub element_no_statement : (d : Dialect) (one : Statement) (rest : List Lexeme) 
 element_no_statement d one rest p = no_statement (element_leaves d) refl (λ text. refl) refl refl refl p
 
 -- of `b=1];` a length takes `b`
-pub length_leaves : (d : Dialect) → Leaves d n.cond (lexemes_of behind_bracket) (lexemes_of behind_name)
-length_leaves d = postfix_to_cond (word_starts (codes "b") 6) (equals_stops 7) refl (postfix_leaves (equals_stops 7) (named_leaves (codes "b") 6 refl))
+pub length_leaves : (d : Dialect) → Gives d n.cond (lexemes_of behind_bracket) (t.Named (name (codes "b") 6 7)) (lexemes_of behind_name)
+length_leaves d = postfix_to_cond (plain_starts _ refl) (equals_stops 7) refl (postfix_leaves (equals_stops 7) (named_leaves (codes "b") 6 refl))
 
 length_no_sizes : {d : Dialect} {sizes : Sizes} {rest : List Lexeme} → ReadsSizes d (lexemes_of (mark (codes "[") 5 ∷ behind_bracket)) sizes rest → ⊥
 length_no_sizes (r.sizes_end e) = absurd (cc)
 length_no_sizes (r.open_size e f p) = absurd (cc)
-length_no_sizes {d = d} (r.size e f p g q) = other_sign (codes "]") (length_leaves d _ _ p) refl g
+length_no_sizes {d = d} (r.size e f p g q) = other_sign (codes "]") (length_leaves d _ _ p).0 refl g
 
 pub no_parameters : {d : Dialect} {x : Lexeme} {ts rest : List Lexeme} {all : Parameters} → is_sign (codes "(") x ≡ false → ReadsParameters d (x ∷ ts) all rest → ⊥
 no_parameters h (r.empty_parameters e f) = absurd (cc)
@@ -221,6 +197,33 @@ pub semicolon_no_item : (d : Dialect) (start : ℕ) (ts : List Lexeme) (one : It
 semicolon_no_item d start ts one rest (i.declared (s.declaration e p f q g)) = absurd (cc)
 semicolon_no_item d start ts one rest (i.defined p e q f v w) = let h : for_function t.no_specifiers ≡ true = subst (λ all. for_function all ≡ true) (no_words (λ text. refl) refl p).0 e in absurd (cc)
 
+-- a parameter begins with its type, and behind the `*` of a declarator stands no parenthesis
+no_parameter : {d : Dialect} {x : Lexeme} {ts rest : List Lexeme} {one : Parameter} → ((text : List ℕ) → is_word text x ≡ false) → is_type_name x ≡ false → ReadsParameter d (x ∷ ts) one rest → ⊥
+no_parameter h g (r.parameter p e q f v) = let w : for_type t.no_specifiers ≡ true = subst (λ all. for_type all ≡ true) (no_words h g p).0 e in absurd (cc)
+no_parameter h g (r.unnamed_parameter p e q f v) = let w : for_type t.no_specifiers ≡ true = subst (λ all. for_type all ≡ true) (no_words h g p).0 e in absurd (cc)
+
+no_parameter_list : {d : Dialect} {x : Lexeme} {ts rest : List Lexeme} {all : ParameterList} → ((text : List ℕ) → is_word text x ≡ false) → is_type_name x ≡ false → ReadsParameterList d (x ∷ ts) all rest → ⊥
+no_parameter_list h g (r.last_parameter p e) = no_parameter h g p
+no_parameter_list h g (r.more_parameters p e q) = no_parameter h g p
+
+pub names_no_parameters : (d : Dialect) (text : List ℕ) (place start : ℕ) (ts : List Lexeme) (all : Parameters) (rest : List Lexeme) → ReadsParameters d (sign (codes "(") place ∷ identifier text start ∷ ts) all rest → ⊥
+names_no_parameters d text place start ts all rest (r.empty_parameters e f) = absurd (cc)
+names_no_parameters d text place start ts all rest (r.void_parameters e f g) = absurd (cc)
+names_no_parameters d text place start ts all rest (r.listed_parameters e f g p v) = no_parameter_list (λ text. refl) refl p
+
+no_name : {x y : Lexeme} {ts left : List Lexeme} → x ∷ ts ≡ y ∷ left → is_name y ≡ false → is_name x ≡ true → ⊥
+no_name e f g = absurd (cc)
+
+same_stars : {ts left rest : List Lexeme} {k m : ℕ} → ReadsStars ts k left → ReadsStars ts m rest → rest ≡ left
+same_stars (r.star e p) (r.star f q) = same_stars p q
+same_stars (r.star e p) (r.no_star f) = absurd (cc)
+same_stars (r.no_star e) (r.star f q) = absurd (cc)
+same_stars (r.no_star e) (r.no_star f) = refl
+
+pub parenthesis_no_declarator : (d : Dialect) (k place : ℕ) (ts us : List Lexeme) (one : Declarator) (rest : List Lexeme) → ReadsStars ts k (sign (codes "(") place ∷ us) → ReadsDeclarator d ts one rest → ⊥
+parenthesis_no_declarator d k place ts us one rest h (r.object p e f q) = no_name (same_stars h p) refl e
+parenthesis_no_declarator d k place ts us one rest h (r.function p e q) = no_name (same_stars h p) refl e
+
 -- nothing begins with a `}`
 brace_no_step : (start : ℕ) (operator : StepOperator) → IsStep (lexeme_of (mark (codes "}") start)) operator → ⊥
 brace_no_step start operator (o.increment e) = absurd (cc)
@@ -234,13 +237,13 @@ brace_no_unary start operator (o.not e) = absurd (cc)
 brace_no_unary start operator (o.dereference e) = absurd (cc)
 brace_no_unary start operator (o.address e) = absurd (cc)
 
-brace_no_primary : {d : Dialect} {start : ℕ} {ts left : List Lexeme} → Leaves d n.primary (lexeme_of (mark (codes "}") start) ∷ ts) left
-brace_no_primary a rest (r.named e g) = absurd (cc)
-brace_no_primary a rest (r.constant e) = absurd (cc)
-brace_no_primary a rest (r.character e) = absurd (cc)
-brace_no_primary a rest (r.parenthesized e g p v) = absurd (cc)
-brace_no_primary a rest (r.call_empty e g v) = absurd (cc)
-brace_no_primary a rest (r.call e g v p w) = absurd (cc)
+brace_no_primary : {d : Dialect} {start : ℕ} {ts rest : List Lexeme} {a : Expression} → Reads d n.primary (lexeme_of (mark (codes "}") start) ∷ ts) a rest → ⊥
+brace_no_primary (r.named e g) = absurd (cc)
+brace_no_primary (r.constant e) = absurd (cc)
+brace_no_primary (r.character e) = absurd (cc)
+brace_no_primary (r.parenthesized e g p v) = absurd (cc)
+brace_no_primary (r.call_empty e g v) = absurd (cc)
+brace_no_primary (r.call e g v p w) = absurd (cc)
 
 brace_starts : (start : ℕ) → Starts (lexeme_of (mark (codes "}") start))
 brace_starts start = record { no_step = brace_no_step start; no_unary = brace_no_unary start }
@@ -249,13 +252,13 @@ brace_stops : (start : ℕ) → Stops (lexeme_of (mark (codes "}") start))
 brace_stops start = record { operator = at_brace start; index = refl; member = refl; increment = refl; decrement = refl; question = refl }
 
 -- what it leaves would be all, but an expression takes a token
-brace_leaves : (d : Dialect) (start : ℕ) (ts : List Lexeme) → Leaves d n.assign (lexeme_of (mark (codes "}") start) ∷ ts) (lexeme_of (mark (codes "}") start) ∷ ts)
-brace_leaves d start ts =
-    assign_leaves refl (unary_leaves (brace_starts start) (postfix_leaves (brace_stops start) brace_no_primary))
-    (postfix_to_cond (brace_starts start) (brace_stops start) refl (postfix_leaves (brace_stops start) brace_no_primary))
+brace_leaves : (d : Dialect) (start : ℕ) (ts : List Lexeme) (b : Expression) → Gives d n.assign (lexeme_of (mark (codes "}") start) ∷ ts) b (lexeme_of (mark (codes "}") start) ∷ ts)
+brace_leaves d start ts b =
+    let postfixes : Gives d n.postfix (lexeme_of (mark (codes "}") start) ∷ ts) b (lexeme_of (mark (codes "}") start) ∷ ts) = postfix_leaves (brace_stops start) (λ a rest p. absurd (brace_no_primary p)) in
+    assign_leaves refl (unary_leaves (brace_starts start) postfixes) (postfix_to_cond (brace_starts start) (brace_stops start) refl postfixes)
 
 brace_no_assign : {d : Dialect} (start : ℕ) {ts rest : List Lexeme} {a : Expression} → Reads d n.assign (lexeme_of (mark (codes "}") start) ∷ ts) a rest → ⊥
-brace_no_assign {d = d} start {ts = ts} p = omega (arith, shorter p, ap length (brace_leaves d start ts _ _ p))
+brace_no_assign {d = d} start {ts = ts} {a = a} p = omega (arith, shorter p, ap length (brace_leaves d start ts a _ _ p).0)
 
 no_initializer : {d : Dialect} (start : ℕ) {ts rest : List Lexeme} {one : Initializer} → ReadsInitializer d (lexeme_of (mark (codes "}") start) ∷ ts) one rest → ⊥
 no_initializer start (s.single e p) = brace_no_assign start p

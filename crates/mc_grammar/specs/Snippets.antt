@@ -62,12 +62,20 @@ behind_parentheses = mark (codes "(") 3 ∷ word_of (codes "x") 4 ∷ mark (code
 abbrev pub parentheses_tokens : List Tok
 parentheses_tokens = mark (codes "(") 0 ∷ word_of (codes "f") 1 ∷ mark (codes ")") 2 ∷ behind_parentheses
 
+-- `(f)`
+abbrev pub parentheses_tree : Expression
+parentheses_tree = t.Parenthesized (letter (codes "f") 1) (span 0 3)
+
 -- `a[0](x);`, and what stands in it behind `a[0]`
 abbrev pub behind_element : List Tok
 behind_element = mark (codes "(") 4 ∷ word_of (codes "x") 5 ∷ mark (codes ")") 6 ∷ semicolon 7
 
 abbrev pub element_tokens : List Tok
 element_tokens = word_of (codes "a") 0 ∷ mark (codes "[") 1 ∷ zero_at 2 ∷ mark (codes "]") 3 ∷ behind_element
+
+-- `a[0]`
+abbrev pub element_tree : Expression
+element_tree = t.Index (letter (codes "a") 0) (t.Constant 0 false false 0 (span 2 3)) (span 0 4)
 
 -- `int a[b=1];`, what stands in it behind `[`, and behind `b`
 abbrev pub behind_name : List Tok

@@ -1,17 +1,18 @@
 //! The worked examples of docs/LANGUAGE.md: what the grammar reads of short texts, and how high the trees are.
-ghost use Rattle.std.specs.Prelude.{◌≡◌, ◌≤◌, ◌<◌, ℕ, List, [], ◌∷◌, codes};
+ghost use Rattle.std.specs.Prelude.{◌≡◌, ◌≤◌, ◌<◌, ℕ, Bool, List, [], ◌∷◌, codes};
 ghost use Rattle.mc_lex.specs.declared.token.Dialect.{Dialect};
-ghost use Rattle.mc_tree.specs.Tree.{Expression, Initializer, Statement, Item};
+ghost use Rattle.mc_tree.specs.Tree.{Declarator, Expression, Initializer, Parameters, Statement, Item};
+ghost use Rattle.mc_tree.specs.Tree as t;
 ghost use Rattle.mc_tree.specs.Height.{height, height_unit};
 ghost use Rattle.mc_grammar.specs.Words.{Lexeme, lexemes_of, retag};
 ghost use Rattle.mc_grammar.specs.Nonterminal as n;
-ghost use Rattle.mc_grammar.specs.Expressions.{Reads};
+ghost use Rattle.mc_grammar.specs.Expressions.{Reads, ReadsStars, ReadsDeclarator, ReadsParameters};
 ghost use Rattle.mc_grammar.specs.Statements.{ReadsStatement, ReadsInitializer};
 ghost use Rattle.mc_grammar.specs.Items.{IsTree, IsTreeWithin, ReadsItem};
-ghost use Rattle.mc_grammar.specs.Meaning.{sign};
-ghost use Rattle.mc_grammar.specs.Samples.{value_tokens, value_tree, named_void_tokens, named_void_tree, void_tokens, void_tree, body_tokens, body_tree, tag_tokens, tag_tree, enumeration_tokens, enumeration_tree, braced_tokens, braced_tree};
-ghost use Rattle.mc_grammar.specs.Nested.{nested_tokens};
-ghost use Rattle.mc_grammar.specs.Snippets.{semicolon, sum_tokens, sum_tree, operands_tokens, operands_tree, minus_tokens, cast_tree, subtraction_tree, else_tokens, else_tree, parentheses_tokens, behind_parentheses, element_tokens, behind_element, length_tokens, behind_bracket, behind_name};
+ghost use Rattle.mc_grammar.specs.Meaning.{sign, identifier};
+ghost use Rattle.mc_grammar.specs.Samples.{name, value_tokens, value_tree, named_void_tokens, named_void_tree, void_tokens, void_tree, body_tokens, body_tree, tag_tokens, tag_tree, enumeration_tokens, enumeration_tree, braced_tokens, braced_tree};
+ghost use Rattle.mc_grammar.specs.Nested.{nested_tokens, nested_height};
+ghost use Rattle.mc_grammar.specs.Snippets.{semicolon, sum_tokens, sum_tree, operands_tokens, operands_tree, minus_tokens, cast_tree, subtraction_tree, else_tokens, else_tree, parentheses_tokens, parentheses_tree, behind_parentheses, element_tokens, element_tree, behind_element, length_tokens, behind_bracket, behind_name};
 
 /// `a + b + c` is `(a + b) + c`, and its height is 3.
 #[tactic(auto, using(crate::proofs::Snippets::sum))]
@@ -77,21 +78,21 @@ pub fn list_may_end_with_comma()
 /// `(f)(x)` is no call: of it an expression takes `(f)`, and as a statement it is not read.
 #[tactic(auto, using(crate::proofs::Refused::parentheses_leave, crate::proofs::Refused::parentheses_no_statement))]
 pub fn parentheses_are_not_called()
-    ensures rest { (d : Dialect) (a : Expression) (rest : List Lexeme) → Reads d n.comma (lexemes_of parentheses_tokens) a rest → rest ≡ lexemes_of behind_parentheses }
+    ensures rest { (d : Dialect) (a : Expression) (rest : List Lexeme) → Reads d n.comma (lexemes_of parentheses_tokens) a rest → (rest ≡ lexemes_of behind_parentheses) × (a ≡ parentheses_tree) }
     ensures statement { (d : Dialect) (one : Statement) (rest : List Lexeme) → ReadsStatement d (lexemes_of parentheses_tokens) one rest → ⊥ }
 {}
 
 /// `a[0](x)` is no call: of it an expression takes `a[0]`, and as a statement it is not read.
 #[tactic(auto, using(crate::proofs::Refused::element_leaves, crate::proofs::Refused::element_no_statement))]
 pub fn element_is_not_called()
-    ensures rest { (d : Dialect) (a : Expression) (rest : List Lexeme) → Reads d n.comma (lexemes_of element_tokens) a rest → rest ≡ lexemes_of behind_element }
+    ensures rest { (d : Dialect) (a : Expression) (rest : List Lexeme) → Reads d n.comma (lexemes_of element_tokens) a rest → (rest ≡ lexemes_of behind_element) × (a ≡ element_tree) }
     ensures statement { (d : Dialect) (one : Statement) (rest : List Lexeme) → ReadsStatement d (lexemes_of element_tokens) one rest → ⊥ }
 {}
 
 /// A length is no assignment: `int a[b=1];` has no tree, since of `b=1` a length takes `b`.
 #[tactic(auto, using(crate::proofs::Refused::length_leaves, crate::proofs::Refused::length_no_tree))]
 pub fn length_is_no_assignment()
-    ensures rest { (d : Dialect) (a : Expression) (rest : List Lexeme) → Reads d n.cond (lexemes_of behind_bracket) a rest → rest ≡ lexemes_of behind_name }
+    ensures rest { (d : Dialect) (a : Expression) (rest : List Lexeme) → Reads d n.cond (lexemes_of behind_bracket) a rest → (rest ≡ lexemes_of behind_name) × (a ≡ t.Named (name (codes "b") 6 7)) }
     ensures tree { (d : Dialect) (unit : List Item) → IsTree d length_tokens unit → ⊥ }
 {}
 
@@ -99,6 +100,18 @@ pub fn length_is_no_assignment()
 #[tactic(auto, using(crate::proofs::Refused::semicolon_no_item))]
 pub fn semicolon_alone_is_no_item()
     ensures { (d : Dialect) (start : ℕ) (ts : List Lexeme) (one : Item) (rest : List Lexeme) → ReadsItem d (sign (codes ";") start ∷ ts) one rest → ⊥ }
+{}
+
+/// No parameter is a name without a type: functions of the old style, as `int f(a)`, are not read.
+#[tactic(auto, using(crate::proofs::Refused::names_no_parameters))]
+pub fn parameter_has_a_type()
+    ensures { (d : Dialect) (text : List ℕ) (place start : ℕ) (ts : List Lexeme) (all : Parameters) (rest : List Lexeme) → ReadsParameters d (sign (codes "(") place ∷ identifier text start ∷ ts) all rest → ⊥ }
+{}
+
+/// No parenthesis stands at the start of a declarator or behind its `*`.
+#[tactic(auto, using(crate::proofs::Refused::parenthesis_no_declarator))]
+pub fn declarator_has_no_parentheses()
+    ensures { (d : Dialect) (k place : ℕ) (ts us : List Lexeme) (one : Declarator) (rest : List Lexeme) → ReadsStars ts k (sign (codes "(") place ∷ us) → ReadsDeclarator d ts one rest → ⊥ }
 {}
 
 /// `{}` is no initializer, whatever follows it.
@@ -113,11 +126,11 @@ pub fn no_tokens_have_a_tree()
     ensures { (d : Dialect) → IsTree d [] [] }
 {}
 
-/// Structures inside one another have a tree, and each of their trees is as high as they are deep: where the
-/// limit of the height is 200, then 200 of them are read and 201 are not.
-#[tactic(auto, using(crate::proofs::Nested::nested_height, crate::proofs::Nested::nested_within, crate::proofs::Nested::nested_too_high))]
+/// Structures inside one another have a tree, and each of their trees is as high as they are deep: 200 are within
+/// a limit of 200, and 201 are not. A length in the innermost takes one level more.
+#[tactic(auto, using(crate::proofs::Nested::as_high, crate::proofs::Nested::within, crate::proofs::Nested::too_high))]
 pub fn structures_count_one_each()
-    ensures high { (d : Dialect) (k : ℕ) (unit : List Item) → IsTree d (nested_tokens k) unit → height_unit unit ≡ k }
-    ensures read { (d : Dialect) (k limit : ℕ) → k ≤ limit → (unit : List Item) × IsTreeWithin limit d (nested_tokens k) unit }
-    ensures unread { (d : Dialect) (k limit : ℕ) (unit : List Item) → limit < k → IsTreeWithin limit d (nested_tokens k) unit → ⊥ }
+    ensures high { (d : Dialect) (sized : Bool) (k : ℕ) (unit : List Item) → IsTree d (nested_tokens sized k) unit → height_unit unit ≡ nested_height sized k }
+    ensures read { (d : Dialect) (sized : Bool) (k limit : ℕ) → nested_height sized k ≤ limit → (unit : List Item) × IsTreeWithin limit d (nested_tokens sized k) unit }
+    ensures unread { (d : Dialect) (sized : Bool) (k limit : ℕ) (unit : List Item) → limit < nested_height sized k → IsTreeWithin limit d (nested_tokens sized k) unit → ⊥ }
 {}
