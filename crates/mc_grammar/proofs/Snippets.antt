@@ -9,7 +9,7 @@ use Rattle.mc_grammar.specs.Expressions.{Reads}
 use Rattle.mc_grammar.specs.Expressions as r
 use Rattle.mc_grammar.specs.Statements.{ReadsStatement}
 use Rattle.mc_grammar.specs.Statements as s
-use Rattle.mc_grammar.specs.Snippets.{semicolon, sum_tokens, sum_tree, operands_tokens, operands_tree, minus_tokens, cast_tree, subtraction_tree, else_tokens, else_tree}
+use Rattle.mc_grammar.specs.Snippets.{semicolon, sum_tokens, sum_tree, operands_tokens, operands_tree, minus_tokens, cast_tree, subtraction_tree, else_tokens, else_tree, assignment_tokens, assignment_tree}
 use Rattle.mc_grammar.proofs.Derivations.{at_semicolon, at_comma, at_parenthesis, sum_alone, alone, a_name, a_constant}
 
 pub sum : (d : Dialect) → Reads d n.comma (lexemes_of sum_tokens) sum_tree (lexemes_of (semicolon 9))
@@ -53,3 +53,11 @@ inner_else d =
     (s.if_else refl (s.test refl (r.comma_one (r.assign_cond (alone (a_name refl refl refl refl refl) (at_parenthesis 12) refl) refl) refl) refl)
     (s.null refl) refl (s.null refl))
     refl
+
+pub assignment : (d : Dialect) → ReadsStatement d (lexemes_of assignment_tokens) assignment_tree []
+unfolding end_before
+assignment d =
+    s.evaluate refl refl (r.comma_one (r.assign_cond (alone (r.cast_unary refl (r.unary_postfix refl (r.postfix
+    (r.parenthesized refl refl (r.comma_one
+    (r.assign (r.unary_postfix refl (r.postfix (r.named refl refl) (r.suffixes_end refl))) refl (r.assign_cond (alone (a_constant refl refl refl refl) (at_parenthesis 4) refl) refl))
+    refl) refl) (r.suffixes_end refl)))) (at_semicolon 5) refl) refl) refl) refl

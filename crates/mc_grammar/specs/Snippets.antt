@@ -3,6 +3,7 @@ use Rattle.std.specs.Prelude.{ℕ, suc, true, false, List, [], ◌∷◌, codes}
 use Rattle.mc_lex.specs.Tokens.{Tok}
 use Rattle.mc_tree.specs.declared.binary_operator.BinaryOperator.TheVariants as binary
 use Rattle.mc_tree.specs.declared.unary_operator.UnaryOperator.TheVariants as unary
+use Rattle.mc_tree.specs.declared.assignment_operator.AssignmentOperator.TheVariants as assign
 use Rattle.mc_tree.specs.Tree.{Expression, Statement}
 use Rattle.mc_tree.specs.Tree as t
 use Rattle.mc_grammar.specs.Samples.{span, name, keyword, word_of, mark, number, zero_at}
@@ -54,6 +55,14 @@ else_tokens =
 -- the `else` is of the inner `if`
 abbrev pub else_tree : Statement
 else_tree = t.If (letter (codes "a") 4) (t.IfElse (letter (codes "b") 11) (t.Null (span 14 15)) (t.Null (span 21 22)) (span 7 22)) (span 0 22)
+
+-- `(a=1);`
+abbrev pub assignment_tokens : List Tok
+assignment_tokens = mark (codes "(") 0 ∷ word_of (codes "a") 1 ∷ mark (codes "=") 2 ∷ number 1 (codes "1") 3 ∷ mark (codes ")") 4 ∷ semicolon 5
+
+-- an assignment in parentheses
+abbrev pub assignment_tree : Statement
+assignment_tree = t.Evaluate (t.Parenthesized (t.Assignment assign.Assign (letter (codes "a") 1) (t.Constant 1 true false 0 (span 3 4)) (span 1 4)) (span 0 5)) (span 0 6)
 
 -- `(f)(x);`, and what stands in it behind `(f)`
 abbrev pub behind_parentheses : List Tok

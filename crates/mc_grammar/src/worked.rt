@@ -12,7 +12,7 @@ ghost use Rattle.mc_grammar.specs.Items.{IsTree, IsTreeWithin, ReadsItem};
 ghost use Rattle.mc_grammar.specs.Meaning.{sign, identifier};
 ghost use Rattle.mc_grammar.specs.Samples.{name, value_tokens, value_tree, named_void_tokens, named_void_tree, void_tokens, void_tree, body_tokens, body_tree, tag_tokens, tag_tree, enumeration_tokens, enumeration_tree, braced_tokens, braced_tree};
 ghost use Rattle.mc_grammar.specs.Nested.{nested_tokens, nested_height};
-ghost use Rattle.mc_grammar.specs.Snippets.{semicolon, sum_tokens, sum_tree, operands_tokens, operands_tree, minus_tokens, cast_tree, subtraction_tree, else_tokens, else_tree, parentheses_tokens, parentheses_tree, behind_parentheses, element_tokens, element_tree, behind_element, length_tokens, behind_bracket, behind_name};
+ghost use Rattle.mc_grammar.specs.Snippets.{semicolon, sum_tokens, sum_tree, operands_tokens, operands_tree, minus_tokens, cast_tree, subtraction_tree, else_tokens, else_tree, assignment_tokens, assignment_tree, parentheses_tokens, parentheses_tree, behind_parentheses, element_tokens, element_tree, behind_element, length_tokens, behind_bracket, behind_name};
 
 /// `a + b + c` is `(a + b) + c`, and its height is 3.
 #[tactic(auto, using(crate::proofs::Snippets::sum))]
@@ -39,6 +39,12 @@ pub fn typedef_name_makes_a_cast()
 #[tactic(auto, using(crate::proofs::Snippets::inner_else))]
 pub fn else_is_of_the_inner_if()
     ensures { (d : Dialect) → ReadsStatement d (lexemes_of else_tokens) else_tree [] }
+{}
+
+/// In `(a=1);` the assignment stands inside another expression, its parentheses.
+#[tactic(auto, using(crate::proofs::Snippets::assignment))]
+pub fn parentheses_stay_around_an_assignment()
+    ensures { (d : Dialect) → ReadsStatement d (lexemes_of assignment_tokens) assignment_tree [] }
 {}
 
 /// `int a = 5;` is a text of height 2: the initializer, and the expression in it.
