@@ -5,3 +5,8 @@ pub mod Samples
 pub mod Counted
 pub mod Ends
 pub mod Typedefs
+pub mod Derivations
+pub mod Snippets
+pub mod Leaving
+pub mod Refused
+pub mod Nested

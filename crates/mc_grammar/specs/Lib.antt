@@ -8,3 +8,5 @@ pub mod Statements
 pub mod Items
 pub mod Meaning
 pub mod Samples
+pub mod Snippets
+pub mod Nested

@@ -1,11 +1,11 @@
--- A text whose second declarator needs the first one's name: `typedef int T,t[(T)3];`.
-use Rattle.std.specs.Prelude.{ℕ, true, false, List, [], ◌∷◌, codes}
+-- Short texts: their tokens, and the trees that they have.
+use Rattle.std.specs.Prelude.{ℕ, true, false, List, [], ◌∷◌, Some, None, codes}
 use Rattle.mc_lex.specs.Tokens.{Tok}
 use Rattle.mc_lex.specs.declared.token.TokenKind.{TokenKind}
 use Rattle.mc_lex.specs.declared.token.TokenKind.TheVariants as kind
 use Rattle.mc_tree.specs.declared.span.Span.{Span}
 use Rattle.mc_tree.specs.declared.specifier_word.SpecifierWord.TheVariants as word
-use Rattle.mc_tree.specs.Tree.{Name, Item}
+use Rattle.mc_tree.specs.Tree.{Name, Specifier, Specifiers, Declarator, Item}
 use Rattle.mc_tree.specs.Tree as t
 
 abbrev pub token : TokenKind → List ℕ → ℕ → Tok
@@ -17,6 +17,35 @@ span start end = record { start = start; end = end }
 abbrev pub name : List ℕ → ℕ → ℕ → Name
 name text start end = record { text = text; span = span start end }
 
+abbrev pub keyword : List ℕ → ℕ → Tok
+keyword text start = token kind.Keyword text start
+
+abbrev pub word_of : List ℕ → ℕ → Tok
+word_of text start = token kind.Identifier text start
+
+abbrev pub mark : List ℕ → ℕ → Tok
+mark text start = token kind.Punctuator text start
+
+-- a decimal constant without a suffix
+abbrev pub number : ℕ → List ℕ → ℕ → Tok
+number value text start = token (kind.Constant value true false 0) text start
+
+-- `0`, which is an octal constant (C17 6.4.4.1)
+abbrev pub zero_at : ℕ → Tok
+zero_at start = token (kind.Constant 0 false false 0) (codes "0") start
+
+-- specifiers of one and of two words
+abbrev pub one : Specifier → Specifiers
+one s = t.specifiers s t.no_specifiers
+
+abbrev pub two : Specifier → Specifier → Specifiers
+two s u = t.specifiers s (one u)
+
+-- the declarator of this name alone
+abbrev pub plain : Name → Declarator
+plain x = t.object 0 x t.no_sizes x.span
+
+-- its second declarator needs the first one's name: `typedef int T,t[(T)3];`
 abbrev pub typedef_tokens : List Tok
 typedef_tokens =
     token kind.Keyword (codes "typedef") 0 ∷ token kind.Keyword (codes "int") 8 ∷ token kind.Identifier (codes "T") 12 ∷ token kind.Punctuator (codes ",") 13 ∷ token kind.Identifier (codes "t") 14
@@ -33,3 +62,88 @@ typedef_tree =
     (t.size (t.Cast (t.type_name (t.specifiers (t.TypedefName (name (codes "T") 17 18)) t.no_specifiers) 0 (span 17 18)) (t.Constant 3 true false 0 (span 19 20)) (span 16 20)) t.no_sizes)
     (span 14 21)) ∷ [])
     (span 0 22)) ∷ []
+
+-- `int a = 5;`
+abbrev pub value_tokens : List Tok
+value_tokens = keyword (codes "int") 0 ∷ word_of (codes "a") 4 ∷ mark (codes "=") 6 ∷ number 5 (codes "5") 8 ∷ mark (codes ";") 9 ∷ []
+
+abbrev pub value_tree : List Item
+value_tree =
+    t.Declared (t.declaration (one (t.Word word.Int (span 0 3)))
+    (t.initialized (plain (name (codes "a") 4 5)) (t.Single (t.Constant 5 true false 0 (span 8 9))) ∷ [])
+    (span 0 10)) ∷ []
+
+-- `typedef void V; int f(V);`
+abbrev pub named_void_tokens : List Tok
+named_void_tokens =
+    keyword (codes "typedef") 0 ∷ keyword (codes "void") 8 ∷ word_of (codes "V") 13 ∷ mark (codes ";") 14
+    ∷ keyword (codes "int") 16 ∷ word_of (codes "f") 20 ∷ mark (codes "(") 21 ∷ word_of (codes "V") 22 ∷ mark (codes ")") 23 ∷ mark (codes ";") 24 ∷ []
+
+-- `f` has a list of one parameter
+abbrev pub named_void_tree : List Item
+named_void_tree =
+    t.Declared (t.declaration (two (t.Word word.Typedef (span 0 7)) (t.Word word.Void (span 8 12))) (t.bare (plain (name (codes "V") 13 14)) ∷ []) (span 0 15))
+    ∷ t.Declared (t.declaration (one (t.Word word.Int (span 16 19)))
+    (t.bare (t.function 0 (name (codes "f") 20 21)
+    (t.Listed (t.parameters (t.parameter (one (t.TypedefName (name (codes "V") 22 23))) 0 None t.no_sizes (span 22 23)) t.no_parameters) (span 21 24))
+    (span 20 24)) ∷ [])
+    (span 16 25)) ∷ []
+
+-- `int f(void);`
+abbrev pub void_tokens : List Tok
+void_tokens = keyword (codes "int") 0 ∷ word_of (codes "f") 4 ∷ mark (codes "(") 5 ∷ keyword (codes "void") 6 ∷ mark (codes ")") 10 ∷ mark (codes ";") 11 ∷ []
+
+-- `f` has no parameter
+abbrev pub void_tree : List Item
+void_tree =
+    t.Declared (t.declaration (one (t.Word word.Int (span 0 3))) (t.bare (t.function 0 (name (codes "f") 4 5) (t.Void (span 5 11)) (span 4 11)) ∷ []) (span 0 12)) ∷ []
+
+-- `int f(void) { return 0; }`
+abbrev pub body_tokens : List Tok
+body_tokens =
+    keyword (codes "int") 0 ∷ word_of (codes "f") 4 ∷ mark (codes "(") 5 ∷ keyword (codes "void") 6 ∷ mark (codes ")") 10
+    ∷ mark (codes "{") 12 ∷ keyword (codes "return") 14 ∷ zero_at 21 ∷ mark (codes ";") 22 ∷ mark (codes "}") 24 ∷ []
+
+abbrev pub body_tree : List Item
+body_tree =
+    t.Defined (one (t.Word word.Int (span 0 3))) (t.function 0 (name (codes "f") 4 5) (t.Void (span 5 11)) (span 4 11))
+    (t.statement (t.Return (Some (t.Constant 0 false false 0 (span 21 22))) (span 14 23)) t.no_block_items)
+    (span 0 25) ∷ []
+
+-- `typedef int T; struct T { int a; };`
+abbrev pub tag_tokens : List Tok
+tag_tokens =
+    keyword (codes "typedef") 0 ∷ keyword (codes "int") 8 ∷ word_of (codes "T") 12 ∷ mark (codes ";") 13
+    ∷ keyword (codes "struct") 15 ∷ word_of (codes "T") 22 ∷ mark (codes "{") 24 ∷ keyword (codes "int") 26 ∷ word_of (codes "a") 30 ∷ mark (codes ";") 31 ∷ mark (codes "}") 33 ∷ mark (codes ";") 34 ∷ []
+
+abbrev pub tag_tree : List Item
+tag_tree =
+    t.Declared (t.declaration (two (t.Word word.Typedef (span 0 7)) (t.Word word.Int (span 8 11))) (t.bare (plain (name (codes "T") 12 13)) ∷ []) (span 0 14))
+    ∷ t.Declared (t.declaration (one (t.Structure (Some (name (codes "T") 22 23))
+    (t.members (t.member (one (t.Word word.Int (span 26 29))) (t.declarators (plain (name (codes "a") 30 31)) t.no_declarators) (span 26 32)) t.no_members)
+    (span 15 34))) [] (span 15 35)) ∷ []
+
+-- `enum { A, B = 2, };`
+abbrev pub enumeration_tokens : List Tok
+enumeration_tokens =
+    keyword (codes "enum") 0 ∷ mark (codes "{") 5 ∷ word_of (codes "A") 7 ∷ mark (codes ",") 8 ∷ word_of (codes "B") 10 ∷ mark (codes "=") 12 ∷ number 2 (codes "2") 14
+    ∷ mark (codes ",") 15 ∷ mark (codes "}") 17 ∷ mark (codes ";") 18 ∷ []
+
+abbrev pub enumeration_tree : List Item
+enumeration_tree =
+    t.Declared (t.declaration (one (t.Enumeration None
+    (t.enumerators (t.enumerator (name (codes "A") 7 8)) (t.enumerators (t.valued_enumerator (name (codes "B") 10 11) (t.Constant 2 true false 0 (span 14 15))) t.no_enumerators))
+    (span 0 18))) [] (span 0 19)) ∷ []
+
+-- `int a[2] = {1, 2,};`
+abbrev pub braced_tokens : List Tok
+braced_tokens =
+    keyword (codes "int") 0 ∷ word_of (codes "a") 4 ∷ mark (codes "[") 5 ∷ number 2 (codes "2") 6 ∷ mark (codes "]") 7 ∷ mark (codes "=") 9
+    ∷ mark (codes "{") 11 ∷ number 1 (codes "1") 12 ∷ mark (codes ",") 13 ∷ number 2 (codes "2") 15 ∷ mark (codes ",") 16 ∷ mark (codes "}") 17 ∷ mark (codes ";") 18 ∷ []
+
+abbrev pub braced_tree : List Item
+braced_tree =
+    t.Declared (t.declaration (one (t.Word word.Int (span 0 3)))
+    (t.initialized (t.object 0 (name (codes "a") 4 5) (t.size (t.Constant 2 true false 0 (span 6 7)) t.no_sizes) (span 4 8))
+    (t.Braced (t.initializers (t.Single (t.Constant 1 true false 0 (span 12 13))) (t.initializers (t.Single (t.Constant 2 true false 0 (span 15 16))) t.no_initializers)) (span 11 18)) ∷ [])
+    (span 0 19)) ∷ []
