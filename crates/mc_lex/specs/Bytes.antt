@@ -22,7 +22,7 @@ is_word_byte b = is_letter b || is_digit b
 abbrev pub is_line_end : ℕ → Bool
 is_line_end b = b == 10
 
--- space, tab, LF, VT, FF and CR (C17 6.4, white space)
+-- space, tab, LF, VT and FF (C17 6.4, white space), and CR
 abbrev pub is_blank : ℕ → Bool
 is_blank b = b == 32 || (nat_le 9 b && nat_le b 13)
 
