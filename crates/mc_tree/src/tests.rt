@@ -438,6 +438,22 @@ fn switch_of_case(alloc: Global) -> Result<Unit<'static>, AllocError> {
     function_with(alloc, statement)
 }
 
+/// `a` in 797 pairs of parentheses
+fn deep(alloc: Global) -> Result<Expression<'static>, AllocError>
+    ensures high { IfOk result (λ e. h.height (expression_of e) ≡ 798) }
+    ensures long { IfOk result (λ e. l.of_expression (expression_of e) ≡ 1595) }
+{
+    let mut expression = name();
+    for _pair in 0..797_u32 {
+        let inner = Box::new(alloc, expression)?;
+        expression = Expression::Parenthesized {
+            inner,
+            span: NOWHERE,
+        };
+    }
+    Ok(expression)
+}
+
 #[test]
 fn heights(rt: HostRuntime) -> Result<(), Fail> {
     let alloc = rt.alloc();
@@ -458,5 +474,12 @@ fn heights(rt: HostRuntime) -> Result<(), Fail> {
     assert_eq!(rt; height(&loop_with_step(alloc)?), 4);
     assert_eq!(rt; height(&block_behind_else(alloc)?), 4);
     assert_eq!(rt; height(&switch_of_case(alloc)?), 5);
+    Ok(())
+}
+
+#[test]
+fn the_highest_tree(rt: HostRuntime) -> Result<(), Fail> {
+    let alloc = rt.alloc();
+    assert_eq!(rt; height(&returning(alloc, deep(alloc)?)?), 800);
     Ok(())
 }
