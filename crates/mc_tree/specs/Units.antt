@@ -8,13 +8,13 @@ use Rattle.mc_tree.specs.declared.init_declarator.InitDeclarator.TheVariants as 
 use Rattle.mc_tree.specs.declared.declaration.Declaration.{Declaration}
 use Rattle.mc_tree.specs.declared.for_start.ForStart.{ForStart}
 use Rattle.mc_tree.specs.declared.for_start.ForStart.TheVariants as start
-use Rattle.mc_tree.specs.declared.statement.Statement.{Statement, Row_of-BlockItem, end_of-BlockItem, more_of-BlockItem}
-use Rattle.mc_tree.specs.declared.statement.Statement.TheVariants as statement
+use Rattle.mc_tree.specs.declared.statement.Statement.{Statement}
 use Rattle.mc_tree.specs.declared.block_item.BlockItem.{BlockItem}
-use Rattle.mc_tree.specs.declared.block_item.BlockItem.TheVariants as block
+use Rattle.mc_tree.specs.declared.block_item.BlockItem.TheOpen.{Statement-F, BlockItem-F}
+use Rattle.mc_tree.specs.declared.block_item.BlockItem.TheFolds.{fold-Statement, fold-BlockItem}
 use Rattle.mc_tree.specs.declared.item.Item.{Item}
 use Rattle.mc_tree.specs.declared.item.Item.TheVariants as item
-use Rattle.mc_tree.specs.Views.{name_of, expression_of, declarator_of, specifiers_from}
+use Rattle.mc_tree.specs.Views.{name_of, expression_of, declarator_of, specifier_of, specifiers_from}
 use Rattle.mc_tree.specs.Tree as t
 
 abbrev pub initializers_from : List t.Initializer → t.Initializers
@@ -34,46 +34,48 @@ init_declarator_of (init.Bare declarator) = t.bare (declarator_of declarator)
 init_declarator_of (init.Initialized declarator value) = t.initialized (declarator_of declarator) (initializer_of value)
 
 abbrev pub declaration_of : Declaration → t.Declaration
-declaration_of d = t.declaration (specifiers_from d.specifiers.items) (map init_declarator_of d.declarators.items) d.span
+declaration_of d = t.declaration (specifiers_from (map specifier_of d.specifiers.items)) (map init_declarator_of d.declarators.items) d.span
 
 abbrev pub start_of : ForStart → t.ForStart
 start_of (start.Local declaration) = t.StartsLocal (declaration_of declaration)
 start_of (start.Expression value) = t.StartsExpression (option_map expression_of value)
 
-abbrev mutual
-  pub statement_of : Statement → t.Statement
-  statement_of (statement.Compound' shape items span) = t.Compound (block_of items) span
-  statement_of (statement.Null span) = t.Null span
-  statement_of (statement.Evaluate value span) = t.Evaluate (expression_of value) span
-  statement_of (statement.If' test p chosen span) = t.If (expression_of test) (statement_of chosen) span
-  statement_of (statement.IfElse' test p chosen q other span) = t.IfElse (expression_of test) (statement_of chosen) (statement_of other) span
-  statement_of (statement.Switch' value p body span) = t.Switch (expression_of value) (statement_of body) span
-  statement_of (statement.While' test p body span) = t.While (expression_of test) (statement_of body) span
-  statement_of (statement.DoWhile' p body test span) = t.DoWhile (statement_of body) (expression_of test) span
-  statement_of (statement.For' first test step p body span) = t.For (start_of first) (option_map expression_of test) (option_map expression_of step) (statement_of body) span
-  statement_of (statement.Case' value p body span) = t.Case (expression_of value) (statement_of body) span
-  statement_of (statement.Default' p body span) = t.Default (statement_of body) span
-  statement_of (statement.Label' name p body span) = t.Label (name_of name) (statement_of body) span
-  statement_of (statement.Goto name span) = t.Goto (name_of name) span
-  statement_of (statement.Break span) = t.Break span
-  statement_of (statement.Continue span) = t.Continue span
-  statement_of (statement.Return value span) = t.Return (option_map expression_of value) span
-
-  pub block_of : {m : _} → Row_of-BlockItem m → t.BlockItems
-  block_of end_of-BlockItem = t.no_block_items
-  block_of (more_of-BlockItem one rest) = with_block_item one (block_of rest)
-
-  pub with_block_item : BlockItem → t.BlockItems → t.BlockItems
-  with_block_item (block.Local declaration) rest = t.local (declaration_of declaration) rest
-  with_block_item (block.Statement' p one) rest = t.statement (statement_of one) rest
-
-abbrev pub block_from : List BlockItem → t.BlockItems
+-- an item of a block is what it puts before others
+abbrev pub block_from : List (t.BlockItems → t.BlockItems) → t.BlockItems
 block_from [] = t.no_block_items
-block_from (one ∷ rest) = with_block_item one (block_from rest)
+block_from (one ∷ rest) = one (block_from rest)
+
+abbrev pub node_block_item : BlockItem-F (t.BlockItems → t.BlockItems) t.Statement → t.BlockItems → t.BlockItems
+node_block_item (BlockItem-F.Local declaration) = t.local (declaration_of declaration)
+node_block_item (BlockItem-F.Statement one) = t.statement one.value
+
+abbrev pub node_statement : Statement-F (t.BlockItems → t.BlockItems) t.Statement → t.Statement
+node_statement (Statement-F.Compound items span) = t.Compound (block_from items.items) span
+node_statement (Statement-F.Null span) = t.Null span
+node_statement (Statement-F.Evaluate value span) = t.Evaluate (expression_of value) span
+node_statement (Statement-F.If test chosen span) = t.If (expression_of test) chosen.value span
+node_statement (Statement-F.IfElse test chosen other span) = t.IfElse (expression_of test) chosen.value other.value span
+node_statement (Statement-F.Switch value body span) = t.Switch (expression_of value) body.value span
+node_statement (Statement-F.While test body span) = t.While (expression_of test) body.value span
+node_statement (Statement-F.DoWhile body test span) = t.DoWhile body.value (expression_of test) span
+node_statement (Statement-F.For start test step body span) = t.For (start_of start) (option_map expression_of test) (option_map expression_of step) body.value span
+node_statement (Statement-F.Case value body span) = t.Case (expression_of value) body.value span
+node_statement (Statement-F.Default body span) = t.Default body.value span
+node_statement (Statement-F.Label name body span) = t.Label (name_of name) body.value span
+node_statement (Statement-F.Goto name span) = t.Goto (name_of name) span
+node_statement (Statement-F.Break span) = t.Break span
+node_statement (Statement-F.Continue span) = t.Continue span
+node_statement (Statement-F.Return value span) = t.Return (option_map expression_of value) span
+
+abbrev pub statement_of : Statement → t.Statement
+statement_of = fold-Statement (t.BlockItems → t.BlockItems) t.Statement node_block_item node_statement
+
+abbrev pub block_item_of : BlockItem → t.BlockItems → t.BlockItems
+block_item_of = fold-BlockItem (t.BlockItems → t.BlockItems) t.Statement node_block_item node_statement
 
 abbrev pub item_of : Item → t.Item
 item_of (item.Declared declaration) = t.Declared (declaration_of declaration)
-item_of (item.Defined specifiers declarator body span) = t.Defined (specifiers_from specifiers.items) (declarator_of declarator) (block_from body.items) span
+item_of (item.Defined specifiers declarator body span) = t.Defined (specifiers_from (map specifier_of specifiers.items)) (declarator_of declarator) (block_from (map block_item_of body.items)) span
 
 abbrev pub items_of : List Item → List t.Item
 items_of items = map item_of items

@@ -1,7 +1,7 @@
 //! Heights of small texts, as counted by hand.
 ghost use Rattle.std.specs.Prelude.{◌≡◌, ◌≤◌, ◌<◌, ◌+◌, ◌^◌, ◌∷◌, [], max, map, IfOk};
-ghost use Rattle.mc_tree.specs.Views.{declarator_of, declarators_from, enumerators_from, expression_of, expressions_from, members_from, parameters_from, sizes_from, specifier_of, specifiers_from};
-ghost use Rattle.mc_tree.specs.Units.{block_from, declaration_of, init_declarator_of, initializer_of, item_of, items_of, statement_of};
+ghost use Rattle.mc_tree.specs.Views.{declarator_of, enumerator_of, enumerators_from, expression_of, expressions_from, member_of, members_from, parameter_of, parameters_from, size_of, sizes_from, specifier_of, specifiers_from};
+ghost use Rattle.mc_tree.specs.Units.{block_from, block_item_of, declaration_of, init_declarator_of, item_of, statement_of};
 ghost use Rattle.mc_tree.specs.Height as h;
 ghost use Rattle.mc_tree.specs.Length as l;
 
@@ -24,8 +24,8 @@ fn identifier() -> Identifier<'static> {
 
 /// `int`
 fn int(alloc: Global) -> Result<Vec<Specifier<'static>>, AllocError>
-    ensures high { IfOk result (λ v. h.height_specifiers (specifiers_from v.items) ≡ 0) }
-    ensures long { IfOk result (λ v. l.of_specifiers (specifiers_from v.items) ≡ 1) }
+    ensures high { IfOk result (λ v. h.height_specifiers (specifiers_from (map specifier_of v.items)) ≡ 0) }
+    ensures long { IfOk result (λ v. l.of_specifiers (specifiers_from (map specifier_of v.items)) ≡ 1) }
 {
     let word = Specifier::Word {
         word: SpecifierWord::Int,
@@ -75,8 +75,8 @@ fn sum(
 
 /// `a(ARGUMENTS)`
 fn call(arguments: Vec<Expression<'static>>) -> Expression<'static>
-    ensures high { h.height (expression_of result) ≡ h.tallest (expressions_from arguments.entry.items) + 1 }
-    ensures long { l.of_expression (expression_of result) ≡ l.of_expressions (expressions_from arguments.entry.items) + 3 }
+    ensures high { h.height (expression_of result) ≡ h.tallest (expressions_from (map expression_of arguments.entry.items)) + 1 }
+    ensures long { l.of_expression (expression_of result) ≡ l.of_expressions (expressions_from (map expression_of arguments.entry.items)) + 3 }
 {
     Expression::Call {
         name: identifier(),
@@ -87,8 +87,8 @@ fn call(arguments: Vec<Expression<'static>>) -> Expression<'static>
 
 /// `FIRST, SECOND`
 fn comma(operands: Vec<Expression<'static>>) -> Expression<'static>
-    ensures high { h.height (expression_of result) ≡ h.tallest (expressions_from operands.entry.items) + 1 }
-    ensures long { l.of_expression (expression_of result) ≡ l.of_expressions (expressions_from operands.entry.items) }
+    ensures high { h.height (expression_of result) ≡ h.tallest (expressions_from (map expression_of operands.entry.items)) + 1 }
+    ensures long { l.of_expression (expression_of result) ≡ l.of_expressions (expressions_from (map expression_of operands.entry.items)) }
 {
     Expression::Comma {
         operands,
@@ -101,8 +101,8 @@ fn cast(
     alloc: Global,
     specifiers: Vec<Specifier<'static>>,
 ) -> Result<Expression<'static>, AllocError>
-    ensures high { IfOk result (λ e. h.height (expression_of e) ≡ max (h.height_specifiers (specifiers_from specifiers.entry.items)) 1 + 1) }
-    ensures long { IfOk result (λ e. l.of_expression (expression_of e) ≡ l.of_specifiers (specifiers_from specifiers.entry.items) + 3) }
+    ensures high { IfOk result (λ e. h.height (expression_of e) ≡ max (h.height_specifiers (specifiers_from (map specifier_of specifiers.entry.items))) 1 + 1) }
+    ensures long { IfOk result (λ e. l.of_expression (expression_of e) ≡ l.of_specifiers (specifiers_from (map specifier_of specifiers.entry.items)) + 3) }
 {
     let operand = Box::new(alloc, name())?;
     Ok(Expression::Cast {
@@ -116,8 +116,8 @@ fn cast(
 
 /// `struct { MEMBERS }`
 fn structure(members: Vec<Member<'static>>) -> Specifier<'static>
-    ensures high { h.height_specifier (specifier_of result) ≡ h.height_members (members_from members.entry.items) + 1 }
-    ensures long { l.of_specifier (specifier_of result) ≡ l.of_members (members_from members.entry.items) + 3 }
+    ensures high { h.height_specifier (specifier_of result) ≡ h.height_members (members_from (map member_of members.entry.items)) + 1 }
+    ensures long { l.of_specifier (specifier_of result) ≡ l.of_members (members_from (map member_of members.entry.items)) + 3 }
 {
     Specifier::Structure {
         tag: None,
@@ -128,8 +128,8 @@ fn structure(members: Vec<Member<'static>>) -> Specifier<'static>
 
 /// `enum { ENUMERATORS }`
 fn enumeration(enumerators: Vec<Enumerator<'static>>) -> Specifier<'static>
-    ensures high { h.height_specifier (specifier_of result) ≡ h.height_enumerators (enumerators_from enumerators.entry.items) + 1 }
-    ensures long { l.of_specifier (specifier_of result) ≡ l.of_enumerators (enumerators_from enumerators.entry.items) + 3 }
+    ensures high { h.height_specifier (specifier_of result) ≡ h.height_enumerators (enumerators_from (map enumerator_of enumerators.entry.items)) + 1 }
+    ensures long { l.of_specifier (specifier_of result) ≡ l.of_enumerators (enumerators_from (map enumerator_of enumerators.entry.items)) + 3 }
 {
     Specifier::Enumeration {
         tag: None,
@@ -140,8 +140,8 @@ fn enumeration(enumerators: Vec<Enumerator<'static>>) -> Specifier<'static>
 
 /// `a SIZES`
 fn object(sizes: Vec<Size<'static>>) -> Declarator<'static>
-    ensures high { h.height_declarator (declarator_of result) ≡ h.height_sizes (sizes_from sizes.entry.items) }
-    ensures long { l.of_declarator (declarator_of result) ≡ l.of_sizes (sizes_from sizes.entry.items) + 1 }
+    ensures high { h.height_declarator (declarator_of result) ≡ h.height_sizes (sizes_from (map size_of sizes.entry.items)) }
+    ensures long { l.of_declarator (declarator_of result) ≡ l.of_sizes (sizes_from (map size_of sizes.entry.items)) + 1 }
 {
     Declarator::Object {
         stars: 0,
@@ -153,8 +153,8 @@ fn object(sizes: Vec<Size<'static>>) -> Declarator<'static>
 
 /// `a(PARAMETERS)`
 fn function(parameters: Vec<Parameter<'static>>) -> Declarator<'static>
-    ensures high { h.height_declarator (declarator_of result) ≡ h.height_parameter_list (parameters_from parameters.entry.items) }
-    ensures long { l.of_declarator (declarator_of result) ≡ l.of_parameter_list (parameters_from parameters.entry.items) + 3 }
+    ensures high { h.height_declarator (declarator_of result) ≡ h.height_parameter_list (parameters_from (map parameter_of parameters.entry.items)) }
+    ensures long { l.of_declarator (declarator_of result) ≡ l.of_parameter_list (parameters_from (map parameter_of parameters.entry.items)) + 3 }
 {
     Declarator::Function {
         stars: 0,
@@ -245,8 +245,8 @@ fn right_summand(alloc: Global) -> Result<Unit<'static>, AllocError> {
 
 /// `a, (a)`
 fn two(alloc: Global) -> Result<Vec<Expression<'static>>, AllocError>
-    ensures high { IfOk result (λ v. h.tallest (expressions_from v.items) ≡ 2) }
-    ensures long { IfOk result (λ v. l.of_expressions (expressions_from v.items) ≡ 5) }
+    ensures high { IfOk result (λ v. h.tallest (expressions_from (map expression_of v.items)) ≡ 2) }
+    ensures long { IfOk result (λ v. l.of_expressions (expressions_from (map expression_of v.items)) ≡ 5) }
 {
     let second = parenthesized(alloc)?;
     Ok(vec![in alloc; name(), second]?)
@@ -264,8 +264,8 @@ fn two_operands(alloc: Global) -> Result<Unit<'static>, AllocError> {
 
 /// `enum { a, a = (a) }`
 fn two_constants(alloc: Global) -> Result<Vec<Specifier<'static>>, AllocError>
-    ensures high { IfOk result (λ v. h.height_specifiers (specifiers_from v.items) ≡ 3) }
-    ensures long { IfOk result (λ v. l.of_specifiers (specifiers_from v.items) ≡ 10) }
+    ensures high { IfOk result (λ v. h.height_specifiers (specifiers_from (map specifier_of v.items)) ≡ 3) }
+    ensures long { IfOk result (λ v. l.of_specifiers (specifiers_from (map specifier_of v.items)) ≡ 10) }
 {
     let value = Box::new(alloc, parenthesized(alloc)?)?;
     let last = Enumerator::Valued {
@@ -285,8 +285,8 @@ fn cast_to_enumeration(alloc: Global) -> Result<Unit<'static>, AllocError> {
 
 /// `[][(a)]`
 fn two_sizes(alloc: Global) -> Result<Vec<Size<'static>>, AllocError>
-    ensures high { IfOk result (λ v. h.height_sizes (sizes_from v.items) ≡ 2) }
-    ensures long { IfOk result (λ v. l.of_sizes (sizes_from v.items) ≡ 7) }
+    ensures high { IfOk result (λ v. h.height_sizes (sizes_from (map size_of v.items)) ≡ 2) }
+    ensures long { IfOk result (λ v. l.of_sizes (sizes_from (map size_of v.items)) ≡ 7) }
 {
     let length = Box::new(alloc, parenthesized(alloc)?)?;
     Ok(vec![in alloc; Size::Open, Size::Of { length }]?)
@@ -294,8 +294,8 @@ fn two_sizes(alloc: Global) -> Result<Vec<Size<'static>>, AllocError>
 
 /// `int a[][(a)];`
 fn array_member(alloc: Global) -> Result<Vec<Member<'static>>, AllocError>
-    ensures high { IfOk result (λ v. h.height_members (members_from v.items) ≡ 2) }
-    ensures long { IfOk result (λ v. l.of_members (members_from v.items) ≡ 10) }
+    ensures high { IfOk result (λ v. h.height_members (members_from (map member_of v.items)) ≡ 2) }
+    ensures long { IfOk result (λ v. l.of_members (members_from (map member_of v.items)) ≡ 10) }
 {
     let specifiers = int(alloc)?;
     let declarators = vec![in alloc; object(two_sizes(alloc)?)]?;
@@ -392,8 +392,8 @@ fn loop_with_step(alloc: Global) -> Result<Unit<'static>, AllocError> {
 
 /// `{ ITEMS }`
 fn compound(items: Vec<BlockItem<'static>>) -> Statement<'static>
-    ensures high { h.height_statement (statement_of result) ≡ h.height_block (block_from items.entry.items) + 1 }
-    ensures long { l.of_statement (statement_of result) ≡ l.of_block (block_from items.entry.items) + 2 }
+    ensures high { h.height_statement (statement_of result) ≡ h.height_block (block_from (map block_item_of items.entry.items)) + 1 }
+    ensures long { l.of_statement (statement_of result) ≡ l.of_block (block_from (map block_item_of items.entry.items)) + 2 }
 {
     Statement::Compound {
         items,

@@ -1,6 +1,6 @@
 //! The height of statements and blocks.
-ghost use Rattle.std.specs.Prelude.{◌≡◌, ◌≤◌};
-ghost use Rattle.mc_tree.specs.Units.{statement_of, block_from};
+ghost use Rattle.std.specs.Prelude.{◌≡◌, ◌≤◌, map};
+ghost use Rattle.mc_tree.specs.Units.{statement_of, block_item_of, block_from};
 ghost use Rattle.mc_tree.specs.Height as h;
 
 use crate::block_item::BlockItem;
@@ -50,8 +50,8 @@ fn statement(tree: &Statement<'_>) -> u32
 
 #[cycle(height)]
 pub(crate) fn block(trees: &[BlockItem<'_>]) -> u32
-    requires { h.height_block (block_from trees.now) ≤ 800 }
-    ensures { result ≡ h.height_block (block_from trees.now) }
+    requires { h.height_block (block_from (map block_item_of trees.now)) ≤ 800 }
+    ensures { result ≡ h.height_block (block_from (map block_item_of trees.now)) }
 {
     let mut tallest = 0;
     for tree in trees {

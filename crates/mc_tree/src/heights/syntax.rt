@@ -1,6 +1,6 @@
 //! The height of expressions, specifiers and declarators.
-ghost use Rattle.std.specs.Prelude.{◌≡◌, ◌≤◌};
-ghost use Rattle.mc_tree.specs.Views.{expression_of, expressions_from, specifier_of, specifiers_from, members_from, enumerators_from, declarator_of, declarators_from, sizes_from, parameters_from};
+ghost use Rattle.std.specs.Prelude.{◌≡◌, ◌≤◌, map};
+ghost use Rattle.mc_tree.specs.Views.{expression_of, expressions_from, specifier_of, specifiers_from, member_of, members_from, enumerator_of, enumerators_from, declarator_of, declarators_from, size_of, sizes_from, parameter_of, parameters_from};
 ghost use Rattle.mc_tree.specs.Height as h;
 
 use crate::declarator::Declarator;
@@ -48,8 +48,8 @@ pub(crate) fn expression(tree: &Expression<'_>) -> u32
 
 #[cycle(height)]
 pub(crate) fn expressions(trees: &[Expression<'_>]) -> u32
-    requires { h.tallest (expressions_from trees.now) ≤ 800 }
-    ensures { result ≡ h.tallest (expressions_from trees.now) }
+    requires { h.tallest (expressions_from (map expression_of trees.now)) ≤ 800 }
+    ensures { result ≡ h.tallest (expressions_from (map expression_of trees.now)) }
 {
     let mut tallest = 0;
     for tree in trees {
@@ -60,8 +60,8 @@ pub(crate) fn expressions(trees: &[Expression<'_>]) -> u32
 
 #[cycle(height)]
 pub(crate) fn specifiers(trees: &[Specifier<'_>]) -> u32
-    requires { h.height_specifiers (specifiers_from trees.now) ≤ 800 }
-    ensures { result ≡ h.height_specifiers (specifiers_from trees.now) }
+    requires { h.height_specifiers (specifiers_from (map specifier_of trees.now)) ≤ 800 }
+    ensures { result ≡ h.height_specifiers (specifiers_from (map specifier_of trees.now)) }
 {
     let mut tallest = 0;
     for tree in trees {
@@ -87,8 +87,8 @@ fn specifier(tree: &Specifier<'_>) -> u32
 
 #[cycle(height)]
 fn members(trees: &[Member<'_>]) -> u32
-    requires { h.height_members (members_from trees.now) ≤ 800 }
-    ensures { result ≡ h.height_members (members_from trees.now) }
+    requires { h.height_members (members_from (map member_of trees.now)) ≤ 800 }
+    ensures { result ≡ h.height_members (members_from (map member_of trees.now)) }
 {
     let mut tallest = 0;
     for tree in trees {
@@ -100,8 +100,8 @@ fn members(trees: &[Member<'_>]) -> u32
 
 #[cycle(height)]
 fn enumerators(trees: &[Enumerator<'_>]) -> u32
-    requires { h.height_enumerators (enumerators_from trees.now) ≤ 800 }
-    ensures { result ≡ h.height_enumerators (enumerators_from trees.now) }
+    requires { h.height_enumerators (enumerators_from (map enumerator_of trees.now)) ≤ 800 }
+    ensures { result ≡ h.height_enumerators (enumerators_from (map enumerator_of trees.now)) }
 {
     let mut tallest = 0;
     for tree in trees {
@@ -114,8 +114,8 @@ fn enumerators(trees: &[Enumerator<'_>]) -> u32
 
 #[cycle(height)]
 fn declarators(trees: &[Declarator<'_>]) -> u32
-    requires { h.height_declarators (declarators_from trees.now) ≤ 800 }
-    ensures { result ≡ h.height_declarators (declarators_from trees.now) }
+    requires { h.height_declarators (declarators_from (map declarator_of trees.now)) ≤ 800 }
+    ensures { result ≡ h.height_declarators (declarators_from (map declarator_of trees.now)) }
 {
     let mut tallest = 0;
     for tree in trees {
@@ -141,8 +141,8 @@ pub(crate) fn declarator(tree: &Declarator<'_>) -> u32
 
 #[cycle(height)]
 fn sizes(trees: &[Size<'_>]) -> u32
-    requires { h.height_sizes (sizes_from trees.now) ≤ 800 }
-    ensures { result ≡ h.height_sizes (sizes_from trees.now) }
+    requires { h.height_sizes (sizes_from (map size_of trees.now)) ≤ 800 }
+    ensures { result ≡ h.height_sizes (sizes_from (map size_of trees.now)) }
 {
     let mut tallest = 0;
     for tree in trees {
@@ -155,8 +155,8 @@ fn sizes(trees: &[Size<'_>]) -> u32
 
 #[cycle(height)]
 fn parameters(trees: &[Parameter<'_>]) -> u32
-    requires { h.height_parameter_list (parameters_from trees.now) ≤ 800 }
-    ensures { result ≡ h.height_parameter_list (parameters_from trees.now) }
+    requires { h.height_parameter_list (parameters_from (map parameter_of trees.now)) ≤ 800 }
+    ensures { result ≡ h.height_parameter_list (parameters_from (map parameter_of trees.now)) }
 {
     let mut tallest = 0;
     for tree in trees {
