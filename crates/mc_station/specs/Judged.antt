@@ -49,6 +49,10 @@ SourceFileReply files names reply = (bytes : List ℕ) × (file_of files names.s
 abbrev pub AsksOne : Option (List (List ℕ)) → Option (List (List ℕ)) → List ℕ → Type 0
 AsksOne asked after name = (after ≡ asked) ⊎ (after ≡ and_asked asked name)
 
+-- the tests file is asked for, at most once, and only behind a source that has the first form
+abbrev pub AsksBehind : List ℕ → Option (List (List ℕ)) → Option (List (List ℕ)) → List ℕ → Type 0
+AsksBehind source asked after name = (after ≡ asked) ⊎ ((after ≡ and_asked asked name) × ((form : Form) × HasForm source form))
+
 -- a stop at a file comes only where the store failed at it, or for want of memory
 abbrev pub StopsAt : List ℕ → Loading → Stop → Type 0
 StopsAt name s (Unreadable line) = Rose s.faults s.faults_after × (string_bytes line ≡ cannot_read_line name) × (s.asked_after ≡ and_asked s.asked name)
@@ -57,9 +61,9 @@ StopsAt name s Memory = AsksOne s.asked s.asked_after name
 -- the same at the tests file, behind a source that has the first form
 abbrev pub StopsBehind : Names → List ℕ → Loading → Stop → Type 0
 StopsBehind names source s (Unreadable line) = StopsAt names.tests s (Unreadable line) × ((form : Form) × HasForm source form)
-StopsBehind names source s Memory = AsksOne s.asked s.asked_after names.tests
+StopsBehind names source s Memory = AsksBehind source s.asked s.asked_after names.tests
 
 -- the same at the files of a command
 abbrev pub StopsIn : Option Names → Loading → Stop → Type 0
 StopsIn names s (Unreadable line) = FailsToLoad names s (string_bytes line)
-StopsIn names s Memory = AsksInOrder names s.asked s.asked_after
+StopsIn names s Memory = AsksInOrder names s.files s.asked s.asked_after

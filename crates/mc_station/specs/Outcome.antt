@@ -61,10 +61,12 @@ abbrev pub FailsToLoad : Option Names → Loading → List ℕ → Type 0
 FailsToLoad None s line = ⊥
 FailsToLoad (Some names) s line = FailsAtSource names s line ⊎ FailsAtTests names s line
 
--- the files of the command are asked for in their order, each at most once
-abbrev pub AsksInOrder : Option Names → Option (List (List ℕ)) → Option (List (List ℕ)) → Type 0
-AsksInOrder None asked after = after ≡ asked
-AsksInOrder (Some names) asked after = (after ≡ asked) ⊎ (after ≡ and_asked asked names.source) ⊎ (after ≡ and_asked (and_asked asked names.source) names.tests)
+-- the files of the command are asked for in their order, each at most once, and the tests file only behind an accepted source
+abbrev pub AsksInOrder : Option Names → Option Files → Option (List (List ℕ)) → Option (List (List ℕ)) → Type 0
+AsksInOrder None files asked after = after ≡ asked
+AsksInOrder (Some names) files asked after =
+    (after ≡ asked) ⊎ (after ≡ and_asked asked names.source)
+    ⊎ ((after ≡ and_asked (and_asked asked names.source) names.tests) × AcceptsSource files names.source)
 
 -- only the source of the command is asked for
 abbrev pub AsksSourceAlone : Option Names → Option (List (List ℕ)) → Option (List (List ℕ)) → Type 0

@@ -4,7 +4,7 @@ ghost use Rattle.mc_tree.specs.First.{conditions};
 ghost use Rattle.mc_parse.specs.Form.{first_of};
 ghost use Rattle.mc_port.specs.Store.{Files, file_of, and_asked};
 ghost use Rattle.mc_station.specs.Command.{command_of};
-ghost use Rattle.mc_station.specs.Judged.{AsksOne, IsWithin, SourceFileReply, StopsAt, StopsBehind, StopsIn, TestsFileReply};
+ghost use Rattle.mc_station.specs.Judged.{AsksBehind, IsWithin, SourceFileReply, StopsAt, StopsBehind, StopsIn, TestsFileReply};
 ghost use Rattle.mc_station.specs.Outcome.{AsksInOrder, AsksSourceAlone};
 ghost use Rattle.mc_station.specs.Reply.{CallsFor, SourceReply, TestsReply, fault_line, fault_place, refusal, source_limit, tests_limit};
 ghost use Rattle.mc_station.specs.Seen.{seen_command, seen_reply};
@@ -183,7 +183,7 @@ fn reply_to_source<S: Store>(
     requires { length bytes.now ≤ source_limit }
     ensures told { IfOk result (λ reply. (files : Files) → S.contents store.old ≡ Some files → SourceReply files (seen_command command.entry) bytes.now (seen_reply reply)) }
     ensures stops { IfErr result (StopsBehind (seen_command command.entry) bytes.now (record { files = S.contents store.old; asked = S.asked store.old; asked_after = S.asked store.new; faults = S.faults store.old; faults_after = S.faults store.new })) }
-    ensures asked { OnOk result (AsksOne (S.asked store.old) (S.asked store.new) (seen_command command.entry).tests) }
+    ensures asked { OnOk result (AsksBehind bytes.now (S.asked store.old) (S.asked store.new) (seen_command command.entry).tests) }
     ensures first { IfOk result (λ reply. reply.status ≡ 3 → S.asked store.new ≡ S.asked store.old) }
     ensures later { S.faults store.old ≤ S.faults store.new }
     ensures command { IfOk result (λ reply. reply.status ≢ 2) }
@@ -207,7 +207,7 @@ fn reply_to_command<S: Store>(
 ) -> Result<Reply, Stop>
     ensures told { IfOk result (λ reply. (files : Files) → S.contents store.old ≡ Some files → SourceFileReply files (seen_command command.entry) (seen_reply reply)) }
     ensures stops { IfErr result (StopsIn (Some (seen_command command.entry)) (record { files = S.contents store.old; asked = S.asked store.old; asked_after = S.asked store.new; faults = S.faults store.old; faults_after = S.faults store.new })) }
-    ensures asked { OnOk result (AsksInOrder (Some (seen_command command.entry)) (S.asked store.old) (S.asked store.new)) }
+    ensures asked { OnOk result (AsksInOrder (Some (seen_command command.entry)) (S.contents store.old) (S.asked store.old) (S.asked store.new)) }
     ensures first { IfOk result (λ reply. reply.status ≡ 3 → S.asked store.new ≡ and_asked (S.asked store.old) (seen_command command.entry).source) }
     ensures later { S.faults store.old ≤ S.faults store.new }
     ensures command { IfOk result (λ reply. reply.status ≢ 2) }
@@ -225,7 +225,7 @@ fn reply_to_command<S: Store>(
 pub fn reply_to_words<S: Store>(alloc: Global, words: &Words, store: &mut S) -> Result<Reply, Stop>
     ensures told { IfOk result (λ reply. (files : Files) → S.contents store.old ≡ Some files → CallsFor words.now files (seen_reply reply)) }
     ensures stops { IfErr result (StopsIn (command_of words.now) (record { files = S.contents store.old; asked = S.asked store.old; asked_after = S.asked store.new; faults = S.faults store.old; faults_after = S.faults store.new })) }
-    ensures asked { OnOk result (AsksInOrder (command_of words.now) (S.asked store.old) (S.asked store.new)) }
+    ensures asked { OnOk result (AsksInOrder (command_of words.now) (S.contents store.old) (S.asked store.old) (S.asked store.new)) }
     ensures first { IfOk result (λ reply. reply.status ≡ 3 → AsksSourceAlone (command_of words.now) (S.asked store.old) (S.asked store.new)) }
     ensures usage { IfOk result (λ reply. reply.status ≡ 2 → (command_of words.now ≡ None) × (seen_reply reply ≡ refusal 2 usage_line)) }
     ensures no_usage { command_of words.now ≡ None → IfOk result (λ reply. reply.status ≡ 2) }

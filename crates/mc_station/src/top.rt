@@ -102,9 +102,11 @@ pub fn station<S: Store, K: Sink, E: Sink, G: Gate>(
         → ¬ (Rose (S.faults store.old) (S.faults store.new)) → ¬ (Rose (K.faults out.old) (K.faults out.new)) → ¬ (Rose (E.faults diag.old) (E.faults diag.new))
         → (result ≡ reply.status) ⊎ (result ≡ 8) }
 
-    // The files of the command are asked for in their order, the tests file only where the source is accepted.
+    // With 3 the source alone was asked for.
     ensures source_first { result ≡ 3 → AsksSourceAlone (command_of words.now) (S.asked store.old) (S.asked store.new) }
-    ensures asked { AsksInOrder (command_of words.now) (S.asked store.old) (S.asked store.new) }
+
+    // Whatever the status, the files of the command are asked for in their order, each at most once, and the tests file only behind an accepted source.
+    ensures asked { AsksInOrder (command_of words.now) (S.contents store.old) (S.asked store.old) (S.asked store.new) }
 {
     match reply_to_words(alloc, words, store) {
         Ok(reply) => put_reply(&reply, out, diag),
