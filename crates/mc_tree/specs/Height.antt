@@ -1,5 +1,5 @@
--- The height of a tree. Parentheses, statements, expressions, initializers, and the lists of a structure or an
--- enumeration each count one level. Specifiers, declarators and declarations add none of their own.
+-- The height of a tree. Expressions, parentheses round an expression, statements, initializers, and the lists of a structure
+-- or an enumeration each count one level. Specifiers, declarators and declarations add none of their own.
 use Rattle.std.specs.Prelude.{ℕ, ◌+◌, max, List, [], ◌∷◌, Option, Some, None}
 use Rattle.mc_tree.specs.Tree.{Expression, Expressions, TypeName, Specifier, Specifiers, StructMember, Members, Enumerator, Enumerators, Declarator, Declarators, Sizes, Parameters, Parameter, ParameterList, Initializer, Initializers, InitDeclarator, Declaration, ForStart, Statement, BlockItems, Item}
 use Rattle.mc_tree.specs.Tree as t

@@ -3,7 +3,7 @@ use Rattle.std.specs.Prelude.{ℕ, zero, suc, ◌+◌, List, [], ◌∷◌, Opti
 use Rattle.mc_tree.specs.Tree.{Name, Expression, Expressions, TypeName, Specifier, Specifiers, StructMember, Members, Enumerator, Enumerators, Declarator, Declarators, Sizes, Parameters, Parameter, ParameterList, Initializer, Initializers, InitDeclarator, Declaration, ForStart, Statement, BlockItems, Item}
 use Rattle.mc_tree.specs.Tree as t
 
--- the rest of a list with commas: a comma stands before it where it is not empty
+-- the rest of a list with commas: a comma stands before it where it has tokens, as each part of a tree of the grammar has
 abbrev pub behind_comma : ℕ → ℕ
 behind_comma zero = 0
 behind_comma (suc n) = n + 2

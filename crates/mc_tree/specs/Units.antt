@@ -40,7 +40,7 @@ abbrev pub start_of : ForStart → t.ForStart
 start_of (start.Local declaration) = t.StartsLocal (declaration_of declaration)
 start_of (start.Expression value) = t.StartsExpression (option_map expression_of value)
 
--- an item of a block is what it puts before others
+-- an item of a block stands for the function that puts it before those behind it
 abbrev pub block_from : List (t.BlockItems → t.BlockItems) → t.BlockItems
 block_from [] = t.no_block_items
 block_from (one ∷ rest) = one (block_from rest)

@@ -18,7 +18,7 @@ name_of name = record { text = name.text.now; span = name.span }
 abbrev pub tag_of : Option Identifier → Option t.Name
 tag_of tag = option_map name_of tag
 
--- lists
+-- the lists of the tree, from lists of its parts
 abbrev pub expressions_from : List t.Expression → t.Expressions
 expressions_from [] = t.no_expressions
 expressions_from (a ∷ rest) = t.expressions a (expressions_from rest)
@@ -39,7 +39,7 @@ abbrev pub declarators_from : List t.Declarator → t.Declarators
 declarators_from [] = t.no_declarators
 declarators_from (d ∷ rest) = t.declarators d (declarators_from rest)
 
--- a pair of brackets is what it puts before others
+-- a pair of brackets stands for the function that puts it before those behind it
 abbrev pub sizes_from : List (t.Sizes → t.Sizes) → t.Sizes
 sizes_from [] = t.no_sizes
 sizes_from (s ∷ rest) = s (sizes_from rest)

@@ -4,7 +4,8 @@ use crate::parameter::Parameter;
 use crate::size::Size;
 use crate::span::Span;
 
-/// How many `*`, a name, and what stands behind it (C17 6.7.6). Its span starts at the first `*`.
+/// How many `*`, a name, and what stands behind it (C17 6.7.6). Its span starts at the
+/// first `*`, or at the name where there is none.
 #[derive(Drop)]
 #[cycle(syntax)]
 pub enum Declarator<'a> {

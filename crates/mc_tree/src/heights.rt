@@ -11,20 +11,21 @@ use crate::item::Item;
 use crate::unit::Unit;
 use std::cmp::max;
 
-/// How many levels a source nests: each pair of parentheses, statement, expression and initializer
-/// counts one, and so does each list of members or enumerators. A source without any declaration has
-/// a height of 0; no height is over 800. Takes no memory.
+/// How many levels a source nests: each expression, statement and initializer counts one, and so do
+/// parentheses round an expression (those of a call, a cast, a test or a parameter list do not) and
+/// each list of members or enumerators. Declarations count none, so `int a;` has a height of 0. No
+/// height is over 800. Takes no memory.
 pub fn height(unit: &Unit<'_>) -> u32
     ensures { result ≡ height_unit (items_of unit.now.items.items) }
 {
     let mut tallest = 0;
     for item in &unit.items {
-        tallest = max(tallest, of_item(item));
+        tallest = max(tallest, external_declaration(item));
     }
     tallest
 }
 
-fn of_item(tree: &Item<'_>) -> u32
+fn external_declaration(tree: &Item<'_>) -> u32
     requires { height_item (item_of tree.now) ≤ 800 }
     ensures { result ≡ height_item (item_of tree.now) }
 {

@@ -6,9 +6,9 @@ ghost use Rattle.mc_tree.specs.Height as h;
 ghost use Rattle.mc_tree.specs.Length as l;
 
 use crate::{
-    BinaryOperator, BlockItem, Declaration, Declarator, Enumerator, Expression, ForStart,
-    Identifier, InitDeclarator, Initializer, Item, Member, Parameter, Size, Span, Specifier,
-    SpecifierWord, Statement, Unit, height,
+    AssignmentOperator, BinaryOperator, BlockItem, Declaration, Declarator, Enumerator, Expression,
+    ForStart, Identifier, InitDeclarator, Initializer, Item, Member, Parameter, Size, Span,
+    Specifier, SpecifierWord, Statement, StepOperator, UnaryOperator, Unit, height,
 };
 use std::alloc::{AllocError, Global};
 use std::test::Fail;
@@ -175,7 +175,7 @@ fn unit(alloc: Global, item: Item<'static>) -> Result<Unit<'static>, AllocError>
     })
 }
 
-/// `int DECLARATORS;`
+/// `int DECLARATOR;`
 fn ints(
     alloc: Global,
     declarator: InitDeclarator<'static>,
@@ -192,7 +192,7 @@ fn ints(
     })
 }
 
-/// `void f(void) { STATEMENT }`
+/// `int a(void) { STATEMENT }`
 fn function_with(alloc: Global, statement: Statement<'static>) -> Result<Unit<'static>, AllocError>
     requires low { h.height_statement (statement_of statement) ≤ 799 }
     requires short { l.of_statement (statement_of statement) < 2 ^ 29 }
@@ -217,7 +217,7 @@ fn function_with(alloc: Global, statement: Statement<'static>) -> Result<Unit<'s
     )
 }
 
-/// `void f(void) { return VALUE; }`
+/// `int a(void) { return VALUE; }`
 fn returning(alloc: Global, value: Expression<'static>) -> Result<Unit<'static>, AllocError>
     requires low { h.height (expression_of value) ≤ 798 }
     requires short { l.of_expression (expression_of value) < 2 ^ 28 }
@@ -454,6 +454,107 @@ fn deep(alloc: Global) -> Result<Expression<'static>, AllocError>
     Ok(expression)
 }
 
+/// `a[(a)]`
+fn element(alloc: Global) -> Result<Unit<'static>, AllocError> {
+    let array = Box::new(alloc, name())?;
+    let index = Box::new(alloc, parenthesized(alloc)?)?;
+    let span = NOWHERE;
+    returning(alloc, Expression::Index { array, index, span })
+}
+
+/// `a ? a : (a)`
+fn conditional(alloc: Global) -> Result<Unit<'static>, AllocError> {
+    let test = Box::new(alloc, name())?;
+    let chosen = Box::new(alloc, name())?;
+    let other = Box::new(alloc, parenthesized(alloc)?)?;
+    let value = Expression::Conditional {
+        test,
+        chosen,
+        other,
+        span: NOWHERE,
+    };
+    returning(alloc, value)
+}
+
+/// `-(a)`
+fn negated(alloc: Global) -> Result<Unit<'static>, AllocError> {
+    let operand = Box::new(alloc, parenthesized(alloc)?)?;
+    let value = Expression::Unary {
+        operator: UnaryOperator::Minus,
+        operand,
+        span: NOWHERE,
+    };
+    returning(alloc, value)
+}
+
+/// `a.a = (a)`
+fn assignment(alloc: Global) -> Result<Expression<'static>, AllocError>
+    ensures high { IfOk result (λ e. h.height (expression_of e) ≡ 3) }
+    ensures long { IfOk result (λ e. l.of_expression (expression_of e) ≡ 7) }
+{
+    let object = Box::new(alloc, name())?;
+    let target = Expression::Member {
+        object,
+        name: identifier(),
+        span: NOWHERE,
+    };
+    let target = Box::new(alloc, target)?;
+    let value = Box::new(alloc, parenthesized(alloc)?)?;
+    Ok(Expression::Assignment {
+        operator: AssignmentOperator::Assign,
+        target,
+        value,
+        span: NOWHERE,
+    })
+}
+
+/// `while (a++) a.a = (a);`
+fn loop_with_assignment(alloc: Global) -> Result<Unit<'static>, AllocError> {
+    let operand = Box::new(alloc, name())?;
+    let test = Expression::StepAfter {
+        operator: StepOperator::Increment,
+        operand,
+        span: NOWHERE,
+    };
+    let value = assignment(alloc)?;
+    let span = NOWHERE;
+    let body = Box::new(alloc, Statement::Evaluate { value, span })?;
+    function_with(alloc, Statement::While { test, body, span })
+}
+
+/// `do ; while (--(a));`
+fn loop_with_test_behind(alloc: Global) -> Result<Unit<'static>, AllocError> {
+    let operand = Box::new(alloc, parenthesized(alloc)?)?;
+    let test = Expression::StepBefore {
+        operator: StepOperator::Decrement,
+        operand,
+        span: NOWHERE,
+    };
+    let body = null(alloc)?;
+    let span = NOWHERE;
+    function_with(alloc, Statement::DoWhile { body, test, span })
+}
+
+/// `default: a: ;`
+fn labels(alloc: Global) -> Result<Unit<'static>, AllocError> {
+    let body = null(alloc)?;
+    let labelled = Statement::Label {
+        name: identifier(),
+        body,
+        span: NOWHERE,
+    };
+    let body = Box::new(alloc, labelled)?;
+    let span = NOWHERE;
+    function_with(alloc, Statement::Default { body, span })
+}
+
+/// `{ int a = { (a) }; }`
+fn local(alloc: Global) -> Result<Unit<'static>, AllocError> {
+    let declaration = braced(alloc)?;
+    let items = vec![in alloc; BlockItem::Local { declaration }]?;
+    function_with(alloc, compound(items))
+}
+
 #[test]
 fn heights(rt: HostRuntime) -> Result<(), Fail> {
     let alloc = rt.alloc();
@@ -474,6 +575,13 @@ fn heights(rt: HostRuntime) -> Result<(), Fail> {
     assert_eq!(rt; height(&loop_with_step(alloc)?), 4);
     assert_eq!(rt; height(&block_behind_else(alloc)?), 4);
     assert_eq!(rt; height(&switch_of_case(alloc)?), 5);
+    assert_eq!(rt; height(&element(alloc)?), 5);
+    assert_eq!(rt; height(&conditional(alloc)?), 5);
+    assert_eq!(rt; height(&negated(alloc)?), 5);
+    assert_eq!(rt; height(&loop_with_assignment(alloc)?), 6);
+    assert_eq!(rt; height(&loop_with_test_behind(alloc)?), 5);
+    assert_eq!(rt; height(&labels(alloc)?), 4);
+    assert_eq!(rt; height(&local(alloc)?), 6);
     Ok(())
 }
 

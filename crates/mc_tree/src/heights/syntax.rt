@@ -47,7 +47,7 @@ pub(crate) fn expression(tree: &Expression<'_>) -> u32
 }
 
 #[cycle(height)]
-pub(crate) fn expressions(trees: &[Expression<'_>]) -> u32
+fn expressions(trees: &[Expression<'_>]) -> u32
     requires { h.tallest (expressions_from (map expression_of trees.now)) ≤ 800 }
     ensures { result ≡ h.tallest (expressions_from (map expression_of trees.now)) }
 {
@@ -81,7 +81,10 @@ fn specifier(tree: &Specifier<'_>) -> u32
             enumerators: list,
             ..
         } => enumerators(list) + 1,
-        _ => 0,
+        Specifier::Word { .. }
+        | Specifier::TypedefName { .. }
+        | Specifier::StructureTag { .. }
+        | Specifier::EnumerationTag { .. } => 0,
     }
 }
 
