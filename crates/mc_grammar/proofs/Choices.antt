@@ -87,6 +87,6 @@ tags_stay name (x ∷ ts) = rw (same_tag name x (is_identifier x.token.kind && b
 pub typedef_retags : {d : Dialect} {ts : List Lexeme} {one : Declarator} {rest : List Lexeme} → ReadsInitDeclarator d true ts (t.bare one) rest → list_any (is_name_of (name_of one).text) rest ≡ false
 typedef_retags (s.bare {mid = mid} {d = one} p e) = no_name_follows (name_of one).text mid
 
--- behind the declarator of any other declaration all tokens are as they were
+-- where the declaration is no typedef, a declarator without a value leaves what the declarator itself leaves
 pub others_keep : {d : Dialect} {ts : List Lexeme} {one : Declarator} {rest : List Lexeme} → ReadsInitDeclarator d false ts (t.bare one) rest → ReadsDeclarator d ts one rest
 others_keep (s.bare p e) = p

@@ -1,4 +1,4 @@
--- Words of the laws.
+-- What the laws speak of: the names that items declare, lists of items, and `T * x;` as tokens and as trees.
 use Rattle.std.specs.Prelude.{ℕ, Bool, true, false, ◌&&◌, List, [], ◌∷◌, map, flat_map, codes, if◌then◌else◌}
 use Rattle.std.specs.Str.{bytes_eq}
 use Rattle.mc_lex.specs.declared.token.TokenKind.TheVariants as kind
@@ -59,22 +59,22 @@ sign text start = record { token = record { kind = kind.Punctuator; text = text;
 
 -- the tree of `T * x;` in a block where `T` is a typedef name
 abbrev pub declares : List ℕ → List ℕ → ℕ → ℕ → ℕ → ℕ → ℕ → BlockItems
-declares name other a b c e f =
-    let x = identifier other c in
-    let ts = sign (codes ";") e ∷ sign (codes "}") f ∷ [] in
-    let all = type_name name a ∷ sign (codes "*") b ∷ x ∷ ts in
+declares name other type_place star_place name_place semicolon_place brace_place =
+    let x = identifier other name_place in
+    let ts = sign (codes ";") semicolon_place ∷ sign (codes "}") brace_place ∷ [] in
+    let all = type_name name type_place ∷ sign (codes "*") star_place ∷ x ∷ ts in
     t.local
-    (t.declaration (t.specifiers (t.TypedefName (name_at (type_name name a))) t.no_specifiers)
-    (t.bare (t.object 1 (name_at x) t.no_sizes (part (sign (codes "*") b ∷ x ∷ ts) ts)) ∷ [])
-    (part all (sign (codes "}") f ∷ [])))
+    (t.declaration (t.specifiers (t.TypedefName (name_at (type_name name type_place))) t.no_specifiers)
+    (t.bare (t.object 1 (name_at x) t.no_sizes (part (sign (codes "*") star_place ∷ x ∷ ts) ts)) ∷ [])
+    (part all (sign (codes "}") brace_place ∷ [])))
     t.no_block_items
 
 -- the tree of `a * x;` in a block where `a` is no typedef name
 abbrev pub multiplies : List ℕ → List ℕ → ℕ → ℕ → ℕ → ℕ → ℕ → BlockItems
-multiplies name other a b c e f =
-    let x = identifier name a in
-    let y = identifier other c in
-    let rest = sign (codes "}") f ∷ [] in
+multiplies name other type_place star_place name_place semicolon_place brace_place =
+    let x = identifier name type_place in
+    let y = identifier other name_place in
+    let rest = sign (codes "}") brace_place ∷ [] in
     t.statement
-    (t.Evaluate (t.Binary binary.Multiply (t.Named (name_at x)) (t.Named (name_at y)) (to (at x) (at y))) (part (x ∷ sign (codes "*") b ∷ y ∷ sign (codes ";") e ∷ rest) rest))
+    (t.Evaluate (t.Binary binary.Multiply (t.Named (name_at x)) (t.Named (name_at y)) (to (at x) (at y))) (part (x ∷ sign (codes "*") star_place ∷ y ∷ sign (codes ";") semicolon_place ∷ rest) rest))
     t.no_block_items

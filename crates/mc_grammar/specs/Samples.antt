@@ -35,22 +35,22 @@ abbrev pub zero_at : ℕ → Tok
 zero_at start = token (kind.Constant 0 false false 0) (codes "0") start
 
 -- specifiers of one and of two words
-abbrev pub one : Specifier → Specifiers
-one s = t.specifiers s t.no_specifiers
+abbrev pub one_specifier : Specifier → Specifiers
+one_specifier s = t.specifiers s t.no_specifiers
 
-abbrev pub two : Specifier → Specifier → Specifiers
-two s u = t.specifiers s (one u)
+abbrev pub two_specifiers : Specifier → Specifier → Specifiers
+two_specifiers s u = t.specifiers s (one_specifier u)
 
 -- the declarator of this name alone
-abbrev pub plain : Name → Declarator
-plain x = t.object 0 x t.no_sizes x.span
+abbrev pub name_alone : Name → Declarator
+name_alone x = t.object 0 x t.no_sizes x.span
 
 -- its second declarator needs the first one's name: `typedef int T,t[(T)3];`
 abbrev pub typedef_tokens : List Tok
 typedef_tokens =
-    token kind.Keyword (codes "typedef") 0 ∷ token kind.Keyword (codes "int") 8 ∷ token kind.Identifier (codes "T") 12 ∷ token kind.Punctuator (codes ",") 13 ∷ token kind.Identifier (codes "t") 14
-    ∷ token kind.Punctuator (codes "[") 15 ∷ token kind.Punctuator (codes "(") 16 ∷ token kind.Identifier (codes "T") 17 ∷ token kind.Punctuator (codes ")") 18
-    ∷ token (kind.Constant 3 true false 0) (codes "3") 19 ∷ token kind.Punctuator (codes "]") 20 ∷ token kind.Punctuator (codes ";") 21 ∷ []
+    keyword (codes "typedef") 0 ∷ keyword (codes "int") 8 ∷ word_of (codes "T") 12 ∷ mark (codes ",") 13 ∷ word_of (codes "t") 14
+    ∷ mark (codes "[") 15 ∷ mark (codes "(") 16 ∷ word_of (codes "T") 17 ∷ mark (codes ")") 18
+    ∷ number 3 (codes "3") 19 ∷ mark (codes "]") 20 ∷ mark (codes ";") 21 ∷ []
 
 -- the second `T` is a typedef name, so `(T)3` is a cast
 abbrev pub typedef_tree : List Item
@@ -69,8 +69,8 @@ value_tokens = keyword (codes "int") 0 ∷ word_of (codes "a") 4 ∷ mark (codes
 
 abbrev pub value_tree : List Item
 value_tree =
-    t.Declared (t.declaration (one (t.Word word.Int (span 0 3)))
-    (t.initialized (plain (name (codes "a") 4 5)) (t.Single (t.Constant 5 true false 0 (span 8 9))) ∷ [])
+    t.Declared (t.declaration (one_specifier (t.Word word.Int (span 0 3)))
+    (t.initialized (name_alone (name (codes "a") 4 5)) (t.Single (t.Constant 5 true false 0 (span 8 9))) ∷ [])
     (span 0 10)) ∷ []
 
 -- `typedef void V; int f(V);`
@@ -82,10 +82,10 @@ named_void_tokens =
 -- `f` has a list of one parameter
 abbrev pub named_void_tree : List Item
 named_void_tree =
-    t.Declared (t.declaration (two (t.Word word.Typedef (span 0 7)) (t.Word word.Void (span 8 12))) (t.bare (plain (name (codes "V") 13 14)) ∷ []) (span 0 15))
-    ∷ t.Declared (t.declaration (one (t.Word word.Int (span 16 19)))
+    t.Declared (t.declaration (two_specifiers (t.Word word.Typedef (span 0 7)) (t.Word word.Void (span 8 12))) (t.bare (name_alone (name (codes "V") 13 14)) ∷ []) (span 0 15))
+    ∷ t.Declared (t.declaration (one_specifier (t.Word word.Int (span 16 19)))
     (t.bare (t.function 0 (name (codes "f") 20 21)
-    (t.Listed (t.parameters (t.parameter (one (t.TypedefName (name (codes "V") 22 23))) 0 None t.no_sizes (span 22 23)) t.no_parameters) (span 21 24))
+    (t.Listed (t.parameters (t.parameter (one_specifier (t.TypedefName (name (codes "V") 22 23))) 0 None t.no_sizes (span 22 23)) t.no_parameters) (span 21 24))
     (span 20 24)) ∷ [])
     (span 16 25)) ∷ []
 
@@ -96,7 +96,7 @@ void_tokens = keyword (codes "int") 0 ∷ word_of (codes "f") 4 ∷ mark (codes 
 -- `f` has no parameter
 abbrev pub void_tree : List Item
 void_tree =
-    t.Declared (t.declaration (one (t.Word word.Int (span 0 3))) (t.bare (t.function 0 (name (codes "f") 4 5) (t.Void (span 5 11)) (span 4 11)) ∷ []) (span 0 12)) ∷ []
+    t.Declared (t.declaration (one_specifier (t.Word word.Int (span 0 3))) (t.bare (t.function 0 (name (codes "f") 4 5) (t.Void (span 5 11)) (span 4 11)) ∷ []) (span 0 12)) ∷ []
 
 -- `int f(void) { return 0; }`
 abbrev pub body_tokens : List Tok
@@ -106,7 +106,7 @@ body_tokens =
 
 abbrev pub body_tree : List Item
 body_tree =
-    t.Defined (one (t.Word word.Int (span 0 3))) (t.function 0 (name (codes "f") 4 5) (t.Void (span 5 11)) (span 4 11))
+    t.Defined (one_specifier (t.Word word.Int (span 0 3))) (t.function 0 (name (codes "f") 4 5) (t.Void (span 5 11)) (span 4 11))
     (t.statement (t.Return (Some (t.Constant 0 false false 0 (span 21 22))) (span 14 23)) t.no_block_items)
     (span 0 25) ∷ []
 
@@ -118,9 +118,9 @@ tag_tokens =
 
 abbrev pub tag_tree : List Item
 tag_tree =
-    t.Declared (t.declaration (two (t.Word word.Typedef (span 0 7)) (t.Word word.Int (span 8 11))) (t.bare (plain (name (codes "T") 12 13)) ∷ []) (span 0 14))
-    ∷ t.Declared (t.declaration (one (t.Structure (Some (name (codes "T") 22 23))
-    (t.members (t.member (one (t.Word word.Int (span 26 29))) (t.declarators (plain (name (codes "a") 30 31)) t.no_declarators) (span 26 32)) t.no_members)
+    t.Declared (t.declaration (two_specifiers (t.Word word.Typedef (span 0 7)) (t.Word word.Int (span 8 11))) (t.bare (name_alone (name (codes "T") 12 13)) ∷ []) (span 0 14))
+    ∷ t.Declared (t.declaration (one_specifier (t.Structure (Some (name (codes "T") 22 23))
+    (t.members (t.member (one_specifier (t.Word word.Int (span 26 29))) (t.declarators (name_alone (name (codes "a") 30 31)) t.no_declarators) (span 26 32)) t.no_members)
     (span 15 34))) [] (span 15 35)) ∷ []
 
 -- `enum { A, B = 2, };`
@@ -131,7 +131,7 @@ enumeration_tokens =
 
 abbrev pub enumeration_tree : List Item
 enumeration_tree =
-    t.Declared (t.declaration (one (t.Enumeration None
+    t.Declared (t.declaration (one_specifier (t.Enumeration None
     (t.enumerators (t.enumerator (name (codes "A") 7 8)) (t.enumerators (t.valued_enumerator (name (codes "B") 10 11) (t.Constant 2 true false 0 (span 14 15))) t.no_enumerators))
     (span 0 18))) [] (span 0 19)) ∷ []
 
@@ -143,7 +143,7 @@ braced_tokens =
 
 abbrev pub braced_tree : List Item
 braced_tree =
-    t.Declared (t.declaration (one (t.Word word.Int (span 0 3)))
+    t.Declared (t.declaration (one_specifier (t.Word word.Int (span 0 3)))
     (t.initialized (t.object 0 (name (codes "a") 4 5) (t.size (t.Constant 2 true false 0 (span 6 7)) t.no_sizes) (span 4 8))
     (t.Braced (t.initializers (t.Single (t.Constant 1 true false 0 (span 12 13))) (t.initializers (t.Single (t.Constant 2 true false 0 (span 15 16))) t.no_initializers)) (span 11 18)) ∷ [])
     (span 0 19)) ∷ []

@@ -9,7 +9,7 @@ use Rattle.mc_grammar.specs.Counts.{for_local, for_type}
 use Rattle.mc_grammar.specs.Nonterminal as n
 use Rattle.mc_grammar.specs.Expressions.{Reads, ReadsSpecifiers, ReadsDeclarator}
 
--- [ comma ], up to this token                                                           C17 6.8.3, 6.8.5, 6.8.6.4
+-- [ comma ], up to this token                                                           C17 6.8.5.3, 6.8.6.4
 pub data ReadsOptional (dialect : Dialect) (stop : List ℕ) : List Lexeme → Option Expression → List Lexeme → Type 0 where
   no_expression : {ts : List Lexeme} → sees stop ts ≡ true → ReadsOptional dialect stop ts None ts
   an_expression : {ts rest : List Lexeme} {a : Expression} → sees stop ts ≡ false → Reads dialect n.comma ts a rest → ReadsOptional dialect stop ts (Some a) rest

@@ -7,15 +7,14 @@ ghost use Rattle.mc_lex.specs.declared.token.TokenKind.TheVariants as kind;
 ghost use Rattle.mc_tree.specs.declared.span.Span.{Span};
 ghost use Rattle.mc_tree.specs.Tree.{BlockItems, Declaration, Declarator, Declarators, Enumerator, Enumerators, Expression, Expressions, ForStart, InitDeclarator, Initializer, Initializers, Item, Members, name_of, Parameter, ParameterList, Parameters, Sizes, Specifiers, Statement, StructMember, TypeName};
 ghost use Rattle.mc_tree.specs.Tree as t;
-ghost use Rattle.mc_grammar.specs.Words.{Lexeme, is_tag, retag, sees_cast, sees_word};
+ghost use Rattle.mc_grammar.specs.Words.{Lexeme, begins_specifiers, is_tag, retag, sees_cast, sees_word};
 ghost use Rattle.std.specs.List.{list_any};
-ghost use Rattle.mc_grammar.specs.Meaning.{declared_names, declares, identifier, is_cast, is_name_of, multiplies, ReadsItems, sign, type_name, typedef_names, typedef_names_of};
+ghost use Rattle.mc_grammar.specs.Meaning.{declared_names, is_cast, is_name_of, ReadsItems, typedef_names, typedef_names_of};
 ghost use Rattle.mc_grammar.specs.Nonterminal.{Nonterminal, takes};
 ghost use Rattle.mc_grammar.specs.Nonterminal as n;
 ghost use Rattle.mc_grammar.specs.Expressions.{Reads, ReadsDeclarator, ReadsDeclarators, ReadsEnumerator, ReadsEnumerators, ReadsExpressions, ReadsMember, ReadsMembers, ReadsParameter, ReadsParameterList, ReadsParameters, ReadsSizes, ReadsSpecifiers, ReadsStars, ReadsTypeName};
 ghost use Rattle.mc_grammar.specs.Statements.{ReadsStatement, ReadsBlockItems, ReadsCompound, ReadsDeclaration, ReadsForStart, ReadsInitDeclarator, ReadsInitDeclarators, ReadsInitializer, ReadsInitializers, ReadsOptional, ReadsTest};
 ghost use Rattle.mc_grammar.specs.Items.{IsTree, ReadsItem, ReadsUnit};
-ghost use Rattle.mc_grammar.specs.Samples.{typedef_tokens, typedef_tree};
 
 /// What an expression leaves is no longer than what was given, and shorter where its nonterminal
 /// takes a token: each does but the rest of a repetition.
@@ -48,10 +47,12 @@ pub fn cast_begins_at_type()
     ensures { (d : Dialect) (ts rest : List Lexeme) (a : Expression) → Reads d n.cast ts a rest → is_cast a ≡ sees_cast ts }
 {}
 
-/// In a block what begins with an identifier, as `T * x;`, is a declaration exactly where the
-/// identifier is a typedef name, and else a statement.
-#[tactic(auto, using(crate::proofs::Choices::local_name, crate::proofs::Choices::statement_name))]
+/// In a block what begins with a specifier word or a typedef name is a declaration, and all else a statement. So what begins
+/// with an identifier, as `T * x;`, is a declaration exactly where the identifier is a typedef name.
+#[tactic(auto, using(crate::proofs::Choices::local_begins, crate::proofs::Choices::statement_begins, crate::proofs::Choices::local_name, crate::proofs::Choices::statement_name))]
 pub fn declaration_begins_at_type()
+    ensures begins { (d : Dialect) (x : Lexeme) (ts rest : List Lexeme) (one : Declaration) (b : BlockItems) → ReadsBlockItems d (x ∷ ts) (t.local one b) rest → begins_specifiers x ≡ true }
+    ensures begins_none { (d : Dialect) (x : Lexeme) (ts rest : List Lexeme) (one : Statement) (b : BlockItems) → ReadsBlockItems d (x ∷ ts) (t.statement one b) rest → begins_specifiers x ≡ false }
     ensures local { (d : Dialect) (x : Lexeme) (ts rest : List Lexeme) (one : Declaration) (b : BlockItems) → x.token.kind ≡ kind.Identifier → ReadsBlockItems d (x ∷ ts) (t.local one b) rest → x.names_type ≡ true }
     ensures statement { (d : Dialect) (x : Lexeme) (ts rest : List Lexeme) (one : Statement) (b : BlockItems) → x.token.kind ≡ kind.Identifier → ReadsBlockItems d (x ∷ ts) (t.statement one b) rest → x.names_type ≡ false }
 {}
@@ -64,27 +65,8 @@ pub fn typedef_name_is_no_identifier()
     ensures tags { (name : List ℕ) (ts : List Lexeme) → map is_tag (retag name ts) ≡ map is_tag ts }
 {}
 
-/// In a block `T * x;` declares `x` where `T` is a typedef name.
-#[tactic(auto, using(crate::proofs::Examples::declares_it))]
-pub fn type_before_star_declares()
-    ensures { (d : Dialect) (name other : List ℕ) (a b c e f : ℕ) → ReadsBlockItems d (type_name name a ∷ sign (codes "*") b ∷ identifier other c ∷ sign (codes ";") e ∷ sign (codes "}") f ∷ []) (declares name other a b c e f) (sign (codes "}") f ∷ []) }
-{}
-
-/// In a block `a * x;` multiplies where `a` is no typedef name.
-#[tactic(auto, using(crate::proofs::Examples::multiplies_it))]
-pub fn identifier_before_star_multiplies()
-    ensures { (d : Dialect) (name other : List ℕ) (a b c e f : ℕ) → ReadsBlockItems d (identifier name a ∷ sign (codes "*") b ∷ identifier other c ∷ sign (codes ";") e ∷ sign (codes "}") f ∷ []) (multiplies name other a b c e f) (sign (codes "}") f ∷ []) }
-{}
-
-/// A typedef's name is in force from the end of its declarator, within its declaration too:
-/// `typedef int T,t[(T)3];` has a tree, with a cast in it.
-#[tactic(auto, using(crate::proofs::Samples::in_force_at_once))]
-pub fn typedef_name_is_in_force_at_once()
-    ensures { (d : Dialect) → IsTree d typedef_tokens typedef_tree }
-{}
-
-/// Behind a typedef's declarator, and its value if it has one, no token is an identifier of its name. Behind the declarator of
-/// any other declaration the tokens are as they were.
+/// Behind a typedef's declarator, and its value if it has one, no token is an identifier of its name. Where the declaration is
+/// no typedef, a declarator without a value leaves just what the declarator itself leaves.
 #[tactic(auto, using(crate::proofs::Choices::typedef_retags, crate::proofs::Choices::others_keep, crate::proofs::Ends::valued_typedef_retags))]
 pub fn declarator_of_typedef_names_type()
     ensures typedef { (d : Dialect) (ts : List Lexeme) (one : Declarator) (rest : List Lexeme) → ReadsInitDeclarator d true ts (t.bare one) rest → list_any (is_name_of (name_of one).text) rest ≡ false }
@@ -92,8 +74,8 @@ pub fn declarator_of_typedef_names_type()
     ensures other { (d : Dialect) (ts : List Lexeme) (one : Declarator) (rest : List Lexeme) → ReadsInitDeclarator d false ts (t.bare one) rest → ReadsDeclarator d ts one rest }
 {}
 
-/// A unit stands for no more tokens than its text has. It stands for fewer where a list ends with a
-/// comma, which leaves no trace in the tree.
+/// A unit stands for no more tokens than its text has. It may stand for fewer: the comma at the end of a list leaves no trace
+/// in the tree.
 #[tactic(auto, using(crate::proofs::Counted::tree_counted))]
 pub fn tree_is_no_longer_than_text()
     ensures { (d : Dialect) (tokens : List Tok) (unit : List Item) → IsTree d tokens unit → token_count unit ≤ length tokens }
@@ -158,7 +140,7 @@ pub fn unit_is_read_from_front()
 /// typedef name of an item before it again, neither as a typedef nor as an object or a function, and the typedef names that
 /// one item declares all differ.
 #[tactic(auto, using(crate::proofs::Typedefs::declares_no, crate::proofs::Typedefs::item_differs))]
-pub fn typedef_name_is_declared_once()
+pub fn typedef_name_is_not_declared_again()
     ensures item { (d : Dialect) (ts rest : List Lexeme) (one : Item) (name : List ℕ) → ReadsItem d ts one rest → list_any (is_name_of name) ts ≡ false → ¬ Contains (declared_names one) name }
     ensures later { (d : Dialect) (ts : List Lexeme) (front back : List Item) (one : Item) (name : List ℕ) → ReadsUnit d ts (front ++ one ∷ back) → Contains (typedef_names_of front) name → ¬ Contains (declared_names one) name }
     ensures same { (d : Dialect) (ts rest : List Lexeme) (one : Item) → ReadsItem d ts one rest → AllPairs (λ name other. name ≢ other) (typedef_names one) }

@@ -1,18 +1,38 @@
 //! The worked examples of docs/LANGUAGE.md: what the grammar reads of short texts, and how high the trees are.
-ghost use Rattle.std.specs.Prelude.{◌≡◌, ◌≤◌, ◌<◌, ℕ, Bool, List, [], ◌∷◌, codes};
+ghost use Rattle.std.specs.Prelude.{◌≡◌, ◌≤◌, ◌<◌, ℕ, Bool, List, [], ◌∷◌, codes, length};
 ghost use Rattle.mc_lex.specs.declared.token.Dialect.{Dialect};
 ghost use Rattle.mc_tree.specs.Tree.{Declarator, Expression, Initializer, Parameters, Statement, Item};
 ghost use Rattle.mc_tree.specs.Tree as t;
 ghost use Rattle.mc_tree.specs.Height.{height, height_unit};
+ghost use Rattle.mc_tree.specs.Length.{token_count};
 ghost use Rattle.mc_grammar.specs.Words.{Lexeme, lexemes_of, retag};
 ghost use Rattle.mc_grammar.specs.Nonterminal as n;
 ghost use Rattle.mc_grammar.specs.Expressions.{Reads, ReadsStars, ReadsDeclarator, ReadsParameters};
-ghost use Rattle.mc_grammar.specs.Statements.{ReadsStatement, ReadsInitializer};
+ghost use Rattle.mc_grammar.specs.Statements.{ReadsBlockItems, ReadsStatement, ReadsInitializer};
 ghost use Rattle.mc_grammar.specs.Items.{IsTree, IsTreeWithin, ReadsItem};
-ghost use Rattle.mc_grammar.specs.Meaning.{sign, identifier};
-ghost use Rattle.mc_grammar.specs.Samples.{name, value_tokens, value_tree, named_void_tokens, named_void_tree, void_tokens, void_tree, body_tokens, body_tree, tag_tokens, tag_tree, enumeration_tokens, enumeration_tree, braced_tokens, braced_tree};
+ghost use Rattle.mc_grammar.specs.Meaning.{declares, identifier, multiplies, sign, type_name};
+ghost use Rattle.mc_grammar.specs.Samples.{name, typedef_tokens, typedef_tree, value_tokens, value_tree, named_void_tokens, named_void_tree, void_tokens, void_tree, body_tokens, body_tree, tag_tokens, tag_tree, enumeration_tokens, enumeration_tree, braced_tokens, braced_tree};
 ghost use Rattle.mc_grammar.specs.Nested.{nested_tokens, nested_height};
 ghost use Rattle.mc_grammar.specs.Snippets.{semicolon, sum_tokens, sum_tree, operands_tokens, operands_tree, minus_tokens, cast_tree, subtraction_tree, else_tokens, else_tree, assignment_tokens, assignment_tree, parentheses_tokens, parentheses_tree, behind_parentheses, element_tokens, element_tree, behind_element, length_tokens, behind_bracket, behind_name};
+
+/// In a block `T * x;` declares `x` where `T` is a typedef name.
+#[tactic(auto, using(crate::proofs::Examples::declares_it))]
+pub fn type_before_star_declares()
+    ensures { (d : Dialect) (name other : List ℕ) (type_place star_place name_place semicolon_place brace_place : ℕ) → ReadsBlockItems d (type_name name type_place ∷ sign (codes "*") star_place ∷ identifier other name_place ∷ sign (codes ";") semicolon_place ∷ sign (codes "}") brace_place ∷ []) (declares name other type_place star_place name_place semicolon_place brace_place) (sign (codes "}") brace_place ∷ []) }
+{}
+
+/// In a block `a * x;` multiplies where `a` is no typedef name.
+#[tactic(auto, using(crate::proofs::Examples::multiplies_it))]
+pub fn identifier_before_star_multiplies()
+    ensures { (d : Dialect) (name other : List ℕ) (type_place star_place name_place semicolon_place brace_place : ℕ) → ReadsBlockItems d (identifier name type_place ∷ sign (codes "*") star_place ∷ identifier other name_place ∷ sign (codes ";") semicolon_place ∷ sign (codes "}") brace_place ∷ []) (multiplies name other type_place star_place name_place semicolon_place brace_place) (sign (codes "}") brace_place ∷ []) }
+{}
+
+/// A typedef's name is in force from the end of its declarator, within its declaration too:
+/// `typedef int T,t[(T)3];` has a tree, with a cast in it.
+#[tactic(auto, using(crate::proofs::Samples::in_force_at_once))]
+pub fn typedef_name_is_in_force_at_once()
+    ensures { (d : Dialect) → IsTree d typedef_tokens typedef_tree }
+{}
 
 /// `a + b + c` is `(a + b) + c`, and its height is 3.
 #[tactic(auto, using(crate::proofs::Snippets::sum))]
@@ -47,16 +67,17 @@ pub fn parentheses_stay_around_an_assignment()
     ensures { (d : Dialect) → ReadsStatement d (lexemes_of assignment_tokens) assignment_tree [] }
 {}
 
-/// `int a = 5;` is a text of height 2: the initializer, and the expression in it.
+/// `int a = 5;` is a text of height 2: the initializer, and the expression in it. It has five tokens.
 #[tactic(auto, using(crate::proofs::Samples::value))]
 pub fn initializer_counts_one()
     ensures tree { (d : Dialect) → IsTree d value_tokens value_tree }
     ensures high { height_unit value_tree ≡ 2 }
+    ensures count { (token_count value_tree ≡ 5) × (length value_tokens ≡ 5) }
 {}
 
 /// `(V)` with `typedef void V;` is a list of one parameter, and `(void)` is the word itself.
 #[tactic(auto, using(crate::proofs::Samples::named_void, crate::proofs::Samples::void))]
-pub fn only_the_word_void_is_no_parameter()
+pub fn void_by_another_name_is_a_parameter()
     ensures named { (d : Dialect) → IsTree d named_void_tokens named_void_tree }
     ensures word { (d : Dialect) → IsTree d void_tokens void_tree }
 {}
@@ -75,9 +96,11 @@ pub fn typedef_name_may_be_a_tag()
 {}
 
 /// The lists of an enumeration and of an initializer may end with a comma: `enum { A, B = 2, };` and `int a[2] = {1, 2,};`.
+/// It leaves no trace: the first text has ten tokens, and its tree stands for nine.
 #[tactic(auto, using(crate::proofs::Samples::enumeration, crate::proofs::Samples::braced))]
 pub fn list_may_end_with_comma()
     ensures enumeration { (d : Dialect) → IsTree d enumeration_tokens enumeration_tree }
+    ensures fewer { (token_count enumeration_tree ≡ 9) × (length enumeration_tokens ≡ 10) }
     ensures initializer { (d : Dialect) → IsTree d braced_tokens braced_tree }
 {}
 
@@ -108,9 +131,9 @@ pub fn semicolon_alone_is_no_item()
     ensures { (d : Dialect) (start : ℕ) (ts : List Lexeme) (one : Item) (rest : List Lexeme) → ReadsItem d (sign (codes ";") start ∷ ts) one rest → ⊥ }
 {}
 
-/// No parameter is a name without a type: functions of the old style, as `int f(a)`, are not read.
+/// No parameter list begins with a name without a type, as in `int f(a)`.
 #[tactic(auto, using(crate::proofs::Refused::names_no_parameters))]
-pub fn parameter_has_a_type()
+pub fn parameter_list_begins_with_a_type()
     ensures { (d : Dialect) (text : List ℕ) (place start : ℕ) (ts : List Lexeme) (all : Parameters) (rest : List Lexeme) → ReadsParameters d (sign (codes "(") place ∷ identifier text start ∷ ts) all rest → ⊥ }
 {}
 
