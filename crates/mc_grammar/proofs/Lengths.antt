@@ -14,7 +14,7 @@ use Rattle.mc_grammar.specs.Statements as s
 use Rattle.mc_grammar.specs.Items.{ReadsItem, ReadsUnit}
 use Rattle.mc_grammar.specs.Items as i
 
-operand_takes : (k : Level) → takes (operand k) ≡ 1
+pub operand_takes : (k : Level) → takes (operand k) ≡ 1
 operand_takes n.product = refl
 operand_takes n.sum = refl
 operand_takes n.shift = refl
