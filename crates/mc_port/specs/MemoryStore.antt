@@ -18,11 +18,15 @@ kept_names ns = map (λ n. string_bytes n) ns
 abbrev pub IsListed : List ℕ → ℕ → Type 0
 IsListed failing number = Any (λ at. at ≡ number) failing
 
--- a call fails where it is listed and where there is no file of the name, and nowhere else; any other gives the file, or says that it is too long
+-- a call fails where it is listed and where there is no file of the name, and nowhere else; any
+-- other gives the file, or says that it is too long
 abbrev pub Answers : Files → Type 0 → List ℕ → ℕ → Result (Vec ℕ Global) LoadFault → Type 0
-Answers files Listed name limit (Ok bytes) = (¬ Listed) × (file_of files name ≡ Some bytes.items) × (length bytes.items ≤ limit)
+Answers files Listed name limit (Ok bytes) =
+    (¬ Listed) × (file_of files name ≡ Some bytes.items) × (length bytes.items ≤ limit)
 Answers files Listed name limit (Err Failed) = Listed ⊎ (file_of files name ≡ None)
-Answers files Listed name limit (Err (TooLong at_least)) = (¬ Listed) × (at_least ≡ limit + 1) × (bytes : List ℕ) × (file_of files name ≡ Some bytes) × (limit < length bytes)
+Answers files Listed name limit (Err (TooLong at_least)) =
+    (¬ Listed) × (at_least ≡ limit + 1)
+    × (bytes : List ℕ) × (file_of files name ≡ Some bytes) × (limit < length bytes)
 Answers files Listed name limit (Err OutOfMemory) = ⊤
 
 -- the count of faults after a call: it rises at a failure alone

@@ -10,4 +10,6 @@ AppendsPart old new bytes = (n : ℕ) × Appends old new (take n bytes)
 
 -- the whole piece at Ok; a first part of it after a fault, at which the count rose
 abbrev pub Puts : Option (List ℕ) → Option (List ℕ) → ℕ → ℕ → List ℕ → Result Unit PutFault → Type 0
-Puts old new before now piece result = MatchResult result (λ _. Appends old new piece) (λ _. Rose before now × AppendsPart old new piece)
+Puts old new before now piece result = MatchResult result
+    (λ _. Appends old new piece)
+    (λ _. Rose before now × AppendsPart old new piece)

@@ -25,10 +25,12 @@ impl<W: Write + Drop> HostSink<W> {
     }
 }
 
-// Writes the whole piece, and flushes. A write that takes nothing, or fails, and a failed flush are faults.
+// Writes the whole piece, and flushes.
+// A write that takes nothing, or fails, and a failed flush are faults.
 fn write_whole<W: Write>(writer: &mut W, piece: &[u8]) -> Result<(), PutFault>
     ensures ok { OnOk result (Appends (W.contents writer.old) (W.contents writer.new) piece.now) }
-    ensures err { OnErr result (AppendsPart (W.contents writer.old) (W.contents writer.new) piece.now) }
+    ensures err { OnErr result
+        (AppendsPart (W.contents writer.old) (W.contents writer.new) piece.now) }
 {
     let mut left = piece;
     while !left.is_empty() {

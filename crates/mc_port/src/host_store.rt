@@ -1,14 +1,15 @@
 //! The files of the machine.
-ghost use Rattle.std.specs.Prelude.{◌≡◌, ◌≤◌, ◌-◌, ◌^◌, None};
+ghost use Rattle.std.specs.Prelude.{◌≡◌, ◌≤◌, ◌-◌, ◌^◌, ℕ, List, Option, None, Err, IfOk, OnErr};
 ghost use Rattle.mc_port.specs.HostStore.{ReadsUpTo};
 
 use crate::{LoadFault, Store};
 use std::alloc::Global;
 use std::fs;
-use std::io::Read;
+use std::io::{self, Read};
 use std::rt::Files;
 
-/// The files of the machine, by their paths. It tells nothing of what they hold, nor the names asked.
+/// The files of the machine, by their paths.
+/// It tells nothing of what they hold, nor the names asked.
 #[derive(Drop)]
 pub struct HostStore<R: Files + Drop> {
     runtime: R,
@@ -28,7 +29,8 @@ impl<R: Files + Drop> HostStore<R> {
 
 const CHUNK: usize = 4096;
 
-// All the bytes that are left, at least one a turn, and none past the one that tells that they are too many.
+// All the bytes that are left, at least one a turn, and none after the one that tells that they are
+// too many.
 fn read_up_to<F: Read>(alloc: Global, file: &mut F, limit: u64) -> Result<Vec<u8>, LoadFault>
     ensures { ReadsUpTo (F.remaining file.old) (F.remaining file.new) limit result }
 {
@@ -56,6 +58,23 @@ fn read_up_to<F: Read>(alloc: Global, file: &mut F, limit: u64) -> Result<Vec<u8
     })
 }
 
+// The bytes of what was opened, where there are at most `limit` of them.
+// What cannot be opened is a fault, whatever the limit.
+fn read_opened<F: Read + Drop>(
+    alloc: Global,
+    opened: io::Result<F>,
+    limit: u64,
+) -> Result<Vec<u8>, LoadFault>
+    ensures opened { IfOk opened (λ file. (after : Option (List ℕ))
+        × ReadsUpTo (F.remaining file) after limit result) }
+    ensures not_opened { OnErr opened (result ≡ Err LoadFault.Failed) }
+{
+    match opened {
+        Ok(mut file) => read_up_to(alloc, &mut file, limit),
+        Err(_) => Err(LoadFault::Failed),
+    }
+}
+
 impl<R: Files + Drop> Store for HostStore<R> {
     ghost contents = { λ _. None };
 
@@ -64,11 +83,7 @@ impl<R: Files + Drop> Store for HostStore<R> {
     ghost faults = { λ s. s.faults };
 
     fn load(&mut self, alloc: Global, name: &str, limit: u64) -> Result<Vec<u8>, LoadFault> {
-        let answer = match fs::open(&self.runtime, name) {
-            Ok(mut file) => read_up_to(alloc, &mut file, limit),
-            Err(_) => Err(LoadFault::Failed),
-        };
-        match answer {
+        match read_opened(alloc, fs::open(&self.runtime, name), limit) {
             Ok(bytes) => Ok(bytes),
             Err(LoadFault::Failed) => {
                 self.faults = self.faults.saturating_add(1);

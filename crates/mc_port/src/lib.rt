@@ -1,5 +1,5 @@
-//! The outside: a store of files, sinks of bytes, a gate for workers, and the words of a command line.
-//! Each is a trait or a type with one form over the machine and one in memory.
+//! The outside: a store of files, sinks of bytes, a gate for workers, and the words of a command
+//! line. Each is a trait or a type with one form over the machine and one in memory.
 #![tactic(auto)]
 
 mod gate;
@@ -19,6 +19,3 @@ pub use memory_store::MemoryStore;
 pub use sink::{PutFault, Sink};
 pub use store::{LoadFault, Store};
 pub use words::Words;
-
-#[cfg(test)]
-mod tests;

@@ -8,8 +8,8 @@ ghost use Rattle.mc_port.specs.Sink.{Puts};
 use crate::{PutFault, Sink};
 use std::alloc::{AllocError, Global};
 
-/// A sink that keeps its bytes in memory that it takes when it is made, and fails exactly at the puts
-/// that are listed and at those whose piece would pass its room. It tells its bytes.
+/// A sink that keeps its bytes in memory that it takes when it is made, and fails exactly at the
+/// puts that are listed and at those whose piece would pass its room. It tells its bytes.
 /// Puts are numbered from 1; one of an empty piece is not numbered.
 #[derive(Drop)]
 pub struct MemorySink {
@@ -24,8 +24,9 @@ pub struct MemorySink {
 }
 
 impl MemorySink {
-    /// An empty sink with room for that many bytes. Each pair of `failing` lists a put by its number, and
-    /// how many bytes it takes before it fails; of two pairs with one number the first is meant.
+    /// An empty sink with room for that many bytes. Each pair of `failing` lists a put by its
+    /// number, and how many bytes it takes before it fails; of two pairs with one number the first
+    /// is meant.
     pub fn new(alloc: Global, room: u32, failing: Vec<(u32, u32)>) -> Result<MemorySink, AllocError>
         ensures bytes { IfOk result (λ sink. sink.bytes.items ≡ []) }
         ensures room { IfOk result (λ sink. sink.room ≡ room) }
@@ -72,14 +73,18 @@ impl Sink for MemorySink {
 
     /// Takes no memory.
     fn put(&mut self, piece: &[u8]) -> Result<(), PutFault>
-        ensures bytes { Puts (Some self.old.bytes.items) (Some self.new.bytes.items) self.old.faults self.new.faults piece.now result }
+        ensures bytes { Puts (Some self.old.bytes.items) (Some self.new.bytes.items)
+            self.old.faults self.new.faults piece.now result }
         ensures later { self.old.faults ≤ self.new.faults }
         ensures last { self.new.faults ≤ 2 ^ 64 - 1 }
         ensures empty_ok { piece.now ≡ [] → IsOk result }
         ensures empty_same { piece.now ≡ [] → self.new ≡ self.old }
 
-        // It fails exactly at the puts that are listed and where the room is too small, and its count rises at these alone.
-        ensures exact { piece.now ≢ [] → (is_err result, self.new.bytes.items) ≡ put_of self.old.bytes.items self.old.room (listed_at self.old.failing.items (raised self.old.puts)) piece.now }
+        // It fails exactly at the puts that are listed and where the room is too small, and its
+        // count rises at these alone.
+        ensures exact { piece.now ≢ [] → (is_err result, self.new.bytes.items)
+            ≡ put_of self.old.bytes.items self.old.room
+            (listed_at self.old.failing.items (raised self.old.puts)) piece.now }
         ensures faults { self.new.faults ≡ faults_after self.old.faults result }
         ensures puts { piece.now ≢ [] → self.new.puts ≡ raised self.old.puts }
         ensures room { self.new.room ≡ self.old.room }

@@ -6,9 +6,9 @@ ghost use Rattle.mc_port.specs.Store.{Asks, Loads, file_of};
 use crate::{LoadFault, Store};
 use std::alloc::Global;
 
-/// A store of files in memory, which fails exactly at the calls that are listed and for a name that it does
-/// not hold. It tells its files and the names asked. Calls are numbered from 1; one that wants for memory
-/// is not numbered.
+/// A store of files in memory, which fails exactly at the calls that are listed and for a name that
+/// it does not hold. It tells its files and the names asked. Calls are numbered from 1; one that
+/// runs out of memory is not numbered.
 #[derive(Drop)]
 pub struct MemoryStore {
     alloc: Global,
@@ -20,7 +20,8 @@ pub struct MemoryStore {
 }
 
 impl MemoryStore {
-    /// A store of these files, each with its name, that fails at the calls of these numbers. Takes no memory.
+    /// A store of these files, each with its name, that fails at the calls of these numbers.
+    /// Takes no memory.
     pub fn new(alloc: Global, files: Vec<(String, Vec<u8>)>, failing: Vec<u32>) -> MemoryStore
         ensures files { result.files ≡ files }
         ensures failing { result.failing ≡ failing }
@@ -99,8 +100,11 @@ impl Store for MemoryStore {
         ensures later { self.old.faults ≤ self.new.faults }
         ensures last { self.new.faults ≤ 2 ^ 64 - 1 }
 
-        // It fails exactly at the calls that are listed and for a name that it does not hold, and its count rises at these alone.
-        ensures exact { Answers (kept_files self.old.files.items) (IsListed self.old.failing.items (length self.old.asked.items + 1)) name.now limit result }
+        // It fails exactly at the calls that are listed and for a name that it does not hold, and
+        // its count rises at these alone.
+        ensures exact { Answers (kept_files self.old.files.items)
+            (IsListed self.old.failing.items (length self.old.asked.items + 1))
+            name.now limit result }
         ensures faults { self.new.faults ≡ faults_after self.old.faults result }
         ensures failing { self.new.failing ≡ self.old.failing }
     {

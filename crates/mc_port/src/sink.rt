@@ -24,7 +24,8 @@ pub trait Sink {
     /// Appends the piece. At a fault a first part of it was appended, maybe an empty one.
     /// An empty piece always succeeds, and changes nothing.
     fn put(&mut self, piece: &[u8]) -> Result<(), PutFault>
-        ensures bytes { Puts (written self.old) (written self.new) (faults self.old) (faults self.new) piece.now result }
+        ensures bytes { Puts (written self.old) (written self.new)
+            (faults self.old) (faults self.new) piece.now result }
         ensures later { faults self.old ≤ faults self.new }
         ensures last { faults self.new ≤ 2 ^ 64 - 1 }
         ensures empty_ok { piece.now ≡ [] → IsOk result }

@@ -12,8 +12,8 @@ use Rattle.mc_value.specs.IntTypes.{signed_of, in_range}
 use Rattle.mc_value.specs.Conversions.{wrapped, is_zero}
 use Rattle.mc_value.specs.Digits.{digit, value_of_digits, digitwise}
 
--- a mathematical result v in the type: modulo 2 ^ width in an unsigned one (C17 6.2.5p9), and in a signed one v
--- itself, which has to be in range (6.5p5)
+-- a mathematical result v in the type: modulo 2 ^ width in an unsigned one (C17 6.2.5p9), and in a
+-- signed one v itself, which has to be in range (6.5p5)
 abbrev pub fitted : IntType → ℤ → Result ℤ Trap
 fitted t v =
     if signed_of t then (if in_range t v then Ok v else Err Overflow)
@@ -27,7 +27,8 @@ is_negative (negsuc n) = true
 abbrev pub exclusive : Bool → Bool → Bool
 exclusive a b = if a then not b else b
 
--- the algebraic quotient without its fraction: that of the magnitudes, negative where one operand is (C17 6.5.5p6)
+-- the algebraic quotient without its fraction: that of the magnitudes, negative where one operand
+-- is (C17 6.5.5p6)
 abbrev pub quotient : ℤ → ℤ → ℤ
 quotient a b =
     let q = pos (nat_abs a / nat_abs b) in
@@ -37,7 +38,8 @@ quotient a b =
 abbrev pub remainder : ℤ → ℤ → ℤ
 remainder a b = a -ℤ (quotient a b *ℤ b)
 
--- r, where the divisor b is not 0 (C17 6.5.5p5) and the quotient of a and b is a value of the type (p6)
+-- r, where the divisor b is not 0 (C17 6.5.5p5) and the quotient of a and b is a value of the
+-- type (p6)
 abbrev pub divided : IntType → ℤ → ℤ → ℤ → Result ℤ Trap
 divided t a b r =
     if is_zero b then Err Division
@@ -68,7 +70,8 @@ binary_of And t a b = Ok (digitwise ◌&&◌ t a b)
 binary_of Xor t a b = Ok (digitwise exclusive t a b)
 binary_of Or t a b = Ok (digitwise ◌||◌ t a b)
 
--- the type of the result: int for the relational and equality operators (C17 6.5.8p6, 6.5.9p3), else the operands'
+-- the type of the result: int for the relational and equality operators (C17 6.5.8p6, 6.5.9p3),
+-- else the operands'
 abbrev pub binary_type : BinOp → IntType → IntType
 binary_type Mul t = t
 binary_type Div t = t

@@ -6,7 +6,8 @@ use Rattle.mc_value.specs.IntTypes.{width_of, signed_of, greatest_of, rank_of, h
 
 -- ---- numbers
 
--- v modulo m: the number from 0 to m - 1 that differs from v by a multiple of m (`negsuc n` is -n - 1)
+-- v modulo m: the number from 0 to m - 1 that differs from v by a multiple of m
+-- (`negsuc n` is -n - 1)
 abbrev pub modulo : ℤ → ℕ → ℕ
 modulo (pos n) m = n % m
 modulo (negsuc n) m = m - 1 - n % m
@@ -28,8 +29,8 @@ converted t v = wrapped t v
 
 -- ---- types
 
--- the integer promotions (C17 6.3.1.1p2): a type of a rank up to that of int becomes int where int holds all its
--- values, else unsigned int; the other types stay
+-- the integer promotions (C17 6.3.1.1p2): a type of a rank up to that of int becomes int where int
+-- holds all its values, else unsigned int; the other types stay
 abbrev pub promoted : IntType → IntType
 promoted t =
     if nat_lt (rank_of the.Int) (rank_of t) then t

@@ -3,7 +3,8 @@ use Rattle.std.specs.Prelude.{ℕ, ◌-◌, ◌^◌, ℤ, pos, neg_ℤ, ◌≤�
 use Rattle.mc_value.specs.declared.int_type.IntType.{IntType}
 use Rattle.mc_value.specs.declared.int_type.IntType.TheVariants as the
 
--- how many bits a value has, the sign bit included (C17 6.2.6.2p6; 5.2.4.2.1 leaves the numbers to the implementation)
+-- how many bits a value has, the sign bit included
+-- (C17 6.2.6.2p6; 5.2.4.2.1 leaves the numbers to the implementation)
 abbrev pub width_of : IntType → ℕ
 width_of the.Bool = 1
 width_of the.Char = 8
@@ -18,7 +19,8 @@ width_of the.ULong = 64
 width_of the.LLong = 64
 width_of the.ULLong = 64
 
--- the types with negative values (C17 6.2.5p4); char is one of them (6.2.5p15 leaves it to the implementation)
+-- the types with negative values (C17 6.2.5p4)
+-- char is one of them (6.2.5p15 leaves it to the implementation)
 abbrev pub signed_of : IntType → Bool
 signed_of the.Bool = false
 signed_of the.Char = true

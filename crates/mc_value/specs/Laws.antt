@@ -26,7 +26,8 @@ ConversionKeepsTheRange =
 
 abbrev pub ConversionIsTheCongruentValue : Type 0
 ConversionIsTheCongruentValue =
-    (t : IntType) (v r : ℤ) → t ≢ the.Bool → (r ≡ converted t v) ↔ (InRange t r × Congruent (2 ^ width_of t) v r)
+    (t : IntType) (v r : ℤ) → t ≢ the.Bool →
+    (r ≡ converted t v) ↔ (InRange t r × Congruent (2 ^ width_of t) v r)
 
 abbrev pub CommonTypeIsSymmetric : Type 0
 CommonTypeIsSymmetric =
@@ -44,7 +45,8 @@ UnsignedResultsWrap =
     × ((r : ℤ) × ((binary_of Add t a b ≡ Ok r) × Wraps t (a +ℤ b) r))
     × ((r : ℤ) × ((binary_of Sub t a b ≡ Ok r) × Wraps t (a -ℤ b) r))
     × ((r : ℤ) × ((unary_of Minus t a ≡ Ok r) × Wraps t (neg_ℤ a) r))
-    × (k < width_of t → (r : ℤ) × ((shift_of Left t a (pos k) ≡ Ok r) × Wraps t (a *ℤ pos (2 ^ k)) r))
+    × (k < width_of t →
+    (r : ℤ) × ((shift_of Left t a (pos k) ≡ Ok r) × Wraps t (a *ℤ pos (2 ^ k)) r))
 
 abbrev pub QuotientAndRemainderRebuild : Type 0
 QuotientAndRemainderRebuild =
@@ -55,13 +57,20 @@ QuotientAndRemainderRebuild =
 abbrev pub ActsOnDigits : (Bool → Bool → Bool) → IntType → ℤ → ℤ → ℤ → Type 0
 ActsOnDigits f t a b r = (k : ℕ) → k < width_of t → digit t r k ≡ f (digit t a k) (digit t b k)
 
+-- digit k of r is the other one than digit k of a
+abbrev pub FlipsDigits : IntType → ℤ → ℤ → Type 0
+FlipsDigits t a r = (k : ℕ) → k < width_of t → digit t r k ≡ not (digit t a k)
+
+abbrev pub HaveSameDigits : IntType → ℤ → ℤ → Type 0
+HaveSameDigits t a b = (k : ℕ) → k < width_of t → digit t a k ≡ digit t b k
+
 abbrev pub BitOperatorsActOnDigits : Type 0
 BitOperatorsActOnDigits =
     ((t : IntType) (a b : ℤ) → IfOk (binary_of And t a b) (λ r. ActsOnDigits ◌&&◌ t a b r))
     × ((t : IntType) (a b : ℤ) → IfOk (binary_of Xor t a b) (λ r. ActsOnDigits exclusive t a b r))
     × ((t : IntType) (a b : ℤ) → IfOk (binary_of Or t a b) (λ r. ActsOnDigits ◌||◌ t a b r))
-    × ((t : IntType) (a : ℤ) → IfOk (unary_of Flip t a) (λ r. (k : ℕ) → k < width_of t → digit t r k ≡ not (digit t a k)))
-    × ((t : IntType) (a b : ℤ) → InRange t a → InRange t b → ((k : ℕ) → k < width_of t → digit t a k ≡ digit t b k) → a ≡ b)
+    × ((t : IntType) (a : ℤ) → IfOk (unary_of Flip t a) (λ r. FlipsDigits t a r))
+    × ((t : IntType) (a b : ℤ) → InRange t a → InRange t b → HaveSameDigits t a b → a ≡ b)
 
 -- q * 2 ^ k <= a < (q + 1) * 2 ^ k
 abbrev pub RightShiftRoundsDown : Type 0
@@ -71,6 +80,9 @@ RightShiftRoundsDown =
 
 abbrev pub ResultsAreInRange : Type 0
 ResultsAreInRange =
-    ((op : BinOp) (t : IntType) (a b : ℤ) → promoted t ≡ t → InRange t a → InRange t b → IfOk (binary_of op t a b) (λ v. InRange (binary_type op t) v))
-    × ((op : UnOp) (t : IntType) (a : ℤ) → promoted t ≡ t → InRange t a → IfOk (unary_of op t a) (λ v. InRange (unary_type op t) v))
-    × ((op : ShiftOp) (t : IntType) (a count : ℤ) → promoted t ≡ t → InRange t a → IfOk (shift_of op t a count) (λ v. InRange t v))
+    ((op : BinOp) (t : IntType) (a b : ℤ) → promoted t ≡ t → InRange t a → InRange t b →
+    IfOk (binary_of op t a b) (λ v. InRange (binary_type op t) v))
+    × ((op : UnOp) (t : IntType) (a : ℤ) → promoted t ≡ t → InRange t a →
+    IfOk (unary_of op t a) (λ v. InRange (unary_type op t) v))
+    × ((op : ShiftOp) (t : IntType) (a count : ℤ) → promoted t ≡ t → InRange t a →
+    IfOk (shift_of op t a count) (λ v. InRange t v))

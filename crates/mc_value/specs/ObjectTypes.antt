@@ -10,7 +10,7 @@ cells_of_parts (ObjType-F.Int t) = 1
 cells_of_parts (ObjType-F.Array element length) = length * element.value
 cells_of_parts (ObjType-F.Struct number members) = sum members.items
 
--- of how many scalars an object of the type consists: an array of its elements', a structure of its members'
--- (C17 6.2.5p20)
+-- of how many scalars an object of the type consists: an array of its elements', a structure of its
+-- members' (C17 6.2.5p20)
 abbrev pub cells_of : ObjType → ℕ
 cells_of = fold-ObjType ℕ cells_of_parts

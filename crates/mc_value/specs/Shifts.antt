@@ -9,8 +9,8 @@ use Rattle.mc_value.specs.IntTypes.{width_of, signed_of, in_range}
 use Rattle.mc_value.specs.Conversions.{wrapped}
 use Rattle.mc_value.specs.Arithmetic.{is_negative}
 
--- a * 2 ^ k modulo 2 ^ width in an unsigned type; in a signed one a is not negative and a * 2 ^ k is a value of
--- the type (C17 6.5.7p4)
+-- a * 2 ^ k modulo 2 ^ width in an unsigned type; in a signed one a is not negative and a * 2 ^ k
+-- is a value of the type (C17 6.5.7p4)
 abbrev pub shifted_left : IntType → ℤ → ℕ → Result ℤ Trap
 shifted_left t a k =
     let v = a *ℤ pos (2 ^ k) in
@@ -18,8 +18,8 @@ shifted_left t a k =
     else if not (is_negative a) && in_range t v then Ok v
     else Err Shift
 
--- a / 2 ^ k rounded down, which on a negative a repeats the sign bit (C17 6.5.7p5 leaves it to the implementation);
--- `negsuc n` is -n - 1
+-- a / 2 ^ k rounded down, which on a negative a repeats the sign bit (C17 6.5.7p5 leaves it to the
+-- implementation); `negsuc n` is -n - 1
 abbrev pub shifted_right : ℤ → ℕ → ℤ
 shifted_right (pos n) k = pos (n / 2 ^ k)
 shifted_right (negsuc n) k = negsuc (n / 2 ^ k)

@@ -3,8 +3,8 @@
 ghost use Rattle.std.specs.Prelude.{◌≡◌, IsTrue};
 ghost use Rattle.mc_value.specs.IntTypes.{InRange, in_range, width_of, signed_of, least_of, greatest_of};
 
-/// An integer type of C (C17 6.2.5): `char` is signed and has 8 bits, `short` has 16, `int` 32, `long` and
-/// `long long` have 64, all in two's complement. An enumerated type is `Int`.
+/// An integer type of C (C17 6.2.5): `char` is signed and has 8 bits, `short` has 16, `int` 32,
+/// `long` and `long long` have 64, all in two's complement. An enumerated type is `Int`.
 #[derive(Clone, Copy, Debug, PartialEq, Eq)]
 pub enum IntType {
     /// `_Bool`.

@@ -8,8 +8,6 @@ mod laws;
 mod object_type;
 mod operators;
 mod shifts;
-#[cfg(test)]
-mod tests;
 mod trap;
 
 pub use arithmetic::{binary, unary};

@@ -33,7 +33,8 @@ pub enum BinOp {
     Or,
 }
 
-/// A shift of C17 6.5.7. Its operands are promoted each by itself, and the left one gives the result's type.
+/// A shift of C17 6.5.7. Its operands are promoted each by itself, and the left one gives the
+/// result's type.
 #[derive(Clone, Copy, Debug, PartialEq, Eq)]
 pub enum ShiftOp {
     /// `<<`.

@@ -11,8 +11,8 @@ use crate::operators::ShiftOp;
 use crate::trap::Trap;
 
 /// What a shift of a value of the promoted type `t` by any number gives (C17 6.5.7).
-/// `Shift` where `count` is negative or not below the type's width, and at a left shift of a signed type where
-/// the value is negative or the result is out of range.
+/// `Shift` where `count` is negative or not below the type's width, and at a left shift of a signed
+/// type where the value is negative or the result is out of range.
 pub fn shift(op: ShiftOp, t: IntType, a: i128, count: i128) -> Result<i128, Trap>
     requires type_promoted { promoted t ≡ t }
     requires operand { InRange t a }

@@ -5,13 +5,12 @@ ghost use Rattle.mc_value.specs.IntTypes.{InRange};
 ghost use Rattle.mc_value.specs.Conversions.{promoted};
 ghost use Rattle.mc_value.specs.ObjectTypes.{cells_of};
 
-use crate::int_type::is_in;
-use crate::{
+use IntType::{Bool, Char, Int, LLong, Long, SChar, Short, UChar, UInt, ULLong, ULong, UShort};
+use ShiftOp::{Left, Right};
+use mc_value::{
     BinOp, IntType, ObjType, ShiftOp, Trap, UnOp, binary, cells, common, convert, promote, shift,
     unary,
 };
-use IntType::{Bool, Char, Int, LLong, Long, SChar, Short, UChar, UInt, ULLong, ULong, UShort};
-use ShiftOp::{Left, Right};
 use std::alloc::Global;
 use std::test::Fail;
 
@@ -306,7 +305,7 @@ fn is_operand(t: IntType, v: i128) -> bool
     ensures type_promoted { IsTrue result → promoted t ≡ t }
     ensures inside { IsTrue result → InRange t v }
 {
-    promote(t) == t && is_in(t, v)
+    promote(t) == t && convert(v, t) == v
 }
 
 /// Whether an outcome is the one with this name.

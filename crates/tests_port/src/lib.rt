@@ -1,0 +1,5 @@
+//! Tests of `mc_port`.
+#![tactic(auto)]
+
+#[cfg(test)]
+mod outside;
