@@ -6,7 +6,7 @@ use Rattle.std.proofs.lemmas.List.Sums.{get_or-le-sum_by}
 use Rattle.std.proofs.lemmas.List.Elements.{All-append, All-map, All-head, All-tail, All-nil, All-take, All-contains_itself}
 use Rattle.mc_core.specs.Schedule.{script_of}
 use Rattle.mc_core.specs.Counts.{marks}
-use Rattle.mc_core.specs.Law.{pairs_of, hits_of}
+use Rattle.mc_core.specs.Progress.{pairs_of, hits_of}
 use Rattle.mc_core.proofs.Sums.{tally, sum_flat_map, in_is_marked}
 
 -- a claim hits nothing

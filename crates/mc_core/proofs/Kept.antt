@@ -13,7 +13,7 @@ use Rattle.mc_core.specs.Shape.{rows, word_count, place}
 use Rattle.mc_core.specs.Matrix.{bit_of, with_pair}
 use Rattle.mc_core.specs.Counts.{times, once_below, marks}
 use Rattle.mc_core.specs.Schedule.{Core, Worker, script_of, last_claim, next_bit, after_claim, after_hit, claim, hit, step, start}
-use Rattle.mc_core.specs.Law.{hits_of, ended_count, IsInOrder}
+use Rattle.mc_core.specs.Progress.{hits_of, ended_count, IsInOrder}
 use Rattle.mc_core.proofs.Bits.{place_within, tests_within, bit_set, bit_kept, same_or_not}
 use Rattle.mc_core.proofs.Sums.{tally, sum_set, sum_kept, sum_replicate, marks_push, times_push, pair_yes, pair_no, once_more, once_none}
 use Rattle.mc_core.proofs.Hits.{hits_claim, hits_hit}

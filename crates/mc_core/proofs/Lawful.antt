@@ -11,7 +11,7 @@ use Rattle.mc_core.specs.declared.shape.Shape.{Shape}
 use Rattle.mc_core.specs.Matrix.{MatrixView, Holds}
 use Rattle.mc_core.specs.Counts.{times, once_below, marks}
 use Rattle.mc_core.specs.Schedule.{Core, Worker, script_of}
-use Rattle.mc_core.specs.Law.{hits_of, all_claims, all_hits, ended_count, IsInOrder}
+use Rattle.mc_core.specs.Progress.{hits_of, all_claims, all_hits, ended_count, IsInOrder}
 use Rattle.mc_core.proofs.Bits.{tests_within}
 use Rattle.mc_core.proofs.Sums.{tally, sum_flat_map, all_flat_map, some_part, marked_is_in, in_is_marked, timed_is_in, once_yes}
 use Rattle.mc_core.proofs.Hits.{IsOfScript, hits_are, hit_of_claimed}

@@ -3,5 +3,6 @@ pub mod Matrix
 pub mod Merged
 pub mod Steps
 pub mod Schedule
-pub mod Law
+pub mod Progress
+pub mod Laws
 pub mod Counts

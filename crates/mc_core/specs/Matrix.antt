@@ -14,13 +14,14 @@ pub record MatrixView : Type 0 where
 abbrev pub bit_of : Shape → List ℕ → ℕ → ℕ → ℕ
 bit_of s words b t = bit_at (slice_index words (place s b t)) (t % 64)
 
--- the matrix has the pair of bit b and test t: no pair out of range, and the others where they are set
+-- the matrix has the pair of bit b and test t: both are in range, and the bit is set
 abbrev pub Holds : MatrixView → ℕ → ℕ → Type 0
 Holds m b t = (b < m.shape.bits) × (t < m.shape.tests) × (bit_of m.shape m.words b t ≡ 1)
 
--- the bits behind the last test, up to the end of its word, are clear
+-- the bits after the last test, up to the end of its word, are clear
 abbrev pub HasNoSpareBit : Shape → List ℕ → Type 0
-HasNoSpareBit s words = (b t : ℕ) → b < s.bits → s.tests ≤ t → t < 64 * rows s → bit_of s words b t ≡ 0
+HasNoSpareBit s words =
+    (b t : ℕ) → b < s.bits → s.tests ≤ t → t < 64 * rows s → bit_of s words b t ≡ 0
 
 -- what each matrix keeps
 pub record IsSound (s : Shape) (words : List ℕ) : Type 0 where

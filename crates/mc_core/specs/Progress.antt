@@ -1,4 +1,4 @@
--- Words for the law of the interleaving core: what every state of every run has.
+-- How far the workers of the interleaving core are: their claims, and the pairs that they have hit.
 use Rattle.std.specs.Prelude.{◌≡◌, ℕ, ◌-◌, ◌<◌, ◌≤◌, true, List, [], ◌∷◌, ◌++◌, length, map, take, flat_map, count_by, All}
 use Rattle.mc_core.specs.Schedule.{Worker, Core, script_of, last_claim}
 
@@ -13,11 +13,14 @@ ended_count workers = count_by (λ w. w.ended) workers
 abbrev pub pairs_of : ℕ → List ℕ → List (ℕ × ℕ)
 pairs_of t bits = map (λ b. (b, t)) bits
 
--- the pairs of tests claimed in this order: all of a finished test, and of the last one all but those that remain
+-- the pairs of tests claimed in this order: all of a finished test, and of the last one all but
+-- those that remain
 abbrev pub hits_of : List (List ℕ) → List ℕ → ℕ → List (ℕ × ℕ)
 hits_of scripts [] rest = []
-hits_of scripts (t ∷ []) rest = pairs_of t (take (length (script_of scripts t) - rest) (script_of scripts t))
-hits_of scripts (t ∷ u ∷ us) rest = pairs_of t (script_of scripts t) ++ hits_of scripts (u ∷ us) rest
+hits_of scripts (t ∷ []) rest =
+    pairs_of t (take (length (script_of scripts t) - rest) (script_of scripts t))
+hits_of scripts (t ∷ u ∷ us) rest =
+    pairs_of t (script_of scripts t) ++ hits_of scripts (u ∷ us) rest
 
 -- the pairs hit so far, worker by worker
 abbrev pub all_hits : List (List ℕ) → List Worker → List (ℕ × ℕ)

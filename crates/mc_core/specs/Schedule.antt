@@ -8,7 +8,8 @@ use Rattle.mc_core.specs.declared.schedule.CoreWorker.{CoreWorker}
 use Rattle.mc_core.specs.Matrix.{MatrixView, empty_matrix, with_pair}
 use Rattle.mc_core.specs.Steps.{draws_after, claims_after, ends}
 
--- its tests in the order of their claims, how many bits of the last one remain, and whether it has ended
+-- its tests in the order of their claims, how many bits of the last one remain, and whether it
+-- has ended
 pub record Worker : Type 0 where
   pub claimed : List ℕ
   pub rest : ℕ
@@ -19,7 +20,7 @@ pub record Core : Type 0 where
   pub matrix : MatrixView
   pub workers : List Worker
 
--- the bits of test t, in the order in which they are hit. A number that is no test has none
+-- the bits of test t, in the order in which they are hit. A number that is not a test has none
 abbrev pub script_of : List (List ℕ) → ℕ → List ℕ
 script_of scripts t = slice_index_or scripts t []
 
@@ -28,11 +29,18 @@ last_claim w = slice_index w.claimed (length w.claimed - 1)
 
 -- the first of the bits that remain
 abbrev pub next_bit : List (List ℕ) → Worker → ℕ
-next_bit scripts w = slice_index (script_of scripts (last_claim w)) (length (script_of scripts (last_claim w)) - w.rest)
+next_bit scripts w =
+    let script = script_of scripts (last_claim w) in
+    slice_index script (length script - w.rest)
 
 -- a worker that took this number by a claim: of a test, all bits remain
 abbrev pub after_claim : List (List ℕ) → ℕ → ℕ → Worker → Worker
-after_claim scripts tests drawn w = record { claimed = claims_after tests drawn w.claimed; rest = length (script_of scripts drawn); ended = ends tests drawn }
+after_claim scripts tests drawn w =
+    record {
+      claimed = claims_after tests drawn w.claimed;
+      rest = length (script_of scripts drawn);
+      ended = ends tests drawn;
+    }
 
 -- a worker that hit a bit
 abbrev pub after_hit : Worker → Worker
@@ -56,10 +64,13 @@ hit scripts core i w =
       workers = slice_set core.workers i (after_hit w);
     }
 
--- a worker hits while bits of its test remain, else it claims. An ended or unknown worker changes nothing
+-- a worker hits while bits of its test remain, else it claims
+-- an ended or unknown worker changes nothing
 abbrev pub step_of : List (List ℕ) → Core → ℕ → Option Worker → Core
 step_of scripts core i None = core
-step_of scripts core i (Some w) = if w.ended then core else (if w.rest == 0 then claim scripts core i w else hit scripts core i w)
+step_of scripts core i (Some w) =
+    if w.ended then core
+    else (if w.rest == 0 then claim scripts core i w else hit scripts core i w)
 
 abbrev pub step : List (List ℕ) → Core → ℕ → Core
 step scripts core i = step_of scripts core i (slice_get core.workers i)
@@ -75,7 +86,8 @@ fresh_workers n = replicate n record { claimed = []; rest = 0; ended = false }
 
 -- no draws and no pairs
 abbrev pub start : Shape → ℕ → Core
-start shape workers = record { draws = 0; matrix = empty_matrix shape; workers = fresh_workers workers }
+start shape workers =
+    record { draws = 0; matrix = empty_matrix shape; workers = fresh_workers workers }
 
 -- what the code's values stand for
 abbrev pub worker_of : CoreWorker → Worker

@@ -21,4 +21,5 @@ word_after word t = bit_or word (2 ^ (t % 64))
 
 -- .. the one of its bit and test, and no other word changes.
 abbrev pub words_after : Shape → List ℕ → ℕ → ℕ → List ℕ
-words_after s words b t = slice_set words (place s b t) (word_after (slice_index words (place s b t)) t)
+words_after s words b t =
+    slice_set words (place s b t) (word_after (slice_index words (place s b t)) t)

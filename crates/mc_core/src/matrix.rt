@@ -8,7 +8,7 @@ use std::alloc::{AllocError, Global};
 use std::marker::Model;
 
 /// Which bit was recorded under which test. Contracts see its shape and its list of words:
-/// bit b under test t is bit t mod 64 of word b * rows + t / 64, where rows is tests / 64 rounded up.
+/// bit b under test t is bit t mod 64 of word b * rows + t / 64, and rows is tests / 64 rounded up.
 #[derive(Drop)]
 pub struct Matrix {
     shape: Shape,
@@ -65,7 +65,8 @@ impl Matrix {
     pub fn set(&mut self, bit: u32, test: u32)
         requires in_range { (bit < self.old.shape.bits) × (test < self.old.shape.tests) }
         ensures words { self.new ≡ with_pair self.old bit test }
-        ensures pairs { (b t : ℕ) → Holds self.new b t ↔ (Holds self.old b t ⊎ ((b ≡ bit) × (t ≡ test))) }
+        ensures pairs { (b t : ℕ) →
+            Holds self.new b t ↔ (Holds self.old b t ⊎ ((b ≡ bit) × (t ≡ test))) }
     {
         let place = self.shape.place(bit, test);
         self.words[place] |= 1 << (test % 64);
@@ -83,7 +84,8 @@ impl Matrix {
 
     /// The least test under which the bit is recorded.
     pub fn least_test(&self, bit: u32) -> Option<u32>
-        ensures some { IfSome result (λ t. Holds self.now bit t × ((u : ℕ) → u < t → ¬ Holds self.now bit u)) }
+        ensures some { IfSome result (λ t.
+            Holds self.now bit t × ((u : ℕ) → u < t → ¬ Holds self.now bit u)) }
         ensures none { IsNone result ↔ ((t : ℕ) → ¬ Holds self.now bit t) }
     {
         if bit >= self.shape.bits {
@@ -99,8 +101,3 @@ impl Matrix {
         None
     }
 }
-
-/// A matrix is its shape and its set of pairs: the words follow from them.
-pub fn words_follow_from_pairs()
-    ensures { (s : Shape) (v w : List ℕ) → IsSound s v → IsSound s w → All (λ x. x < 2 ^ 64) v → All (λ x. x < 2 ^ 64) w → ((b t : ℕ) → Holds record { shape = s; words = v } b t ↔ Holds record { shape = s; words = w } b t) → v ≡ w }
-{}

@@ -1,8 +1,7 @@
-//! Two matrices of the same bits, one behind the other.
+//! Two matrices of the same bits, one after the other.
 ghost use Rattle.std.specs.Prelude.{◌≡◌, ℕ, ◌+◌, ◌<◌, ◌≤◌, ◌⊎◌, ◌↔◌, Err, IfOk, IfErr, IsTrue};
-ghost use Rattle.mc_core.specs.Shape.{word_count};
 ghost use Rattle.mc_core.specs.Matrix.{Holds};
-ghost use Rattle.mc_core.specs.Merged.{both_shapes, HoldsEither};
+ghost use Rattle.mc_core.specs.Merged.{both_shapes, words_of_both, HoldsEither};
 
 use crate::matrix::Matrix;
 use crate::shape::{Shape, words};
@@ -15,7 +14,7 @@ pub enum MergeFault {
     /// The matrix would need more than 1,048,576 words; this many.
     #[error("matrix needs {words} words")]
     TooLarge { words: u64 },
-    /// Want of memory.
+    /// Memory has run out.
     #[error("out of memory")]
     OutOfMemory,
 }
@@ -36,9 +35,12 @@ pub fn merge(alloc: Global, left: &Matrix, right: &Matrix) -> Result<Matrix, Mer
     requires bits { left.now.shape.bits ≡ right.now.shape.bits }
     requires tests { left.now.shape.tests + right.now.shape.tests ≤ 4096 }
     ensures shape { IfOk result (λ m. m.shape ≡ both_shapes left.now.shape right.now.shape) }
-    ensures pairs { IfOk result (λ m. (b t : ℕ) → Holds m b t ↔ HoldsEither left.now right.now b t) }
-    ensures too_large { 1048576 < word_count (both_shapes left.now.shape right.now.shape) → result ≡ Err (MergeFault.TooLarge (word_count (both_shapes left.now.shape right.now.shape))) }
-    ensures fits { word_count (both_shapes left.now.shape right.now.shape) ≤ 1048576 → IfErr result (λ e. e ≡ MergeFault.OutOfMemory) }
+    ensures pairs { IfOk result (λ m. (b t : ℕ) →
+        Holds m b t ↔ HoldsEither left.now right.now b t) }
+    ensures too_large { 1048576 < words_of_both left.now right.now
+        → result ≡ Err (MergeFault.TooLarge (words_of_both left.now right.now)) }
+    ensures fits { words_of_both left.now right.now ≤ 1048576
+        → IfErr result (λ e. e ≡ MergeFault.OutOfMemory) }
 {
     let first = left.shape();
     let shape = Shape {
@@ -60,7 +62,8 @@ pub fn merge(alloc: Global, left: &Matrix, right: &Matrix) -> Result<Matrix, Mer
 fn merge_bit(merged: &mut Matrix, left: &Matrix, right: &Matrix, bit: u32)
     requires bit { bit < merged.old.shape.bits }
     ensures shape { merged.new.shape ≡ merged.old.shape }
-    ensures pairs { (b t : ℕ) → Holds merged.new b t ↔ (Holds merged.old b t ⊎ ((b ≡ bit) × (t < merged.old.shape.tests) × HoldsEither left.now right.now b t)) }
+    ensures pairs { (b t : ℕ) → Holds merged.new b t ↔ (Holds merged.old b t
+        ⊎ ((b ≡ bit) × (t < merged.old.shape.tests) × HoldsEither left.now right.now b t)) }
 {
     for test in 0..merged.shape().tests {
         if either_holds(left, right, bit, test) {

@@ -5,7 +5,7 @@ ghost use Rattle.mc_core.specs.Matrix.{Holds, with_pair};
 ghost use Rattle.mc_core.specs.Schedule.{core_of, run, start, script_of, scripts_of, worker_of, workers_of, fresh_workers, next_bit, last_claim};
 ghost use Rattle.mc_core.specs.Schedule as machine;
 ghost use Rattle.mc_core.specs.Counts.{times, once_below};
-ghost use Rattle.mc_core.specs.Law.{all_claims, ended_count, all_hits, IsInOrder, IsReady};
+ghost use Rattle.mc_core.specs.Progress.{all_claims, ended_count, all_hits, IsInOrder, IsReady};
 
 use crate::matrix::Matrix;
 use crate::shape::Shape;
@@ -27,7 +27,7 @@ pub struct CoreWorker {
     pub claimed: Vec<u32>,
     /// How many bits of the last claimed test are still to be hit.
     pub rest: u32,
-    /// Whether it drew a number that is no test.
+    /// Whether it drew a number that is not a test.
     pub ended: bool,
 }
 
@@ -43,18 +43,24 @@ pub fn run_schedule(
 ) -> Result<CoreState, AllocError>
     requires small { word_count shape ≤ 1048576 }
     requires tests { length scripts.now ≡ shape.tests }
-    requires scripts { All (λ v. (vec_len v < 2 ^ 31) × All (λ b. b < shape.bits) v.items) scripts.now }
+    requires scripts { All (λ v. (vec_len v < 2 ^ 31) × All (λ b. b < shape.bits) v.items)
+        scripts.now }
     requires workers { (1 ≤ workers) × (workers ≤ 64) }
     requires steps { length schedule.now < 2 ^ 31 }
-    ensures state { IfOk result (λ s. core_of s ≡ run (scripts_of scripts.now) (start shape workers) schedule.now) }
+    ensures state { IfOk result (λ s.
+        core_of s ≡ run (scripts_of scripts.now) (start shape workers) schedule.now) }
     // each draw claimed a test or ended a worker
-    ensures draws { IfOk result (λ s. s.draws ≡ length (all_claims (workers_of s)) + ended_count (workers_of s)) }
+    ensures draws { IfOk result (λ s.
+        s.draws ≡ length (all_claims (workers_of s)) + ended_count (workers_of s)) }
     // the numbers drawn below the tests are claimed once, and no other
-    ensures claims { IfOk result (λ s. (n : ℕ) → times n (all_claims (workers_of s)) ≡ once_below n (min s.draws shape.tests)) }
+    ensures claims { IfOk result (λ s. (n : ℕ) →
+        times n (all_claims (workers_of s)) ≡ once_below n (min s.draws shape.tests)) }
     // the pairs of finished tests, and those already hit of each worker's last test
-    ensures pairs { IfOk result (λ s. (b t : ℕ) → Holds s.matrix b t ↔ Contains (all_hits (scripts_of scripts.now) (workers_of s)) (b, t)) }
+    ensures pairs { IfOk result (λ s. (b t : ℕ) →
+        Holds s.matrix b t ↔ Contains (all_hits (scripts_of scripts.now) (workers_of s)) (b, t)) }
     // whatever the schedule
-    ensures finished { IfOk result (λ s. All (λ w. w.ended ≡ true) (workers_of s) → (b t : ℕ) → Holds s.matrix b t ↔ Contains (script_of (scripts_of scripts.now) t) b) }
+    ensures finished { IfOk result (λ s. All (λ w. w.ended ≡ true) (workers_of s) → (b t : ℕ) →
+        Holds s.matrix b t ↔ Contains (script_of (scripts_of scripts.now) t) b) }
 {
     let mut state = started(alloc, shape, workers)?;
     for number in schedule {
@@ -93,10 +99,13 @@ fn idle_workers(alloc: Global, count: u32) -> Result<Vec<CoreWorker>, AllocError
 // One step of a worker.
 fn step(state: &mut CoreState, scripts: &[Vec<u32>], number: u32) -> Result<(), AllocError>
     requires tests { length scripts.now ≡ state.old.matrix.shape.tests }
-    requires scripts { All (λ v. (vec_len v < 2 ^ 31) × All (λ b. b < state.old.matrix.shape.bits) v.items) scripts.now }
+    requires scripts { All
+        (λ v. (vec_len v < 2 ^ 31) × All (λ b. b < state.old.matrix.shape.bits) v.items)
+        scripts.now }
     requires draws { state.old.draws < 2 ^ 31 }
     requires ready { IsReady (scripts_of scripts.now) (core_of state.old) }
-    ensures { OnOk result (core_of state.new ≡ machine.step (scripts_of scripts.now) (core_of state.old) number) }
+    ensures { OnOk result
+        (core_of state.new ≡ machine.step (scripts_of scripts.now) (core_of state.old) number) }
 {
     let Some(worker) = state.workers.get_mut(number as usize) else {
         return Ok(());
@@ -118,8 +127,11 @@ fn hit(matrix: &mut Matrix, worker: &mut CoreWorker, scripts: &[Vec<u32>])
     requires tests { length scripts.now ≡ matrix.old.shape.tests }
     requires scripts { All (λ v. All (λ b. b < matrix.old.shape.bits) v.items) scripts.now }
     requires rest { 0 < worker.old.rest }
-    requires ready { IsInOrder (scripts_of scripts.now) matrix.old.shape.tests (worker_of worker.old) }
-    ensures matrix { matrix.new ≡ with_pair matrix.old (next_bit (scripts_of scripts.now) (worker_of worker.old)) (last_claim (worker_of worker.old)) }
+    requires ready { IsInOrder (scripts_of scripts.now) matrix.old.shape.tests
+        (worker_of worker.old) }
+    ensures matrix { matrix.new ≡ with_pair matrix.old
+        (next_bit (scripts_of scripts.now) (worker_of worker.old))
+        (last_claim (worker_of worker.old)) }
     ensures worker { worker_of worker.new ≡ machine.after_hit (worker_of worker.old) }
 {
     let test = worker.claimed[worker.claimed.len() - 1];
@@ -133,7 +145,8 @@ fn hit(matrix: &mut Matrix, worker: &mut CoreWorker, scripts: &[Vec<u32>])
 fn claim(worker: &mut CoreWorker, scripts: &[Vec<u32>], drawn: u32) -> Result<(), AllocError>
     requires scripts { All (λ v. vec_len v < 2 ^ 31) scripts.now }
     requires done { (worker.old.rest ≡ 0) × (worker.old.ended ≡ false) }
-    ensures { OnOk result (worker_of worker.new ≡ machine.after_claim (scripts_of scripts.now) (length scripts.now) drawn (worker_of worker.old)) }
+    ensures { OnOk result (worker_of worker.new ≡ machine.after_claim
+        (scripts_of scripts.now) (length scripts.now) drawn (worker_of worker.old)) }
 {
     if drawn as usize >= scripts.len() {
         worker.ended = true;

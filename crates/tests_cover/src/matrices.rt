@@ -1,98 +1,11 @@
-//! Known matrices and schedules.
-ghost use Rattle.std.specs.Prelude.{◌≡◌, ◌<◌, ◌≤◌, ◌^◌, All, IfOk, length, vec_len};
+//! Known matrices.
+ghost use Rattle.std.specs.Prelude.{◌≡◌, ◌≤◌, IfOk};
 ghost use Rattle.mc_core.specs.Shape.{word_count};
 
-use crate::{Matrix, MergeFault, Shape, merge, run_schedule, words};
+use mc_core::{Matrix, MergeFault, Shape, merge, words};
 use std::alloc::Global;
 use std::process::Abort;
 use std::test::Fail;
-
-// Runs scripts of two tests over two bits. A worker is its claimed tests, the bits that remain, and whether it ended.
-fn check_run(
-    rt: &impl Abort,
-    alloc: Global,
-    scripts: &[Vec<u32>],
-    schedule: &[u32],
-    draws: u32,
-    words: &[u64],
-    workers: &[(&[u32], u32, bool)],
-) -> Result<(), Fail>
-    requires tests { length scripts.now ≡ 2 }
-    requires scripts { All (λ v. (vec_len v < 2 ^ 31) × All (λ b. b < 2) v.items) scripts.now }
-    requires workers { (1 ≤ length workers.now) × (length workers.now ≤ 64) }
-    requires steps { length schedule.now < 2 ^ 31 }
-{
-    let shape = Shape { bits: 2, tests: 2 };
-    let state = run_schedule(alloc, shape, scripts, workers.len() as u32, schedule)?;
-    assert_eq!(rt; state.draws, draws);
-    assert!(rt; state.matrix.as_words() == words);
-    for (worker, (claimed, rest, ended)) in state.workers.iter().zip(workers) {
-        assert!(rt; worker.claimed.as_slice() == *claimed);
-        assert_eq!(rt; worker.rest, *rest);
-        assert_eq!(rt; worker.ended, *ended);
-    }
-    Ok(())
-}
-
-#[test]
-fn schedules_lead_to_one_matrix(rt: HostRuntime) -> Result<(), Fail> {
-    let alloc = rt.alloc();
-    let scripts = [vec![in alloc; 0]?, vec![in alloc; 1]?];
-    check_run(
-        &rt,
-        alloc,
-        &scripts,
-        &[0, 1, 0, 1, 0, 1],
-        4,
-        &[1, 2],
-        &[(&[0], 0, true), (&[1], 0, true)],
-    )?;
-    check_run(
-        &rt,
-        alloc,
-        &scripts,
-        &[0, 0, 0, 0, 0],
-        3,
-        &[1, 2],
-        &[(&[0, 1], 0, true), (&[], 0, false)],
-    )?;
-    // an unknown worker, and one that has ended
-    check_run(
-        &rt,
-        alloc,
-        &scripts,
-        &[7, 0, 1, 0, 0, 2, 0, 0],
-        3,
-        &[1, 0],
-        &[(&[0], 0, true), (&[1], 1, false)],
-    )?;
-    Ok(())
-}
-
-#[test]
-fn a_script_may_be_empty_or_repeat_a_bit(rt: HostRuntime) -> Result<(), Fail> {
-    let alloc = rt.alloc();
-    let scripts = [Vec::new(alloc), vec![in alloc; 1, 1]?];
-    check_run(
-        &rt,
-        alloc,
-        &scripts,
-        &[0, 0, 0],
-        2,
-        &[0, 2],
-        &[(&[0, 1], 1, false)],
-    )?;
-    check_run(
-        &rt,
-        alloc,
-        &scripts,
-        &[0, 0, 0, 0, 0],
-        3,
-        &[0, 2],
-        &[(&[0, 1], 0, true)],
-    )?;
-    Ok(())
-}
 
 // The matrix with these pairs of a bit and a test.
 fn matrix_of(
@@ -166,7 +79,7 @@ fn tests_are_merged_in_turn(rt: HostRuntime) -> Result<(), Fail> {
         &[(0, 0), (0, 1), (1, 60)],
     )?;
     let Ok(both) = merge(alloc, &left, &right) else {
-        panic!(rt; "no memory")
+        panic!(rt; "out of memory")
     };
     assert_eq!(rt;
         both.shape(),

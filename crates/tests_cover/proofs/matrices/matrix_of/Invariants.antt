@@ -1,5 +1,5 @@
 use Rattle.std.proofs.Common.{◌≡◌}
-use Rattle.mc_core.proofs.tests.matrix_of.Given as goal
+use Rattle.tests_cover.proofs.matrices.matrix_of.Given as goal
 
 abbrev pub invariant-loop-bit : goal.invariant-loop-bit
 invariant-loop-bit g l = l.matrix.shape ≡ l.shape
