@@ -1,2 +1,4 @@
 pub mod Tree
+pub mod Order
 pub mod Vectors
+pub mod Laws

@@ -3,7 +3,8 @@ use Rattle.std.specs.Prelude.{◌≡◌, ℕ, ◌+◌, ◌<◌, ◌≤◌}
 use Rattle.mc_cond.specs.declared.tree.CondTree.{CondTree}
 use Rattle.mc_cond.specs.declared.tree.CondTree.TheVariants as code
 
--- A decision consists of conditions and Boolean operators (DO-178C, glossary). A condition is known by its number.
+-- A decision consists of conditions and Boolean operators (DO-178C, glossary).
+-- A condition is known by its number.
 pub data Tree : Type 0 where
   Leaf : ℕ → Tree
   Not : Tree → Tree

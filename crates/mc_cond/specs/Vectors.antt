@@ -1,7 +1,8 @@
 -- Vectors: what short-circuit evaluation of a decision gives.
-use Rattle.std.specs.Prelude.{◌≡◌, ℕ, ◌<◌, Bool, true, false, if◌then◌else◌, not, ◌&&◌, ◌||◌, ◌==◌, ◌⊎◌, Option, Some, None, List, [], ◌∷◌, ◌++◌, replicate, slice_get, unwrap_or}
+use Rattle.std.specs.Prelude.{◌≡◌, ℕ, Bool, true, false, if◌then◌else◌, not, ◌&&◌, ◌||◌, ◌==◌, Some, None, List, [], ◌∷◌, ◌++◌, replicate, slice_get, unwrap_or}
 use Rattle.std.specs.Int.{bit_at}
 use Rattle.mc_cond.specs.Tree.{Tree, Leaf, Not, And, Or, size}
+use Rattle.mc_cond.specs.Order.{Answer}
 
 -- a row of the truth table: which conditions are true
 abbrev pub Row : Type 0
@@ -26,27 +27,34 @@ truth_of (Not a) row = not (truth_of a row)
 truth_of (And a b) row = truth_of a row && truth_of b row
 truth_of (Or a b) row = truth_of a row || truth_of b row
 
--- an evaluation: each condition is true, false or not evaluated (`None`), and the decision has an outcome
+-- an evaluation: the answer of each condition, and the decision's outcome
 pub record Evaluation : Type 0 where
-  pub answers : List (Option Bool)
+  pub answers : List Answer
   pub outcome : Bool
 
 -- an operand that is not evaluated
-abbrev pub skipped : Tree → List (Option Bool)
+abbrev pub skipped : Tree → List Answer
 skipped t = replicate (size t) None
 
--- Behind its first operand the second is evaluated where it is needed, and then gives the outcome. Else the first settles it.
+-- After its first operand the second is evaluated where it is needed, and then gives the outcome.
+-- Else the first settles it.
 abbrev pub followed_where : Bool → Evaluation → Tree → Evaluation → Evaluation
-followed_where true first right second = record { answers = first.answers ++ second.answers; outcome = second.outcome }
-followed_where false first right second = record { answers = first.answers ++ skipped right; outcome = first.outcome }
+followed_where true first right second =
+    record { answers = first.answers ++ second.answers; outcome = second.outcome }
+followed_where false first right second =
+    record { answers = first.answers ++ skipped right; outcome = first.outcome }
 
--- Short-circuit evaluation on a row. `!` turns the outcome round (C17 6.5.3.3). The second operand of `&&` is evaluated
--- only where the first is true (C17 6.5.13), and that of `||` only where the first is false (C17 6.5.14).
+-- Short-circuit evaluation on a row. `!` turns the outcome round (C17 6.5.3.3). The second operand
+-- of `&&` is evaluated only where the first is true (C17 6.5.13), and that of `||` only where the
+-- first is false (C17 6.5.14).
 abbrev pub evaluated : Tree → Row → Evaluation
 evaluated (Leaf k) row = record { answers = Some (row k) ∷ []; outcome = row k }
-evaluated (Not a) row = record { answers = (evaluated a row).answers; outcome = not (evaluated a row).outcome }
-evaluated (And a b) row = followed_where (evaluated a row).outcome (evaluated a row) b (evaluated b row)
-evaluated (Or a b) row = followed_where (not (evaluated a row).outcome) (evaluated a row) b (evaluated b row)
+evaluated (Not a) row =
+    record { answers = (evaluated a row).answers; outcome = not (evaluated a row).outcome }
+evaluated (And a b) row =
+    followed_where (evaluated a row).outcome (evaluated a row) b (evaluated b row)
+evaluated (Or a b) row =
+    followed_where (not (evaluated a row).outcome) (evaluated a row) b (evaluated b row)
 
 -- a vector of a tree is what short-circuit evaluation of some row gives
 abbrev pub IsVector : Tree → Evaluation → Type 0
@@ -55,15 +63,3 @@ IsVector t v = (row : Row) × (evaluated t row ≡ v)
 -- a completion of a vector is a row that agrees with it at each condition that was evaluated
 abbrev pub IsCompletion : Evaluation → Row → Type 0
 IsCompletion v row = (k : ℕ) (x : Bool) → slice_get v.answers k ≡ Some (Some x) → row k ≡ x
-
--- true before false before not evaluated
-abbrev pub rank : Option Bool → ℕ
-rank (Some true) = 0
-rank (Some false) = 1
-rank None = 2
-
--- the order of vectors: the first condition in which they differ decides
-abbrev pub IsBefore : List (Option Bool) → List (Option Bool) → Type 0
-IsBefore (x ∷ xs) (y ∷ ys) = (rank x < rank y) ⊎ ((x ≡ y) × IsBefore xs ys)
-IsBefore (x ∷ xs) [] = ⊥
-IsBefore [] ys = ⊥

@@ -8,7 +8,8 @@ use crate::answers::Answers;
 use crate::tree::{CondTree, conditions_in};
 use crate::vector::Vector;
 
-/// Evaluates a decision whose conditions have these answers, condition 0 first (C17 6.5.13, 6.5.14).
+/// Evaluates a decision whose conditions have these answers, condition 0 first (C17 6.5.13,
+/// 6.5.14).
 pub fn walk(tree: &CondTree, answers: &[bool]) -> Vector
     requires tree { IsNumbered (tree_of tree.now) }
     requires answers { length answers.now ≡ size (tree_of tree.now) }
@@ -19,13 +20,15 @@ pub fn walk(tree: &CondTree, answers: &[bool]) -> Vector
     Vector::new(seen, outcome)
 }
 
-/// Evaluates the part of a decision that stands behind the conditions seen, and adds its answers to these.
+/// Evaluates the part of a decision that stands after the conditions seen, and adds its answers to
+/// these.
 fn evaluate(tree: &CondTree, answers: &[bool], seen: &mut Answers) -> bool
     requires tree { IsNumberedFrom (length seen.old) (tree_of tree.now) }
     requires answers { length seen.old + size (tree_of tree.now) ≤ length answers.now }
     requires few { length answers.now ≤ 64 }
     ensures outcome { result ≡ (evaluated (tree_of tree.now) (row_of answers.now)).outcome }
-    ensures seen { seen.new ≡ seen.old ++ (evaluated (tree_of tree.now) (row_of answers.now)).answers }
+    ensures seen { seen.new
+        ≡ seen.old ++ (evaluated (tree_of tree.now) (row_of answers.now)).answers }
     ensures passed { length seen.new ≡ length seen.old + size (tree_of tree.now) }
 {
     match tree {

@@ -15,6 +15,3 @@ pub use laws::{
 };
 pub use tree::{CondTree, conditions, conditions_in, truth};
 pub use vector::Vector;
-
-#[cfg(test)]
-mod tests;

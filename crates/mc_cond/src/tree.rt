@@ -6,8 +6,8 @@ ghost use Rattle.mc_cond.specs.Vectors.{truth_of, row_in};
 
 /// A decision: conditions under NOT, AND and OR (DO-178C, glossary).
 /// Conditions are numbered from 0 on in the order of the text, and there are at most 64 of them:
-/// each call that takes a tree asks for this. Each call goes down the tree by recursion, so the stack
-/// that it takes grows with the height of the tree, long chains of NOT included.
+/// each call that takes a tree asks for this. Each call goes down the tree by recursion, so the
+/// stack that it takes grows with the height of the tree, long chains of NOT included.
 #[derive(Drop)]
 pub enum CondTree {
     /// A condition, by its number.
@@ -41,7 +41,8 @@ pub fn conditions_in(tree: &CondTree) -> u32
     }
 }
 
-/// The outcome of a decision on a row of its truth table: bit k of `row` says whether condition k is true.
+/// The outcome of a decision on a row of its truth table: bit k of `row` says whether condition k
+/// is true.
 pub fn truth(tree: &CondTree, row: u64) -> bool
     requires { IsNumbered (tree_of tree.now) }
     ensures { result ≡ truth_of (tree_of tree.now) (row_in row) }

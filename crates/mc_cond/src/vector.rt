@@ -5,7 +5,8 @@ ghost use Rattle.std.specs.Prelude.{◌≡◌, ◌<◌, ◌≤◌, length, slice
 use crate::answers::Answers;
 use std::marker::Model;
 
-/// An evaluation of a decision: for each of its conditions true, false or not evaluated, and the outcome.
+/// An evaluation of a decision: for each of its conditions true, false or not evaluated, and the
+/// outcome.
 #[derive(Drop)]
 pub struct Vector {
     answers: Answers,

@@ -1,5 +1,5 @@
 -- Bits of the masks of conditions.
-use Rattle.std.proofs.Common.{◌≡◌, ℕ, Bool, true, false, ◌&&◌, ◌||◌, refl, ◌∙◌, ap, sym, subst, ◌<◌, ◌*◌, ◌%◌, ◌^◌, ◌==◌, inl, inr, arith}
+use Rattle.std.proofs.Common.{◌≡◌, ℕ, Bool, true, false, ◌||◌, refl, ◌∙◌, ap, sym, subst, ◌<◌, ◌*◌, ◌%◌, ◌^◌, ◌==◌, inl, inr}
 use Rattle.std.specs.Prelude.{if◌then◌else◌, bit_or, max}
 use Rattle.std.specs.Int.{bit_at}
 use Rattle.std.proofs.lemmas.Bool.Decides.{eqb_tells}

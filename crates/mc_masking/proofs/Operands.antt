@@ -1,10 +1,10 @@
 -- Rows of a node by the rows of its operands.
-use Rattle.std.proofs.Common.{◌≡◌, ◌≢◌, ℕ, zero, suc, ◌+◌, ◌<◌, ◌≤◌, Bool, true, false, not, ◌==◌, ◌&&◌, ◌||◌, Option, Some, None, List, [], ◌∷◌, ◌++◌, length, replicate, arith, sym, ap, subst, refl, ◌∙◌, inl, inr, ◌⊎◌}
+use Rattle.std.proofs.Common.{◌≡◌, ◌≢◌, ℕ, zero, suc, ◌+◌, ◌<◌, ◌≤◌, Bool, true, false, not, ◌==◌, Option, Some, None, List, [], ◌∷◌, length, replicate, arith, sym, ap, subst, refl, ◌∙◌, inl, inr, ◌⊎◌}
 use Rattle.std.specs.Prelude.{if◌then◌else◌}
 use Rattle.std.proofs.lemmas.Bool.Decides.{eqb_tells}
 use Rattle.mc_cond.specs.Tree.{Tree, size, IsNumberedFrom}
 use Rattle.mc_cond.specs.Vectors.{Row, Evaluation, truth_of, flipped, evaluated, skipped, followed_where}
-use Rattle.mc_cond.proofs.Rows.{Agree, pasted, pasted_left, pasted_right, same_truth, length_answers, outcome_is_truth}
+use Rattle.mc_cond.proofs.Rows.{Agree, outcome_is_truth}
 use Rattle.mc_cond.proofs.Completions.{FitsAt, Fits, fits_left, fits_right, fits_both, again}
 
 -- a flip at k, seen at k and elsewhere

@@ -1,5 +1,5 @@
 -- Influence and masking pairs.
-use Rattle.std.proofs.Common.{◌≡◌, ◌≢◌, ℕ, ◌+◌, ◌<◌, ◌≤◌, Bool, true, false, not, Option, Some, None, List, length, arith, sym, ap, subst, refl, ◌∙◌, inl, inr}
+use Rattle.std.proofs.Common.{◌≡◌, ◌≢◌, ℕ, ◌<◌, Bool, true, false, Option, Some, None, arith, sym, ap, subst, refl, ◌∙◌, inl, inr}
 use Rattle.std.specs.Prelude.{◌↔◌, slice_get, if◌then◌else◌}
 use Rattle.std.proofs.lemmas.Option.{slice_get_within}
 use Rattle.mc_cond.specs.Tree.{Tree, size, IsNumbered}
@@ -10,7 +10,7 @@ use Rattle.mc_pairs.proofs.Evaluated.{evaluated_where}
 use Rattle.mc_pairs.proofs.Turned.{AreOpposed}
 use Rattle.mc_pairs.proofs.Steps.{other_value}
 use Rattle.mc_masking.specs.Masking.{FlipChanges, HasInfluence, IsMaskingPair}
-use Rattle.mc_masking.specs.Reach.{reaches, is_on, filled}
+use Rattle.mc_masking.specs.steps.Reach.{reaches, is_on, filled}
 use Rattle.mc_masking.proofs.Operands.{flip_at}
 use Rattle.mc_masking.proofs.Reaching.{Moves, moves_where, reaches_where, never_own}
 

@@ -1,12 +1,12 @@
 -- A flip reaches the outcome on some completion exactly where the operands say so.
-use Rattle.std.proofs.Common.{◌≡◌, ◌≢◌, ℕ, ◌+◌, ◌<◌, ◌≤◌, Bool, true, false, not, ◌==◌, ◌&&◌, ◌||◌, Option, Some, None, List, length, arith, sym, ap, subst, refl, ◌∙◌, inl, inr, ◌⊎◌}
+use Rattle.std.proofs.Common.{◌≡◌, ◌≢◌, ℕ, ◌+◌, ◌<◌, ◌≤◌, Bool, true, false, not, ◌&&◌, ◌||◌, Option, List, length, arith, sym, ap, subst, refl, ◌∙◌, inl, inr, ◌⊎◌}
 use Rattle.std.proofs.lemmas.Bool.Decides.{eqb_tells}
 use Rattle.mc_cond.specs.Tree.{Tree, Leaf, Not, And, Or, size, IsNumberedFrom}
-use Rattle.mc_cond.specs.Vectors.{Row, Evaluation, truth_of, flipped, evaluated, followed_where}
+use Rattle.mc_cond.specs.Vectors.{Row, truth_of, flipped, evaluated, followed_where}
 use Rattle.mc_cond.proofs.Rows.{Agree, pasted, pasted_left, pasted_right, same_truth, length_answers, outcome_is_truth, takes_either}
 use Rattle.mc_cond.proofs.Completions.{Fits, own_fits}
-use Rattle.mc_masking.specs.Reach.{shown_where, reaches}
-use Rattle.mc_masking.proofs.Operands.{flip_at, agree_flipped, agree_outside, agree_through, fits_agree, fits_truth, fits_first, fits_second, fits_node}
+use Rattle.mc_masking.specs.steps.Reach.{shown_where, reaches}
+use Rattle.mc_masking.proofs.Operands.{flip_at, agree_flipped, agree_outside, fits_agree, fits_truth, fits_first, fits_second, fits_node}
 
 -- a row that fits the answers, on which a flip of condition k changes the value
 pub record Moves (value : Row → Bool) (first : ℕ) (answers : List (Option Bool)) (k : ℕ) : Type 0 where

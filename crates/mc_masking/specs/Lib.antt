@@ -1,2 +1,3 @@
 pub mod Masking
-pub mod Reach
+pub mod Laws
+pub mod steps

@@ -1,5 +1,5 @@
 -- Influence of conditions, and masking pairs.
-use Rattle.std.specs.Prelude.{◌≡◌, ◌≢◌, ℕ}
+use Rattle.std.specs.Prelude.{◌≢◌, ℕ}
 use Rattle.mc_cond.specs.Tree.{Tree}
 use Rattle.mc_cond.specs.Vectors.{Row, Evaluation, truth_of, flipped, IsCompletion}
 
@@ -13,8 +13,9 @@ pub record HasInfluence (t : Tree) (k : ℕ) (v : Evaluation) : Type 0 where
   pub completion : IsCompletion v row
   pub changes : FlipChanges t k row
 
--- Two vectors are a masking pair for condition k where their outcomes differ, and they have completions in which k has
--- different values and a flip of k alone changes the outcome. What a row says beyond the last condition plays no part.
+-- Two vectors are a masking pair for condition k where their outcomes differ, and they have
+-- completions in which k has different values and a flip of k alone changes the outcome. What a row
+-- says beyond the last condition plays no part.
 pub record IsMaskingPair (t : Tree) (k : ℕ) (v w : Evaluation) : Type 0 where
   pub outcomes : v.outcome ≢ w.outcome
   pub a : Row

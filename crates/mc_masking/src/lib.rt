@@ -8,8 +8,3 @@ mod reach;
 pub use laws::{influence_evaluated, pair_evaluated, pair_turns};
 pub use masking::{Masking, masking_pair};
 pub use reach::influence;
-
-#[cfg(test)]
-mod brute_force;
-#[cfg(test)]
-mod tests;

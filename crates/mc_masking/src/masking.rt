@@ -13,8 +13,9 @@ use mc_cond::{CondTree, Vector};
 use mc_pairs::{Independence, chosen_pair};
 use mc_paths::Numbering;
 
-/// The chosen masking pair of seen paths for condition `k`: `k` is true in the first and false in the second,
-/// the first is the least path, and then the second. `None` where no two seen paths are a pair, in either order.
+/// The chosen masking pair of seen paths for condition `k`: `k` is true in the first and false in
+/// the second, the first is the least path, and then the second. `None` where no two seen paths are
+/// a pair, in either order.
 pub fn masking_pair(
     tree: &CondTree,
     numbering: &Numbering,
@@ -26,13 +27,16 @@ pub fn masking_pair(
     requires ascending { IsStrictlyIncreasing seen.now }
     requires paths { All (λ path. path < count_of (tree_of tree.now)) seen.now }
     requires condition { k < size (tree_of tree.now) }
-    ensures chosen { IfSome result (λ pair. IsChosen (IsMaskingPair (tree_of tree.now) k) (tree_of tree.now) seen.now k pair.0 pair.1) }
-    ensures none { IfNone result (NonePaired (IsMaskingPair (tree_of tree.now) k) (tree_of tree.now) seen.now) }
+    ensures chosen { IfSome result (λ pair. IsChosen (IsMaskingPair (tree_of tree.now) k)
+        (tree_of tree.now) seen.now k pair.0 pair.1) }
+    ensures none { IfNone result (NonePaired (IsMaskingPair (tree_of tree.now) k)
+        (tree_of tree.now) seen.now) }
 {
     chosen_pair::<Masking>(tree, numbering, seen, k)
 }
 
-/// Masking: other conditions may differ too, where the condition alone decides the outcome in each evaluation.
+/// Masking: other conditions may differ too, where the condition alone decides the outcome in each
+/// evaluation.
 pub struct Masking;
 
 impl Independence for Masking {

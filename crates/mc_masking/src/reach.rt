@@ -6,13 +6,13 @@ ghost use Rattle.mc_cond.specs.Tree.{tree_of, IsNumbered, AreBelow};
 ghost use Rattle.mc_cond.specs.Vectors.{Evaluation, IsVector, truth_of};
 ghost use Rattle.mc_paths.specs.Paths.{count_of, IsPath};
 ghost use Rattle.mc_masking.specs.Masking.{HasInfluence};
-ghost use Rattle.mc_masking.specs.Reach.{reaches, shown_where, filled};
+ghost use Rattle.mc_masking.specs.steps.Reach.{reaches, shown_where, filled};
 
 use mc_cond::{CondTree, Vector};
 use mc_paths::Numbering;
 
-/// The conditions with influence on a path's outcome: bit k is set exactly where some completion of the path's
-/// vector changes its outcome when condition k alone is flipped.
+/// The conditions with influence on a path's outcome: bit k is set exactly where some completion of
+/// the path's vector changes its outcome when condition k alone is flipped.
 pub fn influence(tree: &CondTree, numbering: &Numbering, path: u32) -> u64
     requires tree { IsNumbered (tree_of tree.now) }
     requires numbering { tree_of numbering.now ≡ tree_of tree.now }
@@ -44,7 +44,8 @@ fn effect_of(tree: &CondTree, vector: &Vector) -> Effect
     requires below { AreBelow (length vector.now.answers) (tree_of tree.now) }
     requires few { length vector.now.answers ≤ 64 }
     ensures outcome { result.outcome ≡ truth_of (tree_of tree.now) (filled vector.now) }
-    ensures influence { (k : ℕ) → bit_at result.influence k ≡ (if reaches (tree_of tree.now) (filled vector.now) k then 1 else 0) }
+    ensures influence { (k : ℕ) → bit_at result.influence k
+        ≡ (if reaches (tree_of tree.now) (filled vector.now) k then 1 else 0) }
 {
     match tree {
         CondTree::Leaf(k) => Effect {
@@ -79,7 +80,8 @@ fn effect_of(tree: &CondTree, vector: &Vector) -> Effect
     }
 }
 
-/// Both operands are evaluated. The second masks the first unless it has the value that lets a change through.
+/// Both operands are evaluated. The second masks the first unless it has the value that lets a
+/// change through.
 fn followed_by(first: Effect, second: Effect, lets_through: bool) -> Effect
     ensures outcome { result.outcome ≡ second.outcome }
     ensures influence { (k : ℕ) (x y : Bool) → bit_at first.influence k ≡ (if x then 1 else 0)

@@ -7,7 +7,7 @@ use Rattle.mc_cond.specs.Vectors.{Evaluation}
 use Rattle.mc_paths.specs.Paths.{IsPath}
 use Rattle.mc_paths.proofs.Numbers.{vector_once}
 use Rattle.mc_pairs.specs.Pairs.{ArePaired, NonePaired, IsChosen, turned}
-use Rattle.mc_pairs.specs.Partners.{IsPartner}
+use Rattle.mc_pairs.specs.steps.Partners.{IsPartner}
 use Rattle.mc_pairs.proofs.Least.{least_in}
 
 module _ (shows : Evaluation → Evaluation → Type 0) (t : Tree) (k : ℕ) where

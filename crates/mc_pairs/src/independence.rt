@@ -6,12 +6,13 @@ ghost use Rattle.mc_cond.specs.Vectors.{Evaluation, IsVector};
 
 use mc_cond::{CondTree, Vector};
 
-/// A kind of independence: when two evaluations of a decision show that a condition affects its outcome.
+/// A kind of independence: when two evaluations of a decision show that a condition affects its
+/// outcome.
 pub trait Independence {
     ghost shows: { Tree → ℕ → Evaluation → Evaluation → Type 0 };
 
-    /// Whether two vectors of a decision, where condition `k` is true in the first and false in the second,
-    /// show its independence.
+    /// Whether two vectors of a decision, where condition `k` is true in the first and false in the
+    /// second, show its independence.
     fn is_pair(tree: &CondTree, k: u32, first: &Vector, second: &Vector) -> bool
         requires tree { IsNumbered (tree_of tree.now) }
         requires first { IsVector (tree_of tree.now) first.now }

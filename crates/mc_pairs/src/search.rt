@@ -6,14 +6,14 @@ ghost use Rattle.mc_cond.specs.Tree.{tree_of, size, IsNumbered};
 ghost use Rattle.mc_cond.specs.Vectors.{IsVector};
 ghost use Rattle.mc_paths.specs.Paths.{count_of};
 ghost use Rattle.mc_pairs.specs.Pairs.{NonePaired, IsChosen, turned};
-ghost use Rattle.mc_pairs.specs.Partners.{IsPartner};
+ghost use Rattle.mc_pairs.specs.steps.Partners.{IsPartner};
 
 use crate::independence::Independence;
 use mc_cond::{CondTree, Vector};
 use mc_paths::Numbering;
 
-/// The chosen pair of seen paths for condition `k`, or `None` where no two of them, the first with the condition
-/// true and the second with it false, are a pair.
+/// The chosen pair of seen paths for condition `k`, or `None` where no two of them, the first with
+/// the condition true and the second with it false, are a pair.
 pub fn chosen_pair<I: Independence>(
     tree: &CondTree,
     numbering: &Numbering,
@@ -25,8 +25,10 @@ pub fn chosen_pair<I: Independence>(
     requires ascending { IsStrictlyIncreasing seen.now }
     requires paths { All (λ path. path < count_of (tree_of tree.now)) seen.now }
     requires condition { k < size (tree_of tree.now) }
-    ensures chosen { IfSome result (λ pair. IsChosen (I.shows (tree_of tree.now) k) (tree_of tree.now) seen.now k pair.0 pair.1) }
-    ensures none { IfNone result (NonePaired (turned k (I.shows (tree_of tree.now) k)) (tree_of tree.now) seen.now) }
+    ensures chosen { IfSome result (λ pair. IsChosen (I.shows (tree_of tree.now) k)
+        (tree_of tree.now) seen.now k pair.0 pair.1) }
+    ensures none { IfNone result (NonePaired (turned k (I.shows (tree_of tree.now) k))
+        (tree_of tree.now) seen.now) }
 {
     for first in seen {
         let vector = numbering.vector_of(*first);
@@ -52,9 +54,11 @@ fn partner<I: Independence>(
     requires condition { k < size (tree_of tree.now) }
     requires first { IsVector (tree_of tree.now) first.now }
     ensures seen { IfSome result (λ path. Contains seen.now path) }
-    ensures partner { IfSome result (λ path. IsPartner (I.shows (tree_of tree.now) k) (tree_of tree.now) k first.now path) }
+    ensures partner { IfSome result (λ path.
+        IsPartner (I.shows (tree_of tree.now) k) (tree_of tree.now) k first.now path) }
     ensures least { IfSome result (λ path. (other : ℕ) → Contains seen.now other
-        → IsPartner (I.shows (tree_of tree.now) k) (tree_of tree.now) k first.now other → path ≤ other) }
+        → IsPartner (I.shows (tree_of tree.now) k) (tree_of tree.now) k first.now other
+        → path ≤ other) }
     ensures none { IfNone result ((other : ℕ) → Contains seen.now other
         → ¬ IsPartner (I.shows (tree_of tree.now) k) (tree_of tree.now) k first.now other) }
 {
@@ -83,7 +87,8 @@ fn is_partner<I: Independence>(
     requires condition { k < size (tree_of tree.now) }
     requires first { IsVector (tree_of tree.now) first.now }
     requires on { slice_get first.now.answers k ≡ Some (Some true) }
-    ensures { IsTrue result ↔ IsPartner (I.shows (tree_of tree.now) k) (tree_of tree.now) k first.now path }
+    ensures { IsTrue result
+        ↔ IsPartner (I.shows (tree_of tree.now) k) (tree_of tree.now) k first.now path }
 {
     is_second::<I>(tree, k, first, &numbering.vector_of(path))
 }

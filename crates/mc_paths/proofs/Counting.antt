@@ -8,7 +8,7 @@ use Rattle.mc_cond.specs.Tree.{Tree, Leaf, Not, And, Or, size}
 use Rattle.mc_cond.specs.Vectors.{Row, Evaluation, skipped, followed_where, evaluated}
 use Rattle.mc_cond.proofs.Rows.{length_answers}
 use Rattle.mc_paths.specs.Paths.{paths, false_edges, sum_along}
-use Rattle.mc_paths.specs.Bounds.{AreWithin}
+use Rattle.mc_paths.specs.steps.Bounds.{AreWithin}
 
 -- how many paths lead on from an outcome
 abbrev pub room : Bool → ℕ → ℕ → ℕ

@@ -2,9 +2,10 @@
 use Rattle.std.proofs.Common.{◌≡◌, ℕ, ◌+◌, ◌<◌, Bool, true, false, Option, List, [], ◌∷◌, inl, inr, sym, ap, ◌∙◌, subst, arith}
 use Rattle.std.specs.Prelude.{◌↔◌, slice_index}
 use Rattle.mc_cond.specs.Tree.{Tree, IsNumberedFrom}
-use Rattle.mc_cond.specs.Vectors.{Evaluation, evaluated, rank, IsVector, IsBefore}
+use Rattle.mc_cond.specs.Vectors.{Evaluation, evaluated, IsVector}
+use Rattle.mc_cond.specs.Order.{rank, IsBefore}
 use Rattle.mc_paths.specs.Paths.{count_of, increments, path_of, IsPath}
-use Rattle.mc_paths.specs.Descent.{Descent, descent}
+use Rattle.mc_paths.specs.steps.Descent.{Descent, descent}
 use Rattle.mc_paths.proofs.Counting.{room, below}
 use Rattle.mc_paths.proofs.Ordering.{Ahead, Compared, compared}
 use Rattle.mc_paths.proofs.Reaching.{Reaches, reaches, seen}

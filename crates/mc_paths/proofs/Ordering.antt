@@ -1,7 +1,8 @@
 -- The order of path numbers is the order of vectors.
 use Rattle.std.proofs.Common.{◌≡◌, ℕ, ◌+◌, ◌<◌, Bool, true, false, not, Option, Some, List, [], ◌∷◌, ◌++◌, ◌⊎◌, inl, inr, length, refl, ap, subst, arith}
 use Rattle.mc_cond.specs.Tree.{Tree, Leaf, Not, And, Or}
-use Rattle.mc_cond.specs.Vectors.{Row, Evaluation, skipped, followed_where, evaluated, IsBefore}
+use Rattle.mc_cond.specs.Vectors.{Row, Evaluation, skipped, followed_where, evaluated}
+use Rattle.mc_cond.specs.Order.{IsBefore}
 use Rattle.mc_paths.specs.Paths.{paths, false_edges, sum_along}
 use Rattle.mc_paths.proofs.Counting.{room, carry, total, carried, Leads, leads_and, leads_or, room_not, same_length, below}
 

@@ -7,7 +7,7 @@ use Rattle.mc_cond.specs.Tree.{Tree, Leaf, Not, And, Or, size, IsNumberedFrom}
 use Rattle.mc_cond.specs.Vectors.{Row, Evaluation, skipped, followed_where, evaluated}
 use Rattle.mc_cond.proofs.Rows.{same_evaluation, pasted, pasted_left, pasted_right, length_answers}
 use Rattle.mc_paths.specs.Paths.{paths, false_edges, sum_along}
-use Rattle.mc_paths.specs.Descent.{Descent, descended_where, taken, descent}
+use Rattle.mc_paths.specs.steps.Descent.{Descent, descended_where, taken, descent}
 use Rattle.mc_paths.proofs.Counting.{room, Leads, leads_and, leads_or, room_not, length_edges, sum_append, sum_none}
 
 -- the evaluation that a descent comes to

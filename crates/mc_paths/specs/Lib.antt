@@ -1,4 +1,4 @@
+pub mod Graph
 pub mod Paths
-pub mod Descent
-pub mod Bounds
-pub mod Kept
+pub mod Laws
+pub mod steps

@@ -3,23 +3,25 @@ use Rattle.std.specs.Prelude.{◌≡◌, ℕ, ◌+◌, Bool, true, false, Option
 use Rattle.mc_cond.specs.Tree.{Tree, Leaf, Not, And, Or}
 use Rattle.mc_cond.specs.Vectors.{Evaluation, IsVector}
 
--- In the short-circuit graph each condition has a successor where it is true and one where it is false: another condition
--- or an outcome. A path leads from the first condition along one successor each to an outcome.
-
--- how many paths lead from a tree's first condition to an outcome, where `after_true` lead on from where the tree is true,
--- and `after_false` from where it is false
+-- how many paths of the graph lead from a tree's first condition to an outcome, where `after_true`
+-- lead on from where the tree is true, and `after_false` from where it is false
 abbrev pub paths : Tree → ℕ → ℕ → ℕ
 paths (Leaf k) after_true after_false = after_true + after_false
 paths (Not a) after_true after_false = paths a after_false after_true
 paths (And a b) after_true after_false = paths a (paths b after_true after_false) after_false
 paths (Or a b) after_true after_false = paths a after_true (paths b after_true after_false)
 
--- for each condition the number of paths from its true successor, which its false edge adds; a true edge adds 0
+-- for each condition the number of paths from its true successor, which its false edge adds
+-- a true edge adds 0
 abbrev pub false_edges : Tree → ℕ → ℕ → List ℕ
 false_edges (Leaf k) after_true after_false = after_true ∷ []
 false_edges (Not a) after_true after_false = false_edges a after_false after_true
-false_edges (And a b) after_true after_false = false_edges a (paths b after_true after_false) after_false ++ false_edges b after_true after_false
-false_edges (Or a b) after_true after_false = false_edges a after_true (paths b after_true after_false) ++ false_edges b after_true after_false
+false_edges (And a b) after_true after_false =
+    false_edges a (paths b after_true after_false) after_false
+    ++ false_edges b after_true after_false
+false_edges (Or a b) after_true after_false =
+    false_edges a after_true (paths b after_true after_false)
+    ++ false_edges b after_true after_false
 
 -- a decision ends at either outcome, by one path from there
 abbrev pub count_of : Tree → ℕ

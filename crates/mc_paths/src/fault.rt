@@ -2,13 +2,13 @@
 
 use thiserror::Error;
 
-/// A decision with too many paths, or want of memory.
+/// A decision with too many paths, or memory has run out.
 #[derive(Clone, Copy, Debug, Drop, PartialEq, Eq, Error)]
 pub enum NumberFault {
     /// The decision has `count` paths, more than 4,096.
     #[error("too many paths {count}")]
     TooManyPaths { count: u128 },
-    /// Want of memory.
+    /// Memory has run out.
     #[error("out of memory")]
     OutOfMemory,
 }

@@ -3,13 +3,13 @@
 ghost use Rattle.std.specs.Prelude.{◌≡◌, ◌++◌, IfOk};
 ghost use Rattle.mc_cond.specs.Tree.{tree_of};
 ghost use Rattle.mc_paths.specs.Paths.{paths, false_edges};
-ghost use Rattle.mc_paths.specs.Bounds.{AreWithin};
+ghost use Rattle.mc_paths.specs.steps.Bounds.{AreWithin};
 
 use mc_cond::CondTree;
 use std::alloc::{AllocError, Global};
 
-/// How many paths lead from the first condition of a part of a decision to an outcome, where `after_true` and
-/// `after_false` lead on from its two sides.
+/// How many paths lead from the first condition of a part of a decision to an outcome, where
+/// `after_true` and `after_false` lead on from its two sides.
 pub(crate) fn paths(tree: &CondTree, after_true: u128, after_false: u128) -> u128
     requires { AreWithin u128.MAX (tree_of tree.now) after_true after_false }
     ensures { result ≡ paths (tree_of tree.now) after_true after_false }

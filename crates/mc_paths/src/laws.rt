@@ -1,30 +1,55 @@
-//! Laws of path numbers. Each has an empty body: its clause is what it proves.
-//! Together they say that the numbers below the count and the vectors correspond one to one, order kept.
+//! What follows from the definitions of paths. The functions do nothing: each has a law as its
+//! contract. The first four say that the numbers below the count and the vectors correspond one to
+//! one, order kept.
 
-ghost use Rattle.std.specs.Prelude.{◌≡◌, ℕ, ◌<◌, ◌↔◌};
-ghost use Rattle.mc_cond.specs.Tree.{Tree, IsNumbered};
-ghost use Rattle.mc_cond.specs.Vectors.{Evaluation, IsVector, IsBefore};
-ghost use Rattle.mc_paths.specs.Paths.{count_of, path_of, IsPath};
+ghost use Rattle.mc_paths.specs.Laws.{
+  CountIsOfGraph,
+  IncrementIsOfGraph,
+  NumberCountsVectorsBefore,
+  NumberIsBelow,
+  NumberIsOnce,
+  NumberIsTaken,
+  NumberKeepsOrder,
+  VectorGoesAlongGraph,
+};
 
 /// The number of each vector is below the count.
 pub fn number_below()
-    ensures { (t : Tree) (v : Evaluation) → IsNumbered t → IsVector t v → path_of t v < count_of t }
+    ensures { NumberIsBelow }
 {}
 
 /// No two vectors have one number.
 pub fn number_once()
-    ensures { (t : Tree) (v w : Evaluation) → IsNumbered t → IsVector t v → IsVector t w
-        → path_of t v ≡ path_of t w → v ≡ w }
+    ensures { NumberIsOnce }
 {}
 
 /// Each number below the count is that of a vector.
 pub fn number_taken()
-    ensures { (t : Tree) (path : ℕ) → IsNumbered t → path < count_of t
-        → (v : Evaluation) × IsPath t path v }
+    ensures { NumberIsTaken }
 {}
 
-/// The order of numbers is the order of vectors: conditions from the first, true before false before not evaluated.
+/// The order of numbers is the order of vectors: conditions from the first, true before false
+/// before not evaluated.
 pub fn number_order()
-    ensures { (t : Tree) (v w : Evaluation) → IsNumbered t → IsVector t v → IsVector t w
-        → ((path_of t v < path_of t w) ↔ IsBefore v.answers w.answers) }
+    ensures { NumberKeepsOrder }
+{}
+
+/// The number of a vector is how many vectors stand before it.
+pub fn number_counts()
+    ensures { NumberCountsVectorsBefore }
+{}
+
+/// A decision has as many paths as lead through its short-circuit graph.
+pub fn count_of_graph()
+    ensures { CountIsOfGraph }
+{}
+
+/// A false edge adds as many as paths lead on from the condition's true successor.
+pub fn increment_of_graph()
+    ensures { IncrementIsOfGraph }
+{}
+
+/// An evaluation goes along the short-circuit graph.
+pub fn vector_along_graph()
+    ensures { VectorGoesAlongGraph }
 {}

@@ -8,8 +8,8 @@ mod laws;
 mod numbering;
 
 pub use fault::NumberFault;
-pub use laws::{number_below, number_once, number_order, number_taken};
+pub use laws::{
+    count_of_graph, increment_of_graph, number_below, number_counts, number_once, number_order,
+    number_taken, vector_along_graph,
+};
 pub use numbering::{Numbering, number};
-
-#[cfg(test)]
-mod tests;

@@ -31,7 +31,7 @@ impl Model for Numbering {
     ghost use Rattle.std.specs.Coded.{codes};
     ghost use Rattle.mc_cond.specs.contracts.tree.CondTree as cond_tree;
     ghost use Rattle.mc_cond.specs.declared.tree.CondTree.{CondTree};
-    ghost use Rattle.mc_paths.specs.Kept.{IsKept};
+    ghost use Rattle.mc_paths.specs.steps.Kept.{IsKept};
 
     ghost Value = { CondTree };
 
@@ -42,7 +42,8 @@ impl Model for Numbering {
     ghost invariant = { λ n. IsKept n.tree n.on_false.items n.count };
 }
 
-/// Numbers the paths of a decision. The fault is `TooManyPaths` exactly where there are more than 4,096.
+/// Numbers the paths of a decision.
+/// The fault is `TooManyPaths` exactly where there are more than 4,096.
 pub fn number(alloc: Global, tree: &CondTree) -> Result<Numbering, NumberFault>
     requires { IsNumbered (tree_of tree.now) }
     ensures tree { IfOk result (λ n. tree_of n ≡ tree_of tree.now) }
@@ -96,7 +97,8 @@ impl Numbering {
         ON_TRUE
     }
 
-    /// What condition `k` adds to the number of a path where it is false: the number of paths from its true successor.
+    /// What condition `k` adds to the number of a path where it is false: the number of paths from
+    /// its true successor.
     pub fn on_false(&self, k: u32) -> u32
         requires { k < size (tree_of self.now) }
         ensures { slice_get (increments (tree_of self.now)) k ≡ Some result }

@@ -11,7 +11,7 @@ use Rattle.mc_pairs.proofs.Evaluated.{evaluated_where}
 use Rattle.mc_pairs.proofs.Turned.{AreOpposed}
 use Rattle.mc_pairs.proofs.Steps.{other_value}
 use Rattle.mc_unique.specs.Unique.{IsUniquePair}
-use Rattle.mc_unique.specs.Agreement.{AreCompatible, AgreeElsewhere}
+use Rattle.mc_unique.specs.steps.Agreement.{AreCompatible, AgreeElsewhere}
 
 pub turns : (t : Tree) (k : ℕ) (v w : Evaluation) → IsUniquePair t k v w → IsUniquePair t k w v
 turns t k v w p =

@@ -6,6 +6,3 @@ mod unique;
 
 pub use laws::{pair_evaluated, pair_turns};
 pub use unique::{UniqueCause, unique_pair};
-
-#[cfg(test)]
-mod tests;

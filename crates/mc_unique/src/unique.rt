@@ -6,14 +6,15 @@ ghost use Rattle.mc_cond.specs.Tree.{tree_of, size, IsNumbered};
 ghost use Rattle.mc_paths.specs.Paths.{count_of};
 ghost use Rattle.mc_pairs.specs.Pairs.{NonePaired, IsChosen};
 ghost use Rattle.mc_unique.specs.Unique.{IsUniquePair};
-ghost use Rattle.mc_unique.specs.Agreement.{AgreeElsewhere, AreCompatible};
+ghost use Rattle.mc_unique.specs.steps.Agreement.{AgreeElsewhere, AreCompatible};
 
 use mc_cond::{CondTree, Vector};
 use mc_pairs::{Independence, chosen_pair};
 use mc_paths::Numbering;
 
-/// The chosen unique-cause pair of seen paths for condition `k`: `k` is true in the first and false in the second,
-/// the first is the least path, and then the second. `None` where no two seen paths are a pair, in either order.
+/// The chosen unique-cause pair of seen paths for condition `k`: `k` is true in the first and false
+/// in the second, the first is the least path, and then the second. `None` where no two seen paths
+/// are a pair, in either order.
 pub fn unique_pair(
     tree: &CondTree,
     numbering: &Numbering,
@@ -25,8 +26,10 @@ pub fn unique_pair(
     requires ascending { IsStrictlyIncreasing seen.now }
     requires paths { All (λ path. path < count_of (tree_of tree.now)) seen.now }
     requires condition { k < size (tree_of tree.now) }
-    ensures chosen { IfSome result (λ pair. IsChosen (IsUniquePair (tree_of tree.now) k) (tree_of tree.now) seen.now k pair.0 pair.1) }
-    ensures none { IfNone result (NonePaired (IsUniquePair (tree_of tree.now) k) (tree_of tree.now) seen.now) }
+    ensures chosen { IfSome result (λ pair. IsChosen (IsUniquePair (tree_of tree.now) k)
+        (tree_of tree.now) seen.now k pair.0 pair.1) }
+    ensures none { IfNone result (NonePaired (IsUniquePair (tree_of tree.now) k)
+        (tree_of tree.now) seen.now) }
 {
     chosen_pair::<UniqueCause>(tree, numbering, seen, k)
 }

@@ -1,4 +1,4 @@
-use Rattle.std.proofs.Common.{ℕ, arith}
+use Rattle.std.proofs.Common.{arith}
 use Rattle.mc_masking.proofs.Bits.{bit_leaf}
 use Rattle.mc_masking.proofs.reach.+effect_of.Goals as goal
 

@@ -1,4 +1,3 @@
-use Rattle.std.specs.Prelude.{◌||◌}
 use Rattle.mc_masking.proofs.Bits.{bit_either}
 use Rattle.mc_masking.proofs.reach.followed_by.Goals as goal
 

@@ -1,4 +1,4 @@
-use Rattle.std.proofs.Common.{◌↔◌, ◌≡◌, ℕ, subst, sym, ◌∙◌}
+use Rattle.std.proofs.Common.{◌↔◌, ◌≡◌, subst, sym, ◌∙◌}
 use Rattle.std.specs.Int.{bit_at}
 use Rattle.mc_cond.specs.Tree.{tree_of}
 use Rattle.mc_cond.specs.Vectors.{Evaluation}

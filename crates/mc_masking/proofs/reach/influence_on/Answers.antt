@@ -1,4 +1,4 @@
-use Rattle.std.proofs.Common.{ℕ, length, arith}
+use Rattle.std.proofs.Common.{length, arith}
 use Rattle.std.specs.Int.{bit_at}
 use Rattle.mc_cond.specs.Tree.{tree_of}
 use Rattle.mc_cond.proofs.Numbers.{numbered_below}

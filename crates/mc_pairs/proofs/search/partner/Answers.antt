@@ -1,6 +1,6 @@
 use Rattle.std.proofs.Common.{ℕ, arith, inl, inr}
 use Rattle.mc_cond.specs.Tree.{tree_of}
-use Rattle.mc_pairs.specs.Partners.{IsPartner}
+use Rattle.mc_pairs.specs.steps.Partners.{IsPartner}
 use Rattle.mc_pairs.proofs.Lengths.{below_length}
 use Rattle.mc_pairs.proofs.Least.{least_in, all_in}
 use Rattle.mc_pairs.proofs.search.partner.Goals as goal

@@ -1,6 +1,6 @@
 use Rattle.std.proofs.Common.{ℕ, ◌<◌, get_or}
 use Rattle.mc_cond.specs.Tree.{tree_of}
-use Rattle.mc_pairs.specs.Partners.{IsPartner}
+use Rattle.mc_pairs.specs.steps.Partners.{IsPartner}
 use Rattle.mc_pairs.proofs.search.partner.Given as goal
 
 abbrev pub invariant-loop-path : goal.invariant-loop-path

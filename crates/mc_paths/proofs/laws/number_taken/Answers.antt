@@ -1,5 +1,5 @@
 use Rattle.mc_paths.specs.Paths.{increments}
-use Rattle.mc_paths.specs.Descent.{descent}
+use Rattle.mc_paths.specs.steps.Descent.{descent}
 use Rattle.mc_paths.proofs.Numbers.{descent_path}
 use Rattle.mc_paths.proofs.Reaching.{seen}
 use Rattle.mc_paths.proofs.laws.number_taken.Goals as goal

@@ -1,5 +1,5 @@
 use Rattle.std.proofs.Common.{◌≢◌, ℕ, ◌<◌}
-use Rattle.mc_unique.specs.Agreement.{AgreeAt}
+use Rattle.mc_unique.specs.steps.Agreement.{AgreeAt}
 use Rattle.mc_unique.proofs.unique.agree_elsewhere.Given as goal
 
 abbrev pub invariant-loop-other : goal.invariant-loop-other

@@ -1,7 +1,7 @@
 use Rattle.std.proofs.Common.{Some, true}
 use Rattle.mc_cond.specs.Tree.{tree_of}
-use Rattle.mc_pairs.proofs.Steps.{iff_through, iff_never, outcomes_same, outcomes_differ}
-use Rattle.mc_masking.proofs.Pairs.{pair_by, first_influence, second_influence, bit_below}
+use Rattle.mc_pairs.proofs.Steps.{iff_never, outcomes_same}
+use Rattle.mc_masking.proofs.Pairs.{bit_below}
 use Rattle.mc_masking.proofs.masking.MaskingIndependence.is_pair.Goals as goal
 
 pub returns-then-outcome : goal.returns-then-outcome

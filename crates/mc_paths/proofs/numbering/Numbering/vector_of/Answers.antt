@@ -2,7 +2,7 @@ use Rattle.std.proofs.Common.{◌≡◌, ◌∙◌, arith, refl}
 use Rattle.mc_cond.specs.Tree.{tree_of, size}
 use Rattle.mc_cond.proofs.Numbers.{numbered_below}
 use Rattle.mc_paths.specs.Paths.{increments}
-use Rattle.mc_paths.specs.Descent.{descent}
+use Rattle.mc_paths.specs.steps.Descent.{descent}
 use Rattle.mc_paths.proofs.Counting.{length_edges}
 use Rattle.mc_paths.proofs.Numbers.{followed_path}
 use Rattle.mc_paths.proofs.numbering.Numbering.vector_of.Goals as goal

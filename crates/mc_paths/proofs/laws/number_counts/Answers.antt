@@ -1,0 +1,5 @@
+use Rattle.mc_paths.proofs.Before.{vectors_before}
+use Rattle.mc_paths.proofs.laws.number_counts.Goals as goal
+
+pub returns : goal.returns
+returns c = λ t v n is. vectors_before t v n.in_order is

@@ -1,6 +1,0 @@
-use Rattle.std.proofs.Common.{◌≡◌}
-use Rattle.mc_cond.specs.Tree.{tree_of, size, IsNumberedFrom}
-use Rattle.mc_paths.proofs.tests.chain.Given as goal
-
-abbrev pub invariant-loop-at : goal.invariant-loop-at
-invariant-loop-at l = (IsNumberedFrom 0 (tree_of l.tree)) × (size (tree_of l.tree) ≡ l.at)

@@ -1,0 +1,115 @@
+//! The truth, the vectors and the path numbers of small decisions, against what C gives for them,
+//! and the counts of large ones.
+
+ghost use Rattle.mc_cond.specs.Tree.{tree_of, IsNumbered};
+
+use crate::trees::{is_written, many_ands, many_ors, negated_and, two_ands};
+use mc_cond::{CondTree, conditions, truth, walk};
+use mc_paths::{NumberFault, number};
+use std::alloc::Global;
+use std::process::Abort;
+use std::test::Fail;
+
+/// Checks the outcome on each row of the truth table, condition 0 least.
+fn check_truth(rt: &impl Abort, tree: &CondTree, outcomes: &str)
+    requires { IsNumbered (tree_of tree.now) }
+{
+    for (row, outcome) in outcomes.as_bytes().iter().enumerate() {
+        assert_eq!(rt; truth(tree, row as u64), *outcome == b'T', "row {row}");
+    }
+}
+
+/// Checks the vectors on some answers.
+fn check_walks(rt: &impl Abort, tree: &CondTree, rows: &[(&[bool], &str)])
+    requires { IsNumbered (tree_of tree.now) }
+{
+    for (answers, text) in rows {
+        assert_eq!(rt; answers.len(), conditions(tree) as usize);
+        assert!(rt; is_written(&walk(tree, answers), text), "{text}");
+    }
+}
+
+/// Checks the vector of each path, and what the false edge of each condition adds.
+fn check_paths(
+    rt: &impl Abort,
+    alloc: Global,
+    tree: &CondTree,
+    texts: &[&str],
+    edges: &[u32],
+) -> Result<(), Fail>
+    requires { IsNumbered (tree_of tree.now) }
+{
+    let numbering = number(alloc, tree)?;
+    assert_eq!(rt; texts.len(), numbering.count() as usize);
+    for path in 0..numbering.count() {
+        let vector = numbering.vector_of(path);
+        assert!(rt; is_written(&vector, texts[path as usize]), "path {path}");
+        assert_eq!(rt; vector.outcome(), numbering.outcome_of(path));
+    }
+    assert_eq!(rt; edges.len(), conditions(tree) as usize);
+    for k in 0..conditions(tree) {
+        assert_eq!(rt;
+            (numbering.on_true(k), numbering.on_false(k)),
+            (0, edges[k as usize])
+        );
+    }
+    Ok(())
+}
+
+/// How many paths a decision has, also where they are too many; 0 where memory has run out.
+fn count_of_paths(alloc: Global, tree: &CondTree) -> u128
+    requires { IsNumbered (tree_of tree.now) }
+{
+    match number(alloc, tree) {
+        Ok(numbering) => numbering.count() as u128,
+        Err(NumberFault::TooManyPaths { count }) => count,
+        Err(NumberFault::OutOfMemory) => 0,
+    }
+}
+
+#[test]
+fn small_decisions_are_evaluated(rt: HostRuntime) -> Result<(), Fail> {
+    let alloc = rt.alloc();
+    let tree = negated_and(alloc)?;
+    check_truth(&rt, &tree, "TTTFTTTT");
+    check_walks(
+        &rt,
+        &tree,
+        &[
+            (&[true, true, true], "TTT=T"),
+            (&[true, true, false], "TTF=F"),
+            (&[true, false, true], "TF-=T"),
+            (&[false, true, false], "F--=T"),
+        ],
+    );
+    let texts = ["TTT=T", "TTF=F", "TF-=T", "F--=T"];
+    check_paths(&rt, alloc, &tree, &texts, &[3, 2, 1])?;
+    let tree = two_ands(alloc)?;
+    check_truth(&rt, &tree, "FFFTFFFTFFFTTTTT");
+    check_walks(
+        &rt,
+        &tree,
+        &[
+            (&[true, true, true, false], "TT--=T"),
+            (&[true, false, true, true], "TFTT=T"),
+            (&[true, false, true, false], "TFTF=F"),
+            (&[false, true, false, true], "F-F-=F"),
+        ],
+    );
+    let texts = [
+        "TT--=T", "TFTT=T", "TFTF=F", "TFF-=F", "F-TT=T", "F-TF=F", "F-F-=F",
+    ];
+    check_paths(&rt, alloc, &tree, &texts, &[4, 1, 2, 1])
+}
+
+#[test]
+fn paths_are_counted(rt: HostRuntime) -> Result<(), Fail> {
+    let alloc = rt.alloc();
+    for (count, paths) in [(11, 4_095), (12, 8_191), (32, 8_589_934_591)] {
+        let tree = many_ors(alloc, count)?;
+        assert_eq!(rt; count_of_paths(alloc, &tree), paths);
+        assert_eq!(rt; number(alloc, &tree).is_ok(), paths <= 4_096);
+    }
+    assert_eq!(rt; count_of_paths(alloc, &many_ands(alloc, 64)?), 65);
+    Ok(())
+}
