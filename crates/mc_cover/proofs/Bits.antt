@@ -1,4 +1,4 @@
--- One bit of one word, and the words behind the first.
+-- One bit of one word, and the words after the first.
 use Rattle.std.proofs.Common.{◌≡◌, ◌≢◌, ℕ, zero, suc, ◌+◌, ◌*◌, ◌/◌, ◌%◌, ◌^◌, ◌<◌, ◌≤◌, List, [], ◌∷◌, length, get_or, set, sym, refl, ap, subst, arith, get_or-set_same}
 use Rattle.std.specs.Prelude.{bit_or}
 use Rattle.std.specs.Int.{bit_at}
@@ -50,10 +50,10 @@ same_pair k b t c u ht hu e m =
 pub place_within : (k : Shape) (b t : ℕ) → b < k.bits → t < 64 * rows k → place k b t < word_count k
 place_within k b t hb ht = let r : ℕ = rows k in let q : t / 64 < r = omega arith in let h = mul-add-lt b r (t / 64) k.bits hb q in let c = Rattle.std.proofs.Common.mul_comm k.bits r in omega arith
 
--- ---- the words behind the first
-pub behind : (words : List ℕ) (p d : ℕ) → get_or (coverage words) p d ≡ get_or words (p + 1) d
-behind [] p d = refl
-behind (w ∷ ws) p d = let q : p + 1 ≡ suc p = omega arith in ap (λ (i : ℕ). get_or (w ∷ ws) i d) (sym q)
+-- ---- the words after the first
+pub after_first : (words : List ℕ) (p d : ℕ) → get_or (coverage words) p d ≡ get_or words (p + 1) d
+after_first [] p d = refl
+after_first (w ∷ ws) p d = let q : p + 1 ≡ suc p = omega arith in ap (λ (i : ℕ). get_or (w ∷ ws) i d) (sym q)
 
 pub length_coverage : (words : List ℕ) (n : ℕ) → length words ≡ n + 1 → length (coverage words) ≡ n
 length_coverage [] n e = absurd (omega arith)
@@ -63,7 +63,7 @@ pub coverage_drawn : (words : List ℕ) (x : ℕ) → coverage (set words 0 x) �
 coverage_drawn [] x = refl
 coverage_drawn (w ∷ ws) x = refl
 
--- to set a bit of a word behind the first is to set it in the words behind the first
-pub marked_behind : (words : List ℕ) (p n : ℕ) → 0 < length words → marked words (p + 1) n ≡ get_or words 0 0 ∷ marked (coverage words) p n
-marked_behind [] p n some = absurd (omega arith)
-marked_behind (w ∷ ws) p n some = let q : p + 1 ≡ suc p = omega arith in ap (λ (i : ℕ). marked (w ∷ ws) i n) q
+-- to set a bit of a word after the first is to set it in the words after the first
+pub marked_after_first : (words : List ℕ) (p n : ℕ) → 0 < length words → marked words (p + 1) n ≡ get_or words 0 0 ∷ marked (coverage words) p n
+marked_after_first [] p n some = absurd (omega arith)
+marked_after_first (w ∷ ws) p n some = let q : p + 1 ≡ suc p = omega arith in ap (λ (i : ℕ). marked (w ∷ ws) i n) q

@@ -20,7 +20,7 @@ use Rattle.mc_cover.specs.Steps as steps
 use Rattle.mc_cover.specs.Tells.{hit_is}
 use Rattle.mc_cover.proofs.Sums.{total_set, total_kept}
 use Rattle.mc_cover.proofs.Counts.{marks_same, marks_other}
-use Rattle.mc_cover.proofs.Bits.{marked, mark_here, mark_other, mark_grows, same_pair, place_within, pow_same, length_coverage, marked_behind}
+use Rattle.mc_cover.proofs.Bits.{marked, mark_here, mark_other, mark_grows, same_pair, place_within, pow_same, length_coverage, marked_after_first}
 
 -- what holds of each view, after one view changes
 pub each_set : (P : View → Type 0) (Q : View → Type 0) (views : List View) (id : ℕ) (w : View) → ((v : View) → P v → Q v) → Q w
@@ -93,7 +93,7 @@ module _ (k : Shape) (s : Shared) (kept : IsKept k s) (id b t : ℕ) (v : View) 
 
 -- the fetch_or of one bit
 pub move_hit : (k : Shape) (s : Shared) → IsKept k s → (id : ℕ) (v : View) (b t : ℕ) → stepped s (place k b t + 1) (bit_or (get_or s.words (place k b t + 1) 0) (2 ^ (t % 64))) id [] (after_hit v b t) keeps ≡ steps.marked k s id v b t
-move_hit k s kept id v b t = ap (λ (words : List ℕ). let r : Shared = record { words = words; homes = s.homes; views = set s.views id (after_hit v b t) } in r) (marked_behind s.words (place k b t) (t % 64) (let h = kept.whole in omega arith))
+move_hit k s kept id v b t = ap (λ (words : List ℕ). let r : Shared = record { words = words; homes = s.homes; views = set s.views id (after_hit v b t) } in r) (marked_after_first s.words (place k b t) (t % 64) (let h = kept.whole in omega arith))
 
 pub hits : (k : Shape) (slots id : ℕ) (me : Me (Unit {0}) View) (b t word mask : ℕ) → me.0.role ≢ Spent → me.0.shape ≡ k → b < k.bits → t < k.tests → Contains me.0.claims t → word ≡ place k b t + 1 → mask ≡ 2 ^ (t % 64)
     → Allows (IsKept k) slots id me word (λ n. bit_or n mask) (hit_is (step slots word mask 0 none) me)

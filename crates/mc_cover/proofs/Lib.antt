@@ -7,7 +7,6 @@ pub mod Claims
 pub mod Joins
 pub mod Ends
 pub mod Words
-pub mod Laws
-pub mod Passes
+pub mod Keeping
 pub mod Closed
 pub mod Clears

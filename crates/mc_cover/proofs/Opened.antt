@@ -13,7 +13,7 @@ use Rattle.mc_cover.specs.Views.{opener}
 use Rattle.mc_cover.specs.Rule.{IsSound, IsKept}
 use Rattle.mc_cover.specs.Steps.{opened}
 use Rattle.mc_cover.proofs.Counts.{once_none}
-use Rattle.mc_cover.proofs.Bits.{behind}
+use Rattle.mc_cover.proofs.Bits.{after_first}
 
 only : (k : Shape) (id : ℕ) (v : View) → get_elem? (opener k ∷ []) id ≡ some v → opener k ≡ v
 only k zero v e = some-injective (opener k) v e
@@ -45,7 +45,7 @@ kept_opened k = let n = word_count k in record {
   whole = zeros_length (n + 1);
   over = let e = zero_at (n + 1) 0 in omega arith;
   claims = λ m. let e = zero_at (n + 1) 0 in let z : min (get_or (zeros (n + 1)) 0 0) k.tests ≡ 0 = omega arith in sym (ap (λ x. once_below m x) z ∙ once_none m);
-  bits = λ b t hb ht. ap (λ (x : ℕ). bit_at x (t % 64)) (behind (zeros (n + 1)) (place k b t) 0 ∙ zero_at (n + 1) (place k b t + 1)) ∙ bit_at-zero (t % 64);
+  bits = λ b t hb ht. ap (λ (x : ℕ). bit_at x (t % 64)) (after_first (zeros (n + 1)) (place k b t) 0 ∙ zero_at (n + 1) (place k b t + 1)) ∙ bit_at-zero (t % 64);
   opener = refl;
   workers = refl;
   running = omega arith;

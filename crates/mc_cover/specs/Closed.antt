@@ -11,7 +11,9 @@ left_of skipped t x = if times t skipped == 0 then x else 0
 
 -- the words have the hits but for those of the skipped tests
 abbrev pub HasHits : Shape → List (ℕ × ℕ) → List ℕ → List ℕ → Type 0
-HasHits k hits skipped words = (b t : ℕ) → b < k.bits → t < 64 * rows k → bit_of k words b t ≡ left_of skipped t (min 1 (marks b t hits))
+HasHits k hits skipped words =
+    (b t : ℕ) → b < k.bits → t < 64 * rows k →
+    bit_of k words b t ≡ left_of skipped t (min 1 (marks b t hits))
 
 abbrev pub AreInRange : Shape → List (ℕ × ℕ) → Type 0
 AreInRange k hits = All (λ h. (h.0 < k.bits) × (h.1 < k.tests)) hits

@@ -1,4 +1,5 @@
--- The rule of the shared words, as it is kept from step to step: each part that speaks of several views is a sum over them.
+-- The rule of the shared words, as it is kept from step to step: each part that speaks of several
+-- views is a sum over them.
 use Rattle.std.specs.Prelude.{◌≡◌, ◌≢◌, ◌≤◌, ℕ, ◌+◌, ◌-◌, ◌*◌, ◌<◌, List, [], ◌∷◌, length, slice_index, sum_by, min, All, Contains}
 use mathlib.Core.Option.{some}
 use lib.ListN.{get_elem?}
@@ -24,14 +25,15 @@ HasView s id v = get_elem? s.views id ≡ some v
 abbrev pub draws : List ℕ → ℕ
 draws words = slice_index words 0
 
--- the coverage words stand behind it, in the order of a matrix
+-- the coverage words stand after it, in the order of a matrix
 abbrev pub coverage : List ℕ → List ℕ
 coverage [] = []
 coverage (w ∷ ws) = ws
 
 -- the values that a pass loaded from coverage words: no bit was cleared since
 abbrev pub IsStillSet : List ℕ → List (ℕ × ℕ) → Type 0
-IsStillSet words seen = All (λ x. (i : ℕ) → bit_at x.1 i ≤ bit_at (slice_index (coverage words) x.0) i) seen
+IsStillSet words seen =
+    All (λ x. (i : ℕ) → bit_at x.1 i ≤ bit_at (slice_index (coverage words) x.0) i) seen
 
 -- what holds of each view by itself
 pub record IsSound (k : Shape) (words : List ℕ) (v : View) : Type 0 where
@@ -46,11 +48,14 @@ pub record IsKept (k : Shape) (s : Shared) : Type 0 where
   -- the draws beyond the tests ended a worker each
   pub over : sum_by (λ v. v.over) s.views ≡ draws s.words - k.tests
   -- each number that was drawn and is a test is claimed once, and no other number is
-  pub claims : (n : ℕ) → sum_by (λ v. times n v.claims) s.views ≡ once_below n (min (draws s.words) k.tests)
+  pub claims : (n : ℕ) →
+      sum_by (λ v. times n v.claims) s.views ≡ once_below n (min (draws s.words) k.tests)
   -- a bit is set exactly where some view has the hit, and so up to the end of each word
-  pub bits : (b t : ℕ) → b < k.bits → t < 64 * rows k → bit_of k (coverage s.words) b t ≡ min 1 (sum_by (λ v. marks b t v.hits) s.views)
+  pub bits : (b t : ℕ) → b < k.bits → t < 64 * rows k →
+      bit_of k (coverage s.words) b t ≡ min 1 (sum_by (λ v. marks b t v.hits) s.views)
   pub opener : sum_by (λ v. opens v.role) s.views ≡ 1
-  pub workers : sum_by (λ v. works v.role) s.views + sum_by (λ v. v.joined) s.views ≡ sum_by (λ v. v.forks) s.views
+  pub workers : sum_by (λ v. works v.role) s.views + sum_by (λ v. v.joined) s.views
+      ≡ sum_by (λ v. v.forks) s.views
   pub running : sum_by (λ v. v.over) s.views + sum_by runs s.views ≤ sum_by (λ v. v.forks) s.views
   pub forks : sum_by (λ v. v.forks) s.views ≤ 64
   pub each : (id : ℕ) (v : View) → HasView s id v → IsSound k s.words v

@@ -1,4 +1,5 @@
--- What a step tells the pass that makes it: of the step, the pass's view before, the number found in the word, and the view after.
+-- What a step tells the pass that makes it: of the step, the pass's view before, the number found
+-- in the word, and the view after.
 use Rattle.std.specs.Prelude.{◌≡◌, ◌≤◌, ℕ, ◌+◌, ◌*◌, ◌%◌, ◌^◌, ◌<◌, List, length, All, Contains}
 use Rattle.std.specs.Int.{bit_at}
 use Rattle.atomic_table.specs.Table.{Me, Step}
@@ -17,7 +18,9 @@ AreDifferentBelow m xs = (n : ℕ) → times n xs ≤ once_below n m
 
 -- each set bit of each value that was seen has its pair among the hits
 abbrev pub SeenIsHit : View → Type 0
-SeenIsHit v = All (λ x. (b t : ℕ) → b < v.shape.bits → t < 64 * rows v.shape → place v.shape b t ≡ x.0 → bit_at x.1 (t % 64) ≡ 1 → Contains v.hits (b, t)) v.seen
+SeenIsHit v =
+    All (λ x. (b t : ℕ) → b < v.shape.bits → t < 64 * rows v.shape → place v.shape b t ≡ x.0 →
+    bit_at x.1 (t % 64) ≡ 1 → Contains v.hits (b, t)) v.seen
 
 -- what is known of the opener's view once every fork is joined
 pub record IsSettled (v : View) : Type 0 where
@@ -29,11 +32,14 @@ pub record IsSettled (v : View) : Type 0 where
 abbrev pub hit_is : Told
 hit_is st m found n =
     (n.1 ≡ m.1)
-    × ((b t : ℕ) → b < m.0.shape.bits → t < 64 * rows m.0.shape → st.word ≡ place m.0.shape b t + 1 → st.first ≡ 2 ^ (t % 64) → n.0 ≡ after_hit m.0 b t)
+    × ((b t : ℕ) → b < m.0.shape.bits → t < 64 * rows m.0.shape →
+    st.word ≡ place m.0.shape b t + 1 → st.first ≡ 2 ^ (t % 64) → n.0 ≡ after_hit m.0 b t)
 
 -- a claim: the number found is the one that was drawn
 abbrev pub claim_is : Told
-claim_is st m found n = (n.1 ≡ m.1) × (n.0 ≡ after_claim m.0 found) × AreDifferentBelow m.0.shape.tests n.0.claims × (length n.0.claims ≤ m.0.shape.tests)
+claim_is st m found n =
+    (n.1 ≡ m.1) × (n.0 ≡ after_claim m.0 found)
+    × AreDifferentBelow m.0.shape.tests n.0.claims × (length n.0.claims ≤ m.0.shape.tests)
 
 -- a look at word 0 after a join
 abbrev pub settle_is : Told

@@ -8,22 +8,56 @@ use Rattle.mc_cover.specs.declared.view.View.{View}
 
 -- the view of the pass that `open` gives
 abbrev pub opener : Shape → View
-opener k = record { role = Opener; shape = k; claims = []; over = 0; hits = []; seen = []; forks = 0; joined = 0 }
+opener k =
+    record {
+      role = Opener;
+      shape = k;
+      claims = [];
+      over = 0;
+      hits = [];
+      seen = [];
+      forks = 0;
+      joined = 0;
+    }
 
 -- the view of a worker's new pass: what the opener has seen goes along
 abbrev pub worker : View → View
-worker v = record { role = Worker; shape = v.shape; claims = []; over = 0; hits = []; seen = v.seen; forks = 0; joined = 0 }
+worker v =
+    record {
+      role = Worker;
+      shape = v.shape;
+      claims = [];
+      over = 0;
+      hits = [];
+      seen = v.seen;
+      forks = 0;
+      joined = 0;
+    }
 
--- what a joined pass leaves behind
+-- what is left of a joined pass
 abbrev pub spent : View
-spent = record { role = Spent; shape = record { bits = 0; tests = 0 }; claims = []; over = 0; hits = []; seen = []; forks = 0; joined = 0 }
+spent =
+    record {
+      role = Spent;
+      shape = record { bits = 0; tests = 0 };
+      claims = [];
+      over = 0;
+      hits = [];
+      seen = [];
+      forks = 0;
+      joined = 0;
+    }
 
 abbrev pub after_fork : View → View
 after_fork v = record v { forks = v.forks + 1 }
 
 -- a worker that drew this number: of a test, it is claimed, and any other ends the worker
 abbrev pub after_claim : View → ℕ → View
-after_claim v drawn = record v { claims = claims_after v.shape.tests drawn v.claims; over = if ends v.shape.tests drawn then 1 else v.over }
+after_claim v drawn =
+    record v {
+      claims = claims_after v.shape.tests drawn v.claims;
+      over = if ends v.shape.tests drawn then 1 else v.over;
+    }
 
 -- the same where it is known which
 abbrev pub with_claim : View → ℕ → View
@@ -37,7 +71,14 @@ after_hit v b t = record v { hits = v.hits ++ (b, t) ∷ [] }
 
 -- the opener's, which gains all that the worker's had
 abbrev pub after_join : View → View → View
-after_join v w = record v { claims = v.claims ++ w.claims; over = v.over + w.over; hits = v.hits ++ w.hits; seen = v.seen ++ w.seen; joined = v.joined + 1 }
+after_join v w =
+    record v {
+      claims = v.claims ++ w.claims;
+      over = v.over + w.over;
+      hits = v.hits ++ w.hits;
+      seen = v.seen ++ w.seen;
+      joined = v.joined + 1;
+    }
 
 -- 1 for the opener
 abbrev pub opens : Role → ℕ

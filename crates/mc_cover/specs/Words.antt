@@ -16,7 +16,9 @@ OfSome s P = (id : ℕ) × (v : View) × HasView s id v × P v
 
 -- it holds of the view of exactly one pass
 abbrev pub OfOne : Shared → (View → Type 0) → Type 0
-OfOne s P = OfSome s P × ((i j : ℕ) (v w : View) → HasView s i v → HasView s j w → P v → P w → i ≡ j)
+OfOne s P =
+    OfSome s P
+    × ((i j : ℕ) (v w : View) → HasView s i v → HasView s j w → P v → P w → i ≡ j)
 
 -- the numbers that were drawn and are tests
 abbrev pub IsDrawnTest : Shape → Shared → ℕ → Type 0
@@ -33,7 +35,8 @@ pub record IsOrderly (k : Shape) (words : List ℕ) (v : View) : Type 0 where
   -- each hit's test is among its own view's claims, and its bit is in range
   pub hits : All (λ h. (h.0 < k.bits) × Contains v.claims h.1) v.hits
   -- each set bit of a value that was seen is set in that coverage word
-  pub seen : All (λ x. (i : ℕ) → bit_at x.1 i ≡ 1 → bit_at (slice_index (coverage words) x.0) i ≡ 1) v.seen
+  pub seen : All (λ x. (i : ℕ) → bit_at x.1 i ≡ 1 →
+      bit_at (slice_index (coverage words) x.0) i ≡ 1) v.seen
   -- no number is claimed twice
   pub claims : (n : ℕ) → times n v.claims ≤ 1
   pub worker : v.role ≡ Worker → (v.over ≤ 1) × (v.forks ≡ 0) × (v.joined ≡ 0)
@@ -48,8 +51,10 @@ pub record IsRuled (k : Shape) (s : Shared) : Type 0 where
   pub claimed : (n : ℕ) → IsDrawnTest k s n → OfOne s (λ v. Contains v.claims n)
   pub drawn : (n : ℕ) → OfSome s (λ v. Contains v.claims n) → IsDrawnTest k s n
   -- a bit is set exactly where some view has the hit, and any other bit is clear
-  pub set : (b t : ℕ) → b < k.bits → t < 64 * rows k → (bit_of k (coverage s.words) b t ≡ 1) ↔ OfSome s (λ v. Contains v.hits (b, t))
-  pub clear : (b t : ℕ) → b < k.bits → t < 64 * rows k → ¬ OfSome s (λ v. Contains v.hits (b, t)) → bit_of k (coverage s.words) b t ≡ 0
+  pub set : (b t : ℕ) → b < k.bits → t < 64 * rows k →
+      (bit_of k (coverage s.words) b t ≡ 1) ↔ OfSome s (λ v. Contains v.hits (b, t))
+  pub clear : (b t : ℕ) → b < k.bits → t < 64 * rows k →
+      ¬ OfSome s (λ v. Contains v.hits (b, t)) → bit_of k (coverage s.words) b t ≡ 0
   pub each : (id : ℕ) (v : View) → HasView s id v → IsOrderly k s.words v
   pub opener : OfOne s (λ v. v.role ≡ Opener)
   pub counts : (id : ℕ) (v : View) → HasView s id v → v.role ≡ Opener → OpenerCounts s v

@@ -27,14 +27,16 @@ pub fn fork(cover: &Cover, pass: &mut Pass) -> Pass
     }
 }
 
-/// Draws the next number. It is a test that no other pass has, or there is none left and the pass has ended.
+/// Draws the next number. It is a test that no other pass has, or none is left and the pass has
+/// ended.
 pub fn claim(cover: &Cover, pass: &mut Pass) -> Option<u32>
     requires own { IsOf cover.now pass.old }
     requires worker { pass.old.view.role ≡ Role.Worker }
     requires running { pass.old.view.over ≡ 0 }
     ensures own { pass.new.cover ≡ pass.old.cover }
     ensures drawn { Draws cover.now.shape.tests pass.old.view pass.new.view result }
-    ensures some { IfSome result (λ test. (test < cover.now.shape.tests) × (pass.new.view ≡ with_claim pass.old.view test)) }
+    ensures some { IfSome result (λ test.
+        (test < cover.now.shape.tests) × (pass.new.view ≡ with_claim pass.old.view test)) }
     ensures none { IfNone result (pass.new.view ≡ ended pass.old.view) }
     ensures different { AreDifferentBelow cover.now.shape.tests pass.new.view.claims }
     ensures few { length pass.new.view.claims ≤ cover.now.shape.tests }

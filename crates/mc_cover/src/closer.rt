@@ -20,7 +20,8 @@ pub trait Closer {
         requires opener { pass.view.role ≡ Role.Opener }
         requires joined { pass.view.forks ≡ pass.view.joined }
         ensures shape { result.shape ≡ cover.shape }
-        ensures pairs { (b t : ℕ) → Holds result b t ↔ (Contains pass.view.hits (b, t) × ¬ Contains (skipped self.now) t) };
+        ensures pairs { (b t : ℕ) → Holds result b t
+            ↔ (Contains pass.view.hits (b, t) × ¬ Contains (skipped self.now) t) };
 }
 
 /// The closer of the program. It skips no test.
@@ -58,7 +59,8 @@ fn clear_tests(words: &mut [u64], shape: Shape, tests: &[u32])
     requires whole { length words.old ≡ word_count shape }
     requires spare { HasNoSpareBit shape words.old }
     ensures whole { length words.new ≡ word_count shape }
-    ensures bits { (b t : ℕ) → b < shape.bits → t < 64 * rows shape → bit_of shape words.new b t ≡ left_of tests.now t (bit_of shape words.old b t) }
+    ensures bits { (b t : ℕ) → b < shape.bits → t < 64 * rows shape
+        → bit_of shape words.new b t ≡ left_of tests.now t (bit_of shape words.old b t) }
 {
     for test in tests {
         clear_test(words, shape, *test);
@@ -70,7 +72,8 @@ fn clear_test(words: &mut [u64], shape: Shape, test: u32)
     requires whole { length words.old ≡ word_count shape }
     requires spare { HasNoSpareBit shape words.old }
     ensures whole { length words.new ≡ word_count shape }
-    ensures bits { (b t : ℕ) → b < shape.bits → t < 64 * rows shape → bit_of shape words.new b t ≡ left_of (test ∷ []) t (bit_of shape words.old b t) }
+    ensures bits { (b t : ℕ) → b < shape.bits → t < 64 * rows shape
+        → bit_of shape words.new b t ≡ left_of (test ∷ []) t (bit_of shape words.old b t) }
 {
     if test >= shape.tests {
         return;

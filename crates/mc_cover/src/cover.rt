@@ -7,7 +7,7 @@ use mc_core::Shape;
 use std::alloc::Global;
 use std::marker::Model;
 
-/// The shared words: the number of draws, and behind it the words of a matrix.
+/// The shared words: the number of draws, and after it the words of a matrix.
 /// Contracts see which cover it is, and its shape. Threads share it by `&`.
 #[derive(Drop)]
 pub struct Cover {
@@ -25,5 +25,6 @@ impl Model for Cover {
 
     ghost view = { λ c. record { cover = c.table.shared.table_id; shape = c.shape } };
 
-    ghost invariant = { λ c. IsSized c.table.shared.table_id c.table.shared.key c.shape (vec_len c.room) };
+    ghost invariant = { λ c.
+        IsSized c.table.shared.table_id c.table.shared.key c.shape (vec_len c.room) };
 }

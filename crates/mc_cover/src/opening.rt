@@ -17,7 +17,7 @@ pub enum OpenFault {
     /// The matrix would need more than 1,048,576 words; this many.
     #[error("matrix needs {words} words")]
     TooLarge { words: u64 },
-    /// Want of memory.
+    /// Memory has run out.
     #[error("out of memory")]
     OutOfMemory,
 }
@@ -33,12 +33,14 @@ impl From<AllocError> for OpenFault {
     }
 }
 
-/// Writes all words as 0, and gives the opener's pass. It also takes the memory of the closing matrix.
+/// Writes all words as 0, and gives the opener's pass.
+/// It also takes the memory of the closing matrix.
 pub fn open(alloc: Global, shape: Shape) -> Result<(Cover, Pass), OpenFault>
     ensures own { IfOk result (λ r. IsOf r.0 r.1) }
     ensures shape { IfOk result (λ r. (r.0.shape ≡ shape) × (word_count shape ≤ 1048576)) }
     ensures view { IfOk result (λ r. r.1.view ≡ opener shape) }
-    ensures too_large { 1048576 < word_count shape → result ≡ Err (OpenFault.TooLarge (word_count shape)) }
+    ensures too_large { 1048576 < word_count shape
+        → result ≡ Err (OpenFault.TooLarge (word_count shape)) }
     ensures fits { word_count shape ≤ 1048576 → IfErr result (λ e. e ≡ OpenFault.OutOfMemory) }
 {
     let count = words(shape);

@@ -5,7 +5,8 @@ use atomic_table::Seat;
 use std::marker::Model;
 
 /// The right of one thread to step on the words of one cover. It has no bytes.
-/// Contracts see of which cover it is, and what it knows. One that is dropped keeps its view, and its cover cannot be closed.
+/// Contracts see of which cover it is, and what it knows. One that is dropped keeps its view, and
+/// its cover cannot be closed.
 #[derive(Drop)]
 pub struct Pass {
     pub(crate) seat: Seat<(), View>,

@@ -20,7 +20,7 @@ pub struct View {
     pub shape: Shape,
     /// The tests that it claimed, in that order.
     pub claims: LinkedList<u32>,
-    /// How often it drew a number that is no test.
+    /// How often it drew a number that is not a test.
     pub over: u32,
     /// The bits that it hit, each with its test.
     pub hits: LinkedList<(u32, u32)>,

@@ -1,7 +1,9 @@
-//! Tests of `mc_core`.
+//! Tests of `mc_core` and `mc_cover`.
 #![tactic(auto)]
 
 #[cfg(test)]
 mod matrices;
 #[cfg(test)]
 mod schedules;
+#[cfg(test)]
+mod threads;

@@ -6,8 +6,8 @@ use std::alloc::Global;
 use std::process::Abort;
 use std::test::Fail;
 
-// A schedule, and what it leads to. A worker is its claimed tests, the bits that remain, and whether
-// it ended.
+// A schedule, and what it leads to. A worker is its claimed tests, the bits that remain, and
+// whether it ended.
 struct Run<'a> {
     schedule: &'a [u32],
     draws: u32,

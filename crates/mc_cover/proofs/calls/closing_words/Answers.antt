@@ -13,7 +13,7 @@ use Rattle.mc_cover.specs.Tells.{SeenIsHit}
 use Rattle.mc_cover.specs.Closed.{AreInRange, HasHits}
 use Rattle.mc_cover.specs.Model.{CoverView, PassView}
 use Rattle.mc_cover.proofs.Sums.{at_get_or}
-use Rattle.mc_cover.proofs.Bits.{place_within, behind}
+use Rattle.mc_cover.proofs.Bits.{place_within, after_first}
 use Rattle.mc_cover.proofs.Ends.{IsEnd, closed}
 use Rattle.mc_cover.proofs.calls.closing_words.Goals as goal
 use Rattle.mc_cover.proofs.calls.closing_words.Goals.{After-close_with-closed}
@@ -53,7 +53,7 @@ returns-clause-bits c b t hb ht =
     let inside : HasHits k c.pass.inside.seat.me.0.hits [] c.loop-i.room.items = λ b t hb ht.
     let wide = place_within k b t hb ht in
     let within : place k b t < c.loop-i.i = omega arith in
-    ap (λ (x : ℕ). bit_at x (t % 64)) (c.loop-i.invariant.copied (place k b t) within ∙ sym (behind ws (place k b t) 0)) ∙ ended.bits b t hb ht in
+    ap (λ (x : ℕ). bit_at x (t % 64)) (c.loop-i.invariant.copied (place k b t) within ∙ sym (after_first ws (place k b t) 0)) ∙ ended.bits b t hb ht in
     subst (λ (x : CoverView × PassView). HasHits x.0.shape x.1.view.hits [] c.loop-i.room.items) (λ i. (c.cover.view_is i, c.pass.view_is i)) inside b t hb ht
 
 pub returns-clause-in_range : goal.returns-clause-in_range

@@ -2,10 +2,13 @@
 ghost use Rattle.std.specs.Prelude.{◌≡◌, ◌<◌, ◌≤◌, ◌+◌, length, Contains, IfOk, vec_len};
 ghost use Rattle.mc_cover.specs.Views.{opener};
 ghost use Rattle.mc_cover.specs.Model.{IsOf};
-ghost use Rattle.mc_cover.specs.Workers.{IsRunning, IsDone, AllRunning, AllDone};
+ghost use Rattle.tests_cover.specs.Workers.{IsRunning, IsDone, AllRunning, AllDone};
 
-use super::*;
 use mc_core::{Matrix, Shape};
+use mc_cover::{
+    Closer, Cover, OpenFault, Pass, PlainCloser, Role, SkippingCloser, claim, close, fork, hit,
+    join, open,
+};
 use std::alloc::{AllocError, Global};
 use std::test::Fail;
 use std::thread;
@@ -15,8 +18,10 @@ use std::thread::Threads;
 fn run_test(cover: &Cover, pass: &mut Pass, bits: u32, factors: &[u32], test: u32)
     requires own { IsOf cover.now pass.old }
     requires claimed { Contains pass.old.view.claims test }
-    requires in_range { (0 < bits) × (bits ≡ cover.now.shape.bits) × (test < cover.now.shape.tests) }
-    ensures { pass.new ≡ record pass.old { view = record pass.old.view { hits = pass.new.view.hits } } }
+    requires bits { (0 < bits) × (bits ≡ cover.now.shape.bits) }
+    requires test { test < cover.now.shape.tests }
+    ensures { pass.new
+        ≡ record pass.old { view = record pass.old.view { hits = pass.new.view.hits } } }
 {
     for factor in factors {
         hit(cover, pass, test.wrapping_mul(*factor) % bits, test);
@@ -63,7 +68,8 @@ fn fork_all(
 ) -> Result<Vec<Pass>, AllocError>
     requires own { IsOf cover.now pass.old }
     requires fresh { (pass.old.view ≡ opener cover.now.shape) × (workers ≤ 64) }
-    ensures opener { IfOk result (λ _. (pass.new.cover ≡ pass.old.cover) × (pass.new.view ≡ record (opener cover.now.shape) { forks = workers })) }
+    ensures opener { IfOk result (λ _. (pass.new.cover ≡ pass.old.cover)
+        × (pass.new.view ≡ record (opener cover.now.shape) { forks = workers })) }
     ensures passes { IfOk result (λ v. (vec_len v ≡ workers) × AllRunning cover.now v.items) }
 {
     let mut passes = Vec::with_capacity(alloc, workers as usize)?;
@@ -75,9 +81,11 @@ fn fork_all(
 
 fn join_all(cover: &Cover, pass: &mut Pass, mut passes: Vec<Pass>)
     requires own { pass.old.cover ≡ cover.now.cover }
-    requires opener { (pass.old.view.role ≡ Role.Opener) × (pass.old.view.joined + vec_len passes ≡ pass.old.view.forks) }
+    requires opener { (pass.old.view.role ≡ Role.Opener)
+        × (pass.old.view.joined + vec_len passes ≡ pass.old.view.forks) }
     requires passes { AllDone cover.now passes.items }
-    ensures { (pass.new.cover ≡ pass.old.cover) × (pass.new.view.role ≡ Role.Opener) × (pass.new.view.forks ≡ pass.new.view.joined) }
+    ensures { (pass.new.cover ≡ pass.old.cover) × (pass.new.view.role ≡ Role.Opener)
+        × (pass.new.view.forks ≡ pass.new.view.joined) }
 {
     while let Some(other) = passes.pop() {
         join(cover, pass, other);

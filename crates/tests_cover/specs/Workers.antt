@@ -12,7 +12,9 @@ abbrev pub IsDone : CoverView → PassView → Type 0
 IsDone c p = (p.cover ≡ c.cover) × (p.view.role ≡ Worker)
 
 abbrev pub AllRunning : CoverView → List PassView → Type 0
-AllRunning c passes = (i : ℕ) (d : PassView) → i < length passes → IsRunning c (slice_index_or passes i d)
+AllRunning c passes =
+    (i : ℕ) (d : PassView) → i < length passes → IsRunning c (slice_index_or passes i d)
 
 abbrev pub AllDone : CoverView → List PassView → Type 0
-AllDone c passes = (i : ℕ) (d : PassView) → i < length passes → IsDone c (slice_index_or passes i d)
+AllDone c passes =
+    (i : ℕ) (d : PassView) → i < length passes → IsDone c (slice_index_or passes i d)

@@ -1,7 +1,7 @@
 use Rattle.mc_cover.proofs.Opened.{kept_opened}
-use Rattle.mc_cover.proofs.Laws.{keep, moves}
+use Rattle.mc_cover.proofs.Keeping.{keep, moves}
 use Rattle.mc_cover.proofs.Words.{ruled}
-use Rattle.mc_cover.proofs.law.the_rule_is_kept.Goals as goal
+use Rattle.mc_cover.proofs.laws.the_rule_is_kept.Goals as goal
 
 pub returns-clause-opening : goal.returns-clause-opening
 returns-clause-opening c = kept_opened
