@@ -1,7 +1,7 @@
 //! The rows of the lexer.
 
 use crate::{Dialect, LexFault, Place, TokenKind, lex, place_of, quote};
-use mc_tree::Span;
+use mc_span::Span;
 use std::alloc::Global;
 
 /// Sources with a byte, and the place, of words, punctuators and literals that are left out.

@@ -1,6 +1,6 @@
 //! Declarators with their initializers.
-use crate::declarator::Declarator;
-use crate::initializer::Initializer;
+use crate::declarations::declarator::Declarator;
+use crate::declarations::initializer::Initializer;
 
 /// A declarator, perhaps with an initializer (C17 6.7).
 #[derive(Drop)]

@@ -1,5 +1,5 @@
 //! Constants of enumerations.
-use crate::expression::Expression;
+use crate::expressions::expression::Expression;
 use crate::identifier::Identifier;
 
 /// A constant of an enumeration (C17 6.7.2.2).

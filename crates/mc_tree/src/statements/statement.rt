@@ -1,9 +1,13 @@
 //! Statements.
-use crate::block_item::BlockItem;
-use crate::expression::Expression;
-use crate::for_start::ForStart;
+ghost use Rattle.std.specs.Prelude.{◌≡◌};
+ghost use Rattle.mc_tree.specs.Tree.{span_of_statement};
+ghost use Rattle.mc_tree.specs.Units.{statement_of};
+
+use crate::expressions::expression::Expression;
 use crate::identifier::Identifier;
-use crate::span::Span;
+use crate::statements::block_item::BlockItem;
+use crate::statements::for_start::ForStart;
+use mc_span::Span;
 
 /// A statement, with a variant for each alternative of its production (C17 6.8).
 #[derive(Drop)]
@@ -16,7 +20,7 @@ pub enum Statement<'a> {
     Null {
         span: Span,
     },
-    Evaluate {
+    Expression {
         value: Expression<'a>,
         span: Span,
     },
@@ -53,12 +57,16 @@ pub enum Statement<'a> {
         body: Box<Statement<'a>>,
         span: Span,
     },
+    /// `label` goes from the word `case` through the colon.
     Case {
         value: Expression<'a>,
+        label: Span,
         body: Box<Statement<'a>>,
         span: Span,
     },
+    /// `label` goes from the word `default` through the colon.
     Default {
+        label: Span,
         body: Box<Statement<'a>>,
         span: Span,
     },
@@ -81,4 +89,30 @@ pub enum Statement<'a> {
         value: Option<Expression<'a>>,
         span: Span,
     },
+}
+
+impl Statement<'_> {
+    /// Where the statement stands. Takes no memory.
+    pub fn span(&self) -> Span
+        ensures { result ≡ span_of_statement (statement_of self.now) }
+    {
+        match self {
+            Statement::Compound { span, .. }
+            | Statement::Null { span }
+            | Statement::Expression { span, .. }
+            | Statement::If { span, .. }
+            | Statement::IfElse { span, .. }
+            | Statement::Switch { span, .. }
+            | Statement::While { span, .. }
+            | Statement::DoWhile { span, .. }
+            | Statement::For { span, .. }
+            | Statement::Case { span, .. }
+            | Statement::Default { span, .. }
+            | Statement::Label { span, .. }
+            | Statement::Goto { span, .. }
+            | Statement::Break { span }
+            | Statement::Continue { span }
+            | Statement::Return { span, .. } => *span,
+        }
+    }
 }

@@ -1,6 +1,6 @@
 //! The first part of a `for`.
-use crate::declaration::Declaration;
-use crate::expression::Expression;
+use crate::declarations::declaration::Declaration;
+use crate::expressions::expression::Expression;
 
 /// What stands before the first `;` of a `for` (C17 6.8.5.3).
 #[derive(Drop)]

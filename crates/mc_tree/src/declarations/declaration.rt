@@ -1,7 +1,7 @@
 //! Declarations.
-use crate::init_declarator::InitDeclarator;
-use crate::span::Span;
-use crate::specifier::Specifier;
+use crate::declarations::init_declarator::InitDeclarator;
+use crate::declarations::specifier::Specifier;
+use mc_span::Span;
 
 /// A declaration that is not a function definition (C17 6.7).
 #[derive(Drop)]

@@ -1,10 +1,10 @@
 //! Declarators.
+use crate::declarations::array_length::ArrayLength;
+use crate::declarations::parameter::Parameter;
 use crate::identifier::Identifier;
-use crate::parameter::Parameter;
-use crate::size::Size;
-use crate::span::Span;
+use mc_span::Span;
 
-/// How many `*`, a name, and what stands behind it (C17 6.7.6). Its span starts at the
+/// How many `*`, a name, and what stands after it (C17 6.7.6). Its span starts at the
 /// first `*`, or at the name where there is none.
 #[derive(Drop)]
 #[cycle(syntax)]
@@ -12,7 +12,7 @@ pub enum Declarator<'a> {
     Object {
         stars: u32,
         name: Identifier<'a>,
-        sizes: Vec<Size<'a>>,
+        lengths: Vec<ArrayLength<'a>>,
         span: Span,
     },
     /// A function with nothing between its parentheses, whose span is `list_span`.

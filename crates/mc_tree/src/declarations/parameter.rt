@@ -1,8 +1,8 @@
 //! Parameters of functions.
+use crate::declarations::array_length::ArrayLength;
+use crate::declarations::specifier::Specifier;
 use crate::identifier::Identifier;
-use crate::size::Size;
-use crate::span::Span;
-use crate::specifier::Specifier;
+use mc_span::Span;
 
 /// A parameter, perhaps without a name (C17 6.7.6.3).
 #[derive(Drop)]
@@ -11,6 +11,6 @@ pub struct Parameter<'a> {
     pub specifiers: Vec<Specifier<'a>>,
     pub stars: u32,
     pub name: Option<Identifier<'a>>,
-    pub sizes: Vec<Size<'a>>,
+    pub lengths: Vec<ArrayLength<'a>>,
     pub span: Span,
 }

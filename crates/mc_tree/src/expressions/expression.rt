@@ -1,11 +1,15 @@
 //! Expressions.
-use crate::assignment_operator::AssignmentOperator;
-use crate::binary_operator::BinaryOperator;
+ghost use Rattle.std.specs.Prelude.{◌≡◌};
+ghost use Rattle.mc_tree.specs.Tree.{span_of};
+ghost use Rattle.mc_tree.specs.Views.{expression_of};
+
+use crate::declarations::specifier::Specifier;
+use crate::expressions::assignment_operator::AssignmentOperator;
+use crate::expressions::binary_operator::BinaryOperator;
+use crate::expressions::step_operator::StepOperator;
+use crate::expressions::unary_operator::UnaryOperator;
 use crate::identifier::Identifier;
-use crate::span::Span;
-use crate::specifier::Specifier;
-use crate::step_operator::StepOperator;
-use crate::unary_operator::UnaryOperator;
+use mc_span::Span;
 
 /// An expression, with a variant for each alternative of its productions (C17 6.5).
 #[derive(Drop)]
@@ -47,14 +51,14 @@ pub enum Expression<'a> {
         name: Identifier<'a>,
         span: Span,
     },
-    /// `++` or `--` behind its operand.
-    StepAfter {
+    /// `++` or `--` after its operand.
+    PostfixStep {
         operator: StepOperator,
         operand: Box<Expression<'a>>,
         span: Span,
     },
     /// `++` or `--` before its operand.
-    StepBefore {
+    PrefixStep {
         operator: StepOperator,
         operand: Box<Expression<'a>>,
         span: Span,
@@ -95,4 +99,29 @@ pub enum Expression<'a> {
         operands: Vec<Expression<'a>>,
         span: Span,
     },
+}
+
+impl Expression<'_> {
+    /// Where the expression stands. Takes no memory.
+    pub fn span(&self) -> Span
+        ensures { result ≡ span_of (expression_of self.now) }
+    {
+        match self {
+            Expression::Name { name } => name.span,
+            Expression::Constant { span, .. }
+            | Expression::Character { span, .. }
+            | Expression::Parenthesized { span, .. }
+            | Expression::Call { span, .. }
+            | Expression::Index { span, .. }
+            | Expression::Member { span, .. }
+            | Expression::PostfixStep { span, .. }
+            | Expression::PrefixStep { span, .. }
+            | Expression::Unary { span, .. }
+            | Expression::Cast { span, .. }
+            | Expression::Binary { span, .. }
+            | Expression::Conditional { span, .. }
+            | Expression::Assignment { span, .. }
+            | Expression::Comma { span, .. } => *span,
+        }
+    }
 }

@@ -1,6 +1,6 @@
 //! What stands in a block.
-use crate::declaration::Declaration;
-use crate::statement::Statement;
+use crate::declarations::declaration::Declaration;
+use crate::statements::statement::Statement;
 
 /// A local declaration or a statement (C17 6.8.2).
 #[derive(Drop)]

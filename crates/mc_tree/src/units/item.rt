@@ -1,9 +1,9 @@
 //! External declarations.
-use crate::block_item::BlockItem;
-use crate::declaration::Declaration;
-use crate::declarator::Declarator;
-use crate::span::Span;
-use crate::specifier::Specifier;
+use crate::declarations::declaration::Declaration;
+use crate::declarations::declarator::Declarator;
+use crate::declarations::specifier::Specifier;
+use crate::statements::block_item::BlockItem;
+use mc_span::Span;
 
 /// A declaration or a function definition (C17 6.9).
 #[derive(Drop)]

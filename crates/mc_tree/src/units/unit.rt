@@ -4,7 +4,7 @@ ghost use Rattle.mc_tree.specs.Units.{items_of};
 ghost use Rattle.mc_tree.specs.Height.{height_unit};
 ghost use Rattle.mc_tree.specs.Length.{token_count};
 
-use crate::item::Item;
+use crate::units::item::Item;
 
 /// The tree of a whole source (C17 6.9). Its height is at most 800, and it
 /// stands for fewer than 2^31 tokens.

@@ -1,7 +1,7 @@
 //! Members of structures.
-use crate::declarator::Declarator;
-use crate::span::Span;
-use crate::specifier::Specifier;
+use crate::declarations::declarator::Declarator;
+use crate::declarations::specifier::Specifier;
+use mc_span::Span;
 
 /// A declaration of members with the same specifiers (C17 6.7.2.1).
 #[derive(Drop)]

@@ -1,9 +1,9 @@
 //! Declaration specifiers.
-use crate::enumerator::Enumerator;
+use crate::declarations::enumerator::Enumerator;
+use crate::declarations::member::Member;
+use crate::declarations::specifier_word::SpecifierWord;
 use crate::identifier::Identifier;
-use crate::member::Member;
-use crate::span::Span;
-use crate::specifier_word::SpecifierWord;
+use mc_span::Span;
 
 /// One of the specifiers of a declaration, a parameter, a member or a type name (C17 6.7.1 to 6.7.3).
 #[derive(Drop)]

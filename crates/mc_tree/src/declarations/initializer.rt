@@ -1,6 +1,6 @@
 //! Initializers.
-use crate::expression::Expression;
-use crate::span::Span;
+use crate::expressions::expression::Expression;
+use mc_span::Span;
 
 /// An expression, or initializers in braces (C17 6.7.9).
 #[derive(Drop)]
