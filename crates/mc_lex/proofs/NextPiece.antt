@@ -174,12 +174,12 @@ module _ (dialect : Dialect) (before : List ℕ) where
 
       by_kind : (n : ℕ) (what : Result TokenKind FaultKind) → suc n ≤ length bs → IsLongest dialect (take (suc n) bs) (drop (suc n) bs) bs what → IsNext dialect before bs (kind_next what (suc n))
       by_kind n (Ok kind) within l = record { no_comment = nc; longest = l; some = omega arith; within = within }
-      by_kind n (Err why) within l = r.no_token (take (suc n) bs) (drop (suc n) bs) bs why nc l
+      by_kind n (Err why) within l = r.not_a_token (take (suc n) bs) (drop (suc n) bs) bs why nc l
 
       none_is : MeansNothing dialect bs → IsNext dialect before bs (nothing_next bs)
       none_is none = choose (IsNext dialect before bs) (nat_eq b 39) (next.Refused fault_kind.Token) (next.Refused fault_kind.Byte)
           (λ q. subst (λ x. MeansNothing dialect (x ∷ tail) → Stops dialect before (x ∷ tail) fault_kind.Token) (sym (same_byte b 39 q)) (r.open_quote tail) none)
-          (λ q. r.no_byte b tail nb nh q nc none)
+          (λ q. r.begins_nothing b tail nb nh q nc none)
 
       by_len : (len : ℕ) → (candidate_at bs).length ≡ len → IsNext dialect before bs (length_next dialect bs (candidate_at bs).class len)
       by_len zero e = none_is (candidate_none dialect bs e)
@@ -295,11 +295,11 @@ module _ (dialect : Dialect) (before : List ℕ) where
   byte_stops first b bs nb nh nq nc none = plain_next first b bs nb nh nc ∙ none_next dialect (b ∷ bs) none ∙ ap (λ t. cond t (next.Refused fault_kind.Token) (next.Refused fault_kind.Byte)) nq
 
   pub stop_next : (bs : List ℕ) (why : FaultKind) → Stops dialect before bs why → next_at dialect (is_first_on_line before) bs ≡ next.Refused why
-  stop_next bs why (r.no_token text after bs' why' nc l) = longest_next (is_first_on_line before) text after bs' (Err why') nc l
+  stop_next bs why (r.not_a_token text after bs' why' nc l) = longest_next (is_first_on_line before) text after bs' (Err why') nc l
   stop_next bs why (r.open_comment bs' never) = open_stops (is_first_on_line before) bs' never
   stop_next bs why (r.directive bs' never) = hash_stops bs' never
   stop_next bs why (r.open_quote bs' none) = quote_stops (is_first_on_line before) bs' none
-  stop_next bs why (r.no_byte b bs' nb nh nq nc none) = byte_stops (is_first_on_line before) b bs' nb nh nq nc none
+  stop_next bs why (r.begins_nothing b bs' nb nh nq nc none) = byte_stops (is_first_on_line before) b bs' nb nh nq nc none
 
 -- ---- what stands next is within the bytes
 

@@ -11,7 +11,7 @@ use Rattle.mc_lex.specs.declared.token.TokenKind.{TokenKind}
 use Rattle.mc_lex.specs.declared.fault_kind.FaultKind.{FaultKind}
 use Rattle.mc_lex.specs.Bytes.{is_digit, is_octal, is_hexadecimal}
 use Rattle.mc_lex.specs.Words.{one_of}
-use Rattle.mc_lex.specs.Numbers.{is_digits, value_of, suffix_texts, IsInteger, has_hexadecimal_prefix, fault_of_number, constant, NumberMeans, integer, no_integer}
+use Rattle.mc_lex.specs.Numbers.{is_digits, value_of, suffix_texts, IsInteger, has_hexadecimal_prefix, fault_of_number, constant, NumberMeans, integer, not_an_integer}
 use Rattle.mc_lex.specs.steps.Scanner.{starts_with_byte, base_of, suffix_of, digits_len, radix, body_of, integer_kind, number_of_base, number_kind}
 use Rattle.mc_lex.proofs.Texts.{both, same_byte, first_part, rest_of, run_all, run_exact, ends_run, passes}
 
@@ -288,7 +288,7 @@ unfolding number_kind
 number_is text =
     by_parts text (base_of text) (read_digits text (base_of text)) (read_suffix text (base_of text)) (λ r. NumberMeans text r)
     (λ d ds form e s. integer (base_of text) (digits_value (radix (base_of text)) (d ∷ ds)) form (read_integer text d ds form e s))
-    (λ never. no_integer (λ of value form i.
+    (λ never. not_an_integer (λ of value form i.
     let r = integer_read text of value form i in
     never r.first r.more form (ap (read_digits text) r.base ∙ r.digits) (ap (read_suffix text) r.base ∙ r.ends)))
 
@@ -297,7 +297,7 @@ unfolding number_kind
 number_means text what (integer of value form i) =
     let r = integer_read text of value form i in
     ap (number_of_base text) r.base ∙ ap (λ l. integer_kind text of l (read_suffix text of)) r.digits ∙ ap (integer_kind text of (r.first ∷ r.more)) r.ends ∙ ap (λ v. constant of v form) (sym r.writes)
-number_means text what (no_integer never) =
+number_means text what (not_an_integer never) =
     by_parts text (base_of text) (read_digits text (base_of text)) (read_suffix text (base_of text)) (λ r. r ≡ Err (fault_of_number text))
     (λ d ds form e s. absurd (never (base_of text) (digits_value (radix (base_of text)) (d ∷ ds)) form (read_integer text d ds form e s)))
     (λ no. refl)

@@ -70,11 +70,11 @@ joined_full : (text after bs : List ℕ) → bs ≡ text ++ after → 0 < length
 joined_full text after bs w some = omega (arith, ap length w, length-append text after)
 
 stop_full : (dialect : Dialect) (before bs : List ℕ) (why : FaultKind) → Stops dialect before bs why → 0 < length bs
-stop_full dialect before bs why (r.no_token text after bs' why' nc l) = let s = stood dialect text (Err why') l.means in joined_full text after bs' l.whole (stands_full s.class text s.stands)
+stop_full dialect before bs why (r.not_a_token text after bs' why' nc l) = let s = stood dialect text (Err why') l.means in joined_full text after bs' l.whole (stands_full s.class text s.stands)
 stop_full dialect before bs why (r.open_comment bs' never) = omega arith
 stop_full dialect before bs why (r.directive bs' never) = omega arith
 stop_full dialect before bs why (r.open_quote bs' none) = omega arith
-stop_full dialect before bs why (r.no_byte b bs' nb nh nq nc none) = omega arith
+stop_full dialect before bs why (r.begins_nothing b bs' nb nh nq nc none) = omega arith
 
 gap_turn : (dialect : Dialect) (fuel : ℕ) (before text after bs : List ℕ) (found : List Tok × Option LexFault) → bs ≡ text ++ after → IsGap before text after → scan dialect fuel (before ++ text) after ≡ found → scan dialect (suc fuel) before bs ≡ found
 gap_turn dialect fuel before text after bs found w g later =

@@ -169,5 +169,6 @@ constant of value form =
 pub data NumberMeans (text : List ℕ) : Result TokenKind FaultKind → Type 0 where
   integer : (radix : Base) (value : ℕ) (form : Suffix) → IsInteger text radix value form
       → NumberMeans text (constant radix value form)
-  no_integer : ((radix : Base) (value : ℕ) (form : Suffix) → IsInteger text radix value form → ⊥)
+  not_an_integer
+      : ((radix : Base) (value : ℕ) (form : Suffix) → IsInteger text radix value form → ⊥)
       → NumberMeans text (Err (fault_of_number text))

@@ -48,7 +48,7 @@ MeansNothing dialect bs =
 -- and this is why.
 pub data Stops (dialect : Dialect) (before : List ℕ) : List ℕ → FaultKind → Type 0 where
   -- the longest text is not a token
-  no_token : (text after bs : List ℕ) (why : FaultKind) → begins_comment bs ≡ false
+  not_a_token : (text after bs : List ℕ) (why : FaultKind) → begins_comment bs ≡ false
       → IsLongest dialect text after bs (Err why) → Stops dialect before bs why
   -- a comment is not closed
   open_comment : (bs : List ℕ) → ((inside after : List ℕ) → bs ≡ inside ++ (42 ∷ 47 ∷ after) → ⊥)
@@ -61,7 +61,7 @@ pub data Stops (dialect : Dialect) (before : List ℕ) : List ℕ → FaultKind 
   open_quote : (bs : List ℕ) → MeansNothing dialect (39 ∷ bs)
       → Stops dialect before (39 ∷ bs) fault_kind.Token
   -- a byte begins nothing
-  no_byte : (b : ℕ) (bs : List ℕ) → is_white_space b ≡ false → (b == 35) ≡ false
+  begins_nothing : (b : ℕ) (bs : List ℕ) → is_white_space b ≡ false → (b == 35) ≡ false
       → (b == 39) ≡ false → begins_comment (b ∷ bs) ≡ false → MeansNothing dialect (b ∷ bs)
       → Stops dialect before (b ∷ bs) fault_kind.Byte
 

@@ -24,6 +24,3 @@ pub use fault::LexFault;
 pub use lexer::lex;
 pub use place::{Place, place_of, quote};
 pub use token::{Dialect, Token, TokenKind};
-
-#[cfg(test)]
-mod tests;
