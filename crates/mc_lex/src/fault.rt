@@ -13,7 +13,7 @@ pub enum LexFault {
     /// A number, a character constant or a comment that is not well formed.
     #[error("token")]
     Token { at: u32 },
-    /// A `#` that begins no line marker.
+    /// A `#` that does not begin a line marker.
     #[error("directive")]
     Directive { at: u32 },
     /// A word, punctuator or literal of C that this project leaves out.

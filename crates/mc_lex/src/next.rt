@@ -9,13 +9,14 @@ use crate::fault_kind::FaultKind;
 use crate::gap::{close_len, is_marker, line_len};
 use crate::token::{Dialect, TokenKind};
 
-#[derive(Clone, Copy, Debug, PartialEq, Eq)]
 /// What stands next in a source.
+#[derive(Clone, Copy, Debug, PartialEq, Eq)]
 pub enum Next {
     /// What stands between tokens, of so many bytes.
     Gap(usize),
     /// A token of so many bytes.
     Token(TokenKind, usize),
+    /// Neither, and why.
     Refused(FaultKind),
 }
 

@@ -1,5 +1,5 @@
 -- Steps of the scanner, as functions on lists: they repeat the code's loops for its proofs.
--- These are not the definitions of a token list: those stand in the files above this folder.
+-- What a token list is does not stand here but in the files above this folder.
 use Rattle.std.specs.Prelude.{◌≤◌, ◌<◌, ℕ, zero, suc, ◌+◌, ◌-◌, ◌^◌, Bool, false, not, ◌&&◌, ◌||◌, ◌==◌, nat_le, nat_lt, nat_eq, if◌then◌else◌, List, [], ◌∷◌, ◌++◌, length, take, drop, map, Option, Some, None, Result, Ok, Err, codes}
 use denote.Ref.{Bor}
 use Rattle.std.specs.List.{list_all, prefix_len, starts_with}
