@@ -1,5 +1,5 @@
 -- The readers of initializers and declarations, of fewer than so many levels.
-use Rattle.std.specs.Prelude.{ℕ, zero, suc, Bool, true, false, if◌then◌else◌, List, [], ◌∷◌, codes}
+use Rattle.std.specs.Prelude.{ℕ, zero, suc, Bool, true, false, if◌then◌else◌, List, [], ◌∷◌, Some, codes}
 use Rattle.mc_span.specs.declared.span.Span.{Span}
 use Rattle.mc_tree.specs.Tree.{Declaration, Declarator, InitDeclarator, Initializer, Specifiers}
 use Rattle.mc_tree.specs.Tree as t

@@ -243,23 +243,36 @@ operations_loop (suc turns) parts room k a =
 abbrev pub operations_of : Parts → ℕ → Level → Expression → Parser Expression
 operations_of parts room k a = listed (λ turns. operations_loop turns parts room k a)
 
--- a level, by the level of its operands
-abbrev pub level_above : Parser Expression → Parts → ℕ → Level → Parser Expression
-level_above operands parts room k = do
-  a ← operands
-  operations_of parts room k a
+-- the operators of these levels, one level after the other
+unfoldable pub climb : Parts → ℕ → List Level → Expression → Parser Expression
+climb parts room [] a = pure a
+climb parts room (k ∷ levels) a = do
+  b ← operations_of parts room k a
+  climb parts room levels b
+
+-- from the level that binds closest
+abbrev pub up_to : Level → List Level
+up_to n.product = n.product ∷ []
+up_to n.sum = n.product ∷ n.sum ∷ []
+up_to n.shift = n.product ∷ n.sum ∷ n.shift ∷ []
+up_to n.relation = n.product ∷ n.sum ∷ n.shift ∷ n.relation ∷ []
+up_to n.equality = n.product ∷ n.sum ∷ n.shift ∷ n.relation ∷ n.equality ∷ []
+up_to n.bit_and = n.product ∷ n.sum ∷ n.shift ∷ n.relation ∷ n.equality ∷ n.bit_and ∷ []
+up_to n.bit_xor =
+    n.product ∷ n.sum ∷ n.shift ∷ n.relation ∷ n.equality ∷ n.bit_and ∷ n.bit_xor ∷ []
+up_to n.bit_or =
+    n.product ∷ n.sum ∷ n.shift ∷ n.relation ∷ n.equality ∷ n.bit_and ∷ n.bit_xor ∷ n.bit_or ∷ []
+up_to n.land =
+    n.product ∷ n.sum ∷ n.shift ∷ n.relation ∷ n.equality ∷ n.bit_and ∷ n.bit_xor ∷ n.bit_or
+    ∷ n.land ∷ []
+up_to n.lor =
+    n.product ∷ n.sum ∷ n.shift ∷ n.relation ∷ n.equality ∷ n.bit_and ∷ n.bit_xor ∷ n.bit_or
+    ∷ n.land ∷ n.lor ∷ []
 
 unfoldable pub level_of : Parts → ℕ → Level → Parser Expression
-level_of parts room n.product = level_above (cast_of parts room) parts room n.product
-level_of parts room n.sum = level_above (level_of parts room n.product) parts room n.sum
-level_of parts room n.shift = level_above (level_of parts room n.sum) parts room n.shift
-level_of parts room n.relation = level_above (level_of parts room n.shift) parts room n.relation
-level_of parts room n.equality = level_above (level_of parts room n.relation) parts room n.equality
-level_of parts room n.bit_and = level_above (level_of parts room n.equality) parts room n.bit_and
-level_of parts room n.bit_xor = level_above (level_of parts room n.bit_and) parts room n.bit_xor
-level_of parts room n.bit_or = level_above (level_of parts room n.bit_xor) parts room n.bit_or
-level_of parts room n.land = level_above (level_of parts room n.bit_or) parts room n.land
-level_of parts room n.lor = level_above (level_of parts room n.land) parts room n.lor
+level_of parts room k = do
+  a ← cast_of parts room
+  climb parts room (up_to k) a
 
 -- ---- conditional expressions, assignments and commas
 
