@@ -47,9 +47,9 @@ stars_loop (suc turns) count before = stars_turn (stars_loop turns) count before
 abbrev pub stars_of : Span → Parser Stars
 stars_of before = listed (λ turns. stars_loop turns 0 before)
 
--- the arguments of a call, and the operands of a comma after the first
-abbrev pub expressions_of : Parts → Parser (List Expression)
-expressions_of parts = listed (λ turns. comma_list turns (parts.expression n.assign) [])
+-- the arguments of a call, or the operands of a comma, after these
+abbrev pub expressions_after : Parts → List Expression → Parser (List Expression)
+expressions_after parts before = listed (λ turns. comma_list turns (parts.expression n.assign) before)
 
 unfoldable pub type_name_of : Parts → Parser TypeName
 type_name_of parts = do
@@ -314,8 +314,8 @@ assign_of parts room = do
 unfoldable pub operands_of : Parts → ℕ → Expression → Parser Expression
 operands_of parts room a = only (fits a room) (do
   x ← take
-  all ← expressions_of parts
-  pure (t.Comma (t.expressions a (expressions_from all)) (to (span_of a) (end_of_expressions (span_of a) (expressions_from all)))))
+  all ← expressions_after parts (a ∷ [])
+  pure (t.Comma (expressions_from all) (to (span_of a) (end_of_expressions (span_of a) (expressions_from all)))))
 
 unfoldable pub comma_of : Parts → ℕ → Parser Expression
 comma_of parts room = do
