@@ -66,7 +66,7 @@ arguments_of parts x = do
   if empty then (do
     z ← take
     pure (t.Call (name_at x) t.no_expressions (to (at x) (at z)))) else (do
-      all ← expressions_of parts
+      all ← expressions_after parts []
       z ← expect (codes ")")
       pure (t.Call (name_at x) (expressions_from all) (to (at x) (at z))))
 
