@@ -63,7 +63,7 @@ const REFUSED: [(&[u8], u32, &str); 70] = [
     (b"18446744073709551616u", 0, "constant too wide"),
     (b"int a = 18446744073709551616;", 8, "constant too wide"),
     (b"0x10000000000000000", 0, "constant too wide"),
-    // a `#` that begins no line marker
+    // a `#` that does not begin a line marker
     (b"#include <x.h>", 0, "directive"),
     (b"# 1x", 0, "directive"),
     (b"/* c */ # 1", 8, "directive"),
