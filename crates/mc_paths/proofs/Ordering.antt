@@ -24,7 +24,7 @@ before_back : (xs us vs : List (Option Bool)) → IsBefore us vs → IsBefore (x
 before_back [] us vs h = h
 before_back (x ∷ xs) us vs h = inr (refl, before_back xs us vs h)
 
--- the answers behind the first operand
+-- the answers after the first operand
 rest_of : Bool → Tree → Evaluation → List (Option Bool)
 rest_of true b g = g.answers
 rest_of false b g = skipped b
