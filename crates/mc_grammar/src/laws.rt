@@ -104,16 +104,16 @@ pub fn parts_are_not_empty()
     ensures init_declarator { (d : Dialect) (typedef : Bool) (ts rest : List Lexeme) (one : InitDeclarator) → ReadsInitDeclarator d typedef ts one rest → length rest < length ts }
     ensures declaration { (d : Dialect) (typedef : Bool) (allowed : Specifiers → Bool) (ts rest : List Lexeme) (one : Declaration) → ReadsDeclaration d typedef allowed ts one rest → length rest < length ts }
     ensures for_start { (d : Dialect) (ts rest : List Lexeme) (one : ForStart) → ReadsForStart d ts one rest → length rest < length ts }
-    ensures compound { (d : Dialect) (ts rest : List Lexeme) (all : BlockItems) → ReadsCompound d ts all rest → length rest < length ts }
+    ensures compound { (d : Dialect) (ts rest : List Lexeme) (all : BlockItems) (span : Span) → ReadsCompound d ts all span rest → length rest < length ts }
 {}
 
 /// What may be empty leaves no more tokens than were given: the `*` of a declarator, specifiers, the lengths of an array, the
 /// items of a block, an expression that may be left out, and the declarators of a declaration.
 #[tactic(auto, using(crate::proofs::Lengths::stars_shorter, crate::proofs::Lengths::specifiers_no_longer, crate::proofs::Lengths::lengths_shorter, crate::proofs::Lengths::block_items_shorter, crate::proofs::Lengths::optional_shorter, crate::proofs::Lengths::init_declarators_shorter))]
 pub fn optional_parts_leave_no_more()
-    ensures stars { (ts rest : List Lexeme) (stars : ℕ) → ReadsStars ts stars rest → length rest ≤ length ts }
+    ensures stars { (before end : Span) (ts rest : List Lexeme) (stars : ℕ) → ReadsStars before ts stars end rest → length rest ≤ length ts }
     ensures specifiers { (d : Dialect) (has_type : Bool) (ts rest : List Lexeme) (all : Specifiers) → ReadsSpecifiers d has_type ts all rest → length rest ≤ length ts }
-    ensures lengths { (d : Dialect) (ts rest : List Lexeme) (all : ArrayLengths) → ReadsArrayLengths d ts all rest → length rest ≤ length ts }
+    ensures lengths { (d : Dialect) (before end : Span) (ts rest : List Lexeme) (all : ArrayLengths) → ReadsArrayLengths d before ts all end rest → length rest ≤ length ts }
     ensures block_items { (d : Dialect) (ts rest : List Lexeme) (all : BlockItems) → ReadsBlockItems d ts all rest → length rest ≤ length ts }
     ensures optional { (d : Dialect) (stop : List ℕ) (ts rest : List Lexeme) (one : Option Expression) → ReadsOptional d stop ts one rest → length rest ≤ length ts }
     ensures init_declarators { (d : Dialect) (typedef : Bool) (ts rest : List Lexeme) (all : List InitDeclarator) → ReadsInitDeclarators d typedef ts all rest → length rest ≤ length ts }
