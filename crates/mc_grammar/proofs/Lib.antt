@@ -10,3 +10,5 @@ pub mod Snippets
 pub mod Leaving
 pub mod Refused
 pub mod Nested
+pub mod Storage
+pub mod Spelling

@@ -6,6 +6,7 @@ pub mod Counts
 pub mod Expressions
 pub mod Statements
 pub mod Items
+pub mod Spelling
 pub mod Meaning
 pub mod Samples
 pub mod Snippets
