@@ -15,11 +15,11 @@ use Rattle.mc_grammar.specs.Statements.{ReadsOptional, ReadsTest, ReadsInitializ
 use Rattle.mc_grammar.specs.Statements as s
 
 -- the first is an end of the second
-pub data IsEnd : List Lexeme → List Lexeme → Type 0 where
-  whole : {ts : List Lexeme} → IsEnd ts ts
-  later : {x : Lexeme} {rest ts : List Lexeme} → IsEnd rest ts → IsEnd rest (x ∷ ts)
+pub data IsEnd {A : Type 0} : List A → List A → Type 0 where
+  whole : {ts : List A} → IsEnd ts ts
+  later : {x : A} {rest ts : List A} → IsEnd rest ts → IsEnd rest (x ∷ ts)
 
-join : {ts mid rest : List Lexeme} → IsEnd mid ts → IsEnd rest mid → IsEnd rest ts
+pub join : {A : Type 0} {ts mid rest : List A} → IsEnd mid ts → IsEnd rest mid → IsEnd rest ts
 join whole q = q
 join (later p) q = later (join p q)
 

@@ -12,3 +12,4 @@ pub mod Refused
 pub mod Nested
 pub mod Storage
 pub mod Spelling
+pub mod Extent

@@ -7,6 +7,7 @@ pub mod Expressions
 pub mod Statements
 pub mod Items
 pub mod Spelling
+pub mod Extent
 pub mod Meaning
 pub mod Samples
 pub mod Snippets
