@@ -16,7 +16,7 @@ use Rattle.mc_grammar.specs.Statements.{ReadsOptional, ReadsTest, ReadsInitializ
 use Rattle.mc_grammar.specs.Statements as s
 use Rattle.mc_grammar.specs.Items.{ReadsItem}
 use Rattle.mc_grammar.specs.Items as i
-use Rattle.mc_grammar.specs.Extent.{places, IsPlace, single, longer, span_of_declarator, span_of_declaration, span_of_item}
+use Rattle.mc_grammar.specs.Extent.{places, IsPlace, single, longer, span_of_type_name, span_of_member, span_of_declarator, span_of_parameter, span_of_declaration, span_of_item}
 use Rattle.mc_grammar.proofs.Lengths.{operand_takes}
 use Rattle.mc_grammar.proofs.Ends.{IsEnd, whole, later, join, stars_ends, expression_ends, expressions_ends, type_name_ends, specifiers_ends, members_ends, enumerators_ends, declarators_ends, declarator_ends, lengths_ends, parameter_list_ends, initializer_ends, initializers_ends}
 
@@ -54,7 +54,7 @@ upto (longer q) p c = longer (upto q p c)
 -- ---- expressions
 
 mutual
-  stands : {d : Dialect} {m : Nonterminal} {ts rest : List Lexeme} {a : Expression} → takes m ≡ 1 → Reads d m ts a rest → IsPlace (span_of a) (places ts) (places rest)
+  pub stands : {d : Dialect} {m : Nonterminal} {ts rest : List Lexeme} {a : Expression} → takes m ≡ 1 → Reads d m ts a rest → IsPlace (span_of a) (places ts) (places rest)
   stands g (r.comma_one p e) = stands refl p
   stands g (r.comma {a = a} p e q) = expressions_stand (span_of a) (span_of a) q (stands refl p)
   stands g (r.assign_cond p e) = stands refl p
@@ -132,10 +132,10 @@ typed_stand : {d : Dialect} {has : Bool} {x : Lexeme} {ts rest : List Lexeme} (p
 typed_stand t.no_specifiers e p = cc
 typed_stand {x = x} (t.specifiers part parts) e p = let g = specifier_stands p in specifiers_stand (at x) (span_of_specifier part) parts g.3 (starts g.2)
 
-pub type_name_stands : {d : Dialect} {ts rest : List Lexeme} {parts : Specifiers} {stars : ℕ} {span : Span} → ReadsTypeName d ts (t.type_name parts stars span) rest → IsPlace span (places ts) (places rest)
+pub type_name_stands : {d : Dialect} {ts rest : List Lexeme} {part : TypeName} → ReadsTypeName d ts part rest → IsPlace (span_of_type_name part) (places ts) (places rest)
 type_name_stands (r.type_name {x = x} {s = parts} p e q) = stars_stand (at x) q (typed_stand parts e p)
 
-pub member_stands : {d : Dialect} {ts rest : List Lexeme} {parts : Specifiers} {all : t.Declarators} {span : Span} → ReadsMember d ts (t.member parts all span) rest → IsPlace span (places ts) (places rest)
+pub member_stands : {d : Dialect} {ts rest : List Lexeme} {part : StructMember} → ReadsMember d ts part rest → IsPlace (span_of_member part) (places ts) (places rest)
 member_stands (r.struct_member p e q f) = begin (ends (join (specifiers_ends p) (declarators_ends q))) single
 
 pub parameters_stand : {d : Dialect} {ts rest : List Lexeme} {parts : Parameters} → ReadsParameters d ts parts rest → IsPlace (span_of_parameters parts) (places ts) (places rest)
@@ -147,8 +147,7 @@ pub declarator_stands : {d : Dialect} {ts rest : List Lexeme} {part : Declarator
 declarator_stands (r.object {x = x} p e f q) = lengths_stand (at x) q (begin (ends (stars_ends p)) single)
 declarator_stands (r.function p e q) = upto (begin (ends (stars_ends p)) single) whole (parameters_stand q)
 
-pub parameter_stands : {d : Dialect} {ts rest : List Lexeme} {parts : Specifiers} {stars : ℕ} {name : Option t.Name} {all : ArrayLengths} {span : Span}
-    → ReadsParameter d ts (t.parameter parts stars name all span) rest → IsPlace span (places ts) (places rest)
+pub parameter_stands : {d : Dialect} {ts rest : List Lexeme} {part : Parameter} → ReadsParameter d ts part rest → IsPlace (span_of_parameter part) (places ts) (places rest)
 parameter_stands (r.parameter {x = x} {s = parts} p e q f v) = lengths_stand (at x) v (upto (typed_stand parts e p) (ends (stars_ends q)) single)
 parameter_stands (r.unnamed_parameter {x = x} {s = parts} p e q f v) = lengths_stand (at x) v (stars_stand (at x) q (typed_stand parts e p))
 

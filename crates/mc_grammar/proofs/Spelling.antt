@@ -152,7 +152,7 @@ record Continues (a : Expression) (from ts : List Lexeme) : Type 0 where
   on : {all : List Spelled} {end : List Lexeme} → Spells all ts end → Spells (spell a all) from end
 
 mutual
-  spells : {d : Dialect} {m : Nonterminal} {ts rest end : List Lexeme} {a : Expression} {all : List Spelled} → takes m ≡ 1 → Reads d m ts a rest → Spells all rest end → Spells (spell a all) ts end
+  pub spells : {d : Dialect} {m : Nonterminal} {ts rest end : List Lexeme} {a : Expression} {all : List Spelled} → takes m ≡ 1 → Reads d m ts a rest → Spells all rest end → Spells (spell a all) ts end
   spells g (r.comma_one p e) h = spells refl p h
   spells {all = others} g (r.comma {a = a} p e q) h = joined_expressions a others q (spells refl p (token e (expressions_spell q h)))
   spells g (r.assign_cond p e) h = spells refl p h
@@ -191,14 +191,14 @@ mutual
   suffixes_spell (r.postfix_step e q) g h = suffixes_spell q (record { on = λ {all} {end} v. g.on (token (step_spelled e) v) }) h
   suffixes_spell (r.suffixes_end e) g h = g.on h
 
-  expressions_spell : {d : Dialect} {ts rest end : List Lexeme} {parts : Expressions} {all : List Spelled} → ReadsExpressions d ts parts rest → Spells all rest end → Spells (spell_expressions parts all) ts end
+  pub expressions_spell : {d : Dialect} {ts rest end : List Lexeme} {parts : Expressions} {all : List Spelled} → ReadsExpressions d ts parts rest → Spells all rest end → Spells (spell_expressions parts all) ts end
   expressions_spell (r.last_expression p e) h = spells refl p h
   expressions_spell {all = others} (r.more_expressions {a = a} p e q) h = joined_expressions a others q (spells refl p (token e (expressions_spell q h)))
 
-  type_name_spells : {d : Dialect} {ts rest end : List Lexeme} {one : TypeName} {all : List Spelled} → ReadsTypeName d ts one rest → Spells all rest end → Spells (spell_type_name one all) ts end
+  pub type_name_spells : {d : Dialect} {ts rest end : List Lexeme} {one : TypeName} {all : List Spelled} → ReadsTypeName d ts one rest → Spells all rest end → Spells (spell_type_name one all) ts end
   type_name_spells (r.type_name p e q) h = specifiers_spell p (stars_spell q h)
 
-  specifiers_spell : {d : Dialect} {has : Bool} {ts rest end : List Lexeme} {parts : Specifiers} {all : List Spelled} → ReadsSpecifiers d has ts parts rest → Spells all rest end → Spells (spell_specifiers parts all) ts end
+  pub specifiers_spell : {d : Dialect} {has : Bool} {ts rest end : List Lexeme} {parts : Specifiers} {all : List Spelled} → ReadsSpecifiers d has ts parts rest → Spells all rest end → Spells (spell_specifiers parts all) ts end
   specifiers_spell (r.specifiers_end e) h = h
   specifiers_spell (r.word e p) h = token (word_spelled e) (specifiers_spell p h)
   specifiers_spell (r.typedef_name e p) h = token (e, refl) (specifiers_spell p h)
@@ -213,7 +213,7 @@ mutual
   members_spell (r.last_member p e) h = member_spells p h
   members_spell (r.more_members p e q) h = member_spells p (members_spell q h)
 
-  member_spells : {d : Dialect} {ts rest end : List Lexeme} {one : StructMember} {all : List Spelled} → ReadsMember d ts one rest → Spells all rest end → Spells (spell_member one all) ts end
+  pub member_spells : {d : Dialect} {ts rest end : List Lexeme} {one : StructMember} {all : List Spelled} → ReadsMember d ts one rest → Spells all rest end → Spells (spell_member one all) ts end
   member_spells (r.struct_member p e q f) h = specifiers_spell p (declarators_spell q (token f h))
 
   declarators_spell : {d : Dialect} {ts rest end : List Lexeme} {parts : Declarators} {all : List Spelled} → ReadsDeclarators d ts parts rest → Spells all rest end → Spells (spell_declarators parts all) ts end
@@ -225,11 +225,11 @@ mutual
   enumerators_spell (r.last_enumerator_comma p e f) h = enumerator_spells p (last_comma e f h)
   enumerators_spell {all = others} (r.more_enumerators {e = one} p e f q) h = joined_enumerators one others q (enumerator_spells p (token e (enumerators_spell q h)))
 
-  enumerator_spells : {d : Dialect} {ts rest end : List Lexeme} {one : Enumerator} {all : List Spelled} → ReadsEnumerator d ts one rest → Spells all rest end → Spells (spell_enumerator one all) ts end
+  pub enumerator_spells : {d : Dialect} {ts rest end : List Lexeme} {one : Enumerator} {all : List Spelled} → ReadsEnumerator d ts one rest → Spells all rest end → Spells (spell_enumerator one all) ts end
   enumerator_spells (r.enumerator e f) h = token (e, refl) h
   enumerator_spells (r.valued_enumerator e f p) h = token (e, refl) (token f (spells refl p h))
 
-  declarator_spells : {d : Dialect} {ts rest end : List Lexeme} {one : Declarator} {all : List Spelled} → ReadsDeclarator d ts one rest → Spells all rest end → Spells (spell_declarator one all) ts end
+  pub declarator_spells : {d : Dialect} {ts rest end : List Lexeme} {one : Declarator} {all : List Spelled} → ReadsDeclarator d ts one rest → Spells all rest end → Spells (spell_declarator one all) ts end
   declarator_spells (r.object p e f q) h = stars_spell p (token (e, refl) (lengths_spell q h))
   declarator_spells (r.function p e q) h = stars_spell p (token (e, refl) (parameters_spell q h))
 
@@ -238,7 +238,7 @@ mutual
   lengths_spell (r.absent_length e f p) h = token e (token f (lengths_spell p h))
   lengths_spell (r.given_length e f p g q) h = token e (spells refl p (token g (lengths_spell q h)))
 
-  parameters_spell : {d : Dialect} {ts rest end : List Lexeme} {one : Parameters} {all : List Spelled} → ReadsParameters d ts one rest → Spells all rest end → Spells (spell_parameters one all) ts end
+  pub parameters_spell : {d : Dialect} {ts rest end : List Lexeme} {one : Parameters} {all : List Spelled} → ReadsParameters d ts one rest → Spells all rest end → Spells (spell_parameters one all) ts end
   parameters_spell (r.empty_parameters e f) h = token e (token f h)
   parameters_spell (r.void_parameters e f g) h = token e (token f (token g h))
   parameters_spell (r.listed_parameters e f g p v) h = token e (parameter_list_spells p (token v h))
@@ -247,7 +247,7 @@ mutual
   parameter_list_spells (r.last_parameter p e) h = parameter_spells p h
   parameter_list_spells {all = others} (r.more_parameters {p = one} p e q) h = joined_parameters one others q (parameter_spells p (token e (parameter_list_spells q h)))
 
-  parameter_spells : {d : Dialect} {ts rest end : List Lexeme} {one : Parameter} {all : List Spelled} → ReadsParameter d ts one rest → Spells all rest end → Spells (spell_parameter one all) ts end
+  pub parameter_spells : {d : Dialect} {ts rest end : List Lexeme} {one : Parameter} {all : List Spelled} → ReadsParameter d ts one rest → Spells all rest end → Spells (spell_parameter one all) ts end
   parameter_spells (r.parameter p e q f v) h = specifiers_spell p (stars_spell q (token (f, refl) (lengths_spell v h)))
   parameter_spells (r.unnamed_parameter p e q f v) h = specifiers_spell p (stars_spell q (lengths_spell v h))
 
@@ -259,7 +259,7 @@ test_spells : {d : Dialect} {ts rest end : List Lexeme} {one : Expression} {all 
 test_spells (s.test e p f) h = token e (spells refl p (token f h))
 
 mutual
-  initializer_spells : {d : Dialect} {ts rest end : List Lexeme} {one : Initializer} {all : List Spelled} → ReadsInitializer d ts one rest → Spells all rest end → Spells (spell_initializer one all) ts end
+  pub initializer_spells : {d : Dialect} {ts rest end : List Lexeme} {one : Initializer} {all : List Spelled} → ReadsInitializer d ts one rest → Spells all rest end → Spells (spell_initializer one all) ts end
   initializer_spells (s.single e p) h = spells refl p h
   initializer_spells (s.braced e p f) h = token e (initializers_spell p (token f h))
 
@@ -286,18 +286,18 @@ init_declarators_spell (s.no_init_declarator e) h = h
 init_declarators_spell (s.last_init_declarator p e) h = init_declarator_spells p h
 init_declarators_spell {all = others} (s.more_init_declarators {i = one} p e f q) h = joined_init_declarators one others q f (init_declarator_spells p (token e (init_declarators_spell q h)))
 
-declaration_spells : {d : Dialect} {typedef : Bool} {allowed : Specifiers → Bool} {ts rest end : List Lexeme} {one : Declaration} {all : List Spelled}
+pub declaration_spells : {d : Dialect} {typedef : Bool} {allowed : Specifiers → Bool} {ts rest end : List Lexeme} {one : Declaration} {all : List Spelled}
     → ((words : Specifiers) → allowed words ≡ true → some_word is_typedef_word words ≡ typedef)
     → ReadsDeclaration d typedef allowed ts one rest → Spells all rest end → Spells (spell_declaration one all) ts end
 declaration_spells {end = end} {all = others} tells (s.declaration {x = x} {ts = ts} {s = words} {all = parts} e p f q g) h =
     subst (λ b. Spells (spell_specifiers words (spell_init_declarators b parts (semicolon ∷ others))) (x ∷ ts) end) (sym (tells words f)) (specifiers_spell p (init_declarators_spell q (token g h)))
 
-start_spells : {d : Dialect} {ts rest end : List Lexeme} {one : ForStart} {all : List Spelled} → ReadsForStart d ts one rest → Spells all rest end → Spells (spell_start one all) ts end
+pub start_spells : {d : Dialect} {ts rest end : List Lexeme} {one : ForStart} {all : List Spelled} → ReadsForStart d ts one rest → Spells all rest end → Spells (spell_start one all) ts end
 start_spells (s.starts_local p) h = declaration_spells type_typedef p h
 start_spells (s.starts_expression e p f) h = optional_spells p (token f h)
 
 mutual
-  statement_spells : {d : Dialect} {ts rest end : List Lexeme} {one : Statement} {all : List Spelled} → ReadsStatement d ts one rest → Spells all rest end → Spells (spell_statement one all) ts end
+  pub statement_spells : {d : Dialect} {ts rest end : List Lexeme} {one : Statement} {all : List Spelled} → ReadsStatement d ts one rest → Spells all rest end → Spells (spell_statement one all) ts end
   statement_spells (s.compound p) h = compound_spells p h
   statement_spells (s.null e) h = token e h
   statement_spells (s.expression_statement e f p g) h = spells refl p (token g h)
@@ -324,10 +324,10 @@ mutual
   block_spells (s.local e p q) h = declaration_spells local_typedef p (block_spells q h)
   block_spells (s.statement e f p q) h = statement_spells p (block_spells q h)
 
-item_spells : {d : Dialect} {ts rest end : List Lexeme} {one : Item} {all : List Spelled} → ReadsItem d ts one rest → Spells all rest end → Spells (spell_item one all) ts end
+pub item_spells : {d : Dialect} {ts rest end : List Lexeme} {one : Item} {all : List Spelled} → ReadsItem d ts one rest → Spells all rest end → Spells (spell_item one all) ts end
 item_spells (i.declared {typedef = typedef} p) h = declaration_spells (item_typedef typedef) p h
 item_spells (i.defined p e q f v w) h = specifiers_spell p (stars_spell q (token (f, refl) (parameters_spell v (compound_spells w h))))
 
-unit_spells : {d : Dialect} {ts : List Lexeme} {unit : List Item} → ReadsUnit d ts unit → Spells (spell_unit unit) ts []
+pub unit_spells : {d : Dialect} {ts : List Lexeme} {unit : List Item} → ReadsUnit d ts unit → Spells (spell_unit unit) ts []
 unit_spells i.no_items = nothing
 unit_spells (i.item p q) = item_spells p (unit_spells q)

@@ -1,7 +1,7 @@
 -- Where several tokens stand together: from the first byte of the first to after the last of the last.
 use Rattle.std.specs.Prelude.{List, ◌∷◌, map}
 use Rattle.mc_span.specs.declared.span.Span.{Span}
-use Rattle.mc_tree.specs.Tree.{Declarator, Declaration, Item}
+use Rattle.mc_tree.specs.Tree.{TypeName, StructMember, Declarator, Parameter, Declaration, Item}
 use Rattle.mc_tree.specs.Tree as t
 use Rattle.mc_grammar.specs.Words.{Lexeme}
 use Rattle.mc_grammar.specs.Places.{at, to}
@@ -15,7 +15,16 @@ pub data IsPlace : Span → List Span → List Span → Type 0 where
   longer : {place last : Span} {all rest : List Span}
       → IsPlace last all rest → IsPlace (to place last) (place ∷ all) rest
 
--- where a declarator, a declaration and an item stand
+-- where these stand
+abbrev pub span_of_type_name : TypeName → Span
+span_of_type_name (t.type_name s stars span) = span
+
+abbrev pub span_of_member : StructMember → Span
+span_of_member (t.member s all span) = span
+
+abbrev pub span_of_parameter : Parameter → Span
+span_of_parameter (t.parameter s stars name all span) = span
+
 abbrev pub span_of_declarator : Declarator → Span
 span_of_declarator (t.object stars name all span) = span
 span_of_declarator (t.function stars name all span) = span
