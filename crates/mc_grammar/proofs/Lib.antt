@@ -13,3 +13,4 @@ pub mod Nested
 pub mod Storage
 pub mod Spelling
 pub mod Extent
+pub mod Precedence

@@ -59,14 +59,14 @@ word_spelled (o.signed e) = e
 word_spelled (o.unsigned e) = e
 
 -- the token of the operator that is found, one test after the other
-found : {A : Type 0} (P : A → Type 0) (b : Bool) (one : A) (others : Option A) {a : A} → (b ≡ true → P one) → (others ≡ Some a → P a) → (if b then Some one else others) ≡ Some a → P a
+pub found : {A : Type 0} (P : A → Type 0) (b : Bool) (one : A) (others : Option A) {a : A} → (b ≡ true → P one) → (others ≡ Some a → P a) → (if b then Some one else others) ≡ Some a → P a
 found P true one others h g e = let f : one ≡ _ = cc in subst P f (h refl)
 found P false one others h g e = g e
 
 abbrev Is : Lexeme → BinaryOperator → Type 0
 Is x operator = is_punctuator (text_of_binary operator) x ≡ true
 
-none : {A : Type 0} (P : A → Type 0) {a : A} → None ≡ Some a → P a
+pub none : {A : Type 0} (P : A → Type 0) {a : A} → None ≡ Some a → P a
 none P e = cc
 
 operator_spelled : (k : Level) (x : Lexeme) {operator : BinaryOperator} → operator_at k x ≡ Some operator → is_punctuator (text_of_binary operator) x ≡ true

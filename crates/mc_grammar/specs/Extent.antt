@@ -1,4 +1,5 @@
--- Where several tokens stand together: from the first byte of the first to after the last of the last.
+-- Where several tokens stand together: from the first byte of the first to after the last byte of
+-- the last.
 use Rattle.std.specs.Prelude.{List, ◌∷◌, map}
 use Rattle.mc_span.specs.declared.span.Span.{Span}
 use Rattle.mc_tree.specs.Tree.{TypeName, StructMember, Declarator, Parameter, Declaration, Item}

@@ -1,5 +1,5 @@
--- What the laws say of any part that is read: a tree of type T, by a relation between the tokens given, the
--- tree, and the tokens left.
+-- What the laws say of any part that is read: a tree of type T, by a relation between the tokens
+-- given, the tree, and the tokens left.
 use Rattle.std.specs.Prelude.{ℕ, ◌≤◌, ◌<◌, Bool, false, List, [], length}
 use Rattle.mc_lex.specs.declared.token.Dialect.{Dialect}
 use Rattle.mc_span.specs.declared.span.Span.{Span}
@@ -32,7 +32,8 @@ SpellsText {T = T} spell reads =
 abbrev pub HasPlace : {T : Type 0}
     → (T → Span) → (List Lexeme → T → List Lexeme → Type 0) → Type 0
 HasPlace {T = T} span reads =
-    (ts rest : List Lexeme) (one : T) → reads ts one rest → IsPlace (span one) (places ts) (places rest)
+    (ts rest : List Lexeme) (one : T) → reads ts one rest
+    → IsPlace (span one) (places ts) (places rest)
 
 -- the place of the first of some specifiers
 abbrev pub SpecifierHasPlace : Type 0
@@ -40,7 +41,8 @@ SpecifierHasPlace =
     (d : Dialect) (has_type : Bool) (ts rest : List Lexeme) (one : Specifier) (others : Specifiers)
     → ReadsSpecifiers d has_type ts (t.specifiers one others) rest
     → (has : Bool) × (mid : List Lexeme)
-    × IsPlace (span_of_specifier one) (places ts) (places mid) × ReadsSpecifiers d has mid others rest
+    × IsPlace (span_of_specifier one) (places ts) (places mid)
+    × ReadsSpecifiers d has mid others rest
 
 abbrev pub BracesHavePlace : Type 0
 BracesHavePlace =
@@ -63,7 +65,9 @@ DefaultHasPlace =
 -- the place of a function's declarator, between its specifiers and its body
 abbrev pub FunctionHasPlace : Type 0
 FunctionHasPlace =
-    (d : Dialect) (ts rest : List Lexeme) (words : Specifiers) (one : Declarator) (body : BlockItems) (span : Span)
+    (d : Dialect) (ts rest : List Lexeme) (words : Specifiers) (one : Declarator)
+    (body : BlockItems) (span : Span)
     → ReadsItem d ts (t.Defined words one body span) rest
     → (left mid : List Lexeme) × (place : Span) × ReadsSpecifiers d false ts words left
-    × IsPlace (span_of_declarator one) (places left) (places mid) × ReadsCompound d mid body place rest
+    × IsPlace (span_of_declarator one) (places left) (places mid)
+    × ReadsCompound d mid body place rest

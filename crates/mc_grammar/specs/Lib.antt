@@ -8,6 +8,7 @@ pub mod Statements
 pub mod Items
 pub mod Spelling
 pub mod Extent
+pub mod Precedence
 pub mod Laws
 pub mod Meaning
 pub mod Samples
