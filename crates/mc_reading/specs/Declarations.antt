@@ -1,10 +1,9 @@
 -- The readers of initializers and declarations, of fewer than so many levels.
-use Rattle.std.specs.Prelude.{ℕ, zero, suc, Bool, true, false, if◌then◌else◌, List, [], ◌∷◌, Some, codes}
+use Rattle.std.specs.Prelude.{ℕ, zero, suc, Bool, false, if◌then◌else◌, List, [], ◌∷◌, Some, codes}
 use Rattle.mc_span.specs.declared.span.Span.{Span}
 use Rattle.mc_tree.specs.Tree.{Declaration, Declarator, InitDeclarator, Initializer, Specifiers}
 use Rattle.mc_tree.specs.Tree as t
 use Rattle.mc_tree.specs.Units.{initializers_from}
-use Rattle.mc_grammar.specs.Words.{Lexeme, sees}
 use Rattle.mc_grammar.specs.Places.{at, to}
 use Rattle.mc_grammar.specs.Nonterminal as n
 use Rattle.mc_grammar.specs.Statements.{after}

@@ -1,5 +1,5 @@
 -- The readers of expressions, over what reads their parts: trees of fewer than `room` levels.
-use Rattle.std.specs.Prelude.{ℕ, zero, suc, ◌+◌, Bool, true, false, ◌&&◌, ◌||◌, nat_le, if◌then◌else◌, List, [], ◌∷◌, length, Option, Some, None, codes}
+use Rattle.std.specs.Prelude.{ℕ, zero, suc, ◌+◌, Bool, nat_le, if◌then◌else◌, List, [], ◌∷◌, Option, Some, None, codes}
 use Rattle.mc_lex.specs.declared.token.TokenKind.{TokenKind}
 use Rattle.mc_lex.specs.declared.token.TokenKind.TheVariants as kind
 use Rattle.mc_span.specs.declared.span.Span.{Span}
@@ -13,9 +13,9 @@ use Rattle.mc_tree.specs.Tree.{Expression, TypeName, Specifiers, span_of}
 use Rattle.mc_tree.specs.Tree as t
 use Rattle.mc_tree.specs.Height.{height}
 use Rattle.mc_tree.specs.Views.{expressions_from}
-use Rattle.mc_grammar.specs.Words.{Lexeme, is_punctuator, is_name, next_is, sees, sees_specifiers, sees_cast}
+use Rattle.mc_grammar.specs.Words.{Lexeme, is_punctuator, is_name, next_is, sees_specifiers, sees_cast}
 use Rattle.mc_grammar.specs.Places.{at, name_at, to, end_of_expressions, end_of_specifiers}
-use Rattle.mc_grammar.specs.Operators.{operator_next, assignment_at, sees_assignment, is_suffix}
+use Rattle.mc_grammar.specs.Operators.{operator_next, assignment_at, is_suffix}
 use Rattle.mc_grammar.specs.Counts.{for_type}
 use Rattle.mc_grammar.specs.Expressions.{is_unary}
 use Rattle.mc_grammar.specs.Nonterminal.{Nonterminal, Level, operand}

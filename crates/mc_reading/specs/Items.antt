@@ -1,13 +1,13 @@
 -- The readers of external declarations and of a whole unit, of fewer than so many levels.
-use Rattle.std.specs.Prelude.{ℕ, zero, suc, Bool, true, false, ◌&&◌, if◌then◌else◌, List, [], ◌∷◌, ◌++◌, length, Option, Some, None, codes}
+use Rattle.std.specs.Prelude.{ℕ, zero, suc, Bool, true, false, ◌&&◌, nat_le, if◌then◌else◌, List, [], ◌∷◌, codes}
 use Rattle.mc_span.specs.declared.span.Span.{Span}
 use Rattle.mc_tree.specs.Tree.{Declarator, Item, Specifiers}
 use Rattle.mc_tree.specs.Tree as t
 use Rattle.mc_tree.specs.Units.{block_from}
-use Rattle.mc_grammar.specs.Words.{Lexeme, sees}
-use Rattle.mc_grammar.specs.Places.{at, to}
+use Rattle.mc_grammar.specs.Words.{Lexeme}
+use Rattle.mc_grammar.specs.Places.{to}
 use Rattle.mc_grammar.specs.Counts.{for_item, for_function, is_typedef}
-use Rattle.mc_reading.specs.Parsers.{Parser, ◌>>=◌, pure, refuse, see, take, first, only}
+use Rattle.mc_reading.specs.Parsers.{Parser, ◌>>=◌, pure, refuse, see, first, only}
 use Rattle.mc_reading.specs.Lists.{listed, until_list}
 use Rattle.mc_reading.specs.Specifiers.{declarator_of}
 use Rattle.mc_reading.specs.Rooms.{reading}
@@ -21,9 +21,9 @@ is_function (t.function stars name all span) = true
 -- the body of a function is one level
 abbrev pub body_of : ℕ → Span → Specifiers → Declarator → Parser Item
 body_of zero start s d = refuse
-body_of (suc room) start s d = do
+body_of (suc room) start s d = only (nat_le 1 room) (do
   b ← compound_of room (statement_of room)
-  pure (t.Defined s d (block_from b.items) (to start b.span))
+  pure (t.Defined s d (block_from b.items) (to start b.span)))
 
 unfoldable pub defined_of : ℕ → Span → Specifiers → Declarator → Parser Item
 defined_of rooms start s d = only (is_function d && for_function s) (body_of rooms start s d)

@@ -1,7 +1,7 @@
 -- Readers of lists: a turn for each part, with the parts before it. Each loop has one turn more than
 -- there are tokens.
 use Rattle.std.specs.Prelude.{ℕ, zero, suc, ◌+◌, Bool, if◌then◌else◌, List, [], ◌∷◌, ◌++◌, length, codes}
-use Rattle.mc_grammar.specs.Words.{Lexeme, sees}
+use Rattle.mc_grammar.specs.Words.{Lexeme}
 use Rattle.mc_reading.specs.Parsers.{Parser, ◌>>=◌, pure, refuse, ask, see, take}
 
 -- parts with commas between them

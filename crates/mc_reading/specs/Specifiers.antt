@@ -1,13 +1,13 @@
 -- The readers of declarators and of specifiers, over what reads their parts: trees of fewer than `room`
 -- levels. The list of a structure or an enumeration is a part of its specifier.
-use Rattle.std.specs.Prelude.{ℕ, zero, suc, ◌+◌, Bool, true, false, ◌&&◌, ◌||◌, nat_le, if◌then◌else◌, List, [], ◌∷◌, ◌++◌, length, Option, Some, None, codes}
+use Rattle.std.specs.Prelude.{ℕ, zero, suc, Bool, true, false, ◌||◌, nat_le, if◌then◌else◌, List, [], ◌∷◌, ◌++◌, Option, Some, None, codes}
 use Rattle.mc_span.specs.declared.span.Span.{Span}
 use Rattle.mc_tree.specs.declared.declarations.specifier_word.SpecifierWord.{SpecifierWord}
 use Rattle.mc_tree.specs.declared.declarations.specifier_word.SpecifierWord.TheVariants as word
 use Rattle.mc_tree.specs.Tree.{Name, ArrayLengths, Declarator, Enumerator, Parameter, Parameters, Specifier, Specifiers, StructMember, span_of_parameters}
 use Rattle.mc_tree.specs.Tree as t
 use Rattle.mc_tree.specs.Views.{declarators_from, enumerators_from, lengths_from, members_from, parameters_from, specifiers_from}
-use Rattle.mc_grammar.specs.Words.{Lexeme, is_keyword, is_name, is_tag, next_is, sees, sees_specifiers, sees_void_alone, go_on}
+use Rattle.mc_grammar.specs.Words.{Lexeme, is_keyword, is_name, is_tag, next_is, sees_specifiers, sees_void_alone, go_on}
 use Rattle.mc_grammar.specs.Places.{at, name_at, to, end_of_specifiers}
 use Rattle.mc_grammar.specs.Operators.{is_type_word}
 use Rattle.mc_grammar.specs.Counts.{for_type}

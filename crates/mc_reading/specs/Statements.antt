@@ -1,5 +1,5 @@
 -- The readers of statements of fewer than so many levels.
-use Rattle.std.specs.Prelude.{ℕ, zero, suc, Bool, true, false, if◌then◌else◌, List, [], ◌∷◌, ◌++◌, Option, Some, None, codes}
+use Rattle.std.specs.Prelude.{ℕ, zero, suc, if◌then◌else◌, List, [], Option, Some, None, codes}
 use Rattle.mc_span.specs.declared.span.Span.{Span}
 use Rattle.mc_tree.specs.Tree.{BlockItems, Expression, ForStart, Statement, span_of, span_of_statement}
 use Rattle.mc_tree.specs.Tree as t
