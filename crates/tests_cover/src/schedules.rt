@@ -39,54 +39,50 @@ fn check_runs(
     Ok(())
 }
 
+/// Test 0 hits bit 0, and test 1 bit 1.
+const ONE_BIT_EACH: [Run<'static>; 3] = [
+    Run {
+        schedule: &[0, 1, 0, 1, 0, 1],
+        draws: 4,
+        words: [1, 2],
+        workers: &[(&[0], 0, true), (&[1], 0, true)],
+    },
+    Run {
+        schedule: &[0, 0, 0, 0, 0],
+        draws: 3,
+        words: [1, 2],
+        workers: &[(&[0, 1], 0, true), (&[], 0, false)],
+    },
+    // an unknown worker, and one that has ended
+    Run {
+        schedule: &[7, 0, 1, 0, 0, 2, 0, 0],
+        draws: 3,
+        words: [1, 0],
+        workers: &[(&[0], 0, true), (&[1], 1, false)],
+    },
+];
+
+/// Test 0 hits nothing, and test 1 hits bit 1 twice.
+const NONE_AND_ONE_TWICE: [Run<'static>; 2] = [
+    Run {
+        schedule: &[0, 0, 0],
+        draws: 2,
+        words: [0, 2],
+        workers: &[(&[0, 1], 1, false)],
+    },
+    Run {
+        schedule: &[0, 0, 0, 0, 0],
+        draws: 3,
+        words: [0, 2],
+        workers: &[(&[0, 1], 0, true)],
+    },
+];
+
 #[test]
 fn schedules_lead_to_one_matrix(rt: HostRuntime) -> Result<(), Fail> {
     let alloc = rt.alloc();
-    let one_bit_each = [vec![in alloc; 0]?, vec![in alloc; 1]?];
-    check_runs(
-        &rt,
-        alloc,
-        &one_bit_each,
-        &[
-            Run {
-                schedule: &[0, 1, 0, 1, 0, 1],
-                draws: 4,
-                words: [1, 2],
-                workers: &[(&[0], 0, true), (&[1], 0, true)],
-            },
-            Run {
-                schedule: &[0, 0, 0, 0, 0],
-                draws: 3,
-                words: [1, 2],
-                workers: &[(&[0, 1], 0, true), (&[], 0, false)],
-            },
-            // an unknown worker, and one that has ended
-            Run {
-                schedule: &[7, 0, 1, 0, 0, 2, 0, 0],
-                draws: 3,
-                words: [1, 0],
-                workers: &[(&[0], 0, true), (&[1], 1, false)],
-            },
-        ],
-    )?;
-    let none_and_one_twice = [Vec::new(alloc), vec![in alloc; 1, 1]?];
-    check_runs(
-        &rt,
-        alloc,
-        &none_and_one_twice,
-        &[
-            Run {
-                schedule: &[0, 0, 0],
-                draws: 2,
-                words: [0, 2],
-                workers: &[(&[0, 1], 1, false)],
-            },
-            Run {
-                schedule: &[0, 0, 0, 0, 0],
-                draws: 3,
-                words: [0, 2],
-                workers: &[(&[0, 1], 0, true)],
-            },
-        ],
-    )
+    let scripts = [vec![in alloc; 0]?, vec![in alloc; 1]?];
+    check_runs(&rt, alloc, &scripts, &ONE_BIT_EACH)?;
+    let scripts = [Vec::new(alloc), vec![in alloc; 1, 1]?];
+    check_runs(&rt, alloc, &scripts, &NONE_AND_ONE_TWICE)
 }

@@ -44,68 +44,56 @@ fn check_rows(rt: &impl Abort, alloc: Global, tree: &CondTree, rows: &[Row]) -> 
     Ok(())
 }
 
+const ONE_AND: [Row<'static>; 3] = [
+    Row {
+        seen: &[0, 1, 2],
+        unique: &[Some((0, 2)), Some((0, 1))],
+        masking: &[Some((0, 2)), Some((0, 1))],
+    },
+    Row {
+        seen: &[0, 2],
+        unique: &[Some((0, 2)), None],
+        masking: &[Some((0, 2)), None],
+    },
+    Row {
+        seen: &[],
+        unique: &[None, None],
+        masking: &[None, None],
+    },
+];
+
+const NEGATED_AND: [Row<'static>; 2] = [
+    Row {
+        seen: &[0, 1, 2, 3],
+        unique: &[Some((1, 3)), Some((1, 2)), Some((0, 1))],
+        masking: &[Some((1, 3)), Some((1, 2)), Some((0, 1))],
+    },
+    Row {
+        seen: &[0, 2, 3],
+        unique: &[None, None, None],
+        masking: &[None, None, None],
+    },
+];
+
+const TWO_ANDS: [Row<'static>; 1] = [Row {
+    seen: &[0, 1, 2, 6],
+    unique: &[Some((0, 6)), Some((0, 2)), None, Some((1, 2))],
+    masking: &[Some((0, 6)), Some((0, 2)), Some((1, 6)), Some((1, 2))],
+}];
+
+const TWO_ORS: [Row<'static>; 1] = [Row {
+    seen: &[0, 5],
+    unique: &[None, None, None, None],
+    masking: &[None, None, Some((0, 5)), None],
+}];
+
 #[test]
 fn small_decisions_have_pairs(rt: HostRuntime) -> Result<(), Fail> {
     let alloc = rt.alloc();
-    check_rows(
-        &rt,
-        alloc,
-        &one_and(alloc)?,
-        &[
-            Row {
-                seen: &[0, 1, 2],
-                unique: &[Some((0, 2)), Some((0, 1))],
-                masking: &[Some((0, 2)), Some((0, 1))],
-            },
-            Row {
-                seen: &[0, 2],
-                unique: &[Some((0, 2)), None],
-                masking: &[Some((0, 2)), None],
-            },
-            Row {
-                seen: &[],
-                unique: &[None, None],
-                masking: &[None, None],
-            },
-        ],
-    )?;
-    check_rows(
-        &rt,
-        alloc,
-        &negated_and(alloc)?,
-        &[
-            Row {
-                seen: &[0, 1, 2, 3],
-                unique: &[Some((1, 3)), Some((1, 2)), Some((0, 1))],
-                masking: &[Some((1, 3)), Some((1, 2)), Some((0, 1))],
-            },
-            Row {
-                seen: &[0, 2, 3],
-                unique: &[None, None, None],
-                masking: &[None, None, None],
-            },
-        ],
-    )?;
-    check_rows(
-        &rt,
-        alloc,
-        &two_ands(alloc)?,
-        &[Row {
-            seen: &[0, 1, 2, 6],
-            unique: &[Some((0, 6)), Some((0, 2)), None, Some((1, 2))],
-            masking: &[Some((0, 6)), Some((0, 2)), Some((1, 6)), Some((1, 2))],
-        }],
-    )?;
-    check_rows(
-        &rt,
-        alloc,
-        &two_ors(alloc)?,
-        &[Row {
-            seen: &[0, 5],
-            unique: &[None, None, None, None],
-            masking: &[None, None, Some((0, 5)), None],
-        }],
-    )
+    check_rows(&rt, alloc, &one_and(alloc)?, &ONE_AND)?;
+    check_rows(&rt, alloc, &negated_and(alloc)?, &NEGATED_AND)?;
+    check_rows(&rt, alloc, &two_ands(alloc)?, &TWO_ANDS)?;
+    check_rows(&rt, alloc, &two_ors(alloc)?, &TWO_ORS)
 }
 
 /// 64 conditions joined by `&&`: condition k is shown by the path on which all are true, and that

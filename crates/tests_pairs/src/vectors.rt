@@ -67,39 +67,40 @@ fn count_of_paths(alloc: Global, tree: &CondTree) -> u128
     }
 }
 
+/// What C gives for `!(a && b) || c` on some answers.
+const NEGATED_AND: [(&[bool], &str); 4] = [
+    (&[true, true, true], "TTT=T"),
+    (&[true, true, false], "TTF=F"),
+    (&[true, false, true], "TF-=T"),
+    (&[false, true, false], "F--=T"),
+];
+
+/// What C gives for `(a && b) || (a && c)` on some answers.
+const TWO_ANDS: [(&[bool], &str); 4] = [
+    (&[true, true, true, false], "TT--=T"),
+    (&[true, false, true, true], "TFTT=T"),
+    (&[true, false, true, false], "TFTF=F"),
+    (&[false, true, false, true], "F-F-=F"),
+];
+
+/// The vectors of each, in order.
+const NEGATED_AND_PATHS: [&str; 4] = ["TTT=T", "TTF=F", "TF-=T", "F--=T"];
+
+const TWO_ANDS_PATHS: [&str; 7] = [
+    "TT--=T", "TFTT=T", "TFTF=F", "TFF-=F", "F-TT=T", "F-TF=F", "F-F-=F",
+];
+
 #[test]
 fn small_decisions_are_evaluated(rt: HostRuntime) -> Result<(), Fail> {
     let alloc = rt.alloc();
     let tree = negated_and(alloc)?;
     check_truth(&rt, &tree, "TTTFTTTT");
-    check_walks(
-        &rt,
-        &tree,
-        &[
-            (&[true, true, true], "TTT=T"),
-            (&[true, true, false], "TTF=F"),
-            (&[true, false, true], "TF-=T"),
-            (&[false, true, false], "F--=T"),
-        ],
-    );
-    let texts = ["TTT=T", "TTF=F", "TF-=T", "F--=T"];
-    check_paths(&rt, alloc, &tree, &texts, &[3, 2, 1])?;
+    check_walks(&rt, &tree, &NEGATED_AND);
+    check_paths(&rt, alloc, &tree, &NEGATED_AND_PATHS, &[3, 2, 1])?;
     let tree = two_ands(alloc)?;
     check_truth(&rt, &tree, "FFFTFFFTFFFTTTTT");
-    check_walks(
-        &rt,
-        &tree,
-        &[
-            (&[true, true, true, false], "TT--=T"),
-            (&[true, false, true, true], "TFTT=T"),
-            (&[true, false, true, false], "TFTF=F"),
-            (&[false, true, false, true], "F-F-=F"),
-        ],
-    );
-    let texts = [
-        "TT--=T", "TFTT=T", "TFTF=F", "TFF-=F", "F-TT=T", "F-TF=F", "F-F-=F",
-    ];
-    check_paths(&rt, alloc, &tree, &texts, &[4, 1, 2, 1])
+    check_walks(&rt, &tree, &TWO_ANDS);
+    check_paths(&rt, alloc, &tree, &TWO_ANDS_PATHS, &[4, 1, 2, 1])
 }
 
 #[test]
