@@ -2,5 +2,8 @@
 #![tactic(auto)]
 
 pub mod laws;
+pub mod precedence;
+pub mod refusals;
 pub mod text;
+pub mod words;
 pub mod worked;
