@@ -236,11 +236,11 @@ either false b e = inr e
 plain_integer : (c : Counts) → (nat_le c.short 1 && nat_eq c.long 0 || nat_eq c.short 0 && nat_le c.long 2) ≡ true → (c.short ≤ 1) × (c.long ≤ 2) × ((c.short ≡ 0) ⊎ (c.long ≡ 0))
 plain_integer c e =
     elim (either (nat_le c.short 1 && nat_eq c.long 0) (nat_eq c.short 0 && nat_le c.long 2) e) [
-      inl h ↦ let g = both (nat_le c.short 1) (nat_eq c.long 0) h in
+      | inl h ↦ let g = both (nat_le c.short 1) (nat_eq c.long 0) h in
           let a : c.short ≤ 1 = leb-true c.short 1 g.0 in
           let b : c.long ≡ 0 = eqb-true c.long 0 g.1 in
           (a, omega (arith, b), inr b)
-    | inr h ↦ let g = both (nat_eq c.short 0) (nat_le c.long 2) h in
+      | inr h ↦ let g = both (nat_eq c.short 0) (nat_le c.long 2) h in
           let a : c.short ≡ 0 = eqb-true c.short 0 g.0 in
           let b : c.long ≤ 2 = leb-true c.long 2 g.1 in
           (omega (arith, a), b, inl a)
@@ -250,10 +250,10 @@ bool_or_char : (c : Counts) → c.others + c.void ≡ 0
     → (nat_eq c.bool 1 && nat_eq (c.char + c.short + c.int + c.long + c.signs) 0 || nat_eq c.bool 0 && nat_eq c.char 1 && nat_eq (c.short + c.int + c.long) 0 && nat_le c.signs 1) ≡ true → IsOneType c
 bool_or_char c n e =
     elim (either (nat_eq c.bool 1 && nat_eq (c.char + c.short + c.int + c.long + c.signs) 0) (nat_eq c.bool 0 && nat_eq c.char 1 && nat_eq (c.short + c.int + c.long) 0 && nat_le c.signs 1) e) [
-      inl h ↦ let g = both (nat_eq c.bool 1) (nat_eq (c.char + c.short + c.int + c.long + c.signs) 0) h in
+      | inl h ↦ let g = both (nat_eq c.bool 1) (nat_eq (c.char + c.short + c.int + c.long + c.signs) 0) h in
           let a : c.bool ≡ 1 = eqb-true c.bool 1 g.0 in
           inl (omega (arith, n, a), eqb-true (c.char + c.short + c.int + c.long + c.signs) 0 g.1)
-    | inr h ↦ let g = both (nat_eq c.bool 0 && nat_eq c.char 1 && nat_eq (c.short + c.int + c.long) 0) (nat_le c.signs 1) h in
+      | inr h ↦ let g = both (nat_eq c.bool 0 && nat_eq c.char 1 && nat_eq (c.short + c.int + c.long) 0) (nat_le c.signs 1) h in
           let k = both (nat_eq c.bool 0 && nat_eq c.char 1) (nat_eq (c.short + c.int + c.long) 0) g.0 in
           let l = both (nat_eq c.bool 0) (nat_eq c.char 1) k.0 in
           let a : c.bool ≡ 0 = eqb-true c.bool 0 l.0 in
@@ -267,8 +267,8 @@ integer_type : (c : Counts) → c.others + c.void ≡ 0 → is_integer_set c ≡
 integer_type c n e =
     elim (either (nat_eq c.bool 1 && nat_eq (c.char + c.short + c.int + c.long + c.signs) 0 || nat_eq c.bool 0 && nat_eq c.char 1 && nat_eq (c.short + c.int + c.long) 0 && nat_le c.signs 1)
     (nat_eq (c.bool + c.char) 0 && nat_le c.int 1 && nat_le c.signs 1 && nat_le 1 (c.short + c.int + c.long + c.signs) && (nat_le c.short 1 && nat_eq c.long 0 || nat_eq c.short 0 && nat_le c.long 2)) e) [
-      inl h ↦ bool_or_char c n h
-    | inr h ↦ let g = both (nat_eq (c.bool + c.char) 0 && nat_le c.int 1 && nat_le c.signs 1 && nat_le 1 (c.short + c.int + c.long + c.signs)) (nat_le c.short 1 && nat_eq c.long 0 || nat_eq c.short 0 && nat_le c.long 2) h in
+      | inl h ↦ bool_or_char c n h
+      | inr h ↦ let g = both (nat_eq (c.bool + c.char) 0 && nat_le c.int 1 && nat_le c.signs 1 && nat_le 1 (c.short + c.int + c.long + c.signs)) (nat_le c.short 1 && nat_eq c.long 0 || nat_eq c.short 0 && nat_le c.long 2) h in
           let k = both (nat_eq (c.bool + c.char) 0 && nat_le c.int 1 && nat_le c.signs 1) (nat_le 1 (c.short + c.int + c.long + c.signs)) g.0 in
           let l = both (nat_eq (c.bool + c.char) 0 && nat_le c.int 1) (nat_le c.signs 1) k.0 in
           let m = both (nat_eq (c.bool + c.char) 0) (nat_le c.int 1) l.0 in
@@ -283,11 +283,11 @@ integer_type c n e =
 pub one_type : (c : Counts) → has_one_type c ≡ true → IsOneType c
 one_type c e =
     elim (either (nat_eq (c.others + c.void) 1 && nat_eq (c.bool + c.char + c.short + c.int + c.long + c.signs) 0) (nat_eq (c.others + c.void) 0 && is_integer_set c) e) [
-      inl h ↦ let g = both (nat_eq (c.others + c.void) 1) (nat_eq (c.bool + c.char + c.short + c.int + c.long + c.signs) 0) h in
+      | inl h ↦ let g = both (nat_eq (c.others + c.void) 1) (nat_eq (c.bool + c.char + c.short + c.int + c.long + c.signs) 0) h in
           let a : c.others + c.void ≡ 1 = eqb-true (c.others + c.void) 1 g.0 in
           let b : c.bool + c.char + c.short + c.int + c.long + c.signs ≡ 0 = eqb-true (c.bool + c.char + c.short + c.int + c.long + c.signs) 0 g.1 in
           inl (omega (arith, a, b), omega (arith, b))
-    | inr h ↦ let g = both (nat_eq (c.others + c.void) 0) (is_integer_set c) h in
+      | inr h ↦ let g = both (nat_eq (c.others + c.void) 0) (is_integer_set c) h in
           integer_type c (eqb-true (c.others + c.void) 0 g.0) g.1
     ]
 

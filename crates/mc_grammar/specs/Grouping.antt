@@ -122,8 +122,8 @@ CommaTakesAssignment =
     → Operand d us b (punctuator (codes ",") j ∷ vs)
     → Operand d vs c (punctuator (codes ";") k ∷ rest)
     → Whole d ts
-      (t.Comma (t.expressions (assignment o a b) (t.expressions c t.no_expressions))
-      (to (span_of a) (span_of c))) k rest
+    (t.Comma (t.expressions (assignment o a b) (t.expressions c t.no_expressions))
+    (to (span_of a) (span_of c))) k rest
 
 -- `o x[y]`, `o x.y` and `o x s`, with a prefix operator `o` and a step `s`, at these places
 abbrev pub PrefixTakesSuffix : Type 0
@@ -134,15 +134,15 @@ PrefixTakesSuffix =
     let name = identifier x j in
     let end = punctuator (codes ";") n ∷ rest in
     let index = t.Index (t.Named (name_at name)) (t.Named (name_at (identifier y l)))
-      (to (at name) (at (punctuator (codes "]") m))) in
+    (to (at name) (at (punctuator (codes "]") m))) in
     let member = t.Member (t.Named (name_at name)) (name_at (identifier y l))
-      (to (at name) (at (identifier y l))) in
+    (to (at name) (at (identifier y l))) in
     let step = t.PostfixStep s (t.Named (name_at name))
-      (to (at name) (at (punctuator (text_of_step s) k))) in
+    (to (at name) (at (punctuator (text_of_step s) k))) in
     Operand d
-      (first ∷ name ∷ punctuator (codes "[") k ∷ identifier y l ∷ punctuator (codes "]") m ∷ end)
-      (t.Unary o index (to (at first) (span_of index))) end
+    (first ∷ name ∷ punctuator (codes "[") k ∷ identifier y l ∷ punctuator (codes "]") m ∷ end)
+    (t.Unary o index (to (at first) (span_of index))) end
     × Operand d (first ∷ name ∷ punctuator (codes ".") k ∷ identifier y l ∷ end)
-      (t.Unary o member (to (at first) (span_of member))) end
+    (t.Unary o member (to (at first) (span_of member))) end
     × Operand d (first ∷ name ∷ punctuator (text_of_step s) k ∷ end)
-      (t.Unary o step (to (at first) (span_of step))) end
+    (t.Unary o step (to (at first) (span_of step))) end

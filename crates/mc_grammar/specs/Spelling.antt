@@ -44,12 +44,14 @@ IsSpelled (Typedef name) x = ⊥
 pub data Spells : List Spelled → List Lexeme → List Lexeme → Type 0 where
   nothing : {ts : List Lexeme} → Spells [] ts ts
   token : {one : Spelled} {all : List Spelled} {x : Lexeme} {ts rest : List Lexeme}
-      → IsSpelled one x → Spells all ts rest → Spells (one ∷ all) (x ∷ ts) rest
+      → IsSpelled one x → Spells all ts rest
+      → Spells (one ∷ all) (x ∷ ts) rest
   last_comma : {all : List Spelled} {x : Lexeme} {ts rest : List Lexeme}
       → is_punctuator (codes ",") x ≡ true → sees (codes "}") ts ≡ true → Spells all ts rest
       → Spells all (x ∷ ts) rest
   in_force : {name : List ℕ} {all : List Spelled} {ts rest : List Lexeme}
-      → Spells all (retag name ts) rest → Spells (Typedef name ∷ all) ts rest
+      → Spells all (retag name ts) rest
+      → Spells (Typedef name ∷ all) ts rest
 
 -- C17 6.5.3.2, 6.5.3.3
 abbrev pub text_of_unary : UnaryOperator → List ℕ

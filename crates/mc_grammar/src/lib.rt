@@ -1,4 +1,5 @@
-//! The grammar of the C subset, as a relation between lists of tokens and trees. It computes nothing.
+//! The grammar of the C subset, as a relation between lists of tokens and trees. It computes
+//! nothing.
 #![tactic(auto)]
 
 pub mod laws;

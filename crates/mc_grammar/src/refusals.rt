@@ -3,13 +3,13 @@ ghost use Rattle.std.specs.Prelude.{List};
 ghost use Rattle.mc_grammar.specs.Words.{Lexeme};
 ghost use Rattle.mc_grammar.specs.Refusals.{NoSpecifiers, NoStatement, assigned_constant, comma_label, default_alone, do_if, for_bracket};
 
-/// The value of a label is no comma expression: no statement begins with `case 1,`.
+/// The value of a label is not a comma expression: no statement begins with `case 1,`.
 #[tactic(auto, using(crate::proofs::FirstTokens::no_comma_label))]
 pub fn label_takes_no_comma()
     ensures { (ts : List Lexeme) → NoStatement (comma_label ts) }
 {}
 
-/// The value of a constant is no assignment: no specifiers begin with `enum{A=b=`.
+/// The value of a constant is not an assignment: no specifiers begin with `enum{A=b=`.
 #[tactic(auto, using(crate::proofs::FirstTokens::no_assigned_constant))]
 pub fn constant_takes_no_assignment()
     ensures { (ts : List Lexeme) → NoSpecifiers (assigned_constant ts) }
