@@ -1,5 +1,5 @@
 -- Texts that are not read, by their first tokens.
-use Rattle.std.proofs.Common.{◌≡◌, ℕ, Bool, true, false, ◌&&◌, List, ◌∷◌, refl, codes, arith}
+use Rattle.std.proofs.Common.{◌≡◌, ℕ, Bool, true, false, List, ◌∷◌, refl, codes, arith}
 use Rattle.mc_lex.specs.declared.token.Dialect.{Dialect}
 use Rattle.mc_lex.specs.declared.token.TokenKind.TheVariants as kind
 use Rattle.mc_tree.specs.declared.expressions.step_operator.StepOperator.{StepOperator}
@@ -11,7 +11,6 @@ use Rattle.mc_grammar.specs.Words.{Lexeme, lexeme_of, is_punctuator, is_keyword,
 use Rattle.mc_grammar.specs.Operators.{IsStep, IsUnary, IsSpecifierWord}
 use Rattle.mc_grammar.specs.Operators as o
 use Rattle.mc_grammar.specs.Nonterminal.{Nonterminal, takes}
-use Rattle.mc_grammar.specs.Nonterminal as n
 use Rattle.mc_grammar.specs.Expressions.{Reads, ReadsEnumerator, ReadsEnumerators}
 use Rattle.mc_grammar.specs.Expressions as r
 use Rattle.mc_grammar.specs.Statements.{ReadsStatement}

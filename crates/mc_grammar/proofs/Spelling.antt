@@ -1,8 +1,6 @@
 -- A tree spells its text.
-use Rattle.std.proofs.Common.{◌≡◌, ℕ, ◌+◌, ◌≤◌, Bool, true, false, not, ◌&&◌, ◌||◌, List, [], ◌∷◌, Option, Some, None, if◌then◌else◌, refl, sym, ◌∙◌, subst, codes, arith}
-use Rattle.std.proofs.lemmas.Bool.{eqb-true}
+use Rattle.std.proofs.Common.{◌≡◌, ℕ, Bool, true, false, List, [], ◌∷◌, Option, Some, None, if◌then◌else◌, refl, sym, subst, codes}
 use Rattle.mc_lex.specs.declared.token.Dialect.{Dialect}
-use Rattle.mc_lex.specs.Tokens.{Tok}
 use Rattle.mc_span.specs.declared.span.Span.{Span}
 use Rattle.mc_tree.specs.declared.expressions.unary_operator.UnaryOperator.{UnaryOperator}
 use Rattle.mc_tree.specs.declared.expressions.step_operator.StepOperator.{StepOperator}
@@ -11,11 +9,9 @@ use Rattle.mc_tree.specs.declared.expressions.binary_operator.BinaryOperator.The
 use Rattle.mc_tree.specs.declared.expressions.assignment_operator.AssignmentOperator.{AssignmentOperator}
 use Rattle.mc_tree.specs.declared.expressions.assignment_operator.AssignmentOperator.TheVariants as assign
 use Rattle.mc_tree.specs.declared.declarations.specifier_word.SpecifierWord.{SpecifierWord}
-use Rattle.mc_tree.specs.declared.declarations.specifier_word.SpecifierWord.TheVariants as word
 use Rattle.mc_tree.specs.Tree.{Expression, Expressions, TypeName, Specifiers, StructMember, Members, Enumerator, Enumerators, Declarator, Declarators, ArrayLengths, Parameters, Parameter, ParameterList, Initializer, Initializers, InitDeclarator, Declaration, ForStart, Statement, BlockItems, Item}
 use Rattle.mc_tree.specs.Tree as t
-use Rattle.mc_grammar.specs.Words.{Lexeme, is_punctuator, is_keyword, sees, lexemes_of}
-use Rattle.mc_grammar.specs.Counts.{counts, storages, has_one_type, is_typedef, for_item, for_local, for_type}
+use Rattle.mc_grammar.specs.Words.{Lexeme, is_punctuator, is_keyword, sees}
 use Rattle.mc_grammar.specs.Operators.{IsUnary, IsStep, operator_at, assignment_at, IsSpecifierWord}
 use Rattle.mc_grammar.specs.Operators as o
 use Rattle.mc_grammar.specs.Nonterminal.{Nonterminal, Level, operand, takes}

@@ -2,7 +2,7 @@
 use Rattle.std.specs.Prelude.{◌≡◌, ◌⊎◌, ℕ, ◌+◌, ◌≤◌, Bool, true, false, ◌||◌, List, [], ◌∷◌, if◌then◌else◌}
 use Rattle.mc_span.specs.declared.span.Span.{Span}
 use Rattle.mc_tree.specs.declared.declarations.specifier_word.SpecifierWord.{SpecifierWord}
-use Rattle.mc_tree.specs.declared.declarations.specifier_word.SpecifierWord.TheVariants.{Typedef, Static, Extern, Const, Void, Bool as Boolean, Char, Short, Int, Long, Signed, Unsigned}
+use Rattle.mc_tree.specs.declared.declarations.specifier_word.SpecifierWord.TheVariants.{Typedef, Static, Extern, Void, Bool as Boolean, Char, Short, Int, Long, Signed, Unsigned}
 use Rattle.mc_tree.specs.Tree.{TypeName, Specifiers, StructMember, Parameter, Declaration, ForStart, BlockItems, Item}
 use Rattle.mc_tree.specs.Tree as t
 use Rattle.mc_grammar.specs.Counts.{Counts}
