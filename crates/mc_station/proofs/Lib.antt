@@ -1,10 +1,4 @@
-pub mod Digits
 pub mod Parts
-pub mod Pieces
 pub mod Places
-pub mod Judging
-pub mod ReadTests
-pub mod Replies
-pub mod Sorting
-pub mod Statuses
 pub mod Unique
+pub mod Statuses

@@ -1,0 +1,4 @@
+pub mod Digits
+pub mod Pieces
+pub mod ReadTests
+pub mod Sorting

@@ -1,0 +1,42 @@
+//! The one function that sees the store.
+ghost use Rattle.std.specs.Prelude.{◌≡◌, ◌≢◌, ◌≤◌, IfOk};
+ghost use Rattle.mc_port.specs.Causes.{Rose};
+ghost use Rattle.mc_station.specs.Calls.{Leads};
+ghost use Rattle.mc_station.specs.Seen.{outcome_of, seen_stage};
+ghost use Rattle.mc_station.specs.declared.status.Status.TheVariants.{CannotRead, OutOfMemory};
+
+use crate::judge::judge;
+use crate::refusal::{Refusal, Stop};
+use crate::reply::Reply;
+use crate::stage::{Next, Stage};
+use mc_port::{LoadFault, Store};
+use std::alloc::{AllocError, Global};
+
+/// Goes from a stage to the reply: asks for one file after the other, each after the one before it was
+/// accepted.
+pub fn run<S: Store>(
+    alloc: Global,
+    store: &mut S,
+    stage: Stage<'_>,
+) -> Result<Reply, AllocError>
+    ensures leads { Leads (S.state store.old).contents (seen_stage stage.entry) (S.state store.old).asked (outcome_of result) (S.state store.new).asked }
+    ensures unreadable { (outcome_of result).status ≡ CannotRead → Rose (S.state store.old).faults (S.state store.new).faults }
+    ensures texts { IfOk result (λ reply. reply.status ≢ OutOfMemory) }
+    ensures contents { (S.state store.new).contents ≡ (S.state store.old).contents }
+    ensures later { (S.state store.old).faults ≤ (S.state store.new).faults }
+{
+    let file = match stage.next(alloc)? {
+        Next::Done(reply) => return Ok(reply),
+        Next::Asks(file) => file,
+    };
+    match store.load(alloc, file.name, file.kind.limit()) {
+        Ok(bytes) => match judge(alloc, stage, &bytes) {
+            Ok(later) => run(alloc, store, later),
+            Err(Stop::Refused(refusal)) => Reply::of_refusal(alloc, refusal),
+            Err(Stop::OutOfMemory) => Err(AllocError),
+        },
+        Err(LoadFault::TooLong { .. }) => Reply::of_refusal(alloc, Refusal::TooLong(file)),
+        Err(LoadFault::Failed) => Reply::of_unreadable(alloc, file),
+        Err(LoadFault::OutOfMemory) => Err(AllocError),
+    }
+}
