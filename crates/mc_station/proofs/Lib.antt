@@ -1,4 +1,5 @@
 pub mod Parts
+pub mod Phases
 pub mod Places
-pub mod Unique
 pub mod Statuses
+pub mod Unique

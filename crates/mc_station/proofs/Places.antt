@@ -7,7 +7,7 @@ use Rattle.mc_lex.specs.declared.fault.LexFault.{LexFault}
 use Rattle.mc_lex.specs.Scans as scans
 use Rattle.mc_lex.specs.Scans.{Scans, fault_at}
 use Rattle.mc_lex.specs.Tokens.{Tok}
-use Rattle.mc_station.specs.Reply.{fault_place}
+use Rattle.mc_station.specs.Texts.{fault_place}
 
 place-at : (why : Flaw) (at : ℕ) → fault_place (fault_at why at) ≡ at
 place-at flaw.Byte at = refl

@@ -1,6 +1,6 @@
 -- Replies: a status, the text for the errors' sink, and the lines for the output's.
 use Rattle.std.specs.Prelude.{ℕ, List, []}
-use Rattle.mc_station.specs.Files.{File, status_of}
+use Rattle.mc_station.specs.Files.{File, limit_of, status_of}
 use Rattle.mc_station.specs.Texts.{cannot_read_line, longer_line}
 use Rattle.mc_station.specs.declared.status.Status.{Status}
 use Rattle.mc_station.specs.declared.status.Status.TheVariants.{Done, CannotRead, OutOfMemory}
@@ -18,7 +18,7 @@ refusal status line = record { status = status; diag = line; out = [] }
 
 -- the file is longer than its limit
 abbrev pub longer : File → Reply
-longer file = refusal (status_of file.kind) (longer_line file)
+longer file = refusal (status_of file.kind) (longer_line file.name (limit_of file.kind))
 
 abbrev pub cannot_read : File → Reply
 cannot_read file = refusal CannotRead (cannot_read_line file.name)

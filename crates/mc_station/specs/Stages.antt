@@ -56,3 +56,10 @@ first_stage (Some command) = source command
 -- the stage asks for a file that may have so many bytes
 abbrev pub AsksUpTo : Stage → ℕ → Type 0
 AsksUpTo stage n = (file : File) × (next_of stage ≡ asks file) × (n ≤ limit_of file.kind)
+
+-- how many files a stage may ask for yet
+abbrev pub files_left : Stage → ℕ
+files_left usage = 0
+files_left (source command) = 2
+files_left (tests name form) = 1
+files_left (vectors form list) = 0

@@ -5,7 +5,6 @@ use Rattle.std.specs.Fmt.{decimal}
 use Rattle.mc_lex.specs.declared.fault.LexFault.{LexFault}
 use Rattle.mc_lex.specs.declared.fault.LexFault.TheVariants as fault
 use Rattle.mc_lex.specs.Lines.{line_of, column_of}
-use Rattle.mc_station.specs.Files.{File, limit_of}
 
 abbrev pub newline : List ℕ
 newline = 10 ∷ []
@@ -16,10 +15,9 @@ usage_text = codes "usage: mcdc vectors SOURCE TESTS" ++ newline
 abbrev pub cannot_read_line : List ℕ → List ℕ
 cannot_read_line name = concat (codes "mcdc: cannot read " ∷ name ∷ newline ∷ [])
 
-abbrev pub longer_line : File → List ℕ
-longer_line file =
-    concat (codes "mcdc: " ∷ file.name ∷ codes ": longer than " ∷ decimal (limit_of file.kind) ∷ codes " bytes"
-    ∷ newline ∷ [])
+abbrev pub longer_line : (name : List ℕ) (limit : ℕ) → List ℕ
+longer_line name limit =
+    concat (codes "mcdc: " ∷ name ∷ codes ": longer than " ∷ decimal limit ∷ codes " bytes" ∷ newline ∷ [])
 
 -- what is wrong at a place of the source, lines and columns counted from 1
 abbrev pub place_line : (line column : ℕ) → List ℕ → List ℕ

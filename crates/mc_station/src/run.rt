@@ -1,5 +1,6 @@
 //! The one function that sees the store.
-ghost use Rattle.std.specs.Prelude.{◌≡◌, ◌≢◌, ◌≤◌, IfOk};
+ghost use Rattle.std.specs.Prelude.{◌≡◌, ◌≢◌, ◌≤◌, IfOk, length};
+ghost use Rattle.mc_station.specs.Stages.{files_left};
 ghost use Rattle.mc_port.specs.Causes.{Rose};
 ghost use Rattle.mc_station.specs.Calls.{Leads};
 ghost use Rattle.mc_station.specs.Seen.{outcome_of, seen_stage};
@@ -13,12 +14,14 @@ use mc_port::{LoadFault, Store};
 use std::alloc::{AllocError, Global};
 
 /// Goes from a stage to the reply: asks for one file after the other, each after the one before it was
-/// accepted.
-pub fn run<S: Store>(
+/// accepted, and keeps their bytes in the slots.
+pub fn run<'a, S: Store>(
     alloc: Global,
     store: &mut S,
-    stage: Stage<'_>,
+    stage: Stage<'a>,
+    slots: &'a mut [Vec<u8>],
 ) -> Result<Reply, AllocError>
+    requires { files_left (seen_stage stage) ≤ length slots.old }
     ensures leads { Leads (S.state store.old).contents (seen_stage stage.entry) (S.state store.old).asked (outcome_of result) (S.state store.new).asked }
     ensures unreadable { (outcome_of result).status ≡ CannotRead → Rose (S.state store.old).faults (S.state store.new).faults }
     ensures texts { IfOk result (λ reply. reply.status ≢ OutOfMemory) }
@@ -29,12 +32,18 @@ pub fn run<S: Store>(
         Next::Done(reply) => return Ok(reply),
         Next::Asks(file) => file,
     };
+    let [slot, later @ ..] = slots else {
+        unreachable!();
+    };
     match store.load(alloc, file.name, file.kind.limit()) {
-        Ok(bytes) => match judge(alloc, stage, &bytes) {
-            Ok(later) => run(alloc, store, later),
-            Err(Stop::Refused(refusal)) => Reply::of_refusal(alloc, refusal),
-            Err(Stop::OutOfMemory) => Err(AllocError),
-        },
+        Ok(bytes) => {
+            *slot = bytes;
+            match judge(alloc, stage, slot) {
+                Ok(stage) => run(alloc, store, stage, later),
+                Err(Stop::Refused(refusal)) => Reply::of_refusal(alloc, refusal),
+                Err(Stop::OutOfMemory) => Err(AllocError),
+            }
+        }
         Err(LoadFault::TooLong { .. }) => Reply::of_refusal(alloc, Refusal::TooLong(file)),
         Err(LoadFault::Failed) => Reply::of_unreadable(alloc, file),
         Err(LoadFault::OutOfMemory) => Err(AllocError),

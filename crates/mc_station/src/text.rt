@@ -1,9 +1,8 @@
 //! The texts on the errors' sink.
 ghost use Rattle.std.specs.Prelude.{◌≡◌, IfOk, string_bytes};
-ghost use Rattle.mc_station.specs.Seen.{reply_to, seen_file};
+ghost use Rattle.mc_station.specs.Seen.{reply_to};
 ghost use Rattle.mc_station.specs.Texts.{cannot_read_line, longer_line, place_line, usage_text};
 
-use crate::file::File;
 use crate::refusal::Refusal;
 use mc_lex::Place;
 use std::alloc::{AllocError, Global};
@@ -23,11 +22,9 @@ pub fn cannot_read_line(alloc: Global, name: &str) -> Result<String, AllocError>
 }
 
 // The line that names a file which is longer than its limit.
-fn longer_line(alloc: Global, file: File<'_>) -> Result<String, AllocError>
-    ensures { IfOk result (λ line. string_bytes line ≡ longer_line (seen_file file.entry)) }
+fn longer_line(alloc: Global, name: &str, limit: u64) -> Result<String, AllocError>
+    ensures { IfOk result (λ line. string_bytes line ≡ longer_line name.now limit) }
 {
-    let name = file.name;
-    let limit = file.kind.limit();
     format!(in alloc; "mcdc: {name}: longer than {limit} bytes\n")
 }
 
@@ -45,7 +42,7 @@ pub fn refusal_line(alloc: Global, refusal: Refusal<'_>) -> Result<String, Alloc
     ensures { IfOk result (λ line. string_bytes line ≡ (reply_to refusal.entry).diag) }
 {
     match refusal {
-        Refusal::TooLong(file) => longer_line(alloc, file),
+        Refusal::TooLong(file) => longer_line(alloc, file.name, file.kind.limit()),
         Refusal::Fault { place, word } => place_line(alloc, place, word),
         Refusal::SourceForm => String::from_str(alloc, "mcdc: source: form not built\n"),
         Refusal::TestsForm => String::from_str(alloc, "mcdc: tests: form not built\n"),

@@ -82,7 +82,8 @@ pub fn station<S: Store, K: Sink, E: Sink, G: Gate>(
         → ¬ (Rose (E.faults diag.old) (E.faults diag.new))
         → (result ≡ number_of reply.status) ⊎ (result ≡ 8) }
 {
-    let status = match run(alloc, store, first_stage(words)) {
+    let mut slots = [Vec::new(alloc), Vec::new(alloc)];
+    let status = match run(alloc, store, first_stage(words), &mut slots) {
         Ok(reply) => match put(&reply, out, diag) {
             Ok(()) => reply.status,
             Err(_) => Status::CannotWrite,
