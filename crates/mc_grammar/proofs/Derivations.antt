@@ -11,7 +11,7 @@ use Rattle.mc_grammar.specs.Nonterminal.{Level}
 use Rattle.mc_grammar.specs.Nonterminal as n
 use Rattle.mc_grammar.specs.Expressions.{Reads}
 use Rattle.mc_grammar.specs.Expressions as r
-use Rattle.mc_grammar.specs.Samples.{mark}
+use Rattle.mc_grammar.specs.Samples.{punctuator}
 
 -- a token that is no operator between two operands
 pub quiet : (x : Lexeme) → operator_at n.product x ≡ None → operator_at n.sum x ≡ None → operator_at n.shift x ≡ None → operator_at n.relation x ≡ None → operator_at n.equality x ≡ None
@@ -27,25 +27,25 @@ quiet x a b c d e f g h i j n.bit_or = h
 quiet x a b c d e f g h i j n.land = i
 quiet x a b c d e f g h i j n.lor = j
 
-pub at_semicolon : (start : ℕ) (k : Level) → operator_at k (lexeme_of (mark (codes ";") start)) ≡ None
+pub at_semicolon : (start : ℕ) (k : Level) → operator_at k (lexeme_of (punctuator (codes ";") start)) ≡ None
 at_semicolon start k = quiet _ refl refl refl refl refl refl refl refl refl refl k
 
-pub at_comma : (start : ℕ) (k : Level) → operator_at k (lexeme_of (mark (codes ",") start)) ≡ None
+pub at_comma : (start : ℕ) (k : Level) → operator_at k (lexeme_of (punctuator (codes ",") start)) ≡ None
 at_comma start k = quiet _ refl refl refl refl refl refl refl refl refl refl k
 
-pub at_parenthesis : (start : ℕ) (k : Level) → operator_at k (lexeme_of (mark (codes ")") start)) ≡ None
+pub at_parenthesis : (start : ℕ) (k : Level) → operator_at k (lexeme_of (punctuator (codes ")") start)) ≡ None
 at_parenthesis start k = quiet _ refl refl refl refl refl refl refl refl refl refl k
 
-pub at_bracket : (start : ℕ) (k : Level) → operator_at k (lexeme_of (mark (codes "]") start)) ≡ None
+pub at_bracket : (start : ℕ) (k : Level) → operator_at k (lexeme_of (punctuator (codes "]") start)) ≡ None
 at_bracket start k = quiet _ refl refl refl refl refl refl refl refl refl refl k
 
-pub at_brace : (start : ℕ) (k : Level) → operator_at k (lexeme_of (mark (codes "}") start)) ≡ None
+pub at_brace : (start : ℕ) (k : Level) → operator_at k (lexeme_of (punctuator (codes "}") start)) ≡ None
 at_brace start k = quiet _ refl refl refl refl refl refl refl refl refl refl k
 
-pub at_equals : (start : ℕ) (k : Level) → operator_at k (lexeme_of (mark (codes "=") start)) ≡ None
+pub at_equals : (start : ℕ) (k : Level) → operator_at k (lexeme_of (punctuator (codes "=") start)) ≡ None
 at_equals start k = quiet _ refl refl refl refl refl refl refl refl refl refl k
 
-pub at_opening : (start : ℕ) (k : Level) → operator_at k (lexeme_of (mark (codes "(") start)) ≡ None
+pub at_opening : (start : ℕ) (k : Level) → operator_at k (lexeme_of (punctuator (codes "(") start)) ≡ None
 at_opening start k = quiet _ refl refl refl refl refl refl refl refl refl refl k
 
 -- a sum that no operator follows

@@ -5,10 +5,10 @@ use Rattle.mc_tree.specs.Tree as t
 use Rattle.mc_grammar.specs.Meaning.{is_name_of}
 use Rattle.mc_grammar.proofs.Choices.{no_name_follows}
 use Rattle.mc_lex.specs.declared.token.Dialect.{Dialect}
-use Rattle.mc_tree.specs.Tree.{Expression, Expressions, TypeName, Specifiers, StructMember, Members, Enumerator, Enumerators, Declarator, Declarators, Sizes, Parameters, Parameter, ParameterList, Initializer, Initializers, InitDeclarator, Declaration, ForStart, Statement, BlockItems, Item, name_of}
+use Rattle.mc_tree.specs.Tree.{Expression, Expressions, TypeName, Specifiers, StructMember, Members, Enumerator, Enumerators, Declarator, Declarators, ArrayLengths, Parameters, Parameter, ParameterList, Initializer, Initializers, InitDeclarator, Declaration, ForStart, Statement, BlockItems, Item, name_of}
 use Rattle.mc_grammar.specs.Words.{Lexeme}
 use Rattle.mc_grammar.specs.Nonterminal.{Nonterminal}
-use Rattle.mc_grammar.specs.Expressions.{Reads, ReadsExpressions, ReadsTypeName, ReadsStars, ReadsSpecifiers, ReadsMembers, ReadsMember, ReadsDeclarators, ReadsEnumerators, ReadsEnumerator, ReadsDeclarator, ReadsSizes, ReadsParameters, ReadsParameterList, ReadsParameter}
+use Rattle.mc_grammar.specs.Expressions.{Reads, ReadsExpressions, ReadsTypeName, ReadsStars, ReadsSpecifiers, ReadsMembers, ReadsMember, ReadsDeclarators, ReadsEnumerators, ReadsEnumerator, ReadsDeclarator, ReadsArrayLengths, ReadsParameters, ReadsParameterList, ReadsParameter}
 use Rattle.mc_grammar.specs.Expressions as r
 use Rattle.mc_grammar.specs.Statements.{ReadsOptional, ReadsTest, ReadsInitializer, ReadsInitializers, ReadsInitDeclarator, ReadsInitDeclarators, ReadsDeclaration, ReadsForStart, ReadsStatement, ReadsCompound, ReadsBlockItems, after}
 use Rattle.mc_grammar.specs.Statements as s
@@ -50,12 +50,12 @@ mutual
   expression_ends (r.cast_unary p0 p1) = join (expression_ends p1) (whole)
   expression_ends (r.cast p0 p1 p2 p3 p4) = later (join (type_name_ends p2) (later (join (expression_ends p4) (whole))))
   expression_ends (r.unary_postfix p0 p1) = join (expression_ends p1) (whole)
-  expression_ends (r.unary_step p0 p1) = later (join (expression_ends p1) (whole))
+  expression_ends (r.prefix_step p0 p1) = later (join (expression_ends p1) (whole))
   expression_ends (r.unary p0 p1) = later (join (expression_ends p1) (whole))
   expression_ends (r.postfix p0 p1) = join (expression_ends p0) (join (expression_ends p1) (whole))
   expression_ends (r.index p0 p1 p2 p3) = later (join (expression_ends p1) (later (join (expression_ends p3) (whole))))
   expression_ends (r.member p0 p1 p2) = later (later (join (expression_ends p2) (whole)))
-  expression_ends (r.step_after p0 p1) = later (join (expression_ends p1) (whole))
+  expression_ends (r.postfix_step p0 p1) = later (join (expression_ends p1) (whole))
   expression_ends (r.suffixes_end p0) = whole
   expression_ends (r.named p0 p1) = later (whole)
   expression_ends (r.constant p0) = later (whole)
@@ -103,13 +103,13 @@ mutual
   enumerator_ends (r.valued_enumerator p0 p1 p2) = later (later (join (expression_ends p2) (whole)))
 
   pub declarator_ends : {d : Dialect} {ts rest : List Lexeme} {one : Declarator} → ReadsDeclarator d ts one rest → IsEnd rest ts
-  declarator_ends (r.object p0 p1 p2 p3) = join (stars_ends p0) (later (join (sizes_ends p3) (whole)))
+  declarator_ends (r.object p0 p1 p2 p3) = join (stars_ends p0) (later (join (lengths_ends p3) (whole)))
   declarator_ends (r.function p0 p1 p2) = join (stars_ends p0) (later (join (parameters_ends p2) (whole)))
 
-  pub sizes_ends : {d : Dialect} {ts rest : List Lexeme} {all : Sizes} → ReadsSizes d ts all rest → IsEnd rest ts
-  sizes_ends (r.sizes_end p0) = whole
-  sizes_ends (r.open_size p0 p1 p2) = later (later (join (sizes_ends p2) (whole)))
-  sizes_ends (r.size p0 p1 p2 p3 p4) = later (join (expression_ends p2) (later (join (sizes_ends p4) (whole))))
+  pub lengths_ends : {d : Dialect} {ts rest : List Lexeme} {all : ArrayLengths} → ReadsArrayLengths d ts all rest → IsEnd rest ts
+  lengths_ends (r.lengths_end p0) = whole
+  lengths_ends (r.absent_length p0 p1 p2) = later (later (join (lengths_ends p2) (whole)))
+  lengths_ends (r.given_length p0 p1 p2 p3 p4) = later (join (expression_ends p2) (later (join (lengths_ends p4) (whole))))
 
   pub parameters_ends : {d : Dialect} {ts rest : List Lexeme} {all : Parameters} → ReadsParameters d ts all rest → IsEnd rest ts
   parameters_ends (r.empty_parameters p0 p1) = later (later (whole))
@@ -121,8 +121,8 @@ mutual
   parameter_list_ends (r.more_parameters p0 p1 p2) = join (parameter_ends p0) (later (join (parameter_list_ends p2) (whole)))
 
   pub parameter_ends : {d : Dialect} {ts rest : List Lexeme} {one : Parameter} → ReadsParameter d ts one rest → IsEnd rest ts
-  parameter_ends (r.parameter p0 p1 p2 p3 p4) = join (specifiers_ends p0) (join (stars_ends p2) (later (join (sizes_ends p4) (whole))))
-  parameter_ends (r.unnamed_parameter p0 p1 p2 p3 p4) = join (specifiers_ends p0) (join (stars_ends p2) (join (sizes_ends p4) (whole)))
+  parameter_ends (r.parameter p0 p1 p2 p3 p4) = join (specifiers_ends p0) (join (stars_ends p2) (later (join (lengths_ends p4) (whole))))
+  parameter_ends (r.unnamed_parameter p0 p1 p2 p3 p4) = join (specifiers_ends p0) (join (stars_ends p2) (join (lengths_ends p4) (whole)))
 
 mutual
   pub initializer_ends : {d : Dialect} {ts rest : List Lexeme} {one : Initializer} → ReadsInitializer d ts one rest → IsEnd rest ts
@@ -134,7 +134,7 @@ mutual
   initializers_ends (s.last_initializer_comma p0 p1 p2) = join (initializer_ends p0) (later (whole))
   initializers_ends (s.more_initializers p0 p1 p2 p3) = join (initializer_ends p0) (later (join (initializers_ends p3) (whole)))
 
--- behind a typedef's declarator and its value its name is no identifier
+-- after a typedef's declarator and its value its name is no identifier
 pub valued_typedef_retags : {d : Dialect} {ts rest : List Lexeme} {one : Declarator} {value : Initializer} → ReadsInitDeclarator d true ts (t.initialized one value) rest
     → list_any (is_name_of (name_of one).text) rest ≡ false
 valued_typedef_retags (s.initialized {x = x} {mid = mid} {d = one} p g e q) =

@@ -1,13 +1,13 @@
 -- What is left is no longer than what was given, and shorter where a token is taken.
 use Rattle.std.proofs.Common.{◌≡◌, ℕ, ◌+◌, ◌<◌, ◌≤◌, Bool, true, false, List, [], ◌∷◌, Option, length, refl, ap, arith}
 use Rattle.mc_lex.specs.declared.token.Dialect.{Dialect}
-use Rattle.mc_tree.specs.Tree.{Expression, Expressions, TypeName, Specifiers, StructMember, Members, Enumerator, Enumerators, Declarator, Declarators, Sizes, Parameters, Parameter, ParameterList, Initializer, Initializers, InitDeclarator, Declaration, ForStart, Statement, BlockItems, Item, name_of}
+use Rattle.mc_tree.specs.Tree.{Expression, Expressions, TypeName, Specifiers, StructMember, Members, Enumerator, Enumerators, Declarator, Declarators, ArrayLengths, Parameters, Parameter, ParameterList, Initializer, Initializers, InitDeclarator, Declaration, ForStart, Statement, BlockItems, Item, name_of}
 use Rattle.mc_tree.specs.Tree as t
 use Rattle.mc_grammar.specs.Words.{Lexeme, retag}
 use Rattle.mc_grammar.specs.Counts.{for_type}
 use Rattle.mc_grammar.specs.Nonterminal.{Nonterminal, Level, operand, takes}
 use Rattle.mc_grammar.specs.Nonterminal as n
-use Rattle.mc_grammar.specs.Expressions.{Reads, ReadsExpressions, ReadsTypeName, ReadsStars, ReadsSpecifiers, ReadsMembers, ReadsMember, ReadsDeclarators, ReadsEnumerators, ReadsEnumerator, ReadsDeclarator, ReadsSizes, ReadsParameters, ReadsParameterList, ReadsParameter}
+use Rattle.mc_grammar.specs.Expressions.{Reads, ReadsExpressions, ReadsTypeName, ReadsStars, ReadsSpecifiers, ReadsMembers, ReadsMember, ReadsDeclarators, ReadsEnumerators, ReadsEnumerator, ReadsDeclarator, ReadsArrayLengths, ReadsParameters, ReadsParameterList, ReadsParameter}
 use Rattle.mc_grammar.specs.Expressions as r
 use Rattle.mc_grammar.specs.Statements.{ReadsOptional, ReadsTest, ReadsInitializer, ReadsInitializers, ReadsInitDeclarator, ReadsInitDeclarators, ReadsDeclaration, ReadsForStart, ReadsStatement, ReadsCompound, ReadsBlockItems, after}
 use Rattle.mc_grammar.specs.Statements as s
@@ -54,12 +54,12 @@ mutual
   shorter (r.cast_unary e p) = shorter p
   shorter (r.cast e f p g q) = omega (arith, type_name_shorter p, shorter q)
   shorter (r.unary_postfix e p) = shorter p
-  shorter (r.unary_step e p) = omega (arith, shorter p)
+  shorter (r.prefix_step e p) = omega (arith, shorter p)
   shorter (r.unary e p) = omega (arith, shorter p)
   shorter (r.postfix p q) = omega (arith, shorter p, shorter q)
   shorter (r.index e p f q) = omega (arith, shorter p, shorter q)
   shorter (r.member e f p) = omega (arith, shorter p)
-  shorter (r.step_after e p) = omega (arith, shorter p)
+  shorter (r.postfix_step e p) = omega (arith, shorter p)
   shorter (r.suffixes_end e) = omega arith
   shorter (r.named e f) = omega arith
   shorter (r.constant e) = omega arith
@@ -107,13 +107,13 @@ mutual
   enumerator_shorter (r.valued_enumerator e f p) = omega (arith, shorter p)
 
   pub declarator_shorter : {d : Dialect} {ts rest : List Lexeme} {one : Declarator} → ReadsDeclarator d ts one rest → length rest < length ts
-  declarator_shorter (r.object p e f q) = omega (arith, stars_shorter p, sizes_shorter q)
+  declarator_shorter (r.object p e f q) = omega (arith, stars_shorter p, lengths_shorter q)
   declarator_shorter (r.function p e q) = omega (arith, stars_shorter p, parameters_shorter q)
 
-  pub sizes_shorter : {d : Dialect} {ts rest : List Lexeme} {all : Sizes} → ReadsSizes d ts all rest → length rest ≤ length ts
-  sizes_shorter (r.sizes_end e) = omega arith
-  sizes_shorter (r.open_size e f p) = omega (arith, sizes_shorter p)
-  sizes_shorter (r.size e f p g q) = omega (arith, shorter p, sizes_shorter q)
+  pub lengths_shorter : {d : Dialect} {ts rest : List Lexeme} {all : ArrayLengths} → ReadsArrayLengths d ts all rest → length rest ≤ length ts
+  lengths_shorter (r.lengths_end e) = omega arith
+  lengths_shorter (r.absent_length e f p) = omega (arith, lengths_shorter p)
+  lengths_shorter (r.given_length e f p g q) = omega (arith, shorter p, lengths_shorter q)
 
   pub parameters_shorter : {d : Dialect} {ts rest : List Lexeme} {all : Parameters} → ReadsParameters d ts all rest → length rest < length ts
   parameters_shorter (r.empty_parameters e f) = omega arith
@@ -125,8 +125,8 @@ mutual
   parameter_list_shorter (r.more_parameters p e q) = omega (arith, parameter_shorter p, parameter_list_shorter q)
 
   pub parameter_shorter : {d : Dialect} {ts rest : List Lexeme} {one : Parameter} → ReadsParameter d ts one rest → length rest < length ts
-  parameter_shorter (r.parameter {s = all} p e q f v) = omega (arith, typed all e, specifiers_shorter p, stars_shorter q, sizes_shorter v)
-  parameter_shorter (r.unnamed_parameter {s = all} p e q f v) = omega (arith, typed all e, specifiers_shorter p, stars_shorter q, sizes_shorter v)
+  parameter_shorter (r.parameter {s = all} p e q f v) = omega (arith, typed all e, specifiers_shorter p, stars_shorter q, lengths_shorter v)
+  parameter_shorter (r.unnamed_parameter {s = all} p e q f v) = omega (arith, typed all e, specifiers_shorter p, stars_shorter q, lengths_shorter v)
 
 pub specifiers_no_longer : {d : Dialect} {has : Bool} {ts rest : List Lexeme} {all : Specifiers} → ReadsSpecifiers d has ts all rest → length rest ≤ length ts
 specifiers_no_longer p = omega (arith, specifiers_shorter p)
@@ -177,7 +177,7 @@ mutual
   pub statement_shorter : {d : Dialect} {ts rest : List Lexeme} {one : Statement} → ReadsStatement d ts one rest → length rest < length ts
   statement_shorter (s.compound p) = compound_shorter p
   statement_shorter (s.null e) = omega arith
-  statement_shorter (s.evaluate e f p g) = omega (arith, shorter p)
+  statement_shorter (s.expression_statement e f p g) = omega (arith, shorter p)
   statement_shorter (s.if_only e p q f) = omega (arith, test_shorter p, statement_shorter q)
   statement_shorter (s.if_else e p q f v) = omega (arith, test_shorter p, statement_shorter q, statement_shorter v)
   statement_shorter (s.switch e p q) = omega (arith, test_shorter p, statement_shorter q)

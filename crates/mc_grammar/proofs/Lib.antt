@@ -10,10 +10,3 @@ pub mod Snippets
 pub mod Leaving
 pub mod Refused
 pub mod Nested
-pub mod Eventually
-pub mod Known
-pub mod Reader
-pub mod Complete
-pub mod StatementReader
-pub mod CompleteStatements
-pub mod OneTree

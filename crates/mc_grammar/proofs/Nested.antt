@@ -3,33 +3,33 @@ use Rattle.std.proofs.Common.{◌≡◌, ℕ, zero, suc, ◌+◌, ◌≤◌, ◌
 use Rattle.std.proofs.Math.Nat.{max-zero, zero-max}
 use Rattle.mc_lex.specs.declared.token.Dialect.{Dialect}
 use Rattle.mc_lex.specs.Tokens.{Tok}
-use Rattle.mc_tree.specs.declared.specifier_word.SpecifierWord.{SpecifierWord}
-use Rattle.mc_tree.specs.Tree.{Specifiers, StructMember, Members, Declarator, Declarators, Sizes, InitDeclarator, Item}
+use Rattle.mc_tree.specs.declared.declarations.specifier_word.SpecifierWord.{SpecifierWord}
+use Rattle.mc_tree.specs.Tree.{Specifiers, StructMember, Members, Declarator, Declarators, ArrayLengths, InitDeclarator, Item}
 use Rattle.mc_tree.specs.Tree as t
-use Rattle.mc_tree.specs.Height.{height, height_specifiers, height_members, height_member, height_declarators, height_declarator, height_sizes, height_init_declarator, height_init_declarators, height_item, height_unit}
-use Rattle.mc_grammar.specs.Words.{Lexeme, lexeme_of, lexemes_of, is_sign, retag, sees_specifiers}
+use Rattle.mc_tree.specs.Height.{height, height_specifiers, height_members, height_member, height_declarators, height_declarator, height_lengths, height_init_declarator, height_init_declarators, height_item, height_unit}
+use Rattle.mc_grammar.specs.Words.{Lexeme, lexeme_of, lexemes_of, is_punctuator, retag, sees_specifiers}
 use Rattle.mc_grammar.specs.Operators.{IsSpecifierWord}
 use Rattle.mc_grammar.specs.Operators as o
 use Rattle.mc_grammar.specs.Counts.{for_type}
-use Rattle.mc_grammar.specs.Expressions.{ReadsStars, ReadsSpecifiers, ReadsMembers, ReadsMember, ReadsDeclarators, ReadsDeclarator, ReadsSizes, ReadsParameters}
+use Rattle.mc_grammar.specs.Expressions.{ReadsStars, ReadsSpecifiers, ReadsMembers, ReadsMember, ReadsDeclarators, ReadsDeclarator, ReadsArrayLengths, ReadsParameters}
 use Rattle.mc_grammar.specs.Expressions as r
 use Rattle.mc_grammar.specs.Statements.{ReadsInitDeclarator, ReadsInitDeclarators}
 use Rattle.mc_grammar.specs.Statements as s
 use Rattle.mc_grammar.specs.Items.{ReadsItem, ReadsUnit, IsTree, IsTreeWithin, is_item_of}
 use Rattle.mc_grammar.specs.Items as i
-use Rattle.mc_grammar.specs.Samples.{keyword, word_of, mark, number}
+use Rattle.mc_grammar.specs.Samples.{keyword, word_of, punctuator, number}
 use Rattle.mc_grammar.specs.Nested.{width, nested, nested_tokens, nested_height}
 use Rattle.mc_grammar.proofs.Lengths.{item_shorter}
 use Rattle.mc_grammar.proofs.Leaving.{other_sign, same_rest, plain_starts, postfix_leaves, postfix_to_cond, constant_leaves}
 use Rattle.mc_grammar.proofs.Refused.{bracket_stops, no_parameters, no_stars, no_words}
 use Rattle.mc_grammar.proofs.Derivations.{at_bracket, alone, a_constant}
 
--- an identifier and a sign, as the texts have them
+-- an identifier and a punctuator, as the texts have them
 abbrev a_word : List ℕ → ℕ → Lexeme
 a_word text start = lexeme_of (word_of text start)
 
 abbrev a_mark : List ℕ → ℕ → Lexeme
-a_mark text start = lexeme_of (mark text start)
+a_mark text start = lexeme_of (punctuator text start)
 
 -- ---- they have a tree
 
@@ -41,16 +41,16 @@ reads_nested d true zero place text start ts = (
   _,
   r.untagged_structure refl refl
       (r.last_member (r.struct_member (r.word (o.int refl) (r.specifiers_end refl)) refl (r.last_declarator (r.object (r.no_star refl) refl refl
-      (r.size refl refl (alone (a_constant refl refl refl refl) (at_bracket (place + 16)) refl) refl (r.sizes_end refl))) refl) refl) refl)
+      (r.given_length refl refl (alone (a_constant refl refl refl refl) (at_bracket (place + 16)) refl) refl (r.lengths_end refl))) refl) refl) refl)
       refl (r.specifiers_end refl),
   refl,
   refl,
 )
 reads_nested d sized (suc k) place text start ts =
-    let inner = reads_nested d sized k (place + 9) (codes "a") (place + 10 + width sized k) (mark (codes ";") (place + 11 + width sized k) ∷ mark (codes "}") (place + 13 + width sized k) ∷ word_of text start ∷ ts) in (
+    let inner = reads_nested d sized k (place + 9) (codes "a") (place + 10 + width sized k) (punctuator (codes ";") (place + 11 + width sized k) ∷ punctuator (codes "}") (place + 13 + width sized k) ∷ word_of text start ∷ ts) in (
       _,
       r.untagged_structure refl refl
-          (r.last_member (r.struct_member inner.1 inner.2 (r.last_declarator (r.object (r.no_star refl) refl refl (r.sizes_end refl)) refl) refl) refl)
+          (r.last_member (r.struct_member inner.1 inner.2 (r.last_declarator (r.object (r.no_star refl) refl refl (r.lengths_end refl)) refl) refl) refl)
           refl (r.specifiers_end refl),
       refl,
       refl,
@@ -64,22 +64,22 @@ begins sized (suc k) place ts = refl
 
 nested_read : (d : Dialect) (sized : Bool) (k : ℕ) → (unit : List Item) × IsTree d (nested_tokens sized k) unit
 nested_read d sized k =
-    let inner = reads_nested d sized k 0 (codes "a") (1 + width sized k) (mark (codes ";") (2 + width sized k) ∷ []) in (
+    let inner = reads_nested d sized k 0 (codes "a") (1 + width sized k) (punctuator (codes ";") (2 + width sized k) ∷ []) in (
       _,
       i.item (i.declared {typedef = false} (s.declaration (begins sized k 0 _) inner.1 inner.3
-          (s.last_init_declarator (s.bare (r.object (r.no_star refl) refl refl (r.sizes_end refl)) refl) refl) refl)) i.no_items,
+          (s.last_init_declarator (s.bare (r.object (r.no_star refl) refl refl (r.lengths_end refl)) refl) refl) refl)) i.no_items,
     )
 
 -- ---- each tree of them has this height
 
-no_sizes_read : {d : Dialect} {x : Lexeme} {ts rest : List Lexeme} {all : Sizes} → is_sign (codes "[") x ≡ false → ReadsSizes d (x ∷ ts) all rest → (rest ≡ x ∷ ts) × (height_sizes all ≡ 0)
-no_sizes_read h (r.sizes_end e) = (refl, refl)
-no_sizes_read h (r.open_size e f p) = absurd (cc)
-no_sizes_read h (r.size e f p g q) = absurd (cc)
+no_sizes_read : {d : Dialect} {x : Lexeme} {ts rest : List Lexeme} {all : ArrayLengths} → is_punctuator (codes "[") x ≡ false → ReadsArrayLengths d (x ∷ ts) all rest → (rest ≡ x ∷ ts) × (height_lengths all ≡ 0)
+no_sizes_read h (r.lengths_end e) = (refl, refl)
+no_sizes_read h (r.absent_length e f p) = absurd (cc)
+no_sizes_read h (r.given_length e f p g q) = absurd (cc)
 
 declarator_read : {d : Dialect} {text : List ℕ} {start place : ℕ} {ts rest : List Lexeme} {one : Declarator} → ReadsDeclarator d (a_word text start ∷ a_mark (codes ";") place ∷ ts) one rest
     → (rest ≡ a_mark (codes ";") place ∷ ts) × (height_declarator one ≡ 0)
-declarator_read {d = d} {rest = rest} (r.object {sizes = sizes} p e f q) = no_sizes_read refl (subst (λ us. ReadsSizes d us sizes rest) (same_rest (no_stars refl p)) q)
+declarator_read {d = d} {rest = rest} (r.object {lengths = lengths} p e f q) = no_sizes_read refl (subst (λ us. ReadsArrayLengths d us lengths rest) (same_rest (no_stars refl p)) q)
 declarator_read {d = d} {rest = rest} (r.function {ps = ps} p e q) = absurd (no_parameters refl (subst (λ us. ReadsParameters d us ps rest) (same_rest (no_stars refl p)) q))
 
 declarators_read : {d : Dialect} {text : List ℕ} {start place : ℕ} {ts rest : List Lexeme} {all : Declarators} → ReadsDeclarators d (a_word text start ∷ a_mark (codes ";") place ∷ ts) all rest
@@ -88,19 +88,19 @@ declarators_read (r.last_declarator p e) = let q = declarator_read p in (q.0, ma
 declarators_read (r.more_declarators p e q) = absurd (other_sign (codes ",") (declarator_read p).0 refl e)
 
 -- a declarator with the length 1
-sized_read : {d : Dialect} {first number_start last place : ℕ} {ts rest : List Lexeme} {all : Sizes}
-    → ReadsSizes d (a_mark (codes "[") first ∷ lexeme_of (number 1 (codes "1") number_start) ∷ a_mark (codes "]") last ∷ a_mark (codes ";") place ∷ ts) all rest → (rest ≡ a_mark (codes ";") place ∷ ts) × (height_sizes all ≡ 1)
-sized_read (r.sizes_end e) = absurd (cc)
-sized_read (r.open_size e f p) = absurd (cc)
-sized_read {d = d} {number_start = start} {last = last} {rest = rest} (r.size {a = a} {sizes = more} e f p g q) =
+sized_read : {d : Dialect} {first number_start last place : ℕ} {ts rest : List Lexeme} {all : ArrayLengths}
+    → ReadsArrayLengths d (a_mark (codes "[") first ∷ lexeme_of (number 1 (codes "1") number_start) ∷ a_mark (codes "]") last ∷ a_mark (codes ";") place ∷ ts) all rest → (rest ≡ a_mark (codes ";") place ∷ ts) × (height_lengths all ≡ 1)
+sized_read (r.lengths_end e) = absurd (cc)
+sized_read (r.absent_length e f p) = absurd (cc)
+sized_read {d = d} {number_start = start} {last = last} {rest = rest} (r.given_length {a = a} {lengths = more} e f p g q) =
     let one = postfix_to_cond (plain_starts _ refl) (bracket_stops last) refl (postfix_leaves (bracket_stops last) (constant_leaves 1 true false 0 (codes "1") start)) _ _ p in
-    let behind = no_sizes_read refl (subst (λ us. ReadsSizes d us more rest) (same_rest one.0) q) in
-    (behind.0, ap (λ m. max m (height_sizes more)) (ap height one.1) ∙ ap (max 1) behind.1)
+    let after = no_sizes_read refl (subst (λ us. ReadsArrayLengths d us more rest) (same_rest one.0) q) in
+    (after.0, ap (λ m. max m (height_lengths more)) (ap height one.1) ∙ ap (max 1) after.1)
 
 sized_declarator_read : {d : Dialect} {text : List ℕ} {start first number_start last place : ℕ} {ts rest : List Lexeme} {one : Declarator}
     → ReadsDeclarator d (a_word text start ∷ a_mark (codes "[") first ∷ lexeme_of (number 1 (codes "1") number_start) ∷ a_mark (codes "]") last ∷ a_mark (codes ";") place ∷ ts) one rest
     → (rest ≡ a_mark (codes ";") place ∷ ts) × (height_declarator one ≡ 1)
-sized_declarator_read {d = d} {rest = rest} (r.object {sizes = sizes} p e f q) = sized_read (subst (λ us. ReadsSizes d us sizes rest) (same_rest (no_stars refl p)) q)
+sized_declarator_read {d = d} {rest = rest} (r.object {lengths = lengths} p e f q) = sized_read (subst (λ us. ReadsArrayLengths d us lengths rest) (same_rest (no_stars refl p)) q)
 sized_declarator_read {d = d} {rest = rest} (r.function {ps = ps} p e q) = absurd (no_parameters refl (subst (λ us. ReadsParameters d us ps rest) (same_rest (no_stars refl p)) q))
 
 sized_declarators_read : {d : Dialect} {text : List ℕ} {start first number_start last place : ℕ} {ts rest : List Lexeme} {all : Declarators}
@@ -116,8 +116,8 @@ member_read : {d : Dialect} {k m place : ℕ} {ts vs us rest : List Lexeme} {one
     → ReadsMember d ts one rest → (rest ≡ us) × (height_member one ≡ max k m)
 member_read {d = d} {k = k} h g (r.struct_member {y = y} {rest = rest} {s = all} {ds = ds} p f q v) =
     let inner = h _ _ p in
-    let behind = g _ _ (subst (λ vs. ReadsDeclarators d vs ds (y ∷ rest)) inner.0 q) in
-    (same_rest behind.0, ap (λ m. max m (height_declarators ds)) inner.1 ∙ ap (max k) behind.1)
+    let after = g _ _ (subst (λ vs. ReadsDeclarators d vs ds (y ∷ rest)) inner.0 q) in
+    (same_rest after.0, ap (λ m. max m (height_declarators ds)) inner.1 ∙ ap (max k) after.1)
 
 no_more : {mid vs : List Lexeme} {end : ℕ} → mid ≡ a_mark (codes "}") end ∷ vs → sees_specifiers mid ≡ true → ⊥
 no_more e f = absurd (cc)
@@ -165,8 +165,8 @@ structure_read h (r.structure_tag e f g p) = absurd (cc)
 structure_read h (r.structure e f g p v q) = absurd (cc)
 structure_read {d = d} {k = k} {rest = rest} h (r.untagged_structure {ms = ms} {s = more} e f p v q) =
     let inner = members_read h p in
-    let behind = no_words (λ text. refl) refl (subst (λ vs. ReadsSpecifiers d true vs more rest) (same_rest inner.0) q) in
-    (behind.1, ap (max (height_members ms + 1)) (ap height_specifiers behind.0) ∙ max-zero (height_members ms + 1) ∙ ap (λ m. m + 1) inner.1 ∙ omega arith)
+    let after = no_words (λ text. refl) refl (subst (λ vs. ReadsSpecifiers d true vs more rest) (same_rest inner.0) q) in
+    (after.1, ap (max (height_members ms + 1)) (ap height_specifiers after.0) ∙ max-zero (height_members ms + 1) ∙ ap (λ m. m + 1) inner.1 ∙ omega arith)
 structure_read h (r.enumeration_tag e f g p) = absurd (cc)
 structure_read h (r.enumeration e f g p v q) = absurd (cc)
 structure_read h (r.untagged_enumeration e f p v q) = absurd (cc)
@@ -182,7 +182,7 @@ nested_specifiers d false zero place text start ts all rest p = int_read p
 nested_specifiers d true zero place text start ts all rest p = structure_read (λ one left. member_read (λ s left. int_read) (λ s left. sized_declarators_read)) p
 nested_specifiers d sized (suc k) place text start ts all rest p =
     let all = structure_read (λ one left. member_read
-    (λ s left. nested_specifiers d sized k (place + 9) (codes "a") (place + 10 + width sized k) (mark (codes ";") (place + 11 + width sized k) ∷ mark (codes "}") (place + 13 + width sized k) ∷ word_of text start ∷ ts) s left)
+    (λ s left. nested_specifiers d sized k (place + 9) (codes "a") (place + 10 + width sized k) (punctuator (codes ";") (place + 11 + width sized k) ∷ punctuator (codes "}") (place + 13 + width sized k) ∷ word_of text start ∷ ts) s left)
     (λ s left. declarators_read)) p in
     (all.0, all.1 ∙ ap suc (max-zero (nested_height sized k)) ∙ one_more sized k)
 
@@ -205,8 +205,8 @@ init_declarators_read (s.more_init_declarators p e f q) = absurd (other_sign (co
 nested_item : {d : Dialect} (sized : Bool) (k : ℕ) {one : Item} {rest : List Lexeme} → ReadsItem d (lexemes_of (nested_tokens sized k)) one rest → (rest ≡ []) × (height_item one ≡ nested_height sized k)
 nested_item {d = d} sized k (i.declared {typedef = typedef} (s.declaration {y = y} {rest = rest} {all = all} e p f q g)) =
     let inner = nested_specifiers d sized k 0 _ _ _ _ _ p in
-    let behind = init_declarators_read (subst (λ us. ReadsInitDeclarators d typedef us all (y ∷ rest)) inner.0 q) in
-    (same_rest behind.0, ap (λ m. max m (height_init_declarators all)) inner.1 ∙ ap (max (nested_height sized k)) behind.1 ∙ max-zero (nested_height sized k))
+    let after = init_declarators_read (subst (λ us. ReadsInitDeclarators d typedef us all (y ∷ rest)) inner.0 q) in
+    (same_rest after.0, ap (λ m. max m (height_init_declarators all)) inner.1 ∙ ap (max (nested_height sized k)) after.1 ∙ max-zero (nested_height sized k))
 nested_item {d = d} sized k (i.defined {x = x} {mid = mid} {body = body} {stars = stars} {ps = ps} p e q f v w) =
     absurd (no_parameters refl (subst (λ us. ReadsParameters d us ps body) (same_rest (no_stars refl (subst (λ us. ReadsStars us stars (x ∷ mid)) (nested_specifiers d sized k 0 _ _ _ _ _ p).0 q))) v))
 

@@ -16,20 +16,20 @@ pub in_force_at_once : (d : Dialect) → IsTree d typedef_tokens typedef_tree
 unfolding retag end_before
 in_force_at_once d =
     i.item (i.declared {typedef = true} (s.declaration refl (r.word (o.typedef refl) (r.word (o.int refl) (r.specifiers_end refl))) refl
-    (s.more_init_declarators (s.bare (r.object (r.no_star refl) refl refl (r.sizes_end refl)) refl) refl refl
-    (s.last_init_declarator (s.bare (r.object (r.no_star refl) refl refl (r.size refl refl (r.cond_level
+    (s.more_init_declarators (s.bare (r.object (r.no_star refl) refl refl (r.lengths_end refl)) refl) refl refl
+    (s.last_init_declarator (s.bare (r.object (r.no_star refl) refl refl (r.given_length refl refl (r.cond_level
     (r.level (r.level (r.level (r.level (r.level (r.level (r.level (r.level (r.level (r.level
     (r.cast refl refl (r.type_name (r.typedef_name refl (r.specifiers_end refl)) refl (r.no_star refl)) refl
     (r.cast_unary refl (r.unary_postfix refl (r.postfix (r.constant refl) (r.suffixes_end refl)))))
     (r.operations_end refl)) (r.operations_end refl)) (r.operations_end refl)) (r.operations_end refl)) (r.operations_end refl)) (r.operations_end refl))
     (r.operations_end refl)) (r.operations_end refl)) (r.operations_end refl)) (r.operations_end refl))
-    refl) refl (r.sizes_end refl))) refl) refl)) refl)) i.no_items
+    refl) refl (r.lengths_end refl))) refl) refl)) refl)) i.no_items
 
 pub value : (d : Dialect) → IsTree d value_tokens value_tree
 unfolding end_before
 value d =
     i.item (i.declared {typedef = false} (s.declaration refl (r.word (o.int refl) (r.specifiers_end refl)) refl
-    (s.last_init_declarator (s.initialized (r.object (r.no_star refl) refl refl (r.sizes_end refl)) refl refl
+    (s.last_init_declarator (s.initialized (r.object (r.no_star refl) refl refl (r.lengths_end refl)) refl refl
     (s.single refl (r.assign_cond (alone (a_constant refl refl refl refl) (at_semicolon 9) refl) refl)))
     refl) refl)) i.no_items
 
@@ -37,11 +37,11 @@ pub named_void : (d : Dialect) → IsTree d named_void_tokens named_void_tree
 unfolding retag end_before
 named_void d =
     i.item (i.declared {typedef = true} (s.declaration refl (r.word (o.typedef refl) (r.word (o.void refl) (r.specifiers_end refl))) refl
-    (s.last_init_declarator (s.bare (r.object (r.no_star refl) refl refl (r.sizes_end refl)) refl) refl) refl))
+    (s.last_init_declarator (s.bare (r.object (r.no_star refl) refl refl (r.lengths_end refl)) refl) refl) refl))
     (i.item (i.declared {typedef = false} (s.declaration refl (r.word (o.int refl) (r.specifiers_end refl)) refl
     (s.last_init_declarator (s.bare (r.function (r.no_star refl) refl
     (r.listed_parameters refl refl refl (r.last_parameter
-    (r.unnamed_parameter (r.typedef_name refl (r.specifiers_end refl)) refl (r.no_star refl) refl (r.sizes_end refl)) refl) refl)) refl) refl) refl)) i.no_items)
+    (r.unnamed_parameter (r.typedef_name refl (r.specifiers_end refl)) refl (r.no_star refl) refl (r.lengths_end refl)) refl) refl)) refl) refl) refl)) i.no_items)
 
 pub void : (d : Dialect) → IsTree d void_tokens void_tree
 unfolding end_before
@@ -61,10 +61,10 @@ pub tag : (d : Dialect) → IsTree d tag_tokens tag_tree
 unfolding retag end_before
 tag d =
     i.item (i.declared {typedef = true} (s.declaration refl (r.word (o.typedef refl) (r.word (o.int refl) (r.specifiers_end refl))) refl
-    (s.last_init_declarator (s.bare (r.object (r.no_star refl) refl refl (r.sizes_end refl)) refl) refl) refl))
+    (s.last_init_declarator (s.bare (r.object (r.no_star refl) refl refl (r.lengths_end refl)) refl) refl) refl))
     (i.item (i.declared {typedef = false} (s.declaration refl (r.structure refl refl refl
     (r.last_member (r.struct_member (r.word (o.int refl) (r.specifiers_end refl)) refl
-    (r.last_declarator (r.object (r.no_star refl) refl refl (r.sizes_end refl)) refl) refl) refl)
+    (r.last_declarator (r.object (r.no_star refl) refl refl (r.lengths_end refl)) refl) refl) refl)
     refl (r.specifiers_end refl)) refl (s.no_init_declarator refl) refl)) i.no_items)
 
 pub enumeration : (d : Dialect) → IsTree d enumeration_tokens enumeration_tree
@@ -80,7 +80,7 @@ unfolding end_before
 braced d =
     i.item (i.declared {typedef = false} (s.declaration refl (r.word (o.int refl) (r.specifiers_end refl)) refl
     (s.last_init_declarator (s.initialized
-    (r.object (r.no_star refl) refl refl (r.size refl refl (alone (a_constant refl refl refl refl) (at_bracket 7) refl) refl (r.sizes_end refl)))
+    (r.object (r.no_star refl) refl refl (r.given_length refl refl (alone (a_constant refl refl refl refl) (at_bracket 7) refl) refl (r.lengths_end refl)))
     refl refl
     (s.braced refl
     (s.more_initializers (s.single refl (r.assign_cond (alone (a_constant refl refl refl refl) (at_comma 13) refl) refl)) refl refl

@@ -57,7 +57,7 @@ inner_else d =
 pub assignment : (d : Dialect) → ReadsStatement d (lexemes_of assignment_tokens) assignment_tree []
 unfolding end_before
 assignment d =
-    s.evaluate refl refl (r.comma_one (r.assign_cond (alone (r.cast_unary refl (r.unary_postfix refl (r.postfix
+    s.expression_statement refl refl (r.comma_one (r.assign_cond (alone (r.cast_unary refl (r.unary_postfix refl (r.postfix
     (r.parenthesized refl refl (r.comma_one
     (r.assign (r.unary_postfix refl (r.postfix (r.named refl refl) (r.suffixes_end refl))) refl (r.assign_cond (alone (a_constant refl refl refl refl) (at_parenthesis 4) refl) refl))
     refl) refl) (r.suffixes_end refl)))) (at_semicolon 5) refl) refl) refl) refl

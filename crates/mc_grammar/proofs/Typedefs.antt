@@ -1,4 +1,4 @@
--- What is no identifier stays none in all that is left, and so does the name of a typedef behind its declaration.
+-- What is no identifier stays none in all that is left, and so does the name of a typedef after its declaration.
 use Rattle.std.proofs.Common.{◌≡◌, ◌≢◌, true≢false, ℕ, Bool, true, false, not, ◌&&◌, ◌||◌, List, [], ◌∷◌, ◌++◌, All, AllPairs, Contains, arith, Option, refl, sym, ◌∙◌, subst, if◌then◌else◌}
 use Rattle.std.specs.Str.{bytes_eq}
 use Rattle.std.specs.List.{list_any}
@@ -7,7 +7,7 @@ use Rattle.std.proofs.lemmas.List.Kept.{AllPairs-cons}
 use Rattle.std.proofs.lemmas.Slice.Eq.{bytes_eq-Decides}
 use Rattle.mc_lex.specs.declared.token.Dialect.{Dialect}
 use Rattle.mc_tree.specs.Tree.{Expression, Specifiers, Declarator, InitDeclarator, Declaration, ForStart, Statement, BlockItems, Item, name_of}
-use Rattle.mc_grammar.specs.Words.{Lexeme, is_name, is_identifier, retag, retagged}
+use Rattle.mc_grammar.specs.Words.{Lexeme, is_name, is_identifier_kind, retag, retagged}
 use Rattle.mc_grammar.specs.Counts.{is_typedef, for_item}
 use Rattle.mc_grammar.specs.Meaning.{is_name_of, declared_name, names_of, declared_names, typedef_names, typedef_names_of, ReadsItems}
 use Rattle.mc_grammar.specs.Meaning as m
@@ -37,11 +37,11 @@ chain p q = record { gone = λ name e. q.gone name (p.gone name e) }
 pub ends : {ts rest : List Lexeme} → IsEnd rest ts → Keeps rest ts
 ends p = record { gone = λ name e. none_of_end (is_name_of name) p e }
 
-behind : {x : Lexeme} {ts rest : List Lexeme} → Keeps rest ts → Keeps rest (x ∷ ts)
-behind p = chain (ends (later whole)) p
+after : {x : Lexeme} {ts rest : List Lexeme} → Keeps rest ts → Keeps rest (x ∷ ts)
+after p = chain (ends (later whole)) p
 
 -- a token that may be retagged is no identifier of this text where it was none
-retagged_keeps : (name other : List ℕ) (x : Lexeme) (a b : Bool) → is_identifier x.token.kind ≡ a → bytes_eq x.token.text other ≡ b → is_name_of name x ≡ false → is_name_of name (retagged other x) ≡ false
+retagged_keeps : (name other : List ℕ) (x : Lexeme) (a b : Bool) → is_identifier_kind x.token.kind ≡ a → bytes_eq x.token.text other ≡ b → is_name_of name x ≡ false → is_name_of name (retagged other x) ≡ false
 retagged_keeps name other x true true e f g = rw (e, f) (rw e refl)
 retagged_keeps name other x true false e f g = rw (e, f) g
 retagged_keeps name other x false b e f g = rw e (rw e refl)
@@ -58,7 +58,7 @@ unfolding retag
 retag_gone name other [] e = e
 retag_gone name other (x ∷ ts) e =
     neither (is_name_of name (retagged other x)) (list_any (is_name_of name) (retag other ts))
-    (retagged_keeps name other x (is_identifier x.token.kind) (bytes_eq x.token.text other) refl refl (or_left (is_name_of name x) (list_any (is_name_of name) ts) e))
+    (retagged_keeps name other x (is_identifier_kind x.token.kind) (bytes_eq x.token.text other) refl refl (or_left (is_name_of name x) (list_any (is_name_of name) ts) e))
     (retag_gone name other ts (or_right (is_name_of name x) (list_any (is_name_of name) ts) e))
 
 after_keeps : (typedef : Bool) (d : Declarator) (ts : List Lexeme) → Keeps (after typedef d ts) ts
@@ -68,49 +68,49 @@ after_keeps false d ts = all_kept
 pub init_declarator_keeps : {d : Dialect} {typedef : Bool} {ts rest : List Lexeme} {one : InitDeclarator} → ReadsInitDeclarator d typedef ts one rest → Keeps rest ts
 init_declarator_keeps {typedef = typedef} (s.bare {mid = mid} {d = one} p e) = chain (ends (declarator_ends p)) (after_keeps typedef one mid)
 init_declarator_keeps {typedef = typedef} (s.initialized {x = x} {mid = mid} {value = value} {d = one} p g e q) =
-    chain (ends (declarator_ends p)) (chain (subst (λ us. Keeps us mid) g (after_keeps typedef one mid)) (behind {x = x} (ends (initializer_ends q))))
+    chain (ends (declarator_ends p)) (chain (subst (λ us. Keeps us mid) g (after_keeps typedef one mid)) (after {x = x} (ends (initializer_ends q))))
 
 pub init_declarators_keep : {d : Dialect} {typedef : Bool} {ts rest : List Lexeme} {all : List InitDeclarator} → ReadsInitDeclarators d typedef ts all rest → Keeps rest ts
 init_declarators_keep (s.no_init_declarator e) = all_kept
 init_declarators_keep (s.last_init_declarator p e) = init_declarator_keeps p
-init_declarators_keep (s.more_init_declarators p e f q) = chain (init_declarator_keeps p) (behind (init_declarators_keep q))
+init_declarators_keep (s.more_init_declarators p e f q) = chain (init_declarator_keeps p) (after (init_declarators_keep q))
 
 pub declaration_keeps : {d : Dialect} {typedef : Bool} {allowed : Specifiers → Bool} {ts rest : List Lexeme} {one : Declaration} → ReadsDeclaration d typedef allowed ts one rest → Keeps rest ts
-declaration_keeps (s.declaration e p f q g) = chain (ends (specifiers_ends p)) (chain (init_declarators_keep q) (behind all_kept))
+declaration_keeps (s.declaration e p f q g) = chain (ends (specifiers_ends p)) (chain (init_declarators_keep q) (after all_kept))
 
 optional_keeps : {d : Dialect} {stop : List ℕ} {ts rest : List Lexeme} {a : Option Expression} → ReadsOptional d stop ts a rest → Keeps rest ts
 optional_keeps (s.no_expression e) = all_kept
 optional_keeps (s.an_expression e p) = ends (expression_ends p)
 
 test_keeps : {d : Dialect} {ts rest : List Lexeme} {a : Expression} → ReadsTest d ts a rest → Keeps rest ts
-test_keeps (s.test e p f) = behind (chain (ends (expression_ends p)) (behind all_kept))
+test_keeps (s.test e p f) = after (chain (ends (expression_ends p)) (after all_kept))
 
 for_start_keeps : {d : Dialect} {ts rest : List Lexeme} {start : ForStart} → ReadsForStart d ts start rest → Keeps rest ts
 for_start_keeps (s.starts_local p) = declaration_keeps p
-for_start_keeps (s.starts_expression e p f) = chain (optional_keeps p) (behind all_kept)
+for_start_keeps (s.starts_expression e p f) = chain (optional_keeps p) (after all_kept)
 
 mutual
   pub statement_keeps : {d : Dialect} {ts rest : List Lexeme} {one : Statement} → ReadsStatement d ts one rest → Keeps rest ts
   statement_keeps (s.compound p) = compound_keeps p
-  statement_keeps (s.null e) = behind all_kept
-  statement_keeps (s.evaluate e f p g) = chain (ends (expression_ends p)) (behind all_kept)
-  statement_keeps (s.if_only e p q f) = behind (chain (test_keeps p) (statement_keeps q))
-  statement_keeps (s.if_else e p q f v) = behind (chain (test_keeps p) (chain (statement_keeps q) (behind (statement_keeps v))))
-  statement_keeps (s.switch e p q) = behind (chain (test_keeps p) (statement_keeps q))
-  statement_keeps (s.while e p q) = behind (chain (test_keeps p) (statement_keeps q))
-  statement_keeps (s.do_while e p f q g) = behind (chain (statement_keeps p) (behind (chain (test_keeps q) (behind all_kept))))
+  statement_keeps (s.null e) = after all_kept
+  statement_keeps (s.expression_statement e f p g) = chain (ends (expression_ends p)) (after all_kept)
+  statement_keeps (s.if_only e p q f) = after (chain (test_keeps p) (statement_keeps q))
+  statement_keeps (s.if_else e p q f v) = after (chain (test_keeps p) (chain (statement_keeps q) (after (statement_keeps v))))
+  statement_keeps (s.switch e p q) = after (chain (test_keeps p) (statement_keeps q))
+  statement_keeps (s.while e p q) = after (chain (test_keeps p) (statement_keeps q))
+  statement_keeps (s.do_while e p f q g) = after (chain (statement_keeps p) (after (chain (test_keeps q) (after all_kept))))
   statement_keeps (s.for e f p q g v h w) =
-      behind (behind (chain (for_start_keeps p) (chain (optional_keeps q) (behind (chain (optional_keeps v) (behind (statement_keeps w)))))))
-  statement_keeps (s.case_label e p f q) = behind (chain (ends (expression_ends p)) (behind (statement_keeps q)))
-  statement_keeps (s.default e f p) = behind (behind (statement_keeps p))
-  statement_keeps (s.label e f p) = behind (behind (statement_keeps p))
-  statement_keeps (s.goto e f g) = behind (behind (behind all_kept))
-  statement_keeps (s.continue e f) = behind (behind all_kept)
-  statement_keeps (s.break e f) = behind (behind all_kept)
-  statement_keeps (s.return e p f) = behind (chain (optional_keeps p) (behind all_kept))
+      after (after (chain (for_start_keeps p) (chain (optional_keeps q) (after (chain (optional_keeps v) (after (statement_keeps w)))))))
+  statement_keeps (s.case_label e p f q) = after (chain (ends (expression_ends p)) (after (statement_keeps q)))
+  statement_keeps (s.default e f p) = after (after (statement_keeps p))
+  statement_keeps (s.label e f p) = after (after (statement_keeps p))
+  statement_keeps (s.goto e f g) = after (after (after all_kept))
+  statement_keeps (s.continue e f) = after (after all_kept)
+  statement_keeps (s.break e f) = after (after all_kept)
+  statement_keeps (s.return e p f) = after (chain (optional_keeps p) (after all_kept))
 
   pub compound_keeps : {d : Dialect} {ts rest : List Lexeme} {all : BlockItems} → ReadsCompound d ts all rest → Keeps rest ts
-  compound_keeps (s.block e p f) = behind (chain (block_items_keep p) (behind all_kept))
+  compound_keeps (s.block e p f) = after (chain (block_items_keep p) (after all_kept))
 
   pub block_items_keep : {d : Dialect} {ts rest : List Lexeme} {all : BlockItems} → ReadsBlockItems d ts all rest → Keeps rest ts
   block_items_keep (s.block_end e) = all_kept
@@ -119,7 +119,7 @@ mutual
 
 pub item_keeps : {d : Dialect} {ts rest : List Lexeme} {one : Item} → ReadsItem d ts one rest → Keeps rest ts
 item_keeps (i.declared p) = declaration_keeps p
-item_keeps (i.defined p e q f v w) = chain (ends (specifiers_ends p)) (chain (ends (stars_ends q)) (behind (chain (ends (parameters_ends v)) (compound_keeps w))))
+item_keeps (i.defined p e q f v w) = chain (ends (specifiers_ends p)) (chain (ends (stars_ends q)) (after (chain (ends (parameters_ends v)) (compound_keeps w))))
 
 pub items_keep : {d : Dialect} {ts rest : List Lexeme} {all : List Item} → ReadsItems d ts all rest → Keeps rest ts
 items_keep m.no_items = all_kept
@@ -132,7 +132,7 @@ AreGone names ts = All (λ name. IsGone name ts) names
 still_gone : {ts rest : List Lexeme} → Keeps rest ts → (names : List (List ℕ)) → AreGone names ts → AreGone names rest
 still_gone p names h = λ k d lt. p.gone _ (h k d lt)
 
--- behind a typedef's declarator, and its value if it has one, its name is gone
+-- after a typedef's declarator, and its value if it has one, its name is gone
 name_gone : {d : Dialect} {ts rest : List Lexeme} {one : InitDeclarator} → ReadsInitDeclarator d true ts one rest → IsGone (declared_name one) rest
 name_gone (s.bare {mid = mid} {d = one} p e) = no_name_follows (name_of one).text mid
 name_gone (s.initialized p g e q) = valued_typedef_retags (s.initialized p g e q)
@@ -141,7 +141,7 @@ names_gone : {d : Dialect} {ts rest : List Lexeme} {all : List InitDeclarator} �
 names_gone {rest = rest} (s.no_init_declarator e) = All-nil (λ name. IsGone name rest)
 names_gone {rest = rest} (s.last_init_declarator {i = one} p e) = All-cons (λ name. IsGone name rest) (declared_name one) [] (name_gone p) (All-nil (λ name. IsGone name rest))
 names_gone {rest = rest} (s.more_init_declarators {x = x} {i = one} {all = all} p e f q) =
-    All-cons (λ name. IsGone name rest) (declared_name one) (names_of all) ((behind {x = x} (init_declarators_keep q)).gone (declared_name one) (name_gone p)) (names_gone q)
+    All-cons (λ name. IsGone name rest) (declared_name one) (names_of all) ((after {x = x} (init_declarators_keep q)).gone (declared_name one) (name_gone p)) (names_gone q)
 
 of_typedef : (b : Bool) (names : List (List ℕ)) (ts : List Lexeme) → (b ≡ true → AreGone names ts) → AreGone (if b then names else []) ts
 of_typedef true names ts h = h refl
@@ -152,10 +152,10 @@ clash false b e f = cc
 clash true true e f = cc
 clash true false e f = cc
 
--- behind an item its typedef names are gone
+-- after an item its typedef names are gone
 pub item_gone : {d : Dialect} {ts rest : List Lexeme} {one : Item} → ReadsItem d ts one rest → AreGone (typedef_names one) rest
 item_gone {rest = rest} (i.declared {typedef = true} (s.declaration {y = y} {s = words} {all = all} e p f q g)) =
-    of_typedef (is_typedef words) (names_of all) rest (λ h. still_gone {rest = rest} (behind {x = y} all_kept) (names_of all) (names_gone q))
+    of_typedef (is_typedef words) (names_of all) rest (λ h. still_gone {rest = rest} (after {x = y} all_kept) (names_of all) (names_gone q))
 item_gone {rest = rest} (i.declared {typedef = false} (s.declaration {s = words} {all = all} e p f q g)) =
     of_typedef (is_typedef words) (names_of all) rest (λ h. absurd (clash (for_item words) (is_typedef words) f h))
 item_gone {rest = rest} (i.defined p e q f v w) = All-nil (λ name. IsGone name rest)

@@ -1,7 +1,7 @@
 -- Which words may stand together among specifiers, by how often each does: their order is free (C17 6.7.2).
 use Rattle.std.specs.Prelude.{ℕ, ◌+◌, Bool, ◌&&◌, ◌||◌, nat_eq, nat_le}
-use Rattle.mc_tree.specs.declared.specifier_word.SpecifierWord.{SpecifierWord}
-use Rattle.mc_tree.specs.declared.specifier_word.SpecifierWord.TheVariants as word
+use Rattle.mc_tree.specs.declared.declarations.specifier_word.SpecifierWord.{SpecifierWord}
+use Rattle.mc_tree.specs.declared.declarations.specifier_word.SpecifierWord.TheVariants as word
 use Rattle.mc_tree.specs.Tree.{Specifier, Specifiers}
 use Rattle.mc_tree.specs.Tree as t
 
@@ -49,8 +49,8 @@ counts (t.specifiers s rest) = with_specifier s (counts rest)
 abbrev pub storages : Specifiers → ℕ
 storages s = let c = counts s in c.typedef + c.static + c.extern
 
--- the sets of words of C17 6.7.2 without `void`: _Bool; char with at most one sign; and else at most one
--- `int` and one sign, with one `short` or up to two `long`, and at least one of them
+-- the sets of words of C17 6.7.2 without `void`: _Bool; char with at most one punctuator; and else at most one
+-- `int` and one punctuator, with one `short` or up to two `long`, and at least one of them
 abbrev pub is_integer_set : Counts → Bool
 is_integer_set c =
     (nat_eq c.bool 1 && nat_eq (c.char + c.short + c.int + c.long + c.signs) 0)

@@ -1,12 +1,14 @@
 -- The grammar of external declarations, and of a whole source: one case for each alternative of a production.
 use Rattle.std.specs.Prelude.{◌≡◌, ◌≤◌, ℕ, Bool, true, false, not, ◌&&◌, List, [], ◌∷◌}
 use Rattle.mc_lex.specs.declared.token.Dialect.{Dialect}
+use Rattle.mc_lex.specs.declared.token.Dialect.TheVariants.{Plain}
 use Rattle.mc_lex.specs.Tokens.{Tok}
-use Rattle.mc_tree.specs.Tree.{Name, Specifiers, Parameters, Declaration, BlockItems, Item}
+use Rattle.mc_tree.specs.Tree.{Name, Specifiers, Parameters, Declaration, BlockItems, Item, span_of_parameters}
 use Rattle.mc_tree.specs.Tree as t
 use Rattle.mc_tree.specs.Height.{height_unit}
 use Rattle.mc_grammar.specs.Words.{Lexeme, is_name, lexemes_of}
-use Rattle.mc_grammar.specs.Places.{name_at, part}
+use Rattle.mc_span.specs.declared.span.Span.{Span}
+use Rattle.mc_grammar.specs.Places.{at, name_at, to}
 use Rattle.mc_grammar.specs.Counts.{for_item, for_function, is_typedef}
 use Rattle.mc_grammar.specs.Expressions.{ReadsSpecifiers, ReadsStars, ReadsParameters}
 use Rattle.mc_grammar.specs.Statements.{ReadsDeclaration, ReadsCompound}
@@ -20,10 +22,11 @@ pub data ReadsItem (dialect : Dialect) : List Lexeme → Item → List Lexeme �
   -- item = specifiers [ initdecl { "," initdecl } ] ";"                                 C17 6.9, 6.7
   declared : {typedef : Bool} {ts rest : List Lexeme} {d : Declaration} → ReadsDeclaration dialect typedef (is_item_of typedef) ts d rest → ReadsItem dialect ts (t.Declared d) rest
   -- specifiers { "*" } identifier "(" params ")" compound                               C17 6.9.1
-  -- The `{` behind the `)` makes it a definition: no declaration goes on with one.
-  defined : {x : Lexeme} {ts after_words mid body rest : List Lexeme} {s : Specifiers} {stars : ℕ} {ps : Parameters} {b : BlockItems} → ReadsSpecifiers dialect false ts s after_words → for_function s ≡ true
-      → ReadsStars after_words stars (x ∷ mid) → is_name x ≡ true → ReadsParameters dialect mid ps body → ReadsCompound dialect body b rest
-      → ReadsItem dialect ts (t.Defined s (t.function stars (name_at x) ps (part after_words body)) b (part ts rest)) rest
+  -- The `{` after the `)` makes it a definition: no declaration goes on with one.
+  defined : {x y z : Lexeme} {before span : Span} {ts words mid body rest : List Lexeme} {s : Specifiers} {stars : ℕ} {ps : Parameters} {b : BlockItems}
+      → ReadsSpecifiers dialect false (x ∷ ts) s (y ∷ words) → for_function s ≡ true → ReadsStars (at y) (y ∷ words) stars before (z ∷ mid) → is_name z ≡ true
+      → ReadsParameters dialect mid ps body → ReadsCompound dialect body b span rest
+      → ReadsItem dialect (x ∷ ts) (t.Defined s (t.function stars (name_at z) ps (to (at y) (span_of_parameters ps))) b (to (at x) span)) rest
 
 -- unit = { item }                                                                       C17 6.9
 pub data ReadsUnit (dialect : Dialect) : List Lexeme → List Item → Type 0 where
@@ -34,6 +37,13 @@ pub data ReadsUnit (dialect : Dialect) : List Lexeme → List Item → Type 0 wh
 abbrev pub IsTree : Dialect → List Tok → List Item → Type 0
 IsTree dialect tokens unit = ReadsUnit dialect (lexemes_of tokens) unit
 
--- The tree of an accepted text has at most this height: 200 in the plain dialect.
 abbrev pub IsTreeWithin : ℕ → Dialect → List Tok → List Item → Type 0
 IsTreeWithin limit dialect tokens unit = IsTree dialect tokens unit × (height_unit unit ≤ limit)
+
+-- the greatest height of a tree that is read
+abbrev pub greatest_height : Dialect → ℕ
+greatest_height Plain = 200
+
+-- The syntax of a text: its tree, where that is not too high.
+abbrev pub IsSyntaxOf : Dialect → List Tok → List Item → Type 0
+IsSyntaxOf dialect tokens unit = IsTreeWithin (greatest_height dialect) dialect tokens unit

@@ -2,12 +2,12 @@
 use Rattle.std.specs.Prelude.{ℕ, Bool, true, false, ◌&&◌, List, [], ◌∷◌, map, flat_map, codes, if◌then◌else◌}
 use Rattle.std.specs.Str.{bytes_eq}
 use Rattle.mc_lex.specs.declared.token.TokenKind.TheVariants as kind
-use Rattle.mc_tree.specs.declared.binary_operator.BinaryOperator.TheVariants as binary
+use Rattle.mc_tree.specs.declared.expressions.binary_operator.BinaryOperator.TheVariants as binary
 use Rattle.mc_lex.specs.declared.token.Dialect.{Dialect}
 use Rattle.mc_tree.specs.Tree.{Expression, BlockItems, InitDeclarator, Item, name_of}
 use Rattle.mc_tree.specs.Tree as t
 use Rattle.mc_grammar.specs.Words.{Lexeme, is_name}
-use Rattle.mc_grammar.specs.Places.{at, name_at, to, part}
+use Rattle.mc_grammar.specs.Places.{at, name_at, to}
 use Rattle.mc_grammar.specs.Counts.{is_typedef}
 use Rattle.mc_grammar.specs.Items.{ReadsItem}
 
@@ -54,27 +54,24 @@ identifier text start = record { token = record { kind = kind.Identifier; text =
 abbrev pub type_name : List ℕ → ℕ → Lexeme
 type_name text start = record { token = record { kind = kind.Identifier; text = text; start = start }; names_type = true }
 
-abbrev pub sign : List ℕ → ℕ → Lexeme
-sign text start = record { token = record { kind = kind.Punctuator; text = text; start = start }; names_type = false }
+abbrev pub punctuator : List ℕ → ℕ → Lexeme
+punctuator text start = record { token = record { kind = kind.Punctuator; text = text; start = start }; names_type = false }
 
 -- the tree of `T * x;` in a block where `T` is a typedef name
-abbrev pub declares : List ℕ → List ℕ → ℕ → ℕ → ℕ → ℕ → ℕ → BlockItems
-declares name other type_place star_place name_place semicolon_place brace_place =
+abbrev pub declares : List ℕ → List ℕ → ℕ → ℕ → ℕ → ℕ → BlockItems
+declares name other type_place star_place name_place semicolon_place =
     let x = identifier other name_place in
-    let ts = sign (codes ";") semicolon_place ∷ sign (codes "}") brace_place ∷ [] in
-    let all = type_name name type_place ∷ sign (codes "*") star_place ∷ x ∷ ts in
     t.local
     (t.declaration (t.specifiers (t.TypedefName (name_at (type_name name type_place))) t.no_specifiers)
-    (t.bare (t.object 1 (name_at x) t.no_sizes (part (sign (codes "*") star_place ∷ x ∷ ts) ts)) ∷ [])
-    (part all (sign (codes "}") brace_place ∷ [])))
+    (t.bare (t.object 1 (name_at x) t.no_lengths (to (at (punctuator (codes "*") star_place)) (at x))) ∷ [])
+    (to (at (type_name name type_place)) (at (punctuator (codes ";") semicolon_place))))
     t.no_block_items
 
 -- the tree of `a * x;` in a block where `a` is no typedef name
-abbrev pub multiplies : List ℕ → List ℕ → ℕ → ℕ → ℕ → ℕ → ℕ → BlockItems
-multiplies name other type_place star_place name_place semicolon_place brace_place =
+abbrev pub multiplies : List ℕ → List ℕ → ℕ → ℕ → ℕ → ℕ → BlockItems
+multiplies name other type_place star_place name_place semicolon_place =
     let x = identifier name type_place in
     let y = identifier other name_place in
-    let rest = sign (codes "}") brace_place ∷ [] in
     t.statement
-    (t.Evaluate (t.Binary binary.Multiply (t.Named (name_at x)) (t.Named (name_at y)) (to (at x) (at y))) (part (x ∷ sign (codes "*") star_place ∷ y ∷ sign (codes ";") semicolon_place ∷ rest) rest))
+    (t.ExpressionStatement (t.Binary binary.Multiply (t.Named (name_at x)) (t.Named (name_at y)) (to (at x) (at y))) (to (at x) (at (punctuator (codes ";") semicolon_place))))
     t.no_block_items

@@ -10,7 +10,7 @@ pub data Level : Type 0 where
 pub data Nonterminal : Type 0 where
   comma assign cond unary cast postfix primary : Nonterminal
   level : Level → Nonterminal
-  -- the rest of a repetition, behind this tree
+  -- the rest of a repetition, after this tree
   operations : Level → Expression → Nonterminal
   suffixes : Expression → Nonterminal
 

@@ -1,7 +1,8 @@
--- Where a tree stands: from the first byte of its first token to behind the last byte of its last.
-use Rattle.std.specs.Prelude.{ℕ, ◌+◌, nat_eq, if◌then◌else◌, List, [], ◌∷◌, length}
-use Rattle.mc_tree.specs.declared.span.Span.{Span}
-use Rattle.mc_tree.specs.Tree.{Name}
+-- Where a tree stands: from the first byte of its first token to after the last byte of its last.
+use Rattle.std.specs.Prelude.{◌+◌, length}
+use Rattle.mc_span.specs.declared.span.Span.{Span}
+use Rattle.mc_tree.specs.Tree.{Name, Expressions, Specifiers, span_of, span_of_specifier}
+use Rattle.mc_tree.specs.Tree as t
 use Rattle.mc_grammar.specs.Words.{Lexeme}
 
 -- the place of a token
@@ -16,15 +17,11 @@ name_at x = record { text = x.token.text; span = at x }
 abbrev pub to : Span → Span → Span
 to first last = record { start = first.start; end = last.end }
 
--- where the tokens start, and where the last of them before the rest ends
-abbrev pub start_of : List Lexeme → ℕ
-start_of [] = 0
-start_of (x ∷ ts) = x.token.start
+-- the place of the last of these, or this place where there is none
+abbrev pub end_of_expressions : Span → Expressions → Span
+end_of_expressions before t.no_expressions = before
+end_of_expressions before (t.expressions a rest) = end_of_expressions (span_of a) rest
 
-unfoldable pub end_before : List Lexeme → List Lexeme → ℕ
-end_before rest [] = 0
-end_before rest (x ∷ ts) = if nat_eq (length ts) (length rest) then x.token.start + length x.token.text else end_before rest ts
-
--- the place of what was read of these tokens, where this rest was left
-abbrev pub part : List Lexeme → List Lexeme → Span
-part ts rest = record { start = start_of ts; end = end_before rest ts }
+abbrev pub end_of_specifiers : Span → Specifiers → Span
+end_of_specifiers before t.no_specifiers = before
+end_of_specifiers before (t.specifiers s rest) = end_of_specifiers (span_of_specifier s) rest

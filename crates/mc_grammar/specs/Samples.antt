@@ -3,8 +3,8 @@ use Rattle.std.specs.Prelude.{ℕ, true, false, List, [], ◌∷◌, Some, None,
 use Rattle.mc_lex.specs.Tokens.{Tok}
 use Rattle.mc_lex.specs.declared.token.TokenKind.{TokenKind}
 use Rattle.mc_lex.specs.declared.token.TokenKind.TheVariants as kind
-use Rattle.mc_tree.specs.declared.span.Span.{Span}
-use Rattle.mc_tree.specs.declared.specifier_word.SpecifierWord.TheVariants as word
+use Rattle.mc_span.specs.declared.span.Span.{Span}
+use Rattle.mc_tree.specs.declared.declarations.specifier_word.SpecifierWord.TheVariants as word
 use Rattle.mc_tree.specs.Tree.{Name, Specifier, Specifiers, Declarator, Item}
 use Rattle.mc_tree.specs.Tree as t
 
@@ -23,8 +23,8 @@ keyword text start = token kind.Keyword text start
 abbrev pub word_of : List ℕ → ℕ → Tok
 word_of text start = token kind.Identifier text start
 
-abbrev pub mark : List ℕ → ℕ → Tok
-mark text start = token kind.Punctuator text start
+abbrev pub punctuator : List ℕ → ℕ → Tok
+punctuator text start = token kind.Punctuator text start
 
 -- a decimal constant without a suffix
 abbrev pub number : ℕ → List ℕ → ℕ → Tok
@@ -43,29 +43,29 @@ two_specifiers s u = t.specifiers s (one_specifier u)
 
 -- the declarator of this name alone
 abbrev pub name_alone : Name → Declarator
-name_alone x = t.object 0 x t.no_sizes x.span
+name_alone x = t.object 0 x t.no_lengths x.span
 
 -- its second declarator needs the first one's name: `typedef int T,t[(T)3];`
 abbrev pub typedef_tokens : List Tok
 typedef_tokens =
-    keyword (codes "typedef") 0 ∷ keyword (codes "int") 8 ∷ word_of (codes "T") 12 ∷ mark (codes ",") 13 ∷ word_of (codes "t") 14
-    ∷ mark (codes "[") 15 ∷ mark (codes "(") 16 ∷ word_of (codes "T") 17 ∷ mark (codes ")") 18
-    ∷ number 3 (codes "3") 19 ∷ mark (codes "]") 20 ∷ mark (codes ";") 21 ∷ []
+    keyword (codes "typedef") 0 ∷ keyword (codes "int") 8 ∷ word_of (codes "T") 12 ∷ punctuator (codes ",") 13 ∷ word_of (codes "t") 14
+    ∷ punctuator (codes "[") 15 ∷ punctuator (codes "(") 16 ∷ word_of (codes "T") 17 ∷ punctuator (codes ")") 18
+    ∷ number 3 (codes "3") 19 ∷ punctuator (codes "]") 20 ∷ punctuator (codes ";") 21 ∷ []
 
 -- the second `T` is a typedef name, so `(T)3` is a cast
 abbrev pub typedef_tree : List Item
 typedef_tree =
     t.Declared (t.declaration
     (t.specifiers (t.Word word.Typedef (span 0 7)) (t.specifiers (t.Word word.Int (span 8 11)) t.no_specifiers))
-    (t.bare (t.object 0 (name (codes "T") 12 13) t.no_sizes (span 12 13))
+    (t.bare (t.object 0 (name (codes "T") 12 13) t.no_lengths (span 12 13))
     ∷ t.bare (t.object 0 (name (codes "t") 14 15)
-    (t.size (t.Cast (t.type_name (t.specifiers (t.TypedefName (name (codes "T") 17 18)) t.no_specifiers) 0 (span 17 18)) (t.Constant 3 true false 0 (span 19 20)) (span 16 20)) t.no_sizes)
+    (t.given_length (t.Cast (t.type_name (t.specifiers (t.TypedefName (name (codes "T") 17 18)) t.no_specifiers) 0 (span 17 18)) (t.Constant 3 true false 0 (span 19 20)) (span 16 20)) t.no_lengths)
     (span 14 21)) ∷ [])
     (span 0 22)) ∷ []
 
 -- `int a = 5;`
 abbrev pub value_tokens : List Tok
-value_tokens = keyword (codes "int") 0 ∷ word_of (codes "a") 4 ∷ mark (codes "=") 6 ∷ number 5 (codes "5") 8 ∷ mark (codes ";") 9 ∷ []
+value_tokens = keyword (codes "int") 0 ∷ word_of (codes "a") 4 ∷ punctuator (codes "=") 6 ∷ number 5 (codes "5") 8 ∷ punctuator (codes ";") 9 ∷ []
 
 abbrev pub value_tree : List Item
 value_tree =
@@ -76,8 +76,8 @@ value_tree =
 -- `typedef void V; int f(V);`
 abbrev pub named_void_tokens : List Tok
 named_void_tokens =
-    keyword (codes "typedef") 0 ∷ keyword (codes "void") 8 ∷ word_of (codes "V") 13 ∷ mark (codes ";") 14
-    ∷ keyword (codes "int") 16 ∷ word_of (codes "f") 20 ∷ mark (codes "(") 21 ∷ word_of (codes "V") 22 ∷ mark (codes ")") 23 ∷ mark (codes ";") 24 ∷ []
+    keyword (codes "typedef") 0 ∷ keyword (codes "void") 8 ∷ word_of (codes "V") 13 ∷ punctuator (codes ";") 14
+    ∷ keyword (codes "int") 16 ∷ word_of (codes "f") 20 ∷ punctuator (codes "(") 21 ∷ word_of (codes "V") 22 ∷ punctuator (codes ")") 23 ∷ punctuator (codes ";") 24 ∷ []
 
 -- `f` has a list of one parameter
 abbrev pub named_void_tree : List Item
@@ -85,13 +85,13 @@ named_void_tree =
     t.Declared (t.declaration (two_specifiers (t.Word word.Typedef (span 0 7)) (t.Word word.Void (span 8 12))) (t.bare (name_alone (name (codes "V") 13 14)) ∷ []) (span 0 15))
     ∷ t.Declared (t.declaration (one_specifier (t.Word word.Int (span 16 19)))
     (t.bare (t.function 0 (name (codes "f") 20 21)
-    (t.Listed (t.parameters (t.parameter (one_specifier (t.TypedefName (name (codes "V") 22 23))) 0 None t.no_sizes (span 22 23)) t.no_parameters) (span 21 24))
+    (t.Listed (t.parameters (t.parameter (one_specifier (t.TypedefName (name (codes "V") 22 23))) 0 None t.no_lengths (span 22 23)) t.no_parameters) (span 21 24))
     (span 20 24)) ∷ [])
     (span 16 25)) ∷ []
 
 -- `int f(void);`
 abbrev pub void_tokens : List Tok
-void_tokens = keyword (codes "int") 0 ∷ word_of (codes "f") 4 ∷ mark (codes "(") 5 ∷ keyword (codes "void") 6 ∷ mark (codes ")") 10 ∷ mark (codes ";") 11 ∷ []
+void_tokens = keyword (codes "int") 0 ∷ word_of (codes "f") 4 ∷ punctuator (codes "(") 5 ∷ keyword (codes "void") 6 ∷ punctuator (codes ")") 10 ∷ punctuator (codes ";") 11 ∷ []
 
 -- `f` has no parameter
 abbrev pub void_tree : List Item
@@ -101,8 +101,8 @@ void_tree =
 -- `int f(void) { return 0; }`
 abbrev pub body_tokens : List Tok
 body_tokens =
-    keyword (codes "int") 0 ∷ word_of (codes "f") 4 ∷ mark (codes "(") 5 ∷ keyword (codes "void") 6 ∷ mark (codes ")") 10
-    ∷ mark (codes "{") 12 ∷ keyword (codes "return") 14 ∷ zero_at 21 ∷ mark (codes ";") 22 ∷ mark (codes "}") 24 ∷ []
+    keyword (codes "int") 0 ∷ word_of (codes "f") 4 ∷ punctuator (codes "(") 5 ∷ keyword (codes "void") 6 ∷ punctuator (codes ")") 10
+    ∷ punctuator (codes "{") 12 ∷ keyword (codes "return") 14 ∷ zero_at 21 ∷ punctuator (codes ";") 22 ∷ punctuator (codes "}") 24 ∷ []
 
 abbrev pub body_tree : List Item
 body_tree =
@@ -113,8 +113,8 @@ body_tree =
 -- `typedef int T; struct T { int a; };`
 abbrev pub tag_tokens : List Tok
 tag_tokens =
-    keyword (codes "typedef") 0 ∷ keyword (codes "int") 8 ∷ word_of (codes "T") 12 ∷ mark (codes ";") 13
-    ∷ keyword (codes "struct") 15 ∷ word_of (codes "T") 22 ∷ mark (codes "{") 24 ∷ keyword (codes "int") 26 ∷ word_of (codes "a") 30 ∷ mark (codes ";") 31 ∷ mark (codes "}") 33 ∷ mark (codes ";") 34 ∷ []
+    keyword (codes "typedef") 0 ∷ keyword (codes "int") 8 ∷ word_of (codes "T") 12 ∷ punctuator (codes ";") 13
+    ∷ keyword (codes "struct") 15 ∷ word_of (codes "T") 22 ∷ punctuator (codes "{") 24 ∷ keyword (codes "int") 26 ∷ word_of (codes "a") 30 ∷ punctuator (codes ";") 31 ∷ punctuator (codes "}") 33 ∷ punctuator (codes ";") 34 ∷ []
 
 abbrev pub tag_tree : List Item
 tag_tree =
@@ -126,8 +126,8 @@ tag_tree =
 -- `enum { A, B = 2, };`
 abbrev pub enumeration_tokens : List Tok
 enumeration_tokens =
-    keyword (codes "enum") 0 ∷ mark (codes "{") 5 ∷ word_of (codes "A") 7 ∷ mark (codes ",") 8 ∷ word_of (codes "B") 10 ∷ mark (codes "=") 12 ∷ number 2 (codes "2") 14
-    ∷ mark (codes ",") 15 ∷ mark (codes "}") 17 ∷ mark (codes ";") 18 ∷ []
+    keyword (codes "enum") 0 ∷ punctuator (codes "{") 5 ∷ word_of (codes "A") 7 ∷ punctuator (codes ",") 8 ∷ word_of (codes "B") 10 ∷ punctuator (codes "=") 12 ∷ number 2 (codes "2") 14
+    ∷ punctuator (codes ",") 15 ∷ punctuator (codes "}") 17 ∷ punctuator (codes ";") 18 ∷ []
 
 abbrev pub enumeration_tree : List Item
 enumeration_tree =
@@ -138,12 +138,12 @@ enumeration_tree =
 -- `int a[2] = {1, 2,};`
 abbrev pub braced_tokens : List Tok
 braced_tokens =
-    keyword (codes "int") 0 ∷ word_of (codes "a") 4 ∷ mark (codes "[") 5 ∷ number 2 (codes "2") 6 ∷ mark (codes "]") 7 ∷ mark (codes "=") 9
-    ∷ mark (codes "{") 11 ∷ number 1 (codes "1") 12 ∷ mark (codes ",") 13 ∷ number 2 (codes "2") 15 ∷ mark (codes ",") 16 ∷ mark (codes "}") 17 ∷ mark (codes ";") 18 ∷ []
+    keyword (codes "int") 0 ∷ word_of (codes "a") 4 ∷ punctuator (codes "[") 5 ∷ number 2 (codes "2") 6 ∷ punctuator (codes "]") 7 ∷ punctuator (codes "=") 9
+    ∷ punctuator (codes "{") 11 ∷ number 1 (codes "1") 12 ∷ punctuator (codes ",") 13 ∷ number 2 (codes "2") 15 ∷ punctuator (codes ",") 16 ∷ punctuator (codes "}") 17 ∷ punctuator (codes ";") 18 ∷ []
 
 abbrev pub braced_tree : List Item
 braced_tree =
     t.Declared (t.declaration (one_specifier (t.Word word.Int (span 0 3)))
-    (t.initialized (t.object 0 (name (codes "a") 4 5) (t.size (t.Constant 2 true false 0 (span 6 7)) t.no_sizes) (span 4 8))
+    (t.initialized (t.object 0 (name (codes "a") 4 5) (t.given_length (t.Constant 2 true false 0 (span 6 7)) t.no_lengths) (span 4 8))
     (t.Braced (t.initializers (t.Single (t.Constant 1 true false 0 (span 12 13))) (t.initializers (t.Single (t.Constant 2 true false 0 (span 15 16))) t.no_initializers)) (span 11 18)) ∷ [])
     (span 0 19)) ∷ []

@@ -1,16 +1,16 @@
 -- Short parts of functions: their tokens, and the trees that they have.
 use Rattle.std.specs.Prelude.{ℕ, suc, true, false, List, [], ◌∷◌, codes}
 use Rattle.mc_lex.specs.Tokens.{Tok}
-use Rattle.mc_tree.specs.declared.binary_operator.BinaryOperator.TheVariants as binary
-use Rattle.mc_tree.specs.declared.unary_operator.UnaryOperator.TheVariants as unary
-use Rattle.mc_tree.specs.declared.assignment_operator.AssignmentOperator.TheVariants as assign
+use Rattle.mc_tree.specs.declared.expressions.binary_operator.BinaryOperator.TheVariants as binary
+use Rattle.mc_tree.specs.declared.expressions.unary_operator.UnaryOperator.TheVariants as unary
+use Rattle.mc_tree.specs.declared.expressions.assignment_operator.AssignmentOperator.TheVariants as assign
 use Rattle.mc_tree.specs.Tree.{Expression, Statement}
 use Rattle.mc_tree.specs.Tree as t
-use Rattle.mc_grammar.specs.Samples.{span, name, keyword, word_of, mark, number, zero_at}
+use Rattle.mc_grammar.specs.Samples.{span, name, keyword, word_of, punctuator, number, zero_at}
 
 -- a `;` alone, at this place
 abbrev pub semicolon : ℕ → List Tok
-semicolon start = mark (codes ";") start ∷ []
+semicolon start = punctuator (codes ";") start ∷ []
 
 -- the expression that is this identifier of one byte
 abbrev pub letter : List ℕ → ℕ → Expression
@@ -18,7 +18,7 @@ letter text start = t.Named (name text start (suc start))
 
 -- `a + b + c;`
 abbrev pub sum_tokens : List Tok
-sum_tokens = word_of (codes "a") 0 ∷ mark (codes "+") 2 ∷ word_of (codes "b") 4 ∷ mark (codes "+") 6 ∷ word_of (codes "c") 8 ∷ semicolon 9
+sum_tokens = word_of (codes "a") 0 ∷ punctuator (codes "+") 2 ∷ word_of (codes "b") 4 ∷ punctuator (codes "+") 6 ∷ word_of (codes "c") 8 ∷ semicolon 9
 
 -- `(a + b) + c`
 abbrev pub sum_tree : Expression
@@ -26,7 +26,7 @@ sum_tree = t.Binary binary.Add (t.Binary binary.Add (letter (codes "a") 0) (lett
 
 -- `a, b, c;`
 abbrev pub operands_tokens : List Tok
-operands_tokens = word_of (codes "a") 0 ∷ mark (codes ",") 1 ∷ word_of (codes "b") 3 ∷ mark (codes ",") 4 ∷ word_of (codes "c") 6 ∷ semicolon 7
+operands_tokens = word_of (codes "a") 0 ∷ punctuator (codes ",") 1 ∷ word_of (codes "b") 3 ∷ punctuator (codes ",") 4 ∷ word_of (codes "c") 6 ∷ semicolon 7
 
 -- one node with three operands
 abbrev pub operands_tree : Expression
@@ -34,7 +34,7 @@ operands_tree = t.Comma (t.expressions (letter (codes "a") 0) (t.expressions (le
 
 -- `(T) - 1;`
 abbrev pub minus_tokens : List Tok
-minus_tokens = mark (codes "(") 0 ∷ word_of (codes "T") 1 ∷ mark (codes ")") 2 ∷ mark (codes "-") 4 ∷ number 1 (codes "1") 6 ∷ semicolon 7
+minus_tokens = punctuator (codes "(") 0 ∷ word_of (codes "T") 1 ∷ punctuator (codes ")") 2 ∷ punctuator (codes "-") 4 ∷ number 1 (codes "1") 6 ∷ semicolon 7
 
 -- a cast of `-1`
 abbrev pub cast_tree : Expression
@@ -49,8 +49,8 @@ subtraction_tree = t.Binary binary.Subtract (t.Parenthesized (letter (codes "T")
 -- `if (a) if (b) ; else ;`
 abbrev pub else_tokens : List Tok
 else_tokens =
-    keyword (codes "if") 0 ∷ mark (codes "(") 3 ∷ word_of (codes "a") 4 ∷ mark (codes ")") 5
-    ∷ keyword (codes "if") 7 ∷ mark (codes "(") 10 ∷ word_of (codes "b") 11 ∷ mark (codes ")") 12 ∷ mark (codes ";") 14 ∷ keyword (codes "else") 16 ∷ mark (codes ";") 21 ∷ []
+    keyword (codes "if") 0 ∷ punctuator (codes "(") 3 ∷ word_of (codes "a") 4 ∷ punctuator (codes ")") 5
+    ∷ keyword (codes "if") 7 ∷ punctuator (codes "(") 10 ∷ word_of (codes "b") 11 ∷ punctuator (codes ")") 12 ∷ punctuator (codes ";") 14 ∷ keyword (codes "else") 16 ∷ punctuator (codes ";") 21 ∷ []
 
 -- the `else` is of the inner `if`
 abbrev pub else_tree : Statement
@@ -58,40 +58,40 @@ else_tree = t.If (letter (codes "a") 4) (t.IfElse (letter (codes "b") 11) (t.Nul
 
 -- `(a=1);`
 abbrev pub assignment_tokens : List Tok
-assignment_tokens = mark (codes "(") 0 ∷ word_of (codes "a") 1 ∷ mark (codes "=") 2 ∷ number 1 (codes "1") 3 ∷ mark (codes ")") 4 ∷ semicolon 5
+assignment_tokens = punctuator (codes "(") 0 ∷ word_of (codes "a") 1 ∷ punctuator (codes "=") 2 ∷ number 1 (codes "1") 3 ∷ punctuator (codes ")") 4 ∷ semicolon 5
 
 -- an assignment in parentheses
 abbrev pub assignment_tree : Statement
-assignment_tree = t.Evaluate (t.Parenthesized (t.Assignment assign.Assign (letter (codes "a") 1) (t.Constant 1 true false 0 (span 3 4)) (span 1 4)) (span 0 5)) (span 0 6)
+assignment_tree = t.ExpressionStatement (t.Parenthesized (t.Assignment assign.Assign (letter (codes "a") 1) (t.Constant 1 true false 0 (span 3 4)) (span 1 4)) (span 0 5)) (span 0 6)
 
--- `(f)(x);`, and what stands in it behind `(f)`
-abbrev pub behind_parentheses : List Tok
-behind_parentheses = mark (codes "(") 3 ∷ word_of (codes "x") 4 ∷ mark (codes ")") 5 ∷ semicolon 6
+-- `(f)(x);`, and what stands in it after `(f)`
+abbrev pub after_parentheses : List Tok
+after_parentheses = punctuator (codes "(") 3 ∷ word_of (codes "x") 4 ∷ punctuator (codes ")") 5 ∷ semicolon 6
 
 abbrev pub parentheses_tokens : List Tok
-parentheses_tokens = mark (codes "(") 0 ∷ word_of (codes "f") 1 ∷ mark (codes ")") 2 ∷ behind_parentheses
+parentheses_tokens = punctuator (codes "(") 0 ∷ word_of (codes "f") 1 ∷ punctuator (codes ")") 2 ∷ after_parentheses
 
 -- `(f)`
 abbrev pub parentheses_tree : Expression
 parentheses_tree = t.Parenthesized (letter (codes "f") 1) (span 0 3)
 
--- `a[0](x);`, and what stands in it behind `a[0]`
-abbrev pub behind_element : List Tok
-behind_element = mark (codes "(") 4 ∷ word_of (codes "x") 5 ∷ mark (codes ")") 6 ∷ semicolon 7
+-- `a[0](x);`, and what stands in it after `a[0]`
+abbrev pub after_element : List Tok
+after_element = punctuator (codes "(") 4 ∷ word_of (codes "x") 5 ∷ punctuator (codes ")") 6 ∷ semicolon 7
 
 abbrev pub element_tokens : List Tok
-element_tokens = word_of (codes "a") 0 ∷ mark (codes "[") 1 ∷ zero_at 2 ∷ mark (codes "]") 3 ∷ behind_element
+element_tokens = word_of (codes "a") 0 ∷ punctuator (codes "[") 1 ∷ zero_at 2 ∷ punctuator (codes "]") 3 ∷ after_element
 
 -- `a[0]`
 abbrev pub element_tree : Expression
 element_tree = t.Index (letter (codes "a") 0) (t.Constant 0 false false 0 (span 2 3)) (span 0 4)
 
--- `int a[b=1];`, what stands in it behind `[`, and behind `b`
-abbrev pub behind_name : List Tok
-behind_name = mark (codes "=") 7 ∷ number 1 (codes "1") 8 ∷ mark (codes "]") 9 ∷ semicolon 10
+-- `int a[b=1];`, what stands in it after `[`, and after `b`
+abbrev pub after_name : List Tok
+after_name = punctuator (codes "=") 7 ∷ number 1 (codes "1") 8 ∷ punctuator (codes "]") 9 ∷ semicolon 10
 
-abbrev pub behind_bracket : List Tok
-behind_bracket = word_of (codes "b") 6 ∷ behind_name
+abbrev pub after_bracket : List Tok
+after_bracket = word_of (codes "b") 6 ∷ after_name
 
 abbrev pub length_tokens : List Tok
-length_tokens = keyword (codes "int") 0 ∷ word_of (codes "a") 4 ∷ mark (codes "[") 5 ∷ behind_bracket
+length_tokens = keyword (codes "int") 0 ∷ word_of (codes "a") 4 ∷ punctuator (codes "[") 5 ∷ after_bracket

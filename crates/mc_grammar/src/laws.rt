@@ -4,15 +4,15 @@ ghost use Rattle.mc_lex.specs.Tokens.{Tok};
 ghost use Rattle.mc_lex.specs.declared.token.Dialect.{Dialect};
 ghost use Rattle.mc_tree.specs.Length.{token_count};
 ghost use Rattle.mc_lex.specs.declared.token.TokenKind.TheVariants as kind;
-ghost use Rattle.mc_tree.specs.declared.span.Span.{Span};
-ghost use Rattle.mc_tree.specs.Tree.{BlockItems, Declaration, Declarator, Declarators, Enumerator, Enumerators, Expression, Expressions, ForStart, InitDeclarator, Initializer, Initializers, Item, Members, name_of, Parameter, ParameterList, Parameters, Sizes, Specifiers, Statement, StructMember, TypeName};
+ghost use Rattle.mc_span.specs.declared.span.Span.{Span};
+ghost use Rattle.mc_tree.specs.Tree.{BlockItems, Declaration, Declarator, Declarators, Enumerator, Enumerators, Expression, Expressions, ForStart, InitDeclarator, Initializer, Initializers, Item, Members, name_of, Parameter, ParameterList, Parameters, ArrayLengths, Specifiers, Statement, StructMember, TypeName};
 ghost use Rattle.mc_tree.specs.Tree as t;
-ghost use Rattle.mc_grammar.specs.Words.{Lexeme, begins_specifiers, is_tag, retag, sees_cast, sees_word};
+ghost use Rattle.mc_grammar.specs.Words.{Lexeme, begins_specifiers, is_tag, retag, sees_cast, sees_keyword};
 ghost use Rattle.std.specs.List.{list_any};
 ghost use Rattle.mc_grammar.specs.Meaning.{declared_names, is_cast, is_name_of, ReadsItems, typedef_names, typedef_names_of};
 ghost use Rattle.mc_grammar.specs.Nonterminal.{Nonterminal, takes};
 ghost use Rattle.mc_grammar.specs.Nonterminal as n;
-ghost use Rattle.mc_grammar.specs.Expressions.{Reads, ReadsDeclarator, ReadsDeclarators, ReadsEnumerator, ReadsEnumerators, ReadsExpressions, ReadsMember, ReadsMembers, ReadsParameter, ReadsParameterList, ReadsParameters, ReadsSizes, ReadsSpecifiers, ReadsStars, ReadsTypeName};
+ghost use Rattle.mc_grammar.specs.Expressions.{Reads, ReadsDeclarator, ReadsDeclarators, ReadsEnumerator, ReadsEnumerators, ReadsExpressions, ReadsMember, ReadsMembers, ReadsParameter, ReadsParameterList, ReadsParameters, ReadsArrayLengths, ReadsSpecifiers, ReadsStars, ReadsTypeName};
 ghost use Rattle.mc_grammar.specs.Statements.{ReadsStatement, ReadsBlockItems, ReadsCompound, ReadsDeclaration, ReadsForStart, ReadsInitDeclarator, ReadsInitDeclarators, ReadsInitializer, ReadsInitializers, ReadsOptional, ReadsTest};
 ghost use Rattle.mc_grammar.specs.Items.{IsTree, ReadsItem, ReadsUnit};
 
@@ -38,7 +38,7 @@ pub fn item_is_not_empty()
 /// An `else` belongs to the nearest `if`: one that has no `else` never stands before one.
 #[tactic(auto, using(crate::proofs::Choices::nearest_if))]
 pub fn else_belongs_to_nearest_if()
-    ensures { (d : Dialect) (ts rest : List Lexeme) (a : Expression) (one : Statement) (span : Span) → ReadsStatement d ts (t.If a one span) rest → sees_word (codes "else") rest ≡ false }
+    ensures { (d : Dialect) (ts rest : List Lexeme) (a : Expression) (one : Statement) (span : Span) → ReadsStatement d ts (t.If a one span) rest → sees_keyword (codes "else") rest ≡ false }
 {}
 
 /// A cast is read exactly at a `(` that stands before a specifier word or a typedef name.
@@ -65,7 +65,7 @@ pub fn typedef_name_is_no_identifier()
     ensures tags { (name : List ℕ) (ts : List Lexeme) → map is_tag (retag name ts) ≡ map is_tag ts }
 {}
 
-/// Behind a typedef's declarator, and its value if it has one, no token is an identifier of its name. Where the declaration is
+/// After a typedef's declarator, and its value if it has one, no token is an identifier of its name. Where the declaration is
 /// no typedef, a declarator without a value leaves just what the declarator itself leaves.
 #[tactic(auto, using(crate::proofs::Choices::typedef_retags, crate::proofs::Choices::others_keep, crate::proofs::Ends::valued_typedef_retags))]
 pub fn declarator_of_typedef_names_type()
@@ -107,19 +107,19 @@ pub fn parts_are_not_empty()
     ensures compound { (d : Dialect) (ts rest : List Lexeme) (all : BlockItems) → ReadsCompound d ts all rest → length rest < length ts }
 {}
 
-/// What may be empty leaves no more tokens than were given: the `*` of a declarator, specifiers, the sizes of an array, the
+/// What may be empty leaves no more tokens than were given: the `*` of a declarator, specifiers, the lengths of an array, the
 /// items of a block, an expression that may be left out, and the declarators of a declaration.
-#[tactic(auto, using(crate::proofs::Lengths::stars_shorter, crate::proofs::Lengths::specifiers_no_longer, crate::proofs::Lengths::sizes_shorter, crate::proofs::Lengths::block_items_shorter, crate::proofs::Lengths::optional_shorter, crate::proofs::Lengths::init_declarators_shorter))]
+#[tactic(auto, using(crate::proofs::Lengths::stars_shorter, crate::proofs::Lengths::specifiers_no_longer, crate::proofs::Lengths::lengths_shorter, crate::proofs::Lengths::block_items_shorter, crate::proofs::Lengths::optional_shorter, crate::proofs::Lengths::init_declarators_shorter))]
 pub fn optional_parts_leave_no_more()
     ensures stars { (ts rest : List Lexeme) (stars : ℕ) → ReadsStars ts stars rest → length rest ≤ length ts }
     ensures specifiers { (d : Dialect) (has_type : Bool) (ts rest : List Lexeme) (all : Specifiers) → ReadsSpecifiers d has_type ts all rest → length rest ≤ length ts }
-    ensures sizes { (d : Dialect) (ts rest : List Lexeme) (all : Sizes) → ReadsSizes d ts all rest → length rest ≤ length ts }
+    ensures lengths { (d : Dialect) (ts rest : List Lexeme) (all : ArrayLengths) → ReadsArrayLengths d ts all rest → length rest ≤ length ts }
     ensures block_items { (d : Dialect) (ts rest : List Lexeme) (all : BlockItems) → ReadsBlockItems d ts all rest → length rest ≤ length ts }
     ensures optional { (d : Dialect) (stop : List ℕ) (ts rest : List Lexeme) (one : Option Expression) → ReadsOptional d stop ts one rest → length rest ≤ length ts }
     ensures init_declarators { (d : Dialect) (typedef : Bool) (ts rest : List Lexeme) (all : List InitDeclarator) → ReadsInitDeclarators d typedef ts all rest → length rest ≤ length ts }
 {}
 
-/// Behind any items, no token is an identifier whose text is a typedef name that one of them declares: each such token is
+/// After any items, no token is an identifier whose text is a typedef name that one of them declares: each such token is
 /// a typedef name (C17 6.7.8).
 #[tactic(auto, using(crate::proofs::Typedefs::items_gone))]
 pub fn typedef_names_are_no_identifiers_behind()

@@ -10,21 +10,21 @@ ghost use Rattle.mc_grammar.specs.Nonterminal as n;
 ghost use Rattle.mc_grammar.specs.Expressions.{Reads, ReadsStars, ReadsDeclarator, ReadsParameters};
 ghost use Rattle.mc_grammar.specs.Statements.{ReadsBlockItems, ReadsStatement, ReadsInitializer};
 ghost use Rattle.mc_grammar.specs.Items.{IsTree, IsTreeWithin, ReadsItem};
-ghost use Rattle.mc_grammar.specs.Meaning.{declares, identifier, multiplies, sign, type_name};
+ghost use Rattle.mc_grammar.specs.Meaning.{declares, identifier, multiplies, punctuator, type_name};
 ghost use Rattle.mc_grammar.specs.Samples.{name, typedef_tokens, typedef_tree, value_tokens, value_tree, named_void_tokens, named_void_tree, void_tokens, void_tree, body_tokens, body_tree, tag_tokens, tag_tree, enumeration_tokens, enumeration_tree, braced_tokens, braced_tree};
 ghost use Rattle.mc_grammar.specs.Nested.{nested_tokens, nested_height};
-ghost use Rattle.mc_grammar.specs.Snippets.{semicolon, sum_tokens, sum_tree, operands_tokens, operands_tree, minus_tokens, cast_tree, subtraction_tree, else_tokens, else_tree, assignment_tokens, assignment_tree, parentheses_tokens, parentheses_tree, behind_parentheses, element_tokens, element_tree, behind_element, length_tokens, behind_bracket, behind_name};
+ghost use Rattle.mc_grammar.specs.Snippets.{semicolon, sum_tokens, sum_tree, operands_tokens, operands_tree, minus_tokens, cast_tree, subtraction_tree, else_tokens, else_tree, assignment_tokens, assignment_tree, parentheses_tokens, parentheses_tree, after_parentheses, element_tokens, element_tree, after_element, length_tokens, after_bracket, after_name};
 
 /// In a block `T * x;` declares `x` where `T` is a typedef name.
 #[tactic(auto, using(crate::proofs::Examples::declares_it))]
 pub fn type_before_star_declares()
-    ensures { (d : Dialect) (name other : List ℕ) (type_place star_place name_place semicolon_place brace_place : ℕ) → ReadsBlockItems d (type_name name type_place ∷ sign (codes "*") star_place ∷ identifier other name_place ∷ sign (codes ";") semicolon_place ∷ sign (codes "}") brace_place ∷ []) (declares name other type_place star_place name_place semicolon_place brace_place) (sign (codes "}") brace_place ∷ []) }
+    ensures { (d : Dialect) (name other : List ℕ) (type_place star_place name_place semicolon_place brace_place : ℕ) → ReadsBlockItems d (type_name name type_place ∷ punctuator (codes "*") star_place ∷ identifier other name_place ∷ punctuator (codes ";") semicolon_place ∷ punctuator (codes "}") brace_place ∷ []) (declares name other type_place star_place name_place semicolon_place) (punctuator (codes "}") brace_place ∷ []) }
 {}
 
 /// In a block `a * x;` multiplies where `a` is no typedef name.
 #[tactic(auto, using(crate::proofs::Examples::multiplies_it))]
 pub fn identifier_before_star_multiplies()
-    ensures { (d : Dialect) (name other : List ℕ) (type_place star_place name_place semicolon_place brace_place : ℕ) → ReadsBlockItems d (identifier name type_place ∷ sign (codes "*") star_place ∷ identifier other name_place ∷ sign (codes ";") semicolon_place ∷ sign (codes "}") brace_place ∷ []) (multiplies name other type_place star_place name_place semicolon_place brace_place) (sign (codes "}") brace_place ∷ []) }
+    ensures { (d : Dialect) (name other : List ℕ) (type_place star_place name_place semicolon_place brace_place : ℕ) → ReadsBlockItems d (identifier name type_place ∷ punctuator (codes "*") star_place ∷ identifier other name_place ∷ punctuator (codes ";") semicolon_place ∷ punctuator (codes "}") brace_place ∷ []) (multiplies name other type_place star_place name_place semicolon_place) (punctuator (codes "}") brace_place ∷ []) }
 {}
 
 /// A typedef's name is in force from the end of its declarator, within its declaration too:
@@ -107,46 +107,46 @@ pub fn list_may_end_with_comma()
 /// `(f)(x)` is no call: of it an expression takes `(f)`, and as a statement it is not read.
 #[tactic(auto, using(crate::proofs::Refused::parentheses_leave, crate::proofs::Refused::parentheses_no_statement))]
 pub fn parentheses_are_not_called()
-    ensures rest { (d : Dialect) (a : Expression) (rest : List Lexeme) → Reads d n.comma (lexemes_of parentheses_tokens) a rest → (rest ≡ lexemes_of behind_parentheses) × (a ≡ parentheses_tree) }
+    ensures rest { (d : Dialect) (a : Expression) (rest : List Lexeme) → Reads d n.comma (lexemes_of parentheses_tokens) a rest → (rest ≡ lexemes_of after_parentheses) × (a ≡ parentheses_tree) }
     ensures statement { (d : Dialect) (one : Statement) (rest : List Lexeme) → ReadsStatement d (lexemes_of parentheses_tokens) one rest → ⊥ }
 {}
 
 /// `a[0](x)` is no call: of it an expression takes `a[0]`, and as a statement it is not read.
 #[tactic(auto, using(crate::proofs::Refused::element_leaves, crate::proofs::Refused::element_no_statement))]
 pub fn element_is_not_called()
-    ensures rest { (d : Dialect) (a : Expression) (rest : List Lexeme) → Reads d n.comma (lexemes_of element_tokens) a rest → (rest ≡ lexemes_of behind_element) × (a ≡ element_tree) }
+    ensures rest { (d : Dialect) (a : Expression) (rest : List Lexeme) → Reads d n.comma (lexemes_of element_tokens) a rest → (rest ≡ lexemes_of after_element) × (a ≡ element_tree) }
     ensures statement { (d : Dialect) (one : Statement) (rest : List Lexeme) → ReadsStatement d (lexemes_of element_tokens) one rest → ⊥ }
 {}
 
 /// A length is no assignment: `int a[b=1];` has no tree, since of `b=1` a length takes `b`.
 #[tactic(auto, using(crate::proofs::Refused::length_leaves, crate::proofs::Refused::length_no_tree))]
 pub fn length_is_no_assignment()
-    ensures rest { (d : Dialect) (a : Expression) (rest : List Lexeme) → Reads d n.cond (lexemes_of behind_bracket) a rest → (rest ≡ lexemes_of behind_name) × (a ≡ t.Named (name (codes "b") 6 7)) }
+    ensures rest { (d : Dialect) (a : Expression) (rest : List Lexeme) → Reads d n.cond (lexemes_of after_bracket) a rest → (rest ≡ lexemes_of after_name) × (a ≡ t.Named (name (codes "b") 6 7)) }
     ensures tree { (d : Dialect) (unit : List Item) → IsTree d length_tokens unit → ⊥ }
 {}
 
 /// A `;` alone is no item, whatever follows it.
 #[tactic(auto, using(crate::proofs::Refused::semicolon_no_item))]
 pub fn semicolon_alone_is_no_item()
-    ensures { (d : Dialect) (start : ℕ) (ts : List Lexeme) (one : Item) (rest : List Lexeme) → ReadsItem d (sign (codes ";") start ∷ ts) one rest → ⊥ }
+    ensures { (d : Dialect) (start : ℕ) (ts : List Lexeme) (one : Item) (rest : List Lexeme) → ReadsItem d (punctuator (codes ";") start ∷ ts) one rest → ⊥ }
 {}
 
 /// No parameter list begins with a name without a type, as in `int f(a)`.
 #[tactic(auto, using(crate::proofs::Refused::names_no_parameters))]
 pub fn parameter_list_begins_with_a_type()
-    ensures { (d : Dialect) (text : List ℕ) (place start : ℕ) (ts : List Lexeme) (all : Parameters) (rest : List Lexeme) → ReadsParameters d (sign (codes "(") place ∷ identifier text start ∷ ts) all rest → ⊥ }
+    ensures { (d : Dialect) (text : List ℕ) (place start : ℕ) (ts : List Lexeme) (all : Parameters) (rest : List Lexeme) → ReadsParameters d (punctuator (codes "(") place ∷ identifier text start ∷ ts) all rest → ⊥ }
 {}
 
-/// No parenthesis stands at the start of a declarator or behind its `*`.
+/// No parenthesis stands at the start of a declarator or after its `*`.
 #[tactic(auto, using(crate::proofs::Refused::parenthesis_no_declarator))]
 pub fn declarator_has_no_parentheses()
-    ensures { (d : Dialect) (k place : ℕ) (ts us : List Lexeme) (one : Declarator) (rest : List Lexeme) → ReadsStars ts k (sign (codes "(") place ∷ us) → ReadsDeclarator d ts one rest → ⊥ }
+    ensures { (d : Dialect) (k place : ℕ) (ts us : List Lexeme) (one : Declarator) (rest : List Lexeme) → ReadsStars ts k (punctuator (codes "(") place ∷ us) → ReadsDeclarator d ts one rest → ⊥ }
 {}
 
 /// `{}` is no initializer, whatever follows it.
 #[tactic(auto, using(crate::proofs::Refused::braces_no_initializer))]
 pub fn empty_braces_are_no_initializer()
-    ensures { (d : Dialect) (start end : ℕ) (ts : List Lexeme) (one : Initializer) (rest : List Lexeme) → ReadsInitializer d (sign (codes "{") start ∷ sign (codes "}") end ∷ ts) one rest → ⊥ }
+    ensures { (d : Dialect) (start end : ℕ) (ts : List Lexeme) (one : Initializer) (rest : List Lexeme) → ReadsInitializer d (punctuator (codes "{") start ∷ punctuator (codes "}") end ∷ ts) one rest → ⊥ }
 {}
 
 /// A text without tokens has the tree without items.

@@ -1,7 +1,7 @@
 -- The height of a tree. Expressions, parentheses round an expression, statements, initializers, and the lists of a structure
 -- or an enumeration each count one level. Specifiers, declarators and declarations add none of their own.
 use Rattle.std.specs.Prelude.{ℕ, ◌+◌, max, List, [], ◌∷◌, Option, Some, None}
-use Rattle.mc_tree.specs.Tree.{Expression, Expressions, TypeName, Specifier, Specifiers, StructMember, Members, Enumerator, Enumerators, Declarator, Declarators, Sizes, Parameters, Parameter, ParameterList, Initializer, Initializers, InitDeclarator, Declaration, ForStart, Statement, BlockItems, Item}
+use Rattle.mc_tree.specs.Tree.{Expression, Expressions, TypeName, Specifier, Specifiers, StructMember, Members, Enumerator, Enumerators, Declarator, Declarators, ArrayLengths, Parameters, Parameter, ParameterList, Initializer, Initializers, InitDeclarator, Declaration, ForStart, Statement, BlockItems, Item}
 use Rattle.mc_tree.specs.Tree as t
 
 abbrev mutual
@@ -13,8 +13,8 @@ abbrev mutual
   height (t.Call name arguments span) = tallest arguments + 1
   height (t.Index a b span) = max (height a) (height b) + 1
   height (t.Member a name span) = height a + 1
-  height (t.StepAfter operator a span) = height a + 1
-  height (t.StepBefore operator a span) = height a + 1
+  height (t.PostfixStep operator a span) = height a + 1
+  height (t.PrefixStep operator a span) = height a + 1
   height (t.Unary operator a span) = height a + 1
   height (t.Cast type a span) = max (height_type type) (height a) + 1
   height (t.Binary operator a b span) = max (height a) (height b) + 1
@@ -57,17 +57,17 @@ abbrev mutual
   height_enumerators (t.enumerators e rest) = max (height_enumerator e) (height_enumerators rest)
 
   pub height_declarator : Declarator → ℕ
-  height_declarator (t.object stars name all span) = height_sizes all
+  height_declarator (t.object stars name all span) = height_lengths all
   height_declarator (t.function stars name ps span) = height_parameters ps
 
   pub height_declarators : Declarators → ℕ
   height_declarators t.no_declarators = 0
   height_declarators (t.declarators d rest) = max (height_declarator d) (height_declarators rest)
 
-  pub height_sizes : Sizes → ℕ
-  height_sizes t.no_sizes = 0
-  height_sizes (t.open_size rest) = height_sizes rest
-  height_sizes (t.size a rest) = max (height a) (height_sizes rest)
+  pub height_lengths : ArrayLengths → ℕ
+  height_lengths t.no_lengths = 0
+  height_lengths (t.absent_length rest) = height_lengths rest
+  height_lengths (t.given_length a rest) = max (height a) (height_lengths rest)
 
   pub height_parameters : Parameters → ℕ
   height_parameters (t.Empty span) = 0
@@ -75,7 +75,7 @@ abbrev mutual
   height_parameters (t.Listed ps span) = height_parameter_list ps
 
   pub height_parameter : Parameter → ℕ
-  height_parameter (t.parameter s stars name all span) = max (height_specifiers s) (height_sizes all)
+  height_parameter (t.parameter s stars name all span) = max (height_specifiers s) (height_lengths all)
 
   pub height_parameter_list : ParameterList → ℕ
   height_parameter_list t.no_parameters = 0
@@ -113,15 +113,15 @@ abbrev mutual
   pub height_statement : Statement → ℕ
   height_statement (t.Compound b span) = height_block b + 1
   height_statement (t.Null span) = 1
-  height_statement (t.Evaluate a span) = height a + 1
+  height_statement (t.ExpressionStatement a span) = height a + 1
   height_statement (t.If a s span) = max (height a) (height_statement s) + 1
   height_statement (t.IfElse a s u span) = max (height a) (max (height_statement s) (height_statement u)) + 1
   height_statement (t.Switch a s span) = max (height a) (height_statement s) + 1
   height_statement (t.While a s span) = max (height a) (height_statement s) + 1
   height_statement (t.DoWhile s a span) = max (height_statement s) (height a) + 1
   height_statement (t.For start a b s span) = max (max (height_start start) (max (height_optional a) (height_optional b))) (height_statement s) + 1
-  height_statement (t.Case a s span) = max (height a) (height_statement s) + 1
-  height_statement (t.Default s span) = height_statement s + 1
+  height_statement (t.Case a label s span) = max (height a) (height_statement s) + 1
+  height_statement (t.Default label s span) = height_statement s + 1
   height_statement (t.Label name s span) = height_statement s + 1
   height_statement (t.Goto name span) = 1
   height_statement (t.Break span) = 1

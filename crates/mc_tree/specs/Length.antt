@@ -1,12 +1,12 @@
--- How many tokens a tree stands for, where no list has a comma behind its last part.
+-- How many tokens a tree stands for, where no list has a comma after its last part.
 use Rattle.std.specs.Prelude.{ℕ, zero, suc, ◌+◌, List, [], ◌∷◌, Option, Some, None}
-use Rattle.mc_tree.specs.Tree.{Name, Expression, Expressions, TypeName, Specifier, Specifiers, StructMember, Members, Enumerator, Enumerators, Declarator, Declarators, Sizes, Parameters, Parameter, ParameterList, Initializer, Initializers, InitDeclarator, Declaration, ForStart, Statement, BlockItems, Item}
+use Rattle.mc_tree.specs.Tree.{Name, Expression, Expressions, TypeName, Specifier, Specifiers, StructMember, Members, Enumerator, Enumerators, Declarator, Declarators, ArrayLengths, Parameters, Parameter, ParameterList, Initializer, Initializers, InitDeclarator, Declaration, ForStart, Statement, BlockItems, Item}
 use Rattle.mc_tree.specs.Tree as t
 
 -- the rest of a list with commas: a comma stands before it where it has tokens, as each part of a tree of the grammar has
-abbrev pub behind_comma : ℕ → ℕ
-behind_comma zero = 0
-behind_comma (suc n) = n + 2
+abbrev pub after_comma : ℕ → ℕ
+after_comma zero = 0
+after_comma (suc n) = n + 2
 
 abbrev pub of_name : Option Name → ℕ
 of_name None = 0
@@ -21,8 +21,8 @@ abbrev mutual
   of_expression (t.Call name arguments span) = of_expressions arguments + 3
   of_expression (t.Index a b span) = of_expression a + of_expression b + 2
   of_expression (t.Member a name span) = of_expression a + 2
-  of_expression (t.StepAfter operator a span) = of_expression a + 1
-  of_expression (t.StepBefore operator a span) = of_expression a + 1
+  of_expression (t.PostfixStep operator a span) = of_expression a + 1
+  of_expression (t.PrefixStep operator a span) = of_expression a + 1
   of_expression (t.Unary operator a span) = of_expression a + 1
   of_expression (t.Cast type a span) = of_type type + of_expression a + 2
   of_expression (t.Binary operator a b span) = of_expression a + of_expression b + 1
@@ -32,7 +32,7 @@ abbrev mutual
 
   pub of_expressions : Expressions → ℕ
   of_expressions t.no_expressions = 0
-  of_expressions (t.expressions a rest) = of_expression a + behind_comma (of_expressions rest)
+  of_expressions (t.expressions a rest) = of_expression a + after_comma (of_expressions rest)
 
   pub of_type : TypeName → ℕ
   of_type (t.type_name s stars span) = of_specifiers s + stars
@@ -62,20 +62,20 @@ abbrev mutual
 
   pub of_enumerators : Enumerators → ℕ
   of_enumerators t.no_enumerators = 0
-  of_enumerators (t.enumerators e rest) = of_enumerator e + behind_comma (of_enumerators rest)
+  of_enumerators (t.enumerators e rest) = of_enumerator e + after_comma (of_enumerators rest)
 
   pub of_declarator : Declarator → ℕ
-  of_declarator (t.object stars name all span) = stars + of_sizes all + 1
+  of_declarator (t.object stars name all span) = stars + of_lengths all + 1
   of_declarator (t.function stars name ps span) = stars + of_parameters ps + 1
 
   pub of_declarators : Declarators → ℕ
   of_declarators t.no_declarators = 0
-  of_declarators (t.declarators d rest) = of_declarator d + behind_comma (of_declarators rest)
+  of_declarators (t.declarators d rest) = of_declarator d + after_comma (of_declarators rest)
 
-  pub of_sizes : Sizes → ℕ
-  of_sizes t.no_sizes = 0
-  of_sizes (t.open_size rest) = of_sizes rest + 2
-  of_sizes (t.size a rest) = of_expression a + of_sizes rest + 2
+  pub of_lengths : ArrayLengths → ℕ
+  of_lengths t.no_lengths = 0
+  of_lengths (t.absent_length rest) = of_lengths rest + 2
+  of_lengths (t.given_length a rest) = of_expression a + of_lengths rest + 2
 
   pub of_parameters : Parameters → ℕ
   of_parameters (t.Empty span) = 2
@@ -83,11 +83,11 @@ abbrev mutual
   of_parameters (t.Listed ps span) = of_parameter_list ps + 2
 
   pub of_parameter : Parameter → ℕ
-  of_parameter (t.parameter s stars name all span) = of_specifiers s + stars + of_name name + of_sizes all
+  of_parameter (t.parameter s stars name all span) = of_specifiers s + stars + of_name name + of_lengths all
 
   pub of_parameter_list : ParameterList → ℕ
   of_parameter_list t.no_parameters = 0
-  of_parameter_list (t.parameters p rest) = of_parameter p + behind_comma (of_parameter_list rest)
+  of_parameter_list (t.parameters p rest) = of_parameter p + after_comma (of_parameter_list rest)
 
 abbrev mutual
   pub of_initializer : Initializer → ℕ
@@ -96,7 +96,7 @@ abbrev mutual
 
   pub of_initializers : Initializers → ℕ
   of_initializers t.no_initializers = 0
-  of_initializers (t.initializers one rest) = of_initializer one + behind_comma (of_initializers rest)
+  of_initializers (t.initializers one rest) = of_initializer one + after_comma (of_initializers rest)
 
 abbrev pub of_init_declarator : InitDeclarator → ℕ
 of_init_declarator (t.bare d) = of_declarator d
@@ -104,7 +104,7 @@ of_init_declarator (t.initialized d value) = of_declarator d + of_initializer va
 
 abbrev pub of_init_declarators : List InitDeclarator → ℕ
 of_init_declarators [] = 0
-of_init_declarators (d ∷ ds) = of_init_declarator d + behind_comma (of_init_declarators ds)
+of_init_declarators (d ∷ ds) = of_init_declarator d + after_comma (of_init_declarators ds)
 
 abbrev pub of_declaration : Declaration → ℕ
 of_declaration (t.declaration s ds span) = of_specifiers s + of_init_declarators ds + 1
@@ -122,15 +122,15 @@ abbrev mutual
   pub of_statement : Statement → ℕ
   of_statement (t.Compound b span) = of_block b + 2
   of_statement (t.Null span) = 1
-  of_statement (t.Evaluate a span) = of_expression a + 1
+  of_statement (t.ExpressionStatement a span) = of_expression a + 1
   of_statement (t.If a s span) = of_expression a + of_statement s + 3
   of_statement (t.IfElse a s u span) = of_expression a + of_statement s + of_statement u + 4
   of_statement (t.Switch a s span) = of_expression a + of_statement s + 3
   of_statement (t.While a s span) = of_expression a + of_statement s + 3
   of_statement (t.DoWhile s a span) = of_statement s + of_expression a + 5
   of_statement (t.For start a b s span) = of_start start + of_optional a + of_optional b + of_statement s + 4
-  of_statement (t.Case a s span) = of_expression a + of_statement s + 2
-  of_statement (t.Default s span) = of_statement s + 2
+  of_statement (t.Case a label s span) = of_expression a + of_statement s + 2
+  of_statement (t.Default label s span) = of_statement s + 2
   of_statement (t.Label name s span) = of_statement s + 2
   of_statement (t.Goto name span) = 3
   of_statement (t.Break span) = 2

@@ -1,12 +1,12 @@
 -- The tree of a translation unit, without where it lies in memory: one case for each alternative of the
 -- grammar, parts in the order of the text. Parentheses leave a node.
 use Rattle.std.specs.Prelude.{ℕ, ℤ, Bool, List, Option}
-use Rattle.mc_tree.specs.declared.span.Span.{Span}
-use Rattle.mc_tree.specs.declared.unary_operator.UnaryOperator.{UnaryOperator}
-use Rattle.mc_tree.specs.declared.step_operator.StepOperator.{StepOperator}
-use Rattle.mc_tree.specs.declared.binary_operator.BinaryOperator.{BinaryOperator}
-use Rattle.mc_tree.specs.declared.assignment_operator.AssignmentOperator.{AssignmentOperator}
-use Rattle.mc_tree.specs.declared.specifier_word.SpecifierWord.{SpecifierWord}
+use Rattle.mc_span.specs.declared.span.Span.{Span}
+use Rattle.mc_tree.specs.declared.expressions.unary_operator.UnaryOperator.{UnaryOperator}
+use Rattle.mc_tree.specs.declared.expressions.step_operator.StepOperator.{StepOperator}
+use Rattle.mc_tree.specs.declared.expressions.binary_operator.BinaryOperator.{BinaryOperator}
+use Rattle.mc_tree.specs.declared.expressions.assignment_operator.AssignmentOperator.{AssignmentOperator}
+use Rattle.mc_tree.specs.declared.declarations.specifier_word.SpecifierWord.{SpecifierWord}
 
 -- a name and its place
 pub record Name : Type 0 where
@@ -24,8 +24,8 @@ mutual
     Call : Name → Expressions → Span → Expression
     Index : Expression → Expression → Span → Expression
     Member : Expression → Name → Span → Expression
-    StepAfter : StepOperator → Expression → Span → Expression
-    StepBefore : StepOperator → Expression → Span → Expression
+    PostfixStep : StepOperator → Expression → Span → Expression
+    PrefixStep : StepOperator → Expression → Span → Expression
     Unary : UnaryOperator → Expression → Span → Expression
     Cast : TypeName → Expression → Span → Expression
     Binary : BinaryOperator → Expression → Expression → Span → Expression
@@ -72,20 +72,20 @@ mutual
     no_enumerators : Enumerators
     enumerators : Enumerator → Enumerators → Enumerators
 
-  -- how many `*`, the name, and what stands behind it (C17 6.7.6)
+  -- how many `*`, the name, and what stands after it (C17 6.7.6)
   pub data Declarator : Type 0 where
-    object : ℕ → Name → Sizes → Span → Declarator
+    object : ℕ → Name → ArrayLengths → Span → Declarator
     function : ℕ → Name → Parameters → Span → Declarator
 
   pub data Declarators : Type 0 where
     no_declarators : Declarators
     declarators : Declarator → Declarators → Declarators
 
-  -- `[ ]` and `[ n ]` (C17 6.7.6.2)
-  pub data Sizes : Type 0 where
-    no_sizes : Sizes
-    open_size : Sizes → Sizes
-    size : Expression → Sizes → Sizes
+  -- `[ ]` and `[ n ]`, from the left (C17 6.7.6.2)
+  pub data ArrayLengths : Type 0 where
+    no_lengths : ArrayLengths
+    absent_length : ArrayLengths → ArrayLengths
+    given_length : Expression → ArrayLengths → ArrayLengths
 
   -- what stands between the parentheses of a function's declarator, and where they stand (C17 6.7.6.3)
   pub data Parameters : Type 0 where
@@ -94,7 +94,7 @@ mutual
     Listed : ParameterList → Span → Parameters
 
   pub data Parameter : Type 0 where
-    parameter : Specifiers → ℕ → Option Name → Sizes → Span → Parameter
+    parameter : Specifiers → ℕ → Option Name → ArrayLengths → Span → Parameter
 
   pub data ParameterList : Type 0 where
     no_parameters : ParameterList
@@ -128,15 +128,16 @@ mutual
   pub data Statement : Type 0 where
     Compound : BlockItems → Span → Statement
     Null : Span → Statement
-    Evaluate : Expression → Span → Statement
+    ExpressionStatement : Expression → Span → Statement
     If : Expression → Statement → Span → Statement
     IfElse : Expression → Statement → Statement → Span → Statement
     Switch : Expression → Statement → Span → Statement
     While : Expression → Statement → Span → Statement
     DoWhile : Statement → Expression → Span → Statement
     For : ForStart → Option Expression → Option Expression → Statement → Span → Statement
-    Case : Expression → Statement → Span → Statement
-    Default : Statement → Span → Statement
+    -- the place of the label goes through its colon
+    Case : Expression → Span → Statement → Span → Statement
+    Default : Span → Statement → Span → Statement
     Label : Name → Statement → Span → Statement
     Goto : Name → Span → Statement
     Break : Span → Statement
@@ -163,8 +164,8 @@ span_of (Parenthesized inner span) = span
 span_of (Call name arguments span) = span
 span_of (Index array index span) = span
 span_of (Member object_ name span) = span
-span_of (StepAfter operator operand span) = span
-span_of (StepBefore operator operand span) = span
+span_of (PostfixStep operator operand span) = span
+span_of (PrefixStep operator operand span) = span
 span_of (Unary operator operand span) = span
 span_of (Cast type operand span) = span
 span_of (Binary operator left right span) = span
@@ -174,5 +175,39 @@ span_of (Comma operands span) = span
 
 -- the name that a declarator declares
 abbrev pub name_of : Declarator → Name
-name_of (object stars name sizes span) = name
-name_of (function stars name parameters_ span) = name
+name_of (object stars name all span) = name
+name_of (function stars name all span) = name
+
+-- where a statement stands
+abbrev pub span_of_statement : Statement → Span
+span_of_statement (Compound items span) = span
+span_of_statement (Null span) = span
+span_of_statement (ExpressionStatement value span) = span
+span_of_statement (If test chosen span) = span
+span_of_statement (IfElse test chosen other span) = span
+span_of_statement (Switch value body span) = span
+span_of_statement (While test body span) = span
+span_of_statement (DoWhile body test span) = span
+span_of_statement (For start test step body span) = span
+span_of_statement (Case value label body span) = span
+span_of_statement (Default label body span) = span
+span_of_statement (Label name body span) = span
+span_of_statement (Goto name span) = span
+span_of_statement (Break span) = span
+span_of_statement (Continue span) = span
+span_of_statement (Return value span) = span
+
+-- where a specifier stands
+abbrev pub span_of_specifier : Specifier → Span
+span_of_specifier (Word word span) = span
+span_of_specifier (TypedefName name) = name.span
+span_of_specifier (StructureTag tag span) = span
+span_of_specifier (Structure tag all span) = span
+span_of_specifier (EnumerationTag tag span) = span
+span_of_specifier (Enumeration tag all span) = span
+
+-- the parentheses of a function's declarator, with what stands between them
+abbrev pub span_of_parameters : Parameters → Span
+span_of_parameters (Empty span) = span
+span_of_parameters (Void span) = span
+span_of_parameters (Listed all span) = span

@@ -1,19 +1,19 @@
 -- What a unit of the program stands for, from initializers up.
 use Rattle.std.specs.Prelude.{List, [], ◌∷◌, option_map, map}
-use Rattle.mc_tree.specs.declared.initializer.Initializer.{Initializer}
-use Rattle.mc_tree.specs.declared.initializer.Initializer.TheOpen.{Initializer-F}
-use Rattle.mc_tree.specs.declared.initializer.Initializer.TheFolds.{fold-Initializer}
-use Rattle.mc_tree.specs.declared.init_declarator.InitDeclarator.{InitDeclarator}
-use Rattle.mc_tree.specs.declared.init_declarator.InitDeclarator.TheVariants as init
-use Rattle.mc_tree.specs.declared.declaration.Declaration.{Declaration}
-use Rattle.mc_tree.specs.declared.for_start.ForStart.{ForStart}
-use Rattle.mc_tree.specs.declared.for_start.ForStart.TheVariants as start
-use Rattle.mc_tree.specs.declared.statement.Statement.{Statement}
-use Rattle.mc_tree.specs.declared.block_item.BlockItem.{BlockItem}
-use Rattle.mc_tree.specs.declared.block_item.BlockItem.TheOpen.{Statement-F, BlockItem-F}
-use Rattle.mc_tree.specs.declared.block_item.BlockItem.TheFolds.{fold-Statement, fold-BlockItem}
-use Rattle.mc_tree.specs.declared.item.Item.{Item}
-use Rattle.mc_tree.specs.declared.item.Item.TheVariants as item
+use Rattle.mc_tree.specs.declared.declarations.initializer.Initializer.{Initializer}
+use Rattle.mc_tree.specs.declared.declarations.initializer.Initializer.TheOpen.{Initializer-F}
+use Rattle.mc_tree.specs.declared.declarations.initializer.Initializer.TheFolds.{fold-Initializer}
+use Rattle.mc_tree.specs.declared.declarations.init_declarator.InitDeclarator.{InitDeclarator}
+use Rattle.mc_tree.specs.declared.declarations.init_declarator.InitDeclarator.TheVariants as init
+use Rattle.mc_tree.specs.declared.declarations.declaration.Declaration.{Declaration}
+use Rattle.mc_tree.specs.declared.statements.for_start.ForStart.{ForStart}
+use Rattle.mc_tree.specs.declared.statements.for_start.ForStart.TheVariants as start
+use Rattle.mc_tree.specs.declared.statements.statement.Statement.{Statement}
+use Rattle.mc_tree.specs.declared.statements.block_item.BlockItem.{BlockItem}
+use Rattle.mc_tree.specs.declared.statements.block_item.BlockItem.TheOpen.{Statement-F, BlockItem-F}
+use Rattle.mc_tree.specs.declared.statements.block_item.BlockItem.TheFolds.{fold-Statement, fold-BlockItem}
+use Rattle.mc_tree.specs.declared.units.item.Item.{Item}
+use Rattle.mc_tree.specs.declared.units.item.Item.TheVariants as item
 use Rattle.mc_tree.specs.Views.{name_of, expression_of, declarator_of, specifier_of, specifiers_from}
 use Rattle.mc_tree.specs.Tree as t
 
@@ -40,7 +40,7 @@ abbrev pub start_of : ForStart → t.ForStart
 start_of (start.Local declaration) = t.StartsLocal (declaration_of declaration)
 start_of (start.Expression value) = t.StartsExpression (option_map expression_of value)
 
--- an item of a block stands for the function that puts it before those behind it
+-- an item of a block stands for the function that puts it before those after it
 abbrev pub block_from : List (t.BlockItems → t.BlockItems) → t.BlockItems
 block_from [] = t.no_block_items
 block_from (one ∷ rest) = one (block_from rest)
@@ -52,15 +52,15 @@ node_block_item (BlockItem-F.Statement one) = t.statement one.value
 abbrev pub node_statement : Statement-F (t.BlockItems → t.BlockItems) t.Statement → t.Statement
 node_statement (Statement-F.Compound items span) = t.Compound (block_from items.items) span
 node_statement (Statement-F.Null span) = t.Null span
-node_statement (Statement-F.Evaluate value span) = t.Evaluate (expression_of value) span
+node_statement (Statement-F.Expression value span) = t.ExpressionStatement (expression_of value) span
 node_statement (Statement-F.If test chosen span) = t.If (expression_of test) chosen.value span
 node_statement (Statement-F.IfElse test chosen other span) = t.IfElse (expression_of test) chosen.value other.value span
 node_statement (Statement-F.Switch value body span) = t.Switch (expression_of value) body.value span
 node_statement (Statement-F.While test body span) = t.While (expression_of test) body.value span
 node_statement (Statement-F.DoWhile body test span) = t.DoWhile body.value (expression_of test) span
 node_statement (Statement-F.For start test step body span) = t.For (start_of start) (option_map expression_of test) (option_map expression_of step) body.value span
-node_statement (Statement-F.Case value body span) = t.Case (expression_of value) body.value span
-node_statement (Statement-F.Default body span) = t.Default body.value span
+node_statement (Statement-F.Case value label body span) = t.Case (expression_of value) label body.value span
+node_statement (Statement-F.Default label body span) = t.Default label body.value span
 node_statement (Statement-F.Label name body span) = t.Label (name_of name) body.value span
 node_statement (Statement-F.Goto name span) = t.Goto (name_of name) span
 node_statement (Statement-F.Break span) = t.Break span

@@ -7,8 +7,8 @@ mod declarations;
 mod statements;
 mod syntax;
 
-use crate::item::Item;
-use crate::unit::Unit;
+use crate::units::item::Item;
+use crate::units::unit::Unit;
 use std::cmp::max;
 
 /// How many levels a source nests: each expression, statement and initializer counts one, and so do

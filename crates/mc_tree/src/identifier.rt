@@ -1,5 +1,5 @@
 //! Names and their places.
-use crate::span::Span;
+use mc_span::Span;
 
 /// A name as it is written, and where (C17 6.4.2).
 #[derive(Clone, Copy, Debug)]

@@ -4,12 +4,12 @@ ghost use Rattle.mc_tree.specs.Units.{initializer_of, initializers_from, init_de
 ghost use Rattle.mc_tree.specs.Views.{expression_of};
 ghost use Rattle.mc_tree.specs.Height as h;
 
-use crate::declaration::Declaration;
-use crate::expression::Expression;
-use crate::for_start::ForStart;
+use crate::declarations::declaration::Declaration;
+use crate::declarations::init_declarator::InitDeclarator;
+use crate::declarations::initializer::Initializer;
+use crate::expressions::expression::Expression;
 use crate::heights::syntax::{declarator, expression, specifiers};
-use crate::init_declarator::InitDeclarator;
-use crate::initializer::Initializer;
+use crate::statements::for_start::ForStart;
 use std::cmp::max;
 
 fn initializer(tree: &Initializer<'_>) -> u32

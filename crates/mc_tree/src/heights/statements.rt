@@ -3,10 +3,10 @@ ghost use Rattle.std.specs.Prelude.{◌≡◌, ◌≤◌, map};
 ghost use Rattle.mc_tree.specs.Units.{statement_of, block_item_of, block_from};
 ghost use Rattle.mc_tree.specs.Height as h;
 
-use crate::block_item::BlockItem;
 use crate::heights::declarations::{declaration, for_start, optional};
 use crate::heights::syntax::expression;
-use crate::statement::Statement;
+use crate::statements::block_item::BlockItem;
+use crate::statements::statement::Statement;
 use std::cmp::max;
 
 #[cycle(height)]
@@ -20,7 +20,7 @@ fn statement(tree: &Statement<'_>) -> u32
         | Statement::Goto { .. }
         | Statement::Break { .. }
         | Statement::Continue { .. } => 1,
-        Statement::Evaluate { value, .. } => expression(value) + 1,
+        Statement::Expression { value, .. } => expression(value) + 1,
         Statement::If { test, chosen, .. } => max(expression(test), statement(chosen)) + 1,
         Statement::IfElse {
             test,

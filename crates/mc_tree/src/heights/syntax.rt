@@ -1,15 +1,15 @@
 //! The height of expressions, specifiers and declarators.
 ghost use Rattle.std.specs.Prelude.{◌≡◌, ◌≤◌, map};
-ghost use Rattle.mc_tree.specs.Views.{expression_of, expressions_from, specifier_of, specifiers_from, member_of, members_from, enumerator_of, enumerators_from, declarator_of, declarators_from, size_of, sizes_from, parameter_of, parameters_from};
+ghost use Rattle.mc_tree.specs.Views.{expression_of, expressions_from, specifier_of, specifiers_from, member_of, members_from, enumerator_of, enumerators_from, declarator_of, declarators_from, array_length_of, lengths_from, parameter_of, parameters_from};
 ghost use Rattle.mc_tree.specs.Height as h;
 
-use crate::declarator::Declarator;
-use crate::enumerator::Enumerator;
-use crate::expression::Expression;
-use crate::member::Member;
-use crate::parameter::Parameter;
-use crate::size::Size;
-use crate::specifier::Specifier;
+use crate::declarations::array_length::ArrayLength;
+use crate::declarations::declarator::Declarator;
+use crate::declarations::enumerator::Enumerator;
+use crate::declarations::member::Member;
+use crate::declarations::parameter::Parameter;
+use crate::declarations::specifier::Specifier;
+use crate::expressions::expression::Expression;
 use std::cmp::max;
 
 #[cycle(height)]
@@ -23,7 +23,7 @@ pub(crate) fn expression(tree: &Expression<'_>) -> u32
         Expression::Call { arguments, .. } => expressions(arguments) + 1,
         Expression::Index { array, index, .. } => max(expression(array), expression(index)) + 1,
         Expression::Member { object, .. } => expression(object) + 1,
-        Expression::StepAfter { operand, .. } | Expression::StepBefore { operand, .. } => {
+        Expression::PostfixStep { operand, .. } | Expression::PrefixStep { operand, .. } => {
             expression(operand) + 1
         }
         Expression::Unary { operand, .. } => expression(operand) + 1,
@@ -133,7 +133,7 @@ pub(crate) fn declarator(tree: &Declarator<'_>) -> u32
     ensures { result ≡ h.height_declarator (declarator_of tree.now) }
 {
     match tree {
-        Declarator::Object { sizes: list, .. } => sizes(list),
+        Declarator::Object { lengths: list, .. } => lengths(list),
         Declarator::EmptyFunction { .. } | Declarator::VoidFunction { .. } => 0,
         Declarator::Function {
             parameters: list,
@@ -143,14 +143,14 @@ pub(crate) fn declarator(tree: &Declarator<'_>) -> u32
 }
 
 #[cycle(height)]
-fn sizes(trees: &[Size<'_>]) -> u32
-    requires { h.height_sizes (sizes_from (map size_of trees.now)) ≤ 800 }
-    ensures { result ≡ h.height_sizes (sizes_from (map size_of trees.now)) }
+fn lengths(trees: &[ArrayLength<'_>]) -> u32
+    requires { h.height_lengths (lengths_from (map array_length_of trees.now)) ≤ 800 }
+    ensures { result ≡ h.height_lengths (lengths_from (map array_length_of trees.now)) }
 {
     let mut tallest = 0;
     for tree in trees {
-        if let Size::Of { length } = tree {
-            tallest = max(tallest, expression(length));
+        if let ArrayLength::Given { value } = tree {
+            tallest = max(tallest, expression(value));
         }
     }
     tallest
@@ -163,7 +163,7 @@ fn parameters(trees: &[Parameter<'_>]) -> u32
 {
     let mut tallest = 0;
     for tree in trees {
-        let parts = max(specifiers(&tree.specifiers), sizes(&tree.sizes));
+        let parts = max(specifiers(&tree.specifiers), lengths(&tree.lengths));
         tallest = max(tallest, parts);
     }
     tallest

@@ -1,6 +1,6 @@
 -- What is seen so far, with what is still to come, is as tall as the whole list.
 use Rattle.std.proofs.Common.{◌≡◌, max, drop, map}
-use Rattle.mc_tree.specs.Views.{expression_of, expressions_from, specifier_of, specifiers_from, member_of, members_from, enumerator_of, enumerators_from, declarator_of, declarators_from, size_of, sizes_from, parameter_of, parameters_from}
+use Rattle.mc_tree.specs.Views.{expression_of, expressions_from, specifier_of, specifiers_from, member_of, members_from, enumerator_of, enumerators_from, declarator_of, declarators_from, array_length_of, lengths_from, parameter_of, parameters_from}
 use Rattle.mc_tree.specs.Height as h
 use Rattle.mc_tree.proofs.heights.syntax.+height.Given as goal
 
@@ -19,8 +19,8 @@ invariant-members-loop-tree l = max l.tallest (h.height_members (members_from (m
 abbrev pub invariant-parameters-loop-tree : goal.invariant-parameters-loop-tree
 invariant-parameters-loop-tree l = max l.tallest (h.height_parameter_list (parameters_from (map parameter_of (drop l.tree-index l.trees)))) ≡ h.height_parameter_list (parameters_from (map parameter_of l.trees))
 
-abbrev pub invariant-sizes-loop-tree : goal.invariant-sizes-loop-tree
-invariant-sizes-loop-tree l = max l.tallest (h.height_sizes (sizes_from (map size_of (drop l.tree-index l.trees)))) ≡ h.height_sizes (sizes_from (map size_of l.trees))
+abbrev pub invariant-lengths-loop-tree : goal.invariant-lengths-loop-tree
+invariant-lengths-loop-tree l = max l.tallest (h.height_lengths (lengths_from (map array_length_of (drop l.tree-index l.trees)))) ≡ h.height_lengths (lengths_from (map array_length_of l.trees))
 
 abbrev pub invariant-specifiers-loop-tree : goal.invariant-specifiers-loop-tree
 invariant-specifiers-loop-tree l = max l.tallest (h.height_specifiers (specifiers_from (map specifier_of (drop l.tree-index l.trees)))) ≡ h.height_specifiers (specifiers_from (map specifier_of l.trees))

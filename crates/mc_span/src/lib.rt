@@ -1,0 +1,6 @@
+//! Places in a source.
+#![tactic(auto)]
+
+mod span;
+
+pub use span::Span;

@@ -1,0 +1,40 @@
+//! Declarators.
+use crate::declarations::array_length::ArrayLength;
+use crate::declarations::parameter::Parameter;
+use crate::identifier::Identifier;
+use mc_span::Span;
+
+/// How many `*`, a name, and what stands after it (C17 6.7.6). Its span starts at the
+/// first `*`, or at the name where there is none.
+#[derive(Drop)]
+#[cycle(syntax)]
+pub enum Declarator<'a> {
+    Object {
+        stars: u32,
+        name: Identifier<'a>,
+        lengths: Vec<ArrayLength<'a>>,
+        span: Span,
+    },
+    /// A function with nothing between its parentheses, whose span is `list_span`.
+    EmptyFunction {
+        stars: u32,
+        name: Identifier<'a>,
+        list_span: Span,
+        span: Span,
+    },
+    /// A function with `void` alone between its parentheses.
+    VoidFunction {
+        stars: u32,
+        name: Identifier<'a>,
+        list_span: Span,
+        span: Span,
+    },
+    /// A function with parameters.
+    Function {
+        stars: u32,
+        name: Identifier<'a>,
+        parameters: Vec<Parameter<'a>>,
+        list_span: Span,
+        span: Span,
+    },
+}

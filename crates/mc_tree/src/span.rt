@@ -1,8 +1,0 @@
-//! Places in a source.
-
-/// A part of a source, by byte offsets: `start` is its first byte, `end` is one behind its last.
-#[derive(Clone, Copy, Debug, PartialEq, Eq)]
-pub struct Span {
-    pub start: u32,
-    pub end: u32,
-}

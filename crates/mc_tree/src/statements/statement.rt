@@ -1,0 +1,118 @@
+//! Statements.
+ghost use Rattle.std.specs.Prelude.{◌≡◌};
+ghost use Rattle.mc_tree.specs.Tree.{span_of_statement};
+ghost use Rattle.mc_tree.specs.Units.{statement_of};
+
+use crate::expressions::expression::Expression;
+use crate::identifier::Identifier;
+use crate::statements::block_item::BlockItem;
+use crate::statements::for_start::ForStart;
+use mc_span::Span;
+
+/// A statement, with a variant for each alternative of its production (C17 6.8).
+#[derive(Drop)]
+#[cycle(statements)]
+pub enum Statement<'a> {
+    Compound {
+        items: Vec<BlockItem<'a>>,
+        span: Span,
+    },
+    Null {
+        span: Span,
+    },
+    Expression {
+        value: Expression<'a>,
+        span: Span,
+    },
+    If {
+        test: Expression<'a>,
+        chosen: Box<Statement<'a>>,
+        span: Span,
+    },
+    IfElse {
+        test: Expression<'a>,
+        chosen: Box<Statement<'a>>,
+        other: Box<Statement<'a>>,
+        span: Span,
+    },
+    Switch {
+        value: Expression<'a>,
+        body: Box<Statement<'a>>,
+        span: Span,
+    },
+    While {
+        test: Expression<'a>,
+        body: Box<Statement<'a>>,
+        span: Span,
+    },
+    DoWhile {
+        body: Box<Statement<'a>>,
+        test: Expression<'a>,
+        span: Span,
+    },
+    For {
+        start: ForStart<'a>,
+        test: Option<Expression<'a>>,
+        step: Option<Expression<'a>>,
+        body: Box<Statement<'a>>,
+        span: Span,
+    },
+    /// `label` goes from the word `case` through the colon.
+    Case {
+        value: Expression<'a>,
+        label: Span,
+        body: Box<Statement<'a>>,
+        span: Span,
+    },
+    /// `label` goes from the word `default` through the colon.
+    Default {
+        label: Span,
+        body: Box<Statement<'a>>,
+        span: Span,
+    },
+    Label {
+        name: Identifier<'a>,
+        body: Box<Statement<'a>>,
+        span: Span,
+    },
+    Goto {
+        name: Identifier<'a>,
+        span: Span,
+    },
+    Break {
+        span: Span,
+    },
+    Continue {
+        span: Span,
+    },
+    Return {
+        value: Option<Expression<'a>>,
+        span: Span,
+    },
+}
+
+impl Statement<'_> {
+    /// Where the statement stands. Takes no memory.
+    pub fn span(&self) -> Span
+        ensures { result ≡ span_of_statement (statement_of self.now) }
+    {
+        match self {
+            Statement::Compound { span, .. }
+            | Statement::Null { span }
+            | Statement::Expression { span, .. }
+            | Statement::If { span, .. }
+            | Statement::IfElse { span, .. }
+            | Statement::Switch { span, .. }
+            | Statement::While { span, .. }
+            | Statement::DoWhile { span, .. }
+            | Statement::For { span, .. }
+            | Statement::Case { span, .. }
+            | Statement::Default { span, .. }
+            | Statement::Label { span, .. }
+            | Statement::Goto { span, .. }
+            | Statement::Break { span }
+            | Statement::Continue { span }
+            | Statement::Return { span, .. } => *span,
+        }
+    }
+}

@@ -1,0 +1,3 @@
+//! External declarations, and a whole source (C17 6.9).
+pub mod item;
+pub mod unit;

@@ -1,0 +1,20 @@
+//! External declarations.
+use crate::declarations::declaration::Declaration;
+use crate::declarations::declarator::Declarator;
+use crate::declarations::specifier::Specifier;
+use crate::statements::block_item::BlockItem;
+use mc_span::Span;
+
+/// A declaration or a function definition (C17 6.9).
+#[derive(Drop)]
+pub enum Item<'a> {
+    Declared {
+        declaration: Declaration<'a>,
+    },
+    Defined {
+        specifiers: Vec<Specifier<'a>>,
+        declarator: Declarator<'a>,
+        body: Vec<BlockItem<'a>>,
+        span: Span,
+    },
+}
