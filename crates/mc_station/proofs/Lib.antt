@@ -1,5 +1,5 @@
+pub mod Leading
 pub mod Parts
 pub mod Phases
-pub mod Places
 pub mod Statuses
 pub mod Unique

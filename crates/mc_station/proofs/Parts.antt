@@ -1,8 +1,8 @@
 -- A first part of a text after a text that was put.
-use Rattle.std.proofs.Common.{◌≡◌, ◌∙◌, ℕ, zero, suc, List, [], ◌∷◌, ◌++◌, length, take, Option, refl, sym, ap, subst, arith, ◌≤◌, ◌-◌, get_or, drop, Vec, Global, Result, Ok, Err}
+use Rattle.std.proofs.Common.{◌≡◌, ◌∙◌, ℕ, zero, suc, List, [], ◌∷◌, ◌++◌, length, take, Option, refl, sym, ap, subst, arith, ◌≤◌, ◌-◌, get_or, drop, Vec, Global, Result, Ok, Err, Some, None}
 use Rattle.std.specs.List.{concat}
 use Rattle.mc_first.specs.Seen.{bytes_of}
-use Rattle.std.proofs.lemmas.List.{take_all}
+use Rattle.std.proofs.lemmas.List.{append-nil, take_all}
 use Rattle.std.proofs.KnownBytes.{Appends-trans}
 use Rattle.std.specs.Io.KnownBytes.{Appends}
 use Rattle.mc_port.specs.Sink.{AppendsPart, Puts}
@@ -39,3 +39,8 @@ first_line (v ∷ left) line some is =
 pub puts_part : (old new : Option (List ℕ)) (before now : ℕ) (piece : List ℕ) (r : Result Unit PutFault) → Puts old new before now piece r → AppendsPart old new piece
 puts_part old new before now piece (Ok u) put = whole_part old new piece put
 puts_part old new before now piece (Err e) put = put.1
+
+-- nothing was appended
+pub nothing_put : (o : Option (List ℕ)) → Appends o o []
+nothing_put None = tt
+nothing_put (Some xs) = sym (append-nil xs)

@@ -7,7 +7,9 @@ use Rattle.mc_port.specs.Store.{Files}
 use Rattle.mc_station.specs.Calls as calls
 use Rattle.mc_station.specs.Calls.{Answers, Fails, Leads, Requests}
 use Rattle.mc_station.specs.Files.{status_of}
-use Rattle.mc_station.specs.Reply.{Reply}
+use Rattle.mc_first.specs.Lines.{report_lines}
+use Rattle.mc_station.specs.Reply.{Reply, refusal, success}
+use Rattle.mc_station.specs.Texts.{usage_text}
 use Rattle.mc_station.specs.Source.{Forms, JudgesSource, Lexes}
 use Rattle.mc_station.specs.Stages as stages
 use Rattle.mc_station.specs.Stages.{Judges, JudgesTests, Next, Stage, asks, done, files_left, next_of}
@@ -54,10 +56,10 @@ refusal_answers (stages.tests name form) bytes r (inr (list, judges, next)) = ab
 refusal_answers (stages.vectors form list) bytes r refuses = absurd refuses
 
 done_answers : (s : Stage) (r : Reply) → next_of s ≡ done r → IsAnswer r.status
-done_answers stages.usage r is = answers_as r _ (sym (cc is)) tt
+done_answers stages.usage r is = let same : refusal status.NoCommand usage_text ≡ r = cc is in answers_as r _ (sym same) tt
 done_answers (stages.source (Vectors name later)) r is = absurd (cc is)
 done_answers (stages.tests name form) r is = absurd (cc is)
-done_answers (stages.vectors form list) r is = answers_as r _ (sym (cc is)) tt
+done_answers (stages.vectors form list) r is = let same : success (report_lines form list) ≡ r = cc is in answers_as r _ (sym same) tt
 
 answered : (files : Option Files) (s : Stage) (asked after : Requests) (r : Reply) → Answers files s asked r after → IsAnswer r.status
 answered files s asked after r (calls.finished q is) = done_answers s r is

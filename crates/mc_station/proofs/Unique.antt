@@ -7,12 +7,12 @@ use Rattle.mc_lex.specs.Scans.{Scans}
 use Rattle.mc_lex.specs.Tokens.{Tok}
 use Rattle.mc_lex.proofs.Scanning.{one_scan}
 use Rattle.mc_parse.specs.Form.{Form}
-use Rattle.mc_port.specs.Store.{Files, HasFile, IsLonger}
+use Rattle.mc_port.specs.Store.{Files, HasFile, IsLonger, and_asked}
 use Rattle.mc_first.specs.TestsFile.{PlainTest}
 use Rattle.mc_first.proofs.Unique.{one_form, one_list}
 use Rattle.mc_station.specs.Calls as calls
 use Rattle.mc_station.specs.Calls.{Answers, Call, CallsFor, Fails, IsKnown, Leads, Requests}
-use Rattle.mc_station.specs.Files.{File, Holds, limit_of}
+use Rattle.mc_station.specs.Files.{File, Holds, limit_of, request_of}
 use Rattle.mc_station.specs.Reply.{Reply, longer, refusal}
 use Rattle.mc_station.specs.Source.{Forms, JudgesSource, Lexes, Then}
 use Rattle.mc_station.specs.Stages as stages
@@ -137,7 +137,7 @@ one_end files s a b c d r q (calls.accepted _ t f bytes _ _ _ is holds judges le
 one_end files s a b c d r q (calls.accepted _ t f bytes _ _ _ is holds judges leads) (calls.fails _ _ _ _ y) p o = absurd (no_fault s c d q y o)
 one_end files s a b c d r q (calls.accepted _ t f bytes _ _ _ is holds judges leads) (calls.accepted _ u g text _ _ _ also holds_g judges_g leads_g) p o =
     let same : t ≡ u = cc (same_verdict files s f g bytes text (Ok t) (Ok u) is also holds holds_g judges judges_g) in
-    one_end files u _ b _ d r q (subst (λ (x : Stage). Leads (Some files) x _ r b) same leads) leads_g p o
+    one_end files u (and_asked a (request_of f)) b (and_asked c (request_of g)) d r q (subst (λ (x : Stage). Leads (Some files) x (and_asked a (request_of f)) r b) same leads) leads_g p o
 
 -- ---- calls
 
@@ -149,11 +149,11 @@ one_usage files a b r (calls.fails _ _ _ _ x) answer = absurd (no_fault stages.u
 one_usage files a b r (calls.accepted _ t f bytes _ _ _ is holds judges leads) answer = absurd judges
 
 pub one_reply : (call : Call) (r q : Reply) → IsKnown call → CallsFor call r → CallsFor call q → r ≡ q
-one_reply call r q (inl none) (p, a, b, leads) (o, c, d, also) =
+one_reply call r q (inl none) (p, (a, b, leads)) (o, (c, d, also)) =
     let first : first_stage (command_of call.words) ≡ stages.usage = ap first_stage none in
     let one = one_usage call.files a b r (subst (λ (s : Stage). Leads call.files s a r b) first leads) p in
     let two = one_usage call.files c d q (subst (λ (s : Stage). Leads call.files s c q d) first also) o in
     cc (one, two)
-one_reply call r q (inr (files, told)) (p, a, b, leads) (o, c, d, also) =
+one_reply call r q (inr (files, told)) (p, (a, b, leads)) (o, (c, d, also)) =
     let first = first_stage (command_of call.words) in
     one_end files first a b c d r q (subst (λ (f : Option Files). Leads f first a r b) told leads) (subst (λ (f : Option Files). Leads f first c q d) told also) p o

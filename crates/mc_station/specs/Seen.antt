@@ -1,5 +1,5 @@
 -- What clauses see of files, refusals, replies and stages.
-use Rattle.std.specs.Prelude.{ℕ, List, [], map, Option, Some, None, Result, Ok, Err, ⊤, Vec, string_bytes}
+use Rattle.std.specs.Prelude.{◌≡◌, ℕ, List, [], map, Option, Some, None, Result, Ok, Err, ⊤, Vec, string_bytes}
 use Rattle.std.specs.declared.alloc.AllocError.{AllocError}
 use Rattle.std.specs.declared.alloc.Global.{Global}
 use Rattle.mc_command.specs.Command.{seen_command}
@@ -29,6 +29,11 @@ reply_to (why.TooLong file) = longer (seen_file file)
 reply_to (why.Fault place word) = refusal SourceRefused (place_line place.line place.column word.now)
 reply_to why.SourceForm = refusal SourceRefused source_form_line
 reply_to why.TestsForm = refusal TestsRefused tests_form_line
+
+-- the reply where a phase gives nothing; there is none to memory that does not suffice
+abbrev pub IsReplyTo : Stop → CalledFor → Type 0
+IsReplyTo (stop.Refused refusal) reply = reply ≡ reply_to refusal
+IsReplyTo stop.OutOfMemory reply = ⊥
 
 -- a reply of the program; where there is none, memory did not suffice
 abbrev pub seen_reply : Reply → CalledFor

@@ -1,9 +1,9 @@
 -- The texts on the errors' sink.
-use Rattle.std.specs.Prelude.{ℕ, List, [], ◌∷◌, ◌++◌, codes}
+use Rattle.std.specs.Prelude.{ℕ, List, [], ◌∷◌, ◌++◌, Option, Some, None, codes}
 use Rattle.std.specs.List.{concat}
 use Rattle.std.specs.Fmt.{decimal}
 use Rattle.mc_lex.specs.declared.fault.LexFault.{LexFault}
-use Rattle.mc_lex.specs.declared.fault.LexFault.TheVariants as fault
+use Rattle.mc_lex.specs.Faults.{fault_place, fault_word}
 use Rattle.mc_lex.specs.Lines.{line_of, column_of}
 
 abbrev pub newline : List ℕ
@@ -24,26 +24,13 @@ abbrev pub place_line : (line column : ℕ) → List ℕ → List ℕ
 place_line line column word =
     concat (codes "mcdc: source " ∷ decimal line ∷ codes ":" ∷ decimal column ∷ codes ": " ∷ word ∷ newline ∷ [])
 
--- where a lexical fault stands, and what it is; out of memory is none
-abbrev pub fault_word : LexFault → List ℕ
-fault_word (fault.Byte at) = codes "byte"
-fault_word (fault.Token at) = codes "token"
-fault_word (fault.Directive at) = codes "directive"
-fault_word (fault.OutsideWord at) = codes "outside word"
-fault_word (fault.Limit at) = codes "constant too wide"
-fault_word fault.OutOfMemory = []
+-- the line on a fault at a place of a source, counted in bytes
+abbrev pub line_at : (source : List ℕ) → Option ℕ → List ℕ → List ℕ
+line_at source (Some at) word = place_line (line_of source at) (column_of source at) word
+line_at source None word = []
 
-abbrev pub fault_place : LexFault → ℕ
-fault_place (fault.Byte at) = at
-fault_place (fault.Token at) = at
-fault_place (fault.Directive at) = at
-fault_place (fault.OutsideWord at) = at
-fault_place (fault.Limit at) = at
-fault_place fault.OutOfMemory = 0
-
-abbrev pub fault_line : List ℕ → LexFault → List ℕ
-fault_line source e =
-    place_line (line_of source (fault_place e)) (column_of source (fault_place e)) (fault_word e)
+abbrev pub fault_line : (source : List ℕ) → LexFault → List ℕ
+fault_line source e = line_at source (fault_place e) (fault_word e)
 
 abbrev pub source_form_line : List ℕ
 source_form_line = codes "mcdc: source: form not built" ++ newline

@@ -3,10 +3,10 @@ ghost use Rattle.std.specs.Prelude.{◌≡◌, IfOk, string_bytes};
 ghost use Rattle.mc_first.specs.Seen.{bytes_of};
 ghost use Rattle.mc_station.specs.Reply.{cannot_read, success};
 ghost use Rattle.mc_station.specs.Reply as spec;
-ghost use Rattle.mc_station.specs.Seen.{reply_to, seen_file, seen_reply};
+ghost use Rattle.mc_station.specs.Seen.{IsReplyTo, reply_to, seen_file, seen_reply};
 
 use crate::file::File;
-use crate::refusal::Refusal;
+use crate::refusal::{Refusal, Stop};
 use crate::status::Status;
 use crate::text::{cannot_read_line, refusal_line};
 use std::alloc::{AllocError, Global};
@@ -48,6 +48,16 @@ impl Reply {
     {
         let line = refusal_line(alloc, refusal)?;
         Ok(Reply::of_text(alloc, refusal.status(), line))
+    }
+
+    /// The reply where a phase gives nothing.
+    pub fn of_stop(alloc: Global, stop: Stop<'_>) -> Result<Reply, AllocError>
+        ensures { IfOk result (λ reply. IsReplyTo stop.entry (seen_reply reply)) }
+    {
+        match stop {
+            Stop::Refused(refusal) => Reply::of_refusal(alloc, refusal),
+            Stop::OutOfMemory => Err(AllocError),
+        }
     }
 
     /// The reply to a file that cannot be read.

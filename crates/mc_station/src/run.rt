@@ -7,7 +7,7 @@ ghost use Rattle.mc_station.specs.Seen.{outcome_of, seen_stage};
 ghost use Rattle.mc_station.specs.declared.status.Status.TheVariants.{CannotRead, OutOfMemory};
 
 use crate::judge::judge;
-use crate::refusal::{Refusal, Stop};
+use crate::refusal::Refusal;
 use crate::reply::Reply;
 use crate::stage::{Next, Stage};
 use mc_port::{LoadFault, Store};
@@ -28,9 +28,10 @@ pub fn run<'a, S: Store>(
     ensures contents { (S.state store.new).contents ≡ (S.state store.old).contents }
     ensures later { (S.state store.old).faults ≤ (S.state store.new).faults }
 {
-    let file = match stage.next(alloc)? {
-        Next::Done(reply) => return Ok(reply),
-        Next::Asks(file) => file,
+    let file = match stage.next(alloc) {
+        Ok(Next::Asks(file)) => file,
+        Ok(Next::Done(reply)) => return Ok(reply),
+        Err(_) => return Err(AllocError),
     };
     let [slot, later @ ..] = slots else {
         unreachable!();
@@ -40,8 +41,7 @@ pub fn run<'a, S: Store>(
             *slot = bytes;
             match judge(alloc, stage, slot) {
                 Ok(stage) => run(alloc, store, stage, later),
-                Err(Stop::Refused(refusal)) => Reply::of_refusal(alloc, refusal),
-                Err(Stop::OutOfMemory) => Err(AllocError),
+                Err(stop) => Reply::of_stop(alloc, stop),
             }
         }
         Err(LoadFault::TooLong { .. }) => Reply::of_refusal(alloc, Refusal::TooLong(file)),

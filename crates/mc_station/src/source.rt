@@ -4,38 +4,11 @@ ghost use Rattle.mc_first.specs.Seen.{form_of};
 ghost use Rattle.mc_lex.specs.Tokens.{toks_of};
 ghost use Rattle.mc_station.specs.Seen.{Gives};
 ghost use Rattle.mc_station.specs.Source.{Forms, JudgesSource, Lexes};
-ghost use Rattle.mc_station.specs.Texts.{fault_place, fault_word};
 
 use crate::refusal::{Refusal, Stop};
 use mc_first::{Function, read_function};
-use mc_lex::{Dialect, LexFault, Token, lex, place_of};
+use mc_lex::{Dialect, Token, lex, place_of};
 use std::alloc::Global;
-
-fn place(fault: LexFault) -> u32
-    ensures { result ≡ fault_place fault }
-{
-    match fault {
-        LexFault::Byte { at } => at,
-        LexFault::Token { at } => at,
-        LexFault::Directive { at } => at,
-        LexFault::OutsideWord { at } => at,
-        LexFault::Limit { at } => at,
-        LexFault::OutOfMemory => 0,
-    }
-}
-
-fn word(fault: LexFault) -> &'static str
-    ensures { result.now ≡ fault_word fault }
-{
-    match fault {
-        LexFault::Byte { .. } => "byte",
-        LexFault::Token { .. } => "token",
-        LexFault::Directive { .. } => "directive",
-        LexFault::OutsideWord { .. } => "outside word",
-        LexFault::Limit { .. } => "constant too wide",
-        LexFault::OutOfMemory => "",
-    }
-}
 
 // The first phase: the tokens.
 fn lexed<'a>(alloc: Global, source: &'a [u8]) -> Result<Vec<Token<'a>>, Stop<'a>>
@@ -44,11 +17,13 @@ fn lexed<'a>(alloc: Global, source: &'a [u8]) -> Result<Vec<Token<'a>>, Stop<'a>
 {
     match lex(alloc, source, Dialect::Plain) {
         Ok(tokens) => Ok(tokens),
-        Err(LexFault::OutOfMemory) => Err(Stop::OutOfMemory),
-        Err(fault) => Err(Stop::Refused(Refusal::Fault {
-            place: place_of(source, place(fault)),
-            word: word(fault),
-        })),
+        Err(fault) => match fault.at() {
+            Some(at) => Err(Stop::Refused(Refusal::Fault {
+                place: place_of(source, at),
+                word: fault.words(),
+            })),
+            None => Err(Stop::OutOfMemory),
+        },
     }
 }
 

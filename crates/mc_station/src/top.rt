@@ -83,12 +83,11 @@ pub fn station<S: Store, K: Sink, E: Sink, G: Gate>(
         → (result ≡ number_of reply.status) ⊎ (result ≡ 8) }
 {
     let mut slots = [Vec::new(alloc), Vec::new(alloc)];
-    let status = match run(alloc, store, first_stage(words), &mut slots) {
+    match run(alloc, store, first_stage(words), &mut slots) {
         Ok(reply) => match put(&reply, out, diag) {
-            Ok(()) => reply.status,
-            Err(_) => Status::CannotWrite,
+            Ok(()) => reply.status.number(),
+            Err(_) => Status::CannotWrite.number(),
         },
-        Err(_) => Status::OutOfMemory,
-    };
-    status.number()
+        Err(_) => Status::OutOfMemory.number(),
+    }
 }
