@@ -56,11 +56,7 @@ fn after_tests<'a>(
 }
 
 /// The stage that follows where the bytes are accepted, or why they are refused.
-pub fn judge<'a>(
-    alloc: Global,
-    stage: Stage<'a>,
-    bytes: &'a [u8],
-) -> Result<Stage<'a>, Stop<'a>>
+pub fn judge<'a>(alloc: Global, stage: Stage<'a>, bytes: &'a [u8]) -> Result<Stage<'a>, Stop<'a>>
     requires { AsksUpTo (seen_stage stage) (length bytes.now) }
     ensures { Gives seen_stage (Judges (seen_stage stage.entry) bytes.now) result }
 {

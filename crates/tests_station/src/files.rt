@@ -1,6 +1,6 @@
 //! Which tests files are accepted, and the limits of both files.
 
-use super::{HEADER, SOURCE, TESTS, gives, plain};
+use crate::run::{HEADER, SOURCE, TESTS, gives, plain};
 use std::alloc::Global;
 use std::process::Abort;
 use std::test::Fail;
@@ -20,66 +20,65 @@ const ONE: &str = "test t1 pass values 1 output\nD1 TT=T by t1\n";
 const NAME_64: &str = "aaaaaaaaaaaaaaaabbbbbbbbbbbbbbbbccccccccccccccccdddddddddddddddd";
 
 #[test]
-fn accepted_tests(rt: HostRuntime) -> Result<(), Fail> {
-    for (lines, out) in [
-        ("t1,f,1 1,,,", ONE),
-        ("t1,f,1 1,,,\n", ONE),
-        ("t1,f,1 1,,,\r\n", ONE),
-        ("\nt1,f,1 1,,,\n\n", ONE),
-        ("\"t1\",\"f\",\"1 1\",\"\",\"\",\"\"\n", ONE),
-        ("t1,f,-1 2147483647,,,\n", ONE),
+fn tests_after_the_header(rt: HostRuntime) -> Result<(), Fail> {
+    for (lines, want) in [
+        ("t1,f,1 1,,,", (0, ONE, "")),
+        ("t1,f,1 1,,,\n", (0, ONE, "")),
+        ("t1,f,1 1,,,\r\n", (0, ONE, "")),
+        ("\nt1,f,1 1,,,\n\n", (0, ONE, "")),
+        ("\"t1\",\"f\",\"1 1\",\"\",\"\",\"\"\n", (0, ONE, "")),
+        ("t1,f,-1 2147483647,,,\n", (0, ONE, "")),
         (
             "t1,f,-2147483648 0,,,\n",
-            "test t1 pass values 0 output\nD1 TF=F by t1\n",
+            (0, "test t1 pass values 0 output\nD1 TF=F by t1\n", ""),
         ),
         (
             "A_z-0.9,f,0 0,,,\n",
-            "test A_z-0.9 pass values 0 output\nD1 F-=F by A_z-0.9\n",
+            (
+                0,
+                "test A_z-0.9 pass values 0 output\nD1 F-=F by A_z-0.9\n",
+                "",
+            ),
         ),
         // a vector is the least test's that evaluates it
         (
             "z,f,0 5,,,\na,f,0 6,,,\n",
-            "test z pass values 0 output\ntest a pass values 0 output\nD1 F-=F by z\n",
+            (
+                0,
+                "test z pass values 0 output\ntest a pass values 0 output\nD1 F-=F by z\n",
+                "",
+            ),
         ),
+        ("t1,f,-0 1,,,\n", NOT_BUILT),
+        ("t1,f,01 1,,,\n", NOT_BUILT),
+        ("t1,f,+1 1,,,\n", NOT_BUILT),
+        ("t1,f,2147483648 1,,,\n", NOT_BUILT),
+        ("t1,f,-2147483649 1,,,\n", NOT_BUILT),
+        ("t1,f,1  1,,,\n", NOT_BUILT),
+        ("t1,f, 1 1,,,\n", NOT_BUILT),
+        ("t1,f,1 1 ,,,\n", NOT_BUILT),
+        ("t1,f,1\t1,,,\n", NOT_BUILT),
+        ("t1,f,1,,,\n", NOT_BUILT),
+        ("t1,f,1 1 1,,,\n", NOT_BUILT),
+        ("t1,f,,,,\n", NOT_BUILT),
+        ("t1,f,1 a,,,\n", NOT_BUILT),
+        ("t1,f,1 -,,,\n", NOT_BUILT),
+        ("t1,f,1 \01,,,\n", NOT_BUILT),
+        ("t\01,f,1 1,,,\n", NOT_BUILT),
+        ("t1,f,1 1,\0,,\n", NOT_BUILT),
+        ("t1,g,1 1,,,\n", NOT_BUILT),
+        ("t1,,1 1,,,\n", NOT_BUILT),
+        (",f,1 1,,,\n", NOT_BUILT),
+        ("t 1,f,1 1,,,\n", NOT_BUILT),
+        ("t1,f,1 1,0,,\n", NOT_BUILT),
+        ("t1,f,1 1,,1,\n", NOT_BUILT),
+        ("t1,f,1 1,,,1\n", NOT_BUILT),
+        ("t1,f,1 1,,\n", NOT_BUILT),
+        ("t1,f,1 1,,,,\n", NOT_BUILT),
+        ("t1,f,1 1,,,\nt1,f,1 0,,,\n", NOT_BUILT),
+        ("t1,f,1 1,,,\nt2,f,1 0,,,\nt1,f,1 1,,,\n", NOT_BUILT),
     ] {
-        lists(&rt, rt.alloc(), lines, (0, out, ""))?;
-    }
-    Ok(())
-}
-
-#[test]
-fn other_tests(rt: HostRuntime) -> Result<(), Fail> {
-    for lines in [
-        "t1,f,-0 1,,,\n",
-        "t1,f,01 1,,,\n",
-        "t1,f,+1 1,,,\n",
-        "t1,f,2147483648 1,,,\n",
-        "t1,f,-2147483649 1,,,\n",
-        "t1,f,1  1,,,\n",
-        "t1,f, 1 1,,,\n",
-        "t1,f,1 1 ,,,\n",
-        "t1,f,1\t1,,,\n",
-        "t1,f,1,,,\n",
-        "t1,f,1 1 1,,,\n",
-        "t1,f,,,,\n",
-        "t1,f,1 a,,,\n",
-        "t1,f,1 -,,,\n",
-        "t1,f,1 \01,,,\n",
-        "t\01,f,1 1,,,\n",
-        "t1,f,1 1,\0,,\n",
-        "t1,g,1 1,,,\n",
-        "t1,,1 1,,,\n",
-        ",f,1 1,,,\n",
-        "t 1,f,1 1,,,\n",
-        "t1,f,1 1,0,,\n",
-        "t1,f,1 1,,1,\n",
-        "t1,f,1 1,,,1\n",
-        "t1,f,1 1,,\n",
-        "t1,f,1 1,,,,\n",
-        "t1,f,1 1,,,\nt1,f,1 0,,,\n",
-        "t1,f,1 1,,,\nt2,f,1 0,,,\nt1,f,1 1,,,\n",
-    ] {
-        lists(&rt, rt.alloc(), lines, NOT_BUILT)?;
+        lists(&rt, rt.alloc(), lines, want)?;
     }
     Ok(())
 }

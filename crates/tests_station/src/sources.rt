@@ -1,6 +1,6 @@
 //! Which sources are accepted, and the lines for those that are not.
 
-use super::{HEADER, gives, plain};
+use crate::run::{HEADER, gives, plain};
 use std::alloc::Global;
 use std::process::Abort;
 use std::test::Fail;
@@ -20,7 +20,7 @@ fn is_judged(
     gives(rt, alloc, &setting, source, want)
 }
 
-/// A function that returns this expression behind this text is judged so.
+/// A function of three parameters that returns this expression is judged so.
 fn returns(
     rt: &impl Abort,
     alloc: Global,
@@ -34,71 +34,62 @@ fn returns(
 }
 
 #[test]
-fn accepted_expressions(rt: HostRuntime) -> Result<(), Fail> {
-    for expression in [
-        "a&&b||c",
-        "a||b&&c",
-        "!a",
-        "!!a",
-        "!(!a)",
-        "((a))&&b",
-        "(a&&b)",
-        "a<1",
-        "0==a",
-        "(a<1)",
-        "!(a<1)",
-        "1<2||a",
-        "a&&0",
-        "a&&2147483647",
-        "a\x0b&&\x0cb\r\n||\tc",
-        "a/* with */&&// a comment\nb",
+fn expressions(rt: HostRuntime) -> Result<(), Fail> {
+    for (expression, want) in [
+        ("a&&b||c", ACCEPTED),
+        ("a||b&&c", ACCEPTED),
+        ("!a", ACCEPTED),
+        ("!!a", ACCEPTED),
+        ("!(!a)", ACCEPTED),
+        ("((a))&&b", ACCEPTED),
+        ("(a&&b)", ACCEPTED),
+        ("a<1", ACCEPTED),
+        ("0==a", ACCEPTED),
+        ("(a<1)", ACCEPTED),
+        ("!(a<1)", ACCEPTED),
+        ("1<2||a", ACCEPTED),
+        ("a&&0", ACCEPTED),
+        ("a&&2147483647", ACCEPTED),
+        ("a\x0b&&\x0cb\r\n||\tc", ACCEPTED),
+        ("a/* with */&&// a comment\nb", ACCEPTED),
+        ("", NOT_BUILT),
+        ("a", NOT_BUILT),
+        ("(a)", NOT_BUILT),
+        ("1&&2", NOT_BUILT),
+        ("a<b==c", NOT_BUILT),
+        ("a==b<c", NOT_BUILT),
+        ("(a<b)==a", NOT_BUILT),
+        ("(a)<1", NOT_BUILT),
+        ("a<(1)", NOT_BUILT),
+        ("!a<b", NOT_BUILT),
+        ("!(a)<1", NOT_BUILT),
+        ("a&&", NOT_BUILT),
+        ("&&a", NOT_BUILT),
+        ("(a&&b", NOT_BUILT),
+        ("a&&b)", NOT_BUILT),
+        ("a&&d", NOT_BUILT),
+        ("a&&f", NOT_BUILT),
+        ("a&&2147483648", NOT_BUILT),
+        ("a&&007", NOT_BUILT),
+        ("a&&00", NOT_BUILT),
+        ("a&&1u", NOT_BUILT),
+        ("a&&1L", NOT_BUILT),
+        ("a&&0x1", NOT_BUILT),
+        ("a&&'a'", NOT_BUILT),
+        ("a&&-1", NOT_BUILT),
+        ("a&&&a", NOT_BUILT),
+        ("a&b", NOT_BUILT),
+        ("a<<1", NOT_BUILT),
+        ("a<=1", NOT_BUILT),
+        ("a>1", NOT_BUILT),
+        ("a!=1", NOT_BUILT),
+        ("a===1", NOT_BUILT),
+        ("a=1", NOT_BUILT),
+        ("a|||b", NOT_BUILT),
+        ("a|b", NOT_BUILT),
+        ("a&&b;", NOT_BUILT),
     ] {
-        returns(&rt, rt.alloc(), expression, ACCEPTED)?;
-    }
-    Ok(())
-}
-
-#[test]
-fn other_expressions(rt: HostRuntime) -> Result<(), Fail> {
-    for expression in [
-        "",
-        "a",
-        "(a)",
-        "1&&2",
-        "a<b==c",
-        "a==b<c",
-        "(a<b)==a",
-        "(a)<1",
-        "a<(1)",
-        "!a<b",
-        "!(a)<1",
-        "a&&",
-        "&&a",
-        "(a&&b",
-        "a&&b)",
-        "a&&d",
-        "a&&f",
-        "a&&2147483648",
-        "a&&007",
-        "a&&00",
-        "a&&1u",
-        "a&&1L",
-        "a&&0x1",
-        "a&&'a'",
-        "a&&-1",
-        "a&&&a",
-        "a&b",
-        "a<<1",
-        "a<=1",
-        "a>1",
-        "a!=1",
-        "a===1",
-        "a=1",
-        "a|||b",
-        "a|b",
-        "a&&b;",
-    ] {
-        returns(&rt, rt.alloc(), expression, NOT_BUILT)?;
+        returns(&rt, rt.alloc(), expression, want)?;
     }
     Ok(())
 }
@@ -130,39 +121,39 @@ fn whole_sources(rt: HostRuntime) -> Result<(), Fail> {
         ("int f(int a){return !a;;}", NOT_BUILT),
         ("long f(int a){return !a;}", NOT_BUILT),
         ("int f(int a){return !a;}int g;", NOT_BUILT),
-    ] {
-        is_judged(&rt, rt.alloc(), source, want)?;
-    }
-    Ok(())
-}
-
-#[test]
-fn lexical_faults(rt: HostRuntime) -> Result<(), Fail> {
-    for (source, line) in [
         (
             "int f(int auto){return !auto;}",
-            "mcdc: source 1:11: outside word\n",
+            (3, "", "mcdc: source 1:11: outside word\n"),
         ),
         (
             "int f(int mcdc_r){return !mcdc_r;}",
-            "mcdc: source 1:11: outside word\n",
+            (3, "", "mcdc: source 1:11: outside word\n"),
         ),
-        ("#include <x.h>", "mcdc: source 1:1: directive\n"),
-        ("float x;", "mcdc: source 1:1: outside word\n"),
+        ("#include <x.h>", (3, "", "mcdc: source 1:1: directive\n")),
+        ("float x;", (3, "", "mcdc: source 1:1: outside word\n")),
         (
             "int f(int p){return p->x;}",
-            "mcdc: source 1:22: outside word\n",
+            (3, "", "mcdc: source 1:22: outside word\n"),
         ),
-        ("int x; /* open", "mcdc: source 1:8: token\n"),
+        ("int x; /* open", (3, "", "mcdc: source 1:8: token\n")),
         (
             "int a = 18446744073709551616;",
-            "mcdc: source 1:9: constant too wide\n",
+            (3, "", "mcdc: source 1:9: constant too wide\n"),
         ),
-        ("int f(int a){return a@1;}", "mcdc: source 1:22: byte\n"),
-        ("int f(int a)\n{return a@1;}", "mcdc: source 2:10: byte\n"),
-        ("int x;\n\n  float y;", "mcdc: source 3:3: outside word\n"),
+        (
+            "int f(int a){return a@1;}",
+            (3, "", "mcdc: source 1:22: byte\n"),
+        ),
+        (
+            "int f(int a)\n{return a@1;}",
+            (3, "", "mcdc: source 2:10: byte\n"),
+        ),
+        (
+            "int x;\n\n  float y;",
+            (3, "", "mcdc: source 3:3: outside word\n"),
+        ),
     ] {
-        is_judged(&rt, rt.alloc(), source, (3, "", line))?;
+        is_judged(&rt, rt.alloc(), source, want)?;
     }
     Ok(())
 }

@@ -1,12 +1,12 @@
 //! Every expression of up to four conditions, each a parameter, with `&&`, `||` and at most one `!` at each node,
 //! on its whole truth table, against values and vectors that are put together here from those of the operands.
 
-use super::{HEADER, gives, plain};
+use crate::run::{HEADER, gives, plain};
 use std::alloc::{AllocError, Global};
 use std::process::Abort;
 use std::test::Fail;
 
-/// A node of an expression: a condition, or the operator that joins the two parts in front of it.
+/// A node of an expression: a condition, or the operator that joins the two parts before it.
 #[derive(Clone, Copy)]
 struct Node {
     is_leaf: bool,
@@ -130,7 +130,7 @@ fn all_tests(alloc: Global) -> Result<String, Fail> {
     Ok(tests)
 }
 
-/// Each text with each answer behind it.
+/// Each text with each answer after it.
 fn longer_by_one(alloc: Global, texts: &[String]) -> Result<Vec<String>, Fail> {
     let mut longer = Vec::new(alloc);
     for text in texts {

@@ -1,7 +1,6 @@
-use Rattle.std.proofs.Common.{◌≡◌, ◌≤◌, ◌∙◌, ℕ, List, length, refl, sym, subst, ap}
-use Rattle.mc_port.specs.Store.{and_asked}
-use Rattle.mc_station.specs.Files.{limit_of, request_of}
-use Rattle.mc_station.specs.Seen.{outcome_of, seen_file, seen_reply, seen_stage}
+use Rattle.std.proofs.Common.{ℕ, List, Err, refl, subst}
+use Rattle.mc_station.specs.Seen.{Gives, outcome_of, seen_file, seen_reply, seen_stage}
+use Rattle.mc_station.specs.Stages.{Judges}
 use Rattle.mc_station.proofs.Leading.{accepted, finished, no_memory, refused, too_long, unreadable}
 use Rattle.mc_station.proofs.run.+run.Goals as goal
 
@@ -27,14 +26,14 @@ returns-in-Ok-judge-clause-leads g t c =
     accepted old.contents (seen_stage c.args.stage) old.asked new.asked (seen_file c.in-Ok-Asks.file) next asked (seen_stage c.in-Ok-judge.stage) c.in-Ok.bytes.items new.contents
     (outcome_of c.run.result) _ loads.1 loads.0 judges c.load.ensures.contents c.run.ensures.leads
 
-pub returns-in-Err-judge-clause-leads : goal.returns-in-Err-judge-clause-leads
-returns-in-Err-judge-clause-leads g t c =
+pub returns-in-Ok-clause-leads : goal.returns-in-Ok-clause-leads
+returns-in-Ok-clause-leads g t c =
     let old = g.S.Store.state c.args.store.now in
     let new = g.S.Store.state c.load.new.self in
     let next = rw c.in-Ok-Asks.field-0-is at c.in-Ok-Asks.ensures in
     let asked = rw c.limit.ensures at c.in-Ok.ensures.asked in
     let loads = rw c.limit.ensures at c.in-Ok.ensures.bytes in
-    let judges = rw c.deref.ensures.value at c.in-Err-judge.ensures in
+    let judges = subst (λ (bytes : List ℕ). Gives seen_stage (Judges (seen_stage c.args.stage) bytes) (Err c.in-Err-judge.stop)) c.deref.ensures.value c.in-Err-judge.ensures in
     refused old.contents (seen_stage c.args.stage) old.asked new.asked (seen_file c.in-Ok-Asks.file) next asked c.in-Err-judge.stop c.in-Ok.bytes.items c.of_stop.result
     c.of_stop.ensures loads.1 loads.0 judges
 
@@ -45,7 +44,7 @@ returns-in-Err-TooLong-clause-leads g t c =
     let next = rw c.in-Ok-Asks.field-0-is at c.in-Ok-Asks.ensures in
     let asked = rw (c.in-Err-TooLong.field-0-is, c.limit.ensures) at c.in-Err-TooLong.ensures.asked in
     let loads = rw (c.in-Err-TooLong.field-0-is, c.limit.ensures) at c.in-Err-TooLong.ensures.bytes in
-    too_long old.contents (seen_stage c.args.stage) old.asked new.asked (seen_file c.in-Ok-Asks.file) next asked c.of_refusal-in-Err-TooLong.result c.of_refusal-in-Err-TooLong.ensures loads.1
+    too_long old.contents (seen_stage c.args.stage) old.asked new.asked (seen_file c.in-Ok-Asks.file) next asked c.of_refusal.result c.of_refusal.ensures loads.1
 
 pub returns-in-Err-Failed-clause-leads : goal.returns-in-Err-Failed-clause-leads
 returns-in-Err-Failed-clause-leads g t c =
