@@ -26,7 +26,8 @@ use Rattle.mc_grammar.specs.Statements.{ReadsOptional, ReadsTest, ReadsInitializ
 use Rattle.mc_grammar.specs.Statements as s
 use Rattle.mc_grammar.specs.Items.{ReadsItem, ReadsUnit, IsTree, is_item_of}
 use Rattle.mc_grammar.specs.Items as i
-use Rattle.mc_grammar.specs.Spelling.{Spelled, Spells, nothing, token, last_comma, in_force, text_of_unary, text_of_step, text_of_binary, text_of_assignment, text_of_word, comma, left_brace, right_brace, semicolon, spell, spell_expressions, spell_type_name, spell_specifiers, spell_member, spell_members, spell_enumerator, spell_enumerators, spell_declarator, spell_declarators, spell_stars, spell_lengths, spell_parameters, spell_parameter, spell_parameter_list, spell_initializer, spell_initializers, some_word, is_typedef_word, spell_force, spell_init_declarator, spell_init_declarators, spell_declaration, spell_optional, spell_start, spell_test, spell_statement, spell_block, spell_item, spell_unit}
+use Rattle.mc_grammar.specs.Spelling.{Spelled, Spells, nothing, token, last_comma, in_force, text_of_unary, text_of_step, text_of_binary, text_of_assignment, text_of_word, comma, left_brace, right_brace, semicolon, spell, spell_expressions, spell_type_name, spell_specifiers, spell_member, spell_members, spell_enumerator, spell_enumerators, spell_declarator, spell_declarators, spell_stars, spell_lengths, spell_parameters, spell_parameter, spell_parameter_list, spell_initializer, spell_initializers, spell_force, spell_init_declarator, spell_init_declarators, spell_declaration, spell_optional, spell_start, spell_test, spell_statement, spell_block, spell_item, spell_unit}
+use Rattle.mc_grammar.specs.WordSets.{is_typedef_word, some_word}
 use Rattle.mc_grammar.proofs.Lengths.{operand_takes}
 use Rattle.mc_grammar.proofs.Storage.{item_typedef, local_typedef, type_typedef}
 
