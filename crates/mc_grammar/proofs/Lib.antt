@@ -10,3 +10,7 @@ pub mod Snippets
 pub mod Leaving
 pub mod Refused
 pub mod Nested
+pub mod Storage
+pub mod Spelling
+pub mod Extent
+pub mod Precedence

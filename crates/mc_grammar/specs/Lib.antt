@@ -6,6 +6,10 @@ pub mod Counts
 pub mod Expressions
 pub mod Statements
 pub mod Items
+pub mod Spelling
+pub mod Extent
+pub mod Precedence
+pub mod Laws
 pub mod Meaning
 pub mod Samples
 pub mod Snippets

@@ -14,6 +14,7 @@ ghost use Rattle.mc_grammar.specs.Nonterminal.{Nonterminal, takes};
 ghost use Rattle.mc_grammar.specs.Nonterminal as n;
 ghost use Rattle.mc_grammar.specs.Expressions.{Reads, ReadsDeclarator, ReadsDeclarators, ReadsEnumerator, ReadsEnumerators, ReadsExpressions, ReadsMember, ReadsMembers, ReadsParameter, ReadsParameterList, ReadsParameters, ReadsArrayLengths, ReadsSpecifiers, ReadsStars, ReadsTypeName};
 ghost use Rattle.mc_grammar.specs.Statements.{ReadsStatement, ReadsBlockItems, ReadsCompound, ReadsDeclaration, ReadsForStart, ReadsInitDeclarator, ReadsInitDeclarators, ReadsInitializer, ReadsInitializers, ReadsOptional, ReadsTest};
+ghost use Rattle.mc_grammar.specs.Laws.{LeavesNoMore, TakesToken};
 ghost use Rattle.mc_grammar.specs.Items.{IsTree, ReadsItem, ReadsUnit};
 
 /// What an expression leaves is no longer than what was given, and shorter where its nonterminal
@@ -26,13 +27,13 @@ pub fn expression_is_not_empty()
 /// A statement takes a token.
 #[tactic(auto, using(crate::proofs::Lengths::statement_shorter))]
 pub fn statement_is_not_empty()
-    ensures { (d : Dialect) (ts rest : List Lexeme) (one : Statement) → ReadsStatement d ts one rest → length rest < length ts }
+    ensures { (d : Dialect) → TakesToken (ReadsStatement d) }
 {}
 
 /// An item takes a token.
 #[tactic(auto, using(crate::proofs::Lengths::item_shorter))]
 pub fn item_is_not_empty()
-    ensures { (d : Dialect) (ts rest : List Lexeme) (one : Item) → ReadsItem d ts one rest → length rest < length ts }
+    ensures { (d : Dialect) → TakesToken (ReadsItem d) }
 {}
 
 /// An `else` belongs to the nearest `if`: one that has no `else` never stands before one.
@@ -87,36 +88,36 @@ pub fn tree_is_no_longer_than_text()
 /// declarator with its initializer if it has one, a declaration, the first part of a `for`, and a compound statement.
 #[tactic(auto, using(crate::proofs::Lengths::expressions_shorter, crate::proofs::Lengths::type_name_shorter, crate::proofs::Lengths::members_shorter, crate::proofs::Lengths::member_shorter, crate::proofs::Lengths::declarators_shorter, crate::proofs::Lengths::declarator_shorter, crate::proofs::Lengths::enumerators_shorter, crate::proofs::Lengths::enumerator_shorter, crate::proofs::Lengths::parameters_shorter, crate::proofs::Lengths::parameter_list_shorter, crate::proofs::Lengths::parameter_shorter, crate::proofs::Lengths::test_shorter, crate::proofs::Lengths::initializer_shorter, crate::proofs::Lengths::initializers_shorter, crate::proofs::Lengths::init_declarator_shorter, crate::proofs::Lengths::declaration_shorter, crate::proofs::Lengths::for_start_shorter, crate::proofs::Lengths::compound_shorter))]
 pub fn parts_are_not_empty()
-    ensures expressions { (d : Dialect) (ts rest : List Lexeme) (all : Expressions) → ReadsExpressions d ts all rest → length rest < length ts }
-    ensures type_name { (d : Dialect) (ts rest : List Lexeme) (one : TypeName) → ReadsTypeName d ts one rest → length rest < length ts }
-    ensures members { (d : Dialect) (ts rest : List Lexeme) (all : Members) → ReadsMembers d ts all rest → length rest < length ts }
-    ensures member { (d : Dialect) (ts rest : List Lexeme) (one : StructMember) → ReadsMember d ts one rest → length rest < length ts }
-    ensures declarators { (d : Dialect) (ts rest : List Lexeme) (all : Declarators) → ReadsDeclarators d ts all rest → length rest < length ts }
-    ensures declarator { (d : Dialect) (ts rest : List Lexeme) (one : Declarator) → ReadsDeclarator d ts one rest → length rest < length ts }
-    ensures enumerators { (d : Dialect) (ts rest : List Lexeme) (all : Enumerators) → ReadsEnumerators d ts all rest → length rest < length ts }
-    ensures enumerator { (d : Dialect) (ts rest : List Lexeme) (one : Enumerator) → ReadsEnumerator d ts one rest → length rest < length ts }
-    ensures parameters { (d : Dialect) (ts rest : List Lexeme) (all : Parameters) → ReadsParameters d ts all rest → length rest < length ts }
-    ensures parameter_list { (d : Dialect) (ts rest : List Lexeme) (all : ParameterList) → ReadsParameterList d ts all rest → length rest < length ts }
-    ensures parameter { (d : Dialect) (ts rest : List Lexeme) (one : Parameter) → ReadsParameter d ts one rest → length rest < length ts }
-    ensures test { (d : Dialect) (ts rest : List Lexeme) (one : Expression) → ReadsTest d ts one rest → length rest < length ts }
-    ensures initializer { (d : Dialect) (ts rest : List Lexeme) (one : Initializer) → ReadsInitializer d ts one rest → length rest < length ts }
-    ensures initializers { (d : Dialect) (ts rest : List Lexeme) (all : Initializers) → ReadsInitializers d ts all rest → length rest < length ts }
-    ensures init_declarator { (d : Dialect) (typedef : Bool) (ts rest : List Lexeme) (one : InitDeclarator) → ReadsInitDeclarator d typedef ts one rest → length rest < length ts }
-    ensures declaration { (d : Dialect) (typedef : Bool) (allowed : Specifiers → Bool) (ts rest : List Lexeme) (one : Declaration) → ReadsDeclaration d typedef allowed ts one rest → length rest < length ts }
-    ensures for_start { (d : Dialect) (ts rest : List Lexeme) (one : ForStart) → ReadsForStart d ts one rest → length rest < length ts }
-    ensures compound { (d : Dialect) (ts rest : List Lexeme) (all : BlockItems) → ReadsCompound d ts all rest → length rest < length ts }
+    ensures expressions { (d : Dialect) → TakesToken (ReadsExpressions d) }
+    ensures type_name { (d : Dialect) → TakesToken (ReadsTypeName d) }
+    ensures members { (d : Dialect) → TakesToken (ReadsMembers d) }
+    ensures member { (d : Dialect) → TakesToken (ReadsMember d) }
+    ensures declarators { (d : Dialect) → TakesToken (ReadsDeclarators d) }
+    ensures declarator { (d : Dialect) → TakesToken (ReadsDeclarator d) }
+    ensures enumerators { (d : Dialect) → TakesToken (ReadsEnumerators d) }
+    ensures enumerator { (d : Dialect) → TakesToken (ReadsEnumerator d) }
+    ensures parameters { (d : Dialect) → TakesToken (ReadsParameters d) }
+    ensures parameter_list { (d : Dialect) → TakesToken (ReadsParameterList d) }
+    ensures parameter { (d : Dialect) → TakesToken (ReadsParameter d) }
+    ensures test { (d : Dialect) → TakesToken (ReadsTest d) }
+    ensures initializer { (d : Dialect) → TakesToken (ReadsInitializer d) }
+    ensures initializers { (d : Dialect) → TakesToken (ReadsInitializers d) }
+    ensures init_declarator { (d : Dialect) (typedef : Bool) → TakesToken (ReadsInitDeclarator d typedef) }
+    ensures declaration { (d : Dialect) (typedef : Bool) (allowed : Specifiers → Bool) → TakesToken (ReadsDeclaration d typedef allowed) }
+    ensures for_start { (d : Dialect) → TakesToken (ReadsForStart d) }
+    ensures compound { (d : Dialect) (span : Span) → TakesToken (λ ts all rest. ReadsCompound d ts all span rest) }
 {}
 
 /// What may be empty leaves no more tokens than were given: the `*` of a declarator, specifiers, the lengths of an array, the
 /// items of a block, an expression that may be left out, and the declarators of a declaration.
 #[tactic(auto, using(crate::proofs::Lengths::stars_shorter, crate::proofs::Lengths::specifiers_no_longer, crate::proofs::Lengths::lengths_shorter, crate::proofs::Lengths::block_items_shorter, crate::proofs::Lengths::optional_shorter, crate::proofs::Lengths::init_declarators_shorter))]
 pub fn optional_parts_leave_no_more()
-    ensures stars { (ts rest : List Lexeme) (stars : ℕ) → ReadsStars ts stars rest → length rest ≤ length ts }
-    ensures specifiers { (d : Dialect) (has_type : Bool) (ts rest : List Lexeme) (all : Specifiers) → ReadsSpecifiers d has_type ts all rest → length rest ≤ length ts }
-    ensures lengths { (d : Dialect) (ts rest : List Lexeme) (all : ArrayLengths) → ReadsArrayLengths d ts all rest → length rest ≤ length ts }
-    ensures block_items { (d : Dialect) (ts rest : List Lexeme) (all : BlockItems) → ReadsBlockItems d ts all rest → length rest ≤ length ts }
-    ensures optional { (d : Dialect) (stop : List ℕ) (ts rest : List Lexeme) (one : Option Expression) → ReadsOptional d stop ts one rest → length rest ≤ length ts }
-    ensures init_declarators { (d : Dialect) (typedef : Bool) (ts rest : List Lexeme) (all : List InitDeclarator) → ReadsInitDeclarators d typedef ts all rest → length rest ≤ length ts }
+    ensures stars { (before end : Span) → LeavesNoMore (λ ts k rest. ReadsStars before ts k end rest) }
+    ensures specifiers { (d : Dialect) (has_type : Bool) → LeavesNoMore (ReadsSpecifiers d has_type) }
+    ensures lengths { (d : Dialect) (before end : Span) → LeavesNoMore (λ ts all rest. ReadsArrayLengths d before ts all end rest) }
+    ensures block_items { (d : Dialect) → LeavesNoMore (ReadsBlockItems d) }
+    ensures optional { (d : Dialect) (stop : List ℕ) → LeavesNoMore (ReadsOptional d stop) }
+    ensures init_declarators { (d : Dialect) (typedef : Bool) → LeavesNoMore (ReadsInitDeclarators d typedef) }
 {}
 
 /// After any items, no token is an identifier whose text is a typedef name that one of them declares: each such token is

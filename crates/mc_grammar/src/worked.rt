@@ -1,6 +1,7 @@
 //! The worked examples of docs/LANGUAGE.md: what the grammar reads of short texts, and how high the trees are.
 ghost use Rattle.std.specs.Prelude.{◌≡◌, ◌≤◌, ◌<◌, ℕ, Bool, List, [], ◌∷◌, codes, length};
 ghost use Rattle.mc_lex.specs.declared.token.Dialect.{Dialect};
+ghost use Rattle.mc_span.specs.declared.span.Span.{Span};
 ghost use Rattle.mc_tree.specs.Tree.{Declarator, Expression, Initializer, Parameters, Statement, Item};
 ghost use Rattle.mc_tree.specs.Tree as t;
 ghost use Rattle.mc_tree.specs.Height.{height, height_unit};
@@ -140,7 +141,7 @@ pub fn parameter_list_begins_with_a_type()
 /// No parenthesis stands at the start of a declarator or after its `*`.
 #[tactic(auto, using(crate::proofs::Refused::parenthesis_no_declarator))]
 pub fn declarator_has_no_parentheses()
-    ensures { (d : Dialect) (k place : ℕ) (ts us : List Lexeme) (one : Declarator) (rest : List Lexeme) → ReadsStars ts k (punctuator (codes "(") place ∷ us) → ReadsDeclarator d ts one rest → ⊥ }
+    ensures { (d : Dialect) (k place : ℕ) (before end : Span) (ts us : List Lexeme) (one : Declarator) (rest : List Lexeme) → ReadsStars before ts k end (punctuator (codes "(") place ∷ us) → ReadsDeclarator d ts one rest → ⊥ }
 {}
 
 /// `{}` is no initializer, whatever follows it.

@@ -1,4 +1,4 @@
--- What the lexer returned, beside the token list of the source.
+-- What `lex` returned, beside the token list of the source.
 use Rattle.std.specs.Prelude.{◌≡◌, ◌≤◌, ℕ, ◌+◌, List, length, take, drop, Option, Some, None, Result, Ok, Err, Vec}
 use Rattle.std.specs.Global.{Global}
 use Rattle.mc_lex.specs.declared.token.Token.{Token}
@@ -18,4 +18,6 @@ Gives found (Err e) = GivesFault found e
 
 -- the text of each token is the slice of the source at its start
 abbrev pub IsSlice : List ℕ → Tok → Type 0
-IsSlice source t = (t.text ≡ take (length t.text) (drop t.start source)) × (t.start + length t.text ≤ length source)
+IsSlice source t =
+    (t.text ≡ take (length t.text) (drop t.start source))
+    × (t.start + length t.text ≤ length source)
