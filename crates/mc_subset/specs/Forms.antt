@@ -1,12 +1,11 @@
 -- Which nodes are outside the profile: a definition for each form, and the first node that has one.
-use Rattle.std.specs.Prelude.{ℕ, ◌-◌, Bool, true, false, not, ◌||◌, nat_lt, if◌then◌else◌, List, [], ◌∷◌, Option, Some, None, Result, Ok, Err}
+use Rattle.std.specs.Prelude.{◌-◌, Bool, true, false, not, ◌||◌, nat_lt, if◌then◌else◌, List, [], ◌∷◌, Option, Some, None, Result, Ok, Err}
 use Rattle.mc_span.specs.declared.span.Span.{Span}
 use Rattle.mc_tree.specs.declared.expressions.unary_operator.UnaryOperator.{UnaryOperator}
 use Rattle.mc_tree.specs.declared.expressions.unary_operator.UnaryOperator.TheVariants as operator
 use Rattle.mc_tree.specs.declared.declarations.specifier_word.SpecifierWord.TheVariants as word
 use Rattle.mc_tree.specs.Tree.{Statement, Specifier, Specifiers, Parameters, span_of, span_of_specifier, span_of_statement, span_of_parameters}
 use Rattle.mc_tree.specs.Tree as t
-use Rattle.mc_subset.specs.declared.context.Region.{Region}
 use Rattle.mc_subset.specs.declared.context.Role.{Role}
 use Rattle.mc_subset.specs.declared.context.Role.TheVariants as role
 use Rattle.mc_subset.specs.declared.context.Standing.{Standing}

@@ -1,5 +1,5 @@
--- The nodes of a tree, each with what a row of the table of forms asks of its context. They stand in preorder: a node
--- before its parts, and parts in the order of the text. Names, enumerators, array lengths and initializers are not
+-- The nodes of a tree, each with what the rows of the table of forms ask of its context. They stand in preorder: a node
+-- before its parts, and parts in the order of the text. Names, enumerators, array lengths, initializers and items are not
 -- listed, since no row speaks of them; their parts are.
 use Rattle.std.specs.Prelude.{Bool, true, false, ◌||◌, List, [], ◌∷◌, ◌++◌, Option, Some, None}
 use Rattle.mc_tree.specs.declared.declarations.specifier_word.SpecifierWord.TheVariants as word
@@ -24,7 +24,7 @@ pub data Node : Type 0 where
   a_declaration : Declaration → Standing → Node
   a_statement : Statement → Standing → Node
 
--- a list without its first node
+-- the nodes after the first
 abbrev pub after_first : List Node → List Node
 after_first [] = []
 after_first (n ∷ rest) = rest
@@ -155,6 +155,10 @@ abbrev pub nodes_of_start : ForStart → List Node
 nodes_of_start (t.StartsLocal d) = nodes_of_declaration Function standing.Elsewhere d
 nodes_of_start (t.StartsExpression a) = nodes_of_optional role.ForPart a
 
+-- the three parts of a `for`
+abbrev pub nodes_of_parts : ForStart → Option Expression → Option Expression → List Node
+nodes_of_parts start a b = nodes_of_start start ++ (nodes_of_optional role.Part a ++ nodes_of_optional role.ForPart b)
+
 -- where the items of a compound statement stand that stands here itself
 abbrev pub standing_of_items : Standing → Standing
 standing_of_items standing.Body = standing.BeforeLabels
@@ -182,7 +186,7 @@ abbrev mutual
   nodes_of_statement w (t.Switch a s span) = a_statement (t.Switch a s span) w ∷ (nodes_of_expression Function role.Part a ++ nodes_of_statement standing.Body s)
   nodes_of_statement w (t.While a s span) = a_statement (t.While a s span) w ∷ (nodes_of_expression Function role.Part a ++ nodes_of_statement standing.Elsewhere s)
   nodes_of_statement w (t.DoWhile s a span) = a_statement (t.DoWhile s a span) w ∷ (nodes_of_statement standing.Elsewhere s ++ nodes_of_expression Function role.Part a)
-  nodes_of_statement w (t.For start a b s span) = a_statement (t.For start a b s span) w ∷ (nodes_of_start start ++ (nodes_of_optional role.Part a ++ (nodes_of_optional role.ForPart b ++ nodes_of_statement standing.Elsewhere s)))
+  nodes_of_statement w (t.For start a b s span) = a_statement (t.For start a b s span) w ∷ (nodes_of_parts start a b ++ nodes_of_statement standing.Elsewhere s)
   nodes_of_statement w (t.Case a label s span) = a_statement (t.Case a label s span) w ∷ (nodes_of_expression Function role.Part a ++ nodes_of_statement w s)
   nodes_of_statement w (t.Default label s span) = a_statement (t.Default label s span) w ∷ nodes_of_statement w s
   nodes_of_statement w (t.Label name s span) = a_statement (t.Label name s span) w ∷ nodes_of_statement standing.Elsewhere s

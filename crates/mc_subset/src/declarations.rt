@@ -96,7 +96,7 @@ pub(crate) fn optional(tree: &Option<Expression<'_>>, role: Role) -> Option<Outs
     }
 }
 
-pub(crate) fn for_start(tree: &ForStart<'_>) -> Option<Outside>
+fn for_start(tree: &ForStart<'_>) -> Option<Outside>
     ensures { result ≡ first_outside (n.nodes_of_start (start_of tree.now)) }
 {
     match tree {
@@ -105,4 +105,23 @@ pub(crate) fn for_start(tree: &ForStart<'_>) -> Option<Outside>
         }
         ForStart::Expression { value } => optional(value, Role::ForPart),
     }
+}
+
+/// The three parts of a `for`.
+pub(crate) fn for_parts(
+    start: &ForStart<'_>,
+    test: &Option<Expression<'_>>,
+    step: &Option<Expression<'_>>,
+) -> Option<Outside>
+    ensures { let second = option_map expression_of test.now in
+        let third = option_map expression_of step.now in
+        result ≡ first_outside (n.nodes_of_parts (start_of start.now) second third) }
+{
+    if let Some(first) = for_start(start) {
+        return Some(first);
+    }
+    if let Some(first) = optional(test, Role::Part) {
+        return Some(first);
+    }
+    optional(step, Role::ForPart)
 }

@@ -9,6 +9,7 @@ mod outside;
 mod rows;
 mod statements;
 mod units;
+pub mod worked;
 
 pub use form::Form;
 pub use outside::Outside;

@@ -8,7 +8,7 @@ ghost use Rattle.mc_subset.specs.Nodes as n;
 ghost use Rattle.mc_subset.specs.Forms.{first_outside, or_else};
 
 use crate::context::{Region, Role, Standing};
-use crate::declarations::{declaration, for_start, optional};
+use crate::declarations::{declaration, for_parts, optional};
 use crate::expressions::expression;
 use crate::outside::Outside;
 use crate::rows::{judge, standing_from, standing_of_items, statement_form};
@@ -83,13 +83,7 @@ fn parts_of_statement(tree: &Statement<'_>, standing: Standing) -> Option<Outsid
             body,
             ..
         } => {
-            if let Some(first) = for_start(start) {
-                return Some(first);
-            }
-            if let Some(first) = optional(test, Role::Part) {
-                return Some(first);
-            }
-            if let Some(first) = optional(step, Role::ForPart) {
+            if let Some(first) = for_parts(start, test, step) {
                 return Some(first);
             }
             statement(body, Standing::Elsewhere)
@@ -111,12 +105,12 @@ pub(crate) fn block(trees: &[BlockItem<'_>], standing: Standing) -> Option<Outsi
     ensures { let all = block_from (map block_item_of trees.now) in
         result ≡ first_outside (n.nodes_of_block standing all) }
 {
-    let mut place = standing;
+    let mut standing = standing;
     for tree in trees {
-        if let Some(first) = block_item(tree, place) {
+        if let Some(first) = block_item(tree, standing) {
             return Some(first);
         }
-        place = standing_after(tree, place);
+        standing = standing_after(tree, standing);
     }
     None
 }
@@ -136,7 +130,7 @@ fn block_item(tree: &BlockItem<'_>, standing: Standing) -> Option<Outside>
     }
 }
 
-/// The place after an item of a block.
+/// Where what follows an item of a block stands.
 fn standing_after(tree: &BlockItem<'_>, standing: Standing) -> Standing
     ensures { (rest : t.BlockItems)
         → result ≡ n.standing_after (block_item_of tree.now rest) standing }

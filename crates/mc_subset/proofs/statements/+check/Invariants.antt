@@ -5,4 +5,4 @@ use Rattle.mc_subset.specs.Forms.{first_outside}
 use Rattle.mc_subset.proofs.statements.+check.Given as goal
 
 abbrev pub invariant-block-loop-tree : goal.invariant-block-loop-tree
-invariant-block-loop-tree l = first_outside (nodes_of_block l.place (block_from (map block_item_of (drop l.tree-index l.trees)))) ≡ first_outside (nodes_of_block l.fn.standing (block_from (map block_item_of l.trees)))
+invariant-block-loop-tree l = first_outside (nodes_of_block l.standing (block_from (map block_item_of (drop l.tree-index l.trees)))) ≡ first_outside (nodes_of_block l.fn.standing (block_from (map block_item_of l.trees)))
