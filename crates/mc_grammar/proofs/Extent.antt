@@ -1,5 +1,5 @@
 -- The place of a node runs from its first token to its last.
-use Rattle.std.proofs.Common.{◌≡◌, ℕ, ◌&&◌, Bool, true, false, List, [], ◌∷◌, Option, Some, None, if◌then◌else◌, refl, sym, ◌∙◌, subst, ap, codes}
+use Rattle.std.proofs.Common.{◌≡◌, ℕ, ◌&&◌, Bool, true, false, List, [], ◌∷◌, Option, if◌then◌else◌, refl, sym, ◌∙◌, subst, ap}
 use Rattle.std.specs.Str.{bytes_eq}
 use Rattle.mc_lex.specs.declared.token.Dialect.{Dialect}
 use Rattle.mc_span.specs.declared.span.Span.{Span}
@@ -18,7 +18,7 @@ use Rattle.mc_grammar.specs.Items.{ReadsItem}
 use Rattle.mc_grammar.specs.Items as i
 use Rattle.mc_grammar.specs.Extent.{places, IsPlace, single, longer, span_of_type_name, span_of_member, span_of_declarator, span_of_parameter, span_of_declaration, span_of_item}
 use Rattle.mc_grammar.proofs.Lengths.{operand_takes}
-use Rattle.mc_grammar.proofs.Ends.{IsEnd, whole, later, join, stars_ends, expression_ends, expressions_ends, type_name_ends, specifiers_ends, members_ends, enumerators_ends, declarators_ends, declarator_ends, lengths_ends, parameter_list_ends, initializer_ends, initializers_ends}
+use Rattle.mc_grammar.proofs.Ends.{IsEnd, whole, later, join, stars_ends, expression_ends, expressions_ends, type_name_ends, specifiers_ends, members_ends, enumerators_ends, declarators_ends, declarator_ends, parameter_list_ends, initializer_ends, initializers_ends}
 
 -- ---- places of lists
 

@@ -13,4 +13,6 @@ pub mod Nested
 pub mod Storage
 pub mod Spelling
 pub mod Extent
-pub mod Precedence
+pub mod Sections
+pub mod Grouping
+pub mod FirstTokens

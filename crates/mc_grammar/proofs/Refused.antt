@@ -207,10 +207,10 @@ no_parameter_list : {d : Dialect} {x : Lexeme} {ts rest : List Lexeme} {all : Pa
 no_parameter_list h g (r.last_parameter p e) = no_parameter h g p
 no_parameter_list h g (r.more_parameters p e q) = no_parameter h g p
 
-pub names_no_parameters : (d : Dialect) (text : List ℕ) (place start : ℕ) (ts : List Lexeme) (all : Parameters) (rest : List Lexeme) → ReadsParameters d (lexeme_of (punctuator (codes "(") place) ∷ identifier text start ∷ ts) all rest → ⊥
-names_no_parameters d text place start ts all rest (r.empty_parameters e f) = absurd (cc)
-names_no_parameters d text place start ts all rest (r.void_parameters e f g) = absurd (cc)
-names_no_parameters d text place start ts all rest (r.listed_parameters e f g p v) = no_parameter_list (λ text. refl) refl p
+pub names_no_parameters : (d : Dialect) (text : List ℕ) (place start : ℕ) (ts rest : List Lexeme) (all : Parameters) → ReadsParameters d (lexeme_of (punctuator (codes "(") place) ∷ identifier text start ∷ ts) all rest → ⊥
+names_no_parameters d text place start ts rest all (r.empty_parameters e f) = absurd (cc)
+names_no_parameters d text place start ts rest all (r.void_parameters e f g) = absurd (cc)
+names_no_parameters d text place start ts rest all (r.listed_parameters e f g p v) = no_parameter_list (λ text. refl) refl p
 
 no_name : {x y : Lexeme} {ts left : List Lexeme} → x ∷ ts ≡ y ∷ left → is_name y ≡ false → is_name x ≡ true → ⊥
 no_name e f g = absurd (cc)
@@ -221,9 +221,9 @@ same_stars (r.star e p) (r.no_star f) = absurd (cc)
 same_stars (r.no_star e) (r.star f q) = absurd (cc)
 same_stars (r.no_star e) (r.no_star f) = refl
 
-pub parenthesis_no_declarator : (d : Dialect) (k place : ℕ) (before end : Span) (ts us : List Lexeme) (one : Declarator) (rest : List Lexeme) → ReadsStars before ts k end (lexeme_of (punctuator (codes "(") place) ∷ us) → ReadsDeclarator d ts one rest → ⊥
-parenthesis_no_declarator d k place before end ts us one rest h (r.object p e f q) = no_name (same_stars h p) refl e
-parenthesis_no_declarator d k place before end ts us one rest h (r.function p e q) = no_name (same_stars h p) refl e
+pub parenthesis_no_declarator : (d : Dialect) (k place : ℕ) (before end : Span) (ts us rest : List Lexeme) (one : Declarator) → ReadsStars before ts k end (lexeme_of (punctuator (codes "(") place) ∷ us) → ReadsDeclarator d ts one rest → ⊥
+parenthesis_no_declarator d k place before end ts us rest one h (r.object p e f q) = no_name (same_stars h p) refl e
+parenthesis_no_declarator d k place before end ts us rest one h (r.function p e q) = no_name (same_stars h p) refl e
 
 -- nothing begins with a `}`
 brace_no_step : (start : ℕ) (operator : StepOperator) → IsStep (lexeme_of (punctuator (codes "}") start)) operator → ⊥
@@ -270,6 +270,6 @@ no_initializers start (s.last_initializer p e) = no_initializer start p
 no_initializers start (s.last_initializer_comma p e f) = no_initializer start p
 no_initializers start (s.more_initializers p e f q) = no_initializer start p
 
-pub braces_no_initializer : (d : Dialect) (start end : ℕ) (ts : List Lexeme) (one : Initializer) (rest : List Lexeme) → ReadsInitializer d (lexeme_of (punctuator (codes "{") start) ∷ lexeme_of (punctuator (codes "}") end) ∷ ts) one rest → ⊥
-braces_no_initializer d start end ts one rest (s.single e p) = absurd (cc)
-braces_no_initializer d start end ts one rest (s.braced e p f) = no_initializers end p
+pub braces_no_initializer : (d : Dialect) (start end : ℕ) (ts rest : List Lexeme) (one : Initializer) → ReadsInitializer d (lexeme_of (punctuator (codes "{") start) ∷ lexeme_of (punctuator (codes "}") end) ∷ ts) one rest → ⊥
+braces_no_initializer d start end ts rest one (s.single e p) = absurd (cc)
+braces_no_initializer d start end ts rest one (s.braced e p f) = no_initializers end p

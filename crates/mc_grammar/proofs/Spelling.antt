@@ -1,8 +1,6 @@
 -- A tree spells its text.
-use Rattle.std.proofs.Common.{◌≡◌, ℕ, ◌+◌, ◌≤◌, Bool, true, false, not, ◌&&◌, ◌||◌, List, [], ◌∷◌, Option, Some, None, if◌then◌else◌, refl, sym, ◌∙◌, subst, codes, arith}
-use Rattle.std.proofs.lemmas.Bool.{eqb-true}
+use Rattle.std.proofs.Common.{◌≡◌, ℕ, Bool, true, false, List, [], ◌∷◌, Option, Some, None, if◌then◌else◌, refl, sym, subst, codes}
 use Rattle.mc_lex.specs.declared.token.Dialect.{Dialect}
-use Rattle.mc_lex.specs.Tokens.{Tok}
 use Rattle.mc_span.specs.declared.span.Span.{Span}
 use Rattle.mc_tree.specs.declared.expressions.unary_operator.UnaryOperator.{UnaryOperator}
 use Rattle.mc_tree.specs.declared.expressions.step_operator.StepOperator.{StepOperator}
@@ -11,11 +9,9 @@ use Rattle.mc_tree.specs.declared.expressions.binary_operator.BinaryOperator.The
 use Rattle.mc_tree.specs.declared.expressions.assignment_operator.AssignmentOperator.{AssignmentOperator}
 use Rattle.mc_tree.specs.declared.expressions.assignment_operator.AssignmentOperator.TheVariants as assign
 use Rattle.mc_tree.specs.declared.declarations.specifier_word.SpecifierWord.{SpecifierWord}
-use Rattle.mc_tree.specs.declared.declarations.specifier_word.SpecifierWord.TheVariants as word
 use Rattle.mc_tree.specs.Tree.{Expression, Expressions, TypeName, Specifiers, StructMember, Members, Enumerator, Enumerators, Declarator, Declarators, ArrayLengths, Parameters, Parameter, ParameterList, Initializer, Initializers, InitDeclarator, Declaration, ForStart, Statement, BlockItems, Item}
 use Rattle.mc_tree.specs.Tree as t
-use Rattle.mc_grammar.specs.Words.{Lexeme, is_punctuator, is_keyword, sees, lexemes_of}
-use Rattle.mc_grammar.specs.Counts.{counts, storages, has_one_type, is_typedef, for_item, for_local, for_type}
+use Rattle.mc_grammar.specs.Words.{Lexeme, is_punctuator, is_keyword, sees}
 use Rattle.mc_grammar.specs.Operators.{IsUnary, IsStep, operator_at, assignment_at, IsSpecifierWord}
 use Rattle.mc_grammar.specs.Operators as o
 use Rattle.mc_grammar.specs.Nonterminal.{Nonterminal, Level, operand, takes}
@@ -26,7 +22,8 @@ use Rattle.mc_grammar.specs.Statements.{ReadsOptional, ReadsTest, ReadsInitializ
 use Rattle.mc_grammar.specs.Statements as s
 use Rattle.mc_grammar.specs.Items.{ReadsItem, ReadsUnit, IsTree, is_item_of}
 use Rattle.mc_grammar.specs.Items as i
-use Rattle.mc_grammar.specs.Spelling.{Spelled, Spells, nothing, token, last_comma, in_force, text_of_unary, text_of_step, text_of_binary, text_of_assignment, text_of_word, comma, left_brace, right_brace, semicolon, spell, spell_expressions, spell_type_name, spell_specifiers, spell_member, spell_members, spell_enumerator, spell_enumerators, spell_declarator, spell_declarators, spell_stars, spell_lengths, spell_parameters, spell_parameter, spell_parameter_list, spell_initializer, spell_initializers, some_word, is_typedef_word, spell_force, spell_init_declarator, spell_init_declarators, spell_declaration, spell_optional, spell_start, spell_test, spell_statement, spell_block, spell_item, spell_unit}
+use Rattle.mc_grammar.specs.Spelling.{Spelled, Spells, nothing, token, last_comma, in_force, text_of_unary, text_of_step, text_of_binary, text_of_assignment, text_of_word, comma, left_brace, right_brace, semicolon, spell, spell_expressions, spell_type_name, spell_specifiers, spell_member, spell_members, spell_enumerator, spell_enumerators, spell_declarator, spell_declarators, spell_stars, spell_lengths, spell_parameters, spell_parameter, spell_parameter_list, spell_initializer, spell_initializers, spell_force, spell_init_declarator, spell_init_declarators, spell_declaration, spell_optional, spell_start, spell_test, spell_statement, spell_block, spell_item, spell_unit}
+use Rattle.mc_grammar.specs.WordSets.{is_typedef_word, some_word}
 use Rattle.mc_grammar.proofs.Lengths.{operand_takes}
 use Rattle.mc_grammar.proofs.Storage.{item_typedef, local_typedef, type_typedef}
 

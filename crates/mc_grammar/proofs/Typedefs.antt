@@ -10,7 +10,7 @@ use Rattle.mc_span.specs.declared.span.Span.{Span}
 use Rattle.mc_tree.specs.Tree.{Expression, Specifiers, Declarator, InitDeclarator, Declaration, ForStart, Statement, BlockItems, Item, name_of}
 use Rattle.mc_grammar.specs.Words.{Lexeme, is_name, is_identifier_kind, retag, retagged}
 use Rattle.mc_grammar.specs.Counts.{is_typedef, for_item}
-use Rattle.mc_grammar.specs.Meaning.{is_name_of, declared_name, names_of, declared_names, typedef_names, typedef_names_of, ReadsItems}
+use Rattle.mc_grammar.specs.Meaning.{is_name_of, IsGone, AreGone, declared_name, names_of, declared_names, typedef_names, typedef_names_of, ReadsItems}
 use Rattle.mc_grammar.specs.Meaning as m
 use Rattle.mc_grammar.specs.Expressions.{ReadsStars, ReadsDeclarator}
 use Rattle.mc_grammar.specs.Expressions as r
@@ -20,10 +20,6 @@ use Rattle.mc_grammar.specs.Items.{ReadsItem, ReadsUnit, is_item_of}
 use Rattle.mc_grammar.specs.Items as i
 use Rattle.mc_grammar.proofs.Choices.{no_name_follows}
 use Rattle.mc_grammar.proofs.Ends.{IsEnd, whole, later, or_right, none_of_end, stars_ends, expression_ends, specifiers_ends, parameters_ends, declarator_ends, initializer_ends, valued_typedef_retags}
-
--- no identifier has this text
-abbrev pub IsGone : List ℕ → List Lexeme → Type 0
-IsGone name ts = list_any (is_name_of name) ts ≡ false
 
 -- what is gone from the second is gone from the first
 pub record Keeps (rest ts : List Lexeme) : Type 0 where
@@ -125,10 +121,6 @@ item_keeps (i.defined p e q f v w) = chain (ends (specifiers_ends p)) (chain (en
 pub items_keep : {d : Dialect} {ts rest : List Lexeme} {all : List Item} → ReadsItems d ts all rest → Keeps rest ts
 items_keep m.no_items = all_kept
 items_keep (m.item p q) = chain (item_keeps p) (items_keep q)
-
--- these names are gone
-abbrev AreGone : List (List ℕ) → List Lexeme → Type 0
-AreGone names ts = All (λ name. IsGone name ts) names
 
 still_gone : {ts rest : List Lexeme} → Keeps rest ts → (names : List (List ℕ)) → AreGone names ts → AreGone names rest
 still_gone p names h = λ k d lt. p.gone _ (h k d lt)

@@ -14,7 +14,8 @@ places ts = map at ts
 pub data IsPlace : Span → List Span → List Span → Type 0 where
   single : {place : Span} {rest : List Span} → IsPlace place (place ∷ rest) rest
   longer : {place last : Span} {all rest : List Span}
-      → IsPlace last all rest → IsPlace (to place last) (place ∷ all) rest
+      → IsPlace last all rest
+      → IsPlace (to place last) (place ∷ all) rest
 
 -- where these stand
 abbrev pub span_of_type_name : TypeName → Span

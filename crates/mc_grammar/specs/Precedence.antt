@@ -27,9 +27,9 @@ section binary.BitOr = 12
 section binary.And = 13
 section binary.Or = 14
 
--- The expression is of this section or of an earlier one, and so is each operand of the section that
--- C17 wants there. The right operand of a binary operator is of an earlier section than the operator,
--- since within a section they group to the left.
+-- The expression is of this section or of an earlier one, and so is each operand of the section
+-- that C17 wants there. The right operand of a binary operator is of an earlier section than the
+-- operator, since within a section they group to the left.
 abbrev mutual
   pub Within : ℕ → Expression → Type 0
   -- C17 6.5.1

@@ -1,6 +1,6 @@
 -- How a tree is spelled: its tokens in the order of the text, one case for each variant. A token
 -- has its kind and its text, a constant and a character its value, and a name its place as well.
-use Rattle.std.specs.Prelude.{◌≡◌, ℕ, zero, suc, ℤ, Bool, true, false, ◌||◌, List, [], ◌∷◌, Option, Some, None, codes}
+use Rattle.std.specs.Prelude.{◌≡◌, ℕ, zero, suc, ℤ, Bool, true, false, List, [], ◌∷◌, Option, Some, None, codes}
 use Rattle.mc_lex.specs.declared.token.TokenKind.TheVariants as kind
 use Rattle.mc_tree.specs.declared.expressions.unary_operator.UnaryOperator.{UnaryOperator}
 use Rattle.mc_tree.specs.declared.expressions.unary_operator.UnaryOperator.TheVariants as unary
@@ -16,6 +16,7 @@ use Rattle.mc_tree.specs.Tree.{Name, Expression, Expressions, TypeName, Specifie
 use Rattle.mc_tree.specs.Tree as t
 use Rattle.mc_grammar.specs.Words.{Lexeme, is_punctuator, is_keyword, is_name, is_type_name, is_tag, sees, retag}
 use Rattle.mc_grammar.specs.Places.{name_at}
+use Rattle.mc_grammar.specs.WordSets.{is_typedef_word, some_word}
 
 pub data Spelled : Type 0 where
   Punctuator Keyword : List ℕ → Spelled
@@ -43,12 +44,14 @@ IsSpelled (Typedef name) x = ⊥
 pub data Spells : List Spelled → List Lexeme → List Lexeme → Type 0 where
   nothing : {ts : List Lexeme} → Spells [] ts ts
   token : {one : Spelled} {all : List Spelled} {x : Lexeme} {ts rest : List Lexeme}
-      → IsSpelled one x → Spells all ts rest → Spells (one ∷ all) (x ∷ ts) rest
+      → IsSpelled one x → Spells all ts rest
+      → Spells (one ∷ all) (x ∷ ts) rest
   last_comma : {all : List Spelled} {x : Lexeme} {ts rest : List Lexeme}
       → is_punctuator (codes ",") x ≡ true → sees (codes "}") ts ≡ true → Spells all ts rest
       → Spells all (x ∷ ts) rest
   in_force : {name : List ℕ} {all : List Spelled} {ts rest : List Lexeme}
-      → Spells all (retag name ts) rest → Spells (Typedef name ∷ all) ts rest
+      → Spells all (retag name ts) rest
+      → Spells (Typedef name ∷ all) ts rest
 
 -- C17 6.5.3.2, 6.5.3.3
 abbrev pub text_of_unary : UnaryOperator → List ℕ
@@ -288,16 +291,6 @@ abbrev mutual
   spell_initializers (t.initializers one t.no_initializers) after = spell_initializer one after
   spell_initializers (t.initializers one rest) after =
       spell_initializer one (comma ∷ spell_initializers rest after)
-
--- a word among specifiers that meets this test
-abbrev pub some_word : (SpecifierWord → Bool) → Specifiers → Bool
-some_word test t.no_specifiers = false
-some_word test (t.specifiers (t.Word w span) rest) = test w || some_word test rest
-some_word test (t.specifiers _ rest) = some_word test rest
-
-abbrev pub is_typedef_word : SpecifierWord → Bool
-is_typedef_word word.Typedef = true
-is_typedef_word _ = false
 
 -- where its declaration is a typedef, the name of a declarator is a typedef name from its end on
 abbrev pub spell_force : Bool → Declarator → List Spelled → List Spelled

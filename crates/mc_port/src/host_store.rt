@@ -9,7 +9,7 @@ use std::io::{self, Read};
 use std::rt::Files;
 
 /// The files of the machine, by their paths.
-/// It tells nothing of what they hold, nor the names asked.
+/// It tells nothing of what they hold, nor what it was asked for.
 #[derive(Drop)]
 pub struct HostStore<R: Files + Drop> {
     runtime: R,
@@ -76,11 +76,7 @@ fn read_opened<F: Read + Drop>(
 }
 
 impl<R: Files + Drop> Store for HostStore<R> {
-    ghost contents = { λ _. None };
-
-    ghost asked = { λ _. None };
-
-    ghost faults = { λ s. s.faults };
+    ghost state = { λ s. record { contents = None; asked = None; faults = s.faults } };
 
     fn load(&mut self, alloc: Global, name: &str, limit: u64) -> Result<Vec<u8>, LoadFault> {
         match read_opened(alloc, fs::open(&self.runtime, name), limit) {
