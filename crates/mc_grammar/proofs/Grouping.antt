@@ -353,14 +353,14 @@ step_of step.Increment place = o.increment refl
 step_of step.Decrement place = o.decrement refl
 
 -- a prefix operator is not a `(`
-first : {d : Dialect} (operator : UnaryOperator) (x : List ℕ) (i j : ℕ) {ts rest : List Lexeme} {a : Expression}
-    → Reads d n.unary (punctuator (text_of_unary operator) i ∷ identifier x j ∷ ts) a rest → Reads d n.cast (punctuator (text_of_unary operator) i ∷ identifier x j ∷ ts) a rest
-first unary.Plus x i j p = r.cast_unary refl p
-first unary.Minus x i j p = r.cast_unary refl p
-first unary.Complement x i j p = r.cast_unary refl p
-first unary.Not x i j p = r.cast_unary refl p
-first unary.Dereference x i j p = r.cast_unary refl p
-first unary.Address x i j p = r.cast_unary refl p
+first : {d : Dialect} (operator : UnaryOperator) (i : ℕ) {ts rest : List Lexeme} {a : Expression}
+    → Reads d n.unary (punctuator (text_of_unary operator) i ∷ ts) a rest → Reads d n.cast (punctuator (text_of_unary operator) i ∷ ts) a rest
+first unary.Plus i p = r.cast_unary refl p
+first unary.Minus i p = r.cast_unary refl p
+first unary.Complement i p = r.cast_unary refl p
+first unary.Not i p = r.cast_unary refl p
+first unary.Dereference i p = r.cast_unary refl p
+first unary.Address i p = r.cast_unary refl p
 
 -- a prefix operator before a name and its suffixes
 prefixed : {d : Dialect} (operator : UnaryOperator) (x : List ℕ) (i j : ℕ) {ts rest : List Lexeme} {a : Expression} → sees (codes "(") ts ≡ false
@@ -368,7 +368,7 @@ prefixed : {d : Dialect} (operator : UnaryOperator) (x : List ℕ) (i j : ℕ) {
     → g.Operand d (punctuator (text_of_unary operator) i ∷ identifier x j ∷ ts) (t.Unary operator a (to (at (punctuator (text_of_unary operator) i)) (span_of a))) rest
 prefixed operator x i j e p =
     let q = r.cast_unary refl (r.unary_postfix refl (r.postfix (r.named refl e) p)) in
-    first operator x i j (r.unary (unary_of operator i) q)
+    first operator i (r.unary (unary_of operator i) q)
 
 step_call : (operator : StepOperator) (place : ℕ) (rest : List Lexeme) → sees (codes "(") (punctuator (text_of_step operator) place ∷ rest) ≡ false
 step_call step.Increment place rest = refl
@@ -380,3 +380,8 @@ prefix_suffix d o s x y i j k l m v rest = (
   prefixed o x i j refl (r.member refl refl (r.suffixes_end refl)),
   prefixed o x i j (step_call s k (punctuator (codes ";") v ∷ rest)) (r.postfix_step (step_of s k) (r.suffixes_end refl)),
 )
+
+pub prefix_cast : g.PrefixTakesCast
+prefix_cast d o type x i j k l m v rest =
+    first o i (r.unary (unary_of o i) (r.cast refl refl (r.type_name (r.typedef_name refl (r.specifiers_end refl)) refl (r.no_star refl)) refl
+    (r.cast_unary refl (r.unary_postfix refl (r.postfix (r.named refl refl) (r.suffixes_end refl))))))

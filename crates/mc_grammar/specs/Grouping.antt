@@ -12,7 +12,7 @@ use Rattle.mc_grammar.specs.Words.{Lexeme}
 use Rattle.mc_grammar.specs.Places.{at, name_at, to}
 use Rattle.mc_grammar.specs.Nonterminal as n
 use Rattle.mc_grammar.specs.Expressions.{Reads}
-use Rattle.mc_grammar.specs.Meaning.{identifier, punctuator}
+use Rattle.mc_grammar.specs.Meaning.{identifier, type_name, punctuator}
 use Rattle.mc_grammar.specs.Spelling.{text_of_unary, text_of_step, text_of_binary, text_of_assignment}
 use Rattle.mc_grammar.specs.Precedence.{section}
 
@@ -146,3 +146,18 @@ PrefixTakesSuffix =
     (t.Unary o member (to (at first) (span_of member))) end
     × Operand d (first ∷ name ∷ punctuator (text_of_step s) k ∷ end)
     (t.Unary o step (to (at first) (span_of step))) end
+
+-- `o (T)x` is `o ((T)x)`, with a prefix operator `o` and a typedef name `T`
+abbrev pub PrefixTakesCast : Type 0
+PrefixTakesCast =
+    (d : Dialect) (o : UnaryOperator) (type x : List ℕ) (i j k l m n : ℕ) (rest : List Lexeme) →
+    let first = punctuator (text_of_unary o) i in
+    let open_ = punctuator (codes "(") j in
+    let word = type_name type k in
+    let name = identifier x m in
+    let end = punctuator (codes ";") n ∷ rest in
+    let words = t.specifiers (t.TypedefName (name_at word)) t.no_specifiers in
+    let cast = t.Cast (t.type_name words 0 (at word)) (t.Named (name_at name))
+    (to (at open_) (at name)) in
+    Operand d (first ∷ open_ ∷ word ∷ punctuator (codes ")") l ∷ name ∷ end)
+    (t.Unary o cast (to (at first) (at name))) end

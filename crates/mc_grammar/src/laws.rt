@@ -61,7 +61,7 @@ pub fn typedef_name_is_not_an_identifier()
 {}
 
 /// After a typedef's declarator, and its value if it has one, no token is an identifier of its
-/// name. Where the declaration is no typedef, a declarator without a value leaves just what the
+/// name. Where the declaration is not a typedef, a declarator without a value leaves just what the
 /// declarator itself leaves.
 #[tactic(auto, using(crate::proofs::Choices::typedef_retags, crate::proofs::Choices::others_keep, crate::proofs::Ends::valued_typedef_retags))]
 pub fn declarator_of_typedef_names_type()

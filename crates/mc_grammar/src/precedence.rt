@@ -1,10 +1,9 @@
 //! Laws of grouping: which operands an operator takes.
 ghost use Rattle.mc_grammar.specs.Laws.{CaseIsConditional, EnumeratorIsConditional, ExpressionIsGrouped, InitializerIsAssignment, LengthIsConditional};
-ghost use Rattle.mc_grammar.specs.Grouping.{AssignmentGroupsToTheRight, AssignmentTakesBinary, AssignmentTakesConditional, CommaTakesAssignment, ConditionalEndsWithBinary, ConditionalGroupsToTheRight, ConditionalTakesBinary, GroupsToTheLeft, GroupsToTheRight, PrefixTakesSuffix};
+ghost use Rattle.mc_grammar.specs.Grouping.{AssignmentGroupsToTheRight, AssignmentTakesBinary, AssignmentTakesConditional, CommaTakesAssignment, ConditionalEndsWithBinary, ConditionalGroupsToTheRight, ConditionalTakesBinary, GroupsToTheLeft, GroupsToTheRight, PrefixTakesCast, PrefixTakesSuffix};
 
-/// Each operand in an expression that is read is of the section of C17 6.5 that the operator wants,
-/// or binds closer. With the spelling this leaves an expression one grouping: each other one has an
-/// operand that wants parentheses.
+/// Each operand in an expression that is read is of the section of C17 6.5 that its operator wants,
+/// or of an earlier one, which binds closer. Where the operator wants another, parentheses stand.
 pub fn operands_bind_closer()
     ensures { ExpressionIsGrouped }
 {}
@@ -48,8 +47,9 @@ pub fn assignment_groups_to_the_right()
     ensures comma { CommaTakesAssignment }
 {}
 
-/// A prefix operator applies to its operand with all suffixes: `-a[i]`, `&a.b` and `*a++` are
-/// `-(a[i])`, `&(a.b)` and `*(a++)`.
+/// A prefix operator applies to its operand with all suffixes, and to a cast: `-a[i]`, `&a.b`,
+/// `*a++` and `-(T)a` are `-(a[i])`, `&(a.b)`, `*(a++)` and `-((T)a)`.
 pub fn prefix_operators_take_suffixes()
-    ensures { PrefixTakesSuffix }
+    ensures suffix { PrefixTakesSuffix }
+    ensures cast { PrefixTakesCast }
 {}
