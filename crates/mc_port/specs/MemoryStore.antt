@@ -17,7 +17,11 @@ kept_requests rs = map (λ r. record { name = string_bytes r.0; limit = r.1 }) r
 -- what contracts see of a memory store: it tells its files and what it was asked for
 abbrev pub state_of : List (String Global × Vec ℕ Global) → List (String Global × ℕ) → ℕ → State
 state_of files asked faults =
-    record { contents = Some (kept_files files); asked = Some (kept_requests asked); faults = faults }
+    record {
+      contents = Some (kept_files files);
+      asked = Some (kept_requests asked);
+      faults = faults;
+    }
 
 -- the call of that number is to fail
 abbrev pub IsListed : List ℕ → ℕ → Type 0
