@@ -17,7 +17,8 @@ begins_with_dash (b ∷ bs) = b == 45
 -- three words, the first of them `vectors`, and none of the others begins with `-`
 abbrev pub command_of : List (List ℕ) → Option Command
 command_of (command ∷ source ∷ tests ∷ []) =
-    if bytes_eq command (codes "vectors") && not (begins_with_dash source) && not (begins_with_dash tests)
+    if bytes_eq command (codes "vectors") && not (begins_with_dash source)
+    && not (begins_with_dash tests)
     then Some (Vectors source tests) else None
 command_of words = None
 

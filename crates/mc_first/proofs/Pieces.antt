@@ -7,26 +7,26 @@ use Rattle.mc_first.specs.Numbers.{pieces_of}
 abbrev goes_on : ℕ → Bool
 goes_on b = not (b == 32)
 
--- the bytes in front of the first blank
+-- the bytes before the first space
 abbrev front_len : List ℕ → ℕ
 front_len text = prefix_len goes_on text
 
 pub pieces_whole : (text : List ℕ) → front_len text ≡ length text → pieces_of text ≡ text ∷ []
 pieces_whole [] is = refl
-pieces_whole (b ∷ bs) is = by_blank (b == 32) refl (pieces_whole bs)
+pieces_whole (b ∷ bs) is = by_space (b == 32) refl (pieces_whole bs)
   where
-    by_blank : (blank : Bool) → (b == 32) ≡ blank → (front_len bs ≡ length bs → pieces_of bs ≡ bs ∷ []) → pieces_of (b ∷ bs) ≡ (b ∷ bs) ∷ []
-    by_blank true eq later = let none : 0 ≡ suc (length bs) = rw eq at is in absurd (omega arith)
-    by_blank false eq later = let more : 1 + front_len bs ≡ suc (length bs) = rw eq at is in rw (eq, later (omega arith)) refl
+    by_space : (space : Bool) → (b == 32) ≡ space → (front_len bs ≡ length bs → pieces_of bs ≡ bs ∷ []) → pieces_of (b ∷ bs) ≡ (b ∷ bs) ∷ []
+    by_space true eq later = let none : 0 ≡ suc (length bs) = rw eq at is in absurd (omega arith)
+    by_space false eq later = let more : 1 + front_len bs ≡ suc (length bs) = rw eq at is in rw (eq, later (omega arith)) refl
 
 pieces_front : (text : List ℕ) → front_len text < length text → pieces_of text ≡ take (front_len text) text ∷ pieces_of (drop (suc (front_len text)) text)
 pieces_front [] short = absurd (omega arith)
-pieces_front (b ∷ bs) short = by_blank (b == 32) refl (pieces_front bs)
+pieces_front (b ∷ bs) short = by_space (b == 32) refl (pieces_front bs)
   where
-    by_blank : (blank : Bool) → (b == 32) ≡ blank → (front_len bs < length bs → pieces_of bs ≡ take (front_len bs) bs ∷ pieces_of (drop (suc (front_len bs)) bs))
+    by_space : (space : Bool) → (b == 32) ≡ space → (front_len bs < length bs → pieces_of bs ≡ take (front_len bs) bs ∷ pieces_of (drop (suc (front_len bs)) bs))
         → pieces_of (b ∷ bs) ≡ take (front_len (b ∷ bs)) (b ∷ bs) ∷ pieces_of (drop (suc (front_len (b ∷ bs))) (b ∷ bs))
-    by_blank true eq later = rw eq refl
-    by_blank false eq later =
+    by_space true eq later = rw eq refl
+    by_space false eq later =
         let more : 1 + front_len bs < suc (length bs) = rw eq at short in
         let next : suc (front_len bs) ≡ 1 + front_len bs = omega arith in
         rw (eq, later (omega arith), ← next) refl

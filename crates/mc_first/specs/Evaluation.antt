@@ -1,4 +1,4 @@
--- What an expression of the first form evaluates to, and the vector of its decision that it evaluates.
+-- What an expression of the first form evaluates to, and the vector of its decision.
 use Rattle.std.specs.Prelude.{ℕ, Bool, not, ◌&&◌, ◌||◌, List, [], ◌∷◌, ◌++◌, Option, Some, None, if◌then◌else◌, ℤ, pos, int_lt}
 use Rattle.std.specs.Str.{bytes_eq}
 use Rattle.std.specs.Ordering.{int_eq}
@@ -47,8 +47,9 @@ module _ (names : List (List ℕ)) (arguments : List ℤ) where
   abbrev pub holds : Tree → Bool
   holds tree = is_nonzero (value_of names arguments tree)
 
-  -- what the evaluation says of each condition, in the order of the text: the second operand of `&&` is evaluated
-  -- exactly where the first compares unequal to 0 (C17 6.5.13), that of `||` exactly where it compares equal (6.5.14)
+  -- what the evaluation says of each condition, in the order of the text: the second operand of `&&`
+  -- is evaluated exactly where the first compares unequal to 0 (C17 6.5.13), that of `||` exactly
+  -- where it compares equal (6.5.14)
   abbrev pub answers_of : Tree → List Answer
   answers_of (Parameter name) = Some (holds (Parameter name)) ∷ []
   answers_of (Number n) = Some (holds (Number n)) ∷ []

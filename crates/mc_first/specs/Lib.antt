@@ -6,6 +6,7 @@ pub mod Evaluation
 pub mod Vectors
 pub mod Lines
 -- What clauses see of the program's types.
+pub mod Texts
 pub mod Seen
 -- Steps of the code's loops, for its proofs; no public clause reaches them.
 pub mod Loops

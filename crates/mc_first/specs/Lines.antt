@@ -23,13 +23,14 @@ answer_byte None = 45
 -- the result of the one call of a test
 abbrev pub test_line : Evaluation → List ℕ
 test_line e =
-    concat (codes "test " ∷ e.name ∷ codes " pass values " ∷ signed_decimal e.value ∷ codes " output" ∷ newline ∷ [])
+    concat (codes "test " ∷ e.name ∷ codes " pass values " ∷ signed_decimal e.value ∷ codes " output"
+    ∷ newline ∷ [])
 
 -- the vector of the one decision, whose outcome is whether the value compares unequal to 0
 abbrev pub vector_line : Evaluation → List ℕ
 vector_line e =
-    concat (codes "D1 " ∷ map answer_byte e.answers ∷ codes "=" ∷ (truth_byte (is_nonzero e.value) ∷ [])
-    ∷ codes " by " ∷ e.name ∷ newline ∷ [])
+    concat (codes "D1 " ∷ map answer_byte e.answers ∷ codes "="
+    ∷ (truth_byte (is_nonzero e.value) ∷ []) ∷ codes " by " ∷ e.name ∷ newline ∷ [])
 
 -- what a test evaluates
 abbrev pub evaluation_of : Form → PlainTest → Evaluation

@@ -1,5 +1,5 @@
 -- What clauses see of functions, tests, evaluations and lines.
-use Rattle.std.specs.Prelude.{ℕ, Bool, List, map, Vec}
+use Rattle.std.specs.Prelude.{ℕ, Bool, List, map, Option, option_map, Vec}
 use Rattle.std.specs.declared.alloc.Global.{Global}
 use Rattle.std.specs.BTreeSet.{BTreeSet, contains_by}
 use Rattle.std.specs.Cmp.Lexicographic.{slice_cmp}
@@ -9,6 +9,7 @@ use Rattle.mc_tree.specs.First.{tree_of}
 use Rattle.mc_parse.specs.Form.{Form}
 use Rattle.mc_first.specs.Loops.Members.{Member as Part}
 use Rattle.mc_first.specs.TestsFile.{PlainTest}
+use Rattle.mc_first.specs.Texts.{texts_of}
 use Rattle.mc_first.specs.Vectors.{Evaluation as Evaluated}
 use Rattle.mc_first.specs.declared.evaluation.Evaluation.{Evaluation}
 use Rattle.mc_first.specs.declared.function.Function.{Function}
@@ -17,13 +18,20 @@ use Rattle.mc_first.specs.declared.vectors.Member.{Member}
 use Rattle.mc_first.specs.declared.vectors.Vector.{Vector}
 
 abbrev pub form_of : Function → Form
-form_of f = record { name = f.name.now; parameters = map (λ p. p.now) f.parameters.items; tree = tree_of f.tree }
+form_of f = record {
+  name = f.name.now;
+  parameters = texts_of f.parameters.items;
+  tree = tree_of f.tree;
+}
 
 abbrev pub seen_test : Test → PlainTest
 seen_test t = record { name = t.name.items; arguments = t.arguments.items }
 
 abbrev pub seen_tests : List Test → List PlainTest
 seen_tests ts = map seen_test ts
+
+abbrev pub seen_found : Option (Vec Test Global) → Option (List PlainTest)
+seen_found found = option_map (λ v. seen_tests v.items) found
 
 abbrev pub seen_evaluation : Evaluation → Evaluated
 seen_evaluation e = record { name = e.name.now; answers = e.answers.items; value = e.value }

@@ -13,15 +13,20 @@ pub record PlainTest : Type 0 where
 
 -- a letter, a digit, `_`, `-` or `.`
 abbrev pub is_name_byte : ℕ → Bool
-is_name_byte b = (nat_le 97 b && nat_le b 122) || (nat_le 65 b && nat_le b 90) || (nat_le 48 b && nat_le b 57) || (b == 95) || (b == 45) || (b == 46)
+is_name_byte b =
+    (nat_le 97 b && nat_le b 122) || (nat_le 65 b && nat_le b 90) || (nat_le 48 b && nat_le b 57)
+    || (b == 95) || (b == 45) || (b == 46)
 
 abbrev pub is_test_name : List ℕ → Bool
 is_test_name text = nat_le 1 (length text) && nat_le (length text) 64 && list_all is_name_byte text
 
 abbrev pub header : List (List ℕ)
-header = codes "test" ∷ codes "call" ∷ codes "arguments" ∷ codes "inputs" ∷ codes "expect" ∷ codes "output" ∷ []
+header =
+    codes "test" ∷ codes "call" ∷ codes "arguments" ∷ codes "inputs" ∷ codes "expect" ∷ codes "output"
+    ∷ []
 
--- a record is a test: a name, the function, a number for each of so many parameters, and three empty fields
+-- a record is a test: a name, the function, a number for each of so many parameters, and three
+-- empty fields
 pub record IsTest (function : List ℕ) (parameters : ℕ) (fields : List (List ℕ)) (test : PlainTest) : Type 0 where
   pub numbers : List ℕ
   pub six : fields ≡ test.name ∷ function ∷ numbers ∷ [] ∷ [] ∷ [] ∷ []
@@ -34,7 +39,8 @@ abbrev pub AreTests : List ℕ → ℕ → List Fields → List PlainTest → Ty
 AreTests function parameters [] [] = ⊤
 AreTests function parameters [] (t ∷ ts) = ⊥
 AreTests function parameters (r ∷ rs) [] = ⊥
-AreTests function parameters (r ∷ rs) (t ∷ ts) = IsTest function parameters r t × AreTests function parameters rs ts
+AreTests function parameters (r ∷ rs) (t ∷ ts) =
+    IsTest function parameters r t × AreTests function parameters rs ts
 
 abbrev pub names_of : List PlainTest → List (List ℕ)
 names_of tests = map (λ t. t.name) tests
@@ -49,7 +55,8 @@ pub record IsTestsFile (function : List ℕ) (parameters : ℕ) (rows : List Fie
 
 -- the tests that the records stand for, or none where they stand for none
 abbrev pub IsReading : List ℕ → ℕ → List Fields → Option (List PlainTest) → Type 0
-IsReading function parameters rows None = (tests : List PlainTest) → IsTestsFile function parameters rows tests → ⊥
+IsReading function parameters rows None =
+    (tests : List PlainTest) → IsTestsFile function parameters rows tests → ⊥
 IsReading function parameters rows (Some tests) = IsTestsFile function parameters rows tests
 
 -- the tests of a function of this form that the text of a tests file stands for, or none where it

@@ -42,7 +42,8 @@ abbrev pub listed : Option Evaluation → List Evaluation
 listed None = []
 listed (Some e) = e ∷ []
 
--- for each vector of so many conditions that some test evaluates, in the order of vectors, the first
--- such evaluation
+-- for each vector of so many conditions that some test evaluates, in the order of vectors, the
+-- first such evaluation
 unfoldable pub vectors_of : ℕ → List Evaluation → List Evaluation
-vectors_of n evaluations = flat_map (λ answers. listed (first_with answers evaluations)) (all_answers n)
+vectors_of n evaluations =
+    flat_map (λ answers. listed (first_with answers evaluations)) (all_answers n)

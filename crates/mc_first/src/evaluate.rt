@@ -1,6 +1,7 @@
 //! The evaluation of an expression of the first form on the arguments of a test.
-ghost use Rattle.std.specs.Prelude.{◌≡◌, ◌<◌, ◌^◌, ◌++◌, IfOk, OnOk, map};
+ghost use Rattle.std.specs.Prelude.{◌≡◌, ◌<◌, ◌^◌, ◌++◌, IfOk, OnOk};
 ghost use Rattle.mc_tree.specs.First.{tree_of};
+ghost use Rattle.mc_first.specs.Texts.{texts_of};
 ghost use Rattle.mc_first.specs.Evaluation.{argument_of, value_of, not_evaluated, answers_of};
 
 use mc_tree::FirstTree;
@@ -16,7 +17,8 @@ pub struct Call<'t> {
 impl Call<'_> {
     // The argument of the parameter of that name.
     fn argument(&self, name: &[u8]) -> i64
-        ensures { result ≡ argument_of (map (λ p. p.now) self.now.parameters.now) self.now.arguments.now name.now }
+        ensures { result
+            ≡ argument_of (texts_of self.now.parameters.now) self.now.arguments.now name.now }
     {
         let mut parameters = self.parameters;
         let mut arguments = self.arguments;
@@ -35,7 +37,8 @@ impl Call<'_> {
 
     /// The value of an expression.
     pub fn value(&self, tree: &FirstTree<'_>) -> i64
-        ensures { result ≡ value_of (map (λ p. p.now) self.now.parameters.now) self.now.arguments.now (tree_of tree.now) }
+        ensures { result
+            ≡ value_of (texts_of self.now.parameters.now) self.now.arguments.now (tree_of tree.now) }
     {
         match tree {
             FirstTree::Parameter(name) => self.argument(name),
@@ -55,7 +58,8 @@ impl Call<'_> {
 
 // The answers of the conditions of an operand that is not evaluated.
 fn skip(tree: &FirstTree<'_>, answers: &mut Vec<Option<bool>>) -> Result<(), AllocError>
-    ensures { OnOk result (answers.new.items ≡ answers.old.items ++ not_evaluated (tree_of tree.now)) }
+    ensures { OnOk result (answers.new.items
+        ≡ answers.old.items ++ not_evaluated (tree_of tree.now)) }
 {
     match tree {
         FirstTree::Not(operand) => skip(operand, answers),
@@ -76,8 +80,10 @@ pub fn evaluate(
     tree: &FirstTree<'_>,
     answers: &mut Vec<Option<bool>>,
 ) -> Result<i64, AllocError>
-    ensures value { IfOk result (λ value. value ≡ value_of (map (λ p. p.now) call.entry.parameters.now) call.entry.arguments.now (tree_of tree.now)) }
-    ensures answers { OnOk result (answers.new.items ≡ answers.old.items ++ answers_of (map (λ p. p.now) call.entry.parameters.now) call.entry.arguments.now (tree_of tree.now)) }
+    ensures value { IfOk result (λ value. value
+        ≡ value_of (texts_of call.entry.parameters.now) call.entry.arguments.now (tree_of tree.now)) }
+    ensures answers { OnOk result (answers.new.items ≡ answers.old.items
+        ++ answers_of (texts_of call.entry.parameters.now) call.entry.arguments.now (tree_of tree.now)) }
 {
     match tree {
         FirstTree::Not(operand) => {

@@ -9,7 +9,8 @@ use mc_lex::Token;
 use mc_parse::{First, FirstFault, parse_first};
 use std::alloc::{AllocError, Global};
 
-/// The function that the tokens of a source are, or `None` exactly where they have not the first form.
+/// The function that the tokens of a source are, or `None` exactly where they do not have the first
+/// form.
 pub fn read_function<'a>(
     alloc: Global,
     tokens: &[Token<'a>],

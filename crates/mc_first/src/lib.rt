@@ -1,5 +1,5 @@
-//! The first form of a source: one function that returns one Boolean expression. Its tests, and the vectors
-//! that they evaluate. It goes when the instrumented tree is run.
+//! The first form of a source: one function that returns one Boolean expression. Its tests, and the
+//! vectors that they evaluate. It goes when the instrumented tree is run.
 #![tactic(auto)]
 
 mod evaluate;

@@ -1,7 +1,7 @@
 //! Numbers in the fields of a tests file.
 ghost use Rattle.std.specs.Prelude.{◌≡◌, ◌==◌, ◌<◌, ◌≤◌, ◌∷◌, IfOk, IfSome, option_map, min, true, not, length};
 ghost use Rattle.std.specs.List.{list_all, prefix_len};
-ghost use Rattle.mc_first.specs.Numbers.{is_digit, is_magnitude, number_of, plain_int, minus_int, int_of, pieces_of, pieces_behind, ints_of};
+ghost use Rattle.mc_first.specs.Numbers.{is_digit, is_magnitude, number_of, plain_int, minus_int, int_of, pieces_of, pieces_after, ints_of};
 
 use std::alloc::{AllocError, Global};
 
@@ -58,7 +58,7 @@ fn plain_int(digits: &[u8]) -> Option<i32>
     }
 }
 
-// The number that digits write behind a `-`.
+// The number that digits write after a `-`.
 fn minus_int(digits: &[u8]) -> Option<i32>
     ensures { result ≡ minus_int digits.now }
 {
@@ -83,7 +83,7 @@ fn read_int(text: &[u8]) -> Option<i32>
     }
 }
 
-// How many bytes of a text stand in front of its first blank, or all.
+// How many bytes of a text stand before its first space, or all.
 fn piece_len(text: &[u8]) -> usize
     ensures value { result ≡ prefix_len (λ b. not (b == 32)) text.now }
     ensures within { result ≤ length text.now }
@@ -91,9 +91,10 @@ fn piece_len(text: &[u8]) -> usize
     text.iter().take_while(|b| **b != b' ').count()
 }
 
-// The first piece of a text, and what stands behind the blank that ends it, where one does.
+// The first piece of a text, and what stands after the space that ends it, where one does.
 fn cut(text: &[u8]) -> (&[u8], Option<&[u8]>)
-    ensures pieces { pieces_of text.now ≡ result.0.now ∷ pieces_behind (option_map (λ later. later.now) result.1) }
+    ensures pieces { pieces_of text.now
+        ≡ result.0.now ∷ pieces_after (option_map (λ later. later.now) result.1) }
     ensures shorter { IfSome result.1 (λ later. length later.now < length text.now) }
 {
     let at = piece_len(text);
@@ -104,9 +105,10 @@ fn cut(text: &[u8]) -> (&[u8], Option<&[u8]>)
     }
 }
 
-/// The numbers of a text, which stand in it with one blank between each two.
+/// The numbers of a text, which stand in it with one space between each two.
 pub fn read_ints(alloc: Global, text: &[u8]) -> Result<Option<Vec<i32>>, AllocError>
-    ensures { IfOk result (λ found. option_map (λ v. v.items) found ≡ ints_of (pieces_of text.now)) }
+    ensures { IfOk result (λ found.
+        option_map (λ v. v.items) found ≡ ints_of (pieces_of text.now)) }
 {
     let mut values = Vec::new(alloc);
     let mut left = Some(text);

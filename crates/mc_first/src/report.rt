@@ -35,7 +35,8 @@ fn run<'r>(
     function: &Function<'_>,
     test: &'r Test,
 ) -> Result<Evaluation<'r>, AllocError>
-    ensures { IfOk result (λ e. seen_evaluation e ≡ evaluation_of (form_of function.now) (seen_test test.now)) }
+    ensures { IfOk result (λ e.
+        seen_evaluation e ≡ evaluation_of (form_of function.now) (seen_test test.now)) }
 {
     let mut answers = Vec::new(alloc);
     let call = Call {
@@ -57,7 +58,8 @@ fn run_all<'r>(
     function: &Function<'_>,
     tests: &'r [Test],
 ) -> Result<Vec<Evaluation<'r>>, AllocError>
-    ensures { IfOk result (λ found. seen_evaluations found.items ≡ evaluations_of (form_of function.now) (seen_tests tests.now)) }
+    ensures { IfOk result (λ found. seen_evaluations found.items
+        ≡ evaluations_of (form_of function.now) (seen_tests tests.now)) }
 {
     let mut evaluations = Vec::new(alloc);
     let mut left = tests;
@@ -74,7 +76,8 @@ fn push_test(
     lines: &mut Vec<Vec<u8>>,
     evaluation: &Evaluation<'_>,
 ) -> Result<(), AllocError>
-    ensures { OnOk result (bytes_of lines.new.items ≡ bytes_of lines.old.items ++ test_line (seen_evaluation evaluation.now) ∷ []) }
+    ensures { OnOk result (bytes_of lines.new.items
+        ≡ bytes_of lines.old.items ++ test_line (seen_evaluation evaluation.now) ∷ []) }
 {
     let line = test_line(alloc, evaluation)?;
     lines.push(line)?;
@@ -87,7 +90,8 @@ fn push_tests(
     lines: &mut Vec<Vec<u8>>,
     evaluations: &[Evaluation<'_>],
 ) -> Result<(), AllocError>
-    ensures { OnOk result (bytes_of lines.new.items ≡ bytes_of lines.old.items ++ map test_line (seen_evaluations evaluations.now)) }
+    ensures { OnOk result (bytes_of lines.new.items
+        ≡ bytes_of lines.old.items ++ map test_line (seen_evaluations evaluations.now)) }
 {
     let mut left = evaluations;
     while let [evaluation, later @ ..] = left {
@@ -102,7 +106,8 @@ fn members<'e, 'r>(
     alloc: Global,
     evaluations: &'e [Evaluation<'r>],
 ) -> Result<Vec<Member<'e, 'r>>, AllocError>
-    ensures { IfOk result (λ found. seen_members found.items ≡ members_of (seen_evaluations evaluations.now)) }
+    ensures { IfOk result (λ found.
+        seen_members found.items ≡ members_of (seen_evaluations evaluations.now)) }
 {
     let mut found = Vec::new(alloc);
     let mut others = evaluations;
@@ -121,7 +126,8 @@ fn vectors_of<'e, 'r>(
     conditions: usize,
     evaluations: &'e [Evaluation<'r>],
 ) -> Result<Vec<Vector<'e, 'r>>, AllocError>
-    ensures { IfOk result (λ found. seen_vectors found.items ≡ vectors_of conditions (seen_evaluations evaluations.now)) }
+    ensures { IfOk result (λ found.
+        seen_vectors found.items ≡ vectors_of conditions (seen_evaluations evaluations.now)) }
 {
     let members = members(alloc, evaluations)?;
     let mut found = Vec::new(alloc);
@@ -135,7 +141,8 @@ fn push_vector(
     lines: &mut Vec<Vec<u8>>,
     evaluation: &Evaluation<'_>,
 ) -> Result<(), AllocError>
-    ensures { OnOk result (bytes_of lines.new.items ≡ bytes_of lines.old.items ++ vector_line (seen_evaluation evaluation.now) ∷ []) }
+    ensures { OnOk result (bytes_of lines.new.items
+        ≡ bytes_of lines.old.items ++ vector_line (seen_evaluation evaluation.now) ∷ []) }
 {
     let line = vector_line(alloc, evaluation)?;
     lines.push(line)?;
@@ -148,7 +155,8 @@ fn push_vectors(
     lines: &mut Vec<Vec<u8>>,
     vectors: &[Vector<'_, '_>],
 ) -> Result<(), AllocError>
-    ensures { OnOk result (bytes_of lines.new.items ≡ bytes_of lines.old.items ++ map vector_line (seen_vectors vectors.now)) }
+    ensures { OnOk result (bytes_of lines.new.items
+        ≡ bytes_of lines.old.items ++ map vector_line (seen_vectors vectors.now)) }
 {
     let mut left = vectors;
     while let [vector, later @ ..] = left {
@@ -164,7 +172,8 @@ pub fn report_lines(
     function: &Function<'_>,
     tests: &[Test],
 ) -> Result<Vec<Vec<u8>>, AllocError>
-    ensures { IfOk result (λ lines. bytes_of lines.items ≡ report_lines (form_of function.now) (seen_tests tests.now)) }
+    ensures { IfOk result (λ lines.
+        bytes_of lines.items ≡ report_lines (form_of function.now) (seen_tests tests.now)) }
 {
     let evaluations = run_all(alloc, function, tests)?;
     let mut lines = Vec::new(alloc);

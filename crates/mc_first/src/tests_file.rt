@@ -4,7 +4,7 @@ ghost use Rattle.std.specs.List.{list_all};
 ghost use Rattle.std.specs.Str.{bytes_eq};
 ghost use Rattle.mc_first.specs.TestsFile.{HasTests, is_name_byte, is_test_name, names_of};
 ghost use Rattle.mc_first.specs.Loops.ReadTests.{few_tests, has_new_names, is_call, is_header, test_of, tests_of};
-ghost use Rattle.mc_first.specs.Seen.{form_of, has_name, seen_test, seen_tests};
+ghost use Rattle.mc_first.specs.Seen.{form_of, has_name, seen_found, seen_test, seen_tests};
 
 use crate::function::Function;
 use crate::number::read_ints;
@@ -77,7 +77,8 @@ fn read_test(
     parameters: usize,
     row: &Row,
 ) -> Result<Option<Test>, AllocError>
-    ensures { IfOk result (λ found. option_map seen_test found ≡ test_of function.now parameters row.now) }
+    ensures { IfOk result (λ found.
+        option_map seen_test found ≡ test_of function.now parameters row.now) }
 {
     if !is_call(function, row) {
         return Ok(None);
@@ -95,14 +96,16 @@ fn read_test(
 // Adds a name, and tells whether it is new.
 fn add_name<'r>(names: &mut BTreeSet<&'r [u8]>, name: &'r [u8]) -> Result<bool, AllocError>
     ensures added { IfOk result (λ added. added ≡ not (has_name names.old name.now)) }
-    ensures names { OnOk result ((q : List ℕ) → has_name names.new q ≡ (bytes_eq name.now q || has_name names.old q)) }
+    ensures names { OnOk result ((q : List ℕ)
+        → has_name names.new q ≡ (bytes_eq name.now q || has_name names.old q)) }
 {
     Ok(names.insert(name)?)
 }
 
 // Whether no two tests have one name.
 fn has_new_names(alloc: Global, tests: &[Test]) -> Result<bool, AllocError>
-    ensures { IfOk result (λ distinct. distinct ≡ has_new_names [] (names_of (seen_tests tests.now))) }
+    ensures { IfOk result (λ distinct.
+        distinct ≡ has_new_names [] (names_of (seen_tests tests.now))) }
 {
     let mut names = BTreeSet::new(alloc);
     let mut left = tests;
@@ -122,7 +125,8 @@ fn read_records(
     parameters: usize,
     rows: &mut Rows<'_>,
 ) -> Result<Option<Vec<Test>>, AllocError>
-    ensures { IfOk result (λ found. option_map (λ v. seen_tests v.items) found ≡ few_tests function.now parameters rows.old) }
+    ensures { IfOk result (λ found.
+        seen_found found ≡ few_tests function.now parameters rows.old) }
 {
     let mut tests = Vec::new(alloc);
     'reading: while let Some(row) = rows.next_row()? {
@@ -143,7 +147,8 @@ fn read_rows(
     parameters: usize,
     rows: &mut Rows<'_>,
 ) -> Result<Option<Vec<Test>>, AllocError>
-    ensures { IfOk result (λ found. option_map (λ v. seen_tests v.items) found ≡ tests_of function.now parameters rows.old) }
+    ensures { IfOk result (λ found.
+        seen_found found ≡ tests_of function.now parameters rows.old) }
 {
     let Some(header) = rows.next_row()? else {
         return Ok(None);
@@ -161,14 +166,14 @@ fn read_rows(
     }
 }
 
-/// The tests that the text of a tests file stands for, or `None` exactly where it stands for none of
-/// this function. It is read up to the first record that is not a test, or is one too many.
+/// The tests that the text of a tests file stands for, or `None` exactly where it stands for none
+/// of this function. It is read up to the first record that is not a test, or is one too many.
 pub fn read_tests(
     alloc: Global,
     function: &Function<'_>,
     text: &[u8],
 ) -> Result<Option<Vec<Test>>, AllocError>
-    ensures { IfOk result (λ found. HasTests (form_of function.now) text.now (option_map (λ v. seen_tests v.items) found)) }
+    ensures { IfOk result (λ found. HasTests (form_of function.now) text.now (seen_found found)) }
 {
     let mut rows = Rows::of(alloc, text);
     let names = function.parameters.as_slice();

@@ -37,7 +37,8 @@ fn push_if_next<'e, 't>(
     answer: Option<bool>,
     member: &Member<'e, 't>,
 ) -> Result<(), AllocError>
-    ensures { OnOk result (seen_members found.new.items ≡ seen_members found.old.items ++ if_next answer member.now.left.now (seen_evaluation member.now.evaluation.now)) }
+    ensures { OnOk result (seen_members found.new.items ≡ seen_members found.old.items
+        ++ if_next answer member.now.left.now (seen_evaluation member.now.evaluation.now)) }
 {
     let evaluation = member.evaluation;
     match member.left {
@@ -55,7 +56,8 @@ fn starting<'e, 't>(
     answer: Option<bool>,
     members: &[Member<'e, 't>],
 ) -> Result<Vec<Member<'e, 't>>, AllocError>
-    ensures { IfOk result (λ found. seen_members found.items ≡ starting answer (seen_members members.now)) }
+    ensures { IfOk result (λ found.
+        seen_members found.items ≡ starting answer (seen_members members.now)) }
 {
     let mut found = Vec::new(alloc);
     let mut others = members;
@@ -68,7 +70,8 @@ fn starting<'e, 't>(
 
 // The first evaluation whose answers have all been gone through.
 fn first_ended<'e, 't>(members: &[Member<'e, 't>]) -> Option<&'e Evaluation<'t>>
-    ensures { option_map (λ e. seen_evaluation e.now) result ≡ first_ended (seen_members members.now) }
+    ensures { option_map (λ e. seen_evaluation e.now) result
+        ≡ first_ended (seen_members members.now) }
 {
     let mut others = members;
     while let [member, later @ ..] = others {
@@ -85,7 +88,8 @@ fn push_some<'e, 't>(
     found: &mut Vec<Vector<'e, 't>>,
     evaluation: Option<&'e Evaluation<'t>>,
 ) -> Result<(), AllocError>
-    ensures { OnOk result (seen_vectors found.new.items ≡ seen_vectors found.old.items ++ listed (option_map (λ e. seen_evaluation e.now) evaluation.entry)) }
+    ensures { OnOk result (seen_vectors found.new.items ≡ seen_vectors found.old.items
+        ++ listed (option_map (λ e. seen_evaluation e.now) evaluation.entry)) }
 {
     match evaluation {
         None => Ok(()),
@@ -104,7 +108,8 @@ pub fn push_sorted<'e, 't>(
     conditions: usize,
     members: &[Member<'e, 't>],
 ) -> Result<(), AllocError>
-    ensures { OnOk result (seen_vectors found.new.items ≡ seen_vectors found.old.items ++ sorted conditions (seen_members members.now)) }
+    ensures { OnOk result (seen_vectors found.new.items ≡ seen_vectors found.old.items
+        ++ sorted conditions (seen_members members.now)) }
 {
     if conditions == 0 {
         return push_some(found, first_ended(members));

@@ -27,8 +27,10 @@ pub trait Store {
     /// The bytes of the file of that name, where there are at most `limit` of them.
     fn load(&mut self, alloc: Global, name: &str, limit: u64) -> Result<Vec<u8>, LoadFault>
         ensures contents { (state self.new).contents ≡ (state self.old).contents }
-        ensures asked { Asks (state self.old) (state self.new) (record { name = name.now; limit = limit }) result }
-        ensures bytes { Loads (state self.old) (state self.new) (record { name = name.now; limit = limit }) result }
+        ensures asked { Asks (state self.old) (state self.new)
+            (record { name = name.now; limit = limit }) result }
+        ensures bytes { Loads (state self.old) (state self.new)
+            (record { name = name.now; limit = limit }) result }
         ensures later { (state self.old).faults ≤ (state self.new).faults }
         ensures last { (state self.new).faults ≤ 2 ^ 64 - 1 };
 }

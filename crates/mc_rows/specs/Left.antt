@@ -16,16 +16,19 @@ bytes_left reader = unwrap_or (known_left reader) []
 
 abbrev pub rows_left : Bool → Reader (Bor (List ℕ)) → List Fields
 rows_left true reader = []
-rows_left false reader = records_from default_config (suc (length (bytes_left reader))) (reader_state reader) (bytes_left reader)
+rows_left false reader =
+    records_from default_config (suc (length (bytes_left reader))) (reader_state reader)
+    (bytes_left reader)
 
 abbrev pub has_headers : Option Headers → Bool
 has_headers None = false
 has_headers (Some headers) = true
 
--- a reader that has not ended reads on, in the default dialect, records of any width, and takes none
--- for a header
+-- a reader that has not ended reads on, in the default dialect, records of any width, and takes
+-- none for a header
 abbrev pub IsReading : Bool → Reader (Bor (List ℕ)) → Type 0
 IsReading ended reader = ended ≡ false
-    → (reader_trim reader ≡ trim.None) × (reader_config reader ≡ default_config) × (is_flexible reader ≡ true)
-    × (names_headers reader ≡ false) × (took_first reader ≡ false → has_headers (reader_headers reader) ≡ false)
+    → (reader_trim reader ≡ trim.None) × (reader_config reader ≡ default_config)
+    × (is_flexible reader ≡ true) × (names_headers reader ≡ false)
+    × (took_first reader ≡ false → has_headers (reader_headers reader) ≡ false)
     × (known_left reader ≡ Some (bytes_left reader))

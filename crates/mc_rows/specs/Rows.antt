@@ -7,8 +7,8 @@ use Rattle.csv.specs.Reading.{default_config, records, strip_bom}
 abbrev pub Fields : Type 0
 Fields = List (List ℕ)
 
--- every record that the crate csv reads in its default dialect, of any width, with no record taken for
--- a header
+-- every record that the crate csv reads in its default dialect, of any width, with no record
+-- taken for a header
 abbrev pub rows_of : List ℕ → List Fields
 rows_of text = records default_config (strip_bom text)
 

@@ -1,4 +1,5 @@
-//! The records of a text of comma-separated fields (RFC 4180), one after the other, as the crate `csv` reads them.
+//! The records of a text of comma-separated fields (RFC 4180), one after the other, as the crate
+//! `csv` reads them.
 #![tactic(auto)]
 
 mod row;

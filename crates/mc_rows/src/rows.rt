@@ -42,8 +42,8 @@ impl<'t> Rows<'t> {
         }
     }
 
-    /// The next record, or `None` after the last. A reader over bytes in memory has no fault of its own,
-    /// so an error of reading counts as out of memory. After an error nothing is left.
+    /// The next record, or `None` after the last. A reader over bytes in memory has no fault of its
+    /// own, so an error of reading counts as out of memory. After an error nothing is left.
     pub fn next_row(&mut self) -> Result<Option<Row>, AllocError>
         ensures { Gives self.old result self.new }
     {

@@ -10,24 +10,27 @@ use Rattle.mc_station.specs.declared.status.Status.TheVariants.{OutOfMemory}
 
 -- the texts of a reply were put whole
 abbrev pub PutWhole : Reply → (out out_after diag diag_after : Option (List ℕ)) → Type 0
-PutWhole reply out out_after diag diag_after = Appends out out_after (concat reply.out) × Appends diag diag_after reply.diag
+PutWhole reply out out_after diag diag_after =
+    Appends out out_after (concat reply.out) × Appends diag diag_after reply.diag
 
 -- first parts of them were put
 abbrev pub PutPart : Reply → (out out_after diag diag_after : Option (List ℕ)) → Type 0
 PutPart reply out out_after diag diag_after =
     AppendsPart out out_after (concat reply.out) × AppendsPart diag diag_after reply.diag
 
--- the call leads to a reply: the status is its status, the store was asked for what it stands on, and its
--- texts were put whole
-pub record Told (call : Call) (status : ℕ) (asked after : Requests) (out out_after diag diag_after : Option (List ℕ)) : Type 0 where
+-- the call leads to a reply: the status is its status, the store was asked for what it stands on,
+-- and its texts were put whole
+pub record Told (call : Call) (status : ℕ) (asked after : Requests)
+    (out out_after diag diag_after : Option (List ℕ)) : Type 0 where
   pub reply : Reply
   pub leads : LeadsTo call asked reply after
   pub status_is : status ≡ number_of reply.status
   pub texts : PutWhole reply out out_after diag diag_after
 
--- the call leads to a reply with texts: the store was asked for what it stands on, and first parts of its
--- texts were put
-pub record ToldPart (call : Call) (asked after : Requests) (out out_after diag diag_after : Option (List ℕ)) : Type 0 where
+-- the call leads to a reply with texts: the store was asked for what it stands on, and first parts
+-- of its texts were put
+pub record ToldPart (call : Call) (asked after : Requests)
+    (out out_after diag diag_after : Option (List ℕ)) : Type 0 where
   pub reply : Reply
   pub leads : LeadsTo call asked reply after
   pub some : reply.status ≢ OutOfMemory

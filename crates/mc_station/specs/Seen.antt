@@ -26,7 +26,8 @@ seen_file f = record { kind = f.kind; name = f.name.now }
 -- the reply to a refusal
 abbrev pub reply_to : Refusal → CalledFor
 reply_to (why.TooLong file) = longer (seen_file file)
-reply_to (why.Fault place word) = refusal SourceRefused (place_line place.line place.column word.now)
+reply_to (why.Fault place word) =
+    refusal SourceRefused (place_line place.line place.column word.now)
 reply_to why.SourceForm = refusal SourceRefused source_form_line
 reply_to why.TestsForm = refusal TestsRefused tests_form_line
 

@@ -11,7 +11,8 @@ use Rattle.mc_station.specs.Texts.{fault_line, source_form_line}
 use Rattle.mc_station.specs.declared.status.Status.TheVariants.{SourceRefused}
 
 -- a phase, and the next one on what it gives: the first that refuses answers
-abbrev pub Then : {A B : Type 0} → (Result A Reply → Type 0) → (A → Result B Reply → Type 0) → Result B Reply → Type 0
+abbrev pub Then : {A B : Type 0} → (Result A Reply → Type 0) → (A → Result B Reply → Type 0)
+    → Result B Reply → Type 0
 Then {A} Phase Next (Ok b) = (a : A) × Phase (Ok a) × Next a (Ok b)
 Then {A} Phase Next (Err reply) = Phase (Err reply) ⊎ ((a : A) × Phase (Ok a) × Next a (Err reply))
 

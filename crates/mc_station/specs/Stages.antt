@@ -1,5 +1,5 @@
--- The stages of the commands. A stage asks for a file and accepts it, which leads to the next stage, or
--- refuses it; the last stage of a command asks for none and makes the texts.
+-- The stages of the commands. A stage asks for a file and accepts it, which leads to the next stage,
+-- or refuses it; the last stage of a command asks for none and makes the texts.
 use Rattle.std.specs.Prelude.{◌≡◌, ◌≤◌, ℕ, List, Option, Some, None, Result, Ok, Err}
 use Rattle.mc_command.specs.Command.{Command, Vectors}
 use Rattle.mc_parse.specs.Form.{Form}
@@ -35,7 +35,8 @@ next_of (vectors form list) = done (success (report_lines form list))
 -- the tests of a tests file that is accepted, or why it is refused
 abbrev pub JudgesTests : Form → List ℕ → Result (List PlainTest) Reply → Type 0
 JudgesTests form bytes (Ok list) = HasTests form bytes (Some list)
-JudgesTests form bytes (Err reply) = HasTests form bytes None × (reply ≡ refusal TestsRefused tests_form_line)
+JudgesTests form bytes (Err reply) =
+    HasTests form bytes None × (reply ≡ refusal TestsRefused tests_form_line)
 
 -- the stage that follows the source of a command
 abbrev pub after_source : Command → Form → Stage
@@ -44,8 +45,10 @@ after_source (Vectors name later) form = tests later form
 -- the bytes of the file that a stage asks for lead to another stage, or to a refusal
 abbrev pub Judges : Stage → List ℕ → Result Stage Reply → Type 0
 Judges usage bytes verdict = ⊥
-Judges (source command) bytes verdict = Then (JudgesSource bytes) (λ form v. v ≡ Ok (after_source command form)) verdict
-Judges (tests name form) bytes verdict = Then (JudgesTests form bytes) (λ list v. v ≡ Ok (vectors form list)) verdict
+Judges (source command) bytes verdict =
+    Then (JudgesSource bytes) (λ form v. v ≡ Ok (after_source command form)) verdict
+Judges (tests name form) bytes verdict =
+    Then (JudgesTests form bytes) (λ list v. v ≡ Ok (vectors form list)) verdict
 Judges (vectors form list) bytes verdict = ⊥
 
 -- the first stage

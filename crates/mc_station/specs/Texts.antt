@@ -17,12 +17,14 @@ cannot_read_line name = concat (codes "mcdc: cannot read " ∷ name ∷ newline 
 
 abbrev pub longer_line : (name : List ℕ) (limit : ℕ) → List ℕ
 longer_line name limit =
-    concat (codes "mcdc: " ∷ name ∷ codes ": longer than " ∷ decimal limit ∷ codes " bytes" ∷ newline ∷ [])
+    concat (codes "mcdc: " ∷ name ∷ codes ": longer than " ∷ decimal limit ∷ codes " bytes"
+    ∷ newline ∷ [])
 
 -- what is wrong at a place of the source, lines and columns counted from 1
 abbrev pub place_line : (line column : ℕ) → List ℕ → List ℕ
 place_line line column word =
-    concat (codes "mcdc: source " ∷ decimal line ∷ codes ":" ∷ decimal column ∷ codes ": " ∷ word ∷ newline ∷ [])
+    concat (codes "mcdc: source " ∷ decimal line ∷ codes ":" ∷ decimal column ∷ codes ": " ∷ word
+    ∷ newline ∷ [])
 
 -- the line on a fault at a place of a source, counted in bytes
 abbrev pub line_at : (source : List ℕ) → Option ℕ → List ℕ → List ℕ

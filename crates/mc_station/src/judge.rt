@@ -18,7 +18,8 @@ fn judge_tests<'a>(
     function: &Function<'a>,
     bytes: &[u8],
 ) -> Result<Vec<Test>, Stop<'a>>
-    ensures { Gives (λ tests. seen_tests tests.items) (JudgesTests (form_of function.now) bytes.now) result }
+    ensures { Gives (λ tests. seen_tests tests.items)
+        (JudgesTests (form_of function.now) bytes.now) result }
 {
     match read_tests(alloc, function, bytes) {
         Ok(Some(tests)) => Ok(tests),

@@ -13,8 +13,8 @@ use crate::stage::{Next, Stage};
 use mc_port::{LoadFault, Store};
 use std::alloc::{AllocError, Global};
 
-/// Goes from a stage to the reply: asks for one file after the other, each after the one before it was
-/// accepted, and keeps their bytes in the slots.
+/// Goes from a stage to the reply: asks for one file after the other, each after the one before it
+/// was accepted, and keeps their bytes in the slots.
 pub fn run<'a, S: Store>(
     alloc: Global,
     store: &mut S,
@@ -22,8 +22,10 @@ pub fn run<'a, S: Store>(
     slots: &'a mut [Vec<u8>],
 ) -> Result<Reply, AllocError>
     requires { files_left (seen_stage stage) ≤ length slots.old }
-    ensures leads { Leads (S.state store.old).contents (seen_stage stage.entry) (S.state store.old).asked (outcome_of result) (S.state store.new).asked }
-    ensures unreadable { (outcome_of result).status ≡ CannotRead → Rose (S.state store.old).faults (S.state store.new).faults }
+    ensures leads { Leads (S.state store.old).contents (seen_stage stage.entry)
+        (S.state store.old).asked (outcome_of result) (S.state store.new).asked }
+    ensures unreadable { (outcome_of result).status ≡ CannotRead
+        → Rose (S.state store.old).faults (S.state store.new).faults }
     ensures texts { IfOk result (λ reply. reply.status ≢ OutOfMemory) }
     ensures contents { (S.state store.new).contents ≡ (S.state store.old).contents }
     ensures later { (S.state store.old).faults ≤ (S.state store.new).faults }

@@ -30,7 +30,8 @@ fn longer_line(alloc: Global, name: &str, limit: u64) -> Result<String, AllocErr
 
 // The line that names a fault of the source and its place.
 fn place_line(alloc: Global, place: Place, word: &str) -> Result<String, AllocError>
-    ensures { IfOk result (λ text. string_bytes text ≡ place_line place.line place.column word.now) }
+    ensures { IfOk result (λ text.
+        string_bytes text ≡ place_line place.line place.column word.now) }
 {
     let line = place.line;
     let column = place.column;

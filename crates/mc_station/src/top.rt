@@ -19,7 +19,8 @@ use std::alloc::Global;
 
 // Puts one line after the other, up to the first that cannot be put.
 fn put_lines<K: Sink>(lines: &[Vec<u8>], out: &mut K) -> Result<(), PutFault>
-    ensures bytes { Puts (K.written out.old) (K.written out.new) (K.faults out.old) (K.faults out.new) (concat (bytes_of lines.now)) result }
+    ensures bytes { Puts (K.written out.old) (K.written out.new)
+        (K.faults out.old) (K.faults out.new) (concat (bytes_of lines.now)) result }
     ensures later { K.faults out.old ≤ K.faults out.new }
 {
     let mut left = lines;
@@ -34,9 +35,12 @@ fn put_lines<K: Sink>(lines: &[Vec<u8>], out: &mut K) -> Result<(), PutFault>
 
 // Puts the texts of a reply, up to the first piece that cannot be put.
 fn put<K: Sink, E: Sink>(reply: &Reply, out: &mut K, diag: &mut E) -> Result<(), PutFault>
-    ensures whole { OnOk result (PutWhole (seen_reply reply.now) (K.written out.old) (K.written out.new) (E.written diag.old) (E.written diag.new)) }
-    ensures part { PutPart (seen_reply reply.now) (K.written out.old) (K.written out.new) (E.written diag.old) (E.written diag.new) }
-    ensures unwritten { OnErr result (Rose (K.faults out.old) (K.faults out.new) ⊎ Rose (E.faults diag.old) (E.faults diag.new)) }
+    ensures whole { OnOk result (PutWhole (seen_reply reply.now)
+        (K.written out.old) (K.written out.new) (E.written diag.old) (E.written diag.new)) }
+    ensures part { PutPart (seen_reply reply.now)
+        (K.written out.old) (K.written out.new) (E.written diag.old) (E.written diag.new) }
+    ensures unwritten { OnErr result (Rose (K.faults out.old) (K.faults out.new)
+        ⊎ Rose (E.faults diag.old) (E.faults diag.new)) }
 {
     put_lines(&reply.out, out)?;
     diag.put(reply.diag.as_bytes())
@@ -44,9 +48,9 @@ fn put<K: Sink, E: Sink>(reply: &Reply, out: &mut K, diag: &mut E) -> Result<(),
 
 /// Does what the words of a command line ask for, and gives the status of the program.
 ///
-/// The one command is `vectors SOURCE TESTS`. It puts on `out` a line for each test and one for each
-/// vector that some test evaluates. Everything is computed before the first `put`; a line is one `put`.
-/// The gate is for workers, which there are none of yet.
+/// The one command is `vectors SOURCE TESTS`. It puts on `out` a line for each test and one for
+/// each vector that some test evaluates. Everything is computed, and all memory taken, before the
+/// first `put`; a line is one `put`. The gate is for workers, which there are none of yet.
 pub fn station<S: Store, K: Sink, E: Sink, G: Gate>(
     alloc: Global,
     words: &Words,
@@ -55,9 +59,10 @@ pub fn station<S: Store, K: Sink, E: Sink, G: Gate>(
     diag: &mut E,
     _gate: &G,
 ) -> u8
-    // A status other than 7 is that of a reply to which words and files lead. Its texts were put whole, and
-    // the store was asked for the files that it stands on, in order, each with its limit and after the files
-    // before it were accepted. With 6 that is the line on the last of them, with 8 nothing is put.
+    // A status other than 7 is that of a reply to which words and files lead. Its texts were put
+    // whole, and the store was asked for the files that it stands on, in order, each with its limit
+    // and after the files before it were accepted. With 6 the line is on the last of them; with 8
+    // there are no texts.
     ensures told { result ≢ 7 → Told (call_of words.now (S.state store.old)) result
         (S.state store.old).asked (S.state store.new).asked
         (K.written out.old) (K.written out.new) (E.written diag.old) (E.written diag.new) }
@@ -71,8 +76,8 @@ pub fn station<S: Store, K: Sink, E: Sink, G: Gate>(
     ensures unreadable { result ≡ 6 → Rose (S.state store.old).faults (S.state store.new).faults }
 
     // 7 only where a sink failed in this call.
-    ensures unwritten { result ≡ 7
-        → Rose (K.faults out.old) (K.faults out.new) ⊎ Rose (E.faults diag.old) (E.faults diag.new) }
+    ensures unwritten { result ≡ 7 → Rose (K.faults out.old) (K.faults out.new)
+        ⊎ Rose (E.faults diag.old) (E.faults diag.new) }
 
     // Where nothing failed, the status is that of the reply that is called for, or 8.
     ensures complete { (reply : CalledFor) → IsKnown (call_of words.now (S.state store.old))

@@ -132,12 +132,12 @@ fn number_of_tests(rt: HostRuntime) -> Result<(), Fail> {
     lists(&rt, alloc, lines.as_str(), NOT_BUILT)
 }
 
-/// The text, and blanks up to that length.
-fn padded(alloc: Global, text: &str, blank: u8, length: usize) -> Result<Vec<u8>, Fail> {
+/// The text, and a byte of white space up to that length.
+fn padded(alloc: Global, text: &str, space: u8, length: usize) -> Result<Vec<u8>, Fail> {
     let mut bytes = Vec::new(alloc);
     bytes.extend_from_slice(text.as_bytes())?;
     for _turn in text.len()..length {
-        bytes.push(blank)?;
+        bytes.push(space)?;
     }
     Ok(bytes)
 }
