@@ -1,5 +1,5 @@
 -- Counting with a limit gives the number of levels, limited.
-use Rattle.std.proofs.Common.{◌≡◌, ℕ, ◌+◌, ◌-◌, ◌^◌, max, min, arith, sym, List, [], ◌∷◌, Option, Some, None, refl, true, false}
+use Rattle.std.proofs.Common.{◌≡◌, ℕ, ◌+◌, max, arith, List, [], ◌∷◌, Option, Some, None, true, false}
 use Rattle.mc_typed.specs.Tree.{Place, Expression, StructureValue, FunctionCall, Argument, Arguments, Effect, Initializer, Initializers, Declarator, ForStart, ReturnValue, Statement, Statements}
 use Rattle.mc_typed.specs.Tree as t
 use Rattle.mc_typed.specs.Levels.{limited, limited_more, one_more, height_place, height, height_structure, height_call, height_argument, height_arguments, height_effect, height_effects, height_initializer, height_initializers, height_value, height_declarators, height_optional, height_start, height_return, height_statement, height_statements}

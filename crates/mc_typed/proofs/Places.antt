@@ -1,5 +1,5 @@
 -- Where paths lead.
-use Rattle.std.proofs.Common.{◌≡◌, ℕ, zero, suc, ◌+◌, ◌*◌, ◌<◌, ◌≤◌, ◌⊎◌, List, [], ◌∷◌, ◌++◌, Bool, true, false, cond, refl, sym, ap, ◌∙◌, subst, arith, inl, inr, Option, Some, None}
+use Rattle.std.proofs.Common.{◌≡◌, ℕ, zero, suc, ◌+◌, ◌*◌, ◌<◌, ◌≤◌, ◌⊎◌, List, [], ◌∷◌, ◌++◌, Bool, true, false, cond, refl, sym, ap, subst, arith, inl, inr, Option, Some, None}
 use Rattle.std.proofs.lemmas.Bool.{cases_order}
 use Rattle.mc_value.specs.declared.int_type.IntType.{IntType}
 use Rattle.mc_typed.specs.Layout.{ObjectType, Scalar, Array, Structure, Members, no_members, members, cells, cells_all, count, member, start, with_last, Leads, LeadsIn, same, is_below, rest}
@@ -72,6 +72,7 @@ begins no_members i u e = absurd (not_some e)
     IsNone' : Option ObjectType → Type 0
     IsNone' None = Unit {0}
     IsNone' (Some x) = ⊥
+
     not_some : None ≡ Some u → ⊥
     not_some e = subst IsNone' e tt
 begins (members t ts) zero u e = subst (λ x. Leads t [] x 0) (some_is t u e) (here t)
@@ -79,6 +80,7 @@ begins (members t ts) zero u e = subst (λ x. Leads t [] x 0) (some_is t u e) (h
     from : ObjectType → Option ObjectType → ObjectType
     from d None = d
     from d (Some x) = x
+
     some_is : (t u : ObjectType) → Some t ≡ Some u → t ≡ u
     some_is t u e = ap (from t) e
 begins (members t ts) (suc i) u e = (start ts i, begins ts i u e, refl)

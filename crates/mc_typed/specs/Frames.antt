@@ -1,5 +1,5 @@
 -- The objects with automatic storage duration that a function's body names, and the cells of a frame.
-use Rattle.std.specs.Prelude.{ℕ, ◌+◌, sum, map, List, [], ◌∷◌, ◌++◌, Option, Some, None}
+use Rattle.std.specs.Prelude.{ℕ, sum, map, List, [], ◌∷◌, ◌++◌, Option, Some, None}
 use Rattle.mc_typed.specs.declared.expressions.Slot.{Slot}
 use Rattle.mc_typed.specs.Tree.{Place, Expression, StructureValue, FunctionCall, Argument, Arguments, Effect, Initializer, Initializers, Declarator, ForStart, ReturnValue, Statement, Statements, Object, StaticObject, Function, Program}
 use Rattle.mc_typed.specs.Tree as t

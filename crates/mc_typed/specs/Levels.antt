@@ -1,6 +1,6 @@
 -- How high the typed body of a function is. The body is at level 1, and each statement or expression inside is one
 -- level deeper. A local declaration counts as a statement, a label does not, nor does a conversion that C implies.
-use Rattle.std.specs.Prelude.{ℕ, ◌+◌, ◌-◌, ◌^◌, max, min, Bool, true, false, List, [], ◌∷◌, Option, Some, None}
+use Rattle.std.specs.Prelude.{ℕ, ◌+◌, ◌-◌, ◌^◌, max, min, true, false, List, [], ◌∷◌, Option, Some, None}
 use Rattle.mc_typed.specs.Tree.{Place, Expression, StructureValue, FunctionCall, Argument, Arguments, Effect, Initializer, Initializers, Declarator, ForStart, ReturnValue, Statement, Statements, Function}
 use Rattle.mc_typed.specs.Tree as t
 

@@ -1,13 +1,38 @@
--- When a test's plan fits a program.
-use Rattle.std.specs.Prelude.{ℕ, ◌+◌, ◌≤◌, ℤ, List, [], ◌∷◌, length, slice_get, All, Option, Some, None}
-use Rattle.std.specs.declared.alloc.Global.{Global}
-use Rattle.std.specs.declared.vec.Vec.{Vec}
+-- Tests, and when a test's plan fits a program.
+use Rattle.std.specs.Prelude.{ℕ, ◌+◌, ◌≤◌, ℤ, List, [], ◌∷◌, length, map, slice_get, Option, Some, None, option_map}
 use Rattle.mc_value.specs.declared.int_type.IntType.TheVariants.{Int}
 use Rattle.mc_value.specs.IntTypes.{InRange}
-use Rattle.mc_typed.specs.declared.plans.Call.{Call}
+use Rattle.mc_typed.specs.declared.plans.Call as code_call
 use Rattle.mc_typed.specs.declared.plans.TestPlan.{TestPlan}
 use Rattle.mc_typed.specs.Tree.{ParameterType, ResultType, Function, Program}
 use Rattle.mc_typed.specs.Tree as t
+
+-- a call: the function's number, the arguments, the value and the outputs that are expected
+pub record Call : Type 0 where
+  pub function : ℕ
+  pub arguments : List ℤ
+  pub expect : Option ℤ
+  pub output : Option (List ℤ)
+
+pub record Plan : Type 0 where
+  pub name : List ℕ
+  pub calls : List Call
+  pub inputs : List ℤ
+  pub fuel : ℕ
+
+-- what a plan of the program stands for
+abbrev pub call_of : code_call.Call → Call
+call_of c = record {
+  function = c.function;
+  arguments = c.arguments.items;
+  expect = c.expect;
+  output = option_map (λ o. o.items) c.output;
+}
+
+abbrev pub plan_of : TestPlan → Plan
+plan_of p = record { name = p.name; calls = map call_of p.calls.items; inputs = p.inputs; fuel = p.fuel }
+
+-- ---- a plan fits a program
 
 -- a value in range for each parameter; a test gives no array and no structure
 abbrev pub AreValues : List ℤ → List ParameterType → Type 0
@@ -24,38 +49,38 @@ IsExpected (Some v) t.NoResult = ⊥
 IsExpected None t.NoResult = Unit {0}
 
 -- the call names a function that has a body and that a test may call
-abbrev pub Calls : Call → Option Function → Type 0
-Calls call None = ⊥
-Calls call (Some f) = AreValues call.arguments.items f.parameters × IsExpected call.expect f.result
+abbrev pub CallFits : Call → Option Function → Type 0
+CallFits c None = ⊥
+CallFits c (Some f) = AreValues c.arguments f.parameters × IsExpected c.expect f.result
 
-abbrev pub AreCalls : List Call → Program → Type 0
-AreCalls [] p = Unit {0}
-AreCalls (call ∷ calls) p = Calls call (slice_get p.functions call.function) × AreCalls calls p
+abbrev pub CallsFit : List Call → Program → Type 0
+CallsFit [] p = Unit {0}
+CallsFit (c ∷ cs) p = CallFits c (slice_get p.functions c.function) × CallsFit cs p
 
--- how many outputs a call is expected to append
-abbrev pub outputs_of : Option (Vec ℤ Global) → ℕ
-outputs_of None = 0
-outputs_of (Some outputs) = length outputs.items
+abbrev pub AreInts : List ℤ → Type 0
+AreInts [] = Unit {0}
+AreInts (v ∷ vs) = InRange Int v × AreInts vs
 
-abbrev pub IsOutput : Option (Vec ℤ Global) → Type 0
-IsOutput None = Unit {0}
-IsOutput (Some outputs) = All (InRange Int) outputs.items
-
-abbrev pub expected_outputs : List Call → ℕ
-expected_outputs [] = 0
-expected_outputs (call ∷ calls) = outputs_of call.output + expected_outputs calls
+-- the outputs that are expected of the calls
+abbrev pub outputs_of : Option (List ℤ) → List ℤ
+outputs_of None = []
+outputs_of (Some vs) = vs
 
 abbrev pub AreOutputs : List Call → Type 0
 AreOutputs [] = Unit {0}
-AreOutputs (call ∷ calls) = IsOutput call.output × AreOutputs calls
+AreOutputs (c ∷ cs) = AreInts (outputs_of c.output) × AreOutputs cs
 
--- at most 1,024 calls, 4,096 inputs and 4,096 expected outputs, all in the range of int, and fuel from 1 to 10^8
-pub record Fits (plan : TestPlan) (p : Program) : Type 0 where
-  pub calls : AreCalls plan.calls.items p
-  pub calls_few : length plan.calls.items ≤ 1024
-  pub inputs : All (InRange Int) plan.inputs
+abbrev pub expected_outputs : List Call → ℕ
+expected_outputs [] = 0
+expected_outputs (c ∷ cs) = length (outputs_of c.output) + expected_outputs cs
+
+-- at most 1,024 calls, 4,096 inputs and 4,096 expected outputs, these all in the range of int, and fuel from 1 to 10^8
+pub record Fits (plan : Plan) (p : Program) : Type 0 where
+  pub calls : CallsFit plan.calls p
+  pub calls_few : length plan.calls ≤ 1024
+  pub inputs : AreInts plan.inputs
   pub inputs_few : length plan.inputs ≤ 4096
-  pub outputs : AreOutputs plan.calls.items
-  pub outputs_few : expected_outputs plan.calls.items ≤ 4096
+  pub outputs : AreOutputs plan.calls
+  pub outputs_few : expected_outputs plan.calls ≤ 4096
   pub some_fuel : 1 ≤ plan.fuel
   pub fuel : plan.fuel ≤ 100000000

@@ -1,13 +1,13 @@
 -- When a program is sound: each node has the type that C17 6.5 to 6.9 ask for, and what it names exists.
-use Rattle.std.specs.Prelude.{◌≡◌, ◌≢◌, ℕ, zero, suc, ◌+◌, ◌<◌, ◌≤◌, ◌^◌, ℤ, Bool, true, false, IsTrue, List, [], ◌∷◌, map, length, drop, slice_get, Option, Some, None, option_map, IsSome}
+use Rattle.std.specs.Prelude.{◌≡◌, ◌≢◌, ℕ, ◌+◌, ◌<◌, ◌≤◌, ◌^◌, ℤ, Bool, true, false, IsTrue, List, [], ◌∷◌, map, length, drop, slice_get, Option, Some, None, option_map}
 use Rattle.mc_value.specs.declared.int_type.IntType.{IntType}
 use Rattle.mc_value.specs.declared.int_type.IntType.TheVariants as the
 use Rattle.mc_value.specs.declared.operators.BinOp.{BinOp}
-use Rattle.mc_value.specs.declared.operators.BinOp.TheVariants.{Mul, Div, Rem, Add, Sub, Lt, Gt, Le, Ge, Eq, Ne, And, Xor, Or}
+use Rattle.mc_value.specs.declared.operators.BinOp.TheVariants.{Lt, Gt, Le, Ge, Eq, Ne}
 use Rattle.mc_value.specs.declared.operators.UnOp.{UnOp}
-use Rattle.mc_value.specs.declared.operators.UnOp.TheVariants.{Plus, Minus, Flip, Not}
+use Rattle.mc_value.specs.declared.operators.UnOp.TheVariants.{Not}
 use Rattle.mc_value.specs.IntTypes.{InRange}
-use Rattle.mc_value.specs.Conversions.{promoted}
+use Rattle.mc_value.specs.Conversions.{promoted, common_of}
 use Rattle.mc_value.specs.Arithmetic.{binary_type}
 use Rattle.mc_typed.specs.declared.operators.Operator.{Operator}
 use Rattle.mc_typed.specs.declared.operators.Operator.TheVariants.{Binary, Shift}
@@ -113,7 +113,7 @@ abbrev pub IsUnary : UnOp → Type 0
 IsUnary Not = ⊥
 IsUnary _ = Unit {0}
 
--- Operands of one operator have their common type, which is promoted (C17 6.3.1.8); those of a shift have each their
+-- Both operands have one promoted type, to which they are converted (C17 6.3.1.8); those of a shift have each their
 -- promoted type (C17 6.5.7p3).
 abbrev pub HasOperands : Operator → IntType → IntType → IntType → Type 0
 HasOperands (Binary operator) a left right = (promoted a ≡ a) × (left ≡ a) × (right ≡ a)
@@ -209,6 +209,12 @@ abbrev pub Updates : Operator → Type 0
 Updates (Binary operator) = IsComparison operator ≡ false
 Updates (Shift operator) = Unit {0}
 
+-- The old value of the target is converted to the common type of the operands, which is then common to itself and the
+-- target's type, and for a shift to the target's promoted type (C17 6.5.16.2p3).
+abbrev pub Converts : Operator → IntType → IntType → Type 0
+Converts (Binary operator) a common = common_of a common ≡ common
+Converts (Shift operator) a common = promoted a ≡ common
+
 -- no assignment stands under a cast to void
 abbrev pub IsCast : Effect → Type 0
 IsCast (t.Assign target a e span) = ⊥
@@ -222,7 +228,7 @@ IsEffect (t.Assign target a e span) whole c =
     IsTrue whole × IsPlace target c × (place_type c target ≡ Some (Scalar a)) × IsExpression e c × (type_of e ≡ a)
 IsEffect (t.Update target a operator common e span) whole c =
     IsTrue whole × IsPlace target c × (place_type c target ≡ Some (Scalar a)) × Updates operator
-    × IsExpression e c × HasOperands operator common common (type_of e)
+    × Converts operator a common × IsExpression e c × HasOperands operator common common (type_of e)
 IsEffect (t.Copy target value n span) whole c =
     IsTrue whole × IsPlace target c × IsStructure value c × (place_type c target ≡ structure_type c value)
     × (option_map cells (structure_type c value) ≡ Some n)
@@ -444,7 +450,7 @@ scope_of p f = record {
   statics = map (λ s. s.object) p.statics;
   objects = f.objects;
   arrays = arrays_of f.parameters;
-  result = f.result
+  result = f.result;
 }
 
 pub record IsFunction (p : Program) (f : Function) : Type 0 where

@@ -58,6 +58,29 @@ mutual
     no_arguments : Arguments
     arguments : Argument → Arguments → Arguments
 
+-- where a place and an expression stand
+abbrev pub span_of_place : Place → Span
+span_of_place (Local slot span) = span
+span_of_place (Static slot span) = span
+span_of_place (Parameter array stride index span) = span
+span_of_place (Item array n stride index span) = span
+span_of_place (Member structure i offset span) = span
+
+abbrev pub span_of_call : FunctionCall → Span
+span_of_call (call f given result span) = span
+
+abbrev pub span_of : Expression → Span
+span_of (Constant v a span) = span
+span_of (Read place a) = span_of_place place
+span_of (Unary operator a e span) = span
+span_of (Convert a written e span) = span
+span_of (Not e span) = span
+span_of (Binary operator a e f span) = span
+span_of (Logic operator e f span) = span
+span_of (Choice e f g a span) = span
+span_of (Call k a) = span_of_call k
+span_of (Input span) = span
+
 -- ---- effects (C17 6.8.3)
 
 pub data Effect : Type 0 where

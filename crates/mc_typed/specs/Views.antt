@@ -1,6 +1,6 @@
 -- What a tree of the program stands for, by folds: one node at a time, with what each part stands for in its place.
 -- A probe stands for nothing: the view of a tree with probes is that of the program under them.
-use Rattle.std.specs.Prelude.{List, [], ◌∷◌, map, Option, Some, None, option_map}
+use Rattle.std.specs.Prelude.{List, [], ◌∷◌, map, option_map}
 use Rattle.mc_typed.specs.declared.expressions.Expression.{Expression}
 use Rattle.mc_typed.specs.declared.expressions.Place.{Place}
 use Rattle.mc_typed.specs.declared.expressions.Structure.{Structure}
@@ -170,7 +170,7 @@ object_of o = record { object_type = object_type_of o.object_type; cells = o.cel
 abbrev pub static_of : StaticObject → t.StaticObject
 static_of o = record {
   object = record { object_type = object_type_of o.object_type; cells = o.cells; start = o.start };
-  initial = o.initial.items
+  initial = o.initial.items;
 }
 
 abbrev pub function_of : Function → t.Function
@@ -181,7 +181,7 @@ function_of f = record {
   result = result_of f.result;
   objects = map object_of f.objects.items;
   body = statements_from (map statement_of f.body.items);
-  closing = f.closing
+  closing = f.closing;
 }
 
 -- the parts of a program
@@ -194,5 +194,5 @@ abbrev pub program_of : Parts → t.Program
 program_of p = record {
   functions = map function_of p.functions;
   statics = map static_of p.statics;
-  structures = map object_type_of p.structures
+  structures = map object_type_of p.structures;
 }

@@ -34,13 +34,24 @@ pub enum Effect {
     },
     /// An integer whose value is dropped. It is `whole` where it is a whole expression statement or clause, perhaps
     /// under casts to void: where it is then a call, the value of the call is not used.
-    Number { value: Expression, whole: bool },
+    Number {
+        value: Expression,
+        whole: bool,
+    },
     /// A structure whose value is dropped, in the same way.
-    Structure { value: Structure, whole: bool },
+    Structure {
+        value: Structure,
+        whole: bool,
+    },
     /// A call of a void function.
-    Call { call: FunctionCall },
+    Call {
+        call: FunctionCall,
+    },
     /// A call of `mcdc_out`.
-    Output { value: Expression, span: Span },
+    Output {
+        value: Expression,
+        span: Span,
+    },
     /// `?:` with void operands.
     Choice {
         test: Expression,
@@ -49,5 +60,8 @@ pub enum Effect {
         span: Span,
     },
     /// A cast to void.
-    Discard { operand: Box<Effect>, span: Span },
+    Discard {
+        operand: Box<Effect>,
+        span: Span,
+    },
 }

@@ -1,5 +1,10 @@
 //! Typed expressions (C17 6.5).
-use crate::operators::{LogicOperator, Operator};
+ghost use Rattle.std.specs.Prelude.{◌≡◌};
+ghost use Rattle.mc_typed.specs.Sound.{type_of};
+ghost use Rattle.mc_typed.specs.Tree.{span_of, span_of_place};
+ghost use Rattle.mc_typed.specs.Views.{expression_of, place_of};
+
+use crate::operators::{LogicOperator, Operator, operator_result};
 use crate::probes::Probe;
 use mc_span::Span;
 use mc_value::{IntType, UnOp};
@@ -17,9 +22,15 @@ pub struct Slot {
 #[cycle(expressions)]
 pub enum Place {
     /// An object of the function with automatic storage duration.
-    Local { slot: Slot, span: Span },
+    Local {
+        slot: Slot,
+        span: Span,
+    },
     /// An object of the program with static storage duration.
-    Static { slot: Slot, span: Span },
+    Static {
+        slot: Slot,
+        span: Span,
+    },
     /// An element of the array that the array parameter with this number names. An element has `stride` cells.
     Parameter {
         array: u32,
@@ -55,7 +66,10 @@ pub enum Expression {
         span: Span,
     },
     /// The value of an object of an integer type (C17 6.3.2.1p2).
-    Read { place: Place, of: IntType },
+    Read {
+        place: Place,
+        of: IntType,
+    },
     /// `+`, `-` or `~` on an operand of the promoted type `of` (C17 6.5.3.3).
     Unary {
         operator: UnOp,
@@ -100,9 +114,14 @@ pub enum Expression {
         span: Span,
     },
     /// The value of a call of a function that gives an integer.
-    Call { call: FunctionCall, of: IntType },
+    Call {
+        call: FunctionCall,
+        of: IntType,
+    },
     /// A call of `mcdc_in`.
-    Input { span: Span },
+    Input {
+        span: Span,
+    },
     /// A probe of an instrumented tree, round its operand.
     Probe {
         probe: Probe,
@@ -143,4 +162,59 @@ pub enum Argument {
     Array { place: Place, length: u32 },
     /// The array that the caller's array parameter with this number names.
     Again { array: u32, span: Span },
+}
+
+impl Place {
+    /// Where the place stands. Takes no memory.
+    pub fn span(&self) -> Span
+        ensures { result ≡ span_of_place (place_of self.now) }
+    {
+        match self {
+            Place::Local { span, .. }
+            | Place::Static { span, .. }
+            | Place::Parameter { span, .. }
+            | Place::Item { span, .. }
+            | Place::Member { span, .. } => *span,
+        }
+    }
+}
+
+impl Expression {
+    /// Where the expression stands. Takes no memory.
+    pub fn span(&self) -> Span
+        ensures { result ≡ span_of (expression_of self.now) }
+    {
+        match self {
+            Expression::Read { place, .. } => place.span(),
+            Expression::Call { call, .. } => call.span,
+            Expression::Probe { operand, .. } => operand.span(),
+            Expression::Constant { span, .. }
+            | Expression::Unary { span, .. }
+            | Expression::Convert { span, .. }
+            | Expression::Not { span, .. }
+            | Expression::Binary { span, .. }
+            | Expression::Logic { span, .. }
+            | Expression::Choice { span, .. }
+            | Expression::Input { span } => *span,
+        }
+    }
+
+    /// The type of its value. Takes no memory.
+    pub fn integer_type(&self) -> IntType
+        ensures { result ≡ type_of (expression_of self.now) }
+    {
+        match self {
+            Expression::Constant { of, .. }
+            | Expression::Read { of, .. }
+            | Expression::Unary { of, .. }
+            | Expression::Choice { of, .. }
+            | Expression::Call { of, .. } => *of,
+            Expression::Convert { to, .. } => *to,
+            Expression::Binary { operator, of, .. } => operator_result(*operator, *of),
+            Expression::Not { .. } | Expression::Logic { .. } | Expression::Input { .. } => {
+                IntType::Int
+            }
+            Expression::Probe { operand, .. } => operand.integer_type(),
+        }
+    }
 }

@@ -2,6 +2,7 @@
 ghost use Rattle.std.specs.Prelude.{◌≡◌};
 ghost use Rattle.mc_typed.specs.Levels.{levels_of};
 ghost use Rattle.mc_typed.specs.Frames.{frame_of};
+ghost use Rattle.mc_typed.specs.Plans.{Fits};
 ghost use Rattle.mc_typed.specs.Sound.{IsSound};
 ghost use Rattle.mc_typed.specs.Examples as example;
 ghost use Rattle.mc_typed.specs.Laws.{CellsHaveTypes, MembersCanBeAdded, PartsLieWithin, PathsLeadOn, ScalarsAreApart};
@@ -58,4 +59,11 @@ pub fn structure_argument()
 pub fn levels_of_each_construct()
     ensures levels { levels_of example.constructs ≡ 6 }
     ensures frame { frame_of example.constructs ≡ 2 }
+{}
+
+/// A test may call a function with a value of each parameter's type, and expect what is returned.
+pub fn plans_that_fit()
+    ensures fits { Fits example.deep_plan example.recursion }
+    ensures out_of_range { ¬ (Fits example.wide_plan example.recursion) }
+    ensures structure { ¬ (Fits example.structure_plan example.structures) }
 {}

@@ -1,5 +1,8 @@
 //! Operators of typed expressions.
-use mc_value::{BinOp, ShiftOp};
+ghost use Rattle.std.specs.Prelude.{◌≡◌};
+ghost use Rattle.mc_typed.specs.Sound.{operator_type};
+
+use mc_value::{BinOp, IntType, ShiftOp};
 
 /// An operator on two integers that evaluates both (C17 6.5.5 to 6.5.12).
 #[derive(Clone, Copy, Debug, PartialEq, Eq)]
@@ -17,4 +20,26 @@ pub enum LogicOperator {
     And,
     /// `||`
     Or,
+}
+
+/// The type of what an operator gives for a left operand of the type `of`: `int` for the relational and equality
+/// operators, else the operand's (C17 6.5.8p6, 6.5.9p3). Takes no memory.
+pub(crate) fn operator_result(operator: Operator, of: IntType) -> IntType
+    ensures { result ≡ operator_type operator of }
+{
+    match operator {
+        Operator::Binary(BinOp::Lt | BinOp::Gt | BinOp::Le | BinOp::Ge | BinOp::Eq | BinOp::Ne) =>
+            IntType::Int,
+        Operator::Binary(
+            BinOp::Mul
+            | BinOp::Div
+            | BinOp::Rem
+            | BinOp::Add
+            | BinOp::Sub
+            | BinOp::And
+            | BinOp::Xor
+            | BinOp::Or,
+        )
+        | Operator::Shift(_) => of,
+    }
 }

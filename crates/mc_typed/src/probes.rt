@@ -4,7 +4,10 @@
 #[derive(Clone, Copy, Debug, PartialEq, Eq)]
 pub enum Probe {
     /// Round a decision: its register, and the bit of its first path.
-    Decision { register: u32, base: u32 },
+    Decision {
+        register: u32,
+        base: u32,
+    },
     /// Round a condition: its decision's register, and what is added to it where the condition is
     /// true and where it is false.
     Condition {
@@ -13,7 +16,9 @@ pub enum Probe {
         on_false: u32,
     },
     /// Round the expression of a `switch`, with its register.
-    Switch { register: u32 },
+    Switch {
+        register: u32,
+    },
 }
 
 /// A probe of a label of a `switch`: the register of the `switch`, and the label's bit.

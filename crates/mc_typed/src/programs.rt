@@ -22,7 +22,6 @@ pub struct Program<'a> {
 impl<'a> Model for Program<'a> {
     ghost use Rattle.mc_typed.specs.Views.{Parts, program_of};
     ghost use Rattle.mc_typed.specs.Sound.{IsSound};
-
     ghost use Rattle.std.specs.Coded.{codes};
     ghost use Rattle.mc_value.specs.contracts.object_type.ObjType as object_types_of;
     ghost use Rattle.mc_typed.specs.contracts.expressions.Expression as expressions_of;
@@ -49,10 +48,16 @@ impl<'a> Program<'a> {
         statics: Vec<StaticObject>,
         structures: Vec<ObjType>,
     ) -> Program<'a>
-        requires { IsSound (program_of (record { functions = functions.items;
-            statics = statics.items; structures = structures.items })) }
-        ensures { result ≡ record { functions = functions.entry.items;
-            statics = statics.items; structures = structures.items } }
+        requires { IsSound (program_of (record {
+          functions = functions.items;
+          statics = statics.items;
+          structures = structures.items;
+        })) }
+        ensures { result ≡ record {
+          functions = functions.entry.items;
+          statics = statics.items;
+          structures = structures.items;
+        } }
     {
         Program {
             functions,

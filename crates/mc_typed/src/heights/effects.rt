@@ -25,10 +25,7 @@ pub(super) fn effect(tree: &Effect) -> u32
             chosen,
             other,
             ..
-        } => deeper(max(
-            expression(test),
-            max(effect(chosen), effect(other)),
-        )),
+        } => deeper(max(expression(test), max(effect(chosen), effect(other)))),
         Effect::Discard { operand, .. } => deeper(effect(operand)),
     }
 }

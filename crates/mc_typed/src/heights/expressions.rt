@@ -15,7 +15,10 @@ pub(super) fn place(tree: &Place) -> u32
         Place::Local { .. } | Place::Static { .. } => 1,
         Place::Parameter { index, .. } => deeper(max(1, expression(index))),
         Place::Item { array, index, .. } => deeper(max(place(array), expression(index))),
-        Place::Member { structure: whole, .. } => deeper(place(whole)),
+        Place::Member {
+            structure: whole,
+            ..
+        } => deeper(place(whole)),
     }
 }
 
@@ -30,7 +33,9 @@ pub(super) fn expression(tree: &Expression) -> u32
             deeper(expression(operand))
         }
         Expression::Convert {
-            written, operand, ..
+            written,
+            operand,
+            ..
         } => {
             let levels = expression(operand);
             if *written { deeper(levels) } else { levels }
@@ -43,10 +48,7 @@ pub(super) fn expression(tree: &Expression) -> u32
             chosen,
             other,
             ..
-        } => deeper(max(
-            expression(test),
-            max(expression(chosen), expression(other)),
-        )),
+        } => deeper(max(expression(test), max(expression(chosen), expression(other)))),
         Expression::Call { call: made, .. } => call(made),
         Expression::Probe { operand, .. } => expression(operand),
     }

@@ -3,8 +3,8 @@ ghost use Rattle.std.specs.Prelude.{◌≡◌, map, option_map};
 ghost use Rattle.mc_typed.specs.Levels.{height_initializer, height_initializers, height_value, height_declarators, limited_more};
 ghost use Rattle.mc_typed.specs.Views.{initializer_of, initializers_from, declarator_of};
 
-use crate::initializers::Initializer;
 use crate::heights::expressions::{expression, structure};
+use crate::initializers::Initializer;
 use crate::statements::Declarator;
 use std::cmp::max;
 

@@ -60,10 +60,7 @@ fn statement(tree: &Statement) -> u32
             chosen,
             other,
             ..
-        } => deeper(max(
-            expression(test),
-            max(statement(chosen), statement(other)),
-        )),
+        } => deeper(max(expression(test), max(statement(chosen), statement(other)))),
         Statement::Switch { value, items, .. } => {
             deeper(max(expression(value), deeper(statements(items))))
         }
