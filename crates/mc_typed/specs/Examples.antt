@@ -65,7 +65,8 @@ array = record {
   closing = (at 51 52);
 }
 
--- struct S{int a;};static struct S s;int g(void){s.a=9;return 1;}int h(struct S p,int q){return p.a+q;}int f(void){s.a=2;return h(s,g());}
+-- struct S{int a;};static struct S s;int g(void){s.a=9;return 1;}int h(struct S p,int q){return
+-- p.a+q;}int f(void){s.a=2;return h(s,g());}
 abbrev pub structure : ObjectType
 structure = Structure 0 (members (Scalar Int) no_members)
 

@@ -1,12 +1,14 @@
--- The objects with automatic storage duration that a function's body names, and the cells of a frame.
+-- The objects with automatic storage duration that a function's body names, and the cells of a
+-- frame.
 use Rattle.std.specs.Prelude.{ℕ, sum, map, List, [], ◌∷◌, ◌++◌, Option, Some, None}
 use Rattle.mc_typed.specs.declared.expressions.Slot.{Slot}
 use Rattle.mc_typed.specs.Tree.{Place, Expression, StructureValue, FunctionCall, Argument, Arguments, Effect, Initializer, Initializers, Declarator, ForStart, ReturnValue, Statement, Statements, Object, StaticObject, Function, Program}
 use Rattle.mc_typed.specs.Tree as t
 
--- ---- the objects that a body makes, in the order of the text: a declared object before its initializer, the copy of a
--- structure argument after that argument, and the structure that a call returns after the arguments of the call
+-- ---- the objects that a body makes, in the order of the text
 
+-- A declared object stands before its initializer, the copy of a structure argument after that
+-- argument, and the structure that a call returns after the arguments of the call.
 abbrev pub optional : Option Slot → List Slot
 optional None = []
 optional (Some s) = s ∷ []
@@ -118,8 +120,8 @@ abbrev mutual
 
 -- ---- cells
 
--- the cells of a frame: those of the parameters that are no arrays, of the locals, and, for each call in the body, of
--- the structure that it returns and of each structure among its arguments
+-- the cells of a frame: those of the parameters that are no arrays, of the locals, and, for each
+-- call in the body, of the structure that it returns and of each structure among its arguments
 abbrev pub frame_of : Function → ℕ
 frame_of f = sum (map (λ o. o.cells) f.objects)
 

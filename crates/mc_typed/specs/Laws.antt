@@ -5,15 +5,21 @@ use Rattle.mc_typed.specs.Layout.{ObjectType, Scalar, Array, Structure, Members,
 
 -- a part of an object lies within it
 abbrev pub PartsLieWithin : Type 0
-PartsLieWithin = (t : ObjectType) (p : List ℕ) (u : ObjectType) (n : ℕ) → Leads t p u n → n + cells u ≤ cells t
+PartsLieWithin =
+    (t : ObjectType) (p : List ℕ) (u : ObjectType) (n : ℕ) → Leads t p u n → n + cells u ≤ cells t
 
--- The empty path leads to the object itself, a member's number to that member, and a path may go on from its end.
+-- The empty path leads to the object itself, a member's number to that member, and a path may go on
+-- from its end.
 pub record PathsLeadOn : Type 0 where
   pub here : (t : ObjectType) → Leads t [] t 0
-  pub into : (ms : Members) (i : ℕ) (u : ObjectType) → member ms i ≡ Some u → LeadsIn ms i [] u (start ms i)
-  pub joined : (t : ObjectType) (p : List ℕ) (u : ObjectType) (n : ℕ) (q : List ℕ) (r : ObjectType) (m : ℕ) →
+  pub into :
+      (ms : Members) (i : ℕ) (u : ObjectType) → member ms i ≡ Some u →
+      LeadsIn ms i [] u (start ms i)
+  pub joined :
+      (t : ObjectType) (p : List ℕ) (u : ObjectType) (n : ℕ) (q : List ℕ) (r : ObjectType) (m : ℕ) →
       Leads t p u n → Leads u q r m → Leads t (p ++ q) r (n + m)
-  pub split : (t : ObjectType) (p : List ℕ) (u : ObjectType) (n : ℕ) (q : List ℕ) (a : IntType) (l : ℕ) →
+  pub split :
+      (t : ObjectType) (p : List ℕ) (u : ObjectType) (n : ℕ) (q : List ℕ) (a : IntType) (l : ℕ) →
       Leads t p u n → Leads t q (Scalar a) l → is_below p q ≡ true →
       (m : ℕ) × Leads u (rest p q) (Scalar a) m × (l ≡ n + m)
 
@@ -23,7 +29,8 @@ ScalarsAreApart =
     (t : ObjectType) (p : List ℕ) (u : ObjectType) (n : ℕ) (q : List ℕ) (a : IntType) (l : ℕ) →
     Leads t p u n → Leads t q (Scalar a) l → n ≤ l → l < n + cells u → is_below p q ≡ true
 
--- the path through the members with one more at their end: it goes through an old member or through the last
+-- the path through the members with one more at their end: it goes through an old member or through
+-- the last
 abbrev pub GoesThroughLast : Members → ObjectType → ℕ → List ℕ → ObjectType → ℕ → Type 0
 GoesThroughLast ms t i p u n =
     ((i < count ms) × LeadsIn ms i p u n)
@@ -45,4 +52,6 @@ pub record CellsHaveTypes : Type 0 where
       IsPart all at (Array k t) → i < k → IsPart all (at + i * cells t) t
   pub member_of : (all : List IntType) (at k : ℕ) (ms : Members) (i : ℕ) (u : ObjectType) →
       IsPart all at (Structure k ms) → member ms i ≡ Some u → IsPart all (at + start ms i) u
-  pub scalar : (all : List IntType) (at : ℕ) (a : IntType) → IsPart all at (Scalar a) → slice_get all at ≡ Some a
+  pub scalar :
+      (all : List IntType) (at : ℕ) (a : IntType) → IsPart all at (Scalar a) →
+      slice_get all at ≡ Some a

@@ -7,8 +7,8 @@ use Rattle.mc_value.specs.declared.object_type.ObjType.TheFolds.{fold-ObjType}
 
 -- ---- types
 
--- the type of an object: an integer type, so many elements of one type, or a structure type by its number with
--- the types of its members in their order (C17 6.2.5)
+-- the type of an object: an integer type, so many elements of one type, or a structure type by its
+-- number with the types of its members in their order (C17 6.2.5)
 mutual
   pub data ObjectType : Type 0 where
     Scalar : IntType → ObjectType
@@ -81,8 +81,8 @@ with_last (members t ts) u = members t (with_last ts u)
 
 -- ---- places
 
--- A path of indexes and member numbers leads from an object of the first type to an object of the type u in it, which
--- begins so many cells after the first one begins (C17 6.2.5p20).
+-- A path of indexes and member numbers leads from an object of the first type to an object of the
+-- type u in it, which begins so many cells after the first one begins (C17 6.2.5p20).
 abbrev mutual
   pub Leads : ObjectType → List ℕ → ObjectType → ℕ → Type 0
   Leads (Scalar a) [] u n = (Scalar a ≡ u) × (n ≡ 0)

@@ -1,5 +1,6 @@
--- How high the typed body of a function is. The body is at level 1, and each statement or expression inside is one
--- level deeper. A local declaration counts as a statement, a label does not, nor does a conversion that C implies.
+-- How high the typed body of a function is. The body is at level 1, and each statement or
+-- expression inside is one level deeper. A local declaration counts as a statement, a label does
+-- not, nor does a conversion that C implies.
 use Rattle.std.specs.Prelude.{ℕ, ◌+◌, ◌-◌, ◌^◌, max, min, true, false, List, [], ◌∷◌, Option, Some, None}
 use Rattle.mc_typed.specs.Tree.{Place, Expression, StructureValue, FunctionCall, Argument, Arguments, Effect, Initializer, Initializers, Declarator, ForStart, ReturnValue, Statement, Statements, Function}
 use Rattle.mc_typed.specs.Tree as t
@@ -12,7 +13,8 @@ module _ (deeper : ℕ → ℕ) where
     height_place (t.Local slot span) = 1
     height_place (t.Static slot span) = 1
     height_place (t.Parameter array stride index span) = deeper (max 1 (height index))
-    height_place (t.Item array length stride index span) = deeper (max (height_place array) (height index))
+    height_place (t.Item array length stride index span) =
+        deeper (max (height_place array) (height index))
     height_place (t.Member structure i offset span) = deeper (height_place structure)
 
     pub height : Expression → ℕ
@@ -47,13 +49,16 @@ module _ (deeper : ℕ → ℕ) where
 
   abbrev pub height_effect : Effect → ℕ
   height_effect (t.Assign target a e span) = deeper (max (height_place target) (height e))
-  height_effect (t.Update target a operator common e span) = deeper (max (height_place target) (height e))
-  height_effect (t.Copy target value n span) = deeper (max (height_place target) (height_structure value))
+  height_effect (t.Update target a operator common e span) =
+      deeper (max (height_place target) (height e))
+  height_effect (t.Copy target value n span) =
+      deeper (max (height_place target) (height_structure value))
   height_effect (t.NumberEffect e whole) = height e
   height_effect (t.StructureEffect value whole) = height_structure value
   height_effect (t.CallEffect k) = height_call k
   height_effect (t.Output e span) = deeper (height e)
-  height_effect (t.ChoiceEffect e a b span) = deeper (max (height e) (max (height_effect a) (height_effect b)))
+  height_effect (t.ChoiceEffect e a b span) =
+      deeper (max (height e) (max (height_effect a) (height_effect b)))
   height_effect (t.Discard a span) = deeper (height_effect a)
 
   abbrev pub height_effects : List Effect → ℕ
@@ -70,7 +75,8 @@ module _ (deeper : ℕ → ℕ) where
 
     pub height_initializers : Initializers → ℕ
     height_initializers t.no_initializers = 0
-    height_initializers (t.initializers i rest) = max (height_initializer i) (height_initializers rest)
+    height_initializers (t.initializers i rest) =
+        max (height_initializer i) (height_initializers rest)
 
   abbrev pub height_value : Option Initializer → ℕ
   height_value None = 0
@@ -104,9 +110,11 @@ module _ (deeper : ℕ → ℕ) where
     height_statement (t.If e s keyword span) = deeper (max (height e) (height_statement s))
     height_statement (t.IfElse e s u keyword span) =
         deeper (max (height e) (max (height_statement s) (height_statement u)))
-    height_statement (t.Switch e items keyword span) = deeper (max (height e) (deeper (height_statements items)))
+    height_statement (t.Switch e items keyword span) =
+        deeper (max (height e) (deeper (height_statements items)))
     height_statement (t.For start test step s keyword span) =
-        deeper (max (max (height_start start) (max (height_optional test) (height_effects step))) (height_statement s))
+        deeper (max (max (height_start start) (max (height_optional test) (height_effects step)))
+        (height_statement s))
     height_statement (t.DoWhile s e keyword span) = deeper (max (height_statement s) (height e))
     height_statement (t.Break span) = 1
     height_statement (t.Continue span) = 1

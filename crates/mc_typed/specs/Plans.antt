@@ -30,7 +30,8 @@ call_of c = record {
 }
 
 abbrev pub plan_of : TestPlan → Plan
-plan_of p = record { name = p.name; calls = map call_of p.calls.items; inputs = p.inputs; fuel = p.fuel }
+plan_of p =
+    record { name = p.name; calls = map call_of p.calls.items; inputs = p.inputs; fuel = p.fuel }
 
 -- ---- a plan fits a program
 
@@ -74,7 +75,8 @@ abbrev pub expected_outputs : List Call → ℕ
 expected_outputs [] = 0
 expected_outputs (c ∷ cs) = length (outputs_of c.output) + expected_outputs cs
 
--- at most 1,024 calls, 4,096 inputs and 4,096 expected outputs, these all in the range of int, and fuel from 1 to 10^8
+-- at most 1,024 calls, 4,096 inputs and 4,096 expected outputs, these all in the range of int, and
+-- fuel from 1 to 10^8
 pub record Fits (plan : Plan) (p : Program) : Type 0 where
   pub calls : CallsFit plan.calls p
   pub calls_few : length plan.calls ≤ 1024

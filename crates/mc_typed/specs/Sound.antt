@@ -1,4 +1,5 @@
--- When a program is sound: each node has the type that C17 6.5 to 6.9 ask for, and what it names exists.
+-- When a program is sound: each node has the type that C17 6.5 to 6.9 ask for, and what it names
+-- exists.
 use Rattle.std.specs.Prelude.{◌≡◌, ◌≢◌, ℕ, ◌+◌, ◌<◌, ◌≤◌, ◌^◌, ℤ, Bool, true, false, IsTrue, List, [], ◌∷◌, map, length, drop, slice_get, Option, Some, None, option_map}
 use Rattle.mc_value.specs.declared.int_type.IntType.{IntType}
 use Rattle.mc_value.specs.declared.int_type.IntType.TheVariants as the
@@ -100,7 +101,8 @@ structure_result _ = None
 -- the type of a structure
 abbrev pub structure_type : Scope → StructureValue → Option ObjectType
 structure_type c (t.Stored place) = place_type c place
-structure_type c (t.Returned (t.call f given result span)) = structure_result (result_of (slice_get c.functions f))
+structure_type c (t.Returned (t.call f given result span)) =
+    structure_result (result_of (slice_get c.functions f))
 
 abbrev pub IsStructureType : Option ObjectType → Type 0
 IsStructureType (Some (Structure k ms)) = Unit {0}
@@ -113,8 +115,8 @@ abbrev pub IsUnary : UnOp → Type 0
 IsUnary Not = ⊥
 IsUnary _ = Unit {0}
 
--- Both operands have one promoted type, to which they are converted (C17 6.3.1.8); those of a shift have each their
--- promoted type (C17 6.5.7p3).
+-- Both operands have one promoted type, to which they are converted (C17 6.3.1.8); those of a shift
+-- have each their promoted type (C17 6.5.7p3).
 abbrev pub HasOperands : Operator → IntType → IntType → IntType → Type 0
 HasOperands (Binary operator) a left right = (promoted a ≡ a) × (left ≡ a) × (right ≡ a)
 HasOperands (Shift operator) a left right = (promoted a ≡ a) × (left ≡ a) × (promoted right ≡ right)
@@ -151,7 +153,8 @@ abbrev mutual
       IsExpression e c × IsExpression f c × HasOperands operator a (type_of e) (type_of f)
   IsExpression (t.Logic operator e f span) c = IsExpression e c × IsExpression f c
   IsExpression (t.Choice e f g a span) c =
-      IsExpression e c × IsExpression f c × IsExpression g c × (type_of f ≡ a) × (type_of g ≡ a)
+      IsExpression e c × IsExpression f c × IsExpression g c
+      × (promoted a ≡ a) × (type_of f ≡ a) × (type_of g ≡ a)
   IsExpression (t.Call k a) c = IsCall k c (t.NumberResult a)
   IsExpression (t.Input span) c = Unit {0}
 
@@ -195,22 +198,22 @@ abbrev mutual
 
 -- ---- effects (C17 6.5.16, 6.8.3)
 
-abbrev pub IsComparison : BinOp → Bool
-IsComparison Lt = true
-IsComparison Gt = true
-IsComparison Le = true
-IsComparison Ge = true
-IsComparison Eq = true
-IsComparison Ne = true
-IsComparison _ = false
+abbrev pub compares : BinOp → Bool
+compares Lt = true
+compares Gt = true
+compares Le = true
+compares Ge = true
+compares Eq = true
+compares Ne = true
+compares _ = false
 
 -- a compound assignment has no relational or equality operator
 abbrev pub Updates : Operator → Type 0
-Updates (Binary operator) = IsComparison operator ≡ false
+Updates (Binary operator) = compares operator ≡ false
 Updates (Shift operator) = Unit {0}
 
--- The old value of the target is converted to the common type of the operands, which is then common to itself and the
--- target's type, and for a shift to the target's promoted type (C17 6.5.16.2p3).
+-- The old value of the target is converted to the common type of the operands, which is then common
+-- to itself and the target's type, and for a shift to the target's promoted type (C17 6.5.16.2p3).
 abbrev pub Converts : Operator → IntType → IntType → Type 0
 Converts (Binary operator) a common = common_of a common ≡ common
 Converts (Shift operator) a common = promoted a ≡ common
@@ -222,21 +225,25 @@ IsCast (t.Update target a operator common e span) = ⊥
 IsCast (t.Copy target value n span) = ⊥
 IsCast _ = Unit {0}
 
--- Assignments stand only as whole expression statements or clauses of a `for`: `whole` says that the effect is one.
+-- Assignments stand only as whole expression statements or clauses of a `for`: `whole` says that
+-- the effect is one.
 abbrev pub IsEffect : Effect → Bool → Scope → Type 0
 IsEffect (t.Assign target a e span) whole c =
-    IsTrue whole × IsPlace target c × (place_type c target ≡ Some (Scalar a)) × IsExpression e c × (type_of e ≡ a)
+    IsTrue whole × IsPlace target c × (place_type c target ≡ Some (Scalar a)) × IsExpression e c
+    × (type_of e ≡ a)
 IsEffect (t.Update target a operator common e span) whole c =
     IsTrue whole × IsPlace target c × (place_type c target ≡ Some (Scalar a)) × Updates operator
     × Converts operator a common × IsExpression e c × HasOperands operator common common (type_of e)
 IsEffect (t.Copy target value n span) whole c =
-    IsTrue whole × IsPlace target c × IsStructure value c × (place_type c target ≡ structure_type c value)
+    IsTrue whole × IsPlace target c × IsStructure value c
+    × (place_type c target ≡ structure_type c value)
     × (option_map cells (structure_type c value) ≡ Some n)
 IsEffect (t.NumberEffect e w) whole c = (w ≡ whole) × IsExpression e c
 IsEffect (t.StructureEffect value w) whole c = (w ≡ whole) × IsStructure value c
 IsEffect (t.CallEffect k) whole c = IsCall k c t.NoResult
 IsEffect (t.Output e span) whole c = IsExpression e c × (type_of e ≡ the.Int)
-IsEffect (t.ChoiceEffect e a b span) whole c = IsExpression e c × IsEffect a false c × IsEffect b false c
+IsEffect (t.ChoiceEffect e a b span) whole c =
+    IsExpression e c × IsEffect a false c × IsEffect b false c
 IsEffect (t.Discard a span) whole c = IsCast a × IsEffect a whole c
 
 -- ---- initializers (C17 6.7.9)
@@ -306,12 +313,15 @@ IsReturn (t.ReturnStructure value n) (t.StructureResult u) c =
     IsStructure value c × (structure_type c value ≡ Some u) × (n ≡ cells u)
 IsReturn (t.ReturnStructure value n) _ c = ⊥
 
--- what stands around a statement: whether `break` and `continue` have something to end, and, directly in the body of a
--- `switch`, the promoted type of its controlling expression
+-- what stands around a statement: whether `break` and `continue` have something to end, and,
+-- directly in the body of a `switch`, the promoted type of its controlling expression
 pub record Around : Type 0 where
   pub breaks : Bool
   pub continues : Bool
   pub labels : Option IntType
+
+abbrev pub outermost : Around
+outermost = record { breaks = false; continues = false; labels = None }
 
 abbrev pub inside : Around → Around
 inside w = record w { labels = None }
@@ -354,7 +364,8 @@ abbrev mutual
   IsStatement (t.IfElse e s u keyword span) c w =
       IsExpression e c × IsStatement s c (inside w) × IsStatement u c (inside w)
   IsStatement (t.Switch e items keyword span) c w =
-      IsExpression e c × (promoted (type_of e) ≡ type_of e) × AreStatements items c (in_switch w (type_of e))
+      IsExpression e c × (promoted (type_of e) ≡ type_of e)
+      × AreStatements items c (in_switch w (type_of e))
       × Differ (labels_of items)
   IsStatement (t.For start test step s keyword span) c w =
       IsStart start c × IsTest test c × AreClauses step c × IsStatement s c in_loop
@@ -374,7 +385,8 @@ abbrev mutual
   pub IsFormed : List ObjectType → ObjectType → Type 0
   IsFormed structures (Scalar a) = Unit {0}
   IsFormed structures (Array n u) = (1 ≤ n) × IsFormed structures u
-  IsFormed structures (Structure k ms) = (slice_get structures k ≡ Some (Structure k ms)) × AreFormed structures ms
+  IsFormed structures (Structure k ms) =
+      (slice_get structures k ≡ Some (Structure k ms)) × AreFormed structures ms
 
   pub AreFormed : List ObjectType → Members → Type 0
   AreFormed structures no_members = Unit {0}
@@ -396,8 +408,8 @@ AreLaidOut structures n (o ∷ os) =
 abbrev pub AreInRange : List IntType → List ℤ → Type 0
 AreInRange [] [] = Unit {0}
 AreInRange [] (v ∷ vs) = ⊥
-AreInRange (a ∷ as') [] = ⊥
-AreInRange (a ∷ as') (v ∷ vs) = InRange a v × AreInRange as' vs
+AreInRange (a ∷ types) [] = ⊥
+AreInRange (a ∷ types) (v ∷ vs) = InRange a v × AreInRange types vs
 
 -- each cell has an initial value of its type
 abbrev pub AreInitial : List StaticObject → Type 0
@@ -407,7 +419,8 @@ AreInitial (s ∷ ss) = AreInRange (scalars s.object.object_type) s.initial × A
 -- the structure type with number k is the one at place k
 abbrev pub AreStructures : List ObjectType → ℕ → List ObjectType → Type 0
 AreStructures all k [] = Unit {0}
-AreStructures all k (Structure n ms ∷ us) = (n ≡ k) × IsObjectType all (Structure n ms) × AreStructures all (k + 1) us
+AreStructures all k (Structure n ms ∷ us) =
+    (n ≡ k) × IsObjectType all (Structure n ms) × AreStructures all (k + 1) us
 AreStructures all k (_ ∷ us) = ⊥
 
 -- ---- functions (C17 6.9.1)
@@ -460,9 +473,10 @@ pub record IsFunction (p : Program) (f : Function) : Type 0 where
   -- The objects are the parameters that are no arrays, and then those of the body, each named once.
   pub begins : Begins (values_of f.parameters) f.objects
   pub laid : AreLaidOut p.structures 0 f.objects
-  pub named : slots_statements f.body ≡ drop (length (values_of f.parameters)) (slots_from 0 f.objects)
+  pub named :
+      slots_statements f.body ≡ drop (length (values_of f.parameters)) (slots_from 0 f.objects)
   pub frame : frame_of f ≤ 65536
-  pub body : AreStatements f.body (scope_of p f) (record { breaks = false; continues = false; labels = None })
+  pub body : AreStatements f.body (scope_of p f) outermost
 
 abbrev pub AreFunctions : Program → List Function → Type 0
 AreFunctions p [] = Unit {0}

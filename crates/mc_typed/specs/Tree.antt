@@ -15,7 +15,8 @@ mutual
   pub data Place : Type 0 where
     Local : Slot → Span → Place
     Static : Slot → Span → Place
-    -- an element of the array that an array parameter names: the parameter, the cells of an element, the index
+    -- an element of the array that an array parameter names: the parameter, the cells of an
+    -- element, the index
     Parameter : ℕ → ℕ → Expression → Span → Place
     -- an element of an array: the array, its length, the cells of an element, the index
     Item : Place → ℕ → ℕ → Expression → Span → Place

@@ -14,9 +14,10 @@ pub enum Effect {
         value: Expression,
         span: Span,
     },
-    /// A compound assignment: the old value of the target, of the type `of`, is converted to the type `common`
-    /// and is the left operand, `value` is the right one, and what the operator gives is converted to `of`
-    /// (C17 6.5.16.2). `++` and `--` add and subtract 1 (C17 6.5.2.4, 6.5.3.1).
+    /// A compound assignment: the old value of the target, of the type `of`, is converted to the
+    /// type `common` and is the left operand, `value` is the right one, and what the operator gives
+    /// is converted to `of` (C17 6.5.16.2). `++` and `--` add and subtract 1 (C17 6.5.2.4,
+    /// 6.5.3.1).
     Update {
         target: Place,
         of: IntType,
@@ -32,8 +33,9 @@ pub enum Effect {
         cells: u32,
         span: Span,
     },
-    /// An integer whose value is dropped. It is `whole` where it is a whole expression statement or clause, perhaps
-    /// under casts to void: where it is then a call, the value of the call is not used.
+    /// An integer whose value is dropped. It is `whole` where it is a whole expression statement or
+    /// clause, perhaps under casts to void: where it is then a call, the value of the call is not
+    /// used.
     Number {
         value: Expression,
         whole: bool,

@@ -9,8 +9,8 @@ use crate::probes::Probe;
 use mc_span::Span;
 use mc_value::{IntType, UnOp};
 
-/// An object by its number, and the first of its cells: in its function's frame for an object with automatic
-/// storage duration, among all static cells for one with static storage duration.
+/// An object by its number, and the first of its cells: in its function's frame for an object with
+/// automatic storage duration, among all static cells for one with static storage duration.
 #[derive(Clone, Copy, Debug, PartialEq, Eq)]
 pub struct Slot {
     pub object: u32,
@@ -31,7 +31,8 @@ pub enum Place {
         slot: Slot,
         span: Span,
     },
-    /// An element of the array that the array parameter with this number names. An element has `stride` cells.
+    /// An element of the array that the array parameter with this number names. An element has
+    /// `stride` cells.
     Parameter {
         array: u32,
         stride: u32,
@@ -46,7 +47,8 @@ pub enum Place {
         index: Box<Expression>,
         span: Span,
     },
-    /// A member of a structure by its number, which begins `offset` cells after the structure (C17 6.5.2.3).
+    /// A member of a structure by its number, which begins `offset` cells after the structure (C17
+    /// 6.5.2.3).
     Member {
         structure: Box<Place>,
         member: u32,
@@ -89,8 +91,8 @@ pub enum Expression {
         operand: Box<Expression>,
         span: Span,
     },
-    /// An operator on two integers. The left operand has the promoted type `of`, and so has the right one
-    /// unless the operator is a shift.
+    /// An operator on two integers. The left operand has the promoted type `of`, and so has the
+    /// right one unless the operator is a shift.
     Binary {
         operator: Operator,
         of: IntType,
@@ -105,7 +107,7 @@ pub enum Expression {
         right: Box<Expression>,
         span: Span,
     },
-    /// `?:` whose second and third operand have the type `of` (C17 6.5.15).
+    /// `?:` whose second and third operand have the promoted type `of` (C17 6.5.15).
     Choice {
         test: Box<Expression>,
         chosen: Box<Expression>,

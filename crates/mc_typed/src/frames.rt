@@ -6,8 +6,9 @@ ghost use Rattle.mc_typed.specs.Views.{function_of};
 use crate::functions::Function;
 use crate::programs::Program;
 
-/// How many cells an activation of a function has: those of its parameters that are no arrays, of its locals, and, for
-/// each call in its body, of the structure that it returns and of each structure among its arguments. Takes no memory.
+/// How many cells an activation of a function has: those of its parameters that are no arrays, of
+/// its locals, and, for each call in its body, of the structure that it returns and of each
+/// structure among its arguments. Takes no memory.
 pub fn frame(program: &Program<'_>, function: u32) -> u32
     requires { function < length program.now.functions }
     ensures { IfSome (slice_get program.now.functions function)

@@ -29,15 +29,16 @@ pub struct Function<'a> {
     pub name_span: Span,
     pub parameters: Vec<ParameterType>,
     pub result: ResultType,
-    /// The objects with automatic storage duration: the parameters that are no arrays, in order, and then those
-    /// of the body, each declared local and each temporary object of a call, in the order of the text.
+    /// The objects with automatic storage duration: the parameters that are no arrays, in order,
+    /// and then those of the body, each declared local and each temporary object of a call, in the
+    /// order of the text.
     pub objects: Vec<Object>,
     /// The items of the body.
     pub body: Vec<Statement>,
     /// The `}` of the body.
     pub closing: Span,
-    /// Of an instrumented tree: how many registers an activation has, and the bits of the entry and of the exit
-    /// at the closing brace.
+    /// Of an instrumented tree: how many registers an activation has, and the bits of the entry and
+    /// of the exit at the closing brace.
     pub registers: u32,
     pub entry: Option<u32>,
     pub exit: Option<u32>,

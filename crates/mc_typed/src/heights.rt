@@ -11,9 +11,9 @@ mod statements;
 use crate::programs::Program;
 use crate::statements::Statement;
 
-/// How many levels an activation of a function takes: the height of its body, which is at level 1, where each statement
-/// or expression inside is one level deeper and implied conversions are none; 2^32 - 1 where it is greater. Takes
-/// no memory.
+/// How many levels an activation of a function takes: the height of its body, which is at level 1,
+/// where each statement or expression inside is one level deeper and implied conversions are none;
+/// 2^32 - 1 where it is greater. Takes no memory.
 pub fn levels(program: &Program<'_>, function: u32) -> u32
     requires { function < length program.now.functions }
     ensures { IfSome (slice_get program.now.functions function)

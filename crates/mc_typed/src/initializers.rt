@@ -10,6 +10,7 @@ pub enum Initializer {
     Structure { value: Structure, cells: u32 },
     /// One item for each of the first elements or members. The rest of the object becomes 0.
     List { items: Vec<Initializer>, cells: u32 },
-    /// The list `{E}`, where E is an integer constant expression of value 0: the whole object becomes 0.
+    /// The list `{E}`, where E is an integer constant expression of value 0: the whole object
+    /// becomes 0.
     Zero { value: Expression, cells: u32 },
 }

@@ -17,7 +17,8 @@ pub fn paths_lead_on()
     ensures { PathsLeadOn }
 {}
 
-/// A scalar that has one of an object's cells is a part of that object, so different scalars have different cells.
+/// A scalar that has one of an object's cells is a part of that object, so different scalars have
+/// different cells.
 pub fn scalars_are_apart()
     ensures { ScalarsAreApart }
 {}
@@ -45,8 +46,8 @@ pub fn recursion_with_array()
     ensures frame { frame_of example.array ≡ 30001 }
 {}
 
-/// `struct S{int a;};static struct S s;int g(void){s.a=9;return 1;}int h(struct S p,int q){return p.a+q;}`
-/// `int f(void){s.a=2;return h(s,g());}`: the copy of `s` is an object of the caller.
+/// `struct S{int a;};static struct S s;int g(void){s.a=9;return 1;}int h(struct S p,int q){return
+/// p.a+q;}` `int f(void){s.a=2;return h(s,g());}`: the copy of `s` is an object of the caller.
 pub fn structure_argument()
     ensures sound { IsSound example.structures }
     ensures caller { frame_of example.caller ≡ 1 }
@@ -54,8 +55,9 @@ pub fn structure_argument()
     ensures levels { levels_of example.caller ≡ 5 }
 {}
 
-/// `int f(int n){int x=n+1;switch(n){case 1:for(;x<9;x++);default:return (long)x;}}`: a declaration is a level and
-/// its initializer is deeper, the body of a `switch` is a level, labels and implied conversions are none, a cast is.
+/// `int f(int n){int x=n+1;switch(n){case 1:for(;x<9;x++);default:return (long)x;}}`: a declaration
+/// is a level and its initializer is deeper, the body of a `switch` is a level, labels and implied
+/// conversions are none, a cast is.
 pub fn levels_of_each_construct()
     ensures levels { levels_of example.constructs ≡ 6 }
     ensures frame { frame_of example.constructs ≡ 2 }

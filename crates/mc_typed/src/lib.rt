@@ -1,4 +1,5 @@
-//! The typed program: the tree of an accepted source with each name resolved and each conversion written.
+//! The typed program: the tree of an accepted source with each name resolved and each conversion
+//! written.
 #![tactic(auto)]
 
 mod effects;

@@ -6,8 +6,8 @@ use mc_value::ObjType;
 use std::alloc::AllocError;
 use std::sync::Arc;
 
-/// An object of a function with automatic storage duration: its type, how many cells it has, and which cell of
-/// the frame is its first.
+/// An object of a function with automatic storage duration: its type, how many cells it has, and
+/// which cell of the frame is its first.
 #[derive(Drop)]
 pub struct Object {
     pub object_type: ObjType,
@@ -15,8 +15,8 @@ pub struct Object {
     pub start: u32,
 }
 
-/// An object with static storage duration: its type, how many cells it has, which static cell is its first, and
-/// the initial value of each of its cells.
+/// An object with static storage duration: its type, how many cells it has, which static cell is
+/// its first, and the initial value of each of its cells.
 #[derive(Drop)]
 pub struct StaticObject {
     pub object_type: ObjType,

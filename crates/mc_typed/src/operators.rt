@@ -22,8 +22,8 @@ pub enum LogicOperator {
     Or,
 }
 
-/// The type of what an operator gives for a left operand of the type `of`: `int` for the relational and equality
-/// operators, else the operand's (C17 6.5.8p6, 6.5.9p3). Takes no memory.
+/// The type of what an operator gives for a left operand of the type `of`: `int` for the relational
+/// and equality operators, else the operand's (C17 6.5.8p6, 6.5.9p3). Takes no memory.
 pub(crate) fn operator_result(operator: Operator, of: IntType) -> IntType
     ensures { result ≡ operator_type operator of }
 {

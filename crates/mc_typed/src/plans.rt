@@ -92,8 +92,8 @@ impl Inputs {
     }
 }
 
-/// A call that a test makes: the function's number, its arguments, the value that it has to return and the numbers
-/// that it has to append to the output, where these are expected.
+/// A call that a test makes: the function's number, its arguments, the value that it has to return
+/// and the numbers that it has to append to the output, where these are expected.
 #[derive(Drop)]
 pub struct Call {
     pub function: u32,

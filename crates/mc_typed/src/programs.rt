@@ -8,10 +8,10 @@ use crate::objects::StaticObject;
 use mc_value::ObjType;
 use std::marker::Model;
 
-/// The typed program of an accepted source: its functions that have a body, in the order of their definitions, its
-/// objects with static storage duration and its structure types, each by its number. Each program is sound: types
-/// fit, conversions are written, what is named exists, and the limits hold. It is the same program whatever
-/// probes its tree has.
+/// The typed program of an accepted source: its functions that have a body, in the order of their
+/// definitions, its objects with static storage duration and its structure types, each by its
+/// number. Each program is sound: types fit, conversions are written, what is named exists, and the
+/// limits hold. It is the same program whatever probes its tree has.
 #[derive(Drop)]
 pub struct Program<'a> {
     functions: Vec<Function<'a>>,
@@ -34,11 +34,29 @@ impl<'a> Model for Program<'a> {
 
     ghost Value = { Parts };
 
-    ghost coded = { Prim.hlevel (codes, object_types_of.the_row.coded, expressions_of.the_row.coded, places_of.the_row.coded, structures_of.the_row.coded, calls_of.the_row.coded, effects_of.the_row.coded, initializers_of.the_row.coded, statements_of.the_row.coded) };
+    ghost coded = { Prim.hlevel (
+      codes,
+      object_types_of.the_row.coded,
+      expressions_of.the_row.coded,
+      places_of.the_row.coded,
+      structures_of.the_row.coded,
+      calls_of.the_row.coded,
+      effects_of.the_row.coded,
+      initializers_of.the_row.coded,
+      statements_of.the_row.coded,
+    ) };
 
-    ghost view = { λ p. record { functions = p.functions.items; statics = p.statics.items; structures = p.structures.items } };
+    ghost view = { λ p. record {
+      functions = p.functions.items;
+      statics = p.statics.items;
+      structures = p.structures.items;
+    } };
 
-    ghost invariant = { λ p. IsSound (program_of (record { functions = p.functions.items; statics = p.statics.items; structures = p.structures.items })) };
+    ghost invariant = { λ p. IsSound (program_of (record {
+      functions = p.functions.items;
+      statics = p.statics.items;
+      structures = p.structures.items;
+    })) };
 }
 
 impl<'a> Program<'a> {

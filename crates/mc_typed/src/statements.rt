@@ -5,16 +5,16 @@ use crate::initializers::Initializer;
 use crate::probes::Mark;
 use mc_span::Span;
 
-/// A statement, a label of a `switch` or a local declaration. `span` is all of it, `keyword` the word that it
-/// begins with, and `bit` the bit of its probe in an instrumented tree.
+/// A statement, a label of a `switch` or a local declaration. `span` is all of it, `keyword` the
+/// word that it begins with, and `bit` the bit of its probe in an instrumented tree.
 #[derive(Drop)]
 pub enum Statement {
     Compound {
         items: Vec<Statement>,
         span: Span,
     },
-    /// A label directly in the body of a `switch`: `case` with its value in the promoted type of the
-    /// controlling expression, or `default`. Its span goes through the colon.
+    /// A label directly in the body of a `switch`: `case` with its value in the promoted type of
+    /// the controlling expression, or `default`. Its span goes through the colon.
     Label {
         value: Option<i128>,
         span: Span,
@@ -51,8 +51,8 @@ pub enum Statement {
         span: Span,
         bit: Option<u32>,
     },
-    /// The items of its body are its labels and the statements after them. `absent` is the probe of a
-    /// `default` that is not there.
+    /// The items of its body are its labels and the statements after them. `absent` is the probe of
+    /// a `default` that is not there.
     Switch {
         value: Expression,
         items: Vec<Statement>,
@@ -95,7 +95,8 @@ pub enum Statement {
     },
 }
 
-/// An object that a local declaration declares, how many cells it has, and what it is initialized with.
+/// An object that a local declaration declares, how many cells it has, and what it is initialized
+/// with.
 #[derive(Drop)]
 pub struct Declarator {
     pub slot: Slot,
@@ -110,7 +111,8 @@ pub enum ForStart {
     Declaration { declarators: Vec<Declarator> },
 }
 
-/// What a `return` gives: nothing, an integer converted to the function's type, or a structure of `cells` cells.
+/// What a `return` gives: nothing, an integer converted to the function's type, or a structure of
+/// `cells` cells.
 #[derive(Drop)]
 pub enum ReturnValue {
     Nothing,

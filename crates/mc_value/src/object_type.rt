@@ -12,7 +12,10 @@ pub enum ObjType {
     /// A scalar.
     Int(IntType),
     /// An array of `length` elements.
-    Array { element: Arc<ObjType>, length: u32 },
+    Array {
+        element: Arc<ObjType>,
+        length: u32,
+    },
     /// The structure type with this number, and the types of its members in their order.
     Struct {
         number: u32,

@@ -21,7 +21,8 @@ fn initializer(tree: &Initializer) -> u32
 
 #[cycle(initializer)]
 fn initializers(trees: &[Initializer]) -> u32
-    ensures { result ≡ height_initializers limited_more (initializers_from (map initializer_of trees.now)) }
+    ensures { result
+        ≡ height_initializers limited_more (initializers_from (map initializer_of trees.now)) }
 {
     let mut tallest = 0;
     for tree in trees {

@@ -81,7 +81,8 @@ fn statement(tree: &Statement) -> u32
 
 #[cycle(statement)]
 pub(super) fn statements(trees: &[Statement]) -> u32
-    ensures { result ≡ height_statements limited_more (statements_from (map statement_of trees.now)) }
+    ensures { result
+        ≡ height_statements limited_more (statements_from (map statement_of trees.now)) }
 {
     let mut tallest = 0;
     for tree in trees {
