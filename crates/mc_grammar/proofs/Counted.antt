@@ -2,6 +2,7 @@
 use Rattle.std.proofs.Common.{◌≡◌, ℕ, zero, suc, ◌+◌, ◌≤◌, Bool, true, false, List, Option, length, refl, ap, arith}
 use Rattle.std.proofs.lemmas.List.{length-map}
 use Rattle.mc_lex.specs.declared.token.Dialect.{Dialect}
+use Rattle.mc_span.specs.declared.span.Span.{Span}
 use Rattle.mc_tree.specs.Tree.{Expression, Expressions, TypeName, Specifiers, StructMember, Members, Enumerator, Enumerators, Declarator, Declarators, ArrayLengths, Parameters, Parameter, ParameterList, Initializer, Initializers, InitDeclarator, Declaration, ForStart, Statement, BlockItems, Item, name_of}
 use Rattle.mc_grammar.specs.Words.{Lexeme, lexeme_of}
 use Rattle.mc_lex.specs.Tokens.{Tok}
@@ -16,9 +17,9 @@ use Rattle.mc_grammar.specs.Items.{ReadsItem, ReadsUnit, IsTree}
 use Rattle.mc_grammar.specs.Items as i
 use Rattle.mc_tree.specs.Length.{after_comma, of_expression, of_expressions, of_type, of_specifiers, of_member, of_members, of_enumerator, of_enumerators, of_declarator, of_declarators, of_lengths, of_parameters, of_parameter, of_parameter_list, of_initializer, of_initializers, of_init_declarator, of_init_declarators, of_declaration, of_optional, of_start, of_statement, of_block, of_item, token_count}
 
-after : (n : ℕ) → after_comma n ≤ n + 1
-after zero = omega arith
-after (suc n) = omega arith
+comma_counted : (n : ℕ) → after_comma n ≤ n + 1
+comma_counted zero = omega arith
+comma_counted (suc n) = omega arith
 
 -- what a repetition has read already
 abbrev before : Nonterminal → ℕ
@@ -38,14 +39,14 @@ operand_before n.bit_or = refl
 operand_before n.land = refl
 operand_before n.lor = refl
 
-pub stars_counted : {ts rest : List Lexeme} {k : ℕ} → ReadsStars ts k rest → k + length rest ≤ length ts
+pub stars_counted : {before end : Span} {ts rest : List Lexeme} {k : ℕ} → ReadsStars before ts k end rest → k + length rest ≤ length ts
 stars_counted (r.star e p) = omega (arith, stars_counted p)
 stars_counted (r.no_star e) = omega arith
 
 mutual
   pub counted : {d : Dialect} {m : Nonterminal} {ts rest : List Lexeme} {a : Expression} → Reads d m ts a rest → of_expression a + length rest ≤ before m + length ts
   counted (r.comma_one p e) = omega (arith, counted p)
-  counted (r.comma {all = all} p e q) = omega (arith, after (of_expressions all), counted p, expressions_counted q)
+  counted (r.comma {all = all} p e q) = omega (arith, comma_counted (of_expressions all), counted p, expressions_counted q)
   counted (r.assign_cond p e) = omega (arith, counted p)
   counted (r.assign p e q) = omega (arith, counted p, counted q)
   counted (r.cond_level p e) = omega (arith, counted p)
@@ -72,7 +73,7 @@ mutual
 
   pub expressions_counted : {d : Dialect} {ts rest : List Lexeme} {all : Expressions} → ReadsExpressions d ts all rest → of_expressions all + length rest ≤ length ts
   expressions_counted (r.last_expression p e) = omega (arith, counted p)
-  expressions_counted (r.more_expressions {all = all} p e q) = omega (arith, after (of_expressions all), counted p, expressions_counted q)
+  expressions_counted (r.more_expressions {all = all} p e q) = omega (arith, comma_counted (of_expressions all), counted p, expressions_counted q)
 
   pub type_name_counted : {d : Dialect} {ts rest : List Lexeme} {type : TypeName} → ReadsTypeName d ts type rest → of_type type + length rest ≤ length ts
   type_name_counted (r.type_name p e q) = omega (arith, specifiers_counted p, stars_counted q)
@@ -97,12 +98,12 @@ mutual
 
   pub declarators_counted : {d : Dialect} {ts rest : List Lexeme} {all : Declarators} → ReadsDeclarators d ts all rest → of_declarators all + length rest ≤ length ts
   declarators_counted (r.last_declarator p e) = omega (arith, declarator_counted p)
-  declarators_counted (r.more_declarators {ds = all} p e q) = omega (arith, after (of_declarators all), declarator_counted p, declarators_counted q)
+  declarators_counted (r.more_declarators {ds = all} p e q) = omega (arith, comma_counted (of_declarators all), declarator_counted p, declarators_counted q)
 
   pub enumerators_counted : {d : Dialect} {ts rest : List Lexeme} {all : Enumerators} → ReadsEnumerators d ts all rest → of_enumerators all + length rest ≤ length ts
   enumerators_counted (r.last_enumerator p e) = omega (arith, enumerator_counted p)
   enumerators_counted (r.last_enumerator_comma p e f) = omega (arith, enumerator_counted p)
-  enumerators_counted (r.more_enumerators {es = all} p e f q) = omega (arith, after (of_enumerators all), enumerator_counted p, enumerators_counted q)
+  enumerators_counted (r.more_enumerators {es = all} p e f q) = omega (arith, comma_counted (of_enumerators all), enumerator_counted p, enumerators_counted q)
 
   pub enumerator_counted : {d : Dialect} {ts rest : List Lexeme} {one : Enumerator} → ReadsEnumerator d ts one rest → of_enumerator one + length rest ≤ length ts
   enumerator_counted (r.enumerator e f) = omega arith
@@ -112,7 +113,7 @@ mutual
   declarator_counted (r.object p e f q) = omega (arith, stars_counted p, lengths_counted q)
   declarator_counted (r.function p e q) = omega (arith, stars_counted p, parameters_counted q)
 
-  pub lengths_counted : {d : Dialect} {ts rest : List Lexeme} {all : ArrayLengths} → ReadsArrayLengths d ts all rest → of_lengths all + length rest ≤ length ts
+  pub lengths_counted : {d : Dialect} {before end : Span} {ts rest : List Lexeme} {all : ArrayLengths} → ReadsArrayLengths d before ts all end rest → of_lengths all + length rest ≤ length ts
   lengths_counted (r.lengths_end e) = omega arith
   lengths_counted (r.absent_length e f p) = omega (arith, lengths_counted p)
   lengths_counted (r.given_length e f p g q) = omega (arith, counted p, lengths_counted q)
@@ -124,7 +125,7 @@ mutual
 
   pub parameter_list_counted : {d : Dialect} {ts rest : List Lexeme} {all : ParameterList} → ReadsParameterList d ts all rest → of_parameter_list all + length rest ≤ length ts
   parameter_list_counted (r.last_parameter p e) = omega (arith, parameter_counted p)
-  parameter_list_counted (r.more_parameters {ps = all} p e q) = omega (arith, after (of_parameter_list all), parameter_counted p, parameter_list_counted q)
+  parameter_list_counted (r.more_parameters {ps = all} p e q) = omega (arith, comma_counted (of_parameter_list all), parameter_counted p, parameter_list_counted q)
 
   pub parameter_counted : {d : Dialect} {ts rest : List Lexeme} {one : Parameter} → ReadsParameter d ts one rest → of_parameter one + length rest ≤ length ts
   parameter_counted (r.parameter p e q f v) = omega (arith, specifiers_counted p, stars_counted q, lengths_counted v)
@@ -145,7 +146,7 @@ mutual
   pub initializers_counted : {d : Dialect} {ts rest : List Lexeme} {all : Initializers} → ReadsInitializers d ts all rest → of_initializers all + length rest ≤ length ts
   initializers_counted (s.last_initializer p e) = omega (arith, initializer_counted p)
   initializers_counted (s.last_initializer_comma p e f) = omega (arith, initializer_counted p)
-  initializers_counted (s.more_initializers {all = all} p e f q) = omega (arith, after (of_initializers all), initializer_counted p, initializers_counted q)
+  initializers_counted (s.more_initializers {all = all} p e f q) = omega (arith, comma_counted (of_initializers all), initializer_counted p, initializers_counted q)
 
 after_length : (typedef : Bool) (one : Declarator) (ts : List Lexeme) → length (after typedef one ts) ≡ length ts
 after_length true one ts = same_length (name_of one).text ts
@@ -158,7 +159,7 @@ init_declarator_counted {typedef = typedef} (s.initialized {mid = mid} {d = one}
 pub init_declarators_counted : {d : Dialect} {typedef : Bool} {ts rest : List Lexeme} {all : List InitDeclarator} → ReadsInitDeclarators d typedef ts all rest → of_init_declarators all + length rest ≤ length ts
 init_declarators_counted (s.no_init_declarator e) = omega arith
 init_declarators_counted (s.last_init_declarator p e) = omega (arith, init_declarator_counted p)
-init_declarators_counted (s.more_init_declarators {all = all} p e f q) = omega (arith, after (of_init_declarators all), init_declarator_counted p, init_declarators_counted q)
+init_declarators_counted (s.more_init_declarators {all = all} p e f q) = omega (arith, comma_counted (of_init_declarators all), init_declarator_counted p, init_declarators_counted q)
 
 pub declaration_counted : {d : Dialect} {typedef : Bool} {allowed : Specifiers → Bool} {ts rest : List Lexeme} {one : Declaration} → ReadsDeclaration d typedef allowed ts one rest → of_declaration one + length rest ≤ length ts
 declaration_counted (s.declaration e p f q g) = omega (arith, specifiers_counted p, init_declarators_counted q)
@@ -186,7 +187,7 @@ mutual
   statement_counted (s.break e f) = omega arith
   statement_counted (s.return e p f) = omega (arith, optional_counted p)
 
-  pub compound_counted : {d : Dialect} {ts rest : List Lexeme} {all : BlockItems} → ReadsCompound d ts all rest → of_block all + 2 + length rest ≤ length ts
+  pub compound_counted : {d : Dialect} {span : Span} {ts rest : List Lexeme} {all : BlockItems} → ReadsCompound d ts all span rest → of_block all + 2 + length rest ≤ length ts
   compound_counted (s.block e p f) = omega (arith, block_items_counted p)
 
   pub block_items_counted : {d : Dialect} {ts rest : List Lexeme} {all : BlockItems} → ReadsBlockItems d ts all rest → of_block all + length rest ≤ length ts

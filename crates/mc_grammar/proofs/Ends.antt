@@ -5,6 +5,7 @@ use Rattle.mc_tree.specs.Tree as t
 use Rattle.mc_grammar.specs.Meaning.{is_name_of}
 use Rattle.mc_grammar.proofs.Choices.{no_name_follows}
 use Rattle.mc_lex.specs.declared.token.Dialect.{Dialect}
+use Rattle.mc_span.specs.declared.span.Span.{Span}
 use Rattle.mc_tree.specs.Tree.{Expression, Expressions, TypeName, Specifiers, StructMember, Members, Enumerator, Enumerators, Declarator, Declarators, ArrayLengths, Parameters, Parameter, ParameterList, Initializer, Initializers, InitDeclarator, Declaration, ForStart, Statement, BlockItems, Item, name_of}
 use Rattle.mc_grammar.specs.Words.{Lexeme}
 use Rattle.mc_grammar.specs.Nonterminal.{Nonterminal}
@@ -14,11 +15,11 @@ use Rattle.mc_grammar.specs.Statements.{ReadsOptional, ReadsTest, ReadsInitializ
 use Rattle.mc_grammar.specs.Statements as s
 
 -- the first is an end of the second
-pub data IsEnd : List Lexeme → List Lexeme → Type 0 where
-  whole : {ts : List Lexeme} → IsEnd ts ts
-  later : {x : Lexeme} {rest ts : List Lexeme} → IsEnd rest ts → IsEnd rest (x ∷ ts)
+pub data IsEnd {A : Type 0} : List A → List A → Type 0 where
+  whole : {ts : List A} → IsEnd ts ts
+  later : {x : A} {rest ts : List A} → IsEnd rest ts → IsEnd rest (x ∷ ts)
 
-join : {ts mid rest : List Lexeme} → IsEnd mid ts → IsEnd rest mid → IsEnd rest ts
+pub join : {A : Type 0} {ts mid rest : List A} → IsEnd mid ts → IsEnd rest mid → IsEnd rest ts
 join whole q = q
 join (later p) q = later (join p q)
 
@@ -32,7 +33,7 @@ pub none_of_end : (test : Lexeme → Bool) {ts rest : List Lexeme} → IsEnd res
 none_of_end test whole e = e
 none_of_end test (later {x = x} {ts = ts} p) e = none_of_end test p (or_right (test x) (list_any test ts) e)
 
-pub stars_ends : {ts rest : List Lexeme} {k : ℕ} → ReadsStars ts k rest → IsEnd rest ts
+pub stars_ends : {before end : Span} {ts rest : List Lexeme} {k : ℕ} → ReadsStars before ts k end rest → IsEnd rest ts
 stars_ends (r.star p0 p1) = later (join (stars_ends p1) (whole))
 stars_ends (r.no_star p0) = whole
 
@@ -106,7 +107,7 @@ mutual
   declarator_ends (r.object p0 p1 p2 p3) = join (stars_ends p0) (later (join (lengths_ends p3) (whole)))
   declarator_ends (r.function p0 p1 p2) = join (stars_ends p0) (later (join (parameters_ends p2) (whole)))
 
-  pub lengths_ends : {d : Dialect} {ts rest : List Lexeme} {all : ArrayLengths} → ReadsArrayLengths d ts all rest → IsEnd rest ts
+  pub lengths_ends : {d : Dialect} {before end : Span} {ts rest : List Lexeme} {all : ArrayLengths} → ReadsArrayLengths d before ts all end rest → IsEnd rest ts
   lengths_ends (r.lengths_end p0) = whole
   lengths_ends (r.absent_length p0 p1 p2) = later (later (join (lengths_ends p2) (whole)))
   lengths_ends (r.given_length p0 p1 p2 p3 p4) = later (join (expression_ends p2) (later (join (lengths_ends p4) (whole))))

@@ -1,6 +1,7 @@
 -- What is left is no longer than what was given, and shorter where a token is taken.
 use Rattle.std.proofs.Common.{◌≡◌, ℕ, ◌+◌, ◌<◌, ◌≤◌, Bool, true, false, List, [], ◌∷◌, Option, length, refl, ap, arith}
 use Rattle.mc_lex.specs.declared.token.Dialect.{Dialect}
+use Rattle.mc_span.specs.declared.span.Span.{Span}
 use Rattle.mc_tree.specs.Tree.{Expression, Expressions, TypeName, Specifiers, StructMember, Members, Enumerator, Enumerators, Declarator, Declarators, ArrayLengths, Parameters, Parameter, ParameterList, Initializer, Initializers, InitDeclarator, Declaration, ForStart, Statement, BlockItems, Item, name_of}
 use Rattle.mc_tree.specs.Tree as t
 use Rattle.mc_grammar.specs.Words.{Lexeme, retag}
@@ -36,7 +37,7 @@ typed : (all : Specifiers) → for_type all ≡ true → some_of all ≡ 1
 typed t.no_specifiers e = cc
 typed (t.specifiers one all) e = refl
 
-pub stars_shorter : {ts rest : List Lexeme} {k : ℕ} → ReadsStars ts k rest → length rest ≤ length ts
+pub stars_shorter : {before end : Span} {ts rest : List Lexeme} {k : ℕ} → ReadsStars before ts k end rest → length rest ≤ length ts
 stars_shorter (r.star e p) = omega (arith, stars_shorter p)
 stars_shorter (r.no_star e) = omega arith
 
@@ -110,7 +111,7 @@ mutual
   declarator_shorter (r.object p e f q) = omega (arith, stars_shorter p, lengths_shorter q)
   declarator_shorter (r.function p e q) = omega (arith, stars_shorter p, parameters_shorter q)
 
-  pub lengths_shorter : {d : Dialect} {ts rest : List Lexeme} {all : ArrayLengths} → ReadsArrayLengths d ts all rest → length rest ≤ length ts
+  pub lengths_shorter : {d : Dialect} {before end : Span} {ts rest : List Lexeme} {all : ArrayLengths} → ReadsArrayLengths d before ts all end rest → length rest ≤ length ts
   lengths_shorter (r.lengths_end e) = omega arith
   lengths_shorter (r.absent_length e f p) = omega (arith, lengths_shorter p)
   lengths_shorter (r.given_length e f p g q) = omega (arith, shorter p, lengths_shorter q)
@@ -192,7 +193,7 @@ mutual
   statement_shorter (s.break e f) = omega arith
   statement_shorter (s.return e p f) = omega (arith, optional_shorter p)
 
-  pub compound_shorter : {d : Dialect} {ts rest : List Lexeme} {all : BlockItems} → ReadsCompound d ts all rest → length rest < length ts
+  pub compound_shorter : {d : Dialect} {span : Span} {ts rest : List Lexeme} {all : BlockItems} → ReadsCompound d ts all span rest → length rest < length ts
   compound_shorter (s.block e p f) = omega (arith, block_items_shorter p)
 
   pub block_items_shorter : {d : Dialect} {ts rest : List Lexeme} {all : BlockItems} → ReadsBlockItems d ts all rest → length rest ≤ length ts

@@ -10,3 +10,9 @@ pub mod Snippets
 pub mod Leaving
 pub mod Refused
 pub mod Nested
+pub mod Storage
+pub mod Spelling
+pub mod Extent
+pub mod Sections
+pub mod Grouping
+pub mod FirstTokens

@@ -2,6 +2,7 @@
 use Rattle.std.proofs.Common.{◌≡◌, ℕ, zero, suc, ◌+◌, ◌≤◌, ◌<◌, max, Bool, true, false, List, [], ◌∷◌, refl, sym, ◌∙◌, subst, ap, arith, codes}
 use Rattle.std.proofs.Math.Nat.{max-zero, zero-max}
 use Rattle.mc_lex.specs.declared.token.Dialect.{Dialect}
+use Rattle.mc_span.specs.declared.span.Span.{Span}
 use Rattle.mc_lex.specs.Tokens.{Tok}
 use Rattle.mc_tree.specs.declared.declarations.specifier_word.SpecifierWord.{SpecifierWord}
 use Rattle.mc_tree.specs.Tree.{Specifiers, StructMember, Members, Declarator, Declarators, ArrayLengths, InitDeclarator, Item}
@@ -11,6 +12,7 @@ use Rattle.mc_grammar.specs.Words.{Lexeme, lexeme_of, lexemes_of, is_punctuator,
 use Rattle.mc_grammar.specs.Operators.{IsSpecifierWord}
 use Rattle.mc_grammar.specs.Operators as o
 use Rattle.mc_grammar.specs.Counts.{for_type}
+use Rattle.mc_grammar.specs.Places.{at}
 use Rattle.mc_grammar.specs.Expressions.{ReadsStars, ReadsSpecifiers, ReadsMembers, ReadsMember, ReadsDeclarators, ReadsDeclarator, ReadsArrayLengths, ReadsParameters}
 use Rattle.mc_grammar.specs.Expressions as r
 use Rattle.mc_grammar.specs.Statements.{ReadsInitDeclarator, ReadsInitDeclarators}
@@ -33,6 +35,19 @@ a_mark text start = lexeme_of (punctuator text start)
 
 -- ---- they have a tree
 
+member_of : {d : Dialect} {y : Lexeme} {ts mid rest : List Lexeme} {s : Specifiers} {ds : Declarators}
+    → ReadsSpecifiers d false ts s mid → for_type s ≡ true → ReadsDeclarators d mid ds (y ∷ rest) → is_punctuator (codes ";") y ≡ true
+    → (m : StructMember) × ReadsMember d ts m rest
+member_of {ts = []} (r.specifiers_end g) e q f = absurd (cc)
+member_of {ts = x ∷ ts} p e q f = (_, r.struct_member p e q f)
+
+item_of : {d : Dialect} {y : Lexeme} {ts mid rest : List Lexeme} {s : Specifiers} {all : List InitDeclarator}
+    → sees_specifiers ts ≡ true → ReadsSpecifiers d false ts s mid → is_item_of false s ≡ true
+    → ReadsInitDeclarators d false mid all (y ∷ rest) → is_punctuator (codes ";") y ≡ true
+    → (one : Item) × ReadsItem d ts one rest
+item_of {ts = []} e p f q g = absurd (cc)
+item_of {ts = x ∷ ts} e p f q g = (_, i.declared {typedef = false} (s.declaration e p f q g))
+
 reads_nested : (d : Dialect) (sized : Bool) (k place : ℕ) (text : List ℕ) (start : ℕ) (ts : List Tok)
     → (all : Specifiers) × ReadsSpecifiers d false (lexemes_of (nested sized k place (word_of text start ∷ ts))) all (lexemes_of (word_of text start ∷ ts)) × (for_type all ≡ true) × (is_item_of false all ≡ true)
 unfolding nested
@@ -47,10 +62,11 @@ reads_nested d true zero place text start ts = (
   refl,
 )
 reads_nested d sized (suc k) place text start ts =
-    let inner = reads_nested d sized k (place + 9) (codes "a") (place + 10 + width sized k) (punctuator (codes ";") (place + 11 + width sized k) ∷ punctuator (codes "}") (place + 13 + width sized k) ∷ word_of text start ∷ ts) in (
+    let inner = reads_nested d sized k (place + 9) (codes "a") (place + 10 + width sized k) (punctuator (codes ";") (place + 11 + width sized k) ∷ punctuator (codes "}") (place + 13 + width sized k) ∷ word_of text start ∷ ts) in
+    let one = member_of inner.1 inner.2 (r.last_declarator (r.object (r.no_star refl) refl refl (r.lengths_end refl)) refl) refl in (
       _,
       r.untagged_structure refl refl
-          (r.last_member (r.struct_member inner.1 inner.2 (r.last_declarator (r.object (r.no_star refl) refl refl (r.lengths_end refl)) refl) refl) refl)
+          (r.last_member one.1 refl)
           refl (r.specifiers_end refl),
       refl,
       refl,
@@ -64,22 +80,20 @@ begins sized (suc k) place ts = refl
 
 nested_read : (d : Dialect) (sized : Bool) (k : ℕ) → (unit : List Item) × IsTree d (nested_tokens sized k) unit
 nested_read d sized k =
-    let inner = reads_nested d sized k 0 (codes "a") (1 + width sized k) (punctuator (codes ";") (2 + width sized k) ∷ []) in (
-      _,
-      i.item (i.declared {typedef = false} (s.declaration (begins sized k 0 _) inner.1 inner.3
-          (s.last_init_declarator (s.bare (r.object (r.no_star refl) refl refl (r.lengths_end refl)) refl) refl) refl)) i.no_items,
-    )
+    let inner = reads_nested d sized k 0 (codes "a") (1 + width sized k) (punctuator (codes ";") (2 + width sized k) ∷ []) in
+    let one = item_of (begins sized k 0 _) inner.1 inner.3 (s.last_init_declarator (s.bare (r.object (r.no_star refl) refl refl (r.lengths_end refl)) refl) refl) refl in
+    (_, i.item one.1 i.no_items)
 
 -- ---- each tree of them has this height
 
-no_sizes_read : {d : Dialect} {x : Lexeme} {ts rest : List Lexeme} {all : ArrayLengths} → is_punctuator (codes "[") x ≡ false → ReadsArrayLengths d (x ∷ ts) all rest → (rest ≡ x ∷ ts) × (height_lengths all ≡ 0)
+no_sizes_read : {d : Dialect} {before end : Span} {x : Lexeme} {ts rest : List Lexeme} {all : ArrayLengths} → is_punctuator (codes "[") x ≡ false → ReadsArrayLengths d before (x ∷ ts) all end rest → (rest ≡ x ∷ ts) × (height_lengths all ≡ 0)
 no_sizes_read h (r.lengths_end e) = (refl, refl)
 no_sizes_read h (r.absent_length e f p) = absurd (cc)
 no_sizes_read h (r.given_length e f p g q) = absurd (cc)
 
 declarator_read : {d : Dialect} {text : List ℕ} {start place : ℕ} {ts rest : List Lexeme} {one : Declarator} → ReadsDeclarator d (a_word text start ∷ a_mark (codes ";") place ∷ ts) one rest
     → (rest ≡ a_mark (codes ";") place ∷ ts) × (height_declarator one ≡ 0)
-declarator_read {d = d} {rest = rest} (r.object {lengths = lengths} p e f q) = no_sizes_read refl (subst (λ us. ReadsArrayLengths d us lengths rest) (same_rest (no_stars refl p)) q)
+declarator_read {d = d} {rest = rest} (r.object {y = y} {end = end} {lengths = lengths} p e f q) = no_sizes_read refl (subst (λ us. ReadsArrayLengths d (at y) us lengths end rest) (same_rest (no_stars refl p)) q)
 declarator_read {d = d} {rest = rest} (r.function {ps = ps} p e q) = absurd (no_parameters refl (subst (λ us. ReadsParameters d us ps rest) (same_rest (no_stars refl p)) q))
 
 declarators_read : {d : Dialect} {text : List ℕ} {start place : ℕ} {ts rest : List Lexeme} {all : Declarators} → ReadsDeclarators d (a_word text start ∷ a_mark (codes ";") place ∷ ts) all rest
@@ -88,19 +102,19 @@ declarators_read (r.last_declarator p e) = let q = declarator_read p in (q.0, ma
 declarators_read (r.more_declarators p e q) = absurd (other_sign (codes ",") (declarator_read p).0 refl e)
 
 -- a declarator with the length 1
-sized_read : {d : Dialect} {first number_start last place : ℕ} {ts rest : List Lexeme} {all : ArrayLengths}
-    → ReadsArrayLengths d (a_mark (codes "[") first ∷ lexeme_of (number 1 (codes "1") number_start) ∷ a_mark (codes "]") last ∷ a_mark (codes ";") place ∷ ts) all rest → (rest ≡ a_mark (codes ";") place ∷ ts) × (height_lengths all ≡ 1)
+sized_read : {d : Dialect} {before end : Span} {first number_start last place : ℕ} {ts rest : List Lexeme} {all : ArrayLengths}
+    → ReadsArrayLengths d before (a_mark (codes "[") first ∷ lexeme_of (number 1 (codes "1") number_start) ∷ a_mark (codes "]") last ∷ a_mark (codes ";") place ∷ ts) all end rest → (rest ≡ a_mark (codes ";") place ∷ ts) × (height_lengths all ≡ 1)
 sized_read (r.lengths_end e) = absurd (cc)
 sized_read (r.absent_length e f p) = absurd (cc)
-sized_read {d = d} {number_start = start} {last = last} {rest = rest} (r.given_length {a = a} {lengths = more} e f p g q) =
+sized_read {d = d} {number_start = start} {last = last} {rest = rest} (r.given_length {y = y} {end = end} {a = a} {lengths = more} e f p g q) =
     let one = postfix_to_cond (plain_starts _ refl) (bracket_stops last) refl (postfix_leaves (bracket_stops last) (constant_leaves 1 true false 0 (codes "1") start)) _ _ p in
-    let after = no_sizes_read refl (subst (λ us. ReadsArrayLengths d us more rest) (same_rest one.0) q) in
+    let after = no_sizes_read refl (subst (λ us. ReadsArrayLengths d (at y) us more end rest) (same_rest one.0) q) in
     (after.0, ap (λ m. max m (height_lengths more)) (ap height one.1) ∙ ap (max 1) after.1)
 
 sized_declarator_read : {d : Dialect} {text : List ℕ} {start first number_start last place : ℕ} {ts rest : List Lexeme} {one : Declarator}
     → ReadsDeclarator d (a_word text start ∷ a_mark (codes "[") first ∷ lexeme_of (number 1 (codes "1") number_start) ∷ a_mark (codes "]") last ∷ a_mark (codes ";") place ∷ ts) one rest
     → (rest ≡ a_mark (codes ";") place ∷ ts) × (height_declarator one ≡ 1)
-sized_declarator_read {d = d} {rest = rest} (r.object {lengths = lengths} p e f q) = sized_read (subst (λ us. ReadsArrayLengths d us lengths rest) (same_rest (no_stars refl p)) q)
+sized_declarator_read {d = d} {rest = rest} (r.object {y = y} {end = end} {lengths = lengths} p e f q) = sized_read (subst (λ us. ReadsArrayLengths d (at y) us lengths end rest) (same_rest (no_stars refl p)) q)
 sized_declarator_read {d = d} {rest = rest} (r.function {ps = ps} p e q) = absurd (no_parameters refl (subst (λ us. ReadsParameters d us ps rest) (same_rest (no_stars refl p)) q))
 
 sized_declarators_read : {d : Dialect} {text : List ℕ} {start first number_start last place : ℕ} {ts rest : List Lexeme} {all : Declarators}
@@ -202,13 +216,16 @@ init_declarators_read (s.no_init_declarator e) = absurd (cc)
 init_declarators_read (s.last_init_declarator p e) = let q = init_declarator_read p in (q.0, max-zero _ ∙ q.1)
 init_declarators_read (s.more_init_declarators p e f q) = absurd (other_sign (codes ",") (init_declarator_read p).0 refl e)
 
-nested_item : {d : Dialect} (sized : Bool) (k : ℕ) {one : Item} {rest : List Lexeme} → ReadsItem d (lexemes_of (nested_tokens sized k)) one rest → (rest ≡ []) × (height_item one ≡ nested_height sized k)
-nested_item {d = d} sized k (i.declared {typedef = typedef} (s.declaration {y = y} {rest = rest} {all = all} e p f q g)) =
-    let inner = nested_specifiers d sized k 0 _ _ _ _ _ p in
+-- an item whose words leave a name and a `;`
+nested_item : {d : Dialect} {k start place : ℕ} {text : List ℕ} {ts rest : List Lexeme} {one : Item}
+    → ((all : Specifiers) (left : List Lexeme) → ReadsSpecifiers d false ts all left → (left ≡ a_word text start ∷ a_mark (codes ";") place ∷ []) × (height_specifiers all ≡ k))
+    → ReadsItem d ts one rest → (rest ≡ []) × (height_item one ≡ k)
+nested_item {d = d} {k = k} h (i.declared {typedef = typedef} (s.declaration {y = y} {rest = rest} {all = all} e p f q g)) =
+    let inner = h _ _ p in
     let after = init_declarators_read (subst (λ us. ReadsInitDeclarators d typedef us all (y ∷ rest)) inner.0 q) in
-    (same_rest after.0, ap (λ m. max m (height_init_declarators all)) inner.1 ∙ ap (max (nested_height sized k)) after.1 ∙ max-zero (nested_height sized k))
-nested_item {d = d} sized k (i.defined {x = x} {mid = mid} {body = body} {stars = stars} {ps = ps} p e q f v w) =
-    absurd (no_parameters refl (subst (λ us. ReadsParameters d us ps body) (same_rest (no_stars refl (subst (λ us. ReadsStars us stars (x ∷ mid)) (nested_specifiers d sized k 0 _ _ _ _ _ p).0 q))) v))
+    (same_rest after.0, ap (λ m. max m (height_init_declarators all)) inner.1 ∙ ap (max k) after.1 ∙ max-zero k)
+nested_item {d = d} h (i.defined {y = y} {z = z} {before = before} {mid = mid} {body = body} {stars = stars} {ps = ps} p e q f v w) =
+    absurd (no_parameters refl (subst (λ us. ReadsParameters d us ps body) (same_rest (no_stars refl (subst (λ us. ReadsStars (at y) us stars before (z ∷ mid)) (h _ _ p).0 q))) v))
 
 no_unit : {d : Dialect} {all : List Item} → ReadsUnit d [] all → all ≡ []
 no_unit i.no_items = refl
@@ -222,7 +239,7 @@ nested_unit {d = d} {k = k} h e (i.item {i = one} {all = all} p q) =
     ap (max (height_item one)) (ap height_unit (no_unit (subst (λ us. ReadsUnit d us all) inner.0 q))) ∙ max-zero (height_item one) ∙ inner.1
 
 pub as_high : (d : Dialect) (sized : Bool) (k : ℕ) (unit : List Item) → IsTree d (nested_tokens sized k) unit → height_unit unit ≡ nested_height sized k
-as_high d sized k unit p = nested_unit (λ one rest. nested_item sized k) (begins sized k 0 _) p
+as_high d sized k unit p = nested_unit (λ one rest. nested_item (λ all left. nested_specifiers d sized k 0 _ _ _ all left)) (begins sized k 0 _) p
 
 pub within : (d : Dialect) (sized : Bool) (k limit : ℕ) → nested_height sized k ≤ limit → (unit : List Item) × IsTreeWithin limit d (nested_tokens sized k) unit
 within d sized k limit h = let one = nested_read d sized k in (one.0, (one.1, omega (arith, h, as_high d sized k one.0 one.1)))

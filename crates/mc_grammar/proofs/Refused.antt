@@ -1,6 +1,7 @@
 -- Texts that are not read, by what every reading of their parts would leave.
 use Rattle.std.proofs.Common.{◌≡◌, ℕ, Bool, true, false, List, ◌∷◌, refl, sym, ◌∙◌, subst, ap, length, arith, codes}
 use Rattle.mc_lex.specs.declared.token.Dialect.{Dialect}
+use Rattle.mc_span.specs.declared.span.Span.{Span}
 use Rattle.mc_tree.specs.declared.expressions.step_operator.StepOperator.{StepOperator}
 use Rattle.mc_tree.specs.declared.expressions.unary_operator.UnaryOperator.{UnaryOperator}
 use Rattle.mc_tree.specs.declared.declarations.specifier_word.SpecifierWord.{SpecifierWord}
@@ -17,7 +18,7 @@ use Rattle.mc_grammar.specs.Statements.{ReadsStatement, ReadsInitializer, ReadsI
 use Rattle.mc_grammar.specs.Statements as s
 use Rattle.mc_grammar.specs.Items.{ReadsItem, IsTree}
 use Rattle.mc_grammar.specs.Items as i
-use Rattle.mc_grammar.specs.Meaning.{punctuator, identifier}
+use Rattle.mc_grammar.specs.Meaning.{identifier}
 use Rattle.mc_grammar.specs.Places.{at, to}
 use Rattle.mc_grammar.specs.Samples.{span, name, keyword, word_of, punctuator, zero_at}
 use Rattle.mc_grammar.specs.Snippets.{after_parentheses, parentheses_tokens, parentheses_tree, after_element, element_tokens, element_tree, after_name, after_bracket, length_tokens}
@@ -115,7 +116,7 @@ element_no_statement d one rest p = no_statement (element_leaves d) refl (λ tex
 pub length_leaves : (d : Dialect) → Gives d n.cond (lexemes_of after_bracket) (t.Named (name (codes "b") 6 7)) (lexemes_of after_name)
 length_leaves d = postfix_to_cond (plain_starts _ refl) (equals_stops 7) refl (postfix_leaves (equals_stops 7) (named_leaves (codes "b") 6 refl))
 
-length_no_sizes : {d : Dialect} {lengths : ArrayLengths} {rest : List Lexeme} → ReadsArrayLengths d (lexemes_of (punctuator (codes "[") 5 ∷ after_bracket)) lengths rest → ⊥
+length_no_sizes : {d : Dialect} {before end : Span} {lengths : ArrayLengths} {rest : List Lexeme} → ReadsArrayLengths d before (lexemes_of (punctuator (codes "[") 5 ∷ after_bracket)) lengths end rest → ⊥
 length_no_sizes (r.lengths_end e) = absurd (cc)
 length_no_sizes (r.absent_length e f p) = absurd (cc)
 length_no_sizes {d = d} (r.given_length e f p g q) = other_sign (codes "]") (length_leaves d _ _ p).0 refl g
@@ -125,12 +126,12 @@ no_parameters h (r.empty_parameters e f) = absurd (cc)
 no_parameters h (r.void_parameters e f g) = absurd (cc)
 no_parameters h (r.listed_parameters e f g p v) = absurd (cc)
 
-pub no_stars : {x : Lexeme} {ts rest : List Lexeme} {k : ℕ} → is_punctuator (codes "*") x ≡ false → ReadsStars (x ∷ ts) k rest → rest ≡ x ∷ ts
+pub no_stars : {before end : Span} {x : Lexeme} {ts rest : List Lexeme} {k : ℕ} → is_punctuator (codes "*") x ≡ false → ReadsStars before (x ∷ ts) k end rest → rest ≡ x ∷ ts
 no_stars h (r.star e p) = absurd (cc)
 no_stars h (r.no_star e) = refl
 
 length_no_declarator : {d : Dialect} {one : Declarator} {rest : List Lexeme} → ReadsDeclarator d (lexemes_of (word_of (codes "a") 4 ∷ punctuator (codes "[") 5 ∷ after_bracket)) one rest → ⊥
-length_no_declarator {d = d} {rest = rest} (r.object {lengths = lengths} p e f q) = length_no_sizes (subst (λ us. ReadsArrayLengths d us lengths rest) (same_rest (no_stars refl p)) q)
+length_no_declarator {d = d} {rest = rest} (r.object {y = y} {end = end} {lengths = lengths} p e f q) = length_no_sizes (subst (λ us. ReadsArrayLengths d (at y) us lengths end rest) (same_rest (no_stars refl p)) q)
 length_no_declarator {d = d} {rest = rest} (r.function {ps = ps} p e q) = no_parameters refl (subst (λ us. ReadsParameters d us ps rest) (same_rest (no_stars refl p)) q)
 
 no_init_declarator : {d : Dialect} {typedef : Bool} {ts rest : List Lexeme} {one : InitDeclarator} → ((one : Declarator) (left : List Lexeme) → ReadsDeclarator d ts one left → ⊥) → ReadsInitDeclarator d typedef ts one rest → ⊥
@@ -186,14 +187,14 @@ int_words (r.untagged_enumeration e f p v q) = absurd (cc)
 length_no_item : {d : Dialect} {one : Item} {rest : List Lexeme} → ReadsItem d (lexemes_of length_tokens) one rest → ⊥
 length_no_item {d = d} (i.declared {typedef = typedef} (s.declaration {y = y} {rest = rest} {all = all} e p f q g)) =
     no_init_declarators (λ one left. length_no_declarator) refl (subst (λ us. ReadsInitDeclarators d typedef us all (y ∷ rest)) (int_words p) q)
-length_no_item {d = d} (i.defined {x = x} {mid = mid} {body = body} {stars = stars} {ps = ps} p e q f v w) =
-    no_parameters refl (subst (λ us. ReadsParameters d us ps body) (same_rest (no_stars refl (subst (λ us. ReadsStars us stars (x ∷ mid)) (int_words p) q))) v)
+length_no_item {d = d} (i.defined {y = y} {z = z} {before = before} {mid = mid} {body = body} {stars = stars} {ps = ps} p e q f v w) =
+    no_parameters refl (subst (λ us. ReadsParameters d us ps body) (same_rest (no_stars refl (subst (λ us. ReadsStars (at y) us stars before (z ∷ mid)) (int_words p) q))) v)
 
 pub length_no_tree : (d : Dialect) (unit : List Item) → IsTree d length_tokens unit → ⊥
 length_no_tree d unit (i.item p q) = length_no_item p
 
 -- no item begins with a `;`
-pub semicolon_no_item : (d : Dialect) (start : ℕ) (ts : List Lexeme) (one : Item) (rest : List Lexeme) → ReadsItem d (punctuator (codes ";") start ∷ ts) one rest → ⊥
+pub semicolon_no_item : (d : Dialect) (start : ℕ) (ts : List Lexeme) (one : Item) (rest : List Lexeme) → ReadsItem d (lexeme_of (punctuator (codes ";") start) ∷ ts) one rest → ⊥
 semicolon_no_item d start ts one rest (i.declared (s.declaration e p f q g)) = absurd (cc)
 semicolon_no_item d start ts one rest (i.defined p e q f v w) = let h : for_function t.no_specifiers ≡ true = subst (λ all. for_function all ≡ true) (no_words (λ text. refl) refl p).0 e in absurd (cc)
 
@@ -206,23 +207,23 @@ no_parameter_list : {d : Dialect} {x : Lexeme} {ts rest : List Lexeme} {all : Pa
 no_parameter_list h g (r.last_parameter p e) = no_parameter h g p
 no_parameter_list h g (r.more_parameters p e q) = no_parameter h g p
 
-pub names_no_parameters : (d : Dialect) (text : List ℕ) (place start : ℕ) (ts : List Lexeme) (all : Parameters) (rest : List Lexeme) → ReadsParameters d (punctuator (codes "(") place ∷ identifier text start ∷ ts) all rest → ⊥
-names_no_parameters d text place start ts all rest (r.empty_parameters e f) = absurd (cc)
-names_no_parameters d text place start ts all rest (r.void_parameters e f g) = absurd (cc)
-names_no_parameters d text place start ts all rest (r.listed_parameters e f g p v) = no_parameter_list (λ text. refl) refl p
+pub names_no_parameters : (d : Dialect) (text : List ℕ) (place start : ℕ) (ts rest : List Lexeme) (all : Parameters) → ReadsParameters d (lexeme_of (punctuator (codes "(") place) ∷ identifier text start ∷ ts) all rest → ⊥
+names_no_parameters d text place start ts rest all (r.empty_parameters e f) = absurd (cc)
+names_no_parameters d text place start ts rest all (r.void_parameters e f g) = absurd (cc)
+names_no_parameters d text place start ts rest all (r.listed_parameters e f g p v) = no_parameter_list (λ text. refl) refl p
 
 no_name : {x y : Lexeme} {ts left : List Lexeme} → x ∷ ts ≡ y ∷ left → is_name y ≡ false → is_name x ≡ true → ⊥
 no_name e f g = absurd (cc)
 
-same_stars : {ts left rest : List Lexeme} {k m : ℕ} → ReadsStars ts k left → ReadsStars ts m rest → rest ≡ left
+same_stars : {before other end last : Span} {ts left rest : List Lexeme} {k m : ℕ} → ReadsStars before ts k end left → ReadsStars other ts m last rest → rest ≡ left
 same_stars (r.star e p) (r.star f q) = same_stars p q
 same_stars (r.star e p) (r.no_star f) = absurd (cc)
 same_stars (r.no_star e) (r.star f q) = absurd (cc)
 same_stars (r.no_star e) (r.no_star f) = refl
 
-pub parenthesis_no_declarator : (d : Dialect) (k place : ℕ) (ts us : List Lexeme) (one : Declarator) (rest : List Lexeme) → ReadsStars ts k (punctuator (codes "(") place ∷ us) → ReadsDeclarator d ts one rest → ⊥
-parenthesis_no_declarator d k place ts us one rest h (r.object p e f q) = no_name (same_stars h p) refl e
-parenthesis_no_declarator d k place ts us one rest h (r.function p e q) = no_name (same_stars h p) refl e
+pub parenthesis_no_declarator : (d : Dialect) (k place : ℕ) (before end : Span) (ts us rest : List Lexeme) (one : Declarator) → ReadsStars before ts k end (lexeme_of (punctuator (codes "(") place) ∷ us) → ReadsDeclarator d ts one rest → ⊥
+parenthesis_no_declarator d k place before end ts us rest one h (r.object p e f q) = no_name (same_stars h p) refl e
+parenthesis_no_declarator d k place before end ts us rest one h (r.function p e q) = no_name (same_stars h p) refl e
 
 -- nothing begins with a `}`
 brace_no_step : (start : ℕ) (operator : StepOperator) → IsStep (lexeme_of (punctuator (codes "}") start)) operator → ⊥
@@ -269,6 +270,6 @@ no_initializers start (s.last_initializer p e) = no_initializer start p
 no_initializers start (s.last_initializer_comma p e f) = no_initializer start p
 no_initializers start (s.more_initializers p e f q) = no_initializer start p
 
-pub braces_no_initializer : (d : Dialect) (start end : ℕ) (ts : List Lexeme) (one : Initializer) (rest : List Lexeme) → ReadsInitializer d (punctuator (codes "{") start ∷ punctuator (codes "}") end ∷ ts) one rest → ⊥
-braces_no_initializer d start end ts one rest (s.single e p) = absurd (cc)
-braces_no_initializer d start end ts one rest (s.braced e p f) = no_initializers end p
+pub braces_no_initializer : (d : Dialect) (start end : ℕ) (ts rest : List Lexeme) (one : Initializer) → ReadsInitializer d (lexeme_of (punctuator (codes "{") start) ∷ lexeme_of (punctuator (codes "}") end) ∷ ts) one rest → ⊥
+braces_no_initializer d start end ts rest one (s.single e p) = absurd (cc)
+braces_no_initializer d start end ts rest one (s.braced e p f) = no_initializers end p

@@ -2,7 +2,6 @@
 use Rattle.std.proofs.Common.{true, false, [], refl}
 use Rattle.mc_lex.specs.declared.token.Dialect.{Dialect}
 use Rattle.mc_grammar.specs.Words.{retag}
-use Rattle.mc_grammar.specs.Places.{end_before}
 use Rattle.mc_grammar.specs.Operators as o
 use Rattle.mc_grammar.specs.Expressions as r
 use Rattle.mc_grammar.specs.Statements as s
@@ -13,7 +12,7 @@ use Rattle.mc_grammar.proofs.Derivations.{at_semicolon, at_comma, at_bracket, al
 
 -- its second declarator needs the first one's name
 pub in_force_at_once : (d : Dialect) → IsTree d typedef_tokens typedef_tree
-unfolding retag end_before
+unfolding retag
 in_force_at_once d =
     i.item (i.declared {typedef = true} (s.declaration refl (r.word (o.typedef refl) (r.word (o.int refl) (r.specifiers_end refl))) refl
     (s.more_init_declarators (s.bare (r.object (r.no_star refl) refl refl (r.lengths_end refl)) refl) refl refl
@@ -26,7 +25,6 @@ in_force_at_once d =
     refl) refl (r.lengths_end refl))) refl) refl)) refl)) i.no_items
 
 pub value : (d : Dialect) → IsTree d value_tokens value_tree
-unfolding end_before
 value d =
     i.item (i.declared {typedef = false} (s.declaration refl (r.word (o.int refl) (r.specifiers_end refl)) refl
     (s.last_init_declarator (s.initialized (r.object (r.no_star refl) refl refl (r.lengths_end refl)) refl refl
@@ -34,7 +32,7 @@ value d =
     refl) refl)) i.no_items
 
 pub named_void : (d : Dialect) → IsTree d named_void_tokens named_void_tree
-unfolding retag end_before
+unfolding retag
 named_void d =
     i.item (i.declared {typedef = true} (s.declaration refl (r.word (o.typedef refl) (r.word (o.void refl) (r.specifiers_end refl))) refl
     (s.last_init_declarator (s.bare (r.object (r.no_star refl) refl refl (r.lengths_end refl)) refl) refl) refl))
@@ -44,13 +42,11 @@ named_void d =
     (r.unnamed_parameter (r.typedef_name refl (r.specifiers_end refl)) refl (r.no_star refl) refl (r.lengths_end refl)) refl) refl)) refl) refl) refl)) i.no_items)
 
 pub void : (d : Dialect) → IsTree d void_tokens void_tree
-unfolding end_before
 void d =
     i.item (i.declared {typedef = false} (s.declaration refl (r.word (o.int refl) (r.specifiers_end refl)) refl
     (s.last_init_declarator (s.bare (r.function (r.no_star refl) refl (r.void_parameters refl refl refl)) refl) refl) refl)) i.no_items
 
 pub body : (d : Dialect) → IsTree d body_tokens body_tree
-unfolding end_before
 body d =
     i.item (i.defined (r.word (o.int refl) (r.specifiers_end refl)) refl (r.no_star refl) refl (r.void_parameters refl refl refl)
     (s.block refl
@@ -58,7 +54,7 @@ body d =
     (s.block_end refl)) refl)) i.no_items
 
 pub tag : (d : Dialect) → IsTree d tag_tokens tag_tree
-unfolding retag end_before
+unfolding retag
 tag d =
     i.item (i.declared {typedef = true} (s.declaration refl (r.word (o.typedef refl) (r.word (o.int refl) (r.specifiers_end refl))) refl
     (s.last_init_declarator (s.bare (r.object (r.no_star refl) refl refl (r.lengths_end refl)) refl) refl) refl))
@@ -68,7 +64,6 @@ tag d =
     refl (r.specifiers_end refl)) refl (s.no_init_declarator refl) refl)) i.no_items)
 
 pub enumeration : (d : Dialect) → IsTree d enumeration_tokens enumeration_tree
-unfolding end_before
 enumeration d =
     i.item (i.declared {typedef = false} (s.declaration refl (r.untagged_enumeration refl refl
     (r.more_enumerators (r.enumerator refl refl) refl refl
@@ -76,7 +71,6 @@ enumeration d =
     refl (r.specifiers_end refl)) refl (s.no_init_declarator refl) refl)) i.no_items
 
 pub braced : (d : Dialect) → IsTree d braced_tokens braced_tree
-unfolding end_before
 braced d =
     i.item (i.declared {typedef = false} (s.declaration refl (r.word (o.int refl) (r.specifiers_end refl)) refl
     (s.last_init_declarator (s.initialized

@@ -2,7 +2,6 @@
 use Rattle.std.proofs.Common.{[], refl, codes}
 use Rattle.mc_lex.specs.declared.token.Dialect.{Dialect}
 use Rattle.mc_grammar.specs.Words.{lexemes_of, retag}
-use Rattle.mc_grammar.specs.Places.{end_before}
 use Rattle.mc_grammar.specs.Operators as o
 use Rattle.mc_grammar.specs.Nonterminal as n
 use Rattle.mc_grammar.specs.Expressions.{Reads}
@@ -21,7 +20,6 @@ sum d =
     (at_semicolon 9) refl) refl) refl
 
 pub operands : (d : Dialect) → Reads d n.comma (lexemes_of operands_tokens) operands_tree (lexemes_of (semicolon 7))
-unfolding end_before
 operands d =
     r.comma (r.assign_cond (alone (a_name refl refl refl refl refl) (at_comma 1) refl) refl) refl
     (r.more_expressions (r.assign_cond (alone (a_name refl refl refl refl refl) (at_comma 4) refl) refl) refl
@@ -29,7 +27,7 @@ operands d =
 
 -- `T` is a typedef name
 pub cast : (d : Dialect) → Reads d n.comma (retag (codes "T") (lexemes_of minus_tokens)) cast_tree (lexemes_of (semicolon 7))
-unfolding retag end_before
+unfolding retag
 cast d =
     r.comma_one (r.assign_cond (alone
     (r.cast refl refl (r.type_name (r.typedef_name refl (r.specifiers_end refl)) refl (r.no_star refl)) refl
@@ -47,7 +45,6 @@ subtraction d =
     (at_semicolon 7) refl) refl) refl
 
 pub inner_else : (d : Dialect) → ReadsStatement d (lexemes_of else_tokens) else_tree []
-unfolding end_before
 inner_else d =
     s.if_only refl (s.test refl (r.comma_one (r.assign_cond (alone (a_name refl refl refl refl refl) (at_parenthesis 5) refl) refl) refl) refl)
     (s.if_else refl (s.test refl (r.comma_one (r.assign_cond (alone (a_name refl refl refl refl refl) (at_parenthesis 12) refl) refl) refl) refl)
@@ -55,7 +52,6 @@ inner_else d =
     refl
 
 pub assignment : (d : Dialect) → ReadsStatement d (lexemes_of assignment_tokens) assignment_tree []
-unfolding end_before
 assignment d =
     s.expression_statement refl refl (r.comma_one (r.assign_cond (alone (r.cast_unary refl (r.unary_postfix refl (r.postfix
     (r.parenthesized refl refl (r.comma_one

@@ -6,10 +6,11 @@ use Rattle.std.proofs.lemmas.List.Elements.{All-nil, All-cons, All-append, All-c
 use Rattle.std.proofs.lemmas.List.Kept.{AllPairs-cons}
 use Rattle.std.proofs.lemmas.Slice.Eq.{bytes_eq-Decides}
 use Rattle.mc_lex.specs.declared.token.Dialect.{Dialect}
+use Rattle.mc_span.specs.declared.span.Span.{Span}
 use Rattle.mc_tree.specs.Tree.{Expression, Specifiers, Declarator, InitDeclarator, Declaration, ForStart, Statement, BlockItems, Item, name_of}
 use Rattle.mc_grammar.specs.Words.{Lexeme, is_name, is_identifier_kind, retag, retagged}
 use Rattle.mc_grammar.specs.Counts.{is_typedef, for_item}
-use Rattle.mc_grammar.specs.Meaning.{is_name_of, declared_name, names_of, declared_names, typedef_names, typedef_names_of, ReadsItems}
+use Rattle.mc_grammar.specs.Meaning.{is_name_of, IsGone, AreGone, declared_name, names_of, declared_names, typedef_names, typedef_names_of, ReadsItems}
 use Rattle.mc_grammar.specs.Meaning as m
 use Rattle.mc_grammar.specs.Expressions.{ReadsStars, ReadsDeclarator}
 use Rattle.mc_grammar.specs.Expressions as r
@@ -19,10 +20,6 @@ use Rattle.mc_grammar.specs.Items.{ReadsItem, ReadsUnit, is_item_of}
 use Rattle.mc_grammar.specs.Items as i
 use Rattle.mc_grammar.proofs.Choices.{no_name_follows}
 use Rattle.mc_grammar.proofs.Ends.{IsEnd, whole, later, or_right, none_of_end, stars_ends, expression_ends, specifiers_ends, parameters_ends, declarator_ends, initializer_ends, valued_typedef_retags}
-
--- no identifier has this text
-abbrev pub IsGone : List ℕ → List Lexeme → Type 0
-IsGone name ts = list_any (is_name_of name) ts ≡ false
 
 -- what is gone from the second is gone from the first
 pub record Keeps (rest ts : List Lexeme) : Type 0 where
@@ -37,8 +34,8 @@ chain p q = record { gone = λ name e. q.gone name (p.gone name e) }
 pub ends : {ts rest : List Lexeme} → IsEnd rest ts → Keeps rest ts
 ends p = record { gone = λ name e. none_of_end (is_name_of name) p e }
 
-after : {x : Lexeme} {ts rest : List Lexeme} → Keeps rest ts → Keeps rest (x ∷ ts)
-after p = chain (ends (later whole)) p
+next : {x : Lexeme} {ts rest : List Lexeme} → Keeps rest ts → Keeps rest (x ∷ ts)
+next p = chain (ends (later whole)) p
 
 -- a token that may be retagged is no identifier of this text where it was none
 retagged_keeps : (name other : List ℕ) (x : Lexeme) (a b : Bool) → is_identifier_kind x.token.kind ≡ a → bytes_eq x.token.text other ≡ b → is_name_of name x ≡ false → is_name_of name (retagged other x) ≡ false
@@ -68,49 +65,49 @@ after_keeps false d ts = all_kept
 pub init_declarator_keeps : {d : Dialect} {typedef : Bool} {ts rest : List Lexeme} {one : InitDeclarator} → ReadsInitDeclarator d typedef ts one rest → Keeps rest ts
 init_declarator_keeps {typedef = typedef} (s.bare {mid = mid} {d = one} p e) = chain (ends (declarator_ends p)) (after_keeps typedef one mid)
 init_declarator_keeps {typedef = typedef} (s.initialized {x = x} {mid = mid} {value = value} {d = one} p g e q) =
-    chain (ends (declarator_ends p)) (chain (subst (λ us. Keeps us mid) g (after_keeps typedef one mid)) (after {x = x} (ends (initializer_ends q))))
+    chain (ends (declarator_ends p)) (chain (subst (λ us. Keeps us mid) g (after_keeps typedef one mid)) (next {x = x} (ends (initializer_ends q))))
 
 pub init_declarators_keep : {d : Dialect} {typedef : Bool} {ts rest : List Lexeme} {all : List InitDeclarator} → ReadsInitDeclarators d typedef ts all rest → Keeps rest ts
 init_declarators_keep (s.no_init_declarator e) = all_kept
 init_declarators_keep (s.last_init_declarator p e) = init_declarator_keeps p
-init_declarators_keep (s.more_init_declarators p e f q) = chain (init_declarator_keeps p) (after (init_declarators_keep q))
+init_declarators_keep (s.more_init_declarators p e f q) = chain (init_declarator_keeps p) (next (init_declarators_keep q))
 
 pub declaration_keeps : {d : Dialect} {typedef : Bool} {allowed : Specifiers → Bool} {ts rest : List Lexeme} {one : Declaration} → ReadsDeclaration d typedef allowed ts one rest → Keeps rest ts
-declaration_keeps (s.declaration e p f q g) = chain (ends (specifiers_ends p)) (chain (init_declarators_keep q) (after all_kept))
+declaration_keeps (s.declaration e p f q g) = chain (ends (specifiers_ends p)) (chain (init_declarators_keep q) (next all_kept))
 
 optional_keeps : {d : Dialect} {stop : List ℕ} {ts rest : List Lexeme} {a : Option Expression} → ReadsOptional d stop ts a rest → Keeps rest ts
 optional_keeps (s.no_expression e) = all_kept
 optional_keeps (s.an_expression e p) = ends (expression_ends p)
 
 test_keeps : {d : Dialect} {ts rest : List Lexeme} {a : Expression} → ReadsTest d ts a rest → Keeps rest ts
-test_keeps (s.test e p f) = after (chain (ends (expression_ends p)) (after all_kept))
+test_keeps (s.test e p f) = next (chain (ends (expression_ends p)) (next all_kept))
 
 for_start_keeps : {d : Dialect} {ts rest : List Lexeme} {start : ForStart} → ReadsForStart d ts start rest → Keeps rest ts
 for_start_keeps (s.starts_local p) = declaration_keeps p
-for_start_keeps (s.starts_expression e p f) = chain (optional_keeps p) (after all_kept)
+for_start_keeps (s.starts_expression e p f) = chain (optional_keeps p) (next all_kept)
 
 mutual
   pub statement_keeps : {d : Dialect} {ts rest : List Lexeme} {one : Statement} → ReadsStatement d ts one rest → Keeps rest ts
   statement_keeps (s.compound p) = compound_keeps p
-  statement_keeps (s.null e) = after all_kept
-  statement_keeps (s.expression_statement e f p g) = chain (ends (expression_ends p)) (after all_kept)
-  statement_keeps (s.if_only e p q f) = after (chain (test_keeps p) (statement_keeps q))
-  statement_keeps (s.if_else e p q f v) = after (chain (test_keeps p) (chain (statement_keeps q) (after (statement_keeps v))))
-  statement_keeps (s.switch e p q) = after (chain (test_keeps p) (statement_keeps q))
-  statement_keeps (s.while e p q) = after (chain (test_keeps p) (statement_keeps q))
-  statement_keeps (s.do_while e p f q g) = after (chain (statement_keeps p) (after (chain (test_keeps q) (after all_kept))))
+  statement_keeps (s.null e) = next all_kept
+  statement_keeps (s.expression_statement e f p g) = chain (ends (expression_ends p)) (next all_kept)
+  statement_keeps (s.if_only e p q f) = next (chain (test_keeps p) (statement_keeps q))
+  statement_keeps (s.if_else e p q f v) = next (chain (test_keeps p) (chain (statement_keeps q) (next (statement_keeps v))))
+  statement_keeps (s.switch e p q) = next (chain (test_keeps p) (statement_keeps q))
+  statement_keeps (s.while e p q) = next (chain (test_keeps p) (statement_keeps q))
+  statement_keeps (s.do_while e p f q g) = next (chain (statement_keeps p) (next (chain (test_keeps q) (next all_kept))))
   statement_keeps (s.for e f p q g v h w) =
-      after (after (chain (for_start_keeps p) (chain (optional_keeps q) (after (chain (optional_keeps v) (after (statement_keeps w)))))))
-  statement_keeps (s.case_label e p f q) = after (chain (ends (expression_ends p)) (after (statement_keeps q)))
-  statement_keeps (s.default e f p) = after (after (statement_keeps p))
-  statement_keeps (s.label e f p) = after (after (statement_keeps p))
-  statement_keeps (s.goto e f g) = after (after (after all_kept))
-  statement_keeps (s.continue e f) = after (after all_kept)
-  statement_keeps (s.break e f) = after (after all_kept)
-  statement_keeps (s.return e p f) = after (chain (optional_keeps p) (after all_kept))
+      next (next (chain (for_start_keeps p) (chain (optional_keeps q) (next (chain (optional_keeps v) (next (statement_keeps w)))))))
+  statement_keeps (s.case_label e p f q) = next (chain (ends (expression_ends p)) (next (statement_keeps q)))
+  statement_keeps (s.default e f p) = next (next (statement_keeps p))
+  statement_keeps (s.label e f p) = next (next (statement_keeps p))
+  statement_keeps (s.goto e f g) = next (next (next all_kept))
+  statement_keeps (s.continue e f) = next (next all_kept)
+  statement_keeps (s.break e f) = next (next all_kept)
+  statement_keeps (s.return e p f) = next (chain (optional_keeps p) (next all_kept))
 
-  pub compound_keeps : {d : Dialect} {ts rest : List Lexeme} {all : BlockItems} → ReadsCompound d ts all rest → Keeps rest ts
-  compound_keeps (s.block e p f) = after (chain (block_items_keep p) (after all_kept))
+  pub compound_keeps : {d : Dialect} {span : Span} {ts rest : List Lexeme} {all : BlockItems} → ReadsCompound d ts all span rest → Keeps rest ts
+  compound_keeps (s.block e p f) = next (chain (block_items_keep p) (next all_kept))
 
   pub block_items_keep : {d : Dialect} {ts rest : List Lexeme} {all : BlockItems} → ReadsBlockItems d ts all rest → Keeps rest ts
   block_items_keep (s.block_end e) = all_kept
@@ -119,15 +116,11 @@ mutual
 
 pub item_keeps : {d : Dialect} {ts rest : List Lexeme} {one : Item} → ReadsItem d ts one rest → Keeps rest ts
 item_keeps (i.declared p) = declaration_keeps p
-item_keeps (i.defined p e q f v w) = chain (ends (specifiers_ends p)) (chain (ends (stars_ends q)) (after (chain (ends (parameters_ends v)) (compound_keeps w))))
+item_keeps (i.defined p e q f v w) = chain (ends (specifiers_ends p)) (chain (ends (stars_ends q)) (next (chain (ends (parameters_ends v)) (compound_keeps w))))
 
 pub items_keep : {d : Dialect} {ts rest : List Lexeme} {all : List Item} → ReadsItems d ts all rest → Keeps rest ts
 items_keep m.no_items = all_kept
 items_keep (m.item p q) = chain (item_keeps p) (items_keep q)
-
--- these names are gone
-abbrev AreGone : List (List ℕ) → List Lexeme → Type 0
-AreGone names ts = All (λ name. IsGone name ts) names
 
 still_gone : {ts rest : List Lexeme} → Keeps rest ts → (names : List (List ℕ)) → AreGone names ts → AreGone names rest
 still_gone p names h = λ k d lt. p.gone _ (h k d lt)
@@ -141,7 +134,7 @@ names_gone : {d : Dialect} {ts rest : List Lexeme} {all : List InitDeclarator} �
 names_gone {rest = rest} (s.no_init_declarator e) = All-nil (λ name. IsGone name rest)
 names_gone {rest = rest} (s.last_init_declarator {i = one} p e) = All-cons (λ name. IsGone name rest) (declared_name one) [] (name_gone p) (All-nil (λ name. IsGone name rest))
 names_gone {rest = rest} (s.more_init_declarators {x = x} {i = one} {all = all} p e f q) =
-    All-cons (λ name. IsGone name rest) (declared_name one) (names_of all) ((after {x = x} (init_declarators_keep q)).gone (declared_name one) (name_gone p)) (names_gone q)
+    All-cons (λ name. IsGone name rest) (declared_name one) (names_of all) ((next {x = x} (init_declarators_keep q)).gone (declared_name one) (name_gone p)) (names_gone q)
 
 of_typedef : (b : Bool) (names : List (List ℕ)) (ts : List Lexeme) → (b ≡ true → AreGone names ts) → AreGone (if b then names else []) ts
 of_typedef true names ts h = h refl
@@ -155,7 +148,7 @@ clash true false e f = cc
 -- after an item its typedef names are gone
 pub item_gone : {d : Dialect} {ts rest : List Lexeme} {one : Item} → ReadsItem d ts one rest → AreGone (typedef_names one) rest
 item_gone {rest = rest} (i.declared {typedef = true} (s.declaration {y = y} {s = words} {all = all} e p f q g)) =
-    of_typedef (is_typedef words) (names_of all) rest (λ h. still_gone {rest = rest} (after {x = y} all_kept) (names_of all) (names_gone q))
+    of_typedef (is_typedef words) (names_of all) rest (λ h. still_gone {rest = rest} (next {x = y} all_kept) (names_of all) (names_gone q))
 item_gone {rest = rest} (i.declared {typedef = false} (s.declaration {s = words} {all = all} e p f q g)) =
     of_typedef (is_typedef words) (names_of all) rest (λ h. absurd (clash (for_item words) (is_typedef words) f h))
 item_gone {rest = rest} (i.defined p e q f v w) = All-nil (λ name. IsGone name rest)
@@ -187,8 +180,8 @@ other_text : (name : List ℕ) (x : Lexeme) (ts : List Lexeme) → is_name x ≡
 other_text name x ts e f = differs x.token.text name (right_false (is_name x) (bytes_eq x.token.text name) e (or_left (is_name_of name x) (list_any (is_name_of name) ts) f))
 
 declares_other : {d : Dialect} {ts rest : List Lexeme} {one : Declarator} (name : List ℕ) → ReadsDeclarator d ts one rest → IsGone name ts → (name_of one).text ≢ name
-declares_other name (r.object {x = x} {mid = mid} p e f q) g = other_text name x mid e (none_of_end (is_name_of name) (stars_ends p) g)
-declares_other name (r.function {x = x} {mid = mid} p e q) g = other_text name x mid e (none_of_end (is_name_of name) (stars_ends p) g)
+declares_other name (r.object {y = y} {mid = mid} p e f q) g = other_text name y mid e (none_of_end (is_name_of name) (stars_ends p) g)
+declares_other name (r.function {y = y} {mid = mid} p e q) g = other_text name y mid e (none_of_end (is_name_of name) (stars_ends p) g)
 
 init_declares_other : {d : Dialect} {typedef : Bool} {ts rest : List Lexeme} {one : InitDeclarator} (name : List ℕ) → ReadsInitDeclarator d typedef ts one rest → IsGone name ts → declared_name one ≢ name
 init_declares_other name (s.bare p e) g = declares_other name p g
@@ -203,8 +196,8 @@ all_declare_others name (s.more_init_declarators {x = x} {mid = mid} {i = one} {
 
 item_declares_others : {d : Dialect} {ts rest : List Lexeme} {one : Item} (name : List ℕ) → ReadsItem d ts one rest → IsGone name ts → All (λ other. other ≢ name) (declared_names one)
 item_declares_others name (i.declared (s.declaration e p f q h)) g = all_declare_others name q (none_of_end (is_name_of name) (specifiers_ends p) g)
-item_declares_others name (i.defined {x = x} {mid = mid} p e q f v w) g =
-    All-cons (λ other. other ≢ name) x.token.text [] (other_text name x mid f (none_of_end (is_name_of name) (stars_ends q) (none_of_end (is_name_of name) (specifiers_ends p) g))) (All-nil (λ other. other ≢ name))
+item_declares_others name (i.defined {z = z} {mid = mid} p e q f v w) g =
+    All-cons (λ other. other ≢ name) z.token.text [] (other_text name z mid f (none_of_end (is_name_of name) (stars_ends q) (none_of_end (is_name_of name) (specifiers_ends p) g))) (All-nil (λ other. other ≢ name))
 
 -- where no identifier of this text is left, an item declares none
 pub declares_no : {d : Dialect} {ts rest : List Lexeme} {one : Item} (name : List ℕ) → ReadsItem d ts one rest → IsGone name ts → ¬ Contains (declared_names one) name

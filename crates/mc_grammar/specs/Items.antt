@@ -1,4 +1,5 @@
--- The grammar of external declarations, and of a whole source: one case for each alternative of a production.
+-- The grammar of external declarations, and of a whole source: one case for each alternative of a
+-- production.
 use Rattle.std.specs.Prelude.{◌≡◌, ◌≤◌, ℕ, Bool, true, false, not, ◌&&◌, List, [], ◌∷◌}
 use Rattle.mc_lex.specs.declared.token.Dialect.{Dialect}
 use Rattle.mc_lex.specs.declared.token.Dialect.TheVariants.{Plain}
@@ -13,25 +14,33 @@ use Rattle.mc_grammar.specs.Counts.{for_item, for_function, is_typedef}
 use Rattle.mc_grammar.specs.Expressions.{ReadsSpecifiers, ReadsStars, ReadsParameters}
 use Rattle.mc_grammar.specs.Statements.{ReadsDeclaration, ReadsCompound}
 
--- the words of an item that is a typedef, or of one that is none
+-- the words of an item that is a typedef, or of one that is not
 abbrev pub is_item_of : Bool → Specifiers → Bool
 is_item_of true s = for_item s && is_typedef s
 is_item_of false s = for_item s && not (is_typedef s)
 
 pub data ReadsItem (dialect : Dialect) : List Lexeme → Item → List Lexeme → Type 0 where
-  -- item = specifiers [ initdecl { "," initdecl } ] ";"                                 C17 6.9, 6.7
-  declared : {typedef : Bool} {ts rest : List Lexeme} {d : Declaration} → ReadsDeclaration dialect typedef (is_item_of typedef) ts d rest → ReadsItem dialect ts (t.Declared d) rest
+  -- item = specifiers [ initdecl { "," initdecl } ] ";"                                C17 6.9, 6.7
+  declared : {typedef : Bool} {ts rest : List Lexeme} {d : Declaration}
+      → ReadsDeclaration dialect typedef (is_item_of typedef) ts d rest
+      → ReadsItem dialect ts (t.Declared d) rest
   -- specifiers { "*" } identifier "(" params ")" compound                               C17 6.9.1
   -- The `{` after the `)` makes it a definition: no declaration goes on with one.
-  defined : {x y z : Lexeme} {before span : Span} {ts words mid body rest : List Lexeme} {s : Specifiers} {stars : ℕ} {ps : Parameters} {b : BlockItems}
-      → ReadsSpecifiers dialect false (x ∷ ts) s (y ∷ words) → for_function s ≡ true → ReadsStars (at y) (y ∷ words) stars before (z ∷ mid) → is_name z ≡ true
+  defined : {x y z : Lexeme} {before span : Span} {ts words mid body rest : List Lexeme}
+      {s : Specifiers} {stars : ℕ} {ps : Parameters} {b : BlockItems}
+      → ReadsSpecifiers dialect false (x ∷ ts) s (y ∷ words) → for_function s ≡ true
+      → ReadsStars (at y) (y ∷ words) stars before (z ∷ mid) → is_name z ≡ true
       → ReadsParameters dialect mid ps body → ReadsCompound dialect body b span rest
-      → ReadsItem dialect (x ∷ ts) (t.Defined s (t.function stars (name_at z) ps (to (at y) (span_of_parameters ps))) b (to (at x) span)) rest
+      → ReadsItem dialect (x ∷ ts)
+      (t.Defined s (t.function stars (name_at z) ps (to (at y) (span_of_parameters ps))) b
+      (to (at x) span)) rest
 
 -- unit = { item }                                                                       C17 6.9
 pub data ReadsUnit (dialect : Dialect) : List Lexeme → List Item → Type 0 where
   no_items : ReadsUnit dialect [] []
-  item : {ts rest : List Lexeme} {i : Item} {all : List Item} → ReadsItem dialect ts i rest → ReadsUnit dialect rest all → ReadsUnit dialect ts (i ∷ all)
+  item : {ts rest : List Lexeme} {i : Item} {all : List Item}
+      → ReadsItem dialect ts i rest → ReadsUnit dialect rest all
+      → ReadsUnit dialect ts (i ∷ all)
 
 -- The tree of a list of tokens is a unit that leaves nothing.
 abbrev pub IsTree : Dialect → List Tok → List Item → Type 0

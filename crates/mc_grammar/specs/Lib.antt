@@ -6,6 +6,13 @@ pub mod Counts
 pub mod Expressions
 pub mod Statements
 pub mod Items
+pub mod WordSets
+pub mod Spelling
+pub mod Extent
+pub mod Precedence
+pub mod Grouping
+pub mod Refusals
+pub mod Laws
 pub mod Meaning
 pub mod Samples
 pub mod Snippets

@@ -31,17 +31,28 @@ pub data IsStep : Lexeme → StepOperator → Type 0 where
 -- the operator between two operands, at its level of precedence, if the token is one
 abbrev pub operator_at : Level → Lexeme → Option BinaryOperator
 -- C17 6.5.5
-operator_at l.product x = if is_punctuator (codes "*") x then Some binary.Multiply else (if is_punctuator (codes "/") x then Some binary.Divide else (if is_punctuator (codes "%") x then Some binary.Remainder else None))
+operator_at l.product x =
+    if is_punctuator (codes "*") x then Some binary.Multiply
+    else (if is_punctuator (codes "/") x then Some binary.Divide
+    else (if is_punctuator (codes "%") x then Some binary.Remainder else None))
 -- C17 6.5.6
-operator_at l.sum x = if is_punctuator (codes "+") x then Some binary.Add else (if is_punctuator (codes "-") x then Some binary.Subtract else None)
+operator_at l.sum x =
+    if is_punctuator (codes "+") x then Some binary.Add
+    else (if is_punctuator (codes "-") x then Some binary.Subtract else None)
 -- C17 6.5.7
-operator_at l.shift x = if is_punctuator (codes "<<") x then Some binary.ShiftLeft else (if is_punctuator (codes ">>") x then Some binary.ShiftRight else None)
+operator_at l.shift x =
+    if is_punctuator (codes "<<") x then Some binary.ShiftLeft
+    else (if is_punctuator (codes ">>") x then Some binary.ShiftRight else None)
 -- C17 6.5.8
 operator_at l.relation x =
-    if is_punctuator (codes "<") x then Some binary.Less else (if is_punctuator (codes ">") x then Some binary.Greater
-    else (if is_punctuator (codes "<=") x then Some binary.LessOrEqual else (if is_punctuator (codes ">=") x then Some binary.GreaterOrEqual else None)))
+    if is_punctuator (codes "<") x then Some binary.Less
+    else (if is_punctuator (codes ">") x then Some binary.Greater
+    else (if is_punctuator (codes "<=") x then Some binary.LessOrEqual
+    else (if is_punctuator (codes ">=") x then Some binary.GreaterOrEqual else None)))
 -- C17 6.5.9
-operator_at l.equality x = if is_punctuator (codes "==") x then Some binary.Equal else (if is_punctuator (codes "!=") x then Some binary.Unequal else None)
+operator_at l.equality x =
+    if is_punctuator (codes "==") x then Some binary.Equal
+    else (if is_punctuator (codes "!=") x then Some binary.Unequal else None)
 -- C17 6.5.10
 operator_at l.bit_and x = if is_punctuator (codes "&") x then Some binary.BitAnd else None
 -- C17 6.5.11
@@ -84,12 +95,16 @@ sees_assignment (x ∷ ts) = is_there (assignment_at x)
 
 -- the next token is `++` or `--`, or begins another suffix (C17 6.5.2)
 abbrev pub is_suffix : Lexeme → Bool
-is_suffix x = is_punctuator (codes "[") x || is_punctuator (codes ".") x || is_punctuator (codes "++") x || is_punctuator (codes "--") x
+is_suffix x =
+    is_punctuator (codes "[") x || is_punctuator (codes ".") x || is_punctuator (codes "++") x
+    || is_punctuator (codes "--") x
 
 -- `++`, `--` or an operator before its operand (C17 6.5.3)
 abbrev pub is_prefix : Lexeme → Bool
 is_prefix x =
-    is_punctuator (codes "++") x || is_punctuator (codes "--") x || is_punctuator (codes "+") x || is_punctuator (codes "-") x || is_punctuator (codes "~") x || is_punctuator (codes "!") x || is_punctuator (codes "*") x || is_punctuator (codes "&") x
+    is_punctuator (codes "++") x || is_punctuator (codes "--") x || is_punctuator (codes "+") x
+    || is_punctuator (codes "-") x || is_punctuator (codes "~") x || is_punctuator (codes "!") x
+    || is_punctuator (codes "*") x || is_punctuator (codes "&") x
 
 -- C17 6.7.1 to 6.7.3
 pub data IsSpecifierWord : Lexeme → SpecifierWord → Type 0 where

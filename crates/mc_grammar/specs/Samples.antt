@@ -48,102 +48,141 @@ name_alone x = t.object 0 x t.no_lengths x.span
 -- its second declarator needs the first one's name: `typedef int T,t[(T)3];`
 abbrev pub typedef_tokens : List Tok
 typedef_tokens =
-    keyword (codes "typedef") 0 ∷ keyword (codes "int") 8 ∷ word_of (codes "T") 12 ∷ punctuator (codes ",") 13 ∷ word_of (codes "t") 14
-    ∷ punctuator (codes "[") 15 ∷ punctuator (codes "(") 16 ∷ word_of (codes "T") 17 ∷ punctuator (codes ")") 18
+    keyword (codes "typedef") 0 ∷ keyword (codes "int") 8 ∷ word_of (codes "T") 12
+    ∷ punctuator (codes ",") 13 ∷ word_of (codes "t") 14
+    ∷ punctuator (codes "[") 15 ∷ punctuator (codes "(") 16 ∷ word_of (codes "T") 17
+    ∷ punctuator (codes ")") 18
     ∷ number 3 (codes "3") 19 ∷ punctuator (codes "]") 20 ∷ punctuator (codes ";") 21 ∷ []
 
 -- the second `T` is a typedef name, so `(T)3` is a cast
 abbrev pub typedef_tree : List Item
 typedef_tree =
     t.Declared (t.declaration
-    (t.specifiers (t.Word word.Typedef (span 0 7)) (t.specifiers (t.Word word.Int (span 8 11)) t.no_specifiers))
+    (t.specifiers (t.Word word.Typedef (span 0 7))
+    (t.specifiers (t.Word word.Int (span 8 11)) t.no_specifiers))
     (t.bare (t.object 0 (name (codes "T") 12 13) t.no_lengths (span 12 13))
     ∷ t.bare (t.object 0 (name (codes "t") 14 15)
-    (t.given_length (t.Cast (t.type_name (t.specifiers (t.TypedefName (name (codes "T") 17 18)) t.no_specifiers) 0 (span 17 18)) (t.Constant 3 true false 0 (span 19 20)) (span 16 20)) t.no_lengths)
+    (t.given_length
+    (t.Cast (t.type_name (t.specifiers (t.TypedefName (name (codes "T") 17 18)) t.no_specifiers)
+    0 (span 17 18)) (t.Constant 3 true false 0 (span 19 20)) (span 16 20)) t.no_lengths)
     (span 14 21)) ∷ [])
     (span 0 22)) ∷ []
 
 -- `int a = 5;`
 abbrev pub value_tokens : List Tok
-value_tokens = keyword (codes "int") 0 ∷ word_of (codes "a") 4 ∷ punctuator (codes "=") 6 ∷ number 5 (codes "5") 8 ∷ punctuator (codes ";") 9 ∷ []
+value_tokens =
+    keyword (codes "int") 0 ∷ word_of (codes "a") 4 ∷ punctuator (codes "=") 6
+    ∷ number 5 (codes "5") 8 ∷ punctuator (codes ";") 9 ∷ []
 
 abbrev pub value_tree : List Item
 value_tree =
     t.Declared (t.declaration (one_specifier (t.Word word.Int (span 0 3)))
-    (t.initialized (name_alone (name (codes "a") 4 5)) (t.Single (t.Constant 5 true false 0 (span 8 9))) ∷ [])
+    (t.initialized (name_alone (name (codes "a") 4 5))
+    (t.Single (t.Constant 5 true false 0 (span 8 9))) ∷ [])
     (span 0 10)) ∷ []
 
 -- `typedef void V; int f(V);`
 abbrev pub named_void_tokens : List Tok
 named_void_tokens =
-    keyword (codes "typedef") 0 ∷ keyword (codes "void") 8 ∷ word_of (codes "V") 13 ∷ punctuator (codes ";") 14
-    ∷ keyword (codes "int") 16 ∷ word_of (codes "f") 20 ∷ punctuator (codes "(") 21 ∷ word_of (codes "V") 22 ∷ punctuator (codes ")") 23 ∷ punctuator (codes ";") 24 ∷ []
+    keyword (codes "typedef") 0 ∷ keyword (codes "void") 8 ∷ word_of (codes "V") 13
+    ∷ punctuator (codes ";") 14
+    ∷ keyword (codes "int") 16 ∷ word_of (codes "f") 20 ∷ punctuator (codes "(") 21
+    ∷ word_of (codes "V") 22 ∷ punctuator (codes ")") 23 ∷ punctuator (codes ";") 24 ∷ []
 
 -- `f` has a list of one parameter
 abbrev pub named_void_tree : List Item
 named_void_tree =
-    t.Declared (t.declaration (two_specifiers (t.Word word.Typedef (span 0 7)) (t.Word word.Void (span 8 12))) (t.bare (name_alone (name (codes "V") 13 14)) ∷ []) (span 0 15))
+    t.Declared (t.declaration
+    (two_specifiers (t.Word word.Typedef (span 0 7)) (t.Word word.Void (span 8 12)))
+    (t.bare (name_alone (name (codes "V") 13 14)) ∷ []) (span 0 15))
     ∷ t.Declared (t.declaration (one_specifier (t.Word word.Int (span 16 19)))
     (t.bare (t.function 0 (name (codes "f") 20 21)
-    (t.Listed (t.parameters (t.parameter (one_specifier (t.TypedefName (name (codes "V") 22 23))) 0 None t.no_lengths (span 22 23)) t.no_parameters) (span 21 24))
+    (t.Listed
+    (t.parameters (t.parameter (one_specifier (t.TypedefName (name (codes "V") 22 23))) 0 None
+    t.no_lengths (span 22 23)) t.no_parameters) (span 21 24))
     (span 20 24)) ∷ [])
     (span 16 25)) ∷ []
 
 -- `int f(void);`
 abbrev pub void_tokens : List Tok
-void_tokens = keyword (codes "int") 0 ∷ word_of (codes "f") 4 ∷ punctuator (codes "(") 5 ∷ keyword (codes "void") 6 ∷ punctuator (codes ")") 10 ∷ punctuator (codes ";") 11 ∷ []
+void_tokens =
+    keyword (codes "int") 0 ∷ word_of (codes "f") 4 ∷ punctuator (codes "(") 5
+    ∷ keyword (codes "void") 6 ∷ punctuator (codes ")") 10 ∷ punctuator (codes ";") 11 ∷ []
 
 -- `f` has no parameter
 abbrev pub void_tree : List Item
 void_tree =
-    t.Declared (t.declaration (one_specifier (t.Word word.Int (span 0 3))) (t.bare (t.function 0 (name (codes "f") 4 5) (t.Void (span 5 11)) (span 4 11)) ∷ []) (span 0 12)) ∷ []
+    t.Declared (t.declaration (one_specifier (t.Word word.Int (span 0 3)))
+    (t.bare (t.function 0 (name (codes "f") 4 5) (t.Void (span 5 11)) (span 4 11)) ∷ [])
+    (span 0 12)) ∷ []
 
 -- `int f(void) { return 0; }`
 abbrev pub body_tokens : List Tok
 body_tokens =
-    keyword (codes "int") 0 ∷ word_of (codes "f") 4 ∷ punctuator (codes "(") 5 ∷ keyword (codes "void") 6 ∷ punctuator (codes ")") 10
-    ∷ punctuator (codes "{") 12 ∷ keyword (codes "return") 14 ∷ zero_at 21 ∷ punctuator (codes ";") 22 ∷ punctuator (codes "}") 24 ∷ []
+    keyword (codes "int") 0 ∷ word_of (codes "f") 4 ∷ punctuator (codes "(") 5
+    ∷ keyword (codes "void") 6 ∷ punctuator (codes ")") 10
+    ∷ punctuator (codes "{") 12 ∷ keyword (codes "return") 14 ∷ zero_at 21
+    ∷ punctuator (codes ";") 22 ∷ punctuator (codes "}") 24 ∷ []
 
 abbrev pub body_tree : List Item
 body_tree =
-    t.Defined (one_specifier (t.Word word.Int (span 0 3))) (t.function 0 (name (codes "f") 4 5) (t.Void (span 5 11)) (span 4 11))
-    (t.statement (t.Return (Some (t.Constant 0 false false 0 (span 21 22))) (span 14 23)) t.no_block_items)
+    t.Defined (one_specifier (t.Word word.Int (span 0 3)))
+    (t.function 0 (name (codes "f") 4 5) (t.Void (span 5 11)) (span 4 11))
+    (t.statement (t.Return (Some (t.Constant 0 false false 0 (span 21 22))) (span 14 23))
+    t.no_block_items)
     (span 0 25) ∷ []
 
 -- `typedef int T; struct T { int a; };`
 abbrev pub tag_tokens : List Tok
 tag_tokens =
-    keyword (codes "typedef") 0 ∷ keyword (codes "int") 8 ∷ word_of (codes "T") 12 ∷ punctuator (codes ";") 13
-    ∷ keyword (codes "struct") 15 ∷ word_of (codes "T") 22 ∷ punctuator (codes "{") 24 ∷ keyword (codes "int") 26 ∷ word_of (codes "a") 30 ∷ punctuator (codes ";") 31 ∷ punctuator (codes "}") 33 ∷ punctuator (codes ";") 34 ∷ []
+    keyword (codes "typedef") 0 ∷ keyword (codes "int") 8 ∷ word_of (codes "T") 12
+    ∷ punctuator (codes ";") 13
+    ∷ keyword (codes "struct") 15 ∷ word_of (codes "T") 22 ∷ punctuator (codes "{") 24
+    ∷ keyword (codes "int") 26 ∷ word_of (codes "a") 30 ∷ punctuator (codes ";") 31
+    ∷ punctuator (codes "}") 33 ∷ punctuator (codes ";") 34 ∷ []
 
 abbrev pub tag_tree : List Item
 tag_tree =
-    t.Declared (t.declaration (two_specifiers (t.Word word.Typedef (span 0 7)) (t.Word word.Int (span 8 11))) (t.bare (name_alone (name (codes "T") 12 13)) ∷ []) (span 0 14))
+    t.Declared (t.declaration
+    (two_specifiers (t.Word word.Typedef (span 0 7)) (t.Word word.Int (span 8 11)))
+    (t.bare (name_alone (name (codes "T") 12 13)) ∷ []) (span 0 14))
     ∷ t.Declared (t.declaration (one_specifier (t.Structure (Some (name (codes "T") 22 23))
-    (t.members (t.member (one_specifier (t.Word word.Int (span 26 29))) (t.declarators (name_alone (name (codes "a") 30 31)) t.no_declarators) (span 26 32)) t.no_members)
+    (t.members (t.member (one_specifier (t.Word word.Int (span 26 29)))
+    (t.declarators (name_alone (name (codes "a") 30 31)) t.no_declarators) (span 26 32))
+    t.no_members)
     (span 15 34))) [] (span 15 35)) ∷ []
 
 -- `enum { A, B = 2, };`
 abbrev pub enumeration_tokens : List Tok
 enumeration_tokens =
-    keyword (codes "enum") 0 ∷ punctuator (codes "{") 5 ∷ word_of (codes "A") 7 ∷ punctuator (codes ",") 8 ∷ word_of (codes "B") 10 ∷ punctuator (codes "=") 12 ∷ number 2 (codes "2") 14
+    keyword (codes "enum") 0 ∷ punctuator (codes "{") 5 ∷ word_of (codes "A") 7
+    ∷ punctuator (codes ",") 8 ∷ word_of (codes "B") 10 ∷ punctuator (codes "=") 12
+    ∷ number 2 (codes "2") 14
     ∷ punctuator (codes ",") 15 ∷ punctuator (codes "}") 17 ∷ punctuator (codes ";") 18 ∷ []
 
 abbrev pub enumeration_tree : List Item
 enumeration_tree =
     t.Declared (t.declaration (one_specifier (t.Enumeration None
-    (t.enumerators (t.enumerator (name (codes "A") 7 8)) (t.enumerators (t.valued_enumerator (name (codes "B") 10 11) (t.Constant 2 true false 0 (span 14 15))) t.no_enumerators))
+    (t.enumerators (t.enumerator (name (codes "A") 7 8))
+    (t.enumerators (t.valued_enumerator (name (codes "B") 10 11)
+    (t.Constant 2 true false 0 (span 14 15))) t.no_enumerators))
     (span 0 18))) [] (span 0 19)) ∷ []
 
 -- `int a[2] = {1, 2,};`
 abbrev pub braced_tokens : List Tok
 braced_tokens =
-    keyword (codes "int") 0 ∷ word_of (codes "a") 4 ∷ punctuator (codes "[") 5 ∷ number 2 (codes "2") 6 ∷ punctuator (codes "]") 7 ∷ punctuator (codes "=") 9
-    ∷ punctuator (codes "{") 11 ∷ number 1 (codes "1") 12 ∷ punctuator (codes ",") 13 ∷ number 2 (codes "2") 15 ∷ punctuator (codes ",") 16 ∷ punctuator (codes "}") 17 ∷ punctuator (codes ";") 18 ∷ []
+    keyword (codes "int") 0 ∷ word_of (codes "a") 4 ∷ punctuator (codes "[") 5
+    ∷ number 2 (codes "2") 6 ∷ punctuator (codes "]") 7 ∷ punctuator (codes "=") 9
+    ∷ punctuator (codes "{") 11 ∷ number 1 (codes "1") 12 ∷ punctuator (codes ",") 13
+    ∷ number 2 (codes "2") 15 ∷ punctuator (codes ",") 16 ∷ punctuator (codes "}") 17
+    ∷ punctuator (codes ";") 18 ∷ []
 
 abbrev pub braced_tree : List Item
 braced_tree =
     t.Declared (t.declaration (one_specifier (t.Word word.Int (span 0 3)))
-    (t.initialized (t.object 0 (name (codes "a") 4 5) (t.given_length (t.Constant 2 true false 0 (span 6 7)) t.no_lengths) (span 4 8))
-    (t.Braced (t.initializers (t.Single (t.Constant 1 true false 0 (span 12 13))) (t.initializers (t.Single (t.Constant 2 true false 0 (span 15 16))) t.no_initializers)) (span 11 18)) ∷ [])
+    (t.initialized (t.object 0 (name (codes "a") 4 5)
+    (t.given_length (t.Constant 2 true false 0 (span 6 7)) t.no_lengths) (span 4 8))
+    (t.Braced (t.initializers (t.Single (t.Constant 1 true false 0 (span 12 13)))
+    (t.initializers (t.Single (t.Constant 2 true false 0 (span 15 16))) t.no_initializers))
+    (span 11 18)) ∷ [])
     (span 0 19)) ∷ []

@@ -18,58 +18,81 @@ letter text start = t.Named (name text start (suc start))
 
 -- `a + b + c;`
 abbrev pub sum_tokens : List Tok
-sum_tokens = word_of (codes "a") 0 ∷ punctuator (codes "+") 2 ∷ word_of (codes "b") 4 ∷ punctuator (codes "+") 6 ∷ word_of (codes "c") 8 ∷ semicolon 9
+sum_tokens =
+    word_of (codes "a") 0 ∷ punctuator (codes "+") 2 ∷ word_of (codes "b") 4
+    ∷ punctuator (codes "+") 6 ∷ word_of (codes "c") 8 ∷ semicolon 9
 
 -- `(a + b) + c`
 abbrev pub sum_tree : Expression
-sum_tree = t.Binary binary.Add (t.Binary binary.Add (letter (codes "a") 0) (letter (codes "b") 4) (span 0 5)) (letter (codes "c") 8) (span 0 9)
+sum_tree = t.Binary binary.Add
+    (t.Binary binary.Add (letter (codes "a") 0) (letter (codes "b") 4) (span 0 5))
+    (letter (codes "c") 8) (span 0 9)
 
 -- `a, b, c;`
 abbrev pub operands_tokens : List Tok
-operands_tokens = word_of (codes "a") 0 ∷ punctuator (codes ",") 1 ∷ word_of (codes "b") 3 ∷ punctuator (codes ",") 4 ∷ word_of (codes "c") 6 ∷ semicolon 7
+operands_tokens =
+    word_of (codes "a") 0 ∷ punctuator (codes ",") 1 ∷ word_of (codes "b") 3
+    ∷ punctuator (codes ",") 4 ∷ word_of (codes "c") 6 ∷ semicolon 7
 
 -- one node with three operands
 abbrev pub operands_tree : Expression
-operands_tree = t.Comma (t.expressions (letter (codes "a") 0) (t.expressions (letter (codes "b") 3) (t.expressions (letter (codes "c") 6) t.no_expressions))) (span 0 7)
+operands_tree = t.Comma (t.expressions (letter (codes "a") 0)
+    (t.expressions (letter (codes "b") 3) (t.expressions (letter (codes "c") 6) t.no_expressions)))
+    (span 0 7)
 
 -- `(T) - 1;`
 abbrev pub minus_tokens : List Tok
-minus_tokens = punctuator (codes "(") 0 ∷ word_of (codes "T") 1 ∷ punctuator (codes ")") 2 ∷ punctuator (codes "-") 4 ∷ number 1 (codes "1") 6 ∷ semicolon 7
+minus_tokens =
+    punctuator (codes "(") 0 ∷ word_of (codes "T") 1 ∷ punctuator (codes ")") 2
+    ∷ punctuator (codes "-") 4 ∷ number 1 (codes "1") 6 ∷ semicolon 7
 
 -- a cast of `-1`
 abbrev pub cast_tree : Expression
 cast_tree =
-    t.Cast (t.type_name (t.specifiers (t.TypedefName (name (codes "T") 1 2)) t.no_specifiers) 0 (span 1 2))
+    t.Cast (t.type_name (t.specifiers (t.TypedefName (name (codes "T") 1 2)) t.no_specifiers) 0
+    (span 1 2))
     (t.Unary unary.Minus (t.Constant 1 true false 0 (span 6 7)) (span 4 7)) (span 0 7)
 
 -- `(T)` less 1
 abbrev pub subtraction_tree : Expression
-subtraction_tree = t.Binary binary.Subtract (t.Parenthesized (letter (codes "T") 1) (span 0 3)) (t.Constant 1 true false 0 (span 6 7)) (span 0 7)
+subtraction_tree = t.Binary binary.Subtract (t.Parenthesized (letter (codes "T") 1) (span 0 3))
+    (t.Constant 1 true false 0 (span 6 7)) (span 0 7)
 
 -- `if (a) if (b) ; else ;`
 abbrev pub else_tokens : List Tok
 else_tokens =
-    keyword (codes "if") 0 ∷ punctuator (codes "(") 3 ∷ word_of (codes "a") 4 ∷ punctuator (codes ")") 5
-    ∷ keyword (codes "if") 7 ∷ punctuator (codes "(") 10 ∷ word_of (codes "b") 11 ∷ punctuator (codes ")") 12 ∷ punctuator (codes ";") 14 ∷ keyword (codes "else") 16 ∷ punctuator (codes ";") 21 ∷ []
+    keyword (codes "if") 0 ∷ punctuator (codes "(") 3 ∷ word_of (codes "a") 4
+    ∷ punctuator (codes ")") 5
+    ∷ keyword (codes "if") 7 ∷ punctuator (codes "(") 10 ∷ word_of (codes "b") 11
+    ∷ punctuator (codes ")") 12 ∷ punctuator (codes ";") 14 ∷ keyword (codes "else") 16
+    ∷ punctuator (codes ";") 21 ∷ []
 
 -- the `else` is of the inner `if`
 abbrev pub else_tree : Statement
-else_tree = t.If (letter (codes "a") 4) (t.IfElse (letter (codes "b") 11) (t.Null (span 14 15)) (t.Null (span 21 22)) (span 7 22)) (span 0 22)
+else_tree = t.If (letter (codes "a") 4)
+    (t.IfElse (letter (codes "b") 11) (t.Null (span 14 15)) (t.Null (span 21 22)) (span 7 22))
+    (span 0 22)
 
 -- `(a=1);`
 abbrev pub assignment_tokens : List Tok
-assignment_tokens = punctuator (codes "(") 0 ∷ word_of (codes "a") 1 ∷ punctuator (codes "=") 2 ∷ number 1 (codes "1") 3 ∷ punctuator (codes ")") 4 ∷ semicolon 5
+assignment_tokens =
+    punctuator (codes "(") 0 ∷ word_of (codes "a") 1 ∷ punctuator (codes "=") 2
+    ∷ number 1 (codes "1") 3 ∷ punctuator (codes ")") 4 ∷ semicolon 5
 
 -- an assignment in parentheses
 abbrev pub assignment_tree : Statement
-assignment_tree = t.ExpressionStatement (t.Parenthesized (t.Assignment assign.Assign (letter (codes "a") 1) (t.Constant 1 true false 0 (span 3 4)) (span 1 4)) (span 0 5)) (span 0 6)
+assignment_tree = t.ExpressionStatement
+    (t.Parenthesized (t.Assignment assign.Assign (letter (codes "a") 1)
+    (t.Constant 1 true false 0 (span 3 4)) (span 1 4)) (span 0 5)) (span 0 6)
 
 -- `(f)(x);`, and what stands in it after `(f)`
 abbrev pub after_parentheses : List Tok
-after_parentheses = punctuator (codes "(") 3 ∷ word_of (codes "x") 4 ∷ punctuator (codes ")") 5 ∷ semicolon 6
+after_parentheses =
+    punctuator (codes "(") 3 ∷ word_of (codes "x") 4 ∷ punctuator (codes ")") 5 ∷ semicolon 6
 
 abbrev pub parentheses_tokens : List Tok
-parentheses_tokens = punctuator (codes "(") 0 ∷ word_of (codes "f") 1 ∷ punctuator (codes ")") 2 ∷ after_parentheses
+parentheses_tokens =
+    punctuator (codes "(") 0 ∷ word_of (codes "f") 1 ∷ punctuator (codes ")") 2 ∷ after_parentheses
 
 -- `(f)`
 abbrev pub parentheses_tree : Expression
@@ -77,10 +100,13 @@ parentheses_tree = t.Parenthesized (letter (codes "f") 1) (span 0 3)
 
 -- `a[0](x);`, and what stands in it after `a[0]`
 abbrev pub after_element : List Tok
-after_element = punctuator (codes "(") 4 ∷ word_of (codes "x") 5 ∷ punctuator (codes ")") 6 ∷ semicolon 7
+after_element =
+    punctuator (codes "(") 4 ∷ word_of (codes "x") 5 ∷ punctuator (codes ")") 6 ∷ semicolon 7
 
 abbrev pub element_tokens : List Tok
-element_tokens = word_of (codes "a") 0 ∷ punctuator (codes "[") 1 ∷ zero_at 2 ∷ punctuator (codes "]") 3 ∷ after_element
+element_tokens =
+    word_of (codes "a") 0 ∷ punctuator (codes "[") 1 ∷ zero_at 2 ∷ punctuator (codes "]") 3
+    ∷ after_element
 
 -- `a[0]`
 abbrev pub element_tree : Expression
@@ -88,10 +114,12 @@ element_tree = t.Index (letter (codes "a") 0) (t.Constant 0 false false 0 (span 
 
 -- `int a[b=1];`, what stands in it after `[`, and after `b`
 abbrev pub after_name : List Tok
-after_name = punctuator (codes "=") 7 ∷ number 1 (codes "1") 8 ∷ punctuator (codes "]") 9 ∷ semicolon 10
+after_name =
+    punctuator (codes "=") 7 ∷ number 1 (codes "1") 8 ∷ punctuator (codes "]") 9 ∷ semicolon 10
 
 abbrev pub after_bracket : List Tok
 after_bracket = word_of (codes "b") 6 ∷ after_name
 
 abbrev pub length_tokens : List Tok
-length_tokens = keyword (codes "int") 0 ∷ word_of (codes "a") 4 ∷ punctuator (codes "[") 5 ∷ after_bracket
+length_tokens =
+    keyword (codes "int") 0 ∷ word_of (codes "a") 4 ∷ punctuator (codes "[") 5 ∷ after_bracket

@@ -1,5 +1,5 @@
--- Tokens as the grammar sees them: a token, and whether it is the name of a typedef that is in force. The
--- lexer cannot know the latter, so at the start of a source no token is one.
+-- Tokens as the grammar sees them: a token, and whether it is the name of a typedef that is in
+-- force. The lexer cannot know the latter, so at the start of a source no token is one.
 use Rattle.std.specs.Prelude.{ℕ, Bool, true, false, not, ◌&&◌, ◌||◌, List, [], ◌∷◌, map, codes, if◌then◌else◌}
 use Rattle.std.specs.Str.{bytes_eq}
 use Rattle.mc_lex.specs.declared.token.TokenKind.{TokenKind}
@@ -37,7 +37,7 @@ is_punctuator text x = is_punctuator_kind x.token.kind && bytes_eq x.token.text 
 abbrev pub is_keyword : List ℕ → Lexeme → Bool
 is_keyword text x = is_keyword_kind x.token.kind && bytes_eq x.token.text text
 
--- an identifier that is no typedef name (C17 6.4.2, 6.7.8)
+-- an identifier that is not a typedef name (C17 6.4.2, 6.7.8)
 abbrev pub is_name : Lexeme → Bool
 is_name x = is_identifier_kind x.token.kind && not x.names_type
 
@@ -52,12 +52,16 @@ is_tag x = is_identifier_kind x.token.kind
 -- a keyword that is a whole specifier (C17 6.7.1 to 6.7.3)
 abbrev pub is_plain_specifier : Lexeme → Bool
 is_plain_specifier x =
-    is_keyword (codes "typedef") x || is_keyword (codes "static") x || is_keyword (codes "extern") x || is_keyword (codes "const") x || is_keyword (codes "void") x || is_keyword (codes "_Bool") x
-    || is_keyword (codes "char") x || is_keyword (codes "short") x || is_keyword (codes "int") x || is_keyword (codes "long") x || is_keyword (codes "signed") x || is_keyword (codes "unsigned") x
+    is_keyword (codes "typedef") x || is_keyword (codes "static") x || is_keyword (codes "extern") x
+    || is_keyword (codes "const") x || is_keyword (codes "void") x || is_keyword (codes "_Bool") x
+    || is_keyword (codes "char") x || is_keyword (codes "short") x || is_keyword (codes "int") x
+    || is_keyword (codes "long") x || is_keyword (codes "signed") x
+    || is_keyword (codes "unsigned") x
 
 -- a specifier word
 abbrev pub is_specifier_word : Lexeme → Bool
-is_specifier_word x = is_plain_specifier x || is_keyword (codes "struct") x || is_keyword (codes "enum") x
+is_specifier_word x =
+    is_plain_specifier x || is_keyword (codes "struct") x || is_keyword (codes "enum") x
 
 -- a specifier word or a typedef name
 abbrev pub begins_specifiers : Lexeme → Bool
@@ -99,7 +103,9 @@ go_on has_type ts = next_is is_specifier_word ts || (not has_type && next_is is_
 
 -- an identifier of this text becomes a typedef name
 abbrev pub retagged : List ℕ → Lexeme → Lexeme
-retagged name x = if is_identifier_kind x.token.kind && bytes_eq x.token.text name then record { token = x.token; names_type = true } else x
+retagged name x =
+    if is_identifier_kind x.token.kind && bytes_eq x.token.text name
+    then record { token = x.token; names_type = true } else x
 
 -- From the end of its declarator a typedef's name is a typedef name in all following text.
 unfoldable pub retag : List ℕ → List Lexeme → List Lexeme

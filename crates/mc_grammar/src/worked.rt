@@ -1,6 +1,8 @@
-//! The worked examples of docs/LANGUAGE.md: what the grammar reads of short texts, and how high the trees are.
+//! The worked examples of docs/LANGUAGE.md: what the grammar reads of short texts, and how high the
+//! trees are.
 ghost use Rattle.std.specs.Prelude.{◌≡◌, ◌≤◌, ◌<◌, ℕ, Bool, List, [], ◌∷◌, codes, length};
 ghost use Rattle.mc_lex.specs.declared.token.Dialect.{Dialect};
+ghost use Rattle.mc_span.specs.declared.span.Span.{Span};
 ghost use Rattle.mc_tree.specs.Tree.{Declarator, Expression, Initializer, Parameters, Statement, Item};
 ghost use Rattle.mc_tree.specs.Tree as t;
 ghost use Rattle.mc_tree.specs.Height.{height, height_unit};
@@ -18,13 +20,27 @@ ghost use Rattle.mc_grammar.specs.Snippets.{semicolon, sum_tokens, sum_tree, ope
 /// In a block `T * x;` declares `x` where `T` is a typedef name.
 #[tactic(auto, using(crate::proofs::Examples::declares_it))]
 pub fn type_before_star_declares()
-    ensures { (d : Dialect) (name other : List ℕ) (type_place star_place name_place semicolon_place brace_place : ℕ) → ReadsBlockItems d (type_name name type_place ∷ punctuator (codes "*") star_place ∷ identifier other name_place ∷ punctuator (codes ";") semicolon_place ∷ punctuator (codes "}") brace_place ∷ []) (declares name other type_place star_place name_place semicolon_place) (punctuator (codes "}") brace_place ∷ []) }
+    ensures { (d : Dialect) (name other : List ℕ)
+        (type_place star_place name_place semicolon_place brace_place : ℕ)
+        → ReadsBlockItems d
+        (type_name name type_place ∷ punctuator (codes "*") star_place
+        ∷ identifier other name_place ∷ punctuator (codes ";") semicolon_place
+        ∷ punctuator (codes "}") brace_place ∷ [])
+        (declares name other type_place star_place name_place semicolon_place)
+        (punctuator (codes "}") brace_place ∷ []) }
 {}
 
-/// In a block `a * x;` multiplies where `a` is no typedef name.
+/// In a block `a * x;` multiplies where `a` is not a typedef name.
 #[tactic(auto, using(crate::proofs::Examples::multiplies_it))]
 pub fn identifier_before_star_multiplies()
-    ensures { (d : Dialect) (name other : List ℕ) (type_place star_place name_place semicolon_place brace_place : ℕ) → ReadsBlockItems d (identifier name type_place ∷ punctuator (codes "*") star_place ∷ identifier other name_place ∷ punctuator (codes ";") semicolon_place ∷ punctuator (codes "}") brace_place ∷ []) (multiplies name other type_place star_place name_place semicolon_place) (punctuator (codes "}") brace_place ∷ []) }
+    ensures { (d : Dialect) (name other : List ℕ)
+        (type_place star_place name_place semicolon_place brace_place : ℕ)
+        → ReadsBlockItems d
+        (identifier name type_place ∷ punctuator (codes "*") star_place
+        ∷ identifier other name_place ∷ punctuator (codes ";") semicolon_place
+        ∷ punctuator (codes "}") brace_place ∷ [])
+        (multiplies name other type_place star_place name_place semicolon_place)
+        (punctuator (codes "}") brace_place ∷ []) }
 {}
 
 /// A typedef's name is in force from the end of its declarator, within its declaration too:
@@ -37,22 +53,27 @@ pub fn typedef_name_is_in_force_at_once()
 /// `a + b + c` is `(a + b) + c`, and its height is 3.
 #[tactic(auto, using(crate::proofs::Snippets::sum))]
 pub fn sum_groups_to_the_left()
-    ensures tree { (d : Dialect) → Reads d n.comma (lexemes_of sum_tokens) sum_tree (lexemes_of (semicolon 9)) }
+    ensures tree { (d : Dialect)
+        → Reads d n.comma (lexemes_of sum_tokens) sum_tree (lexemes_of (semicolon 9)) }
     ensures high { height sum_tree ≡ 3 }
 {}
 
 /// `a, b, c` is one node with three operands, and its height is 2.
 #[tactic(auto, using(crate::proofs::Snippets::operands))]
 pub fn operands_share_one_node()
-    ensures tree { (d : Dialect) → Reads d n.comma (lexemes_of operands_tokens) operands_tree (lexemes_of (semicolon 7)) }
+    ensures tree { (d : Dialect)
+        → Reads d n.comma (lexemes_of operands_tokens) operands_tree (lexemes_of (semicolon 7)) }
     ensures high { height operands_tree ≡ 2 }
 {}
 
 /// `(T) - 1` is a cast of `-1` where `T` is a typedef name, and else a subtraction.
 #[tactic(auto, using(crate::proofs::Snippets::cast, crate::proofs::Snippets::subtraction))]
 pub fn typedef_name_makes_a_cast()
-    ensures cast { (d : Dialect) → Reads d n.comma (retag (codes "T") (lexemes_of minus_tokens)) cast_tree (lexemes_of (semicolon 7)) }
-    ensures subtraction { (d : Dialect) → Reads d n.comma (lexemes_of minus_tokens) subtraction_tree (lexemes_of (semicolon 7)) }
+    ensures cast { (d : Dialect)
+        → Reads d n.comma (retag (codes "T") (lexemes_of minus_tokens)) cast_tree
+        (lexemes_of (semicolon 7)) }
+    ensures subtraction { (d : Dialect)
+        → Reads d n.comma (lexemes_of minus_tokens) subtraction_tree (lexemes_of (semicolon 7)) }
 {}
 
 /// In `if (a) if (b) ; else ;` the `else` is of the inner `if`.
@@ -67,7 +88,8 @@ pub fn parentheses_stay_around_an_assignment()
     ensures { (d : Dialect) → ReadsStatement d (lexemes_of assignment_tokens) assignment_tree [] }
 {}
 
-/// `int a = 5;` is a text of height 2: the initializer, and the expression in it. It has five tokens.
+/// `int a = 5;` is a text of height 2: the initializer, and the expression in it. It has five
+/// tokens.
 #[tactic(auto, using(crate::proofs::Samples::value))]
 pub fn initializer_counts_one()
     ensures tree { (d : Dialect) → IsTree d value_tokens value_tree }
@@ -82,7 +104,8 @@ pub fn void_by_another_name_is_a_parameter()
     ensures word { (d : Dialect) → IsTree d void_tokens void_tree }
 {}
 
-/// `int f(void) { return 0; }` has height 3: its body is a block, with a `return` and a constant in it.
+/// `int f(void) { return 0; }` has height 3: its body is a block, with a `return` and a constant in
+/// it.
 #[tactic(auto, using(crate::proofs::Samples::body))]
 pub fn body_counts_one()
     ensures tree { (d : Dialect) → IsTree d body_tokens body_tree }
@@ -95,8 +118,9 @@ pub fn typedef_name_may_be_a_tag()
     ensures { (d : Dialect) → IsTree d tag_tokens tag_tree }
 {}
 
-/// The lists of an enumeration and of an initializer may end with a comma: `enum { A, B = 2, };` and `int a[2] = {1, 2,};`.
-/// It leaves no trace: the first text has ten tokens, and its tree stands for nine.
+/// The lists of an enumeration and of an initializer may end with a comma: `enum { A, B = 2, };`
+/// and `int a[2] = {1, 2,};`. It leaves no trace: the first text has ten tokens, and its tree
+/// stands for nine.
 #[tactic(auto, using(crate::proofs::Samples::enumeration, crate::proofs::Samples::braced))]
 pub fn list_may_end_with_comma()
     ensures enumeration { (d : Dialect) → IsTree d enumeration_tokens enumeration_tree }
@@ -104,49 +128,66 @@ pub fn list_may_end_with_comma()
     ensures initializer { (d : Dialect) → IsTree d braced_tokens braced_tree }
 {}
 
-/// `(f)(x)` is no call: of it an expression takes `(f)`, and as a statement it is not read.
+/// `(f)(x)` is not a call: of it an expression takes `(f)`, and as a statement it is not read.
 #[tactic(auto, using(crate::proofs::Refused::parentheses_leave, crate::proofs::Refused::parentheses_no_statement))]
 pub fn parentheses_are_not_called()
-    ensures rest { (d : Dialect) (a : Expression) (rest : List Lexeme) → Reads d n.comma (lexemes_of parentheses_tokens) a rest → (rest ≡ lexemes_of after_parentheses) × (a ≡ parentheses_tree) }
-    ensures statement { (d : Dialect) (one : Statement) (rest : List Lexeme) → ReadsStatement d (lexemes_of parentheses_tokens) one rest → ⊥ }
+    ensures rest { (d : Dialect) (a : Expression) (rest : List Lexeme)
+        → Reads d n.comma (lexemes_of parentheses_tokens) a rest
+        → (rest ≡ lexemes_of after_parentheses) × (a ≡ parentheses_tree) }
+    ensures statement { (d : Dialect) (one : Statement) (rest : List Lexeme)
+        → ReadsStatement d (lexemes_of parentheses_tokens) one rest → ⊥ }
 {}
 
-/// `a[0](x)` is no call: of it an expression takes `a[0]`, and as a statement it is not read.
+/// `a[0](x)` is not a call: of it an expression takes `a[0]`, and as a statement it is not read.
 #[tactic(auto, using(crate::proofs::Refused::element_leaves, crate::proofs::Refused::element_no_statement))]
 pub fn element_is_not_called()
-    ensures rest { (d : Dialect) (a : Expression) (rest : List Lexeme) → Reads d n.comma (lexemes_of element_tokens) a rest → (rest ≡ lexemes_of after_element) × (a ≡ element_tree) }
-    ensures statement { (d : Dialect) (one : Statement) (rest : List Lexeme) → ReadsStatement d (lexemes_of element_tokens) one rest → ⊥ }
+    ensures rest { (d : Dialect) (a : Expression) (rest : List Lexeme)
+        → Reads d n.comma (lexemes_of element_tokens) a rest
+        → (rest ≡ lexemes_of after_element) × (a ≡ element_tree) }
+    ensures statement { (d : Dialect) (one : Statement) (rest : List Lexeme)
+        → ReadsStatement d (lexemes_of element_tokens) one rest → ⊥ }
 {}
 
-/// A length is no assignment: `int a[b=1];` has no tree, since of `b=1` a length takes `b`.
+/// A length is not an assignment: `int a[b=1];` has no tree, since of `b=1` a length takes `b`.
 #[tactic(auto, using(crate::proofs::Refused::length_leaves, crate::proofs::Refused::length_no_tree))]
-pub fn length_is_no_assignment()
-    ensures rest { (d : Dialect) (a : Expression) (rest : List Lexeme) → Reads d n.cond (lexemes_of after_bracket) a rest → (rest ≡ lexemes_of after_name) × (a ≡ t.Named (name (codes "b") 6 7)) }
+pub fn length_is_not_an_assignment()
+    ensures rest { (d : Dialect) (a : Expression) (rest : List Lexeme)
+        → Reads d n.cond (lexemes_of after_bracket) a rest
+        → (rest ≡ lexemes_of after_name) × (a ≡ t.Named (name (codes "b") 6 7)) }
     ensures tree { (d : Dialect) (unit : List Item) → IsTree d length_tokens unit → ⊥ }
 {}
 
-/// A `;` alone is no item, whatever follows it.
+/// A `;` alone is not an item, whatever follows it.
 #[tactic(auto, using(crate::proofs::Refused::semicolon_no_item))]
-pub fn semicolon_alone_is_no_item()
-    ensures { (d : Dialect) (start : ℕ) (ts : List Lexeme) (one : Item) (rest : List Lexeme) → ReadsItem d (punctuator (codes ";") start ∷ ts) one rest → ⊥ }
+pub fn semicolon_alone_is_not_an_item()
+    ensures { (d : Dialect) (start : ℕ) (ts : List Lexeme) (one : Item) (rest : List Lexeme)
+        → ReadsItem d (punctuator (codes ";") start ∷ ts) one rest → ⊥ }
 {}
 
 /// No parameter list begins with a name without a type, as in `int f(a)`.
 #[tactic(auto, using(crate::proofs::Refused::names_no_parameters))]
 pub fn parameter_list_begins_with_a_type()
-    ensures { (d : Dialect) (text : List ℕ) (place start : ℕ) (ts : List Lexeme) (all : Parameters) (rest : List Lexeme) → ReadsParameters d (punctuator (codes "(") place ∷ identifier text start ∷ ts) all rest → ⊥ }
+    ensures { (d : Dialect) (text : List ℕ) (place start : ℕ) (ts rest : List Lexeme)
+        (all : Parameters)
+        → ReadsParameters d (punctuator (codes "(") place ∷ identifier text start ∷ ts) all rest
+        → ⊥ }
 {}
 
 /// No parenthesis stands at the start of a declarator or after its `*`.
 #[tactic(auto, using(crate::proofs::Refused::parenthesis_no_declarator))]
 pub fn declarator_has_no_parentheses()
-    ensures { (d : Dialect) (k place : ℕ) (ts us : List Lexeme) (one : Declarator) (rest : List Lexeme) → ReadsStars ts k (punctuator (codes "(") place ∷ us) → ReadsDeclarator d ts one rest → ⊥ }
+    ensures { (d : Dialect) (k place : ℕ) (before end : Span) (ts us rest : List Lexeme)
+        (one : Declarator)
+        → ReadsStars before ts k end (punctuator (codes "(") place ∷ us)
+        → ReadsDeclarator d ts one rest → ⊥ }
 {}
 
-/// `{}` is no initializer, whatever follows it.
+/// `{}` is not an initializer, whatever follows it.
 #[tactic(auto, using(crate::proofs::Refused::braces_no_initializer))]
-pub fn empty_braces_are_no_initializer()
-    ensures { (d : Dialect) (start end : ℕ) (ts : List Lexeme) (one : Initializer) (rest : List Lexeme) → ReadsInitializer d (punctuator (codes "{") start ∷ punctuator (codes "}") end ∷ ts) one rest → ⊥ }
+pub fn empty_braces_are_not_an_initializer()
+    ensures { (d : Dialect) (start end : ℕ) (ts rest : List Lexeme) (one : Initializer)
+        → ReadsInitializer d
+        (punctuator (codes "{") start ∷ punctuator (codes "}") end ∷ ts) one rest → ⊥ }
 {}
 
 /// A text without tokens has the tree without items.
@@ -155,11 +196,15 @@ pub fn no_tokens_have_a_tree()
     ensures { (d : Dialect) → IsTree d [] [] }
 {}
 
-/// Structures inside one another have a tree, and each of their trees is as high as they are deep: 200 are within
-/// a limit of 200, and 201 are not. A length in the innermost takes one level more.
+/// Structures inside one another have a tree, and each of their trees is as high as they are deep:
+/// 200 are within a limit of 200, and 201 are not. A length in the innermost takes one level more.
 #[tactic(auto, using(crate::proofs::Nested::as_high, crate::proofs::Nested::within, crate::proofs::Nested::too_high))]
 pub fn structures_count_one_each()
-    ensures high { (d : Dialect) (sized : Bool) (k : ℕ) (unit : List Item) → IsTree d (nested_tokens sized k) unit → height_unit unit ≡ nested_height sized k }
-    ensures read { (d : Dialect) (sized : Bool) (k limit : ℕ) → nested_height sized k ≤ limit → (unit : List Item) × IsTreeWithin limit d (nested_tokens sized k) unit }
-    ensures unread { (d : Dialect) (sized : Bool) (k limit : ℕ) (unit : List Item) → limit < nested_height sized k → IsTreeWithin limit d (nested_tokens sized k) unit → ⊥ }
+    ensures high { (d : Dialect) (sized : Bool) (k : ℕ) (unit : List Item)
+        → IsTree d (nested_tokens sized k) unit → height_unit unit ≡ nested_height sized k }
+    ensures read { (d : Dialect) (sized : Bool) (k limit : ℕ)
+        → nested_height sized k ≤ limit → (unit : List Item)
+        × IsTreeWithin limit d (nested_tokens sized k) unit }
+    ensures unread { (d : Dialect) (sized : Bool) (k limit : ℕ) (unit : List Item)
+        → limit < nested_height sized k → IsTreeWithin limit d (nested_tokens sized k) unit → ⊥ }
 {}

@@ -9,21 +9,22 @@ use Rattle.mc_lex.specs.declared.token.Token.{Token}
 use Rattle.mc_lex.specs.declared.token.TokenKind.{TokenKind}
 use Rattle.mc_lex.specs.declared.fault.LexFault.{LexFault}
 use Rattle.mc_lex.specs.declared.fault.LexFault.TheVariants as fault
+use Rattle.mc_lex.specs.Faults.{fault_place}
 use Rattle.mc_lex.specs.Tokens.{Tok, tok_of, toks_of}
 use Rattle.mc_lex.specs.Scans.{Scans}
 use Rattle.mc_lex.specs.Scans as r
-use Rattle.mc_lex.specs.Given.{Gives, GivesFault, IsSlice}
-use Rattle.mc_lex.specs.Reading.{scan}
-use Rattle.mc_lex.proofs.Texts.{front_of, rest_of}
-use Rattle.mc_lex.proofs.Elements.{stood, stands_full}
-use Rattle.mc_lex.proofs.Scanning.{scan_sound, scan_complete}
+use Rattle.mc_lex.specs.Returned.{Gives, GivesFault, IsSlice}
+use Rattle.mc_lex.specs.steps.Scanner.{scan}
+use Rattle.mc_lex.proofs.Texts.{first_part, rest_of}
+use Rattle.mc_lex.proofs.Candidates.{stood, stands_full}
+use Rattle.mc_lex.proofs.Scanning.{scan_sound, scan_complete, faults_are_inside}
 
 -- ---- each token is the part of the source at its start
 
 slice_here : (source before text after : List ℕ) (kind : TokenKind) → source ≡ before ++ (text ++ after) → IsSlice source (record { kind = kind; text = text; start = length before })
 slice_here source before text after kind w =
     let rest : drop (length before) source ≡ text ++ after = ap (drop (length before)) w ∙ rest_of before (text ++ after) in
-    (sym (ap (take (length text)) rest ∙ front_of text after), omega (arith, ap length w, length-append before (text ++ after), length-append text after))
+    (sym (ap (take (length text)) rest ∙ first_part text after), omega (arith, ap length w, length-append before (text ++ after), length-append text after))
 
 moved : (source before text after bs : List ℕ) → source ≡ before ++ bs → bs ≡ text ++ after → source ≡ (before ++ text) ++ after
 moved source before text after bs w e = w ∙ ap (λ l. before ++ l) e ∙ sym (append_assoc before text after)
@@ -71,6 +72,10 @@ module _ (dialect : Dialect) (source : List ℕ) where
       let all = scan dialect (length source + 1) [] source in
       let stops : all.1 ≡ Some e = told all e no_memory (subst (Gives all) is gives) in
       (all.0, subst (λ s. Scans dialect [] source all.0 s) stops scanned)
+
+  pub is_inside : (result : Result (Vec Token Global) LexFault) → Gives (scan dialect (length source + 1) [] source) result → (e : LexFault) (at : ℕ) → result ≡ Err e → fault_place e ≡ Some at → at < length source
+  is_inside result gives e at is place =
+      let stop = is_fault result gives e is (λ m. cc (sym place ∙ ap fault_place m)) in faults_are_inside dialect source stop.0 e at stop.1 place
 
   pub are_slices : (result : Result (Vec Token Global) LexFault) → Gives (scan dialect (length source + 1) [] source) result → IfOk result (λ v. All (IsSlice source) (toks_of v.items))
   are_slices (Ok v) gives = slices source (is_found (Ok v) gives) refl

@@ -1,4 +1,4 @@
--- The character constant at the front.
+-- The character constant at the start.
 use Rattle.std.proofs.Common.{◌≡◌, ℕ, ◌+◌, ◌≤◌, Bool, true, false, ◌&&◌, cond, nat_le, nat_eq, List, [], ◌∷◌, ◌++◌, length, take, drop, Option, Some, None, refl, ap, subst, sym, ◌∙◌, arith, append_assoc, length-append, take-append-drop}
 use Rattle.std.proofs.lemmas.List.Folds.{length-prefix_len}
 use Rattle.std.proofs.lemmas.Bool.{leb-true}
@@ -8,8 +8,8 @@ use Rattle.std.specs.Str.Parse.{digits_value}
 use Rattle.mc_lex.specs.declared.character.Quoted.{Quoted}
 use Rattle.mc_lex.specs.Bytes.{is_octal, is_hexadecimal}
 use Rattle.mc_lex.specs.Characters.{is_plain, simple_escape, Inside, plain, simple, octal, hexadecimal, IsCharacter}
-use Rattle.mc_lex.specs.Reading.{starts_with_byte, by_digits, by_simple, escape_at, plain_at, quoted_at, character_at}
-use Rattle.mc_lex.proofs.Texts.{both, same_byte, front_of, rest_of, run_all, run_exact, run_within}
+use Rattle.mc_lex.specs.steps.Scanner.{starts_with_byte, by_digits, by_simple, escape_at, plain_at, quoted_at, character_at}
+use Rattle.mc_lex.proofs.Texts.{both, same_byte, first_part, rest_of, run_all, run_exact, run_within}
 
 abbrev pub quoted : ℕ → ℕ → Quoted
 quoted n b = record { length = n; byte = b }
@@ -57,11 +57,11 @@ all_four : (a b c d : Bool) → a ≡ true → b ≡ true → c ≡ true → d �
 all_four a b c d e f g h = rw (e, f, g, h) refl
 
 -- digits up to a `'`
-digits_found : (p : ℕ → Bool) (base behind most : ℕ) (ds after : List ℕ) → p 39 ≡ false → list_all p ds ≡ true → nat_le 1 (length ds) ≡ true → nat_le (length ds) most ≡ true → nat_le (digits_value base ds) 255 ≡ true
-    → by_digits base behind most (prefix_len p (ds ++ (39 ∷ after))) (ds ++ (39 ∷ after)) ≡ Some (quoted (behind + length ds + 1) (digits_value base ds))
-digits_found p base behind most ds after q all some few small =
+digits_found : (p : ℕ → Bool) (base start most : ℕ) (ds after : List ℕ) → p 39 ≡ false → list_all p ds ≡ true → nat_le 1 (length ds) ≡ true → nat_le (length ds) most ≡ true → nat_le (digits_value base ds) 255 ≡ true
+    → by_digits base start most (prefix_len p (ds ++ (39 ∷ after))) (ds ++ (39 ∷ after)) ≡ Some (quoted (start + length ds + 1) (digits_value base ds))
+digits_found p base start most ds after q all some few small =
     let n = run_exact p ds (39 ∷ after) all (rw q refl) in
-    rw n (rw (front_of ds (39 ∷ after), rest_of ds (39 ∷ after)) (yes (nat_le 1 (length ds) && nat_le (length ds) most && true && nat_le (digits_value base ds) 255) _ _ (all_four _ _ _ _ some few refl small)))
+    rw n (rw (first_part ds (39 ∷ after), rest_of ds (39 ∷ after)) (yes (nat_le 1 (length ds) && nat_le (length ds) most && true && nat_le (digits_value base ds) 255) _ _ (all_four _ _ _ _ some few refl small)))
 
 plain_found : (b : ℕ) (after : List ℕ) → is_plain b ≡ true → quoted_at (b ∷ 39 ∷ after) ≡ Some (quoted 3 b)
 plain_found b after h = no (nat_eq b 92) _ _ (plain_facts b h) ∙ yes (is_plain b && true) _ _ (rw h refl)
@@ -108,7 +108,7 @@ pub record Found (bs : List ℕ) (q : Quoted) : Type 0 where
   pub size : length text ≡ q.length
   pub constant : IsCharacter text q.byte
 
--- what stands behind `'` and before the next bytes
+-- what stands after `'` and before the next bytes
 abbrev Opened : List ℕ → Quoted → Type 0
 Opened bs q = (inside after : List ℕ) × (bs ≡ inside ++ (39 ∷ after)) × (length inside + 2 ≡ q.length) × Inside inside q.byte
 
@@ -128,9 +128,9 @@ chosen : (t : Bool) (x q : Quoted) → cond t (Some x) None ≡ Some q → (t �
 chosen true x q e = (refl, cc)
 chosen false x q e = absurd (cc)
 
-digits_opened : (base behind most n : ℕ) (digits : List ℕ) (q : Quoted) → n ≤ length digits → by_digits base behind most n digits ≡ Some q
-    → (nat_le 1 n ≡ true) × (nat_le n most ≡ true) × (digits ≡ take n digits ++ (39 ∷ drop 1 (drop n digits))) × (digits_value base (take n digits) ≤ 255) × (quoted (behind + n + 1) (digits_value base (take n digits)) ≡ q)
-digits_opened base behind most n digits q within e =
+digits_opened : (base start most n : ℕ) (digits : List ℕ) (q : Quoted) → n ≤ length digits → by_digits base start most n digits ≡ Some q
+    → (nat_le 1 n ≡ true) × (nat_le n most ≡ true) × (digits ≡ take n digits ++ (39 ∷ drop 1 (drop n digits))) × (digits_value base (take n digits) ≤ 255) × (quoted (start + n + 1) (digits_value base (take n digits)) ≡ q)
+digits_opened base start most n digits q within e =
     let parts = chosen _ _ q e in
     let tests = four (nat_le 1 n) (nat_le n most) (starts_with_byte 39 (drop n digits)) (nat_le (digits_value base (take n digits)) 255) parts.0 in
     (tests.0, tests.1, sym (take-append-drop n digits) ∙ ap (λ l. take n digits ++ l) (begins_byte 39 (drop n digits) tests.2), leb-true _ _ tests.3, parts.1)

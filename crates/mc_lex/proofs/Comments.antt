@@ -1,7 +1,7 @@
 -- Comments.
 use Rattle.std.proofs.Common.{◌≡◌, ℕ, suc, ◌+◌, ◌≤◌, Bool, true, false, ◌&&◌, cond, nat_eq, List, [], ◌∷◌, ◌++◌, length, Option, Some, None, refl, ap, subst, sym, ◌∙◌, arith}
 use Rattle.mc_lex.specs.Gaps.{ClosesComment}
-use Rattle.mc_lex.specs.Reading.{close_from, close_len}
+use Rattle.mc_lex.specs.steps.Scanner.{close_from, close_len}
 use Rattle.mc_lex.proofs.Texts.{both, not_both, same_byte}
 
 -- what closes is found

@@ -6,20 +6,20 @@ use Rattle.std.specs.Prelude.{take_while}
 use Rattle.std.specs.List.{list_all}
 use Rattle.mc_lex.specs.declared.token.Dialect.{Dialect}
 use Rattle.mc_lex.specs.declared.token.TokenKind.{TokenKind}
-use Rattle.mc_lex.specs.declared.flaw.Flaw.{Flaw}
-use Rattle.mc_lex.specs.declared.flaw.Flaw.TheVariants as flaw
+use Rattle.mc_lex.specs.declared.fault_kind.FaultKind.{FaultKind}
+use Rattle.mc_lex.specs.declared.fault_kind.FaultKind.TheVariants as fault_kind
 use Rattle.mc_lex.specs.declared.fault.LexFault.{LexFault}
-use Rattle.mc_lex.specs.declared.front.Front.{Front}
-use Rattle.mc_lex.specs.declared.front.Front.TheVariants as f
-use Rattle.mc_lex.specs.Bytes.{is_line_end, goes_on, is_blank}
+use Rattle.mc_lex.specs.declared.next.Next.{Next}
+use Rattle.mc_lex.specs.declared.next.Next.TheVariants as next
+use Rattle.mc_lex.specs.Bytes.{is_line_end, goes_on, is_white_space}
 use Rattle.mc_lex.specs.Lines.{is_first_on_line}
 use Rattle.mc_lex.specs.Scans.{fault_at}
 use Rattle.mc_lex.specs.Tokens.{Tok}
-use Rattle.mc_lex.specs.Given.{GivesFault}
-use Rattle.mc_lex.specs.Reading.{front, go_on, scan, still_first}
+use Rattle.mc_lex.specs.Returned.{GivesFault}
+use Rattle.mc_lex.specs.steps.Scanner.{next_at, go_on, scan, still_first}
 
-abbrev pub with_front : List Tok → List Tok × Option LexFault → List Tok × Option LexFault
-with_front ts found = (ts ++ found.0, found.1)
+abbrev pub with_tokens : List Tok → List Tok × Option LexFault → List Tok × Option LexFault
+with_tokens ts found = (ts ++ found.0, found.1)
 
 -- ---- the place
 
@@ -37,13 +37,13 @@ drop_more (suc a) m (x ∷ xs) = let e : suc a + m ≡ suc (a + m) = omega arith
 
 -- ---- the first bytes of a line
 
-one_more : (before : List ℕ) (b : ℕ) → is_first_on_line (before ++ (b ∷ [])) ≡ (is_line_end b || (is_blank b && is_first_on_line before))
+one_more : (before : List ℕ) (b : ℕ) → is_first_on_line (before ++ (b ∷ [])) ≡ (is_line_end b || (is_white_space b && is_first_on_line before))
 one_more before b =
-    ap (λ l. list_all is_blank (take_while goes_on l)) (reverse-append before (b ∷ []))
-    ∙ ap (list_all is_blank) (take_while-cons goes_on b (reverse before))
+    ap (λ l. list_all is_white_space (take_while goes_on l)) (reverse-append before (b ∷ []))
+    ∙ ap (list_all is_white_space) (take_while-cons goes_on b (reverse before))
     ∙ by_end (is_line_end b)
   where
-    by_end : (t : Bool) → list_all is_blank (cond (not t) (b ∷ take_while goes_on (reverse before)) []) ≡ (t || (is_blank b && is_first_on_line before))
+    by_end : (t : Bool) → list_all is_white_space (cond (not t) (b ∷ take_while goes_on (reverse before)) []) ≡ (t || (is_white_space b && is_first_on_line before))
     by_end true = refl
     by_end false = refl
 
@@ -63,33 +63,33 @@ unfolding scan
 nothing_left dialect zero before bs h = refl
 nothing_left dialect (suc fuel) before bs h = rw (empty bs h) refl
 
-turn : (dialect : Dialect) (fuel : ℕ) (before bs : List ℕ) → 0 < length bs → scan dialect (suc fuel) before bs ≡ go_on (front dialect (is_first_on_line before) bs) before bs (scan dialect fuel)
+turn : (dialect : Dialect) (fuel : ℕ) (before bs : List ℕ) → 0 < length bs → scan dialect (suc fuel) before bs ≡ go_on (next_at dialect (is_first_on_line before) bs) before bs (scan dialect fuel)
 unfolding scan
 turn dialect fuel before [] h = absurd (omega arith)
 turn dialect fuel before (b ∷ bs) h = refl
 
-pub scan_turn : (dialect : Dialect) (n k : ℕ) (before bs : List ℕ) → k < n → 0 < length bs → scan dialect (n - k) before bs ≡ go_on (front dialect (is_first_on_line before) bs) before bs (scan dialect (n - (k + 1)))
+pub scan_turn : (dialect : Dialect) (n k : ℕ) (before bs : List ℕ) → k < n → 0 < length bs → scan dialect (n - k) before bs ≡ go_on (next_at dialect (is_first_on_line before) bs) before bs (scan dialect (n - (k + 1)))
 scan_turn dialect n k before bs h some = let e : n - k ≡ suc (n - (k + 1)) = omega arith in rw e (turn dialect (n - (k + 1)) before bs some)
 
 pub scan_none : (dialect : Dialect) (n k : ℕ) (before bs : List ℕ) → n ≤ k → scan dialect (n - k) before bs ≡ ([], None)
 unfolding scan
 scan_none dialect n k before bs h = let e : n - k ≡ 0 = omega arith in rw e refl
 
-pub front_ends : (ts : List Tok) → with_front ts ([], None) ≡ (ts, None)
-front_ends ts = ap (λ (l : List Tok). (l, None)) (append-nil ts)
+pub tokens_end : (ts : List Tok) → with_tokens ts ([], None) ≡ (ts, None)
+tokens_end ts = ap (λ (l : List Tok). (l, None)) (append-nil ts)
 
 -- how far the loop has come
 pub record Turned (dialect : Dialect) (whole : List Tok × Option LexFault) (ts : List Tok) (source bs : List ℕ) (n k at : ℕ) (first : Bool) : Type 0 where
-  pub same : whole ≡ with_front ts (scan dialect (n - k) (take at source) bs)
+  pub same : whole ≡ with_tokens ts (scan dialect (n - k) (take at source) bs)
   pub within : at + length bs ≡ length source
   pub rest : bs ≡ drop at source
   pub is_first : first ≡ is_first_on_line (take at source)
 
 -- a turn of the loop at a place of the source
 module _ (dialect : Dialect) (whole : List Tok × Option LexFault) (ts : List Tok) (source bs : List ℕ) (n k at : ℕ) (first : Bool)
-    (so_far : whole ≡ with_front ts (scan dialect (n - k) (take at source) bs)) (rest : bs ≡ drop at source) (is_first : first ≡ is_first_on_line (take at source)) (h : k < n) (some : 0 < length bs) where
-  turned : (fr : Front) → front dialect first bs ≡ fr → whole ≡ with_front ts (go_on fr (take at source) bs (scan dialect (n - (k + 1))))
-  turned fr e = so_far ∙ ap (with_front ts) (scan_turn dialect n k (take at source) bs h some ∙ ap (λ x. go_on x (take at source) bs (scan dialect (n - (k + 1)))) (ap (λ t. front dialect t bs) (sym is_first) ∙ e))
+    (so_far : whole ≡ with_tokens ts (scan dialect (n - k) (take at source) bs)) (rest : bs ≡ drop at source) (is_first : first ≡ is_first_on_line (take at source)) (h : k < n) (some : 0 < length bs) where
+  turned : (fr : Next) → next_at dialect first bs ≡ fr → whole ≡ with_tokens ts (go_on fr (take at source) bs (scan dialect (n - (k + 1))))
+  turned fr e = so_far ∙ ap (with_tokens ts) (scan_turn dialect n k (take at source) bs h some ∙ ap (λ x. go_on x (take at source) bs (scan dialect (n - (k + 1)))) (ap (λ t. next_at dialect t bs) (sym is_first) ∙ e))
 
   before_more : (m : ℕ) → take at source ++ take m bs ≡ take (at + m) source
   before_more m = ap (λ l. take at source ++ take m l) rest ∙ sym (take_more at m source)
@@ -100,29 +100,29 @@ module _ (dialect : Dialect) (whole : List Tok × Option LexFault) (ts : List To
   pub first_after : (m : ℕ) → still_first first (take m bs) ≡ is_first_on_line (take (at + m) source)
   first_after m = ap (λ t. still_first t (take m bs)) is_first ∙ sym (first_more (take at source) (take m bs)) ∙ ap is_first_on_line (before_more m)
 
-  pub is_stuck : (why : Flaw) → at ≤ length source → front dialect first bs ≡ f.Refused why → whole.1 ≡ Some (fault_at why at)
+  pub is_stuck : (why : FaultKind) → at ≤ length source → next_at dialect first bs ≡ next.Refused why → whole.1 ≡ Some (fault_at why at)
   is_stuck why le e =
       let size : length (take at source) ≡ at = omega (arith, length-take at source) in
-      ap (λ (w : List Tok × Option LexFault). w.1) (turned (f.Refused why) e) ∙ ap (λ k. Some (fault_at why k)) size
+      ap (λ (w : List Tok × Option LexFault). w.1) (turned (next.Refused why) e) ∙ ap (λ k. Some (fault_at why k)) size
 
-  pub after_gap : (m : ℕ) → front dialect first bs ≡ f.Gap m → whole ≡ with_front ts (scan dialect (n - (k + 1)) (take (at + m) source) (drop m bs))
-  after_gap m e = turned (f.Gap m) e ∙ ap (λ b. with_front ts (scan dialect (n - (k + 1)) b (drop m bs))) (before_more m)
+  pub after_gap : (m : ℕ) → next_at dialect first bs ≡ next.Gap m → whole ≡ with_tokens ts (scan dialect (n - (k + 1)) (take (at + m) source) (drop m bs))
+  after_gap m e = turned (next.Gap m) e ∙ ap (λ b. with_tokens ts (scan dialect (n - (k + 1)) b (drop m bs))) (before_more m)
 
-  pub after_token : (kind : TokenKind) (m : ℕ) → at ≤ length source → front dialect first bs ≡ f.Token kind m
-      → whole ≡ with_front (ts ++ (record { kind = kind; text = take m bs; start = at } ∷ [])) (scan dialect (n - (k + 1)) (take (at + m) source) (drop m bs))
+  pub after_token : (kind : TokenKind) (m : ℕ) → at ≤ length source → next_at dialect first bs ≡ next.Token kind m
+      → whole ≡ with_tokens (ts ++ (record { kind = kind; text = take m bs; start = at } ∷ [])) (scan dialect (n - (k + 1)) (take (at + m) source) (drop m bs))
   after_token kind m le e =
       let size : length (take at source) ≡ at = omega (arith, length-take at source) in
       let later = scan dialect (n - (k + 1)) in
-      turned (f.Token kind m) e
+      turned (next.Token kind m) e
       ∙ ap (λ b. let found = later b (drop m bs) in (ts ++ (record { kind = kind; text = take m bs; start = length (take at source) } ∷ found.0), found.1)) (before_more m)
       ∙ ap (λ s. let found = later (take (at + m) source) (drop m bs) in (ts ++ (record { kind = kind; text = take m bs; start = s } ∷ found.0), found.1)) size
       ∙ ap (λ (l : List Tok). (l, (later (take (at + m) source) (drop m bs)).1)) (sym (append_assoc ts (record { kind = kind; text = take m bs; start = at } ∷ []) (later (take (at + m) source) (drop m bs)).0))
 
 module _ (dialect : Dialect) (whole : List Tok × Option LexFault) (ts : List Tok) (source bs : List ℕ) (n k at : ℕ) (first : Bool) (t : Turned dialect whole ts source bs n k at first) (h : k < n) (some : 0 < length bs) where
-  pub stuck_here : (why : Flaw) (place : ℕ) → place ≡ at → front dialect first bs ≡ f.Refused why → whole.1 ≡ Some (fault_at why place)
+  pub stuck_here : (why : FaultKind) (place : ℕ) → place ≡ at → next_at dialect first bs ≡ next.Refused why → whole.1 ≡ Some (fault_at why place)
   stuck_here why place same e = is_stuck dialect whole ts source bs n k at first t.same t.rest t.is_first h some why (omega (arith, t.within)) e ∙ ap (λ p. Some (fault_at why p)) (sym same)
 
-  pub gap_turned : (m : ℕ) → m ≤ length bs → front dialect first bs ≡ f.Gap m → (ts' : List Tok) (bs' : List ℕ) (at' : ℕ) (first' : Bool) → ts' ≡ ts → bs' ≡ drop m bs → at' ≡ at + m → first' ≡ still_first first (take m bs)
+  pub gap_turned : (m : ℕ) → m ≤ length bs → next_at dialect first bs ≡ next.Gap m → (ts' : List Tok) (bs' : List ℕ) (at' : ℕ) (first' : Bool) → ts' ≡ ts → bs' ≡ drop m bs → at' ≡ at + m → first' ≡ still_first first (take m bs)
       → Turned dialect whole ts' source bs' n (k + 1) at' first'
   gap_turned m le e ts' bs' at' first' et eb ea ef =
       let base : Turned dialect whole ts source (drop m bs) n (k + 1) (at + m) (still_first first (take m bs)) = record {
@@ -136,7 +136,7 @@ module _ (dialect : Dialect) (whole : List Tok × Option LexFault) (ts : List To
       (subst (λ x. Turned dialect whole ts source (drop m bs) n (k + 1) x first') (sym ea)
       (subst (λ x. Turned dialect whole ts source (drop m bs) n (k + 1) (at + m) x) (sym ef) base)))
 
-  pub token_turned : (kind : TokenKind) (m : ℕ) → m ≤ length bs → front dialect first bs ≡ f.Token kind m → (ts' : List Tok) (bs' : List ℕ) (at' : ℕ) (first' : Bool)
+  pub token_turned : (kind : TokenKind) (m : ℕ) → m ≤ length bs → next_at dialect first bs ≡ next.Token kind m → (ts' : List Tok) (bs' : List ℕ) (at' : ℕ) (first' : Bool)
       → ts' ≡ ts ++ (record { kind = kind; text = take m bs; start = at } ∷ []) → bs' ≡ drop m bs → at' ≡ at + m → first' ≡ still_first first (take m bs) → Turned dialect whole ts' source bs' n (k + 1) at' first'
   token_turned kind m le e ts' bs' at' first' et eb ea ef =
       let base : Turned dialect whole (ts ++ (record { kind = kind; text = take m bs; start = at } ∷ [])) source (drop m bs) n (k + 1) (at + m) (still_first first (take m bs)) = record {
@@ -150,14 +150,14 @@ module _ (dialect : Dialect) (whole : List Tok × Option LexFault) (ts : List To
       (subst (λ x. Turned dialect whole (ts ++ (record { kind = kind; text = take m bs; start = at } ∷ [])) source (drop m bs) n (k + 1) x first') (sym ea)
       (subst (λ x. Turned dialect whole (ts ++ (record { kind = kind; text = take m bs; start = at } ∷ [])) source (drop m bs) n (k + 1) (at + m) x) (sym ef) base)))
 
-pub gives_stuck : (whole : List Tok × Option LexFault) (why : Flaw) (at : ℕ) (e : LexFault) → e ≡ fault_at why at → whole.1 ≡ Some (fault_at why at) → GivesFault whole e
+pub gives_stuck : (whole : List Tok × Option LexFault) (why : FaultKind) (at : ℕ) (e : LexFault) → e ≡ fault_at why at → whole.1 ≡ Some (fault_at why at) → GivesFault whole e
 gives_stuck whole why at e is told = subst (λ x. GivesFault whole x) (sym is) (by_why why told)
   where
-    by_why : (why : Flaw) → whole.1 ≡ Some (fault_at why at) → GivesFault whole (fault_at why at)
-    by_why flaw.Byte h = h
-    by_why flaw.Token h = h
-    by_why flaw.Directive h = h
-    by_why flaw.OutsideWord h = h
-    by_why flaw.Limit h = h
+    by_why : (why : FaultKind) → whole.1 ≡ Some (fault_at why at) → GivesFault whole (fault_at why at)
+    by_why fault_kind.Byte h = h
+    by_why fault_kind.Token h = h
+    by_why fault_kind.Directive h = h
+    by_why fault_kind.OutsideWord h = h
+    by_why fault_kind.Limit h = h
 
-pub ruleset scan_steps = (nothing_left, scan_turn, scan_none, front_ends, map_push, append_assoc)
+pub ruleset scan_steps = (nothing_left, scan_turn, scan_none, tokens_end, map_push, append_assoc)

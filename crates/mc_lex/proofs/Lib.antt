@@ -5,8 +5,8 @@ pub mod Characters
 pub mod Numbers
 pub mod Comments
 pub mod Markers
-pub mod Elements
-pub mod Fronts
+pub mod Candidates
+pub mod NextPiece
 pub mod Scanning
 pub mod Lexing
 pub mod Calls

@@ -8,12 +8,12 @@ use Rattle.mc_lex.specs.declared.base.Base.TheVariants.{Decimal, Octal, Hexadeci
 use Rattle.mc_lex.specs.declared.suffix.Suffix.{Suffix}
 use Rattle.mc_lex.specs.declared.suffix.Suffix.TheVariants as suffix
 use Rattle.mc_lex.specs.declared.token.TokenKind.{TokenKind}
-use Rattle.mc_lex.specs.declared.flaw.Flaw.{Flaw}
+use Rattle.mc_lex.specs.declared.fault_kind.FaultKind.{FaultKind}
 use Rattle.mc_lex.specs.Bytes.{is_digit, is_octal, is_hexadecimal}
 use Rattle.mc_lex.specs.Words.{one_of}
-use Rattle.mc_lex.specs.Numbers.{is_digits, value_of, suffix_texts, IsInteger, has_hexadecimal_prefix, flaw_of_number, constant, NumberMeans, integer, no_integer}
-use Rattle.mc_lex.specs.Reading.{starts_with_byte, base_of, suffix_of, digits_len, radix, body_of, integer_kind, number_of_base, number_kind}
-use Rattle.mc_lex.proofs.Texts.{both, same_byte, front_of, rest_of, run_all, run_exact, ends_run, passes}
+use Rattle.mc_lex.specs.Numbers.{is_digits, value_of, suffix_texts, IsInteger, has_hexadecimal_prefix, fault_of_number, constant, NumberMeans, integer, not_an_integer}
+use Rattle.mc_lex.specs.steps.Scanner.{starts_with_byte, base_of, suffix_of, digits_len, radix, body_of, integer_kind, number_of_base, number_kind}
+use Rattle.mc_lex.proofs.Texts.{both, same_byte, first_part, rest_of, run_all, run_exact, ends_run, passes}
 
 -- ---- suffixes
 
@@ -172,7 +172,7 @@ integer_read text of value form i = subst (λ t. Reads t of value form) (sym i.w
           first = d;
           more = ds;
           base = decimal_base d (ds ++ rest) (nonzero (nat_eq d 48) two.1);
-          digits = ap (λ k. take k ((d ∷ ds) ++ rest)) n ∙ front_of (d ∷ ds) rest;
+          digits = ap (λ k. take k ((d ∷ ds) ++ rest)) n ∙ first_part (d ∷ ds) rest;
           ends = ap (λ k. suffix_of (drop k ((d ∷ ds) ++ rest))) n ∙ ap suffix_of (rest_of (d ∷ ds) rest) ∙ found;
           writes = w;
         }
@@ -186,7 +186,7 @@ integer_read text of value form i = subst (λ t. Reads t of value form) (sym i.w
           first = 48;
           more = ds;
           base = octal_base (ds ++ rest) (joined_no_x ds rest two.1 apart);
-          digits = ap (λ k. take k ((48 ∷ ds) ++ rest)) n ∙ front_of (48 ∷ ds) rest;
+          digits = ap (λ k. take k ((48 ∷ ds) ++ rest)) n ∙ first_part (48 ∷ ds) rest;
           ends = ap (λ k. suffix_of (drop k ((48 ∷ ds) ++ rest))) n ∙ ap suffix_of (rest_of (48 ∷ ds) rest) ∙ found;
           writes = w ∙ ap (λ y. digits_value 8 (y ∷ ds)) is_zero;
         })
@@ -203,7 +203,7 @@ integer_read text of value form i = subst (λ t. Reads t of value form) (sym i.w
           first = d;
           more = ds;
           base = hexadecimal_base x ((d ∷ ds) ++ rest) two.1;
-          digits = ap (λ k. take k ((d ∷ ds) ++ rest)) n ∙ front_of (d ∷ ds) rest;
+          digits = ap (λ k. take k ((d ∷ ds) ++ rest)) n ∙ first_part (d ∷ ds) rest;
           ends = ap (λ k. suffix_of (drop k ((d ∷ ds) ++ rest))) n ∙ ap suffix_of (rest_of (d ∷ ds) rest) ∙ found;
           writes = w;
         })
@@ -275,9 +275,9 @@ read_integer text d ds form e s = by_prefix (has_hexadecimal_prefix text) refl (
 
 -- ---- both ways
 
-by_parts : (text : List ℕ) (of : Base) (digits : List ℕ) (o : Option Suffix) (P : Result TokenKind Flaw → Type 0)
+by_parts : (text : List ℕ) (of : Base) (digits : List ℕ) (o : Option Suffix) (P : Result TokenKind FaultKind → Type 0)
     → ((d : ℕ) (ds : List ℕ) (form : Suffix) → digits ≡ d ∷ ds → o ≡ Some form → P (constant of (digits_value (radix of) (d ∷ ds)) form))
-    → (((d : ℕ) (ds : List ℕ) (form : Suffix) → digits ≡ d ∷ ds → o ≡ Some form → ⊥) → P (Err (flaw_of_number text)))
+    → (((d : ℕ) (ds : List ℕ) (form : Suffix) → digits ≡ d ∷ ds → o ≡ Some form → ⊥) → P (Err (fault_of_number text)))
     → P (integer_kind text of digits o)
 by_parts text of [] o P one none = none (λ d ds form e f. let clash : [] ≡ d ∷ ds = e in cc)
 by_parts text of (d ∷ ds) None P one none = none (λ d' ds' form e f. let clash : None ≡ Some form = f in cc)
@@ -288,16 +288,16 @@ unfolding number_kind
 number_is text =
     by_parts text (base_of text) (read_digits text (base_of text)) (read_suffix text (base_of text)) (λ r. NumberMeans text r)
     (λ d ds form e s. integer (base_of text) (digits_value (radix (base_of text)) (d ∷ ds)) form (read_integer text d ds form e s))
-    (λ never. no_integer (λ of value form i.
+    (λ never. not_an_integer (λ of value form i.
     let r = integer_read text of value form i in
     never r.first r.more form (ap (read_digits text) r.base ∙ r.digits) (ap (read_suffix text) r.base ∙ r.ends)))
 
-pub number_means : (text : List ℕ) (what : Result TokenKind Flaw) → NumberMeans text what → number_kind text ≡ what
+pub number_means : (text : List ℕ) (what : Result TokenKind FaultKind) → NumberMeans text what → number_kind text ≡ what
 unfolding number_kind
 number_means text what (integer of value form i) =
     let r = integer_read text of value form i in
     ap (number_of_base text) r.base ∙ ap (λ l. integer_kind text of l (read_suffix text of)) r.digits ∙ ap (integer_kind text of (r.first ∷ r.more)) r.ends ∙ ap (λ v. constant of v form) (sym r.writes)
-number_means text what (no_integer never) =
-    by_parts text (base_of text) (read_digits text (base_of text)) (read_suffix text (base_of text)) (λ r. r ≡ Err (flaw_of_number text))
+number_means text what (not_an_integer never) =
+    by_parts text (base_of text) (read_digits text (base_of text)) (read_suffix text (base_of text)) (λ r. r ≡ Err (fault_of_number text))
     (λ d ds form e s. absurd (never (base_of text) (digits_value (radix (base_of text)) (d ∷ ds)) form (read_integer text d ds form e s)))
     (λ no. refl)

@@ -1,10 +1,10 @@
--- The longest word, number and mark at the front.
+-- The longest word, number and punctuator at the start.
 use Rattle.std.proofs.Common.{◌≡◌, ℕ, suc, ◌+◌, ◌≤◌, Bool, true, false, ◌&&◌, ◌||◌, cond, nat_eq, List, [], ◌∷◌, ◌++◌, length, take, refl, ap, ◌∙◌, arith}
 use Rattle.std.specs.List.{prefix_len, list_all}
 use Rattle.mc_lex.specs.Bytes.{is_digit, is_letter, is_word_byte}
 use Rattle.mc_lex.specs.Words.{one_of, is_word}
 use Rattle.mc_lex.specs.Numbers.{continues, each_continues, starts_number, is_number}
-use Rattle.mc_lex.specs.Reading.{word_len, continued, number_len, marks, mark_len}
+use Rattle.mc_lex.specs.steps.Scanner.{word_len, continued, number_len, punctuators_and_openings, punctuator_len}
 use Rattle.mc_lex.proofs.Texts.{both, not_both, run_all, run_most, run_within, table_most, table_has, table_within}
 
 one_plus : (n : ℕ) → 1 + n ≡ suc n
@@ -83,9 +83,9 @@ digit_continues a b h = first_of_three (is_word_byte b) _ _ (second_of_two (is_l
     first_of_three false t u e = absurd (cc)
 
 -- a number starts likewise in front of what goes on with it
-starts_front : (a : ℕ) (bs : List ℕ) → starts_number a bs ≡ true → starts_number a (take (continued a bs) bs) ≡ true
-starts_front a [] h = h
-starts_front a (b ∷ bs) h = by_first (continues a b) refl
+starts_next : (a : ℕ) (bs : List ℕ) → starts_number a bs ≡ true → starts_number a (take (continued a bs) bs) ≡ true
+starts_next a [] h = h
+starts_next a (b ∷ bs) h = by_first (continues a b) refl
   where
     one_or : (t : Bool) → (t || (nat_eq a 46 && is_digit b)) ≡ true → is_digit b ≡ false → t ≡ true
     one_or true e f = refl
@@ -104,10 +104,10 @@ number_has [] n e = absurd (cc)
 number_has (a ∷ bs) n e = by_start (starts_number a bs) refl e
   where
     by_start : (t : Bool) → starts_number a bs ≡ t → cond t (1 + continued a bs) 0 ≡ suc n → (starts_number a (take n bs) && each_continues a (take n bs)) ≡ true
-    by_start true h f = rw (counted _ n f, starts_front a bs h) (continued_all a bs)
+    by_start true h f = rw (counted _ n f, starts_next a bs h) (continued_all a bs)
     by_start false h f = absurd (cc)
 
--- the bytes behind a number do not change how it starts
+-- the bytes after a number do not change how it starts
 starts_longer : (a : ℕ) (xs rest : List ℕ) → starts_number a xs ≡ true → starts_number a (xs ++ rest) ≡ true
 starts_longer a [] [] h = h
 starts_longer a [] (r ∷ rs) h = rw h refl
@@ -132,16 +132,16 @@ number_within (a ∷ bs) = by_start (starts_number a bs)
     by_start true = omega (arith, continued_within a bs)
     by_start false = omega arith
 
--- ---- marks
+-- ---- punctuators_and_openings
 
-pub mark_has : (bs : List ℕ) (n : ℕ) → mark_len bs ≡ suc n → one_of marks (take (suc n) bs) ≡ true
-unfolding mark_len
-mark_has bs n e = table_has marks bs n e
+pub punctuator_has : (bs : List ℕ) (n : ℕ) → punctuator_len bs ≡ suc n → one_of punctuators_and_openings (take (suc n) bs) ≡ true
+unfolding punctuator_len
+punctuator_has bs n e = table_has punctuators_and_openings bs n e
 
-pub mark_most : (other rest bs : List ℕ) → one_of marks other ≡ true → bs ≡ other ++ rest → length other ≤ mark_len bs
-unfolding mark_len marks
-mark_most other rest bs h e = table_most marks other rest bs refl h e
+pub punctuator_most : (other rest bs : List ℕ) → one_of punctuators_and_openings other ≡ true → bs ≡ other ++ rest → length other ≤ punctuator_len bs
+unfolding punctuator_len punctuators_and_openings
+punctuator_most other rest bs h e = table_most punctuators_and_openings other rest bs refl h e
 
-pub mark_within : (bs : List ℕ) → mark_len bs ≤ length bs
-unfolding mark_len
-mark_within bs = table_within marks bs
+pub punctuator_within : (bs : List ℕ) → punctuator_len bs ≤ length bs
+unfolding punctuator_len
+punctuator_within bs = table_within punctuators_and_openings bs

@@ -1,4 +1,4 @@
--- Runs of bytes at the front of a list, and tables of texts.
+-- Runs of bytes at the start of a list, and tables of texts.
 use Rattle.std.proofs.Common.{◌≡◌, ℕ, zero, suc, ◌+◌, ◌≤◌, Bool, true, false, not, ◌&&◌, ◌||◌, cond, nat_le, nat_eq, List, [], ◌∷◌, ◌++◌, length, take, drop, refl, ap, sym, ◌∙◌, arith, take-append-drop, length-take, length-append}
 use Rattle.std.proofs.lemmas.Bool.{leb-true}
 use Rattle.std.proofs.lemmas.Bool.Decides.{nat_tests, Decides-eqb}
@@ -7,7 +7,7 @@ use Rattle.std.proofs.lemmas.Slice.Eq.{bytes_eq-Decides, starts_is}
 use Rattle.std.specs.List.{prefix_len, list_all, starts_with}
 use Rattle.std.specs.Str.{bytes_eq}
 use Rattle.mc_lex.specs.Words.{one_of}
-use Rattle.mc_lex.specs.Reading.{first_of, skip}
+use Rattle.mc_lex.specs.steps.Scanner.{first_of, skip}
 
 -- ---- truth values
 
@@ -27,20 +27,20 @@ same_byte a b h = grind (arith, nat_tests)
 
 -- ---- cutting a list in two
 
-pub front_of : (t a : List ℕ) → take (length t) (t ++ a) ≡ t
-front_of [] a = refl
-front_of (x ∷ xs) a = ap (λ (l : List ℕ). x ∷ l) (front_of xs a)
+pub first_part : (t a : List ℕ) → take (length t) (t ++ a) ≡ t
+first_part [] a = refl
+first_part (x ∷ xs) a = ap (λ (l : List ℕ). x ∷ l) (first_part xs a)
 
 pub rest_of : (t a : List ℕ) → drop (length t) (t ++ a) ≡ a
 rest_of [] a = refl
 rest_of (x ∷ xs) a = rest_of xs a
 
 pub cut : (text after bs : List ℕ) → bs ≡ text ++ after → (take (length text) bs ≡ text) × (drop (length text) bs ≡ after)
-cut text after bs e = (rw e (front_of text after), rw e (rest_of text after))
+cut text after bs e = (rw e (first_part text after), rw e (rest_of text after))
 
--- two fronts of one length are one
-pub same_front : (text after other rest bs : List ℕ) → bs ≡ text ++ after → bs ≡ other ++ rest → length text ≡ length other → text ≡ other
-same_front text after other rest bs e f n = sym (cut text after bs e).0 ∙ ap (λ k. take k bs) n ∙ (cut other rest bs f).0
+-- two first parts of one length are one
+pub same_first_part : (text after other rest bs : List ℕ) → bs ≡ text ++ after → bs ≡ other ++ rest → length text ≡ length other → text ≡ other
+same_first_part text after other rest bs e f n = sym (cut text after bs e).0 ∙ ap (λ k. take k bs) n ∙ (cut other rest bs f).0
 
 -- ---- runs
 
@@ -68,7 +68,7 @@ run_most p (x ∷ xs) rest (b ∷ bs) h e =
 pub run_within : (p : ℕ → Bool) (bs : List ℕ) → prefix_len p bs ≤ length bs
 run_within p bs = omega (arith, length-prefix_len p bs, length-take (prefix_len p bs) bs)
 
--- the byte behind is none of the run
+-- the byte after it is not one of the run
 abbrev pub ends_run : (ℕ → Bool) → List ℕ → Bool
 ends_run p [] = true
 ends_run p (b ∷ bs) = not (p b)

@@ -4,7 +4,7 @@ use Rattle.std.proofs.lemmas.Bool.Decides.{nat_tests}
 use Rattle.std.proofs.Math.Nat.{le-mul_of_pos_right}
 use Rattle.std.specs.Char.{digit_value}
 use Rattle.std.specs.Str.Parse.{digits_value_after}
-use Rattle.mc_lex.specs.Reading.{close_from, if_fits}
+use Rattle.mc_lex.specs.steps.Scanner.{close_from, if_fits}
 
 -- no comment ends in less than two bytes
 pub close_short : (n : ℕ) (bs : List ℕ) → length bs < 2 → close_from n bs ≡ None

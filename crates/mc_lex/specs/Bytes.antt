@@ -23,13 +23,13 @@ abbrev pub is_line_end : ℕ → Bool
 is_line_end b = b == 10
 
 -- space, tab, LF, VT and FF (C17 6.4, white space), and CR
-abbrev pub is_blank : ℕ → Bool
-is_blank b = b == 32 || (nat_le 9 b && nat_le b 13)
+abbrev pub is_white_space : ℕ → Bool
+is_white_space b = b == 32 || (nat_le 9 b && nat_le b 13)
 
--- a blank that ends no line
-abbrev pub is_line_blank : ℕ → Bool
-is_line_blank b = is_blank b && not (is_line_end b)
+-- white space that does not end a line
+abbrev pub is_white_space_in_line : ℕ → Bool
+is_white_space_in_line b = is_white_space b && not (is_line_end b)
 
--- a byte that is no line end
+-- a byte that is not a line end
 abbrev pub goes_on : ℕ → Bool
 goes_on b = not (is_line_end b)

@@ -3,9 +3,11 @@ pub mod Bytes
 pub mod Words
 pub mod Numbers
 pub mod Characters
-pub mod Marks
+pub mod Punctuators
 pub mod Lines
 pub mod Gaps
+pub mod Faults
 pub mod Scans
-pub mod Given
-pub mod Reading
+pub mod Returned
+pub mod Laws
+pub mod steps

@@ -1,15 +1,16 @@
 -- Lines of a source, and places on them.
 use Rattle.std.specs.Prelude.{ℕ, ◌+◌, Bool, List, length, take, reverse, take_while, count_by}
 use Rattle.std.specs.List.{list_all}
-use Rattle.mc_lex.specs.Bytes.{is_line_end, goes_on, is_blank}
+use Rattle.mc_lex.specs.Bytes.{is_line_end, goes_on, is_white_space}
 
--- the bytes of a line that stand before a place, the nearest first, by all bytes that stand before it
+-- the bytes of a line that stand before a place, the nearest first,
+-- by all bytes that stand before it
 abbrev pub line_before : List ℕ → List ℕ
 line_before before = take_while goes_on (reverse before)
 
--- only blanks stand before the place on its line
+-- only white space stands before the place on its line
 abbrev pub is_first_on_line : List ℕ → Bool
-is_first_on_line before = list_all is_blank (line_before before)
+is_first_on_line before = list_all is_white_space (line_before before)
 
 -- the number of the line of a place, from 1; a line ends after LF
 abbrev pub line_of : List ℕ → ℕ → ℕ

@@ -1,4 +1,5 @@
--- Numbers: preprocessing numbers (C17 6.4.8), and which of them are integer constants (C17 6.4.4.1).
+-- Numbers: preprocessing numbers (C17 6.4.8), and which of them are integer constants
+-- (C17 6.4.4.1).
 use Rattle.std.specs.Prelude.{◌≡◌, ℕ, ◌-◌, ◌^◌, Bool, true, false, not, ◌&&◌, ◌||◌, ◌==◌, nat_le, List, [], ◌∷◌, ◌++◌, drop, Result, Ok, Err, if◌then◌else◌, codes}
 use Rattle.std.specs.List.{list_all, list_any}
 use Rattle.std.specs.Str.Parse.{digits_value}
@@ -10,8 +11,8 @@ use Rattle.mc_lex.specs.declared.suffix.Suffix.{Suffix}
 use Rattle.mc_lex.specs.declared.suffix.Suffix.TheVariants as suffix
 use Rattle.mc_lex.specs.declared.token.TokenKind.{TokenKind}
 use Rattle.mc_lex.specs.declared.token.TokenKind.TheVariants.{Constant}
-use Rattle.mc_lex.specs.declared.flaw.Flaw.{Flaw}
-use Rattle.mc_lex.specs.declared.flaw.Flaw.TheVariants.{OutsideWord, Token, Limit}
+use Rattle.mc_lex.specs.declared.fault_kind.FaultKind.{FaultKind}
+use Rattle.mc_lex.specs.declared.fault_kind.FaultKind.TheVariants.{OutsideWord, Token, Limit}
 
 -- ---- preprocessing numbers
 
@@ -23,16 +24,17 @@ is_exponent b = b == 101 || b == 69 || b == 112 || b == 80
 abbrev pub is_sign : ℕ → Bool
 is_sign b = b == 43 || b == 45
 
--- b goes on with a number behind the byte a: it is a digit, a letter, `_` or `.`, or a sign directly after an exponent's letter
+-- b goes on with a number after the byte a: it is a digit, a letter, `_` or `.`,
+-- or a sign directly after an exponent's letter
 abbrev pub continues : ℕ → ℕ → Bool
 continues a b = is_word_byte b || b == 46 || (is_exponent a && is_sign b)
 
--- each byte goes on behind the one before it, the first one behind a
+-- each byte goes on after the one before it, the first one after a
 abbrev pub each_continues : ℕ → List ℕ → Bool
 each_continues a [] = true
 each_continues a (b ∷ bs) = continues a b && each_continues b bs
 
--- a number starts with the byte a in front of these bytes: a is a digit, or a `.` before a digit
+-- a number starts with the byte a before these bytes: a is a digit, or a `.` before a digit
 abbrev pub starts_number : ℕ → List ℕ → Bool
 starts_number a [] = is_digit a
 starts_number a (b ∷ bs) = is_digit a || (a == 46 && is_digit b)
@@ -48,7 +50,8 @@ is_number (a ∷ bs) = starts_number a bs && each_continues a bs
 abbrev pub is_digits : Base → List ℕ → Bool
 is_digits base.Decimal (d ∷ ds) = is_digit d && not (d == 48) && list_all is_digit ds
 is_digits base.Octal (z ∷ ds) = z == 48 && list_all is_octal ds
-is_digits base.Hexadecimal (z ∷ x ∷ d ∷ ds) = z == 48 && (x == 120 || x == 88) && list_all is_hexadecimal (d ∷ ds)
+is_digits base.Hexadecimal (z ∷ x ∷ d ∷ ds) =
+    z == 48 && (x == 120 || x == 88) && list_all is_hexadecimal (d ∷ ds)
 is_digits _ _ = false
 
 -- the number that the digits write
@@ -67,9 +70,13 @@ abbrev pub suffix_texts : Suffix → List (List ℕ)
 suffix_texts suffix.None = [] ∷ []
 suffix_texts suffix.U = codes "u" ∷ codes "U" ∷ []
 suffix_texts suffix.L = codes "l" ∷ codes "L" ∷ []
-suffix_texts suffix.Ul = codes "ul" ∷ codes "uL" ∷ codes "Ul" ∷ codes "UL" ∷ codes "lu" ∷ codes "lU" ∷ codes "Lu" ∷ codes "LU" ∷ []
+suffix_texts suffix.Ul =
+    codes "ul" ∷ codes "uL" ∷ codes "Ul" ∷ codes "UL"
+    ∷ codes "lu" ∷ codes "lU" ∷ codes "Lu" ∷ codes "LU" ∷ []
 suffix_texts suffix.Ll = codes "ll" ∷ codes "LL" ∷ []
-suffix_texts suffix.Ull = codes "ull" ∷ codes "uLL" ∷ codes "Ull" ∷ codes "ULL" ∷ codes "llu" ∷ codes "llU" ∷ codes "LLu" ∷ codes "LLU" ∷ []
+suffix_texts suffix.Ull =
+    codes "ull" ∷ codes "uLL" ∷ codes "Ull" ∷ codes "ULL"
+    ∷ codes "llu" ∷ codes "llU" ∷ codes "LLu" ∷ codes "LLU" ∷ []
 
 abbrev pub has_u : Suffix → Bool
 has_u suffix.None = false
@@ -96,7 +103,8 @@ pub record IsInteger (text : List ℕ) (radix : Base) (value : ℕ) (form : Suff
   pub writes : value ≡ value_of radix digits
   pub of_form : one_of (suffix_texts form) rest ≡ true
 
--- the types that a constant may have, and the greatest value of each: `int` has 32 bits, `long` and `long long` have 64
+-- the types that a constant may have, and the greatest value of each:
+-- `int` has 32 bits, `long` and `long long` have 64
 pub data IntegerType : Type 0 where
   int : IntegerType
   unsigned_int : IntegerType
@@ -116,7 +124,8 @@ greatest unsigned_long_long = 2 ^ 64 - 1
 -- the types of a constant by its suffix, decimal or not, the first one first (C17 6.4.4.1, table)
 abbrev pub types_of : Suffix → Bool → List IntegerType
 types_of suffix.None true = int ∷ long ∷ long_long ∷ []
-types_of suffix.None false = int ∷ unsigned_int ∷ long ∷ unsigned_long ∷ long_long ∷ unsigned_long_long ∷ []
+types_of suffix.None false =
+    int ∷ unsigned_int ∷ long ∷ unsigned_long ∷ long_long ∷ unsigned_long_long ∷ []
 types_of suffix.U _ = unsigned_int ∷ unsigned_long ∷ unsigned_long_long ∷ []
 types_of suffix.L true = long ∷ long_long ∷ []
 types_of suffix.L false = long ∷ unsigned_long ∷ long_long ∷ unsigned_long_long ∷ []
@@ -140,19 +149,26 @@ has_hexadecimal_prefix _ = false
 abbrev pub has : ℕ → List ℕ → Bool
 has b text = list_any (λ x. x == b) text
 
--- a number that is no integer constant looks like a floating constant (C17 6.4.4.2): it has a `.`, or the letter of an exponent
+-- a number that is not an integer constant looks like a floating constant (C17 6.4.4.2):
+-- it has a `.`, or the letter of an exponent
 abbrev pub looks_floating : List ℕ → Bool
 looks_floating text =
-    has 46 text || (if has_hexadecimal_prefix text then has 112 text || has 80 text else has 101 text || has 69 text)
+    has 46 text || (if has_hexadecimal_prefix text then has 112 text || has 80 text
+    else has 101 text || has 69 text)
 
-abbrev pub flaw_of_number : List ℕ → Flaw
-flaw_of_number text = if looks_floating text then OutsideWord else Token
+abbrev pub fault_of_number : List ℕ → FaultKind
+fault_of_number text = if looks_floating text then OutsideWord else Token
 
 -- the constant that the digits and the suffix write, or that no type holds it
-abbrev pub constant : Base → ℕ → Suffix → Result TokenKind Flaw
-constant of value form = if has_type form (is_decimal of) value then Ok (Constant value (is_decimal of) (has_u form) (longs_of form)) else Err Limit
+abbrev pub constant : Base → ℕ → Suffix → Result TokenKind FaultKind
+constant of value form =
+    if has_type form (is_decimal of) value
+    then Ok (Constant value (is_decimal of) (has_u form) (longs_of form)) else Err Limit
 
 -- what a number is, by its text alone
-pub data NumberMeans (text : List ℕ) : Result TokenKind Flaw → Type 0 where
-  integer : (radix : Base) (value : ℕ) (form : Suffix) → IsInteger text radix value form → NumberMeans text (constant radix value form)
-  no_integer : ((radix : Base) (value : ℕ) (form : Suffix) → IsInteger text radix value form → ⊥) → NumberMeans text (Err (flaw_of_number text))
+pub data NumberMeans (text : List ℕ) : Result TokenKind FaultKind → Type 0 where
+  integer : (radix : Base) (value : ℕ) (form : Suffix) → IsInteger text radix value form
+      → NumberMeans text (constant radix value form)
+  not_an_integer
+      : ((radix : Base) (value : ℕ) (form : Suffix) → IsInteger text radix value form → ⊥)
+      → NumberMeans text (Err (fault_of_number text))

@@ -1,4 +1,4 @@
--- A token without where it lies in memory.
+-- A token, apart from where its text lies in memory.
 use Rattle.std.specs.Prelude.{ℕ, List, map}
 use Rattle.mc_lex.specs.declared.token.Token.{Token}
 use Rattle.mc_lex.specs.declared.token.TokenKind.{TokenKind}

@@ -1,7 +1,7 @@
 //! Bases of integer constants.
 ghost use Rattle.std.specs.Prelude.{◌≡◌, ◌≤◌, length};
 ghost use Rattle.mc_lex.specs.Numbers as numbers;
-ghost use Rattle.mc_lex.specs.Reading as spec;
+ghost use Rattle.mc_lex.specs.steps.Scanner as spec;
 
 use crate::byte::starts_with_byte;
 use crate::digits::{decimal_len, hexadecimal_len, octal_len};
@@ -47,7 +47,7 @@ impl Base {
         }
     }
 
-    /// What stands behind the prefix of the base.
+    /// What stands after the prefix of the base.
     pub fn body<'a>(self, text: &'a [u8]) -> &'a [u8]
         ensures { result.now ≡ spec.body_of self text.now }
     {
@@ -57,7 +57,7 @@ impl Base {
         }
     }
 
-    /// How many digits of the base stand at the front.
+    /// How many digits of the base stand at the start.
     pub fn digits_len(self, bytes: &[u8]) -> usize
         ensures value { result ≡ spec.digits_len self bytes.now }
         ensures within { result ≤ length bytes.now }

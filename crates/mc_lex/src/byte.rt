@@ -1,7 +1,7 @@
 //! Sets of bytes.
 ghost use Rattle.std.specs.Prelude.{◌≡◌};
 ghost use Rattle.mc_lex.specs.Bytes as bytes;
-ghost use Rattle.mc_lex.specs.Reading as spec;
+ghost use Rattle.mc_lex.specs.steps.Scanner as spec;
 
 pub fn is_digit(b: u8) -> bool
     ensures { result ≡ bytes.is_digit b }
@@ -40,17 +40,17 @@ pub fn is_line_end(b: u8) -> bool
     b == b'\n'
 }
 
-/// Space, tab, LF, VT, FF or CR.
-pub fn is_blank(b: u8) -> bool
-    ensures { result ≡ bytes.is_blank b }
+/// Space, tab, LF, VT, FF or CR (C17 6.4, white space).
+pub fn is_white_space(b: u8) -> bool
+    ensures { result ≡ bytes.is_white_space b }
 {
     b == b' ' || (b >= 9 && b <= 13)
 }
 
-pub fn is_line_blank(b: u8) -> bool
-    ensures { result ≡ bytes.is_line_blank b }
+pub fn is_white_space_in_line(b: u8) -> bool
+    ensures { result ≡ bytes.is_white_space_in_line b }
 {
-    is_blank(b) && !is_line_end(b)
+    is_white_space(b) && !is_line_end(b)
 }
 
 /// Whether the first byte is `byte`.

@@ -1,14 +1,14 @@
 //! Character constants.
 ghost use Rattle.std.specs.Prelude.{◌≡◌, ◌+◌, ◌≤◌, ◌<◌, ◌^◌, length, IfSome};
 ghost use Rattle.mc_lex.specs.Characters as characters;
-ghost use Rattle.mc_lex.specs.Reading as spec;
+ghost use Rattle.mc_lex.specs.steps.Scanner as spec;
 
 use crate::byte::{is_octal, starts_with_byte};
 use crate::digits::{hexadecimal_len, octal_len, value_of};
-use crate::flaw::Flaw;
+use crate::fault_kind::FaultKind;
 use crate::token::TokenKind;
 
-/// A character constant at the front of some bytes: how long it is, and the byte that it means.
+/// A character constant at the start of some bytes: how long it is, and the byte that it means.
 #[derive(Clone, Copy, Debug, PartialEq, Eq)]
 pub struct Quoted {
     pub length: usize,
@@ -42,19 +42,19 @@ fn simple_escape(c: u8) -> Option<u8>
     }
 }
 
-/// The constant whose first `n` digits begin behind `behind` bytes.
-fn by_digits(radix: u64, behind: usize, most: usize, n: usize, digits: &[u8]) -> Option<Quoted>
+/// The constant whose first `n` digits begin after `start` bytes.
+fn by_digits(radix: u64, start: usize, most: usize, n: usize, digits: &[u8]) -> Option<Quoted>
     requires least { 1 ≤ radix }
     requires within { n ≤ length digits.now }
     requires short { length digits.now < 2 ^ 31 }
-    requires near { behind ≤ 3 }
-    ensures { result ≡ spec.by_digits radix behind most n digits.now }
+    requires near { start ≤ 3 }
+    ensures { result ≡ spec.by_digits radix start most n digits.now }
 {
     let (number, rest) = digits.split_at(n);
     match value_of(number, radix) {
         Some(value) if n >= 1 && n <= most && starts_with_byte(rest, b'\'') && value <= 255 => Some(
             Quoted {
-                length: behind + n + 1,
+                length: start + n + 1,
                 byte: value as u8,
             },
         ),
@@ -71,7 +71,7 @@ fn by_simple(byte: Option<u8>, rest: &[u8]) -> Option<Quoted>
     }
 }
 
-/// The constant whose escape goes on with these bytes behind its `\`.
+/// The constant whose escape goes on with these bytes after its `\`.
 fn escape_at(bytes: &[u8]) -> Option<Quoted>
     requires { length bytes.now < 2 ^ 31 }
     ensures { result ≡ spec.escape_at bytes.now }
@@ -100,7 +100,7 @@ fn plain_at(byte: u8, rest: &[u8]) -> Option<Quoted>
     }
 }
 
-/// The constant that goes on with these bytes behind its `'`.
+/// The constant that goes on with these bytes after its `'`.
 fn quoted_at(bytes: &[u8]) -> Option<Quoted>
     requires { length bytes.now < 2 ^ 31 }
     ensures { result ≡ spec.quoted_at bytes.now }
@@ -117,8 +117,8 @@ fn quoted_at(bytes: &[u8]) -> Option<Quoted>
     }
 }
 
-/// The character constant at the front.
-#[tactic(auto, unfolding(crate::specs::Reading::character_at))]
+/// The character constant at the start.
+#[tactic(auto, unfolding(crate::specs::steps::Scanner::character_at))]
 fn character_at(bytes: &[u8]) -> Option<Quoted>
     requires { length bytes.now < 2 ^ 31 }
     ensures { result ≡ spec.character_at bytes.now }
@@ -135,7 +135,7 @@ fn character_at(bytes: &[u8]) -> Option<Quoted>
     }
 }
 
-/// The length of the character constant at the front, or 0.
+/// The length of the character constant at the start, or 0.
 pub fn character_len(bytes: &[u8]) -> usize
     requires { length bytes.now < 2 ^ 31 }
     ensures { result ≡ spec.character_len bytes.now }
@@ -158,7 +158,7 @@ fn signed_char(byte: u8) -> i32
 }
 
 /// What a character constant is.
-pub fn character_kind(text: &[u8]) -> Result<TokenKind, Flaw>
+pub fn character_kind(text: &[u8]) -> Result<TokenKind, FaultKind>
     requires { length text.now < 2 ^ 31 }
     ensures { result ≡ spec.byte_kind (spec.character_at text.now) }
 {
@@ -166,6 +166,6 @@ pub fn character_kind(text: &[u8]) -> Result<TokenKind, Flaw>
         Some(quoted) => Ok(TokenKind::Character {
             value: signed_char(quoted.byte),
         }),
-        None => Err(Flaw::Token),
+        None => Err(FaultKind::Token),
     }
 }

@@ -3,11 +3,11 @@ ghost use Rattle.std.specs.Prelude.{◌≡◌, ◌≤◌, ◌+◌, ◌*◌, leng
 ghost use Rattle.std.specs.Char.{digit_value};
 ghost use Rattle.std.specs.Str.Parse.{digits_value};
 ghost use Rattle.mc_lex.specs.declared.base.Base.TheVariants as base;
-ghost use Rattle.mc_lex.specs.Reading as spec;
+ghost use Rattle.mc_lex.specs.steps.Scanner as spec;
 
 use crate::byte::{is_digit, is_hexadecimal, is_octal};
 
-/// How many octal digits stand at the front.
+/// How many octal digits stand at the start.
 pub fn octal_len(bytes: &[u8]) -> usize
     ensures value { result ≡ spec.digits_len base.Octal bytes.now }
     ensures within { result ≤ length bytes.now }
@@ -15,7 +15,7 @@ pub fn octal_len(bytes: &[u8]) -> usize
     bytes.iter().take_while(|b| is_octal(**b)).count()
 }
 
-/// How many hexadecimal digits stand at the front.
+/// How many hexadecimal digits stand at the start.
 pub fn hexadecimal_len(bytes: &[u8]) -> usize
     ensures value { result ≡ spec.digits_len base.Hexadecimal bytes.now }
     ensures within { result ≤ length bytes.now }
@@ -23,7 +23,7 @@ pub fn hexadecimal_len(bytes: &[u8]) -> usize
     bytes.iter().take_while(|b| is_hexadecimal(**b)).count()
 }
 
-/// How many decimal digits stand at the front.
+/// How many decimal digits stand at the start.
 pub fn decimal_len(bytes: &[u8]) -> usize
     ensures value { result ≡ spec.digits_len base.Decimal bytes.now }
     ensures within { result ≤ length bytes.now }

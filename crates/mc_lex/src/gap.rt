@@ -1,14 +1,14 @@
 //! What stands between tokens.
 ghost use Rattle.std.specs.Prelude.{◌≡◌, ◌+◌, ◌≤◌, ◌<◌, ◌^◌, length, IfSome};
 ghost use Rattle.std.specs.List.{list_all, prefix_len};
-ghost use Rattle.mc_lex.specs.Bytes.{is_line_blank};
+ghost use Rattle.mc_lex.specs.Bytes.{is_white_space_in_line};
 ghost use Rattle.mc_lex.specs.Gaps as gaps;
-ghost use Rattle.mc_lex.specs.Reading as spec;
+ghost use Rattle.mc_lex.specs.steps.Scanner as spec;
 
-use crate::byte::{is_digit, is_line_blank, is_line_end};
+use crate::byte::{is_digit, is_line_end, is_white_space_in_line};
 use crate::digits::decimal_len;
 
-/// How many bytes a comment has behind its `/*`, where it is closed.
+/// How many bytes a comment has after its `/*`, where it is closed.
 #[tactic(auto, using(crate::proofs::Turns::close_short))]
 pub fn close_len(bytes: &[u8]) -> Option<usize>
     requires { length bytes.now < 2 ^ 31 }
@@ -35,10 +35,10 @@ pub fn line_len(bytes: &[u8]) -> usize
     bytes.iter().take_while(|b| !is_line_end(**b)).count()
 }
 
-fn is_digit_or_blank(b: u8) -> bool
-    ensures { result ≡ gaps.is_digit_or_blank b }
+fn is_digit_or_white_space(b: u8) -> bool
+    ensures { result ≡ gaps.is_digit_or_white_space b }
 {
-    is_digit(b) || is_line_blank(b)
+    is_digit(b) || is_white_space_in_line(b)
 }
 
 fn is_quoted(b: u8) -> bool
@@ -47,13 +47,13 @@ fn is_quoted(b: u8) -> bool
     !is_line_end(b) && b != b'"'
 }
 
-/// Whether only digits and blanks stand here.
-fn are_digits_or_blanks(bytes: &[u8]) -> bool
-    ensures { result ≡ list_all gaps.is_digit_or_blank bytes.now }
+/// Whether only digits and white space stand here.
+fn are_digits_or_white_space(bytes: &[u8]) -> bool
+    ensures { result ≡ list_all gaps.is_digit_or_white_space bytes.now }
 {
     let mut left = bytes;
     while let [byte, later @ ..] = left {
-        if !is_digit_or_blank(*byte) {
+        if !is_digit_or_white_space(*byte) {
             return false;
         }
         left = later;
@@ -61,11 +61,14 @@ fn are_digits_or_blanks(bytes: &[u8]) -> bool
     true
 }
 
-fn blanks_len(bytes: &[u8]) -> usize
-    ensures value { result ≡ prefix_len is_line_blank bytes.now }
+fn white_space_len(bytes: &[u8]) -> usize
+    ensures value { result ≡ prefix_len is_white_space_in_line bytes.now }
     ensures within { result ≤ length bytes.now }
 {
-    bytes.iter().take_while(|b| is_line_blank(**b)).count()
+    bytes
+        .iter()
+        .take_while(|b| is_white_space_in_line(**b))
+        .count()
 }
 
 fn quoted_len(bytes: &[u8]) -> usize
@@ -75,46 +78,48 @@ fn quoted_len(bytes: &[u8]) -> usize
     bytes.iter().take_while(|b| is_quoted(**b)).count()
 }
 
-fn marks_closed(bytes: &[u8]) -> bool
-    ensures { result ≡ spec.marks_closed bytes.now }
+fn is_marker_end(bytes: &[u8]) -> bool
+    ensures { result ≡ spec.is_marker_end bytes.now }
 {
     match bytes {
         [] => false,
-        [first, rest @ ..] => *first == b'"' && are_digits_or_blanks(rest),
+        [first, rest @ ..] => *first == b'"' && are_digits_or_white_space(rest),
     }
 }
 
-fn marks_name(bytes: &[u8]) -> bool
-    ensures { result ≡ spec.marks_name bytes.now }
+fn is_marker_name(bytes: &[u8]) -> bool
+    ensures { result ≡ spec.is_marker_name bytes.now }
 {
     match bytes {
         [] => false,
-        [first, rest @ ..] => *first == b'"' && marks_closed(rest.split_at(quoted_len(rest)).1),
+        [first, rest @ ..] => *first == b'"' && is_marker_end(rest.split_at(quoted_len(rest)).1),
     }
 }
 
-fn marks_rest(bytes: &[u8]) -> bool
-    ensures { result ≡ spec.marks_rest bytes.now }
+fn is_marker_rest(bytes: &[u8]) -> bool
+    ensures { result ≡ spec.is_marker_rest bytes.now }
 {
-    are_digits_or_blanks(bytes) || marks_name(bytes.split_at(blanks_len(bytes)).1)
+    are_digits_or_white_space(bytes) || is_marker_name(bytes.split_at(white_space_len(bytes)).1)
 }
 
-fn marks_number(bytes: &[u8]) -> bool
-    ensures { result ≡ spec.marks_number bytes.now }
+fn is_marker_number(bytes: &[u8]) -> bool
+    ensures { result ≡ spec.is_marker_number bytes.now }
 {
     match bytes {
         [] => false,
-        [first, rest @ ..] => is_digit(*first) && marks_rest(rest.split_at(decimal_len(rest)).1),
+        [first, rest @ ..] => is_digit(*first)
+            && is_marker_rest(rest.split_at(decimal_len(rest)).1),
     }
 }
 
 /// Whether a line, from its `#` on, is a line marker.
-#[tactic(auto, unfolding(crate::specs::Reading::is_marker))]
+#[tactic(auto, unfolding(crate::specs::steps::Scanner::is_marker))]
 pub fn is_marker(line: &[u8]) -> bool
     ensures { result ≡ spec.is_marker line.now }
 {
     match line {
         [] => false,
-        [first, rest @ ..] => *first == b'#' && marks_number(rest.split_at(blanks_len(rest)).1),
+        [first, rest @ ..] => *first == b'#'
+            && is_marker_number(rest.split_at(white_space_len(rest)).1),
     }
 }

@@ -1,11 +1,17 @@
 //! Laws of the token list.
-ghost use Rattle.std.specs.Prelude.{◌≡◌, ℕ, Option, List, []};
-ghost use Rattle.mc_lex.specs.declared.token.Dialect.{Dialect};
-ghost use Rattle.mc_lex.specs.declared.fault.LexFault.{LexFault};
-ghost use Rattle.mc_lex.specs.Tokens.{Tok};
-ghost use Rattle.mc_lex.specs.Scans.{Scans};
+ghost use Rattle.mc_lex.specs.Laws as laws;
 
 /// A source has one token list, or one first place without a token.
 pub fn one_scan()
-    ensures { (d : Dialect) (bs : List ℕ) (ts us : List Tok) (stop other : Option LexFault) → Scans d [] bs ts stop → Scans d [] bs us other → (ts ≡ us) × (stop ≡ other) }
+    ensures { laws.OneScan }
+{}
+
+/// Each source, of every length, has a token list, or a first place without a token.
+pub fn each_source_has_a_scan()
+    ensures { laws.EachSourceHasAScan }
+{}
+
+/// The place of a fault is that of a byte of the source.
+pub fn faults_are_inside()
+    ensures { laws.FaultsAreInside }
 {}

@@ -1,27 +1,28 @@
 //! The token list of a source.
-ghost use Rattle.std.specs.Prelude.{◌≡◌, ◌<◌, ◌≤◌, ◌+◌, ◌^◌, ◌≢◌, length, List, Option, Some, None, IsErrOf, IfOk, All, [], vec_len};
+ghost use Rattle.std.specs.Prelude.{◌≡◌, ◌<◌, ◌≤◌, ◌+◌, ◌^◌, ◌≢◌, ℕ, length, List, Option, Some, None, IsErrOf, IfOk, All, [], vec_len};
 ghost use Rattle.mc_lex.specs.declared.fault.LexFault.{LexFault};
 ghost use Rattle.mc_lex.specs.declared.fault.LexFault.TheVariants as fault;
+ghost use Rattle.mc_lex.specs.Faults.{fault_place};
 ghost use Rattle.mc_lex.specs.Tokens.{Tok, toks_of};
 ghost use Rattle.mc_lex.specs.Scans.{Scans};
-ghost use Rattle.mc_lex.specs.Given.{Gives, IsSlice};
-ghost use Rattle.mc_lex.specs.Reading as spec;
+ghost use Rattle.mc_lex.specs.Returned.{Gives, IsSlice};
+ghost use Rattle.mc_lex.specs.steps.Scanner as spec;
 
-use crate::byte::{is_blank, is_line_end};
+use crate::byte::{is_line_end, is_white_space};
 use crate::fault::LexFault;
-use crate::flaw::fault_at;
-use crate::front::{Front, front_at};
+use crate::fault_kind::fault_at;
+use crate::next::{Next, next_at};
 use crate::token::{Dialect, Token};
 use std::alloc::Global;
 
-/// Whether only blanks stand on the line behind more bytes.
+/// Whether only white space stands on the line before what follows these bytes.
 fn still_first(is_first: bool, bytes: &[u8]) -> bool
     ensures { result ≡ spec.still_first is_first bytes.now }
 {
     let mut first = is_first;
     let mut left = bytes;
     while let [byte, later @ ..] = left {
-        first = is_line_end(*byte) || (is_blank(*byte) && first);
+        first = is_line_end(*byte) || (is_white_space(*byte) && first);
         left = later;
     }
     first
@@ -40,15 +41,15 @@ fn scan<'a>(alloc: Global, source: &'a [u8], dialect: Dialect) -> Result<Vec<Tok
         if rest.is_empty() {
             break;
         }
-        match front_at(dialect, is_first, rest) {
-            Front::Refused(flaw) => return Err(fault_at(flaw, at as u32)),
-            Front::Gap(n) => {
+        match next_at(dialect, is_first, rest) {
+            Next::Refused(why) => return Err(fault_at(why, at as u32)),
+            Next::Gap(n) => {
                 let (gap, after) = rest.split_at(n);
                 is_first = still_first(is_first, gap);
                 rest = after;
                 at += n;
             }
-            Front::Token(kind, n) => {
+            Next::Token(kind, n) => {
                 let (text, after) = rest.split_at(n);
                 tokens.push(Token {
                     kind,
@@ -66,7 +67,8 @@ fn scan<'a>(alloc: Global, source: &'a [u8], dialect: Dialect) -> Result<Vec<Tok
 
 /// Cuts a source into its tokens (C17 6.4), or finds the first place where no token stands.
 ///
-/// Blanks, comments and line markers stand between tokens. Each token's text is lent from the source.
+/// White space, comments and line markers stand between tokens. Each token's text is lent from
+/// the source.
 pub fn lex<'a>(
     alloc: Global,
     source: &'a [u8],
@@ -76,9 +78,14 @@ pub fn lex<'a>(
     // What is returned is the source's token list.
     ensures found { IfOk result (λ v. Scans dialect [] source.now (toks_of v.items) None) }
     // A fault stands at the first place without a token.
-    ensures fault { (e : LexFault) → IsErrOf result e → e ≢ fault.OutOfMemory → (ts : List Tok) × Scans dialect [] source.now ts (Some e) }
+    ensures fault { (e : LexFault) → IsErrOf result e → e ≢ fault.OutOfMemory
+        → (ts : List Tok) × Scans dialect [] source.now ts (Some e) }
+    // The place of a fault is that of a byte of the source.
+    ensures inside { (e : LexFault) (at : ℕ) → IsErrOf result e → fault_place e ≡ Some at
+        → at < length source.now }
     // The token list or the fault that the source has is what is returned, unless memory runs out.
-    ensures only { (ts : List Tok) (stop : Option LexFault) → Scans dialect [] source.now ts stop → Gives (ts, stop) result }
+    ensures only { (ts : List Tok) (stop : Option LexFault)
+        → Scans dialect [] source.now ts stop → Gives (ts, stop) result }
     // Each token is the part of the source at its start.
     ensures slices { IfOk result (λ v. All (IsSlice source.now) (toks_of v.items)) }
     // There are no more tokens than bytes.

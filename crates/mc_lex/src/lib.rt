@@ -3,18 +3,18 @@
 
 mod base;
 mod byte;
+mod candidate;
 mod character;
 mod digits;
-mod element;
 mod fault;
-mod flaw;
-mod front;
+mod fault_kind;
 mod gap;
 pub mod laws;
 mod lexer;
-mod mark;
+mod next;
 mod number;
 mod place;
+mod punctuator;
 mod suffix;
 mod table;
 mod token;
@@ -24,6 +24,3 @@ pub use fault::LexFault;
 pub use lexer::lex;
 pub use place::{Place, place_of, quote};
 pub use token::{Dialect, Token, TokenKind};
-
-#[cfg(test)]
-mod tests;

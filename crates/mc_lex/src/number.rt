@@ -1,16 +1,16 @@
 //! Numbers.
 ghost use Rattle.std.specs.Prelude.{◌≡◌, ◌+◌, ◌≤◌, length};
 ghost use Rattle.mc_lex.specs.Numbers as numbers;
-ghost use Rattle.mc_lex.specs.Reading as spec;
+ghost use Rattle.mc_lex.specs.steps.Scanner as spec;
 
 use crate::base::{Base, has_hexadecimal_prefix};
 use crate::byte::{is_digit, is_word_byte};
 use crate::digits::value_of;
-use crate::flaw::Flaw;
+use crate::fault_kind::FaultKind;
 use crate::suffix::Suffix;
 use crate::token::TokenKind;
 
-/// Whether a byte goes on with a number behind another.
+/// Whether a byte goes on with a number after another.
 fn continues(last: u8, byte: u8) -> bool
     ensures { result ≡ numbers.continues last byte }
 {
@@ -20,7 +20,7 @@ fn continues(last: u8, byte: u8) -> bool
             && (byte == b'+' || byte == b'-'))
 }
 
-/// How many bytes go on with a number behind its first byte.
+/// How many bytes go on with a number after its first byte.
 fn continued(first: u8, bytes: &[u8]) -> usize
     ensures value { result ≡ spec.continued first bytes.now }
     ensures within { result ≤ length bytes.now }
@@ -48,7 +48,7 @@ fn starts_number(first: u8, rest: &[u8]) -> bool
     }
 }
 
-/// The length of the number at the front, or 0.
+/// The length of the number at the start, or 0.
 pub fn number_len(bytes: &[u8]) -> usize
     ensures value { result ≡ spec.number_len bytes.now }
     ensures within { result ≤ length bytes.now }
@@ -76,14 +76,14 @@ fn looks_floating(text: &[u8]) -> bool
         })
 }
 
-/// Why a number that is no integer constant is no token.
-fn flaw_of_number(text: &[u8]) -> Flaw
-    ensures { result ≡ numbers.flaw_of_number text.now }
+/// Why a number that is not an integer constant is not a token.
+fn fault_of_number(text: &[u8]) -> FaultKind
+    ensures { result ≡ numbers.fault_of_number text.now }
 {
     if looks_floating(text) {
-        Flaw::OutsideWord
+        FaultKind::OutsideWord
     } else {
-        Flaw::Token
+        FaultKind::Token
     }
 }
 
@@ -99,7 +99,7 @@ fn limit(suffix: Suffix, base: Base) -> u64
 }
 
 /// The constant of these digits and this suffix.
-fn constant(base: Base, digits: &[u8], suffix: Suffix) -> Result<TokenKind, Flaw>
+fn constant(base: Base, digits: &[u8], suffix: Suffix) -> Result<TokenKind, FaultKind>
     ensures { result ≡ numbers.constant base (digits_value (spec.radix base) digits.now) suffix }
 {
     match value_of(digits, base.radix()) {
@@ -109,7 +109,7 @@ fn constant(base: Base, digits: &[u8], suffix: Suffix) -> Result<TokenKind, Flaw
             unsigned: suffix.has_u(),
             longs: suffix.longs(),
         }),
-        _ => Err(Flaw::Limit),
+        _ => Err(FaultKind::Limit),
     }
 }
 
@@ -119,21 +119,21 @@ fn integer_kind(
     base: Base,
     digits: &[u8],
     suffix: Option<Suffix>,
-) -> Result<TokenKind, Flaw>
+) -> Result<TokenKind, FaultKind>
     ensures { result ≡ spec.integer_kind text.now base digits.now suffix }
 {
     match digits {
-        [] => Err(flaw_of_number(text)),
+        [] => Err(fault_of_number(text)),
         [_, ..] => match suffix {
             Some(suffix) => constant(base, digits, suffix),
-            None => Err(flaw_of_number(text)),
+            None => Err(fault_of_number(text)),
         },
     }
 }
 
 /// What a number is.
-#[tactic(auto, unfolding(crate::specs::Reading::number_kind))]
-pub fn number_kind(text: &[u8]) -> Result<TokenKind, Flaw>
+#[tactic(auto, unfolding(crate::specs::steps::Scanner::number_kind))]
+pub fn number_kind(text: &[u8]) -> Result<TokenKind, FaultKind>
     ensures { result ≡ spec.number_kind text.now }
 {
     let base = Base::of(text);

@@ -5,7 +5,8 @@ ghost use Rattle.mc_lex.specs.Lines.{line_of, column_of};
 
 use mc_span::Span;
 
-/// A place in a source as a reader counts it: lines from 1, each of which ends after LF, and bytes of the line from 1.
+/// A place in a source as a reader counts it: lines from 1, each of which ends after LF,
+/// and bytes of the line from 1.
 #[derive(Clone, Copy, Debug, PartialEq, Eq)]
 pub struct Place {
     pub line: u32,

@@ -1,11 +1,12 @@
 //! Suffixes of integer constants.
 ghost use Rattle.std.specs.Prelude.{◌≡◌};
 ghost use Rattle.mc_lex.specs.Numbers as numbers;
-ghost use Rattle.mc_lex.specs.Reading as spec;
+ghost use Rattle.mc_lex.specs.steps.Scanner as spec;
 
 use crate::table::is_one_of;
 
-/// The suffix of an integer constant (C17 6.4.4.1), with letters of either case and its two parts in either order.
+/// The suffix of an integer constant (C17 6.4.4.1), with letters of either case
+/// and its two parts in either order.
 #[derive(Clone, Copy, Debug, PartialEq, Eq)]
 pub enum Suffix {
     None,

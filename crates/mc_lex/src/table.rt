@@ -1,7 +1,7 @@
 //! Tables of texts.
 ghost use Rattle.std.specs.Prelude.{◌≡◌, ◌≤◌, map, length};
 ghost use Rattle.mc_lex.specs.Words.{one_of};
-ghost use Rattle.mc_lex.specs.Reading as spec;
+ghost use Rattle.mc_lex.specs.steps.Scanner as spec;
 
 /// Whether the text is one of the table.
 pub fn is_one_of(table: &[&[u8]], text: &[u8]) -> bool

@@ -4,14 +4,14 @@ ghost use Rattle.std.specs.List.{prefix_len};
 ghost use Rattle.mc_lex.specs.Bytes.{is_word_byte};
 ghost use Rattle.mc_lex.specs.Words as words;
 ghost use Rattle.mc_lex.specs.Words.{one_of, keywords, outside_keywords, reserved};
-ghost use Rattle.mc_lex.specs.Reading as spec;
+ghost use Rattle.mc_lex.specs.steps.Scanner as spec;
 
 use crate::byte::{is_letter, is_word_byte};
-use crate::flaw::Flaw;
+use crate::fault_kind::FaultKind;
 use crate::table::is_one_of;
 use crate::token::{Dialect, TokenKind};
 
-/// How many letters, digits and `_` stand at the front.
+/// How many letters, digits and `_` stand at the start.
 fn word_bytes_len(bytes: &[u8]) -> usize
     ensures value { result ≡ prefix_len is_word_byte bytes.now }
     ensures within { result ≤ length bytes.now }
@@ -19,7 +19,7 @@ fn word_bytes_len(bytes: &[u8]) -> usize
     bytes.iter().take_while(|b| is_word_byte(**b)).count()
 }
 
-/// The length of the word at the front, or 0.
+/// The length of the word at the start, or 0.
 pub fn word_len(bytes: &[u8]) -> usize
     ensures value { result ≡ spec.word_len bytes.now }
     ensures within { result ≤ length bytes.now }
@@ -117,13 +117,13 @@ fn is_reserved(text: &[u8], dialect: Dialect) -> bool
 }
 
 /// What a word is.
-pub fn word_kind(text: &[u8], dialect: Dialect) -> Result<TokenKind, Flaw>
+pub fn word_kind(text: &[u8], dialect: Dialect) -> Result<TokenKind, FaultKind>
     ensures { result ≡ words.word_kind dialect text.now }
 {
     if is_keyword(text) {
         Ok(TokenKind::Keyword)
     } else if is_outside_keyword(text) || is_reserved(text, dialect) {
-        Err(Flaw::OutsideWord)
+        Err(FaultKind::OutsideWord)
     } else {
         Ok(TokenKind::Identifier)
     }

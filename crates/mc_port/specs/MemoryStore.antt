@@ -2,7 +2,7 @@
 use Rattle.std.specs.Prelude.{◌≡◌, ℕ, ◌+◌, ◌<◌, ◌≤◌, List, length, map, Some, None, Result, Ok, Err, ⊤, Vec, String, string_bytes, ◌⊎◌, Any}
 use Rattle.std.specs.declared.alloc.Global.{Global}
 use Rattle.mc_port.specs.Causes.{raised}
-use Rattle.mc_port.specs.Store.{Files, file_of}
+use Rattle.mc_port.specs.Store.{Files, Request, State, file_of}
 use Rattle.mc_port.specs.declared.store.LoadFault.{LoadFault}
 use Rattle.mc_port.specs.declared.store.LoadFault.TheVariants.{Failed, TooLong, OutOfMemory}
 
@@ -10,9 +10,14 @@ use Rattle.mc_port.specs.declared.store.LoadFault.TheVariants.{Failed, TooLong, 
 abbrev pub kept_files : List (String Global × Vec ℕ Global) → Files
 kept_files fs = map (λ f. (string_bytes f.0, f.1.items)) fs
 
--- the names that it was asked
-abbrev pub kept_names : List (String Global) → List (List ℕ)
-kept_names ns = map (λ n. string_bytes n) ns
+-- what it was asked for
+abbrev pub kept_requests : List (String Global × ℕ) → List Request
+kept_requests rs = map (λ r. record { name = string_bytes r.0; limit = r.1 }) rs
+
+-- what contracts see of a memory store: it tells its files and what it was asked for
+abbrev pub state_of : List (String Global × Vec ℕ Global) → List (String Global × ℕ) → ℕ → State
+state_of files asked faults =
+    record { contents = Some (kept_files files); asked = Some (kept_requests asked); faults = faults }
 
 -- the call of that number is to fail
 abbrev pub IsListed : List ℕ → ℕ → Type 0

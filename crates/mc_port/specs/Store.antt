@@ -15,20 +15,45 @@ abbrev pub file_of : Files → List ℕ → Option (List ℕ)
 file_of [] name = None
 file_of (f ∷ fs) name = if bytes_eq f.0 name then Some f.1 else file_of fs name
 
--- the names asked so far, where they are told, with one more at their end
-abbrev pub and_asked : Option (List (List ℕ)) → List ℕ → Option (List (List ℕ))
-and_asked names name = option_map (λ ns. ns ++ name ∷ []) names
+-- a file that was asked for: its name, and the greatest length that was allowed
+pub record Request : Type 0 where
+  pub name : List ℕ
+  pub limit : ℕ
 
--- what an answer says of the file, where the files are told, of the limit, and of the count of faults before and now
-abbrev pub Loads : Option Files → List ℕ → ℕ → ℕ → ℕ → Result (Vec ℕ Global) LoadFault → Type 0
-Loads files name limit before now (Ok bytes) = (length bytes.items ≤ limit) × ((told : Files) → files ≡ Some told → file_of told name ≡ Some bytes.items)
-Loads files name limit before now (Err Failed) = Rose before now
-Loads files name limit before now (Err (TooLong at_least)) = (at_least ≡ limit + 1) × ((told : Files) → files ≡ Some told → (bytes : List ℕ) × (file_of told name ≡ Some bytes) × (limit < length bytes))
-Loads files name limit before now (Err OutOfMemory) = ⊤
+-- what contracts see of a store
+pub record State : Type 0 where
+  -- the files, where they are told; of two files of one name the first is meant
+  pub contents : Option Files
+  -- what was asked for so far, where it is told
+  pub asked : Option (List Request)
+  -- how often a load has failed; the count never falls, and stays at the last value of a u64
+  pub faults : ℕ
 
--- a call that doesn't want for memory puts its name at the end of the names asked; one that does leaves them
-abbrev pub Asks : Option (List (List ℕ)) → Option (List (List ℕ)) → List ℕ → Result (Vec ℕ Global) LoadFault → Type 0
-Asks before after name (Ok bytes) = after ≡ and_asked before name
-Asks before after name (Err Failed) = after ≡ and_asked before name
-Asks before after name (Err (TooLong at_least)) = after ≡ and_asked before name
-Asks before after name (Err OutOfMemory) = after ≡ before
+-- what was asked for so far, where it is told, with one more at its end
+abbrev pub and_asked : Option (List Request) → Request → Option (List Request)
+and_asked asked request = option_map (λ rs. rs ++ request ∷ []) asked
+
+-- the file of that name has these bytes, where the files are told
+abbrev pub HasFile : Option Files → List ℕ → List ℕ → Type 0
+HasFile files name bytes = (told : Files) → files ≡ Some told → file_of told name ≡ Some bytes
+
+-- the file of that name is longer than the limit, where the files are told
+abbrev pub IsLonger : Option Files → List ℕ → ℕ → Type 0
+IsLonger files name limit = (told : Files) → files ≡ Some told
+    → (bytes : List ℕ) × (file_of told name ≡ Some bytes) × (limit < length bytes)
+
+-- what an answer says of the file, where the files are told, of the limit, and of the count of faults
+abbrev pub Loads : State → State → Request → Result (Vec ℕ Global) LoadFault → Type 0
+Loads old new request (Ok bytes) =
+    (length bytes.items ≤ request.limit) × HasFile old.contents request.name bytes.items
+Loads old new request (Err Failed) = Rose old.faults new.faults
+Loads old new request (Err (TooLong at_least)) =
+    (at_least ≡ request.limit + 1) × IsLonger old.contents request.name request.limit
+Loads old new request (Err OutOfMemory) = ⊤
+
+-- a call puts its request at the end of those so far; one that is out of memory leaves them
+abbrev pub Asks : State → State → Request → Result (Vec ℕ Global) LoadFault → Type 0
+Asks old new request (Ok bytes) = new.asked ≡ and_asked old.asked request
+Asks old new request (Err Failed) = new.asked ≡ and_asked old.asked request
+Asks old new request (Err (TooLong at_least)) = new.asked ≡ and_asked old.asked request
+Asks old new request (Err OutOfMemory) = new.asked ≡ old.asked

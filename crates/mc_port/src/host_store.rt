@@ -8,7 +8,7 @@ use std::fs;
 use std::io::Read;
 use std::rt::Files;
 
-/// The files of the machine, by their paths. It tells nothing of what they hold, nor the names asked.
+/// The files of the machine, by their paths. It tells nothing of what they hold, nor what it was asked for.
 #[derive(Drop)]
 pub struct HostStore<R: Files + Drop> {
     runtime: R,
@@ -57,11 +57,7 @@ fn read_up_to<F: Read>(alloc: Global, file: &mut F, limit: u64) -> Result<Vec<u8
 }
 
 impl<R: Files + Drop> Store for HostStore<R> {
-    ghost contents = { λ _. None };
-
-    ghost asked = { λ _. None };
-
-    ghost faults = { λ s. s.faults };
+    ghost state = { λ s. record { contents = None; asked = None; faults = s.faults } };
 
     fn load(&mut self, alloc: Global, name: &str, limit: u64) -> Result<Vec<u8>, LoadFault> {
         let answer = match fs::open(&self.runtime, name) {

@@ -1,20 +1,20 @@
 //! Files in memory, with loads that fail where a test lists them.
 ghost use Rattle.std.specs.Prelude.{◌≡◌, ◌≤◌, ◌+◌, ◌-◌, ◌^◌, ◌↔◌, [], length, Some, option_map, IsTrue};
-ghost use Rattle.mc_port.specs.MemoryStore.{Answers, IsListed, faults_after, kept_files, kept_names};
+ghost use Rattle.mc_port.specs.MemoryStore.{Answers, IsListed, faults_after, kept_files, state_of};
 ghost use Rattle.mc_port.specs.Store.{Asks, Loads, file_of};
 
 use crate::{LoadFault, Store};
 use std::alloc::Global;
 
 /// A store of files in memory, which fails exactly at the calls that are listed and for a name that it does
-/// not hold. It tells its files and the names asked. Calls are numbered from 1; one that wants for memory
+/// not hold. It tells its files and what it was asked for. Calls are numbered from 1; one that wants for memory
 /// is not numbered.
 #[derive(Drop)]
 pub struct MemoryStore {
     alloc: Global,
     files: Vec<(String, Vec<u8>)>,
     failing: Vec<u32>,
-    asked: Vec<String>,
+    asked: Vec<(String, u64)>,
     faults: u64,
     ghost counted: { faults ≤ 2 ^ 64 - 1 },
 }
@@ -86,16 +86,16 @@ fn answer(
 }
 
 impl Store for MemoryStore {
-    ghost contents = { λ s. Some (kept_files s.files.items) };
-
-    ghost asked = { λ s. Some (kept_names s.asked.items) };
-
-    ghost faults = { λ s. s.faults };
+    ghost state = { λ s. state_of s.files.items s.asked.items s.faults };
 
     fn load(&mut self, alloc: Global, name: &str, limit: u64) -> Result<Vec<u8>, LoadFault>
         ensures contents { self.new.files ≡ self.old.files }
-        ensures asked { Asks (Some (kept_names self.old.asked.items)) (Some (kept_names self.new.asked.items)) name.now result }
-        ensures bytes { Loads (Some (kept_files self.old.files.items)) name.now limit self.old.faults self.new.faults result }
+        ensures asked { Asks (state_of self.old.files.items self.old.asked.items self.old.faults)
+            (state_of self.new.files.items self.new.asked.items self.new.faults)
+            (record { name = name.now; limit = limit }) result }
+        ensures bytes { Loads (state_of self.old.files.items self.old.asked.items self.old.faults)
+            (state_of self.new.files.items self.new.asked.items self.new.faults)
+            (record { name = name.now; limit = limit }) result }
         ensures later { self.old.faults ≤ self.new.faults }
         ensures last { self.new.faults ≤ 2 ^ 64 - 1 }
 
@@ -109,15 +109,17 @@ impl Store for MemoryStore {
         };
         let fails = is_listed(&self.failing, self.asked.len() + 1);
         match answer(alloc, &self.files, fails, name, limit) {
-            Ok(bytes) => match self.asked.push(kept) {
+            Ok(bytes) => match self.asked.push((kept, limit)) {
                 Ok(()) => Ok(bytes),
                 Err(_) => Err(LoadFault::OutOfMemory),
             },
-            Err(LoadFault::TooLong { length_at_least }) => match self.asked.push(kept) {
-                Ok(()) => Err(LoadFault::TooLong { length_at_least }),
-                Err(_) => Err(LoadFault::OutOfMemory),
-            },
-            Err(LoadFault::Failed) => match self.asked.push(kept) {
+            Err(LoadFault::TooLong { length_at_least }) => {
+                if self.asked.push((kept, limit)).is_err() {
+                    return Err(LoadFault::OutOfMemory);
+                }
+                Err(LoadFault::TooLong { length_at_least })
+            }
+            Err(LoadFault::Failed) => match self.asked.push((kept, limit)) {
                 Ok(()) => {
                     self.faults = self.faults.saturating_add(1);
                     Err(LoadFault::Failed)

@@ -1,7 +1,6 @@
 //! Files by name.
-ghost use Rattle.std.specs.Prelude.{◌≡◌, ◌≤◌, ◌-◌, ◌^◌, ℕ, List};
-ghost use Rattle.std.specs.declared.option.Option.{Option};
-ghost use Rattle.mc_port.specs.Store.{Files, Loads, Asks};
+ghost use Rattle.std.specs.Prelude.{◌≡◌, ◌≤◌, ◌-◌, ◌^◌};
+ghost use Rattle.mc_port.specs.Store.{Asks, Loads, State};
 
 use std::alloc::Global;
 use thiserror::Error;
@@ -22,20 +21,14 @@ pub enum LoadFault {
 
 /// Where files are loaded from, each by its name.
 pub trait Store {
-    /// The files, where they are told. Of two files of one name the first is meant.
-    ghost contents: { Self → Option Files };
-
-    /// The names asked so far, where they are told.
-    ghost asked: { Self → Option (List (List ℕ)) };
-
-    /// How often a load has failed. The count never falls, and stays at the last value of a `u64`.
-    ghost faults: { Self → ℕ };
+    /// What contracts see of the store: its files, what it was asked for, and its count of faults.
+    ghost state: { Self → State };
 
     /// The bytes of the file of that name, where there are at most `limit` of them.
     fn load(&mut self, alloc: Global, name: &str, limit: u64) -> Result<Vec<u8>, LoadFault>
-        ensures contents { contents self.new ≡ contents self.old }
-        ensures asked { Asks (asked self.old) (asked self.new) name.now result }
-        ensures bytes { Loads (contents self.old) name.now limit (faults self.old) (faults self.new) result }
-        ensures later { faults self.old ≤ faults self.new }
-        ensures last { faults self.new ≤ 2 ^ 64 - 1 };
+        ensures contents { (state self.new).contents ≡ (state self.old).contents }
+        ensures asked { Asks (state self.old) (state self.new) (record { name = name.now; limit = limit }) result }
+        ensures bytes { Loads (state self.old) (state self.new) (record { name = name.now; limit = limit }) result }
+        ensures later { (state self.old).faults ≤ (state self.new).faults }
+        ensures last { (state self.new).faults ≤ 2 ^ 64 - 1 };
 }

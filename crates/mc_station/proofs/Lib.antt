@@ -1,10 +1,5 @@
-pub mod Digits
+pub mod Leading
 pub mod Parts
-pub mod Pieces
-pub mod Places
-pub mod Judging
-pub mod ReadTests
-pub mod Replies
-pub mod Sorting
+pub mod Phases
 pub mod Statuses
 pub mod Unique

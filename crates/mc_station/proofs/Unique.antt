@@ -1,82 +1,159 @@
 -- Words and files call for at most one reply.
-use Rattle.std.proofs.Common.{◌≡◌, ℕ, List, [], length, Some, None, refl, sym, ap, subst, arith}
+use Rattle.std.proofs.Common.{◌≡◌, ◌∙◌, ◌≤◌, ◌<◌, ◌⊎◌, ℕ, List, [], length, Option, Some, None, Result, Ok, Err, refl, sym, ap, subst, inl, inr, arith}
+use Rattle.mc_command.specs.Command.{Command, command_of}
 use Rattle.mc_lex.specs.declared.token.Dialect.TheVariants.{Plain}
 use Rattle.mc_lex.specs.declared.fault.LexFault.{LexFault}
 use Rattle.mc_lex.specs.Scans.{Scans}
 use Rattle.mc_lex.specs.Tokens.{Tok}
 use Rattle.mc_lex.proofs.Scanning.{one_scan}
-use Rattle.mc_parse.specs.Form.{Form, IsFirst}
-use Rattle.mc_parse.proofs.Whole.{one_form}
-use Rattle.mc_port.specs.Store.{Files, file_of}
-use Rattle.mc_station.specs.Command.{Names}
-use Rattle.mc_station.specs.Reply as calls
-use Rattle.mc_station.specs.Reply.{Reply, HasForm, TestsReply, SourceReply, CallsFor, refusal, fault_line, success}
-use Rattle.mc_station.specs.Texts.{report_lines}
-use Rattle.mc_station.proofs.ReadTests.{one_file}
+use Rattle.mc_parse.specs.Form.{Form}
+use Rattle.mc_port.specs.Store.{Files, HasFile, IsLonger, and_asked}
+use Rattle.mc_first.specs.TestsFile.{PlainTest}
+use Rattle.mc_first.proofs.Unique.{one_form, one_list}
+use Rattle.mc_station.specs.Calls as calls
+use Rattle.mc_station.specs.Calls.{Answers, Call, CallsFor, Fails, IsKnown, Leads, Requests}
+use Rattle.mc_station.specs.Files.{File, Holds, limit_of, request_of}
+use Rattle.mc_station.specs.Reply.{Reply, longer, refusal}
+use Rattle.mc_station.specs.Source.{Forms, JudgesSource, Lexes, Then}
+use Rattle.mc_station.specs.Stages as stages
+use Rattle.mc_station.specs.Stages.{Judges, JudgesTests, Next, Stage, after_source, asks, done, first_stage, next_of}
+use Rattle.mc_station.specs.Status.{IsAnswer}
+use Rattle.mc_station.specs.Texts.{fault_line, source_form_line, tests_form_line}
+use Rattle.mc_station.specs.declared.status.Status.TheVariants.{SourceRefused, TestsRefused}
 
-one_tests : (form : Form) (name bytes : List ℕ) (r s : Reply) → TestsReply form name bytes r → TestsReply form name bytes s → r ≡ s
-one_tests form name bytes r s (calls.tests_too_long a) (calls.tests_too_long b) = refl
-one_tests form name bytes r s (calls.tests_too_long a) (calls.tests_refused b other) = absurd (omega arith)
-one_tests form name bytes r s (calls.tests_too_long a) (calls.run ts b file) = absurd (omega arith)
-one_tests form name bytes r s (calls.tests_refused a none) (calls.tests_too_long b) = absurd (omega arith)
-one_tests form name bytes r s (calls.tests_refused a none) (calls.tests_refused b other) = refl
-one_tests form name bytes r s (calls.tests_refused a none) (calls.run ts b file) = absurd (none ts file)
-one_tests form name bytes r s (calls.run ts a file) (calls.tests_too_long b) = absurd (omega arith)
-one_tests form name bytes r s (calls.run ts a file) (calls.tests_refused b other) = absurd (other ts file)
-one_tests form name bytes r s (calls.run ts a file) (calls.run us b other) = ap (λ l. success (report_lines form.parameters form.tree l)) (one_file form.name (length form.parameters) _ ts us file other)
+-- ---- phases
 
--- a source has one token list, and its scan ends in one way
-same_tokens : (bytes : List ℕ) (ts us : List Tok) → Scans Plain [] bytes ts None → Scans Plain [] bytes us None → ts ≡ us
-same_tokens bytes ts us p q = (one_scan Plain bytes ts us None None p q).0
+-- a phase gives at most one thing
+abbrev IsOne : {A : Type 0} → (Result A Reply → Type 0) → Type 0
+IsOne {A} Phase = (u v : Result A Reply) → Phase u → Phase v → u ≡ v
 
-same_fault : (bytes : List ℕ) (ts us : List Tok) (e f : LexFault) → Scans Plain [] bytes ts (Some e) → Scans Plain [] bytes us (Some f) → e ≡ f
-same_fault bytes ts us e f p q = let same : Some e ≡ Some f = (one_scan Plain bytes ts us (Some e) (Some f) p q).1 in cc same
+one_then : {A B : Type 0} (Phase : Result A Reply → Type 0) (Next : A → Result B Reply → Type 0) → IsOne Phase → ((a : A) → IsOne (Next a)) → IsOne (Then Phase Next)
+one_then {A} {B} Phase Next one next (Ok b) (Ok c) (a, p, q) (d, r, s) =
+    let same : a ≡ d = cc (one (Ok a) (Ok d) p r) in
+    next d (Ok b) (Ok c) (subst (λ (x : A). Next x (Ok b)) same q) s
+one_then {A} {B} Phase Next one next (Ok b) (Err e) (a, p, q) (inl r) = absurd (cc (one (Ok a) (Err e) p r))
+one_then {A} {B} Phase Next one next (Ok b) (Err e) (a, p, q) (inr (d, r, s)) =
+    let same : a ≡ d = cc (one (Ok a) (Ok d) p r) in
+    next d (Ok b) (Err e) (subst (λ (x : A). Next x (Ok b)) same q) s
+one_then {A} {B} Phase Next one next (Err e) (Ok c) (inl p) (d, r, s) = absurd (cc (one (Err e) (Ok d) p r))
+one_then {A} {B} Phase Next one next (Err e) (Ok c) (inr (a, p, q)) (d, r, s) =
+    let same : a ≡ d = cc (one (Ok a) (Ok d) p r) in
+    next d (Err e) (Ok c) (subst (λ (x : A). Next x (Err e)) same q) s
+one_then {A} {B} Phase Next one next (Err e) (Err f) (inl p) (inl r) =
+    let same : e ≡ f = cc (one (Err e) (Err f) p r) in ap Err same
+one_then {A} {B} Phase Next one next (Err e) (Err f) (inl p) (inr (d, r, s)) = absurd (cc (one (Err e) (Ok d) p r))
+one_then {A} {B} Phase Next one next (Err e) (Err f) (inr (a, p, q)) (inl r) = absurd (cc (one (Ok a) (Err f) p r))
+one_then {A} {B} Phase Next one next (Err e) (Err f) (inr (a, p, q)) (inr (d, r, s)) =
+    let same : a ≡ d = cc (one (Ok a) (Ok d) p r) in
+    next d (Err e) (Err f) (subst (λ (x : A). Next x (Err e)) same q) s
 
-no_fault : (bytes : List ℕ) (ts us : List Tok) (e : LexFault) → Scans Plain [] bytes ts (Some e) → Scans Plain [] bytes us None → ⊥
-no_fault bytes ts us e p q = let same : Some e ≡ None = (one_scan Plain bytes ts us (Some e) None p q).1 in cc same
+one_lexed : (source : List ℕ) → IsOne (Lexes source)
+one_lexed source (Ok ts) (Ok us) p q = ap Ok (one_scan Plain source ts us None None p q).0
+one_lexed source (Ok ts) (Err r) p (us, e, q, is) = absurd (cc (one_scan Plain source ts us None (Some e) p q).1)
+one_lexed source (Err r) (Ok us) (ts, e, p, is) q = absurd (cc (one_scan Plain source ts us (Some e) None p q).1)
+one_lexed source (Err r) (Err s) (ts, e, p, is) (us, f, q, also) =
+    let same : e ≡ f = cc (one_scan Plain source ts us (Some e) (Some f) p q).1 in
+    ap Err (is ∙ ap (λ x. refusal SourceRefused (fault_line source x)) same ∙ sym also)
 
-same_form : (bytes : List ℕ) (f g : Form) → HasForm bytes f → HasForm bytes g → f ≡ g
-same_form bytes f g p q =
-    let same : p.tokens ≡ q.tokens = same_tokens bytes p.tokens q.tokens p.scans q.scans in
-    one_form q.tokens f g (subst (λ (ts : List Tok). IsFirst ts f) same p.reads) q.reads
+one_formed : (tokens : List Tok) → IsOne (Forms tokens)
+one_formed tokens (Ok f) (Ok g) p q = let same : f ≡ g = cc (one_form tokens (Some f) (Some g) p q) in ap Ok same
+one_formed tokens (Ok f) (Err r) p (none, is) = absurd (cc (one_form tokens (Some f) None p none))
+one_formed tokens (Err r) (Ok g) (none, is) q = absurd (cc (one_form tokens None (Some g) none q))
+one_formed tokens (Err r) (Err s) (none, is) (also, other) = ap Err (is ∙ sym other)
 
-no_form : (bytes : List ℕ) (ts : List Tok) (f : Form) → Scans Plain [] bytes ts None → ((form : Form) → IsFirst ts form → ⊥) → HasForm bytes f → ⊥
-no_form bytes ts f p none q = none f (subst (λ (us : List Tok). IsFirst us f) (sym (same_tokens bytes ts q.tokens p q.scans)) q.reads)
+one_source : (source : List ℕ) → IsOne (JudgesSource source)
+one_source source = one_then (Lexes source) Forms (one_lexed source) one_formed
 
-one_accepted : (files : Files) (names : Names) (bytes : List ℕ) (f g : Form) (a b : List ℕ) (r s : Reply) → HasForm bytes f → HasForm bytes g
-    → file_of files names.tests ≡ Some a → file_of files names.tests ≡ Some b → TestsReply f names.tests a r → TestsReply g names.tests b s → r ≡ s
-one_accepted files names bytes f g a b r s p q is also told other =
-    let form : f ≡ g = same_form bytes f g p q in
-    let file : a ≡ b = cc (is, also) in
-    one_tests g names.tests b r s (subst (λ (h : Form). TestsReply h names.tests b r) form (subst (λ (l : List ℕ). TestsReply f names.tests l r) file told)) other
+one_tests : (form : Form) (bytes : List ℕ) → IsOne (JudgesTests form bytes)
+one_tests form bytes (Ok ts) (Ok us) p q = let same : ts ≡ us = cc (one_list form bytes (Some ts) (Some us) p q) in ap Ok same
+one_tests form bytes (Ok ts) (Err r) p (none, is) = absurd (cc (one_list form bytes (Some ts) None p none))
+one_tests form bytes (Err r) (Ok us) (none, is) q = absurd (cc (one_list form bytes None (Some us) none q))
+one_tests form bytes (Err r) (Err s) (none, is) (also, other) = ap Err (is ∙ sym other)
 
-one_source : (files : Files) (names : Names) (bytes : List ℕ) (r s : Reply) → SourceReply files names bytes r → SourceReply files names bytes s → r ≡ s
-one_source files names bytes r s (calls.source_too_long a) (calls.source_too_long b) = refl
-one_source files names bytes r s (calls.source_too_long a) (calls.lexical us f b q) = absurd (omega arith)
-one_source files names bytes r s (calls.source_too_long a) (calls.other_form us b q none) = absurd (omega arith)
-one_source files names bytes r s (calls.source_too_long a) (calls.accepted g u t b q is told) = absurd (omega arith)
-one_source files names bytes r s (calls.lexical ts e a p) (calls.source_too_long b) = absurd (omega arith)
-one_source files names bytes r s (calls.lexical ts e a p) (calls.lexical us f b q) = ap (λ x. refusal 3 (fault_line bytes x)) (same_fault bytes ts us e f p q)
-one_source files names bytes r s (calls.lexical ts e a p) (calls.other_form us b q none) = absurd (no_fault bytes ts us e p q)
-one_source files names bytes r s (calls.lexical ts e a p) (calls.accepted g u t b q is told) = absurd (no_fault bytes ts q.tokens e p q.scans)
-one_source files names bytes r s (calls.other_form ts a p none) (calls.source_too_long b) = absurd (omega arith)
-one_source files names bytes r s (calls.other_form ts a p none) (calls.lexical us f b q) = absurd (no_fault bytes us ts f q p)
-one_source files names bytes r s (calls.other_form ts a p none) (calls.other_form us b q other) = refl
-one_source files names bytes r s (calls.other_form ts a p none) (calls.accepted g u t b q is told) = absurd (no_form bytes ts g p none q)
-one_source files names bytes r s (calls.accepted f t v a p is told) (calls.source_too_long b) = absurd (omega arith)
-one_source files names bytes r s (calls.accepted f t v a p is told) (calls.lexical us e b q) = absurd (no_fault bytes us p.tokens e q p.scans)
-one_source files names bytes r s (calls.accepted f t v a p is told) (calls.other_form us b q none) = absurd (no_form bytes us f q none p)
-one_source files names bytes r s (calls.accepted f t v a p is told) (calls.accepted g u w b q also other) = one_accepted files names bytes f g t u r s p q is also told other
+one_stage : (t : Stage) → IsOne (λ (v : Result Stage Reply). v ≡ Ok t)
+one_stage t u v p q = p ∙ sym q
 
-one_command : (files : Files) (names others : Names) (a b : List ℕ) (r s : Reply) → names ≡ others → file_of files names.source ≡ Some a → file_of files others.source ≡ Some b
-    → SourceReply files names a r → SourceReply files others b s → r ≡ s
-one_command files names others a b r s same is also told other =
-    let moved : file_of files names.source ≡ Some b = subst (λ (n : Names). file_of files n.source ≡ Some b) (sym same) also in
-    let file : a ≡ b = cc (is, moved) in
-    one_source files others b r s (subst (λ (n : Names). SourceReply files n b r) same (subst (λ (l : List ℕ). SourceReply files names l r) file told)) other
+one_verdict : (s : Stage) (bytes : List ℕ) → IsOne (Judges s bytes)
+one_verdict stages.usage bytes u v p q = absurd p
+one_verdict (stages.source command) bytes u v p q =
+    one_then (JudgesSource bytes) (λ form w. w ≡ Ok (after_source command form)) (one_source bytes) (λ form. one_stage (after_source command form)) u v p q
+one_verdict (stages.tests name form) bytes u v p q =
+    one_then (JudgesTests form bytes) (λ list w. w ≡ Ok (stages.vectors form list)) (one_tests form bytes) (λ list. one_stage (stages.vectors form list)) u v p q
+one_verdict (stages.vectors form list) bytes u v p q = absurd p
 
-pub one_reply : (words : List (List ℕ)) (files : Files) (r s : Reply) → CallsFor words files r → CallsFor words files s → r ≡ s
-one_reply words files r s (calls.usage a) (calls.usage b) = refl
-one_reply words files r s (calls.usage a) (calls.command n bs u b q other) = cc (a, b)
-one_reply words files r s (calls.command n bs t a p told) (calls.usage b) = cc (a, b)
-one_reply words files r s (calls.command n bs t a p told) (calls.command m cs u b q other) = one_command files n m bs cs r s (cc (a, b)) p q told other
+-- ---- stages
+
+module _ (files : Files) where
+  -- a file that is told has one content
+  same_bytes : (file : File) (a b : List ℕ) → Holds (Some files) file a → Holds (Some files) file b → a ≡ b
+  same_bytes file a b p q = cc (p.0 files refl, q.0 files refl)
+
+  not_both : (file : File) (bytes : List ℕ) → IsLonger (Some files) file.name (limit_of file.kind) → Holds (Some files) file bytes → ⊥
+  not_both file bytes long holds =
+      let (longer, is, more) = long files refl in
+      let same : longer ≡ bytes = cc (is, holds.0 files refl) in
+      omega (arith, more, holds.1, ap length same)
+
+  same_verdict : (s : Stage) (f g : File) (a b : List ℕ) (u v : Result Stage Reply) → next_of s ≡ asks f → next_of s ≡ asks g
+      → Holds (Some files) f a → Holds (Some files) g b → Judges s a u → Judges s b v → u ≡ v
+  same_verdict s f g a b u v p q holds also judges other =
+      let file : f ≡ g = cc (p, q) in
+      let bytes : a ≡ b = same_bytes g a b (subst (λ (x : File). Holds (Some files) x a) file holds) also in
+      one_verdict s b u v (subst (λ (x : List ℕ). Judges s x u) bytes judges) other
+
+  not_long : (s : Stage) (f g : File) (bytes : List ℕ) → next_of s ≡ asks f → next_of s ≡ asks g → IsLonger (Some files) f.name (limit_of f.kind) → Holds (Some files) g bytes → ⊥
+  not_long s f g bytes p q long holds =
+      let file : f ≡ g = cc (p, q) in
+      not_both g bytes (subst (λ (x : File). IsLonger (Some files) x.name (limit_of x.kind)) file long) holds
+
+  one_answer : (s : Stage) (a b c d : Requests) (r q : Reply) → Answers (Some files) s a r b → Answers (Some files) s c q d → r ≡ q
+  one_answer s a b c d r q (calls.finished x p) (calls.finished y o) = cc (p, o)
+  one_answer s a b c d r q (calls.finished x p) (calls.too_long g o long) = absurd (cc (p, o))
+  one_answer s a b c d r q (calls.finished x p) (calls.refused g bytes y o holds judges) = absurd (cc (p, o))
+  one_answer s a b c d r q (calls.too_long f p long) (calls.finished y o) = absurd (cc (p, o))
+  one_answer s a b c d r q (calls.too_long f p long) (calls.too_long g o also) = let file : f ≡ g = cc (p, o) in ap longer file
+  one_answer s a b c d r q (calls.too_long f p long) (calls.refused g bytes y o holds judges) = absurd (not_long s f g bytes p o long holds)
+  one_answer s a b c d r q (calls.refused f bytes x p holds judges) (calls.finished y o) = absurd (cc (p, o))
+  one_answer s a b c d r q (calls.refused f bytes x p holds judges) (calls.too_long g o long) = absurd (not_long s g f bytes o p long holds)
+  one_answer s a b c d r q (calls.refused f bytes x p holds judges) (calls.refused g text y o also other) =
+      cc (same_verdict s f g bytes text (Err r) (Err q) p o holds also judges other)
+
+  no_answer : (s t : Stage) (f : File) (text : List ℕ) (a b : Requests) (r : Reply) → Answers (Some files) s a r b → next_of s ≡ asks f → Holds (Some files) f text → Judges s text (Ok t) → ⊥
+  no_answer s t f text a b r (calls.finished x p) is holds judges = absurd (cc (p, is))
+  no_answer s t f text a b r (calls.too_long g p long) is holds judges = not_long s g f text p is long holds
+  no_answer s t f text a b r (calls.refused g bytes x p also refuses) is holds judges = absurd (cc (same_verdict s g f bytes text (Err r) (Ok t) p is also holds refuses judges))
+
+no_fault : (s : Stage) (a b : Requests) (r : Reply) → Fails s a r b → IsAnswer r.status → ⊥
+no_fault s a b r (calls.unreadable f is) answer = answer
+no_fault s a b r calls.no_memory answer = answer
+no_fault s a b r (calls.no_memory_after f is) answer = answer
+
+one_end : (files : Files) (s : Stage) (a b c d : Requests) (r q : Reply) → Leads (Some files) s a r b → Leads (Some files) s c q d → IsAnswer r.status → IsAnswer q.status → r ≡ q
+one_end files s a b c d r q (calls.answers _ _ _ _ x) (calls.answers _ _ _ _ y) p o = one_answer files s a b c d r q x y
+one_end files s a b c d r q (calls.answers _ _ _ _ x) (calls.fails _ _ _ _ y) p o = absurd (no_fault s c d q y o)
+one_end files s a b c d r q (calls.answers _ _ _ _ x) (calls.accepted _ t g text _ _ _ is holds judges leads) p o = absurd (no_answer files s t g text a b r x is holds judges)
+one_end files s a b c d r q (calls.fails _ _ _ _ x) y p o = absurd (no_fault s a b r x p)
+one_end files s a b c d r q (calls.accepted _ t f bytes _ _ _ is holds judges leads) (calls.answers _ _ _ _ y) p o = absurd (no_answer files s t f bytes c d q y is holds judges)
+one_end files s a b c d r q (calls.accepted _ t f bytes _ _ _ is holds judges leads) (calls.fails _ _ _ _ y) p o = absurd (no_fault s c d q y o)
+one_end files s a b c d r q (calls.accepted _ t f bytes _ _ _ is holds judges leads) (calls.accepted _ u g text _ _ _ also holds_g judges_g leads_g) p o =
+    let same : t ≡ u = cc (same_verdict files s f g bytes text (Ok t) (Ok u) is also holds holds_g judges judges_g) in
+    one_end files u (and_asked a (request_of f)) b (and_asked c (request_of g)) d r q (subst (λ (x : Stage). Leads (Some files) x (and_asked a (request_of f)) r b) same leads) leads_g p o
+
+-- ---- calls
+
+one_usage : (files : Option Files) (a b : Requests) (r : Reply) → Leads files stages.usage a r b → IsAnswer r.status → done r ≡ next_of stages.usage
+one_usage files a b r (calls.answers _ _ _ _ (calls.finished x p)) answer = sym p
+one_usage files a b r (calls.answers _ _ _ _ (calls.too_long f p long)) answer = absurd (cc p)
+one_usage files a b r (calls.answers _ _ _ _ (calls.refused f bytes x p holds judges)) answer = absurd (cc p)
+one_usage files a b r (calls.fails _ _ _ _ x) answer = absurd (no_fault stages.usage a b r x answer)
+one_usage files a b r (calls.accepted _ t f bytes _ _ _ is holds judges leads) answer = absurd judges
+
+pub one_reply : (call : Call) (r q : Reply) → IsKnown call → CallsFor call r → CallsFor call q → r ≡ q
+one_reply call r q (inl none) (p, (a, b, leads)) (o, (c, d, also)) =
+    let first : first_stage (command_of call.words) ≡ stages.usage = ap first_stage none in
+    let one = one_usage call.files a b r (subst (λ (s : Stage). Leads call.files s a r b) first leads) p in
+    let two = one_usage call.files c d q (subst (λ (s : Stage). Leads call.files s c q d) first also) o in
+    cc (one, two)
+one_reply call r q (inr (files, told)) (p, (a, b, leads)) (o, (c, d, also)) =
+    let first = first_stage (command_of call.words) in
+    one_end files first a b c d r q (subst (λ (f : Option Files). Leads f first a r b) told leads) (subst (λ (f : Option Files). Leads f first c q d) told also) p o

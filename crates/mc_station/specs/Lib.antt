@@ -1,12 +1,12 @@
-pub mod Command
-pub mod Judged
-pub mod Meaning
-pub mod Members
-pub mod Numbers
-pub mod Outcome
-pub mod ReadTests
-pub mod Reply
-pub mod Seen
-pub mod TestsFile
+-- What words and files call for: the status, the texts, and the files that are asked for.
+pub mod Status
+pub mod Files
 pub mod Texts
-pub mod Vectors
+pub mod Reply
+pub mod Source
+pub mod Stages
+pub mod Calls
+-- What the top call leaves.
+pub mod Outcome
+-- What clauses see of the program's types.
+pub mod Seen

@@ -1,47 +1,60 @@
--- What clauses see of tests, evaluations and lines.
-use Rattle.std.specs.Prelude.{ℕ, Bool, List, map, Vec, string_bytes}
+-- What clauses see of files, refusals, replies and stages.
+use Rattle.std.specs.Prelude.{◌≡◌, ℕ, List, [], map, Option, Some, None, Result, Ok, Err, ⊤, Vec, string_bytes}
+use Rattle.std.specs.declared.alloc.AllocError.{AllocError}
 use Rattle.std.specs.declared.alloc.Global.{Global}
-use Rattle.std.specs.BTreeSet.{BTreeSet, contains_by}
-use Rattle.std.specs.Cmp.Lexicographic.{slice_cmp}
-use Rattle.std.specs.Ordering.{nat_cmp}
-use denote.Ref.{Bor}
-use Rattle.mc_station.specs.Vectors.{Evaluation as Evaluated}
-use Rattle.mc_station.specs.Members.{Member as Part}
-use Rattle.mc_station.specs.Reply.{Reply as CalledFor}
-use Rattle.mc_station.specs.TestsFile.{PlainTest}
-use Rattle.mc_station.specs.Command.{Names}
-use Rattle.mc_station.specs.declared.command.Command.{Command}
+use Rattle.mc_command.specs.Command.{seen_command}
+use Rattle.mc_first.specs.Seen.{bytes_of, form_of, seen_tests}
+use Rattle.mc_station.specs.Files.{File as AskedFile}
+use Rattle.mc_station.specs.Reply.{Reply as CalledFor, longer, out_of_memory, refusal}
+use Rattle.mc_station.specs.Stages.{Next as Follows, Stage as StageOf, asks, done, source, tests, usage, vectors}
+use Rattle.mc_station.specs.Texts.{place_line, source_form_line, tests_form_line}
+use Rattle.mc_station.specs.declared.file.File.{File}
+use Rattle.mc_station.specs.declared.refusal.Refusal.{Refusal}
+use Rattle.mc_station.specs.declared.refusal.Refusal.TheVariants as why
+use Rattle.mc_station.specs.declared.refusal.Stop.{Stop}
+use Rattle.mc_station.specs.declared.refusal.Stop.TheVariants as stop
 use Rattle.mc_station.specs.declared.reply.Reply.{Reply}
-use Rattle.mc_station.specs.declared.tests_file.Test.{Test}
-use Rattle.mc_station.specs.declared.vectors.Evaluation.{Evaluation}
-use Rattle.mc_station.specs.declared.vectors.Member.{Member}
+use Rattle.mc_station.specs.declared.stage.Next.{Next}
+use Rattle.mc_station.specs.declared.stage.Next.TheVariants as next
+use Rattle.mc_station.specs.declared.stage.Stage.{Stage}
+use Rattle.mc_station.specs.declared.stage.Stage.TheVariants as stage
+use Rattle.mc_station.specs.declared.status.Status.TheVariants.{SourceRefused, TestsRefused}
 
-abbrev pub seen_test : Test → PlainTest
-seen_test t = record { name = t.name.now; arguments = t.arguments.items }
+abbrev pub seen_file : File → AskedFile
+seen_file f = record { kind = f.kind; name = f.name.now }
 
-abbrev pub seen_tests : List Test → List PlainTest
-seen_tests ts = map seen_test ts
+-- the reply to a refusal
+abbrev pub reply_to : Refusal → CalledFor
+reply_to (why.TooLong file) = longer (seen_file file)
+reply_to (why.Fault place word) = refusal SourceRefused (place_line place.line place.column word.now)
+reply_to why.SourceForm = refusal SourceRefused source_form_line
+reply_to why.TestsForm = refusal TestsRefused tests_form_line
 
-abbrev pub seen_evaluation : Evaluation → Evaluated
-seen_evaluation e = record { name = e.name.now; answers = e.answers.items; value = e.value }
+-- the reply where a phase gives nothing; there is none to memory that does not suffice
+abbrev pub IsReplyTo : Stop → CalledFor → Type 0
+IsReplyTo (stop.Refused refusal) reply = reply ≡ reply_to refusal
+IsReplyTo stop.OutOfMemory reply = ⊥
 
-abbrev pub seen_evaluations : List Evaluation → List Evaluated
-seen_evaluations es = map seen_evaluation es
-
-abbrev pub seen_members : List Member → List Part
-seen_members ms = map (λ m. (m.left.now, seen_evaluation m.evaluation.now)) ms
-
--- the bytes of each line
-abbrev pub bytes_of : List (Vec ℕ Global) → List (List ℕ)
-bytes_of lines = map (λ line. line.items) lines
-
--- the name is among the keys
-abbrev pub has_name : BTreeSet (Bor (List ℕ)) → List ℕ → Bool
-has_name names q = contains_by (λ k. slice_cmp nat_cmp q k.now) names
-
--- a reply of the program
+-- a reply of the program; where there is none, memory did not suffice
 abbrev pub seen_reply : Reply → CalledFor
 seen_reply r = record { status = r.status; diag = string_bytes r.diag; out = bytes_of r.out.items }
 
-abbrev pub seen_command : Command → Names
-seen_command c = record { source = c.source.now; tests = c.tests.now }
+abbrev pub outcome_of : Result Reply AllocError → CalledFor
+outcome_of (Ok reply) = seen_reply reply
+outcome_of (Err e) = out_of_memory
+
+abbrev pub seen_stage : Stage → StageOf
+seen_stage stage.Usage = usage
+seen_stage (stage.Source command) = source (seen_command command)
+seen_stage (stage.Tests name function) = tests name.now (form_of function)
+seen_stage (stage.Vectors function list) = vectors (form_of function) (seen_tests list.items)
+
+abbrev pub seen_next : Next → Follows
+seen_next (next.Asks file) = asks (seen_file file)
+seen_next (next.Done reply) = done (seen_reply reply)
+
+-- a phase holds of what a function gives, of the reply where it refuses; out of memory says nothing
+abbrev pub Gives : {A B : Type 0} → (A → B) → (Result B CalledFor → Type 0) → Result A Stop → Type 0
+Gives seen Phase (Ok a) = Phase (Ok (seen a))
+Gives seen Phase (Err (stop.Refused refusal)) = Phase (Err (reply_to refusal))
+Gives seen Phase (Err stop.OutOfMemory) = ⊤

@@ -1,18 +1,15 @@
 //! The top call: the words of a command line, a store and two sinks in, a status out.
 #![tactic(auto)]
 
-mod command;
-mod evaluate;
-mod number;
+mod file;
+mod judge;
+mod refusal;
 mod reply;
-mod report;
+mod run;
 mod source;
-mod tests_file;
+mod stage;
+mod status;
 mod text;
 mod top;
-mod vectors;
 
 pub use top::station;
-
-#[cfg(test)]
-mod tests;

@@ -1,73 +1,17 @@
-//! The lines that are put.
-ghost use Rattle.std.specs.Prelude.{◌≡◌, ◌++◌, ◌∷◌, [], IfOk, OnOk, map, string_bytes};
-ghost use Rattle.mc_station.specs.Seen.{seen_evaluation};
-ghost use Rattle.mc_station.specs.Texts.{answer_byte, cannot_read_line, longer_line, test_line, truth_byte, vector_line};
+//! The texts on the errors' sink.
+ghost use Rattle.std.specs.Prelude.{◌≡◌, IfOk, string_bytes};
+ghost use Rattle.mc_station.specs.Seen.{reply_to};
+ghost use Rattle.mc_station.specs.Texts.{cannot_read_line, longer_line, place_line, usage_text};
 
-use crate::vectors::Evaluation;
+use crate::refusal::Refusal;
+use mc_lex::Place;
 use std::alloc::{AllocError, Global};
 
-fn truth_byte(truth: bool) -> u8
-    ensures { result ≡ truth_byte truth }
+/// The usage text.
+pub fn usage_text(alloc: Global) -> Result<String, AllocError>
+    ensures { IfOk result (λ text. string_bytes text ≡ usage_text) }
 {
-    if truth { b'T' } else { b'F' }
-}
-
-fn answer_byte(answer: Option<bool>) -> u8
-    ensures { result ≡ answer_byte answer }
-{
-    match answer {
-        Some(truth) => truth_byte(truth),
-        None => b'-',
-    }
-}
-
-// Adds the answers of a vector, a byte for each condition.
-fn push_answers(line: &mut Vec<u8>, answers: &[Option<bool>]) -> Result<(), AllocError>
-    ensures { OnOk result (line.new.items ≡ line.old.items ++ map answer_byte answers.now) }
-{
-    let mut left = answers;
-    while let [answer, later @ ..] = left {
-        line.push(answer_byte(*answer))?;
-        left = later;
-    }
-    Ok(())
-}
-
-/// The line of a vector and of the test that evaluates it.
-pub fn vector_line(alloc: Global, evaluation: &Evaluation<'_>) -> Result<Vec<u8>, AllocError>
-    ensures { IfOk result (λ line. line.items ≡ vector_line (seen_evaluation evaluation.now)) }
-{
-    let mut line = Vec::new(alloc);
-    line.extend_from_slice(b"D1 ")?;
-    push_answers(&mut line, &evaluation.answers)?;
-    line.push(b'=')?;
-    line.push(truth_byte(evaluation.value != 0))?;
-    line.extend_from_slice(b" by ")?;
-    line.extend_from_slice(evaluation.name)?;
-    line.push(b'\n')?;
-    Ok(line)
-}
-
-/// The line of a test, with the value that its call returned.
-pub fn test_line(alloc: Global, evaluation: &Evaluation<'_>) -> Result<Vec<u8>, AllocError>
-    ensures { IfOk result (λ line. line.items ≡ test_line (seen_evaluation evaluation.now)) }
-{
-    let value = evaluation.value;
-    let value = format!(in alloc; "{value}")?;
-    let mut line = Vec::new(alloc);
-    line.extend_from_slice(b"test ")?;
-    line.extend_from_slice(evaluation.name)?;
-    line.extend_from_slice(b" pass values ")?;
-    line.extend_from_slice(value.as_bytes())?;
-    line.extend_from_slice(b" output\n")?;
-    Ok(line)
-}
-
-/// The line that names a file which is longer than its limit.
-pub fn longer_line(alloc: Global, name: &str, limit: u64) -> Result<String, AllocError>
-    ensures { IfOk result (λ line. string_bytes line ≡ longer_line name.now limit) }
-{
-    format!(in alloc; "mcdc: {name}: longer than {limit} bytes\n")
+    String::from_str(alloc, "usage: mcdc vectors SOURCE TESTS\n")
 }
 
 /// The line that names a file which cannot be read.
@@ -75,4 +19,32 @@ pub fn cannot_read_line(alloc: Global, name: &str) -> Result<String, AllocError>
     ensures { IfOk result (λ line. string_bytes line ≡ cannot_read_line name.now) }
 {
     format!(in alloc; "mcdc: cannot read {name}\n")
+}
+
+// The line that names a file which is longer than its limit.
+fn longer_line(alloc: Global, name: &str, limit: u64) -> Result<String, AllocError>
+    ensures { IfOk result (λ line. string_bytes line ≡ longer_line name.now limit) }
+{
+    format!(in alloc; "mcdc: {name}: longer than {limit} bytes\n")
+}
+
+// The line that names a fault of the source and its place.
+fn place_line(alloc: Global, place: Place, word: &str) -> Result<String, AllocError>
+    ensures { IfOk result (λ text. string_bytes text ≡ place_line place.line place.column word.now) }
+{
+    let line = place.line;
+    let column = place.column;
+    format!(in alloc; "mcdc: source {line}:{column}: {word}\n")
+}
+
+/// The line of a refusal.
+pub fn refusal_line(alloc: Global, refusal: Refusal<'_>) -> Result<String, AllocError>
+    ensures { IfOk result (λ line. string_bytes line ≡ (reply_to refusal.entry).diag) }
+{
+    match refusal {
+        Refusal::TooLong(file) => longer_line(alloc, file.name, file.kind.limit()),
+        Refusal::Fault { place, word } => place_line(alloc, place, word),
+        Refusal::SourceForm => String::from_str(alloc, "mcdc: source: form not built\n"),
+        Refusal::TestsForm => String::from_str(alloc, "mcdc: tests: form not built\n"),
+    }
 }

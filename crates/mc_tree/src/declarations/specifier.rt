@@ -1,4 +1,8 @@
 //! Declaration specifiers.
+ghost use Rattle.std.specs.Prelude.{◌≡◌};
+ghost use Rattle.mc_tree.specs.Tree.{span_of_specifier};
+ghost use Rattle.mc_tree.specs.Views.{specifier_of};
+
 use crate::declarations::enumerator::Enumerator;
 use crate::declarations::member::Member;
 use crate::declarations::specifier_word::SpecifierWord;
@@ -38,4 +42,20 @@ pub enum Specifier<'a> {
         enumerators: Vec<Enumerator<'a>>,
         span: Span,
     },
+}
+
+impl Specifier<'_> {
+    /// Where the specifier stands. Takes no memory.
+    pub fn span(&self) -> Span
+        ensures { result ≡ span_of_specifier (specifier_of self.now) }
+    {
+        match self {
+            Specifier::TypedefName { name } => name.span,
+            Specifier::Word { span, .. }
+            | Specifier::StructureTag { span, .. }
+            | Specifier::Structure { span, .. }
+            | Specifier::EnumerationTag { span, .. }
+            | Specifier::Enumeration { span, .. } => *span,
+        }
+    }
 }

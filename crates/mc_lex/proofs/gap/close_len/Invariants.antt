@@ -1,5 +1,5 @@
 use Rattle.std.proofs.Common.{◌≡◌, ◌+◌, length}
-use Rattle.mc_lex.specs.Reading.{close_len, close_from}
+use Rattle.mc_lex.specs.steps.Scanner.{close_len, close_from}
 use Rattle.mc_lex.proofs.gap.close_len.Given as goal
 
 abbrev pub invariant-loop-rest : goal.invariant-loop-rest

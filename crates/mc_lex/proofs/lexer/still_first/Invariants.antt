@@ -1,5 +1,5 @@
 use Rattle.std.proofs.Common.{◌≡◌, length}
-use Rattle.mc_lex.specs.Reading.{still_first}
+use Rattle.mc_lex.specs.steps.Scanner.{still_first}
 use Rattle.mc_lex.proofs.lexer.still_first.Given as goal
 
 abbrev pub invariant-loop-left : goal.invariant-loop-left

@@ -1,5 +1,5 @@
 use Rattle.std.proofs.Common.{◌≡◌, ◌+◌, length}
-use Rattle.mc_lex.specs.Reading.{continued}
+use Rattle.mc_lex.specs.steps.Scanner.{continued}
 use Rattle.mc_lex.proofs.number.continued.Given as goal
 
 abbrev pub invariant-loop-left : goal.invariant-loop-left

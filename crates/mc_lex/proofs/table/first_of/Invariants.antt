@@ -1,5 +1,5 @@
 use Rattle.std.proofs.Common.{◌≡◌, length}
-use Rattle.mc_lex.specs.Reading.{texts, first_of}
+use Rattle.mc_lex.specs.steps.Scanner.{texts, first_of}
 use Rattle.mc_lex.proofs.table.first_of.Given as goal
 
 abbrev pub invariant-loop-left : goal.invariant-loop-left

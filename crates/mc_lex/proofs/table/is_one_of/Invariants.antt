@@ -1,6 +1,6 @@
 use Rattle.std.proofs.Common.{◌≡◌, length}
 use Rattle.mc_lex.specs.Words.{one_of}
-use Rattle.mc_lex.specs.Reading.{texts}
+use Rattle.mc_lex.specs.steps.Scanner.{texts}
 use Rattle.mc_lex.proofs.table.is_one_of.Given as goal
 
 abbrev pub invariant-loop-left : goal.invariant-loop-left

@@ -1,6 +1,6 @@
 use Rattle.std.proofs.Common.{◌∙◌, ℕ, List, ◌++◌, append_assoc, sym, ap, arith}
 use Rattle.std.proofs.KnownBytes.{Appends-trans}
-use Rattle.mc_station.proofs.Parts.{first_line, part_behind}
+use Rattle.mc_station.proofs.Parts.{first_line, part_after}
 use Rattle.mc_station.proofs.top.put_lines.Goals as goal
 
 pub loop-left-preserved : goal.loop-left-preserved
@@ -17,4 +17,4 @@ returns-in-Err-clause-bytes g c =
     let line = c.line-item.result in
     let split = first_line c.loop-left.left.now line c.in-len1-up.len_at_least c.line-item.is in
     let part = rw c.deref.ensures.value at c.in-Err.ensures.bytes.1 in
-    (omega (arith, later, c.in-Err.ensures.bytes.0), part_behind _ _ _ done line.items _ _ (ap (λ (l : List ℕ). done ++ l) (sym split) ∙ whole) put part)
+    (omega (arith, later, c.in-Err.ensures.bytes.0), part_after _ _ _ done line.items _ _ (ap (λ (l : List ℕ). done ++ l) (sym split) ∙ whole) put part)

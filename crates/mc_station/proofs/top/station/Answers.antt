@@ -1,46 +1,33 @@
-use Rattle.std.proofs.Common.{◌≡◌, ◌∙◌, inl, inr, ap, subst}
-use Rattle.std.specs.List.{concat}
-use Rattle.mc_port.specs.Sink.{AppendsPart}
-use Rattle.mc_station.specs.Reply.{Reply, refusal}
-use Rattle.mc_station.specs.Texts.{usage_line}
-use Rattle.mc_station.specs.Seen.{seen_reply}
-use Rattle.mc_station.proofs.Statuses.{in_range, kept, not_seven}
+use Rattle.std.proofs.Common.{◌≡◌, ◌∙◌, ap, inl, sym}
+use Rattle.mc_station.specs.Calls.{call_of}
+use Rattle.mc_station.specs.Reply.{Reply, out_of_memory}
+use Rattle.mc_station.specs.Seen.{seen_reply, seen_stage}
+use Rattle.mc_station.specs.Status.{number_of}
+use Rattle.mc_station.proofs.Parts.{nothing_put}
+use Rattle.mc_station.proofs.Statuses.{is_answer, never_unwritten, seven}
 use Rattle.mc_station.proofs.Unique.{one_reply}
 use Rattle.mc_station.proofs.top.station.Goals as goal
 
-pub returns-in-Ok-clause-range : goal.returns-in-Ok-clause-range
-returns-in-Ok-clause-range g c = in_range c.put_reply.result c.in-Ok.reply.status c.in-Ok.ensures.status c.in-Ok.ensures.tests c.put_reply.ensures.status
+pub returns-in-Ok-put-clause-unwritten : goal.returns-in-Ok-put-clause-unwritten
+returns-in-Ok-put-clause-unwritten g c = λ is.
+    let status = c.in-Ok.reply.status in
+    absurd (never_unwritten _ _ _ _ (seen_reply c.in-Ok.reply) c.in-Ok.ensures.leads (seven status (sym c.number.ensures ∙ is)))
 
-pub returns-in-Ok-clause-told : goal.returns-in-Ok-clause-told
-returns-in-Ok-clause-told g c = λ low files told.
+pub returns-in-Ok-put-clause-complete : goal.returns-in-Ok-put-clause-complete
+returns-in-Ok-put-clause-complete g c = λ reply known calls no_store no_out no_diag.
+    let call = call_of c.args.words.now (g.S.Store.state c.args.store.now) in
+    let given = seen_reply c.in-Ok.reply in
+    let leads = c.in-Ok.ensures.leads in
+    let from_first = rw c.first_stage.ensures at leads in
+    let answer = is_answer given.status (λ is. no_store (c.in-Ok.ensures.unreadable is)) (never_unwritten _ _ _ _ given leads) c.in-Ok.ensures.texts in
+    let same : given ≡ reply = one_reply call given reply known (answer, (_, _, from_first)) calls in
+    inl (c.number.ensures ∙ ap (λ (r : Reply). number_of r.status) same)
+
+pub returns-clause-told : goal.returns-clause-told
+returns-clause-told g c = λ other.
     record {
-      reply = seen_reply c.in-Ok.reply;
-      called_for = c.in-Ok.ensures.told files told;
-      status_is = kept c.put_reply.result c.in-Ok.reply.status low c.put_reply.ensures.status;
-      out_is = c.put_reply.ensures.out (not_seven c.put_reply.result low);
-      diag_is = c.put_reply.ensures.diag (not_seven c.put_reply.result low);
+      reply = out_of_memory;
+      leads = rw c.first_stage.ensures at c.in-Err.ensures.leads;
+      status_is = c.number-in-Err.ensures;
+      texts = (nothing_put (g.K.Sink.written c.args.out.now), nothing_put (g.E.Sink.written c.args.diag.now));
     }
-
-pub returns-in-Ok-clause-part : goal.returns-in-Ok-clause-part
-returns-in-Ok-clause-part g c = λ seven. inl (λ files told.
-    record {
-      reply = seen_reply c.in-Ok.reply;
-      called_for = c.in-Ok.ensures.told files told;
-      out_is = c.put_reply.ensures.out_part;
-      diag_is = c.put_reply.ensures.diag_part;
-    })
-
-pub returns-in-Ok-clause-usage_part : goal.returns-in-Ok-clause-usage_part
-returns-in-Ok-clause-usage_part g c = λ seven none.
-    let is : seen_reply c.in-Ok.reply ≡ refusal 2 usage_line = (c.in-Ok.ensures.usage (c.in-Ok.ensures.no_usage none)).1 in (
-      subst (λ (r : Reply). AppendsPart (g.K.Sink.written c.args.out.now) (g.K.Sink.written c.put_reply.new.out) (concat r.out)) is c.put_reply.ensures.out_part,
-      subst (λ (r : Reply). AppendsPart (g.E.Sink.written c.args.diag.now) (g.E.Sink.written c.put_reply.new.diag) r.diag) is c.put_reply.ensures.diag_part,
-    )
-
-pub returns-in-Ok-clause-complete : goal.returns-in-Ok-clause-complete
-returns-in-Ok-clause-complete g c = λ files reply told calls no_store no_out no_diag.
-    let same : seen_reply c.in-Ok.reply ≡ reply = one_reply c.args.words.now files (seen_reply c.in-Ok.reply) reply (c.in-Ok.ensures.told files told) calls in
-    elim c.put_reply.ensures.status [
-      | inl is ↦ inl (is ∙ ap (λ (r : Reply). r.status) same)
-      | inr seven ↦ elim (c.put_reply.ensures.unwritten seven) [ inl rose ↦ absurd (no_out rose) | inr rose ↦ absurd (no_diag rose) ]
-    ]

@@ -1,0 +1,48 @@
+-- How a stage leads to a reply, by what was found of its file.
+use Rattle.std.proofs.Common.{◌≡◌, ◌≤◌, ℕ, List, length, Option, Result, Ok, Err, refl, sym, subst}
+use Rattle.std.specs.Prelude.{IfOk}
+use Rattle.std.specs.declared.alloc.AllocError.{AllocError}
+use Rattle.mc_port.specs.Store.{Files, HasFile, IsLonger, and_asked}
+use Rattle.mc_station.specs.Calls as calls
+use Rattle.mc_station.specs.Calls.{Answers, Leads, Requests}
+use Rattle.mc_station.specs.Files.{File, limit_of, request_of}
+use Rattle.mc_station.specs.Reply.{Reply, cannot_read, longer, out_of_memory}
+use Rattle.mc_station.specs.Seen.{Gives, IsReplyTo, outcome_of, reply_to, seen_reply, seen_stage}
+use Rattle.mc_station.specs.Stages.{Judges, Next, Stage, asks, done, next_of}
+use Rattle.mc_station.specs.declared.refusal.Stop.{Stop}
+use Rattle.mc_station.specs.declared.refusal.Stop.TheVariants as stop
+use Rattle.mc_station.specs.declared.reply.Reply.{Reply as Given}
+
+module _ (files : Option Files) (s : Stage) (asked : Requests) where
+  pub finished : (r : Reply) → done r ≡ next_of s → Leads files s asked r asked
+  finished r is = calls.answers s asked asked r (calls.finished r (sym is))
+
+  pub no_memory : (after : Requests) → after ≡ asked → Leads files s asked out_of_memory after
+  no_memory after same = subst (λ (a : Requests). Leads files s asked out_of_memory a) (sym same) (calls.fails s asked asked out_of_memory calls.no_memory)
+
+module _ (files : Option Files) (s : Stage) (asked after : Requests) (f : File) (is : asks f ≡ next_of s) (then : after ≡ and_asked asked (request_of f)) where
+  at_end : (r : Reply) → Leads files s asked r (and_asked asked (request_of f)) → Leads files s asked r after
+  at_end r leads = subst (λ (a : Requests). Leads files s asked r a) (sym then) leads
+
+  -- memory may not suffice for the text of the reply
+  pub told : (r : Reply) (given : Result Given AllocError) → IfOk given (λ reply. seen_reply reply ≡ r) → Leads files s asked r (and_asked asked (request_of f)) → Leads files s asked (outcome_of given) after
+  told r (Ok reply) same leads = at_end (seen_reply reply) (subst (λ (q : Reply). Leads files s asked q (and_asked asked (request_of f))) (sym same) leads)
+  told r (Err e) same leads = at_end (outcome_of (Err e)) (calls.fails s asked _ _ (calls.no_memory_after f (sym is)))
+
+  pub too_long : (given : Result Given AllocError) → IfOk given (λ reply. seen_reply reply ≡ longer f) → IsLonger files f.name (limit_of f.kind) → Leads files s asked (outcome_of given) after
+  too_long given same long = told (longer f) given same (calls.answers s asked _ (longer f) (calls.too_long f (sym is) long))
+
+  pub unreadable : (given : Result Given AllocError) → IfOk given (λ reply. seen_reply reply ≡ cannot_read f) → Leads files s asked (outcome_of given) after
+  unreadable given same = told (cannot_read f) given same (calls.fails s asked _ (cannot_read f) (calls.unreadable f (sym is)))
+
+  pub refused : (stop : Stop) (bytes : List ℕ) (given : Result Given AllocError) → IfOk given (λ reply. IsReplyTo stop (seen_reply reply)) → HasFile files f.name bytes
+      → length bytes ≤ limit_of f.kind → Gives seen_stage (Judges s bytes) (Err stop) → Leads files s asked (outcome_of given) after
+  refused (stop.Refused refusal) bytes given same has short judges = told (reply_to refusal) given same (calls.answers s asked _ (reply_to refusal) (calls.refused f bytes (reply_to refusal) (sym is) (has, short) judges))
+  refused stop.OutOfMemory bytes (Ok reply) same has short judges = absurd same
+  refused stop.OutOfMemory bytes (Err e) same has short judges = at_end out_of_memory (calls.fails s asked _ out_of_memory (calls.no_memory_after f (sym is)))
+
+  pub accepted : (t : Stage) (bytes : List ℕ) (same : Option Files) (r : Reply) (end : Requests) → HasFile files f.name bytes → length bytes ≤ limit_of f.kind → Judges s bytes (Ok t)
+      → same ≡ files → Leads same t after r end → Leads files s asked r end
+  accepted t bytes same r end has short judges told_same leads =
+      calls.accepted s t f bytes asked end r (sym is) (has, short) judges
+      (subst (λ (a : Requests). Leads files t a r end) then (subst (λ (fs : Option Files). Leads fs t after r end) told_same leads))

@@ -1,0 +1,56 @@
+-- What a call leads to.
+use Rattle.std.specs.Prelude.{◌≡◌, ◌⊎◌, ℕ, List, Option, Some, None, Result, Ok, Err}
+use Rattle.mc_command.specs.Command.{command_of}
+use Rattle.mc_port.specs.Store.{Files, IsLonger, Request, State, and_asked}
+use Rattle.mc_station.specs.Files.{File, Holds, limit_of, request_of}
+use Rattle.mc_station.specs.Reply.{Reply, cannot_read, longer, out_of_memory}
+use Rattle.mc_station.specs.Stages.{Judges, Stage, asks, done, first_stage, next_of}
+use Rattle.mc_station.specs.Status.{IsAnswer}
+
+-- what was asked of the store, where it is told
+abbrev pub Requests : Type 0
+Requests = Option (List Request)
+
+-- A stage answers: after the last file, or where it does not accept its file.
+pub data Answers (files : Option Files) (stage : Stage) (asked : Requests) : Reply → Requests → Type 0 where
+  finished : (reply : Reply) → next_of stage ≡ done reply → Answers files stage asked reply asked
+  too_long : (file : File) → next_of stage ≡ asks file → IsLonger files file.name (limit_of file.kind)
+      → Answers files stage asked (longer file) (and_asked asked (request_of file))
+  refused : (file : File) (bytes : List ℕ) (reply : Reply) → next_of stage ≡ asks file → Holds files file bytes
+      → Judges stage bytes (Err reply) → Answers files stage asked reply (and_asked asked (request_of file))
+
+-- At a stage the file cannot be read, or memory does not suffice.
+pub data Fails (stage : Stage) (asked : Requests) : Reply → Requests → Type 0 where
+  unreadable : (file : File) → next_of stage ≡ asks file → Fails stage asked (cannot_read file) (and_asked asked (request_of file))
+  no_memory : Fails stage asked out_of_memory asked
+  no_memory_after : (file : File) → next_of stage ≡ asks file → Fails stage asked out_of_memory (and_asked asked (request_of file))
+
+-- From a stage, with what was asked before, a command leads to a reply, with what was asked after. A file
+-- is asked for with its limit, and only after the files before it were accepted.
+pub data Leads (files : Option Files) : Stage → Requests → Reply → Requests → Type 0 where
+  answers : (stage : Stage) (asked after : Requests) (reply : Reply) → Answers files stage asked reply after
+      → Leads files stage asked reply after
+  fails : (stage : Stage) (asked after : Requests) (reply : Reply) → Fails stage asked reply after
+      → Leads files stage asked reply after
+  accepted : (stage later : Stage) (file : File) (bytes : List ℕ) (asked after : Requests) (reply : Reply)
+      → next_of stage ≡ asks file → Holds files file bytes → Judges stage bytes (Ok later)
+      → Leads files later (and_asked asked (request_of file)) reply after → Leads files stage asked reply after
+
+-- what a call stands on: the words, and the files where the store tells them
+pub record Call : Type 0 where
+  pub words : List (List ℕ)
+  pub files : Option Files
+
+abbrev pub call_of : List (List ℕ) → State → Call
+call_of words store = record { words = words; files = store.contents }
+
+abbrev pub LeadsTo : Call → Requests → Reply → Requests → Type 0
+LeadsTo call asked reply after = Leads call.files (first_stage (command_of call.words)) asked reply after
+
+-- the reply that words and files call for, if nothing fails
+abbrev pub CallsFor : Call → Reply → Type 0
+CallsFor call reply = IsAnswer reply.status × ((asked : Requests) × (after : Requests) × LeadsTo call asked reply after)
+
+-- all that the words ask for is told: they are not a command, or the store tells its files
+abbrev pub IsKnown : Call → Type 0
+IsKnown call = (command_of call.words ≡ None) ⊎ ((files : Files) × (call.files ≡ Some files))

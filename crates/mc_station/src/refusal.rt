@@ -1,0 +1,37 @@
+//! Why a file is not accepted.
+
+use crate::file::File;
+use mc_lex::Place;
+use std::alloc::AllocError;
+
+/// Why a file is refused.
+#[derive(Clone, Copy)]
+pub enum Refusal<'w> {
+    /// It is longer than its limit.
+    TooLong(File<'w>),
+    /// The source has a fault at a place, and this is its kind.
+    Fault { place: Place, word: &'static str },
+    /// The source has not the first form.
+    SourceForm,
+    /// The tests file has not the form that it has so far.
+    TestsForm,
+}
+
+/// Why a phase gives nothing.
+#[derive(Clone, Copy)]
+pub enum Stop<'w> {
+    Refused(Refusal<'w>),
+    OutOfMemory,
+}
+
+ghost use Rattle.mc_station.specs.declared.refusal.Stop.TheVariants as stop;
+
+impl From<AllocError> for Stop<'_> {
+    ghost use Rattle.std.specs.Prelude.{◌≡◌};
+
+    ghost from_gives = { λ _ e. e ≡ stop.OutOfMemory };
+
+    fn from(_error: AllocError) -> Self {
+        Stop::OutOfMemory
+    }
+}

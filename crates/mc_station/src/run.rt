@@ -1,0 +1,51 @@
+//! The one function that sees the store.
+ghost use Rattle.std.specs.Prelude.{◌≡◌, ◌≢◌, ◌≤◌, IfOk, length};
+ghost use Rattle.mc_station.specs.Stages.{files_left};
+ghost use Rattle.mc_port.specs.Causes.{Rose};
+ghost use Rattle.mc_station.specs.Calls.{Leads};
+ghost use Rattle.mc_station.specs.Seen.{outcome_of, seen_stage};
+ghost use Rattle.mc_station.specs.declared.status.Status.TheVariants.{CannotRead, OutOfMemory};
+
+use crate::judge::judge;
+use crate::refusal::Refusal;
+use crate::reply::Reply;
+use crate::stage::{Next, Stage};
+use mc_port::{LoadFault, Store};
+use std::alloc::{AllocError, Global};
+
+/// Goes from a stage to the reply: asks for one file after the other, each after the one before it was
+/// accepted, and keeps their bytes in the slots.
+pub fn run<'a, S: Store>(
+    alloc: Global,
+    store: &mut S,
+    stage: Stage<'a>,
+    slots: &'a mut [Vec<u8>],
+) -> Result<Reply, AllocError>
+    requires { files_left (seen_stage stage) ≤ length slots.old }
+    ensures leads { Leads (S.state store.old).contents (seen_stage stage.entry) (S.state store.old).asked (outcome_of result) (S.state store.new).asked }
+    ensures unreadable { (outcome_of result).status ≡ CannotRead → Rose (S.state store.old).faults (S.state store.new).faults }
+    ensures texts { IfOk result (λ reply. reply.status ≢ OutOfMemory) }
+    ensures contents { (S.state store.new).contents ≡ (S.state store.old).contents }
+    ensures later { (S.state store.old).faults ≤ (S.state store.new).faults }
+{
+    let file = match stage.next(alloc) {
+        Ok(Next::Asks(file)) => file,
+        Ok(Next::Done(reply)) => return Ok(reply),
+        Err(_) => return Err(AllocError),
+    };
+    let [slot, later @ ..] = slots else {
+        unreachable!();
+    };
+    match store.load(alloc, file.name, file.kind.limit()) {
+        Ok(bytes) => {
+            *slot = bytes;
+            match judge(alloc, stage, slot) {
+                Ok(stage) => run(alloc, store, stage, later),
+                Err(stop) => Reply::of_stop(alloc, stop),
+            }
+        }
+        Err(LoadFault::TooLong { .. }) => Reply::of_refusal(alloc, Refusal::TooLong(file)),
+        Err(LoadFault::Failed) => Reply::of_unreadable(alloc, file),
+        Err(LoadFault::OutOfMemory) => Err(AllocError),
+    }
+}

@@ -1,0 +1,4 @@
+pub mod Names
+pub mod Nodes
+pub mod Forms
+pub mod Samples

@@ -1,0 +1,127 @@
+//! The first node outside in initializers and declarations.
+#![tactic(auto, using(crate::proofs::Order::lists))]
+
+ghost use Rattle.std.specs.Prelude.{◌≡◌, map, option_map};
+ghost use Rattle.mc_tree.specs.Views.{expression_of};
+ghost use Rattle.mc_tree.specs.Units.{declaration_of, init_declarator_of, initializer_of, initializers_from, start_of};
+ghost use Rattle.mc_subset.specs.Nodes as n;
+ghost use Rattle.mc_subset.specs.Forms.{first_outside};
+
+use crate::context::{Region, Role, Standing};
+use crate::expressions::{declarator, expression, specifiers};
+use crate::outside::Outside;
+use crate::rows::{declaration_form, has_extern, is_local, judge};
+use mc_tree::{Declaration, Expression, ForStart, InitDeclarator, Initializer};
+
+#[cycle(initializers)]
+fn initializer(tree: &Initializer<'_>, region: Region) -> Option<Outside>
+    ensures { result ≡ first_outside (n.nodes_of_initializer region (initializer_of tree.now)) }
+{
+    match tree {
+        Initializer::Single { value } => expression(value, region, Role::Part),
+        Initializer::Braced { items, .. } => initializers(items, region),
+    }
+}
+
+#[cycle(initializers)]
+fn initializers(trees: &[Initializer<'_>], region: Region) -> Option<Outside>
+    ensures { let all = initializers_from (map initializer_of trees.now) in
+        result ≡ first_outside (n.nodes_of_initializers region all) }
+{
+    for tree in trees {
+        if let Some(first) = initializer(tree, region) {
+            return Some(first);
+        }
+    }
+    None
+}
+
+fn init_declarator(tree: &InitDeclarator<'_>, region: Region, external: bool) -> Option<Outside>
+    ensures { let all = n.nodes_of_init_declarator region external (init_declarator_of tree.now) in
+        result ≡ first_outside all }
+{
+    match tree {
+        InitDeclarator::Bare {
+            declarator: declared,
+        } => declarator(declared, region, is_local(region), external),
+        InitDeclarator::Initialized {
+            declarator: declared,
+            value,
+        } => {
+            if let Some(first) = declarator(declared, region, is_local(region), external) {
+                return Some(first);
+            }
+            initializer(value, region)
+        }
+    }
+}
+
+fn init_declarators(trees: &[InitDeclarator<'_>], region: Region, external: bool) -> Option<Outside>
+    ensures { let all = map init_declarator_of trees.now in
+        result ≡ first_outside (n.nodes_of_init_declarators region external all) }
+{
+    for tree in trees {
+        if let Some(first) = init_declarator(tree, region, external) {
+            return Some(first);
+        }
+    }
+    None
+}
+
+#[tactic(auto, using(crate::proofs::Order::first_of_both), unfolding(crate::specs::Forms::form_of))]
+pub(crate) fn declaration(
+    tree: &Declaration<'_>,
+    region: Region,
+    standing: Standing,
+) -> Option<Outside>
+    ensures { let all = n.nodes_of_declaration region standing (declaration_of tree.now) in
+        result ≡ first_outside all }
+{
+    if let Some(first) = judge(declaration_form(standing), tree.span) {
+        return Some(first);
+    }
+    if let Some(first) = specifiers(&tree.specifiers, region) {
+        return Some(first);
+    }
+    init_declarators(&tree.declarators, region, has_extern(&tree.specifiers))
+}
+
+pub(crate) fn optional(tree: &Option<Expression<'_>>, role: Role) -> Option<Outside>
+    ensures { let value = option_map expression_of tree.now in
+        result ≡ first_outside (n.nodes_of_optional role value) }
+{
+    match tree {
+        Some(value) => expression(value, Region::Function, role),
+        None => None,
+    }
+}
+
+fn for_start(tree: &ForStart<'_>) -> Option<Outside>
+    ensures { result ≡ first_outside (n.nodes_of_start (start_of tree.now)) }
+{
+    match tree {
+        ForStart::Local { declaration: local } => {
+            declaration(local, Region::Function, Standing::Elsewhere)
+        }
+        ForStart::Expression { value } => optional(value, Role::ForPart),
+    }
+}
+
+/// The three parts of a `for`.
+pub(crate) fn for_parts(
+    start: &ForStart<'_>,
+    test: &Option<Expression<'_>>,
+    step: &Option<Expression<'_>>,
+) -> Option<Outside>
+    ensures { let second = option_map expression_of test.now in
+        let third = option_map expression_of step.now in
+        result ≡ first_outside (n.nodes_of_parts (start_of start.now) second third) }
+{
+    if let Some(first) = for_start(start) {
+        return Some(first);
+    }
+    if let Some(first) = optional(test, Role::Part) {
+        return Some(first);
+    }
+    optional(step, Role::ForPart)
+}

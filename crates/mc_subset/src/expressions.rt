@@ -1,0 +1,329 @@
+//! The first node outside in expressions, specifiers and declarators.
+#![tactic(auto, using(crate::proofs::Order::lists))]
+
+ghost use Rattle.std.specs.Prelude.{◌≡◌, map};
+ghost use Rattle.mc_tree.specs.Views.{array_length_of, declarator_of, declarators_from, enumerator_of, enumerators_from, expression_of, expressions_from, lengths_from, member_of, members_from, parameter_of, parameters_from, specifier_of, specifiers_from};
+ghost use Rattle.mc_tree.specs.Tree as t;
+ghost use Rattle.mc_subset.specs.Nodes as n;
+ghost use Rattle.mc_subset.specs.Forms.{first_outside, or_else};
+
+use crate::context::{Region, Role};
+use crate::form::Form;
+use crate::outside::Outside;
+use crate::rows::{
+    closing_of, expression_form, function_form, has_extern, judge, member_form, object_form,
+    pointer_form, role_of_operands, tag_form,
+};
+use mc_span::Span;
+use mc_tree::{ArrayLength, Declarator, Enumerator, Expression, Member, Parameter, Specifier};
+
+#[cycle(check)]
+#[tactic(auto, using(crate::proofs::Order::first_of_expression))]
+pub(crate) fn expression(tree: &Expression<'_>, region: Region, role: Role) -> Option<Outside>
+    ensures { result ≡ first_outside (n.nodes_of_expression region role (expression_of tree.now)) }
+{
+    if let Some(first) = judge(expression_form(tree, role), tree.span()) {
+        return Some(first);
+    }
+    parts_of_expression(tree, region, role)
+}
+
+#[cycle(check)]
+#[tactic(auto, using(crate::proofs::Trees::expressions))]
+fn parts_of_expression(tree: &Expression<'_>, region: Region, role: Role) -> Option<Outside>
+    ensures { result
+        ≡ first_outside (n.after_first (n.nodes_of_expression region role (expression_of tree.now))) }
+{
+    match tree {
+        Expression::Name { .. } | Expression::Constant { .. } | Expression::Character { .. } =>
+            None,
+        Expression::Parenthesized { inner, .. } => expression(inner, region, Role::Part),
+        Expression::Call { arguments, .. } => expressions(arguments, region, Role::Part),
+        Expression::Index { array, index, .. } => {
+            if let Some(first) = expression(array, region, Role::Part) {
+                return Some(first);
+            }
+            expression(index, region, Role::Part)
+        }
+        Expression::Member { object, .. } => expression(object, region, Role::Part),
+        Expression::PostfixStep { operand, .. }
+        | Expression::PrefixStep { operand, .. }
+        | Expression::Unary { operand, .. } => expression(operand, region, Role::Part),
+        Expression::Cast {
+            specifiers: words,
+            stars,
+            type_span,
+            operand,
+            ..
+        } => {
+            if let Some(first) = type_name(words, *stars, *type_span, region) {
+                return Some(first);
+            }
+            expression(operand, region, Role::Part)
+        }
+        Expression::Binary { left, right, .. } => {
+            if let Some(first) = expression(left, region, Role::Part) {
+                return Some(first);
+            }
+            expression(right, region, Role::Part)
+        }
+        Expression::Conditional {
+            test,
+            chosen,
+            other,
+            ..
+        } => {
+            if let Some(first) = expression(test, region, Role::Part) {
+                return Some(first);
+            }
+            if let Some(first) = expression(chosen, region, Role::Part) {
+                return Some(first);
+            }
+            expression(other, region, Role::Part)
+        }
+        Expression::Assignment { target, value, .. } => {
+            if let Some(first) = expression(target, region, Role::Part) {
+                return Some(first);
+            }
+            expression(value, region, Role::Part)
+        }
+        Expression::Comma { operands, .. } => expressions(operands, region, role_of_operands(role)),
+    }
+}
+
+#[cycle(check)]
+fn expressions(trees: &[Expression<'_>], region: Region, role: Role) -> Option<Outside>
+    ensures { let all = expressions_from (map expression_of trees.now) in
+        result ≡ first_outside (n.nodes_of_expressions region role all) }
+{
+    for tree in trees {
+        if let Some(first) = expression(tree, region, role) {
+            return Some(first);
+        }
+    }
+    None
+}
+
+#[cycle(check)]
+#[tactic(auto, using(crate::proofs::Order::first_of_both), unfolding(crate::specs::Forms::form_of))]
+fn type_name(words: &[Specifier<'_>], stars: u32, span: Span, region: Region) -> Option<Outside>
+    ensures { let type = t.type_name (specifiers_from (map specifier_of words.now)) stars span in
+        result ≡ first_outside (n.nodes_of_type region type) }
+{
+    if let Some(first) = judge(pointer_form(stars), span) {
+        return Some(first);
+    }
+    specifiers(words, region)
+}
+
+#[cycle(check)]
+pub(crate) fn specifiers(trees: &[Specifier<'_>], region: Region) -> Option<Outside>
+    ensures { let all = specifiers_from (map specifier_of trees.now) in
+        result ≡ first_outside (n.nodes_of_specifiers region all) }
+{
+    for tree in trees {
+        if let Some(first) = specifier(tree, region) {
+            return Some(first);
+        }
+    }
+    None
+}
+
+#[cycle(check)]
+#[tactic(auto, using(crate::proofs::Order::first_of_both), unfolding(crate::specs::Forms::form_of))]
+fn specifier(tree: &Specifier<'_>, region: Region) -> Option<Outside>
+    ensures { result ≡ first_outside (n.nodes_of_specifier region (specifier_of tree.now)) }
+{
+    match tree {
+        Specifier::Structure {
+            members: list,
+            span,
+            ..
+        } => {
+            if let Some(first) = judge(tag_form(region), *span) {
+                return Some(first);
+            }
+            members(list, region)
+        }
+        Specifier::Enumeration {
+            enumerators: list,
+            span,
+            ..
+        } => {
+            if let Some(first) = judge(tag_form(region), *span) {
+                return Some(first);
+            }
+            enumerators(list, region)
+        }
+        Specifier::Word { .. }
+        | Specifier::TypedefName { .. }
+        | Specifier::StructureTag { .. }
+        | Specifier::EnumerationTag { .. } => None,
+    }
+}
+
+#[cycle(check)]
+fn members(trees: &[Member<'_>], region: Region) -> Option<Outside>
+    ensures { let all = members_from (map member_of trees.now) in
+        result ≡ first_outside (n.nodes_of_members region all) }
+{
+    for tree in trees {
+        if let Some(first) = member(tree, region) {
+            return Some(first);
+        }
+    }
+    None
+}
+
+#[cycle(check)]
+#[tactic(auto, using(crate::proofs::Trees::declarations), unfolding(crate::specs::Forms::form_of))]
+fn member(tree: &Member<'_>, region: Region) -> Option<Outside>
+    ensures { result ≡ first_outside (n.nodes_of_member region (member_of tree.now)) }
+{
+    if let Some(first) = judge(member_form(&tree.specifiers), tree.span) {
+        return Some(first);
+    }
+    if let Some(first) = specifiers(&tree.specifiers, region) {
+        return Some(first);
+    }
+    declarators(&tree.declarators, region, has_extern(&tree.specifiers))
+}
+
+#[cycle(check)]
+fn declarators(trees: &[Declarator<'_>], region: Region, external: bool) -> Option<Outside>
+    ensures { let all = declarators_from (map declarator_of trees.now) in
+        result ≡ first_outside (n.nodes_of_declarators region external all) }
+{
+    for tree in trees {
+        if let Some(first) = declarator(tree, region, false, external) {
+            return Some(first);
+        }
+    }
+    None
+}
+
+#[cycle(check)]
+fn enumerators(trees: &[Enumerator<'_>], region: Region) -> Option<Outside>
+    ensures { let all = enumerators_from (map enumerator_of trees.now) in
+        result ≡ first_outside (n.nodes_of_enumerators region all) }
+{
+    for tree in trees {
+        if let Some(first) = enumerator(tree, region) {
+            return Some(first);
+        }
+    }
+    None
+}
+
+#[cycle(check)]
+fn enumerator(tree: &Enumerator<'_>, region: Region) -> Option<Outside>
+    ensures { result ≡ first_outside (n.nodes_of_enumerator region (enumerator_of tree.now)) }
+{
+    match tree {
+        Enumerator::Valued { value, .. } => expression(value, region, Role::Part),
+        Enumerator::Bare { .. } => None,
+    }
+}
+
+#[cycle(check)]
+#[tactic(auto, using(crate::proofs::Order::first_of_both), unfolding(crate::specs::Forms::form_of))]
+pub(crate) fn declarator(
+    tree: &Declarator<'_>,
+    region: Region,
+    local: bool,
+    external: bool,
+) -> Option<Outside>
+    ensures { let all = n.nodes_of_declarator region local external (declarator_of tree.now) in
+        result ≡ first_outside all }
+{
+    match tree {
+        Declarator::Object {
+            stars,
+            lengths: list,
+            span,
+            ..
+        } => {
+            if let Some(first) = judge(object_form(*stars, external), *span) {
+                return Some(first);
+            }
+            lengths(list, region)
+        }
+        Declarator::EmptyFunction {
+            stars,
+            list_span,
+            span,
+            ..
+        } => {
+            if let Some(first) = judge(function_form(*stars, local), *span) {
+                return Some(first);
+            }
+            judge(Some(Form::EmptyParameters), closing_of(*list_span))
+        }
+        Declarator::VoidFunction { stars, span, .. } => judge(function_form(*stars, local), *span),
+        Declarator::Function {
+            stars,
+            parameters: list,
+            span,
+            ..
+        } => {
+            if let Some(first) = judge(function_form(*stars, local), *span) {
+                return Some(first);
+            }
+            parameters(list)
+        }
+    }
+}
+
+#[cycle(check)]
+fn lengths(trees: &[ArrayLength<'_>], region: Region) -> Option<Outside>
+    ensures { let all = lengths_from (map array_length_of trees.now) in
+        result ≡ first_outside (n.nodes_of_lengths region all) }
+{
+    for tree in trees {
+        if let Some(first) = length(tree, region) {
+            return Some(first);
+        }
+    }
+    None
+}
+
+// A pair of brackets stands before others, so its nodes do too.
+#[cycle(check)]
+#[tactic(auto, using(crate::proofs::Trees::lengths))]
+fn length(tree: &ArrayLength<'_>, region: Region) -> Option<Outside>
+    ensures { (rest : t.ArrayLengths)
+        → first_outside (n.nodes_of_lengths region (array_length_of tree.now rest))
+        ≡ or_else result (first_outside (n.nodes_of_lengths region rest)) }
+{
+    match tree {
+        ArrayLength::Given { value } => expression(value, region, Role::Part),
+        ArrayLength::Absent => None,
+    }
+}
+
+#[cycle(check)]
+fn parameters(trees: &[Parameter<'_>]) -> Option<Outside>
+    ensures { let all = parameters_from (map parameter_of trees.now) in
+        result ≡ first_outside (n.nodes_of_parameter_list all) }
+{
+    for tree in trees {
+        if let Some(first) = parameter(tree) {
+            return Some(first);
+        }
+    }
+    None
+}
+
+#[cycle(check)]
+#[tactic(auto, using(crate::proofs::Trees::declarations), unfolding(crate::specs::Forms::form_of))]
+fn parameter(tree: &Parameter<'_>) -> Option<Outside>
+    ensures { result ≡ first_outside (n.nodes_of_parameter (parameter_of tree.now)) }
+{
+    if let Some(first) = judge(pointer_form(tree.stars), tree.span) {
+        return Some(first);
+    }
+    if let Some(first) = specifiers(&tree.specifiers, Region::Function) {
+        return Some(first);
+    }
+    lengths(&tree.lengths, Region::Function)
+}

@@ -1,0 +1,142 @@
+//! The first node outside in statements and blocks.
+#![tactic(auto, using(crate::proofs::Order::lists))]
+
+ghost use Rattle.std.specs.Prelude.{◌≡◌, map};
+ghost use Rattle.mc_tree.specs.Units.{block_from, block_item_of, statement_of};
+ghost use Rattle.mc_tree.specs.Tree as t;
+ghost use Rattle.mc_subset.specs.Nodes as n;
+ghost use Rattle.mc_subset.specs.Forms.{first_outside, or_else};
+
+use crate::context::{Region, Role, Standing};
+use crate::declarations::{declaration, for_parts, optional};
+use crate::expressions::expression;
+use crate::outside::Outside;
+use crate::rows::{judge, standing_from, standing_of_items, statement_form};
+use mc_tree::{BlockItem, Statement};
+
+#[cycle(check)]
+#[tactic(auto, using(crate::proofs::Order::first_of_statement))]
+fn statement(tree: &Statement<'_>, standing: Standing) -> Option<Outside>
+    ensures { result ≡ first_outside (n.nodes_of_statement standing (statement_of tree.now)) }
+{
+    if let Some(first) = judge(statement_form(tree, standing), tree.span()) {
+        return Some(first);
+    }
+    parts_of_statement(tree, standing)
+}
+
+#[cycle(check)]
+#[tactic(auto, using(crate::proofs::Trees::statements))]
+fn parts_of_statement(tree: &Statement<'_>, standing: Standing) -> Option<Outside>
+    ensures { let all = n.nodes_of_statement standing (statement_of tree.now) in
+        result ≡ first_outside (n.after_first all) }
+{
+    match tree {
+        Statement::Compound { items, .. } => block(items, standing_of_items(standing)),
+        Statement::Null { .. }
+        | Statement::Goto { .. }
+        | Statement::Break { .. }
+        | Statement::Continue { .. } => None,
+        Statement::Expression { value, .. } => expression(value, Region::Function, Role::Statement),
+        Statement::If { test, chosen, .. } => {
+            if let Some(first) = expression(test, Region::Function, Role::Part) {
+                return Some(first);
+            }
+            statement(chosen, Standing::Elsewhere)
+        }
+        Statement::IfElse {
+            test,
+            chosen,
+            other,
+            ..
+        } => {
+            if let Some(first) = expression(test, Region::Function, Role::Part) {
+                return Some(first);
+            }
+            if let Some(first) = statement(chosen, Standing::Elsewhere) {
+                return Some(first);
+            }
+            statement(other, Standing::Elsewhere)
+        }
+        Statement::Switch { value, body, .. } => {
+            if let Some(first) = expression(value, Region::Function, Role::Part) {
+                return Some(first);
+            }
+            statement(body, Standing::Body)
+        }
+        Statement::While { test, body, .. } => {
+            if let Some(first) = expression(test, Region::Function, Role::Part) {
+                return Some(first);
+            }
+            statement(body, Standing::Elsewhere)
+        }
+        Statement::DoWhile { body, test, .. } => {
+            if let Some(first) = statement(body, Standing::Elsewhere) {
+                return Some(first);
+            }
+            expression(test, Region::Function, Role::Part)
+        }
+        Statement::For {
+            start,
+            test,
+            step,
+            body,
+            ..
+        } => {
+            if let Some(first) = for_parts(start, test, step) {
+                return Some(first);
+            }
+            statement(body, Standing::Elsewhere)
+        }
+        Statement::Case { value, body, .. } => {
+            if let Some(first) = expression(value, Region::Function, Role::Part) {
+                return Some(first);
+            }
+            statement(body, standing)
+        }
+        Statement::Default { body, .. } => statement(body, standing),
+        Statement::Label { body, .. } => statement(body, Standing::Elsewhere),
+        Statement::Return { value, .. } => optional(value, Role::Part),
+    }
+}
+
+#[cycle(check)]
+pub(crate) fn block(trees: &[BlockItem<'_>], standing: Standing) -> Option<Outside>
+    ensures { let all = block_from (map block_item_of trees.now) in
+        result ≡ first_outside (n.nodes_of_block standing all) }
+{
+    let mut standing = standing;
+    for tree in trees {
+        if let Some(first) = block_item(tree, standing) {
+            return Some(first);
+        }
+        standing = standing_after(tree, standing);
+    }
+    None
+}
+
+// An item of a block stands before others, so its nodes do too.
+#[cycle(check)]
+#[tactic(auto, using(crate::proofs::Trees::block_items))]
+fn block_item(tree: &BlockItem<'_>, standing: Standing) -> Option<Outside>
+    ensures { (rest : t.BlockItems)
+        → let next = n.standing_after (block_item_of tree.now rest) standing in
+        first_outside (n.nodes_of_block standing (block_item_of tree.now rest))
+        ≡ or_else result (first_outside (n.nodes_of_block next rest)) }
+{
+    match tree {
+        BlockItem::Local { declaration: local } => declaration(local, Region::Function, standing),
+        BlockItem::Statement { statement: one } => statement(one, standing_from(one, standing)),
+    }
+}
+
+/// Where what follows an item of a block stands.
+fn standing_after(tree: &BlockItem<'_>, standing: Standing) -> Standing
+    ensures { (rest : t.BlockItems)
+        → result ≡ n.standing_after (block_item_of tree.now rest) standing }
+{
+    match tree {
+        BlockItem::Local { .. } => standing,
+        BlockItem::Statement { statement: one } => standing_from(one, standing),
+    }
+}

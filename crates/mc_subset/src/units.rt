@@ -1,0 +1,61 @@
+//! The first node outside in a whole source.
+#![tactic(auto, using(crate::proofs::Order::lists))]
+
+ghost use Rattle.std.specs.Prelude.{◌≡◌, map};
+ghost use Rattle.mc_tree.specs.Units.{item_of, items_of};
+ghost use Rattle.mc_subset.specs.Nodes.{nodes_of_item, nodes_of_unit};
+ghost use Rattle.mc_subset.specs.Forms.{accepted_unless, first_outside};
+
+use crate::context::{Region, Standing};
+use crate::declarations::declaration;
+use crate::expressions::{declarator, specifiers};
+use crate::outside::Outside;
+use crate::rows::has_extern;
+use crate::statements::block;
+use mc_tree::{Item, Unit};
+
+/// Accepts a tree without a node outside, and else gives the first one in preorder: a node comes
+/// before its parts, and parts come in the order of the text. Takes no memory.
+pub fn check(unit: &Unit<'_>) -> Result<(), Outside>
+    ensures { let nodes = nodes_of_unit (items_of unit.now.items.items) in
+        result ≡ accepted_unless (first_outside nodes) }
+{
+    match items(&unit.items) {
+        None => Ok(()),
+        Some(first) => Err(first),
+    }
+}
+
+fn items(trees: &[Item<'_>]) -> Option<Outside>
+    ensures { result ≡ first_outside (nodes_of_unit (items_of trees.now)) }
+{
+    for tree in trees {
+        if let Some(first) = item(tree) {
+            return Some(first);
+        }
+    }
+    None
+}
+
+fn item(tree: &Item<'_>) -> Option<Outside>
+    ensures { result ≡ first_outside (nodes_of_item (item_of tree.now)) }
+{
+    match tree {
+        Item::Declared { declaration: one } => declaration(one, Region::File, Standing::Elsewhere),
+        Item::Defined {
+            specifiers: words,
+            declarator: declared,
+            body,
+            ..
+        } => {
+            if let Some(first) = specifiers(words, Region::Function) {
+                return Some(first);
+            }
+            let external = has_extern(words);
+            if let Some(first) = declarator(declared, Region::Function, false, external) {
+                return Some(first);
+            }
+            block(body, Standing::Elsewhere)
+        }
+    }
+}

@@ -1,0 +1,5 @@
+//! Tests of the crates that read a source.
+#![tactic(auto)]
+
+#[cfg(test)]
+mod tokens;

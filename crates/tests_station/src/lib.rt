@@ -1,0 +1,16 @@
+//! Tests of the top call and of the crates that only it stands on: what no clause says. Runs succeed with
+//! ample memory, and the definitions are the ones meant.
+#![tactic(auto)]
+
+#[cfg(test)]
+mod files;
+#[cfg(test)]
+mod outcomes;
+#[cfg(test)]
+mod rows;
+#[cfg(test)]
+mod run;
+#[cfg(test)]
+mod sources;
+#[cfg(test)]
+mod truth_tables;
