@@ -15,8 +15,6 @@ mod plans;
 mod probes;
 mod programs;
 mod statements;
-#[cfg(test)]
-mod tests;
 
 pub use effects::Effect;
 pub use expressions::{Argument, Expression, FunctionCall, Place, Slot, Structure};

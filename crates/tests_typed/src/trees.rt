@@ -1,5 +1,5 @@
 //! Small trees by hand. Expected numbers were counted from the rules.
-use crate::{
+use mc_typed::{
     Argument, Expression, FunctionCall, Inputs, Name, Operator, Place, ReturnValue, Slot, Span,
     Statement, levels_of_body, share,
 };
