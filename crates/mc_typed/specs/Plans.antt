@@ -21,8 +21,8 @@ pub record Plan : Type 0 where
   pub fuel : ℕ
 
 -- what a plan of the program stands for
-abbrev pub call_of : code_call.Call → Call
-call_of c = record {
+abbrev pub plan_call_of : code_call.Call → Call
+plan_call_of c = record {
   function = c.function;
   arguments = c.arguments.items;
   expect = c.expect;
@@ -31,7 +31,7 @@ call_of c = record {
 
 abbrev pub plan_of : TestPlan → Plan
 plan_of p =
-    record { name = p.name; calls = map call_of p.calls.items; inputs = p.inputs; fuel = p.fuel }
+    record { name = p.name; calls = map plan_call_of p.calls.items; inputs = p.inputs; fuel = p.fuel }
 
 -- ---- a plan fits a program
 

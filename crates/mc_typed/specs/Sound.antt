@@ -42,13 +42,13 @@ IsSlot objects s = option_map (λ o. o.start) (slice_get objects s.object) ≡ S
 abbrev pub IsSlotOf : List Object → Slot → ObjectType → Type 0
 IsSlotOf objects s u = IsSlot objects s × (object_type_at objects s.object ≡ Some u)
 
-abbrev pub parameters_of : Option Function → List ParameterType
-parameters_of None = []
-parameters_of (Some f) = f.parameters
+abbrev pub parameters_at : Option Function → List ParameterType
+parameters_at None = []
+parameters_at (Some f) = f.parameters
 
-abbrev pub result_of : Option Function → ResultType
-result_of None = t.NoResult
-result_of (Some f) = f.result
+abbrev pub result_at : Option Function → ResultType
+result_at None = t.NoResult
+result_at (Some f) = f.result
 
 -- ---- types of places and values
 
@@ -102,7 +102,7 @@ structure_result _ = None
 abbrev pub structure_type : Scope → StructureValue → Option ObjectType
 structure_type c (t.Stored place) = place_type c place
 structure_type c (t.Returned (t.call f given result span)) =
-    structure_result (result_of (slice_get c.functions f))
+    structure_result (result_at (slice_get c.functions f))
 
 abbrev pub IsStructureType : Option ObjectType → Type 0
 IsStructureType (Some (Structure k ms)) = Unit {0}
@@ -166,16 +166,16 @@ abbrev mutual
   pub IsCall : FunctionCall → Scope → ResultType → Type 0
   IsCall (t.call f given result span) c r =
       (f < length c.functions)
-      × AreArguments given (parameters_of (slice_get c.functions f)) c
+      × AreArguments given (parameters_at (slice_get c.functions f)) c
       × Takes result r c
-      × (result_of (slice_get c.functions f) ≡ r)
+      × (result_at (slice_get c.functions f) ≡ r)
 
   pub IsStructureCall : FunctionCall → Scope → Type 0
   IsStructureCall (t.call f given result span) c =
       (f < length c.functions)
-      × AreArguments given (parameters_of (slice_get c.functions f)) c
-      × IsStructureType (structure_result (result_of (slice_get c.functions f)))
-      × Takes result (result_of (slice_get c.functions f)) c
+      × AreArguments given (parameters_at (slice_get c.functions f)) c
+      × IsStructureType (structure_result (result_at (slice_get c.functions f)))
+      × Takes result (result_at (slice_get c.functions f)) c
 
   -- as many arguments as parameters, each of the kind and type of its parameter (C17 6.5.2.2)
   pub AreArguments : Arguments → List ParameterType → Scope → Type 0
