@@ -8,7 +8,7 @@ use Rattle.mc_value.specs.declared.object_type.ObjType.TheFolds.{fold-ObjType}
 abbrev pub cells_of_parts : ObjType-F ℕ → ℕ
 cells_of_parts (ObjType-F.Int t) = 1
 cells_of_parts (ObjType-F.Array element length) = length * element.value
-cells_of_parts (ObjType-F.Struct number members) = sum members.items
+cells_of_parts (ObjType-F.Struct number members) = sum members.value.items
 
 -- of how many scalars an object of the type consists: an array of its elements', a structure of its
 -- members' (C17 6.2.5p20)

@@ -4,16 +4,23 @@ ghost use Rattle.std.specs.Prelude.{◌≡◌, ◌≤◌, map, sum};
 ghost use Rattle.mc_value.specs.ObjectTypes.{cells_of};
 
 use crate::int_type::IntType;
+use std::sync::Arc;
 
-/// The type of an object (C17 6.2.5).
+/// The type of an object (C17 6.2.5). Types that are made of one type share it.
 #[derive(Drop)]
 pub enum ObjType {
     /// A scalar.
     Int(IntType),
     /// An array of `length` elements.
-    Array { element: Box<ObjType>, length: u32 },
+    Array {
+        element: Arc<ObjType>,
+        length: u32,
+    },
     /// The structure type with this number, and the types of its members in their order.
-    Struct { number: u32, members: Vec<ObjType> },
+    Struct {
+        number: u32,
+        members: Arc<Vec<ObjType>>,
+    },
 }
 
 /// How many scalars an object of the type consists of.

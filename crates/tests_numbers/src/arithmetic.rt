@@ -12,6 +12,7 @@ use mc_value::{
     unary,
 };
 use std::alloc::Global;
+use std::sync::Arc;
 use std::test::Fail;
 
 const TYPES: [IntType; 12] = [
@@ -419,20 +420,20 @@ fn record(alloc: Global, count: u32) -> Result<ObjType, Fail>
     ensures { IfOk result (λ t. cells_of t ≡ count + 6) }
 {
     let pair = ObjType::Array {
-        element: Box::new(alloc, ObjType::Int(Int))?,
+        element: Arc::new(alloc, ObjType::Int(Int))?,
         length: 2,
     };
     let pairs = ObjType::Array {
-        element: Box::new(alloc, pair)?,
+        element: Arc::new(alloc, pair)?,
         length: 3,
     };
     let characters = ObjType::Array {
-        element: Box::new(alloc, ObjType::Int(Char))?,
+        element: Arc::new(alloc, ObjType::Int(Char))?,
         length: count,
     };
     Ok(ObjType::Struct {
         number: 0,
-        members: vec![in alloc; characters, pairs]?,
+        members: Arc::new(alloc, vec![in alloc; characters, pairs]?)?,
     })
 }
 

@@ -1,0 +1,4 @@
+pub mod Limits
+pub mod Numbered
+pub mod Places
+pub mod CellTypes

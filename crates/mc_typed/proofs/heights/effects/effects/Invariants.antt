@@ -1,0 +1,8 @@
+-- What is seen so far, with what is still to come, is as high as the whole list.
+use Rattle.std.proofs.Common.{◌≡◌, max, drop, map}
+use Rattle.mc_typed.specs.Levels.{height_effects, limited_more}
+use Rattle.mc_typed.specs.Views.{effect_of}
+use Rattle.mc_typed.proofs.heights.effects.effects.Given as goal
+
+abbrev pub invariant-loop-tree : goal.invariant-loop-tree
+invariant-loop-tree l = max l.tallest (height_effects limited_more (map effect_of (drop l.tree-index l.trees))) ≡ height_effects limited_more (map effect_of l.trees)

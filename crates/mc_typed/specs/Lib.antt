@@ -1,0 +1,9 @@
+pub mod Layout
+pub mod Tree
+pub mod Views
+pub mod Levels
+pub mod Frames
+pub mod Sound
+pub mod Plans
+pub mod Laws
+pub mod Examples

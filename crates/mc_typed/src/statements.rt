@@ -1,0 +1,121 @@
+//! Typed statements (C17 6.8).
+use crate::effects::Effect;
+use crate::expressions::{Expression, Slot, Structure};
+use crate::initializers::Initializer;
+use crate::probes::Mark;
+use mc_span::Span;
+
+/// A statement, a label of a `switch` or a local declaration. `span` is all of it, `keyword` the
+/// word that it begins with, and `bit` the bit of its probe in an instrumented tree.
+#[derive(Drop)]
+pub enum Statement {
+    Compound {
+        items: Vec<Statement>,
+        span: Span,
+    },
+    /// A label directly in the body of a `switch`: `case` with its value in the promoted type of
+    /// the controlling expression, or `default`. Its span goes through the colon.
+    Label {
+        value: Option<i128>,
+        span: Span,
+        mark: Option<Mark>,
+    },
+    /// A local declaration, with its objects of automatic storage duration.
+    Declaration {
+        declarators: Vec<Declarator>,
+        span: Span,
+        bit: Option<u32>,
+    },
+    Null {
+        span: Span,
+        bit: Option<u32>,
+    },
+    Effect {
+        effect: Effect,
+        span: Span,
+        bit: Option<u32>,
+    },
+    If {
+        test: Expression,
+        chosen: Box<Statement>,
+        keyword: Span,
+        span: Span,
+        bit: Option<u32>,
+    },
+    /// An `if` with its `else`.
+    IfElse {
+        test: Expression,
+        chosen: Box<Statement>,
+        other: Box<Statement>,
+        keyword: Span,
+        span: Span,
+        bit: Option<u32>,
+    },
+    /// The items of its body are its labels and the statements after them. `absent` is the probe of
+    /// a `default` that is not there.
+    Switch {
+        value: Expression,
+        items: Vec<Statement>,
+        keyword: Span,
+        span: Span,
+        bit: Option<u32>,
+        absent: Option<Mark>,
+    },
+    /// A `for`, and a `while`, which has only a test and a body.
+    For {
+        start: ForStart,
+        test: Option<Expression>,
+        step: Vec<Effect>,
+        body: Box<Statement>,
+        keyword: Span,
+        span: Span,
+        bit: Option<u32>,
+    },
+    DoWhile {
+        body: Box<Statement>,
+        test: Expression,
+        keyword: Span,
+        span: Span,
+        bit: Option<u32>,
+    },
+    Break {
+        span: Span,
+        bit: Option<u32>,
+    },
+    Continue {
+        span: Span,
+        bit: Option<u32>,
+    },
+    /// `exit` is the bit of the exit.
+    Return {
+        value: ReturnValue,
+        span: Span,
+        bit: Option<u32>,
+        exit: Option<u32>,
+    },
+}
+
+/// An object that a local declaration declares, how many cells it has, and what it is initialized
+/// with.
+#[derive(Drop)]
+pub struct Declarator {
+    pub slot: Slot,
+    pub cells: u32,
+    pub value: Option<Initializer>,
+}
+
+/// The first part of a `for` (C17 6.8.5.3).
+#[derive(Drop)]
+pub enum ForStart {
+    Effects { effects: Vec<Effect> },
+    Declaration { declarators: Vec<Declarator> },
+}
+
+/// What a `return` gives: nothing, an integer converted to the function's type, or a structure of
+/// `cells` cells.
+#[derive(Drop)]
+pub enum ReturnValue {
+    Nothing,
+    Number { value: Expression },
+    Structure { value: Structure, cells: u32 },
+}

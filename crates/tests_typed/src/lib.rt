@@ -1,0 +1,5 @@
+//! Tests of typed programs.
+#![tactic(auto)]
+
+#[cfg(test)]
+mod trees;
