@@ -442,6 +442,11 @@ abbrev pub AreObjectTypes : List ObjectType → List ObjectType → Type 0
 AreObjectTypes structures [] = Unit {0}
 AreObjectTypes structures (u ∷ us) = IsObjectType structures u × AreObjectTypes structures us
 
+abbrev pub AreParameters : List ParameterType → Type 0
+AreParameters [] = Unit {0}
+AreParameters (t.StructureParameter u ∷ ps) = IsStructureType (Some u) × AreParameters ps
+AreParameters (_ ∷ ps) = AreParameters ps
+
 abbrev pub IsResult : List ObjectType → ResultType → Type 0
 IsResult structures (t.StructureResult u) = IsObjectType structures u × IsStructureType (Some u)
 IsResult structures _ = Unit {0}
@@ -468,6 +473,7 @@ scope_of p f = record {
 
 pub record IsFunction (p : Program) (f : Function) : Type 0 where
   pub few : length f.parameters ≤ 16
+  pub parameters : AreParameters f.parameters
   pub arrays : AreObjectTypes p.structures (arrays_of f.parameters)
   pub result : IsResult p.structures f.result
   -- The objects are the parameters that are no arrays, and then those of the body, each named once.
