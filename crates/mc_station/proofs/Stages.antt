@@ -1,5 +1,5 @@
 -- Which statuses each stage leads to.
-use Rattle.std.proofs.Common.{◌≡◌, ◌≢◌, ◌↔◌, ◌∙◌, ℕ, List, Option, Some, None, Result, Ok, Err, refl, sym, ap, subst, inl, inr}
+use Rattle.std.proofs.Common.{◌≡◌, ◌↔◌, ◌⊎◌, ℕ, List, Option, Some, None, Result, Ok, Err, refl, sym, ap, subst, inl, inr}
 use Rattle.mc_command.specs.Command.{Command, Vectors, command_of}
 use Rattle.mc_parse.specs.Form.{Form}
 use Rattle.mc_port.specs.Store.{Files, and_asked}
