@@ -1,5 +1,6 @@
 pub mod Leading
 pub mod Parts
 pub mod Phases
+pub mod Stages
 pub mod Statuses
 pub mod Unique

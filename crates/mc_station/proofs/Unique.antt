@@ -123,7 +123,7 @@ module _ (files : Files) where
   no_answer s t f text a b r (calls.too_long g p long) is holds judges = not_long s g f text p is long holds
   no_answer s t f text a b r (calls.refused g bytes x p also refuses) is holds judges = absurd (cc (same_verdict s g f bytes text (Err r) (Ok t) p is also holds refuses judges))
 
-no_fault : (s : Stage) (a b : Requests) (r : Reply) → Fails s a r b → IsAnswer r.status → ⊥
+pub no_fault : (s : Stage) (a b : Requests) (r : Reply) → Fails s a r b → IsAnswer r.status → ⊥
 no_fault s a b r (calls.unreadable f is) answer = answer
 no_fault s a b r calls.no_memory answer = answer
 no_fault s a b r (calls.no_memory_after f is) answer = answer

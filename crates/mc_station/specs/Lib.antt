@@ -6,6 +6,7 @@ pub mod Reply
 pub mod Source
 pub mod Stages
 pub mod Calls
+pub mod Laws
 -- What the top call leaves.
 pub mod Outcome
 -- What clauses see of the program's types.

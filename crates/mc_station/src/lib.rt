@@ -3,6 +3,7 @@
 
 mod file;
 mod judge;
+pub mod laws;
 mod refusal;
 mod reply;
 mod run;

@@ -19,87 +19,93 @@ const ONE: &str = "test t1 pass values 1 output\nD1 TT=T by t1\n";
 
 const NAME_64: &str = "aaaaaaaaaaaaaaaabbbbbbbbbbbbbbbbccccccccccccccccdddddddddddddddd";
 
+/// What follows the header of a tests file, and what the run gives.
+const AFTER_HEADER: [(&str, (u8, &str, &str)); 37] = [
+    ("t1,f,1 1,,,", (0, ONE, "")),
+    ("t1,f,1 1,,,\n", (0, ONE, "")),
+    ("t1,f,1 1,,,\r\n", (0, ONE, "")),
+    ("\nt1,f,1 1,,,\n\n", (0, ONE, "")),
+    ("\"t1\",\"f\",\"1 1\",\"\",\"\",\"\"\n", (0, ONE, "")),
+    ("t1,f,-1 2147483647,,,\n", (0, ONE, "")),
+    (
+        "t1,f,-2147483648 0,,,\n",
+        (0, "test t1 pass values 0 output\nD1 TF=F by t1\n", ""),
+    ),
+    (
+        "A_z-0.9,f,0 0,,,\n",
+        (
+            0,
+            "test A_z-0.9 pass values 0 output\nD1 F-=F by A_z-0.9\n",
+            "",
+        ),
+    ),
+    // a vector is the least test's that evaluates it
+    (
+        "z,f,0 5,,,\na,f,0 6,,,\n",
+        (
+            0,
+            "test z pass values 0 output\ntest a pass values 0 output\nD1 F-=F by z\n",
+            "",
+        ),
+    ),
+    ("t1,f,-0 1,,,\n", NOT_BUILT),
+    ("t1,f,01 1,,,\n", NOT_BUILT),
+    ("t1,f,+1 1,,,\n", NOT_BUILT),
+    ("t1,f,2147483648 1,,,\n", NOT_BUILT),
+    ("t1,f,-2147483649 1,,,\n", NOT_BUILT),
+    ("t1,f,1  1,,,\n", NOT_BUILT),
+    ("t1,f, 1 1,,,\n", NOT_BUILT),
+    ("t1,f,1 1 ,,,\n", NOT_BUILT),
+    ("t1,f,1\t1,,,\n", NOT_BUILT),
+    ("t1,f,1,,,\n", NOT_BUILT),
+    ("t1,f,1 1 1,,,\n", NOT_BUILT),
+    ("t1,f,,,,\n", NOT_BUILT),
+    ("t1,f,1 a,,,\n", NOT_BUILT),
+    ("t1,f,1 -,,,\n", NOT_BUILT),
+    ("t1,f,1 \01,,,\n", NOT_BUILT),
+    ("t\01,f,1 1,,,\n", NOT_BUILT),
+    ("t1,f,1 1,\0,,\n", NOT_BUILT),
+    ("t1,g,1 1,,,\n", NOT_BUILT),
+    ("t1,,1 1,,,\n", NOT_BUILT),
+    (",f,1 1,,,\n", NOT_BUILT),
+    ("t 1,f,1 1,,,\n", NOT_BUILT),
+    ("t1,f,1 1,0,,\n", NOT_BUILT),
+    ("t1,f,1 1,,1,\n", NOT_BUILT),
+    ("t1,f,1 1,,,1\n", NOT_BUILT),
+    ("t1,f,1 1,,\n", NOT_BUILT),
+    ("t1,f,1 1,,,,\n", NOT_BUILT),
+    ("t1,f,1 1,,,\nt1,f,1 0,,,\n", NOT_BUILT),
+    ("t1,f,1 1,,,\nt2,f,1 0,,,\nt1,f,1 1,,,\n", NOT_BUILT),
+];
+
 #[test]
 fn tests_after_the_header(rt: HostRuntime) -> Result<(), Fail> {
-    for (lines, want) in [
-        ("t1,f,1 1,,,", (0, ONE, "")),
-        ("t1,f,1 1,,,\n", (0, ONE, "")),
-        ("t1,f,1 1,,,\r\n", (0, ONE, "")),
-        ("\nt1,f,1 1,,,\n\n", (0, ONE, "")),
-        ("\"t1\",\"f\",\"1 1\",\"\",\"\",\"\"\n", (0, ONE, "")),
-        ("t1,f,-1 2147483647,,,\n", (0, ONE, "")),
-        (
-            "t1,f,-2147483648 0,,,\n",
-            (0, "test t1 pass values 0 output\nD1 TF=F by t1\n", ""),
-        ),
-        (
-            "A_z-0.9,f,0 0,,,\n",
-            (
-                0,
-                "test A_z-0.9 pass values 0 output\nD1 F-=F by A_z-0.9\n",
-                "",
-            ),
-        ),
-        // a vector is the least test's that evaluates it
-        (
-            "z,f,0 5,,,\na,f,0 6,,,\n",
-            (
-                0,
-                "test z pass values 0 output\ntest a pass values 0 output\nD1 F-=F by z\n",
-                "",
-            ),
-        ),
-        ("t1,f,-0 1,,,\n", NOT_BUILT),
-        ("t1,f,01 1,,,\n", NOT_BUILT),
-        ("t1,f,+1 1,,,\n", NOT_BUILT),
-        ("t1,f,2147483648 1,,,\n", NOT_BUILT),
-        ("t1,f,-2147483649 1,,,\n", NOT_BUILT),
-        ("t1,f,1  1,,,\n", NOT_BUILT),
-        ("t1,f, 1 1,,,\n", NOT_BUILT),
-        ("t1,f,1 1 ,,,\n", NOT_BUILT),
-        ("t1,f,1\t1,,,\n", NOT_BUILT),
-        ("t1,f,1,,,\n", NOT_BUILT),
-        ("t1,f,1 1 1,,,\n", NOT_BUILT),
-        ("t1,f,,,,\n", NOT_BUILT),
-        ("t1,f,1 a,,,\n", NOT_BUILT),
-        ("t1,f,1 -,,,\n", NOT_BUILT),
-        ("t1,f,1 \01,,,\n", NOT_BUILT),
-        ("t\01,f,1 1,,,\n", NOT_BUILT),
-        ("t1,f,1 1,\0,,\n", NOT_BUILT),
-        ("t1,g,1 1,,,\n", NOT_BUILT),
-        ("t1,,1 1,,,\n", NOT_BUILT),
-        (",f,1 1,,,\n", NOT_BUILT),
-        ("t 1,f,1 1,,,\n", NOT_BUILT),
-        ("t1,f,1 1,0,,\n", NOT_BUILT),
-        ("t1,f,1 1,,1,\n", NOT_BUILT),
-        ("t1,f,1 1,,,1\n", NOT_BUILT),
-        ("t1,f,1 1,,\n", NOT_BUILT),
-        ("t1,f,1 1,,,,\n", NOT_BUILT),
-        ("t1,f,1 1,,,\nt1,f,1 0,,,\n", NOT_BUILT),
-        ("t1,f,1 1,,,\nt2,f,1 0,,,\nt1,f,1 1,,,\n", NOT_BUILT),
-    ] {
+    for (lines, want) in AFTER_HEADER {
         lists(&rt, rt.alloc(), lines, want)?;
     }
     Ok(())
 }
 
+/// Tests files, and what the run gives.
+const WHOLE_FILES: [(&str, (u8, &str, &str)); 10] = [
+    ("test,call,arguments,inputs,expect,output", (0, "", "")),
+    ("test,call,arguments,inputs,expect,output\r\n", (0, "", "")),
+    (
+        "\"test\",call,arguments,inputs,expect,output\n",
+        (0, "", ""),
+    ),
+    ("", NOT_BUILT),
+    ("\n", NOT_BUILT),
+    ("t1,f,1 1,,,\n", NOT_BUILT),
+    ("test,call,arguments,inputs,expect\n", NOT_BUILT),
+    ("test,call,arguments,inputs,expect,output,\n", NOT_BUILT),
+    ("test,call,arguments,expect,inputs,output\n", NOT_BUILT),
+    ("Test,call,arguments,inputs,expect,output\n", NOT_BUILT),
+];
+
 #[test]
 fn headers(rt: HostRuntime) -> Result<(), Fail> {
-    for (tests, want) in [
-        ("test,call,arguments,inputs,expect,output", (0, "", "")),
-        ("test,call,arguments,inputs,expect,output\r\n", (0, "", "")),
-        (
-            "\"test\",call,arguments,inputs,expect,output\n",
-            (0, "", ""),
-        ),
-        ("", NOT_BUILT),
-        ("\n", NOT_BUILT),
-        ("t1,f,1 1,,,\n", NOT_BUILT),
-        ("test,call,arguments,inputs,expect\n", NOT_BUILT),
-        ("test,call,arguments,inputs,expect,output,\n", NOT_BUILT),
-        ("test,call,arguments,expect,inputs,output\n", NOT_BUILT),
-        ("Test,call,arguments,inputs,expect,output\n", NOT_BUILT),
-    ] {
+    for (tests, want) in WHOLE_FILES {
         let setting = plain(SOURCE.as_bytes(), tests.as_bytes());
         gives(&rt, rt.alloc(), &setting, tests, want)?;
     }
@@ -142,28 +148,31 @@ fn padded(alloc: Global, text: &str, space: u8, length: usize) -> Result<Vec<u8>
     Ok(bytes)
 }
 
+/// Lengths of both files, and what the run gives.
+const LENGTHS: [(usize, usize, (u8, &str, &str)); 5] = [
+    (1048576, 0, (0, "", "")),
+    (
+        1048577,
+        0,
+        (3, "", "mcdc: s.c: longer than 1048576 bytes\n"),
+    ),
+    (0, 4194304, (0, "", "")),
+    (
+        0,
+        4194305,
+        (4, "", "mcdc: t.csv: longer than 4194304 bytes\n"),
+    ),
+    (
+        1048576,
+        4194305,
+        (4, "", "mcdc: t.csv: longer than 4194304 bytes\n"),
+    ),
+];
+
 #[test]
 fn lengths_of_files(rt: HostRuntime) -> Result<(), Fail> {
     let alloc = rt.alloc();
-    for (source, tests, want) in [
-        (1048576, 0, (0, "", "")),
-        (
-            1048577,
-            0,
-            (3, "", "mcdc: s.c: longer than 1048576 bytes\n"),
-        ),
-        (0, 4194304, (0, "", "")),
-        (
-            0,
-            4194305,
-            (4, "", "mcdc: t.csv: longer than 4194304 bytes\n"),
-        ),
-        (
-            1048576,
-            4194305,
-            (4, "", "mcdc: t.csv: longer than 4194304 bytes\n"),
-        ),
-    ] {
+    for (source, tests, want) in LENGTHS {
         let source = padded(alloc, SOURCE, b' ', source)?;
         let tests = padded(alloc, HEADER, b'\n', tests)?;
         gives(&rt, alloc, &plain(&source, &tests), "lengths", want)?;

@@ -5,52 +5,58 @@ use std::test::Fail;
 
 const USAGE: &str = "usage: mcdc vectors SOURCE TESTS\n";
 
+/// Sources, tests files, and what each run writes.
+const WORKED: [(&str, &str, &str); 4] = [
+    (SOURCE, HEADER, ""),
+    (
+        SOURCE,
+        TESTS,
+        "test t1 pass values 1 output\ntest t2 pass values 0 output\ntest t3 pass values 0 output\nD1 TT=T by t1\nD1 TF=F by t2\nD1 F-=F by t3\n",
+    ),
+    (
+        "int f(int a,int b,int c){return !(a&&b)||c;}",
+        "test,call,arguments,inputs,expect,output\nt1,f,1 1 1,,,\nt2,f,1 1 0,,,\nt3,f,1 0 0,,,\nt4,f,0 0 0,,,\n",
+        "test t1 pass values 1 output\ntest t2 pass values 0 output\ntest t3 pass values 1 output\ntest t4 pass values 1 output\nD1 TTT=T by t1\nD1 TTF=F by t2\nD1 TF-=T by t3\nD1 F--=T by t4\n",
+    ),
+    (
+        "int f(int a,int b){return a<b||a==3;}",
+        "test,call,arguments,inputs,expect,output\nt1,f,1 2,,,\nt2,f,3 1,,,\n",
+        "test t1 pass values 1 output\ntest t2 pass values 1 output\nD1 T-=T by t1\nD1 FT=T by t2\n",
+    ),
+];
+
 #[test]
 fn worked_examples(rt: HostRuntime) -> Result<(), Fail> {
-    for (source, tests, out) in [
-        (SOURCE, HEADER, ""),
-        (
-            SOURCE,
-            TESTS,
-            "test t1 pass values 1 output\ntest t2 pass values 0 output\ntest t3 pass values 0 output\nD1 TT=T by t1\nD1 TF=F by t2\nD1 F-=F by t3\n",
-        ),
-        (
-            "int f(int a,int b,int c){return !(a&&b)||c;}",
-            "test,call,arguments,inputs,expect,output\nt1,f,1 1 1,,,\nt2,f,1 1 0,,,\nt3,f,1 0 0,,,\nt4,f,0 0 0,,,\n",
-            "test t1 pass values 1 output\ntest t2 pass values 0 output\ntest t3 pass values 1 output\ntest t4 pass values 1 output\nD1 TTT=T by t1\nD1 TTF=F by t2\nD1 TF-=T by t3\nD1 F--=T by t4\n",
-        ),
-        (
-            "int f(int a,int b){return a<b||a==3;}",
-            "test,call,arguments,inputs,expect,output\nt1,f,1 2,,,\nt2,f,3 1,,,\n",
-            "test t1 pass values 1 output\ntest t2 pass values 1 output\nD1 T-=T by t1\nD1 FT=T by t2\n",
-        ),
-    ] {
+    for (source, tests, out) in WORKED {
         let setting = plain(source.as_bytes(), tests.as_bytes());
         gives(&rt, rt.alloc(), &setting, source, (0, out, ""))?;
     }
     Ok(())
 }
 
+/// Words, and how many of the four are given.
+const NOT_A_COMMAND: [([&str; 4], usize); 16] = [
+    (["", "", "", ""], 0),
+    (["vectors", "", "", ""], 1),
+    (["vectors", "s.c", "", ""], 2),
+    (["vectors", "s.c", "t.csv", "more"], 4),
+    (["vectors", "s.c", "t.csv", "--fuel"], 4),
+    (["report", "s.c", "t.csv", ""], 3),
+    (["", "s.c", "t.csv", ""], 3),
+    (["Vectors", "s.c", "t.csv", ""], 3),
+    (["vectors ", "s.c", "t.csv", ""], 3),
+    (["-vectors", "s.c", "t.csv", ""], 3),
+    (["-", "s.c", "t.csv", ""], 3),
+    (["vectors", "-s.c", "t.csv", ""], 3),
+    (["vectors", "-", "t.csv", ""], 3),
+    (["vectors", "s.c", "-t.csv", ""], 3),
+    (["vectors", "s.c", "-", ""], 3),
+    (["vectors", "s.c", "--", ""], 3),
+];
+
 #[test]
 fn words_that_are_not_a_command(rt: HostRuntime) -> Result<(), Fail> {
-    for (words, count) in [
-        (["", "", "", ""], 0),
-        (["vectors", "", "", ""], 1),
-        (["vectors", "s.c", "", ""], 2),
-        (["vectors", "s.c", "t.csv", "more"], 4),
-        (["vectors", "s.c", "t.csv", "--fuel"], 4),
-        (["report", "s.c", "t.csv", ""], 3),
-        (["", "s.c", "t.csv", ""], 3),
-        (["Vectors", "s.c", "t.csv", ""], 3),
-        (["vectors ", "s.c", "t.csv", ""], 3),
-        (["-vectors", "s.c", "t.csv", ""], 3),
-        (["-", "s.c", "t.csv", ""], 3),
-        (["vectors", "-s.c", "t.csv", ""], 3),
-        (["vectors", "-", "t.csv", ""], 3),
-        (["vectors", "s.c", "-t.csv", ""], 3),
-        (["vectors", "s.c", "-", ""], 3),
-        (["vectors", "s.c", "--", ""], 3),
-    ] {
+    for (words, count) in NOT_A_COMMAND {
         let mut setting = plain(SOURCE.as_bytes(), TESTS.as_bytes());
         setting.words = words;
         setting.count = count;
@@ -63,80 +69,94 @@ const FIRST_LINE: &str = "test t1 pass values 1 output\n";
 
 const FIRST_LINE_AND_MORE: &str = "test t1 pass values 1 output\ntest ";
 
+const ABSENT: [&str; 4] = ["vectors", "u.c", "t.csv", ""];
+
+const ABSENT_TESTS: [&str; 4] = ["vectors", "s.c", "u.csv", ""];
+
+const COMMAND: [&str; 4] = ["vectors", "s.c", "t.csv", ""];
+
+const OTHER: [&str; 4] = ["report", "s.c", "t.csv", ""];
+
+/// A case, its words, the load that fails, the puts that fail on both sinks, and what the run gives.
+const FAULTS: [(
+    &str,
+    [&str; 4],
+    u32,
+    (u32, u32),
+    (u32, u32),
+    (u8, &str, &str),
+); 10] = [
+    (
+        "no source",
+        ABSENT,
+        0,
+        (0, 0),
+        (0, 0),
+        (6, "", "mcdc: cannot read u.c\n"),
+    ),
+    (
+        "no tests",
+        ABSENT_TESTS,
+        0,
+        (0, 0),
+        (0, 0),
+        (6, "", "mcdc: cannot read u.csv\n"),
+    ),
+    (
+        "first load",
+        COMMAND,
+        1,
+        (0, 0),
+        (0, 0),
+        (6, "", "mcdc: cannot read s.c\n"),
+    ),
+    (
+        "second load",
+        COMMAND,
+        2,
+        (0, 0),
+        (0, 0),
+        (6, "", "mcdc: cannot read t.csv\n"),
+    ),
+    (
+        "load without diag",
+        COMMAND,
+        2,
+        (0, 0),
+        (1, 7),
+        (7, "", "mcdc: c"),
+    ),
+    ("first put", COMMAND, 0, (1, 3), (0, 0), (7, "tes", "")),
+    (
+        "second put",
+        COMMAND,
+        0,
+        (2, 0),
+        (0, 0),
+        (7, FIRST_LINE, ""),
+    ),
+    (
+        "part of the second put",
+        COMMAND,
+        0,
+        (2, 5),
+        (0, 0),
+        (7, FIRST_LINE_AND_MORE, ""),
+    ),
+    ("usage", OTHER, 0, (0, 0), (1, 0), (7, "", "")),
+    (
+        "no load for the usage",
+        OTHER,
+        1,
+        (1, 0),
+        (0, 0),
+        (2, "", USAGE),
+    ),
+];
+
 #[test]
 fn faults_outside(rt: HostRuntime) -> Result<(), Fail> {
-    let absent = ["vectors", "u.c", "t.csv", ""];
-    let absent_tests = ["vectors", "s.c", "u.csv", ""];
-    let command = ["vectors", "s.c", "t.csv", ""];
-    let other = ["report", "s.c", "t.csv", ""];
-    for (case, words, load, out, diag, want) in [
-        (
-            "no source",
-            absent,
-            0,
-            (0, 0),
-            (0, 0),
-            (6, "", "mcdc: cannot read u.c\n"),
-        ),
-        (
-            "no tests",
-            absent_tests,
-            0,
-            (0, 0),
-            (0, 0),
-            (6, "", "mcdc: cannot read u.csv\n"),
-        ),
-        (
-            "first load",
-            command,
-            1,
-            (0, 0),
-            (0, 0),
-            (6, "", "mcdc: cannot read s.c\n"),
-        ),
-        (
-            "second load",
-            command,
-            2,
-            (0, 0),
-            (0, 0),
-            (6, "", "mcdc: cannot read t.csv\n"),
-        ),
-        (
-            "load without diag",
-            command,
-            2,
-            (0, 0),
-            (1, 7),
-            (7, "", "mcdc: c"),
-        ),
-        ("first put", command, 0, (1, 3), (0, 0), (7, "tes", "")),
-        (
-            "second put",
-            command,
-            0,
-            (2, 0),
-            (0, 0),
-            (7, FIRST_LINE, ""),
-        ),
-        (
-            "part of the second put",
-            command,
-            0,
-            (2, 5),
-            (0, 0),
-            (7, FIRST_LINE_AND_MORE, ""),
-        ),
-        ("usage", other, 0, (0, 0), (1, 0), (7, "", "")),
-        (
-            "no load for the usage",
-            other,
-            1,
-            (1, 0),
-            (0, 0),
-            (2, "", USAGE),
-        ),
-    ] {
+    for (case, words, load, out, diag, want) in FAULTS {
         let mut setting = plain(SOURCE.as_bytes(), TESTS.as_bytes());
         setting.words = words;
         setting.failing_load = load;

@@ -22,21 +22,24 @@ fn shown(alloc: Global, text: &[u8], most: u32) -> Result<Vec<u8>, AllocError> {
     Ok(shown)
 }
 
+/// Texts, how many records are asked for, and what is read.
+const TEXTS: [(&str, u32, &str); 10] = [
+    ("", 9, ""),
+    ("\n\r\n", 9, ""),
+    ("a", 9, "[a]\n"),
+    ("a,b\n1,2,3\n4\n", 9, "[a][b]\n[1][2][3]\n[4]\n"),
+    ("a,b\n1,2,3\n4\n", 2, "[a][b]\n[1][2][3]\n"),
+    ("a\r\n\r\nb\n\nc", 9, "[a]\n[b]\n[c]\n"),
+    (",,\n", 9, "[][][]\n"),
+    ("\"a,b\",\"c\nd\",\"e\"\"f\"\n", 9, "[a,b][c\nd][e\"f]\n"),
+    ("\"open, to the end\n", 9, "[open, to the end\n]\n"),
+    ("\u{feff}a,b\n", 9, "[a][b]\n"),
+];
+
 #[test]
 fn reads_every_record(rt: HostRuntime) -> Result<(), Fail> {
     let alloc = rt.alloc();
-    for (text, most, want) in [
-        ("", 9, ""),
-        ("\n\r\n", 9, ""),
-        ("a", 9, "[a]\n"),
-        ("a,b\n1,2,3\n4\n", 9, "[a][b]\n[1][2][3]\n[4]\n"),
-        ("a,b\n1,2,3\n4\n", 2, "[a][b]\n[1][2][3]\n"),
-        ("a\r\n\r\nb\n\nc", 9, "[a]\n[b]\n[c]\n"),
-        (",,\n", 9, "[][][]\n"),
-        ("\"a,b\",\"c\nd\",\"e\"\"f\"\n", 9, "[a,b][c\nd][e\"f]\n"),
-        ("\"open, to the end\n", 9, "[open, to the end\n]\n"),
-        ("\u{feff}a,b\n", 9, "[a][b]\n"),
-    ] {
+    for (text, most, want) in TEXTS {
         let got = shown(alloc, text.as_bytes(), most)?;
         assert_eq!(rt; got.as_slice(), want.as_bytes(), "{text}");
     }

@@ -1,0 +1,5 @@
+use Rattle.mc_station.proofs.Stages.{source_alone}
+use Rattle.mc_station.proofs.laws.source_alone.Goals as goal
+
+pub returns : goal.returns
+returns c = source_alone

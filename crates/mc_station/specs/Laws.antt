@@ -1,0 +1,31 @@
+-- Laws of what calls lead to.
+use Rattle.std.specs.Prelude.{◌≡◌, ◌↔◌, None}
+use Rattle.mc_command.specs.Command.{command_of}
+use Rattle.mc_port.specs.Store.{and_asked}
+use Rattle.mc_station.specs.Calls.{Call, CallsFor, IsKnown, LeadsTo, Requests}
+use Rattle.mc_station.specs.Files.{File, request_of}
+use Rattle.mc_station.specs.Reply.{Reply}
+use Rattle.mc_station.specs.Stages.{asks, first_stage, next_of}
+use Rattle.mc_station.specs.Status.{IsAnswer}
+use Rattle.mc_station.specs.declared.file.FileKind.TheVariants.{Source}
+use Rattle.mc_station.specs.declared.status.Status.TheVariants.{NoCommand, SourceRefused}
+
+-- where all that the words ask for is told, they call for at most one reply
+abbrev pub OneReply : Type 0
+OneReply =
+    (call : Call) (r s : Reply) → IsKnown call → CallsFor call r → CallsFor call s → r ≡ s
+
+-- a reply that neither the outside nor memory decides has status 2 exactly where the words are not a
+-- command
+abbrev pub NoCommandAlone : Type 0
+NoCommandAlone =
+    (call : Call) (asked after : Requests) (r : Reply) → LeadsTo call asked r after → IsAnswer r.status
+    → (r.status ≡ NoCommand) ↔ (command_of call.words ≡ None)
+
+-- where the source is refused, it was asked for, and nothing else
+abbrev pub SourceAlone : Type 0
+SourceAlone =
+    (call : Call) (asked after : Requests) (r : Reply) → LeadsTo call asked r after
+    → r.status ≡ SourceRefused
+    → (file : File) × (next_of (first_stage (command_of call.words)) ≡ asks file)
+    × (file.kind ≡ Source) × (after ≡ and_asked asked (request_of file))

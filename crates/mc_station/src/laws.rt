@@ -1,0 +1,17 @@
+//! Laws of what calls lead to.
+ghost use Rattle.mc_station.specs.Laws as laws;
+
+/// Words and files call for at most one reply.
+pub fn one_reply()
+    ensures { laws.OneReply }
+{}
+
+/// Status 2 comes exactly where the words are not a command, unless something fails.
+pub fn no_command_alone()
+    ensures { laws.NoCommandAlone }
+{}
+
+/// With status 3 the source was asked for, and nothing else.
+pub fn source_alone()
+    ensures { laws.SourceAlone }
+{}
