@@ -1,0 +1,7 @@
+pub mod Lists
+pub mod Turns
+pub mod Names
+pub mod Levels
+pub mod Parts
+pub mod Rooms
+pub mod Allows

@@ -1,0 +1,17 @@
+use Rattle.std.proofs.Common.{◌≡◌, ◌≤◌, length}
+use Rattle.mc_reading.specs.Expressions as spec
+use Rattle.mc_reading.specs.Parsers.{and_then}
+use Rattle.mc_reading.specs.Rooms.{reading}
+use Rattle.mc_descent.specs.Cursors.{left_of}
+use Rattle.mc_descent.specs.Rules.{levels_of}
+use Rattle.mc_descent.specs.Given.{IsHigh, tree_of}
+use Rattle.mc_descent.proofs.grammar.Grammar.climb.Given as goal
+
+abbrev pub decreases-loop-later : goal.decreases-loop-later
+decreases-loop-later g l = length l.later
+
+abbrev pub invariant-loop-later : goal.invariant-loop-later
+invariant-loop-later g l =
+    (and_then (spec.cast_of (reading l.self.room) l.self.room (left_of l.fn.tokens)) (spec.climb (reading l.self.room) l.self.room (levels_of l.fn.levels))
+    ≡ spec.climb (reading l.self.room) l.self.room (levels_of l.later) (tree_of l.left) (left_of l.tokens))
+    × IsHigh l.left × (l.left.height ≤ l.self.room)

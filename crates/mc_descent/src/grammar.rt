@@ -1,0 +1,28 @@
+//! The rules of expressions, specifiers and declarators, each over what reads its parts.
+
+mod binary;
+mod declarators;
+mod lists;
+pub mod makers;
+mod members;
+mod postfix;
+mod primary;
+mod specifiers;
+mod unary;
+
+use crate::cursor::Cursor;
+use crate::fault::Fault;
+use crate::read::{Read, ReadSpecifiers};
+use crate::rule::Rule;
+use std::alloc::Global;
+
+/// The rules, over what reads parts of fewer than `room` levels.
+#[derive(Drop)]
+pub struct Grammar<F, G> {
+    pub alloc: Global,
+    pub room: u32,
+    /// Reads an expression.
+    pub inner: F,
+    /// Reads the specifiers of a type.
+    pub typed: G,
+}

@@ -1,0 +1,309 @@
+//! Operators between operands (C17 6.5.5 to 6.5.17).
+ghost use Rattle.std.specs.Prelude.{◌≡◌, ◌≤◌, ◌+◌, IfOk, List, max, map, Some};
+ghost use Rattle.mc_tree.specs.Tree as t;
+ghost use Rattle.mc_tree.specs.Tree.{span_of};
+ghost use Rattle.mc_tree.specs.Views.{expression_of, expressions_from};
+ghost use Rattle.mc_grammar.specs.Expressions as grammar;
+ghost use Rattle.mc_grammar.specs.Places as places;
+ghost use Rattle.mc_reading.specs.Expressions as spec;
+ghost use Rattle.mc_reading.specs.Parsers.{and_then};
+ghost use Rattle.mc_reading.specs.Rooms.{reading};
+ghost use Rattle.mc_descent.specs.Cursors.{left_of};
+ghost use Rattle.mc_descent.specs.Rules.{level_of, levels_of};
+ghost use Rattle.mc_descent.specs.Given.{GivesMade, GivesTree, IsHigh, Nests, NestsTypes, tree_of, trees_of};
+
+use crate::cursor::Cursor;
+use crate::fault::Fault;
+use crate::grammar::Grammar;
+use crate::grammar::makers::{boxed, end_of_expressions, to};
+use crate::read::{Read, ReadAll, ReadSpecifiers};
+use crate::rule::{Level, Rule};
+use mc_span::Span;
+use mc_tree::{AssignmentOperator, BinaryOperator, Expression};
+use std::alloc::Global;
+
+/// Whether the tree is one of a unary expression.
+fn is_unary(tree: &Expression<'_>) -> bool
+    ensures { result ≡ grammar.is_unary (expression_of tree.now) }
+{
+    !matches!(
+        tree,
+        Expression::Cast { .. }
+            | Expression::Binary { .. }
+            | Expression::Conditional { .. }
+            | Expression::Assignment { .. }
+            | Expression::Comma { .. }
+    )
+}
+
+impl<
+    'a,
+    F: Fn(Global, &mut Cursor<'_, 'a>, u32, Rule) -> Result<Read<'a>, Fault>,
+    G: Fn(Global, &mut Cursor<'_, 'a>, u32) -> Result<ReadSpecifiers<'a>, Fault>,
+> Grammar<F, G> {
+    #[inline(never)]
+    fn made_binary(
+        &self,
+        operator: BinaryOperator,
+        left: Read<'a>,
+        right: Read<'a>,
+    ) -> Result<Read<'a>, Fault>
+        requires small { (left.height ≤ 1000) × (right.height ≤ 1000) }
+        ensures { GivesMade (t.Binary operator (tree_of left.entry) (tree_of right.entry) (places.to (span_of (tree_of left.entry)) (span_of (tree_of right.entry)))) (max left.entry.height right.entry.height + 1) result }
+    {
+        let span = to(left.tree.span(), right.tree.span());
+        let height = left.height.max(right.height) + 1;
+        let tree = Expression::Binary {
+            operator,
+            left: left.tree,
+            right: right.tree,
+            span,
+        };
+        boxed(self.alloc, tree, height)
+    }
+
+    /// One operator and its right operand, after the left one.
+    #[inline(never)]
+    #[tactic(auto, unfolding(mc_reading::specs::Expressions::operation_of))]
+    fn operation(
+        &self,
+        level: Level,
+        operator: BinaryOperator,
+        left: Read<'a>,
+        tokens: &mut Cursor<'_, 'a>,
+    ) -> Result<Read<'a>, Fault>
+        requires room { self.now.room ≤ 1000 }
+        requires nests { Nests self.now.room (F.pre self.now.inner) (F.post self.now.inner) }
+        requires high { IsHigh left }
+        ensures tree { GivesTree (spec.operation_of (reading self.now.room) self.now.room (level_of level) operator (tree_of left.entry) (left_of tokens.old)) result (left_of tokens.new) }
+        ensures height { IfOk result (λ r. r.height ≤ self.now.room) }
+    {
+        if left.height >= self.room {
+            return Err(Fault::Syntax);
+        }
+        tokens.take()?;
+        let right = self.part(Rule::Operand(level), tokens)?;
+        self.made_binary(operator, left, right)
+    }
+
+    /// The operators of a level and their right operands, after the first operand.
+    #[tactic(auto, using(crate::proofs::Turns::operations_steps))]
+    fn operations(
+        &self,
+        level: Level,
+        first: Read<'a>,
+        tokens: &mut Cursor<'_, 'a>,
+    ) -> Result<Read<'a>, Fault>
+        requires room { self.now.room ≤ 1000 }
+        requires nests { Nests self.now.room (F.pre self.now.inner) (F.post self.now.inner) }
+        requires high { IsHigh first }
+        requires low { first.height ≤ self.now.room }
+        ensures tree { GivesTree (spec.operations_of (reading self.now.room) self.now.room (level_of level) (tree_of first.entry) (left_of tokens.old)) result (left_of tokens.new) }
+        ensures height { IfOk result (λ r. r.height ≤ self.now.room) }
+    {
+        let mut left = first;
+        for _turn in 0..tokens.turns() {
+            match tokens.operator(level) {
+                None => return Ok(left),
+                Some(operator) => left = self.operation(level, operator, left, tokens)?,
+            }
+        }
+        Err(Fault::Syntax)
+    }
+
+    /// An operand with the operators of these levels after it, one level after the other.
+    #[tactic(auto, unfolding(mc_reading::specs::Expressions::climb))]
+    pub fn climb(&self, levels: &[Level], tokens: &mut Cursor<'_, 'a>) -> Result<Read<'a>, Fault>
+        requires room { (self.now.room ≤ 1000) × (1 ≤ self.now.room) }
+        requires nests { Nests self.now.room (F.pre self.now.inner) (F.post self.now.inner) }
+        requires types { NestsTypes self.now.room (G.pre self.now.typed) (G.post self.now.typed) }
+        ensures tree { GivesTree (and_then (spec.cast_of (reading self.now.room) self.now.room (left_of tokens.old)) (spec.climb (reading self.now.room) self.now.room (levels_of levels.now))) result (left_of tokens.new) }
+        ensures height { IfOk result (λ r. r.height ≤ self.now.room) }
+    {
+        let mut left = self.cast(tokens)?;
+        let mut later = levels;
+        while let [level, rest @ ..] = later {
+            left = self.operations(*level, left, tokens)?;
+            later = rest;
+        }
+        Ok(left)
+    }
+
+    #[inline(never)]
+    fn made_conditional(
+        &self,
+        test: Read<'a>,
+        chosen: Read<'a>,
+        other: Read<'a>,
+    ) -> Result<Read<'a>, Fault>
+        requires small { (test.height ≤ 1000) × (chosen.height ≤ 1000) × (other.height ≤ 1000) }
+        ensures { GivesMade (t.Conditional (tree_of test.entry) (tree_of chosen.entry) (tree_of other.entry) (places.to (span_of (tree_of test.entry)) (span_of (tree_of other.entry)))) (max test.entry.height (max chosen.entry.height other.entry.height) + 1) result }
+    {
+        let Read {
+            tree: test,
+            height: test_height,
+        } = test;
+        let Read {
+            tree: chosen,
+            height: chosen_height,
+        } = chosen;
+        let Read {
+            tree: other,
+            height,
+        } = other;
+        let span = to(test.span(), other.span());
+        let height = test_height.max(chosen_height.max(height)) + 1;
+        let tree = Expression::Conditional {
+            test,
+            chosen,
+            other,
+            span,
+        };
+        boxed(self.alloc, tree, height)
+    }
+
+    /// `?`, two operands and the `:` between them, after the test.
+    #[inline(never)]
+    #[tactic(auto, unfolding(mc_reading::specs::Expressions::conditional_of))]
+    fn conditional(&self, test: Read<'a>, tokens: &mut Cursor<'_, 'a>) -> Result<Read<'a>, Fault>
+        requires room { self.now.room ≤ 1000 }
+        requires nests { Nests self.now.room (F.pre self.now.inner) (F.post self.now.inner) }
+        requires high { IsHigh test }
+        ensures tree { GivesTree (spec.conditional_of (reading self.now.room) self.now.room (tree_of test.entry) (left_of tokens.old)) result (left_of tokens.new) }
+        ensures height { IfOk result (λ r. r.height ≤ self.now.room) }
+    {
+        if test.height >= self.room {
+            return Err(Fault::Syntax);
+        }
+        tokens.take()?;
+        let chosen = self.part(Rule::Comma, tokens)?;
+        tokens.expect(b":")?;
+        let other = self.part(Rule::Cond, tokens)?;
+        self.made_conditional(test, chosen, other)
+    }
+
+    #[tactic(auto, unfolding(mc_reading::specs::Expressions::cond_of, mc_reading::specs::Expressions::level_of))]
+    pub fn cond(&self, tokens: &mut Cursor<'_, 'a>) -> Result<Read<'a>, Fault>
+        requires room { (self.now.room ≤ 1000) × (1 ≤ self.now.room) }
+        requires nests { Nests self.now.room (F.pre self.now.inner) (F.post self.now.inner) }
+        requires types { NestsTypes self.now.room (G.pre self.now.typed) (G.post self.now.typed) }
+        ensures tree { GivesTree (spec.cond_of (reading self.now.room) self.now.room (left_of tokens.old)) result (left_of tokens.new) }
+        ensures height { IfOk result (λ r. r.height ≤ self.now.room) }
+    {
+        let test = self.climb(Level::Or.up_to(), tokens)?;
+        if tokens.sees(b"?") {
+            self.conditional(test, tokens)
+        } else {
+            Ok(test)
+        }
+    }
+
+    #[inline(never)]
+    fn made_assignment(
+        &self,
+        operator: AssignmentOperator,
+        target: Read<'a>,
+        value: Read<'a>,
+    ) -> Result<Read<'a>, Fault>
+        requires small { (target.height ≤ 1000) × (value.height ≤ 1000) }
+        ensures { GivesMade (t.Assignment operator (tree_of target.entry) (tree_of value.entry) (places.to (span_of (tree_of target.entry)) (span_of (tree_of value.entry)))) (max target.entry.height value.entry.height + 1) result }
+    {
+        let span = to(target.tree.span(), value.tree.span());
+        let height = target.height.max(value.height) + 1;
+        let tree = Expression::Assignment {
+            operator,
+            target: target.tree,
+            value: value.tree,
+            span,
+        };
+        boxed(self.alloc, tree, height)
+    }
+
+    /// An operator that assigns and the value, after the target.
+    #[inline(never)]
+    #[tactic(auto, unfolding(mc_reading::specs::Expressions::assignment_of))]
+    fn assignment(
+        &self,
+        operator: AssignmentOperator,
+        target: Read<'a>,
+        tokens: &mut Cursor<'_, 'a>,
+    ) -> Result<Read<'a>, Fault>
+        requires room { self.now.room ≤ 1000 }
+        requires nests { Nests self.now.room (F.pre self.now.inner) (F.post self.now.inner) }
+        requires high { IsHigh target }
+        ensures tree { GivesTree (spec.assignment_of (reading self.now.room) self.now.room operator (tree_of target.entry) (left_of tokens.old)) result (left_of tokens.new) }
+        ensures height { IfOk result (λ r. r.height ≤ self.now.room) }
+    {
+        if target.height >= self.room {
+            return Err(Fault::Syntax);
+        }
+        tokens.take()?;
+        let value = self.part(Rule::Assign, tokens)?;
+        self.made_assignment(operator, target, value)
+    }
+
+    #[tactic(auto, unfolding(mc_reading::specs::Expressions::assign_of))]
+    pub fn assign(&self, tokens: &mut Cursor<'_, 'a>) -> Result<Read<'a>, Fault>
+        requires room { (self.now.room ≤ 1000) × (1 ≤ self.now.room) }
+        requires nests { Nests self.now.room (F.pre self.now.inner) (F.post self.now.inner) }
+        requires types { NestsTypes self.now.room (G.pre self.now.typed) (G.post self.now.typed) }
+        ensures tree { GivesTree (spec.assign_of (reading self.now.room) self.now.room (left_of tokens.old)) result (left_of tokens.new) }
+        ensures height { IfOk result (λ r. r.height ≤ self.now.room) }
+    {
+        let target = self.cond(tokens)?;
+        match tokens.assignment() {
+            Some(operator) if is_unary(&target.tree) => self.assignment(operator, target, tokens),
+            _ => Ok(target),
+        }
+    }
+
+    #[inline(never)]
+    fn made_comma(&self, start: Span, all: ReadAll<'a>) -> Result<Read<'a>, Fault>
+        requires small { all.height ≤ 1000 }
+        ensures { GivesMade (t.Comma (expressions_from (trees_of all.entry)) (places.to start (places.end_of_expressions start (expressions_from (trees_of all.entry))))) (all.entry.height + 1) result }
+    {
+        let span = to(start, end_of_expressions(start, &all.trees));
+        let tree = Expression::Comma {
+            operands: all.trees,
+            span,
+        };
+        boxed(self.alloc, tree, all.height + 1)
+    }
+
+    /// The operands of a comma, after the first.
+    #[inline(never)]
+    #[tactic(auto, unfolding(mc_reading::specs::Expressions::operands_of))]
+    fn operands(&self, first: Read<'a>, tokens: &mut Cursor<'_, 'a>) -> Result<Read<'a>, Fault>
+        requires room { self.now.room ≤ 1000 }
+        requires nests { Nests self.now.room (F.pre self.now.inner) (F.post self.now.inner) }
+        requires high { IsHigh first }
+        ensures tree { GivesTree (spec.operands_of (reading self.now.room) self.now.room (tree_of first.entry) (left_of tokens.old)) result (left_of tokens.new) }
+        ensures height { IfOk result (λ r. r.height ≤ self.now.room) }
+    {
+        if first.height >= self.room {
+            return Err(Fault::Syntax);
+        }
+        tokens.take()?;
+        let start = first.tree.span();
+        let mut all = ReadAll::new(self.alloc);
+        all.push(first.tree, first.height)?;
+        let all = self.expressions(all, tokens)?;
+        self.made_comma(start, all)
+    }
+
+    #[tactic(auto, unfolding(mc_reading::specs::Expressions::comma_of))]
+    pub fn comma(&self, tokens: &mut Cursor<'_, 'a>) -> Result<Read<'a>, Fault>
+        requires room { (self.now.room ≤ 1000) × (1 ≤ self.now.room) }
+        requires nests { Nests self.now.room (F.pre self.now.inner) (F.post self.now.inner) }
+        requires types { NestsTypes self.now.room (G.pre self.now.typed) (G.post self.now.typed) }
+        ensures tree { GivesTree (spec.comma_of (reading self.now.room) self.now.room (left_of tokens.old)) result (left_of tokens.new) }
+        ensures height { IfOk result (λ r. r.height ≤ self.now.room) }
+    {
+        let first = self.assign(tokens)?;
+        if tokens.sees(b",") {
+            self.operands(first, tokens)
+        } else {
+            Ok(first)
+        }
+    }
+}

@@ -1,0 +1,260 @@
+//! Declarators and their parts (C17 6.7.6).
+ghost use Rattle.std.specs.Prelude.{◌≡◌, ◌≤◌, ◌+◌, ◌-◌, IfOk, [], map};
+ghost use Rattle.mc_tree.specs.Views.{declarator_of, name_of, parameter_of, tag_of};
+ghost use Rattle.mc_tree.specs.Height.{height_declarator, height_parameter, height_specifiers};
+ghost use Rattle.mc_reading.specs.Lists.{comma_list, listed};
+ghost use Rattle.mc_reading.specs.Specifiers as spec;
+ghost use Rattle.mc_reading.specs.Rooms.{reading};
+ghost use Rattle.mc_descent.specs.Cursors.{left_of};
+ghost use Rattle.mc_descent.specs.Given.{GivesPart, Nests, NestsTypes, specifiers_of};
+ghost use Rattle.mc_descent.specs.Parts as view;
+
+use crate::cursor::{Cursor, identifier, place};
+use crate::fault::Fault;
+use crate::grammar::Grammar;
+use crate::grammar::lists::push;
+use crate::grammar::makers::{end_of_specifiers, to};
+use crate::grammar::unary::stars;
+use crate::read::{Read, ReadLength, ReadLengths, ReadSpecifiers};
+use crate::rule::Rule;
+use mc_span::Span;
+use mc_tree::{ArrayLength, Declarator, Identifier, Parameter};
+use std::alloc::Global;
+
+impl<
+    'a,
+    F: Fn(Global, &mut Cursor<'_, 'a>, u32, Rule) -> Result<Read<'a>, Fault>,
+    G: Fn(Global, &mut Cursor<'_, 'a>, u32) -> Result<ReadSpecifiers<'a>, Fault>,
+> Grammar<F, G> {
+    /// A pair of brackets, perhaps with a length.
+    #[inline(never)]
+    #[tactic(auto, unfolding(mc_reading::specs::Specifiers::length_of))]
+    fn length(
+        &self,
+        tokens: &mut Cursor<'_, 'a>,
+        tallest: &mut u32,
+    ) -> Result<ReadLength<'a>, Fault>
+        requires room { self.now.room ≤ 1000 }
+        requires nests { Nests self.now.room (F.pre self.now.inner) (F.post self.now.inner) }
+        requires low { tallest.now ≤ self.now.room - 1 }
+        ensures length { GivesPart view.length_of view.high_length (spec.length_of (reading self.now.room) (left_of tokens.old)) result (left_of tokens.new) tallest.old tallest.new }
+        ensures low { IfOk result (λ _. tallest.new ≤ self.now.room - 1) }
+    {
+        tokens.take()?;
+        if tokens.sees(b"]") {
+            let close = tokens.take()?;
+            return Ok(ReadLength {
+                one: ArrayLength::Absent,
+                end: place(&close),
+            });
+        }
+        let Read {
+            tree: value,
+            height,
+        } = self.part(Rule::Cond, tokens)?;
+        let close = tokens.expect(b"]")?;
+        *tallest = (*tallest).max(height);
+        Ok(ReadLength {
+            one: ArrayLength::Given { value },
+            end: place(&close),
+        })
+    }
+
+    /// The brackets after a token at this place.
+    #[inline(never)]
+    #[tactic(auto, using(crate::proofs::Parts::lengths_steps))]
+    fn lengths(
+        &self,
+        before: Span,
+        tokens: &mut Cursor<'_, 'a>,
+        tallest: &mut u32,
+    ) -> Result<ReadLengths<'a>, Fault>
+        requires room { self.now.room ≤ 1000 }
+        requires nests { Nests self.now.room (F.pre self.now.inner) (F.post self.now.inner) }
+        requires low { tallest.now ≤ self.now.room - 1 }
+        ensures lengths { GivesPart view.all_lengths_of view.high_lengths (spec.lengths_of (reading self.now.room) before (left_of tokens.old)) result (left_of tokens.new) tallest.old tallest.new }
+        ensures low { IfOk result (λ _. tallest.new ≤ self.now.room - 1) }
+    {
+        let mut all = Vec::new(self.alloc);
+        let mut end = before;
+        for _turn in 0..tokens.turns() {
+            if !tokens.sees(b"[") {
+                return Ok(ReadLengths { all, end });
+            }
+            let ReadLength { one, end: last } = self.length(tokens, tallest)?;
+            push(&mut all, one)?;
+            end = last;
+        }
+        Err(Fault::Syntax)
+    }
+
+    /// The brackets of a parameter, after what stands before them.
+    #[inline(never)]
+    fn parameter_after(
+        &self,
+        start: Span,
+        read: ReadSpecifiers<'a>,
+        stars: u32,
+        name: Option<Identifier<'a>>,
+        end: Span,
+        tokens: &mut Cursor<'_, 'a>,
+        tallest: &mut u32,
+    ) -> Result<Parameter<'a>, Fault>
+        requires room { self.now.room ≤ 1000 }
+        requires nests { Nests self.now.room (F.pre self.now.inner) (F.post self.now.inner) }
+        requires low { (tallest.now ≤ self.now.room - 1) × (read.height ≤ self.now.room - 1) }
+        requires high { read.height ≡ height_specifiers (specifiers_of read) }
+        ensures parameter { GivesPart parameter_of height_parameter (view.parameter_after (reading self.now.room) start (specifiers_of read.entry) stars (tag_of name.entry) end (left_of tokens.old)) result (left_of tokens.new) tallest.old tallest.new }
+        ensures low { IfOk result (λ _. tallest.new ≤ self.now.room - 1) }
+    {
+        let ReadSpecifiers {
+            all: specifiers,
+            height,
+        } = read;
+        let ReadLengths { all: lengths, end } = self.lengths(end, tokens, tallest)?;
+        *tallest = (*tallest).max(height);
+        Ok(Parameter {
+            specifiers,
+            stars,
+            name,
+            lengths,
+            span: to(start, end),
+        })
+    }
+
+    #[inline(never)]
+    #[tactic(auto, using(crate::proofs::Parts::name_steps), unfolding(mc_reading::specs::Specifiers::parameter_of))]
+    fn parameter(
+        &self,
+        tokens: &mut Cursor<'_, 'a>,
+        tallest: &mut u32,
+    ) -> Result<Parameter<'a>, Fault>
+        requires room { self.now.room ≤ 1000 }
+        requires nests { Nests self.now.room (F.pre self.now.inner) (F.post self.now.inner) }
+        requires types { NestsTypes self.now.room (G.pre self.now.typed) (G.post self.now.typed) }
+        requires low { tallest.now ≤ self.now.room - 1 }
+        ensures parameter { GivesPart parameter_of height_parameter (spec.parameter_of (reading self.now.room) (left_of tokens.old)) result (left_of tokens.new) tallest.old tallest.new }
+        ensures low { IfOk result (λ _. tallest.new ≤ self.now.room - 1) }
+    {
+        let start = tokens.first()?;
+        let read = self.types(tokens)?;
+        let stars = stars(end_of_specifiers(start, &read.all), tokens)?;
+        if !tokens.sees_name() {
+            return self.parameter_after(start, read, stars.count, None, stars.end, tokens, tallest);
+        }
+        let name = identifier(&tokens.take()?);
+        self.parameter_after(
+            start,
+            read,
+            stars.count,
+            Some(name),
+            name.span,
+            tokens,
+            tallest,
+        )
+    }
+
+    #[inline(never)]
+    #[tactic(auto, using(crate::proofs::Parts::parameters_steps))]
+    fn parameters(
+        &self,
+        tokens: &mut Cursor<'_, 'a>,
+        tallest: &mut u32,
+    ) -> Result<Vec<Parameter<'a>>, Fault>
+        requires room { self.now.room ≤ 1000 }
+        requires nests { Nests self.now.room (F.pre self.now.inner) (F.post self.now.inner) }
+        requires types { NestsTypes self.now.room (G.pre self.now.typed) (G.post self.now.typed) }
+        requires low { tallest.now ≤ self.now.room - 1 }
+        ensures parameters { GivesPart view.parameters_of view.high_parameters (listed (λ turns. comma_list turns (spec.parameter_of (reading self.now.room)) []) (left_of tokens.old)) result (left_of tokens.new) tallest.old tallest.new }
+        ensures low { IfOk result (λ _. tallest.new ≤ self.now.room - 1) }
+    {
+        let mut all = Vec::new(self.alloc);
+        for _turn in 0..tokens.turns() {
+            let one = self.parameter(tokens, tallest)?;
+            push(&mut all, one)?;
+            if !tokens.sees(b",") {
+                return Ok(all);
+            }
+            tokens.take()?;
+        }
+        Err(Fault::Syntax)
+    }
+
+    /// The parentheses of a function's declarator, after its name.
+    #[inline(never)]
+    #[tactic(auto, unfolding(mc_reading::specs::Specifiers::parameters_of))]
+    fn function(
+        &self,
+        start: Span,
+        stars: u32,
+        name: Identifier<'a>,
+        tokens: &mut Cursor<'_, 'a>,
+        tallest: &mut u32,
+    ) -> Result<Declarator<'a>, Fault>
+        requires room { self.now.room ≤ 1000 }
+        requires nests { Nests self.now.room (F.pre self.now.inner) (F.post self.now.inner) }
+        requires types { NestsTypes self.now.room (G.pre self.now.typed) (G.post self.now.typed) }
+        requires low { tallest.now ≤ self.now.room - 1 }
+        ensures declarator { GivesPart declarator_of height_declarator (view.function_of (reading self.now.room) start stars (name_of name.entry) (left_of tokens.old)) result (left_of tokens.new) tallest.old tallest.new }
+        ensures low { IfOk result (λ _. tallest.new ≤ self.now.room - 1) }
+    {
+        let open = tokens.expect(b"(")?;
+        if tokens.sees(b")") {
+            let list_span = to(place(&open), place(&tokens.take()?));
+            return Ok(Declarator::EmptyFunction {
+                stars,
+                name,
+                list_span,
+                span: to(start, list_span),
+            });
+        }
+        if tokens.sees_void_alone() {
+            tokens.take()?;
+            let list_span = to(place(&open), place(&tokens.take()?));
+            return Ok(Declarator::VoidFunction {
+                stars,
+                name,
+                list_span,
+                span: to(start, list_span),
+            });
+        }
+        let parameters = self.parameters(tokens, tallest)?;
+        let list_span = to(place(&open), place(&tokens.expect(b")")?));
+        Ok(Declarator::Function {
+            stars,
+            name,
+            parameters,
+            list_span,
+            span: to(start, list_span),
+        })
+    }
+
+    #[inline(never)]
+    #[tactic(auto, unfolding(mc_reading::specs::Specifiers::declarator_of))]
+    pub fn declarator(
+        &self,
+        tokens: &mut Cursor<'_, 'a>,
+        tallest: &mut u32,
+    ) -> Result<Declarator<'a>, Fault>
+        requires room { self.now.room ≤ 1000 }
+        requires nests { Nests self.now.room (F.pre self.now.inner) (F.post self.now.inner) }
+        requires types { NestsTypes self.now.room (G.pre self.now.typed) (G.post self.now.typed) }
+        requires low { tallest.now ≤ self.now.room - 1 }
+        ensures declarator { GivesPart declarator_of height_declarator (spec.declarator_of (reading self.now.room) (left_of tokens.old)) result (left_of tokens.new) tallest.old tallest.new }
+        ensures low { IfOk result (λ _. tallest.new ≤ self.now.room - 1) }
+    {
+        let start = tokens.first()?;
+        let stars = stars(start, tokens)?;
+        let name = identifier(&tokens.expect_name()?);
+        if tokens.sees(b"(") {
+            return self.function(start, stars.count, name, tokens, tallest);
+        }
+        let ReadLengths { all: lengths, end } = self.lengths(name.span, tokens, tallest)?;
+        Ok(Declarator::Object {
+            stars: stars.count,
+            name,
+            lengths,
+            span: to(start, end),
+        })
+    }
+}

@@ -1,0 +1,162 @@
+//! Members of structures and constants of enumerations (C17 6.7.2.1, 6.7.2.2).
+ghost use Rattle.std.specs.Prelude.{◌≡◌, ◌≤◌, ◌+◌, ◌-◌, IfOk, [], map};
+ghost use Rattle.mc_tree.specs.Views.{enumerator_of, member_of};
+ghost use Rattle.mc_tree.specs.Height.{height_enumerator, height_member};
+ghost use Rattle.mc_grammar.specs.Words.{sees_specifiers};
+ghost use Rattle.mc_reading.specs.Lists.{braced_list, comma_list, listed, some_list};
+ghost use Rattle.mc_reading.specs.Specifiers as spec;
+ghost use Rattle.mc_reading.specs.Rooms.{reading};
+ghost use Rattle.mc_descent.specs.Cursors.{left_of};
+ghost use Rattle.mc_descent.specs.Given.{GivesPart, Nests, NestsTypes};
+ghost use Rattle.mc_descent.specs.Parts as view;
+
+use crate::cursor::{Cursor, identifier, place};
+use crate::fault::Fault;
+use crate::grammar::Grammar;
+use crate::grammar::lists::push;
+use crate::grammar::makers::to;
+use crate::read::{Read, ReadSpecifiers};
+use crate::rule::Rule;
+use mc_tree::{Declarator, Enumerator, Member};
+use std::alloc::Global;
+
+impl<
+    'a,
+    F: Fn(Global, &mut Cursor<'_, 'a>, u32, Rule) -> Result<Read<'a>, Fault>,
+    G: Fn(Global, &mut Cursor<'_, 'a>, u32) -> Result<ReadSpecifiers<'a>, Fault>,
+> Grammar<F, G> {
+    #[inline(never)]
+    #[tactic(auto, using(crate::proofs::Parts::declarators_steps))]
+    fn declarators(
+        &self,
+        tokens: &mut Cursor<'_, 'a>,
+        tallest: &mut u32,
+    ) -> Result<Vec<Declarator<'a>>, Fault>
+        requires room { self.now.room ≤ 1000 }
+        requires nests { Nests self.now.room (F.pre self.now.inner) (F.post self.now.inner) }
+        requires types { NestsTypes self.now.room (G.pre self.now.typed) (G.post self.now.typed) }
+        requires low { tallest.now ≤ self.now.room - 1 }
+        ensures declarators { GivesPart view.declarators_of view.high_declarators (listed (λ turns. comma_list turns (spec.declarator_of (reading self.now.room)) []) (left_of tokens.old)) result (left_of tokens.new) tallest.old tallest.new }
+        ensures low { IfOk result (λ _. tallest.new ≤ self.now.room - 1) }
+    {
+        let mut all = Vec::new(self.alloc);
+        for _turn in 0..tokens.turns() {
+            let one = self.declarator(tokens, tallest)?;
+            push(&mut all, one)?;
+            if !tokens.sees(b",") {
+                return Ok(all);
+            }
+            tokens.take()?;
+        }
+        Err(Fault::Syntax)
+    }
+
+    #[inline(never)]
+    #[tactic(auto, unfolding(mc_reading::specs::Specifiers::struct_member_of))]
+    fn member_declaration(
+        &self,
+        tokens: &mut Cursor<'_, 'a>,
+        tallest: &mut u32,
+    ) -> Result<Member<'a>, Fault>
+        requires room { self.now.room ≤ 1000 }
+        requires nests { Nests self.now.room (F.pre self.now.inner) (F.post self.now.inner) }
+        requires types { NestsTypes self.now.room (G.pre self.now.typed) (G.post self.now.typed) }
+        requires low { tallest.now ≤ self.now.room - 1 }
+        ensures member { GivesPart member_of height_member (spec.struct_member_of (reading self.now.room) (left_of tokens.old)) result (left_of tokens.new) tallest.old tallest.new }
+        ensures low { IfOk result (λ _. tallest.new ≤ self.now.room - 1) }
+    {
+        let start = tokens.first()?;
+        let ReadSpecifiers {
+            all: specifiers,
+            height,
+        } = self.types(tokens)?;
+        let declarators = self.declarators(tokens, tallest)?;
+        let close = tokens.expect(b";")?;
+        *tallest = (*tallest).max(height);
+        Ok(Member {
+            specifiers,
+            declarators,
+            span: to(start, place(&close)),
+        })
+    }
+
+    #[inline(never)]
+    #[tactic(auto, using(crate::proofs::Parts::members_steps))]
+    pub fn members(
+        &self,
+        tokens: &mut Cursor<'_, 'a>,
+        tallest: &mut u32,
+    ) -> Result<Vec<Member<'a>>, Fault>
+        requires room { self.now.room ≤ 1000 }
+        requires nests { Nests self.now.room (F.pre self.now.inner) (F.post self.now.inner) }
+        requires types { NestsTypes self.now.room (G.pre self.now.typed) (G.post self.now.typed) }
+        requires low { tallest.now ≤ self.now.room - 1 }
+        ensures members { GivesPart view.members_of view.high_members (listed (λ turns. some_list turns sees_specifiers (spec.struct_member_of (reading self.now.room)) []) (left_of tokens.old)) result (left_of tokens.new) tallest.old tallest.new }
+        ensures low { IfOk result (λ _. tallest.new ≤ self.now.room - 1) }
+    {
+        let mut all = Vec::new(self.alloc);
+        for _turn in 0..tokens.turns() {
+            let one = self.member_declaration(tokens, tallest)?;
+            push(&mut all, one)?;
+            if !tokens.sees_specifiers() {
+                return Ok(all);
+            }
+        }
+        Err(Fault::Syntax)
+    }
+
+    #[inline(never)]
+    #[tactic(auto, unfolding(mc_reading::specs::Specifiers::enumerator_of))]
+    fn enumerator(
+        &self,
+        tokens: &mut Cursor<'_, 'a>,
+        tallest: &mut u32,
+    ) -> Result<Enumerator<'a>, Fault>
+        requires room { self.now.room ≤ 1000 }
+        requires nests { Nests self.now.room (F.pre self.now.inner) (F.post self.now.inner) }
+        requires low { tallest.now ≤ self.now.room - 1 }
+        ensures enumerator { GivesPart enumerator_of height_enumerator (spec.enumerator_of (reading self.now.room) (left_of tokens.old)) result (left_of tokens.new) tallest.old tallest.new }
+        ensures low { IfOk result (λ _. tallest.new ≤ self.now.room - 1) }
+    {
+        let name = identifier(&tokens.expect_name()?);
+        if !tokens.sees(b"=") {
+            return Ok(Enumerator::Bare { name });
+        }
+        tokens.take()?;
+        let Read {
+            tree: value,
+            height,
+        } = self.part(Rule::Cond, tokens)?;
+        *tallest = (*tallest).max(height);
+        Ok(Enumerator::Valued { name, value })
+    }
+
+    /// The constants of an enumeration; a comma may stand after the last.
+    #[inline(never)]
+    #[tactic(auto, using(crate::proofs::Parts::enumerators_steps))]
+    pub fn enumerators(
+        &self,
+        tokens: &mut Cursor<'_, 'a>,
+        tallest: &mut u32,
+    ) -> Result<Vec<Enumerator<'a>>, Fault>
+        requires room { self.now.room ≤ 1000 }
+        requires nests { Nests self.now.room (F.pre self.now.inner) (F.post self.now.inner) }
+        requires low { tallest.now ≤ self.now.room - 1 }
+        ensures enumerators { GivesPart view.enumerators_of view.high_enumerators (listed (λ turns. braced_list turns (spec.enumerator_of (reading self.now.room)) []) (left_of tokens.old)) result (left_of tokens.new) tallest.old tallest.new }
+        ensures low { IfOk result (λ _. tallest.new ≤ self.now.room - 1) }
+    {
+        let mut all = Vec::new(self.alloc);
+        for _turn in 0..tokens.turns() {
+            let one = self.enumerator(tokens, tallest)?;
+            push(&mut all, one)?;
+            if !tokens.sees(b",") {
+                return Ok(all);
+            }
+            tokens.take()?;
+            if tokens.sees(b"}") {
+                return Ok(all);
+            }
+        }
+        Err(Fault::Syntax)
+    }
+}

@@ -1,0 +1,146 @@
+//! Suffixes of postfix expressions (C17 6.5.2).
+ghost use Rattle.std.specs.Prelude.{◌≡◌, ◌≤◌, ◌+◌, IfOk, max};
+ghost use Rattle.mc_tree.specs.Tree as t;
+ghost use Rattle.mc_tree.specs.Tree.{span_of};
+ghost use Rattle.mc_tree.specs.Views.{expression_of};
+ghost use Rattle.mc_tree.specs.Height.{height};
+ghost use Rattle.mc_grammar.specs.Places as places;
+ghost use Rattle.mc_reading.specs.Expressions as spec;
+ghost use Rattle.mc_reading.specs.Rooms.{reading};
+ghost use Rattle.mc_descent.specs.Cursors.{left_of};
+ghost use Rattle.mc_descent.specs.Given.{GivesMade, GivesTree, IsHigh, Nests, tree_of};
+
+use crate::cursor::{Cursor, identifier, place};
+use crate::fault::Fault;
+use crate::grammar::Grammar;
+use crate::grammar::makers::{boxed, to};
+use crate::read::{Read, ReadSpecifiers};
+use crate::rule::Rule;
+use mc_span::Span;
+use mc_tree::{Expression, StepOperator};
+use std::alloc::Global;
+
+impl<
+    'a,
+    F: Fn(Global, &mut Cursor<'_, 'a>, u32, Rule) -> Result<Read<'a>, Fault>,
+    G: Fn(Global, &mut Cursor<'_, 'a>, u32) -> Result<ReadSpecifiers<'a>, Fault>,
+> Grammar<F, G> {
+    #[inline(never)]
+    fn made_index(&self, array: Read<'a>, index: Read<'a>, close: Span) -> Result<Read<'a>, Fault>
+        requires small { (array.height ≤ 1000) × (index.height ≤ 1000) }
+        ensures { GivesMade (t.Index (tree_of array.entry) (tree_of index.entry) (places.to (span_of (tree_of array.entry)) close)) (max array.entry.height index.entry.height + 1) result }
+    {
+        let Read {
+            tree: array,
+            height: array_height,
+        } = array;
+        let Read {
+            tree: index,
+            height,
+        } = index;
+        let span = to(array.span(), close);
+        let tree = Expression::Index { array, index, span };
+        boxed(self.alloc, tree, array_height.max(height) + 1)
+    }
+
+    /// An index, after the array.
+    #[inline(never)]
+    fn index(&self, array: Read<'a>, tokens: &mut Cursor<'_, 'a>) -> Result<Read<'a>, Fault>
+        requires room { (self.now.room ≤ 1000) × (array.height + 1 ≤ self.now.room) }
+        requires nests { Nests self.now.room (F.pre self.now.inner) (F.post self.now.inner) }
+        requires high { IsHigh array }
+        ensures tree { GivesTree (spec.index_of (reading self.now.room) (tree_of array.entry) (left_of tokens.old)) result (left_of tokens.new) }
+        ensures height { IfOk result (λ r. r.height ≤ self.now.room) }
+    {
+        tokens.take()?;
+        let index = self.part(Rule::Comma, tokens)?;
+        let close = tokens.expect(b"]")?;
+        self.made_index(array, index, place(&close))
+    }
+
+    /// A member's name, after its object.
+    #[inline(never)]
+    fn member(&self, object: Read<'a>, tokens: &mut Cursor<'_, 'a>) -> Result<Read<'a>, Fault>
+        requires room { (self.now.room ≤ 1000) × (object.height + 1 ≤ self.now.room) }
+        requires high { IsHigh object }
+        ensures tree { GivesTree (spec.member_of (tree_of object.entry) (left_of tokens.old)) result (left_of tokens.new) }
+        ensures height { IfOk result (λ r. r.height ≤ self.now.room) }
+    {
+        tokens.take()?;
+        let name = identifier(&tokens.expect_name()?);
+        let span = to(object.tree.span(), name.span);
+        let height = object.height + 1;
+        let tree = Expression::Member {
+            object: object.tree,
+            name,
+            span,
+        };
+        boxed(self.alloc, tree, height)
+    }
+
+    /// `++` or `--`, after its operand.
+    #[inline(never)]
+    fn postfix_step(
+        &self,
+        operand: Read<'a>,
+        operator: StepOperator,
+        tokens: &mut Cursor<'_, 'a>,
+    ) -> Result<Read<'a>, Fault>
+        requires room { (self.now.room ≤ 1000) × (operand.height + 1 ≤ self.now.room) }
+        requires high { IsHigh operand }
+        ensures tree { GivesTree (spec.stepped (tree_of operand.entry) (Some operator) (left_of tokens.old)) result (left_of tokens.new) }
+        ensures height { IfOk result (λ r. r.height ≤ self.now.room) }
+    {
+        let last = tokens.take()?;
+        let span = to(operand.tree.span(), place(&last));
+        let height = operand.height + 1;
+        let tree = Expression::PostfixStep {
+            operator,
+            operand: operand.tree,
+            span,
+        };
+        boxed(self.alloc, tree, height)
+    }
+
+    /// One suffix, after its expression.
+    #[tactic(auto, unfolding(mc_reading::specs::Expressions::suffix_of))]
+    fn suffix(&self, base: Read<'a>, tokens: &mut Cursor<'_, 'a>) -> Result<Read<'a>, Fault>
+        requires room { self.now.room ≤ 1000 }
+        requires nests { Nests self.now.room (F.pre self.now.inner) (F.post self.now.inner) }
+        requires high { IsHigh base }
+        ensures tree { GivesTree (spec.suffix_of (reading self.now.room) self.now.room (tree_of base.entry) (left_of tokens.old)) result (left_of tokens.new) }
+        ensures height { IfOk result (λ r. r.height ≤ self.now.room) }
+    {
+        if base.height >= self.room {
+            return Err(Fault::Syntax);
+        }
+        if tokens.sees(b"[") {
+            return self.index(base, tokens);
+        }
+        if tokens.sees(b".") {
+            return self.member(base, tokens);
+        }
+        match tokens.step() {
+            Some(operator) => self.postfix_step(base, operator, tokens),
+            None => Err(Fault::Syntax),
+        }
+    }
+
+    /// A primary expression with its suffixes.
+    #[tactic(auto, using(crate::proofs::Turns::suffixes_steps), unfolding(mc_reading::specs::Expressions::postfix_of))]
+    pub fn postfix(&self, tokens: &mut Cursor<'_, 'a>) -> Result<Read<'a>, Fault>
+        requires room { (self.now.room ≤ 1000) × (1 ≤ self.now.room) }
+        requires nests { Nests self.now.room (F.pre self.now.inner) (F.post self.now.inner) }
+        ensures tree { GivesTree (spec.postfix_of (reading self.now.room) self.now.room (left_of tokens.old)) result (left_of tokens.new) }
+        ensures height { IfOk result (λ r. r.height ≤ self.now.room) }
+    {
+        let mut base = self.primary(tokens)?;
+        for _turn in 0..tokens.turns() {
+            if !tokens.sees_suffix() {
+                return Ok(base);
+            }
+            base = self.suffix(base, tokens)?;
+        }
+        Err(Fault::Syntax)
+    }
+}

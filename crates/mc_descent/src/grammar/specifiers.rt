@@ -1,0 +1,242 @@
+//! Specifiers (C17 6.7.1 to 6.7.3).
+ghost use Rattle.std.specs.Prelude.{◌≡◌, ◌≤◌, ◌+◌, ◌||◌, IfOk};
+ghost use Rattle.mc_lex.specs.Tokens.{tok_of};
+ghost use Rattle.mc_tree.specs.Views.{specifier_of, tag_of};
+ghost use Rattle.mc_tree.specs.Height.{height_specifier};
+ghost use Rattle.mc_grammar.specs.Words.{lexeme_of};
+ghost use Rattle.mc_reading.specs.Specifiers as spec;
+ghost use Rattle.mc_reading.specs.Rooms.{reading};
+ghost use Rattle.mc_descent.specs.Counted.{test_of};
+ghost use Rattle.mc_descent.specs.Cursors.{left_of};
+ghost use Rattle.mc_descent.specs.Short.{IsShort};
+ghost use Rattle.mc_descent.specs.Given.{GivesPart, GivesSpecifiers, Nests, NestsTypes};
+ghost use Rattle.mc_descent.specs.Parts.{GivesList, all_specifiers_of};
+
+use crate::allowed::Allowed;
+use crate::cursor::{Cursor, identifier, place};
+use crate::fault::Fault;
+use crate::grammar::Grammar;
+use crate::grammar::lists::push;
+use crate::grammar::makers::to;
+use crate::read::{Read, ReadSpecifiers};
+use crate::rule::Rule;
+use mc_lex::Token;
+use mc_tree::{Identifier, Specifier, SpecifierWord};
+use std::alloc::Global;
+
+/// Whether there is a type after this specifier.
+fn has_type_after(has_type: bool, one: &Specifier<'_>) -> bool
+    ensures { result ≡ (has_type || spec.is_type_specifier (specifier_of one.now)) }
+{
+    has_type
+        || !matches!(
+            one,
+            Specifier::Word {
+                word: SpecifierWord::Typedef
+                    | SpecifierWord::Static
+                    | SpecifierWord::Extern
+                    | SpecifierWord::Const,
+                ..
+            }
+        )
+}
+
+impl<
+    'a,
+    F: Fn(Global, &mut Cursor<'_, 'a>, u32, Rule) -> Result<Read<'a>, Fault>,
+    G: Fn(Global, &mut Cursor<'_, 'a>, u32) -> Result<ReadSpecifiers<'a>, Fault>,
+> Grammar<F, G> {
+    /// The members of a structure, from their brace on.
+    #[inline(never)]
+    fn structure_list(
+        &self,
+        first: Token<'a>,
+        tag: Option<Identifier<'a>>,
+        tokens: &mut Cursor<'_, 'a>,
+        tallest: &mut u32,
+    ) -> Result<Specifier<'a>, Fault>
+        requires room { self.now.room ≤ 1000 }
+        requires nests { Nests self.now.room (F.pre self.now.inner) (F.post self.now.inner) }
+        requires types { NestsTypes self.now.room (G.pre self.now.typed) (G.post self.now.typed) }
+        requires low { tallest.now ≤ self.now.room }
+        requires short { IsShort first }
+        ensures specifier { GivesPart specifier_of height_specifier (spec.structure_list (reading self.now.room) self.now.room (lexeme_of (tok_of first.entry)) (tag_of tag.entry) (left_of tokens.old)) result (left_of tokens.new) tallest.old tallest.new }
+        ensures low { IfOk result (λ _. tallest.new ≤ self.now.room) }
+    {
+        if self.room == 0 {
+            return Err(Fault::Syntax);
+        }
+        tokens.take()?;
+        let mut inner = 0;
+        let members = self.members(tokens, &mut inner)?;
+        let close = tokens.expect(b"}")?;
+        *tallest = (*tallest).max(inner + 1);
+        Ok(Specifier::Structure {
+            tag,
+            members,
+            span: to(place(&first), place(&close)),
+        })
+    }
+
+    #[inline(never)]
+    #[tactic(auto, unfolding(mc_reading::specs::Specifiers::structure_of))]
+    fn structure(
+        &self,
+        tokens: &mut Cursor<'_, 'a>,
+        tallest: &mut u32,
+    ) -> Result<Specifier<'a>, Fault>
+        requires room { self.now.room ≤ 1000 }
+        requires nests { Nests self.now.room (F.pre self.now.inner) (F.post self.now.inner) }
+        requires types { NestsTypes self.now.room (G.pre self.now.typed) (G.post self.now.typed) }
+        requires low { tallest.now ≤ self.now.room }
+        ensures specifier { GivesPart specifier_of height_specifier (spec.structure_of (reading self.now.room) self.now.room (left_of tokens.old)) result (left_of tokens.new) tallest.old tallest.new }
+        ensures low { IfOk result (λ _. tallest.new ≤ self.now.room) }
+    {
+        let first = tokens.take()?;
+        if tokens.sees(b"{") {
+            return self.structure_list(first, None, tokens, tallest);
+        }
+        let tag = identifier(&tokens.expect_tag()?);
+        if tokens.sees(b"{") {
+            return self.structure_list(first, Some(tag), tokens, tallest);
+        }
+        Ok(Specifier::StructureTag {
+            tag,
+            span: to(place(&first), tag.span),
+        })
+    }
+
+    /// The constants of an enumeration, from their brace on.
+    #[inline(never)]
+    fn enumeration_list(
+        &self,
+        first: Token<'a>,
+        tag: Option<Identifier<'a>>,
+        tokens: &mut Cursor<'_, 'a>,
+        tallest: &mut u32,
+    ) -> Result<Specifier<'a>, Fault>
+        requires room { self.now.room ≤ 1000 }
+        requires nests { Nests self.now.room (F.pre self.now.inner) (F.post self.now.inner) }
+        requires low { tallest.now ≤ self.now.room }
+        requires short { IsShort first }
+        ensures specifier { GivesPart specifier_of height_specifier (spec.enumeration_list (reading self.now.room) self.now.room (lexeme_of (tok_of first.entry)) (tag_of tag.entry) (left_of tokens.old)) result (left_of tokens.new) tallest.old tallest.new }
+        ensures low { IfOk result (λ _. tallest.new ≤ self.now.room) }
+    {
+        if self.room == 0 {
+            return Err(Fault::Syntax);
+        }
+        tokens.take()?;
+        let mut inner = 0;
+        let enumerators = self.enumerators(tokens, &mut inner)?;
+        let close = tokens.expect(b"}")?;
+        *tallest = (*tallest).max(inner + 1);
+        Ok(Specifier::Enumeration {
+            tag,
+            enumerators,
+            span: to(place(&first), place(&close)),
+        })
+    }
+
+    #[inline(never)]
+    #[tactic(auto, unfolding(mc_reading::specs::Specifiers::enumeration_of))]
+    fn enumeration(
+        &self,
+        tokens: &mut Cursor<'_, 'a>,
+        tallest: &mut u32,
+    ) -> Result<Specifier<'a>, Fault>
+        requires room { self.now.room ≤ 1000 }
+        requires nests { Nests self.now.room (F.pre self.now.inner) (F.post self.now.inner) }
+        requires low { tallest.now ≤ self.now.room }
+        ensures specifier { GivesPart specifier_of height_specifier (spec.enumeration_of (reading self.now.room) self.now.room (left_of tokens.old)) result (left_of tokens.new) tallest.old tallest.new }
+        ensures low { IfOk result (λ _. tallest.new ≤ self.now.room) }
+    {
+        let first = tokens.take()?;
+        if tokens.sees(b"{") {
+            return self.enumeration_list(first, None, tokens, tallest);
+        }
+        let tag = identifier(&tokens.expect_tag()?);
+        if tokens.sees(b"{") {
+            return self.enumeration_list(first, Some(tag), tokens, tallest);
+        }
+        Ok(Specifier::EnumerationTag {
+            tag,
+            span: to(place(&first), tag.span),
+        })
+    }
+
+    #[inline(never)]
+    #[tactic(auto, unfolding(mc_reading::specs::Specifiers::specifier_of))]
+    fn specifier(
+        &self,
+        tokens: &mut Cursor<'_, 'a>,
+        tallest: &mut u32,
+    ) -> Result<Specifier<'a>, Fault>
+        requires room { self.now.room ≤ 1000 }
+        requires nests { Nests self.now.room (F.pre self.now.inner) (F.post self.now.inner) }
+        requires types { NestsTypes self.now.room (G.pre self.now.typed) (G.post self.now.typed) }
+        requires low { tallest.now ≤ self.now.room }
+        ensures specifier { GivesPart specifier_of height_specifier (spec.specifier_of (reading self.now.room) self.now.room (left_of tokens.old)) result (left_of tokens.new) tallest.old tallest.new }
+        ensures low { IfOk result (λ _. tallest.new ≤ self.now.room) }
+    {
+        if let Some(word) = tokens.specifier_word() {
+            let span = place(&tokens.take()?);
+            return Ok(Specifier::Word { word, span });
+        }
+        if tokens.sees_keyword(b"struct") {
+            return self.structure(tokens, tallest);
+        }
+        if tokens.sees_keyword(b"enum") {
+            return self.enumeration(tokens, tallest);
+        }
+        let name = identifier(&tokens.take()?);
+        Ok(Specifier::TypedefName { name })
+    }
+
+    /// Specifiers, as long as they go on.
+    #[inline(never)]
+    #[tactic(auto, using(crate::proofs::Parts::specifiers_steps))]
+    fn all_specifiers(&self, tokens: &mut Cursor<'_, 'a>) -> Result<ReadSpecifiers<'a>, Fault>
+        requires room { self.now.room ≤ 1000 }
+        requires nests { Nests self.now.room (F.pre self.now.inner) (F.post self.now.inner) }
+        requires types { NestsTypes self.now.room (G.pre self.now.typed) (G.post self.now.typed) }
+        ensures specifiers { GivesList (all_specifiers_of (reading self.now.room) self.now.room (left_of tokens.old)) result (left_of tokens.new) }
+        ensures height { IfOk result (λ r. r.height ≤ self.now.room) }
+    {
+        let mut all = Vec::new(self.alloc);
+        let mut height = 0u32;
+        let mut has_type = false;
+        for _turn in 0..tokens.turns() {
+            if !tokens.goes_on(has_type) {
+                return Ok(ReadSpecifiers { all, height });
+            }
+            let one = self.specifier(tokens, &mut height)?;
+            has_type = has_type_after(has_type, &one);
+            push(&mut all, one)?;
+        }
+        Err(Fault::Syntax)
+    }
+
+    /// Specifiers that may stand together here.
+    #[tactic(auto, unfolding(mc_reading::specs::Specifiers::specifiers_of))]
+    pub fn specifiers(
+        &self,
+        tokens: &mut Cursor<'_, 'a>,
+        allowed: Allowed,
+    ) -> Result<ReadSpecifiers<'a>, Fault>
+        requires room { self.now.room ≤ 1000 }
+        requires nests { Nests self.now.room (F.pre self.now.inner) (F.post self.now.inner) }
+        requires types { NestsTypes self.now.room (G.pre self.now.typed) (G.post self.now.typed) }
+        ensures specifiers { GivesSpecifiers (spec.specifiers_of (reading self.now.room) self.now.room (test_of allowed) (left_of tokens.old)) result (left_of tokens.new) }
+        ensures height { IfOk result (λ r. r.height ≤ self.now.room) }
+    {
+        let before = tokens.rest;
+        let read = self.all_specifiers(tokens)?;
+        if allowed.allows(&read.all) {
+            return Ok(read);
+        }
+        if let Some(place) = allowed.refused(&read.all) {
+            tokens.go_back(before, place.start);
+        }
+        Err(Fault::Syntax)
+    }
+}

@@ -1,0 +1,202 @@
+//! Operators before their operand, and casts (C17 6.5.3, 6.5.4).
+ghost use Rattle.std.specs.Prelude.{◌≡◌, ◌≤◌, ◌+◌, IfOk, max, map, Some};
+ghost use Rattle.mc_tree.specs.Tree as t;
+ghost use Rattle.mc_tree.specs.Tree.{span_of};
+ghost use Rattle.mc_grammar.specs.Places as places;
+ghost use Rattle.mc_grammar.specs.Counts.{for_type};
+ghost use Rattle.mc_reading.specs.Expressions as spec;
+ghost use Rattle.mc_reading.specs.Rooms.{reading};
+ghost use Rattle.mc_descent.specs.Cursors.{Gives, left_of};
+ghost use Rattle.mc_descent.specs.Given.{GivesMade, GivesSpecifiers, GivesTree, GivesType, IsHigh, Nests, NestsTypes, stars_of, tree_of, type_of};
+
+use crate::cursor::{Cursor, place};
+use crate::fault::Fault;
+use crate::grammar::Grammar;
+use crate::grammar::makers::{boxed, end_of_specifiers, to};
+use crate::read::{Read, ReadSpecifiers, ReadStars, ReadType};
+use crate::rule::Rule;
+use mc_span::Span;
+use mc_tree::{Expression, StepOperator, UnaryOperator};
+use std::alloc::Global;
+
+/// The `*` after a token at this place.
+#[tactic(auto, using(crate::proofs::Turns::stars_steps))]
+pub fn stars(before: Span, tokens: &mut Cursor<'_, '_>) -> Result<ReadStars, Fault>
+    ensures { Gives stars_of (spec.stars_of before (left_of tokens.old)) result (left_of tokens.new) }
+{
+    let mut count = 0u32;
+    let mut end = before;
+    for _turn in 0..tokens.turns() {
+        if !tokens.sees(b"*") {
+            return Ok(ReadStars { count, end });
+        }
+        end = place(&tokens.take()?);
+        count += 1;
+    }
+    Err(Fault::Syntax)
+}
+
+impl<
+    'a,
+    F: Fn(Global, &mut Cursor<'_, 'a>, u32, Rule) -> Result<Read<'a>, Fault>,
+    G: Fn(Global, &mut Cursor<'_, 'a>, u32) -> Result<ReadSpecifiers<'a>, Fault>,
+> Grammar<F, G> {
+    /// Reads the specifiers of a type, of fewer than `room` levels.
+    pub fn types(&self, tokens: &mut Cursor<'_, 'a>) -> Result<ReadSpecifiers<'a>, Fault>
+        requires types { NestsTypes self.now.room (G.pre self.now.typed) (G.post self.now.typed) }
+        ensures specifiers { GivesSpecifiers ((reading self.now.room).specifiers for_type (left_of tokens.old)) result (left_of tokens.new) }
+        ensures height { IfOk result (λ r. r.height + 1 ≤ self.now.room) }
+    {
+        (self.typed)(self.alloc, tokens, self.room)
+    }
+
+    #[inline(never)]
+    #[tactic(auto, unfolding(mc_reading::specs::Expressions::type_name_of))]
+    fn type_name(&self, tokens: &mut Cursor<'_, 'a>) -> Result<ReadType<'a>, Fault>
+        requires types { NestsTypes self.now.room (G.pre self.now.typed) (G.post self.now.typed) }
+        ensures name { GivesType (spec.type_name_of (reading self.now.room) (left_of tokens.old)) result (left_of tokens.new) }
+        ensures height { IfOk result (λ r. r.height + 1 ≤ self.now.room) }
+    {
+        let start = tokens.first()?;
+        let ReadSpecifiers { all, height } = self.types(tokens)?;
+        let stars = stars(end_of_specifiers(start, &all), tokens)?;
+        let span = to(start, stars.end);
+        Ok(ReadType {
+            all,
+            stars: stars.count,
+            span,
+            height,
+        })
+    }
+
+    #[inline(never)]
+    fn made_cast(
+        &self,
+        first: Span,
+        name: ReadType<'a>,
+        operand: Read<'a>,
+    ) -> Result<Read<'a>, Fault>
+        requires small { (name.height ≤ 1000) × (operand.height ≤ 1000) }
+        ensures { GivesMade (t.Cast (type_of name.entry) (tree_of operand.entry) (places.to first (span_of (tree_of operand.entry)))) (max name.entry.height operand.entry.height + 1) result }
+    {
+        let ReadType {
+            all: specifiers,
+            stars,
+            span: type_span,
+            height: type_height,
+        } = name;
+        let Read {
+            tree: operand,
+            height,
+        } = operand;
+        let span = to(first, operand.span());
+        let tree = Expression::Cast {
+            specifiers,
+            stars,
+            type_span,
+            operand,
+            span,
+        };
+        boxed(self.alloc, tree, type_height.max(height) + 1)
+    }
+
+    /// A cast, from its parenthesis on.
+    #[inline(never)]
+    #[tactic(auto, unfolding(mc_reading::specs::Expressions::cast_to_of))]
+    fn cast_to(&self, tokens: &mut Cursor<'_, 'a>) -> Result<Read<'a>, Fault>
+        requires room { self.now.room ≤ 1000 }
+        requires nests { Nests self.now.room (F.pre self.now.inner) (F.post self.now.inner) }
+        requires types { NestsTypes self.now.room (G.pre self.now.typed) (G.post self.now.typed) }
+        ensures tree { GivesTree (spec.cast_to_of (reading self.now.room) (left_of tokens.old)) result (left_of tokens.new) }
+        ensures height { IfOk result (λ r. r.height ≤ self.now.room) }
+    {
+        let open = tokens.take()?;
+        let name = self.type_name(tokens)?;
+        tokens.expect(b")")?;
+        let operand = self.part(Rule::Cast, tokens)?;
+        self.made_cast(place(&open), name, operand)
+    }
+
+    /// `++` or `--` before its operand.
+    #[inline(never)]
+    fn prefix_step(
+        &self,
+        operator: StepOperator,
+        tokens: &mut Cursor<'_, 'a>,
+    ) -> Result<Read<'a>, Fault>
+        requires room { self.now.room ≤ 1000 }
+        requires nests { Nests self.now.room (F.pre self.now.inner) (F.post self.now.inner) }
+        ensures tree { GivesTree (spec.prefixed (reading self.now.room) self.now.room (Some operator) (left_of tokens.old)) result (left_of tokens.new) }
+        ensures height { IfOk result (λ r. r.height ≤ self.now.room) }
+    {
+        let first = tokens.take()?;
+        let Read {
+            tree: operand,
+            height,
+        } = self.part(Rule::Unary, tokens)?;
+        let span = to(place(&first), operand.span());
+        let tree = Expression::PrefixStep {
+            operator,
+            operand,
+            span,
+        };
+        boxed(self.alloc, tree, height + 1)
+    }
+
+    /// An operator before its operand.
+    #[inline(never)]
+    fn operated(
+        &self,
+        operator: UnaryOperator,
+        tokens: &mut Cursor<'_, 'a>,
+    ) -> Result<Read<'a>, Fault>
+        requires room { self.now.room ≤ 1000 }
+        requires nests { Nests self.now.room (F.pre self.now.inner) (F.post self.now.inner) }
+        ensures tree { GivesTree (spec.operated (reading self.now.room) self.now.room (Some operator) (left_of tokens.old)) result (left_of tokens.new) }
+        ensures height { IfOk result (λ r. r.height ≤ self.now.room) }
+    {
+        let first = tokens.take()?;
+        let Read {
+            tree: operand,
+            height,
+        } = self.part(Rule::Cast, tokens)?;
+        let span = to(place(&first), operand.span());
+        let tree = Expression::Unary {
+            operator,
+            operand,
+            span,
+        };
+        boxed(self.alloc, tree, height + 1)
+    }
+
+    #[tactic(auto, unfolding(mc_reading::specs::Expressions::unary_of))]
+    pub fn unary(&self, tokens: &mut Cursor<'_, 'a>) -> Result<Read<'a>, Fault>
+        requires room { (self.now.room ≤ 1000) × (1 ≤ self.now.room) }
+        requires nests { Nests self.now.room (F.pre self.now.inner) (F.post self.now.inner) }
+        ensures tree { GivesTree (spec.unary_of (reading self.now.room) self.now.room (left_of tokens.old)) result (left_of tokens.new) }
+        ensures height { IfOk result (λ r. r.height ≤ self.now.room) }
+    {
+        if let Some(operator) = tokens.step() {
+            return self.prefix_step(operator, tokens);
+        }
+        match tokens.unary() {
+            Some(operator) => self.operated(operator, tokens),
+            None => self.postfix(tokens),
+        }
+    }
+
+    #[tactic(auto, unfolding(mc_reading::specs::Expressions::cast_of))]
+    pub fn cast(&self, tokens: &mut Cursor<'_, 'a>) -> Result<Read<'a>, Fault>
+        requires room { (self.now.room ≤ 1000) × (1 ≤ self.now.room) }
+        requires nests { Nests self.now.room (F.pre self.now.inner) (F.post self.now.inner) }
+        requires types { NestsTypes self.now.room (G.pre self.now.typed) (G.post self.now.typed) }
+        ensures tree { GivesTree (spec.cast_of (reading self.now.room) self.now.room (left_of tokens.old)) result (left_of tokens.new) }
+        ensures height { IfOk result (λ r. r.height ≤ self.now.room) }
+    {
+        if tokens.sees_cast() {
+            self.cast_to(tokens)
+        } else {
+            self.unary(tokens)
+        }
+    }
+}

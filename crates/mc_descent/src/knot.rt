@@ -1,0 +1,119 @@
+//! What reads parts of fewer than so many levels: each rule stands over these two functions.
+ghost use Rattle.std.specs.Prelude.{◌≤◌, ◌+◌, IfOk};
+ghost use Rattle.mc_grammar.specs.Counts.{for_type};
+ghost use Rattle.mc_tree.specs.Views as views;
+ghost use Rattle.mc_reading.specs.Specifiers as spec;
+ghost use Rattle.mc_reading.specs.Rooms.{reading};
+ghost use Rattle.mc_descent.specs.Counted.{test_of};
+ghost use Rattle.mc_descent.specs.Cursors.{Gives, left_of};
+ghost use Rattle.mc_descent.specs.Rules.{nonterminal_of};
+ghost use Rattle.mc_descent.specs.Given.{GivesSpecifiers, GivesTree};
+ghost use Rattle.mc_descent.specs.Parts.{specifiers_in};
+
+use crate::allowed::Allowed;
+use crate::cursor::Cursor;
+use crate::fault::Fault;
+use crate::grammar::Grammar;
+use crate::read::{Read, ReadSpecifiers};
+use crate::rule::Rule;
+use mc_tree::{Declarator, Specifier};
+use std::alloc::Global;
+
+/// Reads an expression of fewer than `room` levels.
+#[cycle(knot)]
+#[tactic(auto, using(crate::proofs::Rooms::knot_steps))]
+pub fn expression<'a>(
+    alloc: Global,
+    tokens: &mut Cursor<'_, 'a>,
+    room: u32,
+    rule: Rule,
+) -> Result<Read<'a>, Fault>
+    requires { room ≤ 1000 }
+    ensures tree { GivesTree ((reading room).expression (nonterminal_of rule) (left_of tokens.old)) result (left_of tokens.new) }
+    ensures height { IfOk result (λ r. r.height + 1 ≤ room) }
+{
+    if room < 2 {
+        return Err(Fault::Syntax);
+    }
+    let grammar = Grammar {
+        alloc,
+        room: room - 1,
+        inner: expression,
+        typed: type_specifiers,
+    };
+    match rule {
+        Rule::Comma => grammar.comma(tokens),
+        Rule::Assign => grammar.assign(tokens),
+        Rule::Cond => grammar.cond(tokens),
+        Rule::Unary => grammar.unary(tokens),
+        Rule::Cast => grammar.cast(tokens),
+        Rule::Operand(level) => grammar.climb(level.below(), tokens),
+    }
+}
+
+/// Reads the specifiers of a type, of fewer than `room` levels.
+#[cycle(knot)]
+#[tactic(auto, using(crate::proofs::Rooms::knot_steps))]
+pub fn type_specifiers<'a>(
+    alloc: Global,
+    tokens: &mut Cursor<'_, 'a>,
+    room: u32,
+) -> Result<ReadSpecifiers<'a>, Fault>
+    requires { room ≤ 1000 }
+    ensures specifiers { GivesSpecifiers ((reading room).specifiers for_type (left_of tokens.old)) result (left_of tokens.new) }
+    ensures height { IfOk result (λ r. r.height + 1 ≤ room) }
+{
+    if room == 0 {
+        return Err(Fault::Syntax);
+    }
+    let grammar = Grammar {
+        alloc,
+        room: room - 1,
+        inner: expression,
+        typed: type_specifiers,
+    };
+    grammar.specifiers(tokens, Allowed::Type)
+}
+
+/// Reads specifiers of fewer than `room` levels that may stand together here.
+#[tactic(auto, using(crate::proofs::Rooms::knot_steps))]
+pub fn specifiers<'a>(
+    alloc: Global,
+    tokens: &mut Cursor<'_, 'a>,
+    room: u32,
+    allowed: Allowed,
+) -> Result<Vec<Specifier<'a>>, Fault>
+    requires { room ≤ 1000 }
+    ensures { Gives specifiers_in ((reading room).specifiers (test_of allowed) (left_of tokens.old)) result (left_of tokens.new) }
+{
+    if room == 0 {
+        return Err(Fault::Syntax);
+    }
+    let grammar = Grammar {
+        alloc,
+        room: room - 1,
+        inner: expression,
+        typed: type_specifiers,
+    };
+    let ReadSpecifiers { all, .. } = grammar.specifiers(tokens, allowed)?;
+    Ok(all)
+}
+
+/// Reads a declarator of fewer than `room` levels.
+pub fn declarator<'a>(
+    alloc: Global,
+    tokens: &mut Cursor<'_, 'a>,
+    room: u32,
+) -> Result<Declarator<'a>, Fault>
+    requires { room ≤ 1000 }
+    ensures { Gives views.declarator_of (spec.declarator_of (reading room) (left_of tokens.old)) result (left_of tokens.new) }
+{
+    let grammar = Grammar {
+        alloc,
+        room,
+        inner: expression,
+        typed: type_specifiers,
+    };
+    let mut tallest = 0;
+    grammar.declarator(tokens, &mut tallest)
+}

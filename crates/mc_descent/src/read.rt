@@ -1,0 +1,88 @@
+//! What was read: parts of a tree, with their heights.
+ghost use Rattle.std.specs.Prelude.{◌≡◌, ◌∷◌, ◌++◌, [], IfOk, max};
+ghost use Rattle.mc_tree.specs.Height as h;
+ghost use Rattle.mc_tree.specs.Views.{expression_of};
+ghost use Rattle.mc_descent.specs.Given.{IsAllHigh, trees_of};
+
+use mc_span::Span;
+use mc_tree::{ArrayLength, Expression, Specifier};
+use std::alloc::{AllocError, Global};
+
+/// An expression and how many levels it has.
+#[derive(Drop)]
+pub struct Read<'a> {
+    pub tree: Box<Expression<'a>>,
+    pub height: u32,
+}
+
+/// Expressions with commas between them, and the greatest of their heights.
+#[derive(Drop)]
+pub struct ReadAll<'a> {
+    pub trees: Vec<Expression<'a>>,
+    pub height: u32,
+}
+
+impl<'a> ReadAll<'a> {
+    pub fn new(alloc: Global) -> ReadAll<'a>
+        ensures trees { trees_of result ≡ [] }
+        ensures all_high { IsAllHigh result }
+        ensures height { result.height ≡ 0 }
+    {
+        ReadAll {
+            trees: Vec::new(alloc),
+            height: 0,
+        }
+    }
+
+    /// Puts an expression of this height at the end.
+    #[inline(never)]
+    #[tactic(auto, using(crate::proofs::Lists::push_steps))]
+    pub fn push(&mut self, tree: Box<Expression<'a>>, height: u32) -> Result<(), AllocError>
+        requires high { height ≡ h.height (expression_of tree.value) }
+        requires all_high { IsAllHigh self.now }
+        ensures trees { IfOk result (λ _. trees_of self.new ≡ trees_of self.old ++ expression_of tree.entry.value ∷ []) }
+        ensures all_high { IfOk result (λ _. IsAllHigh self.new) }
+        ensures height { IfOk result (λ _. self.new.height ≡ max self.old.height height) }
+    {
+        self.trees.push(Box::into_inner(tree))?;
+        self.height = self.height.max(height);
+        Ok(())
+    }
+}
+
+/// Specifiers and how many levels they have.
+#[derive(Drop)]
+pub struct ReadSpecifiers<'a> {
+    pub all: Vec<Specifier<'a>>,
+    pub height: u32,
+}
+
+/// How many `*`, and the place of the last token read.
+#[derive(Clone, Copy, Debug)]
+pub struct ReadStars {
+    pub count: u32,
+    pub end: Span,
+}
+
+/// A type name: its specifiers, how many `*`, its place and how many levels it has.
+#[derive(Drop)]
+pub struct ReadType<'a> {
+    pub all: Vec<Specifier<'a>>,
+    pub stars: u32,
+    pub span: Span,
+    pub height: u32,
+}
+
+/// A pair of brackets, and where it ends.
+#[derive(Drop)]
+pub struct ReadLength<'a> {
+    pub one: ArrayLength<'a>,
+    pub end: Span,
+}
+
+/// The brackets after a name, and where the last token read stands.
+#[derive(Drop)]
+pub struct ReadLengths<'a> {
+    pub all: Vec<ArrayLength<'a>>,
+    pub end: Span,
+}
