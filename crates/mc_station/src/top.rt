@@ -67,9 +67,10 @@ pub fn station<S: Store, K: Sink, E: Sink, G: Gate>(
         (S.state store.old).asked (S.state store.new).asked
         (K.written out.old) (K.written out.new) (E.written diag.old) (E.written diag.new) }
 
-    // With 7 first parts of the texts of such a reply were put.
+    // With 7 first parts of the texts of such a reply were put. Where they say that a file cannot be
+    // read, the store failed in this call.
     ensures part { result ≡ 7 → ToldPart (call_of words.now (S.state store.old))
-        (S.state store.old).asked (S.state store.new).asked
+        (S.state store.old) (S.state store.new)
         (K.written out.old) (K.written out.new) (E.written diag.old) (E.written diag.new) }
 
     // 6 only where the store failed in this call.
