@@ -20,7 +20,7 @@ and_pure (Some p) = refl
 abbrev pub operand_of : Parts → ℕ → Level → Parser Expression
 operand_of parts room level = λ ts. and_then (cast_of parts room ts) (climb parts room (below level))
 
-operand_at : (parts : Parts) (room : ℕ) (level : Level) (ts : List Lexeme)
+pub operand_at : (parts : Parts) (room : ℕ) (level : Level) (ts : List Lexeme)
     → expression_by parts room (operand level) ts ≡ operand_of parts room level ts
 unfolding climb level_of
 operand_at parts room n.product ts = sym (and_pure (cast_of parts room ts))
@@ -34,30 +34,12 @@ operand_at parts room n.bit_or ts = refl
 operand_at parts room n.land ts = refl
 operand_at parts room n.lor ts = refl
 
-expression_at : (room : ℕ) (m : Nonterminal) (ts : List Lexeme) → 1 < room
+pub expression_at : (room : ℕ) (m : Nonterminal) (ts : List Lexeme) → 1 < room
     → (reading room).expression m ts ≡ expression_by (reading (room - 1)) (room - 1) m ts
 unfolding reading expression_of
 expression_at zero m ts h = absurd (omega (arith, h))
 expression_at (suc zero) m ts h = absurd (omega (arith, h))
 expression_at (suc (suc k)) m ts h = let e : suc (suc k) - 1 ≡ suc k = omega arith in rw e refl
-
-abbrev pub rule_by : Parts → ℕ → Rule → Parser Expression
-rule_by parts room rule.Comma = comma_of parts room
-rule_by parts room rule.Assign = assign_of parts room
-rule_by parts room rule.Cond = cond_of parts room
-rule_by parts room rule.Unary = unary_of parts room
-rule_by parts room rule.Cast = cast_of parts room
-rule_by parts room (rule.Operand level) = operand_of parts room (rules.level_of level)
-
-pub rule_at : (room : ℕ) (one : Rule) (ts : List Lexeme) → 1 < room
-    → (reading room).expression (nonterminal_of one) ts ≡ rule_by (reading (room - 1)) (room - 1) one ts
-rule_at room rule.Comma ts h = expression_at room n.comma ts h
-rule_at room rule.Assign ts h = expression_at room n.assign ts h
-rule_at room rule.Cond ts h = expression_at room n.cond ts h
-rule_at room rule.Unary ts h = expression_at room n.unary ts h
-rule_at room rule.Cast ts h = expression_at room n.cast ts h
-rule_at room (rule.Operand level) ts h =
-    expression_at room (operand (rules.level_of level)) ts h ∙ operand_at (reading (room - 1)) (room - 1) (rules.level_of level) ts
 
 pub rule_none : (room : ℕ) (one : Rule) (ts : List Lexeme) → room < 2 → (reading room).expression (nonterminal_of one) ts ≡ None
 unfolding reading expression_of
@@ -75,4 +57,4 @@ pub no_specifiers : (room : ℕ) (test : Specifiers → Bool) (ts : List Lexeme)
 unfolding reading
 no_specifiers room test ts h = rw h refl
 
-pub ruleset knot_steps = (rule_at, rule_none, specifiers_at, no_specifiers)
+pub ruleset knot_steps = (expression_at, rule_none, specifiers_at, no_specifiers)

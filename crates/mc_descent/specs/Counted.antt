@@ -26,7 +26,8 @@ counts_of c = record {
 -- how many there are in all
 abbrev pub total : spec.Counts → ℕ
 total c =
-    c.typedef + c.static + c.extern + c.void + c.bool + c.char + c.short + c.int + c.long + c.signs + c.others
+    c.typedef + c.static + c.extern + c.void + c.bool + c.char + c.short + c.int + c.long + c.signs
+    + c.others
 
 -- which specifiers may begin it
 abbrev pub test_of : Allowed → Specifiers → Bool
@@ -39,7 +40,8 @@ test_of allowed.Type = for_type
 abbrev pub stores : Allowed → spec.Counts → Bool
 stores allowed.Item c = nat_le (c.typedef + c.static + c.extern) 1
 stores allowed.Function c = nat_le (c.typedef + c.static + c.extern) 1 && nat_eq c.typedef 0
-stores allowed.Local c = nat_le (c.typedef + c.static + c.extern) 1 && nat_eq (c.typedef + c.extern) 0
+stores allowed.Local c = nat_le (c.typedef + c.static + c.extern) 1
+    && nat_eq (c.typedef + c.extern) 0
 stores allowed.Type c = nat_eq (c.typedef + c.static + c.extern) 0
 
 -- the words of types
@@ -53,5 +55,6 @@ can_go_on a c = stores a c && (nat_eq (types c) 0 || spec.has_one_type c)
 -- where the first specifier stands after which none can follow, after so many
 abbrev pub refused_in : Allowed → spec.Counts → List Specifier → Option Span
 refused_in a c [] = None
-refused_in a c (s ∷ rest) = if can_go_on a (spec.with_specifier s c) then refused_in a (spec.with_specifier s c) rest
+refused_in a c (s ∷ rest) = if can_go_on a (spec.with_specifier s c)
+    then refused_in a (spec.with_specifier s c) rest
     else Some (span_of_specifier s)

@@ -17,7 +17,10 @@ has_name names text = contains_by (λ k. slice_cmp nat_cmp text k.now) names
 -- a token, where these are the names of typedefs in force
 abbrev pub marked : BTreeSet (Bor (List ℕ)) → Tok → Lexeme
 marked names token =
-    record { token = token; names_type = is_identifier_kind token.kind && has_name names token.text }
+    record {
+      token = token;
+      names_type = is_identifier_kind token.kind && has_name names token.text;
+    }
 
 unfoldable pub marked_all : BTreeSet (Bor (List ℕ)) → List Tok → List Lexeme
 marked_all names tokens = map (marked names) tokens
@@ -32,7 +35,8 @@ Refuses read Syntax = read ≡ None
 Refuses read OutOfMemory = Unit {0}
 
 -- a function returned what a reader gives, and left what it leaves
-abbrev pub Gives : {X Y : Type 0} → (X → Y) → Option (Y × List Lexeme) → Result X Fault → List Lexeme
+abbrev pub Gives : {X Y : Type 0} → (X → Y) → Option (Y × List Lexeme) → Result X Fault
+    → List Lexeme
     → Type 0
 Gives view read (Ok x) rest = read ≡ Some (view x, rest)
 Gives view read (Err fault) rest = Refuses read fault

@@ -29,7 +29,8 @@ tree_of r = expression_of r.tree.value
 abbrev pub IsHigh : Read → Type 0
 IsHigh r = r.height ≡ h.height (tree_of r)
 
-abbrev pub GivesTree : Option (t.Expression × List Lexeme) → Result Read Fault → List Lexeme → Type 0
+abbrev pub GivesTree : Option (t.Expression × List Lexeme) → Result Read Fault → List Lexeme
+    → Type 0
 GivesTree read (Ok r) rest = (read ≡ Some (tree_of r, rest)) × IsHigh r
 GivesTree read (Err fault) rest = Refuses read fault
 
@@ -90,7 +91,8 @@ pub record Nests (room : ℕ) (pre : Global → MutBor Cursor → ℕ → Rule �
   pub callable : (alloc : Global) (old : MutBor Cursor) (rule : Rule) → pre alloc old room rule
   pub reads : (alloc : Global) (old new : MutBor Cursor) (rule : Rule) (r : Result Read Fault)
       → post alloc old room rule r new
-      → GivesTree ((reading room).expression (nonterminal_of rule) (left_of old.now)) r (left_of new.now)
+      → GivesTree ((reading room).expression (nonterminal_of rule) (left_of old.now)) r
+      (left_of new.now)
       × IfOk r (λ read. read.height + 1 ≤ room)
 
 -- a function value that reads the specifiers of a type of fewer than so many levels

@@ -87,5 +87,6 @@ all_specifiers_of parts room = listed (λ turns. spec.specifiers_loop turns part
 abbrev pub GivesList : Option (List Specifier × List Lexeme) → Result ReadSpecifiers Fault
     → List Lexeme → Type 0
 GivesList read (Ok r) rest =
-    (read ≡ Some (map specifier_of r.all.items, rest)) × (r.height ≡ high_specifiers (map specifier_of r.all.items))
+    (read ≡ Some (map specifier_of r.all.items, rest))
+    × (r.height ≡ high_specifiers (map specifier_of r.all.items))
 GivesList read (Err fault) rest = Refuses read fault

@@ -77,7 +77,8 @@ impl Counts {
 
     fn count(&mut self, one: &Specifier<'_>)
         requires few { total (counts_of self.now) < 2 ^ 63 }
-        ensures counts { counts_of self.new ≡ spec.with_specifier (specifier_of one.now) (counts_of self.old) }
+        ensures counts { counts_of self.new
+            ≡ spec.with_specifier (specifier_of one.now) (counts_of self.old) }
         ensures total { total (counts_of self.new) ≤ total (counts_of self.old) + 1 }
     {
         match one {
@@ -128,6 +129,7 @@ impl Counts {
 }
 
 /// How often each stands.
+#[inline(never)]
 fn counted(all: &[Specifier<'_>]) -> Counts
     ensures counts { counts_of result ≡ spec.counts (specifiers_from (map specifier_of all.now)) }
     ensures few { total (counts_of result) < 2 ^ 63 }
@@ -157,6 +159,7 @@ impl Allowed {
     }
 
     /// Whether these specifiers may stand together here.
+    #[inline(never)]
     #[tactic(auto, using(crate::proofs::Allows::test_by))]
     pub fn allows(self, all: &[Specifier<'_>]) -> bool
         ensures { result ≡ test_of self (specifiers_from (map specifier_of all.now)) }
@@ -166,6 +169,7 @@ impl Allowed {
     }
 
     /// Whether others can stand here after specifiers of which there are so many.
+    #[inline(never)]
     fn goes_on(self, counts: &Counts) -> bool
         requires few { total (counts_of counts.now) < 2 ^ 63 }
         ensures { result ≡ can_go_on self (counts_of counts.now) }
@@ -174,6 +178,7 @@ impl Allowed {
     }
 
     /// Where the first specifier stands that is one too many here.
+    #[inline(never)]
     pub fn refused(self, all: &[Specifier<'_>]) -> Option<Span>
         ensures { result ≡ refused_in self spec.nothing (map specifier_of all.now) }
     {

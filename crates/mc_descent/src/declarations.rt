@@ -38,7 +38,8 @@ fn valued<'a>(
     tokens: &mut Cursor<'_, 'a>,
 ) -> Result<InitDeclarator<'a>, Fault>
     requires { room ≤ 1000 }
-    ensures { Gives init_declarator_of (spec.valued_of typedef room (declarator_of declarator.entry) (left_of tokens.old)) result (left_of tokens.new) }
+    ensures { Gives init_declarator_of (spec.valued_of typedef room (declarator_of declarator.entry)
+        (left_of tokens.old)) result (left_of tokens.new) }
 {
     tokens.declare(typedef, &declarator)?;
     if !tokens.sees(b"=") {
@@ -51,7 +52,8 @@ fn valued<'a>(
 
 #[tactic(auto, using(crate::proofs::Lists::map_push))]
 fn push<'a>(all: &mut Vec<InitDeclarator<'a>>, one: InitDeclarator<'a>) -> Result<(), AllocError>
-    ensures { IfOk result (λ _. map init_declarator_of all.new.items ≡ map init_declarator_of all.old.items ++ init_declarator_of one.entry ∷ []) }
+    ensures { IfOk result (λ _. map init_declarator_of all.new.items
+        ≡ map init_declarator_of all.old.items ++ init_declarator_of one.entry ∷ []) }
 {
     Ok(all.push(one)?)
 }
@@ -67,7 +69,10 @@ fn declarators<'a>(
     tokens: &mut Cursor<'_, 'a>,
 ) -> Result<Vec<InitDeclarator<'a>>, Fault>
     requires { room ≤ 1000 }
-    ensures { Gives (λ all. map init_declarator_of all.items) (listed (λ turns. comma_list turns (spec.init_declarator_of typedef room) (map init_declarator_of before.entry.items)) (left_of tokens.old)) result (left_of tokens.new) }
+    ensures { Gives (λ all. map init_declarator_of all.items)
+        (listed (λ turns. comma_list turns (spec.init_declarator_of typedef room)
+        (map init_declarator_of before.entry.items)) (left_of tokens.old)) result
+        (left_of tokens.new) }
 {
     let mut all = before;
     for _turn in 0..tokens.turns() {
@@ -94,7 +99,9 @@ pub fn declared<'a>(
     tokens: &mut Cursor<'_, 'a>,
 ) -> Result<Declaration<'a>, Fault>
     requires { room ≤ 1000 }
-    ensures { Gives declaration_of (spec.declared_of typedef room head.entry.start (words_of head.entry) (declarator_of first.entry) (left_of tokens.old)) result (left_of tokens.new) }
+    ensures { Gives declaration_of
+        (spec.declared_of typedef room head.entry.start (words_of head.entry)
+        (declarator_of first.entry) (left_of tokens.old)) result (left_of tokens.new) }
 {
     let first = valued(alloc, typedef, room, first, tokens)?;
     let mut all = Vec::new(alloc);
@@ -112,7 +119,9 @@ fn declaration<'a>(
     declarators: Vec<InitDeclarator<'a>>,
     last: Span,
 ) -> Declaration<'a>
-    ensures { declaration_of result ≡ t.declaration (words_of head.entry) (map init_declarator_of declarators.entry.items) (places.to head.entry.start last) }
+    ensures { declaration_of result
+        ≡ t.declaration (words_of head.entry) (map init_declarator_of declarators.entry.items)
+        (places.to head.entry.start last) }
 {
     let Head { start, specifiers } = head;
     Declaration {
@@ -128,7 +137,8 @@ pub fn undeclared<'a>(
     head: Head<'a>,
     tokens: &mut Cursor<'_, 'a>,
 ) -> Result<Declaration<'a>, Fault>
-    ensures { Gives declaration_of (spec.undeclared_of head.entry.start (words_of head.entry) (left_of tokens.old)) result (left_of tokens.new) }
+    ensures { Gives declaration_of (spec.undeclared_of head.entry.start (words_of head.entry)
+        (left_of tokens.old)) result (left_of tokens.new) }
 {
     let last = tokens.take()?;
     Ok(declaration(head, Vec::new(alloc), place(&last)))
@@ -144,7 +154,8 @@ pub fn local<'a>(
     tokens: &mut Cursor<'_, 'a>,
 ) -> Result<Declaration<'a>, Fault>
     requires { room ≤ 1000 }
-    ensures { Gives declaration_of (spec.local_of (test_of allowed) room (left_of tokens.old)) result (left_of tokens.new) }
+    ensures { Gives declaration_of (spec.local_of (test_of allowed) room (left_of tokens.old))
+        result (left_of tokens.new) }
 {
     let start = tokens.first()?;
     let specifiers = specifiers(alloc, tokens, room, allowed)?;

@@ -3,8 +3,8 @@ ghost use Rattle.mc_descent.specs.declared.fault.Fault.TheVariants as fault;
 
 use std::alloc::{AllocError, AllocFailed};
 
-/// Why a function of the descent gives no tree. Where it is the syntax, the next token of the cursor
-/// is the first at which no reading goes on.
+/// Why a function of the descent gives no tree. Where it is the syntax, the next token of the
+/// cursor is the first at which no reading goes on.
 #[derive(Debug, Drop)]
 pub enum Fault {
     Syntax,

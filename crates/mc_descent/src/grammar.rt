@@ -7,6 +7,7 @@ pub mod makers;
 mod members;
 mod postfix;
 mod primary;
+mod rules;
 mod specifiers;
 mod unary;
 

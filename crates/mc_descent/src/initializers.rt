@@ -23,7 +23,8 @@ fn single<'a>(
     room: u32,
 ) -> Result<Initializer<'a>, Fault>
     requires { room ≤ 1000 }
-    ensures { Gives initializer_of (spec.single_of (reading room) (left_of tokens.old)) result (left_of tokens.new) }
+    ensures { Gives initializer_of (spec.single_of (reading room) (left_of tokens.old)) result
+        (left_of tokens.new) }
 {
     let Read { tree, .. } = expression(alloc, tokens, room, Rule::Assign)?;
     Ok(Initializer::Single {
@@ -32,7 +33,8 @@ fn single<'a>(
 }
 
 fn braced<'a>(items: Vec<Initializer<'a>>, span: Span) -> Initializer<'a>
-    ensures { initializer_of result ≡ t.Braced (initializers_from (map initializer_of items.entry.items)) span }
+    ensures { initializer_of result
+        ≡ t.Braced (initializers_from (map initializer_of items.entry.items)) span }
 {
     Initializer::Braced { items, span }
 }
@@ -46,7 +48,8 @@ pub fn initializer<'a>(
     room: u32,
 ) -> Result<Initializer<'a>, Fault>
     requires { room ≤ 1000 }
-    ensures { Gives initializer_of (spec.initializer_of room (left_of tokens.old)) result (left_of tokens.new) }
+    ensures { Gives initializer_of (spec.initializer_of room (left_of tokens.old)) result
+        (left_of tokens.new) }
 {
     if room == 0 {
         return Err(Fault::Syntax);
@@ -69,7 +72,9 @@ fn initializers<'a>(
     room: u32,
 ) -> Result<Vec<Initializer<'a>>, Fault>
     requires { room < 1000 }
-    ensures { Gives (λ all. map initializer_of all.items) (listed (λ turns. braced_list turns (spec.initializer_of room) []) (left_of tokens.old)) result (left_of tokens.new) }
+    ensures { Gives (λ all. map initializer_of all.items)
+        (listed (λ turns. braced_list turns (spec.initializer_of room) []) (left_of tokens.old))
+        result (left_of tokens.new) }
 {
     let mut all = Vec::new(alloc);
     for _turn in 0..tokens.turns() {
@@ -88,7 +93,8 @@ fn initializers<'a>(
 
 #[tactic(auto, using(crate::proofs::Lists::map_push))]
 fn push<'a>(all: &mut Vec<Initializer<'a>>, one: Initializer<'a>) -> Result<(), AllocError>
-    ensures { IfOk result (λ _. map initializer_of all.new.items ≡ map initializer_of all.old.items ++ initializer_of one.entry ∷ []) }
+    ensures { IfOk result (λ _. map initializer_of all.new.items ≡ map initializer_of all.old.items
+        ++ initializer_of one.entry ∷ []) }
 {
     Ok(all.push(one)?)
 }

@@ -29,7 +29,8 @@ pub fn expression<'a>(
     rule: Rule,
 ) -> Result<Read<'a>, Fault>
     requires { room ≤ 1000 }
-    ensures tree { GivesTree ((reading room).expression (nonterminal_of rule) (left_of tokens.old)) result (left_of tokens.new) }
+    ensures tree { GivesTree ((reading room).expression (nonterminal_of rule) (left_of tokens.old))
+        result (left_of tokens.new) }
     ensures height { IfOk result (λ r. r.height + 1 ≤ room) }
 {
     if room < 2 {
@@ -41,14 +42,7 @@ pub fn expression<'a>(
         inner: expression,
         typed: type_specifiers,
     };
-    match rule {
-        Rule::Comma => grammar.comma(tokens),
-        Rule::Assign => grammar.assign(tokens),
-        Rule::Cond => grammar.cond(tokens),
-        Rule::Unary => grammar.unary(tokens),
-        Rule::Cast => grammar.cast(tokens),
-        Rule::Operand(level) => grammar.climb(level.below(), tokens),
-    }
+    grammar.by_rule(tokens, rule)
 }
 
 /// Reads the specifiers of a type, of fewer than `room` levels.
@@ -60,7 +54,8 @@ pub fn type_specifiers<'a>(
     room: u32,
 ) -> Result<ReadSpecifiers<'a>, Fault>
     requires { room ≤ 1000 }
-    ensures specifiers { GivesSpecifiers ((reading room).specifiers for_type (left_of tokens.old)) result (left_of tokens.new) }
+    ensures specifiers { GivesSpecifiers ((reading room).specifiers for_type (left_of tokens.old))
+        result (left_of tokens.new) }
     ensures height { IfOk result (λ r. r.height + 1 ≤ room) }
 {
     if room == 0 {
@@ -84,7 +79,8 @@ pub fn specifiers<'a>(
     allowed: Allowed,
 ) -> Result<Vec<Specifier<'a>>, Fault>
     requires { room ≤ 1000 }
-    ensures { Gives specifiers_in ((reading room).specifiers (test_of allowed) (left_of tokens.old)) result (left_of tokens.new) }
+    ensures { Gives specifiers_in ((reading room).specifiers (test_of allowed) (left_of tokens.old))
+        result (left_of tokens.new) }
 {
     if room == 0 {
         return Err(Fault::Syntax);
@@ -106,7 +102,8 @@ pub fn declarator<'a>(
     room: u32,
 ) -> Result<Declarator<'a>, Fault>
     requires { room ≤ 1000 }
-    ensures { Gives views.declarator_of (spec.declarator_of (reading room) (left_of tokens.old)) result (left_of tokens.new) }
+    ensures { Gives views.declarator_of (spec.declarator_of (reading room) (left_of tokens.old))
+        result (left_of tokens.new) }
 {
     let grammar = Grammar {
         alloc,

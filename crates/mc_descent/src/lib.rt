@@ -1,14 +1,17 @@
-//! The descent of the parser: expressions, specifiers, declarators, initializers and declarations. Each
-//! function equals its reader of mc_reading, which gives exactly what the grammar reads. Statements, items
-//! and whole sources are to come; nothing calls it yet.
+//! The parts of the parser below statements: the tokens that are left, and what reads expressions,
+//! specifiers, declarators, initializers and declarations from them. Each function equals its
+//! reader of mc_reading, which gives exactly what the grammar reads. mc_parse alone stands on this
+//! crate.
 #![tactic(auto)]
 
-mod allowed;
-mod cursor;
-mod declarations;
-mod fault;
+pub mod allowed;
+pub mod cursor;
+pub mod declarations;
+pub mod fault;
 mod grammar;
 mod initializers;
-mod knot;
-mod read;
-mod rule;
+pub mod knot;
+pub mod read;
+pub mod rule;
+
+pub use grammar::makers::to;

@@ -40,7 +40,8 @@ impl<'a> ReadAll<'a> {
     pub fn push(&mut self, tree: Box<Expression<'a>>, height: u32) -> Result<(), AllocError>
         requires high { height ≡ h.height (expression_of tree.value) }
         requires all_high { IsAllHigh self.now }
-        ensures trees { IfOk result (λ _. trees_of self.new ≡ trees_of self.old ++ expression_of tree.entry.value ∷ []) }
+        ensures trees { IfOk result (λ _. trees_of self.new ≡ trees_of self.old
+            ++ expression_of tree.entry.value ∷ []) }
         ensures all_high { IfOk result (λ _. IsAllHigh self.new) }
         ensures height { IfOk result (λ _. self.new.height ≡ max self.old.height height) }
     {

@@ -3,7 +3,8 @@ ghost use Rattle.std.specs.Prelude.{◌≡◌};
 ghost use Rattle.mc_reading.specs.Expressions.{up_to};
 ghost use Rattle.mc_descent.specs.Rules.{below, level_of, levels_of};
 
-/// The levels of operators between two operands, that which binds closest first (C17 6.5.5 to 6.5.14).
+/// The levels of operators between two operands, that which binds closest first (C17 6.5.5 to
+/// 6.5.14).
 #[derive(Clone, Copy, Debug, PartialEq, Eq)]
 pub enum Level {
     Product,

@@ -1,17 +1,10 @@
-//! The functions that a token list stands for.
+//! The tree of a list of tokens.
 #![tactic(auto)]
 
-mod counts;
-mod cursor;
-mod expression;
 mod fault;
-mod first;
-mod header;
-pub mod laws;
-mod names;
+mod items;
+mod statements;
+mod whole;
 
-pub use fault::FirstFault;
-pub use first::{First, parse_first};
-
-#[cfg(test)]
-mod tests;
+pub use fault::ParseFault;
+pub use whole::{parse, parse_within};

@@ -56,7 +56,8 @@ more_declarators_of typedef rooms i = do
   more ← see (codes ",")
   if more then (do
     x ← take
-    listed (λ turns. comma_list turns (init_declarator_of typedef rooms) (i ∷ []))) else pure (i ∷ [])
+    listed (λ turns. comma_list turns (init_declarator_of typedef rooms) (i ∷ [])))
+      else pure (i ∷ [])
 
 -- a declaration whose first declarator is read
 unfoldable pub declared_of : Bool → ℕ → Span → Specifiers → Declarator → Parser Declaration

@@ -49,7 +49,8 @@ stars_of before = listed (λ turns. stars_loop turns 0 before)
 
 -- the arguments of a call, or the operands of a comma, after these
 abbrev pub expressions_after : Parts → List Expression → Parser (List Expression)
-expressions_after parts before = listed (λ turns. comma_list turns (parts.expression n.assign) before)
+expressions_after parts before =
+    listed (λ turns. comma_list turns (parts.expression n.assign) before)
 
 unfoldable pub type_name_of : Parts → Parser TypeName
 type_name_of parts = do
@@ -315,7 +316,8 @@ unfoldable pub operands_of : Parts → ℕ → Expression → Parser Expression
 operands_of parts room a = only (fits a room) (do
   x ← take
   all ← expressions_after parts (a ∷ [])
-  pure (t.Comma (expressions_from all) (to (span_of a) (end_of_expressions (span_of a) (expressions_from all)))))
+  pure (t.Comma (expressions_from all)
+      (to (span_of a) (end_of_expressions (span_of a) (expressions_from all)))))
 
 unfoldable pub comma_of : Parts → ℕ → Parser Expression
 comma_of parts room = do

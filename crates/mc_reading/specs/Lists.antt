@@ -1,5 +1,5 @@
--- Readers of lists: a turn for each part, with the parts before it. Each loop has one turn more than
--- there are tokens.
+-- Readers of lists: a turn for each part, with the parts before it. Each loop has one turn more
+-- than there are tokens.
 use Rattle.std.specs.Prelude.{ℕ, zero, suc, ◌+◌, Bool, if◌then◌else◌, List, [], ◌∷◌, ◌++◌, length, codes}
 use Rattle.mc_grammar.specs.Words.{Lexeme}
 use Rattle.mc_reading.specs.Parsers.{Parser, ◌>>=◌, pure, refuse, ask, see, take}
@@ -27,7 +27,8 @@ braced_turn go one before = do
   if more then (do
     x ← take
     ends ← see (codes "}")
-    if ends then pure (before ++ part ∷ []) else go (before ++ part ∷ [])) else pure (before ++ part ∷ [])
+    if ends then pure (before ++ part ∷ []) else go (before ++ part ∷ []))
+      else pure (before ++ part ∷ [])
 
 unfoldable pub braced_list : {A : Type 0} → ℕ → Parser A → List A → Parser (List A)
 braced_list zero one before = refuse

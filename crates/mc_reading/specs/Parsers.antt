@@ -1,6 +1,8 @@
--- A device of the parser's proof, and not a definition: it computes what the relation of mc_grammar says.
+-- A device of the parser's proof, and not a definition: it computes what the relation of mc_grammar
+-- says.
 --
--- A reader of the front of a list of tokens gives what it read and the tokens that it leaves, or nothing.
+-- A reader of the front of a list of tokens gives what it read and the tokens that it leaves, or
+-- nothing.
 use Rattle.std.specs.Prelude.{ℕ, Bool, if◌then◌else◌, List, [], ◌∷◌, Option, Some, None}
 use Rattle.mc_span.specs.declared.span.Span.{Span}
 use Rattle.mc_grammar.specs.Words.{Lexeme, is_punctuator, is_keyword, next_is, sees}

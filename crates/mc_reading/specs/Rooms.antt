@@ -7,4 +7,7 @@ use Rattle.mc_reading.specs.Specifiers.{specifiers_of}
 unfoldable pub reading : ℕ → Parts
 reading zero = record { expression = λ m. refuse; specifiers = λ test. refuse }
 reading (suc room) =
-    record { expression = expression_of (reading room) room; specifiers = specifiers_of (reading room) room }
+    record {
+      expression = expression_of (reading room) room;
+      specifiers = specifiers_of (reading room) room;
+    }

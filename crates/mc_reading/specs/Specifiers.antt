@@ -1,5 +1,5 @@
--- The readers of declarators and of specifiers, over what reads their parts: trees of fewer than `room`
--- levels. The list of a structure or an enumeration is a part of its specifier.
+-- The readers of declarators and of specifiers, over what reads their parts: trees of fewer than
+-- `room` levels. The list of a structure or an enumeration is a part of its specifier.
 use Rattle.std.specs.Prelude.{ℕ, zero, suc, Bool, true, false, ◌||◌, nat_le, if◌then◌else◌, List, [], ◌∷◌, ◌++◌, Option, Some, None, codes}
 use Rattle.mc_span.specs.declared.span.Span.{Span}
 use Rattle.mc_tree.specs.declared.declarations.specifier_word.SpecifierWord.{SpecifierWord}

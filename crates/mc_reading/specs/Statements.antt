@@ -179,7 +179,8 @@ return_of parts = do
 
 -- what the next tokens begin
 pub data Beginning : Type 0 where
-  block null if_ switch while do_ for_ case_ default_ label goto_ continue_ break_ return_ expression
+  block null if_ switch while do_ for_ case_ default_ label goto_ continue_ break_ return_
+      expression
       : Beginning
 
 abbrev pub keyword_begins : List Lexeme → Beginning

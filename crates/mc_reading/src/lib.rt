@@ -1,4 +1,5 @@
-//! What the parser's descent computes, on lists of tokens: exactly what the grammar's relation says.
+//! What the parser's descent computes, on lists of tokens: exactly what the grammar's relation
+//! says.
 #![tactic(auto)]
 
 pub mod laws;

@@ -55,6 +55,14 @@ impl<'t, 'a> Cursor<'t, 'a> {
         self.rest.len() + 1
     }
 
+    /// How many tokens are left.
+    #[tactic(auto, unfolding(crate::specs::Cursors::marked_all))]
+    pub fn left(&self) -> usize
+        ensures { result ≡ length (left_of self.now) }
+    {
+        self.rest.len()
+    }
+
     #[tactic(auto, unfolding(crate::specs::Cursors::marked_all))]
     pub fn is_at_end(&self) -> bool
         ensures { result ≡ ended (left_of self.now) }
@@ -183,7 +191,8 @@ impl<'t, 'a> Cursor<'t, 'a> {
         }
     }
 
-    /// Whether specifiers go on: at a specifier word, and at a typedef name where there is no type yet.
+    /// Whether specifiers go on: at a specifier word, and at a typedef name where there is no type
+    /// yet.
     #[tactic(auto, unfolding(crate::specs::Cursors::marked_all))]
     pub fn goes_on(&self, has_type: bool) -> bool
         ensures { result ≡ words.go_on has_type (left_of self.now) }

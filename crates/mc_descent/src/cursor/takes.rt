@@ -52,7 +52,8 @@ impl<'t, 'a> Cursor<'t, 'a> {
     /// Takes the next token.
     #[tactic(auto, unfolding(crate::specs::Cursors::marked_all))]
     pub fn take(&mut self) -> Result<Token<'a>, Fault>
-        ensures token { Gives (λ token. marked self.old.names (tok_of token)) (spec.take (left_of self.old)) result (left_of self.new) }
+        ensures token { Gives (λ token. marked self.old.names (tok_of token))
+            (spec.take (left_of self.old)) result (left_of self.new) }
         ensures names { self.new.names ≡ self.old.names }
         ensures short { IfOk result IsShort }
     {
@@ -68,7 +69,8 @@ impl<'t, 'a> Cursor<'t, 'a> {
     /// Takes the next token, which has to be this punctuator.
     #[tactic(auto, unfolding(mc_reading::specs::Parsers::accept))]
     pub fn expect(&mut self, text: &[u8]) -> Result<Token<'a>, Fault>
-        ensures token { Gives (λ token. marked self.old.names (tok_of token)) (spec.expect text.now (left_of self.old)) result (left_of self.new) }
+        ensures token { Gives (λ token. marked self.old.names (tok_of token))
+            (spec.expect text.now (left_of self.old)) result (left_of self.new) }
         ensures names { self.new.names ≡ self.old.names }
         ensures short { IfOk result IsShort }
     {
@@ -82,7 +84,8 @@ impl<'t, 'a> Cursor<'t, 'a> {
     /// Takes the next token, which has to be this keyword.
     #[tactic(auto, unfolding(mc_reading::specs::Parsers::accept))]
     pub fn expect_keyword(&mut self, text: &[u8]) -> Result<Token<'a>, Fault>
-        ensures token { Gives (λ token. marked self.old.names (tok_of token)) (spec.expect_keyword text.now (left_of self.old)) result (left_of self.new) }
+        ensures token { Gives (λ token. marked self.old.names (tok_of token))
+            (spec.expect_keyword text.now (left_of self.old)) result (left_of self.new) }
         ensures names { self.new.names ≡ self.old.names }
         ensures short { IfOk result IsShort }
     {
@@ -96,7 +99,8 @@ impl<'t, 'a> Cursor<'t, 'a> {
     /// Takes the next token, which has to be an identifier that names no type.
     #[tactic(auto, unfolding(mc_reading::specs::Parsers::accept))]
     pub fn expect_name(&mut self) -> Result<Token<'a>, Fault>
-        ensures token { Gives (λ token. marked self.old.names (tok_of token)) (spec.accept words.is_name (left_of self.old)) result (left_of self.new) }
+        ensures token { Gives (λ token. marked self.old.names (tok_of token))
+            (spec.accept words.is_name (left_of self.old)) result (left_of self.new) }
         ensures names { self.new.names ≡ self.old.names }
         ensures short { IfOk result IsShort }
     {
@@ -110,7 +114,8 @@ impl<'t, 'a> Cursor<'t, 'a> {
     /// Takes the next token, which has to be an identifier.
     #[tactic(auto, unfolding(mc_reading::specs::Parsers::accept))]
     pub fn expect_tag(&mut self) -> Result<Token<'a>, Fault>
-        ensures token { Gives (λ token. marked self.old.names (tok_of token)) (spec.accept words.is_tag (left_of self.old)) result (left_of self.new) }
+        ensures token { Gives (λ token. marked self.old.names (tok_of token))
+            (spec.accept words.is_tag (left_of self.old)) result (left_of self.new) }
         ensures names { self.new.names ≡ self.old.names }
         ensures short { IfOk result IsShort }
     {

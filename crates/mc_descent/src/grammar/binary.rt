@@ -49,7 +49,9 @@ impl<
         right: Read<'a>,
     ) -> Result<Read<'a>, Fault>
         requires small { (left.height ≤ 1000) × (right.height ≤ 1000) }
-        ensures { GivesMade (t.Binary operator (tree_of left.entry) (tree_of right.entry) (places.to (span_of (tree_of left.entry)) (span_of (tree_of right.entry)))) (max left.entry.height right.entry.height + 1) result }
+        ensures { GivesMade (t.Binary operator (tree_of left.entry) (tree_of right.entry)
+            (places.to (span_of (tree_of left.entry)) (span_of (tree_of right.entry))))
+            (max left.entry.height right.entry.height + 1) result }
     {
         let span = to(left.tree.span(), right.tree.span());
         let height = left.height.max(right.height) + 1;
@@ -75,7 +77,9 @@ impl<
         requires room { self.now.room ≤ 1000 }
         requires nests { Nests self.now.room (F.pre self.now.inner) (F.post self.now.inner) }
         requires high { IsHigh left }
-        ensures tree { GivesTree (spec.operation_of (reading self.now.room) self.now.room (level_of level) operator (tree_of left.entry) (left_of tokens.old)) result (left_of tokens.new) }
+        ensures tree { GivesTree (spec.operation_of (reading self.now.room) self.now.room
+            (level_of level) operator (tree_of left.entry) (left_of tokens.old)) result
+            (left_of tokens.new) }
         ensures height { IfOk result (λ r. r.height ≤ self.now.room) }
     {
         if left.height >= self.room {
@@ -87,6 +91,7 @@ impl<
     }
 
     /// The operators of a level and their right operands, after the first operand.
+    #[inline(never)]
     #[tactic(auto, using(crate::proofs::Turns::operations_steps))]
     fn operations(
         &self,
@@ -98,7 +103,9 @@ impl<
         requires nests { Nests self.now.room (F.pre self.now.inner) (F.post self.now.inner) }
         requires high { IsHigh first }
         requires low { first.height ≤ self.now.room }
-        ensures tree { GivesTree (spec.operations_of (reading self.now.room) self.now.room (level_of level) (tree_of first.entry) (left_of tokens.old)) result (left_of tokens.new) }
+        ensures tree { GivesTree (spec.operations_of (reading self.now.room) self.now.room
+            (level_of level) (tree_of first.entry) (left_of tokens.old)) result
+            (left_of tokens.new) }
         ensures height { IfOk result (λ r. r.height ≤ self.now.room) }
     {
         let mut left = first;
@@ -117,7 +124,10 @@ impl<
         requires room { (self.now.room ≤ 1000) × (1 ≤ self.now.room) }
         requires nests { Nests self.now.room (F.pre self.now.inner) (F.post self.now.inner) }
         requires types { NestsTypes self.now.room (G.pre self.now.typed) (G.post self.now.typed) }
-        ensures tree { GivesTree (and_then (spec.cast_of (reading self.now.room) self.now.room (left_of tokens.old)) (spec.climb (reading self.now.room) self.now.room (levels_of levels.now))) result (left_of tokens.new) }
+        ensures tree { GivesTree
+            (and_then (spec.cast_of (reading self.now.room) self.now.room (left_of tokens.old))
+            (spec.climb (reading self.now.room) self.now.room (levels_of levels.now))) result
+            (left_of tokens.new) }
         ensures height { IfOk result (λ r. r.height ≤ self.now.room) }
     {
         let mut left = self.cast(tokens)?;
@@ -137,7 +147,10 @@ impl<
         other: Read<'a>,
     ) -> Result<Read<'a>, Fault>
         requires small { (test.height ≤ 1000) × (chosen.height ≤ 1000) × (other.height ≤ 1000) }
-        ensures { GivesMade (t.Conditional (tree_of test.entry) (tree_of chosen.entry) (tree_of other.entry) (places.to (span_of (tree_of test.entry)) (span_of (tree_of other.entry)))) (max test.entry.height (max chosen.entry.height other.entry.height) + 1) result }
+        ensures { GivesMade (t.Conditional (tree_of test.entry) (tree_of chosen.entry)
+            (tree_of other.entry)
+            (places.to (span_of (tree_of test.entry)) (span_of (tree_of other.entry))))
+            (max test.entry.height (max chosen.entry.height other.entry.height) + 1) result }
     {
         let Read {
             tree: test,
@@ -169,7 +182,8 @@ impl<
         requires room { self.now.room ≤ 1000 }
         requires nests { Nests self.now.room (F.pre self.now.inner) (F.post self.now.inner) }
         requires high { IsHigh test }
-        ensures tree { GivesTree (spec.conditional_of (reading self.now.room) self.now.room (tree_of test.entry) (left_of tokens.old)) result (left_of tokens.new) }
+        ensures tree { GivesTree (spec.conditional_of (reading self.now.room) self.now.room
+            (tree_of test.entry) (left_of tokens.old)) result (left_of tokens.new) }
         ensures height { IfOk result (λ r. r.height ≤ self.now.room) }
     {
         if test.height >= self.room {
@@ -187,7 +201,9 @@ impl<
         requires room { (self.now.room ≤ 1000) × (1 ≤ self.now.room) }
         requires nests { Nests self.now.room (F.pre self.now.inner) (F.post self.now.inner) }
         requires types { NestsTypes self.now.room (G.pre self.now.typed) (G.post self.now.typed) }
-        ensures tree { GivesTree (spec.cond_of (reading self.now.room) self.now.room (left_of tokens.old)) result (left_of tokens.new) }
+        ensures tree { GivesTree
+            (spec.cond_of (reading self.now.room) self.now.room (left_of tokens.old)) result
+            (left_of tokens.new) }
         ensures height { IfOk result (λ r. r.height ≤ self.now.room) }
     {
         let test = self.climb(Level::Or.up_to(), tokens)?;
@@ -206,7 +222,9 @@ impl<
         value: Read<'a>,
     ) -> Result<Read<'a>, Fault>
         requires small { (target.height ≤ 1000) × (value.height ≤ 1000) }
-        ensures { GivesMade (t.Assignment operator (tree_of target.entry) (tree_of value.entry) (places.to (span_of (tree_of target.entry)) (span_of (tree_of value.entry)))) (max target.entry.height value.entry.height + 1) result }
+        ensures { GivesMade (t.Assignment operator (tree_of target.entry) (tree_of value.entry)
+            (places.to (span_of (tree_of target.entry)) (span_of (tree_of value.entry))))
+            (max target.entry.height value.entry.height + 1) result }
     {
         let span = to(target.tree.span(), value.tree.span());
         let height = target.height.max(value.height) + 1;
@@ -231,7 +249,8 @@ impl<
         requires room { self.now.room ≤ 1000 }
         requires nests { Nests self.now.room (F.pre self.now.inner) (F.post self.now.inner) }
         requires high { IsHigh target }
-        ensures tree { GivesTree (spec.assignment_of (reading self.now.room) self.now.room operator (tree_of target.entry) (left_of tokens.old)) result (left_of tokens.new) }
+        ensures tree { GivesTree (spec.assignment_of (reading self.now.room) self.now.room operator
+            (tree_of target.entry) (left_of tokens.old)) result (left_of tokens.new) }
         ensures height { IfOk result (λ r. r.height ≤ self.now.room) }
     {
         if target.height >= self.room {
@@ -247,7 +266,9 @@ impl<
         requires room { (self.now.room ≤ 1000) × (1 ≤ self.now.room) }
         requires nests { Nests self.now.room (F.pre self.now.inner) (F.post self.now.inner) }
         requires types { NestsTypes self.now.room (G.pre self.now.typed) (G.post self.now.typed) }
-        ensures tree { GivesTree (spec.assign_of (reading self.now.room) self.now.room (left_of tokens.old)) result (left_of tokens.new) }
+        ensures tree { GivesTree
+            (spec.assign_of (reading self.now.room) self.now.room (left_of tokens.old)) result
+            (left_of tokens.new) }
         ensures height { IfOk result (λ r. r.height ≤ self.now.room) }
     {
         let target = self.cond(tokens)?;
@@ -260,7 +281,11 @@ impl<
     #[inline(never)]
     fn made_comma(&self, start: Span, all: ReadAll<'a>) -> Result<Read<'a>, Fault>
         requires small { all.height ≤ 1000 }
-        ensures { GivesMade (t.Comma (expressions_from (trees_of all.entry)) (places.to start (places.end_of_expressions start (expressions_from (trees_of all.entry))))) (all.entry.height + 1) result }
+        ensures { GivesMade
+            (t.Comma (expressions_from (trees_of all.entry))
+            (places.to start
+            (places.end_of_expressions start (expressions_from (trees_of all.entry)))))
+            (all.entry.height + 1) result }
     {
         let span = to(start, end_of_expressions(start, &all.trees));
         let tree = Expression::Comma {
@@ -277,7 +302,9 @@ impl<
         requires room { self.now.room ≤ 1000 }
         requires nests { Nests self.now.room (F.pre self.now.inner) (F.post self.now.inner) }
         requires high { IsHigh first }
-        ensures tree { GivesTree (spec.operands_of (reading self.now.room) self.now.room (tree_of first.entry) (left_of tokens.old)) result (left_of tokens.new) }
+        ensures tree { GivesTree
+            (spec.operands_of (reading self.now.room) self.now.room (tree_of first.entry)
+            (left_of tokens.old)) result (left_of tokens.new) }
         ensures height { IfOk result (λ r. r.height ≤ self.now.room) }
     {
         if first.height >= self.room {
@@ -296,7 +323,9 @@ impl<
         requires room { (self.now.room ≤ 1000) × (1 ≤ self.now.room) }
         requires nests { Nests self.now.room (F.pre self.now.inner) (F.post self.now.inner) }
         requires types { NestsTypes self.now.room (G.pre self.now.typed) (G.post self.now.typed) }
-        ensures tree { GivesTree (spec.comma_of (reading self.now.room) self.now.room (left_of tokens.old)) result (left_of tokens.new) }
+        ensures tree { GivesTree
+            (spec.comma_of (reading self.now.room) self.now.room (left_of tokens.old)) result
+            (left_of tokens.new) }
         ensures height { IfOk result (λ r. r.height ≤ self.now.room) }
     {
         let first = self.assign(tokens)?;

@@ -37,7 +37,9 @@ impl<
         requires room { self.now.room ≤ 1000 }
         requires nests { Nests self.now.room (F.pre self.now.inner) (F.post self.now.inner) }
         requires low { tallest.now ≤ self.now.room - 1 }
-        ensures length { GivesPart view.length_of view.high_length (spec.length_of (reading self.now.room) (left_of tokens.old)) result (left_of tokens.new) tallest.old tallest.new }
+        ensures length { GivesPart view.length_of view.high_length
+            (spec.length_of (reading self.now.room) (left_of tokens.old)) result
+            (left_of tokens.new) tallest.old tallest.new }
         ensures low { IfOk result (λ _. tallest.new ≤ self.now.room - 1) }
     {
         tokens.take()?;
@@ -72,7 +74,9 @@ impl<
         requires room { self.now.room ≤ 1000 }
         requires nests { Nests self.now.room (F.pre self.now.inner) (F.post self.now.inner) }
         requires low { tallest.now ≤ self.now.room - 1 }
-        ensures lengths { GivesPart view.all_lengths_of view.high_lengths (spec.lengths_of (reading self.now.room) before (left_of tokens.old)) result (left_of tokens.new) tallest.old tallest.new }
+        ensures lengths { GivesPart view.all_lengths_of view.high_lengths
+            (spec.lengths_of (reading self.now.room) before (left_of tokens.old)) result
+            (left_of tokens.new) tallest.old tallest.new }
         ensures low { IfOk result (λ _. tallest.new ≤ self.now.room - 1) }
     {
         let mut all = Vec::new(self.alloc);
@@ -104,7 +108,10 @@ impl<
         requires nests { Nests self.now.room (F.pre self.now.inner) (F.post self.now.inner) }
         requires low { (tallest.now ≤ self.now.room - 1) × (read.height ≤ self.now.room - 1) }
         requires high { read.height ≡ height_specifiers (specifiers_of read) }
-        ensures parameter { GivesPart parameter_of height_parameter (view.parameter_after (reading self.now.room) start (specifiers_of read.entry) stars (tag_of name.entry) end (left_of tokens.old)) result (left_of tokens.new) tallest.old tallest.new }
+        ensures parameter { GivesPart parameter_of height_parameter
+            (view.parameter_after (reading self.now.room) start (specifiers_of read.entry) stars
+            (tag_of name.entry) end (left_of tokens.old)) result (left_of tokens.new) tallest.old
+            tallest.new }
         ensures low { IfOk result (λ _. tallest.new ≤ self.now.room - 1) }
     {
         let ReadSpecifiers {
@@ -133,7 +140,9 @@ impl<
         requires nests { Nests self.now.room (F.pre self.now.inner) (F.post self.now.inner) }
         requires types { NestsTypes self.now.room (G.pre self.now.typed) (G.post self.now.typed) }
         requires low { tallest.now ≤ self.now.room - 1 }
-        ensures parameter { GivesPart parameter_of height_parameter (spec.parameter_of (reading self.now.room) (left_of tokens.old)) result (left_of tokens.new) tallest.old tallest.new }
+        ensures parameter { GivesPart parameter_of height_parameter
+            (spec.parameter_of (reading self.now.room) (left_of tokens.old)) result
+            (left_of tokens.new) tallest.old tallest.new }
         ensures low { IfOk result (λ _. tallest.new ≤ self.now.room - 1) }
     {
         let start = tokens.first()?;
@@ -165,7 +174,9 @@ impl<
         requires nests { Nests self.now.room (F.pre self.now.inner) (F.post self.now.inner) }
         requires types { NestsTypes self.now.room (G.pre self.now.typed) (G.post self.now.typed) }
         requires low { tallest.now ≤ self.now.room - 1 }
-        ensures parameters { GivesPart view.parameters_of view.high_parameters (listed (λ turns. comma_list turns (spec.parameter_of (reading self.now.room)) []) (left_of tokens.old)) result (left_of tokens.new) tallest.old tallest.new }
+        ensures parameters { GivesPart view.parameters_of view.high_parameters
+            (listed (λ turns. comma_list turns (spec.parameter_of (reading self.now.room)) [])
+            (left_of tokens.old)) result (left_of tokens.new) tallest.old tallest.new }
         ensures low { IfOk result (λ _. tallest.new ≤ self.now.room - 1) }
     {
         let mut all = Vec::new(self.alloc);
@@ -195,7 +206,9 @@ impl<
         requires nests { Nests self.now.room (F.pre self.now.inner) (F.post self.now.inner) }
         requires types { NestsTypes self.now.room (G.pre self.now.typed) (G.post self.now.typed) }
         requires low { tallest.now ≤ self.now.room - 1 }
-        ensures declarator { GivesPart declarator_of height_declarator (view.function_of (reading self.now.room) start stars (name_of name.entry) (left_of tokens.old)) result (left_of tokens.new) tallest.old tallest.new }
+        ensures declarator { GivesPart declarator_of height_declarator
+            (view.function_of (reading self.now.room) start stars (name_of name.entry)
+            (left_of tokens.old)) result (left_of tokens.new) tallest.old tallest.new }
         ensures low { IfOk result (λ _. tallest.new ≤ self.now.room - 1) }
     {
         let open = tokens.expect(b"(")?;
@@ -240,7 +253,9 @@ impl<
         requires nests { Nests self.now.room (F.pre self.now.inner) (F.post self.now.inner) }
         requires types { NestsTypes self.now.room (G.pre self.now.typed) (G.post self.now.typed) }
         requires low { tallest.now ≤ self.now.room - 1 }
-        ensures declarator { GivesPart declarator_of height_declarator (spec.declarator_of (reading self.now.room) (left_of tokens.old)) result (left_of tokens.new) tallest.old tallest.new }
+        ensures declarator { GivesPart declarator_of height_declarator
+            (spec.declarator_of (reading self.now.room) (left_of tokens.old)) result
+            (left_of tokens.new) tallest.old tallest.new }
         ensures low { IfOk result (λ _. tallest.new ≤ self.now.room - 1) }
     {
         let start = tokens.first()?;

@@ -30,8 +30,10 @@ pub fn boxed<'a>(alloc: Global, tree: Expression<'a>, height: u32) -> Result<Rea
 }
 
 /// Where the last of these expressions stands; where there is none, the place before them.
+#[inline(never)]
 pub fn end_of_expressions(before: Span, all: &[Expression<'_>]) -> Span
-    ensures { result ≡ places.end_of_expressions before (expressions_from (map expression_of all.now)) }
+    ensures { result
+        ≡ places.end_of_expressions before (expressions_from (map expression_of all.now)) }
 {
     let mut end = before;
     for one in all {
@@ -41,8 +43,10 @@ pub fn end_of_expressions(before: Span, all: &[Expression<'_>]) -> Span
 }
 
 /// Where the last of these specifiers stands; where there is none, the place before them.
+#[inline(never)]
 pub fn end_of_specifiers(before: Span, all: &[Specifier<'_>]) -> Span
-    ensures { result ≡ places.end_of_specifiers before (specifiers_from (map specifier_of all.now)) }
+    ensures { result
+        ≡ places.end_of_specifiers before (specifiers_from (map specifier_of all.now)) }
 {
     let mut end = before;
     for one in all {

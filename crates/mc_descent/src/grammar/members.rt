@@ -36,7 +36,9 @@ impl<
         requires nests { Nests self.now.room (F.pre self.now.inner) (F.post self.now.inner) }
         requires types { NestsTypes self.now.room (G.pre self.now.typed) (G.post self.now.typed) }
         requires low { tallest.now ≤ self.now.room - 1 }
-        ensures declarators { GivesPart view.declarators_of view.high_declarators (listed (λ turns. comma_list turns (spec.declarator_of (reading self.now.room)) []) (left_of tokens.old)) result (left_of tokens.new) tallest.old tallest.new }
+        ensures declarators { GivesPart view.declarators_of view.high_declarators
+            (listed (λ turns. comma_list turns (spec.declarator_of (reading self.now.room)) [])
+            (left_of tokens.old)) result (left_of tokens.new) tallest.old tallest.new }
         ensures low { IfOk result (λ _. tallest.new ≤ self.now.room - 1) }
     {
         let mut all = Vec::new(self.alloc);
@@ -62,7 +64,9 @@ impl<
         requires nests { Nests self.now.room (F.pre self.now.inner) (F.post self.now.inner) }
         requires types { NestsTypes self.now.room (G.pre self.now.typed) (G.post self.now.typed) }
         requires low { tallest.now ≤ self.now.room - 1 }
-        ensures member { GivesPart member_of height_member (spec.struct_member_of (reading self.now.room) (left_of tokens.old)) result (left_of tokens.new) tallest.old tallest.new }
+        ensures member { GivesPart member_of height_member
+            (spec.struct_member_of (reading self.now.room) (left_of tokens.old)) result
+            (left_of tokens.new) tallest.old tallest.new }
         ensures low { IfOk result (λ _. tallest.new ≤ self.now.room - 1) }
     {
         let start = tokens.first()?;
@@ -91,7 +95,10 @@ impl<
         requires nests { Nests self.now.room (F.pre self.now.inner) (F.post self.now.inner) }
         requires types { NestsTypes self.now.room (G.pre self.now.typed) (G.post self.now.typed) }
         requires low { tallest.now ≤ self.now.room - 1 }
-        ensures members { GivesPart view.members_of view.high_members (listed (λ turns. some_list turns sees_specifiers (spec.struct_member_of (reading self.now.room)) []) (left_of tokens.old)) result (left_of tokens.new) tallest.old tallest.new }
+        ensures members { GivesPart view.members_of view.high_members
+            (listed (λ turns. some_list turns sees_specifiers
+            (spec.struct_member_of (reading self.now.room)) []) (left_of tokens.old)) result
+            (left_of tokens.new) tallest.old tallest.new }
         ensures low { IfOk result (λ _. tallest.new ≤ self.now.room - 1) }
     {
         let mut all = Vec::new(self.alloc);
@@ -115,7 +122,9 @@ impl<
         requires room { self.now.room ≤ 1000 }
         requires nests { Nests self.now.room (F.pre self.now.inner) (F.post self.now.inner) }
         requires low { tallest.now ≤ self.now.room - 1 }
-        ensures enumerator { GivesPart enumerator_of height_enumerator (spec.enumerator_of (reading self.now.room) (left_of tokens.old)) result (left_of tokens.new) tallest.old tallest.new }
+        ensures enumerator { GivesPart enumerator_of height_enumerator
+            (spec.enumerator_of (reading self.now.room) (left_of tokens.old)) result
+            (left_of tokens.new) tallest.old tallest.new }
         ensures low { IfOk result (λ _. tallest.new ≤ self.now.room - 1) }
     {
         let name = identifier(&tokens.expect_name()?);
@@ -142,7 +151,9 @@ impl<
         requires room { self.now.room ≤ 1000 }
         requires nests { Nests self.now.room (F.pre self.now.inner) (F.post self.now.inner) }
         requires low { tallest.now ≤ self.now.room - 1 }
-        ensures enumerators { GivesPart view.enumerators_of view.high_enumerators (listed (λ turns. braced_list turns (spec.enumerator_of (reading self.now.room)) []) (left_of tokens.old)) result (left_of tokens.new) tallest.old tallest.new }
+        ensures enumerators { GivesPart view.enumerators_of view.high_enumerators
+            (listed (λ turns. braced_list turns (spec.enumerator_of (reading self.now.room)) [])
+            (left_of tokens.old)) result (left_of tokens.new) tallest.old tallest.new }
         ensures low { IfOk result (λ _. tallest.new ≤ self.now.room - 1) }
     {
         let mut all = Vec::new(self.alloc);

@@ -28,7 +28,10 @@ impl<
     #[inline(never)]
     fn made_index(&self, array: Read<'a>, index: Read<'a>, close: Span) -> Result<Read<'a>, Fault>
         requires small { (array.height ≤ 1000) × (index.height ≤ 1000) }
-        ensures { GivesMade (t.Index (tree_of array.entry) (tree_of index.entry) (places.to (span_of (tree_of array.entry)) close)) (max array.entry.height index.entry.height + 1) result }
+        ensures { GivesMade
+            (t.Index (tree_of array.entry) (tree_of index.entry)
+            (places.to (span_of (tree_of array.entry)) close))
+            (max array.entry.height index.entry.height + 1) result }
     {
         let Read {
             tree: array,
@@ -49,7 +52,8 @@ impl<
         requires room { (self.now.room ≤ 1000) × (array.height + 1 ≤ self.now.room) }
         requires nests { Nests self.now.room (F.pre self.now.inner) (F.post self.now.inner) }
         requires high { IsHigh array }
-        ensures tree { GivesTree (spec.index_of (reading self.now.room) (tree_of array.entry) (left_of tokens.old)) result (left_of tokens.new) }
+        ensures tree { GivesTree (spec.index_of (reading self.now.room) (tree_of array.entry)
+            (left_of tokens.old)) result (left_of tokens.new) }
         ensures height { IfOk result (λ r. r.height ≤ self.now.room) }
     {
         tokens.take()?;
@@ -63,7 +67,8 @@ impl<
     fn member(&self, object: Read<'a>, tokens: &mut Cursor<'_, 'a>) -> Result<Read<'a>, Fault>
         requires room { (self.now.room ≤ 1000) × (object.height + 1 ≤ self.now.room) }
         requires high { IsHigh object }
-        ensures tree { GivesTree (spec.member_of (tree_of object.entry) (left_of tokens.old)) result (left_of tokens.new) }
+        ensures tree { GivesTree (spec.member_of (tree_of object.entry) (left_of tokens.old)) result
+            (left_of tokens.new) }
         ensures height { IfOk result (λ r. r.height ≤ self.now.room) }
     {
         tokens.take()?;
@@ -88,7 +93,9 @@ impl<
     ) -> Result<Read<'a>, Fault>
         requires room { (self.now.room ≤ 1000) × (operand.height + 1 ≤ self.now.room) }
         requires high { IsHigh operand }
-        ensures tree { GivesTree (spec.stepped (tree_of operand.entry) (Some operator) (left_of tokens.old)) result (left_of tokens.new) }
+        ensures tree { GivesTree
+            (spec.stepped (tree_of operand.entry) (Some operator) (left_of tokens.old)) result
+            (left_of tokens.new) }
         ensures height { IfOk result (λ r. r.height ≤ self.now.room) }
     {
         let last = tokens.take()?;
@@ -103,12 +110,15 @@ impl<
     }
 
     /// One suffix, after its expression.
+    #[inline(never)]
     #[tactic(auto, unfolding(mc_reading::specs::Expressions::suffix_of))]
     fn suffix(&self, base: Read<'a>, tokens: &mut Cursor<'_, 'a>) -> Result<Read<'a>, Fault>
         requires room { self.now.room ≤ 1000 }
         requires nests { Nests self.now.room (F.pre self.now.inner) (F.post self.now.inner) }
         requires high { IsHigh base }
-        ensures tree { GivesTree (spec.suffix_of (reading self.now.room) self.now.room (tree_of base.entry) (left_of tokens.old)) result (left_of tokens.new) }
+        ensures tree { GivesTree
+            (spec.suffix_of (reading self.now.room) self.now.room (tree_of base.entry)
+            (left_of tokens.old)) result (left_of tokens.new) }
         ensures height { IfOk result (λ r. r.height ≤ self.now.room) }
     {
         if base.height >= self.room {
@@ -131,7 +141,9 @@ impl<
     pub fn postfix(&self, tokens: &mut Cursor<'_, 'a>) -> Result<Read<'a>, Fault>
         requires room { (self.now.room ≤ 1000) × (1 ≤ self.now.room) }
         requires nests { Nests self.now.room (F.pre self.now.inner) (F.post self.now.inner) }
-        ensures tree { GivesTree (spec.postfix_of (reading self.now.room) self.now.room (left_of tokens.old)) result (left_of tokens.new) }
+        ensures tree { GivesTree
+            (spec.postfix_of (reading self.now.room) self.now.room (left_of tokens.old)) result
+            (left_of tokens.new) }
         ensures height { IfOk result (λ r. r.height ≤ self.now.room) }
     {
         let mut base = self.primary(tokens)?;

@@ -32,7 +32,8 @@ impl<
     /// Reads an expression of fewer than `room` levels.
     pub fn part(&self, rule: Rule, tokens: &mut Cursor<'_, 'a>) -> Result<Read<'a>, Fault>
         requires nests { Nests self.now.room (F.pre self.now.inner) (F.post self.now.inner) }
-        ensures tree { GivesTree ((reading self.now.room).expression (nonterminal_of rule) (left_of tokens.old)) result (left_of tokens.new) }
+        ensures tree { GivesTree ((reading self.now.room).expression (nonterminal_of rule)
+            (left_of tokens.old)) result (left_of tokens.new) }
         ensures height { IfOk result (λ r. r.height + 1 ≤ self.now.room) }
     {
         (self.inner)(self.alloc, tokens, self.room, rule)
@@ -43,7 +44,9 @@ impl<
     fn parenthesized(&self, tokens: &mut Cursor<'_, 'a>) -> Result<Read<'a>, Fault>
         requires room { self.now.room ≤ 1000 }
         requires nests { Nests self.now.room (F.pre self.now.inner) (F.post self.now.inner) }
-        ensures tree { GivesTree (spec.parenthesized_of (reading self.now.room) (left_of tokens.old)) result (left_of tokens.new) }
+        ensures tree { GivesTree
+            (spec.parenthesized_of (reading self.now.room) (left_of tokens.old)) result
+            (left_of tokens.new) }
         ensures height { IfOk result (λ r. r.height ≤ self.now.room) }
     {
         let open = tokens.take()?;
@@ -75,7 +78,9 @@ impl<
         requires nests { Nests self.now.room (F.pre self.now.inner) (F.post self.now.inner) }
         requires all_high { IsAllHigh before }
         requires low { before.height ≤ self.now.room - 1 }
-        ensures all { GivesAll (spec.expressions_after (reading self.now.room) (trees_of before.entry) (left_of tokens.old)) result (left_of tokens.new) }
+        ensures all { GivesAll
+            (spec.expressions_after (reading self.now.room) (trees_of before.entry)
+            (left_of tokens.old)) result (left_of tokens.new) }
         ensures height { IfOk result (λ r. r.height + 1 ≤ self.now.room) }
     {
         let mut all = before;
@@ -96,7 +101,9 @@ impl<
         requires room { (self.now.room ≤ 1000) × (1 ≤ self.now.room) }
         requires nests { Nests self.now.room (F.pre self.now.inner) (F.post self.now.inner) }
         requires short { IsShort name }
-        ensures tree { GivesTree (spec.arguments_of (reading self.now.room) (lexeme_of (tok_of name.entry)) (left_of tokens.old)) result (left_of tokens.new) }
+        ensures tree { GivesTree
+            (spec.arguments_of (reading self.now.room) (lexeme_of (tok_of name.entry))
+            (left_of tokens.old)) result (left_of tokens.new) }
         ensures height { IfOk result (λ r. r.height ≤ self.now.room) }
     {
         if tokens.sees(b")") {
@@ -118,7 +125,10 @@ impl<
     ) -> Result<Read<'a>, Fault>
         requires short { IsShort name }
         requires small { height ≤ 1000 }
-        ensures { GivesMade (t.Call (name_at (lexeme_of (tok_of name.entry))) (expressions_from (map expression_of arguments.entry.items)) (places.to (at (lexeme_of (tok_of name.entry))) close)) (height + 1) result }
+        ensures { GivesMade
+            (t.Call (name_at (lexeme_of (tok_of name.entry)))
+            (expressions_from (map expression_of arguments.entry.items))
+            (places.to (at (lexeme_of (tok_of name.entry))) close)) (height + 1) result }
     {
         let name = identifier(&name);
         let span = to(name.span, close);
@@ -136,7 +146,8 @@ impl<
     fn named(&self, tokens: &mut Cursor<'_, 'a>) -> Result<Read<'a>, Fault>
         requires room { (self.now.room ≤ 1000) × (1 ≤ self.now.room) }
         requires nests { Nests self.now.room (F.pre self.now.inner) (F.post self.now.inner) }
-        ensures tree { GivesTree (spec.named_of (reading self.now.room) (left_of tokens.old)) result (left_of tokens.new) }
+        ensures tree { GivesTree (spec.named_of (reading self.now.room) (left_of tokens.old)) result
+            (left_of tokens.new) }
         ensures height { IfOk result (λ r. r.height ≤ self.now.room) }
     {
         let name = tokens.take()?;
@@ -155,7 +166,8 @@ impl<
     pub fn primary(&self, tokens: &mut Cursor<'_, 'a>) -> Result<Read<'a>, Fault>
         requires room { (self.now.room ≤ 1000) × (1 ≤ self.now.room) }
         requires nests { Nests self.now.room (F.pre self.now.inner) (F.post self.now.inner) }
-        ensures tree { GivesTree (spec.primary_of (reading self.now.room) (left_of tokens.old)) result (left_of tokens.new) }
+        ensures tree { GivesTree (spec.primary_of (reading self.now.room) (left_of tokens.old))
+            result (left_of tokens.new) }
         ensures height { IfOk result (λ r. r.height ≤ self.now.room) }
     {
         match tokens.kind() {

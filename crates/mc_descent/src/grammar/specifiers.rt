@@ -60,7 +60,10 @@ impl<
         requires types { NestsTypes self.now.room (G.pre self.now.typed) (G.post self.now.typed) }
         requires low { tallest.now ≤ self.now.room }
         requires short { IsShort first }
-        ensures specifier { GivesPart specifier_of height_specifier (spec.structure_list (reading self.now.room) self.now.room (lexeme_of (tok_of first.entry)) (tag_of tag.entry) (left_of tokens.old)) result (left_of tokens.new) tallest.old tallest.new }
+        ensures specifier { GivesPart specifier_of height_specifier
+            (spec.structure_list (reading self.now.room) self.now.room
+            (lexeme_of (tok_of first.entry)) (tag_of tag.entry) (left_of tokens.old)) result
+            (left_of tokens.new) tallest.old tallest.new }
         ensures low { IfOk result (λ _. tallest.new ≤ self.now.room) }
     {
         if self.room == 0 {
@@ -89,7 +92,9 @@ impl<
         requires nests { Nests self.now.room (F.pre self.now.inner) (F.post self.now.inner) }
         requires types { NestsTypes self.now.room (G.pre self.now.typed) (G.post self.now.typed) }
         requires low { tallest.now ≤ self.now.room }
-        ensures specifier { GivesPart specifier_of height_specifier (spec.structure_of (reading self.now.room) self.now.room (left_of tokens.old)) result (left_of tokens.new) tallest.old tallest.new }
+        ensures specifier { GivesPart specifier_of height_specifier
+            (spec.structure_of (reading self.now.room) self.now.room (left_of tokens.old)) result
+            (left_of tokens.new) tallest.old tallest.new }
         ensures low { IfOk result (λ _. tallest.new ≤ self.now.room) }
     {
         let first = tokens.take()?;
@@ -119,7 +124,10 @@ impl<
         requires nests { Nests self.now.room (F.pre self.now.inner) (F.post self.now.inner) }
         requires low { tallest.now ≤ self.now.room }
         requires short { IsShort first }
-        ensures specifier { GivesPart specifier_of height_specifier (spec.enumeration_list (reading self.now.room) self.now.room (lexeme_of (tok_of first.entry)) (tag_of tag.entry) (left_of tokens.old)) result (left_of tokens.new) tallest.old tallest.new }
+        ensures specifier { GivesPart specifier_of height_specifier
+            (spec.enumeration_list (reading self.now.room) self.now.room
+            (lexeme_of (tok_of first.entry)) (tag_of tag.entry) (left_of tokens.old)) result
+            (left_of tokens.new) tallest.old tallest.new }
         ensures low { IfOk result (λ _. tallest.new ≤ self.now.room) }
     {
         if self.room == 0 {
@@ -147,7 +155,9 @@ impl<
         requires room { self.now.room ≤ 1000 }
         requires nests { Nests self.now.room (F.pre self.now.inner) (F.post self.now.inner) }
         requires low { tallest.now ≤ self.now.room }
-        ensures specifier { GivesPart specifier_of height_specifier (spec.enumeration_of (reading self.now.room) self.now.room (left_of tokens.old)) result (left_of tokens.new) tallest.old tallest.new }
+        ensures specifier { GivesPart specifier_of height_specifier
+            (spec.enumeration_of (reading self.now.room) self.now.room (left_of tokens.old)) result
+            (left_of tokens.new) tallest.old tallest.new }
         ensures low { IfOk result (λ _. tallest.new ≤ self.now.room) }
     {
         let first = tokens.take()?;
@@ -175,7 +185,9 @@ impl<
         requires nests { Nests self.now.room (F.pre self.now.inner) (F.post self.now.inner) }
         requires types { NestsTypes self.now.room (G.pre self.now.typed) (G.post self.now.typed) }
         requires low { tallest.now ≤ self.now.room }
-        ensures specifier { GivesPart specifier_of height_specifier (spec.specifier_of (reading self.now.room) self.now.room (left_of tokens.old)) result (left_of tokens.new) tallest.old tallest.new }
+        ensures specifier { GivesPart specifier_of height_specifier
+            (spec.specifier_of (reading self.now.room) self.now.room (left_of tokens.old)) result
+            (left_of tokens.new) tallest.old tallest.new }
         ensures low { IfOk result (λ _. tallest.new ≤ self.now.room) }
     {
         if let Some(word) = tokens.specifier_word() {
@@ -199,7 +211,8 @@ impl<
         requires room { self.now.room ≤ 1000 }
         requires nests { Nests self.now.room (F.pre self.now.inner) (F.post self.now.inner) }
         requires types { NestsTypes self.now.room (G.pre self.now.typed) (G.post self.now.typed) }
-        ensures specifiers { GivesList (all_specifiers_of (reading self.now.room) self.now.room (left_of tokens.old)) result (left_of tokens.new) }
+        ensures specifiers { GivesList (all_specifiers_of (reading self.now.room) self.now.room
+            (left_of tokens.old)) result (left_of tokens.new) }
         ensures height { IfOk result (λ r. r.height ≤ self.now.room) }
     {
         let mut all = Vec::new(self.alloc);
@@ -226,7 +239,9 @@ impl<
         requires room { self.now.room ≤ 1000 }
         requires nests { Nests self.now.room (F.pre self.now.inner) (F.post self.now.inner) }
         requires types { NestsTypes self.now.room (G.pre self.now.typed) (G.post self.now.typed) }
-        ensures specifiers { GivesSpecifiers (spec.specifiers_of (reading self.now.room) self.now.room (test_of allowed) (left_of tokens.old)) result (left_of tokens.new) }
+        ensures specifiers { GivesSpecifiers
+            (spec.specifiers_of (reading self.now.room) self.now.room (test_of allowed)
+            (left_of tokens.old)) result (left_of tokens.new) }
         ensures height { IfOk result (λ r. r.height ≤ self.now.room) }
     {
         let before = tokens.rest;

@@ -20,9 +20,11 @@ use mc_tree::{Expression, StepOperator, UnaryOperator};
 use std::alloc::Global;
 
 /// The `*` after a token at this place.
+#[inline(never)]
 #[tactic(auto, using(crate::proofs::Turns::stars_steps))]
 pub fn stars(before: Span, tokens: &mut Cursor<'_, '_>) -> Result<ReadStars, Fault>
-    ensures { Gives stars_of (spec.stars_of before (left_of tokens.old)) result (left_of tokens.new) }
+    ensures { Gives stars_of (spec.stars_of before (left_of tokens.old)) result
+        (left_of tokens.new) }
 {
     let mut count = 0u32;
     let mut end = before;
@@ -44,7 +46,9 @@ impl<
     /// Reads the specifiers of a type, of fewer than `room` levels.
     pub fn types(&self, tokens: &mut Cursor<'_, 'a>) -> Result<ReadSpecifiers<'a>, Fault>
         requires types { NestsTypes self.now.room (G.pre self.now.typed) (G.post self.now.typed) }
-        ensures specifiers { GivesSpecifiers ((reading self.now.room).specifiers for_type (left_of tokens.old)) result (left_of tokens.new) }
+        ensures specifiers { GivesSpecifiers
+            ((reading self.now.room).specifiers for_type (left_of tokens.old)) result
+            (left_of tokens.new) }
         ensures height { IfOk result (λ r. r.height + 1 ≤ self.now.room) }
     {
         (self.typed)(self.alloc, tokens, self.room)
@@ -54,7 +58,8 @@ impl<
     #[tactic(auto, unfolding(mc_reading::specs::Expressions::type_name_of))]
     fn type_name(&self, tokens: &mut Cursor<'_, 'a>) -> Result<ReadType<'a>, Fault>
         requires types { NestsTypes self.now.room (G.pre self.now.typed) (G.post self.now.typed) }
-        ensures name { GivesType (spec.type_name_of (reading self.now.room) (left_of tokens.old)) result (left_of tokens.new) }
+        ensures name { GivesType (spec.type_name_of (reading self.now.room) (left_of tokens.old))
+            result (left_of tokens.new) }
         ensures height { IfOk result (λ r. r.height + 1 ≤ self.now.room) }
     {
         let start = tokens.first()?;
@@ -77,7 +82,10 @@ impl<
         operand: Read<'a>,
     ) -> Result<Read<'a>, Fault>
         requires small { (name.height ≤ 1000) × (operand.height ≤ 1000) }
-        ensures { GivesMade (t.Cast (type_of name.entry) (tree_of operand.entry) (places.to first (span_of (tree_of operand.entry)))) (max name.entry.height operand.entry.height + 1) result }
+        ensures { GivesMade
+            (t.Cast (type_of name.entry) (tree_of operand.entry)
+            (places.to first (span_of (tree_of operand.entry))))
+            (max name.entry.height operand.entry.height + 1) result }
     {
         let ReadType {
             all: specifiers,
@@ -107,7 +115,8 @@ impl<
         requires room { self.now.room ≤ 1000 }
         requires nests { Nests self.now.room (F.pre self.now.inner) (F.post self.now.inner) }
         requires types { NestsTypes self.now.room (G.pre self.now.typed) (G.post self.now.typed) }
-        ensures tree { GivesTree (spec.cast_to_of (reading self.now.room) (left_of tokens.old)) result (left_of tokens.new) }
+        ensures tree { GivesTree (spec.cast_to_of (reading self.now.room) (left_of tokens.old))
+            result (left_of tokens.new) }
         ensures height { IfOk result (λ r. r.height ≤ self.now.room) }
     {
         let open = tokens.take()?;
@@ -126,7 +135,9 @@ impl<
     ) -> Result<Read<'a>, Fault>
         requires room { self.now.room ≤ 1000 }
         requires nests { Nests self.now.room (F.pre self.now.inner) (F.post self.now.inner) }
-        ensures tree { GivesTree (spec.prefixed (reading self.now.room) self.now.room (Some operator) (left_of tokens.old)) result (left_of tokens.new) }
+        ensures tree { GivesTree
+            (spec.prefixed (reading self.now.room) self.now.room (Some operator)
+            (left_of tokens.old)) result (left_of tokens.new) }
         ensures height { IfOk result (λ r. r.height ≤ self.now.room) }
     {
         let first = tokens.take()?;
@@ -152,7 +163,9 @@ impl<
     ) -> Result<Read<'a>, Fault>
         requires room { self.now.room ≤ 1000 }
         requires nests { Nests self.now.room (F.pre self.now.inner) (F.post self.now.inner) }
-        ensures tree { GivesTree (spec.operated (reading self.now.room) self.now.room (Some operator) (left_of tokens.old)) result (left_of tokens.new) }
+        ensures tree { GivesTree
+            (spec.operated (reading self.now.room) self.now.room (Some operator)
+            (left_of tokens.old)) result (left_of tokens.new) }
         ensures height { IfOk result (λ r. r.height ≤ self.now.room) }
     {
         let first = tokens.take()?;
@@ -173,7 +186,9 @@ impl<
     pub fn unary(&self, tokens: &mut Cursor<'_, 'a>) -> Result<Read<'a>, Fault>
         requires room { (self.now.room ≤ 1000) × (1 ≤ self.now.room) }
         requires nests { Nests self.now.room (F.pre self.now.inner) (F.post self.now.inner) }
-        ensures tree { GivesTree (spec.unary_of (reading self.now.room) self.now.room (left_of tokens.old)) result (left_of tokens.new) }
+        ensures tree { GivesTree
+            (spec.unary_of (reading self.now.room) self.now.room (left_of tokens.old)) result
+            (left_of tokens.new) }
         ensures height { IfOk result (λ r. r.height ≤ self.now.room) }
     {
         if let Some(operator) = tokens.step() {
@@ -190,7 +205,9 @@ impl<
         requires room { (self.now.room ≤ 1000) × (1 ≤ self.now.room) }
         requires nests { Nests self.now.room (F.pre self.now.inner) (F.post self.now.inner) }
         requires types { NestsTypes self.now.room (G.pre self.now.typed) (G.post self.now.typed) }
-        ensures tree { GivesTree (spec.cast_of (reading self.now.room) self.now.room (left_of tokens.old)) result (left_of tokens.new) }
+        ensures tree { GivesTree
+            (spec.cast_of (reading self.now.room) self.now.room (left_of tokens.old)) result
+            (left_of tokens.new) }
         ensures height { IfOk result (λ r. r.height ≤ self.now.room) }
     {
         if tokens.sees_cast() {

@@ -1,0 +1,40 @@
+//! Each rule by its name: the one call of the recursion, so that its proof has one contract to see.
+ghost use Rattle.std.specs.Prelude.{◌≤◌, IfOk};
+ghost use Rattle.mc_reading.specs.Expressions as spec;
+ghost use Rattle.mc_reading.specs.Rooms.{reading};
+ghost use Rattle.mc_descent.specs.Cursors.{left_of};
+ghost use Rattle.mc_descent.specs.Given.{GivesTree, Nests, NestsTypes};
+ghost use Rattle.mc_descent.specs.Rules.{nonterminal_of};
+
+use crate::cursor::Cursor;
+use crate::fault::Fault;
+use crate::grammar::Grammar;
+use crate::read::{Read, ReadSpecifiers};
+use crate::rule::Rule;
+use std::alloc::Global;
+
+impl<
+    'a,
+    F: Fn(Global, &mut Cursor<'_, 'a>, u32, Rule) -> Result<Read<'a>, Fault>,
+    G: Fn(Global, &mut Cursor<'_, 'a>, u32) -> Result<ReadSpecifiers<'a>, Fault>,
+> Grammar<F, G> {
+    /// Reads an expression by this rule.
+    #[tactic(auto, using(crate::proofs::Rooms::operand_at))]
+    pub fn by_rule(&self, tokens: &mut Cursor<'_, 'a>, rule: Rule) -> Result<Read<'a>, Fault>
+        requires room { (self.now.room ≤ 1000) × (1 ≤ self.now.room) }
+        requires nests { Nests self.now.room (F.pre self.now.inner) (F.post self.now.inner) }
+        requires types { NestsTypes self.now.room (G.pre self.now.typed) (G.post self.now.typed) }
+        ensures tree { GivesTree (spec.expression_by (reading self.now.room) self.now.room
+            (nonterminal_of rule) (left_of tokens.old)) result (left_of tokens.new) }
+        ensures height { IfOk result (λ r. r.height ≤ self.now.room) }
+    {
+        match rule {
+            Rule::Comma => self.comma(tokens),
+            Rule::Assign => self.assign(tokens),
+            Rule::Cond => self.cond(tokens),
+            Rule::Unary => self.unary(tokens),
+            Rule::Cast => self.cast(tokens),
+            Rule::Operand(level) => self.climb(level.below(), tokens),
+        }
+    }
+}

@@ -1,0 +1,117 @@
+//! External declarations, and a whole source (C17 6.9).
+ghost use Rattle.std.specs.Prelude.{◌≡◌, ◌≤◌, ◌∷◌, ◌++◌, [], IfOk};
+ghost use Rattle.mc_tree.specs.Tree as t;
+ghost use Rattle.mc_tree.specs.Units.{block_from, item_of, items_of};
+ghost use Rattle.mc_tree.specs.Views.{declarator_of};
+ghost use Rattle.mc_grammar.specs.Places as places;
+ghost use Rattle.mc_reading.specs.Items as spec;
+ghost use Rattle.mc_descent.specs.Cursors.{Gives, left_of};
+ghost use Rattle.mc_descent.specs.Heads.{words_of};
+ghost use Rattle.mc_parse.specs.steps.Made.{block_of};
+
+use crate::statements::blocks::{Block, compound};
+use mc_descent::allowed::{Allowed, is_typedef};
+use mc_descent::cursor::Cursor;
+use mc_descent::declarations::{Head, declared, undeclared};
+use mc_descent::fault::Fault;
+use mc_descent::knot::{declarator, specifiers};
+use mc_descent::to;
+use mc_tree::{Declarator, Item};
+use std::alloc::{AllocError, Global};
+
+fn is_function(declarator: &Declarator<'_>) -> bool
+    ensures { result ≡ spec.is_function (declarator_of declarator.now) }
+{
+    !matches!(declarator, Declarator::Object { .. })
+}
+
+fn definition<'a>(head: Head<'a>, declarator: Declarator<'a>, block: Block<'a>) -> Item<'a>
+    ensures { item_of result ≡ t.Defined (words_of head.entry) (declarator_of declarator.entry)
+        (block_from (block_of block.entry).items) (places.to head.entry.start block.entry.span) }
+{
+    let Head { start, specifiers } = head;
+    let Block { items: body, span } = block;
+    Item::Defined {
+        specifiers,
+        declarator,
+        body,
+        span: to(start, span),
+    }
+}
+
+/// The body of a function, whose declarator is read.
+#[inline(never)]
+#[tactic(auto, using(crate::proofs::Levels::body_steps), unfolding(mc_reading::specs::Items::defined_of))]
+fn defined<'a>(
+    alloc: Global,
+    room: u32,
+    head: Head<'a>,
+    declarator: Declarator<'a>,
+    tokens: &mut Cursor<'_, 'a>,
+) -> Result<Item<'a>, Fault>
+    requires { room ≤ 1000 }
+    ensures { Gives item_of (spec.defined_of room head.entry.start (words_of head.entry)
+        (declarator_of declarator.entry) (left_of tokens.old)) result (left_of tokens.new) }
+{
+    if room < 2 {
+        return Err(Fault::Syntax);
+    }
+    if !is_function(&declarator) || !Allowed::Function.allows(&head.specifiers) {
+        return Err(Fault::Syntax);
+    }
+    let block = compound(alloc, tokens, room - 1)?;
+    Ok(definition(head, declarator, block))
+}
+
+/// Reads an external declaration of fewer than `room` levels.
+#[inline(never)]
+#[tactic(auto, unfolding(mc_reading::specs::Items::item_of))]
+fn item<'a>(alloc: Global, room: u32, tokens: &mut Cursor<'_, 'a>) -> Result<Item<'a>, Fault>
+    requires { room ≤ 1000 }
+    ensures { Gives item_of (spec.item_of room (left_of tokens.old)) result (left_of tokens.new) }
+{
+    let start = tokens.first()?;
+    let specifiers = specifiers(alloc, tokens, room, Allowed::Item)?;
+    let typedef = is_typedef(&specifiers);
+    let head = Head { start, specifiers };
+    if tokens.sees(b";") {
+        let declaration = undeclared(alloc, head, tokens)?;
+        return Ok(Item::Declared { declaration });
+    }
+    let declarator = declarator(alloc, tokens, room)?;
+    if tokens.sees(b"{") {
+        return defined(alloc, room, head, declarator, tokens);
+    }
+    let declaration = declared(alloc, typedef, room, head, declarator, tokens)?;
+    Ok(Item::Declared { declaration })
+}
+
+#[tactic(auto, using(crate::proofs::Lists::map_push))]
+fn push<'a>(all: &mut Vec<Item<'a>>, one: Item<'a>) -> Result<(), AllocError>
+    ensures { IfOk result (λ _. items_of all.new.items ≡ items_of all.old.items ++ item_of one.entry
+        ∷ []) }
+{
+    Ok(all.push(one)?)
+}
+
+/// Reads external declarations of fewer than `room` levels, up to the end.
+#[tactic(auto, using(crate::proofs::Lists::until_steps), unfolding(mc_reading::specs::Items::unit_of))]
+pub fn items<'a>(
+    alloc: Global,
+    room: u32,
+    tokens: &mut Cursor<'_, 'a>,
+) -> Result<Vec<Item<'a>>, Fault>
+    requires { room ≤ 1000 }
+    ensures { Gives (λ all. items_of all.items) (spec.unit_of room (left_of tokens.old)) result
+        (left_of tokens.new) }
+{
+    let mut all = Vec::new(alloc);
+    for _turn in 0..tokens.turns() {
+        if tokens.is_at_end() {
+            return Ok(all);
+        }
+        let one = item(alloc, room, tokens)?;
+        push(&mut all, one)?;
+    }
+    Err(Fault::Syntax)
+}

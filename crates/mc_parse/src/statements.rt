@@ -1,0 +1,93 @@
+//! Statements (C17 6.8): a statement is read by its front, the statements that are its parts, and
+//! its end, so that few functions call one another.
+ghost use Rattle.std.specs.Prelude.{◌≤◌};
+ghost use Rattle.mc_reading.specs.Statements as spec;
+ghost use Rattle.mc_descent.specs.Cursors.{Gives, left_of};
+ghost use Rattle.mc_parse.specs.steps.Fronts as fronts;
+ghost use Rattle.mc_parse.specs.steps.Made.{body_of, value_of};
+
+pub mod blocks;
+mod ends;
+mod front;
+mod jumps;
+mod makers;
+mod parts;
+
+use crate::statements::blocks::compound;
+use crate::statements::ends::end;
+use crate::statements::front::{Front, read_front};
+use crate::statements::makers::{compound_statement, if_else, if_only};
+use mc_descent::cursor::Cursor;
+use mc_descent::fault::Fault;
+use mc_span::Span;
+use mc_tree::{Expression, Statement};
+use std::alloc::Global;
+
+/// Reads a statement of fewer than `room` levels.
+#[cycle(statements)]
+#[tactic(auto, using(crate::proofs::Levels::statement_steps))]
+pub fn statement<'a>(
+    alloc: Global,
+    tokens: &mut Cursor<'_, 'a>,
+    room: u32,
+) -> Result<Box<Statement<'a>>, Fault>
+    requires { room ≤ 1000 }
+    ensures { Gives body_of (spec.statement_of room (left_of tokens.old)) result
+        (left_of tokens.new) }
+{
+    if room < 2 {
+        return Err(Fault::Syntax);
+    }
+    if tokens.sees(b"{") {
+        let block = compound(alloc, tokens, room - 1)?;
+        return compound_statement(alloc, block);
+    }
+    other_than_block(alloc, tokens, room - 1)
+}
+
+/// Reads a statement that is not a block, whose parts have fewer than `room` levels. It stands apart
+/// from `statement`, so that its front takes no room of the stack where blocks nest.
+#[cycle(statements)]
+#[inline(never)]
+fn other_than_block<'a>(
+    alloc: Global,
+    tokens: &mut Cursor<'_, 'a>,
+    room: u32,
+) -> Result<Box<Statement<'a>>, Fault>
+    requires { room ≤ 1000 }
+    ensures { Gives body_of (fronts.other_of room (spec.statement_of room) (left_of tokens.old))
+        result (left_of tokens.new) }
+{
+    match read_front(alloc, tokens, room)? {
+        Front::Whole { statement: whole } => Ok(whole),
+        Front::If { first, test } => choice(alloc, tokens, room, first, test),
+        Front::Part { opening } => {
+            let body = statement(alloc, tokens, room)?;
+            end(alloc, tokens, room, opening, body)
+        }
+    }
+}
+
+/// The statements of an `if`; an `else` after the first belongs to it.
+#[cycle(statements)]
+#[inline(never)]
+#[tactic(auto, unfolding(crate::specs::steps::Fronts::choice_of))]
+fn choice<'a>(
+    alloc: Global,
+    tokens: &mut Cursor<'_, 'a>,
+    room: u32,
+    first: Span,
+    test: Box<Expression<'a>>,
+) -> Result<Box<Statement<'a>>, Fault>
+    requires { room ≤ 1000 }
+    ensures { Gives body_of (fronts.choice_of (spec.statement_of room) first (value_of test.entry)
+        (left_of tokens.old)) result (left_of tokens.new) }
+{
+    let chosen = statement(alloc, tokens, room)?;
+    if !tokens.sees_keyword(b"else") {
+        return if_only(alloc, first, test, chosen);
+    }
+    tokens.take()?;
+    let other = statement(alloc, tokens, room)?;
+    if_else(alloc, first, test, chosen, other)
+}

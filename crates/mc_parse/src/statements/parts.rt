@@ -1,0 +1,66 @@
+//! Expressions in statements.
+ghost use Rattle.std.specs.Prelude.{◌≤◌};
+ghost use Rattle.mc_reading.specs.Rooms.{reading};
+ghost use Rattle.mc_reading.specs.Statements as spec;
+ghost use Rattle.mc_descent.specs.Cursors.{Gives, left_of};
+ghost use Rattle.mc_parse.specs.steps.Made.{option_of, value_of};
+ghost use Rattle.mc_descent.specs.Rules.{nonterminal_of};
+
+use mc_descent::cursor::Cursor;
+use mc_descent::fault::Fault;
+use mc_descent::knot::expression;
+use mc_descent::read::Read;
+use mc_descent::rule::Rule;
+use mc_tree::Expression;
+use std::alloc::Global;
+
+/// Reads an expression of fewer than `room` levels.
+pub fn value<'a>(
+    alloc: Global,
+    tokens: &mut Cursor<'_, 'a>,
+    room: u32,
+    rule: Rule,
+) -> Result<Box<Expression<'a>>, Fault>
+    requires { room ≤ 1000 }
+    ensures { Gives value_of ((reading room).expression (nonterminal_of rule) (left_of tokens.old))
+        result (left_of tokens.new) }
+{
+    let Read { tree, .. } = expression(alloc, tokens, room, rule)?;
+    Ok(tree)
+}
+
+/// Reads an expression that may be left out before this punctuator.
+#[tactic(auto, unfolding(mc_reading::specs::Statements::optional_of))]
+pub fn optional<'a>(
+    alloc: Global,
+    tokens: &mut Cursor<'_, 'a>,
+    room: u32,
+    stop: &[u8],
+) -> Result<Option<Box<Expression<'a>>>, Fault>
+    requires { room ≤ 1000 }
+    ensures { Gives option_of (spec.optional_of stop.now (reading room) (left_of tokens.old)) result
+        (left_of tokens.new) }
+{
+    if tokens.sees(stop) {
+        return Ok(None);
+    }
+    let value = value(alloc, tokens, room, Rule::Comma)?;
+    Ok(Some(value))
+}
+
+/// Reads an expression between parentheses.
+#[tactic(auto, unfolding(mc_reading::specs::Statements::test_of))]
+pub fn test<'a>(
+    alloc: Global,
+    tokens: &mut Cursor<'_, 'a>,
+    room: u32,
+) -> Result<Box<Expression<'a>>, Fault>
+    requires { room ≤ 1000 }
+    ensures { Gives value_of (spec.test_of (reading room) (left_of tokens.old)) result
+        (left_of tokens.new) }
+{
+    tokens.expect(b"(")?;
+    let value = value(alloc, tokens, room, Rule::Comma)?;
+    tokens.expect(b")")?;
+    Ok(value)
+}
