@@ -1,11 +1,10 @@
 -- The reading of a tests file finds its tests exactly where it has some.
-use Rattle.std.proofs.Common.{◌≡◌, ◌∙◌, ◌≤◌, ℕ, List, [], ◌∷◌, ◌++◌, length, map, take, drop, get_or, Option, Some, None, option_map, Bool, true, false, not, ◌&&◌, ◌||◌, ◌==◌, refl, sym, ap, subst, arith, if◌then◌else◌, nat_le, append_assoc, codes, ℤ}
+use Rattle.std.proofs.Common.{◌≡◌, ◌∙◌, ◌≤◌, ℕ, List, [], ◌∷◌, ◌++◌, length, Option, Some, None, option_map, Bool, true, false, not, ◌&&◌, ◌||◌, ◌==◌, refl, sym, ap, subst, arith, if◌then◌else◌, nat_le, append_assoc, codes, ℤ}
 use Rattle.std.specs.List.{list_any, IsDistinct, AllByRecursion}
 use Rattle.std.specs.Str.{bytes_eq}
 use Rattle.std.proofs.lemmas.Bool.{false≢true, eqb-true}
 use Rattle.std.proofs.lemmas.Bool.Decides.{Decides-eqb, nat_tests}
 use Rattle.std.proofs.lemmas.Slice.Eq.{bytes_eq-Decides}
-use Rattle.std.proofs.lemmas.List.{take_all}
 use Rattle.mc_rows.specs.Rows.{Fields, field_or_empty}
 use Rattle.mc_first.specs.Numbers.{int_of, pieces_of, AreInts, and_int, ints_of}
 use Rattle.mc_first.specs.TestsFile.{PlainTest, is_test_name, header, IsTest, AreTests, names_of, IsTestsFile, IsReading}

@@ -3,7 +3,7 @@ use Rattle.std.proofs.Common.{◌≡◌, ◌∙◌, ℕ, zero, suc, List, [], �
 use Rattle.std.specs.List.{flat_map}
 use Rattle.std.proofs.lemmas.Bool.{cases_Bool}
 use Rattle.std.proofs.lemmas.List.{append-nil}
-use Rattle.mc_first.specs.Evaluation.{Answer}
+use Rattle.mc_cond.specs.Order.{Answer}
 use Rattle.mc_first.specs.Vectors.{Evaluation, all_answers, same_answer, same_answers, first_with, listed, vectors_of}
 use Rattle.mc_first.specs.Loops.Members.{Member, if_next, starting, first_ended, sorted, members_of}
 

@@ -1,8 +1,9 @@
 -- What an expression of the first form evaluates to, and the vector of its decision.
-use Rattle.std.specs.Prelude.{ℕ, Bool, not, ◌&&◌, ◌||◌, List, [], ◌∷◌, ◌++◌, Option, Some, None, if◌then◌else◌, ℤ, pos, int_lt}
+use Rattle.std.specs.Prelude.{ℕ, Bool, not, ◌&&◌, ◌||◌, List, [], ◌∷◌, ◌++◌, Some, None, if◌then◌else◌, ℤ, pos, int_lt}
 use Rattle.std.specs.Str.{bytes_eq}
 use Rattle.std.specs.Ordering.{int_eq}
-use Rattle.mc_tree.specs.First.{Tree, Parameter, Number, Less, Equal, Not, And, Or}
+use Rattle.mc_cond.specs.Order.{Answer}
+use Rattle.mc_first.specs.Boolean.{Tree, Parameter, Number, Less, Equal, Not, And, Or}
 
 -- the argument of the parameter of that name
 abbrev pub argument_of : List (List ℕ) → List ℤ → List ℕ → ℤ
@@ -29,10 +30,6 @@ module _ (names : List (List ℕ)) (arguments : List ℤ) where
   value_of (And a b) = int_of_bool (is_nonzero (value_of a) && is_nonzero (value_of b))
   value_of (Or a b) = int_of_bool (is_nonzero (value_of a) || is_nonzero (value_of b))
 
--- what an evaluation says of a condition: true, false or not evaluated
-abbrev pub Answer : Type 0
-Answer = Option Bool
-
 -- the answers of the conditions of an operand that is not evaluated
 abbrev pub not_evaluated : Tree → List Answer
 not_evaluated (Parameter name) = None ∷ []
@@ -47,9 +44,9 @@ module _ (names : List (List ℕ)) (arguments : List ℤ) where
   abbrev pub holds : Tree → Bool
   holds tree = is_nonzero (value_of names arguments tree)
 
-  -- what the evaluation says of each condition, in the order of the text: the second operand of `&&`
-  -- is evaluated exactly where the first compares unequal to 0 (C17 6.5.13), that of `||` exactly
-  -- where it compares equal (6.5.14)
+  -- what the evaluation says of each condition, in the order of the text: the second operand of
+  -- `&&` is evaluated exactly where the first compares unequal to 0 (C17 6.5.13), that of `||`
+  -- exactly where it compares equal (6.5.14)
   abbrev pub answers_of : Tree → List Answer
   answers_of (Parameter name) = Some (holds (Parameter name)) ∷ []
   answers_of (Number n) = Some (holds (Number n)) ∷ []

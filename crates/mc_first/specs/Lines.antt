@@ -2,9 +2,10 @@
 use Rattle.std.specs.Prelude.{ℕ, Bool, true, false, List, [], ◌∷◌, ◌++◌, map, Some, None, codes}
 use Rattle.std.specs.List.{concat}
 use Rattle.std.specs.Fmt.{signed_decimal}
-use Rattle.mc_tree.specs.First.{conditions}
-use Rattle.mc_parse.specs.Form.{Form}
-use Rattle.mc_first.specs.Evaluation.{Answer, is_nonzero, value_of, answers_of}
+use Rattle.mc_first.specs.Boolean.{conditions}
+use Rattle.mc_first.specs.Form.{Form}
+use Rattle.mc_cond.specs.Order.{Answer}
+use Rattle.mc_first.specs.Evaluation.{is_nonzero, value_of, answers_of}
 use Rattle.mc_first.specs.TestsFile.{PlainTest}
 use Rattle.mc_first.specs.Vectors.{Evaluation, vectors_of}
 
@@ -23,7 +24,8 @@ answer_byte None = 45
 -- the result of the one call of a test
 abbrev pub test_line : Evaluation → List ℕ
 test_line e =
-    concat (codes "test " ∷ e.name ∷ codes " pass values " ∷ signed_decimal e.value ∷ codes " output"
+    concat (codes "test " ∷ e.name ∷ codes " pass values " ∷ signed_decimal e.value
+    ∷ codes " output"
     ∷ newline ∷ [])
 
 -- the vector of the one decision, whose outcome is whether the value compares unequal to 0

@@ -1,12 +1,13 @@
 -- What clauses see of functions, tests, evaluations and lines.
-use Rattle.std.specs.Prelude.{ℕ, Bool, List, map, Option, option_map, Vec}
+use Rattle.std.specs.Prelude.{ℕ, Bool, List, map, Vec, Box, Option, option_map}
 use Rattle.std.specs.declared.alloc.Global.{Global}
 use Rattle.std.specs.BTreeSet.{BTreeSet, contains_by}
 use Rattle.std.specs.Cmp.Lexicographic.{slice_cmp}
 use Rattle.std.specs.Ordering.{nat_cmp}
 use denote.Ref.{Bor}
-use Rattle.mc_tree.specs.First.{tree_of}
-use Rattle.mc_parse.specs.Form.{Form}
+use Rattle.mc_first.specs.Boolean.{Tree, tree_of}
+use Rattle.mc_first.specs.declared.tree.BooleanTree.{BooleanTree}
+use Rattle.mc_first.specs.Form.{Form}
 use Rattle.mc_first.specs.Loops.Members.{Member as Part}
 use Rattle.mc_first.specs.TestsFile.{PlainTest}
 use Rattle.mc_first.specs.Texts.{texts_of}
@@ -52,3 +53,9 @@ bytes_of lines = map (λ line. line.items) lines
 -- the name is among the keys
 abbrev pub has_name : BTreeSet (Bor (List ℕ)) → List ℕ → Bool
 has_name names q = contains_by (λ k. slice_cmp nat_cmp q k.now) names
+
+abbrev pub tree_in : Option (Box BooleanTree Global) → Option Tree
+tree_in found = option_map (λ tree. tree_of tree.value) found
+
+abbrev pub names_in : Option (Vec (Bor (List ℕ)) Global) → Option (List (List ℕ))
+names_in found = option_map (λ names. texts_of names.items) found

@@ -2,7 +2,7 @@
 use Rattle.std.specs.Prelude.{◌≡◌, ◌≤◌, ℕ, Option, Some, None, Bool, true, ◌&&◌, ◌||◌, List, [], ◌∷◌, length, map, codes, ◌==◌, nat_le, ⊤, ℤ}
 use Rattle.std.specs.List.{list_all, IsDistinct}
 use Rattle.std.specs.Str.{bytes_eq}
-use Rattle.mc_parse.specs.Form.{Form}
+use Rattle.mc_first.specs.Form.{Form}
 use Rattle.mc_rows.specs.Rows.{Fields, rows_of}
 use Rattle.mc_first.specs.Numbers.{AreInts, pieces_of}
 
@@ -22,12 +22,14 @@ is_test_name text = nat_le 1 (length text) && nat_le (length text) 64 && list_al
 
 abbrev pub header : List (List ℕ)
 header =
-    codes "test" ∷ codes "call" ∷ codes "arguments" ∷ codes "inputs" ∷ codes "expect" ∷ codes "output"
+    codes "test" ∷ codes "call" ∷ codes "arguments" ∷ codes "inputs" ∷ codes "expect"
+    ∷ codes "output"
     ∷ []
 
 -- a record is a test: a name, the function, a number for each of so many parameters, and three
 -- empty fields
-pub record IsTest (function : List ℕ) (parameters : ℕ) (fields : List (List ℕ)) (test : PlainTest) : Type 0 where
+pub record IsTest (function : List ℕ) (parameters : ℕ) (fields : List (List ℕ)) (test : PlainTest) :
+    Type 0 where
   pub numbers : List ℕ
   pub six : fields ≡ test.name ∷ function ∷ numbers ∷ [] ∷ [] ∷ [] ∷ []
   pub named : is_test_name test.name ≡ true
@@ -46,7 +48,8 @@ abbrev pub names_of : List PlainTest → List (List ℕ)
 names_of tests = map (λ t. t.name) tests
 
 -- the records of a tests file: the header, then at most 4,096 tests with names that all differ
-pub record IsTestsFile (function : List ℕ) (parameters : ℕ) (rows : List Fields) (tests : List PlainTest) : Type 0 where
+pub record IsTestsFile (function : List ℕ) (parameters : ℕ) (rows : List Fields)
+    (tests : List PlainTest) : Type 0 where
   pub records : List Fields
   pub whole : rows ≡ header ∷ records
   pub few : length records ≤ 4096

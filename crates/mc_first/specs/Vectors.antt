@@ -1,7 +1,7 @@
 -- The vectors of a decision that tests evaluate, each with the first test that does.
 use Rattle.std.specs.Prelude.{ℕ, zero, suc, Bool, true, false, ◌&&◌, List, [], ◌∷◌, ◌++◌, map, find, Option, Some, None, ℤ}
 use Rattle.std.specs.List.{flat_map}
-use Rattle.mc_first.specs.Evaluation.{Answer}
+use Rattle.mc_cond.specs.Order.{Answer}
 
 -- a test's evaluation of the decision: the test's name, the answer of each condition, and the value
 pub record Evaluation : Type 0 where

@@ -1,10 +1,10 @@
 //! The evaluation of an expression of the first form on the arguments of a test.
 ghost use Rattle.std.specs.Prelude.{◌≡◌, ◌<◌, ◌^◌, ◌++◌, IfOk, OnOk};
-ghost use Rattle.mc_tree.specs.First.{tree_of};
+ghost use Rattle.mc_first.specs.Boolean.{tree_of};
 ghost use Rattle.mc_first.specs.Texts.{texts_of};
 ghost use Rattle.mc_first.specs.Evaluation.{argument_of, value_of, not_evaluated, answers_of};
 
-use mc_tree::FirstTree;
+use crate::tree::BooleanTree;
 use std::alloc::AllocError;
 
 /// The parameters of a function, and an argument for each.
@@ -36,20 +36,21 @@ impl Call<'_> {
     }
 
     /// The value of an expression.
-    pub fn value(&self, tree: &FirstTree<'_>) -> i64
+    pub fn value(&self, tree: &BooleanTree<'_>) -> i64
         ensures { result
-            ≡ value_of (texts_of self.now.parameters.now) self.now.arguments.now (tree_of tree.now) }
+            ≡ value_of (texts_of self.now.parameters.now) self.now.arguments.now
+            (tree_of tree.now) }
     {
         match tree {
-            FirstTree::Parameter(name) => self.argument(name),
-            FirstTree::Number(number) => i64::from(*number),
-            FirstTree::Less(left, right) => i64::from(self.value(left) < self.value(right)),
-            FirstTree::Equal(left, right) => i64::from(self.value(left) == self.value(right)),
-            FirstTree::Not(operand) => i64::from(self.value(operand) == 0),
-            FirstTree::And(left, right) => {
+            BooleanTree::Parameter(name) => self.argument(name),
+            BooleanTree::Number(number) => i64::from(*number),
+            BooleanTree::Less(left, right) => i64::from(self.value(left) < self.value(right)),
+            BooleanTree::Equal(left, right) => i64::from(self.value(left) == self.value(right)),
+            BooleanTree::Not(operand) => i64::from(self.value(operand) == 0),
+            BooleanTree::And(left, right) => {
                 i64::from(self.value(left) != 0 && self.value(right) != 0)
             }
-            FirstTree::Or(left, right) => {
+            BooleanTree::Or(left, right) => {
                 i64::from(self.value(left) != 0 || self.value(right) != 0)
             }
         }
@@ -57,13 +58,13 @@ impl Call<'_> {
 }
 
 // The answers of the conditions of an operand that is not evaluated.
-fn skip(tree: &FirstTree<'_>, answers: &mut Vec<Option<bool>>) -> Result<(), AllocError>
+fn skip(tree: &BooleanTree<'_>, answers: &mut Vec<Option<bool>>) -> Result<(), AllocError>
     ensures { OnOk result (answers.new.items
         ≡ answers.old.items ++ not_evaluated (tree_of tree.now)) }
 {
     match tree {
-        FirstTree::Not(operand) => skip(operand, answers),
-        FirstTree::And(left, right) | FirstTree::Or(left, right) => {
+        BooleanTree::Not(operand) => skip(operand, answers),
+        BooleanTree::And(left, right) | BooleanTree::Or(left, right) => {
             skip(left, answers)?;
             skip(right, answers)
         }
@@ -77,20 +78,22 @@ fn skip(tree: &FirstTree<'_>, answers: &mut Vec<Option<bool>>) -> Result<(), All
 /// Evaluates a decision: gives its value, and adds the answers of its conditions.
 pub fn evaluate(
     call: Call<'_>,
-    tree: &FirstTree<'_>,
+    tree: &BooleanTree<'_>,
     answers: &mut Vec<Option<bool>>,
 ) -> Result<i64, AllocError>
     ensures value { IfOk result (λ value. value
-        ≡ value_of (texts_of call.entry.parameters.now) call.entry.arguments.now (tree_of tree.now)) }
-    ensures answers { OnOk result (answers.new.items ≡ answers.old.items
-        ++ answers_of (texts_of call.entry.parameters.now) call.entry.arguments.now (tree_of tree.now)) }
+        ≡ value_of (texts_of call.entry.parameters.now) call.entry.arguments.now
+        (tree_of tree.now)) }
+    ensures answers { OnOk result (answers.new.items
+        ≡ answers.old.items ++ answers_of (texts_of call.entry.parameters.now)
+        call.entry.arguments.now (tree_of tree.now)) }
 {
     match tree {
-        FirstTree::Not(operand) => {
+        BooleanTree::Not(operand) => {
             let value = evaluate(call, operand, answers)?;
             Ok(i64::from(value == 0))
         }
-        FirstTree::And(left, right) => {
+        BooleanTree::And(left, right) => {
             if evaluate(call, left, answers)? == 0 {
                 skip(right, answers)?;
                 return Ok(0);
@@ -98,7 +101,7 @@ pub fn evaluate(
             let value = evaluate(call, right, answers)?;
             Ok(i64::from(value != 0))
         }
-        FirstTree::Or(left, right) => {
+        BooleanTree::Or(left, right) => {
             if evaluate(call, left, answers)? != 0 {
                 skip(right, answers)?;
                 return Ok(1);

@@ -1,8 +1,8 @@
 //! A function of the first form.
 ghost use Rattle.std.specs.Prelude.{◌≤◌};
-ghost use Rattle.mc_tree.specs.First.{conditions, tree_of};
+ghost use Rattle.mc_first.specs.Boolean.{conditions, tree_of};
 
-use mc_tree::FirstTree;
+use crate::tree::BooleanTree;
 
 /// A function `int NAME(int .., ..) { return E; }`, with names that are slices of its source.
 #[derive(Drop)]
@@ -11,6 +11,6 @@ pub struct Function<'a> {
     /// The names of its parameters, in the order of the text.
     pub parameters: Vec<&'a [u8]>,
     /// E, the one decision.
-    pub tree: FirstTree<'a>,
+    pub tree: BooleanTree<'a>,
     ghost few: { conditions (tree_of tree) ≤ 12 },
 }

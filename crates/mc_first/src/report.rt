@@ -1,6 +1,6 @@
 //! The report of the tests of a function: their results, and the vectors that they evaluate.
 ghost use Rattle.std.specs.Prelude.{◌≡◌, ◌≤◌, ◌++◌, ◌∷◌, [], IfOk, OnOk, map};
-ghost use Rattle.mc_tree.specs.First.{tree_of, conditions};
+ghost use Rattle.mc_first.specs.Boolean.{tree_of, conditions};
 ghost use Rattle.mc_first.specs.Loops.Members.{members_of};
 ghost use Rattle.mc_first.specs.Vectors.{vectors_of};
 ghost use Rattle.mc_first.specs.Seen.{bytes_of, form_of, seen_evaluation, seen_evaluations, seen_vectors, seen_members, seen_test, seen_tests};
@@ -11,18 +11,18 @@ use crate::evaluation::Evaluation;
 use crate::function::Function;
 use crate::lines::{test_line, vector_line};
 use crate::tests_file::Test;
+use crate::tree::BooleanTree;
 use crate::vectors::{Member, Vector, push_sorted};
-use mc_tree::FirstTree;
 use std::alloc::{AllocError, Global};
 
 // How many conditions a decision has.
-fn conditions(tree: &FirstTree<'_>) -> usize
+fn conditions(tree: &BooleanTree<'_>) -> usize
     requires { conditions (tree_of tree.now) ≤ 4096 }
     ensures { result ≡ conditions (tree_of tree.now) }
 {
     match tree {
-        FirstTree::Not(operand) => conditions(operand),
-        FirstTree::And(left, right) | FirstTree::Or(left, right) => {
+        BooleanTree::Not(operand) => conditions(operand),
+        BooleanTree::And(left, right) | BooleanTree::Or(left, right) => {
             conditions(left) + conditions(right)
         }
         _ => 1,

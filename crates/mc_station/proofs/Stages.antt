@@ -1,7 +1,7 @@
 -- Which statuses each stage leads to.
 use Rattle.std.proofs.Common.{◌≡◌, ◌↔◌, ◌⊎◌, ℕ, List, Option, Some, None, Result, Ok, Err, refl, sym, ap, subst, inl, inr}
 use Rattle.mc_command.specs.Command.{Command, Vectors, command_of}
-use Rattle.mc_parse.specs.Form.{Form}
+use Rattle.mc_first.specs.Form.{Form}
 use Rattle.mc_port.specs.Store.{Files, and_asked}
 use Rattle.mc_first.specs.TestsFile.{PlainTest}
 use Rattle.mc_station.specs.Calls as calls
@@ -9,7 +9,7 @@ use Rattle.mc_station.specs.Calls.{Answers, Call, Fails, Leads, LeadsTo, Request
 use Rattle.mc_station.specs.Files.{File, request_of, status_of}
 use Rattle.mc_station.specs.Laws.{NoCommandAlone, SourceAlone}
 use Rattle.mc_station.specs.Reply.{Reply}
-use Rattle.mc_station.specs.Source.{Forms, JudgesSource, Lexes}
+use Rattle.mc_station.specs.Source.{JudgesSource}
 use Rattle.mc_station.specs.Stages as stages
 use Rattle.mc_station.specs.Stages.{Judges, JudgesTests, Next, Stage, asks, done, first_stage, next_of}
 use Rattle.mc_station.specs.Status.{IsAnswer}
@@ -37,7 +37,9 @@ kind_is f g is = let same : f ≡ g = cc is in ap (λ (x : File). x.kind) (sym s
 
 refused_source : (bytes : List ℕ) (r : Reply) → JudgesSource bytes (Err r) → r.status ≡ status.SourceRefused
 refused_source bytes r (inl (tokens, e, scans, is)) = status_is r _ is
-refused_source bytes r (inr (tokens, lexes, (none, is))) = status_is r _ is
+refused_source bytes r (inr (tokens, lexes, inl (none, (at, few, is)))) = status_is r _ is
+refused_source bytes r (inr (tokens, lexes, inr (unit, parses, inl (outside, first, is)))) = status_is r _ is
+refused_source bytes r (inr (tokens, lexes, inr (unit, parses, inr (u, admits, (none, is))))) = status_is r _ is
 
 may_answer : (files : Option Files) (s : Stage) (a b : Requests) (r : Reply) → Answers files s a r b → May s r.status
 may_answer files stages.usage a b r (calls.finished x is) = done_is _ r is

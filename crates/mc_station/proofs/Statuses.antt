@@ -2,7 +2,8 @@
 use Rattle.std.proofs.Common.{◌≡◌, ◌≢◌, ◌<◌, ◌∙◌, ◌⊎◌, ℕ, List, Option, Some, None, Result, Ok, Err, refl, sym, ap, subst, inl, inr, arith}
 use Rattle.mc_command.specs.Command.{Vectors}
 use Rattle.mc_lex.specs.Tokens.{Tok}
-use Rattle.mc_parse.specs.Form.{Form}
+use Rattle.mc_tree.specs.Tree.{Item}
+use Rattle.mc_first.specs.Form.{Form}
 use Rattle.mc_port.specs.Store.{Files}
 use Rattle.mc_station.specs.Calls as calls
 use Rattle.mc_station.specs.Calls.{Answers, Fails, Leads, Requests}
@@ -10,7 +11,7 @@ use Rattle.mc_station.specs.Files.{status_of}
 use Rattle.mc_first.specs.Lines.{report_lines}
 use Rattle.mc_station.specs.Reply.{Reply, refusal, success}
 use Rattle.mc_station.specs.Texts.{usage_text}
-use Rattle.mc_station.specs.Source.{Forms, JudgesSource, Lexes}
+use Rattle.mc_station.specs.Source.{JudgesSource, JudgesTokens, JudgesTree, Lexes}
 use Rattle.mc_station.specs.Stages as stages
 use Rattle.mc_station.specs.Stages.{Judges, JudgesTests, Next, Stage, asks, done, files_left, next_of}
 use Rattle.mc_station.specs.Status.{IsAnswer, number_of}
@@ -37,12 +38,17 @@ kind_answers Tests = tt
 lex_answers : (source : List ℕ) (r : Reply) → Lexes source (Err r) → IsAnswer r.status
 lex_answers source r (tokens, e, scans, is) = answers_as r _ is tt
 
-form_answers : (tokens : List Tok) (r : Reply) → Forms tokens (Err r) → IsAnswer r.status
-form_answers tokens r (none, is) = answers_as r _ is tt
+tree_answers : (source : List ℕ) (unit : List Item) (r : Reply) → JudgesTree source unit (Err r) → IsAnswer r.status
+tree_answers source unit r (inl (outside, first, is)) = answers_as r _ is tt
+tree_answers source unit r (inr (u, admits, (none, is))) = answers_as r _ is tt
+
+tokens_answers : (source : List ℕ) (tokens : List Tok) (r : Reply) → JudgesTokens source tokens (Err r) → IsAnswer r.status
+tokens_answers source tokens r (inl (none, (at, few, is))) = answers_as r _ is tt
+tokens_answers source tokens r (inr (unit, parses, judges)) = tree_answers source unit r judges
 
 source_answers : (source : List ℕ) (r : Reply) → JudgesSource source (Err r) → IsAnswer r.status
 source_answers source r (inl lexes) = lex_answers source r lexes
-source_answers source r (inr (tokens, lexes, forms)) = form_answers tokens r forms
+source_answers source r (inr (tokens, lexes, judges)) = tokens_answers source tokens r judges
 
 tests_answers : (form : Form) (bytes : List ℕ) (r : Reply) → JudgesTests form bytes (Err r) → IsAnswer r.status
 tests_answers form bytes r (none, is) = answers_as r _ is tt

@@ -1,77 +1,115 @@
 -- Words and files call for at most one reply.
-use Rattle.std.proofs.Common.{◌≡◌, ◌∙◌, ◌≤◌, ◌<◌, ◌⊎◌, ℕ, List, [], length, Option, Some, None, Result, Ok, Err, refl, sym, ap, subst, inl, inr, arith}
+use Rattle.std.proofs.Common.{◌≡◌, ◌∙◌, ◌≤◌, ◌<◌, ◌⊎◌, ℕ, List, [], length, drop, Option, Some, None, Result, Ok, Err, refl, sym, ap, subst, inl, inr, arith}
 use Rattle.mc_command.specs.Command.{Command, command_of}
 use Rattle.mc_lex.specs.declared.token.Dialect.TheVariants.{Plain}
 use Rattle.mc_lex.specs.declared.fault.LexFault.{LexFault}
 use Rattle.mc_lex.specs.Scans.{Scans}
 use Rattle.mc_lex.specs.Tokens.{Tok}
 use Rattle.mc_lex.proofs.Scanning.{one_scan}
-use Rattle.mc_parse.specs.Form.{Form}
+use Rattle.mc_lex.specs.Lines.{column_of, line_of}
+use Rattle.mc_tree.specs.Tree.{Item}
+use Rattle.mc_reading.proofs.OneTree.{one_tree}
+use Rattle.mc_first.specs.Form.{Form}
 use Rattle.mc_port.specs.Store.{Files, HasFile, IsLonger, and_asked}
 use Rattle.mc_first.specs.TestsFile.{PlainTest}
-use Rattle.mc_first.proofs.Unique.{one_form, one_list}
+use Rattle.mc_first.proofs.Unique.{one_list}
 use Rattle.mc_station.specs.Calls as calls
 use Rattle.mc_station.specs.Calls.{Answers, Call, CallsFor, Fails, IsKnown, Leads, Requests}
 use Rattle.mc_station.specs.Files.{File, Holds, limit_of, request_of}
+use Rattle.mc_station.specs.Laws.{AreOne, IsOnSyntax}
 use Rattle.mc_station.specs.Reply.{Reply, longer, refusal}
-use Rattle.mc_station.specs.Source.{Forms, JudgesSource, Lexes, Then}
+use Rattle.mc_station.specs.Source.{Admits, Forms, JudgesSource, JudgesTokens, JudgesTree, Lexes, Parses, Then}
 use Rattle.mc_station.specs.Stages as stages
 use Rattle.mc_station.specs.Stages.{Judges, JudgesTests, Next, Stage, after_source, asks, done, first_stage, next_of}
 use Rattle.mc_station.specs.Status.{IsAnswer}
-use Rattle.mc_station.specs.Texts.{fault_line, source_form_line, tests_form_line}
-use Rattle.mc_station.specs.declared.status.Status.TheVariants.{SourceRefused, TestsRefused}
+use Rattle.mc_station.specs.Texts.{fault_line, outside_line, start_of, syntax_line}
+use Rattle.mc_station.specs.declared.status.Status.TheVariants.{SourceRefused}
 
 -- ---- phases
 
+-- two verdicts are one
+abbrev Agree : {A : Type 0} → Result A Reply → Result A Reply → Type 0
+Agree (Ok a) (Ok b) = a ≡ b
+Agree (Ok a) (Err s) = ⊥
+Agree (Err r) (Ok b) = ⊥
+Agree (Err r) (Err s) = AreOne r s
+
 -- a phase gives at most one thing
 abbrev IsOne : {A : Type 0} → (Result A Reply → Type 0) → Type 0
-IsOne {A} Phase = (u v : Result A Reply) → Phase u → Phase v → u ≡ v
+IsOne {A} Phase = (u v : Result A Reply) → Phase u → Phase v → Agree u v
 
 one_then : {A B : Type 0} (Phase : Result A Reply → Type 0) (Next : A → Result B Reply → Type 0) → IsOne Phase → ((a : A) → IsOne (Next a)) → IsOne (Then Phase Next)
 one_then {A} {B} Phase Next one next (Ok b) (Ok c) (a, p, q) (d, r, s) =
-    let same : a ≡ d = cc (one (Ok a) (Ok d) p r) in
+    let same : a ≡ d = one (Ok a) (Ok d) p r in
     next d (Ok b) (Ok c) (subst (λ (x : A). Next x (Ok b)) same q) s
-one_then {A} {B} Phase Next one next (Ok b) (Err e) (a, p, q) (inl r) = absurd (cc (one (Ok a) (Err e) p r))
+one_then {A} {B} Phase Next one next (Ok b) (Err e) (a, p, q) (inl r) = absurd (one (Ok a) (Err e) p r)
 one_then {A} {B} Phase Next one next (Ok b) (Err e) (a, p, q) (inr (d, r, s)) =
-    let same : a ≡ d = cc (one (Ok a) (Ok d) p r) in
+    let same : a ≡ d = one (Ok a) (Ok d) p r in
     next d (Ok b) (Err e) (subst (λ (x : A). Next x (Ok b)) same q) s
-one_then {A} {B} Phase Next one next (Err e) (Ok c) (inl p) (d, r, s) = absurd (cc (one (Err e) (Ok d) p r))
+one_then {A} {B} Phase Next one next (Err e) (Ok c) (inl p) (d, r, s) = absurd (one (Err e) (Ok d) p r)
 one_then {A} {B} Phase Next one next (Err e) (Ok c) (inr (a, p, q)) (d, r, s) =
-    let same : a ≡ d = cc (one (Ok a) (Ok d) p r) in
+    let same : a ≡ d = one (Ok a) (Ok d) p r in
     next d (Err e) (Ok c) (subst (λ (x : A). Next x (Err e)) same q) s
-one_then {A} {B} Phase Next one next (Err e) (Err f) (inl p) (inl r) =
-    let same : e ≡ f = cc (one (Err e) (Err f) p r) in ap Err same
-one_then {A} {B} Phase Next one next (Err e) (Err f) (inl p) (inr (d, r, s)) = absurd (cc (one (Err e) (Ok d) p r))
-one_then {A} {B} Phase Next one next (Err e) (Err f) (inr (a, p, q)) (inl r) = absurd (cc (one (Ok a) (Err f) p r))
+one_then {A} {B} Phase Next one next (Err e) (Err f) (inl p) (inl r) = one (Err e) (Err f) p r
+one_then {A} {B} Phase Next one next (Err e) (Err f) (inl p) (inr (d, r, s)) = absurd (one (Err e) (Ok d) p r)
+one_then {A} {B} Phase Next one next (Err e) (Err f) (inr (a, p, q)) (inl r) = absurd (one (Ok a) (Err f) p r)
 one_then {A} {B} Phase Next one next (Err e) (Err f) (inr (a, p, q)) (inr (d, r, s)) =
-    let same : a ≡ d = cc (one (Ok a) (Ok d) p r) in
+    let same : a ≡ d = one (Ok a) (Ok d) p r in
     next d (Err e) (Err f) (subst (λ (x : A). Next x (Err e)) same q) s
 
 one_lexed : (source : List ℕ) → IsOne (Lexes source)
-one_lexed source (Ok ts) (Ok us) p q = ap Ok (one_scan Plain source ts us None None p q).0
+one_lexed source (Ok ts) (Ok us) p q = (one_scan Plain source ts us None None p q).0
 one_lexed source (Ok ts) (Err r) p (us, e, q, is) = absurd (cc (one_scan Plain source ts us None (Some e) p q).1)
 one_lexed source (Err r) (Ok us) (ts, e, p, is) q = absurd (cc (one_scan Plain source ts us (Some e) None p q).1)
 one_lexed source (Err r) (Err s) (ts, e, p, is) (us, f, q, also) =
     let same : e ≡ f = cc (one_scan Plain source ts us (Some e) (Some f) p q).1 in
-    ap Err (is ∙ ap (λ x. refusal SourceRefused (fault_line source x)) same ∙ sym also)
+    inl (is ∙ ap (λ x. refusal SourceRefused (fault_line source x)) same ∙ sym also)
 
-one_formed : (tokens : List Tok) → IsOne (Forms tokens)
-one_formed tokens (Ok f) (Ok g) p q = let same : f ≡ g = cc (one_form tokens (Some f) (Some g) p q) in ap Ok same
-one_formed tokens (Ok f) (Err r) p (none, is) = absurd (cc (one_form tokens (Some f) None p none))
-one_formed tokens (Err r) (Ok g) (none, is) q = absurd (cc (one_form tokens None (Some g) none q))
-one_formed tokens (Err r) (Err s) (none, is) (also, other) = ap Err (is ∙ sym other)
+on_syntax : (source : List ℕ) (tokens : List Tok) (n : ℕ) (r : Reply) → r ≡ refusal SourceRefused (syntax_line source tokens n) → IsOnSyntax r
+on_syntax source tokens n r is =
+    let at = start_of source (drop n tokens) in (line_of source at, column_of source at, is)
+
+one_parsed : (source : List ℕ) (tokens : List Tok) → IsOne (Parses source tokens)
+one_parsed source tokens (Ok one) (Ok other) p q = one_tree Plain tokens one other p.0 q.0
+one_parsed source tokens (Ok one) (Err s) p (none, place) = none one p
+one_parsed source tokens (Err r) (Ok other) (none, place) q = none other q
+one_parsed source tokens (Err r) (Err s) (none, (n, few, is)) (also, (m, less, other)) =
+    inr (on_syntax source tokens n r is, on_syntax source tokens m s other)
+
+one_admitted : (source : List ℕ) (unit : List Item) → IsOne (Admits source unit)
+one_admitted source unit (Ok u) (Ok v) p q = refl
+one_admitted source unit (Ok u) (Err s) p (outside, q, is) = absurd (cc (p, q))
+one_admitted source unit (Err r) (Ok v) (outside, p, is) q = absurd (cc (p, q))
+one_admitted source unit (Err r) (Err s) (one, p, is) (other, q, also) =
+    let same : one ≡ other = cc (p, q) in
+    inl (is ∙ ap (λ x. refusal SourceRefused (outside_line source x)) same ∙ sym also)
+
+one_formed : (unit : List Item) → IsOne (Forms unit)
+one_formed unit (Ok f) (Ok g) p q = cc (p, q)
+one_formed unit (Ok f) (Err r) p (none, is) = absurd (cc (p, none))
+one_formed unit (Err r) (Ok g) (none, is) q = absurd (cc (q, none))
+one_formed unit (Err r) (Err s) (none, is) (also, other) = inl (is ∙ sym other)
+
+one_tree_judged : (source : List ℕ) (unit : List Item) → IsOne (JudgesTree source unit)
+one_tree_judged source unit = one_then (Admits source unit) (λ u. Forms unit) (one_admitted source unit) (λ u. one_formed unit)
+
+one_tokens_judged : (source : List ℕ) (tokens : List Tok) → IsOne (JudgesTokens source tokens)
+one_tokens_judged source tokens = one_then (Parses source tokens) (JudgesTree source) (one_parsed source tokens) (one_tree_judged source)
 
 one_source : (source : List ℕ) → IsOne (JudgesSource source)
-one_source source = one_then (Lexes source) Forms (one_lexed source) one_formed
+one_source source = one_then (Lexes source) (JudgesTokens source) (one_lexed source) (one_tokens_judged source)
 
 one_tests : (form : Form) (bytes : List ℕ) → IsOne (JudgesTests form bytes)
-one_tests form bytes (Ok ts) (Ok us) p q = let same : ts ≡ us = cc (one_list form bytes (Some ts) (Some us) p q) in ap Ok same
+one_tests form bytes (Ok ts) (Ok us) p q = cc (one_list form bytes (Some ts) (Some us) p q)
 one_tests form bytes (Ok ts) (Err r) p (none, is) = absurd (cc (one_list form bytes (Some ts) None p none))
 one_tests form bytes (Err r) (Ok us) (none, is) q = absurd (cc (one_list form bytes None (Some us) none q))
-one_tests form bytes (Err r) (Err s) (none, is) (also, other) = ap Err (is ∙ sym other)
+one_tests form bytes (Err r) (Err s) (none, is) (also, other) = inl (is ∙ sym other)
 
 one_stage : (t : Stage) → IsOne (λ (v : Result Stage Reply). v ≡ Ok t)
-one_stage t u v p q = p ∙ sym q
+one_stage t (Ok a) (Ok b) p q = cc (p, q)
+one_stage t (Ok a) (Err s) p q = absurd (cc q)
+one_stage t (Err r) (Ok b) p q = absurd (cc p)
+one_stage t (Err r) (Err s) p q = absurd (cc p)
 
 one_verdict : (s : Stage) (bytes : List ℕ) → IsOne (Judges s bytes)
 one_verdict stages.usage bytes u v p q = absurd p
@@ -95,7 +133,7 @@ module _ (files : Files) where
       omega (arith, more, holds.1, ap length same)
 
   same_verdict : (s : Stage) (f g : File) (a b : List ℕ) (u v : Result Stage Reply) → next_of s ≡ asks f → next_of s ≡ asks g
-      → Holds (Some files) f a → Holds (Some files) g b → Judges s a u → Judges s b v → u ≡ v
+      → Holds (Some files) f a → Holds (Some files) g b → Judges s a u → Judges s b v → Agree u v
   same_verdict s f g a b u v p q holds also judges other =
       let file : f ≡ g = cc (p, q) in
       let bytes : a ≡ b = same_bytes g a b (subst (λ (x : File). Holds (Some files) x a) file holds) also in
@@ -106,29 +144,29 @@ module _ (files : Files) where
       let file : f ≡ g = cc (p, q) in
       not_both g bytes (subst (λ (x : File). IsLonger (Some files) x.name (limit_of x.kind)) file long) holds
 
-  one_answer : (s : Stage) (a b c d : Requests) (r q : Reply) → Answers (Some files) s a r b → Answers (Some files) s c q d → r ≡ q
-  one_answer s a b c d r q (calls.finished x p) (calls.finished y o) = cc (p, o)
+  one_answer : (s : Stage) (a b c d : Requests) (r q : Reply) → Answers (Some files) s a r b → Answers (Some files) s c q d → AreOne r q
+  one_answer s a b c d r q (calls.finished x p) (calls.finished y o) = inl (cc (p, o))
   one_answer s a b c d r q (calls.finished x p) (calls.too_long g o long) = absurd (cc (p, o))
   one_answer s a b c d r q (calls.finished x p) (calls.refused g bytes y o holds judges) = absurd (cc (p, o))
   one_answer s a b c d r q (calls.too_long f p long) (calls.finished y o) = absurd (cc (p, o))
-  one_answer s a b c d r q (calls.too_long f p long) (calls.too_long g o also) = let file : f ≡ g = cc (p, o) in ap longer file
+  one_answer s a b c d r q (calls.too_long f p long) (calls.too_long g o also) = let file : f ≡ g = cc (p, o) in inl (ap longer file)
   one_answer s a b c d r q (calls.too_long f p long) (calls.refused g bytes y o holds judges) = absurd (not_long s f g bytes p o long holds)
   one_answer s a b c d r q (calls.refused f bytes x p holds judges) (calls.finished y o) = absurd (cc (p, o))
   one_answer s a b c d r q (calls.refused f bytes x p holds judges) (calls.too_long g o long) = absurd (not_long s g f bytes o p long holds)
   one_answer s a b c d r q (calls.refused f bytes x p holds judges) (calls.refused g text y o also other) =
-      cc (same_verdict s f g bytes text (Err r) (Err q) p o holds also judges other)
+      same_verdict s f g bytes text (Err r) (Err q) p o holds also judges other
 
   no_answer : (s t : Stage) (f : File) (text : List ℕ) (a b : Requests) (r : Reply) → Answers (Some files) s a r b → next_of s ≡ asks f → Holds (Some files) f text → Judges s text (Ok t) → ⊥
   no_answer s t f text a b r (calls.finished x p) is holds judges = absurd (cc (p, is))
   no_answer s t f text a b r (calls.too_long g p long) is holds judges = not_long s g f text p is long holds
-  no_answer s t f text a b r (calls.refused g bytes x p also refuses) is holds judges = absurd (cc (same_verdict s g f bytes text (Err r) (Ok t) p is also holds refuses judges))
+  no_answer s t f text a b r (calls.refused g bytes x p also refuses) is holds judges = same_verdict s g f bytes text (Err r) (Ok t) p is also holds refuses judges
 
 pub no_fault : (s : Stage) (a b : Requests) (r : Reply) → Fails s a r b → IsAnswer r.status → ⊥
 no_fault s a b r (calls.unreadable f is) answer = answer
 no_fault s a b r calls.no_memory answer = answer
 no_fault s a b r (calls.no_memory_after f is) answer = answer
 
-one_end : (files : Files) (s : Stage) (a b c d : Requests) (r q : Reply) → Leads (Some files) s a r b → Leads (Some files) s c q d → IsAnswer r.status → IsAnswer q.status → r ≡ q
+one_end : (files : Files) (s : Stage) (a b c d : Requests) (r q : Reply) → Leads (Some files) s a r b → Leads (Some files) s c q d → IsAnswer r.status → IsAnswer q.status → AreOne r q
 one_end files s a b c d r q (calls.answers _ _ _ _ x) (calls.answers _ _ _ _ y) p o = one_answer files s a b c d r q x y
 one_end files s a b c d r q (calls.answers _ _ _ _ x) (calls.fails _ _ _ _ y) p o = absurd (no_fault s c d q y o)
 one_end files s a b c d r q (calls.answers _ _ _ _ x) (calls.accepted _ t g text _ _ _ is holds judges leads) p o = absurd (no_answer files s t g text a b r x is holds judges)
@@ -136,7 +174,7 @@ one_end files s a b c d r q (calls.fails _ _ _ _ x) y p o = absurd (no_fault s a
 one_end files s a b c d r q (calls.accepted _ t f bytes _ _ _ is holds judges leads) (calls.answers _ _ _ _ y) p o = absurd (no_answer files s t f bytes c d q y is holds judges)
 one_end files s a b c d r q (calls.accepted _ t f bytes _ _ _ is holds judges leads) (calls.fails _ _ _ _ y) p o = absurd (no_fault s c d q y o)
 one_end files s a b c d r q (calls.accepted _ t f bytes _ _ _ is holds judges leads) (calls.accepted _ u g text _ _ _ also holds_g judges_g leads_g) p o =
-    let same : t ≡ u = cc (same_verdict files s f g bytes text (Ok t) (Ok u) is also holds holds_g judges judges_g) in
+    let same : t ≡ u = same_verdict files s f g bytes text (Ok t) (Ok u) is also holds holds_g judges judges_g in
     one_end files u (and_asked a (request_of f)) b (and_asked c (request_of g)) d r q (subst (λ (x : Stage). Leads (Some files) x (and_asked a (request_of f)) r b) same leads) leads_g p o
 
 -- ---- calls
@@ -148,12 +186,17 @@ one_usage files a b r (calls.answers _ _ _ _ (calls.refused f bytes x p holds ju
 one_usage files a b r (calls.fails _ _ _ _ x) answer = absurd (no_fault stages.usage a b r x answer)
 one_usage files a b r (calls.accepted _ t f bytes _ _ _ is holds judges leads) answer = absurd judges
 
-pub one_reply : (call : Call) (r q : Reply) → IsKnown call → CallsFor call r → CallsFor call q → r ≡ q
+pub one_reply : (call : Call) (r q : Reply) → IsKnown call → CallsFor call r → CallsFor call q → AreOne r q
 one_reply call r q (inl none) (p, (a, b, leads)) (o, (c, d, also)) =
     let first : first_stage (command_of call.words) ≡ stages.usage = ap first_stage none in
     let one = one_usage call.files a b r (subst (λ (s : Stage). Leads call.files s a r b) first leads) p in
     let two = one_usage call.files c d q (subst (λ (s : Stage). Leads call.files s c q d) first also) o in
-    cc (one, two)
+    inl (cc (one, two))
 one_reply call r q (inr (files, told)) (p, (a, b, leads)) (o, (c, d, also)) =
     let first = first_stage (command_of call.words) in
     one_end files first a b c d r q (subst (λ (f : Option Files). Leads f first a r b) told leads) (subst (λ (f : Option Files). Leads f first c q d) told also) p o
+
+-- two replies that are one have one status
+pub same_status : (r q : Reply) → AreOne r q → r.status ≡ q.status
+same_status r q (inl is) = ap (λ (x : Reply). x.status) is
+same_status r q (inr ((l, c, is), (m, d, also))) = ap (λ (x : Reply). x.status) is ∙ sym (ap (λ (x : Reply). x.status) also)

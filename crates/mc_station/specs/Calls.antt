@@ -12,7 +12,8 @@ abbrev pub Requests : Type 0
 Requests = Option (List Request)
 
 -- A stage answers: after the last file, or where it does not accept its file.
-pub data Answers (files : Option Files) (s : Stage) (asked : Requests) : Reply → Requests → Type 0 where
+pub data Answers (files : Option Files) (s : Stage) (asked : Requests) : Reply → Requests
+    → Type 0 where
   finished : (reply : Reply) → next_of s ≡ done reply → Answers files s asked reply asked
   too_long : (file : File) → next_of s ≡ asks file
       → IsLonger files file.name (limit_of file.kind)
@@ -36,7 +37,8 @@ pub data Leads (files : Option Files) : Stage → Requests → Reply → Request
       → Answers files s asked reply after → Leads files s asked reply after
   fails : (s : Stage) (asked after : Requests) (reply : Reply)
       → Fails s asked reply after → Leads files s asked reply after
-  accepted : (s later : Stage) (file : File) (bytes : List ℕ) (asked after : Requests) (reply : Reply)
+  accepted : (s later : Stage) (file : File) (bytes : List ℕ) (asked after : Requests)
+      (reply : Reply)
       → next_of s ≡ asks file → Holds files file bytes → Judges s bytes (Ok later)
       → Leads files later (and_asked asked (request_of file)) reply after
       → Leads files s asked reply after

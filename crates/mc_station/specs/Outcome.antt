@@ -29,8 +29,8 @@ pub record Told (call : Call) (status : ℕ) (asked after : Requests)
   pub status_is : status ≡ number_of reply.status
   pub texts : PutWhole reply out out_after diag diag_after
 
--- the call leads to a reply with texts: the store was asked for what it stands on, it failed in this
--- call where the reply says that a file cannot be read, and first parts of the texts were put
+-- the call leads to a reply with texts: the store was asked for what it stands on, it failed in
+-- this call where the reply says that a file cannot be read, and first parts of the texts were put
 pub record ToldPart (call : Call) (store after : State)
     (out out_after diag diag_after : Option (List ℕ)) : Type 0 where
   pub reply : Reply

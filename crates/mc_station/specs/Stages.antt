@@ -1,8 +1,8 @@
--- The stages of the commands. A stage asks for a file and accepts it, which leads to the next stage,
--- or refuses it; the last stage of a command asks for none and makes the texts.
+-- The stages of the commands. A stage asks for a file and accepts it, which leads to the next
+-- stage, or refuses it; the last stage of a command asks for none and makes the texts.
 use Rattle.std.specs.Prelude.{◌≡◌, ◌≤◌, ℕ, List, Option, Some, None, Result, Ok, Err}
 use Rattle.mc_command.specs.Command.{Command, Vectors}
-use Rattle.mc_parse.specs.Form.{Form}
+use Rattle.mc_first.specs.Form.{Form}
 use Rattle.mc_first.specs.Lines.{report_lines}
 use Rattle.mc_first.specs.TestsFile.{HasTests, PlainTest}
 use Rattle.mc_station.specs.Files.{File, limit_of}

@@ -1,10 +1,13 @@
 -- The texts on the errors' sink.
-use Rattle.std.specs.Prelude.{ℕ, List, [], ◌∷◌, ◌++◌, Option, Some, None, codes}
+use Rattle.std.specs.Prelude.{ℕ, List, [], ◌∷◌, ◌++◌, length, drop, Option, Some, None, codes}
 use Rattle.std.specs.List.{concat}
 use Rattle.std.specs.Fmt.{decimal}
 use Rattle.mc_lex.specs.declared.fault.LexFault.{LexFault}
 use Rattle.mc_lex.specs.Faults.{fault_place, fault_word}
 use Rattle.mc_lex.specs.Lines.{line_of, column_of}
+use Rattle.mc_lex.specs.Tokens.{Tok}
+use Rattle.mc_subset.specs.Names.{name_of}
+use Rattle.mc_subset.specs.declared.outside.Outside.{Outside}
 
 abbrev pub newline : List ℕ
 newline = 10 ∷ []
@@ -33,6 +36,28 @@ line_at source None word = []
 
 abbrev pub fault_line : (source : List ℕ) → LexFault → List ℕ
 fault_line source e = line_at source (fault_place e) (fault_word e)
+
+-- where the first of these tokens starts, or the source's end where there is none
+abbrev pub start_of : (source : List ℕ) → List Tok → ℕ
+start_of source [] = length source
+start_of source (t ∷ ts) = t.start
+
+-- the line on the syntax, at the token that so many come before
+abbrev pub syntax_line : (source : List ℕ) → List Tok → ℕ → List ℕ
+syntax_line source tokens at =
+    line_at source (Some (start_of source (drop at tokens))) (codes "syntax")
+
+-- which form stands at a place of the source that the profile leaves out
+abbrev pub form_line : (line column : ℕ) → List ℕ → List ℕ
+form_line line column name =
+    concat (codes "mcdc: source " ∷ decimal line ∷ codes ":" ∷ decimal column
+    ∷ codes ": outside form " ∷ name ∷ newline ∷ [])
+
+-- the line on a node that the profile leaves out
+abbrev pub outside_line : (source : List ℕ) → Outside → List ℕ
+outside_line source outside =
+    form_line (line_of source outside.span.start) (column_of source outside.span.start)
+    (name_of outside.form)
 
 abbrev pub source_form_line : List ℕ
 source_form_line = codes "mcdc: source: form not built" ++ newline

@@ -2,7 +2,7 @@
 ghost use Rattle.std.specs.Prelude.{◌≡◌, ◌≤◌, length};
 ghost use Rattle.mc_first.specs.Seen.{form_of, seen_tests};
 ghost use Rattle.mc_station.specs.Seen.{Gives, seen_stage};
-ghost use Rattle.mc_station.specs.Stages.{AsksUpTo, Judges, JudgesTests, source, tests};
+ghost use Rattle.mc_station.specs.Stages.{AsksUpTo, Judges, JudgesTests, after_source, source, tests};
 ghost use Rattle.mc_command.specs.Command.{seen_command};
 
 use crate::refusal::{Refusal, Stop};
@@ -28,6 +28,16 @@ fn judge_tests<'a>(
     }
 }
 
+// The stage after a source that is accepted.
+fn accepted<'a>(command: Command<'a>, function: Function<'a>) -> Stage<'a>
+    ensures { seen_stage result
+        ≡ after_source (seen_command command.entry) (form_of function.entry) }
+{
+    match command {
+        Command::Vectors { tests, .. } => Stage::Tests(tests, function),
+    }
+}
+
 // The stage after the source of a command.
 fn after_source<'a>(
     alloc: Global,
@@ -38,9 +48,7 @@ fn after_source<'a>(
     ensures { Gives seen_stage (Judges (source (seen_command command.entry)) bytes.now) result }
 {
     let function = judge_source(alloc, bytes)?;
-    match command {
-        Command::Vectors { tests, .. } => Ok(Stage::Tests(tests, function)),
-    }
+    Ok(accepted(command, function))
 }
 
 // The stage after the tests file.

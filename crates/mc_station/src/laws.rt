@@ -1,7 +1,7 @@
 //! Laws of what calls lead to.
 ghost use Rattle.mc_station.specs.Laws as laws;
 
-/// Words and files call for at most one reply.
+/// Words and files call for at most one reply, but for the place of a fault of the syntax.
 pub fn one_reply()
     ensures { laws.OneReply }
 {}

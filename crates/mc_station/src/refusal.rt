@@ -2,6 +2,7 @@
 
 use crate::file::File;
 use mc_lex::Place;
+use mc_subset::Form;
 use std::alloc::AllocError;
 
 /// Why a file is refused.
@@ -11,6 +12,8 @@ pub enum Refusal<'w> {
     TooLong(File<'w>),
     /// The source has a fault at a place, and this is its kind.
     Fault { place: Place, word: &'static str },
+    /// The source has a form of C at a place that the profile leaves out.
+    Outside { place: Place, form: Form },
     /// The source has not the first form.
     SourceForm,
     /// The tests file has not the form that it has so far.

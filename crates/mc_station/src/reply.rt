@@ -76,7 +76,9 @@ impl Refusal<'_> {
     {
         match self {
             Refusal::TooLong(file) => file.kind.refused(),
-            Refusal::Fault { .. } | Refusal::SourceForm => Status::SourceRefused,
+            Refusal::Fault { .. } | Refusal::Outside { .. } | Refusal::SourceForm => {
+                Status::SourceRefused
+            }
             Refusal::TestsForm => Status::TestsRefused,
         }
     }

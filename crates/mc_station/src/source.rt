@@ -1,19 +1,28 @@
 //! Which sources are accepted: by phases, of which the first with a fault answers.
-ghost use Rattle.std.specs.Prelude.{◌≡◌, ◌≤◌, ◌<◌, ◌^◌, length};
+ghost use Rattle.std.specs.Prelude.{◌≡◌, ◌≤◌, ◌<◌, ◌^◌, All, IfOk, drop, length};
 ghost use Rattle.mc_first.specs.Seen.{form_of};
+ghost use Rattle.mc_lex.specs.Lines.{column_of, line_of};
+ghost use Rattle.mc_lex.specs.Returned.{IsSlice};
 ghost use Rattle.mc_lex.specs.Tokens.{toks_of};
+ghost use Rattle.mc_tree.specs.Units.{items_of};
 ghost use Rattle.mc_station.specs.Seen.{Gives};
-ghost use Rattle.mc_station.specs.Source.{Forms, JudgesSource, Lexes};
+ghost use Rattle.mc_station.specs.Source.{Admits, Forms, JudgesSource, JudgesTokens, JudgesTree, Lexes, Parses};
+ghost use Rattle.mc_station.specs.Texts.{start_of};
 
 use crate::refusal::{Refusal, Stop};
 use mc_first::{Function, read_function};
-use mc_lex::{Dialect, Token, lex, place_of};
+use mc_lex::{Dialect, Place, Token, lex, place_of};
+use mc_parse::{ParseFault, parse};
+use mc_subset::check;
+use mc_tree::Unit;
 use std::alloc::Global;
 
-// The first phase: the tokens.
+// The phase of the tokens.
 fn lexed<'a>(alloc: Global, source: &'a [u8]) -> Result<Vec<Token<'a>>, Stop<'a>>
     requires { length source.now < 2 ^ 31 }
-    ensures { Gives (λ tokens. toks_of tokens.items) (Lexes source.now) result }
+    ensures lexes { Gives (λ tokens. toks_of tokens.items) (Lexes source.now) result }
+    ensures slices { IfOk result (λ tokens. All (IsSlice source.now) (toks_of tokens.items)) }
+    ensures few { IfOk result (λ tokens. length tokens.items ≤ length source.now) }
 {
     match lex(alloc, source, Dialect::Plain) {
         Ok(tokens) => Ok(tokens),
@@ -27,15 +36,94 @@ fn lexed<'a>(alloc: Global, source: &'a [u8]) -> Result<Vec<Token<'a>>, Stop<'a>
     }
 }
 
-// The last phase so far: the first form.
-fn formed<'a>(alloc: Global, tokens: &[Token<'a>]) -> Result<Function<'a>, Stop<'a>>
-    ensures { Gives form_of (Forms (toks_of tokens.now)) result }
+// The place of the byte at an offset, or of the source's end where the offset is greater.
+#[tactic(auto, using(std::proofs::lemmas::List::take_min))]
+fn place_within(source: &[u8], at: u32) -> Place
+    requires { length source.now < 2 ^ 31 }
+    ensures line { result.line ≡ line_of source.now at }
+    ensures column { result.column ≡ column_of source.now at }
 {
-    match read_function(alloc, tokens) {
+    place_of(source, at.min(source.len() as u32))
+}
+
+// Where a token starts, by how many come before it, or the source's end.
+#[tactic(auto, using(crate::proofs::Places::start_some, crate::proofs::Places::start_none))]
+fn start_of(source: &[u8], tokens: &[Token<'_>], at: u32) -> u32
+    requires { length source.now < 2 ^ 31 }
+    ensures { result ≡ start_of source.now (drop at (toks_of tokens.now)) }
+{
+    match tokens.get(at as usize) {
+        Some(token) => token.start,
+        None => source.len() as u32,
+    }
+}
+
+// The phase of the syntax.
+#[tactic(auto, using(crate::proofs::Places::slices_short))]
+fn parsed<'a>(alloc: Global, source: &[u8], tokens: &[Token<'a>]) -> Result<Unit<'a>, Stop<'a>>
+    requires short { length source.now < 2 ^ 31 }
+    requires slices { All (IsSlice source.now) (toks_of tokens.now) }
+    requires few { length tokens.now ≤ length source.now }
+    ensures { Gives (λ unit. items_of unit.items.items)
+        (Parses source.now (toks_of tokens.now)) result }
+{
+    match parse(alloc, tokens, Dialect::Plain) {
+        Ok(unit) => Ok(unit),
+        Err(ParseFault::Syntax { at }) => Err(Stop::Refused(Refusal::Fault {
+            place: place_within(source, start_of(source, tokens, at)),
+            word: "syntax",
+        })),
+        Err(ParseFault::OutOfMemory) => Err(Stop::OutOfMemory),
+    }
+}
+
+// The phase of the outside forms.
+fn admitted<'a>(source: &[u8], unit: &Unit<'_>) -> Result<(), Stop<'a>>
+    requires { length source.now < 2 ^ 31 }
+    ensures { Gives (λ u. u) (Admits source.now (items_of unit.now.items.items)) result }
+{
+    match check(unit) {
+        Ok(()) => Ok(()),
+        Err(outside) => Err(Stop::Refused(Refusal::Outside {
+            place: place_within(source, outside.span.start),
+            form: outside.form,
+        })),
+    }
+}
+
+// The last phase so far: the first form.
+fn formed<'a>(alloc: Global, unit: &Unit<'a>) -> Result<Function<'a>, Stop<'a>>
+    ensures { Gives form_of (Forms (items_of unit.now.items.items)) result }
+{
+    match read_function(alloc, unit) {
         Ok(Some(function)) => Ok(function),
         Ok(None) => Err(Stop::Refused(Refusal::SourceForm)),
         Err(_) => Err(Stop::OutOfMemory),
     }
+}
+
+// The phases after the syntax.
+fn judge_tree<'a>(alloc: Global, source: &[u8], unit: &Unit<'a>) -> Result<Function<'a>, Stop<'a>>
+    requires { length source.now < 2 ^ 31 }
+    ensures { Gives form_of (JudgesTree source.now (items_of unit.now.items.items)) result }
+{
+    admitted(source, unit)?;
+    formed(alloc, unit)
+}
+
+// The phases after the tokens.
+fn judge_tokens<'a>(
+    alloc: Global,
+    source: &[u8],
+    tokens: &[Token<'a>],
+) -> Result<Function<'a>, Stop<'a>>
+    requires short { length source.now < 2 ^ 31 }
+    requires slices { All (IsSlice source.now) (toks_of tokens.now) }
+    requires few { length tokens.now ≤ length source.now }
+    ensures { Gives form_of (JudgesTokens source.now (toks_of tokens.now)) result }
+{
+    let unit = parsed(alloc, source, tokens)?;
+    judge_tree(alloc, source, &unit)
 }
 
 /// The function that a source is, by its phases.
@@ -44,5 +132,5 @@ pub fn judge_source<'a>(alloc: Global, source: &'a [u8]) -> Result<Function<'a>,
     ensures { Gives form_of (JudgesSource source.now) result }
 {
     let tokens = lexed(alloc, source)?;
-    formed(alloc, &tokens)
+    judge_tokens(alloc, source, &tokens)
 }

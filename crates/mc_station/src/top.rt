@@ -67,8 +67,8 @@ pub fn station<S: Store, K: Sink, E: Sink, G: Gate>(
         (S.state store.old).asked (S.state store.new).asked
         (K.written out.old) (K.written out.new) (E.written diag.old) (E.written diag.new) }
 
-    // With 7 first parts of the texts of such a reply were put. Where they say that a file cannot be
-    // read, the store failed in this call.
+    // With 7 first parts of the texts of such a reply were put. Where they say that a file cannot
+    // be read, the store failed in this call.
     ensures part { result ≡ 7 → ToldPart (call_of words.now (S.state store.old))
         (S.state store.old) (S.state store.new)
         (K.written out.old) (K.written out.new) (E.written diag.old) (E.written diag.new) }
@@ -88,7 +88,8 @@ pub fn station<S: Store, K: Sink, E: Sink, G: Gate>(
         → ¬ (Rose (E.faults diag.old) (E.faults diag.new))
         → (result ≡ number_of reply.status) ⊎ (result ≡ 8) }
 {
-    let mut slots = [Vec::new(alloc), Vec::new(alloc)];
+    // A slot for the bytes of each file; there is room for a command with three.
+    let mut slots = [Vec::new(alloc), Vec::new(alloc), Vec::new(alloc)];
     match run(alloc, store, first_stage(words), &mut slots) {
         Ok(reply) => match put(&reply, out, diag) {
             Ok(()) => reply.status.number(),

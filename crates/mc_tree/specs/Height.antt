@@ -1,5 +1,6 @@
--- The height of a tree. Expressions, parentheses round an expression, statements, initializers, and the lists of a structure
--- or an enumeration each count one level. Specifiers, declarators and declarations add none of their own.
+-- The height of a tree. Expressions, parentheses round an expression, statements, initializers, and
+-- the lists of a structure or an enumeration each count one level. Specifiers, declarators and
+-- declarations add none of their own.
 use Rattle.std.specs.Prelude.{ℕ, ◌+◌, max, List, [], ◌∷◌, Option, Some, None}
 use Rattle.mc_tree.specs.Tree.{Expression, Expressions, TypeName, Specifier, Specifiers, StructMember, Members, Enumerator, Enumerators, Declarator, Declarators, ArrayLengths, Parameters, Parameter, ParameterList, Initializer, Initializers, InitDeclarator, Declaration, ForStart, Statement, BlockItems, Item}
 use Rattle.mc_tree.specs.Tree as t
@@ -75,11 +76,13 @@ abbrev mutual
   height_parameters (t.Listed ps span) = height_parameter_list ps
 
   pub height_parameter : Parameter → ℕ
-  height_parameter (t.parameter s stars name all span) = max (height_specifiers s) (height_lengths all)
+  height_parameter (t.parameter s stars name all span) =
+      max (height_specifiers s) (height_lengths all)
 
   pub height_parameter_list : ParameterList → ℕ
   height_parameter_list t.no_parameters = 0
-  height_parameter_list (t.parameters p rest) = max (height_parameter p) (height_parameter_list rest)
+  height_parameter_list (t.parameters p rest) =
+      max (height_parameter p) (height_parameter_list rest)
 
 abbrev mutual
   pub height_initializer : Initializer → ℕ
@@ -88,18 +91,21 @@ abbrev mutual
 
   pub height_initializers : Initializers → ℕ
   height_initializers t.no_initializers = 0
-  height_initializers (t.initializers one rest) = max (height_initializer one) (height_initializers rest)
+  height_initializers (t.initializers one rest) =
+      max (height_initializer one) (height_initializers rest)
 
 abbrev pub height_init_declarator : InitDeclarator → ℕ
 height_init_declarator (t.bare d) = height_declarator d
-height_init_declarator (t.initialized d value) = max (height_declarator d) (height_initializer value)
+height_init_declarator (t.initialized d value) =
+    max (height_declarator d) (height_initializer value)
 
 abbrev pub height_init_declarators : List InitDeclarator → ℕ
 height_init_declarators [] = 0
 height_init_declarators (d ∷ ds) = max (height_init_declarator d) (height_init_declarators ds)
 
 abbrev pub height_declaration : Declaration → ℕ
-height_declaration (t.declaration s ds span) = max (height_specifiers s) (height_init_declarators ds)
+height_declaration (t.declaration s ds span) =
+    max (height_specifiers s) (height_init_declarators ds)
 
 abbrev pub height_optional : Option Expression → ℕ
 height_optional None = 0
@@ -115,11 +121,14 @@ abbrev mutual
   height_statement (t.Null span) = 1
   height_statement (t.ExpressionStatement a span) = height a + 1
   height_statement (t.If a s span) = max (height a) (height_statement s) + 1
-  height_statement (t.IfElse a s u span) = max (height a) (max (height_statement s) (height_statement u)) + 1
+  height_statement (t.IfElse a s u span) =
+      max (height a) (max (height_statement s) (height_statement u)) + 1
   height_statement (t.Switch a s span) = max (height a) (height_statement s) + 1
   height_statement (t.While a s span) = max (height a) (height_statement s) + 1
   height_statement (t.DoWhile s a span) = max (height_statement s) (height a) + 1
-  height_statement (t.For start a b s span) = max (max (height_start start) (max (height_optional a) (height_optional b))) (height_statement s) + 1
+  height_statement (t.For start a b s span) =
+      max (max (height_start start) (max (height_optional a) (height_optional b)))
+      (height_statement s) + 1
   height_statement (t.Case a label s span) = max (height a) (height_statement s) + 1
   height_statement (t.Default label s span) = height_statement s + 1
   height_statement (t.Label name s span) = height_statement s + 1
@@ -136,7 +145,8 @@ abbrev mutual
 -- The body of a function is a compound, and a compound is a statement.
 abbrev pub height_item : Item → ℕ
 height_item (t.Declared d) = height_declaration d
-height_item (t.Defined s d b span) = max (height_specifiers s) (max (height_declarator d) (height_block b + 1))
+height_item (t.Defined s d b span) =
+    max (height_specifiers s) (max (height_declarator d) (height_block b + 1))
 
 abbrev pub height_unit : List Item → ℕ
 height_unit [] = 0

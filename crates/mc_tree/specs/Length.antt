@@ -3,7 +3,8 @@ use Rattle.std.specs.Prelude.{ℕ, zero, suc, ◌+◌, List, [], ◌∷◌, Opti
 use Rattle.mc_tree.specs.Tree.{Name, Expression, Expressions, TypeName, Specifier, Specifiers, StructMember, Members, Enumerator, Enumerators, Declarator, Declarators, ArrayLengths, Parameters, Parameter, ParameterList, Initializer, Initializers, InitDeclarator, Declaration, ForStart, Statement, BlockItems, Item}
 use Rattle.mc_tree.specs.Tree as t
 
--- the rest of a list with commas: a comma stands before it where it has tokens, as each part of a tree of the grammar has
+-- the rest of a list with commas: a comma stands before it where it has tokens, as each part of a
+-- tree of the grammar has
 abbrev pub after_comma : ℕ → ℕ
 after_comma zero = 0
 after_comma (suc n) = n + 2
@@ -83,7 +84,8 @@ abbrev mutual
   of_parameters (t.Listed ps span) = of_parameter_list ps + 2
 
   pub of_parameter : Parameter → ℕ
-  of_parameter (t.parameter s stars name all span) = of_specifiers s + stars + of_name name + of_lengths all
+  of_parameter (t.parameter s stars name all span) = of_specifiers s + stars + of_name name
+      + of_lengths all
 
   pub of_parameter_list : ParameterList → ℕ
   of_parameter_list t.no_parameters = 0
@@ -96,7 +98,8 @@ abbrev mutual
 
   pub of_initializers : Initializers → ℕ
   of_initializers t.no_initializers = 0
-  of_initializers (t.initializers one rest) = of_initializer one + after_comma (of_initializers rest)
+  of_initializers (t.initializers one rest) = of_initializer one
+      + after_comma (of_initializers rest)
 
 abbrev pub of_init_declarator : InitDeclarator → ℕ
 of_init_declarator (t.bare d) = of_declarator d
@@ -128,7 +131,8 @@ abbrev mutual
   of_statement (t.Switch a s span) = of_expression a + of_statement s + 3
   of_statement (t.While a s span) = of_expression a + of_statement s + 3
   of_statement (t.DoWhile s a span) = of_statement s + of_expression a + 5
-  of_statement (t.For start a b s span) = of_start start + of_optional a + of_optional b + of_statement s + 4
+  of_statement (t.For start a b s span) = of_start start + of_optional a + of_optional b
+      + of_statement s + 4
   of_statement (t.Case a label s span) = of_expression a + of_statement s + 2
   of_statement (t.Default label s span) = of_statement s + 2
   of_statement (t.Label name s span) = of_statement s + 2

@@ -1,5 +1,5 @@
--- The tree of a translation unit, without where it lies in memory: one case for each alternative of the
--- grammar, parts in the order of the text. Parentheses leave a node.
+-- The tree of a translation unit, without where it lies in memory: one case for each alternative of
+-- the grammar, parts in the order of the text. Parentheses leave a node.
 use Rattle.std.specs.Prelude.{ℕ, ℤ, Bool, List, Option}
 use Rattle.mc_span.specs.declared.span.Span.{Span}
 use Rattle.mc_tree.specs.declared.expressions.unary_operator.UnaryOperator.{UnaryOperator}
@@ -87,7 +87,8 @@ mutual
     absent_length : ArrayLengths → ArrayLengths
     given_length : Expression → ArrayLengths → ArrayLengths
 
-  -- what stands between the parentheses of a function's declarator, and where they stand (C17 6.7.6.3)
+  -- what stands between the parentheses of a function's declarator, and where they stand (C17
+  -- 6.7.6.3)
   pub data Parameters : Type 0 where
     Empty : Span → Parameters
     Void : Span → Parameters

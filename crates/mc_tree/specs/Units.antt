@@ -31,10 +31,12 @@ initializer_of = fold-Initializer t.Initializer node_initializer
 
 abbrev pub init_declarator_of : InitDeclarator → t.InitDeclarator
 init_declarator_of (init.Bare declarator) = t.bare (declarator_of declarator)
-init_declarator_of (init.Initialized declarator value) = t.initialized (declarator_of declarator) (initializer_of value)
+init_declarator_of (init.Initialized declarator value) =
+    t.initialized (declarator_of declarator) (initializer_of value)
 
 abbrev pub declaration_of : Declaration → t.Declaration
-declaration_of d = t.declaration (specifiers_from (map specifier_of d.specifiers.items)) (map init_declarator_of d.declarators.items) d.span
+declaration_of d = t.declaration (specifiers_from (map specifier_of d.specifiers.items))
+    (map init_declarator_of d.declarators.items) d.span
 
 abbrev pub start_of : ForStart → t.ForStart
 start_of (start.Local declaration) = t.StartsLocal (declaration_of declaration)
@@ -45,21 +47,27 @@ abbrev pub block_from : List (t.BlockItems → t.BlockItems) → t.BlockItems
 block_from [] = t.no_block_items
 block_from (one ∷ rest) = one (block_from rest)
 
-abbrev pub node_block_item : BlockItem-F (t.BlockItems → t.BlockItems) t.Statement → t.BlockItems → t.BlockItems
+abbrev pub node_block_item : BlockItem-F (t.BlockItems → t.BlockItems) t.Statement → t.BlockItems
+    → t.BlockItems
 node_block_item (BlockItem-F.Local declaration) = t.local (declaration_of declaration)
 node_block_item (BlockItem-F.Statement one) = t.statement one.value
 
 abbrev pub node_statement : Statement-F (t.BlockItems → t.BlockItems) t.Statement → t.Statement
 node_statement (Statement-F.Compound items span) = t.Compound (block_from items.items) span
 node_statement (Statement-F.Null span) = t.Null span
-node_statement (Statement-F.Expression value span) = t.ExpressionStatement (expression_of value) span
+node_statement (Statement-F.Expression value span) =
+    t.ExpressionStatement (expression_of value) span
 node_statement (Statement-F.If test chosen span) = t.If (expression_of test) chosen.value span
-node_statement (Statement-F.IfElse test chosen other span) = t.IfElse (expression_of test) chosen.value other.value span
+node_statement (Statement-F.IfElse test chosen other span) =
+    t.IfElse (expression_of test) chosen.value other.value span
 node_statement (Statement-F.Switch value body span) = t.Switch (expression_of value) body.value span
 node_statement (Statement-F.While test body span) = t.While (expression_of test) body.value span
 node_statement (Statement-F.DoWhile body test span) = t.DoWhile body.value (expression_of test) span
-node_statement (Statement-F.For start test step body span) = t.For (start_of start) (option_map expression_of test) (option_map expression_of step) body.value span
-node_statement (Statement-F.Case value label body span) = t.Case (expression_of value) label body.value span
+node_statement (Statement-F.For start test step body span) =
+    t.For (start_of start) (option_map expression_of test) (option_map expression_of step)
+    body.value span
+node_statement (Statement-F.Case value label body span) =
+    t.Case (expression_of value) label body.value span
 node_statement (Statement-F.Default label body span) = t.Default label body.value span
 node_statement (Statement-F.Label name body span) = t.Label (name_of name) body.value span
 node_statement (Statement-F.Goto name span) = t.Goto (name_of name) span
@@ -68,14 +76,18 @@ node_statement (Statement-F.Continue span) = t.Continue span
 node_statement (Statement-F.Return value span) = t.Return (option_map expression_of value) span
 
 abbrev pub statement_of : Statement → t.Statement
-statement_of = fold-Statement (t.BlockItems → t.BlockItems) t.Statement node_block_item node_statement
+statement_of = fold-Statement (t.BlockItems → t.BlockItems) t.Statement node_block_item
+    node_statement
 
 abbrev pub block_item_of : BlockItem → t.BlockItems → t.BlockItems
-block_item_of = fold-BlockItem (t.BlockItems → t.BlockItems) t.Statement node_block_item node_statement
+block_item_of = fold-BlockItem (t.BlockItems → t.BlockItems) t.Statement node_block_item
+    node_statement
 
 abbrev pub item_of : Item → t.Item
 item_of (item.Declared declaration) = t.Declared (declaration_of declaration)
-item_of (item.Defined specifiers declarator body span) = t.Defined (specifiers_from (map specifier_of specifiers.items)) (declarator_of declarator) (block_from (map block_item_of body.items)) span
+item_of (item.Defined specifiers declarator body span) =
+    t.Defined (specifiers_from (map specifier_of specifiers.items)) (declarator_of declarator)
+    (block_from (map block_item_of body.items)) span
 
 abbrev pub items_of : List Item → List t.Item
 items_of items = map item_of items

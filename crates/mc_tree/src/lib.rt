@@ -3,7 +3,6 @@
 
 mod declarations;
 mod expressions;
-mod first;
 mod heights;
 mod identifier;
 mod statements;
@@ -24,7 +23,6 @@ pub use expressions::binary_operator::BinaryOperator;
 pub use expressions::expression::Expression;
 pub use expressions::step_operator::StepOperator;
 pub use expressions::unary_operator::UnaryOperator;
-pub use first::FirstTree;
 pub use heights::height;
 pub use identifier::Identifier;
 pub use mc_span::Span;

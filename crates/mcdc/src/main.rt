@@ -14,8 +14,8 @@ const MAX_WORDS: u32 = 1 << 31;
 
 const NO_MEMORY: u8 = 8;
 
-// The words after the program's own name. Where one of them is not text there are none, which is not a
-// command.
+// The words after the program's own name. Where one of them is not text there are none, which is
+// not a command.
 fn read_words<R: Env + AllocGlobal>(rt: &R, alloc: Global) -> Result<Words, AllocError> {
     let mut words = Words::new(alloc);
     let args = match env::args(rt) {

@@ -7,107 +7,136 @@ use std::test::Fail;
 
 const NOT_BUILT: (u8, &str, &str) = (4, "", "mcdc: tests: form not built\n");
 
+const NAME_64: &str = "aaaaaaaaaaaaaaaabbbbbbbbbbbbbbbbccccccccccccccccdddddddddddddddd";
+
 /// A tests file of the header and these lines gives this.
 fn lists(rt: &impl Abort, alloc: Global, lines: &str, want: (u8, &str, &str)) -> Result<(), Fail> {
     let mut tests = String::from_str(alloc, HEADER)?;
     tests.push_str(lines)?;
-    let setting = plain(SOURCE.as_bytes(), tests.as_bytes());
+    let mut setting = plain(SOURCE.as_bytes(), tests.as_bytes());
+    setting.room = 200000;
     gives(rt, alloc, &setting, lines, want)
 }
 
 const ONE: &str = "test t1 pass values 1 output\nD1 TT=T by t1\n";
 
-const NAME_64: &str = "aaaaaaaaaaaaaaaabbbbbbbbbbbbbbbbccccccccccccccccdddddddddddddddd";
-
-/// What follows the header of a tests file, and what the run gives.
-const AFTER_HEADER: [(&str, (u8, &str, &str)); 37] = [
-    ("t1,f,1 1,,,", (0, ONE, "")),
-    ("t1,f,1 1,,,\n", (0, ONE, "")),
-    ("t1,f,1 1,,,\r\n", (0, ONE, "")),
-    ("\nt1,f,1 1,,,\n\n", (0, ONE, "")),
-    ("\"t1\",\"f\",\"1 1\",\"\",\"\",\"\"\n", (0, ONE, "")),
-    ("t1,f,-1 2147483647,,,\n", (0, ONE, "")),
+/// What follows the header of a tests file that is accepted, and what the run writes.
+const ACCEPTED: [(&str, &str); 9] = [
+    ("t1,f,1 1,,,", ONE),
+    ("t1,f,1 1,,,\n", ONE),
+    ("t1,f,1 1,,,\r\n", ONE),
+    ("\nt1,f,1 1,,,\n\n", ONE),
+    ("\"t1\",\"f\",\"1 1\",\"\",\"\",\"\"\n", ONE),
+    ("t1,f,-1 2147483647,,,\n", ONE),
     (
         "t1,f,-2147483648 0,,,\n",
-        (0, "test t1 pass values 0 output\nD1 TF=F by t1\n", ""),
+        "test t1 pass values 0 output\nD1 TF=F by t1\n",
     ),
     (
         "A_z-0.9,f,0 0,,,\n",
-        (
-            0,
-            "test A_z-0.9 pass values 0 output\nD1 F-=F by A_z-0.9\n",
-            "",
-        ),
+        "test A_z-0.9 pass values 0 output\nD1 F-=F by A_z-0.9\n",
     ),
     // a vector is the least test's that evaluates it
     (
         "z,f,0 5,,,\na,f,0 6,,,\n",
-        (
-            0,
-            "test z pass values 0 output\ntest a pass values 0 output\nD1 F-=F by z\n",
-            "",
-        ),
+        "test z pass values 0 output\ntest a pass values 0 output\nD1 F-=F by z\n",
     ),
-    ("t1,f,-0 1,,,\n", NOT_BUILT),
-    ("t1,f,01 1,,,\n", NOT_BUILT),
-    ("t1,f,+1 1,,,\n", NOT_BUILT),
-    ("t1,f,2147483648 1,,,\n", NOT_BUILT),
-    ("t1,f,-2147483649 1,,,\n", NOT_BUILT),
-    ("t1,f,1  1,,,\n", NOT_BUILT),
-    ("t1,f, 1 1,,,\n", NOT_BUILT),
-    ("t1,f,1 1 ,,,\n", NOT_BUILT),
-    ("t1,f,1\t1,,,\n", NOT_BUILT),
-    ("t1,f,1,,,\n", NOT_BUILT),
-    ("t1,f,1 1 1,,,\n", NOT_BUILT),
-    ("t1,f,,,,\n", NOT_BUILT),
-    ("t1,f,1 a,,,\n", NOT_BUILT),
-    ("t1,f,1 -,,,\n", NOT_BUILT),
-    ("t1,f,1 \01,,,\n", NOT_BUILT),
-    ("t\01,f,1 1,,,\n", NOT_BUILT),
-    ("t1,f,1 1,\0,,\n", NOT_BUILT),
-    ("t1,g,1 1,,,\n", NOT_BUILT),
-    ("t1,,1 1,,,\n", NOT_BUILT),
-    (",f,1 1,,,\n", NOT_BUILT),
-    ("t 1,f,1 1,,,\n", NOT_BUILT),
-    ("t1,f,1 1,0,,\n", NOT_BUILT),
-    ("t1,f,1 1,,1,\n", NOT_BUILT),
-    ("t1,f,1 1,,,1\n", NOT_BUILT),
-    ("t1,f,1 1,,\n", NOT_BUILT),
-    ("t1,f,1 1,,,,\n", NOT_BUILT),
-    ("t1,f,1 1,,,\nt1,f,1 0,,,\n", NOT_BUILT),
-    ("t1,f,1 1,,,\nt2,f,1 0,,,\nt1,f,1 1,,,\n", NOT_BUILT),
 ];
 
 #[test]
-fn tests_after_the_header(rt: HostRuntime) -> Result<(), Fail> {
-    for (lines, want) in AFTER_HEADER {
-        lists(&rt, rt.alloc(), lines, want)?;
+fn tests_that_are_accepted(rt: HostRuntime) -> Result<(), Fail> {
+    for (lines, out) in ACCEPTED {
+        lists(&rt, rt.alloc(), lines, (0, out, ""))?;
     }
     Ok(())
 }
 
-/// Tests files, and what the run gives.
-const WHOLE_FILES: [(&str, (u8, &str, &str)); 10] = [
-    ("test,call,arguments,inputs,expect,output", (0, "", "")),
-    ("test,call,arguments,inputs,expect,output\r\n", (0, "", "")),
-    (
-        "\"test\",call,arguments,inputs,expect,output\n",
-        (0, "", ""),
-    ),
-    ("", NOT_BUILT),
-    ("\n", NOT_BUILT),
-    ("t1,f,1 1,,,\n", NOT_BUILT),
-    ("test,call,arguments,inputs,expect\n", NOT_BUILT),
-    ("test,call,arguments,inputs,expect,output,\n", NOT_BUILT),
-    ("test,call,arguments,expect,inputs,output\n", NOT_BUILT),
-    ("Test,call,arguments,inputs,expect,output\n", NOT_BUILT),
+/// What follows the header of a tests file that is refused.
+const REFUSED: [&str; 28] = [
+    "t1,f,-0 1,,,\n",
+    "t1,f,01 1,,,\n",
+    "t1,f,+1 1,,,\n",
+    "t1,f,2147483648 1,,,\n",
+    "t1,f,-2147483649 1,,,\n",
+    "t1,f,1  1,,,\n",
+    "t1,f, 1 1,,,\n",
+    "t1,f,1 1 ,,,\n",
+    "t1,f,1\t1,,,\n",
+    "t1,f,1,,,\n",
+    "t1,f,1 1 1,,,\n",
+    "t1,f,,,,\n",
+    "t1,f,1 a,,,\n",
+    "t1,f,1 -,,,\n",
+    "t1,f,1 \01,,,\n",
+    "t\01,f,1 1,,,\n",
+    "t1,f,1 1,\0,,\n",
+    "t1,g,1 1,,,\n",
+    "t1,,1 1,,,\n",
+    ",f,1 1,,,\n",
+    "t 1,f,1 1,,,\n",
+    "t1,f,1 1,0,,\n",
+    "t1,f,1 1,,1,\n",
+    "t1,f,1 1,,,1\n",
+    "t1,f,1 1,,\n",
+    "t1,f,1 1,,,,\n",
+    "t1,f,1 1,,,\nt1,f,1 0,,,\n",
+    "t1,f,1 1,,,\nt2,f,1 0,,,\nt1,f,1 1,,,\n",
+];
+
+#[test]
+fn tests_that_are_refused(rt: HostRuntime) -> Result<(), Fail> {
+    for lines in REFUSED {
+        lists(&rt, rt.alloc(), lines, NOT_BUILT)?;
+    }
+    Ok(())
+}
+
+/// A tests file gives this.
+fn is_judged(
+    rt: &impl Abort,
+    alloc: Global,
+    tests: &str,
+    want: (u8, &str, &str),
+) -> Result<(), Fail> {
+    gives(
+        rt,
+        alloc,
+        &plain(SOURCE.as_bytes(), tests.as_bytes()),
+        tests,
+        want,
+    )
+}
+
+/// Headers.
+const HEADERS: [&str; 3] = [
+    "test,call,arguments,inputs,expect,output",
+    "test,call,arguments,inputs,expect,output\r\n",
+    "\"test\",call,arguments,inputs,expect,output\n",
 ];
 
 #[test]
 fn headers(rt: HostRuntime) -> Result<(), Fail> {
-    for (tests, want) in WHOLE_FILES {
-        let setting = plain(SOURCE.as_bytes(), tests.as_bytes());
-        gives(&rt, rt.alloc(), &setting, tests, want)?;
+    for tests in HEADERS {
+        is_judged(&rt, rt.alloc(), tests, (0, "", ""))?;
+    }
+    Ok(())
+}
+
+/// Tests files without a header.
+const NO_HEADER: [&str; 7] = [
+    "",
+    "\n",
+    "t1,f,1 1,,,\n",
+    "test,call,arguments,inputs,expect\n",
+    "test,call,arguments,inputs,expect,output,\n",
+    "test,call,arguments,expect,inputs,output\n",
+    "Test,call,arguments,inputs,expect,output\n",
+];
+
+#[test]
+fn files_without_a_header(rt: HostRuntime) -> Result<(), Fail> {
+    for tests in NO_HEADER {
+        is_judged(&rt, rt.alloc(), tests, NOT_BUILT)?;
     }
     Ok(())
 }

@@ -1,5 +1,5 @@
-//! Tests of the top call and of the crates that only it stands on: what no clause says. Runs succeed with
-//! ample memory, and the definitions are the ones meant.
+//! Tests of the top call and of the crates that only it stands on: what no clause says. Runs
+//! succeed with ample memory, and the definitions are the ones meant.
 #![tactic(auto)]
 
 #[cfg(test)]

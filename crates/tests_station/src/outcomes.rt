@@ -77,7 +77,8 @@ const COMMAND: [&str; 4] = ["vectors", "s.c", "t.csv", ""];
 
 const OTHER: [&str; 4] = ["report", "s.c", "t.csv", ""];
 
-/// A case, its words, the load that fails, the puts that fail on both sinks, and what the run gives.
+/// A case, its words, the load that fails, the puts that fail on both sinks, and what the run
+/// gives.
 const FAULTS: [(
     &str,
     [&str; 4],

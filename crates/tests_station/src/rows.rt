@@ -46,12 +46,15 @@ fn reads_every_record(rt: HostRuntime) -> Result<(), Fail> {
     Ok(())
 }
 
+/// Places in the record `a,b`, and the field at each; there is nothing after the last.
+const FIELDS: [(usize, &str); 4] = [(0, "a"), (1, "b"), (2, ""), (usize::MAX, "")];
+
 #[test]
 fn has_no_field_past_the_last(rt: HostRuntime) -> Result<(), Fail> {
     let mut rows = Rows::of(rt.alloc(), b"a,b");
     let row = rows.next_row()?.ok_or("no record")?;
-    assert_eq!(rt; row.field(1), b"b".as_slice());
-    assert_eq!(rt; row.field(2), b"".as_slice());
-    assert_eq!(rt; row.field(usize::MAX), b"".as_slice());
+    for (at, want) in FIELDS {
+        assert!(rt; row.field(at) == want.as_bytes(), "field {at}");
+    }
     Ok(())
 }

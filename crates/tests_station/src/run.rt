@@ -13,13 +13,16 @@ pub const SOURCE: &str = "int f(int a,int b){return a&&b;}";
 pub const TESTS: &str =
     "test,call,arguments,inputs,expect,output\nt1,f,1 1,,,\nt2,f,1 0,,,\nt3,f,0 1,,,\n";
 
-/// A run: the first so many of four words, the bytes of `s.c` and `t.csv`, and where the outside fails.
+/// A run: the first so many of four words, the bytes of `s.c` and `t.csv`, and where the outside
+/// fails.
 #[derive(Clone, Copy)]
 pub struct Setting<'a> {
     pub words: [&'a str; 4],
     pub count: usize,
     pub source: &'a [u8],
     pub tests: &'a [u8],
+    /// How many bytes the output takes.
+    pub room: u32,
     pub failing_load: u32,
     pub failing_out: (u32, u32),
     pub failing_diag: (u32, u32),
@@ -32,6 +35,7 @@ pub fn plain<'a>(source: &'a [u8], tests: &'a [u8]) -> Setting<'a> {
         count: 3,
         source,
         tests,
+        room: 4096,
         failing_load: 0,
         failing_out: (0, 0),
         failing_diag: (0, 0),
@@ -76,7 +80,7 @@ struct Given {
 fn run(alloc: Global, setting: &Setting<'_>) -> Result<Given, Fail> {
     let words = words_of(alloc, setting)?;
     let mut store = store_of(alloc, setting)?;
-    let mut out = sink_of(alloc, 200000, setting.failing_out)?;
+    let mut out = sink_of(alloc, setting.room, setting.failing_out)?;
     let mut diag = sink_of(alloc, 200, setting.failing_diag)?;
     let gate = OpenGate::new();
     let status = station(alloc, &words, &mut store, &mut out, &mut diag, &gate);
@@ -96,5 +100,17 @@ pub fn gives(
     assert_eq!(rt; given.status, status, "status of {case}");
     assert!(rt; given.out.bytes() == out.as_bytes(), "out of {case}");
     assert!(rt; given.diag.bytes() == diag.as_bytes(), "diag of {case}");
+    Ok(())
+}
+
+/// A run with a tests file of no test refuses this source with a line that ends so.
+pub fn is_refused(rt: &impl Abort, alloc: Global, source: &str, end: &str) -> Result<(), Fail> {
+    let given = run(alloc, &plain(source.as_bytes(), HEADER.as_bytes()))?;
+    assert_eq!(rt; given.status, 3, "status of {source}");
+    assert!(rt; given.out.bytes().is_empty(), "out of {source}");
+    assert!(rt;
+        given.diag.bytes().ends_with(end.as_bytes()),
+        "diag of {source}"
+    );
     Ok(())
 }

@@ -1,194 +1,305 @@
 //! Which sources are accepted, and the lines for those that are not.
 
-use crate::run::{HEADER, gives, plain};
+use crate::run::{HEADER, gives, is_refused, plain};
 use std::alloc::Global;
 use std::process::Abort;
 use std::test::Fail;
 
-const ACCEPTED: (u8, &str, &str) = (0, "", "");
+const NOT_BUILT: &str = ": form not built";
 
-const NOT_BUILT: (u8, &str, &str) = (3, "", "mcdc: source: form not built\n");
-
-/// A run with a tests file of no test gives this.
-fn is_judged(
-    rt: &impl Abort,
-    alloc: Global,
-    source: &str,
-    want: (u8, &str, &str),
-) -> Result<(), Fail> {
+/// A run with a tests file of no test accepts this source where there are no words, and else
+/// refuses it with a line that ends in them.
+fn is_judged(rt: &impl Abort, alloc: Global, source: &str, words: &str) -> Result<(), Fail> {
     let setting = plain(source.as_bytes(), HEADER.as_bytes());
-    gives(rt, alloc, &setting, source, want)
+    if words.is_empty() {
+        return gives(rt, alloc, &setting, source, (0, "", ""));
+    }
+    let line = format!(in alloc; "mcdc: source{words}\n")?;
+    gives(rt, alloc, &setting, source, (3, "", line.as_str()))
 }
 
-/// A function of three parameters that returns this expression is judged so.
-fn returns(
-    rt: &impl Abort,
-    alloc: Global,
-    expression: &str,
-    want: (u8, &str, &str),
-) -> Result<(), Fail> {
-    let mut source = String::from_str(alloc, "int f(int a,int b,int c){return ")?;
-    source.push_str(expression)?;
-    source.push_str(";}")?;
-    is_judged(rt, alloc, source.as_str(), want)
+/// A function of three parameters that returns this expression is judged so. The expression begins
+/// in column 33.
+fn returns(rt: &impl Abort, alloc: Global, expression: &str, words: &str) -> Result<(), Fail> {
+    let source = format!(in alloc; "int f(int a,int b,int c){{return {expression};}}")?;
+    is_judged(rt, alloc, source.as_str(), words)
 }
 
-/// Expressions over `a`, `b` and `c`, and how the function that returns each is judged.
-const EXPRESSIONS: [(&str, (u8, &str, &str)); 52] = [
-    ("a&&b||c", ACCEPTED),
-    ("a||b&&c", ACCEPTED),
-    ("!a", ACCEPTED),
-    ("!!a", ACCEPTED),
-    ("!(!a)", ACCEPTED),
-    ("((a))&&b", ACCEPTED),
-    ("(a&&b)", ACCEPTED),
-    ("a<1", ACCEPTED),
-    ("0==a", ACCEPTED),
-    ("(a<1)", ACCEPTED),
-    ("!(a<1)", ACCEPTED),
-    ("1<2||a", ACCEPTED),
-    ("a&&0", ACCEPTED),
-    ("a&&2147483647", ACCEPTED),
-    ("a\x0b&&\x0cb\r\n||\tc", ACCEPTED),
-    ("a/* with */&&// a comment\nb", ACCEPTED),
-    ("", NOT_BUILT),
-    ("a", NOT_BUILT),
-    ("(a)", NOT_BUILT),
-    ("1&&2", NOT_BUILT),
-    ("a<b==c", NOT_BUILT),
-    ("a==b<c", NOT_BUILT),
-    ("(a<b)==a", NOT_BUILT),
-    ("(a)<1", NOT_BUILT),
-    ("a<(1)", NOT_BUILT),
-    ("!a<b", NOT_BUILT),
-    ("!(a)<1", NOT_BUILT),
-    ("a&&", NOT_BUILT),
-    ("&&a", NOT_BUILT),
-    ("(a&&b", NOT_BUILT),
-    ("a&&b)", NOT_BUILT),
-    ("a&&d", NOT_BUILT),
-    ("a&&f", NOT_BUILT),
-    ("a&&2147483648", NOT_BUILT),
-    ("a&&007", NOT_BUILT),
-    ("a&&00", NOT_BUILT),
-    ("a&&1u", NOT_BUILT),
-    ("a&&1L", NOT_BUILT),
-    ("a&&0x1", NOT_BUILT),
-    ("a&&'a'", NOT_BUILT),
-    ("a&&-1", NOT_BUILT),
-    ("a&&&a", NOT_BUILT),
-    ("a&b", NOT_BUILT),
-    ("a<<1", NOT_BUILT),
-    ("a<=1", NOT_BUILT),
-    ("a>1", NOT_BUILT),
-    ("a!=1", NOT_BUILT),
-    ("a===1", NOT_BUILT),
-    ("a=1", NOT_BUILT),
-    ("a|||b", NOT_BUILT),
-    ("a|b", NOT_BUILT),
-    ("a&&b;", NOT_BUILT),
+/// Expressions over `a`, `b` and `c` of the first form.
+const FIRST_FORM: [&str; 16] = [
+    "a&&b||c",
+    "a||b&&c",
+    "!a",
+    "!!a",
+    "!(!a)",
+    "((a))&&b",
+    "(a&&b)",
+    "a<1",
+    "0==a",
+    "(a<1)",
+    "!(a<1)",
+    "1<2||a",
+    "a&&0",
+    "a&&2147483647",
+    "a\x0b&&\x0cb\r\n||\tc",
+    "a/* with */&&// a comment\nb",
 ];
 
 #[test]
-fn expressions(rt: HostRuntime) -> Result<(), Fail> {
-    for (expression, want) in EXPRESSIONS {
-        returns(&rt, rt.alloc(), expression, want)?;
+fn expressions_of_the_first_form(rt: HostRuntime) -> Result<(), Fail> {
+    for expression in FIRST_FORM {
+        returns(&rt, rt.alloc(), expression, "")?;
     }
     Ok(())
 }
 
-/// Sources, and how each is judged.
-const SOURCES: [(&str, (u8, &str, &str)); 34] = [
-    ("int f(int a){return(a<1);}", ACCEPTED),
-    ("\n\t int\x0bf\x0c(int\ra)\n{ return!a ; } \n", ACCEPTED),
-    ("int f(int a/*x*/,int b){return a&&b;}", ACCEPTED),
-    ("# 1 \"flap.c\"\nint f(int a,int b){return a&&b;}", ACCEPTED),
-    ("", NOT_BUILT),
-    ("/* nothing */\n", NOT_BUILT),
-    ("int f(int a){returna<1;}", NOT_BUILT),
-    ("intf(int a){return !a;}", NOT_BUILT),
-    ("int f(inta){return !a;}", NOT_BUILT),
-    ("int f(){return !0;}", NOT_BUILT),
-    ("int f(void){return !0;}", NOT_BUILT),
-    ("int f(int a,){return !a;}", NOT_BUILT),
-    ("int f(int a,int a){return !a;}", NOT_BUILT),
-    ("int f(int f){return !f;}", NOT_BUILT),
-    ("int int(int a){return !a;}", NOT_BUILT),
-    ("int f(int return){return !return;}", NOT_BUILT),
-    ("int mcdc_in(int a){return !a;}", NOT_BUILT),
-    ("int f(int mcdc_out){return !mcdc_out;}", NOT_BUILT),
-    ("int f(int a){return !a;};", NOT_BUILT),
-    ("int f(int a){return !a}", NOT_BUILT),
-    ("int f(int a){return !a;", NOT_BUILT),
-    ("int f(int a){return !a;;}", NOT_BUILT),
-    ("long f(int a){return !a;}", NOT_BUILT),
-    ("int f(int a){return !a;}int g;", NOT_BUILT),
-    (
-        "int f(int auto){return !auto;}",
-        (3, "", "mcdc: source 1:11: outside word\n"),
-    ),
-    (
-        "int f(int mcdc_r){return !mcdc_r;}",
-        (3, "", "mcdc: source 1:11: outside word\n"),
-    ),
-    ("#include <x.h>", (3, "", "mcdc: source 1:1: directive\n")),
-    ("float x;", (3, "", "mcdc: source 1:1: outside word\n")),
-    (
-        "int f(int p){return p->x;}",
-        (3, "", "mcdc: source 1:22: outside word\n"),
-    ),
-    ("int x; /* open", (3, "", "mcdc: source 1:8: token\n")),
-    (
-        "int a = 18446744073709551616;",
-        (3, "", "mcdc: source 1:9: constant too wide\n"),
-    ),
-    (
-        "int f(int a){return a@1;}",
-        (3, "", "mcdc: source 1:22: byte\n"),
-    ),
-    (
-        "int f(int a)\n{return a@1;}",
-        (3, "", "mcdc: source 2:10: byte\n"),
-    ),
-    (
-        "int x;\n\n  float y;",
-        (3, "", "mcdc: source 3:3: outside word\n"),
-    ),
+/// Expressions of the subset that have another form.
+const OTHER_FORM: [&str; 30] = [
+    "",
+    "a",
+    "(a)",
+    "1&&2",
+    "a<b==c",
+    "a==b<c",
+    "(a<b)==a",
+    "(a)<1",
+    "a<(1)",
+    "!a<b",
+    "!(a)<1",
+    "a&&d",
+    "a&&f",
+    "a&&2147483648",
+    "a&&007",
+    "a&&00",
+    "a&&1u",
+    "a&&1L",
+    "a&&0x1",
+    "a&&'a'",
+    "a&&-1",
+    "a&b",
+    "a<<1",
+    "a<=1",
+    "a>1",
+    "a!=1",
+    "a|b",
+    "a&&b;",
+    "a&&f(b)",
+    "a?b:c",
 ];
 
 #[test]
-fn whole_sources(rt: HostRuntime) -> Result<(), Fail> {
-    for (source, want) in SOURCES {
-        is_judged(&rt, rt.alloc(), source, want)?;
+fn expressions_of_another_form(rt: HostRuntime) -> Result<(), Fail> {
+    for expression in OTHER_FORM {
+        returns(&rt, rt.alloc(), expression, NOT_BUILT)?;
     }
     Ok(())
 }
 
-/// A function whose text has this many pieces between the others is judged so.
-fn repeats(
-    rt: &impl Abort,
+/// Texts that are no expressions of the subset, and why.
+const NOT_IN_THE_SUBSET: [(&str, &str); 10] = [
+    ("a&&", " 1:36: syntax"),
+    ("&&a", " 1:33: syntax"),
+    ("(a&&b", " 1:38: syntax"),
+    ("a&&b)", " 1:37: syntax"),
+    ("a&&&a", " 1:36: outside form pointer"),
+    ("a===1", " 1:36: syntax"),
+    ("a=1", " 1:33: outside form nested assignment"),
+    ("a|||b", " 1:36: syntax"),
+    ("a,b", " 1:33: outside form comma"),
+    ("a b", " 1:35: syntax"),
+];
+
+#[test]
+fn expressions_that_are_refused(rt: HostRuntime) -> Result<(), Fail> {
+    for (expression, words) in NOT_IN_THE_SUBSET {
+        returns(&rt, rt.alloc(), expression, words)?;
+    }
+    Ok(())
+}
+
+/// Sources of the first form.
+const ACCEPTED: [&str; 4] = [
+    "int f(int a){return(a<1);}",
+    "\n\t int\x0bf\x0c(int\ra)\n{ return!a ; } \n",
+    "int f(int a/*x*/,int b){return a&&b;}",
+    "# 1 \"flap.c\"\nint f(int a,int b){return a&&b;}",
+];
+
+#[test]
+fn sources_of_the_first_form(rt: HostRuntime) -> Result<(), Fail> {
+    for source in ACCEPTED {
+        is_judged(&rt, rt.alloc(), source, "")?;
+    }
+    Ok(())
+}
+
+/// Sources of the subset that have another form.
+const OTHERS: [&str; 18] = [
+    "",
+    "/* nothing */\n",
+    "int a;",
+    "typedef int T;T f(T a){return !a;}",
+    "int f(int a);",
+    "int f(int a){returna<1;}",
+    "int f(void){return !0;}",
+    "int f(int a,int a){return !a;}",
+    "int f(int f){return !f;}",
+    "int mcdc_in(int a){return !a;}",
+    "int f(int mcdc_out){return !mcdc_out;}",
+    "int f(int a){return !a;;}",
+    "int f(int a){{return !a;}}",
+    "long f(int a){return !a;}",
+    "int f(long a){return !a;}",
+    "int f(int a[1]){return !a;}",
+    "static int f(int a){return !a;}",
+    "int f(int a){return !a;}int g;",
+];
+
+#[test]
+fn sources_of_another_form(rt: HostRuntime) -> Result<(), Fail> {
+    for source in OTHERS {
+        is_judged(&rt, rt.alloc(), source, NOT_BUILT)?;
+    }
+    Ok(())
+}
+
+/// Sources with a place that has no token, whatever else is wrong.
+const NO_TOKENS: [(&str, &str); 11] = [
+    ("int f(){ float", " 1:10: outside word"),
+    ("int f(int auto){return !auto;}", " 1:11: outside word"),
+    ("int f(int mcdc_r){return !mcdc_r;}", " 1:11: outside word"),
+    ("#include <x.h>", " 1:1: directive"),
+    ("float x;", " 1:1: outside word"),
+    ("int f(int p){return p->x;}", " 1:22: outside word"),
+    ("int x; /* open", " 1:8: token"),
+    ("int a = 18446744073709551616;", " 1:9: constant too wide"),
+    ("int f(int a){return a@1;}", " 1:22: byte"),
+    ("int f(int a)\n{return a@1;}", " 2:10: byte"),
+    ("int x;\n\n  float y;", " 3:3: outside word"),
+];
+
+/// Sources that have tokens and no tree, and where a reader would look. No clause says where.
+const NO_TREES: [(&str, &str); 11] = [
+    ("intf(int a){return !a;}", " 1:1: syntax"),
+    ("int f(inta){return !a;}", " 1:7: syntax"),
+    ("int f(int a,){return !a;}", " 1:13: syntax"),
+    ("int f(int return){return !return;}", " 1:11: syntax"),
+    ("int f(int a){return !a;};", " 1:25: syntax"),
+    ("int f(int a){return !a}", " 1:23: syntax"),
+    ("int f(int a){return !a;", " 1:24: syntax"),
+    ("int f(void){return 1", " 1:21: syntax"),
+    ("int f(void){return 1\n", " 2:1: syntax"),
+    ("int f(int a)\n{ return !a;\n} }", " 3:3: syntax"),
+    ("int f(){return 1;", " 1:18: syntax"),
+];
+
+/// Sources that have a tree with a node that the profile leaves out; the first node answers.
+const OUTSIDE: [(&str, &str); 15] = [
+    ("int f(){return 1;}", " 1:7: outside form empty parameters"),
+    ("int *p;", " 1:5: outside form pointer"),
+    (
+        "int f(int a,int *b){return !a;}",
+        " 1:13: outside form pointer",
+    ),
+    (
+        "int f(int a){a=a=1;return a;}",
+        " 1:16: outside form nested assignment",
+    ),
+    (
+        "int f(int a){return a++;}",
+        " 1:21: outside form nested assignment",
+    ),
+    ("int f(int a){return a,1;}", " 1:21: outside form comma"),
+    ("int f(int a){goto b;}", " 1:14: outside form goto"),
+    ("int f(int a){b:return a;}", " 1:14: outside form goto"),
+    (
+        "int f(int a){switch(a)return 1;}",
+        " 1:14: outside form switch shape",
+    ),
+    (
+        "int f(int a){struct s{int b;}c;}",
+        " 1:14: outside form local tag",
+    ),
+    (
+        "int f(int a){int g(int b);}",
+        " 1:18: outside form local function",
+    ),
+    ("extern int a;", " 1:12: outside form external object"),
+    (
+        "struct s{const int a;};",
+        " 1:10: outside form const member",
+    ),
+    ("int *f();", " 1:5: outside form pointer"),
+    ("int a;\n int *b;int f();", " 2:6: outside form pointer"),
+];
+
+#[test]
+fn sources_without_tokens(rt: HostRuntime) -> Result<(), Fail> {
+    for (source, words) in NO_TOKENS {
+        is_judged(&rt, rt.alloc(), source, words)?;
+    }
+    Ok(())
+}
+
+#[test]
+fn sources_without_a_tree(rt: HostRuntime) -> Result<(), Fail> {
+    for (source, words) in NO_TREES {
+        is_judged(&rt, rt.alloc(), source, words)?;
+    }
+    Ok(())
+}
+
+#[test]
+fn sources_outside_the_profile(rt: HostRuntime) -> Result<(), Fail> {
+    for (source, words) in OUTSIDE {
+        is_judged(&rt, rt.alloc(), source, words)?;
+    }
+    Ok(())
+}
+
+/// Sources that have no tree, where a reader might look at two places.
+const NO_TREE: [&str; 3] = [
+    "typedef int T;int f(int T){return 1;}",
+    "int int(int a){return !a;}",
+    "int int x;",
+];
+
+#[test]
+fn sources_with_two_types(rt: HostRuntime) -> Result<(), Fail> {
+    for source in NO_TREE {
+        is_refused(&rt, rt.alloc(), source, ": syntax\n")?;
+    }
+    Ok(())
+}
+
+/// A text with so many pieces between two others.
+fn repeated(
     alloc: Global,
-    parts: (&str, &str, &str),
+    front: &str,
+    piece: &str,
     count: usize,
-    want: (u8, &str, &str),
-) -> Result<(), Fail> {
-    let (front, piece, back) = parts;
+    back: &str,
+) -> Result<String, Fail> {
     let mut source = String::from_str(alloc, front)?;
     for _turn in 0..count {
         source.push_str(piece)?;
     }
     source.push_str(back)?;
-    is_judged(rt, alloc, source.as_str(), want)
+    Ok(source)
 }
+
+/// A piece that is repeated before `a;}`, how often at most, and how one more is judged: 12
+/// conditions and 100 tokens are the most.
+const MOST: [(&str, usize); 2] = [("a&&", 11), ("!", 99)];
 
 #[test]
 fn limits_of_the_form(rt: HostRuntime) -> Result<(), Fail> {
     let front = "int f(int a){return ";
-    for (more, want) in [(0, ACCEPTED), (1, NOT_BUILT)] {
-        // 12 and 13 conditions
-        repeats(&rt, rt.alloc(), (front, "a&&", "a;}"), 11 + more, want)?;
-        // 100 and 101 tokens
-        repeats(&rt, rt.alloc(), (front, "!", "a;}"), 99 + more, want)?;
+    for (piece, most) in MOST {
+        let source = repeated(rt.alloc(), front, piece, most, "a;}")?;
+        is_judged(&rt, rt.alloc(), source.as_str(), "")?;
+        let source = repeated(rt.alloc(), front, piece, most + 1, "a;}")?;
+        is_judged(&rt, rt.alloc(), source.as_str(), NOT_BUILT)?;
     }
     Ok(())
 }
@@ -199,8 +310,23 @@ fn limit_of_parameters(rt: HostRuntime) -> Result<(), Fail> {
     let mut text = String::from_str(alloc, "int f(int a")?;
     for count in 2..18 {
         text.push_str(format!(in alloc; ",int p{count}")?.as_str())?;
-        let want = if count <= 16 { ACCEPTED } else { NOT_BUILT };
-        repeats(&rt, alloc, (text.as_str(), "", "){return !a;}"), 0, want)?;
+        let source = repeated(alloc, text.as_str(), "", 0, "){return !a;}")?;
+        let words = if count <= 16 { "" } else { NOT_BUILT };
+        is_judged(&rt, alloc, source.as_str(), words)?;
+    }
+    Ok(())
+}
+
+/// How many parentheses are opened, and how many are closed, where the tree would be too high.
+const DEEP: [(usize, usize); 2] = [(250, 250), (100_000, 0)];
+
+#[test]
+fn deep_parentheses(rt: HostRuntime) -> Result<(), Fail> {
+    let alloc = rt.alloc();
+    for (opened, closed) in DEEP {
+        let front = repeated(alloc, "int f(int a){return ", "(", opened, "a")?;
+        let source = repeated(alloc, front.as_str(), ")", closed, ";}")?;
+        is_refused(&rt, alloc, source.as_str(), ": syntax\n")?;
     }
     Ok(())
 }

@@ -1,5 +1,6 @@
-//! Every expression of up to four conditions, each a parameter, with `&&`, `||` and at most one `!` at each node,
-//! on its whole truth table, against values and vectors that are put together here from those of the operands.
+//! Every expression of up to four conditions, each a parameter, with `&&`, `||` and at most one `!`
+//! at each node, on its whole truth table, against values and vectors that are put together here
+//! from those of the operands.
 
 use crate::run::{HEADER, gives, plain};
 use std::alloc::{AllocError, Global};
@@ -14,7 +15,8 @@ struct Node {
     conjunction: bool,
 }
 
-/// The nodes of a shape, in which `l` is a condition and a dot an operator, by the bits of a choice.
+/// The nodes of a shape, in which `l` is a condition and a dot an operator, by the bits of a
+/// choice.
 fn nodes_of(alloc: Global, shape: &str, choice: u32) -> Result<Vec<Node>, AllocError> {
     let mut nodes = Vec::new(alloc);
     let mut bits = choice;
@@ -61,7 +63,8 @@ fn text_of(alloc: Global, nodes: &[Node]) -> Result<String, Fail> {
     Ok(parts.pop().ok_or("no expression")?)
 }
 
-/// What a part of an expression gives on a row: an answer for each of its conditions, and its value.
+/// What a part of an expression gives on a row: an answer for each of its conditions, and its
+/// value.
 #[derive(Drop)]
 struct Part {
     answers: String,
@@ -217,20 +220,46 @@ fn all_of_shape(
     Ok(())
 }
 
+/// Shapes, how many conditions each has, and how many choices of operators.
+const UP_TO_THREE: [(&str, u32, u32); 4] = [
+    ("l", 1, 2),
+    ("ll.", 2, 16),
+    ("ll.l.", 3, 128),
+    ("lll..", 3, 128),
+];
+
 #[test]
-fn expressions_of_up_to_four_conditions(rt: HostRuntime) -> Result<(), Fail> {
-    for (shape, conditions, choices) in [
-        ("l", 1, 2),
-        ("ll.", 2, 16),
-        ("ll.l.", 3, 128),
-        ("lll..", 3, 128),
-        ("ll.l.l.", 4, 1024),
-        ("lll..l.", 4, 1024),
-        ("ll.ll..", 4, 1024),
-        ("lll.l..", 4, 1024),
-        ("llll...", 4, 1024),
-    ] {
+fn expressions_of_up_to_three_conditions(rt: HostRuntime) -> Result<(), Fail> {
+    for (shape, conditions, choices) in UP_TO_THREE {
         all_of_shape(&rt, rt.alloc(), shape, conditions, choices)?;
+    }
+    Ok(())
+}
+
+/// The right operand of the last operator is one condition.
+const FOUR_AND_ONE_LAST: [&str; 2] = ["ll.l.l.", "lll..l."];
+
+#[test]
+fn expressions_of_four_conditions_with_one_last(rt: HostRuntime) -> Result<(), Fail> {
+    for shape in FOUR_AND_ONE_LAST {
+        all_of_shape(&rt, rt.alloc(), shape, 4, 1024)?;
+    }
+    Ok(())
+}
+
+/// The right operand of the last operator is two conditions.
+#[test]
+fn expressions_of_four_conditions_with_two_last(rt: HostRuntime) -> Result<(), Fail> {
+    all_of_shape(&rt, rt.alloc(), "ll.ll..", 4, 1024)
+}
+
+/// The right operand of the last operator is three conditions.
+const FOUR_AND_THREE_LAST: [&str; 2] = ["lll.l..", "llll..."];
+
+#[test]
+fn expressions_of_four_conditions_with_three_last(rt: HostRuntime) -> Result<(), Fail> {
+    for shape in FOUR_AND_THREE_LAST {
+        all_of_shape(&rt, rt.alloc(), shape, 4, 1024)?;
     }
     Ok(())
 }

@@ -1,6 +1,6 @@
 -- The evaluations of some tests, sorted by the answers of one condition after the other.
 use Rattle.std.specs.Prelude.{ℕ, zero, suc, List, [], ◌∷◌, ◌++◌, map, Option, Some, None, if◌then◌else◌, Bool, true, false}
-use Rattle.mc_first.specs.Evaluation.{Answer}
+use Rattle.mc_cond.specs.Order.{Answer}
 use Rattle.mc_first.specs.Vectors.{Evaluation, listed, same_answer}
 
 -- the answers from some condition on, and the whole evaluation

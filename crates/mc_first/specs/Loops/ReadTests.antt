@@ -25,12 +25,14 @@ is_call function fields = (length fields == 6) && is_test_name (field_or_empty f
 abbrev pub with_arguments : ℕ → List ℕ → Option (List ℤ) → Option PlainTest
 with_arguments parameters name None = None
 with_arguments parameters name (Some arguments) =
-    if length arguments == parameters then Some (record { name = name; arguments = arguments }) else None
+    if length arguments == parameters then Some (record { name = name; arguments = arguments })
+    else None
 
 abbrev pub test_of : List ℕ → ℕ → Fields → Option PlainTest
 test_of function parameters fields =
     if is_call function fields
-    then with_arguments parameters (field_or_empty fields 0) (ints_of (pieces_of (field_or_empty fields 2)))
+    then with_arguments parameters (field_or_empty fields 0)
+    (ints_of (pieces_of (field_or_empty fields 2)))
     else None
 
 abbrev pub and_test : Option PlainTest → Option (List PlainTest) → Option (List PlainTest)

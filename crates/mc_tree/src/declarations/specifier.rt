@@ -9,7 +9,8 @@ use crate::declarations::specifier_word::SpecifierWord;
 use crate::identifier::Identifier;
 use mc_span::Span;
 
-/// One of the specifiers of a declaration, a parameter, a member or a type name (C17 6.7.1 to 6.7.3).
+/// One of the specifiers of a declaration, a parameter, a member or a type name (C17 6.7.1 to
+/// 6.7.3).
 #[derive(Drop)]
 #[cycle(syntax)]
 pub enum Specifier<'a> {

@@ -1,11 +1,11 @@
 use Rattle.std.proofs.Common.{◌≡◌, ◌∙◌, ap, inl, sym}
 use Rattle.mc_station.specs.Calls.{call_of}
-use Rattle.mc_station.specs.Reply.{Reply, out_of_memory}
+use Rattle.mc_station.specs.Reply.{out_of_memory}
 use Rattle.mc_station.specs.Seen.{seen_reply, seen_stage}
 use Rattle.mc_station.specs.Status.{number_of}
 use Rattle.mc_station.proofs.Parts.{nothing_put}
 use Rattle.mc_station.proofs.Statuses.{is_answer, never_unwritten, seven}
-use Rattle.mc_station.proofs.Unique.{one_reply}
+use Rattle.mc_station.proofs.Unique.{one_reply, same_status}
 use Rattle.mc_station.proofs.top.station.Goals as goal
 
 pub returns-in-Ok-put-clause-unwritten : goal.returns-in-Ok-put-clause-unwritten
@@ -20,8 +20,8 @@ returns-in-Ok-put-clause-complete g c = λ reply known calls no_store no_out no_
     let leads = c.in-Ok.ensures.leads in
     let from_first = rw c.first_stage.ensures at leads in
     let answer = is_answer given.status (λ is. no_store (c.in-Ok.ensures.unreadable is)) (never_unwritten _ _ _ _ given leads) c.in-Ok.ensures.texts in
-    let same : given ≡ reply = one_reply call given reply known (answer, (_, _, from_first)) calls in
-    inl (c.number.ensures ∙ ap (λ (r : Reply). number_of r.status) same)
+    let same = same_status given reply (one_reply call given reply known (answer, (_, _, from_first)) calls) in
+    inl (c.number.ensures ∙ ap number_of same)
 
 pub returns-clause-told : goal.returns-clause-told
 returns-clause-told g c = λ other.

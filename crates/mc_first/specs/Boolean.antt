@@ -1,7 +1,7 @@
 -- The tree of a Boolean expression, without where it lies in memory.
 use Rattle.std.specs.Prelude.{ℕ, ◌+◌, Bool, true, false, ◌||◌, List}
-use Rattle.mc_tree.specs.declared.first.FirstTree.{FirstTree}
-use Rattle.mc_tree.specs.declared.first.FirstTree.TheVariants as code
+use Rattle.mc_first.specs.declared.tree.BooleanTree.{BooleanTree}
+use Rattle.mc_first.specs.declared.tree.BooleanTree.TheVariants as code
 
 -- a name is its bytes
 pub data Tree : Type 0 where
@@ -14,7 +14,7 @@ pub data Tree : Type 0 where
   Or : Tree → Tree → Tree
 
 -- what a tree of the program stands for
-abbrev pub tree_of : FirstTree → Tree
+abbrev pub tree_of : BooleanTree → Tree
 tree_of (code.Parameter name) = Parameter name.now
 tree_of (code.Number value) = Number value
 tree_of (code.Less' p left q right) = Less (tree_of left) (tree_of right)
@@ -24,7 +24,8 @@ tree_of (code.And' p left q right) = And (tree_of left) (tree_of right)
 tree_of (code.Or' p left q right) = Or (tree_of left) (tree_of right)
 
 -- Conditions are the operands of `!`, `&&` and `||` that are none of these themselves, and a whole
--- expression without them. Each occurrence counts, and so does a constant (DO-178C, glossary, "Condition").
+-- expression without them. Each occurrence counts, and so does a constant (DO-178C, glossary,
+-- "Condition").
 abbrev pub conditions : Tree → ℕ
 conditions (Parameter name) = 1
 conditions (Number value) = 1

@@ -1,2 +1,0 @@
-use Rattle.std.proofs.Common.{refl}
-use Rattle.mc_station.proofs.source.lexed.Goals as goal
