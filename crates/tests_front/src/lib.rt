@@ -2,4 +2,14 @@
 #![tactic(auto)]
 
 #[cfg(test)]
+mod heights;
+#[cfg(test)]
+mod nestings;
+#[cfg(test)]
+mod outside;
+#[cfg(test)]
+mod productions;
+#[cfg(test)]
+mod reading;
+#[cfg(test)]
 mod tokens;
