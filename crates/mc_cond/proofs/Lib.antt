@@ -1,3 +1,11 @@
 pub mod Rows
 pub mod Completions
 pub mod Numbers
+pub mod Lengths
+pub mod Evaluated
+pub mod Operands
+pub mod Reaching
+pub mod Bits
+pub mod Flips
+pub mod Places
+pub mod Turning

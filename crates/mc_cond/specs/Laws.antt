@@ -1,7 +1,8 @@
--- What follows from the definitions of vectors and their completions.
-use Rattle.std.specs.Prelude.{◌≡◌, ℕ, Bool, Some, None, slice_get}
+-- What follows from the definitions of vectors, their completions and influence.
+use Rattle.std.specs.Prelude.{◌≡◌, ℕ, Bool, true, false, not, Some, None, slice_get}
 use Rattle.mc_cond.specs.Tree.{Tree, IsNumbered, IsNumberedFrom}
 use Rattle.mc_cond.specs.Vectors.{Row, Evaluation, truth_of, flipped, evaluated, IsVector, IsCompletion}
+use Rattle.mc_cond.specs.Influence.{HasInfluence}
 
 abbrev pub CompletionHasOutcome : Type 0
 CompletionHasOutcome =
@@ -26,3 +27,16 @@ abbrev pub OperandTakesEither : Type 0
 OperandTakesEither =
     (first : ℕ) (t : Tree) (outcome : Bool) → IsNumberedFrom first t →
     (row : Row) × (truth_of t row ≡ outcome)
+
+abbrev pub InfluenceIsEvaluated : Type 0
+InfluenceIsEvaluated =
+    (t : Tree) (k : ℕ) (v : Evaluation) → IsNumbered t → IsVector t v →
+    (influence : HasInfluence t k v) → slice_get v.answers k ≡ Some (Some (influence.row k))
+
+-- Each condition stands once in a tree of AND, OR and NOT, so it moves the outcome one way alone.
+-- Operators such as XOR, which move it both ways, do not have this law.
+abbrev pub InfluenceTurns : Type 0
+InfluenceTurns =
+    (t : Tree) (k : ℕ) (v w : Evaluation) → IsNumbered t → IsVector t v → IsVector t w →
+    slice_get v.answers k ≡ Some (Some true) → slice_get w.answers k ≡ Some (Some false) →
+    HasInfluence t k v → HasInfluence t k w → v.outcome ≡ not w.outcome

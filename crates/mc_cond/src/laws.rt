@@ -1,10 +1,12 @@
-//! What follows from the definitions of vectors and their completions.
+//! What follows from the definitions of vectors, their completions and influence.
 //! The functions do nothing: each has a law as its contract.
 
 ghost use Rattle.mc_cond.specs.Laws.{
   CompletionHasOutcome,
   CompletionHasVector,
   FlipStays,
+  InfluenceIsEvaluated,
+  InfluenceTurns,
   OperandTakesEither,
   VectorHasCompletion,
 };
@@ -33,4 +35,15 @@ pub fn flip_stays()
 /// An operand that was not evaluated can take either value.
 pub fn operand_takes_either()
     ensures { OperandTakesEither }
+{}
+
+/// A condition with influence is evaluated.
+pub fn influence_evaluated()
+    ensures { InfluenceIsEvaluated }
+{}
+
+/// Two vectors in which a condition has influence, true in the one and false in the other, have
+/// other outcomes.
+pub fn influence_turns()
+    ensures { InfluenceTurns }
 {}

@@ -1,6 +1,7 @@
 pub mod Shape
 pub mod Matrix
 pub mod Merged
+pub mod Joined
 pub mod Steps
 pub mod Schedule
 pub mod Progress

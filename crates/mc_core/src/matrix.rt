@@ -1,6 +1,7 @@
 //! The matrix of bits under tests.
 ghost use Rattle.std.specs.Prelude.{◌≡◌, ℕ, ◌^◌, ◌<◌, ◌≤◌, ◌⊎◌, ◌↔◌, List, All, vec_len, IsTrue, IsNone, IfSome, IfOk};
 ghost use Rattle.mc_core.specs.Shape.{word_count};
+ghost use Rattle.mc_core.specs.Joined.{IsWordOf};
 ghost use Rattle.mc_core.specs.Matrix.{Holds, HasNoSpareBit, IsSound, empty_matrix, with_pair};
 
 use crate::shape::{Shape, words};
@@ -80,6 +81,16 @@ impl Matrix {
             return false;
         }
         self.words[self.shape.place(bit, test)] >> (test % 64) & 1 == 1
+    }
+
+    /// The word of 64 tests of a bit, from test 64 * `row` on; 0 out of range.
+    pub(crate) fn word(&self, bit: u32, row: usize) -> u64
+        ensures { IsWordOf (Holds self.now bit) result row }
+    {
+        if bit >= self.shape.bits || row >= self.shape.rows() {
+            return 0;
+        }
+        self.words[self.shape.place(bit, 0) + row]
     }
 
     /// The least test under which the bit is recorded.

@@ -1,6 +1,9 @@
 //! Two matrices of the same bits, one after the other.
-ghost use Rattle.std.specs.Prelude.{◌≡◌, ℕ, ◌+◌, ◌<◌, ◌≤◌, ◌⊎◌, ◌↔◌, Err, IfOk, IfErr, IsTrue};
+ghost use Rattle.std.specs.Prelude.{◌≡◌, ℕ, ◌+◌, ◌-◌, ◌<◌, ◌≤◌, ◌↔◌, Err, IfOk, IfErr};
+ghost use Rattle.std.specs.Int.{bit_at};
+ghost use Rattle.mc_core.specs.Shape.{rows, word_count};
 ghost use Rattle.mc_core.specs.Matrix.{Holds};
+ghost use Rattle.mc_core.specs.Joined.{IsWordOf, AreJoined};
 ghost use Rattle.mc_core.specs.Merged.{both_shapes, words_of_both, HoldsEither};
 
 use crate::matrix::Matrix;
@@ -51,31 +54,69 @@ pub fn merge(alloc: Global, left: &Matrix, right: &Matrix) -> Result<Matrix, Mer
     if count > 1_048_576 {
         return Err(MergeFault::TooLarge { words: count });
     }
-    let mut merged = Matrix::zero(alloc, shape)?;
-    for bit in 0..shape.bits {
-        merge_bit(&mut merged, left, right, bit);
-    }
-    Ok(merged)
+    let list = joined_words(alloc, left, right, shape)?;
+    Ok(Matrix::of_words(shape, list))
 }
 
-// Records the bit under each test under which either has it.
-fn merge_bit(merged: &mut Matrix, left: &Matrix, right: &Matrix, bit: u32)
-    requires bit { bit < merged.old.shape.bits }
-    ensures shape { merged.new.shape ≡ merged.old.shape }
-    ensures pairs { (b t : ℕ) → Holds merged.new b t ↔ (Holds merged.old b t
-        ⊎ ((b ≡ bit) × (t < merged.old.shape.tests) × HoldsEither left.now right.now b t)) }
+// The words of both, those of bit 0 first.
+#[tactic(auto, using(crate::proofs::Merging::none_joined, crate::proofs::Merging::one_joined))]
+fn joined_words(
+    alloc: Global,
+    left: &Matrix,
+    right: &Matrix,
+    shape: Shape,
+) -> Result<Vec<u64>, AllocError>
+    requires small { word_count shape ≤ 1048576 }
+    ensures { IfOk result (λ list.
+        AreJoined left.now right.now (rows shape) (word_count shape) list.items) }
 {
-    for test in 0..merged.shape().tests {
-        if either_holds(left, right, bit, test) {
-            merged.set(bit, test);
-        }
+    let rows = shape.rows() as u64;
+    let mut list = Vec::new(alloc);
+    for place in 0..words(shape) {
+        let bit = (place / rows) as u32;
+        let row = (place % rows) as usize;
+        list.push(joined_word(left, right, bit, row))?;
     }
+    Ok(list)
 }
 
-// Whether one of them has the pair, with right's tests counted from the number of left's on.
-fn either_holds(left: &Matrix, right: &Matrix, bit: u32, test: u32) -> bool
-    ensures { IsTrue result ↔ HoldsEither left.now right.now bit test }
+// The word of a row of tests.
+fn joined_word(left: &Matrix, right: &Matrix, bit: u32, row: usize) -> u64
+    requires { row ≤ 1048576 }
+    ensures { IsWordOf (HoldsEither left.now right.now bit) result row }
 {
-    let offset = left.shape().tests;
-    left.holds(bit, test) || test >= offset && right.holds(bit, test - offset)
+    left.word(bit, row) | later_word(right, bit, row, left.shape().tests)
+}
+
+// The word of a row of tests, where the matrix's own tests are counted from `offset` on.
+fn later_word(matrix: &Matrix, bit: u32, row: usize, offset: u32) -> u64
+    requires { row ≤ 1048576 }
+    ensures { IsWordOf (λ t. (offset ≤ t) × Holds matrix.now bit (t - offset)) result row }
+{
+    let passed = (offset / 64) as usize;
+    let shift = offset % 64;
+    if row < passed {
+        return 0;
+    }
+    let own = raised(matrix.word(bit, row - passed), shift);
+    if shift == 0 || row == passed {
+        return own;
+    }
+    own | lowered(matrix.word(bit, row - passed - 1), 64 - shift)
+}
+
+fn raised(word: u64, shift: u32) -> u64
+    requires { shift < 64 }
+    ensures low { (j : ℕ) → j < shift → bit_at result j ≡ 0 }
+    ensures high { (j : ℕ) → shift ≤ j → j < 64 → bit_at result j ≡ bit_at word (j - shift) }
+{
+    word << shift
+}
+
+fn lowered(word: u64, shift: u32) -> u64
+    requires { shift < 64 }
+    ensures low { (j : ℕ) → bit_at result j ≡ bit_at word (j + shift) }
+    ensures high { (j : ℕ) → 64 ≤ j + shift → bit_at result j ≡ 0 }
+{
+    word >> shift
 }

@@ -1,72 +1,21 @@
--- Influence and masking pairs.
-use Rattle.std.proofs.Common.{◌≡◌, ◌≢◌, ℕ, ◌<◌, Bool, true, false, Option, Some, None, arith, sym, ap, subst, refl, ◌∙◌, inl, inr}
-use Rattle.std.specs.Prelude.{◌↔◌, slice_get, if◌then◌else◌}
-use Rattle.std.proofs.lemmas.Option.{slice_get_within}
-use Rattle.mc_cond.specs.Tree.{Tree, size, IsNumbered}
-use Rattle.mc_cond.specs.Vectors.{Row, Evaluation, truth_of, flipped, evaluated, IsVector, IsCompletion}
-use Rattle.mc_cond.proofs.Completions.{Fits, fits_from, from_fits, completion_vector}
-use Rattle.mc_pairs.proofs.Lengths.{length_vector}
-use Rattle.mc_pairs.proofs.Evaluated.{evaluated_where}
-use Rattle.mc_pairs.proofs.Turned.{AreOpposed}
-use Rattle.mc_pairs.proofs.Steps.{other_value}
-use Rattle.mc_masking.specs.Masking.{FlipChanges, HasInfluence, IsMaskingPair}
-use Rattle.mc_masking.specs.steps.Reach.{reaches, is_on, filled}
-use Rattle.mc_masking.proofs.Operands.{flip_at}
-use Rattle.mc_masking.proofs.Reaching.{Moves, moves_where, reaches_where, never_own}
+-- Masking pairs.
+use Rattle.std.proofs.Common.{◌≡◌, ◌≢◌, ℕ, ◌<◌, ◌≤◌, Bool, true, false, not, Some, List, arith, sym, ap, ◌∙◌, inl, inr, ◌⊎◌}
+use Rattle.std.specs.Prelude.{slice_get, Contains}
+use Rattle.std.specs.Int.{bit_at}
+use Rattle.std.proofs.lemmas.Bool.{cases_lt}
+use Rattle.std.proofs.lemmas.Nat.Bits.{bit_at-lt}
+use Rattle.mc_cond.specs.Tree.{Tree, IsNumbered}
+use Rattle.mc_cond.specs.Vectors.{Evaluation, IsVector}
+use Rattle.mc_cond.specs.Influence.{HasInfluence}
+use Rattle.mc_cond.proofs.Flips.{evaluated_with, other_value}
+use Rattle.mc_cond.proofs.Reaching.{never_own}
+use Rattle.mc_cond.proofs.Turning.{outcome_turns}
+use Rattle.mc_paths.specs.Masks.{IsMaskOf, IsOn}
+use Rattle.mc_pairs.specs.Pairs.{ArePaired, NonePaired, IsChosen, HasInfluenceAs, turned}
+use Rattle.mc_pairs.proofs.Turned.{AreOpposed, none_either}
+use Rattle.mc_masking.specs.Masking.{IsMaskingPair}
+use Rattle.mc_masking.specs.Laws.{IsLeastSeen}
 
--- influence is a move
-completion_fits : (v : Evaluation) (row : Row) → IsCompletion v row → Fits 0 v.answers row
-completion_fits v row h = fits_from v.answers 0 row (λ j x e. ap row (omega arith) ∙ h j x e)
-
-fits_completion : (v : Evaluation) (row : Row) → Fits 0 v.answers row → IsCompletion v row
-fits_completion v row f j x e = ap row (omega arith) ∙ from_fits v.answers 0 row f j x e
-
-pub moves_by : (t : Tree) (k : ℕ) (v : Evaluation) → HasInfluence t k v → Moves (truth_of t) 0 v.answers k
-moves_by t k v h =
-    record { row = h.row; fits = completion_fits v h.row h.completion; changes = other_value (truth_of t h.row) (truth_of t (flipped k h.row)) (λ e. h.changes (sym e)) }
-
-pub influence_by : (t : Tree) (k : ℕ) (v : Evaluation) → Moves (truth_of t) 0 v.answers k → HasInfluence t k v
-influence_by t k v s =
-    record { row = s.row; completion = fits_completion v s.row s.fits; changes = λ e. never_own (truth_of t s.row) (sym e ∙ s.changes) }
-
--- what was not evaluated taken as false is a completion
-is_on_at : (x : Option (Option Bool)) (y : Bool) → x ≡ Some (Some y) → is_on x ≡ y
-is_on_at (Some (Some x)) y e = cc
-is_on_at (Some None) y e = cc
-is_on_at None y e = cc
-
-filled_completes : (v : Evaluation) → IsCompletion v (filled v)
-filled_completes v j x e = is_on_at (slice_get v.answers j) x e
-
-filled_vector : (t : Tree) (v : Evaluation) → IsNumbered t → IsVector t v → evaluated t (filled v) ≡ v
-filled_vector t v n is = completion_vector t v (filled v) n.in_order is (filled_completes v)
-
-pub influence_exact : (t : Tree) (k : ℕ) (v : Evaluation) → IsNumbered t → IsVector t v → (reaches t (filled v) k ≡ true) ↔ HasInfluence t k v
-influence_exact t k v n is =
-    let P : Evaluation → Type 0 = λ w. Moves (truth_of t) 0 w.answers k in
-    let same : evaluated t (filled v) ≡ v = filled_vector t v n is in (
-      λ h. influence_by t k v (subst P same (moves_where t 0 (filled v) k n.in_order h)),
-      λ h. reaches_where t 0 (filled v) k n.in_order (subst P (sym same) (moves_by t k v h)),
-    )
-
-bit_says : (b : Bool) (n : ℕ) → n ≡ (if b then 1 else 0) → (n ≡ 1) ↔ (b ≡ true)
-bit_says true n e = (λ h. refl, λ h. e)
-bit_says false n e = (λ h. let f : 0 ≡ 1 = sym e ∙ h in cc, λ h. cc)
-
-pub bit_exact : (t : Tree) (k : ℕ) (v : Evaluation) (bit : ℕ) → IsNumbered t → IsVector t v → bit ≡ (if reaches t (filled v) k then 1 else 0) → (bit ≡ 1) ↔ HasInfluence t k v
-bit_exact t k v bit n is e =
-    let says : (bit ≡ 1) ↔ (reaches t (filled v) k ≡ true) = bit_says (reaches t (filled v) k) bit e in
-    let exact : (reaches t (filled v) k ≡ true) ↔ HasInfluence t k v = influence_exact t k v n is in
-    (λ h. exact.0 (says.0 h), λ h. says.1 (exact.1 h))
-
--- a condition with influence is evaluated
-unlike_flipped : (t : Tree) (k : ℕ) (a : Row) (j : ℕ) → j < size t → j ≢ k → a j ≡ flipped k a j
-unlike_flipped t k a j below other = elim (flip_at k a j) [ inl same ↦ absurd (other same.0) | inr still ↦ sym still.1 ]
-
-pub evaluated_with : (t : Tree) (k : ℕ) (v : Evaluation) (a : Row) → IsNumbered t → IsVector t v → IsCompletion v a → FlipChanges t k a → slice_get v.answers k ≡ Some (Some (a k))
-evaluated_with t k v a n is fits changes = evaluated_where t k v a (flipped k a) n is fits (unlike_flipped t k a) (λ e. changes (sym e))
-
--- masking pairs
 pub turns : (t : Tree) (k : ℕ) (v w : Evaluation) → IsMaskingPair t k v w → IsMaskingPair t k w v
 turns t k v w p =
     record { outcomes = λ e. p.outcomes (sym e); a = p.b; b = p.a; first = p.second; second = p.first; differ = λ e. p.differ (sym e); first_changes = p.second_changes; second_changes = p.first_changes }
@@ -102,6 +51,87 @@ pair_by t k v w on off outcomes x y =
       second_changes = y.changes;
     }
 
--- the number of a condition that was evaluated is below 64
-pub bit_below : (t : Tree) (k : ℕ) (v : Evaluation) (x : Option Bool) → IsNumbered t → IsVector t v → slice_get v.answers k ≡ Some x → k < 64
-bit_below t k v x n is e = omega (arith, slice_get_within v.answers k x e, length_vector t v is, n.few)
+-- a pair by influence alone
+apart : (x y : Bool) → x ≡ not y → x ≢ y
+apart x y e same = never_own y (sym same ∙ e)
+
+pub pair_of : (t : Tree) (k : ℕ) (v w : Evaluation) → IsNumbered t → IsVector t v → IsVector t w → slice_get v.answers k ≡ Some (Some true) → slice_get w.answers k ≡ Some (Some false)
+    → HasInfluence t k v → HasInfluence t k w → IsMaskingPair t k v w
+pair_of t k v w n is_v is_w on off x y = pair_by t k v w on off (apart v.outcome w.outcome (outcome_turns t k v w n is_v is_w false on off x y)) x y
+
+-- a pair by masks
+module _ (t : Tree) (k : ℕ) (v w : Evaluation) (n : IsNumbered t) (is_v : IsVector t v) (is_w : IsVector t w) (a b : ℕ) (mask_v : IsMaskOf a (IsOn v)) (mask_w : IsMaskOf b (IsOn w)) where
+  values_differ : (x : Bool) → slice_get v.answers k ≡ Some (Some x) → slice_get w.answers k ≡ Some (Some (not x)) → bit_at a k ≢ bit_at b k
+  values_differ true e f same = let g : Some (Some false) ≡ Some (Some true) = sym f ∙ (mask_w k).0 (sym same ∙ (mask_v k).1 e) in cc
+  values_differ false e f same = let g : Some (Some false) ≡ Some (Some true) = sym e ∙ (mask_v k).0 (same ∙ (mask_w k).1 f) in cc
+
+  clear : (m : ℕ) (u : Evaluation) → IsMaskOf m (IsOn u) → slice_get u.answers k ≡ Some (Some false) → bit_at m k ≡ 0
+  clear m u mask off =
+      let unset : bit_at m k ≢ 1 = λ set. (let g : Some (Some false) ≡ Some (Some true) = sym off ∙ (mask k).0 set in cc) in
+      elim (cases_lt (bit_at m k) 1) [ inl low ↦ omega (arith, low) | inr high ↦ absurd (unset (omega (arith, high, bit_at-lt m k))) ]
+
+  pub pair_where : (p q : Bool) → slice_get v.answers k ≡ Some (Some p) → slice_get w.answers k ≡ Some (Some q) → bit_at a k ≢ bit_at b k → HasInfluence t k v → HasInfluence t k w → IsMaskingPair t k v w
+  pair_where true false e f differ x y = pair_of t k v w n is_v is_w e f x y
+  pair_where false true e f differ x y = turns t k w v (pair_of t k w v n is_w is_v f e y x)
+  pair_where true true e f differ x y = absurd (differ ((mask_v k).1 e ∙ sym ((mask_w k).1 f)))
+  pair_where false false e f differ x y = absurd (differ (clear a v mask_v e ∙ sym (clear b w mask_w f)))
+
+  pub pair_differs : IsMaskingPair t k v w → bit_at a k ≢ bit_at b k
+  pair_differs p = let o : AreOpposed k v w = opposed t k n v w is_v is_w p in values_differ o.value o.first o.second
+
+-- pairs of paths
+module _ (t : Tree) (k : ℕ) (n : IsNumbered t) where
+  pub paired : (p q : ℕ) → HasInfluenceAs t k true p → HasInfluenceAs t k false q → ArePaired (turned k (IsMaskingPair t k)) t p q
+  paired p q x y =
+      record { v = x.v; w = y.v; first_path = x.is_path; second_path = y.is_path; shown = (x.answer, y.answer, pair_of t k x.v y.v n x.is_path.vector y.is_path.vector x.answer y.answer x.influence y.influence) }
+
+  pub first_of : (p q : ℕ) → ArePaired (turned k (IsMaskingPair t k)) t p q → HasInfluenceAs t k true p
+  first_of p q x = record { v = x.v; is_path = x.first_path; answer = x.shown.0; influence = first_influence t k x.v x.w x.shown.2 }
+
+  pub second_of : (p q : ℕ) → ArePaired (turned k (IsMaskingPair t k)) t p q → HasInfluenceAs t k false q
+  second_of p q x = record { v = x.w; is_path = x.second_path; answer = x.shown.1; influence = second_influence t k x.v x.w x.shown.2 }
+
+  before_or : (first second p q : ℕ) → first ≤ p → second ≤ q → (first < p) ⊎ ((first ≡ p) × (second ≤ q))
+  before_or first second p q h i = elim (cases_lt first p) [ inl less ↦ inl less | inr more ↦ inr (omega (arith, h, more), i) ]
+
+  pub chosen_by : (seen : List ℕ) (first second : ℕ) → IsLeastSeen t seen k true first → IsLeastSeen t seen k false second → IsChosen (IsMaskingPair t k) t seen k first second
+  chosen_by seen first second x y =
+      record {
+        first_seen = x.among;
+        second_seen = y.among;
+        paired = paired first second x.influence y.influence;
+        least = λ p q p_seen q_seen pair. before_or first second p q (x.least p p_seen (first_of p q pair)) (y.least q q_seen (second_of p q pair));
+      }
+
+  first_least : (first second p : ℕ) → (first < p) ⊎ ((first ≡ p) × (second ≤ second)) → first ≤ p
+  first_least first second p (inl h) = omega (arith, h)
+  first_least first second p (inr h) = omega (arith, h.0)
+
+  second_least : (first second q : ℕ) → (first < first) ⊎ ((first ≡ first) × (second ≤ q)) → second ≤ q
+  second_least first second q (inl h) = absurd (omega (arith, h))
+  second_least first second q (inr h) = h.1
+
+  pub least_first : (seen : List ℕ) (first second : ℕ) → IsChosen (IsMaskingPair t k) t seen k first second → IsLeastSeen t seen k true first
+  least_first seen first second c =
+      record {
+        among = c.first_seen;
+        influence = first_of first second c.paired;
+        least = λ p p_seen x. first_least first second p (c.least p second p_seen c.second_seen (paired p second x (second_of first second c.paired)));
+      }
+
+  pub least_second : (seen : List ℕ) (first second : ℕ) → IsChosen (IsMaskingPair t k) t seen k first second → IsLeastSeen t seen k false second
+  least_second seen first second c =
+      record {
+        among = c.second_seen;
+        influence = second_of first second c.paired;
+        least = λ q q_seen y. second_least first second q (c.least first q c.first_seen q_seen (paired first q (first_of first second c.paired) y));
+      }
+
+  -- where one of the two is missing, no two are a pair
+  pub none_first : (seen : List ℕ) → ((p : ℕ) → Contains seen p → ¬ HasInfluenceAs t k true p) → NonePaired (IsMaskingPair t k) t seen
+  none_first seen none =
+      none_either (IsMaskingPair t k) t k seen (opposed t k n) (turns t k) (λ p q p_seen q_seen pair. none p p_seen (first_of p q pair))
+
+  pub none_second : (seen : List ℕ) → ((q : ℕ) → Contains seen q → ¬ HasInfluenceAs t k false q) → NonePaired (IsMaskingPair t k) t seen
+  none_second seen none =
+      none_either (IsMaskingPair t k) t k seen (opposed t k n) (turns t k) (λ p q p_seen q_seen pair. none q q_seen (second_of p q pair))

@@ -1,3 +1,2 @@
 pub mod Masking
 pub mod Laws
-pub mod steps

@@ -1,10 +1,10 @@
-//! Influence of conditions, and masking independence.
+//! Masking independence of conditions.
 #![tactic(auto)]
 
 mod laws;
 mod masking;
 mod reach;
 
-pub use laws::{influence_evaluated, pair_evaluated, pair_turns};
-pub use masking::{Masking, masking_pair};
+pub use laws::{chosen_least, pair_evaluated, pair_of_influence, pair_of_masks, pair_turns};
+pub use masking::masking_pair;
 pub use reach::influence;

@@ -1,16 +1,15 @@
 //! Masking pairs.
 
-ghost use Rattle.std.specs.Prelude.{◌≡◌, ◌<◌, ◌↔◌, IsTrue, All, IfSome, IfNone};
-ghost use Rattle.std.specs.Int.{bit_at};
+ghost use Rattle.std.specs.Prelude.{◌≡◌, ℕ, ◌<◌, All, Contains, IfSome, IfNone};
 ghost use Rattle.std.specs.List.Sorted.{IsStrictlyIncreasing};
 ghost use Rattle.mc_cond.specs.Tree.{tree_of, size, IsNumbered};
 ghost use Rattle.mc_paths.specs.Paths.{count_of};
-ghost use Rattle.mc_pairs.specs.Pairs.{NonePaired, IsChosen};
+ghost use Rattle.mc_pairs.specs.Pairs.{NonePaired, IsChosen, HasInfluenceAs};
 ghost use Rattle.mc_masking.specs.Masking.{IsMaskingPair};
+ghost use Rattle.mc_masking.specs.Laws.{IsLeastSeen};
 
-use crate::reach::influence_on;
-use mc_cond::{CondTree, Vector};
-use mc_pairs::{Independence, chosen_pair};
+use mc_cond::CondTree;
+use mc_pairs::has_influence_as;
 use mc_paths::Numbering;
 
 /// The chosen masking pair of seen paths for condition `k`: `k` is true in the first and false in
@@ -32,27 +31,25 @@ pub fn masking_pair(
     ensures none { IfNone result (NonePaired (IsMaskingPair (tree_of tree.now) k)
         (tree_of tree.now) seen.now) }
 {
-    chosen_pair::<Masking>(tree, numbering, seen, k)
+    let first = least(numbering, seen, k, true)?;
+    let second = least(numbering, seen, k, false)?;
+    Some((first, second))
 }
 
-/// Masking: other conditions may differ too, where the condition alone decides the outcome in each
-/// evaluation.
-pub struct Masking;
-
-impl Independence for Masking {
-    ghost shows = { IsMaskingPair };
-
-    fn is_pair(tree: &CondTree, k: u32, first: &Vector, second: &Vector) -> bool {
-        if first.outcome() == second.outcome() {
-            return false;
-        }
-        has_bit(influence_on(tree, first), k) && has_bit(influence_on(tree, second), k)
-    }
-}
-
-fn has_bit(word: u64, k: u32) -> bool
-    requires { k < 64 }
-    ensures { IsTrue result ↔ (bit_at word k ≡ 1) }
+/// The least seen path in which condition `k` has this value, and influence on the outcome.
+fn least(numbering: &Numbering, seen: &[u32], k: u32, value: bool) -> Option<u32>
+    requires numbered { IsNumbered (tree_of numbering.now) }
+    requires ascending { IsStrictlyIncreasing seen.now }
+    requires paths { All (λ path. path < count_of (tree_of numbering.now)) seen.now }
+    requires condition { k < size (tree_of numbering.now) }
+    ensures some { IfSome result (IsLeastSeen (tree_of numbering.now) seen.now k value) }
+    ensures none { IfNone result ((path : ℕ) → Contains seen.now path
+        → ¬ HasInfluenceAs (tree_of numbering.now) k value path) }
 {
-    (word >> k) & 1 == 1
+    for path in seen {
+        if has_influence_as(numbering, *path, k, value) {
+            return Some(*path);
+        }
+    }
+    None
 }

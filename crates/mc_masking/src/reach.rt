@@ -1,14 +1,13 @@
-//! Which conditions can change the outcome of an evaluation.
+//! Which conditions can change the outcome of a path.
 
-ghost use Rattle.std.specs.Prelude.{◌≡◌, ℕ, ◌<◌, ◌≤◌, ◌↔◌, if◌then◌else◌, Bool, true, length};
+ghost use Rattle.std.specs.Prelude.{◌≡◌, ℕ, ◌<◌, ◌↔◌};
 ghost use Rattle.std.specs.Int.{bit_at};
-ghost use Rattle.mc_cond.specs.Tree.{tree_of, IsNumbered, AreBelow};
-ghost use Rattle.mc_cond.specs.Vectors.{Evaluation, IsVector, truth_of};
+ghost use Rattle.mc_cond.specs.Tree.{tree_of, IsNumbered};
+ghost use Rattle.mc_cond.specs.Vectors.{Evaluation};
+ghost use Rattle.mc_cond.specs.Influence.{HasInfluence};
 ghost use Rattle.mc_paths.specs.Paths.{count_of, IsPath};
-ghost use Rattle.mc_masking.specs.Masking.{HasInfluence};
-ghost use Rattle.mc_masking.specs.steps.Reach.{reaches, shown_where, filled};
 
-use mc_cond::{CondTree, Vector};
+use mc_cond::CondTree;
 use mc_paths::Numbering;
 
 /// The conditions with influence on a path's outcome: bit k is set exactly where some completion of
@@ -20,80 +19,5 @@ pub fn influence(tree: &CondTree, numbering: &Numbering, path: u32) -> u64
     ensures { (k : ℕ) (v : Evaluation) → IsPath (tree_of tree.now) path v
         → ((bit_at result k ≡ 1) ↔ HasInfluence (tree_of tree.now) k v) }
 {
-    influence_on(tree, &numbering.vector_of(path))
-}
-
-/// The conditions with influence on the outcome of a vector.
-pub(crate) fn influence_on(tree: &CondTree, vector: &Vector) -> u64
-    requires tree { IsNumbered (tree_of tree.now) }
-    requires vector { IsVector (tree_of tree.now) vector.now }
-    ensures { (k : ℕ) → ((bit_at result k ≡ 1) ↔ HasInfluence (tree_of tree.now) k vector.now) }
-{
-    effect_of(tree, vector).influence
-}
-
-/// What a part of a decision gives in a vector in which it is evaluated.
-#[derive(Clone, Copy)]
-struct Effect {
-    outcome: bool,
-    /// Bit k is set where a flip of condition k can change the outcome.
-    influence: u64,
-}
-
-fn effect_of(tree: &CondTree, vector: &Vector) -> Effect
-    requires below { AreBelow (length vector.now.answers) (tree_of tree.now) }
-    requires few { length vector.now.answers ≤ 64 }
-    ensures outcome { result.outcome ≡ truth_of (tree_of tree.now) (filled vector.now) }
-    ensures influence { (k : ℕ) → bit_at result.influence k
-        ≡ (if reaches (tree_of tree.now) (filled vector.now) k then 1 else 0) }
-{
-    match tree {
-        CondTree::Leaf(k) => Effect {
-            outcome: vector.answer(*k) == Some(true),
-            influence: 1 << *k,
-        },
-        CondTree::Not(operand) => {
-            let inner = effect_of(operand, vector);
-            Effect {
-                outcome: !inner.outcome,
-                influence: inner.influence,
-            }
-        }
-        CondTree::And(left, right) => {
-            let first = effect_of(left, vector);
-            if first.outcome {
-                let second = effect_of(right, vector);
-                followed_by(first, second, second.outcome)
-            } else {
-                first
-            }
-        }
-        CondTree::Or(left, right) => {
-            let first = effect_of(left, vector);
-            if first.outcome {
-                first
-            } else {
-                let second = effect_of(right, vector);
-                followed_by(first, second, !second.outcome)
-            }
-        }
-    }
-}
-
-/// Both operands are evaluated. The second masks the first unless it has the value that lets a
-/// change through.
-fn followed_by(first: Effect, second: Effect, lets_through: bool) -> Effect
-    ensures outcome { result.outcome ≡ second.outcome }
-    ensures influence { (k : ℕ) (x y : Bool) → bit_at first.influence k ≡ (if x then 1 else 0)
-        → bit_at second.influence k ≡ (if y then 1 else 0)
-        → bit_at result.influence k ≡ (if shown_where true lets_through x y then 1 else 0) }
-{
-    if lets_through {
-        Effect {
-            outcome: second.outcome,
-            influence: first.influence | second.influence,
-        }
-    } else {
-        second
-    }
+    numbering.influence(path)
 }

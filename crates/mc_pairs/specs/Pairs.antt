@@ -1,8 +1,9 @@
 -- Pairs of paths, for a relation between vectors: the kind of independence that their vectors are
 -- to show.
-use Rattle.std.specs.Prelude.{◌≡◌, ℕ, ◌<◌, ◌≤◌, ◌⊎◌, true, false, Some, List, slice_get, Contains}
+use Rattle.std.specs.Prelude.{◌≡◌, ℕ, ◌<◌, ◌≤◌, ◌⊎◌, Bool, true, false, Some, List, slice_get, Contains}
 use Rattle.mc_cond.specs.Tree.{Tree}
 use Rattle.mc_cond.specs.Vectors.{Evaluation}
+use Rattle.mc_cond.specs.Influence.{HasInfluence}
 use Rattle.mc_paths.specs.Paths.{IsPath}
 
 -- the two paths have vectors that stand in the relation
@@ -37,3 +38,10 @@ pub record IsChosen (shows : Evaluation → Evaluation → Type 0) (t : Tree) (s
   pub paired : ArePaired (turned k shows) t first second
   pub least : (p q : ℕ) → Contains seen p → Contains seen q → ArePaired (turned k shows) t p q →
       (first < p) ⊎ ((first ≡ p) × (second ≤ q))
+
+-- condition k is evaluated with this value in the path's vector, and has influence on its outcome
+pub record HasInfluenceAs (t : Tree) (k : ℕ) (value : Bool) (path : ℕ) : Type 0 where
+  pub v : Evaluation
+  pub is_path : IsPath t path v
+  pub answer : slice_get v.answers k ≡ Some (Some value)
+  pub influence : HasInfluence t k v

@@ -1,8 +1,6 @@
-//! The chosen pair of evaluations of a decision, for any kind of independence.
+//! The chosen pair of evaluations of a decision, and the paths in which a condition has influence.
 #![tactic(auto)]
 
-mod independence;
-mod search;
+mod influence;
 
-pub use independence::Independence;
-pub use search::chosen_pair;
+pub use influence::has_influence_as;

@@ -4,3 +4,6 @@ pub mod Reaching
 pub mod Numbers
 pub mod Along
 pub mod Before
+pub mod Setting
+pub mod Masking
+pub mod Simplifying

@@ -1,4 +1,5 @@
 pub mod Graph
 pub mod Paths
+pub mod Masks
 pub mod Laws
 pub mod steps

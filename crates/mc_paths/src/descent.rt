@@ -1,14 +1,28 @@
 //! Following a path by its number.
 
-ghost use Rattle.std.specs.Prelude.{◌≡◌, ◌+◌, ◌≤◌, ◌++◌, length};
-ghost use Rattle.mc_cond.specs.Tree.{tree_of, size, AreBelow};
+ghost use Rattle.std.specs.Prelude.{◌≡◌, ◌+◌, ◌<◌, ◌≤◌, ◌++◌, length};
+ghost use Rattle.mc_cond.specs.Tree.{tree_of, size, IsNumbered, AreBelow};
+ghost use Rattle.mc_paths.specs.Paths.{count_of, increments, IsPath};
 ghost use Rattle.mc_paths.specs.steps.Descent.{descent};
 
-use mc_cond::{Answers, CondTree, conditions_in};
+use mc_cond::{Answers, CondTree, Vector, conditions_in};
+
+/// The vector of a path.
+pub(crate) fn vector_at(tree: &CondTree, on_false: &[u32], path: u32) -> Vector
+    requires numbered { IsNumbered (tree_of tree.now) }
+    requires edges { on_false.now ≡ increments (tree_of tree.now) }
+    requires path { path < count_of (tree_of tree.now) }
+    ensures { IsPath (tree_of tree.now) path result }
+{
+    let mut seen = Answers::new();
+    let mut left = path;
+    let outcome = follow(tree, on_false, &mut left, &mut seen);
+    Vector::new(seen, outcome)
+}
 
 /// Follows the path with number `left` through a part of a decision: adds the answers of its
 /// conditions to those seen, takes what they add off the number, and gives the outcome of the part.
-pub(crate) fn follow(tree: &CondTree, on_false: &[u32], left: &mut u32, seen: &mut Answers) -> bool
+fn follow(tree: &CondTree, on_false: &[u32], left: &mut u32, seen: &mut Answers) -> bool
     requires below { AreBelow (length on_false.now) (tree_of tree.now) }
     requires few { length seen.old + size (tree_of tree.now) ≤ 64 }
     ensures outcome { result ≡ (descent (tree_of tree.now) on_false.now left.old).outcome }

@@ -5,7 +5,9 @@ mod descent;
 mod fault;
 mod graph;
 mod laws;
+mod masks;
 mod numbering;
+mod simple;
 
 pub use fault::NumberFault;
 pub use laws::{

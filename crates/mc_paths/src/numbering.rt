@@ -3,12 +3,17 @@
 ghost use Rattle.std.specs.Prelude.{◌≡◌, ℕ, ◌<◌, ◌≤◌, length, slice_get, Some, Err, IfOk};
 ghost use Rattle.mc_cond.specs.Tree.{tree_of, size, IsNumbered};
 ghost use Rattle.mc_cond.specs.Vectors.{Evaluation};
+ghost use Rattle.mc_cond.specs.Influence.{HasInfluence};
 ghost use Rattle.mc_paths.specs.Paths.{count_of, increments, IsPath};
+ghost use Rattle.mc_paths.specs.Masks.{IsMaskOf, IsEvaluated, IsOn};
+ghost use Rattle.mc_paths.specs.steps.Masked.{AreMasks, AreMasked};
 
-use crate::descent::follow;
+use crate::descent::vector_at;
 use crate::fault::NumberFault;
 use crate::graph::{add_false_edges, copied, paths};
-use mc_cond::{Answers, CondTree, Vector};
+use crate::masks::{Masks, all_masks};
+use crate::simple::simplified;
+use mc_cond::{CondTree, Vector};
 use std::alloc::{AllocError, Global};
 use std::marker::Model;
 
@@ -24,6 +29,7 @@ pub struct Numbering {
     tree: CondTree,
     on_false: Vec<u32>,
     count: u32,
+    masks: Vec<Masks>,
 }
 
 impl Model for Numbering {
@@ -39,7 +45,7 @@ impl Model for Numbering {
 
     ghost view = { λ n. n.tree };
 
-    ghost invariant = { λ n. IsKept n.tree n.on_false.items n.count };
+    ghost invariant = { λ n. IsKept n.tree n.on_false.items n.count n.masks.items };
 }
 
 /// Numbers the paths of a decision.
@@ -72,12 +78,31 @@ fn kept(alloc: Global, tree: &CondTree, count: u32) -> Result<Numbering, AllocEr
 {
     let mut on_false = Vec::new(alloc);
     add_false_edges(tree, 1, 1, &mut on_false)?;
+    let masks = simple_masks(alloc, tree, &on_false, count)?;
     let tree = copied(alloc, tree)?;
     Ok(Numbering {
         tree,
         on_false,
         count,
+        masks,
     })
+}
+
+/// The words of each path, which are followed in the decision without its chains of NOT.
+#[tactic(auto, using(crate::proofs::Simplifying::same_numbered, crate::proofs::Simplifying::same_edges, crate::proofs::Simplifying::same_counted))]
+fn simple_masks(
+    alloc: Global,
+    tree: &CondTree,
+    on_false: &[u32],
+    count: u32,
+) -> Result<Vec<Masks>, AllocError>
+    requires numbered { IsNumbered (tree_of tree.now) }
+    requires edges { on_false.now ≡ increments (tree_of tree.now) }
+    requires count { count ≡ count_of (tree_of tree.now) }
+    ensures { IfOk result (λ m. AreMasked (tree_of tree.now) count m.items) }
+{
+    let simple = simplified(alloc, tree, false)?;
+    all_masks(alloc, &simple, on_false, count)
 }
 
 impl Numbering {
@@ -112,10 +137,7 @@ impl Numbering {
         requires { path < count_of (tree_of self.now) }
         ensures { IsPath (tree_of self.now) path result }
     {
-        let mut seen = Answers::new();
-        let mut left = path;
-        let outcome = follow(&self.tree, &self.on_false, &mut left, &mut seen);
-        Vector::new(seen, outcome)
+        vector_at(&self.tree, &self.on_false, path)
     }
 
     /// The outcome of a path's vector.
@@ -124,5 +146,43 @@ impl Numbering {
         ensures { (v : Evaluation) → IsPath (tree_of self.now) path v → result ≡ v.outcome }
     {
         self.vector_of(path).outcome()
+    }
+
+    /// The conditions evaluated in a path's vector: bit k is set exactly where condition k is.
+    pub fn evaluated(&self, path: u32) -> u64
+        requires { path < count_of (tree_of self.now) }
+        ensures { (v : Evaluation) → IsPath (tree_of self.now) path v
+            → IsMaskOf result (IsEvaluated v) }
+    {
+        self.masks(path).evaluated
+    }
+
+    /// The conditions that are true in a path's vector: bit k is set exactly where condition k is
+    /// evaluated and true.
+    pub fn value(&self, path: u32) -> u64
+        requires { path < count_of (tree_of self.now) }
+        ensures { (v : Evaluation) → IsPath (tree_of self.now) path v → IsMaskOf result (IsOn v) }
+    {
+        self.masks(path).value
+    }
+
+    /// The conditions with influence on a path's outcome: bit k is set exactly where some
+    /// completion of the path's vector changes its outcome when condition k alone is flipped.
+    pub fn influence(&self, path: u32) -> u64
+        requires { path < count_of (tree_of self.now) }
+        ensures { (v : Evaluation) → IsPath (tree_of self.now) path v
+            → IsMaskOf result (λ k. HasInfluence (tree_of self.now) k v) }
+    {
+        self.masks(path).influence
+    }
+
+    /// The words of a path's vector.
+    fn masks(&self, path: u32) -> Masks
+        requires { path < count_of (tree_of self.now) }
+        ensures { (v : Evaluation) → IsPath (tree_of self.now) path v
+            → AreMasks (tree_of self.now) v result }
+    {
+        let masks = self.masks.as_slice();
+        masks[path as usize]
     }
 }

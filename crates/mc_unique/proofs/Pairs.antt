@@ -1,16 +1,24 @@
 -- Unique-cause pairs by the answers of their vectors.
-use Rattle.std.proofs.Common.{◌≡◌, ◌≢◌, ℕ, ◌<◌, Bool, true, false, ◌==◌, Option, Some, None, sym, ap, subst, refl, ◌∙◌, inl, inr, ◌⊎◌}
+use Rattle.std.proofs.Common.{◌≡◌, ◌≢◌, ℕ, ◌<◌, Bool, true, false, not, ◌==◌, Option, Some, None, sym, ap, subst, refl, ◌∙◌, arith, inl, inr, ◌⊎◌}
 use Rattle.std.specs.Prelude.{slice_get, if◌then◌else◌}
+use Rattle.std.proofs.lemmas.Bool.{cases_lt}
 use Rattle.std.proofs.lemmas.Option.{slice_get_within}
 use Rattle.std.proofs.lemmas.Bool.Decides.{eqb_tells}
 use Rattle.mc_cond.specs.Tree.{Tree, size, IsNumbered}
-use Rattle.mc_cond.specs.Vectors.{Row, Evaluation, IsVector, IsCompletion}
-use Rattle.mc_cond.proofs.Completions.{completion_outcome}
-use Rattle.mc_pairs.proofs.Lengths.{length_vector}
-use Rattle.mc_pairs.proofs.Evaluated.{evaluated_where}
+use Rattle.mc_cond.specs.Vectors.{Row, Evaluation, flipped, evaluated, IsVector, IsCompletion}
+use Rattle.mc_cond.specs.Influence.{HasInfluence}
+use Rattle.mc_cond.proofs.Rows.{Agree, same_truth}
+use Rattle.mc_cond.proofs.Completions.{completion_outcome, completion_vector}
+use Rattle.mc_cond.proofs.Operands.{flip_at}
+use Rattle.mc_cond.proofs.Flips.{other_value}
+use Rattle.mc_cond.proofs.Reaching.{never_own}
+use Rattle.mc_cond.proofs.Places.{alike_before}
+use Rattle.mc_cond.proofs.Turning.{outcome_turns, behind_apart}
+use Rattle.mc_cond.proofs.Lengths.{length_vector}
+use Rattle.mc_cond.proofs.Evaluated.{evaluated_where}
 use Rattle.mc_pairs.proofs.Turned.{AreOpposed}
-use Rattle.mc_pairs.proofs.Steps.{other_value}
 use Rattle.mc_unique.specs.Unique.{IsUniquePair}
+use Rattle.mc_unique.specs.Laws.{AlikeBefore}
 use Rattle.mc_unique.specs.steps.Agreement.{AreCompatible, AgreeElsewhere}
 
 pub turns : (t : Tree) (k : ℕ) (v w : Evaluation) → IsUniquePair t k v w → IsUniquePair t k w v
@@ -123,3 +131,55 @@ pair_by t k v w n is_v is_w on off outcomes agree =
       alike = λ j h other. joint_alike v w k true false j other;
       outcomes = λ e. outcomes (sym (completion_outcome t v (joint v w k true) n.in_order is_v fits_v) ∙ e ∙ completion_outcome t w (joint v w k false) n.in_order is_w fits_w);
     }
+
+-- a pair by the answers before k and the influence of k
+module _ (t : Tree) (k : ℕ) (v w : Evaluation) (n : IsNumbered t) (is_v : IsVector t v) (is_w : IsVector t w) (p : IsUniquePair t k v w) where
+  below_size : k < size t
+  below_size = let P : ℕ → Type 0 = λ m. k < m in subst P (length_vector t v is_v) (slice_get_within v.answers k (Some (p.a k)) (evaluated_first t k v w n is_v p))
+
+  pub pair_prefix : AlikeBefore k v w
+  pair_prefix j lt =
+      let rows : Agree 0 k p.a p.b = λ i low high. p.alike i (omega (arith, high, below_size)) (λ e. let f : ⊥ = omega (arith, high, e) in f) in
+      let P : Evaluation → Type 0 = λ u. slice_get u.answers j ≡ slice_get w.answers j in
+      let Q : Evaluation → Type 0 = λ u. slice_get (evaluated t p.a).answers j ≡ slice_get u.answers j in
+      subst P (completion_vector t v p.a n.in_order is_v p.first) (subst Q (completion_vector t w p.b n.in_order is_w p.second) (alike_before t 0 k p.a p.b n.in_order rows j lt))
+
+  pub first_influence : HasInfluence t k v
+  first_influence =
+      let rows : Agree 0 (size t) (flipped k p.a) p.b = λ i low high.
+      elim (flip_at k p.a i) [
+        | inl same ↦ (let P : ℕ → Type 0 = λ m. flipped k p.a i ≡ p.b m in
+            let turn : p.b k ≡ not (p.a k) = other_value (p.a k) (p.b k) p.differ in
+            let Q : ℕ → Type 0 = λ m. flipped k p.a i ≡ not (p.a m) in
+            subst P (sym same.0) (subst Q same.0 same.1 ∙ sym turn))
+        | inr other ↦ other.1 ∙ p.alike i (omega (arith, high)) other.0
+      ] in
+      record { row = p.a; completion = p.first; changes = λ e. p.outcomes (sym e ∙ same_truth t 0 (flipped k p.a) p.b n.in_order rows) }
+
+pub second_influence : (t : Tree) (k : ℕ) (v w : Evaluation) → IsNumbered t → IsVector t v → IsVector t w → IsUniquePair t k v w → HasInfluence t k w
+unfolding turns
+second_influence t k v w n is_v is_w p = first_influence t k w v n is_w is_v (turns t k v w p)
+
+same_compatible : (x y : Option Bool) → x ≡ y → AreCompatible x y
+same_compatible (Some x) (Some y) e = cc
+same_compatible (Some x) None e = cc
+same_compatible None y e = tt
+
+never_compatible : (x y : Option Bool) → ((a b : Bool) → x ≡ Some a → y ≡ Some b → ⊥) → AreCompatible x y
+never_compatible (Some x) (Some y) never = absurd (never x y refl refl)
+never_compatible (Some x) None never = tt
+never_compatible None y never = tt
+
+pub pair_of : (t : Tree) (k : ℕ) (v w : Evaluation) → IsNumbered t → IsVector t v → IsVector t w
+    → slice_get v.answers k ≡ Some (Some true) → slice_get w.answers k ≡ Some (Some false)
+    → AlikeBefore k v w → HasInfluence t k v → HasInfluence t k w → IsUniquePair t k v w
+pair_of t k v w n is_v is_w on off alike x y =
+    pair_by t k v w n is_v is_w on off
+    (λ e. never_own w.outcome (sym e ∙ outcome_turns t k v w n is_v is_w false on off x y))
+    (λ j other a b e f.
+    elim (cases_lt j k) [
+      | inl low ↦ (let g : Some a ≡ Some b = sym e ∙ alike j low ∙ f in same_compatible a b (cc))
+      | inr high ↦ never_compatible a b (λ c d h i. behind_apart t k v w n is_v is_w false on off x y j c d
+          (let apart : j ≢ k = other in elim (cases_lt k j) [ inl less ↦ less | inr more ↦ (let same : j ≡ k = omega (arith, high, more) in absurd (apart same)) ])
+          (e ∙ ap Some h) (f ∙ ap Some i))
+    ])

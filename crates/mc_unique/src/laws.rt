@@ -1,7 +1,12 @@
 //! What follows from the definition of unique-cause pairs.
 //! The functions do nothing: each has a law as its contract.
 
-ghost use Rattle.mc_unique.specs.Laws.{PairIsEvaluated, PairTurns};
+ghost use Rattle.mc_unique.specs.Laws.{
+  PairIsEvaluated,
+  PairIsOfMasks,
+  PairIsOfPrefix,
+  PairTurns,
+};
 
 /// The condition of a pair is evaluated in both vectors, with different values.
 pub fn pair_evaluated()
@@ -11,4 +16,16 @@ pub fn pair_evaluated()
 /// A pair is one in either order.
 pub fn pair_turns()
     ensures { PairTurns }
+{}
+
+/// Two vectors with the condition true in the first and false in the second are a pair exactly
+/// where their answers before it are equal, and it has influence in both.
+pub fn pair_of_prefix()
+    ensures { PairIsOfPrefix }
+{}
+
+/// Two vectors are a pair exactly where of the conditions that both evaluated their values differ
+/// in this one alone, and their outcomes differ.
+pub fn pair_of_masks()
+    ensures { PairIsOfMasks }
 {}

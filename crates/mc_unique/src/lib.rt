@@ -2,7 +2,8 @@
 #![tactic(auto)]
 
 mod laws;
+mod prefix;
 mod unique;
 
-pub use laws::{pair_evaluated, pair_turns};
-pub use unique::{UniqueCause, unique_pair};
+pub use laws::{pair_evaluated, pair_of_masks, pair_of_prefix, pair_turns};
+pub use unique::unique_pair;

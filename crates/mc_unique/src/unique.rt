@@ -1,15 +1,16 @@
 //! Unique-cause pairs.
 
-ghost use Rattle.std.specs.Prelude.{◌≡◌, ◌<◌, ◌↔◌, IsTrue, All, IfSome, IfNone, length};
+ghost use Rattle.std.specs.Prelude.{◌≡◌, ℕ, ◌<◌, All, IfSome, IfNone, Some, true, false};
 ghost use Rattle.std.specs.List.Sorted.{IsStrictlyIncreasing};
 ghost use Rattle.mc_cond.specs.Tree.{tree_of, size, IsNumbered};
 ghost use Rattle.mc_paths.specs.Paths.{count_of};
-ghost use Rattle.mc_pairs.specs.Pairs.{NonePaired, IsChosen};
+ghost use Rattle.mc_pairs.specs.Pairs.{NonePaired, IsChosen, HasInfluenceAs};
 ghost use Rattle.mc_unique.specs.Unique.{IsUniquePair};
-ghost use Rattle.mc_unique.specs.steps.Agreement.{AgreeElsewhere, AreCompatible};
+ghost use Rattle.mc_unique.specs.steps.Prefixes.{AreAlike, IsNext};
 
-use mc_cond::{CondTree, Vector};
-use mc_pairs::{Independence, chosen_pair};
+use crate::prefix::are_alike;
+use mc_cond::CondTree;
+use mc_pairs::has_influence_as;
 use mc_paths::Numbering;
 
 /// The chosen unique-cause pair of seen paths for condition `k`: `k` is true in the first and false
@@ -31,42 +32,60 @@ pub fn unique_pair(
     ensures none { IfNone result (NonePaired (IsUniquePair (tree_of tree.now) k)
         (tree_of tree.now) seen.now) }
 {
-    chosen_pair::<UniqueCause>(tree, numbering, seen, k)
-}
-
-/// Unique cause: the two evaluations may differ in the condition and in no other.
-pub struct UniqueCause;
-
-impl Independence for UniqueCause {
-    ghost shows = { IsUniquePair };
-
-    fn is_pair(_tree: &CondTree, k: u32, first: &Vector, second: &Vector) -> bool {
-        if first.outcome() == second.outcome() {
-            return false;
+    // Paths with equal answers before `k` stand side by side, those with `k` true first.
+    let mut first = None;
+    for path in seen {
+        if let Some(least) = partner(numbering, k, first, *path) {
+            return Some((least, *path));
         }
-        agree_elsewhere(k, first, second)
+        first = first_alike(numbering, k, first, *path);
+    }
+    None
+}
+
+/// The kept path, where the next one makes a pair with it: `k` is false there with influence, and
+/// the answers before it are the same.
+fn partner(numbering: &Numbering, k: u32, first: Option<u32>, path: u32) -> Option<u32>
+    requires numbered { IsNumbered (tree_of numbering.now) }
+    requires condition { k < size (tree_of numbering.now) }
+    requires first { IfSome first (λ p. p < count_of (tree_of numbering.now)) }
+    requires path { path < count_of (tree_of numbering.now) }
+    ensures kept { IfSome result (λ p. first ≡ Some p) }
+    ensures off { IfSome result (λ p. HasInfluenceAs (tree_of numbering.now) k false path) }
+    ensures alike { IfSome result (λ p. AreAlike (tree_of numbering.now) k p path) }
+    ensures none { IfNone result ((p : ℕ) → first ≡ Some p
+        → HasInfluenceAs (tree_of numbering.now) k false path
+        → ¬ AreAlike (tree_of numbering.now) k p path) }
+{
+    let least = first?;
+    if !has_influence_as(numbering, path, k, false) {
+        return None;
+    }
+    if are_alike(numbering, k, least, path) {
+        Some(least)
+    } else {
+        None
     }
 }
 
-/// Whether no condition but `k` is evaluated in both vectors with different values.
-fn agree_elsewhere(k: u32, first: &Vector, second: &Vector) -> bool
-    requires { length first.now.answers ≡ length second.now.answers }
-    ensures { IsTrue result ↔ AgreeElsewhere k first.now.answers second.now.answers }
+/// What is kept after a path: the first with its answers before `k`, of those with `k` true and
+/// with influence.
+fn first_alike(numbering: &Numbering, k: u32, first: Option<u32>, path: u32) -> Option<u32>
+    requires numbered { IsNumbered (tree_of numbering.now) }
+    requires condition { k < size (tree_of numbering.now) }
+    requires first { IfSome first (λ p. p < count_of (tree_of numbering.now)) }
+    requires path { path < count_of (tree_of numbering.now) }
+    ensures few { IfSome result (λ p. p < count_of (tree_of numbering.now)) }
+    ensures next { IsNext (HasInfluenceAs (tree_of numbering.now) k true path)
+        (λ p. AreAlike (tree_of numbering.now) k p path) path first result }
 {
-    for other in 0..first.len() {
-        if other != k && !compatible(first.answer(other), second.answer(other)) {
-            return false;
+    if !has_influence_as(numbering, path, k, true) {
+        return first;
+    }
+    if let Some(least) = first {
+        if are_alike(numbering, k, least, path) {
+            return Some(least);
         }
     }
-    true
-}
-
-/// Whether one completion can have both answers: they are equal, or one was not evaluated.
-fn compatible(one: Option<bool>, other: Option<bool>) -> bool
-    ensures { IsTrue result ↔ AreCompatible one other }
-{
-    match (one, other) {
-        (Some(x), Some(y)) => x == y,
-        _ => true,
-    }
+    Some(path)
 }

@@ -1,8 +1,9 @@
 //! Both kinds of pairs and the influence in every decision of up to four conditions, with at most
 //! one NOT above each node, against the definitions tried on each row of the truth table.
 
-ghost use Rattle.std.specs.Prelude.{◌≡◌, ℕ, ◌+◌, ◌<◌, ◌≤◌, IfOk};
+ghost use Rattle.std.specs.Prelude.{◌≡◌, ℕ, ◌+◌, ◌<◌, ◌≤◌, All, IfOk};
 ghost use Rattle.mc_cond.specs.Tree.{tree_of, size, IsNumbered, IsNumberedFrom};
+ghost use Rattle.mc_paths.specs.Paths.{count_of};
 
 use crate::trees::are_paths;
 use mc_cond::{CondTree, Vector, conditions, truth};
@@ -166,49 +167,81 @@ fn is_unique(table: &[bool], first: Words, second: Words, bit: usize) -> bool {
     false
 }
 
-/// The pair of two paths in the order in which they are one.
-fn ordered(forth: bool, back: bool, first: u32, second: u32) -> Option<(u32, u32)> {
-    if forth {
-        Some((first, second))
-    } else if back {
-        Some((second, first))
-    } else {
-        None
+/// A way in which two vectors show a condition, by the rows.
+#[derive(Clone, Copy)]
+enum Kind {
+    Unique,
+    Masking,
+}
+
+fn is_pair(kind: Kind, table: &[bool], first: Words, second: Words, bit: usize) -> bool {
+    match kind {
+        Kind::Unique => is_unique(table, first, second, bit),
+        Kind::Masking => is_masking(table, first, second, bit),
     }
 }
 
-/// Compares the pairs of two paths, for each condition.
-fn compare_pairs(
+/// The least seen path that makes a pair with a first one.
+fn least_second(
+    kind: Kind,
+    numbering: &Numbering,
+    table: &[bool],
+    seen: &[u32],
+    first: Words,
+    bit: usize,
+) -> Option<u32>
+    requires { All (λ path. path < count_of (tree_of numbering.now)) seen.now }
+{
+    for second in seen {
+        let words = words_of(&numbering.vector_of(*second));
+        if is_pair(kind, table, first, words, bit) {
+            return Some(*second);
+        }
+    }
+    None
+}
+
+/// The pair of the least seen path that makes one, by the rows.
+fn least_pair(
+    kind: Kind,
+    numbering: &Numbering,
+    table: &[bool],
+    seen: &[u32],
+    bit: usize,
+) -> Option<(u32, u32)>
+    requires { All (λ path. path < count_of (tree_of numbering.now)) seen.now }
+{
+    for first in seen {
+        let words = words_of(&numbering.vector_of(*first));
+        if let Some(second) = least_second(kind, numbering, table, seen, words, bit) {
+            return Some((*first, second));
+        }
+    }
+    None
+}
+
+/// Compares the chosen pairs of seen paths, for each condition.
+fn compare_seen(
     rt: &impl Abort,
     tree: &CondTree,
     numbering: &Numbering,
     table: &[bool],
-    first: u32,
-    second: u32,
+    seen: &[u32],
 )
     requires tree { IsNumbered (tree_of tree.now) }
     requires numbering { tree_of numbering.now ≡ tree_of tree.now }
 {
-    let seen = [first, second];
-    assert!(rt; are_paths(&seen, numbering.count()));
-    let v = words_of(&numbering.vector_of(first));
-    let w = words_of(&numbering.vector_of(second));
+    assert!(rt; are_paths(seen, numbering.count()));
     for k in 0..conditions(tree) {
         let bit = 1 << k;
-        let unique = ordered(
-            is_unique(table, v, w, bit),
-            is_unique(table, w, v, bit),
-            first,
-            second,
+        assert_eq!(rt;
+            unique_pair(tree, numbering, seen, k),
+            least_pair(Kind::Unique, numbering, table, seen, bit)
         );
-        assert_eq!(rt; unique_pair(tree, numbering, &seen, k), unique);
-        let masking = ordered(
-            is_masking(table, v, w, bit),
-            is_masking(table, w, v, bit),
-            first,
-            second,
+        assert_eq!(rt;
+            masking_pair(tree, numbering, seen, k),
+            least_pair(Kind::Masking, numbering, table, seen, bit)
         );
-        assert_eq!(rt; masking_pair(tree, numbering, &seen, k), masking);
     }
 }
 
@@ -235,8 +268,26 @@ fn compare_path(rt: &impl Abort, tree: &CondTree, numbering: &Numbering, table: 
         influence_by_rows(table, words)
     );
     for second in first + 1..numbering.count() {
-        compare_pairs(rt, tree, numbering, table, first, second);
+        compare_seen(rt, tree, numbering, table, &[first, second]);
     }
+}
+
+/// Compares all paths, or every second, and so on.
+fn compare_many(
+    rt: &impl Abort,
+    alloc: Global,
+    tree: &CondTree,
+    numbering: &Numbering,
+    table: &[bool],
+    step: usize,
+) -> Result<(), Fail>
+    requires tree { IsNumbered (tree_of tree.now) }
+    requires numbering { tree_of numbering.now ≡ tree_of tree.now }
+    requires step { 0 < step }
+{
+    let seen: Vec<u32> = (0..numbering.count()).step_by(step).collect(alloc)?;
+    compare_seen(rt, tree, numbering, table, &seen);
+    Ok(())
 }
 
 /// Compares all paths of the decision that these choices lead to. A number with a rest names a
@@ -259,6 +310,8 @@ fn compare_tree(
     }
     let numbering = number(alloc, &tree)?;
     let table = table_of(&tree);
+    compare_many(rt, alloc, &tree, &numbering, &table, 1)?;
+    compare_many(rt, alloc, &tree, &numbering, &table, 2)?;
     for first in 0..numbering.count() {
         compare_path(rt, &tree, &numbering, &table, first);
     }

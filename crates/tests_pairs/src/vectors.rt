@@ -29,22 +29,28 @@ fn check_walks(rt: &impl Abort, tree: &CondTree, rows: &[(&[bool], &str)])
     }
 }
 
-/// Checks the vector of each path, and what the false edge of each condition adds.
+/// Checks the vector of each path, also as masks, and what the false edge of each condition adds.
 fn check_paths(
     rt: &impl Abort,
     alloc: Global,
     tree: &CondTree,
     texts: &[&str],
+    masks: &[(u64, u64)],
     edges: &[u32],
 ) -> Result<(), Fail>
     requires { IsNumbered (tree_of tree.now) }
 {
     let numbering = number(alloc, tree)?;
     assert_eq!(rt; texts.len(), numbering.count() as usize);
+    assert_eq!(rt; masks.len(), numbering.count() as usize);
     for path in 0..numbering.count() {
         let vector = numbering.vector_of(path);
         assert!(rt; is_written(&vector, texts[path as usize]), "path {path}");
         assert_eq!(rt; vector.outcome(), numbering.outcome_of(path));
+        assert_eq!(rt;
+            (numbering.evaluated(path), numbering.value(path)),
+            masks[path as usize]
+        );
     }
     assert_eq!(rt; edges.len(), conditions(tree) as usize);
     for k in 0..conditions(tree) {
@@ -90,17 +96,44 @@ const TWO_ANDS_PATHS: [&str; 7] = [
     "TT--=T", "TFTT=T", "TFTF=F", "TFF-=F", "F-TT=T", "F-TF=F", "F-F-=F",
 ];
 
+/// Which conditions each evaluates, and which of these are true: condition 0 is the lowest bit.
+const NEGATED_AND_MASKS: [(u64, u64); 4] = [(7, 7), (7, 3), (3, 1), (1, 0)];
+
+const TWO_ANDS_MASKS: [(u64, u64); 7] = [
+    (3, 3),
+    (15, 13),
+    (15, 5),
+    (7, 1),
+    (13, 12),
+    (13, 4),
+    (5, 0),
+];
+
 #[test]
 fn small_decisions_are_evaluated(rt: HostRuntime) -> Result<(), Fail> {
     let alloc = rt.alloc();
     let tree = negated_and(alloc)?;
     check_truth(&rt, &tree, "TTTFTTTT");
     check_walks(&rt, &tree, &NEGATED_AND);
-    check_paths(&rt, alloc, &tree, &NEGATED_AND_PATHS, &[3, 2, 1])?;
+    check_paths(
+        &rt,
+        alloc,
+        &tree,
+        &NEGATED_AND_PATHS,
+        &NEGATED_AND_MASKS,
+        &[3, 2, 1],
+    )?;
     let tree = two_ands(alloc)?;
     check_truth(&rt, &tree, "FFFTFFFTFFFTTTTT");
     check_walks(&rt, &tree, &TWO_ANDS);
-    check_paths(&rt, alloc, &tree, &TWO_ANDS_PATHS, &[4, 1, 2, 1])
+    check_paths(
+        &rt,
+        alloc,
+        &tree,
+        &TWO_ANDS_PATHS,
+        &TWO_ANDS_MASKS,
+        &[4, 1, 2, 1],
+    )
 }
 
 #[test]

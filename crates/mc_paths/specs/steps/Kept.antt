@@ -4,10 +4,15 @@ use Rattle.std.specs.Prelude.{◌≡◌, ℕ, ◌≤◌, List}
 use Rattle.mc_cond.specs.Tree.{tree_of, IsNumbered}
 use Rattle.mc_cond.specs.declared.tree.CondTree.{CondTree}
 use Rattle.mc_paths.specs.Paths.{count_of, increments}
+use Rattle.mc_paths.specs.steps.Masked.{AreMasked}
+use Rattle.mc_paths.specs.declared.masks.Masks.{Masks}
 
--- its tree is numbered, it has the increments and the count of this tree, and the count is small
-pub record IsKept (tree : CondTree) (on_false : List ℕ) (count : ℕ) : Type 0 where
+-- its tree is numbered, it has the increments, the count and the words of this tree, and the count
+-- is small
+pub record IsKept (tree : CondTree) (on_false : List ℕ) (count : ℕ) (masks : List Masks)
+    : Type 0 where
   pub numbered : IsNumbered (tree_of tree)
   pub edges : on_false ≡ increments (tree_of tree)
   pub total : count ≡ count_of (tree_of tree)
   pub few : count ≤ 4096
+  pub words : AreMasked (tree_of tree) count masks

@@ -1,4 +1,4 @@
-use Rattle.mc_masking.proofs.Pairs.{evaluated_with}
+use Rattle.mc_cond.proofs.Flips.{evaluated_with}
 use Rattle.mc_masking.proofs.laws.pair_evaluated.Goals as goal
 
 pub returns : goal.returns
