@@ -1,0 +1,9 @@
+-- What is found so far, and then what is still to come, is what is found in all.
+use Rattle.std.proofs.Common.{◌≡◌, drop, map}
+use Rattle.mc_typed.specs.Views.{initializer_of, initializers_from}
+use Rattle.mc_decide.specs.Nodes as n
+use Rattle.mc_decide.specs.steps.Walk.{inside_parts, nodes}
+use Rattle.mc_decide.proofs.roots.initializers.+initializer.Given as goal
+
+abbrev pub invariant-initializers-loop-tree : goal.invariant-initializers-loop-tree
+invariant-initializers-loop-tree l = inside_parts (n.initializers (initializers_from (map initializer_of (drop l.tree-index l.trees)))) (nodes l.found.items) ≡ inside_parts (n.initializers (initializers_from (map initializer_of l.trees))) (nodes l.fn.found.items)

@@ -1,0 +1,7 @@
+pub mod Nodes
+pub mod Roots
+pub mod Conditions
+pub mod Decisions
+pub mod Laws
+pub mod Seen
+pub mod steps

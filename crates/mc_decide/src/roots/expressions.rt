@@ -1,0 +1,163 @@
+//! Roots in expressions.
+ghost use Rattle.std.specs.Prelude.{◌≡◌, ◌&&◌, map, IfOk};
+ghost use Rattle.mc_typed.specs.Views.{expression_of, place_of, structure_of, call_of, argument_of, arguments_from};
+ghost use Rattle.mc_decide.specs.Nodes as n;
+ghost use Rattle.mc_decide.specs.Roots.{is_constant};
+ghost use Rattle.mc_decide.specs.steps.Walk.{inside, inside_parts, nodes, visited};
+
+use crate::role::Role;
+use crate::roots::found::{enter, settle};
+use mc_typed::{Argument, Expression, FunctionCall, Place, Structure};
+use std::alloc::AllocError;
+
+/// Adds the roots in an expression, and says whether it is an integer constant expression.
+#[cycle(walk)]
+pub(super) fn expression<'p>(
+    found: &mut Vec<&'p Expression>,
+    role: Role,
+    tree: &'p Expression,
+) -> Result<bool, AllocError>
+    ensures found { IfOk result (λ _. nodes found.new.items
+        ≡ visited role (n.expression (expression_of tree.now))
+        (nodes found.old.items)) }
+    ensures constant { IfOk result (λ constant.
+        constant ≡ is_constant (n.expression (expression_of tree.now))) }
+{
+    let before = found.len();
+    enter(found, role, tree)?;
+    let constant = operands(found, tree)?;
+    settle(found, before, constant);
+    Ok(constant)
+}
+
+/// The same of the operands of an expression.
+#[cycle(walk)]
+fn operands<'p>(found: &mut Vec<&'p Expression>, tree: &'p Expression) -> Result<bool, AllocError>
+    ensures found { IfOk result (λ _. nodes found.new.items
+        ≡ inside (n.expression (expression_of tree.now))
+        (nodes found.old.items)) }
+    ensures constant { IfOk result (λ constant.
+        constant ≡ is_constant (n.expression (expression_of tree.now))) }
+{
+    match tree {
+        Expression::Constant { .. } => Ok(true),
+        Expression::Input { .. } => Ok(false),
+        Expression::Read { place: object, .. } => {
+            place(found, object)?;
+            Ok(false)
+        }
+        Expression::Unary { operand, .. } | Expression::Convert { operand, .. } => {
+            expression(found, Role::Plain, operand)
+        }
+        Expression::Not { operand, .. } => expression(found, Role::Inner, operand),
+        Expression::Binary { left, right, .. } => {
+            let first = expression(found, Role::Plain, left)?;
+            let second = expression(found, Role::Plain, right)?;
+            Ok(first && second)
+        }
+        Expression::Logic { left, right, .. } => {
+            let first = expression(found, Role::Inner, left)?;
+            let second = expression(found, Role::Inner, right)?;
+            Ok(first && second)
+        }
+        Expression::Choice {
+            test,
+            chosen,
+            other,
+            ..
+        } => {
+            let first = expression(found, Role::Test, test)?;
+            let second = expression(found, Role::Plain, chosen)?;
+            let third = expression(found, Role::Plain, other)?;
+            Ok(first && second && third)
+        }
+        Expression::Call { call: made, .. } => {
+            call(found, made)?;
+            Ok(false)
+        }
+        Expression::Probe { operand, .. } => operands(found, operand),
+    }
+}
+
+/// Adds the roots in a place.
+#[cycle(walk)]
+pub(super) fn place<'p>(found: &mut Vec<&'p Expression>, tree: &'p Place) -> Result<(), AllocError>
+    ensures { IfOk result (λ _. nodes found.new.items
+        ≡ visited Role.Plain (n.place (place_of tree.now))
+        (nodes found.old.items)) }
+{
+    match tree {
+        Place::Local { .. } | Place::Static { .. } => Ok(()),
+        Place::Parameter { index, .. } => {
+            expression(found, Role::Plain, index)?;
+            Ok(())
+        }
+        Place::Item { array, index, .. } => {
+            place(found, array)?;
+            expression(found, Role::Plain, index)?;
+            Ok(())
+        }
+        Place::Member {
+            structure: whole,
+            ..
+        } => place(found, whole),
+    }
+}
+
+/// Adds the roots in a structure.
+#[cycle(walk)]
+pub(super) fn structure<'p>(
+    found: &mut Vec<&'p Expression>,
+    tree: &'p Structure,
+) -> Result<(), AllocError>
+    ensures { IfOk result (λ _. nodes found.new.items
+        ≡ visited Role.Plain (n.structure (structure_of tree.now))
+        (nodes found.old.items)) }
+{
+    match tree {
+        Structure::Stored { place: object } => place(found, object),
+        Structure::Returned { call: made } => call(found, made),
+    }
+}
+
+/// Adds the roots in the arguments of a call.
+#[cycle(walk)]
+pub(super) fn call<'p>(
+    found: &mut Vec<&'p Expression>,
+    tree: &'p FunctionCall,
+) -> Result<(), AllocError>
+    ensures { IfOk result (λ _. nodes found.new.items
+        ≡ inside_parts (n.call_parts (call_of tree.now))
+        (nodes found.old.items)) }
+{
+    arguments(found, &tree.arguments)
+}
+
+#[cycle(walk)]
+fn argument<'p>(found: &mut Vec<&'p Expression>, tree: &'p Argument) -> Result<(), AllocError>
+    ensures { IfOk result (λ _. nodes found.new.items
+        ≡ visited Role.Plain (n.argument (argument_of tree.now))
+        (nodes found.old.items)) }
+{
+    match tree {
+        Argument::Number { value } => {
+            expression(found, Role::Plain, value)?;
+            Ok(())
+        }
+        Argument::Structure { value, .. } => structure(found, value),
+        Argument::Array { place: object, .. } => place(found, object),
+        Argument::Again { .. } => Ok(()),
+    }
+}
+
+#[cycle(walk)]
+fn arguments<'p>(found: &mut Vec<&'p Expression>, trees: &'p [Argument]) -> Result<(), AllocError>
+    ensures { IfOk result (λ _. nodes found.new.items
+        ≡ inside_parts (n.arguments (arguments_from (map argument_of trees.now)))
+        (nodes found.old.items)) }
+{
+    for tree in trees {
+        argument(found, tree)?;
+    }
+    Ok(())
+}

@@ -1,0 +1,13 @@
+//! Tests of decisions.
+#![tactic(auto)]
+
+#[cfg(test)]
+mod make;
+#[cfg(test)]
+mod paths;
+#[cfg(test)]
+mod rows;
+#[cfg(test)]
+mod show;
+#[cfg(test)]
+mod table;
