@@ -1,0 +1,8 @@
+pub mod Digits
+pub mod Pieces
+pub mod ByName
+pub mod Names
+pub mod Adding
+pub mod Counts
+pub mod Records
+pub mod Fitting

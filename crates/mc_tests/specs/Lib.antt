@@ -1,0 +1,11 @@
+-- What the text of a field says.
+pub mod Numbers
+pub mod Fields
+-- What one record says, and what several make.
+pub mod Lines
+pub mod Tests
+-- What a whole file stands for.
+pub mod File
+-- What clauses see, and what private functions compute.
+pub mod Seen
+pub mod steps

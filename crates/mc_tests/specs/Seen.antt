@@ -1,0 +1,88 @@
+-- What clauses see of the texts, calls and tests that are read.
+use Rattle.std.specs.Prelude.{◌≡◌, ℕ, Bool, true, ℤ, List, [], ◌∷◌, ◌++◌, map, Option, Some, None, option_map, Vec}
+use Rattle.std.specs.List.{list_any}
+use Rattle.std.specs.Str.{bytes_eq}
+use Rattle.std.specs.declared.alloc.Global.{Global}
+use Rattle.std.specs.BTreeMap.{BTreeMap, get_by}
+use Rattle.std.specs.BTreeSet.{BTreeSet, contains_by}
+use Rattle.std.specs.Cmp.Lexicographic.{slice_cmp}
+use Rattle.std.specs.Ordering.{nat_cmp}
+use denote.Ref.{Bor}
+use Rattle.mc_typed.specs.Plans.{Plan, expected_outputs, plan_call_of, plan_of}
+use Rattle.mc_typed.specs.declared.plans.TestPlan.{TestPlan}
+use Rattle.mc_typed.specs.Tree.{Function}
+use Rattle.mc_tests.specs.Fields as f
+use Rattle.mc_tests.specs.Lines as l
+use Rattle.mc_tests.specs.Lines.{function_named}
+use Rattle.mc_tests.specs.Tests.{are_distinct, keeps_limits, names_of}
+use Rattle.mc_tests.specs.declared.draft.Draft.{Draft}
+use Rattle.mc_tests.specs.declared.fields.Numbers.{Numbers}
+use Rattle.mc_tests.specs.declared.line.Line.{Line}
+use Rattle.mc_tests.specs.declared.tests.Tests.{Tests}
+
+abbrev pub seen_output : Option (Vec ℤ Global) → Option (List ℤ)
+seen_output o = option_map (λ v. v.items) o
+
+abbrev pub seen_numbers : Numbers → f.Numbers
+seen_numbers n = record {
+  arguments = n.arguments.items;
+  inputs = n.inputs.items;
+  expect = n.expect;
+  output = seen_output n.output;
+}
+
+abbrev pub seen_line : Line → l.Line
+seen_line line =
+    record { name = line.name.now; call = plan_call_of line.call; inputs = line.inputs.items }
+
+-- the number that a map has for a name
+abbrev pub number_named : BTreeMap (Bor (List ℕ)) ℕ → List ℕ → Option ℕ
+number_named numbers q = get_by (λ k. slice_cmp nat_cmp q k.now) numbers
+
+-- the numbers are those of the functions, by their names
+abbrev pub AreNumbers : BTreeMap (Bor (List ℕ)) ℕ → List Function → Type 0
+AreNumbers numbers functions = (q : List ℕ)
+    → number_named numbers q ≡ option_map (λ found. found.0) (function_named q 0 functions)
+
+-- ---- tests that are being read
+
+-- the plan of a test whose records are being read
+abbrev pub seen_draft : ℕ → Draft → Plan
+seen_draft fuel draft = record {
+  name = draft.name.items;
+  calls = map plan_call_of draft.calls.items;
+  inputs = draft.inputs.items;
+  fuel = fuel;
+}
+
+abbrev pub IsCounted : Draft → Type 0
+IsCounted draft = draft.outputs ≡ expected_outputs (map plan_call_of draft.calls.items)
+
+abbrev pub seen_plans : List TestPlan → List Plan
+seen_plans plans = map plan_of plans
+
+abbrev pub open_plans : ℕ → Option Draft → List Plan
+open_plans fuel None = []
+open_plans fuel (Some draft) = seen_draft fuel draft ∷ []
+
+-- the plans of the tests so far
+abbrev pub plans_in : Tests → List Plan
+plans_in tests = seen_plans tests.done.items ++ open_plans tests.fuel tests.open
+
+abbrev pub has_name : BTreeSet (Vec ℕ Global) → List ℕ → Bool
+has_name names q = contains_by (λ k. slice_cmp nat_cmp q k.items) names
+
+-- these are the names of the plans, no two of which have one name, and which keep the limits
+pub record AreRead (plans : List Plan) (names : BTreeSet (Vec ℕ Global)) : Type 0 where
+  pub named : (q : List ℕ) → has_name names q ≡ list_any (λ n. bytes_eq n q) (names_of plans)
+  pub distinct : are_distinct (names_of plans) ≡ true
+  pub limits : keeps_limits plans ≡ true
+
+abbrev pub IsOpen : Option Draft → List TestPlan → Type 0
+IsOpen None done = done ≡ []
+IsOpen (Some draft) done = IsCounted draft
+
+-- what holds after each record; the last test is open
+pub record Stand (tests : Tests) : Type 0 where
+  pub read : AreRead (plans_in tests) tests.names
+  pub open_one : IsOpen tests.open tests.done.items

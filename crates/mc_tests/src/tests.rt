@@ -1,0 +1,177 @@
+//! The tests that the records of a tests file make.
+ghost use Rattle.std.specs.Prelude.{◌≡◌, ◌≢◌, ◌++◌, ◌∷◌, ◌||◌, ◌&&◌, ◌+◌, ℕ, List, [], Some, IfOk, IfErr, OnOk, length, nat_le};
+ghost use Rattle.std.specs.Str.{bytes_eq};
+ghost use Rattle.mc_tests.specs.Seen.{AreRead, IsCounted, Stand, has_name, open_plans, plans_in, seen_draft, seen_line, seen_plans};
+ghost use Rattle.mc_tests.specs.Tests.{is_small, test_of, tests_fault};
+ghost use Rattle.mc_tests.specs.steps.Adding.{extended, with_last};
+ghost use Rattle.mc_tests.specs.declared.fault.TestFault.TheVariants.{OutOfMemory};
+
+use crate::draft::{Draft, extend, fits_alone, has_room, start, to_plan};
+use crate::fault::TestFault;
+use crate::line::Line;
+use mc_typed::TestPlan;
+use std::alloc::{AllocError, Global};
+use std::collections::BTreeSet;
+
+const MAX_TESTS: usize = 4096;
+
+/// The tests so far, the last of which is open: its next record may follow. The names are those of
+/// them all.
+#[derive(Drop)]
+pub(crate) struct Tests {
+    pub fuel: u32,
+    pub done: Vec<TestPlan>,
+    pub open: Option<Draft>,
+    pub names: BTreeSet<Vec<u8>>,
+}
+
+/// No tests. Takes no memory.
+pub(crate) fn no_tests(alloc: Global, fuel: u32) -> Tests
+    ensures stand { Stand result }
+    ensures none { plans_in result ≡ [] }
+    ensures fuel { result.fuel ≡ fuel }
+{
+    Tests {
+        fuel,
+        done: Vec::new(alloc),
+        open: None,
+        names: BTreeSet::new(alloc),
+    }
+}
+
+// Adds a name.
+fn add_name(alloc: Global, names: &mut BTreeSet<Vec<u8>>, name: &[u8]) -> Result<(), AllocError>
+    ensures { OnOk result ((q : List ℕ)
+        → has_name names.new q ≡ (bytes_eq name.now q || has_name names.old q)) }
+{
+    names.insert(name.to_vec(alloc)?)?;
+    Ok(())
+}
+
+// Whether a name is that of a test.
+fn has_name(names: &BTreeSet<Vec<u8>>, name: &[u8]) -> bool
+    ensures { result ≡ has_name names.now name.now }
+{
+    names.contains(name)
+}
+
+// Whether one test more, of this record alone, keeps the limits.
+fn has_room_after(done: &[TestPlan], line: &Line<'_>) -> bool
+    ensures { (fuel : ℕ) → result
+        ≡ (nat_le (length done.now + 1) 4096 && is_small (test_of fuel (seen_line line.now))) }
+{
+    done.len() < MAX_TESTS && fits_alone(line)
+}
+
+// The tests with one of this record alone after them.
+fn add_test(
+    alloc: Global,
+    fuel: u32,
+    done: Vec<TestPlan>,
+    names: BTreeSet<Vec<u8>>,
+    row: u32,
+    line: Line<'_>,
+) -> Result<Tests, TestFault>
+    requires { AreRead (seen_plans done.items) names }
+    ensures fuel { IfOk result (λ after. after.fuel ≡ fuel) }
+    ensures stand { IfOk result (λ after. Stand after) }
+    ensures plans { IfOk result (λ after. plans_in after
+        ≡ seen_plans done.items ++ test_of fuel (seen_line line.entry) ∷ []) }
+    ensures fault { IfErr result (λ e. e ≢ OutOfMemory → tests_fault row
+        (seen_plans done.items ++ test_of fuel (seen_line line.entry) ∷ []) ≡ Some e) }
+{
+    if has_name(&names, line.name) {
+        return Err(TestFault::NameAgain { row });
+    }
+    if !has_room_after(&done, &line) {
+        return Err(TestFault::Limit { row });
+    }
+    let mut names = names;
+    add_name(alloc, &mut names, line.name)?;
+    let draft = start(alloc, line)?;
+    Ok(Tests {
+        fuel,
+        done,
+        open: Some(draft),
+        names,
+    })
+}
+
+// The tests with one more record in the open one.
+fn add_to_open(
+    fuel: u32,
+    done: Vec<TestPlan>,
+    draft: Draft,
+    names: BTreeSet<Vec<u8>>,
+    row: u32,
+    line: Line<'_>,
+) -> Result<Tests, TestFault>
+    requires counted { IsCounted draft }
+    requires read { AreRead (seen_plans done.items ++ seen_draft fuel draft ∷ []) names }
+    ensures fuel { IfOk result (λ after. after.fuel ≡ fuel) }
+    ensures stand { IfOk result (λ after. Stand after) }
+    ensures plans { IfOk result (λ after. plans_in after ≡ seen_plans done.items
+        ++ extended (seen_draft fuel draft) (seen_line line.entry) ∷ []) }
+    ensures fault { IfErr result (λ e. e ≢ OutOfMemory → tests_fault row (seen_plans done.items
+        ++ extended (seen_draft fuel draft) (seen_line line.entry) ∷ []) ≡ Some e) }
+{
+    if !has_room(&draft, &line) {
+        return Err(TestFault::Limit { row });
+    }
+    let draft = extend(draft, line)?;
+    Ok(Tests {
+        fuel,
+        done,
+        open: Some(draft),
+        names,
+    })
+}
+
+// Whether a test has that name.
+fn is_named(draft: &Draft, name: &[u8]) -> bool
+    ensures { result ≡ bytes_eq draft.now.name.items name.now }
+{
+    draft.name.as_slice() == name
+}
+
+/// The tests with one more record, which belongs to the open one where that has its name.
+pub(crate) fn add(alloc: Global, tests: Tests, row: u32, line: Line<'_>) -> Result<Tests, TestFault>
+    requires { Stand tests }
+    ensures fuel { IfOk result (λ after. after.fuel ≡ tests.fuel) }
+    ensures stand { IfOk result (λ after. Stand after) }
+    ensures plans { IfOk result (λ after.
+        plans_in after ≡ with_last tests.fuel (plans_in tests) (seen_line line.entry)) }
+    ensures fault { IfErr result (λ e. e ≢ OutOfMemory
+        → tests_fault row (with_last tests.fuel (plans_in tests) (seen_line line.entry)) ≡ Some e) }
+{
+    let Tests {
+        fuel,
+        mut done,
+        open,
+        names,
+    } = tests;
+    let Some(draft) = open else {
+        return add_test(alloc, fuel, done, names, row, line);
+    };
+    if is_named(&draft, line.name) {
+        return add_to_open(fuel, done, draft, names, row, line);
+    }
+    done.push(to_plan(draft, fuel))?;
+    add_test(alloc, fuel, done, names, row, line)
+}
+
+/// The plans of the tests, when all records have been read.
+pub(crate) fn to_plans(tests: Tests) -> Result<Vec<TestPlan>, AllocError>
+    ensures { IfOk result (λ v. seen_plans v.items ≡ plans_in tests) }
+{
+    let Tests {
+        fuel,
+        mut done,
+        open,
+        names: _,
+    } = tests;
+    if let Some(draft) = open {
+        done.push(to_plan(draft, fuel))?;
+    }
+    Ok(done)
+}
