@@ -7,3 +7,4 @@ mod matrices;
 mod schedules;
 #[cfg(test)]
 mod threads;
+mod workers;

@@ -2,7 +2,7 @@ use Rattle.std.proofs.Common.{◌≡◌, ℕ, ◌++◌, List, length, take, drop
 use Rattle.std.proofs.Math.Seq.{take-append_seam}
 use Rattle.mc_cover.specs.Model.{PassView}
 use Rattle.tests_cover.specs.Workers.{AllDone}
-use Rattle.tests_cover.proofs.threads.record_all.Goals as goal
+use Rattle.tests_cover.proofs.workers.record_all.Goals as goal
 
 pub join_all-requires-clause-passes : goal.join_all-requires-clause-passes
 join_all-requires-clause-passes g c =

@@ -1,5 +1,5 @@
 use Rattle.std.proofs.Common.{◌≡◌}
-use Rattle.tests_cover.proofs.threads.run_test.Given as goal
+use Rattle.tests_cover.proofs.workers.run_test.Given as goal
 
 abbrev pub invariant-loop-factor : goal.invariant-loop-factor
 invariant-loop-factor l = record {

@@ -1,7 +1,7 @@
 use Rattle.std.proofs.Common.{◌≡◌, ◌≤◌, vec_len, vec_capacity}
 use Rattle.mc_cover.specs.Views.{opener}
 use Rattle.tests_cover.specs.Workers.{AllRunning}
-use Rattle.tests_cover.proofs.threads.fork_all.Given as goal
+use Rattle.tests_cover.proofs.workers.fork_all.Given as goal
 
 abbrev pub invariant-loop-worker : goal.invariant-loop-worker
 invariant-loop-worker l = record {

@@ -1,7 +1,7 @@
 use Rattle.std.proofs.Common.{◌≡◌, ◌+◌, vec_len}
 use Rattle.mc_cover.specs.declared.view.Role.TheVariants.{Opener}
 use Rattle.tests_cover.specs.Workers.{AllDone}
-use Rattle.tests_cover.proofs.threads.join_all.Given as goal
+use Rattle.tests_cover.proofs.workers.join_all.Given as goal
 
 abbrev pub invariant-loop-other : goal.invariant-loop-other
 invariant-loop-other l = record {

@@ -1,6 +1,6 @@
 use Rattle.std.proofs.Common.{◌-◌, length}
 use Rattle.tests_cover.specs.Workers.{IsRunning}
-use Rattle.tests_cover.proofs.threads.work.Given as goal
+use Rattle.tests_cover.proofs.workers.work.Given as goal
 
 abbrev pub invariant-loop-test : goal.invariant-loop-test
 invariant-loop-test l = record {

@@ -3,7 +3,7 @@ use Rattle.std.specs.Prelude.{All}
 use Rattle.mc_cover.specs.declared.view.View.{View}
 use Rattle.tests_cover.specs.Workers.{IsDone}
 use Rattle.tests_cover.proofs.Passes.{split_last}
-use Rattle.tests_cover.proofs.threads.join_all.Goals as goal
+use Rattle.tests_cover.proofs.workers.join_all.Goals as goal
 
 pub join-requires-clause-own : goal.join-requires-clause-own
 join-requires-clause-own c =
