@@ -42,7 +42,8 @@ abbrev pub IsLonger : Option Files → List ℕ → ℕ → Type 0
 IsLonger files name limit = (told : Files) → files ≡ Some told
     → (bytes : List ℕ) × (file_of told name ≡ Some bytes) × (limit < length bytes)
 
--- what an answer says of the file, where the files are told, of the limit and of the count of faults
+-- what an answer says of the file, where the files are told, of the limit and of the count of
+-- faults
 abbrev pub Loads : State → State → Request → Result (Vec ℕ Global) LoadFault → Type 0
 Loads old new request (Ok bytes) =
     (length bytes.items ≤ request.limit) × HasFile old.contents request.name bytes.items

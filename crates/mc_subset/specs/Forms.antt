@@ -34,8 +34,8 @@ abbrev pub is_part : Role → Bool
 is_part role.Part = true
 is_part _ = false
 
--- nested assignment: an assignment, `++` or `--` that is neither a whole expression statement nor a clause of the
--- first or third part of a `for` (C17 6.5.2.4, 6.5.3.1, 6.5.16)
+-- nested assignment: an assignment, `++` or `--` that is neither a whole expression statement nor a
+-- clause of the first or third part of a `for` (C17 6.5.2.4, 6.5.3.1, 6.5.16)
 abbrev pub is_nested_assignment : Node → Bool
 is_nested_assignment (an_expression (t.Assignment o a b span) r) = is_part r
 is_nested_assignment (an_expression (t.PostfixStep o a span) r) = is_part r
@@ -46,7 +46,8 @@ abbrev pub is_for_part : Role → Bool
 is_for_part role.ForPart = true
 is_for_part _ = false
 
--- comma: a comma between expressions, except between clauses of the first or third part of a `for` (C17 6.5.17)
+-- comma: a comma between expressions, except between clauses of the first or third part of a `for`
+-- (C17 6.5.17)
 abbrev pub is_comma : Node → Bool
 is_comma (an_expression (t.Comma all span) r) = not (is_for_part r)
 is_comma _ = false
@@ -74,9 +75,9 @@ abbrev pub is_among_labels : Standing → Bool
 is_among_labels standing.AmongLabels = true
 is_among_labels _ = false
 
--- switch shape (C17 6.8.1, 6.8.4.2): a `switch` whose body is not a compound statement; a declaration directly in the
--- body of a `switch`; a statement directly in that body before its first label; a `case` or `default` label that does
--- not stand directly in the body of a `switch`
+-- switch shape (C17 6.8.1, 6.8.4.2): a `switch` whose body is not a compound statement; a
+-- declaration directly in the body of a `switch`; a statement directly in that body before its
+-- first label; a `case` or `default` label that does not stand directly in the body of a `switch`
 abbrev pub is_switch_shape : Node → Bool
 is_switch_shape (a_statement (t.Switch a s span) w) = is_before_labels w || not (is_compound s)
 is_switch_shape (a_statement (t.Case a label s span) w) = not (is_among_labels w)
@@ -85,8 +86,8 @@ is_switch_shape (a_statement s w) = is_before_labels w
 is_switch_shape (a_declaration d w) = is_before_labels w || is_among_labels w
 is_switch_shape _ = false
 
--- local tag: a structure or enumeration with a list, inside a function definition or a parameter (C17 6.7.2.1,
--- 6.7.2.2)
+-- local tag: a structure or enumeration with a list, inside a function definition or a parameter
+-- (C17 6.7.2.1, 6.7.2.2)
 abbrev pub is_local_tag : Node → Bool
 is_local_tag (a_specifier (t.Structure tag all span) g) = is_local g
 is_local_tag (a_specifier (t.Enumeration tag all span) g) = is_local g

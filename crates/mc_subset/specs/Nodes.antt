@@ -1,6 +1,7 @@
--- The nodes of a tree, each with what the rows of the table of forms ask of its context. They stand in preorder: a node
--- before its parts, and parts in the order of the text. Names, enumerators, array lengths, initializers and items are not
--- listed, since no row speaks of them; their parts are.
+-- The nodes of a tree, each with what the rows of the table of forms ask of its context. They stand
+-- in preorder: a node before its parts, and parts in the order of the text. Names, enumerators,
+-- array lengths, initializers and items are not listed, since no row speaks of them; their parts
+-- are.
 use Rattle.std.specs.Prelude.{Bool, true, false, ◌||◌, List, [], ◌∷◌, ◌++◌, Option, Some, None}
 use Rattle.mc_tree.specs.declared.declarations.specifier_word.SpecifierWord.TheVariants as word
 use Rattle.mc_tree.specs.Tree.{Expression, Expressions, TypeName, Specifier, Specifiers, StructMember, Members, Enumerator, Enumerators, Declarator, Declarators, ArrayLengths, Parameters, Parameter, ParameterList, Initializer, Initializers, InitDeclarator, Declaration, ForStart, Statement, BlockItems, Item}
@@ -17,7 +18,8 @@ pub data Node : Type 0 where
   a_type_name : TypeName → Node
   a_specifier : Specifier → Region → Node
   a_member : StructMember → Node
-  -- whether it stands in a local declaration, and whether `extern` is among the specifiers before it
+  -- whether it stands in a local declaration, and whether `extern` is among the specifiers before
+  -- it
   a_declarator : Declarator → Bool → Bool → Node
   a_parameter_list : Parameters → Node
   a_parameter : Parameter → Node
@@ -46,42 +48,64 @@ has_extern (t.specifiers s rest) = is_extern s || has_extern rest
 abbrev mutual
   pub nodes_of_expression : Region → Role → Expression → List Node
   nodes_of_expression g r (t.Named name) = an_expression (t.Named name) r ∷ []
-  nodes_of_expression g r (t.Constant value decimal unsigned longs span) = an_expression (t.Constant value decimal unsigned longs span) r ∷ []
+  nodes_of_expression g r (t.Constant value decimal unsigned longs span) =
+      an_expression (t.Constant value decimal unsigned longs span) r ∷ []
   nodes_of_expression g r (t.Character value span) = an_expression (t.Character value span) r ∷ []
-  nodes_of_expression g r (t.Parenthesized a span) = an_expression (t.Parenthesized a span) r ∷ nodes_of_expression g role.Part a
-  nodes_of_expression g r (t.Call name all span) = an_expression (t.Call name all span) r ∷ nodes_of_expressions g role.Part all
-  nodes_of_expression g r (t.Index a b span) = an_expression (t.Index a b span) r ∷ (nodes_of_expression g role.Part a ++ nodes_of_expression g role.Part b)
-  nodes_of_expression g r (t.Member a name span) = an_expression (t.Member a name span) r ∷ nodes_of_expression g role.Part a
-  nodes_of_expression g r (t.PostfixStep operator a span) = an_expression (t.PostfixStep operator a span) r ∷ nodes_of_expression g role.Part a
-  nodes_of_expression g r (t.PrefixStep operator a span) = an_expression (t.PrefixStep operator a span) r ∷ nodes_of_expression g role.Part a
-  nodes_of_expression g r (t.Unary operator a span) = an_expression (t.Unary operator a span) r ∷ nodes_of_expression g role.Part a
-  nodes_of_expression g r (t.Cast type a span) = an_expression (t.Cast type a span) r ∷ (nodes_of_type g type ++ nodes_of_expression g role.Part a)
-  nodes_of_expression g r (t.Binary operator a b span) = an_expression (t.Binary operator a b span) r ∷ (nodes_of_expression g role.Part a ++ nodes_of_expression g role.Part b)
-  nodes_of_expression g r (t.Conditional a b c span) = an_expression (t.Conditional a b c span) r ∷ (nodes_of_expression g role.Part a ++ (nodes_of_expression g role.Part b ++ nodes_of_expression g role.Part c))
-  nodes_of_expression g r (t.Assignment operator a b span) = an_expression (t.Assignment operator a b span) r ∷ (nodes_of_expression g role.Part a ++ nodes_of_expression g role.Part b)
-  nodes_of_expression g r (t.Comma all span) = an_expression (t.Comma all span) r ∷ nodes_of_expressions g (role_of_operands r) all
+  nodes_of_expression g r (t.Parenthesized a span) = an_expression (t.Parenthesized a span) r
+      ∷ nodes_of_expression g role.Part a
+  nodes_of_expression g r (t.Call name all span) = an_expression (t.Call name all span) r
+      ∷ nodes_of_expressions g role.Part all
+  nodes_of_expression g r (t.Index a b span) = an_expression (t.Index a b span) r
+      ∷ (nodes_of_expression g role.Part a ++ nodes_of_expression g role.Part b)
+  nodes_of_expression g r (t.Member a name span) = an_expression (t.Member a name span) r
+      ∷ nodes_of_expression g role.Part a
+  nodes_of_expression g r (t.PostfixStep operator a span) =
+      an_expression (t.PostfixStep operator a span) r ∷ nodes_of_expression g role.Part a
+  nodes_of_expression g r (t.PrefixStep operator a span) =
+      an_expression (t.PrefixStep operator a span) r ∷ nodes_of_expression g role.Part a
+  nodes_of_expression g r (t.Unary operator a span) = an_expression (t.Unary operator a span) r
+      ∷ nodes_of_expression g role.Part a
+  nodes_of_expression g r (t.Cast type a span) = an_expression (t.Cast type a span) r
+      ∷ (nodes_of_type g type ++ nodes_of_expression g role.Part a)
+  nodes_of_expression g r (t.Binary operator a b span) =
+      an_expression (t.Binary operator a b span) r
+      ∷ (nodes_of_expression g role.Part a ++ nodes_of_expression g role.Part b)
+  nodes_of_expression g r (t.Conditional a b c span) = an_expression (t.Conditional a b c span) r
+      ∷ (nodes_of_expression g role.Part a
+      ++ (nodes_of_expression g role.Part b ++ nodes_of_expression g role.Part c))
+  nodes_of_expression g r (t.Assignment operator a b span) =
+      an_expression (t.Assignment operator a b span) r
+      ∷ (nodes_of_expression g role.Part a ++ nodes_of_expression g role.Part b)
+  nodes_of_expression g r (t.Comma all span) = an_expression (t.Comma all span) r
+      ∷ nodes_of_expressions g (role_of_operands r) all
 
   pub nodes_of_expressions : Region → Role → Expressions → List Node
   nodes_of_expressions g r t.no_expressions = []
-  nodes_of_expressions g r (t.expressions a rest) = nodes_of_expression g r a ++ nodes_of_expressions g r rest
+  nodes_of_expressions g r (t.expressions a rest) = nodes_of_expression g r a
+      ++ nodes_of_expressions g r rest
 
   pub nodes_of_type : Region → TypeName → List Node
-  nodes_of_type g (t.type_name s stars span) = a_type_name (t.type_name s stars span) ∷ nodes_of_specifiers g s
+  nodes_of_type g (t.type_name s stars span) = a_type_name (t.type_name s stars span)
+      ∷ nodes_of_specifiers g s
 
   pub nodes_of_specifier : Region → Specifier → List Node
   nodes_of_specifier g (t.Word w span) = a_specifier (t.Word w span) g ∷ []
   nodes_of_specifier g (t.TypedefName name) = a_specifier (t.TypedefName name) g ∷ []
   nodes_of_specifier g (t.StructureTag name span) = a_specifier (t.StructureTag name span) g ∷ []
-  nodes_of_specifier g (t.Structure tag all span) = a_specifier (t.Structure tag all span) g ∷ nodes_of_members g all
-  nodes_of_specifier g (t.EnumerationTag name span) = a_specifier (t.EnumerationTag name span) g ∷ []
-  nodes_of_specifier g (t.Enumeration tag all span) = a_specifier (t.Enumeration tag all span) g ∷ nodes_of_enumerators g all
+  nodes_of_specifier g (t.Structure tag all span) = a_specifier (t.Structure tag all span) g
+      ∷ nodes_of_members g all
+  nodes_of_specifier g (t.EnumerationTag name span) = a_specifier (t.EnumerationTag name span) g
+      ∷ []
+  nodes_of_specifier g (t.Enumeration tag all span) = a_specifier (t.Enumeration tag all span) g
+      ∷ nodes_of_enumerators g all
 
   pub nodes_of_specifiers : Region → Specifiers → List Node
   nodes_of_specifiers g t.no_specifiers = []
   nodes_of_specifiers g (t.specifiers s rest) = nodes_of_specifier g s ++ nodes_of_specifiers g rest
 
   pub nodes_of_member : Region → StructMember → List Node
-  nodes_of_member g (t.member s ds span) = a_member (t.member s ds span) ∷ (nodes_of_specifiers g s ++ nodes_of_declarators g (has_extern s) ds)
+  nodes_of_member g (t.member s ds span) = a_member (t.member s ds span)
+      ∷ (nodes_of_specifiers g s ++ nodes_of_declarators g (has_extern s) ds)
 
   pub nodes_of_members : Region → Members → List Node
   nodes_of_members g t.no_members = []
@@ -93,34 +117,43 @@ abbrev mutual
 
   pub nodes_of_enumerators : Region → Enumerators → List Node
   nodes_of_enumerators g t.no_enumerators = []
-  nodes_of_enumerators g (t.enumerators e rest) = nodes_of_enumerator g e ++ nodes_of_enumerators g rest
+  nodes_of_enumerators g (t.enumerators e rest) = nodes_of_enumerator g e
+      ++ nodes_of_enumerators g rest
 
   -- `local` and `external` as at its node
   pub nodes_of_declarator : Region → Bool → Bool → Declarator → List Node
-  nodes_of_declarator g local external (t.object stars name all span) = a_declarator (t.object stars name all span) local external ∷ nodes_of_lengths g all
-  nodes_of_declarator g local external (t.function stars name all span) = a_declarator (t.function stars name all span) local external ∷ nodes_of_parameters all
+  nodes_of_declarator g local external (t.object stars name all span) =
+      a_declarator (t.object stars name all span) local external ∷ nodes_of_lengths g all
+  nodes_of_declarator g local external (t.function stars name all span) =
+      a_declarator (t.function stars name all span) local external ∷ nodes_of_parameters all
 
   -- those of a member, whose declaration is not local
   pub nodes_of_declarators : Region → Bool → Declarators → List Node
   nodes_of_declarators g external t.no_declarators = []
-  nodes_of_declarators g external (t.declarators d rest) = nodes_of_declarator g false external d ++ nodes_of_declarators g external rest
+  nodes_of_declarators g external (t.declarators d rest) = nodes_of_declarator g false external d
+      ++ nodes_of_declarators g external rest
 
   pub nodes_of_lengths : Region → ArrayLengths → List Node
   nodes_of_lengths g t.no_lengths = []
   nodes_of_lengths g (t.absent_length rest) = nodes_of_lengths g rest
-  nodes_of_lengths g (t.given_length a rest) = nodes_of_expression g role.Part a ++ nodes_of_lengths g rest
+  nodes_of_lengths g (t.given_length a rest) = nodes_of_expression g role.Part a
+      ++ nodes_of_lengths g rest
 
   pub nodes_of_parameters : Parameters → List Node
   nodes_of_parameters (t.Empty span) = a_parameter_list (t.Empty span) ∷ []
   nodes_of_parameters (t.Void span) = a_parameter_list (t.Void span) ∷ []
-  nodes_of_parameters (t.Listed all span) = a_parameter_list (t.Listed all span) ∷ nodes_of_parameter_list all
+  nodes_of_parameters (t.Listed all span) = a_parameter_list (t.Listed all span)
+      ∷ nodes_of_parameter_list all
 
   pub nodes_of_parameter : Parameter → List Node
-  nodes_of_parameter (t.parameter s stars name all span) = a_parameter (t.parameter s stars name all span) ∷ (nodes_of_specifiers Function s ++ nodes_of_lengths Function all)
+  nodes_of_parameter (t.parameter s stars name all span) =
+      a_parameter (t.parameter s stars name all span)
+      ∷ (nodes_of_specifiers Function s ++ nodes_of_lengths Function all)
 
   pub nodes_of_parameter_list : ParameterList → List Node
   nodes_of_parameter_list t.no_parameters = []
-  nodes_of_parameter_list (t.parameters p rest) = nodes_of_parameter p ++ nodes_of_parameter_list rest
+  nodes_of_parameter_list (t.parameters p rest) = nodes_of_parameter p
+      ++ nodes_of_parameter_list rest
 
 abbrev mutual
   pub nodes_of_initializer : Region → Initializer → List Node
@@ -129,7 +162,8 @@ abbrev mutual
 
   pub nodes_of_initializers : Region → Initializers → List Node
   nodes_of_initializers g t.no_initializers = []
-  nodes_of_initializers g (t.initializers one rest) = nodes_of_initializer g one ++ nodes_of_initializers g rest
+  nodes_of_initializers g (t.initializers one rest) = nodes_of_initializer g one
+      ++ nodes_of_initializers g rest
 
 -- a declaration is local where it stands inside a function definition
 abbrev pub is_local : Region → Bool
@@ -138,14 +172,17 @@ is_local File = false
 
 abbrev pub nodes_of_init_declarator : Region → Bool → InitDeclarator → List Node
 nodes_of_init_declarator g external (t.bare d) = nodes_of_declarator g (is_local g) external d
-nodes_of_init_declarator g external (t.initialized d value) = nodes_of_declarator g (is_local g) external d ++ nodes_of_initializer g value
+nodes_of_init_declarator g external (t.initialized d value) =
+    nodes_of_declarator g (is_local g) external d ++ nodes_of_initializer g value
 
 abbrev pub nodes_of_init_declarators : Region → Bool → List InitDeclarator → List Node
 nodes_of_init_declarators g external [] = []
-nodes_of_init_declarators g external (d ∷ rest) = nodes_of_init_declarator g external d ++ nodes_of_init_declarators g external rest
+nodes_of_init_declarators g external (d ∷ rest) = nodes_of_init_declarator g external d
+    ++ nodes_of_init_declarators g external rest
 
 abbrev pub nodes_of_declaration : Region → Standing → Declaration → List Node
-nodes_of_declaration g w (t.declaration s ds span) = a_declaration (t.declaration s ds span) w ∷ (nodes_of_specifiers g s ++ nodes_of_init_declarators g (has_extern s) ds)
+nodes_of_declaration g w (t.declaration s ds span) = a_declaration (t.declaration s ds span) w
+    ∷ (nodes_of_specifiers g s ++ nodes_of_init_declarators g (has_extern s) ds)
 
 abbrev pub nodes_of_optional : Role → Option Expression → List Node
 nodes_of_optional r None = []
@@ -157,7 +194,8 @@ nodes_of_start (t.StartsExpression a) = nodes_of_optional role.ForPart a
 
 -- the three parts of a `for`
 abbrev pub nodes_of_parts : ForStart → Option Expression → Option Expression → List Node
-nodes_of_parts start a b = nodes_of_start start ++ (nodes_of_optional role.Part a ++ nodes_of_optional role.ForPart b)
+nodes_of_parts start a b = nodes_of_start start
+    ++ (nodes_of_optional role.Part a ++ nodes_of_optional role.ForPart b)
 
 -- where the items of a compound statement stand that stands here itself
 abbrev pub standing_of_items : Standing → Standing
@@ -178,28 +216,42 @@ standing_from _ w = w
 abbrev mutual
   -- the statement of a `case` or `default` label stands where the label stands
   pub nodes_of_statement : Standing → Statement → List Node
-  nodes_of_statement w (t.Compound b span) = a_statement (t.Compound b span) w ∷ nodes_of_block (standing_of_items w) b
+  nodes_of_statement w (t.Compound b span) = a_statement (t.Compound b span) w
+      ∷ nodes_of_block (standing_of_items w) b
   nodes_of_statement w (t.Null span) = a_statement (t.Null span) w ∷ []
-  nodes_of_statement w (t.ExpressionStatement a span) = a_statement (t.ExpressionStatement a span) w ∷ nodes_of_expression Function role.Statement a
-  nodes_of_statement w (t.If a s span) = a_statement (t.If a s span) w ∷ (nodes_of_expression Function role.Part a ++ nodes_of_statement standing.Elsewhere s)
-  nodes_of_statement w (t.IfElse a s u span) = a_statement (t.IfElse a s u span) w ∷ (nodes_of_expression Function role.Part a ++ (nodes_of_statement standing.Elsewhere s ++ nodes_of_statement standing.Elsewhere u))
-  nodes_of_statement w (t.Switch a s span) = a_statement (t.Switch a s span) w ∷ (nodes_of_expression Function role.Part a ++ nodes_of_statement standing.Body s)
-  nodes_of_statement w (t.While a s span) = a_statement (t.While a s span) w ∷ (nodes_of_expression Function role.Part a ++ nodes_of_statement standing.Elsewhere s)
-  nodes_of_statement w (t.DoWhile s a span) = a_statement (t.DoWhile s a span) w ∷ (nodes_of_statement standing.Elsewhere s ++ nodes_of_expression Function role.Part a)
-  nodes_of_statement w (t.For start a b s span) = a_statement (t.For start a b s span) w ∷ (nodes_of_parts start a b ++ nodes_of_statement standing.Elsewhere s)
-  nodes_of_statement w (t.Case a label s span) = a_statement (t.Case a label s span) w ∷ (nodes_of_expression Function role.Part a ++ nodes_of_statement w s)
-  nodes_of_statement w (t.Default label s span) = a_statement (t.Default label s span) w ∷ nodes_of_statement w s
-  nodes_of_statement w (t.Label name s span) = a_statement (t.Label name s span) w ∷ nodes_of_statement standing.Elsewhere s
+  nodes_of_statement w (t.ExpressionStatement a span) = a_statement (t.ExpressionStatement a span) w
+      ∷ nodes_of_expression Function role.Statement a
+  nodes_of_statement w (t.If a s span) = a_statement (t.If a s span) w
+      ∷ (nodes_of_expression Function role.Part a ++ nodes_of_statement standing.Elsewhere s)
+  nodes_of_statement w (t.IfElse a s u span) = a_statement (t.IfElse a s u span) w
+      ∷ (nodes_of_expression Function role.Part a
+      ++ (nodes_of_statement standing.Elsewhere s ++ nodes_of_statement standing.Elsewhere u))
+  nodes_of_statement w (t.Switch a s span) = a_statement (t.Switch a s span) w
+      ∷ (nodes_of_expression Function role.Part a ++ nodes_of_statement standing.Body s)
+  nodes_of_statement w (t.While a s span) = a_statement (t.While a s span) w
+      ∷ (nodes_of_expression Function role.Part a ++ nodes_of_statement standing.Elsewhere s)
+  nodes_of_statement w (t.DoWhile s a span) = a_statement (t.DoWhile s a span) w
+      ∷ (nodes_of_statement standing.Elsewhere s ++ nodes_of_expression Function role.Part a)
+  nodes_of_statement w (t.For start a b s span) = a_statement (t.For start a b s span) w
+      ∷ (nodes_of_parts start a b ++ nodes_of_statement standing.Elsewhere s)
+  nodes_of_statement w (t.Case a label s span) = a_statement (t.Case a label s span) w
+      ∷ (nodes_of_expression Function role.Part a ++ nodes_of_statement w s)
+  nodes_of_statement w (t.Default label s span) = a_statement (t.Default label s span) w
+      ∷ nodes_of_statement w s
+  nodes_of_statement w (t.Label name s span) = a_statement (t.Label name s span) w
+      ∷ nodes_of_statement standing.Elsewhere s
   nodes_of_statement w (t.Goto name span) = a_statement (t.Goto name span) w ∷ []
   nodes_of_statement w (t.Break span) = a_statement (t.Break span) w ∷ []
   nodes_of_statement w (t.Continue span) = a_statement (t.Continue span) w ∷ []
-  nodes_of_statement w (t.Return a span) = a_statement (t.Return a span) w ∷ nodes_of_optional role.Part a
+  nodes_of_statement w (t.Return a span) = a_statement (t.Return a span) w
+      ∷ nodes_of_optional role.Part a
 
   -- the items of a compound statement from the place `w` on
   pub nodes_of_block : Standing → BlockItems → List Node
   nodes_of_block w t.no_block_items = []
   nodes_of_block w (t.local d rest) = nodes_of_declaration Function w d ++ nodes_of_block w rest
-  nodes_of_block w (t.statement s rest) = nodes_of_statement (standing_from s w) s ++ nodes_of_block (standing_from s w) rest
+  nodes_of_block w (t.statement s rest) = nodes_of_statement (standing_from s w) s
+      ++ nodes_of_block (standing_from s w) rest
 
 -- the place after the first of these items
 abbrev pub standing_after : BlockItems → Standing → Standing
@@ -210,7 +262,8 @@ standing_after (t.statement s rest) w = standing_from s w
 -- a function definition's type words and declarator stand inside it
 abbrev pub nodes_of_item : Item → List Node
 nodes_of_item (t.Declared d) = nodes_of_declaration File standing.Elsewhere d
-nodes_of_item (t.Defined s d b span) = nodes_of_specifiers Function s ++ (nodes_of_declarator Function false (has_extern s) d ++ nodes_of_block standing.Elsewhere b)
+nodes_of_item (t.Defined s d b span) = nodes_of_specifiers Function s
+    ++ (nodes_of_declarator Function false (has_extern s) d ++ nodes_of_block standing.Elsewhere b)
 
 abbrev pub nodes_of_unit : List Item → List Node
 nodes_of_unit [] = []

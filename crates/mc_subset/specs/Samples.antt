@@ -40,7 +40,8 @@ abbrev pub assigned : ℕ → Expression
 assigned at = t.Assignment assign.Assign (a at) (one (at + 2)) (span at (at + 3))
 
 abbrev pub with_commas : Expression → Expression → ℕ → ℕ → Expression
-with_commas left right from to = t.Comma (t.expressions left (t.expressions right t.no_expressions)) (span from to)
+with_commas left right from to = t.Comma (t.expressions left (t.expressions right t.no_expressions))
+    (span from to)
 
 abbrev pub word_at : SpecifierWord → ℕ → ℕ → Specifiers → Specifiers
 word_at w from to rest = t.specifiers (t.Word w (span from to)) rest
@@ -63,13 +64,17 @@ declared s ds to = t.Declared (t.declaration s ds (span 0 to)) ∷ []
 
 -- `void f(void){` and `}` round what begins at byte 13
 abbrev pub in_function : BlockItems → ℕ → List Item
-in_function b to = t.Defined (word_at word.Void 0 4 t.no_specifiers) (function_at 5 (t.Void (span 6 12)) 12) b (span 0 to) ∷ []
+in_function b to =
+    t.Defined (word_at word.Void 0 4 t.no_specifiers) (function_at 5 (t.Void (span 6 12)) 12) b
+    (span 0 to) ∷ []
 
 -- `struct{int a;}` and `struct{const int a;}`
 abbrev pub structure_with : Specifiers → ℕ → ℕ → Specifiers
 structure_with s at place =
     let all = t.declarators (object_at place) t.no_declarators in
-    t.specifiers (t.Structure None (t.members (t.member s all (span (at + 7) (place + 2))) t.no_members) (span at (place + 3)))
+    t.specifiers
+    (t.Structure None (t.members (t.member s all (span (at + 7) (place + 2))) t.no_members)
+    (span at (place + 3)))
     t.no_specifiers
 
 abbrev pub structure : ℕ → Specifiers
@@ -94,10 +99,14 @@ alone s = t.statement s t.no_block_items
 
 -- `for(` with these three parts, and `);` with the `;` at this byte
 abbrev pub for_of : Expression → Expression → Expression → ℕ → Statement
-for_of first second third at = t.For (t.StartsExpression (Some first)) (Some second) (Some third) (null at) (span 0 (at + 1))
+for_of first second third at = t.For (t.StartsExpression (Some first)) (Some second) (Some third)
+    (null at) (span 0 (at + 1))
 
 -- `(enum{a})1`
 abbrev pub enumeration_cast : ℕ → Expression
 enumeration_cast at =
-    t.Cast (t.type_name (t.specifiers (t.Enumeration None (t.enumerators (t.enumerator (name (codes "a") (at + 6))) t.no_enumerators) (span (at + 1) (at + 8))) t.no_specifiers) 0 (span (at + 1) (at + 8)))
+    t.Cast (t.type_name
+    (t.specifiers
+    (t.Enumeration None (t.enumerators (t.enumerator (name (codes "a") (at + 6)))
+    t.no_enumerators) (span (at + 1) (at + 8))) t.no_specifiers) 0 (span (at + 1) (at + 8)))
     (one (at + 9)) (span at (at + 10))

@@ -32,7 +32,8 @@ pub(crate) fn expression(tree: &Expression<'_>, region: Region, role: Role) -> O
 #[tactic(auto, using(crate::proofs::Trees::expressions))]
 fn parts_of_expression(tree: &Expression<'_>, region: Region, role: Role) -> Option<Outside>
     ensures { result
-        ≡ first_outside (n.after_first (n.nodes_of_expression region role (expression_of tree.now))) }
+        ≡ first_outside
+        (n.after_first (n.nodes_of_expression region role (expression_of tree.now))) }
 {
     match tree {
         Expression::Name { .. } | Expression::Constant { .. } | Expression::Character { .. } =>

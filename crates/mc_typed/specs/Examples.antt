@@ -37,7 +37,8 @@ recursive = record {
   body = t.statements (t.Return (t.ReturnNumber (t.Choice
       (local 0 (at 20 21))
       (t.Call (t.call 0 (t.arguments (t.NumberArgument (t.Binary (Binary Sub) Int
-      (local 0 (at 24 25)) (constant 1 (at 26 27)) (at 24 27))) t.no_arguments) None (at 22 28)) Int)
+      (local 0 (at 24 25)) (constant 1 (at 26 27)) (at 24 27))) t.no_arguments) None (at 22 28))
+      Int)
       (constant 0 (at 29 30)) Int (at 20 30))) (at 13 31)) t.no_statements;
   closing = (at 31 32);
 }
@@ -52,15 +53,18 @@ array = record {
   name_span = (at 4 5);
   parameters = t.NumberParameter Int ∷ [];
   result = t.NumberResult Int;
-  objects = scalar 0 ∷ record { object_type = Array 30000 (Scalar Int); cells = 30000; start = 1 } ∷ [];
-  body = t.statements (t.Declaration (record { slot = slot 1 1; cells = 30000; value = None } ∷ []) (at 13 26))
+  objects = scalar 0 ∷ record { object_type = Array 30000 (Scalar Int); cells = 30000; start = 1 }
+      ∷ [];
+  body = t.statements (t.Declaration (record { slot = slot 1 1; cells = 30000; value = None } ∷ [])
+      (at 13 26))
       (t.statements (t.EffectStatement (t.Assign
       (t.Item (t.Local (slot 1 1) (at 26 27)) 30000 1 (constant 0 (at 28 29)) (at 26 30)) Int
       (local 0 (at 31 32)) (at 26 32)) (at 26 33))
       (t.statements (t.Return (t.ReturnNumber (t.Choice
       (local 0 (at 40 41))
       (t.Call (t.call 0 (t.arguments (t.NumberArgument (t.Binary (Binary Sub) Int
-      (local 0 (at 44 45)) (constant 1 (at 46 47)) (at 44 47))) t.no_arguments) None (at 42 48)) Int)
+      (local 0 (at 44 45)) (constant 1 (at 46 47)) (at 44 47))) t.no_arguments) None (at 42 48))
+      Int)
       (constant 0 (at 49 50)) Int (at 40 50))) (at 33 51)) t.no_statements));
   closing = (at 51 52);
 }
@@ -106,11 +110,13 @@ caller = record {
   parameters = [];
   result = t.NumberResult Int;
   objects = record { object_type = structure; cells = 1; start = 0 } ∷ [];
-  body = t.statements (t.EffectStatement (t.Assign (t.Member (stored (at 113 114)) 0 0 (at 113 116)) Int
+  body = t.statements
+      (t.EffectStatement (t.Assign (t.Member (stored (at 113 114)) 0 0 (at 113 116)) Int
       (constant 2 (at 117 118)) (at 113 118)) (at 113 119))
       (t.statements (t.Return (t.ReturnNumber (t.Call (t.call 1
       (t.arguments (t.StructureArgument (t.Stored (stored (at 128 129))) (slot 0 0))
-      (t.arguments (t.NumberArgument (t.Call (t.call 0 t.no_arguments None (at 130 133)) Int)) t.no_arguments))
+      (t.arguments (t.NumberArgument (t.Call (t.call 0 t.no_arguments None (at 130 133)) Int))
+      t.no_arguments))
       None (at 126 134)) Int)) (at 119 135)) t.no_statements);
   closing = (at 135 136);
 }
@@ -118,7 +124,11 @@ caller = record {
 abbrev pub structures : Program
 structures = record {
   functions = setter ∷ callee ∷ caller ∷ [];
-  statics = record { object = record { object_type = structure; cells = 1; start = 0 }; initial = pos 0 ∷ [] } ∷ [];
+  statics = record {
+    object = record { object_type = structure; cells = 1; start = 0 };
+    initial =
+        pos 0 ∷ [];
+  } ∷ [];
   structures = structure ∷ [];
 }
 
@@ -138,11 +148,17 @@ constructs = record {
   } ∷ []) (at 13 23))
       (t.statements (t.Switch (local 0 (at 30 31))
       (t.statements (t.Label (Some (pos 1)) (at 33 40))
-      (t.statements (t.For (t.StartEffects []) (Some (t.Binary (Binary Lt) Int (local 1 (at 45 46)) (constant 9 (at 47 48)) (at 45 48)))
-      (t.Update (t.Local (slot 1 1) (at 49 50)) Int (Binary Add) Int (constant 1 (at 50 52)) (at 49 52) ∷ [])
+      (t.statements
+      (t.For (t.StartEffects [])
+      (Some (t.Binary (Binary Lt) Int (local 1 (at 45 46)) (constant 9 (at 47 48)) (at 45 48)))
+      (t.Update (t.Local (slot 1 1) (at 49 50)) Int (Binary Add) Int (constant 1 (at 50 52))
+      (at 49 52) ∷ [])
       (t.Null (at 53 54)) (at 40 43) (at 40 54))
       (t.statements (t.Label None (at 54 62))
-      (t.statements (t.Return (t.ReturnNumber (t.Convert Int false (t.Convert Long true (local 1 (at 75 76)) (at 69 76)) (at 69 76))) (at 62 77))
+      (t.statements
+      (t.Return (t.ReturnNumber
+      (t.Convert Int false (t.Convert Long true (local 1 (at 75 76)) (at 69 76)) (at 69 76)))
+      (at 62 77))
       t.no_statements)))) (at 23 29) (at 23 78))
       t.no_statements);
   closing = (at 78 79);
@@ -153,11 +169,14 @@ abbrev pub plan : Call → Plan
 plan c = record { name = 116 ∷ 49 ∷ []; calls = c ∷ []; inputs = []; fuel = 1000000 }
 
 abbrev pub deep_plan : Plan
-deep_plan = plan (record { function = 0; arguments = pos 84 ∷ []; expect = Some (pos 0); output = None })
+deep_plan = plan
+    (record { function = 0; arguments = pos 84 ∷ []; expect = Some (pos 0); output = None })
 
 abbrev pub wide_plan : Plan
-wide_plan = plan (record { function = 0; arguments = pos 2147483648 ∷ []; expect = None; output = None })
+wide_plan = plan
+    (record { function = 0; arguments = pos 2147483648 ∷ []; expect = None; output = None })
 
 -- a call of a function with a structure parameter
 abbrev pub structure_plan : Plan
-structure_plan = plan (record { function = 1; arguments = pos 1 ∷ pos 1 ∷ []; expect = None; output = None })
+structure_plan =
+    plan (record { function = 1; arguments = pos 1 ∷ pos 1 ∷ []; expect = None; output = None })

@@ -31,7 +31,13 @@ plan_call_of c = record {
 
 abbrev pub plan_of : TestPlan → Plan
 plan_of p =
-    record { name = p.name; calls = map plan_call_of p.calls.items; inputs = p.inputs; fuel = p.fuel }
+    record {
+      name = p.name;
+      calls = map plan_call_of p.calls.items;
+      inputs = p.inputs;
+      fuel =
+          p.fuel;
+    }
 
 -- ---- a plan fits a program
 
