@@ -114,6 +114,14 @@ impl Numbering {
         self.count
     }
 
+    /// How many conditions the decision has. It walks no tree.
+    pub fn conditions(&self) -> u32
+        ensures { result ≡ size (tree_of self.now) }
+    {
+        let edges = self.on_false.as_slice();
+        edges.len() as u32
+    }
+
     /// What condition `k` adds to the number of a path where it is true: nothing.
     pub fn on_true(&self, k: u32) -> u32
         requires { k < size (tree_of self.now) }

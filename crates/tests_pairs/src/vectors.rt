@@ -52,8 +52,8 @@ fn check_paths(
             masks[path as usize]
         );
     }
-    assert_eq!(rt; edges.len(), conditions(tree) as usize);
-    for k in 0..conditions(tree) {
+    assert_eq!(rt; edges.len(), numbering.conditions() as usize);
+    for k in 0..numbering.conditions() {
         assert_eq!(rt;
             (numbering.on_true(k), numbering.on_false(k)),
             (0, edges[k as usize])
