@@ -23,7 +23,7 @@ fn number<'p>(
 }
 
 /// The number of each function by its name; of functions with one name it is that of the first.
-pub(crate) fn numbers_of<'p>(
+pub(crate) fn numbers_by_name<'p>(
     alloc: Global,
     functions: &'p [Function<'_>],
 ) -> Result<BTreeMap<&'p [u8], u32>, AllocError>

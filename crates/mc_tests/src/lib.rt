@@ -10,6 +10,7 @@ mod line;
 mod numbers;
 mod read;
 mod tests;
+pub mod worked;
 
 pub use fault::TestFault;
 pub use read::read_tests;

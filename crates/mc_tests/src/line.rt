@@ -22,7 +22,7 @@ pub(crate) struct Line<'r> {
 }
 
 // The number of the first function with a name.
-fn number_of(numbers: &BTreeMap<&[u8], u32>, name: &[u8]) -> Option<u32>
+fn number_named(numbers: &BTreeMap<&[u8], u32>, name: &[u8]) -> Option<u32>
     ensures { result ≡ number_named numbers.now name.now }
 {
     numbers.get(name).copied()
@@ -38,7 +38,7 @@ fn find<'p, 'a>(
     ensures { option_map (λ found. (found.0, function_of found.1.now)) result
         ≡ function_named name.now 0 (map function_of functions.now) }
 {
-    let number = number_of(numbers, name)?;
+    let number = number_named(numbers, name)?;
     Some((number, &functions[number as usize]))
 }
 

@@ -7,7 +7,7 @@ ghost use Rattle.mc_tests.specs.declared.fault.TestFault.TheVariants.{OutOfMemor
 
 use crate::fault::TestFault;
 use crate::fields::is_header;
-use crate::functions::numbers_of;
+use crate::functions::numbers_by_name;
 use crate::line::read_line;
 use crate::tests::{add, no_tests, to_plans};
 use mc_rows::Rows;
@@ -27,7 +27,7 @@ fn read_records(
     ensures fault { IfErr result (λ e. e ≢ OutOfMemory
         → records_from (map function_of functions.now) fuel 2 [] rows.old ≡ Err e) }
 {
-    let numbers = numbers_of(alloc, functions)?;
+    let numbers = numbers_by_name(alloc, functions)?;
     let mut tests = no_tests(alloc, fuel);
     let mut row = 2;
     'reading: while let Some(fields) = rows.next_row()? {

@@ -1,5 +1,5 @@
 -- Functions without statements, as typed trees.
-use Rattle.std.specs.Prelude.{ℕ, ◌+◌, List, [], ◌∷◌, map, codes}
+use Rattle.std.specs.Prelude.{ℕ, ◌+◌, List, [], ◌∷◌, ◌++◌, map, codes}
 use Rattle.mc_span.specs.declared.span.Span.{Span}
 use Rattle.mc_value.specs.declared.int_type.IntType.{IntType}
 use Rattle.mc_value.specs.declared.int_type.IntType.TheVariants as it
@@ -47,13 +47,18 @@ with_array name types = empty name
     (t.ArrayParameter (Scalar Int) ∷ map t.NumberParameter types) (t.NumberResult Int)
     (objects_from 0 types)
 
-abbrev pub all_functions : List Function
-all_functions =
+abbrev pub numeric_functions : List Function
+numeric_functions =
     integers (codes "f") (Int ∷ Int ∷ []) (t.NumberResult Int)
     ∷ integers (codes "v") (Int ∷ []) t.NoResult
     ∷ integers (codes "z") [] (t.NumberResult Int)
     ∷ integers (codes "w") all_types (t.NumberResult Int)
-    ∷ with_array (codes "t") []
+    ∷ []
+
+abbrev pub all_functions : List Function
+all_functions =
+    numeric_functions
+    ++ with_array (codes "t") []
     ∷ with_array (codes "a") (Int ∷ [])
     ∷ empty (codes "p") (t.StructureParameter pair ∷ []) (t.NumberResult Int)
     (record { object_type = pair; cells = 1; start = 0 } ∷ [])

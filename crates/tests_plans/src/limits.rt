@@ -1,117 +1,147 @@
 //! The limits of tests, calls, inputs and expected outputs, and one more of each.
-use crate::programs::callees;
-use mc_tests::{TestFault, read_tests};
+use crate::outcome::outcome;
+use mc_tests::TestFault;
+use mc_typed::Program;
 use std::alloc::{AllocError, Global};
+use std::process::Abort;
 use std::test::Fail;
 
-const HEADER: &str = "test,call,arguments,inputs,expect,output\n";
+/// A text, and then each number from 0 on, so many times, with a text after it.
+type Part = (&'static str, u32, &'static str);
 
-// The text so many times.
-fn push_times(file: &mut String, text: &str, times: u32) -> Result<(), AllocError> {
-    for _turn in 0..times {
-        file.push_str(text)?;
+// The parts after the header, how many tests they make, and the fault.
+const FILES: [(&[Part], usize, Option<TestFault>); 18] = [
+    // 4,096 tests, one more, and one more with an earlier name, which is the lower fault
+    (
+        &[("t", 4095, ",z,,,,\nt"), ("x,z,,,,\n", 0, "")],
+        4096,
+        None,
+    ),
+    (
+        &[("t", 4096, ",z,,,,\nt"), ("x,z,,,,\n", 0, "")],
+        0,
+        Some(TestFault::Limit { row: 4098 }),
+    ),
+    (
+        &[("t", 4096, ",z,,,,\nt"), ("0,z,,,,\n", 0, "")],
+        0,
+        Some(TestFault::NameAgain { row: 4098 }),
+    ),
+    // 1,024 calls of a test, and one more
+    (&[("a,z,,,", 1023, ",\na,z,,,"), (",\n", 0, "")], 1, None),
+    (
+        &[("a,z,,,", 1024, ",\na,z,,,"), (",\n", 0, "")],
+        0,
+        Some(TestFault::Limit { row: 1026 }),
+    ),
+    // 4,096 inputs of a test in three records, and one more
+    (
+        &[
+            ("a,z,,", 2047, " "),
+            ("1,,\na,z,,,,\na,z,,", 2047, " "),
+            ("1,,\n", 0, ""),
+        ],
+        1,
+        None,
+    ),
+    (
+        &[
+            ("a,z,,", 2047, " "),
+            ("1,,\na,z,,,,\na,z,,", 2048, " "),
+            ("1,,\n", 0, ""),
+        ],
+        0,
+        Some(TestFault::Limit { row: 4 }),
+    ),
+    // the same with expected outputs
+    (
+        &[
+            ("a,z,,,,", 2047, " "),
+            ("1\na,z,,,,none\na,z,,,,", 2047, " "),
+            ("1\n", 0, ""),
+        ],
+        1,
+        None,
+    ),
+    (
+        &[
+            ("a,z,,,,", 2047, " "),
+            ("1\na,z,,,,none\na,z,,,,", 2048, " "),
+            ("1\n", 0, ""),
+        ],
+        0,
+        Some(TestFault::Limit { row: 4 }),
+    ),
+    // a record that passes a limit and has another fault too: the lower number answers
+    (
+        &[("a,z,,", 4096, " "), ("1,,\n", 0, "")],
+        0,
+        Some(TestFault::Limit { row: 2 }),
+    ),
+    (
+        &[("a,z,", 4096, " "), ("1,,\n", 0, "")],
+        0,
+        Some(TestFault::Width { row: 2 }),
+    ),
+    (
+        &[("a+,z,,", 4096, " "), ("1,,\n", 0, "")],
+        0,
+        Some(TestFault::Text { row: 2 }),
+    ),
+    (
+        &[("a,z,,x ", 4096, " "), ("1,,\n", 0, "")],
+        0,
+        Some(TestFault::Number { row: 2 }),
+    ),
+    (
+        &[("a,g,,", 4096, " "), ("1,,\n", 0, "")],
+        0,
+        Some(TestFault::Function { row: 2 }),
+    ),
+    (
+        &[("a,z,1,", 4096, " "), ("1,,\n", 0, "")],
+        0,
+        Some(TestFault::Arguments { row: 2 }),
+    ),
+    (
+        &[("a,t,,", 4096, " "), ("1,,\n", 0, "")],
+        0,
+        Some(TestFault::NotCallable { row: 2 }),
+    ),
+    (
+        &[("a,z,,,,\nb,z,,,,\na,z,,", 4096, " "), ("1,,\n", 0, "")],
+        0,
+        Some(TestFault::NameAgain { row: 4 }),
+    ),
+    (
+        &[("a,z,,,,\nb,z,,,,\nb,z,,", 4096, " "), ("1,,\n", 0, "")],
+        0,
+        Some(TestFault::Limit { row: 4 }),
+    ),
+];
+
+// The file of these parts.
+fn file_of(alloc: Global, parts: &[Part]) -> Result<String, AllocError> {
+    let mut file = String::from_str(alloc, "test,call,arguments,inputs,expect,output\n")?;
+    for (head, count, tail) in parts {
+        file.push_str(head)?;
+        for number in 0..*count {
+            file.push_str(format!(in alloc; "{number}{tail}")?.as_str())?;
+        }
     }
-    Ok(())
-}
-
-// So many tests of one call.
-fn tests(alloc: Global, count: u32) -> Result<String, AllocError> {
-    let mut file = String::from_str(alloc, HEADER)?;
-    for number in 0..count {
-        file.push_str(format!(in alloc; "t{number},z,,,,\n")?.as_str())?;
-    }
     Ok(file)
 }
 
-// A test of so many calls.
-fn calls(alloc: Global, count: u32) -> Result<String, AllocError> {
-    let mut file = String::from_str(alloc, HEADER)?;
-    push_times(&mut file, "a,z,,,,\n", count)?;
-    Ok(file)
-}
-
-// A test of three records with so many inputs, 2,048 of which are in its first record.
-fn inputs(alloc: Global, more: u32) -> Result<String, AllocError> {
-    let mut file = String::from_str(alloc, HEADER)?;
-    file.push_str("a,z,,")?;
-    push_times(&mut file, "1 ", 2047)?;
-    file.push_str("1,,\na,z,,,,\na,z,,")?;
-    push_times(&mut file, "-1 ", more)?;
-    file.push_str("1,,\n")?;
-    Ok(file)
-}
-
-// The same with expected outputs.
-fn outputs(alloc: Global, more: u32) -> Result<String, AllocError> {
-    let mut file = String::from_str(alloc, HEADER)?;
-    file.push_str("a,z,,,,")?;
-    push_times(&mut file, "1 ", 2047)?;
-    file.push_str("1\na,z,,,,none\na,z,,,,")?;
-    push_times(&mut file, "-1 ", more)?;
-    file.push_str("1\n")?;
-    Ok(file)
-}
-
-// These records, and one with 4,097 inputs.
-fn before_many(alloc: Global, records: &str, front: &str) -> Result<String, AllocError> {
-    let mut file = String::from_str(alloc, HEADER)?;
-    file.push_str(records)?;
-    file.push_str(front)?;
-    push_times(&mut file, "1 ", 4096)?;
-    file.push_str("1,,\n")?;
-    Ok(file)
-}
-
-// How many tests the file has, and the record that passes a limit, or 0.
-fn outcome(alloc: Global, file: &str) -> Result<(usize, Option<TestFault>), AllocError> {
-    let program = callees(alloc)?;
-    match read_tests(alloc, file.as_bytes(), &program, 1) {
-        Ok(plans) => Ok((plans.len(), None)),
-        Err(fault) => Ok((0, Some(fault))),
-    }
-}
-
-#[test]
-fn tests_and_calls(rt: HostRuntime) -> Result<(), Fail> {
-    let alloc = rt.alloc();
-    let limit = Some(TestFault::Limit { row: 4098 });
-    assert_eq!(rt; outcome(alloc, tests(alloc, 4096)?.as_str())?, (4096, None));
-    assert_eq!(rt; outcome(alloc, tests(alloc, 4097)?.as_str())?, (0, limit));
-    let limit = Some(TestFault::Limit { row: 1026 });
-    assert_eq!(rt; outcome(alloc, calls(alloc, 1024)?.as_str())?, (1, None));
-    assert_eq!(rt; outcome(alloc, calls(alloc, 1025)?.as_str())?, (0, limit));
-    Ok(())
-}
-
-#[test]
-fn inputs_and_outputs(rt: HostRuntime) -> Result<(), Fail> {
-    let alloc = rt.alloc();
-    let limit = Some(TestFault::Limit { row: 4 });
-    assert_eq!(rt; outcome(alloc, inputs(alloc, 2047)?.as_str())?, (1, None));
-    assert_eq!(rt; outcome(alloc, inputs(alloc, 2048)?.as_str())?, (0, limit));
-    assert_eq!(rt; outcome(alloc, outputs(alloc, 2047)?.as_str())?, (1, None));
-    assert_eq!(rt; outcome(alloc, outputs(alloc, 2048)?.as_str())?, (0, limit));
-    Ok(())
-}
-
-// A record that passes a limit and has another fault too: the lower number answers.
-#[test]
-fn another_fault_answers(rt: HostRuntime) -> Result<(), Fail> {
-    let alloc = rt.alloc();
-    let two = "a,z,,,,\nb,z,,,,\n";
-    for (records, front, fault) in [
-        ("", "a,z,,", TestFault::Limit { row: 2 }),
-        ("", "a,z,", TestFault::Width { row: 2 }),
-        ("", "a+,z,,", TestFault::Text { row: 2 }),
-        ("", "a,z,,x ", TestFault::Number { row: 2 }),
-        ("", "a,g,,", TestFault::Function { row: 2 }),
-        ("", "a,z,1,", TestFault::Arguments { row: 2 }),
-        ("", "a,t,,", TestFault::NotCallable { row: 2 }),
-        (two, "a,z,,", TestFault::NameAgain { row: 4 }),
-        (two, "b,z,,", TestFault::Limit { row: 4 }),
-    ] {
-        let file = before_many(alloc, records, front)?;
-        assert_eq!(rt; outcome(alloc, file.as_str())?, (0, Some(fault)), "{front}");
+/// Checks each file.
+pub(crate) fn check_limits(
+    rt: &impl Abort,
+    alloc: Global,
+    program: &Program<'_>,
+) -> Result<(), Fail> {
+    for (parts, tests, fault) in &FILES {
+        let file = file_of(alloc, parts)?;
+        let found = outcome(alloc, program, file.as_bytes());
+        assert_eq!(rt; found, (*tests, *fault), "{parts:?}");
     }
     Ok(())
 }

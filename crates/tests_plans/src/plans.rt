@@ -1,9 +1,7 @@
 //! What the plans of a file hold.
-use crate::programs::callees;
-use mc_tests::{TestFault, read_tests};
-use mc_typed::{Call, TestPlan};
-use std::alloc::{AllocError, Global};
-use std::test::Fail;
+use mc_tests::read_tests;
+use mc_typed::{Call, Program, TestPlan};
+use std::alloc::Global;
 
 // Three tests. The first has three calls, which share the inputs 1 2 3.
 const FILE: &[u8] = b"test,call,arguments,inputs,expect,output
@@ -14,50 +12,75 @@ two.a,z,,,,
 one_,f,0 0,-2147483648 2147483647,18446744073709551615,0
 ";
 
-// A test in one line: its name, the number of units of fuel, then its inputs, then for each call
-// the number of the function, the arguments, the value and the outputs that are expected.
-fn line_of(alloc: Global, plan: &TestPlan) -> Result<String, AllocError> {
-    let mut line = String::new(alloc);
-    for byte in plan.name.bytes() {
-        line.push(char::from(*byte))?;
-    }
-    line.push_str(format!(in alloc; " {} {:?}", plan.fuel, plan.inputs.numbers())?.as_str())?;
-    for call in &plan.calls {
-        push_call(alloc, &mut line, call)?;
-    }
-    Ok(line)
-}
+/// The number of the function, the arguments, and the value and the outputs that are expected.
+type CallRow = (u32, &'static [i128], Option<i128>, Option<&'static [i32]>);
 
-fn push_call(alloc: Global, line: &mut String, call: &Call) -> Result<(), AllocError> {
-    let arguments = call.arguments.as_slice();
-    line.push_str(format!(in alloc; " {}({arguments:?})", call.function)?.as_str())?;
-    if let Some(value) = call.expect {
-        line.push_str(format!(in alloc; "={value}")?.as_str())?;
-    }
-    if let Some(output) = &call.output {
-        line.push_str(format!(in alloc; ">{:?}", output.as_slice())?.as_str())?;
-    }
-    Ok(())
-}
+/// A test's name, inputs and calls.
+type PlanRow = (&'static [u8], &'static [i32], &'static [CallRow]);
 
-const LINES: [&str; 3] = [
-    "one 100000000 [1, 2, 3] 0([1, -2])=0 1([3])>[5, -5] 2([])=-7>[]",
-    "two.a 100000000 [] 2([])",
-    "one_ 100000000 [-2147483648, 2147483647] 0([0, 0])=18446744073709551615>[0]",
+const PLANS: [PlanRow; 3] = [
+    (
+        b"one",
+        &[1, 2, 3],
+        &[
+            (0, &[1, -2], Some(0), None),
+            (1, &[3], None, Some(&[5, -5])),
+            (2, &[], Some(-7), Some(&[])),
+        ],
+    ),
+    (b"two.a", &[], &[(2, &[], None, None)]),
+    (
+        b"one_",
+        &[-2147483648, 2147483647],
+        &[(0, &[0, 0], Some(18446744073709551615), Some(&[0]))],
+    ),
 ];
 
-#[test]
-fn holds_what_the_records_say(rt: HostRuntime) -> Result<(), Fail> {
-    let alloc = rt.alloc();
-    let program = callees(alloc)?;
-    match read_tests(alloc, FILE, &program, 100000000) {
-        Ok(plans) => {
-            assert_eq!(rt; plans.len(), LINES.len());
-            for (plan, line) in plans.iter().zip(LINES.iter()) {
-                assert_eq!(rt; line_of(alloc, plan)?.as_str(), *line);
-            }
-        }
-        Err(fault) => assert!(rt; fault == TestFault::OutOfMemory, "{fault}"),
+fn is_same_output(found: &Option<Vec<i32>>, want: Option<&[i32]>) -> bool {
+    match (found, want) {
+        (Some(found), Some(want)) => found.as_slice() == want,
+        (None, None) => true,
+        _ => false,
     }
-    Ok(())
+}
+
+fn is_same_call(call: &Call, row: &CallRow) -> bool {
+    let (function, arguments, expect, output) = row;
+    call.function == *function
+        && call.arguments.as_slice() == *arguments
+        && call.expect == *expect
+        && is_same_output(&call.output, *output)
+}
+
+fn is_same_plan(plan: &TestPlan, row: &PlanRow) -> bool {
+    let (name, inputs, calls) = row;
+    if plan.calls.len() != calls.len() {
+        return false;
+    }
+    for (call, row) in plan.calls.iter().zip(calls.iter()) {
+        if !is_same_call(call, row) {
+            return false;
+        }
+    }
+    plan.name.bytes() == *name && plan.inputs.numbers() == *inputs && plan.fuel == 100000000
+}
+
+fn are_same(plans: &[TestPlan]) -> bool {
+    if plans.len() != PLANS.len() {
+        return false;
+    }
+    for (plan, row) in plans.iter().zip(PLANS.iter()) {
+        if !is_same_plan(plan, row) {
+            return false;
+        }
+    }
+    true
+}
+
+/// Whether the plans of the file hold what its records say.
+pub(crate) fn are_read(alloc: Global, program: &Program<'_>) -> bool {
+    match read_tests(alloc, FILE, program, 100000000) {
+        Ok(plans) => are_same(&plans),
+        Err(_) => false,
+    }
 }

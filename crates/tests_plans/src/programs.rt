@@ -4,7 +4,7 @@ ghost use Rattle.mc_value.specs.declared.int_type.IntType.TheVariants.{Int};
 ghost use Rattle.mc_typed.specs.Layout.{Scalar, object_type_of};
 ghost use Rattle.mc_typed.specs.Views.{function_of, object_of, parameter_of, result_of};
 ghost use Rattle.mc_typed.specs.Tree as t;
-ghost use Rattle.tests_plans.specs.Callees.{all_functions, empty, objects_from, pair};
+ghost use Rattle.tests_plans.specs.Callees.{all_functions, empty, numeric_functions, objects_from, pair};
 
 use mc_typed::{Function, Object, ParameterType, Program, ResultType, Span};
 use mc_value::{IntType, ObjType};
@@ -160,20 +160,23 @@ fn push<'a>(
     Ok(functions)
 }
 
+// Those whose parameters are integers, and which return no structure.
+fn numeric(alloc: Global) -> Result<Vec<Function<'static>>, AllocError>
+    ensures { IfOk result (λ v. map function_of v.items ≡ numeric_functions) }
+{
+    let int = IntType::Int;
+    let f = of_integers(alloc, b"f", &[int, int], ResultType::Int(int))?;
+    let all = push(Vec::new(alloc), f)?;
+    let all = push(all, of_integers(alloc, b"v", &[int], ResultType::Void)?)?;
+    let all = push(all, of_integers(alloc, b"z", &[], ResultType::Int(int))?)?;
+    push(all, of_integers(alloc, b"w", &ALL, ResultType::Int(int))?)
+}
+
 fn functions(alloc: Global) -> Result<Vec<Function<'static>>, AllocError>
     ensures { IfOk result (λ v. map function_of v.items ≡ all_functions) }
 {
-    let int = IntType::Int;
-    let all = Vec::new(alloc);
-    let all = push(
-        all,
-        of_integers(alloc, b"f", &[int, int], ResultType::Int(int))?,
-    )?;
-    let all = push(all, of_integers(alloc, b"v", &[int], ResultType::Void)?)?;
-    let all = push(all, of_integers(alloc, b"z", &[], ResultType::Int(int))?)?;
-    let all = push(all, of_integers(alloc, b"w", &ALL, ResultType::Int(int))?)?;
-    let all = push(all, of_array(alloc, b"t", &[])?)?;
-    let all = push(all, of_array(alloc, b"a", &[int])?)?;
+    let all = push(numeric(alloc)?, of_array(alloc, b"t", &[])?)?;
+    let all = push(all, of_array(alloc, b"a", &[IntType::Int])?)?;
     let all = push(all, of_structure(alloc)?)?;
     let gives = ResultType::Structure(structure(alloc)?);
     push(all, of_integers(alloc, b"s", &[], gives)?)

@@ -2,7 +2,7 @@ use Rattle.std.proofs.Common.{◌≡◌, ◌++◌, ℕ, List, length, map, drop,
 use Rattle.mc_typed.specs.Views.{function_of}
 use Rattle.mc_tests.specs.Lines.{function_named}
 use Rattle.mc_tests.specs.Seen.{number_named}
-use Rattle.mc_tests.proofs.functions.numbers_of.Given as goal
+use Rattle.mc_tests.proofs.functions.numbers_by_name.Given as goal
 
 abbrev pub invariant-loop-left : goal.invariant-loop-left
 invariant-loop-left l = record {
