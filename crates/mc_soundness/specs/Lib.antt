@@ -1,0 +1,4 @@
+pub mod Growth
+pub mod Fits
+pub mod Blocks
+pub mod Laws

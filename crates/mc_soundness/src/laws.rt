@@ -1,0 +1,43 @@
+//! Laws of names and types. The functions do nothing: each has a law as its contract.
+ghost use Rattle.mc_soundness.specs.Fits.{FileScopeFits};
+ghost use Rattle.mc_soundness.specs.Growth.{ExpressionsGrow};
+ghost use Rattle.mc_soundness.specs.Laws.{
+  BodiesAreSound,
+  ExpressionsAreSound,
+  InitializersAreSound,
+  ParametersAreSound,
+  SpecifiersAreSound,
+};
+
+/// What is declared before an expression stays declared, whatever faults there are.
+pub fn scopes_grow()
+    ensures { ExpressionsGrow }
+{}
+
+/// The scope in which a unit begins fits every program.
+pub fn file_scope_fits()
+    ensures { FileScopeFits }
+{}
+
+/// An expression without a fault has a sound value, and its temporary objects are those that it
+/// names, in the order of the text. Specifiers without a fault have a type.
+pub fn expressions_are_sound()
+    ensures expressions { ExpressionsAreSound }
+    ensures specifiers { SpecifiersAreSound }
+{}
+
+/// An initializer without a fault is sound for its object, and has a value of its type for each
+/// cell of an object with static storage duration.
+pub fn initializers_are_sound()
+    ensures { InitializersAreSound }
+{}
+
+/// A function's body without a fault, in which no function is declared, has sound statements.
+pub fn bodies_are_sound()
+    ensures { BodiesAreSound }
+{}
+
+/// Parameters without a fault have types, and objects of these types where they are no arrays.
+pub fn parameters_are_sound()
+    ensures { ParametersAreSound }
+{}
