@@ -1,6 +1,7 @@
 pub mod Nodes
 pub mod Roots
 pub mod Conditions
+pub mod Counts
 pub mod Decisions
 pub mod Laws
 pub mod Seen

@@ -1,0 +1,198 @@
+-- What a run evaluates are the program's decisions.
+use Rattle.std.proofs.Common.{◌≡◌, ◌∙◌, refl, sym, ap, subst, ℕ, zero, suc, ◌+◌, ℤ, Bool, true, false, List, [], ◌∷◌, ◌++◌, map, length, Option, Some, None, All}
+use Rattle.std.specs.Prelude.{slice_get, option_map}
+use Rattle.mc_span.specs.declared.span.Span.{Span}
+use Rattle.mc_cond.specs.Tree.{Tree, Leaf}
+use Rattle.mc_cond.specs.Vectors.{IsVector}
+use Rattle.mc_typed.specs.declared.operators.LogicOperator.{LogicOperator}
+use Rattle.mc_typed.specs.Tree.{Place, Expression, StructureValue, FunctionCall, Argument, Arguments, Effect, Initializer, Initializers, Declarator, ForStart, ReturnValue, Statement, Statements, Function, Program}
+use Rattle.mc_typed.specs.Tree as t
+use Rattle.mc_typed.specs.Sound.{labels_of}
+use Rattle.mc_decide.specs.declared.role.Role.{Role}
+use Rattle.mc_decide.specs.declared.role.Role.TheVariants.{Test, Inner, Plain}
+use Rattle.mc_decide.specs.Nodes.{Node, Parts}
+use Rattle.mc_decide.specs.Nodes as n
+use Rattle.mc_decide.specs.Roots.{is_root, operand_role}
+use Rattle.mc_decide.specs.Conditions.{tree_from}
+use Rattle.mc_steps.specs.Runs.{State, Out, Gave, Stopped, Run, Acts, gives, lists, after, go_on}
+use Rattle.mc_steps.specs.Expressions.{item_does, unary_does, convert_does, binary_does, logic_does, choice_does, as_does, input_does, read_does}
+use Rattle.mc_steps.specs.Statements.{Given, Flow, Seek, Running, For}
+use Rattle.mc_steps.specs.Calls.{Passed, number_given, structure_given}
+use Rattle.mc_meaning.specs.Stores.{Path, Store, on_places}
+use Rattle.mc_meaning.specs.Events.{Event, Entered, Exited, Started, Chosen, Evaluated}
+use Rattle.mc_decide.specs.Counts.{one_where, roots, roots_in}
+use Rattle.mc_meaning.specs.Expressions.{Does, Within, Judged, past, into, value, vector_of, as_condition, negated, holds, first_alone, both, tells, where_root, decides, condition, place_of, value_of, structure_of, call_of, argument_of, arguments_of, target}
+use Rattle.mc_meaning.proofs.Runs.{IsGiven, Gives}
+use Rattle.mc_meaning.proofs.Vectors.{IsOf, condition_is, not_gives, logic_gives, value_is}
+use Rattle.mc_meaning.proofs.Numbered.{own, trees, trees_in, trees_length, own_length, StandsAt, stands_left, stands_right}
+use Rattle.mc_meaning.proofs.Listed as l
+
+-- ---- events
+
+-- `all` has the trees of the program's decisions
+module _ (all : List Tree) where
+  abbrev pub IsFine : Event → Type 0
+  IsFine (Evaluated d v) = (x : Tree) × (slice_get all d ≡ Some x) × IsVector x v
+  IsFine (Entered f) = Unit {0}
+  IsFine (Exited x) = Unit {0}
+  IsFine (Started x) = Unit {0}
+  IsFine (Chosen x) = Unit {0}
+
+  abbrev pub Fine : {A : Type 0} → Does A → Type 0
+  Fine act = (s : State Store) → l.Each IsFine (act s).events
+
+  abbrev pub CallsAreFine : Within → Type 0
+  CallsAreFine w = (f : ℕ) (into : Option Path) (passed : List (Passed Path)) → Fine (w.call f into passed)
+
+  -- ---- where trees stand
+
+  past_own : (k : ℕ) (b : Bool) (a : Node) (rest : List Tree) → StandsAt all k (own b a ++ rest) → StandsAt all (k + one_where b) rest
+  past_own k b a rest h =
+      subst (λ (m : ℕ). StandsAt all (k + m) rest) (own_length b a) (stands_right all k (own b a) rest h)
+
+  past_node : (k : ℕ) (role : Role) (a : Node) (rest : List Tree) → StandsAt all k (trees role a ++ rest) → StandsAt all (k + roots role a) rest
+  past_node k role a rest h =
+      subst (λ (m : ℕ). StandsAt all (k + m) rest) (trees_length role a) (stands_right all k (trees role a) rest h)
+
+  -- ---- a root
+
+  told : (a : Node) (d : ℕ) (o : Out Store Judged) → StandsAt all d (tree_from 0 a ∷ []) → IsGiven (IsOf a) o → l.Each IsFine (go_on o (tells d)).events
+  told a d (Gave j s) h g = ((tree_from 0 a, h.0, g 0), tt)
+  told a d (Stopped e s) h g = tt
+
+  root_is_fine : (b : Bool) (a : Node) (d : ℕ) (e : Does Judged) → StandsAt all d (own b a) → Gives (IsOf a) e → Fine e → Fine (where_root b d e)
+  root_is_fine true a d e h g k s =
+      l.each_append IsFine (e s).events (go_on (e s).out (tells d)).events (k s) (told a d (e s).out h (g s))
+  root_is_fine false a d e h g k s = k s
+
+  -- an expression that is one condition, with what stands in it
+  condition_is_fine : (role : Role) (e : Expression) (w : Within) (operands : Within → Does ℤ) (rest : List Tree) → ((first : ℕ) → tree_from first (n.expression e) ≡ Leaf first) → StandsAt all w.decisions (own (is_root role (n.expression e)) (n.expression e) ++ rest) → (StandsAt all (into role e w).decisions rest → Fine (operands (into role e w))) → Fine (condition role e w operands)
+  condition_is_fine role e w operands rest is h k =
+      root_is_fine (is_root role (n.expression e)) (n.expression e) w.decisions (as_does as_condition (operands (into role e w)))
+      (stands_left all w.decisions (own (is_root role (n.expression e)) (n.expression e)) rest h)
+      (condition_is (n.expression e) is (operands (into role e w)))
+      (l.as_keeps IsFine as_condition (operands (into role e w)) (k (past_own w.decisions (is_root role (n.expression e)) (n.expression e) rest h)))
+
+  value_only : (e : Does Judged) → Fine e → Fine (value e)
+  value_only e k = l.as_keeps IsFine (λ j. j.value) e k
+
+  -- ---- expressions
+
+  mutual
+    pub place_is_fine : (p : Place) (w : Within) → CallsAreFine w → StandsAt all w.decisions (trees Plain (n.place p)) → Fine (place_of p w)
+    place_is_fine (t.Local slot span) w c h = λ s. tt
+    place_is_fine (t.Static slot span) w c h = λ s. tt
+    place_is_fine (t.Parameter array stride index span) w c h =
+        l.lent_item_keeps IsFine on_places (slice_get w.arrays array) stride (value (value_of index Plain w))
+        (value_only (value_of index Plain w) (value_is_fine index Plain w c (stands_left all w.decisions (trees Plain (n.expression index)) [] h)))
+    place_is_fine (t.Item array k stride index span) w c h =
+        let v : Within = past Plain (n.place array) w in
+        let rest : List Tree = trees Plain (n.expression index) ++ [] in
+        l.item_keeps IsFine on_places k stride (place_of array w) (value (value_of index Plain v))
+        (place_is_fine array w c (stands_left all w.decisions (trees Plain (n.place array)) rest h))
+        (value_only (value_of index Plain v) (value_is_fine index Plain v c
+        (stands_left all v.decisions (trees Plain (n.expression index)) [] (past_node w.decisions Plain (n.place array) rest h))))
+    place_is_fine (t.Member structure i offset span) w c h =
+        l.member_keeps IsFine on_places i offset (place_of structure w)
+        (place_is_fine structure w c (stands_left all w.decisions (trees Plain (n.place structure)) [] h))
+
+    pub value_is_fine : (e : Expression) (role : Role) (w : Within) → CallsAreFine w → StandsAt all w.decisions (trees role (n.expression e)) → Fine (value_of e role w)
+    value_is_fine (t.Constant v a span) role w c h =
+        root_is_fine (is_root role (n.Constant span)) (n.Constant span) w.decisions (as_does as_condition (gives v)) h
+        (condition_is (n.Constant span) (λ first. refl) (gives v)) (λ s. tt)
+    value_is_fine (t.Read place a) role w c h =
+        condition_is_fine role (t.Read place a) w (λ w. read_does on_places (place_of place w)) (trees Plain (n.place place) ++ []) (λ first. refl) h
+        (λ h. l.read_keeps IsFine on_places (place_of place (into role (t.Read place a) w))
+        (place_is_fine place (into role (t.Read place a) w) c (stands_left all _ (trees Plain (n.place place)) [] h)))
+    value_is_fine (t.Unary operator a e span) role w c h =
+        let v : Within = into role (t.Unary operator a e span) w in
+        condition_is_fine role (t.Unary operator a e span) w (λ w. unary_does operator a (value (value_of e Plain w))) (trees Plain (n.expression e) ++ []) (λ first. refl) h
+        (λ h. l.unary_keeps IsFine operator a (value (value_of e Plain v)) (value_only (value_of e Plain v)
+        (value_is_fine e Plain v c (stands_left all v.decisions (trees Plain (n.expression e)) [] h))))
+    value_is_fine (t.Convert a written e span) role w c h =
+        let v : Within = into role (t.Convert a written e span) w in
+        condition_is_fine role (t.Convert a written e span) w (λ w. convert_does a (value (value_of e Plain w))) (trees Plain (n.expression e) ++ []) (λ first. refl) h
+        (λ h. l.convert_keeps IsFine a (value (value_of e Plain v)) (value_only (value_of e Plain v)
+        (value_is_fine e Plain v c (stands_left all v.decisions (trees Plain (n.expression e)) [] h))))
+    value_is_fine (t.Not e span) role w c h =
+        let a : Node = n.Not (n.expression e) span in
+        let r : Role = operand_role role a in
+        let v : Within = into role (t.Not e span) w in
+        root_is_fine (is_root role a) a w.decisions (as_does negated (value_of e r v))
+        (stands_left all w.decisions (own (is_root role a) a) (trees r (n.expression e)) h)
+        (not_gives (n.expression e) span (value_of e r v) (value_is e r v))
+        (l.as_keeps IsFine negated (value_of e r v)
+        (value_is_fine e r v c (past_own w.decisions (is_root role a) a (trees r (n.expression e)) h)))
+    value_is_fine (t.Binary operator a e f span) role w c h =
+        let v : Within = into role (t.Binary operator a e f span) w in
+        let u : Within = past Plain (n.expression e) v in
+        let rest : List Tree = trees Plain (n.expression f) ++ [] in
+        condition_is_fine role (t.Binary operator a e f span) w
+        (λ w. binary_does operator a (value (value_of e Plain w)) (value (value_of f Plain (past Plain (n.expression e) w))))
+        (trees Plain (n.expression e) ++ rest) (λ first. refl) h
+        (λ h. l.binary_keeps IsFine operator a (value (value_of e Plain v)) (value (value_of f Plain u))
+        (value_only (value_of e Plain v) (value_is_fine e Plain v c (stands_left all v.decisions (trees Plain (n.expression e)) rest h)))
+        (value_only (value_of f Plain u) (value_is_fine f Plain u c
+        (stands_left all u.decisions (trees Plain (n.expression f)) [] (past_node v.decisions Plain (n.expression e) rest h)))))
+    value_is_fine (t.Logic operator e f span) role w c h =
+        let a : Node = n.Logic operator (n.expression e) (n.expression f) span in
+        let r : Role = operand_role role a in
+        let v : Within = into role (t.Logic operator e f span) w in
+        let u : Within = past r (n.expression e) v in
+        let inner = past_own w.decisions (is_root role a) a (trees r (n.expression e) ++ trees r (n.expression f)) h in
+        root_is_fine (is_root role a) a w.decisions (logic_does operator holds (first_alone f) both (value_of e r v) (value_of f r u))
+        (stands_left all w.decisions (own (is_root role a) a) (trees r (n.expression e) ++ trees r (n.expression f)) h)
+        (logic_gives operator e f span (value_of e r v) (value_of f r u) (value_is e r v) (value_is f r u))
+        (l.logic_keeps IsFine operator holds (first_alone f) both (value_of e r v) (value_of f r u)
+        (value_is_fine e r v c (stands_left all v.decisions (trees r (n.expression e)) (trees r (n.expression f)) inner))
+        (value_is_fine f r u c (past_node v.decisions r (n.expression e) (trees r (n.expression f)) inner)))
+    value_is_fine (t.Choice e f g a span) role w c h =
+        let v : Within = into role (t.Choice e f g a span) w in
+        let u : Within = past Test (n.expression e) v in
+        let x : Within = past Plain (n.expression f) u in
+        let last : List Tree = trees Plain (n.expression g) ++ [] in
+        let rest : List Tree = trees Plain (n.expression f) ++ last in
+        condition_is_fine role (t.Choice e f g a span) w
+        (λ w. choice_does (value (value_of e Test w)) (value (value_of f Plain (past Test (n.expression e) w)))
+        (value (value_of g Plain (past Plain (n.expression f) (past Test (n.expression e) w)))))
+        (trees Test (n.expression e) ++ rest) (λ first. refl) h
+        (λ h. l.choice_keeps IsFine (value (value_of e Test v)) (value (value_of f Plain u)) (value (value_of g Plain x))
+        (value_only (value_of e Test v) (value_is_fine e Test v c (stands_left all v.decisions (trees Test (n.expression e)) rest h)))
+        (value_only (value_of f Plain u) (value_is_fine f Plain u c
+        (stands_left all u.decisions (trees Plain (n.expression f)) last (past_node v.decisions Test (n.expression e) rest h))))
+        (value_only (value_of g Plain x) (value_is_fine g Plain x c
+        (stands_left all x.decisions (trees Plain (n.expression g)) []
+        (past_node u.decisions Plain (n.expression f) last (past_node v.decisions Test (n.expression e) rest h))))))
+    value_is_fine (t.Call k a) role w c h =
+        let v : Within = into role (t.Call k a) w in
+        condition_is_fine role (t.Call k a) w (λ w s. after (call_of k w s) number_given) (trees_in (n.call_parts k)) (λ first. refl) h
+        (λ h s. l.after_keeps IsFine (call_of k v s) number_given (call_is_fine k v c h s) (l.number_given_keeps IsFine))
+    value_is_fine (t.Input span) role w c h =
+        condition_is_fine role (t.Input span) w (λ w. input_does) [] (λ first. refl) h (λ h. l.input_keeps IsFine)
+
+    pub structure_is_fine : (x : StructureValue) (w : Within) → CallsAreFine w → StandsAt all w.decisions (trees Plain (n.structure x)) → Fine (structure_of x w)
+    structure_is_fine (t.Stored place) w c h = λ s. place_is_fine place w c h s
+    structure_is_fine (t.Returned k) w c h = λ s.
+        l.after_keeps IsFine (call_of k w s) structure_given (call_is_fine k w c h s) (l.structure_given_keeps IsFine)
+
+    pub call_is_fine : (k : FunctionCall) (w : Within) → CallsAreFine w → StandsAt all w.decisions (trees_in (n.call_parts k)) → Fine (call_of k w)
+    call_is_fine (t.call f given result span) w c h = λ s.
+        l.after_keeps IsFine (arguments_of given w s) _ (arguments_are_fine given w c h s) (λ passed s. c f _ passed s)
+
+    argument_is_fine : (x : Argument) (w : Within) → CallsAreFine w → StandsAt all w.decisions (trees Plain (n.argument x)) → Fine (argument_of x w)
+    argument_is_fine (t.NumberArgument e) w c h =
+        l.number_argument_keeps IsFine Path (value (value_of e Plain w)) (value_only (value_of e Plain w) (value_is_fine e Plain w c h))
+    argument_is_fine (t.StructureArgument structure copy) w c h =
+        l.structure_argument_keeps IsFine on_places (target w copy) (structure_of structure w) (structure_is_fine structure w c h)
+    argument_is_fine (t.ArrayArgument place k) w c h =
+        l.array_argument_keeps IsFine k (place_of place w) (place_is_fine place w c h)
+    argument_is_fine (t.AgainArgument array span) w c h =
+        l.again_argument_keeps IsFine (slice_get w.arrays array)
+
+    arguments_are_fine : (xs : Arguments) (w : Within) → CallsAreFine w → StandsAt all w.decisions (trees_in (n.arguments xs)) → Fine (arguments_of xs w)
+    arguments_are_fine t.no_arguments w c h = λ s. tt
+    arguments_are_fine (t.arguments a rest) w c h =
+        let v : Within = past Plain (n.argument a) w in
+        l.arguments_keep IsFine (argument_of a w) (arguments_of rest v)
+        (argument_is_fine a w c (stands_left all w.decisions (trees Plain (n.argument a)) (trees_in (n.arguments rest)) h))
+        (arguments_are_fine rest v c (past_node w.decisions Plain (n.argument a) (trees_in (n.arguments rest)) h))

@@ -1,0 +1,34 @@
+-- What follows from the definitions.
+use Rattle.std.specs.Prelude.{◌≡◌, ℕ, List, [], ◌∷◌, slice_get, Some, All}
+use Rattle.mc_cond.specs.Vectors.{IsVector}
+use Rattle.mc_typed.specs.Tree.{Expression, Program}
+use Rattle.mc_typed.specs.Plans.{Plan}
+use Rattle.mc_decide.specs.declared.role.Role.{Role}
+use Rattle.mc_decide.specs.Nodes as n
+use Rattle.mc_decide.specs.Conditions.{tree_from}
+use Rattle.mc_decide.specs.Decisions.{Decision, AreDecisions}
+use Rattle.mc_steps.specs.Runs.{State, Gave}
+use Rattle.mc_meaning.specs.Stores.{Store}
+use Rattle.mc_meaning.specs.Events.{Event, Entered, Exited, Started, Chosen, Evaluated}
+use Rattle.mc_meaning.specs.Expressions.{Within, Judged, vector_of, value_of}
+use Rattle.mc_meaning.specs.Tests.{plain_run}
+
+-- What an expression gives of its conditions is a vector of the tree that it is, from its top down,
+-- whether it is a root or a node of the tree of a decision around it.
+abbrev pub AnswersAreVectors : Type 0
+AnswersAreVectors =
+    (e : Expression) (role : Role) (w : Within) (s t : State Store) (j : Judged) (first : ℕ)
+    → (value_of e role w s).out ≡ Gave j t
+    → IsVector (tree_from first (n.expression e)) (vector_of j)
+
+-- An evaluation is of the decision with its number, and its vector is one of that decision's tree.
+abbrev pub IsOfDecision : List Decision → Event → Type 0
+IsOfDecision ds (Evaluated number v) =
+    (d : Decision) × (slice_get ds number ≡ Some d) × IsVector d.tree v
+IsOfDecision ds _ = Unit {0}
+
+-- What a run evaluates are the program's decisions, each under its number in the list of all.
+abbrev pub EvaluationsAreOfDecisions : Type 0
+EvaluationsAreOfDecisions =
+    (p : Program) (plan : Plan) (ds : List Decision) → AreDecisions p.functions ds
+    → All (IsOfDecision ds) (plain_run p plan).events

@@ -1,0 +1,8 @@
+pub mod Stores
+pub mod Events
+pub mod Expressions
+pub mod Statements
+pub mod Calls
+pub mod Tests
+pub mod Laws
+pub mod Seen

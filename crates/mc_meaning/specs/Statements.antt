@@ -1,0 +1,176 @@
+-- What effects, initializers and statements do (C17 6.7.9, 6.8).
+use Rattle.std.specs.Prelude.{ℕ, suc, ◌+◌, Bool, true, false, List, [], ◌∷◌, Option, Some, None}
+use Rattle.mc_typed.specs.Tree.{Expression, Effect, Initializer, Initializers, Declarator, ForStart, ReturnValue, Statement, Statements}
+use Rattle.mc_typed.specs.Tree as t
+use Rattle.mc_typed.specs.Sound.{labels_of}
+use Rattle.mc_decide.specs.declared.role.Role.TheVariants.{Test, Plain}
+use Rattle.mc_decide.specs.Nodes as n
+use Rattle.mc_steps.specs.Runs.{gives, lists, after}
+use Rattle.mc_steps.specs.Expressions.{assign_does, update_does, copy_does, choice_does, drop_does, both_do, output_does}
+use Rattle.mc_steps.specs.Statements.{Given, Nothing, Number, Structure, Flow, Completed, Broke, Continued, Left, Seek, Running, counted_does, effect_does, if_does, loop_does, do_does, absent_test, test_does, label_does, item_runs, switch_does}
+use Rattle.mc_steps.specs.Calls.{unset_does, store_does, store_structure_does, rest_does, zero_does}
+use Rattle.mc_steps.specs.Points.{◌⊕◌, a_statement, initializes, has_default, where_absent, points_of}
+use Rattle.mc_meaning.specs.Stores.{Path, on_places}
+use Rattle.mc_meaning.specs.Events.{Exited, Started, Chosen}
+use Rattle.mc_meaning.specs.Expressions.{Does, Within, local, past, value, place_of, value_of, structure_of, call_of}
+
+-- ---- effects (C17 6.5.16, 6.8.3)
+
+-- The value of a call that is the whole of a statement or of a clause of `for` is not used.
+abbrev pub effect : Effect → Within → Does (Unit {0})
+effect (t.Assign place a e span) w s =
+    assign_does on_places (place_of place w)
+    (value (value_of e Plain (past Plain (n.place place) w))) s
+effect (t.Update place a operator common e span) w s =
+    update_does on_places a operator common (place_of place w)
+    (value (value_of e Plain (past Plain (n.place place) w))) s
+effect (t.Copy place structure k span) w s =
+    copy_does on_places k (place_of place w)
+    (structure_of structure (past Plain (n.place place) w)) s
+effect (t.NumberEffect (t.Call k a) true) w s = drop_does (call_of k w) s
+effect (t.NumberEffect e whole) w s = drop_does (value_of e Plain w) s
+effect (t.StructureEffect (t.Returned k) true) w s = drop_does (call_of k w) s
+effect (t.StructureEffect structure whole) w s = drop_does (structure_of structure w) s
+effect (t.CallEffect k) w s = drop_does (call_of k w) s
+effect (t.Output e span) w s = output_does (value (value_of e Plain w)) s
+effect (t.ChoiceEffect e a b span) w s =
+    choice_does (value (value_of e Test w)) (effect a (past Test (n.expression e) w))
+    (effect b (past Plain (n.effect a) (past Test (n.expression e) w))) s
+effect (t.Discard a span) w s = effect a w s
+
+abbrev pub effects : List Effect → Within → Does (Unit {0})
+effects [] w s = gives tt s
+effects (a ∷ rest) w s = both_do (effect a w) (effects rest (past Plain (n.effect a) w)) s
+
+-- ---- initializers (C17 6.7.9)
+
+abbrev pub cells_of : Initializer → ℕ
+cells_of (t.NumberInitializer e) = 1
+cells_of (t.StructureInitializer structure k) = k
+cells_of (t.ListInitializer items k) = k
+cells_of (t.ZeroInitializer e k) = k
+
+-- An item of a list is stored when it is evaluated, in the order of the text, which C17 6.7.9p23
+-- leaves open.
+abbrev mutual
+  pub initialize : Initializer → Path → Within → Does (Unit {0})
+  initialize (t.NumberInitializer e) p w s = store_does on_places p (value (value_of e Plain w)) s
+  initialize (t.StructureInitializer structure k) p w s =
+      store_structure_does on_places p k (structure_of structure w) s
+  initialize (t.ListInitializer items k) p w s = initialize_from items p k 0 0 w s
+  initialize (t.ZeroInitializer e k) p w s = zero_does on_places p k s
+
+  -- the parts of an object of k cells, from part i on, which begins after so many cells
+  pub initialize_from : Initializers → Path → ℕ → ℕ → ℕ → Within → Does (Unit {0})
+  initialize_from t.no_initializers p k i offset w s = rest_does on_places p i offset k s
+  initialize_from (t.initializers item rest) p k i offset w s =
+      both_do (initialize item (on_places.part i offset p) w)
+      (initialize_from rest p k (suc i) (offset + cells_of item)
+      (past Plain (n.initializer item) w)) s
+
+abbrev pub initialize_where : Option Initializer → Path → Within → Does (Unit {0})
+initialize_where None p w s = gives tt s
+initialize_where (Some i) p w s = initialize i p w s
+
+abbrev pub declare : List Declarator → Within → Does (Unit {0})
+declare [] w s = gives tt s
+declare (d ∷ rest) w s =
+    both_do (both_do (unset_does on_places (local w d.slot) d.cells)
+    (initialize_where d.value (local w d.slot) w))
+    (declare rest (past Plain (n.initial d.value) w)) s
+
+-- ---- statements (C17 6.8)
+
+-- after a statement, in the text
+abbrev pub past_statement : Statement → Within → Within
+past_statement a w = past Plain (n.statement a) (record w { points = w.points ⊕ points_of a })
+
+abbrev pub into_statement : Within → Within
+into_statement w = record w { points = w.points ⊕ a_statement }
+
+-- a unit, the event, and then the statement
+abbrev pub counted : Within → (Within → Does (Flow Path)) → Does (Flow Path)
+counted w act s =
+    counted_does (lists (Started w.points.statements ∷ [])) (act (into_statement w)) s
+
+abbrev pub where_initializes : Bool → Within → (Within → Does (Flow Path)) → Does (Flow Path)
+where_initializes true w act s = counted w act s
+where_initializes false w act s = act w s
+
+abbrev pub choose : ℕ → Bool → Does (Unit {0})
+choose label true s = lists (Chosen label ∷ []) s
+choose label false s = gives tt s
+
+abbrev pub start : ForStart → Within → Does (Unit {0})
+start (t.StartEffects clauses) w s = effects clauses w s
+start (t.StartDeclaration declarators) w s = declare declarators w s
+
+abbrev pub loop_test : Option Expression → Within → Does Bool
+loop_test None w s = absent_test s
+loop_test (Some e) w s = test_does (value (value_of e Test w)) s
+
+abbrev pub returned : ReturnValue → Within → Does (Given Path)
+returned t.ReturnNothing w s = gives Nothing s
+returned (t.ReturnNumber e) w s =
+    after (value (value_of e Plain w) s) (λ v s. gives (Number v) s)
+returned (t.ReturnStructure structure k) w s =
+    after (structure_of structure w s) (λ p s. gives (Structure p k) s)
+
+-- A `return` is an exit when its value is there.
+abbrev pub leave : ReturnValue → Within → Does (Flow Path)
+leave r w s =
+    after (returned r w s) (λ v s. after (lists (Exited w.points.exits ∷ []) s) (λ _ s.
+    gives (Left v) s))
+
+-- where the parts of a `for` stand
+abbrev pub past_start : ForStart → Within → Within
+past_start first w = past Plain (n.start first) w
+
+abbrev pub past_test : Option Expression → Within → Within
+past_test test w = past Plain (n.optional_test test) w
+
+abbrev pub past_step : List Effect → Within → Within
+past_step step w = past Plain (n.Whole (n.effects step)) w
+
+abbrev pub in_switch : Statements → Within → Within
+in_switch items w = record w { points = w.points ⊕ where_absent (has_default items) }
+
+abbrev mutual
+  pub run : Statement → Within → Does (Flow Path)
+  run (t.Compound items span) w s = run_from items Running w s
+  run (t.Label v span) w s = gives Completed s
+  run (t.Declaration declarators span) w s =
+      where_initializes (initializes declarators) w (λ w. effect_does (declare declarators w)) s
+  run (t.Null span) w s = counted w (λ w. gives Completed) s
+  run (t.EffectStatement whole span) w s = counted w (λ w. effect_does (effect whole w)) s
+  run (t.If e a keyword span) w s =
+      counted w (λ w. if_does (value (value_of e Test w))
+      (run a (past Test (n.expression e) w)) (gives Completed)) s
+  run (t.IfElse e a b keyword span) w s =
+      counted w (λ w. if_does (value (value_of e Test w))
+      (run a (past Test (n.expression e) w))
+      (run b (past_statement a (past Test (n.expression e) w)))) s
+  run (t.Switch e items keyword span) w s =
+      counted w (λ w. switch_does (value (value_of e Plain w)) (labels_of items)
+      (λ seek. run_from items seek (in_switch items (past Plain (n.expression e) w)))
+      (choose w.points.labels)) s
+  run (t.For first test step a keyword span) w s =
+      counted w (λ w s. after (start first w s) (λ _.
+      loop_does (loop_test test (past_start first w))
+      (run a (past_step step (past_test test (past_start first w))))
+      (effects step (past_test test (past_start first w))))) s
+  run (t.DoWhile a e keyword span) w s =
+      counted w (λ w. do_does (run a w)
+      (test_does (value (value_of e Test (past_statement a w))))) s
+  run (t.Break span) w s = counted w (λ w. gives Broke) s
+  run (t.Continue span) w s = counted w (λ w. gives Continued) s
+  run (t.Return r span) w s = counted w (leave r) s
+
+  -- the items of a body, which run or are passed over up to a label
+  pub run_from : Statements → Seek → Within → Does (Flow Path)
+  run_from t.no_statements seek w s = gives Completed s
+  run_from (t.statements (t.Label v span) rest) seek w s =
+      label_does (choose w.points.labels) v seek
+      (λ seek. run_from rest seek (past_statement (t.Label v span) w)) s
+  run_from (t.statements item rest) seek w s =
+      item_runs (run item w) seek (λ seek. run_from rest seek (past_statement item w)) s

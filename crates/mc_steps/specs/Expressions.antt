@@ -1,0 +1,142 @@
+-- What the parts of an expression make it do (C17 6.5). Operands are evaluated from left to right,
+-- which C17 6.5p3 leaves open.
+use Rattle.std.specs.Prelude.{ℕ, ◌*◌, ℤ, pos, negsuc, Bool, true, false, not, nat_lt, List, [], ◌∷◌, ◌++◌, length, Option, Some, Result}
+use Rattle.mc_value.specs.declared.trap.Trap.{Trap}
+use Rattle.mc_value.specs.declared.trap.Trap.TheVariants.{Index, Unset, InputEnd}
+use Rattle.mc_value.specs.declared.int_type.IntType.{IntType}
+use Rattle.mc_value.specs.declared.operators.UnOp.{UnOp}
+use Rattle.mc_value.specs.Conversions.{converted, is_zero}
+use Rattle.mc_value.specs.Arithmetic.{binary_of, unary_of}
+use Rattle.mc_value.specs.Shifts.{shift_of}
+use Rattle.mc_typed.specs.declared.operators.Operator.{Operator}
+use Rattle.mc_typed.specs.declared.operators.Operator.TheVariants.{Binary, Shift}
+use Rattle.mc_typed.specs.declared.operators.LogicOperator.{LogicOperator}
+use Rattle.mc_typed.specs.declared.operators.LogicOperator.TheVariants.{And, Or}
+use Rattle.mc_typed.specs.declared.plans.Ending.TheVariants.{OutputFull}
+use Rattle.mc_steps.specs.Runs.{Acts, gives, stops, traps, after, changes, with_some, with_result, spends}
+use Rattle.mc_steps.specs.Memories.{Lent, Memory}
+
+-- ---- numbers
+
+-- C17 6.5.5 to 6.5.12
+abbrev pub operated : Operator → IntType → ℤ → ℤ → Result ℤ Trap
+operated (Binary operator) a x y = binary_of operator a x y
+operated (Shift operator) a x y = shift_of operator a x y
+
+-- a number is true where it differs from 0 (C17 6.5.13p3, 6.8.4.1p2)
+abbrev pub is_true : ℤ → Bool
+is_true v = not (is_zero v)
+
+-- the one where it holds, else the other
+abbrev pub where_true : {M E A : Type 0} → Bool → Acts M E A → Acts M E A → Acts M E A
+where_true true chosen other s = chosen s
+where_true false chosen other s = other s
+
+-- the index is one of an array's of this length
+abbrev pub with_index : {M E A : Type 0} → ℤ → ℕ → (ℕ → Acts M E A) → Acts M E A
+with_index (pos i) n next s = where_true (nat_lt i n) (next i) (traps Index) s
+with_index (negsuc i) n next s = traps Index s
+
+-- ---- places
+
+module _ {M P : Type 0} (m : Memory M P) where
+  -- The array comes first, then its index, then the test of the index.
+  abbrev pub item_does : {E : Type 0} → ℕ → ℕ → Acts M E P → Acts M E ℤ → Acts M E P
+  item_does n stride array index s =
+      after (array s) (λ p s. after (index s) (λ x s.
+      with_index x n (λ i s. gives (m.part i (i * stride) p) s) s))
+
+  -- The index of an array parameter is tested against the length of the array that it names.
+  abbrev pub lent_item_does : {E : Type 0} → Option (Lent P) → ℕ → Acts M E ℤ → Acts M E P
+  lent_item_does lent stride index s =
+      after (index s) (λ x s. with_some Index lent (λ l s.
+      with_index x l.length (λ i s. gives (m.part i (i * stride) l.place) s) s) s)
+
+  abbrev pub member_does : {E : Type 0} → ℕ → ℕ → Acts M E P → Acts M E P
+  member_does i offset structure s = after (structure s) (λ p s. gives (m.part i offset p) s)
+
+  -- a scalar that is read has a value (C17 6.3.2.1p2)
+  abbrev pub read_does : {E : Type 0} → Acts M E P → Acts M E ℤ
+  read_does place s = after (place s) (λ p s. with_some Unset (m.read p s.memory) gives s)
+
+  -- ---- effects (C17 6.5.16)
+
+  -- The place comes first, then the value.
+  abbrev pub assign_does : {E : Type 0} → Acts M E P → Acts M E ℤ → Acts M E (Unit {0})
+  assign_does target value s =
+      after (target s) (λ p s. after (value s) (λ v s. changes (m.put p 1 (Some v)) s))
+
+  -- The place comes first, then the right side, then the old value is read.
+  abbrev pub update_does :
+      {E : Type 0} → IntType → Operator → IntType → Acts M E P → Acts M E ℤ →
+      Acts M E (Unit {0})
+  update_does a operator common target value s =
+      after (target s) (λ p s. after (value s) (λ y s. with_some Unset (m.read p s.memory) (λ x s.
+      with_result (operated operator common (converted common x) y) (λ v s.
+      changes (m.put p 1 (Some (converted a v))) s) s) s))
+
+  -- a structure is copied, from the place that its value gives
+  abbrev pub copy_does : {E : Type 0} → ℕ → Acts M E P → Acts M E P → Acts M E (Unit {0})
+  copy_does n target value s =
+      after (target s) (λ p s. after (value s) (λ q s. changes (m.copy q p n) s))
+
+-- ---- operators
+
+-- the second operand of `&&` is evaluated where the first is true, that of `||` where it is false
+-- (C17 6.5.13p4, 6.5.14p4)
+abbrev pub goes_on : LogicOperator → Bool → Bool
+goes_on And x = x
+goes_on Or x = not x
+
+module _ {M E : Type 0} where
+  -- C17 6.5.3.3
+  abbrev pub unary_does : UnOp → IntType → Acts M E ℤ → Acts M E ℤ
+  unary_does operator a e s = after (e s) (λ x s. with_result (unary_of operator a x) gives s)
+
+  -- C17 6.3.1
+  abbrev pub convert_does : IntType → Acts M E ℤ → Acts M E ℤ
+  convert_does a e s = after (e s) (λ x s. gives (converted a x) s)
+
+  abbrev pub binary_does : Operator → IntType → Acts M E ℤ → Acts M E ℤ → Acts M E ℤ
+  binary_does operator a e f s =
+      after (e s) (λ x s. after (f s) (λ y s. with_result (operated operator a x y) gives s))
+
+  -- `first` is what the first operand gives alone, and `both` what the two give.
+  abbrev pub logic_does :
+      {A : Type 0} → LogicOperator → (A → Bool) → (A → A) → (A → A → A) → Acts M E A →
+      Acts M E A → Acts M E A
+  logic_does operator holds first both e f s =
+      after (e s) (λ x s. where_true (goes_on operator (holds x))
+      (λ s. after (f s) (λ y s. gives (both x y) s)) (gives (first x)) s)
+
+  -- one of two, by a test (C17 6.5.15p4)
+  abbrev pub choice_does : {A : Type 0} → Acts M E ℤ → Acts M E A → Acts M E A → Acts M E A
+  choice_does test chosen other s = after (test s) (λ x s. where_true (is_true x) chosen other s)
+
+  -- what is given is changed
+  abbrev pub as_does : {A B : Type 0} → (A → B) → Acts M E A → Acts M E B
+  as_does f e s = after (e s) (λ x s. gives (f x) s)
+
+  -- the value is not used (C17 6.8.3p2)
+  abbrev pub drop_does : {A : Type 0} → Acts M E A → Acts M E (Unit {0})
+  drop_does e s = after (e s) (λ x s. gives tt s)
+
+  -- several, one after the other
+  abbrev pub both_do : Acts M E (Unit {0}) → Acts M E (Unit {0}) → Acts M E (Unit {0})
+  both_do a b s = after (a s) (λ _ s. b s)
+
+  -- ---- the functions outside
+
+  abbrev pub with_input : {A : Type 0} → List ℤ → (ℤ → Acts M E A) → Acts M E A
+  with_input [] next s = traps InputEnd s
+  with_input (v ∷ vs) next s = next v (record s { inputs = vs })
+
+  -- `mcdc_in()`: the next input, after a unit of fuel
+  abbrev pub input_does : Acts M E ℤ
+  input_does s = spends (λ s. with_input s.inputs gives s) s
+
+  -- `mcdc_out(e)`: the number goes to the end of the output, which holds 4,096 numbers
+  abbrev pub output_does : Acts M E ℤ → Acts M E (Unit {0})
+  output_does e s =
+      after (e s) (λ v s. spends (λ s. where_true (nat_lt (length s.output) 4096)
+      (λ s. gives tt (record s { output = s.output ++ v ∷ [] })) (stops OutputFull) s) s)

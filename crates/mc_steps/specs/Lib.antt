@@ -1,0 +1,6 @@
+pub mod Runs
+pub mod Memories
+pub mod Expressions
+pub mod Statements
+pub mod Calls
+pub mod Points

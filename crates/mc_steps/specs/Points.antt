@@ -1,0 +1,200 @@
+-- The points of a program at which something is listed, but for its decisions: which statements are
+-- counted, which bodies complete, and how many points of each kind a part has. Points of one kind
+-- are numbered from 0 over the whole program, in the order of the text.
+use Rattle.std.specs.Prelude.{ℕ, zero, suc, ◌+◌, ℤ, Bool, true, false, not, ◌&&◌, ◌||◌, List, [], ◌∷◌, Option, Some, None, Result, Ok, Err, is_some}
+use Rattle.mc_value.specs.declared.trap.Trap.{Trap}
+use Rattle.mc_value.specs.Conversions.{converted, is_zero}
+use Rattle.mc_value.specs.Arithmetic.{unary_of, truth}
+use Rattle.mc_typed.specs.Sound.{labels_of}
+use Rattle.mc_typed.specs.Tree.{Expression, Declarator, Statement, Statements, Function}
+use Rattle.mc_typed.specs.Tree as t
+use Rattle.mc_steps.specs.Expressions.{operated, is_true, goes_on}
+use Rattle.mc_steps.specs.Statements.{has_label}
+
+-- ---- integer constant expressions (C17 6.6p6)
+
+-- its operands are constants, and it has no call
+abbrev pub is_constant : Expression → Bool
+is_constant (t.Constant v a span) = true
+is_constant (t.Read place a) = false
+is_constant (t.Unary operator a e span) = is_constant e
+is_constant (t.Convert a written e span) = is_constant e
+is_constant (t.Not e span) = is_constant e
+is_constant (t.Binary operator a e f span) = is_constant e && is_constant f
+is_constant (t.Logic operator e f span) = is_constant e && is_constant f
+is_constant (t.Choice e f g a span) = is_constant e && is_constant f && is_constant g
+is_constant (t.Call k a) = false
+is_constant (t.Input span) = false
+
+abbrev pub number : Result ℤ Trap → Option ℤ
+number (Ok v) = Some v
+number (Err t) = None
+
+abbrev pub on_number : Option ℤ → (ℤ → Option ℤ) → Option ℤ
+on_number None next = None
+on_number (Some v) next = next v
+
+abbrev pub logic_value : Bool → ℤ → Option ℤ → Option ℤ
+logic_value true x y = on_number y (λ y. Some (truth (is_true y)))
+logic_value false x y = Some (truth (is_true x))
+
+abbrev pub choice_value : Bool → Option ℤ → Option ℤ → Option ℤ
+choice_value true y z = y
+choice_value false y z = z
+
+-- its value, where it has one and no evaluation traps
+abbrev pub value_of : Expression → Option ℤ
+value_of (t.Constant v a span) = Some v
+value_of (t.Read place a) = None
+value_of (t.Unary operator a e span) = on_number (value_of e) (λ x. number (unary_of operator a x))
+value_of (t.Convert a written e span) = on_number (value_of e) (λ x. Some (converted a x))
+value_of (t.Not e span) = on_number (value_of e) (λ x. Some (truth (is_zero x)))
+value_of (t.Binary operator a e f span) =
+    on_number (value_of e) (λ x. on_number (value_of f) (λ y. number (operated operator a x y)))
+value_of (t.Logic operator e f span) =
+    on_number (value_of e) (λ x. logic_value (goes_on operator (is_true x)) x (value_of f))
+value_of (t.Choice e f g a span) =
+    on_number (value_of e) (λ x. choice_value (is_true x) (value_of f) (value_of g))
+value_of (t.Call k a) = None
+value_of (t.Input span) = None
+
+abbrev pub is_nonzero : Option ℤ → Bool
+is_nonzero None = false
+is_nonzero (Some v) = is_true v
+
+-- a controlling expression that is absent, or a constant expression other than 0 without a trap
+abbrev pub is_always : Option Expression → Bool
+is_always None = true
+is_always (Some e) = is_constant e && is_nonzero (value_of e)
+
+-- ---- statements that complete
+
+-- whether a `break` belongs to the statement around
+abbrev mutual
+  pub breaks : Statement → Bool
+  breaks (t.Compound items span) = some_breaks items
+  breaks (t.Label v span) = false
+  breaks (t.Declaration declarators span) = false
+  breaks (t.Null span) = false
+  breaks (t.EffectStatement effect span) = false
+  breaks (t.If e s keyword span) = breaks s
+  breaks (t.IfElse e s u keyword span) = breaks s || breaks u
+  breaks (t.Switch e items keyword span) = false
+  breaks (t.For start test step s keyword span) = false
+  breaks (t.DoWhile s e keyword span) = false
+  breaks (t.Break span) = true
+  breaks (t.Continue span) = false
+  breaks (t.Return value span) = false
+
+  pub some_breaks : Statements → Bool
+  some_breaks t.no_statements = false
+  some_breaks (t.statements s rest) = breaks s || some_breaks rest
+
+abbrev pub has_default : Statements → Bool
+has_default items = has_label None (labels_of items)
+
+-- Whether the end of a statement can be reached, by its form alone. The last item of a `switch`
+-- decides where it has a `default` and no `break`; one without items completes.
+abbrev mutual
+  pub completes : Statement → Bool
+  completes (t.Compound items span) = all_complete items
+  completes (t.Label v span) = true
+  completes (t.Declaration declarators span) = true
+  completes (t.Null span) = true
+  completes (t.EffectStatement effect span) = true
+  completes (t.If e s keyword span) = true
+  completes (t.IfElse e s u keyword span) = completes s || completes u
+  completes (t.Switch e items keyword span) =
+      not (has_default items) || some_breaks items || last_completes items
+  completes (t.For start test step s keyword span) = not (is_always test) || breaks s
+  completes (t.DoWhile s e keyword span) = not (is_always (Some e)) || breaks s
+  completes (t.Break span) = false
+  completes (t.Continue span) = false
+  completes (t.Return value span) = false
+
+  -- each item completes
+  pub all_complete : Statements → Bool
+  all_complete t.no_statements = true
+  all_complete (t.statements s rest) = completes s && all_complete rest
+
+  pub last_completes : Statements → Bool
+  last_completes t.no_statements = true
+  last_completes (t.statements s t.no_statements) = completes s
+  last_completes (t.statements s rest) = last_completes rest
+
+-- ---- points
+
+pub record Points : Type 0 where
+  pub statements : ℕ
+  pub exits : ℕ
+  pub labels : ℕ
+
+abbrev pub no_points : Points
+no_points = record { statements = 0; exits = 0; labels = 0 }
+
+abbrev pub a_statement : Points
+a_statement = record { statements = 1; exits = 0; labels = 0 }
+
+abbrev pub an_exit : Points
+an_exit = record { statements = 0; exits = 1; labels = 0 }
+
+abbrev pub a_label : Points
+a_label = record { statements = 0; exits = 0; labels = 1 }
+
+infixr 60 ◌⊕◌
+abbrev pub ◌⊕◌ : Points → Points → Points
+a ⊕ b = record {
+  statements = a.statements + b.statements;
+  exits = a.exits + b.exits;
+  labels = a.labels + b.labels;
+}
+
+-- a declaration is counted where it has an initializer
+abbrev pub initializes : List Declarator → Bool
+initializes [] = false
+initializes (d ∷ ds) = is_some d.value || initializes ds
+
+abbrev pub where_counted : Bool → Points
+where_counted true = a_statement
+where_counted false = no_points
+
+-- a `default` that is absent has a point at the `switch`, before the labels in it
+abbrev pub where_absent : Bool → Points
+where_absent true = no_points
+where_absent false = a_label
+
+-- A statement's own point is before those of its parts.
+abbrev mutual
+  pub points_of : Statement → Points
+  points_of (t.Compound items span) = points_of_all items
+  points_of (t.Label v span) = a_label
+  points_of (t.Declaration declarators span) = where_counted (initializes declarators)
+  points_of (t.Null span) = a_statement
+  points_of (t.EffectStatement effect span) = a_statement
+  points_of (t.If e s keyword span) = a_statement ⊕ points_of s
+  points_of (t.IfElse e s u keyword span) = a_statement ⊕ points_of s ⊕ points_of u
+  points_of (t.Switch e items keyword span) =
+      a_statement ⊕ where_absent (has_default items) ⊕ points_of_all items
+  points_of (t.For start test step s keyword span) = a_statement ⊕ points_of s
+  points_of (t.DoWhile s e keyword span) = a_statement ⊕ points_of s
+  points_of (t.Break span) = a_statement
+  points_of (t.Continue span) = a_statement
+  points_of (t.Return value span) = a_statement ⊕ an_exit
+
+  pub points_of_all : Statements → Points
+  points_of_all t.no_statements = no_points
+  points_of_all (t.statements s rest) = points_of s ⊕ points_of_all rest
+
+abbrev pub where_completes : Bool → Points
+where_completes true = an_exit
+where_completes false = no_points
+
+-- the closing brace of a body that completes is an exit
+abbrev pub points_of_function : Function → Points
+points_of_function f = points_of_all f.body ⊕ where_completes (all_complete f.body)
+
+-- of the functions up to one
+abbrev pub points_before : List Function → ℕ → Points
+points_before [] f = no_points
+points_before (g ∷ functions) zero = no_points
+points_before (g ∷ functions) (suc f) = points_of_function g ⊕ points_before functions f

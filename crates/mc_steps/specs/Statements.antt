@@ -1,0 +1,165 @@
+-- What the parts of a statement make it do (C17 6.8).
+use Rattle.std.specs.Prelude.{ℕ, zero, suc, ℤ, Bool, true, false, not, ◌||◌, List, [], ◌∷◌, Option, Some, None}
+use Rattle.mc_value.specs.Arithmetic.{are_equal}
+use Rattle.mc_typed.specs.declared.plans.Ending.TheVariants.{Fuel}
+use Rattle.mc_steps.specs.Runs.{Acts, gives, stops, after, spends}
+use Rattle.mc_steps.specs.Expressions.{is_true, where_true}
+
+-- what a call gives: nothing, a number, or a structure of so many cells at a place
+pub data Given (P : Type 0) : Type 0 where
+  Nothing : Given P
+  Number : ℤ → Given P
+  Structure : P → ℕ → Given P
+
+-- how a statement ends
+pub data Flow (P : Type 0) : Type 0 where
+  Completed : Flow P
+  Broke : Flow P
+  Continued : Flow P
+  Left : Given P → Flow P
+
+-- what a statement does
+abbrev pub Body : Type 0 → Type 0 → Type 0 → Type 0
+Body M E P = Acts M E (Flow P)
+
+module _ {M E : Type 0} where
+  -- a controlling expression that is absent counts as true (C17 6.8.5.3p2)
+  abbrev pub absent_test : Acts M E Bool
+  absent_test s = gives true s
+
+  abbrev pub test_does : Acts M E ℤ → Acts M E Bool
+  test_does e s = after (e s) (λ x s. gives (is_true x) s)
+
+module _ {M E P : Type 0} where
+  -- ---- counted statements
+
+  -- A unit is spent before a counted statement, and `mark` comes after its unit.
+  abbrev pub counted_does : Acts M E (Unit {0}) → Body M E P → Body M E P
+  counted_does mark act s = spends (λ s. after (mark s) (λ _ s. act s)) s
+
+  -- what has an effect alone
+  abbrev pub effect_does : Acts M E (Unit {0}) → Body M E P
+  effect_does act s = after (act s) (λ _ s. gives Completed s)
+
+  -- ---- one after the other (C17 6.8p3, 6.8.2)
+
+  abbrev pub where_completed : Flow P → Body M E P → Body M E P
+  where_completed Completed next s = next s
+  where_completed Broke next s = gives Broke s
+  where_completed Continued next s = gives Continued s
+  where_completed (Left v) next s = gives (Left v) s
+
+  abbrev pub then_does : Body M E P → Body M E P → Body M E P
+  then_does act next s = after (act s) (λ flow s. where_completed flow next s)
+
+  -- ---- selection (C17 6.8.4.1)
+
+  abbrev pub if_does : Acts M E ℤ → Body M E P → Body M E P → Body M E P
+  if_does test chosen other s = after (test s) (λ x s. where_true (is_true x) chosen other s)
+
+  -- ---- loops (C17 6.8.5, 6.8.6.2, 6.8.6.3)
+
+  -- `continue` ends the body alone, `break` the loop
+  abbrev pub where_loop_goes_on : Flow P → Body M E P → Body M E P
+  where_loop_goes_on Completed next s = next s
+  where_loop_goes_on Broke next s = gives Completed s
+  where_loop_goes_on Continued next s = next s
+  where_loop_goes_on (Left v) next s = gives (Left v) s
+
+  -- a unit and the test, then the body, then the step, and so on
+  abbrev pub turn : Acts M E Bool → Body M E P → Acts M E (Unit {0}) → Body M E P → Body M E P
+  turn test body step again s =
+      spends (λ s. after (test s) (λ goes_on s. where_true goes_on
+      (λ s. after (body s) (λ flow s. where_loop_goes_on flow
+      (λ s. after (step s) (λ _ s. again s)) s))
+      (gives Completed) s)) s
+
+  -- so many turns at most
+  abbrev pub turns : ℕ → Acts M E Bool → Body M E P → Acts M E (Unit {0}) → Body M E P
+  turns zero test body step s = stops Fuel s
+  turns (suc n) test body step s = turn test body step (λ s. turns n test body step s) s
+
+  -- Each turn takes a unit, so there are no more turns than units and one.
+  abbrev pub loop_does : Acts M E Bool → Body M E P → Acts M E (Unit {0}) → Body M E P
+  loop_does test body step s = turns (suc s.fuel) test body step s
+
+  -- the body once, and then as `while`
+  abbrev pub do_does : Body M E P → Acts M E Bool → Body M E P
+  do_does body test s =
+      after (body s) (λ flow s. where_loop_goes_on flow
+      (λ s. loop_does test body (λ s. gives tt s) s) s)
+
+-- ---- switch (C17 6.8.4.2)
+
+-- a label: `case` with its value, or `default`
+abbrev pub same_label : Option ℤ → Option ℤ → Bool
+same_label None None = true
+same_label (Some v) (Some w) = are_equal v w
+same_label None (Some w) = false
+same_label (Some v) None = false
+
+abbrev pub has_label : Option ℤ → List (Option ℤ) → Bool
+has_label l [] = false
+has_label l (m ∷ ms) = same_label l m || has_label l ms
+
+-- whether the items of a body run, or are passed over up to this label
+pub data Seek : Type 0 where
+  Running : Seek
+  For : Option ℤ → Seek
+
+-- the label that a value leads to: its own, else `default`
+abbrev pub where_has : Bool → ℤ → Seek
+where_has true v = For (Some v)
+where_has false v = For None
+
+abbrev pub sought : ℤ → List (Option ℤ) → Seek
+sought v labels = where_has (has_label (Some v) labels) v
+
+-- neither is there
+abbrev pub is_absent : ℤ → List (Option ℤ) → Bool
+is_absent v labels = not (has_label (Some v) labels || has_label None labels)
+
+abbrev pub where_same : Bool → Seek → Seek
+where_same true seek = Running
+where_same false seek = seek
+
+-- what comes of the search at a label
+abbrev pub at_label : Option ℤ → Seek → Seek
+at_label l Running = Running
+at_label l (For m) = where_same (same_label l m) (For m)
+
+abbrev pub is_running : Seek → Bool
+is_running Running = true
+is_running (For l) = false
+
+module _ {M E P : Type 0} where
+  -- Where the items run from a label on, or ran before it, `mark` is told which: whether the label
+  -- was chosen.
+  abbrev pub label_does :
+      (Bool → Acts M E (Unit {0})) → Option ℤ → Seek → (Seek → Body M E P) →
+      Body M E P
+  label_does mark l seek next s =
+      where_true (is_running (at_label l seek))
+      (λ s. after (mark (not (is_running seek)) s) (λ _ s. next (at_label l seek) s))
+      (λ s. next (at_label l seek) s) s
+
+  -- an item that is no label
+  abbrev pub item_runs : Body M E P → Seek → (Seek → Body M E P) → Body M E P
+  item_runs act Running next s = then_does act (λ s. next Running s) s
+  item_runs act (For l) next s = next (For l) s
+
+  -- `break` ends the switch
+  abbrev pub where_switch_ends : Flow P → Acts M E (Unit {0}) → Body M E P
+  where_switch_ends Completed mark s = after (mark s) (λ _ s. gives Completed s)
+  where_switch_ends Broke mark s = after (mark s) (λ _ s. gives Completed s)
+  where_switch_ends Continued mark s = gives Continued s
+  where_switch_ends (Left v) mark s = gives (Left v) s
+
+  -- After the items `mark` is told whether no label was there. Where none was, nothing ran, so this
+  -- is also when the absent `default` is chosen.
+  abbrev pub switch_does :
+      Acts M E ℤ → List (Option ℤ) → (Seek → Body M E P) → (Bool → Acts M E (Unit {0})) →
+      Body M E P
+  switch_does value labels items mark s =
+      after (value s) (λ v s. after (items (sought v labels) s) (λ flow s.
+      where_switch_ends flow (mark (is_absent v labels)) s))

@@ -1,0 +1,54 @@
+//! Worked runs.
+ghost use Rattle.std.specs.Prelude.{◌≡◌, pos, [], ◌∷◌};
+ghost use Rattle.mc_typed.specs.declared.plans.Ending.TheVariants as ending;
+ghost use Rattle.mc_meaning.specs.Tests.{plain_run};
+ghost use Rattle.tests_meaning.specs.Seen.{Hold, one_call};
+ghost use Rattle.tests_meaning.specs.Flap as flap;
+ghost use Rattle.tests_meaning.specs.Rows as rows;
+ghost use Rattle.tests_meaning.specs.RulesOfValues as values;
+ghost use Rattle.tests_meaning.specs.RulesOfStatements.{LimitsAreInOrder, OutputIsLimited, StatesAreJudged};
+ghost use Rattle.tests_meaning.specs.RulesOfStatements as statements;
+ghost use Rattle.tests_meaning.specs.Traps as traps;
+
+/// Decisions wherever they stand, a decision of its own in an operand, recursion, a condition of
+/// type `long`, a decision that a trap cuts, constant expressions, and fuel.
+pub fn decisions_anywhere()
+    ensures { Hold rows.rows }
+{}
+
+/// Each trap, and the endings `Levels` and `Cells`.
+pub fn traps_and_endings()
+    ensures { Hold traps.rows }
+{}
+
+/// The flap controller: a static object, a structure, inputs, outputs and labels.
+pub fn flap_controller()
+    ensures run { Hold (flap.row ∷ []) }
+    ensures passes { flap.Passes }
+{}
+
+/// What is easily got wrong about values, places and calls.
+pub fn rules_of_values()
+    ensures { Hold values.rows }
+{}
+
+/// What is easily got wrong about statements and labels.
+pub fn rules_of_statements()
+    ensures { Hold statements.rows }
+{}
+
+/// The limits are tested in their order, after the unit of fuel and before the entry.
+pub fn limits_are_in_order()
+    ensures { LimitsAreInOrder }
+{}
+
+/// The output holds 4,096 numbers.
+pub fn output_is_limited()
+    ensures { OutputIsLimited }
+{}
+
+/// How the calls of a test belong together, and its state.
+pub fn states_of_tests()
+    ensures judged { StatesAreJudged }
+    ensures trapped { Hold (statements.trapped_test ∷ []) }
+{}
