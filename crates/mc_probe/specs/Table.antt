@@ -1,0 +1,351 @@
+-- The tree that the instrumented text of a program has: the program with exactly the probes that
+-- the table of insertions puts. The registers of a function are numbered from 0 on: its decisions
+-- in order, and then its switches in order.
+use Rattle.std.specs.Prelude.{◌≡◌, ℕ, ◌+◌, Bool, true, false, if◌then◌else◌, List, [], ◌∷◌, slice_get, unwrap_or, Option, Some, None}
+use Rattle.mc_typed.specs.declared.probes.Probe.TheVariants as probe
+use Rattle.mc_typed.specs.declared.probes.Mark.{Mark}
+use Rattle.mc_typed.specs.Tree as t
+use Rattle.mc_paths.specs.Paths.{increments}
+use Rattle.mc_decide.specs.declared.role.Role.{Role}
+use Rattle.mc_decide.specs.declared.role.Role.TheVariants.{Test, Inner, Plain}
+use Rattle.mc_decide.specs.Nodes.{Node}
+use Rattle.mc_decide.specs.Nodes as n
+use Rattle.mc_decide.specs.Roots.{is_root}
+use Rattle.mc_decide.specs.Conditions.{width, is_operator}
+use Rattle.mc_decide.specs.Counts.{one_where, roots, roots_in}
+use Rattle.mc_probe.specs.Tree as p
+use Rattle.mc_steps.specs.Points.{Points, no_points, ◌⊕◌, points_of, points_of_all, points_of_function, all_complete, has_default, initializes}
+use Rattle.mc_probe.specs.Maps.{Mapped, Map, IsMapOf, entry_bit, exit_bit, statement_bit, label_bit}
+use Rattle.mc_probe.specs.Switches.{switches, switches_all}
+
+-- ---- how an expression stands
+
+-- loose, or in the tree of a decision of the function, beginning with a condition
+pub data Stand : Type 0 where
+  Loose : Role → Stand
+  InTree : ℕ → ℕ → Stand
+
+abbrev pub role_of : Stand → Role
+role_of (Loose role) = role
+role_of (InTree k c) = Inner
+
+-- how an operand of `!`, `&&` or `||` stands, where the next decision has the number d
+abbrev pub operand : Stand → ℕ → Node → Stand
+operand (Loose role) d a = if is_root role a then InTree d 0 else Loose Plain
+operand (InTree k c) d a = InTree k c
+
+-- after so many conditions
+abbrev pub beside : Stand → ℕ → Stand
+beside (Loose role) w = Loose role
+beside (InTree k c) w = InTree k (c + w)
+
+-- the number of the next decision inside an expression
+abbrev pub inner : Stand → ℕ → Node → ℕ
+inner (Loose role) d a = d + one_where (is_root role a)
+inner (InTree k c) d a = d
+
+-- ---- the probes of expressions
+
+-- the first bit of a decision, and what its condition c adds where it is false
+abbrev pub base_of : Option Mapped → ℕ
+base_of None = 0
+base_of (Some d) = d.base
+
+abbrev pub increment_of : Option Mapped → ℕ → ℕ
+increment_of None c = 0
+increment_of (Some d) c = unwrap_or (slice_get (increments d.decision.tree) c) 0
+
+-- the decisions of the map from `first` on are those of a function
+module _ (m : Map) (first : ℕ) where
+  abbrev pub mapped : ℕ → Option Mapped
+  mapped k = slice_get m.decisions (first + k)
+
+  -- round a condition; a true edge adds nothing
+  abbrev pub round_condition : ℕ → ℕ → Node → p.Expression → p.Expression
+  round_condition k c a x =
+      if is_operator a then x else p.Probe (probe.Condition k 0 (increment_of (mapped k) c)) x
+
+  -- and round a root
+  abbrev pub round : Stand → ℕ → Node → p.Expression → p.Expression
+  round (Loose role) d a x =
+      if is_root role a
+      then p.Probe (probe.Decision d (base_of (mapped d))) (round_condition d 0 a x)
+      else x
+  round (InTree k c) d a x = round_condition k c a x
+
+  -- `inside` puts the probes of the parts, from how the operands of `!`, `&&` and `||` stand and
+  -- the number of the next decision.
+  abbrev pub wrap : Stand → ℕ → Node → (Stand → ℕ → p.Expression) → p.Expression
+  wrap st d a inside = round st d a (inside (operand st d a) (inner st d a))
+
+  abbrev pub plain_roots : t.Expression → ℕ
+  plain_roots e = roots Plain (n.expression e)
+
+  abbrev pub test_roots : t.Expression → ℕ
+  test_roots e = roots Test (n.expression e)
+
+  -- `d` is the number of the next decision.
+  abbrev mutual
+    pub put_place : ℕ → t.Place → p.Place
+    put_place d (t.Local slot span) = p.Local slot span
+    put_place d (t.Static slot span) = p.Static slot span
+    put_place d (t.Parameter array stride index span) =
+        p.Parameter array stride (put (Loose Plain) d index) span
+    put_place d (t.Item array k stride index span) =
+        p.Item (put_place d array) k stride
+        (put (Loose Plain) (d + roots Plain (n.place array)) index) span
+    put_place d (t.Member structure i offset span) = p.Member (put_place d structure) i offset span
+
+    pub put : Stand → ℕ → t.Expression → p.Expression
+    put st d (t.Constant v a span) =
+        wrap st d (n.expression (t.Constant v a span)) (λ o d. p.Constant v a span)
+    put st d (t.Read place a) =
+        wrap st d (n.expression (t.Read place a)) (λ o d. p.Read (put_place d place) a)
+    put st d (t.Unary operator a e span) =
+        wrap st d (n.expression (t.Unary operator a e span))
+        (λ o d. p.Unary operator a (put (Loose Plain) d e) span)
+    put st d (t.Convert a written e span) =
+        wrap st d (n.expression (t.Convert a written e span))
+        (λ o d. p.Convert a written (put (Loose Plain) d e) span)
+    put st d (t.Not e span) =
+        wrap st d (n.expression (t.Not e span)) (λ o d. p.Not (put o d e) span)
+    put st d (t.Binary operator a e f span) =
+        wrap st d (n.expression (t.Binary operator a e f span))
+        (λ o d. p.Binary operator a (put (Loose Plain) d e)
+        (put (Loose Plain) (d + plain_roots e) f) span)
+    put st d (t.Logic operator e f span) =
+        wrap st d (n.expression (t.Logic operator e f span))
+        (λ o d. p.Logic operator (put o d e)
+        (put (beside o (width (n.expression e))) (d + roots (role_of o) (n.expression e)) f)
+        span)
+    put st d (t.Choice e f g a span) =
+        wrap st d (n.expression (t.Choice e f g a span))
+        (λ o d. p.Choice (put (Loose Test) d e) (put (Loose Plain) (d + test_roots e) f)
+        (put (Loose Plain) (d + test_roots e + plain_roots f) g) a span)
+    put st d (t.Call k a) = wrap st d (n.expression (t.Call k a)) (λ o d. p.Call (put_call d k) a)
+    put st d (t.Input span) = wrap st d (n.expression (t.Input span)) (λ o d. p.Input span)
+
+    pub put_structure : ℕ → t.StructureValue → p.StructureValue
+    put_structure d (t.Stored place) = p.Stored (put_place d place)
+    put_structure d (t.Returned k) = p.Returned (put_call d k)
+
+    pub put_call : ℕ → t.FunctionCall → p.FunctionCall
+    put_call d (t.call f given result span) = p.call f (put_arguments d given) result span
+
+    pub put_argument : ℕ → t.Argument → p.Argument
+    put_argument d (t.NumberArgument e) = p.NumberArgument (put (Loose Plain) d e)
+    put_argument d (t.StructureArgument value copy) =
+        p.StructureArgument (put_structure d value) copy
+    put_argument d (t.ArrayArgument place k) = p.ArrayArgument (put_place d place) k
+    put_argument d (t.AgainArgument array span) = p.AgainArgument array span
+
+    pub put_arguments : ℕ → t.Arguments → p.Arguments
+    put_arguments d t.no_arguments = p.no_arguments
+    put_arguments d (t.arguments a rest) =
+        p.arguments (put_argument d a) (put_arguments (d + roots Plain (n.argument a)) rest)
+
+  abbrev pub put_plain : ℕ → t.Expression → p.Expression
+  put_plain d e = put (Loose Plain) d e
+
+  abbrev pub put_test : ℕ → t.Expression → p.Expression
+  put_test d e = put (Loose Test) d e
+
+  abbrev pub place_roots : t.Place → ℕ
+  place_roots place = roots Plain (n.place place)
+
+  abbrev pub put_effect : ℕ → t.Effect → p.Effect
+  put_effect d (t.Assign target a e span) =
+      p.Assign (put_place d target) a (put_plain (d + place_roots target) e) span
+  put_effect d (t.Update target a operator common e span) =
+      p.Update (put_place d target) a operator common (put_plain (d + place_roots target) e) span
+  put_effect d (t.Copy target value k span) =
+      p.Copy (put_place d target) (put_structure (d + place_roots target) value) k span
+  put_effect d (t.NumberEffect e whole) = p.NumberEffect (put_plain d e) whole
+  put_effect d (t.StructureEffect value whole) = p.StructureEffect (put_structure d value) whole
+  put_effect d (t.CallEffect k) = p.CallEffect (put_call d k)
+  put_effect d (t.Output e span) = p.Output (put_plain d e) span
+  put_effect d (t.ChoiceEffect e a b span) =
+      p.ChoiceEffect (put_test d e) (put_effect (d + test_roots e) a)
+      (put_effect (d + test_roots e + roots Plain (n.effect a)) b) span
+  put_effect d (t.Discard a span) = p.Discard (put_effect d a) span
+
+  abbrev pub put_effects : ℕ → List t.Effect → List p.Effect
+  put_effects d [] = []
+  put_effects d (a ∷ rest) = put_effect d a ∷ put_effects (d + roots Plain (n.effect a)) rest
+
+  abbrev mutual
+    pub put_initializer : ℕ → t.Initializer → p.Initializer
+    put_initializer d (t.NumberInitializer e) = p.NumberInitializer (put_plain d e)
+    put_initializer d (t.StructureInitializer value k) =
+        p.StructureInitializer (put_structure d value) k
+    put_initializer d (t.ListInitializer items k) = p.ListInitializer (put_initializers d items) k
+    put_initializer d (t.ZeroInitializer e k) = p.ZeroInitializer (put_plain d e) k
+
+    pub put_initializers : ℕ → t.Initializers → p.Initializers
+    put_initializers d t.no_initializers = p.no_initializers
+    put_initializers d (t.initializers i rest) =
+        p.initializers (put_initializer d i)
+        (put_initializers (d + roots Plain (n.initializer i)) rest)
+
+  abbrev pub put_initial : ℕ → Option t.Initializer → Option p.Initializer
+  put_initial d None = None
+  put_initial d (Some i) = Some (put_initializer d i)
+
+  abbrev pub put_declarators : ℕ → List t.Declarator → List p.Declarator
+  put_declarators d [] = []
+  put_declarators d (x ∷ rest) =
+      record { slot = x.slot; cells = x.cells; value = put_initial d x.value }
+      ∷ put_declarators (d + roots Plain (n.initial x.value)) rest
+
+  abbrev pub put_start : ℕ → t.ForStart → p.ForStart
+  put_start d (t.StartEffects effects) = p.StartEffects (put_effects d effects)
+  put_start d (t.StartDeclaration declarators) = p.StartDeclaration (put_declarators d declarators)
+
+  abbrev pub put_optional : ℕ → Option t.Expression → Option p.Expression
+  put_optional d None = None
+  put_optional d (Some e) = Some (put_test d e)
+
+  abbrev pub put_return : ℕ → t.ReturnValue → p.ReturnValue
+  put_return d t.ReturnNothing = p.ReturnNothing
+  put_return d (t.ReturnNumber e) = p.ReturnNumber (put_plain d e)
+  put_return d (t.ReturnStructure value k) = p.ReturnStructure (put_structure d value) k
+
+  -- ---- statements
+
+  -- the bits of the next exit, counted statement and label, the number of the next decision, and
+  -- the register of the next switch
+  pub record At : Type 0 where
+    pub exit : ℕ
+    pub statement : ℕ
+    pub label : ℕ
+    pub decision : ℕ
+    pub switch : ℕ
+
+  -- after so many decisions
+  abbrev pub decided : ℕ → At → At
+  decided k at = record at { decision = at.decision + k }
+
+  -- after a statement
+  abbrev pub past : t.Statement → At → At
+  past s at = record {
+    exit = at.exit + (points_of s).exits;
+    statement = at.statement + (points_of s).statements;
+    label = at.label + (points_of s).labels;
+    decision = at.decision + roots Plain (n.statement s);
+    switch = at.switch + switches s;
+  }
+
+  -- inside a counted statement, after its own probe
+  abbrev pub within : At → At
+  within at = record at { statement = at.statement + 1 }
+
+  -- the items of a `switch`
+  abbrev pub in_switch : Bool → At → At
+  in_switch has at =
+      record at {
+        statement = at.statement + 1;
+        label = if has then at.label else at.label + 1;
+        switch = at.switch + 1;
+      }
+
+  abbrev pub absent_mark : Bool → At → Option Mark
+  absent_mark true at = None
+  absent_mark false at = Some (record { register = at.switch; bit = at.label })
+
+  -- `r` is the register of the switch in whose body the statement stands.
+  abbrev mutual
+    pub put_statement : ℕ → At → t.Statement → p.Statement
+    put_statement r at (t.Compound items span) = p.Compound (put_statements r at items) span
+    put_statement r at (t.Label v span) =
+        p.Label v span (Some (record { register = r; bit = at.label }))
+    put_statement r at (t.Declaration declarators span) =
+        p.Declaration (put_declarators at.decision declarators) span
+        (if initializes declarators then Some at.statement else None)
+    put_statement r at (t.Null span) = p.Null span (Some at.statement)
+    put_statement r at (t.EffectStatement effect span) =
+        p.EffectStatement (put_effect at.decision effect) span (Some at.statement)
+    put_statement r at (t.If e s keyword span) =
+        p.If (put_test at.decision e) (put_statement r (decided (test_roots e) (within at)) s)
+        keyword span (Some at.statement)
+    put_statement r at (t.IfElse e s u keyword span) =
+        p.IfElse (put_test at.decision e)
+        (put_statement r (decided (test_roots e) (within at)) s)
+        (put_statement r (past s (decided (test_roots e) (within at))) u)
+        keyword span (Some at.statement)
+    put_statement r at (t.Switch e items keyword span) =
+        p.Switch (p.Probe (probe.Switch at.switch) (put_plain at.decision e))
+        (put_statements at.switch (decided (plain_roots e) (in_switch (has_default items) at))
+        items)
+        keyword span (Some at.statement) (absent_mark (has_default items) at)
+    put_statement r at (t.For start test step s keyword span) =
+        p.For (put_start at.decision start)
+        (put_optional (at.decision + roots Plain (n.start start)) test)
+        (put_effects (at.decision + roots Plain (n.start start)
+        + roots Plain (n.optional_test test)) step)
+        (put_statement r (decided (roots Plain (n.start start)
+        + roots Plain (n.optional_test test) + roots_in (n.effects step)) (within at)) s)
+        keyword span (Some at.statement)
+    put_statement r at (t.DoWhile s e keyword span) =
+        p.DoWhile (put_statement r (within at) s)
+        (put_test (at.decision + roots Plain (n.statement s)) e)
+        keyword span (Some at.statement)
+    put_statement r at (t.Break span) = p.Break span (Some at.statement)
+    put_statement r at (t.Continue span) = p.Continue span (Some at.statement)
+    put_statement r at (t.Return value span) =
+        p.Return (put_return at.decision value) span (Some at.statement) (Some at.exit)
+
+    pub put_statements : ℕ → At → t.Statements → p.Statements
+    put_statements r at t.no_statements = p.no_statements
+    put_statements r at (t.statements s rest) =
+        p.statements (put_statement r at s) (put_statements r (past s at) rest)
+
+-- ---- functions and programs
+
+abbrev pub decisions_in : t.Function → ℕ
+decisions_in f = roots Plain (n.function f)
+
+-- the function with this number, before which so many decisions and other points stand
+abbrev pub put_function : Map → ℕ → ℕ → Points → t.Function → p.Function
+put_function m number decisions points f = record {
+  name = f.name;
+  name_span = f.name_span;
+  parameters = f.parameters;
+  result = f.result;
+  objects = f.objects;
+  body = put_statements m decisions 0 (record {
+    exit = exit_bit m points.exits;
+    statement = statement_bit m points.statements;
+    label = label_bit m points.labels;
+    decision = 0;
+    switch = decisions_in f;
+  }) f.body;
+  closing = f.closing;
+  registers = decisions_in f + switches_all f.body;
+  entry = Some (entry_bit m number);
+  exit =
+      if all_complete f.body
+      then Some (exit_bit m (points.exits + (points_of_all f.body).exits))
+      else None;
+}
+
+abbrev pub put_functions : Map → ℕ → ℕ → Points → List t.Function → List p.Function
+put_functions m number decisions points [] = []
+put_functions m number decisions points (f ∷ rest) =
+    put_function m number decisions points f
+    ∷ put_functions m (number + 1) (decisions + decisions_in f) (points ⊕ points_of_function f) rest
+
+-- the program with its probes
+abbrev pub instrumented : Map → t.Program → p.Tree
+instrumented m program = record {
+  program = record {
+    functions = put_functions m 0 0 no_points program.functions;
+    statics = program.statics;
+    structures = program.structures;
+  };
+  bits = m.bits;
+}
+
+-- the tree has exactly the probes that the table puts on this program, and this is its map
+pub record IsInstrumented (program : t.Program) (m : Map) (tree : p.Tree) : Type 0 where
+  pub is_map : IsMapOf program m
+  pub is_tree : tree ≡ instrumented m program

@@ -1,0 +1,4 @@
+pub mod Laid
+pub mod Followed
+pub mod Bits
+pub mod Counting

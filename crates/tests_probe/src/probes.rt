@@ -1,0 +1,39 @@
+//! Bits that were counted by hand, and trees with other probes than a program's own.
+ghost use Rattle.tests_probe.specs.Counting as counting;
+ghost use Rattle.tests_probe.specs.Bits.{Again, Anywhere, Compared, Cut, InBits, Nested, OfLong, Wraps, WrapsInside};
+
+/// The order of the bits, and a decision that a trap cuts.
+pub fn bits_by_hand()
+    ensures anywhere { Anywhere }
+    ensures compared { Compared }
+    ensures again { Again }
+    ensures cut { Cut }
+{}
+
+/// A loop with its map by hand, and its last unit of fuel.
+pub fn map_by_hand()
+    ensures map { counting.IsItsMap }
+    ensures enough { counting.WithFuel }
+    ensures too_little { counting.WithoutFuel }
+{}
+
+/// A condition is true where it differs from 0 in its own type.
+pub fn conditions_have_their_type()
+    ensures { OfLong }
+{}
+
+/// Sums wrap modulo 2^32, in a register and at a decision's base.
+pub fn sums_wrap()
+    ensures base { Wraps }
+    ensures register { WrapsInside }
+{}
+
+/// A bit that is none of the tree's is not hit.
+pub fn other_bits_are_not_hit()
+    ensures { InBits }
+{}
+
+/// Registers belong to the activation and begin at 0.
+pub fn activations_have_registers()
+    ensures { Nested }
+{}
