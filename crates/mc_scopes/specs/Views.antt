@@ -1,0 +1,56 @@
+-- What the scope of the program stands for.
+use Rattle.std.specs.Prelude.{ℕ, List, map, Option, option_map}
+use Rattle.mc_typed.specs.Views.{object_of, static_of}
+use Rattle.mc_typing.specs.Types as t
+use Rattle.mc_typing.specs.Scopes as s
+use Rattle.mc_scopes.specs.Tables.{Named}
+use Rattle.mc_scopes.specs.Types.{type_of, signature_of}
+use Rattle.mc_scopes.specs.Listed.{listed_of}
+use Rattle.mc_scopes.specs.declared.meanings.Meaning.{Meaning}
+use Rattle.mc_scopes.specs.declared.meanings.Meaning.TheVariants as meaning
+use Rattle.mc_scopes.specs.declared.meanings.TagMeaning.{TagMeaning}
+use Rattle.mc_scopes.specs.declared.meanings.TagMeaning.TheVariants as tag
+use Rattle.mc_scopes.specs.declared.members.Structure.{Structure}
+use Rattle.mc_scopes.specs.declared.members.Structure.TheVariants as structure
+use Rattle.mc_scopes.specs.declared.scope.Scope.{Scope}
+
+abbrev pub meaning_of : Meaning → s.Meaning
+meaning_of (meaning.Automatic slot of) = s.Automatic slot (option_map type_of of)
+meaning_of (meaning.Static slot of) = s.Stored slot (option_map type_of of)
+meaning_of (meaning.Borrowed array element) = s.Borrowed array (type_of element)
+meaning_of (meaning.Constant value) = s.Constant value
+meaning_of (meaning.Function signature has_body) =
+    s.Function (option_map (λ f. signature_of f.value) signature) has_body
+meaning_of (meaning.Typedef of) = s.Typedef (option_map type_of of)
+
+abbrev pub tag_of : TagMeaning → s.TagMeaning
+tag_of (tag.Structure k) = s.StructureTag k
+tag_of tag.Enumeration = s.EnumerationTag
+
+abbrev pub structure_of : Structure → t.Structure
+structure_of (structure.Incomplete begun) = t.Incomplete begun
+structure_of (structure.Complete c) = t.Complete (map listed_of c)
+structure_of structure.Faulty = t.Faulty
+
+abbrev pub entry_of : Named Meaning → s.Entry
+entry_of e = record { name = e.name; meaning = meaning_of e.meaning }
+
+abbrev pub tag_entry_of : Named TagMeaning → s.Tag
+tag_entry_of e = record { name = e.name; meaning = tag_of e.meaning }
+
+abbrev pub scope_of : Scope → s.Scope
+scope_of c = record {
+  names = map entry_of c.names;
+  tags = map tag_entry_of c.tags;
+  names_from = c.names_from;
+  tags_from = c.tags_from;
+  is_file = c.is_file;
+  structures = map structure_of c.structures.items;
+  statics = map static_of c.statics.items;
+  static_cells = c.static_cells;
+  bodies = c.bodies;
+  objects = map object_of c.objects.items;
+  frame = c.frame;
+  arrays = c.arrays;
+  labels = c.labels;
+}

@@ -1,0 +1,22 @@
+//! Names in scope, types and objects: what the walk over a tree keeps as it gives a typed program.
+#![tactic(auto)]
+
+mod blocks;
+mod bodies;
+mod labels;
+mod meanings;
+mod member;
+mod members;
+mod scope;
+mod table;
+mod types;
+
+pub use blocks::Block;
+pub use bodies::Bodies;
+pub use labels::Labels;
+pub use meanings::{Meaning, TagMeaning};
+pub use member::Member;
+pub use members::{Complete, Members, Structure};
+pub use scope::Scope;
+pub use table::Table;
+pub use types::{Base, CType, ParameterKind, Signature};

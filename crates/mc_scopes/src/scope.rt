@@ -1,0 +1,231 @@
+//! What is in scope, and what has been declared so far (C17 6.2.1 to 6.2.4).
+ghost use Rattle.std.specs.Prelude.{◌≡◌, Some, option_map, option_copied, IfOk, ◌<◌, length};
+ghost use Rattle.mc_tree.specs.Views.{name_of};
+ghost use Rattle.mc_typed.specs.Layout.{cells, object_type_of};
+ghost use Rattle.mc_typing.specs.Profile as p;
+ghost use Rattle.mc_typing.specs.Scopes as s;
+ghost use Rattle.mc_scopes.specs.Views.{meaning_of, scope_of, structure_of, tag_of};
+
+use crate::bodies::Bodies;
+use crate::labels::Labels;
+use crate::meanings::{Meaning, TagMeaning};
+use crate::members::Structure;
+use crate::table::Table;
+use mc_tree::Identifier;
+use mc_typed::{Object, Slot, StaticObject};
+use mc_value::ObjType;
+use std::alloc::{AllocError, Global};
+
+/// What a node of a tree can name, and what has been declared before it.
+#[derive(Drop)]
+pub struct Scope<'a> {
+    pub names: Table<'a, Meaning>,
+    pub tags: Table<'a, TagMeaning>,
+    /// Where the names and the tags of the innermost block begin.
+    pub names_from: usize,
+    pub tags_from: usize,
+    /// Whether it is file scope.
+    pub is_file: bool,
+    /// The structure types, by their numbers.
+    pub structures: Vec<Structure<'a>>,
+    /// The objects with static storage duration, but for those with a fault, and their cells.
+    pub statics: Vec<StaticObject>,
+    pub static_cells: u64,
+    /// The functions of the unit that have a body.
+    pub bodies: Bodies<'a>,
+    /// The objects of the function, the cells of its frame, and the number of its array parameters.
+    pub objects: Vec<Object>,
+    pub frame: u64,
+    pub arrays: u32,
+    /// Directly in the body of a `switch`, its labels.
+    pub labels: Option<Labels>,
+}
+
+/// The first cell of an object after so many others.
+fn start_at(before: u64) -> u32
+    ensures { result ≡ p.start_at before }
+{
+    if before <= 65536 {
+        before as u32
+    } else {
+        65536
+    }
+}
+
+impl<'a> Scope<'a> {
+    /// The scope of a unit without declarations, whose functions with a body are these. Takes no
+    /// memory.
+    pub fn of_file(alloc: Global, bodies: Bodies<'a>) -> Scope<'a>
+        ensures { scope_of result ≡ s.file_scope bodies.entry }
+    {
+        Scope {
+            names: Table::new(alloc),
+            tags: Table::new(alloc),
+            names_from: 0,
+            tags_from: 0,
+            is_file: true,
+            structures: Vec::new(alloc),
+            statics: Vec::new(alloc),
+            static_cells: 0,
+            bodies,
+            objects: Vec::new(alloc),
+            frame: 0,
+            arrays: 0,
+            labels: None,
+        }
+    }
+
+    /// What a name means (C17 6.2.1p4).
+    pub fn meaning(&self, name: &Identifier<'_>) -> Option<&Meaning>
+        ensures { option_map meaning_of (option_copied result)
+            ≡ s.meaning_of (name_of name.now) (scope_of self.now) }
+    {
+        self.names.get(name.text)
+    }
+
+    /// What the innermost block declares a name to be.
+    pub fn meaning_here(&self, name: &Identifier<'_>) -> Option<&Meaning>
+        ensures { option_map meaning_of (option_copied result)
+            ≡ s.meaning_here (name_of name.now) (scope_of self.now) }
+    {
+        self.names.get_from(self.names_from, name.text)
+    }
+
+    /// What a tag means (C17 6.2.3p1).
+    pub fn tag(&self, tag: &Identifier<'_>) -> Option<&TagMeaning>
+        ensures { option_map tag_of (option_copied result)
+            ≡ s.tag_of (name_of tag.now) (scope_of self.now) }
+    {
+        self.tags.get(tag.text)
+    }
+
+    /// What the innermost block declares a tag to be.
+    pub fn tag_here(&self, tag: &Identifier<'_>) -> Option<&TagMeaning>
+        ensures { option_map tag_of (option_copied result)
+            ≡ s.tag_here (name_of tag.now) (scope_of self.now) }
+    {
+        self.tags.get_from(self.tags_from, tag.text)
+    }
+
+    /// Declares a name in the innermost block.
+    pub fn declare(&mut self, name: &Identifier<'a>, meaning: Meaning) -> Result<(), AllocError>
+        ensures { IfOk result (λ _. scope_of self.new
+            ≡ s.with_name (name_of name.now) (meaning_of meaning) (scope_of self.old)) }
+    {
+        self.names.push(name.text, meaning)
+    }
+
+    /// Declares a tag in the innermost block.
+    pub fn declare_tag(
+        &mut self,
+        tag: &Identifier<'a>,
+        meaning: TagMeaning,
+    ) -> Result<(), AllocError>
+        ensures { IfOk result (λ _. scope_of self.new
+            ≡ s.with_tag (name_of tag.now) (tag_of meaning) (scope_of self.old)) }
+    {
+        self.tags.push(tag.text, meaning)
+    }
+
+    /// One more structure type, whose number is that of the structure types before it.
+    pub fn add_structure(&mut self, structure: Structure<'a>) -> Result<(), AllocError>
+        ensures { IfOk result (λ _. scope_of self.new
+            ≡ s.with_structure (structure_of structure.entry) (scope_of self.old)) }
+    {
+        self.structures.push(structure)?;
+        Ok(())
+    }
+
+    /// The structure type with a number is this from now on.
+    pub fn set_structure(&mut self, number: u32, structure: Structure<'a>)
+        requires { number < length self.old.structures.items }
+        ensures { scope_of self.new
+            ≡ s.with_structure_at number (structure_of structure.entry) (scope_of self.old) }
+    {
+        self.structures[number as usize] = structure;
+    }
+
+    /// Where the next object of the function stands.
+    pub fn next_slot(&self) -> Result<Slot, AllocError>
+        ensures { IfOk result (λ slot. slot ≡ s.next_slot (scope_of self.now)) }
+    {
+        let Ok(object) = u32::try_from(self.objects.len()) else {
+            return Err(AllocError);
+        };
+        Ok(Slot {
+            object,
+            start: start_at(self.frame),
+        })
+    }
+
+    /// Where the next object with static storage duration stands.
+    pub fn next_static(&self) -> Result<Slot, AllocError>
+        ensures { IfOk result (λ slot. slot ≡ s.next_static (scope_of self.now)) }
+    {
+        let Ok(object) = u32::try_from(self.statics.len()) else {
+            return Err(AllocError);
+        };
+        Ok(Slot {
+            object,
+            start: start_at(self.static_cells),
+        })
+    }
+
+    /// One more object of the function, with so many cells.
+    pub fn add_object(&mut self, object_type: ObjType, count: u32) -> Result<(), AllocError>
+        requires { count ≡ cells (object_type_of object_type) }
+        ensures { IfOk result (λ _. scope_of self.new
+            ≡ s.with_object (object_type_of object_type) (scope_of self.old)) }
+    {
+        let start = start_at(self.frame);
+        let frame = self.frame.checked_add(u64::from(count)).ok_or(AllocError)?;
+        self.objects.push(Object {
+            object_type,
+            cells: count,
+            start,
+        })?;
+        self.frame = frame;
+        Ok(())
+    }
+
+    /// So many cells of the frame count no more.
+    pub fn uncount(&mut self, count: u64)
+        ensures { scope_of self.new ≡ s.uncounted count (scope_of self.old) }
+    {
+        self.frame = self.frame.saturating_sub(count);
+    }
+
+    /// One more object with static storage duration, with so many cells and these initial values.
+    pub fn add_static(
+        &mut self,
+        object_type: ObjType,
+        count: u32,
+        initial: Vec<i128>,
+    ) -> Result<(), AllocError>
+        requires { count ≡ cells (object_type_of object_type) }
+        ensures { IfOk result (λ _. scope_of self.new
+            ≡ s.with_static (object_type_of object_type) initial.items (scope_of self.old)) }
+    {
+        let start = start_at(self.static_cells);
+        let cells = self
+            .static_cells
+            .checked_add(u64::from(count))
+            .ok_or(AllocError)?;
+        self.statics.push(StaticObject {
+            object_type,
+            cells: count,
+            start,
+            initial,
+        })?;
+        self.static_cells = cells;
+        Ok(())
+    }
+
+    /// One more array parameter.
+    pub fn add_array(&mut self) -> Result<(), AllocError>
+        ensures { IfOk result (λ _. scope_of self.new ≡ s.with_array (scope_of self.old)) }
+    {
+        self.arrays = self.arrays.checked_add(1).ok_or(AllocError)?;
+        Ok(())
+    }
+}
