@@ -5,7 +5,7 @@ use Rattle.mc_tree.specs.Tree.{Declarator, InitDeclarator, Declaration, ForStart
 use Rattle.mc_tree.specs.Tree as tree
 
 abbrev pub IsNoFunction : Declarator → Type 0
-IsNoFunction (tree.object stars name lengths span) = Unit {0}
+IsNoFunction (tree.object stars name all_lengths span) = Unit {0}
 IsNoFunction (tree.function stars name all span) = ⊥
 
 abbrev pub declarator_of : InitDeclarator → Declarator
