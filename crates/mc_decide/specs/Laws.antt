@@ -46,7 +46,8 @@ abbrev mutual
       (middle : ℕ) × (low ≤ middle) × (middle ≤ high) × IsExpression a
       × StandsIn low middle a × StandIn middle high ps
 
--- the order by the start of the root, the outer one first where two start together
+-- The order by the start of the root, the outer one first where two start together. Two roots would
+-- have one span only where a test is an implied conversion, and C17 implies none there.
 abbrev pub IsInOrder : Decision → Decision → Type 0
 IsInOrder d e =
     (d.root.start < e.root.start)

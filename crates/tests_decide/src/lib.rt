@@ -1,6 +1,7 @@
 //! Tests of decisions.
 #![tactic(auto)]
 
+pub mod laws;
 #[cfg(test)]
 mod make;
 #[cfg(test)]

@@ -1,11 +1,9 @@
-//! Rows of small statements: the text, how it is made, and its decisions. Each decision is shown as
-//! its function, the start and text of its root, its tree, and the start and text of each condition.
-use crate::make::Kind::{
-    And, Assign, Binary, Call, Cast, Choice, Constant, Do, Element, Expression, For, If,
-    Initialize, List, Name, Not, Or, Return, Structure, Switch, While,
-};
+//! Rows of expressions that are returned: the text, how it is made, and its decisions. Each decision is
+//! shown as its function, the start and text of its root, its tree, and the start and text of each
+//! condition. The laws of laws.rt have more texts.
+use crate::make::Kind::{And, Binary, Constant, Name, Not, Or, Return};
 use crate::make::Step;
-use mc_value::BinOp::{Add, Div, Eq, Ge, Gt, Le, Lt, Ne, Sub};
+use mc_value::BinOp::{Eq, Lt};
 
 pub const ROWS: &[(&str, &[Step], &str)] = &[
     (
@@ -50,27 +48,6 @@ pub const ROWS: &[(&str, &[Step], &str)] = &[
         "0@0:(a||b)&&(c||d) ((0|1)&(2|3)) 1:a 4:b 9:c 12:d;",
     ),
     (
-        "y = x < 3;",
-        &[
-            (Name, 4, 5),
-            (Constant, 8, 9),
-            (Binary(Lt), 4, 9),
-            (Assign, 0, 0),
-        ],
-        "0@4:x < 3 0 4:x < 3;",
-    ),
-    (
-        "g(p && q);",
-        &[
-            (Name, 2, 3),
-            (Name, 7, 8),
-            (And, 2, 8),
-            (Call, 0, 9),
-            (Expression, 0, 0),
-        ],
-        "0@2:p && q (0&1) 2:p 7:q;",
-    ),
-    (
         "(p<q) == (r<s)",
         &[
             (Name, 1, 2),
@@ -85,184 +62,8 @@ pub const ROWS: &[(&str, &[Step], &str)] = &[
         "0@0:(p<q) == (r<s) 0 0:(p<q) == (r<s);0@1:p<q 0 1:p<q;0@10:r<s 0 10:r<s;",
     ),
     (
-        "n>0 && f(n-1)",
-        &[
-            (Name, 0, 1),
-            (Constant, 2, 3),
-            (Binary(Gt), 0, 3),
-            (Name, 9, 10),
-            (Constant, 11, 12),
-            (Binary(Sub), 9, 12),
-            (Call, 7, 13),
-            (And, 0, 13),
-            (Return, 0, 0),
-        ],
-        "0@0:n>0 && f(n-1) (0&1) 0:n>0 7:f(n-1);",
-    ),
-    (
-        "w > 9 && (s.v > 7 || s.g)",
-        &[
-            (Name, 0, 1),
-            (Expression, 0, 0),
-            (Name, 0, 1),
-            (Constant, 4, 5),
-            (Binary(Gt), 0, 5),
-            (Name, 10, 13),
-            (Constant, 16, 17),
-            (Binary(Gt), 10, 17),
-            (Name, 21, 24),
-            (Or, 10, 24),
-            (And, 0, 25),
-            (If, 0, 0),
-        ],
-        "0@0:w > 9 && (s.v > 7 || s.g) (0&(1|2)) 0:w > 9 10:s.v > 7 21:s.g;",
-    ),
-    (
-        "t[a<b];",
-        &[
-            (Name, 2, 3),
-            (Name, 4, 5),
-            (Binary(Lt), 2, 5),
-            (Element, 0, 6),
-            (Expression, 0, 0),
-        ],
-        "0@2:a<b 0 2:a<b;",
-    ),
-    (
-        "int x=!a;",
-        &[(Name, 7, 8), (Not, 6, 8), (Initialize, 0, 0)],
-        "0@6:!a !0 7:a;",
-    ),
-    (
-        "int t[]={a==b,c&&d};",
-        &[
-            (Name, 9, 10),
-            (Name, 12, 13),
-            (Binary(Eq), 9, 13),
-            (Name, 14, 15),
-            (Name, 17, 18),
-            (And, 14, 18),
-            (List, 0, 0),
-        ],
-        "0@9:a==b 0 9:a==b;0@14:c&&d (0&1) 14:c 17:d;",
-    ),
-    (
-        "struct S s=h(a!=b);",
-        &[
-            (Name, 13, 14),
-            (Name, 16, 17),
-            (Binary(Ne), 13, 17),
-            (Structure, 0, 0),
-        ],
-        "0@13:a!=b 0 13:a!=b;",
-    ),
-    (
-        "(a<b)+c;",
-        &[
-            (Name, 1, 2),
-            (Name, 3, 4),
-            (Binary(Lt), 1, 4),
-            (Name, 6, 7),
-            (Binary(Add), 0, 7),
-            (Expression, 0, 0),
-        ],
-        "0@1:a<b 0 1:a<b;",
-    ),
-    (
-        "(long)(a>=b);",
-        &[
-            (Name, 7, 8),
-            (Name, 10, 11),
-            (Binary(Ge), 7, 11),
-            (Cast, 0, 12),
-            (Expression, 0, 0),
-        ],
-        "0@7:a>=b 0 7:a>=b;",
-    ),
-    (
-        "a<=b ? c : d;",
-        &[
-            (Name, 0, 1),
-            (Name, 3, 4),
-            (Binary(Le), 0, 4),
-            (Name, 7, 8),
-            (Name, 11, 12),
-            (Choice, 0, 12),
-            (Expression, 0, 0),
-        ],
-        "0@0:a<=b 0 0:a<=b;",
-    ),
-    (
-        "a ? b : c&&d;",
-        &[
-            (Name, 0, 1),
-            (Name, 4, 5),
-            (Name, 8, 9),
-            (Name, 11, 12),
-            (And, 8, 12),
-            (Choice, 0, 12),
-            (Expression, 0, 0),
-        ],
-        "0@0:a 0 0:a;0@8:c&&d (0&1) 8:c 11:d;",
-    ),
-    (
-        "1 ? a<b : c;",
-        &[
-            (Constant, 0, 1),
-            (Name, 4, 5),
-            (Name, 6, 7),
-            (Binary(Lt), 4, 7),
-            (Name, 10, 11),
-            (Choice, 0, 11),
-            (Expression, 0, 0),
-        ],
-        "0@4:a<b 0 4:a<b;",
-    ),
-    (
-        "for(!a;b;c==d);",
-        &[
-            (Constant, 0, 1),
-            (Expression, 0, 0),
-            (Name, 5, 6),
-            (Not, 4, 6),
-            (Name, 7, 8),
-            (Name, 9, 10),
-            (Name, 12, 13),
-            (Binary(Eq), 9, 13),
-            (For, 0, 0),
-        ],
-        "0@4:!a !0 5:a;0@7:b 0 7:b;0@9:c==d 0 9:c==d;",
-    ),
-    (
-        "switch(a||b){default:}",
-        &[(Name, 7, 8), (Name, 10, 11), (Or, 7, 11), (Switch, 0, 0)],
-        "0@7:a||b (0|1) 7:a 10:b;",
-    ),
-    (
-        "do x<y; while(z);",
-        &[
-            (Name, 3, 4),
-            (Name, 5, 6),
-            (Binary(Lt), 3, 6),
-            (Expression, 0, 0),
-            (Name, 14, 15),
-            (Do, 0, 0),
-        ],
-        "0@3:x<y 0 3:x<y;0@14:z 0 14:z;",
-    ),
-    (
-        "while(a) b;",
-        &[
-            (Name, 9, 10),
-            (Expression, 0, 0),
-            (Name, 6, 7),
-            (While, 0, 0),
-        ],
-        "0@6:a 0 6:a;",
-    ),
-    (
         "!!a;",
-        &[(Name, 2, 3), (Not, 1, 3), (Not, 0, 3), (Expression, 0, 0)],
+        &[(Name, 2, 3), (Not, 1, 3), (Not, 0, 3), (Return, 0, 0)],
         "0@0:!!a !!0 2:a;",
     ),
     (
@@ -272,7 +73,7 @@ pub const ROWS: &[(&str, &[Step], &str)] = &[
             (Name, 4, 5),
             (Binary(Lt), 2, 5),
             (Not, 0, 6),
-            (Expression, 0, 0),
+            (Return, 0, 0),
         ],
         "0@0:!(a<b) !0 2:a<b;",
     ),
@@ -283,7 +84,7 @@ pub const ROWS: &[(&str, &[Step], &str)] = &[
             (Not, 0, 2),
             (Name, 4, 5),
             (Binary(Eq), 0, 5),
-            (Expression, 0, 0),
+            (Return, 0, 0),
         ],
         "0@0:!a==b 0 0:!a==b;0@0:!a !0 1:a;",
     ),
@@ -295,73 +96,9 @@ pub const ROWS: &[(&str, &[Step], &str)] = &[
             (And, 1, 5),
             (Name, 8, 9),
             (Binary(Eq), 0, 9),
-            (Expression, 0, 0),
+            (Return, 0, 0),
         ],
         "0@0:(a&&b)==c 0 0:(a&&b)==c;0@1:a&&b (0&1) 1:a 4:b;",
-    ),
-    (
-        "f(a&&f(b||f(c==f(!d))));",
-        &[
-            (Name, 2, 3),
-            (Name, 7, 8),
-            (Name, 12, 13),
-            (Name, 18, 19),
-            (Not, 17, 19),
-            (Call, 15, 20),
-            (Binary(Eq), 12, 20),
-            (Call, 10, 21),
-            (Or, 7, 21),
-            (Call, 5, 22),
-            (And, 2, 22),
-            (Call, 0, 23),
-            (Expression, 0, 0),
-        ],
-        "0@2:a&&f(b||f(c==f(!d))) (0&1) 2:a 5:f(b||f(c==f(!d)));0@7:b||f(c==f(!d)) (0|1) 7:b 10:f(c==f(!d));0@12:c==f(!d) 0 12:c==f(!d);0@17:!d !0 18:d;",
-    ),
-    (
-        "a&&f(b<c);",
-        &[
-            (Name, 0, 1),
-            (Name, 5, 6),
-            (Name, 7, 8),
-            (Binary(Lt), 5, 8),
-            (Call, 3, 9),
-            (And, 0, 9),
-            (Expression, 0, 0),
-        ],
-        "0@0:a&&f(b<c) (0&1) 0:a 3:f(b<c);0@5:b<c 0 5:b<c;",
-    ),
-    (
-        "while(1);",
-        &[
-            (Constant, 0, 1),
-            (Expression, 0, 0),
-            (Constant, 6, 7),
-            (While, 0, 0),
-        ],
-        "",
-    ),
-    (
-        "while(1/0);",
-        &[
-            (Constant, 0, 1),
-            (Expression, 0, 0),
-            (Constant, 6, 7),
-            (Constant, 8, 9),
-            (Binary(Div), 6, 9),
-            (While, 0, 0),
-        ],
-        "",
-    ),
-    (
-        "if(0);",
-        &[
-            (Constant, 0, 1),
-            (Expression, 0, 0),
-            (Constant, 3, 4),
-            (If, 0, 0),
-        ],
-        "",
     ),
     (
         "1<2;",
@@ -369,7 +106,7 @@ pub const ROWS: &[(&str, &[Step], &str)] = &[
             (Constant, 0, 1),
             (Constant, 2, 3),
             (Binary(Lt), 0, 3),
-            (Expression, 0, 0),
+            (Return, 0, 0),
         ],
         "",
     ),
@@ -382,18 +119,13 @@ pub const ROWS: &[(&str, &[Step], &str)] = &[
             (Constant, 9, 10),
             (Not, 8, 10),
             (Or, 0, 10),
-            (Expression, 0, 0),
+            (Return, 0, 0),
         ],
         "",
     ),
     (
         "a&&1;",
-        &[
-            (Name, 0, 1),
-            (Constant, 3, 4),
-            (And, 0, 4),
-            (Expression, 0, 0),
-        ],
+        &[(Name, 0, 1), (Constant, 3, 4), (And, 0, 4), (Return, 0, 0)],
         "0@0:a&&1 (0&1) 0:a 3:1;",
     ),
     (
@@ -404,7 +136,7 @@ pub const ROWS: &[(&str, &[Step], &str)] = &[
             (And, 1, 5),
             (Name, 8, 9),
             (Or, 0, 9),
-            (Expression, 0, 0),
+            (Return, 0, 0),
         ],
         "0@0:(1&&0)||a ((0&1)|2) 1:1 4:0 8:a;",
     ),
