@@ -1,5 +1,5 @@
 -- The trees in a program are those of its decisions.
-use Rattle.std.proofs.Common.{◌≡◌, ◌∙◌, refl, sym, ap, subst, ℕ, zero, suc, ◌+◌, Bool, true, false, not, ◌&&◌, List, [], ◌∷◌, ◌++◌, map, add-one}
+use Rattle.std.proofs.Common.{◌≡◌, ◌∙◌, refl, sym, ap, ℕ, suc, ◌+◌, Bool, true, false, not, ◌&&◌, List, [], ◌∷◌, ◌++◌, map}
 use Rattle.std.proofs.lemmas.List.{map-append}
 use Rattle.mc_cond.specs.Tree.{Tree}
 use Rattle.mc_typed.specs.Tree.{Function}
@@ -7,7 +7,7 @@ use Rattle.mc_decide.specs.declared.role.Role.{Role}
 use Rattle.mc_decide.specs.declared.role.Role.TheVariants.{Test, Inner, Plain}
 use Rattle.mc_decide.specs.Nodes.{Node, Constant, Not, Logic, Expression, Whole, Parts, no_parts, part, test, function, functions, statements}
 use Rattle.mc_decide.specs.Nodes as n
-use Rattle.mc_decide.specs.Roots.{Found, is_constant, are_constant, is_candidate, is_root, operand_role}
+use Rattle.mc_decide.specs.Roots.{Found, is_constant, are_constant, is_candidate, operand_role}
 use Rattle.mc_decide.specs.Conditions.{tree_from}
 use Rattle.mc_decide.specs.steps.Walk.{inside, decision, decided}
 use Rattle.mc_decide.proofs.Listed.{under, unless, whole, in_node, in_parts}

@@ -1,27 +1,23 @@
 -- What a run evaluates are the program's decisions.
-use Rattle.std.proofs.Common.{◌≡◌, ◌∙◌, refl, sym, ap, subst, ℕ, zero, suc, ◌+◌, ℤ, Bool, true, false, List, [], ◌∷◌, ◌++◌, map, length, Option, Some, None, All}
-use Rattle.std.specs.Prelude.{slice_get, option_map}
-use Rattle.mc_span.specs.declared.span.Span.{Span}
+use Rattle.std.proofs.Common.{◌≡◌, refl, subst, ℕ, ◌+◌, ℤ, Bool, true, false, List, [], ◌∷◌, ◌++◌, Option, Some}
+use Rattle.std.specs.Prelude.{slice_get}
 use Rattle.mc_cond.specs.Tree.{Tree, Leaf}
 use Rattle.mc_cond.specs.Vectors.{IsVector}
-use Rattle.mc_typed.specs.declared.operators.LogicOperator.{LogicOperator}
 use Rattle.mc_typed.specs.Tree.{Place, Expression, StructureValue, FunctionCall, Argument, Arguments, Effect, Initializer, Initializers, Declarator, ForStart, ReturnValue, Statement, Statements, Function, Program}
 use Rattle.mc_typed.specs.Tree as t
-use Rattle.mc_typed.specs.Sound.{labels_of}
 use Rattle.mc_decide.specs.declared.role.Role.{Role}
-use Rattle.mc_decide.specs.declared.role.Role.TheVariants.{Test, Inner, Plain}
+use Rattle.mc_decide.specs.declared.role.Role.TheVariants.{Test, Plain}
 use Rattle.mc_decide.specs.Nodes.{Node, Parts}
 use Rattle.mc_decide.specs.Nodes as n
 use Rattle.mc_decide.specs.Roots.{is_root, operand_role}
 use Rattle.mc_decide.specs.Conditions.{tree_from}
-use Rattle.mc_steps.specs.Runs.{State, Out, Gave, Stopped, Run, Acts, gives, lists, after, go_on}
-use Rattle.mc_steps.specs.Expressions.{item_does, unary_does, convert_does, binary_does, logic_does, choice_does, as_does, input_does, read_does}
-use Rattle.mc_steps.specs.Statements.{Given, Flow, Seek, Running, For}
+use Rattle.mc_steps.specs.Runs.{State, Out, Gave, Stopped, gives, after, go_on}
+use Rattle.mc_steps.specs.Expressions.{unary_does, convert_does, binary_does, logic_does, choice_does, as_does, input_does, read_does}
 use Rattle.mc_steps.specs.Calls.{Passed, number_given, structure_given}
 use Rattle.mc_meaning.specs.Stores.{Path, Store, on_places}
 use Rattle.mc_meaning.specs.Events.{Event, Entered, Exited, Started, Chosen, Evaluated}
-use Rattle.mc_decide.specs.Counts.{one_where, roots, roots_in}
-use Rattle.mc_meaning.specs.Expressions.{Does, Within, Judged, past, into, value, vector_of, as_condition, negated, holds, first_alone, both, tells, where_root, decides, condition, place_of, value_of, structure_of, call_of, argument_of, arguments_of, target}
+use Rattle.mc_decide.specs.Counts.{one_where, roots}
+use Rattle.mc_meaning.specs.Expressions.{Does, Within, Judged, past, into, value, as_condition, negated, holds, first_alone, both, tells, where_root, condition, place_of, value_of, structure_of, call_of, argument_of, arguments_of, target}
 use Rattle.mc_meaning.proofs.Runs.{IsGiven, Gives}
 use Rattle.mc_meaning.proofs.Vectors.{IsOf, condition_is, not_gives, logic_gives, value_is}
 use Rattle.mc_meaning.proofs.Numbered.{own, trees, trees_in, trees_length, own_length, StandsAt, stands_left, stands_right}
@@ -50,7 +46,7 @@ module _ (all : List Tree) where
   past_own k b a rest h =
       subst (λ (m : ℕ). StandsAt all (k + m) rest) (own_length b a) (stands_right all k (own b a) rest h)
 
-  past_node : (k : ℕ) (role : Role) (a : Node) (rest : List Tree) → StandsAt all k (trees role a ++ rest) → StandsAt all (k + roots role a) rest
+  pub past_node : (k : ℕ) (role : Role) (a : Node) (rest : List Tree) → StandsAt all k (trees role a ++ rest) → StandsAt all (k + roots role a) rest
   past_node k role a rest h =
       subst (λ (m : ℕ). StandsAt all (k + m) rest) (trees_length role a) (stands_right all k (trees role a) rest h)
 
@@ -73,7 +69,7 @@ module _ (all : List Tree) where
       (condition_is (n.expression e) is (operands (into role e w)))
       (l.as_keeps IsFine as_condition (operands (into role e w)) (k (past_own w.decisions (is_root role (n.expression e)) (n.expression e) rest h)))
 
-  value_only : (e : Does Judged) → Fine e → Fine (value e)
+  pub value_only : (e : Does Judged) → Fine e → Fine (value e)
   value_only e k = l.as_keeps IsFine (λ j. j.value) e k
 
   -- ---- expressions

@@ -4,3 +4,6 @@ pub mod Listed
 pub mod Numbered
 pub mod Decided
 pub mod Evaluations
+pub mod Statements
+pub mod Programs
+pub mod Constants

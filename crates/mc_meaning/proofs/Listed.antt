@@ -1,5 +1,5 @@
 -- What a run lists has a property where what its parts list has it.
-use Rattle.std.proofs.Common.{◌≡◌, ℕ, zero, suc, ℤ, pos, negsuc, Bool, true, false, List, [], ◌∷◌, ◌++◌, length, Option, Some, None, Result, Ok, Err}
+use Rattle.std.proofs.Common.{ℕ, zero, suc, ℤ, pos, negsuc, Bool, true, false, List, [], ◌∷◌, ◌++◌, length, Option, Some, None, Result, Ok, Err}
 use Rattle.std.specs.Prelude.{nat_lt, nat_le, not}
 use Rattle.mc_value.specs.declared.trap.Trap.{Trap}
 use Rattle.mc_value.specs.declared.int_type.IntType.{IntType}
@@ -7,11 +7,11 @@ use Rattle.mc_value.specs.declared.operators.UnOp.{UnOp}
 use Rattle.mc_typed.specs.declared.operators.Operator.{Operator}
 use Rattle.mc_typed.specs.declared.operators.LogicOperator.{LogicOperator}
 use Rattle.mc_typed.specs.declared.plans.Ending.{Ending}
-use Rattle.mc_steps.specs.Runs.{State, Out, Gave, Stopped, Run, Acts, gives, lists, stops, traps, after, go_on, changes, with_some, with_result, with_fuel, spends}
+use Rattle.mc_steps.specs.Runs.{State, Out, Gave, Stopped, Run, Acts, gives, stops, traps, after, go_on, changes, with_some, with_result, with_fuel, spends}
 use Rattle.mc_steps.specs.Memories.{Lent, Memory}
 use Rattle.mc_steps.specs.Expressions.{operated, is_true, where_true, with_index, item_does, lent_item_does, member_does, read_does, assign_does, update_does, copy_does, unary_does, convert_does, binary_does, goes_on, logic_does, choice_does, as_does, drop_does, both_do, with_input, input_does, output_does}
-use Rattle.mc_steps.specs.Statements.{Given, Nothing, Number, Structure, Flow, Completed, Broke, Continued, Left, Body, Seek, Running, For, counted_does, effect_does, where_completed, then_does, if_does, where_loop_goes_on, turn, turns, loop_does, do_does, absent_test, test_does, at_label, is_running, label_does, item_runs, where_switch_ends, switch_does}
-use Rattle.mc_steps.specs.Calls.{Passed, Target, unset_does, store_does, store_structure_does, rest_does, zero_does, structure_argument_does, leaves, number_argument_does, array_argument_does, again_argument_does, arguments_do, with_room, where_left, body_does, call_does, number_given, structure_given}
+use Rattle.mc_steps.specs.Statements.{Given, Nothing, Number, Structure, Flow, Completed, Broke, Continued, Left, Body, Seek, Running, For, counted_does, effect_does, where_completed, then_does, if_does, where_loop_goes_on, turn, turns, loop_does, do_does, test_does, at_label, is_running, label_does, item_runs, where_switch_ends, switch_does}
+use Rattle.mc_steps.specs.Calls.{Passed, Target, store_does, store_structure_does, structure_argument_does, leaves, number_argument_does, array_argument_does, again_argument_does, arguments_do, with_room, where_left, body_does, call_does, number_given, structure_given}
 
 module _ {E : Type 0} (P : E → Type 0) where
   abbrev pub Each : List E → Type 0

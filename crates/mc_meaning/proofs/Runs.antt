@@ -1,6 +1,6 @@
 -- What a run gave, from what its parts gave.
 use Rattle.std.proofs.Common.{◌≡◌, subst}
-use Rattle.mc_steps.specs.Runs.{State, Out, Gave, Stopped, Run, Acts, gives, after, go_on}
+use Rattle.mc_steps.specs.Runs.{State, Out, Gave, Stopped, Run, Acts, after, go_on}
 
 -- what is given by a run
 abbrev pub IsGiven : {M A : Type 0} → (A → Type 0) → Out M A → Type 0

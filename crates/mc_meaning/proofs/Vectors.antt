@@ -1,10 +1,9 @@
 -- The answers of an expression's conditions are a vector of its tree.
-use Rattle.std.proofs.Common.{◌≡◌, ◌∙◌, refl, sym, ap, subst, ℕ, ◌+◌, ℤ, pos, Bool, true, false, not, List, [], ◌∷◌, ◌++◌, Option, Some, None}
+use Rattle.std.proofs.Common.{◌≡◌, ◌∙◌, refl, sym, ap, subst, ℕ, ◌+◌, ℤ, Bool, true, false, not, ◌++◌, None}
 use Rattle.std.specs.Prelude.{replicate, if◌then◌else◌}
 use Rattle.mc_value.specs.Conversions.{is_zero}
 use Rattle.mc_value.specs.Arithmetic.{truth}
-use Rattle.mc_cond.specs.Tree.{Tree, Leaf, And, Or, size, IsNumberedFrom}
-use Rattle.mc_cond.specs.Tree as c
+use Rattle.mc_cond.specs.Tree.{Tree, Leaf, size, IsNumberedFrom}
 use Rattle.mc_cond.specs.Vectors.{Row, Evaluation, evaluated, followed_where, IsVector}
 use Rattle.mc_cond.proofs.Rows.{same_evaluation, pasted, pasted_left, pasted_right}
 use Rattle.mc_typed.specs.declared.operators.LogicOperator.{LogicOperator}
@@ -19,7 +18,7 @@ use Rattle.mc_decide.specs.Nodes as n
 use Rattle.mc_decide.specs.Roots.{is_root, operand_role}
 use Rattle.mc_decide.specs.Conditions.{width, tree_from, joined}
 use Rattle.mc_decide.proofs.Trees.{numbered_from, size_of_tree}
-use Rattle.mc_steps.specs.Runs.{State, Out, Gave, Stopped, Acts, gives, lists, after}
+use Rattle.mc_steps.specs.Runs.{Out, Gave, Stopped, gives, after}
 use Rattle.mc_steps.specs.Expressions.{is_true, where_true, goes_on, logic_does, as_does, read_does, unary_does, convert_does, binary_does, choice_does, input_does}
 use Rattle.mc_steps.specs.Calls.{number_given}
 use Rattle.mc_meaning.specs.Stores.{Store, on_places}

@@ -1,15 +1,17 @@
 -- What follows from the definitions.
-use Rattle.std.specs.Prelude.{◌≡◌, ℕ, List, [], ◌∷◌, slice_get, Some, All}
+use Rattle.std.specs.Prelude.{◌≡◌, ℕ, List, slice_get, Some, All}
 use Rattle.mc_cond.specs.Vectors.{IsVector}
 use Rattle.mc_typed.specs.Tree.{Expression, Program}
 use Rattle.mc_typed.specs.Plans.{Plan}
 use Rattle.mc_decide.specs.declared.role.Role.{Role}
 use Rattle.mc_decide.specs.Nodes as n
+use Rattle.mc_decide.specs.Roots as roots
 use Rattle.mc_decide.specs.Conditions.{tree_from}
 use Rattle.mc_decide.specs.Decisions.{Decision, AreDecisions}
 use Rattle.mc_steps.specs.Runs.{State, Gave}
+use Rattle.mc_steps.specs.Points as points
 use Rattle.mc_meaning.specs.Stores.{Store}
-use Rattle.mc_meaning.specs.Events.{Event, Entered, Exited, Started, Chosen, Evaluated}
+use Rattle.mc_meaning.specs.Events.{Event, Evaluated}
 use Rattle.mc_meaning.specs.Expressions.{Within, Judged, vector_of, value_of}
 use Rattle.mc_meaning.specs.Tests.{plain_run}
 
@@ -32,3 +34,7 @@ abbrev pub EvaluationsAreOfDecisions : Type 0
 EvaluationsAreOfDecisions =
     (p : Program) (plan : Plan) (ds : List Decision) → AreDecisions p.functions ds
     → All (IsOfDecision ds) (plain_run p plan).events
+
+-- Integer constant expressions are the same for the statements that complete as for decisions.
+abbrev pub ConstantsAgree : Type 0
+ConstantsAgree = (e : Expression) → points.is_constant e ≡ roots.is_constant (n.expression e)
