@@ -1,13 +1,12 @@
 -- What the map of a table knows of its entries.
-use Rattle.std.proofs.Common.{◌≡◌, ◌∙◌, ◌<◌, ◌≤◌, ◌+◌, ℕ, suc, Bool, true, false, List, [], ◌∷◌, ◌++◌, map, length, drop, take, slice_get, Option, Some, None, IsSome, option_map, refl, sym, ap, arith, subst, if◌then◌else◌}
+use Rattle.std.proofs.Common.{◌≡◌, ◌∙◌, ◌<◌, ◌≤◌, ℕ, Bool, true, false, List, [], ◌∷◌, ◌++◌, map, length, drop, slice_get, Option, Some, None, option_map, refl, sym, ap, subst, if◌then◌else◌}
 use Rattle.std.specs.BTreeMap.{BTreeMap}
 use Rattle.std.specs.Str.{bytes_eq}
-use Rattle.std.proofs.lemmas.Bool.{cases_Bool}
 use Rattle.std.proofs.lemmas.Slice.Eq.{bytes_eq-Decides}
 use denote.Ref.{Bor}
-use Rattle.mc_scopes.specs.Tables.{Named, last_of, later_or}
+use Rattle.mc_scopes.specs.Tables.{last_of, later_or}
 use Rattle.mc_scopes.specs.declared.table.Entry.{Entry}
-use Rattle.mc_scopes.specs.Indexed.{named_of, last_place, place_of, AreLinked, IsIndexed}
+use Rattle.mc_scopes.specs.Indexed.{named_of, last_place, place_of, IsIndexed}
 use Rattle.mc_scopes.proofs.Places.{Tells, tells, place_more, linked_more, linked_less, TellsFrom, tells_from}
 
 module _ {M : Type 0} where

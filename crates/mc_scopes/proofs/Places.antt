@@ -1,8 +1,7 @@
 -- Where names stand in a table.
-use Rattle.std.proofs.Common.{◌≡◌, ◌∙◌, ◌<◌, ◌≤◌, ◌+◌, ℕ, zero, suc, Bool, true, false, List, [], ◌∷◌, ◌++◌, map, length, drop, slice_get, Option, Some, None, option_map, refl, sym, ap, arith, inl, inr, append_assoc, append-nil, if◌then◌else◌}
+use Rattle.std.proofs.Common.{◌≡◌, ◌∙◌, ◌<◌, ◌≤◌, ℕ, zero, suc, Bool, true, false, List, [], ◌∷◌, ◌++◌, map, length, drop, slice_get, Option, Some, None, option_map, refl, sym, ap, arith, append_assoc, append-nil, if◌then◌else◌}
 use Rattle.std.specs.Str.{bytes_eq}
-use Rattle.std.proofs.lemmas.Bool.{cases_Bool}
-use Rattle.mc_scopes.specs.Tables.{Named, last_of, later_or}
+use Rattle.mc_scopes.specs.Tables.{last_of, later_or}
 use Rattle.mc_scopes.specs.declared.table.Entry.{Entry}
 use Rattle.mc_scopes.specs.Indexed.{named_of, last_place, AreLinked}
 

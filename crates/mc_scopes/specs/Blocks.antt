@@ -1,6 +1,6 @@
 -- The end of a block, from what was kept at its beginning.
-use Rattle.std.specs.Prelude.{◌≡◌, ℕ, Bool, List, [], length, take, Option}
-use Rattle.mc_typing.specs.Scopes.{Labels, Scope, left, left_function}
+use Rattle.std.specs.Prelude.{◌≡◌, ℕ, Bool, [], length, take, Option}
+use Rattle.mc_typing.specs.Scopes.{Labels, Scope, left}
 use Rattle.mc_scopes.specs.declared.blocks.Block.{Block}
 
 -- what is kept of the scope around a block

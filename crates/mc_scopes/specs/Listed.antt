@@ -1,5 +1,5 @@
 -- What members of the program stand for, and where they begin.
-use Rattle.std.specs.Prelude.{◌≡◌, ℕ, ◌+◌, max, List, [], ◌∷◌, ◌++◌, map, Option, Some, None, option_map}
+use Rattle.std.specs.Prelude.{◌≡◌, ℕ, ◌+◌, max, List, [], ◌∷◌, Option, Some, None, option_map}
 use Rattle.mc_value.specs.declared.object_type.ObjType.{ObjType}
 use Rattle.mc_typed.specs.Layout.{ObjectType, cells, nesting, object_type_of}
 use Rattle.mc_typing.specs.Types.{CType, nothing}

@@ -1,5 +1,5 @@
 -- What sets and maps know.
-use Rattle.std.specs.Prelude.{◌≡◌, ℕ, ℤ, Bool, List, Option}
+use Rattle.std.specs.Prelude.{◌≡◌, ℕ, ℤ, List, Option}
 use Rattle.std.specs.BTreeMap.{BTreeMap, get_by}
 use Rattle.std.specs.BTreeSet.{BTreeSet, contains_by}
 use Rattle.std.specs.Cmp.Lexicographic.{slice_cmp}

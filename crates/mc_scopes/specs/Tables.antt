@@ -1,5 +1,5 @@
 -- Names with what they mean.
-use Rattle.std.specs.Prelude.{ℕ, Bool, if◌then◌else◌, List, [], ◌∷◌, bytes_eq, Option, Some, None}
+use Rattle.std.specs.Prelude.{ℕ, if◌then◌else◌, List, [], ◌∷◌, bytes_eq, Option, Some, None}
 
 pub record Named (M : Type 0) : Type 0 where
   pub name : List ℕ

@@ -1,5 +1,5 @@
 -- What the scope of the program stands for.
-use Rattle.std.specs.Prelude.{ℕ, List, map, Option, option_map}
+use Rattle.std.specs.Prelude.{map, option_map}
 use Rattle.mc_typed.specs.Views.{object_of, static_of}
 use Rattle.mc_typing.specs.Types as t
 use Rattle.mc_typing.specs.Scopes as s

@@ -1,4 +1,4 @@
-use Rattle.std.proofs.Common.{◌≡◌, refl}
+use Rattle.std.proofs.Common.{refl}
 use Rattle.mc_scopes.proofs.Mapped.{names_taken, tags_taken}
 use Rattle.mc_scopes.proofs.scope.Scope.leave.Goals as goal
 

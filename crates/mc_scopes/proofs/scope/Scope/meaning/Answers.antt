@@ -1,4 +1,4 @@
-use Rattle.std.proofs.Common.{◌≡◌, ◌∙◌, ap, sym, option_map}
+use Rattle.std.proofs.Common.{◌∙◌, ap, sym, option_map}
 use Rattle.mc_scopes.specs.Views.{meaning_of}
 use Rattle.mc_scopes.proofs.Mapped.{named}
 use Rattle.mc_scopes.proofs.scope.Scope.meaning.Goals as goal

@@ -1,4 +1,4 @@
-use Rattle.std.proofs.Common.{◌≡◌, refl, rules}
+use Rattle.std.proofs.Common.{refl}
 use Rattle.std.proofs.lemmas.List.{map-set}
 use Rattle.mc_scopes.specs.Views.{structure_of}
 use Rattle.mc_scopes.proofs.scope.Scope.set_structure.Goals as goal

@@ -1,4 +1,4 @@
-use Rattle.std.proofs.Common.{◌≡◌, ◌∙◌, Some, None, ap, sym, option_copied, option_map, slice_get, rules}
+use Rattle.std.proofs.Common.{◌≡◌, ◌∙◌, Some, None, ap, sym, option_copied}
 use Rattle.mc_scopes.proofs.Kept.{by_place}
 use Rattle.mc_scopes.proofs.table.Table.get.Goals as goal
 

@@ -1,4 +1,4 @@
-use Rattle.std.proofs.Common.{◌≡◌, ◌∙◌, Some, None, ap, sym, option_copied, arith, option_map, slice_get, rules}
+use Rattle.std.proofs.Common.{◌≡◌, ◌∙◌, ap, sym, option_copied, arith}
 use Rattle.mc_scopes.proofs.Kept.{by_late_place, by_early_place, by_no_place}
 use Rattle.mc_scopes.proofs.table.Table.get_from.Goals as goal
 

@@ -1,4 +1,4 @@
-use Rattle.std.proofs.Common.{◌≡◌, ◌∙◌, ◌++◌, ap, sym, subst, IsSome, refl}
+use Rattle.std.proofs.Common.{◌∙◌, ◌++◌, ap, subst, refl}
 use Rattle.std.specs.Option.{option_to_list}
 use Rattle.mc_scopes.specs.Indexed.{IsIndexed}
 use Rattle.mc_scopes.proofs.Kept.{indexed_less, last_has_place}

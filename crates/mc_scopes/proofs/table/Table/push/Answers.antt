@@ -1,4 +1,4 @@
-use Rattle.std.proofs.Common.{◌≡◌, ◌∙◌, sym, subst, ◌++◌, ap, Some, if◌then◌else◌, length, rules}
+use Rattle.std.proofs.Common.{◌≡◌, ◌∙◌, sym, subst, ap, Some, if◌then◌else◌, length, rules}
 use Rattle.std.specs.Str.{bytes_eq}
 use Rattle.mc_scopes.specs.Indexed.{IsIndexed, place_of}
 use Rattle.mc_scopes.specs.declared.table.Entry.{Entry}
