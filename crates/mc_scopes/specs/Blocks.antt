@@ -1,6 +1,6 @@
 -- The end of a block, from what was kept at its beginning.
 use Rattle.std.specs.Prelude.{◌≡◌, ℕ, Bool, [], length, take, Option}
-use Rattle.mc_typing.specs.Scopes.{Labels, Scope, left}
+use Rattle.mc_typing.specs.Scopes.{Labels, Scope, left, left_function}
 use Rattle.mc_scopes.specs.declared.blocks.Block.{Block}
 
 -- what is kept of the scope around a block
@@ -45,6 +45,10 @@ left_by a inner = record inner {
 abbrev pub function_left_by : Around → Scope → Scope
 function_left_by a inner = record (left_by a inner) { objects = []; frame = 0; arrays = 0 }
 
--- This is the end that the rules give.
+-- These are the ends that the rules give.
 abbrev pub LeavesAsDefined : Type 0
 LeavesAsDefined = (outer inner : Scope) → left_by (around outer) inner ≡ left outer inner
+
+abbrev pub EndsFunctionsAsDefined : Type 0
+EndsFunctionsAsDefined =
+    (file inner : Scope) → function_left_by (around file) inner ≡ left_function file inner

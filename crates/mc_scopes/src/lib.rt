@@ -4,6 +4,7 @@
 mod blocks;
 mod bodies;
 mod labels;
+mod laws;
 mod meanings;
 mod member;
 mod members;
@@ -14,6 +15,7 @@ mod types;
 pub use blocks::Block;
 pub use bodies::Bodies;
 pub use labels::Labels;
+pub use laws::blocks_end_as_defined;
 pub use meanings::{Meaning, TagMeaning};
 pub use member::Member;
 pub use members::{Complete, Members, Structure};
