@@ -44,8 +44,8 @@ default_first = program (of_ints 1 1 (select (var 0)
     (default ∷ does (add (local 0) (num 1)) ∷ case 1 ∷ does (add (local 0) (num 2)) ∷ [])
     ∷ gives (var 0) ∷ []) ∷ [])
 
--- int f(int n){switch(n){case 1:return 5;}return n;}: the `default` that is absent is a label, before
--- those of the body
+-- int f(int n){switch(n){case 1:return 5;}return n;}: the `default` that is absent is a label,
+-- before those of the body
 abbrev pub absent_default : Program
 absent_default = program (of_ints 1 1 (select (var 0) (case 1 ∷ gives (num 5) ∷ [])
     ∷ gives (var 0) ∷ []) ∷ [])
@@ -107,7 +107,8 @@ several_objects = program (of_ints 0 4
 
 -- ---- decisions
 
--- int f(int a,int b){return !(a||b)?1:2;}: `!` is a node of the tree, and its operand's value counts
+-- int f(int a,int b){return !(a||b)?1:2;}: `!` is a node of the tree, and its operand's value
+-- counts
 abbrev pub negated : Program
 negated = program (of_ints 2 2
     (gives (choice (t.Not (disj (var 0) (var 1)) here) (num 1) (num 2)) ∷ []) ∷ [])
