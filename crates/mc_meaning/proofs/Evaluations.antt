@@ -15,7 +15,7 @@ use Rattle.mc_steps.specs.Runs.{State, Out, Gave, Stopped, gives, after, go_on}
 use Rattle.mc_steps.specs.Expressions.{unary_does, convert_does, binary_does, logic_does, choice_does, as_does, input_does, read_does}
 use Rattle.mc_steps.specs.Calls.{Passed, number_given, structure_given}
 use Rattle.mc_meaning.specs.Stores.{Path, Store, on_places}
-use Rattle.mc_meaning.specs.Events.{Event, Entered, Exited, Started, Chosen, Evaluated}
+use Rattle.mc_steps.specs.Events.{Event, Entered, Exited, Started, Chosen, Evaluated}
 use Rattle.mc_decide.specs.Counts.{one_where, roots}
 use Rattle.mc_meaning.specs.Expressions.{Does, Within, Judged, past, into, value, as_condition, negated, holds, first_alone, both, tells, where_root, condition, place_of, value_of, structure_of, call_of, argument_of, arguments_of, target}
 use Rattle.mc_meaning.proofs.Runs.{IsGiven, Gives}

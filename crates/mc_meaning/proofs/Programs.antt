@@ -6,6 +6,7 @@ use Rattle.mc_value.specs.declared.trap.Trap.{Trap}
 use Rattle.mc_value.specs.declared.trap.Trap.TheVariants.{NoReturn}
 use Rattle.mc_cond.specs.Tree.{Tree}
 use Rattle.mc_cond.specs.Vectors.{IsVector}
+use Rattle.mc_typed.specs.declared.plans.Ending.TheVariants.{Levels}
 use Rattle.mc_typed.specs.Tree.{ResultType, NoResult, NumberResult, StructureResult, Function, Program}
 use Rattle.mc_typed.specs.Sound.{result_at}
 use Rattle.mc_typed.specs.Plans.{Call}
@@ -15,12 +16,12 @@ use Rattle.mc_decide.specs.Decisions.{Decision}
 use Rattle.mc_decide.specs.steps.Walk.{decided}
 use Rattle.mc_decide.proofs.Once.{one_list}
 use Rattle.mc_decide.proofs.Told.{are_decisions}
-use Rattle.mc_steps.specs.Runs.{State, Out, Gave, Stopped, lists, with_some}
+use Rattle.mc_steps.specs.Runs.{State, Out, Gave, Stopped, stops, lists, with_some}
 use Rattle.mc_steps.specs.Statements.{Given, Running}
 use Rattle.mc_steps.specs.Calls.{Passed, PassedNumber, TestRun, lent_of, where_returned, calls_do, value_given, number_given, leaves, body_does}
 use Rattle.mc_steps.specs.Points.{points_before}
 use Rattle.mc_meaning.specs.Stores.{Path, Store, on_places}
-use Rattle.mc_meaning.specs.Events.{Event, Entered, Exited, Started, Chosen, Evaluated}
+use Rattle.mc_steps.specs.Events.{Event, Entered, Exited, Started, Chosen, Evaluated}
 use Rattle.mc_decide.specs.Counts.{roots, roots_before}
 use Rattle.mc_meaning.specs.Expressions.{Does, Within}
 use Rattle.mc_meaning.specs.Statements.{run_from}
@@ -81,7 +82,6 @@ module _ (p : Program) where
   abbrev opened : ℕ → Open → ℕ → List (Passed Path) → Function → Within
   opened depth around f passed g = record {
     activation = (with_one g around).count;
-    objects = g.objects;
     arrays = lent_of passed;
     call = λ f into passed s. call_in p depth (with_one g around) f into passed s;
     points = points_before p.functions f;
@@ -99,7 +99,8 @@ module _ (p : Program) where
       (l.leaves_keeps (IsFine there) on_places into (λ m. m))
 
   call_in_is_fine : (depth : ℕ) (around : Open) (f : ℕ) (into : Option Path) (passed : List (Passed Path)) → Fine there (call_in p depth around f into passed)
-  call_in_is_fine zero around f into passed = λ s. tt
+  call_in_is_fine zero around f into passed =
+      let stop : Does (Given Path) = stops Levels in l.spends_keeps (IsFine there) stop (λ s. tt)
   call_in_is_fine (suc depth) around f into passed =
       found NoReturn (slice_get p.functions f) _ (λ g e.
       l.call_keeps (IsFine there) (with_one g around).levels (with_one g around).cells

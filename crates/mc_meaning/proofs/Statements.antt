@@ -1,5 +1,5 @@
 -- What statements evaluate are the program's decisions.
-use Rattle.std.proofs.Common.{ℕ, suc, ◌+◌, Bool, true, false, List, [], ◌∷◌, ◌++◌, Option, Some, None}
+use Rattle.std.proofs.Common.{ℕ, suc, Bool, true, false, List, [], ◌∷◌, ◌++◌, Option, Some, None}
 use Rattle.mc_cond.specs.Tree.{Tree}
 use Rattle.mc_typed.specs.Tree.{Expression, Effect, Initializer, Initializers, Declarator, ForStart, ReturnValue, Statement, Statements}
 use Rattle.mc_typed.specs.Tree as t
@@ -14,9 +14,9 @@ use Rattle.mc_steps.specs.Expressions.{both_do}
 use Rattle.mc_steps.specs.Calls.{unset_does}
 use Rattle.mc_steps.specs.Points.{initializes}
 use Rattle.mc_meaning.specs.Stores.{Path, on_places}
-use Rattle.mc_meaning.specs.Events.{Exited, Started}
+use Rattle.mc_steps.specs.Events.{Exited, Started}
 use Rattle.mc_meaning.specs.Expressions.{Does, Within, local, past, value, place_of, value_of, structure_of, call_of}
-use Rattle.mc_meaning.specs.Statements.{effect, effects, initialize, initialize_from, initialize_where, cells_of, declare, past_statement, into_statement, counted, where_initializes, choose, start, loop_test, returned, leave, past_start, past_test, past_step, in_switch, run, run_from}
+use Rattle.mc_meaning.specs.Statements.{effect, effects, initialize, initialize_from, initialize_where, declare, past_statement, into_statement, counted, where_initializes, choose, start, loop_test, returned, leave, past_start, past_test, past_step, in_switch, run, run_from}
 use Rattle.mc_meaning.proofs.Numbered.{trees, trees_in, StandsAt, stands_left}
 use Rattle.mc_meaning.proofs.Evaluations.{IsFine, Fine, CallsAreFine, past_node, value_only, place_is_fine, value_is_fine, structure_is_fine, call_is_fine}
 use Rattle.mc_meaning.proofs.Listed as l
@@ -89,17 +89,17 @@ module _ (all : List Tree) where
         l.store_keeps (IsFine all) on_places p (value (value_of e Plain w)) (number e Plain w c h)
     initialize_is_fine (t.StructureInitializer structure k) p w c h =
         l.store_structure_keeps (IsFine all) on_places p k (structure_of structure w) (structure_is_fine all structure w c h)
-    initialize_is_fine (t.ListInitializer items k) p w c h = λ s. items_are_fine items p k 0 0 w c h s
+    initialize_is_fine (t.ListInitializer items k) p w c h = λ s. items_are_fine items p 0 w c h s
     initialize_is_fine (t.ZeroInitializer e k) p w c h = λ s. tt
 
-    items_are_fine : (items : Initializers) (p : Path) (k i offset : ℕ) (w : Within) → CallsAreFine all w → StandsAt all w.decisions (trees_in (n.initializers items)) → Fine all (initialize_from items p k i offset w)
-    items_are_fine t.no_initializers p k i offset w c h = λ s. tt
-    items_are_fine (t.initializers item rest) p k i offset w c h =
+    items_are_fine : (items : Initializers) (p : Path) (i : ℕ) (w : Within) → CallsAreFine all w → StandsAt all w.decisions (trees_in (n.initializers items)) → Fine all (initialize_from items p i w)
+    items_are_fine t.no_initializers p i w c h = λ s. tt
+    items_are_fine (t.initializers item rest) p i w c h =
         let v : Within = past Plain (n.initializer item) w in
-        l.both_keep (IsFine all) (initialize item (on_places.part i offset p) w)
-        (initialize_from rest p k (suc i) (offset + cells_of item) v)
-        (initialize_is_fine item (on_places.part i offset p) w c (first w.decisions Plain (n.initializer item) (trees_in (n.initializers rest)) h))
-        (items_are_fine rest p k (suc i) (offset + cells_of item) v c (past_node all w.decisions Plain (n.initializer item) (trees_in (n.initializers rest)) h))
+        l.both_keep (IsFine all) (initialize item (on_places.part i 0 p) w)
+        (initialize_from rest p (suc i) v)
+        (initialize_is_fine item (on_places.part i 0 p) w c (first w.decisions Plain (n.initializer item) (trees_in (n.initializers rest)) h))
+        (items_are_fine rest p (suc i) v c (past_node all w.decisions Plain (n.initializer item) (trees_in (n.initializers rest)) h))
 
   initial_is_fine : (o : Option Initializer) (p : Path) (w : Within) → CallsAreFine all w → StandsAt all w.decisions (trees Plain (n.initial o)) → Fine all (initialize_where o p w)
   initial_is_fine None p w c h = λ s. tt
@@ -111,10 +111,10 @@ module _ (all : List Tree) where
       let v : Within = past Plain (n.initial d.value) w in
       let unset : Does (Unit {0}) = unset_does on_places (local w d.slot) d.cells in
       let initial : Does (Unit {0}) = initialize_where d.value (local w d.slot) w in
-      l.both_keep (IsFine all) (both_do unset initial) (declare rest v)
-      (l.both_keep (IsFine all) unset initial (λ s. tt)
-      (initial_is_fine d.value (local w d.slot) w c (first w.decisions Plain (n.initial d.value) (trees_in (n.declarators rest)) h)))
-      (declare_is_fine rest v c (past_node all w.decisions Plain (n.initial d.value) (trees_in (n.declarators rest)) h))
+      l.both_keep (IsFine all) unset (both_do initial (declare rest v)) (λ s. tt)
+      (l.both_keep (IsFine all) initial (declare rest v)
+      (initial_is_fine d.value (local w d.slot) w c (first w.decisions Plain (n.initial d.value) (trees_in (n.declarators rest)) h))
+      (declare_is_fine rest v c (past_node all w.decisions Plain (n.initial d.value) (trees_in (n.declarators rest)) h)))
 
   -- ---- statements
 

@@ -5,12 +5,12 @@ use Rattle.mc_typed.specs.declared.plans.Ending.TheVariants.{Levels}
 use Rattle.mc_typed.specs.Tree.{Object, Function, Program}
 use Rattle.mc_typed.specs.Levels.{levels_of}
 use Rattle.mc_typed.specs.Frames.{frame_of}
-use Rattle.mc_steps.specs.Runs.{stops, lists, with_some}
+use Rattle.mc_steps.specs.Runs.{stops, spends, lists, with_some}
 use Rattle.mc_steps.specs.Statements.{Given, Running}
 use Rattle.mc_steps.specs.Calls.{Passed, Target, lent_of, passed_to, leaves, call_does, body_does}
 use Rattle.mc_steps.specs.Points.{Points, ◌⊕◌, points_of_all, points_before}
 use Rattle.mc_meaning.specs.Stores.{Path, Store, put, on_places}
-use Rattle.mc_meaning.specs.Events.{Entered, Exited}
+use Rattle.mc_steps.specs.Events.{Entered, Exited}
 use Rattle.mc_decide.specs.Counts.{roots_before}
 use Rattle.mc_meaning.specs.Expressions.{Does}
 use Rattle.mc_meaning.specs.Statements.{run_from}
@@ -33,7 +33,7 @@ with_one g open_now = record {
 abbrev pub objects_from : ℕ → ℕ → List Object → List (Target Path)
 objects_from activation k [] = []
 objects_from activation k (o ∷ os) =
-    record { place = activation ∷ k ∷ []; cells = o.cells } ∷ objects_from activation (suc k) os
+    record { place = activation ∷ k ∷ []; cells = 0 } ∷ objects_from activation (suc k) os
 
 -- The objects of a new activation are unset, but for the parameters (C17 6.2.4p6, 6.9.1p10).
 abbrev pub enter : ℕ → Function → List (Passed Path) → Store → Store
@@ -47,7 +47,7 @@ points_at_end g points = points ⊕ points_of_all g.body
 -- A call of function f of the program. Each activation has a level at least, so no more than 512
 -- are open.
 abbrev pub call_in : Program → ℕ → Open → ℕ → Option Path → List (Passed Path) → Does (Given Path)
-call_in p zero around f into passed s = stops Levels s
+call_in p zero around f into passed s = spends (stops Levels) s
 call_in p (suc depth) around f into passed s =
     with_some NoReturn (slice_get p.functions f) (λ g.
     let inside = with_one g around in
@@ -56,7 +56,6 @@ call_in p (suc depth) around f into passed s =
     (body_does (enter inside.count g passed) (lists (Entered f ∷ []))
     (run_from g.body Running (record {
       activation = inside.count;
-      objects = g.objects;
       arrays = lent_of passed;
       call = λ f into passed s. call_in p depth inside f into passed s;
       points = before;

@@ -5,9 +5,8 @@ use Rattle.mc_value.specs.Arithmetic.{truth}
 use Rattle.mc_cond.specs.Order.{Answer}
 use Rattle.mc_cond.specs.Vectors.{Evaluation}
 use Rattle.mc_typed.specs.declared.expressions.Slot.{Slot}
-use Rattle.mc_typed.specs.Tree.{Place, Expression, StructureValue, FunctionCall, Argument, Arguments, Object}
+use Rattle.mc_typed.specs.Tree.{Place, Expression, StructureValue, FunctionCall, Argument, Arguments}
 use Rattle.mc_typed.specs.Tree as t
-use Rattle.mc_typed.specs.Sound.{cells_at}
 use Rattle.mc_decide.specs.declared.role.Role.{Role}
 use Rattle.mc_decide.specs.declared.role.Role.TheVariants.{Test, Plain}
 use Rattle.mc_decide.specs.Nodes.{Node}
@@ -21,7 +20,7 @@ use Rattle.mc_steps.specs.Statements.{Given}
 use Rattle.mc_steps.specs.Calls.{Passed, Target, structure_argument_does, number_argument_does, array_argument_does, again_argument_does, arguments_do, number_given, structure_given}
 use Rattle.mc_steps.specs.Points.{Points}
 use Rattle.mc_meaning.specs.Stores.{Path, Store, on_places}
-use Rattle.mc_meaning.specs.Events.{Event, Evaluated}
+use Rattle.mc_steps.specs.Events.{Event, Evaluated}
 use Rattle.mc_decide.specs.Counts.{one_where, roots}
 
 abbrev pub Does : Type 0 → Type 0
@@ -31,8 +30,7 @@ Does A = Acts Store Event A
 pub record Within : Type 0 where
   -- the number of the activation
   pub activation : ℕ
-  -- the objects of its function, and the arrays that its array parameters name
-  pub objects : List Object
+  -- the arrays that its array parameters name
   pub arrays : List (Lent Path)
   -- what a call of a function does, with the object that takes a structure and the arguments
   pub call : ℕ → Option Path → List (Passed Path) → Does (Given Path)
@@ -46,13 +44,9 @@ local w slot = w.activation ∷ slot.object ∷ []
 abbrev pub static : Slot → Path
 static slot = 0 ∷ slot.object ∷ []
 
-abbrev pub cells_or_none : Option ℕ → ℕ
-cells_or_none None = 0
-cells_or_none (Some n) = n
-
+-- Places have no sizes: where a size is asked for, it is 0.
 abbrev pub target : Within → Slot → Target Path
-target w slot =
-    record { place = local w slot; cells = cells_or_none (cells_at w.objects slot.object) }
+target w slot = record { place = local w slot; cells = 0 }
 
 -- after a node, in the text
 abbrev pub past : Role → Node → Within → Within

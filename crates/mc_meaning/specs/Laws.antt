@@ -11,7 +11,7 @@ use Rattle.mc_decide.specs.Decisions.{Decision, AreDecisions}
 use Rattle.mc_steps.specs.Runs.{State, Gave}
 use Rattle.mc_steps.specs.Points as points
 use Rattle.mc_meaning.specs.Stores.{Store}
-use Rattle.mc_meaning.specs.Events.{Event, Evaluated}
+use Rattle.mc_steps.specs.Events.{Event, Evaluated}
 use Rattle.mc_meaning.specs.Expressions.{Within, Judged, vector_of, value_of}
 use Rattle.mc_meaning.specs.Tests.{plain_run}
 

@@ -1,5 +1,4 @@
 pub mod Stores
-pub mod Events
 pub mod Expressions
 pub mod Statements
 pub mod Calls

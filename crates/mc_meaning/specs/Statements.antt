@@ -1,5 +1,5 @@
 -- What effects, initializers and statements do (C17 6.7.9, 6.8).
-use Rattle.std.specs.Prelude.{ℕ, suc, ◌+◌, Bool, true, false, List, [], ◌∷◌, Option, Some, None}
+use Rattle.std.specs.Prelude.{ℕ, suc, Bool, true, false, List, [], ◌∷◌, Option, Some, None}
 use Rattle.mc_typed.specs.Tree.{Expression, Effect, Initializer, Initializers, Declarator, ForStart, ReturnValue, Statement, Statements}
 use Rattle.mc_typed.specs.Tree as t
 use Rattle.mc_typed.specs.Sound.{labels_of}
@@ -11,7 +11,7 @@ use Rattle.mc_steps.specs.Statements.{Given, Nothing, Number, Structure, Flow, C
 use Rattle.mc_steps.specs.Calls.{unset_does, store_does, store_structure_does, rest_does, zero_does}
 use Rattle.mc_steps.specs.Points.{◌⊕◌, a_statement, initializes, has_default, where_absent, points_of}
 use Rattle.mc_meaning.specs.Stores.{Path, on_places}
-use Rattle.mc_meaning.specs.Events.{Exited, Started, Chosen}
+use Rattle.mc_steps.specs.Events.{Exited, Started, Chosen}
 use Rattle.mc_meaning.specs.Expressions.{Does, Within, local, past, value, place_of, value_of, structure_of, call_of}
 
 -- ---- effects (C17 6.5.16, 6.8.3)
@@ -44,12 +44,6 @@ effects (a ∷ rest) w s = both_do (effect a w) (effects rest (past Plain (n.eff
 
 -- ---- initializers (C17 6.7.9)
 
-abbrev pub cells_of : Initializer → ℕ
-cells_of (t.NumberInitializer e) = 1
-cells_of (t.StructureInitializer structure k) = k
-cells_of (t.ListInitializer items k) = k
-cells_of (t.ZeroInitializer e k) = k
-
 -- An item of a list is stored when it is evaluated, in the order of the text, which C17 6.7.9p23
 -- leaves open.
 abbrev mutual
@@ -57,16 +51,15 @@ abbrev mutual
   initialize (t.NumberInitializer e) p w s = store_does on_places p (value (value_of e Plain w)) s
   initialize (t.StructureInitializer structure k) p w s =
       store_structure_does on_places p k (structure_of structure w) s
-  initialize (t.ListInitializer items k) p w s = initialize_from items p k 0 0 w s
+  initialize (t.ListInitializer items k) p w s = initialize_from items p 0 w s
   initialize (t.ZeroInitializer e k) p w s = zero_does on_places p k s
 
-  -- the parts of an object of k cells, from part i on, which begins after so many cells
-  pub initialize_from : Initializers → Path → ℕ → ℕ → ℕ → Within → Does (Unit {0})
-  initialize_from t.no_initializers p k i offset w s = rest_does on_places p i offset k s
-  initialize_from (t.initializers item rest) p k i offset w s =
-      both_do (initialize item (on_places.part i offset p) w)
-      (initialize_from rest p k (suc i) (offset + cells_of item)
-      (past Plain (n.initializer item) w)) s
+  -- the parts of an object, from part i on
+  pub initialize_from : Initializers → Path → ℕ → Within → Does (Unit {0})
+  initialize_from t.no_initializers p i w s = rest_does on_places p i 0 0 s
+  initialize_from (t.initializers item rest) p i w s =
+      both_do (initialize item (on_places.part i 0 p) w)
+      (initialize_from rest p (suc i) (past Plain (n.initializer item) w)) s
 
 abbrev pub initialize_where : Option Initializer → Path → Within → Does (Unit {0})
 initialize_where None p w s = gives tt s
@@ -75,9 +68,9 @@ initialize_where (Some i) p w s = initialize i p w s
 abbrev pub declare : List Declarator → Within → Does (Unit {0})
 declare [] w s = gives tt s
 declare (d ∷ rest) w s =
-    both_do (both_do (unset_does on_places (local w d.slot) d.cells)
-    (initialize_where d.value (local w d.slot) w))
-    (declare rest (past Plain (n.initial d.value) w)) s
+    both_do (unset_does on_places (local w d.slot) d.cells)
+    (both_do (initialize_where d.value (local w d.slot) w)
+    (declare rest (past Plain (n.initial d.value) w))) s
 
 -- ---- statements (C17 6.8)
 

@@ -12,7 +12,7 @@ use Rattle.mc_typed.specs.Sound.{result_at}
 use Rattle.mc_steps.specs.Runs.{State, after}
 use Rattle.mc_steps.specs.Calls.{PassedNumber, CallDone, TestRun, calls_do, value_given}
 use Rattle.mc_meaning.specs.Stores.{Store, initial}
-use Rattle.mc_meaning.specs.Events.{Event}
+use Rattle.mc_steps.specs.Events.{Event}
 use Rattle.mc_meaning.specs.Expressions.{Does}
 use Rattle.mc_meaning.specs.Calls.{Open, call_in}
 

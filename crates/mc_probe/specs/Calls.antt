@@ -5,7 +5,7 @@ use Rattle.mc_typed.specs.declared.plans.Ending.TheVariants as ending
 use Rattle.mc_typed.specs.Tree.{Object}
 use Rattle.mc_typed.specs.Frames.{frame_of}
 use Rattle.mc_typed.specs.Levels.{levels_of}
-use Rattle.mc_steps.specs.Runs.{stops, with_some}
+use Rattle.mc_steps.specs.Runs.{stops, spends, with_some}
 use Rattle.mc_steps.specs.Statements.{Given, Running}
 use Rattle.mc_steps.specs.Calls.{Passed, Target, lent_of, passed_to, leaves, body_does, call_does}
 use Rattle.mc_probe.specs.Tree.{Function, Tree}
@@ -49,7 +49,7 @@ inside w f into passed =
 -- those of the program under the probes. Each activation has a level at least, so no more than 512
 -- are open.
 abbrev pub calls : Tree → ℕ → ℕ → Callee
-calls tree zero levels f into passed s = stops ending.Levels s
+calls tree zero levels f into passed s = spends (stops ending.Levels) s
 calls tree (suc depth) levels f into passed s =
     with_some NoReturn (slice_get tree.program.functions f) (λ g s.
     let with_this = levels + levels_of (erase_function g) in

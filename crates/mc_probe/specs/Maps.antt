@@ -6,6 +6,7 @@ use Rattle.mc_cond.specs.Vectors.{Evaluation}
 use Rattle.mc_paths.specs.Paths.{count_of, path_of}
 use Rattle.mc_typed.specs.Tree.{Program}
 use Rattle.mc_decide.specs.Decisions.{Decision, AreDecisions}
+use Rattle.mc_steps.specs.Events.{Event, Entered, Exited, Started, Chosen, Evaluated}
 use Rattle.mc_probe.specs.Obligations.{entries_of, exits_of, statements_of, labels_of}
 
 -- a decision, and the bit of its first path
@@ -86,5 +87,10 @@ abbrev pub path_bit : Option Mapped → Evaluation → ℕ
 path_bit None v = 0
 path_bit (Some d) v = d.base + path_of d.decision.tree v
 
-abbrev pub evaluated_bit : Map → ℕ → Evaluation → ℕ
-evaluated_bit m k v = path_bit (slice_get m.decisions k) v
+-- the bit that an event sets, its image
+abbrev pub image : Map → Event → ℕ
+image m (Entered f) = entry_bit m f
+image m (Exited k) = exit_bit m k
+image m (Started k) = statement_bit m k
+image m (Chosen k) = label_bit m k
+image m (Evaluated k v) = path_bit (slice_get m.decisions k) v

@@ -15,6 +15,7 @@ use Rattle.mc_decide.specs.Conditions.{width, is_operator}
 use Rattle.mc_decide.specs.Counts.{one_where, roots, roots_in}
 use Rattle.mc_probe.specs.Tree as p
 use Rattle.mc_steps.specs.Points.{Points, no_points, ◌⊕◌, points_of, points_of_all, points_of_function, all_complete, has_default, initializes}
+use Rattle.mc_probe.specs.Bare.{bare_expression}
 use Rattle.mc_probe.specs.Maps.{Mapped, Map, IsMapOf, entry_bit, exit_bit, statement_bit, label_bit}
 use Rattle.mc_probe.specs.Switches.{switches, switches_all}
 
@@ -179,7 +180,8 @@ module _ (m : Map) (first : ℕ) where
     put_initializer d (t.StructureInitializer value k) =
         p.StructureInitializer (put_structure d value) k
     put_initializer d (t.ListInitializer items k) = p.ListInitializer (put_initializers d items) k
-    put_initializer d (t.ZeroInitializer e k) = p.ZeroInitializer (put_plain d e) k
+    -- which evaluates nothing
+    put_initializer d (t.ZeroInitializer e k) = p.ZeroInitializer (bare_expression e) k
 
     pub put_initializers : ℕ → t.Initializers → p.Initializers
     put_initializers d t.no_initializers = p.no_initializers

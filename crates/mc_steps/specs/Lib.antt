@@ -1,5 +1,6 @@
 pub mod Runs
 pub mod Memories
+pub mod Events
 pub mod Expressions
 pub mod Statements
 pub mod Calls

@@ -8,7 +8,7 @@ use Rattle.mc_typed.specs.Layout.{ObjectType, Scalar, Structure, no_members, mem
 use Rattle.mc_typed.specs.Tree.{Place, Function, Program}
 use Rattle.mc_typed.specs.Tree as t
 use Rattle.mc_typed.specs.Plans.{Call, Plan}
-use Rattle.mc_meaning.specs.Events.{Event, Entered, Exited, Started, Chosen}
+use Rattle.mc_steps.specs.Events.{Event, Entered, Exited, Started, Chosen}
 use Rattle.mc_meaning.specs.Tests.{plain_state}
 use Rattle.tests_meaning.specs.Words.{here, local, static, object, int, read, var, num, two, conj, disj, member, called, does, set, add, take, gives, when, plain, with_number, declares, select, case, default, function, ints}
 use Rattle.tests_meaning.specs.Seen.{Row, evaluated, T, F}

@@ -5,3 +5,4 @@ pub mod Traps
 pub mod Flap
 pub mod RulesOfValues
 pub mod RulesOfStatements
+pub mod RulesOfInitializers

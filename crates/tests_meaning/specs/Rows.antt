@@ -9,7 +9,7 @@ use Rattle.mc_typed.specs.declared.plans.Ending.TheVariants as ending
 use Rattle.mc_typed.specs.Layout.{Scalar}
 use Rattle.mc_typed.specs.Tree.{Function, Program}
 use Rattle.mc_typed.specs.Tree as t
-use Rattle.mc_meaning.specs.Events.{Event, Entered, Exited, Started}
+use Rattle.mc_steps.specs.Events.{Event, Entered, Exited, Started}
 use Rattle.tests_meaning.specs.Words.{here, local, object, var, num, two, conj, called, does, set, take, value, gives, when, while, plain, with_number, declares, function, of_ints, program, block}
 use Rattle.tests_meaning.specs.Seen.{Row, calls, one_call, gave, stopped, trapped, evaluated, T, F}
 

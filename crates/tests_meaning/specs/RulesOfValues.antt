@@ -8,7 +8,7 @@ use Rattle.mc_typed.specs.declared.plans.Ending.TheVariants as ending
 use Rattle.mc_typed.specs.Layout.{ObjectType, Scalar, Array, Structure, no_members, members}
 use Rattle.mc_typed.specs.Tree.{Place, Argument, Expression, Function, Program}
 use Rattle.mc_typed.specs.Tree as t
-use Rattle.mc_meaning.specs.Events.{Event, Entered, Exited, Started}
+use Rattle.mc_steps.specs.Events.{Event, Entered, Exited, Started}
 use Rattle.tests_meaning.specs.Words.{here, slot, local, static, object, int, read, var, num, two, conj, choice, item, member, args, call, nums, called, does, set, add, value, gives, when, while, plain, with_number, items, with_list, declares, function, of_ints, ints, program, block}
 use Rattle.tests_meaning.specs.Seen.{Row, calls, one_call, gave, ended, stopped, trapped, evaluated, T, F}
 

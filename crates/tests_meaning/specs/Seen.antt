@@ -8,7 +8,7 @@ use Rattle.mc_typed.specs.Tree.{Program}
 use Rattle.mc_typed.specs.Plans.{Plan}
 use Rattle.mc_steps.specs.Calls.{TestRun}
 use Rattle.mc_meaning.specs.Stores.{Store}
-use Rattle.mc_meaning.specs.Events.{Event, Evaluated}
+use Rattle.mc_steps.specs.Events.{Event, Evaluated}
 use Rattle.mc_meaning.specs.Tests.{plain_run}
 
 -- the ending, the value of each call that returned, the output, the fuel left, and the events

@@ -10,7 +10,7 @@ use Rattle.mc_typed.specs.Layout.{ObjectType, Scalar, Array, Structure, no_membe
 use Rattle.mc_typed.specs.Tree.{Program}
 use Rattle.mc_typed.specs.Tree as t
 use Rattle.mc_typed.specs.Examples as example
-use Rattle.mc_meaning.specs.Events.{Event, Entered, Exited, Started}
+use Rattle.mc_steps.specs.Events.{Event, Entered, Exited, Started}
 use Rattle.tests_meaning.specs.Words.{here, local, object, int, read, var, num, two, item, member, does, set, take, gives, when, while, plain, with_list, declares, function, of_ints, ints, program, block}
 use Rattle.tests_meaning.specs.Seen.{Row, calls, one_call, gave, stopped, trapped, evaluated, T, F}
 

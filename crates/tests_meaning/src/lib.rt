@@ -6,5 +6,6 @@ mod worked;
 
 pub use worked::{
     decisions_anywhere, flap_controller, limits_are_in_order, output_is_limited,
-    rules_of_statements, rules_of_values, states_of_tests, traps_and_endings,
+    rules_of_initializers, rules_of_statements, rules_of_values, states_of_tests,
+    traps_and_endings,
 };

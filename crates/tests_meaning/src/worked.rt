@@ -5,6 +5,7 @@ ghost use Rattle.mc_meaning.specs.Tests.{plain_run};
 ghost use Rattle.tests_meaning.specs.Seen.{Hold, one_call};
 ghost use Rattle.tests_meaning.specs.Flap as flap;
 ghost use Rattle.tests_meaning.specs.Rows as rows;
+ghost use Rattle.tests_meaning.specs.RulesOfInitializers as initializers;
 ghost use Rattle.tests_meaning.specs.RulesOfValues as values;
 ghost use Rattle.tests_meaning.specs.RulesOfStatements.{LimitsAreInOrder, OutputIsLimited, StatesAreJudged};
 ghost use Rattle.tests_meaning.specs.RulesOfStatements as statements;
@@ -30,6 +31,11 @@ pub fn flap_controller()
 /// What is easily got wrong about values, places and calls.
 pub fn rules_of_values()
     ensures { Hold values.rows }
+{}
+
+/// Initializers, clauses of `for`, and updates.
+pub fn rules_of_initializers()
+    ensures { Hold initializers.rows }
 {}
 
 /// What is easily got wrong about statements and labels.

@@ -6,9 +6,8 @@ use Rattle.mc_typed.specs.Plans.{Plan}
 use Rattle.mc_decide.specs.Decisions.{Decision}
 use Rattle.mc_decide.specs.steps.Walk.{decided}
 use Rattle.mc_steps.specs.Calls.{TestRun}
-use Rattle.mc_meaning.specs.Events.{Event, Entered, Exited, Started, Chosen, Evaluated}
 use Rattle.mc_probe.specs.Obligations.{entries_of, exits_of, statements_of, labels_of}
-use Rattle.mc_probe.specs.Maps.{Mapped, Map, entry_bit, exit_bit, statement_bit, label_bit, evaluated_bit}
+use Rattle.mc_probe.specs.Maps.{Mapped, Map, image}
 use Rattle.mc_probe.specs.Table.{instrumented}
 use Rattle.mc_probe.specs.Flat.{Flat}
 use Rattle.mc_probe.specs.Tests.{run_of}
@@ -40,14 +39,7 @@ map_of p = record {
   bits = before_paths p + paths_of (decided 0 p.functions);
 }
 
--- ---- images
-
-abbrev pub image : Map → Event → ℕ
-image m (Entered f) = entry_bit m f
-image m (Exited k) = exit_bit m k
-image m (Started k) = statement_bit m k
-image m (Chosen k) = label_bit m k
-image m (Evaluated d v) = evaluated_bit m d v
+-- ---- runs
 
 -- what is seen of a run
 pub record Hit : Type 0 where

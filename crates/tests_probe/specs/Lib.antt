@@ -2,3 +2,4 @@ pub mod Laid
 pub mod Followed
 pub mod Bits
 pub mod Counting
+pub mod Formed

@@ -1,13 +1,16 @@
 //! Worked runs of instrumented programs. The functions do nothing: each has a law as its contract.
 #![tactic(auto)]
 
+mod formed;
 mod probes;
 mod worked;
 
+pub use formed::{entry_stands, probes_fit, tree_of_the_table};
 pub use probes::{
     activations_have_registers, bits_by_hand, conditions_have_their_type, map_by_hand,
     other_bits_are_not_hit, sums_wrap,
 };
 pub use worked::{
-    decisions_anywhere, flap_controller, rules_of_statements, rules_of_values, traps_and_endings,
+    decisions_anywhere, flap_controller, rules_of_initializers, rules_of_statements,
+    rules_of_values, traps_and_endings,
 };

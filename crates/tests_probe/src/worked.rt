@@ -2,6 +2,7 @@
 ghost use Rattle.std.specs.Prelude.{[], ◌∷◌};
 ghost use Rattle.tests_meaning.specs.Flap as flap;
 ghost use Rattle.tests_meaning.specs.Rows as rows;
+ghost use Rattle.tests_meaning.specs.RulesOfInitializers as initializers;
 ghost use Rattle.tests_meaning.specs.RulesOfStatements as statements;
 ghost use Rattle.tests_meaning.specs.RulesOfValues as values;
 ghost use Rattle.tests_meaning.specs.Traps as traps;
@@ -26,6 +27,11 @@ pub fn flap_controller()
 /// What is easily got wrong about values, places and calls.
 pub fn rules_of_values()
     ensures { Follow values.rows }
+{}
+
+/// Initializers, clauses of `for`, and updates.
+pub fn rules_of_initializers()
+    ensures { Follow initializers.rows }
 {}
 
 /// What is easily got wrong about statements and labels, and a test of several calls that traps.
