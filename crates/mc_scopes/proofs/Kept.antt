@@ -1,10 +1,10 @@
 -- What the map of a table knows of its entries.
-use Rattle.std.proofs.Common.{◌≡◌, ◌∙◌, ◌<◌, ◌≤◌, ℕ, Bool, true, false, List, [], ◌∷◌, ◌++◌, map, length, drop, slice_get, Option, Some, None, option_map, refl, sym, ap, subst, if◌then◌else◌}
+use Rattle.std.proofs.Common.{◌≡◌, ◌∙◌, ◌<◌, ◌≤◌, ℕ, zero, suc, Bool, true, false, List, [], ◌∷◌, ◌++◌, map, length, drop, slice_get, Option, Some, None, option_map, refl, sym, ap, subst, if◌then◌else◌}
 use Rattle.std.specs.BTreeMap.{BTreeMap}
 use Rattle.std.specs.Str.{bytes_eq}
 use Rattle.std.proofs.lemmas.Slice.Eq.{bytes_eq-Decides}
 use denote.Ref.{Bor}
-use Rattle.mc_scopes.specs.Tables.{last_of, later_or}
+use Rattle.mc_scopes.specs.Tables.{last_of, later_or, last_place_of}
 use Rattle.mc_scopes.specs.declared.table.Entry.{Entry}
 use Rattle.mc_scopes.specs.Indexed.{named_of, last_place, place_of, IsIndexed}
 use Rattle.mc_scopes.proofs.Places.{Tells, tells, place_more, linked_more, linked_less, TellsFrom, tells_from}
@@ -80,3 +80,19 @@ module _ {M : Type 0} where
   pub by_no_place : (n : ℕ) (es : List (Entry M)) (m : BTreeMap (Bor (List ℕ)) ℕ) (q : List ℕ) → IsIndexed es m
       → place_of m q ≡ None → None ≡ last_of q (drop n (map named_of es))
   by_no_place n es m q h is = sym (told_from n es m q None h is)
+
+  -- where the last entry of a name stands
+  last_named : (q : List ℕ) (es : List (Entry M)) → last_place q es ≡ last_place_of q (map named_of es)
+  last_named q [] = refl
+  last_named q (e ∷ es) =
+      ap (λ o. later_or (option_map suc o) (if bytes_eq e.name.now q then Some 0 else None)) (last_named q es)
+
+  pub by_last : (es : List (Entry M)) (m : BTreeMap (Bor (List ℕ)) ℕ) (q : List ℕ) (o : Option ℕ) → IsIndexed es m
+      → o ≡ place_of m q → o ≡ last_place_of q (map named_of es)
+  by_last es m q o h is = is ∙ h.last q ∙ last_named q es
+
+  pub meaning_there : (es : List (Entry M)) (k : ℕ)
+      → option_map (λ e. e.meaning) (slice_get es k) ≡ option_map (λ e. e.meaning) (slice_get (map named_of es) k)
+  meaning_there [] k = refl
+  meaning_there (e ∷ es) zero = refl
+  meaning_there (e ∷ es) (suc k) = meaning_there es k

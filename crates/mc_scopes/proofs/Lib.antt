@@ -1,3 +1,8 @@
-pub mod Places
+pub mod Arrays
+pub mod Counted
 pub mod Kept
+pub mod Laid
+pub mod Lengths
 pub mod Mapped
+pub mod Places
+pub mod Seen

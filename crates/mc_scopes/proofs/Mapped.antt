@@ -1,10 +1,13 @@
 -- What names mean, by the tables of the program.
-use Rattle.std.proofs.Common.{◌≡◌, ◌∙◌, ℕ, List, [], ◌∷◌, map, drop, take, Bool, true, false, Option, Some, None, option_map, refl, sym, ap, if◌then◌else◌}
+use Rattle.std.proofs.Common.{◌≡◌, ◌∙◌, ℕ, List, [], ◌∷◌, ◌++◌, map, drop, take, Bool, true, false, Option, Some, None, option_map, refl, sym, ap, if◌then◌else◌}
 use Rattle.std.specs.Str.{bytes_eq}
-use Rattle.std.proofs.lemmas.List.{drop-map, take-map}
+use Rattle.std.proofs.lemmas.List.{drop-map, take-map, map-append}
 use Rattle.mc_typing.specs.Scopes as s
 use Rattle.mc_scopes.specs.Tables.{Named, last_of, later_or}
-use Rattle.mc_scopes.specs.Views.{meaning_of, tag_of, entry_of, tag_entry_of}
+use Rattle.mc_scopes.specs.Views.{meaning_of, tag_of, entry_of, tag_entry_of, structure_of}
+use Rattle.mc_typed.specs.Views.{object_of}
+use Rattle.mc_typed.specs.declared.objects.Object.{Object}
+use Rattle.mc_scopes.specs.declared.members.Structure.{Structure}
 use Rattle.mc_scopes.specs.declared.meanings.Meaning.{Meaning}
 use Rattle.mc_scopes.specs.declared.meanings.TagMeaning.{TagMeaning}
 
@@ -41,3 +44,15 @@ names_taken n es new h = ap (map entry_of) h ∙ sym (take-map entry_of n es)
 
 pub tags_taken : (n : ℕ) (es new : List (Named TagMeaning)) → new ≡ take n es → map tag_entry_of new ≡ take n (map tag_entry_of es)
 tags_taken n es new h = ap (map tag_entry_of) h ∙ sym (take-map tag_entry_of n es)
+
+pub names_put : (n : ℕ) (es new : List (Named Meaning)) (e : Named Meaning) → new ≡ take n es ++ (e ∷ drop n es)
+    → map entry_of new ≡ take n (map entry_of es) ++ (entry_of e ∷ drop n (map entry_of es))
+names_put n es new e h =
+    ap (map entry_of) h ∙ map-append entry_of (take n es) (e ∷ drop n es)
+    ∙ rw (take-map entry_of n es, drop-map entry_of n es) refl
+
+pub structures_taken : (n : ℕ) (xs new : List Structure) → new ≡ take n xs → map structure_of new ≡ take n (map structure_of xs)
+structures_taken n xs new h = ap (map structure_of) h ∙ sym (take-map structure_of n xs)
+
+pub objects_taken : (n : ℕ) (xs new : List Object) → new ≡ take n xs → map object_of new ≡ take n (map object_of xs)
+objects_taken n xs new h = ap (map object_of) h ∙ sym (take-map object_of n xs)

@@ -1,7 +1,10 @@
 pub mod Tables
+pub mod Taken
 pub mod Indexed
 pub mod Types
 pub mod Listed
+pub mod Counted
 pub mod Seen
 pub mod Views
 pub mod Blocks
+pub mod Prototypes

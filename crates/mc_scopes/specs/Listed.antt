@@ -1,9 +1,12 @@
 -- What members of the program stand for, and where they begin.
-use Rattle.std.specs.Prelude.{◌≡◌, ℕ, ◌+◌, max, List, [], ◌∷◌, Option, Some, None, option_map}
+use Rattle.std.specs.Prelude.{◌≡◌, ◌<◌, ℕ, ◌^◌, List, map, length, slice_get, Option, Some, None, option_map}
+use denote.Ref.{Bor}
 use Rattle.mc_value.specs.declared.object_type.ObjType.{ObjType}
-use Rattle.mc_typed.specs.Layout.{ObjectType, cells, nesting, object_type_of}
-use Rattle.mc_typing.specs.Types.{CType, nothing}
+use Rattle.mc_typed.specs.Layout.{ObjectType, nesting_all, start, object_type_of}
+use Rattle.mc_typing.specs.Types.{nothing}
 use Rattle.mc_typing.specs.Types as t
+use Rattle.mc_typing.specs.Declarators.{cells_of_members}
+use Rattle.mc_typing.specs.Expressions.{Selected, layouts_of}
 use Rattle.mc_scopes.specs.Tables.{Named}
 use Rattle.mc_scopes.specs.declared.member.Member.{Member}
 use Rattle.mc_scopes.specs.Types.{type_of}
@@ -19,13 +22,23 @@ listed_of m = record {
   layout = layout_of m.meaning.layout;
 }
 
--- members after so many cells, with so many cells and so much nesting in all
-abbrev pub AreLaidFrom : ℕ → ℕ → List (Named Member) → ℕ → ℕ → Type 0
-AreLaidFrom before deep [] total nested = (before ≡ total) × (deep ≡ nested)
-AreLaidFrom before deep (m ∷ rest) total nested =
-    (m.meaning.offset ≡ before)
-    × AreLaidFrom (before + cells (layout_of m.meaning.layout))
-    (max deep (nesting (layout_of m.meaning.layout))) rest total nested
+-- the member with this name and this number
+abbrev pub selected_of : List ℕ → ℕ → Member → Selected
+selected_of name k m =
+    record { number = k; member = listed_of (record { name = name; meaning = m }) }
 
-abbrev pub AreLaid : List (Named Member) → ℕ → ℕ → Type 0
-AreLaid = AreLaidFrom 0 0
+-- a member that is found with its number
+abbrev pub found_member : ℕ × Bor Member → ℕ × Member
+found_member r = (r.0, r.1.now)
+
+abbrev pub member_at : ℕ → Named Member → ℕ × Member
+member_at k m = (k, m.meaning)
+
+-- Members with so many cells and so much nesting in all: each has the place where it begins (C17
+-- 6.7.2.1p15), and 32 bits count them.
+pub record AreLaid (members : List (Named Member)) (total nested : ℕ) : Type 0 where
+  pub cells : total ≡ cells_of_members (map listed_of members)
+  pub nesting : nested ≡ nesting_all (layouts_of (map listed_of members))
+  pub offsets : (k : ℕ) (m : Named Member) → slice_get members k ≡ Some m
+      → m.meaning.offset ≡ start (layouts_of (map listed_of members)) k
+  pub few : length members < 2 ^ 32

@@ -1,5 +1,5 @@
 -- What types of the program stand for.
-use Rattle.std.specs.Prelude.{map}
+use Rattle.std.specs.Prelude.{ℕ, List, [], ◌∷◌, map, Option, Some, None}
 use Rattle.mc_typing.specs.Types as t
 use Rattle.mc_scopes.specs.declared.types.Base.{Base}
 use Rattle.mc_scopes.specs.declared.types.Base.TheVariants as base
@@ -23,3 +23,8 @@ kind_of (kind.Array u) = t.ByArray (type_of u)
 abbrev pub signature_of : Signature → t.Signature
 signature_of f =
     record { result = base_of f.result; parameters = map kind_of f.parameters.items }
+
+-- one length, where there is one
+abbrev pub length_list : Option ℕ → List ℕ
+length_list None = []
+length_list (Some n) = n ∷ []

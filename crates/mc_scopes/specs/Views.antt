@@ -1,5 +1,5 @@
 -- What the scope of the program stands for.
-use Rattle.std.specs.Prelude.{map, option_map}
+use Rattle.std.specs.Prelude.{List, map, Option, Some, None, option_map}
 use Rattle.mc_typed.specs.Views.{object_of, static_of}
 use Rattle.mc_typing.specs.Types as t
 use Rattle.mc_typing.specs.Scopes as s
@@ -10,6 +10,7 @@ use Rattle.mc_scopes.specs.declared.meanings.Meaning.{Meaning}
 use Rattle.mc_scopes.specs.declared.meanings.Meaning.TheVariants as meaning
 use Rattle.mc_scopes.specs.declared.meanings.TagMeaning.{TagMeaning}
 use Rattle.mc_scopes.specs.declared.meanings.TagMeaning.TheVariants as tag
+use Rattle.mc_scopes.specs.declared.member.Member.{Member}
 use Rattle.mc_scopes.specs.declared.members.Structure.{Structure}
 use Rattle.mc_scopes.specs.declared.members.Structure.TheVariants as structure
 use Rattle.mc_scopes.specs.declared.scope.Scope.{Scope}
@@ -31,6 +32,11 @@ abbrev pub structure_of : Structure → t.Structure
 structure_of (structure.Incomplete begun) = t.Incomplete begun
 structure_of (structure.Complete c) = t.Complete (map listed_of c)
 structure_of structure.Faulty = t.Faulty
+
+-- the members of a complete structure
+abbrev pub complete_in : Structure → Option (List (Named Member))
+complete_in (structure.Complete c) = Some c
+complete_in _ = None
 
 abbrev pub entry_of : Named Meaning → s.Entry
 entry_of e = record { name = e.name; meaning = meaning_of e.meaning }

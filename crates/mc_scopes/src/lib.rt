@@ -5,9 +5,11 @@ mod blocks;
 mod bodies;
 mod labels;
 mod laws;
+mod layouts;
 mod meanings;
 mod member;
 mod members;
+mod prototypes;
 mod scope;
 mod table;
 mod types;
@@ -16,9 +18,14 @@ pub use blocks::Block;
 pub use bodies::Bodies;
 pub use labels::Labels;
 pub use laws::blocks_end_as_defined;
+pub use layouts::{
+    cells, counted_nesting, is_complete, is_faulty, is_large_member, is_passed_with, is_too_large,
+    layout, structure_types,
+};
 pub use meanings::{Meaning, TagMeaning};
 pub use member::Member;
 pub use members::{Complete, Members, Structure};
+pub use prototypes::{Objects, Prototype};
 pub use scope::Scope;
 pub use table::Table;
 pub use types::{Base, CType, ParameterKind, Signature};

@@ -1,7 +1,19 @@
 //! Members of structures (C17 6.7.2.1).
+ghost use Rattle.std.specs.Prelude.{◌≡◌, ◌+◌, ◌<◌, ◌∷◌, ◌++◌, [], List, map, length, slice_get, Some, option_map, option_copied, IfSome, IfOk, OnOk, OnErr};
+ghost use Rattle.mc_typed.specs.Layout as sizes;
+ghost use Rattle.mc_typed.specs.Layout.{object_type_of};
+ghost use Rattle.mc_typing.specs.Types as t;
+ghost use Rattle.mc_typing.specs.Declarators.{has_member, cells_of_members};
+ghost use Rattle.mc_typing.specs.Expressions.{selected, layouts_of};
+ghost use Rattle.mc_scopes.specs.Types.{type_of};
+ghost use Rattle.mc_scopes.specs.Listed.{layout_of, listed_of, selected_of, found_member, member_at};
+ghost use Rattle.mc_scopes.specs.Views.{complete_in};
+
 use crate::member::Member;
 use crate::table::Table;
+use crate::types::CType;
 use mc_value::ObjType;
+use std::alloc::{AllocError, Global};
 use std::marker::Model;
 use std::sync::Arc;
 
@@ -54,7 +66,7 @@ impl<'a> Model for Complete<'a> {
     ghost use Rattle.mc_typed.specs.Layout.{object_type_of};
     ghost use Rattle.mc_scopes.specs.declared.member.Member.{Member};
     ghost use Rattle.mc_scopes.specs.Tables.{Named};
-    ghost use Rattle.mc_scopes.specs.Listed.{layout_of};
+    ghost use Rattle.mc_scopes.specs.Listed.{listed_of};
 
     ghost Value = { List (Named Member) };
 
@@ -63,5 +75,209 @@ impl<'a> Model for Complete<'a> {
     ghost view = { λ c. c.members };
 
     ghost invariant = { λ c. map object_type_of c.parts.value.items
-        ≡ map (λ m. layout_of m.meaning.layout) c.members };
+        ≡ map (λ m. m.layout) (map listed_of c.members) };
+}
+
+impl<'a> Members<'a> {
+    /// No members. Takes no memory.
+    #[tactic(auto, using(crate::proofs::Laid::laid_none))]
+    pub fn new(alloc: Global) -> Members<'a>
+        ensures { result ≡ [] }
+    {
+        Members {
+            table: Table::new(alloc),
+            cells: 0,
+            nesting: 0,
+        }
+    }
+
+    /// Whether there is a member with this name. Takes no memory.
+    #[tactic(auto, using(crate::proofs::Laid::has_named))]
+    pub fn has(&self, name: &[u8]) -> bool
+        ensures { result ≡ has_member name.now (map listed_of self.now) }
+    {
+        match self.table.get(name) {
+            Some(_) => true,
+            None => false,
+        }
+    }
+
+    /// How many cells the members have. Takes no memory.
+    pub fn cells(&self) -> u32
+        ensures { result ≡ cells_of_members (map listed_of self.now) }
+    {
+        self.cells
+    }
+
+    // How many members there are.
+    fn len(&self) -> usize
+        ensures { result ≡ length self.now }
+    {
+        self.table.len()
+    }
+
+    // The member with this number.
+    fn at(&self, place: usize) -> Option<&Member>
+        ensures { option_copied result ≡ option_map (λ m. m.meaning) (slice_get self.now place) }
+    {
+        self.table.at(place)
+    }
+
+    // How many arrays and structures stand inside one another in the members.
+    fn nesting(&self) -> u32
+        ensures { result ≡ sizes.nesting_all (layouts_of (map listed_of self.now)) }
+    {
+        self.nesting
+    }
+
+    /// One more member, after the others. Its layout has so many cells, and so many arrays and
+    /// structures inside one another.
+    ///
+    /// # Errors
+    ///
+    /// `AllocError` where memory runs out, and where 32 bits do not count the members or their
+    /// cells: then the members are as before.
+    pub fn push(
+        &mut self,
+        name: &'a [u8],
+        of: Option<CType>,
+        layout: Option<ObjType>,
+        cells: u32,
+        nesting: u32,
+    ) -> Result<(), AllocError>
+        requires cells { cells ≡ sizes.cells (layout_of layout) }
+        requires nesting { nesting ≡ sizes.nesting (layout_of layout) }
+        ensures ok { OnOk result (map listed_of self.new
+            ≡ map listed_of self.old ++ record {
+              name = name.now;
+              member_type = option_map type_of of;
+              layout = layout_of layout;
+            } ∷ []) }
+        ensures err { OnErr result (self.new ≡ self.old) }
+    {
+        if self.table.len() >= u32::MAX as usize {
+            return Err(AllocError);
+        }
+        let Some(total) = self.cells.checked_add(cells) else {
+            return Err(AllocError);
+        };
+        let offset = self.cells;
+        self.table.push(name, Member { of, layout, offset })?;
+        self.cells = total;
+        self.nesting = self.nesting.max(nesting);
+        Ok(())
+    }
+
+    // The layouts of the members.
+    fn parts(&self, alloc: Global) -> Result<Vec<ObjType>, AllocError>
+        ensures { IfOk result (λ r. map object_type_of r.items
+            ≡ map (λ m. m.layout) (map listed_of self.now)) }
+    {
+        let mut parts = Vec::new(alloc);
+        for place in 0..self.table.len() {
+            let Some(member) = self.table.at(place) else {
+                unreachable!()
+            };
+            parts.push(member.layout(alloc)?)?;
+        }
+        Ok(parts)
+    }
+
+    // The member at a place, and its number.
+    fn numbered(&self, place: usize) -> Option<(u32, &Member)>
+        requires { place < length self.now }
+        ensures { option_map found_member result
+            ≡ option_map (member_at place) (slice_get self.now place) }
+    {
+        match self.table.at(place) {
+            Some(member) => Some((place as u32, member)),
+            None => None,
+        }
+    }
+
+    // The last member with this name, and its number.
+    fn select(&self, name: &[u8]) -> Option<(u32, &Member)>
+        ensures member { option_map (λ r. selected_of name.now r.0 r.1.now) result
+            ≡ selected 0 name.now (map listed_of self.now) }
+        ensures offset { IfSome result (λ r. r.1.now.offset
+            ≡ sizes.start (layouts_of (map listed_of self.now)) r.0) }
+    {
+        match self.table.place(name) {
+            Some(place) => self.numbered(place),
+            None => None,
+        }
+    }
+
+    /// The members of the structure that they complete (C17 6.7.2.1p8).
+    pub fn complete(self, alloc: Global) -> Result<Complete<'a>, AllocError>
+        ensures { IfOk result (λ c. c ≡ self.entry) }
+    {
+        let parts = Arc::new(alloc, self.parts(alloc)?)?;
+        Ok(Complete {
+            members: self,
+            parts,
+        })
+    }
+}
+
+impl<'a> Complete<'a> {
+    /// How many cells the structure has. Takes no memory.
+    pub fn cells(&self) -> u32
+        ensures { result ≡ cells_of_members (map listed_of self.now) }
+    {
+        self.members.cells()
+    }
+
+    /// How many members it has. Takes no memory.
+    pub fn len(&self) -> usize
+        ensures { result ≡ length self.now }
+    {
+        self.members.len()
+    }
+
+    /// The member with this number, in the order of the list. Takes no memory.
+    pub fn at(&self, place: usize) -> Option<&Member>
+        ensures { option_copied result ≡ option_map (λ m. m.meaning) (slice_get self.now place) }
+    {
+        self.members.at(place)
+    }
+
+    /// How many arrays and structures stand inside one another in its members. Takes no memory.
+    pub fn nesting(&self) -> u32
+        ensures { result ≡ sizes.nesting_all (layouts_of (map listed_of self.now)) }
+    {
+        self.members.nesting()
+    }
+
+    /// The layouts of its members, which all layouts of the structure share.
+    pub fn parts(&self) -> Result<Arc<Vec<ObjType>>, AllocError>
+        ensures { IfOk result (λ p. map object_type_of p.value.items
+            ≡ map (λ m. m.layout) (map listed_of self.now)) }
+    {
+        Arc::try_clone(&self.parts)
+    }
+
+    /// The member with this name and its number, where there is one, and where it begins (C17
+    /// 6.7.2.1p15). Takes no memory.
+    pub fn select(&self, name: &[u8]) -> Option<(u32, &Member)>
+        ensures member { option_map (λ r. selected_of name.now r.0 r.1.now) result
+            ≡ selected 0 name.now (map listed_of self.now) }
+        ensures offset { IfSome result (λ r. r.1.now.offset
+            ≡ sizes.start (layouts_of (map listed_of self.now)) r.0) }
+    {
+        self.members.select(name)
+    }
+}
+
+impl<'a> Structure<'a> {
+    /// Its members, where it is complete. Takes no memory.
+    pub fn complete(&self) -> Option<&Complete<'a>>
+        ensures { option_copied result ≡ complete_in self.now }
+    {
+        match self {
+            Structure::Complete(complete) => Some(complete),
+            Structure::Incomplete { .. } => None,
+            Structure::Faulty => None,
+        }
+    }
 }

@@ -145,6 +145,16 @@ impl<'a> Scope<'a> {
         self.structures[number as usize] = structure;
     }
 
+    /// The same, where there is a structure type with this number. Takes no memory.
+    pub fn put_structure(&mut self, number: u32, structure: Structure<'a>)
+        ensures { scope_of self.new
+            ≡ s.with_structure_at number (structure_of structure.entry) (scope_of self.old) }
+    {
+        if (number as usize) < self.structures.len() {
+            self.set_structure(number, structure);
+        }
+    }
+
     /// Where the next object of the function stands.
     pub fn next_slot(&self) -> Result<Slot, AllocError>
         ensures { IfOk result (λ slot. slot ≡ s.next_slot (scope_of self.now)) }

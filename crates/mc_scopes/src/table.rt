@@ -1,7 +1,8 @@
 //! Names with what they mean.
-ghost use Rattle.std.specs.Prelude.{◌≡◌, ◌∷◌, ◌++◌, ◌-◌, [], ℕ, List, Some, None, IsSome, length, take, drop, option_copied, option_map, slice_get, if◌then◌else◌, bytes_eq, IfOk, OnOk, OnErr};
-ghost use Rattle.mc_scopes.specs.Tables.{Named, last_of};
+ghost use Rattle.std.specs.Prelude.{◌≡◌, ◌∷◌, ◌++◌, ◌-◌, [], ℕ, List, Some, None, IsSome, length, take, drop, option_copied, option_map, option_to_list, map, reverse, slice_get, if◌then◌else◌, bytes_eq, IfOk, OnOk, OnErr};
+ghost use Rattle.mc_scopes.specs.Tables.{Named, last_of, last_place_of};
 ghost use Rattle.mc_scopes.specs.Indexed.{place_of};
+ghost use Rattle.mc_scopes.specs.Taken.{taken_of};
 
 use std::alloc::{AllocError, Global};
 use std::collections::BTreeMap;
@@ -21,6 +22,13 @@ pub struct Entry<'a, M> {
     name: &'a [u8],
     meaning: M,
     before: Option<usize>,
+}
+
+// An entry that is taken away.
+#[derive(Drop)]
+struct Taken<'a, M> {
+    name: &'a [u8],
+    meaning: M,
 }
 
 impl<'a, M> Model for Table<'a, M> {
@@ -79,10 +87,25 @@ impl<'a, M: Drop> Table<'a, M> {
         }
     }
 
+    /// Where the last entry of a name stands.
+    pub fn place(&self, name: &[u8]) -> Option<usize>
+        ensures { result ≡ last_place_of name.now self.now }
+    {
+        self.latest.get(name).copied()
+    }
+
+    /// The meaning of the entry at a place.
+    pub fn at(&self, place: usize) -> Option<&M>
+        ensures { option_copied result ≡ option_map (λ e. e.meaning) (slice_get self.now place) }
+    {
+        meaning_at(&self.entries, place)
+    }
+
     /// One more entry.
     pub fn push(&mut self, name: &'a [u8], meaning: M) -> Result<(), AllocError>
-        ensures { IfOk result (λ _. self.new
+        ensures ok { OnOk result (self.new
             ≡ self.old ++ record { name = name.now; meaning = meaning } ∷ []) }
+        ensures err { OnErr result (self.new ≡ self.old) }
     {
         let place = self.entries.len();
         let before = self.latest.get(name).copied();
@@ -107,6 +130,91 @@ impl<'a, M: Drop> Table<'a, M> {
         if let Some(last) = self.entries.pop() {
             restore(&mut self.latest, last.name, last.before);
         }
+    }
+
+    // Takes the last entry away and gives it. Takes no memory.
+    fn take_last(&mut self) -> Option<Taken<'a, M>>
+        ensures last { self.old ≡ self.new ++ option_to_list (option_map taken_of result) }
+        ensures rest { self.new ≡ take (length self.old - 1) self.old }
+    {
+        match self.entries.pop() {
+            Some(last) => {
+                restore(&mut self.latest, last.name, last.before);
+                Some(Taken {
+                    name: last.name,
+                    meaning: last.meaning,
+                })
+            }
+            None => None,
+        }
+    }
+
+    // Takes the last entry away and adds it to others.
+    fn move_last(&mut self, later: &mut Vec<Taken<'a, M>>) -> Result<(), AllocError>
+        ensures moved { OnOk result (self.new ++ reverse (map taken_of later.new.items)
+            ≡ self.old ++ reverse (map taken_of later.old.items)) }
+        ensures fewer { OnOk result (length self.new ≡ length self.old - 1) }
+    {
+        match self.take_last() {
+            Some(last) => {
+                later.push(last)?;
+                Ok(())
+            }
+            None => Ok(()),
+        }
+    }
+
+    // Puts the last one of these at the end.
+    fn put_last(&mut self, later: &mut Vec<Taken<'a, M>>) -> Result<(), AllocError>
+        ensures put { OnOk result (self.new ++ reverse (map taken_of later.new.items)
+            ≡ self.old ++ reverse (map taken_of later.old.items)) }
+        ensures fewer { OnOk result (length later.new.items ≡ length later.old.items - 1) }
+    {
+        match later.pop() {
+            Some(next) => self.push(next.name, next.meaning),
+            None => Ok(()),
+        }
+    }
+
+    // Takes the entries from one on away, and gives them, the last one first.
+    fn take_from(&mut self, alloc: Global, from: usize) -> Result<Vec<Taken<'a, M>>, AllocError>
+        ensures left { OnOk result (self.new ≡ take from self.old) }
+        ensures later { IfOk result (λ r. reverse (map taken_of r.items) ≡ drop from self.old) }
+    {
+        let mut later = Vec::new(alloc);
+        let more = self.entries.len().saturating_sub(from);
+        for _ in 0..more {
+            self.move_last(&mut later)?;
+        }
+        Ok(later)
+    }
+
+    // Puts entries at the end, the last one first.
+    fn put_back(&mut self, later: Vec<Taken<'a, M>>) -> Result<(), AllocError>
+        ensures { OnOk result (self.new ≡ self.old ++ reverse (map taken_of later.entry.items)) }
+    {
+        let mut later = later;
+        let count = later.len();
+        for _ in 0..count {
+            self.put_last(&mut later)?;
+        }
+        Ok(())
+    }
+
+    /// One more entry, before those from one on.
+    pub fn insert(
+        &mut self,
+        alloc: Global,
+        from: usize,
+        name: &'a [u8],
+        meaning: M,
+    ) -> Result<(), AllocError>
+        ensures { OnOk result (self.new ≡ take from self.old
+            ++ (record { name = name.now; meaning = meaning } ∷ drop from self.old)) }
+    {
+        let later = self.take_from(alloc, from)?;
+        self.push(name, meaning)?;
+        self.put_back(later)
     }
 
     /// Takes the entries from one on away. Takes no memory.

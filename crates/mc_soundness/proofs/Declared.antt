@@ -128,7 +128,7 @@ lengths_faults TypedefStorage faults name lengths base u value s h = nil_left fa
 lengths_faults StaticStorage faults name lengths base u value s h = nil_left faults _ h
 lengths_faults AutomaticStorage faults name lengths base u value s h = nil_left faults _ h
 
-init_well : (w : World) (storage : Storage) (b : CType) (R : Scope → Type 0) (d : tree.Declarator)
+pub init_well : (w : World) (storage : Storage) (b : CType) (R : Scope → Type 0) (d : tree.Declarator)
     (value : Option Initializer) (s : Scope) → Allowed w storage b R (IsNoFunction d) → ArePositive b.lengths
     → Fits w s → AreBelow (length s.statics) s.names → R (judge_init storage (Some b) d value s).scope
     → Ends w (judge_init storage (Some b) d value s).scope → (judge_init storage (Some b) d value s).faults ≡ []

@@ -31,7 +31,7 @@ use Rattle.mc_typed.specs.Sound as sound
 use Rattle.mc_typing.specs.declared.fault.FaultKind.TheVariants.{Mismatch, Undeclared}
 use Rattle.mc_typing.specs.Faults.{fault_if}
 use Rattle.mc_typing.specs.Types.{Base, Void, Integer, Tagged, CType, Member, Structure, Complete, members_of, is_complete, layout_of_base, arrays_of, layout_of}
-use Rattle.mc_typing.specs.Scopes.{Meaning, Automatic, Constant, Function, Typedef, Scope, meaning_of}
+use Rattle.mc_typing.specs.Scopes.{Meaning, Automatic, Constant, Function, Typedef, Scope, meaning_of, later_or}
 use Rattle.mc_typing.specs.Scopes as scope
 use Rattle.mc_typing.specs.Values.{Value, Number, Stored, Borrowed, Returned, Done, Assigned, Designator, IsStructure, kind_of_base, kind_of_object, kind_of, Found, kind_found, is_integer, is_array, is_structure, fails, number_found}
 use Rattle.mc_typing.specs.Constants.{first_holding}
@@ -240,23 +240,28 @@ selects : (all : List Structure) (k : ℕ) (name : List ℕ) (ms : List Member) 
     → MembersFit all ms → selected k name ms ≡ Some one → IsSelected all k ms one
 selects all k name [] one fit h = absurd (cc)
 selects all k name (m ∷ ms) one fit h =
-    by_test (bytes_eq m.name name) h (λ q. selects all (k + 1) name ms one fit.1 q)
+    by_rest (selected (k + 1) name ms) refl h (λ q. selects all (k + 1) name ms one fit.1 q)
   where
     later : IsSelected all (k + 1) ms one → IsSelected all k (m ∷ ms) one
     later r =
         let e : k + 1 + r.place ≡ k + suc r.place = omega arith in
         record { place = suc r.place; number = r.number ∙ e; layout = r.layout; fits = r.fits }
 
-    by_test : (b : Bool)
-        → (if b then Some (record { number = k; member = m }) else selected (k + 1) name ms) ≡ Some one
-        → (selected (k + 1) name ms ≡ Some one → IsSelected all (k + 1) ms one)
+    by_test : (b : Bool) → (if b then Some (record { number = k; member = m }) else None) ≡ Some one
         → IsSelected all k (m ∷ ms) one
-    by_test true q below =
+    by_test true q =
         let same : record { number = k; member = m } ≡ one = cc in
         let here : k ≡ k + 0 = omega arith in
         subst (λ x. IsSelected all k (m ∷ ms) x) same
         (record { place = 0; number = here; layout = refl; fits = fit.0 })
-    by_test false q below = later (below q)
+    by_test false q = absurd (cc)
+
+    by_rest : (o : Option Selected) → selected (k + 1) name ms ≡ o
+        → later_or o (if bytes_eq m.name name then Some (record { number = k; member = m }) else None) ≡ Some one
+        → (selected (k + 1) name ms ≡ Some one → IsSelected all (k + 1) ms one)
+        → IsSelected all k (m ∷ ms) one
+    by_rest (Some x) e q below = let same : x ≡ one = cc in later (below (e ∙ ap Some same))
+    by_rest None e q below = by_test (bytes_eq m.name name) q
 
 there_is : {A : Type 0} (o : Option A) → is_none o ≡ false → (a : A) × (o ≡ Some a)
 there_is None h = absurd (cc)

@@ -12,7 +12,7 @@ use Rattle.mc_typing.specs.Scopes.{Entry, Meaning, Automatic, Scope, next_slot, 
 use Rattle.mc_typing.specs.Declarators.{Listed, declared_type}
 use Rattle.mc_typing.specs.Judgement.{typed_by, judge_specifiers, judge_lengths, judge_parameters}
 use Rattle.mc_typing.specs.Declarations.{Storage, TypedefStorage, StaticStorage, AutomaticStorage, storage_of, count_listed, judge_optional_initializer, object_faults, layout_counted, after_initializer, counted_after, automatic_judged, static_scope, static_judged, typedef_judged, object_judged, function_judged, judge_init, judge_init_declarator, judge_init_declarators, is_tag_alone, judge_declaration}
-use Rattle.mc_soundness.specs.Growth.{IsBelow, Grown, Extended}
+use Rattle.mc_soundness.specs.Growth.{IsBelow, MeansNoFunction, Grown, Extended}
 use Rattle.mc_soundness.proofs.Lists.{begins_refl, begins_with}
 use Rattle.mc_soundness.proofs.Grows.{grown_refl, grown_trans, grown_name, grown_counted, grown_uncounted, specifiers_grow, lengths_grow}
 use Rattle.mc_soundness.proofs.Fitting.{extended, extended_refl, extended_trans}
@@ -24,9 +24,9 @@ optional_grows static u None s = grown_refl s
 optional_grows static u (Some i) s = initializer_grows static u i s
 
 after_grows : (fs : List Fault) (name : Name) (m : Meaning) (s : Scope) → ((n : ℕ) → IsBelow n m)
-    → Grown s (after_initializer fs name m s)
-after_grows [] name m s below = grown_refl s
-after_grows (f ∷ fs) name m s below = grown_name name m s below
+    → MeansNoFunction m → Grown s (after_initializer fs name m s)
+after_grows [] name m s below none = grown_refl s
+after_grows (f ∷ fs) name m s below none = grown_name name m s below none
 
 name_extends : (name : Name) (m : Meaning) (s : Scope) → Extended s (with_name name m s)
 name_extends name m s = record {
@@ -51,18 +51,18 @@ counted_grows (f ∷ fs) n s = grown_uncounted n s
 
 automatic_steps : (name : Name) (m untyped : Meaning) (layout : Option ObjectType) (u : Option CType)
     (value : Option Initializer) (s : Scope) (fs : List Fault) (n : ℕ)
-    → ((n : ℕ) → IsBelow n m) → ((n : ℕ) → IsBelow n untyped)
+    → ((n : ℕ) → IsBelow n m) → ((n : ℕ) → IsBelow n untyped) → MeansNoFunction m → MeansNoFunction untyped
     → Grown s (counted_after fs n (after_initializer fs name untyped
     (judge_optional_initializer false u value (with_counted layout (with_name name m s))).scope))
-automatic_steps name m untyped layout u value s fs n below below_untyped =
+automatic_steps name m untyped layout u value s fs n below below_untyped none none_untyped =
     let named = with_name name m s in
     let d = with_counted layout named in
     let x = (judge_optional_initializer false u value d).scope in
     let y = after_initializer fs name untyped x in
-    grown_trans s named _ (grown_name name m s below)
+    grown_trans s named _ (grown_name name m s below none)
     (grown_trans named d _ (grown_counted layout named)
     (grown_trans d x _ (optional_grows false u value d)
-    (grown_trans x y _ (after_grows fs name untyped x below_untyped) (counted_grows fs n y))))
+    (grown_trans x y _ (after_grows fs name untyped x below_untyped none_untyped) (counted_grows fs n y))))
 
 automatic_extends : (faults : List Fault) (name : Name) (lengths : ArrayLengths) (base u : Option CType)
     (value : Option Initializer) (s : Scope)
@@ -73,7 +73,7 @@ automatic_extends faults name lengths base u value s =
     let m = Automatic (next_slot s) (unless_faulty (faults ++ own) u) in
     let x = judge_optional_initializer false u value (with_counted layout (with_name name m s)) in
     extended s _
-    (automatic_steps name m (Automatic (next_slot s) None) layout u value s x.faults (cells_counted layout) (λ n. tt) (λ n. tt))
+    (automatic_steps name m (Automatic (next_slot s) None) layout u value s x.faults (cells_counted layout) (λ n. tt) (λ n. tt) tt tt)
 
 static_extends : (u : ObjectType) (vs : List ℤ) (s : Scope) → Extended s (with_static u vs s)
 static_extends u vs s = record {
@@ -109,7 +109,7 @@ typedef_extends : (faults : List Fault) (name : Name) (lengths : ArrayLengths) (
     → Extended s (typedef_judged faults name lengths base u value s).scope
 typedef_extends faults name lengths base u value s =
     extended s _
-    (grown_trans s (with_name name _ s) _ (grown_name name _ s (λ n. tt))
+    (grown_trans s (with_name name _ s) _ (grown_name name _ s (λ n. tt) tt)
     (optional_grows true None value (with_name name _ s)))
 
 pub object_extends : (storage : Storage) (faults : List Fault) (name : Name) (lengths : ArrayLengths)

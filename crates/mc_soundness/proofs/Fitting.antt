@@ -263,7 +263,7 @@ fits_static w s u vs fit h room values =
     zero_plus n = omega arith
 
 -- the layout of a complete structure is a type of objects
-get_structure : (n k : ℕ) (xs : List Structure) (x : Structure) → slice_get xs k ≡ Some x
+pub get_structure : (n k : ℕ) (xs : List Structure) (x : Structure) → slice_get xs k ≡ Some x
     → slice_get (structures_from n xs) k ≡ Some (structure_from (n + k) x)
 get_structure n k [] x h = absurd (cc)
 get_structure n zero (y ∷ xs) x h =
@@ -298,7 +298,7 @@ structure_type_fits w all k fit c h =
 pub made_none : (s : Scope) → Made s s []
 made_none s = ([], sym (right_nil s.objects), refl)
 
-slots_append : (k : ℕ) (os ps : List Object)
+pub slots_append : (k : ℕ) (os ps : List Object)
     → slots_from k (os ++ ps) ≡ slots_from k os ++ slots_from (k + length os) ps
 slots_append k [] ps = let e : k ≡ k + 0 = omega arith in ap (λ n. slots_from n ps) e
 slots_append k (o ∷ os) ps =
@@ -325,7 +325,7 @@ made_object s u =
 
 -- ---- what the program has
 
-begins_map : {A B : Type 0} (f : A → B) (xs ys : List A) → Begins A xs ys → Begins B (map f xs) (map f ys)
+pub begins_map : {A B : Type 0} (f : A → B) (xs ys : List A) → Begins A xs ys → Begins B (map f xs) (map f ys)
 begins_map f xs ys p = (map f p.0, ap (map f) p.1 ∙ map-append f xs p.0)
 
 -- what goes on from a scope, as a declaration does

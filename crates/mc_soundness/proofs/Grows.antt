@@ -1,5 +1,5 @@
 -- What is declared stays declared: each node's scope goes on from the one before it.
-use Rattle.std.proofs.Common.{◌≡◌, ℕ, ℤ, pos, Bool, true, false, List, [], ◌∷◌, ◌++◌, length, slice_get, slice_set, Option, Some, None, refl, ap, sym, ◌∙◌, inl, inr, subst}
+use Rattle.std.proofs.Common.{◌≡◌, ℕ, ℤ, pos, Bool, true, false, List, [], ◌∷◌, ◌++◌, length, slice_get, slice_set, Option, Some, None, refl, ap, sym, ◌∙◌, inl, inr, subst, append_assoc}
 use Rattle.mc_span.specs.declared.span.Span.{Span}
 use Rattle.mc_tree.specs.declared.expressions.assignment_operator.AssignmentOperator.{AssignmentOperator}
 use Rattle.mc_tree.specs.declared.expressions.assignment_operator.AssignmentOperator.TheVariants as assign
@@ -18,14 +18,31 @@ use Rattle.mc_typing.specs.Expressions.{assignment_found, step_found, operator_a
 use Rattle.mc_typing.specs.Calls.{argument_judged, after_call, first_of, rest_of, parameters_of}
 use Rattle.mc_typing.specs.Declarators.{Opened, opened, opened_tag, opened_again, typedef_type, structure_tag, declared_tag, used_structure_tag, used_enumeration_tag, enumeration_scope}
 use Rattle.mc_typing.specs.Judgement.{judge, judge_arguments, judge_type, judge_specifier, judge_specifiers, judge_member, judge_members, judge_enumerator, judge_enumerators, judge_declarator, judge_declarators, judge_lengths}
-use Rattle.mc_soundness.specs.Growth.{IsSettled, Kept, IsBelow, AreBelow, Grown, ExpressionsGrow}
-use Rattle.mc_soundness.proofs.Lists.{begins_refl, begins_trans, begins_with, get_past, get_appended, get_set_other, is_or_not}
+use Rattle.mc_soundness.specs.Growth.{IsSettled, Kept, IsBelow, AreBelow, MeansNoFunction, NameNoFunction, AddsNoFunction, Grown, ExpressionsGrow}
+use Rattle.mc_soundness.proofs.Lists.{right_nil, begins_refl, begins_trans, begins_with, get_past, get_appended, get_set_other, is_or_not}
+
+-- ---- names that mean no function
+
+pub adds_none : (es : List Entry) → AddsNoFunction es es
+adds_none es = ([], sym (right_nil es), tt)
+
+no_function_append : (es fs : List Entry) → NameNoFunction es → NameNoFunction fs → NameNoFunction (es ++ fs)
+no_function_append [] fs h k = k
+no_function_append (e ∷ es) fs h k = (h.0, no_function_append es fs h.1 k)
+
+pub adds_both : (xs ys zs : List Entry) → AddsNoFunction xs ys → AddsNoFunction ys zs → AddsNoFunction xs zs
+adds_both xs ys zs p q = (
+  p.0 ++ q.0,
+  q.1 ∙ ap (λ l. l ++ q.0) p.1 ∙ append_assoc xs p.0 q.0,
+  no_function_append p.0 q.0 p.2 q.2,
+)
 
 -- ---- steps
 
 pub grown_refl : (s : Scope) → Grown s s
 grown_refl s = record {
   names = begins_refl Entry s.names;
+  functions = adds_none s.names;
   structures = λ k x h n. h;
   statics = refl;
   static_cells = refl;
@@ -41,6 +58,7 @@ grown_refl s = record {
 pub grown_trans : (s t u : Scope) → Grown s t → Grown t u → Grown s u
 grown_trans s t u g h = record {
   names = begins_trans Entry s.names t.names u.names g.names h.names;
+  functions = adds_both s.names t.names u.names g.functions h.functions;
   structures = λ k x e n. h.structures k x (g.structures k x e n) n;
   statics = h.statics ∙ g.statics;
   static_cells = h.static_cells ∙ g.static_cells;
@@ -60,11 +78,12 @@ pub below_append : (n : ℕ) (es fs : List Entry) → AreBelow n es → AreBelow
 below_append n [] fs h k = k
 below_append n (e ∷ es) fs h k = (h.0, below_append n es fs h.1 k)
 
--- a name that is no object with static storage duration
-pub grown_name : (name : Name) (m : Meaning) (s : Scope) → ((n : ℕ) → IsBelow n m)
+-- a name that is no object with static storage duration, and no function
+pub grown_name : (name : Name) (m : Meaning) (s : Scope) → ((n : ℕ) → IsBelow n m) → MeansNoFunction m
     → Grown s (with_name name m s)
-grown_name name m s below = record {
+grown_name name m s below none = record {
   names = begins_with Entry s.names (record { name = name.text; meaning = m } ∷ []);
+  functions = (record { name = name.text; meaning = m } ∷ [], refl, (none, tt));
   structures = λ k x h n. h;
   statics = refl;
   static_cells = refl;
@@ -80,6 +99,7 @@ grown_name name m s below = record {
 pub grown_tag : (name : Name) (m : TagMeaning) (s : Scope) → Grown s (with_tag name m s)
 grown_tag name m s = record {
   names = begins_refl Entry s.names;
+  functions = adds_none s.names;
   structures = λ k x h n. h;
   statics = refl;
   static_cells = refl;
@@ -95,6 +115,7 @@ grown_tag name m s = record {
 pub grown_structure : (x : Structure) (s : Scope) → Grown s (with_structure x s)
 grown_structure x s = record {
   names = begins_refl Entry s.names;
+  functions = adds_none s.names;
   structures = λ k y h n. get_appended s.structures (x ∷ []) k y h;
   statics = refl;
   static_cells = refl;
@@ -110,6 +131,7 @@ grown_structure x s = record {
 pub grown_object : (u : ObjectType) (s : Scope) → Grown s (with_object u s)
 grown_object u s = record {
   names = begins_refl Entry s.names;
+  functions = adds_none s.names;
   structures = λ k x h n. h;
   statics = refl;
   static_cells = refl;
@@ -129,6 +151,7 @@ grown_counted (Some u) s = grown_object u s
 pub grown_uncounted : (n : ℕ) (s : Scope) → Grown s (uncounted n s)
 grown_uncounted n s = record {
   names = begins_refl Entry s.names;
+  functions = adds_none s.names;
   structures = λ k x h m. h;
   statics = refl;
   static_cells = refl;
@@ -158,6 +181,7 @@ pub grown_set : (s t : Scope) (n : ℕ) (new : Structure) → IsFree s.structure
     → Grown s (with_structure_at n new t)
 grown_set s t n new free g = record {
   names = g.names;
+  functions = g.functions;
   structures = kept_set s.structures t.structures n new free g.structures;
   statics = g.statics;
   static_cells = g.static_cells;
@@ -371,9 +395,9 @@ mutual
 
   pub enumerator_grows : (one : Enumerator) (v : Option ℤ) (s : Scope)
       → Grown s (judge_enumerator one v s).scope
-  enumerator_grows (tree.enumerator name) v s = grown_name name _ s (λ n. tt)
+  enumerator_grows (tree.enumerator name) v s = grown_name name _ s (λ n. tt) tt
   enumerator_grows (tree.valued_enumerator name e) v s =
-      grown_trans s (judge e s).scope _ (grows e s) (grown_name name _ (judge e s).scope (λ n. tt))
+      grown_trans s (judge e s).scope _ (grows e s) (grown_name name _ (judge e s).scope (λ n. tt) tt)
 
   pub enumerators_grow : (all : Enumerators) (v : Option ℤ) (s : Scope)
       → Grown s (judge_enumerators all v s).scope

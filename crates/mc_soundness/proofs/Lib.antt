@@ -20,3 +20,10 @@ pub mod Statements
 pub mod Bodies
 pub mod Stills
 pub mod Parameters
+pub mod Agreeing
+pub mod Stages
+pub mod FileScope
+pub mod Accepted
+pub mod Defined
+pub mod Units
+pub mod Counts

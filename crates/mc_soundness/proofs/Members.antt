@@ -142,6 +142,7 @@ member_listed_well w s base name lengths members y u is pos list c ends wy h =
     let rest = nil_right (fault_if (has_member name.text members) Redeclared at) _ own in
     let absent = no_fault _ Mismatch at (nil_left (absent_faults lengths None at) _ rest) in
     let first = without (is_first_absent lengths) (or_right (is_later_absent lengths) _ absent) in
+    let o = declared_type lengths y.value None base in
     let e = declared_given lengths y.value base wy.value u wy.is is (or_left (is_later_absent lengths) _ absent) first in
     let last = nil_right (absent_faults lengths None at) _ rest in
     let complete : is_complete all u.base ≡ true =
@@ -153,7 +154,7 @@ member_listed_well w s base name lengths members y u is pos list c ends wy h =
     (nil_right (incomplete_faults all base at) _ last) in
     let small = or_right (is_long v.lengths) _ (no_fault _ Limit at limit) in
     record {
-      list = subst (λ o. ListFits w all (with_member name o members all)) (sym e)
+      list = subst (λ o. ListFits w all (with_member name o members all)) (sym (ap (λ f. unless_faulty f o) h ∙ e))
           (list_more w all members name.text v wy.fits.structures ends
           (list_kept w s.structures all members c list) complete
           (positive_take most_lengths (wy.value ++ u.lengths)

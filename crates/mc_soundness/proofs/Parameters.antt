@@ -12,16 +12,16 @@ use Rattle.mc_typing.specs.declared.fault.FaultKind.TheVariants.{Mismatch}
 use Rattle.mc_typing.specs.Faults.{fault_if, unless_faulty}
 use Rattle.mc_typing.specs.Profile.{start_at}
 use Rattle.mc_typing.specs.Types.{Base, Void, Integer, Tagged, CType, plain, Structure, is_complete, layout_of_base, arrays_of, layout_of, ParameterKind, ByValue, ByArray}
-use Rattle.mc_typing.specs.Scopes.{Entry, Automatic, Borrowed, Scope, next_slot, with_name, with_object, with_array, with_objects_of}
-use Rattle.mc_typing.specs.Declarators.{Listed, is_later_absent, is_first_absent, declared_type, incomplete_faults, adjusted, parameter_kind, parameter_limit_faults, parameter_name_faults, parameter_faults, parameter_meaning, with_parameter_name, with_parameter, declared_parameter, name_start}
-use Rattle.mc_typing.specs.Judgement.{typed_by, judge_specifiers, judge_lengths, judge_parameter, judge_parameter_list}
+use Rattle.mc_typing.specs.Scopes.{Entry, Meaning, Automatic, Borrowed, Scope, next_slot, with_name, with_object, with_array, with_objects_of}
+use Rattle.mc_typing.specs.Declarators.{Listed, is_later_absent, is_first_absent, declared_type, incomplete_faults, adjusted, parameter_kind, parameter_limit_faults, parameter_name_faults, parameter_faults, parameter_meaning, with_parameter_name, with_parameter, declared_parameter, name_start, listed_none}
+use Rattle.mc_typing.specs.Judgement.{typed_by, judge_specifiers, judge_lengths, judge_parameter, judge_parameter_list, judge_parameters}
 use Rattle.mc_typing.specs.Typing.{parameter_type}
 use Rattle.mc_soundness.specs.Growth.{Begins, AreBelow, Grown, Passed}
-use Rattle.mc_soundness.specs.Fits.{World, objects_of, Completes, ArePositive, Fits, Ends, arrays_in, ArraysEnd, AreParametersFound}
+use Rattle.mc_soundness.specs.Fits.{World, objects_of, Completes, ArePositive, Fits, Ends, arrays_in, ArraysEnd, base_of_kind, AreComplete, AreParametersFound}
 use Rattle.mc_soundness.proofs.Lists.{right_nil, begins_refl, get_next}
 use Rattle.mc_soundness.proofs.Tests.{nil_left, nil_right, no_fault, not_false}
 use Rattle.mc_soundness.proofs.Grows.{grown_trans, grown_object, below_append, specifiers_grow, lengths_grow}
-use Rattle.mc_soundness.proofs.Fitting.{layout_kept, fits_name, fits_object, structure_type_fits, extended, passed, passed_refl, passed_trans, ends_passed, ends_back}
+use Rattle.mc_soundness.proofs.Fitting.{kept_completes, complete_kept, layout_kept, fits_name, fits_object, structure_type_fits, extended, passed, passed_refl, passed_trans, ends_passed, ends_back}
 use Rattle.mc_soundness.proofs.Calls.{next_there}
 use Rattle.mc_soundness.proofs.Types.{type_typed}
 use Rattle.mc_soundness.proofs.Sound.{specifiers_well, lengths_well}
@@ -123,6 +123,7 @@ parameter_value w None u s fit below e complete c ends =
     record {
       kinds = ByValue u.base ∷ [];
       are = refl;
+      complete = (complete, tt);
       objects = (
         record { object_type = l; cells = cells l; start = start_at s.frame } ∷ [],
         refl,
@@ -145,6 +146,7 @@ parameter_value w (Some name) u s fit below e complete c ends =
     record {
       kinds = ByValue u.base ∷ [];
       are = refl;
+      complete = (complete, tt);
       objects = (
         record { object_type = l; cells = cells l; start = start_at s.frame } ∷ [],
         refl,
@@ -185,6 +187,7 @@ parameter_array : (w : World) (name : Option Name) (v e : CType) (s : Scope) →
 parameter_array w None v e s fit below complete c object a = record {
   kinds = ByArray e ∷ [];
   are = refl;
+  complete = (complete, tt);
   objects = ([], sym (right_nil s.objects), refl);
   arrays = refl;
   elements = (subst (IsObjectType (objects_of w)) (layout_kept s.structures w.structures e c complete) object, tt);
@@ -196,6 +199,7 @@ parameter_array w (Some name) v e s fit below complete c object a =
     record {
       kinds = ByArray e ∷ [];
       are = refl;
+      complete = (complete, tt);
       objects = ([], sym (right_nil s.objects), refl);
       arrays = refl;
       elements = (subst (IsObjectType (objects_of w)) (layout_kept s.structures w.structures e c complete) object, tt);
@@ -307,6 +311,7 @@ parameter_well w (tree.parameter all stars name lengths span) s fit below ends a
     record {
       kinds = found.kinds;
       are = found.are;
+      complete = found.complete;
       objects = found.objects;
       arrays = found.arrays ∙ ap (λ m. m + length (arrays_in w.structures (kind ∷ []))) g.arrays;
       elements = found.elements;
@@ -333,12 +338,12 @@ types_append : (all us vs : List ObjectType) → AreObjectTypes all us → AreOb
 types_append all [] vs h k = k
 types_append all (u ∷ us) vs h k = (h.0, types_append all us vs h.1 k)
 
-pub list_well : (w : World) (ps : ParameterList) (s : Scope) → Fits w s → AreBelow (length s.statics) s.names
-    → Ends w (judge_parameter_list ps s).scope → ArraysEnd w s (judge_parameter_list ps s).items
-    → (judge_parameter_list ps s).faults ≡ [] → AreParametersFound w s (judge_parameter_list ps s)
-list_well w tree.no_parameters s fit below ends a h = record {
+none_well : (w : World) (s : Scope) → Fits w s → AreBelow (length s.statics) s.names
+    → AreParametersFound w s (listed_none s)
+none_well w s fit below = record {
   kinds = [];
   are = refl;
+  complete = tt;
   objects = ([], sym (right_nil s.objects), refl);
   arrays = no_more s.arrays;
   elements = tt;
@@ -348,6 +353,22 @@ list_well w tree.no_parameters s fit below ends a h = record {
   where
     no_more : (n : ℕ) → n ≡ n + 0
     no_more n = omega arith
+
+complete_append : (all : List Structure) (ps qs : List ParameterKind) → AreComplete all ps → AreComplete all qs
+    → AreComplete all (ps ++ qs)
+complete_append all [] qs h k = k
+complete_append all (p ∷ ps) qs h k = (h.0, complete_append all ps qs h.1 k)
+
+pub kinds_kept : (all more : List Structure) (ks : List ParameterKind) → Completes all more → AreComplete all ks
+    → AreComplete more ks
+kinds_kept all more [] c h = tt
+kinds_kept all more (k ∷ ks) c h =
+    (complete_kept all more (base_of_kind k) c h.0, kinds_kept all more ks c h.1)
+
+pub list_well : (w : World) (ps : ParameterList) (s : Scope) → Fits w s → AreBelow (length s.statics) s.names
+    → Ends w (judge_parameter_list ps s).scope → ArraysEnd w s (judge_parameter_list ps s).items
+    → (judge_parameter_list ps s).faults ≡ [] → AreParametersFound w s (judge_parameter_list ps s)
+list_well w tree.no_parameters s fit below ends a h = none_well w s fit below
 list_well w (tree.parameters p rest) s fit below ends a h =
     let x = judge_parameter p s in
     let y = judge_parameter_list rest x.scope in
@@ -376,6 +397,9 @@ list_well w (tree.parameters p rest) s fit below ends a h =
     record {
       kinds = fx.kinds ++ fy.kinds;
       are = ap (λ l. l ++ y.items) fx.are ∙ ap (λ l. map Some fx.kinds ++ l) fy.are ∙ sym (map-append Some fx.kinds fy.kinds);
+      complete = complete_append y.scope.structures fx.kinds fy.kinds
+          (kinds_kept x.scope.structures y.scope.structures fx.kinds
+          (kept_completes x.scope.structures y.scope.structures (list_passes rest x.scope).structures) fx.complete) fy.complete;
       objects = (
         fx.objects.0 ++ fy.objects.0,
         fy.objects.1 ∙ ap (λ l. l ++ fy.objects.0) fx.objects.1 ∙ append_assoc s.objects fx.objects.0 fy.objects.0,
@@ -395,3 +419,51 @@ list_well w (tree.parameters p rest) s fit below ends a h =
   where
     sum_is : (l m n : ℕ) → l + m + n ≡ l + (m + n)
     sum_is l m n = omega arith
+
+-- ---- parameters of a declarator
+
+pub parameters_well : (w : World) (all : Parameters) (s : Scope) → Fits w s → AreBelow (length s.statics) s.names
+    → Ends w (judge_parameters all s).scope → ArraysEnd w s (judge_parameters all s).items
+    → (judge_parameters all s).faults ≡ [] → AreParametersFound w s (judge_parameters all s)
+parameters_well w (tree.Empty span) s fit below ends a h = none_well w s fit below
+parameters_well w (tree.Void span) s fit below ends a h = none_well w s fit below
+parameters_well w (tree.Listed ps span) s fit below ends a h = list_well w ps s fit below ends a h
+
+pub parameters_pass : (all : Parameters) (s : Scope) → Passed s (judge_parameters all s).scope
+parameters_pass (tree.Empty span) s = passed_refl s
+parameters_pass (tree.Void span) s = passed_refl s
+parameters_pass (tree.Listed ps span) s = list_passes ps s
+
+named_labels : (name : Option Name) (m : Meaning) (s : Scope) → (with_parameter_name name m s).labels ≡ s.labels
+named_labels None m s = refl
+named_labels (Some name) m s = refl
+
+with_labels : (u : Option CType) (k : Option ParameterKind) (s : Scope) → (with_parameter u k s).labels ≡ s.labels
+with_labels None None s = refl
+with_labels None (Some (ByValue b)) s = refl
+with_labels None (Some (ByArray e)) s = refl
+with_labels (Some u) None s = refl
+with_labels (Some u) (Some (ByValue b)) s = refl
+with_labels (Some u) (Some (ByArray e)) s = refl
+
+parameter_labels : (p : Parameter) (s : Scope) → (judge_parameter p s).scope.labels ≡ s.labels
+parameter_labels (tree.parameter all stars name lengths span) s =
+    let x = typed_by span.start all (judge_specifiers false all s) in
+    let l = judge_lengths lengths x.scope in
+    let y = with_objects_of s l.scope in
+    let u = declared_type lengths l.value (Some 1) x.value in
+    let fs = x.faults ++ (l.faults ++ parameter_faults name (name_start name span) lengths x.value u y) in
+    let k = unless_faulty fs (parameter_kind y.structures u) in
+    let m = parameter_meaning (unless_faulty fs u) k y in
+    with_labels (unless_faulty fs u) k (with_parameter_name name m y) ∙ named_labels name m y
+    ∙ (grown_trans s x.scope l.scope (specifiers_grow false all s) (lengths_grow lengths x.scope)).labels
+
+list_labels : (ps : ParameterList) (s : Scope) → (judge_parameter_list ps s).scope.labels ≡ s.labels
+list_labels tree.no_parameters s = refl
+list_labels (tree.parameters p rest) s =
+    list_labels rest (judge_parameter p s).scope ∙ parameter_labels p s
+
+pub parameters_labels : (all : Parameters) (s : Scope) → (judge_parameters all s).scope.labels ≡ s.labels
+parameters_labels (tree.Empty span) s = refl
+parameters_labels (tree.Void span) s = refl
+parameters_labels (tree.Listed ps span) s = list_labels ps s

@@ -38,7 +38,7 @@ compound_left a s t g = by_test a.is_body g
     by_test true g = passed_left s.labels s t g
     by_test false g = passed_left None s t g
 
-names_take : (w : World) (all : List Structure) (n : ℕ) (es : List Entry) → NamesFit w all es
+pub names_take : (w : World) (all : List Structure) (n : ℕ) (es : List Entry) → NamesFit w all es
     → NamesFit w all (take n es)
 names_take w all zero es h = tt
 names_take w all (suc n) [] h = tt

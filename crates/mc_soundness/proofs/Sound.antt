@@ -318,7 +318,7 @@ mutual
       let x = judge e s in
       let y = enumerator_judged name (constant_found x) x.scope in
       let rest = nil_right x.faults _ h in
-      let wx = well w e s fit (ends_back w x.scope y.scope (grown_name name _ x.scope (λ n. tt)) ends)
+      let wx = well w e s fit (ends_back w x.scope y.scope (grown_name name _ x.scope (λ n. tt) tt) ends)
       (nil_left x.faults _ h) in
       valued_counted w s name (span_of e).start x wx (nil_left y.faults _ rest) (nil_right y.faults _ rest)
 

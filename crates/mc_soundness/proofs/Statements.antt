@@ -50,24 +50,35 @@ labels_go (Some l) m n (None ∷ us) vs h k = (h.0, labels_go (Some (default_in 
 equal_itself : (v : ℤ) → are_equal v v ≡ true
 equal_itself v = grind arith
 
+has_more : (v x : ℤ) (ws : List ℤ) → has_value v ws ≡ true → has_value v (ws ++ (x ∷ [])) ≡ true
+has_more v x [] h = absurd (cc)
+has_more v x (w ∷ ws) h = by_first (are_equal v w) h (λ q. has_more v x ws q)
+  where
+    by_first : (b : Bool) → (b || has_value v ws) ≡ true
+        → (has_value v ws ≡ true → has_value v (ws ++ (x ∷ [])) ≡ true)
+        → (b || has_value v (ws ++ (x ∷ []))) ≡ true
+    by_first true q below = refl
+    by_first false q below = below q
+
+or_true : (b c : Bool) → c ≡ true → (b || c) ≡ true
+or_true true c q = refl
+or_true false c q = q
+
+has_last : (v : ℤ) (ws : List ℤ) → has_value v (ws ++ (v ∷ [])) ≡ true
+has_last v [] = ap (λ b. b || false) (equal_itself v)
+has_last v (w ∷ ws) = or_true (are_equal v w) (has_value v (ws ++ (v ∷ []))) (has_last v ws)
+
 not_among : (v : ℤ) (l : Labels) (vs : List (Option ℤ)) (m : Option Labels) → has_value v l.values ≡ true
     → LabelsGo (Some l) vs m → Lacks (Some v) vs
 not_among v l [] m h k = tt
 not_among v l (Some x ∷ vs) m h k =
-    ((λ e. apart x (some_same v x e) k.0), not_among v (with_value x l) vs m (later x) k.1)
+    ((λ e. apart x (some_same v x e) k.0), not_among v (with_value x l) vs m (has_more v x l.values h) k.1)
   where
     some_same : (x y : ℤ) → Some x ≡ Some y → x ≡ y
     some_same x y e = cc
 
     apart : (x : ℤ) → v ≡ x → has_value x l.values ≡ false → ⊥
     apart x e q = let r : has_value x l.values ≡ true = subst (λ y. has_value y l.values ≡ true) e h in cc
-
-    or_true : (b c : Bool) → c ≡ true → (b || c) ≡ true
-    or_true true c q = refl
-    or_true false c q = q
-
-    later : (x : ℤ) → has_value v (x ∷ l.values) ≡ true
-    later x = or_true (are_equal v x) (has_value v l.values) h
 not_among v l (None ∷ vs) m h k = ((λ e. none_some v (sym e)), not_among v (default_in l) vs m h k.1)
 
 no_default : (l : Labels) (vs : List (Option ℤ)) (m : Option Labels) → l.has_default ≡ true
@@ -80,7 +91,7 @@ no_default l (None ∷ vs) m h k = absurd (both k.0)
     both e = cc
 
 first_value : (v : ℤ) (l : Labels) → has_value v (with_value v l).values ≡ true
-first_value v l = ap (λ b. b || has_value v l.values) (equal_itself v)
+first_value v l = has_last v l.values
 
 pub differ : (l : Labels) (vs : List (Option ℤ)) (m : Option Labels) → LabelsGo (Some l) vs m → Differ vs
 differ l [] m h = tt

@@ -13,7 +13,7 @@ use Rattle.mc_typed.specs.Frames.{slots_place, slots, slots_call, slots_argument
 use Rattle.mc_typed.specs.Sound.{IsSlotOf, place_type, structure_type, IsPlace, IsExpression, IsStructureCall, IsEffect, IsCast, AreArguments, IsInitializer, AreElements, AreMembers, AreDeclarators, AreStatements, labels_of, AreInRange, AreInitial, AreFormed, IsObjectType, parameters_at, result_at, AreObjectTypes, slots_from}
 use Rattle.mc_typed.specs.Sound as sound
 use Rattle.mc_typing.specs.Profile.{start_at}
-use Rattle.mc_typing.specs.Types.{Base, Tagged, CType, plain, Member, Structure, Incomplete, Complete, Faulty, is_complete, layout_of, structures_from, ParameterKind, ByArray, Signature}
+use Rattle.mc_typing.specs.Types.{Base, Tagged, CType, plain, Member, Structure, Incomplete, Complete, Faulty, is_complete, layout_of, structures_from, ParameterKind, ByValue, ByArray, Signature}
 use Rattle.mc_typing.specs.Scopes.{Entry, Labels, Meaning, Automatic, Constant, Function, Typedef, Scope, file_scope, place_from, is_input, is_output}
 use Rattle.mc_typing.specs.Scopes as scope
 use Rattle.mc_typing.specs.Values.{Judged, Value, Number, Stored, Borrowed, Returned, Done, Assigned, Designator, Found, kind_of, is_integer, whole}
@@ -356,12 +356,22 @@ pub record ArraysEnd (w : World) (s : Scope) (items : List (Option ParameterKind
   pub count : length before ≡ s.arrays
   pub are : w.scope.arrays ≡ before ++ (arrays_in w.structures items ++ more)
 
+abbrev pub base_of_kind : ParameterKind → Base
+base_of_kind (ByValue b) = b
+base_of_kind (ByArray u) = u.base
+
+-- what parameters take is complete
+abbrev pub AreComplete : List Structure → List ParameterKind → Type 0
+AreComplete all [] = Unit {0}
+AreComplete all (k ∷ ks) = (is_complete all (base_of_kind k) ≡ true) × AreComplete all ks
+
 -- What is found of parameters without a fault: each takes something, and those that are no arrays
 -- have objects of their types.
 pub record AreParametersFound (w : World) (s : Scope) (x : Listed (Option ParameterKind))
     : Type 0 where
   pub kinds : List ParameterKind
   pub are : x.items ≡ map Some kinds
+  pub complete : AreComplete x.scope.structures kinds
   pub objects : (os : List Object) × (x.scope.objects ≡ s.objects ++ os)
       × (map (λ o. o.object_type) os ≡ sound.values_of (map (parameter_type w.structures) kinds))
   pub arrays : x.scope.arrays ≡ s.arrays + length (arrays_in w.structures x.items)

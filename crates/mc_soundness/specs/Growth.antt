@@ -3,7 +3,7 @@ use Rattle.std.specs.Prelude.{◌≡◌, ℕ, ◌<◌, Bool, false, List, [], �
 use Rattle.mc_tree.specs.Tree.{Expression, Specifiers}
 use Rattle.mc_typed.specs.Tree.{Object, StaticObject}
 use Rattle.mc_typing.specs.Types.{Structure, Incomplete}
-use Rattle.mc_typing.specs.Scopes.{Entry, Meaning, Stored, Scope}
+use Rattle.mc_typing.specs.Scopes.{Entry, Meaning, Stored, Function, Scope}
 use Rattle.mc_typing.specs.Judgement.{judge, judge_specifiers}
 
 -- the second list begins with the first
@@ -29,9 +29,23 @@ abbrev pub AreBelow : ℕ → List Entry → Type 0
 AreBelow n [] = Unit {0}
 AreBelow n (e ∷ es) = IsBelow n e.meaning × AreBelow n es
 
+-- a name that means no function
+abbrev pub MeansNoFunction : Meaning → Type 0
+MeansNoFunction (Function f has_body) = ⊥
+MeansNoFunction _ = Unit {0}
+
+abbrev pub NameNoFunction : List Entry → Type 0
+NameNoFunction [] = Unit {0}
+NameNoFunction (e ∷ es) = MeansNoFunction e.meaning × NameNoFunction es
+
+-- the second list has more names than the first, but none that means a function
+abbrev pub AddsNoFunction : List Entry → List Entry → Type 0
+AddsNoFunction xs ys = (more : List Entry) × (ys ≡ xs ++ more) × NameNoFunction more
+
 -- after an expression or an initializer
 pub record Grown (s t : Scope) : Type 0 where
   pub names : Begins Entry s.names t.names
+  pub functions : AddsNoFunction s.names t.names
   pub structures : Kept s.structures t.structures
   pub statics : t.statics ≡ s.statics
   pub static_cells : t.static_cells ≡ s.static_cells

@@ -1,14 +1,20 @@
 -- What is found of a node without a fault is sound, in every scope that fits the program in the
 -- end.
-use Rattle.std.specs.Prelude.{◌≡◌, Bool, true, false, [], length, Some}
-use Rattle.mc_tree.specs.Tree.{Expression, Specifiers, Initializer, BlockItems, ParameterList}
+use Rattle.std.specs.Prelude.{◌≡◌, ◌<◌, ◌^◌, Bool, true, false, List, [], length, Some, None}
+use Rattle.mc_tree.specs.Tree.{Expression, Specifiers, Initializer, BlockItems, ParameterList, Item}
+use Rattle.mc_tree.specs.Length.{token_count}
+use Rattle.mc_typed.specs.Sound.{IsSound}
 use Rattle.mc_typed.specs.Sound as sound
+use Rattle.mc_typed.specs.Tree.{Program}
+use Rattle.mc_subset.specs.Nodes.{nodes_of_unit}
+use Rattle.mc_subset.specs.Forms.{first_outside}
 use Rattle.mc_typing.specs.Types.{CType, is_complete, any_is_no_word}
 use Rattle.mc_typing.specs.Scopes.{Scope}
 use Rattle.mc_typing.specs.Judgement.{judge, judge_specifiers, judge_parameter_list}
 use Rattle.mc_typing.specs.Initializers.{judge_initializer}
 use Rattle.mc_typing.specs.Statements.{Around}
 use Rattle.mc_typing.specs.Bodies.{judge_block}
+use Rattle.mc_typing.specs.Typing.{HasTyping, IsTypingOf, typing_of}
 use Rattle.mc_soundness.specs.Growth.{AreBelow}
 use Rattle.mc_soundness.specs.Blocks.{BlockHasNoFunction}
 use Rattle.mc_soundness.specs.Fits.{World, Fits, Ends, IsWell, AreTyped, IsInitialized, IsAround, IsRun, ArraysEnd, AreParametersFound}
@@ -48,3 +54,31 @@ ParametersAreSound =
     (w : World) (ps : ParameterList) (s : Scope) → Fits w s → AreBelow (length s.statics) s.names
     → Ends w (judge_parameter_list ps s).scope → ArraysEnd w s (judge_parameter_list ps s).items
     → (judge_parameter_list ps s).faults ≡ [] → AreParametersFound w s (judge_parameter_list ps s)
+
+-- ---- units
+
+-- no node of a unit has an outside form
+abbrev pub IsAccepted : List Item → Type 0
+IsAccepted items = first_outside (nodes_of_unit items) ≡ None
+
+-- fewer than 2^31 of each
+pub record IsFew (p : Program) : Type 0 where
+  pub functions : length p.functions < 2 ^ 31
+  pub statics : length p.statics < 2 ^ 31
+  pub structures : length p.structures < 2 ^ 31
+
+-- An accepted unit with a typing has a typed program.
+abbrev pub UnitsAreTyped : Type 0
+UnitsAreTyped =
+    (items : List Item) → IsAccepted items → HasTyping items
+    → (p : Program) × (typing_of items ≡ Some p)
+
+-- It is sound.
+abbrev pub UnitsAreSound : Type 0
+UnitsAreSound =
+    (items : List Item) (p : Program) → IsAccepted items → IsTypingOf items p → IsFew p → IsSound p
+
+-- There are no more than tokens.
+abbrev pub UnitsAreFew : Type 0
+UnitsAreFew =
+    (items : List Item) (p : Program) → IsTypingOf items p → token_count items < 2 ^ 31 → IsFew p

@@ -7,6 +7,9 @@ ghost use Rattle.mc_soundness.specs.Laws.{
   InitializersAreSound,
   ParametersAreSound,
   SpecifiersAreSound,
+  UnitsAreFew,
+  UnitsAreSound,
+  UnitsAreTyped,
 };
 
 /// What is declared before an expression stays declared, whatever faults there are.
@@ -40,4 +43,13 @@ pub fn bodies_are_sound()
 /// Parameters without a fault have types, and objects of these types where they are no arrays.
 pub fn parameters_are_sound()
     ensures { ParametersAreSound }
+{}
+
+/// A unit without a fault and without an outside form has a typed program, which is sound where
+/// there are fewer than 2^31 functions, objects with static storage duration and structure types, as
+/// in a unit with fewer tokens.
+pub fn units_are_sound()
+    ensures typed { UnitsAreTyped }
+    ensures sound { UnitsAreSound }
+    ensures few { UnitsAreFew }
 {}

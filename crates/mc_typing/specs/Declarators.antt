@@ -249,7 +249,7 @@ has_member name (m ∷ ms) = bytes_eq m.name name || has_member name ms
 abbrev pub cells_of_members : List Member → ℕ
 cells_of_members members = cells_all (members_from (map (λ m. m.layout) members))
 
--- a member's own faults, after the members before it
+-- a member's own faults, after the members before it; with a fault it has no type and no cells
 abbrev pub declared_member_faults : Name → ArrayLengths → Option CType → Option CType
     → List Member → List Structure → List Fault
 declared_member_faults name lengths base u members all =
@@ -270,9 +270,10 @@ abbrev pub member_listed : Option CType → Name → ArrayLengths → List Membe
     → Listed Member
 member_listed base name lengths members y =
     let u = declared_type lengths y.value None base in
+    let own = declared_member_faults name lengths base u members y.scope.structures in
     record {
-      faults = y.faults ++ declared_member_faults name lengths base u members y.scope.structures;
-      items = with_member name u members y.scope.structures;
+      faults = y.faults ++ own;
+      items = with_member name (unless_faulty (y.faults ++ own) u) members y.scope.structures;
       scope = y.scope;
     }
 

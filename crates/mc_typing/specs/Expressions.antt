@@ -30,7 +30,7 @@ use Rattle.mc_typing.specs.declared.fault.Fault.{Fault}
 use Rattle.mc_typing.specs.declared.fault.FaultKind.TheVariants.{Undeclared, Mismatch}
 use Rattle.mc_typing.specs.Faults.{fault, fault_if}
 use Rattle.mc_typing.specs.Types.{Base, Void, Integer, Tagged, CType, Structure, Member, members_of, plain, layout_of, same_integer}
-use Rattle.mc_typing.specs.Scopes.{Meaning, Automatic, Constant, Function, Typedef, Scope, meaning_of}
+use Rattle.mc_typing.specs.Scopes.{Meaning, Automatic, Constant, Function, Typedef, Scope, meaning_of, later_or}
 use Rattle.mc_typing.specs.Scopes as scope
 use Rattle.mc_typing.specs.Values.{Judged, Value, Number, Stored, Borrowed, Done, Assigned, Designator, Kind, IsVoid, IsInteger, IsStructure, Found, kind_found, is_integer, is_array, is_structure, fails, integer_faults, discarded_faults, number_in, number_found, discarded_in, lift2, judged_one, judged_two, judged_three, part, found, kind_of, structure_in}
 use Rattle.mc_typing.specs.Constants.{type_of_constant}
@@ -137,7 +137,8 @@ index_found span x y =
     (judged_two (index_faults span.start x.place (kind_found x) (kind_found y))
     (index_value y.scope.structures span x.value (number_found y)) (part x) (part y))
 
--- a member of a list and its number, counted from k
+-- A member of a list and its number, counted from k. The names of a complete structure's members
+-- differ; of a list where they do not, the last member of a name counts.
 pub record Selected : Type 0 where
   pub number : ℕ
   pub member : Member
@@ -145,8 +146,8 @@ pub record Selected : Type 0 where
 abbrev pub selected : ℕ → List ℕ → List Member → Option Selected
 selected k name [] = None
 selected k name (m ∷ ms) =
-    if bytes_eq m.name name then Some (record { number = k; member = m })
-    else selected (k + 1) name ms
+    later_or (selected (k + 1) name ms)
+    (if bytes_eq m.name name then Some (record { number = k; member = m }) else None)
 
 -- `.` needs a place that is a structure (so not what a call returns), and one of its members.
 abbrev pub undeclared_member : List Structure → Name → Option Kind → Bool

@@ -160,7 +160,7 @@ place_faults None at = fault Mismatch at
 place_faults (Some labels) at = []
 
 abbrev pub with_value : ℤ → Labels → Labels
-with_value v labels = record labels { values = v ∷ labels.values }
+with_value v labels = record labels { values = labels.values ++ v ∷ [] }
 
 abbrev pub with_label : Option ℤ → Scope → Scope
 with_label None s = s

@@ -199,12 +199,15 @@ has w s = nat_lt 0 (count w s)
 abbrev pub signed_or : IntType → IntType → Specifiers → IntType
 signed_or a b s = if has word.Unsigned s then b else a
 
+-- `char` alone differs from both of its kin (C17 6.2.5p15)
+abbrev pub char_of_words : Specifiers → IntType
+char_of_words s = if has word.Signed s then the.SChar else signed_or the.Char the.UChar s
+
 -- the integer type of a set of words (C17 6.7.2p2)
 abbrev pub integer_of_words : Specifiers → Option IntType
 integer_of_words s =
     if has word.Bool s then Some the.Bool
-    else if has word.Char s then
-    Some (if has word.Signed s then the.SChar else signed_or the.Char the.UChar s)
+    else if has word.Char s then Some (char_of_words s)
     else if has word.Short s then Some (signed_or the.Short the.UShort s)
     else if nat_le 2 (count word.Long s) then Some (signed_or the.LLong the.ULLong s)
     else if has word.Long s then Some (signed_or the.Long the.ULong s)

@@ -1,0 +1,88 @@
+-- Cells as far as they are counted.
+use Rattle.std.proofs.Common.{◌≡◌, ◌∙◌, ◌<◌, ◌≤◌, ◌⊎◌, ◌*◌, ◌+◌, ℕ, zero, suc, min, ◌&&◌, nat_le, nat_lt, List, [], ◌∷◌, length, drop, drop-cons, get_or, refl, sym, ap, subst, arith, inl, inr}
+use Rattle.std.proofs.Math.Nat.{le-mul_of_pos_right, mul_assoc, mul_comm, mul_left_comm, mul-zero}
+use Rattle.std.proofs.lemmas.Bool.{cases_lt}
+use Rattle.std.proofs.lemmas.List.{drop_all}
+use Rattle.std.proofs.lemmas.Bool.Decides.{Decides-ltb, Decides-like, same_from_decides}
+use Rattle.mc_typed.specs.Layout.{ObjectType, cells, nesting}
+use Rattle.mc_typing.specs.Types.{arrays_of}
+use Rattle.mc_typing.specs.Limits.{is_passed_with}
+use Rattle.mc_typing.specs.Profile.{most_cells}
+use Rattle.mc_scopes.specs.Counted.{most_counted, product}
+
+pub factor_counted : (l a b : ℕ) → min (a * min b l) l ≡ min (a * b) l
+factor_counted l zero b = omega arith
+factor_counted l (suc a) b = go (cases_lt l b)
+  where
+    go : ((l < b) ⊎ (b ≤ l)) → min (suc a * min b l) l ≡ min (suc a * b) l
+    go (inl more) =
+        let is : min b l ≡ l = omega (arith, more) in
+        let one : l ≤ suc a * l =
+        subst (λ n. l ≤ n) (mul_comm l (suc a)) (le-mul_of_pos_right l (omega arith)) in
+        let two : b ≤ suc a * b =
+        subst (λ n. b ≤ n) (mul_comm b (suc a)) (le-mul_of_pos_right b (omega arith)) in
+        let left : min (suc a * l) l ≡ l = omega (arith, one) in
+        let right : min (suc a * b) l ≡ l = omega (arith, two, more) in
+        ap (λ n. min (suc a * n) l) is ∙ left ∙ sym right
+    go (inr few) =
+        let is : min b l ≡ b = omega (arith, few) in
+        ap (λ n. min (suc a * n) l) is
+
+pub product_counted : (l a b : ℕ) → min (min a l * b) l ≡ min (a * b) l
+product_counted l a zero = rw (mul-zero (min a l), mul-zero a) refl
+product_counted l a (suc b) = go (cases_lt l a)
+  where
+    go : ((l < a) ⊎ (a ≤ l)) → min (min a l * suc b) l ≡ min (a * suc b) l
+    go (inl more) =
+        let is : min a l ≡ l = omega (arith, more) in
+        let one : l ≤ l * suc b = le-mul_of_pos_right l (omega arith) in
+        let other : a ≤ a * suc b = le-mul_of_pos_right a (omega arith) in
+        rw is (omega (arith, more, one, other))
+    go (inr few) =
+        let is : min a l ≡ a = omega (arith, few) in
+        rw is refl
+
+-- one more factor
+pub factors_counted : (l a n p : ℕ) → min (min (a * n) l * p) l ≡ min (a * (n * p)) l
+factors_counted l a n p = product_counted l (a * n) p ∙ ap (λ m. min m l) (mul_assoc a n p)
+
+-- the cells of arrays
+pub cells_of_arrays : (ns : List ℕ) (u : ObjectType) → cells (arrays_of ns u) ≡ cells u * product ns
+cells_of_arrays [] u = omega arith
+cells_of_arrays (n ∷ ns) u =
+    ap (λ m. n * m) (cells_of_arrays ns u) ∙ mul_left_comm n (cells u) (product ns)
+
+pub nesting_of_arrays : (ns : List ℕ) (u : ObjectType) → nesting (arrays_of ns u) ≡ length ns + nesting u
+nesting_of_arrays [] u = omega arith
+nesting_of_arrays (n ∷ ns) u = omega (arith, nesting_of_arrays ns u)
+
+-- more cells than the limit are counted as more
+pub many_counted : (k n : ℕ) → k < most_counted → nat_lt k (min n most_counted) ≡ nat_lt k n
+many_counted k n h =
+    same_from_decides (nat_lt k (min n most_counted)) (nat_lt k n)
+    (Decides-like (nat_lt k (min n most_counted)) (λ e. omega (arith, e, h)) (λ e. omega (arith, e, h))
+    (Decides-ltb k (min n most_counted)))
+    (Decides-ltb k n)
+
+pub passed_counted : (before n : ℕ) → is_passed_with before (min n most_counted) ≡ is_passed_with before n
+passed_counted before n = go (cases_lt most_counted n)
+  where
+    go : ((most_counted < n) ⊎ (n ≤ most_counted)) → is_passed_with before (min n most_counted) ≡ is_passed_with before n
+    go (inl more) =
+        ap (λ b. nat_le before most_cells && b)
+        ((Decides-ltb most_cells (before + min n most_counted)).1 (omega (arith, more))
+        ∙ sym ((Decides-ltb most_cells (before + n)).1 (omega (arith, more))))
+    go (inr few) =
+        let is : min n most_counted ≡ n = omega (arith, few) in
+        ap (is_passed_with before) is
+
+-- ---- factors in turn
+
+pub product_next : (ns : List ℕ) (i d : ℕ) → i < length ns
+    → product (drop i ns) ≡ get_or ns i d * product (drop (i + 1) ns)
+product_next ns i d h =
+    let e : suc i ≡ i + 1 = omega arith in
+    ap product (drop-cons ns i d h) ∙ ap (λ k. get_or ns i d * product (drop k ns)) e
+
+pub product_end : (ns : List ℕ) (i : ℕ) → length ns ≤ i → product (drop i ns) ≡ 1
+product_end ns i h = ap product (drop_all i ns h)

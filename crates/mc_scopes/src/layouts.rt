@@ -1,0 +1,349 @@
+//! Layouts of types (C17 6.2.5), and the limits of objects.
+ghost use Rattle.std.specs.Prelude.{◌≡◌, ◌+◌, ◌*◌, ◌<◌, ◌≤◌, ◌||◌, ◌^◌, nat_lt, min, [], map, slice_get, Some, IfOk, OnErr};
+ghost use Rattle.mc_typed.specs.Layout as layout;
+ghost use Rattle.mc_typed.specs.Layout.{object_type_of};
+ghost use Rattle.mc_typing.specs.Types as t;
+ghost use Rattle.mc_typing.specs.Limits as limit;
+ghost use Rattle.mc_typing.specs.Profile.{most_cells};
+ghost use Rattle.mc_scopes.specs.Types.{base_of, type_of};
+ghost use Rattle.mc_scopes.specs.Views.{structure_of};
+ghost use Rattle.mc_scopes.specs.Counted.{most_counted, product};
+
+use crate::members::Structure;
+use crate::types::{Base, CType};
+use mc_value::ObjType;
+use std::alloc::{AllocError, Global};
+use std::sync::Arc;
+
+// The limits of this profile.
+const MOST_CELLS: u32 = 65536;
+
+const MOST_NESTING: u64 = 200;
+
+/// Whether an object can have a type with this base (C17 6.2.5p1).
+#[tactic(auto, using(crate::proofs::Arrays::structure_at))]
+pub fn is_complete(structures: &[Structure<'_>], base: Base) -> bool
+    ensures { result ≡ t.is_complete (map structure_of structures.now) (base_of base) }
+{
+    match base {
+        Base::Void => false,
+        Base::Integer(_) => true,
+        Base::Tagged(number) => match structures.get(number as usize) {
+            Some(Structure::Complete(_)) => true,
+            Some(Structure::Incomplete { .. }) => false,
+            Some(Structure::Faulty) => false,
+            None => false,
+        },
+    }
+}
+
+/// Whether the base is a structure with a fault in its list.
+#[tactic(auto, using(crate::proofs::Arrays::structure_at))]
+pub fn is_faulty(structures: &[Structure<'_>], base: Base) -> bool
+    ensures { result ≡ t.is_faulty (map structure_of structures.now) (base_of base) }
+{
+    match base {
+        Base::Void => false,
+        Base::Integer(_) => false,
+        Base::Tagged(number) => match structures.get(number as usize) {
+            Some(Structure::Faulty) => true,
+            Some(Structure::Complete(_)) => false,
+            Some(Structure::Incomplete { .. }) => false,
+            None => false,
+        },
+    }
+}
+
+// ---- layouts
+
+// No members.
+fn no_parts(alloc: Global) -> Result<Arc<Vec<ObjType>>, AllocError>
+    ensures { IfOk result (λ p. map object_type_of p.value.items ≡ []) }
+{
+    Ok(Arc::new(alloc, Vec::new(alloc))?)
+}
+
+// The layouts of the members of a structure, where it is complete.
+fn parts_of(alloc: Global, structure: &Structure<'_>) -> Result<Arc<Vec<ObjType>>, AllocError>
+    ensures { IfOk result (λ p. map object_type_of p.value.items
+        ≡ map (λ m. m.layout) (t.members_of (Some (structure_of structure.now)))) }
+{
+    match structure {
+        Structure::Complete(complete) => complete.parts(),
+        Structure::Incomplete { .. } => no_parts(alloc),
+        Structure::Faulty => no_parts(alloc),
+    }
+}
+
+// The same of the structure type with this number.
+#[tactic(auto, using(crate::proofs::Arrays::structure_at))]
+fn parts_at(
+    alloc: Global,
+    structures: &[Structure<'_>],
+    number: u32,
+) -> Result<Arc<Vec<ObjType>>, AllocError>
+    ensures { IfOk result (λ p. map object_type_of p.value.items
+        ≡ map (λ m. m.layout) (t.members_of (slice_get (map structure_of structures.now) number))) }
+{
+    match structures.get(number as usize) {
+        Some(structure) => parts_of(alloc, structure),
+        None => no_parts(alloc),
+    }
+}
+
+// The layout of a base.
+fn layout_of_base(
+    alloc: Global,
+    structures: &[Structure<'_>],
+    base: Base,
+) -> Result<ObjType, AllocError>
+    ensures { IfOk result (λ r. object_type_of r
+        ≡ t.layout_of_base (map structure_of structures.now) (base_of base)) }
+{
+    match base {
+        Base::Void => {
+            let members = no_parts(alloc)?;
+            Ok(ObjType::Struct { number: 0, members })
+        }
+        Base::Integer(of) => Ok(ObjType::Int(of)),
+        Base::Tagged(number) => {
+            let members = parts_at(alloc, structures, number)?;
+            Ok(ObjType::Struct { number, members })
+        }
+    }
+}
+
+// An array of so many elements.
+fn array(alloc: Global, length: u64, element: ObjType) -> Result<ObjType, AllocError>
+    ensures { IfOk result (λ r. object_type_of r ≡ layout.Array length (object_type_of element)) }
+{
+    let Ok(length) = u32::try_from(length) else {
+        return Err(AllocError);
+    };
+    let element = Arc::new(alloc, element)?;
+    Ok(ObjType::Array { element, length })
+}
+
+// Arrays of arrays, the outermost length first. A type keeps few lengths, so this does not go deep.
+fn arrays(alloc: Global, lengths: &[u64], element: ObjType) -> Result<ObjType, AllocError>
+    ensures { IfOk result (λ r. object_type_of r
+        ≡ t.arrays_of lengths.now (object_type_of element)) }
+{
+    match lengths {
+        [] => Ok(element),
+        [length, inner @ ..] => {
+            let inner = arrays(alloc, inner, element)?;
+            array(alloc, *length, inner)
+        }
+    }
+}
+
+/// The layout of an object of a complete type. No type within the limits has a length that does not
+/// fit 32 bits.
+///
+/// # Errors
+///
+/// `AllocError` where memory runs out, and at such a length.
+pub fn layout(
+    alloc: Global,
+    structures: &[Structure<'_>],
+    of: &CType,
+) -> Result<ObjType, AllocError>
+    ensures { IfOk result (λ r. object_type_of r
+        ≡ t.layout_of (map structure_of structures.now) (type_of of.now)) }
+{
+    let base = layout_of_base(alloc, structures, of.base)?;
+    arrays(alloc, &of.lengths, base)
+}
+
+// The structure type with this number.
+fn structure_type(
+    alloc: Global,
+    number: u32,
+    structure: &Structure<'_>,
+) -> Result<ObjType, AllocError>
+    ensures { IfOk result (λ r. object_type_of r
+        ≡ t.structure_from number (structure_of structure.now)) }
+{
+    let members = parts_of(alloc, structure)?;
+    Ok(ObjType::Struct { number, members })
+}
+
+/// The structure types of a program, by their numbers. One that stays incomplete has no members.
+///
+/// # Errors
+///
+/// `AllocError` where memory runs out, and at more structure types than 32 bits count.
+pub fn structure_types(
+    alloc: Global,
+    structures: &[Structure<'_>],
+) -> Result<Vec<ObjType>, AllocError>
+    ensures { IfOk result (λ r. map object_type_of r.items
+        ≡ t.structures_from 0 (map structure_of structures.now)) }
+{
+    let mut types = Vec::new(alloc);
+    for structure in structures {
+        let Ok(number) = u32::try_from(types.len()) else {
+            return Err(AllocError);
+        };
+        types.push(structure_type(alloc, number, structure)?)?;
+    }
+    Ok(types)
+}
+
+// ---- cells
+
+// The cells of an object of a base.
+#[tactic(auto, using(crate::proofs::Arrays::structure_at))]
+fn cells_of_base(structures: &[Structure<'_>], base: Base) -> u32
+    ensures { result
+        ≡ layout.cells (t.layout_of_base (map structure_of structures.now) (base_of base)) }
+{
+    match base {
+        Base::Void => 0,
+        Base::Integer(_) => 1,
+        Base::Tagged(number) => match structures.get(number as usize) {
+            Some(Structure::Complete(complete)) => complete.cells(),
+            Some(Structure::Incomplete { .. }) => 0,
+            Some(Structure::Faulty) => 0,
+            None => 0,
+        },
+    }
+}
+
+// A product, or the greatest number of cells that is counted.
+#[tactic(auto, using(crate::proofs::Counted::factor_counted))]
+fn counted_product(cells: u32, length: u64) -> u32
+    ensures { result ≡ min (cells * length) most_counted }
+{
+    let factor = length.min(u32::MAX as u64);
+    let product = cells as u64 * factor;
+    product.min(u32::MAX as u64) as u32
+}
+
+// The same of many factors.
+#[tactic(auto, using(crate::proofs::Counted::factors_counted))]
+fn counted_products(cells: u32, lengths: &[u64]) -> u32
+    ensures { result ≡ min (cells * product lengths.now) most_counted }
+{
+    let mut total = cells;
+    for length in lengths {
+        total = counted_product(total, *length);
+    }
+    total
+}
+
+// The cells of an object of a type, or the greatest number of cells that is counted.
+#[tactic(auto, using(crate::proofs::Counted::cells_of_arrays))]
+fn counted_cells(structures: &[Structure<'_>], of: &CType) -> u32
+    ensures { result
+        ≡ min (layout.cells (t.layout_of (map structure_of structures.now) (type_of of.now)))
+        most_counted }
+{
+    counted_products(cells_of_base(structures, of.base), &of.lengths)
+}
+
+/// How many cells an object of the type has.
+///
+/// # Errors
+///
+/// `AllocError` where they are 2^32 - 1 or more, which no object within the limits has. Takes no
+/// memory.
+pub fn cells(structures: &[Structure<'_>], of: &CType) -> Result<u32, AllocError>
+    ensures exact { IfOk result (λ n. n
+        ≡ layout.cells (t.layout_of (map structure_of structures.now) (type_of of.now))) }
+    ensures many { OnErr result (most_counted
+        ≤ layout.cells (t.layout_of (map structure_of structures.now) (type_of of.now))) }
+{
+    let count = counted_cells(structures, of);
+    if count == u32::MAX {
+        Err(AllocError)
+    } else {
+        Ok(count)
+    }
+}
+
+// ---- limits
+
+// How many arrays and structures stand inside one another in a base.
+#[tactic(auto, using(crate::proofs::Arrays::structure_at))]
+fn nesting_of_base(structures: &[Structure<'_>], base: Base) -> u64
+    ensures exact { result
+        ≡ layout.nesting (t.layout_of_base (map structure_of structures.now) (base_of base)) }
+    ensures few { result < 2 ^ 33 }
+{
+    match base {
+        Base::Void => 1,
+        Base::Integer(_) => 0,
+        Base::Tagged(number) => match structures.get(number as usize) {
+            Some(Structure::Complete(complete)) => complete.nesting() as u64 + 1,
+            Some(Structure::Incomplete { .. }) => 1,
+            Some(Structure::Faulty) => 1,
+            None => 1,
+        },
+    }
+}
+
+// How many arrays and structures stand inside one another in a type.
+#[tactic(auto, using(crate::proofs::Counted::nesting_of_arrays))]
+fn nesting(structures: &[Structure<'_>], of: &CType) -> u64
+    ensures { result
+        ≡ layout.nesting (t.layout_of (map structure_of structures.now) (type_of of.now)) }
+{
+    of.lengths.len() as u64 + nesting_of_base(structures, of.base)
+}
+
+/// How many arrays and structures stand inside one another in an object of the type.
+///
+/// # Errors
+///
+/// `AllocError` where 32 bits do not count them. Takes no memory.
+pub fn counted_nesting(structures: &[Structure<'_>], of: &CType) -> Result<u32, AllocError>
+    ensures { IfOk result (λ n. n
+        ≡ layout.nesting (t.layout_of (map structure_of structures.now) (type_of of.now))) }
+{
+    match u32::try_from(nesting(structures, of)) {
+        Ok(count) => Ok(count),
+        Err(_) => Err(AllocError),
+    }
+}
+
+// Whether an object of the type has too many cells.
+#[tactic(auto, using(crate::proofs::Counted::many_counted))]
+fn has_many_cells(structures: &[Structure<'_>], of: &CType) -> bool
+    ensures { result ≡ nat_lt most_cells
+        (layout.cells (t.layout_of (map structure_of structures.now) (type_of of.now))) }
+{
+    counted_cells(structures, of) > MOST_CELLS
+}
+
+/// Whether an object of the type passes a limit: its cells, its nesting, or a length of an array.
+pub fn is_too_large(structures: &[Structure<'_>], of: &CType) -> bool
+    ensures { result ≡ limit.is_too_large (map structure_of structures.now) (type_of of.now) }
+{
+    of.is_long() || has_many_cells(structures, of) || nesting(structures, of) > MOST_NESTING
+}
+
+/// Whether so many cells are within the limit, but with so many more they pass it.
+pub fn is_passed_with(before: u64, more: u32) -> bool
+    ensures { result ≡ limit.is_passed_with before more }
+{
+    before <= MOST_CELLS as u64 && before + more as u64 > MOST_CELLS as u64
+}
+
+// Whether a member of the type is the first with which the cells pass the limit.
+#[tactic(auto, using(crate::proofs::Counted::passed_counted))]
+fn is_passed_by(before: u32, structures: &[Structure<'_>], of: &CType) -> bool
+    ensures { result ≡ limit.is_passed_with before
+        (layout.cells (t.layout_of (map structure_of structures.now) (type_of of.now))) }
+{
+    is_passed_with(before as u64, counted_cells(structures, of))
+}
+
+/// Whether a member of the type, after members with so many cells, passes a limit of its structure.
+pub fn is_large_member(before: u32, structures: &[Structure<'_>], of: &CType) -> bool
+    ensures { result ≡ (limit.is_long of.now.lengths.items || limit.is_large_member before
+        (t.layout_of (map structure_of structures.now) (type_of of.now))) }
+{
+    of.is_long() || is_passed_by(before, structures, of) || nesting(structures, of) >= MOST_NESTING
+}
