@@ -1,0 +1,9 @@
+pub mod Listed
+pub mod Bounds
+pub mod Naming
+pub mod Events
+pub mod Judged
+pub mod Least
+pub mod Alike
+pub mod Single
+pub mod Pairs

@@ -1,0 +1,16 @@
+-- What follows from the definition of verdicts.
+use Rattle.std.specs.Prelude.{◌≡◌, List}
+use Rattle.mc_core.specs.Matrix.{MatrixView}
+use Rattle.mc_probe.specs.Maps.{Map}
+use Rattle.mc_oblige.specs.declared.mode.Mode.{Mode}
+use Rattle.mc_oblige.specs.declared.justification.Justification.{Justification}
+use Rattle.mc_oblige.specs.declared.verdict.Verdict.{Verdict}
+use Rattle.mc_oblige.specs.Shown.{HasEvent}
+use Rattle.mc_oblige.specs.Verdicts.{AreVerdicts}
+
+-- a matrix has one list of verdicts
+abbrev pub VerdictsAreOne : Type 0
+VerdictsAreOne =
+    (m : Map) (x : MatrixView) (mode : Mode) (named : List Justification) (vs ws : List Verdict) →
+    AreVerdicts (HasEvent m x) m mode named vs → AreVerdicts (HasEvent m x) m mode named ws →
+    vs ≡ ws

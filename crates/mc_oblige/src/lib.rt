@@ -1,0 +1,25 @@
+//! Obligations of a map, and verdicts on them with their evidence.
+#![tactic(auto)]
+
+mod conditions;
+mod decisions;
+mod evidence;
+mod judging;
+mod justification;
+mod laws;
+mod listing;
+mod mode;
+mod obligation;
+mod outcomes;
+mod places;
+mod seen;
+mod table;
+mod verdict;
+
+pub use judging::judge;
+pub use justification::{Justification, Reason};
+pub use laws::verdicts_are_one;
+pub use listing::obligations;
+pub use mode::Mode;
+pub use obligation::{Obligation, ObligationId};
+pub use verdict::{Evidence, Verdict, VerdictState};
