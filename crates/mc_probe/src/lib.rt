@@ -2,13 +2,11 @@
 #![tactic(auto)]
 
 mod bit_map;
-mod copies;
 mod laws;
 mod mapped;
 mod tree;
 
 pub use bit_map::BitMap;
-pub use copies::bare;
 pub use laws::{
     bare_trees_are_programs, events_are_listed, maps_are_kept, same_trees_are_equal,
     trees_erase_to_programs,

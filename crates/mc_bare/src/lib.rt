@@ -1,0 +1,6 @@
+//! The tree of a program without probes.
+#![tactic(auto)]
+
+mod copies;
+
+pub use copies::bare;
