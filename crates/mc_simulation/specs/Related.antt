@@ -1,5 +1,5 @@
 -- Places and cells. The row of cells is laid out as one structure: its first member has the static
--- objects, and member n the objects of the open activation n, which was called before those after it.
+-- objects, and member n the objects of the n-th open activation.
 use Rattle.std.specs.Prelude.{◌≡◌, ℕ, ℤ, List, length, slice_get, Option, Some}
 use Rattle.mc_value.specs.declared.int_type.IntType.{IntType}
 use Rattle.mc_typed.specs.Layout.{ObjectType, Scalar, Structure, Members, cells_all, Leads}

@@ -46,8 +46,8 @@ pub fn parameters_are_sound()
 {}
 
 /// A unit without a fault and without an outside form has a typed program, which is sound where
-/// there are fewer than 2^31 functions, objects with static storage duration and structure types, as
-/// in a unit with fewer tokens.
+/// there are fewer than 2^31 functions, static objects and structure types, as in a unit with fewer
+/// tokens.
 pub fn units_are_sound()
     ensures typed { UnitsAreTyped }
     ensures sound { UnitsAreSound }

@@ -124,8 +124,8 @@ calls =
           (name 12) (call_with (not_of (name 18) 17 19) 15 20) 12 20) 10 21) 7 21) 5 22) 2 22) 0 23)
           ∷ [];
       decisions = told 2 22 (c.And (Leaf 0) (Leaf 1)) (span 2 3 ∷ span 5 22 ∷ []) ∷ told 7 21 (c.Or
-          (Leaf 0) (Leaf 1)) (span 7 8 ∷ span 10 21 ∷ []) ∷ whole 12 20 ∷ told 17 19 (c.Not (Leaf 0))
-          (span 18 19 ∷ []) ∷ [];
+          (Leaf 0) (Leaf 1)) (span 7 8 ∷ span 10 21 ∷ []) ∷ whole 12 20
+          ∷ told 17 19 (c.Not (Leaf 0)) (span 18 19 ∷ []) ∷ [];
     }
     -- `a&&f(b<c);`
     ∷ record {
@@ -208,8 +208,8 @@ effects =
     -- `a?(void)(b<c):v(d&&e);`
     ∷ record {
       body = effect (t.ChoiceEffect (name 0) (t.Discard (t.NumberEffect (binary Lt (name 9) (name
-          11) 9 12) false) (span 2 13)) (t.CallEffect (number_call (and_of (name 16) (name 19) 16 20)
-          14 21)) (span 0 21)) ∷ [];
+          11) 9 12) false) (span 2 13)) (t.CallEffect (number_call (and_of (name 16) (name 19)
+          16 20) 14 21)) (span 0 21)) ∷ [];
       decisions = whole 0 1 ∷ whole 9 12 ∷ told 16 20 (c.And (Leaf 0) (Leaf 1)) (span 16 17 ∷ span
           19 20 ∷ []) ∷ [];
     }

@@ -1,6 +1,6 @@
-//! Rows of expressions that are returned: the text, how it is made, and its decisions. Each decision is
-//! shown as its function, the start and text of its root, its tree, and the start and text of each
-//! condition. The laws of laws.rt have more texts.
+//! Rows of expressions that are returned: the text, how it is made, and its decisions. Each decision
+//! is shown as its function, the start and text of its root, its tree, and the start and text of
+//! each condition. The laws of laws.rt have more texts.
 use crate::make::Kind::{And, Binary, Constant, Name, Not, Or, Return};
 use crate::make::Step;
 use mc_value::BinOp::{Eq, Lt};

@@ -16,7 +16,8 @@ use Rattle.tests_meaning.specs.RulesOfStatements.{for}
 
 -- int f(int i){int t[3]={0};return t[i];}
 abbrev pub all_zero : Program
-all_zero = program (function (ints 1) (t.NumberResult Int) (int ∷ object (Array 3 (Scalar Int)) ∷ [])
+all_zero = program (function (ints 1) (t.NumberResult Int)
+    (int ∷ object (Array 3 (Scalar Int)) ∷ [])
     (declares (record { slot = slot 1; cells = 3; value = Some (t.ZeroInitializer (num 0) 3) } ∷ [])
     ∷ gives (read (item (local 1) 3 (var 0))) ∷ []) ∷ [])
 

@@ -206,7 +206,12 @@ OutputIsLimited =
     ((put_out (filled 4096)).out ≡ (stops {M = Unit {0}} {E = Event} ending.OutputFull
     (record (filled 4096) { fuel = 0 })).out)
     × ((put_out (filled 4095)).out ≡ (runs.gives {M = Unit {0}} {E = Event} tt
-    (record { memory = tt; fuel = 0; inputs = []; output = replicate 4095 (pos 7) ++ pos 8 ∷ [] })).out)
+    (record {
+      memory = tt;
+      fuel = 0;
+      inputs = [];
+      output = replicate 4095 (pos 7) ++ pos 8 ∷ [];
+    })).out)
 
 -- ---- the state of a test
 
@@ -234,7 +239,8 @@ states =
     ∷ sums (pos 3) (Some (pos 2)) (Some (pos 5 ∷ [])) ∷ []))
     ∷ plain_state summing (test (sums (pos 1) None None ∷ sums (pos 3) (Some (pos 3)) None ∷ []))
     ∷ plain_state summing (test (sums (pos 1) None (Some []) ∷ sums (pos 3) None None ∷ []))
-    ∷ plain_state summing (test (sums (pos 1) None None ∷ sums (pos 3) None (Some (pos 2 ∷ [])) ∷ []))
+    ∷ plain_state summing
+    (test (sums (pos 1) None None ∷ sums (pos 3) None (Some (pos 2 ∷ [])) ∷ []))
     ∷ plain_state summing (test (sums (pos 1) (Some (pos 6)) None ∷ sums (negsuc 1) None None ∷ []))
     ∷ []
 

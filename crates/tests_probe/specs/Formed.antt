@@ -35,12 +35,13 @@ no_label = p.no_statements
 abbrev pub with_default : Statements
 with_default = p.statements (p.Label None (at 2 3) None) p.no_statements
 
+abbrev pub probed : Statement
+probed = p.If (p.Probe (probe.Switch 0) one) (p.Null (at 1 2) None) (at 0 1) (at 0 2) None
+
 -- a probe whose register is none of the function's
 abbrev pub Registers : Type 0
 Registers =
-    FitsStatement 1 (p.If (p.Probe (probe.Switch 0) one) (p.Null (at 1 2) None) (at 0 1) (at 0 2) None)
-    × ¬ FitsStatement 0
-    (p.If (p.Probe (probe.Switch 0) one) (p.Null (at 1 2) None) (at 0 1) (at 0 2) None)
+    FitsStatement 1 probed × ¬ FitsStatement 0 probed
 
 -- a bit of a declaration that initializes nothing
 abbrev pub Declarations : Type 0
