@@ -1,8 +1,8 @@
 -- What is read with some room, by what is read with less.
-use Rattle.std.proofs.Common.{◌≡◌, ◌≤◌, ◌-◌, ℕ, zero, suc, List, Option, None, refl, arith, if◌then◌else◌, codes}
+use Rattle.std.proofs.Common.{◌≡◌, ◌≤◌, ◌-◌, ℕ, zero, suc, List, None, refl, arith, if◌then◌else◌, codes}
 use Rattle.mc_tree.specs.Tree.{Initializer}
-use Rattle.mc_grammar.specs.Words.{Lexeme, sees}
-use Rattle.mc_reading.specs.Parsers.{Parser, ◌>>=◌, see}
+use Rattle.mc_grammar.specs.Words.{Lexeme}
+use Rattle.mc_grammar.specs.steps.Parsers.{Parser, ◌>>=◌, see}
 use Rattle.mc_reading.specs.Rooms.{reading}
 use Rattle.mc_reading.specs.Declarations.{initializer_of, braced_of, single_of}
 

@@ -1,6 +1,5 @@
 pub mod Lists
 pub mod Turns
-pub mod Names
 pub mod Levels
 pub mod Parts
 pub mod Rooms

@@ -1,10 +1,10 @@
 -- One turn of each loop.
-use Rattle.std.proofs.Common.{◌≡◌, ◌<◌, ◌≤◌, ◌+◌, ◌-◌, ℕ, zero, suc, Bool, List, [], ◌∷◌, ◌++◌, map, Option, None, refl, ap, arith, max}
-use Rattle.mc_tree.specs.Tree.{Expression, Expressions}
+use Rattle.std.proofs.Common.{◌≡◌, ◌<◌, ◌≤◌, ◌+◌, ◌-◌, ℕ, suc, Bool, List, [], ◌∷◌, ◌++◌, map, None, refl, ap, arith, max}
+use Rattle.mc_tree.specs.Tree.{Expression}
 use Rattle.mc_tree.specs.Height.{height, tallest}
 use Rattle.mc_tree.specs.Views.{expressions_from}
 use Rattle.mc_grammar.specs.Words.{Lexeme}
-use Rattle.mc_reading.specs.Parsers.{Parser}
+use Rattle.mc_grammar.specs.steps.Parsers.{Parser}
 use Rattle.mc_reading.specs.Lists.{comma_list, comma_turn, braced_list, braced_turn, some_list, some_turn, until_list, until_turn}
 
 pub comma_list_turn : {A : Type 0} (one : Parser A) (before : List A) (ts : List Lexeme) (n k : ℕ)

@@ -10,7 +10,7 @@ use Rattle.mc_tree.specs.Height as h
 use Rattle.mc_tree.specs.Views.{array_length_of, node_declarator, node_enumerator, node_expression, node_length, node_member, node_parameter, node_specifier, declarators_from, enumerators_from, lengths_from, members_from, parameters_from, specifiers_from}
 use Rattle.mc_grammar.specs.Words.{Lexeme, is_name, next_is}
 use Rattle.mc_grammar.specs.Places.{name_at}
-use Rattle.mc_reading.specs.Parsers.{Parser, take}
+use Rattle.mc_grammar.specs.steps.Parsers.{Parser, take}
 use Rattle.mc_reading.specs.Lists.{braced_list, braced_turn, some_list, some_turn}
 use Rattle.mc_reading.specs.Expressions.{Parts}
 use Rattle.mc_reading.specs.Specifiers.{lengths_loop, lengths_turn, name_next, specifiers_loop, specifiers_turn}

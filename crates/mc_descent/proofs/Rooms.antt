@@ -1,17 +1,15 @@
 -- What is read of fewer levels than some, from what is read of one level less.
-use Rattle.std.proofs.Common.{◌≡◌, ◌<◌, ◌-◌, ℕ, zero, suc, Bool, List, Option, Some, None, refl, sym, ◌∙◌, arith}
+use Rattle.std.proofs.Common.{◌≡◌, ◌<◌, ◌-◌, ℕ, zero, suc, Bool, List, Option, Some, None, refl, sym, arith}
 use Rattle.mc_tree.specs.Tree.{Expression, Specifiers}
 use Rattle.mc_grammar.specs.Words.{Lexeme}
 use Rattle.mc_grammar.specs.Nonterminal.{Level, Nonterminal, operand}
 use Rattle.mc_grammar.specs.Nonterminal as n
-use Rattle.mc_reading.specs.Parsers.{Parser, and_then}
-use Rattle.mc_reading.specs.Expressions.{Parts, assign_of, cast_of, climb, comma_of, cond_of, expression_by, expression_of, level_of, unary_of}
+use Rattle.mc_grammar.specs.steps.Parsers.{Parser, and_then}
+use Rattle.mc_reading.specs.Expressions.{Parts, cast_of, climb, expression_by, expression_of, level_of}
 use Rattle.mc_reading.specs.Specifiers.{specifiers_of}
 use Rattle.mc_reading.specs.Rooms.{reading}
-use Rattle.mc_descent.specs.declared.rule.Rule.{Rule}
-use Rattle.mc_descent.specs.declared.rule.Rule.TheVariants as rule
-use Rattle.mc_descent.specs.Rules.{below, nonterminal_of}
-use Rattle.mc_descent.specs.Rules as rules
+use Rattle.mc_cursor.specs.declared.rule.Rule.{Rule}
+use Rattle.mc_cursor.specs.Rules.{below, nonterminal_of}
 
 and_pure : {A : Type 0} (read : Option (A × List Lexeme)) → and_then read (λ a ts. Some (a, ts)) ≡ read
 and_pure None = refl

@@ -9,17 +9,16 @@ use Rattle.mc_grammar.specs.Words.{Lexeme}
 use Rattle.mc_grammar.specs.Counts.{for_type}
 use Rattle.mc_reading.specs.Expressions.{Stars}
 use Rattle.mc_reading.specs.Rooms.{reading}
-use Rattle.mc_descent.specs.declared.cursor.Cursor.{Cursor}
-use Rattle.mc_descent.specs.declared.fault.Fault.{Fault}
-use Rattle.mc_descent.specs.declared.fault.Fault.TheVariants.{Syntax, OutOfMemory}
-use Rattle.mc_descent.specs.declared.rule.Rule.{Rule}
+use Rattle.mc_cursor.specs.declared.cursor.Cursor.{Cursor}
+use Rattle.mc_cursor.specs.declared.fault.Fault.{Fault}
+use Rattle.mc_cursor.specs.declared.rule.Rule.{Rule}
 use Rattle.mc_descent.specs.declared.read.Read.{Read}
 use Rattle.mc_descent.specs.declared.read.ReadAll.{ReadAll}
 use Rattle.mc_descent.specs.declared.read.ReadSpecifiers.{ReadSpecifiers}
 use Rattle.mc_descent.specs.declared.read.ReadStars.{ReadStars}
 use Rattle.mc_descent.specs.declared.read.ReadType.{ReadType}
-use Rattle.mc_descent.specs.Cursors.{left_of, Refuses}
-use Rattle.mc_descent.specs.Rules.{nonterminal_of}
+use Rattle.mc_cursor.specs.Cursors.{left_of, NotMade, Refuses}
+use Rattle.mc_cursor.specs.Rules.{nonterminal_of}
 
 -- an expression
 abbrev pub tree_of : Read → t.Expression
@@ -41,10 +40,11 @@ trees_of r = map expression_of r.trees.items
 abbrev pub IsAllHigh : ReadAll → Type 0
 IsAllHigh r = r.height ≡ h.tallest (expressions_from (trees_of r))
 
-abbrev pub GivesAll : Option (List t.Expression × List Lexeme) → Result ReadAll Fault → List Lexeme
-    → Type 0
-GivesAll read (Ok r) rest = (read ≡ Some (trees_of r, rest)) × IsAllHigh r
-GivesAll read (Err fault) rest = Refuses read fault
+-- expressions that were put after others
+abbrev pub GivesMore : {X : Type 0} → Option (List t.Expression × List Lexeme) → ReadAll
+    → Result X Fault → List Lexeme → Type 0
+GivesMore read all (Ok done) rest = (read ≡ Some (trees_of all, rest)) × IsAllHigh all
+GivesMore read all (Err fault) rest = Refuses read fault
 
 abbrev pub specifiers_of : ReadSpecifiers → t.Specifiers
 specifiers_of r = specifiers_from (map specifier_of r.all.items)
@@ -68,11 +68,7 @@ GivesType read (Ok r) rest =
     (read ≡ Some (type_of r, rest)) × (r.height ≡ h.height_type (type_of r))
 GivesType read (Err fault) rest = Refuses read fault
 
--- a node that was made on the heap: nothing else can go wrong than memory
-abbrev pub NotMade : Fault → Type 0
-NotMade Syntax = ⊥
-NotMade OutOfMemory = Unit {0}
-
+-- a node that was made on the heap
 abbrev pub GivesMade : t.Expression → ℕ → Result Read Fault → Type 0
 GivesMade tree high (Ok r) = (expression_of r.tree.value ≡ tree) × (r.height ≡ high)
 GivesMade tree high (Err fault) = NotMade fault

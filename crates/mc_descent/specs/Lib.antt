@@ -1,6 +1,3 @@
-pub mod Short
-pub mod Cursors
-pub mod Rules
 pub mod Given
 pub mod Heads
 pub mod Parts

@@ -1,7 +1,8 @@
 -- What the functions for declarators and specifiers return, as the readers of mc_reading give it.
-use Rattle.std.specs.Prelude.{◌≡◌, ℕ, false, List, [], map, Option, Some, Result, Ok, Err, Vec}
+use Rattle.std.specs.Prelude.{◌≡◌, ℕ, false, List, [], codes, map, Option, Some, Result, Ok, Err, Box, Vec}
 use Rattle.std.specs.declared.alloc.Global.{Global}
 use Rattle.mc_span.specs.declared.span.Span.{Span}
+use Rattle.mc_tree.specs.declared.declarations.specifier_word.SpecifierWord.{SpecifierWord}
 use Rattle.mc_tree.specs.declared.declarations.specifier.Specifier as code_specifier
 use Rattle.mc_tree.specs.declared.declarations.member.Member as code_member
 use Rattle.mc_tree.specs.declared.declarations.enumerator.Enumerator as code_enumerator
@@ -11,18 +12,19 @@ use Rattle.mc_tree.specs.Tree.{ArrayLengths, Declarator, Enumerator, Name, Param
 use Rattle.mc_tree.specs.Tree as t
 use Rattle.mc_tree.specs.Views.{array_length_of, declarator_of, declarators_from, enumerator_of, enumerators_from, lengths_from, member_of, members_from, parameter_of, parameters_from, specifier_of, specifiers_from}
 use Rattle.mc_tree.specs.Height.{height_declarators, height_enumerators, height_lengths, height_members, height_parameter_list, height_specifiers}
-use Rattle.mc_grammar.specs.Places.{to}
+use Rattle.mc_grammar.specs.Places.{at, end_of_specifiers, name_at, to}
 use Rattle.mc_grammar.specs.Words.{Lexeme}
 use Rattle.mc_reading.specs.Lists.{listed}
-use Rattle.mc_reading.specs.Parsers.{Parser, ◌>>=◌, pure}
-use Rattle.mc_reading.specs.Expressions.{Parts}
-use Rattle.mc_reading.specs.Specifiers.{Length, Lengths, lengths_of}
+use Rattle.mc_grammar.specs.steps.Parsers.{Parser, ◌>>=◌, ask, expect, pure, take}
+use Rattle.mc_reading.specs.Expressions.{Parts, stars_of}
+use Rattle.mc_reading.specs.Specifiers.{Length, Lengths, lengths_of, name_next, parameter_by}
 use Rattle.mc_reading.specs.Specifiers as spec
-use Rattle.mc_descent.specs.declared.fault.Fault.{Fault}
+use Rattle.mc_cursor.specs.declared.fault.Fault.{Fault}
 use Rattle.mc_descent.specs.declared.read.ReadLength.{ReadLength}
 use Rattle.mc_descent.specs.declared.read.ReadLengths.{ReadLengths}
 use Rattle.mc_descent.specs.declared.read.ReadSpecifiers.{ReadSpecifiers}
-use Rattle.mc_descent.specs.Cursors.{Refuses}
+use Rattle.mc_cursor.specs.Cursors.{Refuses}
+use Rattle.mc_cursor.specs.Cursors.{NotMade}
 
 abbrev pub length_of : ReadLength → Length
 length_of r = record { one = array_length_of r.one; end = r.end }
@@ -66,6 +68,66 @@ high_enumerators all = height_enumerators (enumerators_from all)
 
 abbrev pub high_specifiers : List Specifier → ℕ
 high_specifiers all = height_specifiers (specifiers_from all)
+
+-- a part on the heap
+abbrev pub boxed_specifier : Box code_specifier.Specifier Global → Specifier
+boxed_specifier one = specifier_of one.value
+
+abbrev pub boxed_declarator : Box code_declarator.Declarator Global → Declarator
+boxed_declarator one = declarator_of one.value
+
+abbrev pub boxed_member : Box code_member.Member Global → StructMember
+boxed_member one = member_of one.value
+
+abbrev pub boxed_parameter : Box code_parameter.Parameter Global → Parameter
+boxed_parameter one = parameter_of one.value
+
+-- a specifier that is one token
+abbrev pub word_of : SpecifierWord → Parser Specifier
+word_of w = do
+  x ← take
+  pure (t.Word w (at x))
+
+abbrev pub typedef_name_of : Parser Specifier
+typedef_name_of = do
+  x ← take
+  pure (t.TypedefName (name_at x))
+
+-- a structure, after its members
+abbrev pub structure_end : Lexeme → Option Name → List StructMember → Parser Specifier
+structure_end x tag ms = do
+  v ← expect (codes "}")
+  pure (t.Structure tag (members_from ms) (to (at x) (at v)))
+
+-- members, after their declarators
+abbrev pub member_end : Span → Specifiers → List Declarator → Parser StructMember
+member_end start s ds = do
+  y ← expect (codes ";")
+  pure (t.member s (declarators_from ds) (to start (at y)))
+
+-- a parameter, after its specifiers
+abbrev pub parameter_named : Parts → Span → Specifiers → Parser Parameter
+parameter_named parts start s = do
+  stars ← stars_of (end_of_specifiers start s)
+  name ← ask name_next
+  parameter_by parts s stars.count start stars.end name
+
+-- the lengths of a declarator, after its name
+abbrev pub object_of : Parts → Span → ℕ → Name → Parser Declarator
+object_of parts start stars name = do
+  lengths ← lengths_of parts name.span
+  pure (t.object stars name (lengths_from lengths.all) (to start lengths.end))
+
+-- a specifier that was made on the heap: nothing else can go wrong than memory
+abbrev pub IsMadeSpecifier : Specifier → Result (Box code_specifier.Specifier Global) Fault → Type 0
+IsMadeSpecifier tree (Ok one) = boxed_specifier one ≡ tree
+IsMadeSpecifier tree (Err fault) = NotMade fault
+
+-- a declarator that was made on the heap
+abbrev pub IsMadeDeclarator : Declarator → Result (Box code_declarator.Declarator Global) Fault
+    → Type 0
+IsMadeDeclarator tree (Ok one) = boxed_declarator one ≡ tree
+IsMadeDeclarator tree (Err fault) = NotMade fault
 
 -- the lengths of a parameter, after what stands before them
 abbrev pub parameter_after : Parts → Span → Specifiers → ℕ → Option Name → Span → Parser Parameter

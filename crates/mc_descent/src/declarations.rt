@@ -7,15 +7,15 @@ ghost use Rattle.mc_tree.specs.Units.{declaration_of, init_declarator_of};
 ghost use Rattle.mc_reading.specs.Declarations as spec;
 ghost use Rattle.mc_reading.specs.Lists.{comma_list, listed};
 ghost use Rattle.mc_descent.specs.Counted.{test_of};
-ghost use Rattle.mc_descent.specs.Cursors.{Gives, left_of};
+ghost use Rattle.mc_cursor.specs.Cursors.{Gives, left_of};
 ghost use Rattle.mc_descent.specs.Heads.{words_of};
 
 use crate::allowed::Allowed;
-use crate::cursor::{Cursor, place};
-use crate::fault::Fault;
-use crate::grammar::makers::to;
 use crate::initializers::initializer;
 use crate::knot::{declarator, specifiers};
+use mc_cursor::cursor::{Cursor, place};
+use mc_cursor::fault::Fault;
+use mc_cursor::to;
 use mc_span::Span;
 use mc_tree::{Declaration, Declarator, InitDeclarator, Specifier};
 use std::alloc::{AllocError, Global};
@@ -111,7 +111,7 @@ pub fn declared<'a>(
         all = declarators(alloc, typedef, room, all, tokens)?;
     }
     let last = tokens.expect(b";")?;
-    Ok(declaration(head, all, place(&last)))
+    Ok(declaration(head, all, place(last)))
 }
 
 fn declaration<'a>(
@@ -141,7 +141,7 @@ pub fn undeclared<'a>(
         (left_of tokens.old)) result (left_of tokens.new) }
 {
     let last = tokens.take()?;
-    Ok(declaration(head, Vec::new(alloc), place(&last)))
+    Ok(declaration(head, Vec::new(alloc), place(last)))
 }
 
 /// Reads a declaration of fewer than `room` levels that is not a typedef.

@@ -11,10 +11,10 @@ mod rules;
 mod specifiers;
 mod unary;
 
-use crate::cursor::Cursor;
-use crate::fault::Fault;
 use crate::read::{Read, ReadSpecifiers};
-use crate::rule::Rule;
+use mc_cursor::cursor::Cursor;
+use mc_cursor::fault::Fault;
+use mc_cursor::rule::Rule;
 use std::alloc::Global;
 
 /// The rules, over what reads parts of fewer than `room` levels.

@@ -5,14 +5,14 @@ ghost use Rattle.mc_tree.specs.Units.{initializer_of, initializers_from};
 ghost use Rattle.mc_reading.specs.Declarations as spec;
 ghost use Rattle.mc_reading.specs.Lists.{braced_list, listed};
 ghost use Rattle.mc_reading.specs.Rooms.{reading};
-ghost use Rattle.mc_descent.specs.Cursors.{Gives, left_of};
+ghost use Rattle.mc_cursor.specs.Cursors.{Gives, left_of};
 
-use crate::cursor::{Cursor, place};
-use crate::fault::Fault;
-use crate::grammar::makers::to;
 use crate::knot::expression;
 use crate::read::Read;
-use crate::rule::Rule;
+use mc_cursor::cursor::{Cursor, place};
+use mc_cursor::fault::Fault;
+use mc_cursor::rule::Rule;
+use mc_cursor::to;
 use mc_span::Span;
 use mc_tree::Initializer;
 use std::alloc::{AllocError, Global};
@@ -26,10 +26,8 @@ fn single<'a>(
     ensures { Gives initializer_of (spec.single_of (reading room) (left_of tokens.old)) result
         (left_of tokens.new) }
 {
-    let Read { tree, .. } = expression(alloc, tokens, room, Rule::Assign)?;
-    Ok(Initializer::Single {
-        value: Box::into_inner(tree),
-    })
+    let Read { tree: value, .. } = expression(alloc, tokens, room, Rule::Assign)?;
+    Ok(Initializer::Single { value })
 }
 
 fn braced<'a>(items: Vec<Initializer<'a>>, span: Span) -> Initializer<'a>
@@ -60,7 +58,7 @@ pub fn initializer<'a>(
     let first = tokens.take()?;
     let items = initializers(alloc, tokens, room - 1)?;
     let last = tokens.expect(b"}")?;
-    Ok(braced(items, to(place(&first), place(&last))))
+    Ok(braced(items, to(place(first), place(last))))
 }
 
 /// Reads the initializers between braces, each of fewer than `room` levels.

@@ -5,17 +5,17 @@ ghost use Rattle.mc_tree.specs.Views as views;
 ghost use Rattle.mc_reading.specs.Specifiers as spec;
 ghost use Rattle.mc_reading.specs.Rooms.{reading};
 ghost use Rattle.mc_descent.specs.Counted.{test_of};
-ghost use Rattle.mc_descent.specs.Cursors.{Gives, left_of};
-ghost use Rattle.mc_descent.specs.Rules.{nonterminal_of};
+ghost use Rattle.mc_cursor.specs.Cursors.{Gives, left_of};
+ghost use Rattle.mc_cursor.specs.Rules.{nonterminal_of};
 ghost use Rattle.mc_descent.specs.Given.{GivesSpecifiers, GivesTree};
 ghost use Rattle.mc_descent.specs.Parts.{specifiers_in};
 
 use crate::allowed::Allowed;
-use crate::cursor::Cursor;
-use crate::fault::Fault;
 use crate::grammar::Grammar;
 use crate::read::{Read, ReadSpecifiers};
-use crate::rule::Rule;
+use mc_cursor::cursor::Cursor;
+use mc_cursor::fault::Fault;
+use mc_cursor::rule::Rule;
 use mc_tree::{Declarator, Specifier};
 use std::alloc::Global;
 
@@ -112,5 +112,6 @@ pub fn declarator<'a>(
         typed: type_specifiers,
     };
     let mut tallest = 0;
-    grammar.declarator(tokens, &mut tallest)
+    let one = grammar.declarator(tokens, &mut tallest)?;
+    Ok(Box::into_inner(one))
 }

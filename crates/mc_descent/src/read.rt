@@ -1,9 +1,10 @@
 //! What was read: parts of a tree, with their heights.
-ghost use Rattle.std.specs.Prelude.{◌≡◌, ◌∷◌, ◌++◌, [], IfOk, max};
+ghost use Rattle.std.specs.Prelude.{◌≡◌, ◌∷◌, ◌++◌, [], IfOk, max, nat_le};
 ghost use Rattle.mc_tree.specs.Height as h;
 ghost use Rattle.mc_tree.specs.Views.{expression_of};
 ghost use Rattle.mc_descent.specs.Given.{IsAllHigh, trees_of};
 
+use mc_cursor::is_too_high;
 use mc_span::Span;
 use mc_tree::{ArrayLength, Expression, Specifier};
 use std::alloc::{AllocError, Global};
@@ -13,6 +14,15 @@ use std::alloc::{AllocError, Global};
 pub struct Read<'a> {
     pub tree: Box<Expression<'a>>,
     pub height: u32,
+}
+
+impl Read<'_> {
+    /// Whether it is too high to be a part of a tree of at most `room` levels.
+    pub fn is_too_high(&self, room: u32) -> bool
+        ensures { result ≡ nat_le room self.now.height }
+    {
+        is_too_high(self.height, room)
+    }
 }
 
 /// Expressions with commas between them, and the greatest of their heights.

@@ -17,3 +17,4 @@ pub mod Meaning
 pub mod Samples
 pub mod Snippets
 pub mod Nested
+pub mod steps

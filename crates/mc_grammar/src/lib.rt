@@ -1,5 +1,5 @@
 //! The grammar of the C subset, as a relation between lists of tokens and trees. It computes
-//! nothing.
+//! nothing; what the parser's readers are made of stands beside it, in `specs/steps`.
 #![tactic(auto)]
 
 pub mod laws;

@@ -8,11 +8,11 @@ use Rattle.mc_tree.specs.Units.{block_from}
 use Rattle.mc_grammar.specs.Words.{Lexeme, sees}
 use Rattle.mc_grammar.specs.Nonterminal as n
 use Rattle.mc_grammar.specs.Places.{to}
-use Rattle.mc_reading.specs.Parsers.{Parser, ◌>>=◌, and_then, expect, pure, take}
+use Rattle.mc_grammar.specs.steps.Parsers.{Parser, ◌>>=◌, and_then, expect, pure, take}
 use Rattle.mc_reading.specs.Rooms.{reading}
 use Rattle.mc_reading.specs.Items.{body_of}
 use Rattle.mc_reading.specs.Statements as spec
-use Rattle.mc_reading.specs.Statements.{Beginning, Block, compound_of, keyword_begins, optional_of, statement_by, statement_of, test_of}
+use Rattle.mc_reading.specs.Statements.{Beginning, Block, compound_of, optional_of, statement_by, statement_of, test_of}
 use Rattle.mc_parse.specs.steps.Fronts.{begins_front, choice_of, front_by, front_of, rest_by, statement_turn}
 use Rattle.mc_parse.specs.steps.Fronts as f
 

@@ -5,17 +5,17 @@ ghost use Rattle.mc_tree.specs.Units.{block_from, item_of, items_of};
 ghost use Rattle.mc_tree.specs.Views.{declarator_of};
 ghost use Rattle.mc_grammar.specs.Places as places;
 ghost use Rattle.mc_reading.specs.Items as spec;
-ghost use Rattle.mc_descent.specs.Cursors.{Gives, left_of};
+ghost use Rattle.mc_cursor.specs.Cursors.{Gives, left_of};
 ghost use Rattle.mc_descent.specs.Heads.{words_of};
 ghost use Rattle.mc_parse.specs.steps.Made.{block_of};
 
 use crate::statements::blocks::{Block, compound};
+use mc_cursor::cursor::Cursor;
+use mc_cursor::fault::Fault;
+use mc_cursor::to;
 use mc_descent::allowed::{Allowed, is_typedef};
-use mc_descent::cursor::Cursor;
 use mc_descent::declarations::{Head, declared, undeclared};
-use mc_descent::fault::Fault;
 use mc_descent::knot::{declarator, specifiers};
-use mc_descent::to;
 use mc_tree::{Declarator, Item};
 use std::alloc::{AllocError, Global};
 
@@ -86,7 +86,7 @@ fn item<'a>(alloc: Global, room: u32, tokens: &mut Cursor<'_, 'a>) -> Result<Ite
     Ok(Item::Declared { declaration })
 }
 
-#[tactic(auto, using(crate::proofs::Lists::map_push))]
+#[tactic(auto, using(mc_descent::proofs::Lists::map_push))]
 fn push<'a>(all: &mut Vec<Item<'a>>, one: Item<'a>) -> Result<(), AllocError>
     ensures { IfOk result (λ _. items_of all.new.items ≡ items_of all.old.items ++ item_of one.entry
         ∷ []) }
@@ -95,7 +95,7 @@ fn push<'a>(all: &mut Vec<Item<'a>>, one: Item<'a>) -> Result<(), AllocError>
 }
 
 /// Reads external declarations of fewer than `room` levels, up to the end.
-#[tactic(auto, using(crate::proofs::Lists::until_steps), unfolding(mc_reading::specs::Items::unit_of))]
+#[tactic(auto, using(mc_descent::proofs::Lists::until_steps), unfolding(mc_reading::specs::Items::unit_of))]
 pub fn items<'a>(
     alloc: Global,
     room: u32,

@@ -2,9 +2,10 @@
 //! its end, so that few functions call one another.
 ghost use Rattle.std.specs.Prelude.{◌≤◌};
 ghost use Rattle.mc_reading.specs.Statements as spec;
-ghost use Rattle.mc_descent.specs.Cursors.{Gives, left_of};
+ghost use Rattle.mc_cursor.specs.Cursors.{Gives, left_of};
 ghost use Rattle.mc_parse.specs.steps.Fronts as fronts;
-ghost use Rattle.mc_parse.specs.steps.Made.{body_of, value_of};
+ghost use Rattle.mc_makers.specs.Made.{body_of};
+ghost use Rattle.mc_tree.specs.Units.{value_of};
 
 pub mod blocks;
 mod ends;
@@ -13,12 +14,12 @@ mod jumps;
 mod makers;
 mod parts;
 
-use crate::statements::blocks::compound;
+use crate::statements::blocks::{Block, compound};
 use crate::statements::ends::end;
 use crate::statements::front::{Front, read_front};
-use crate::statements::makers::{compound_statement, if_else, if_only};
-use mc_descent::cursor::Cursor;
-use mc_descent::fault::Fault;
+use mc_cursor::cursor::Cursor;
+use mc_cursor::fault::Fault;
+use mc_makers::statements as nodes;
 use mc_span::Span;
 use mc_tree::{Expression, Statement};
 use std::alloc::Global;
@@ -39,8 +40,8 @@ pub fn statement<'a>(
         return Err(Fault::Syntax);
     }
     if tokens.sees(b"{") {
-        let block = compound(alloc, tokens, room - 1)?;
-        return compound_statement(alloc, block);
+        let Block { items, span } = compound(alloc, tokens, room - 1)?;
+        return nodes::compound(alloc, items, span);
     }
     other_than_block(alloc, tokens, room - 1)
 }
@@ -85,9 +86,9 @@ fn choice<'a>(
 {
     let chosen = statement(alloc, tokens, room)?;
     if !tokens.sees_keyword(b"else") {
-        return if_only(alloc, first, test, chosen);
+        return nodes::if_only(alloc, first, test, chosen);
     }
     tokens.take()?;
     let other = statement(alloc, tokens, room)?;
-    if_else(alloc, first, test, chosen, other)
+    nodes::if_else(alloc, first, test, chosen, other)
 }

@@ -10,8 +10,8 @@ ghost use Rattle.mc_parse.specs.steps.Wholes.{GivesWhole, tree_in};
 
 use crate::fault::ParseFault;
 use crate::items::items;
-use mc_descent::cursor::Cursor;
-use mc_descent::fault::Fault;
+use mc_cursor::cursor::Cursor;
+use mc_cursor::fault::Fault;
 use mc_lex::{Dialect, Token};
 use mc_tree::{Item, Unit};
 use std::alloc::Global;

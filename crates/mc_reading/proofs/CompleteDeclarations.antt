@@ -11,7 +11,7 @@ use Rattle.mc_grammar.specs.Places.{at, to}
 use Rattle.mc_grammar.specs.Nonterminal as n
 use Rattle.mc_grammar.specs.Statements.{ReadsInitializer, ReadsInitializers, ReadsInitDeclarator, ReadsInitDeclarators, ReadsDeclaration, after}
 use Rattle.mc_grammar.specs.Statements as r
-use Rattle.mc_reading.specs.Parsers.{pure}
+use Rattle.mc_grammar.specs.steps.Parsers.{pure}
 use Rattle.mc_reading.specs.Lists.{braced_list, comma_list}
 use Rattle.mc_reading.specs.Specifiers.{declarator_of}
 use Rattle.mc_reading.specs.Rooms.{reading}

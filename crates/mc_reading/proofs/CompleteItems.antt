@@ -12,11 +12,12 @@ use Rattle.mc_grammar.specs.Statements.{ReadsDeclaration}
 use Rattle.mc_grammar.specs.Statements as s
 use Rattle.mc_grammar.specs.Items.{ReadsItem, ReadsUnit, is_item_of}
 use Rattle.mc_grammar.specs.Items as i
-use Rattle.mc_reading.specs.Parsers.{pure}
+use Rattle.mc_grammar.specs.steps.Parsers.{pure}
 use Rattle.mc_reading.specs.Lists.{until_list}
 use Rattle.mc_reading.specs.Rooms.{reading}
-use Rattle.mc_reading.specs.Items.{item_of, unit_of, ended}
+use Rattle.mc_reading.specs.Items.{item_of, unit_of}
 use Rattle.mc_grammar.proofs.Lengths.{item_shorter}
+use Rattle.mc_grammar.specs.steps.Next.{ended}
 use Rattle.mc_reading.proofs.Known.{and_left, and_right}
 use Rattle.mc_reading.proofs.TreeLists.{block_back}
 use Rattle.mc_reading.proofs.CompleteLists.{Adds, all_of, until_none, until_more}

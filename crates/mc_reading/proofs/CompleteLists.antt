@@ -2,7 +2,7 @@
 use Rattle.std.proofs.Common.{◌≡◌, ℕ, zero, suc, ◌+◌, ◌<◌, Bool, true, false, List, [], ◌∷◌, ◌++◌, length, Some, refl, ◌∙◌, append_assoc, arith, codes}
 use Rattle.std.proofs.lemmas.List.{append-nil}
 use Rattle.mc_grammar.specs.Words.{Lexeme, is_punctuator, sees}
-use Rattle.mc_reading.specs.Parsers.{Parser, pure}
+use Rattle.mc_grammar.specs.steps.Parsers.{Parser, pure}
 use Rattle.mc_reading.specs.Lists.{comma_list, braced_list, some_list, until_list}
 
 -- a last turn, and a turn with others after it

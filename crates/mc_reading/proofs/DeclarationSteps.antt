@@ -9,7 +9,7 @@ use Rattle.mc_grammar.specs.Places.{at, to}
 use Rattle.mc_grammar.specs.Counts.{for_item, for_function, is_typedef}
 use Rattle.mc_grammar.specs.Nonterminal as n
 use Rattle.mc_grammar.specs.Statements.{after}
-use Rattle.mc_reading.specs.Parsers.{accept}
+use Rattle.mc_grammar.specs.steps.Parsers.{accept}
 use Rattle.mc_reading.specs.Lists.{braced_list, comma_list}
 use Rattle.mc_reading.specs.Specifiers.{declarator_of}
 use Rattle.mc_reading.specs.Rooms.{reading}

@@ -18,9 +18,10 @@ use Rattle.mc_grammar.specs.Nonterminal.{Nonterminal, Level, operand}
 use Rattle.mc_grammar.specs.Nonterminal as n
 use Rattle.mc_grammar.specs.Expressions.{is_unary, ReadsStars}
 use Rattle.mc_grammar.specs.Expressions as r
-use Rattle.mc_reading.specs.Parsers.{Parser, and_then, pure, accept}
+use Rattle.mc_grammar.specs.steps.Parsers.{Parser, and_then, pure, accept}
+use Rattle.mc_grammar.specs.steps.Next.{step_at, step_next, unary_at, unary_next, up_to, assignment_next}
 use Rattle.mc_reading.specs.Lists.{comma_list}
-use Rattle.mc_reading.specs.Expressions.{Parts, Stars, stars_loop, stars_of, type_name_of, named_of, parenthesized_of, primary_of, step_at, step_next, suffix_of, suffixes_loop, postfix_of, unary_at, unary_next, unary_of, cast_to_of, cast_of, operation_of, operations_loop, operations_of, climb, up_to, level_of, conditional_of, cond_of, assignment_next, assignment_of, assign_by, assign_of, operands_of, comma_of, expression_by}
+use Rattle.mc_reading.specs.Expressions.{Parts, Stars, stars_loop, stars_of, type_name_of, named_of, parenthesized_of, primary_of, suffix_of, suffixes_loop, postfix_of, unary_of, cast_to_of, cast_of, operation_of, operations_loop, operations_of, climb, level_of, conditional_of, cond_of, assignment_of, assign_by, assign_of, operands_of, comma_of, expression_by}
 use Rattle.mc_reading.proofs.Known.{punctuator, named, named_no_type, no_prefix}
 use Rattle.mc_reading.proofs.CompleteLists.{one_turn, later}
 

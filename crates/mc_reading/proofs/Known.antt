@@ -13,8 +13,7 @@ use Rattle.mc_grammar.specs.Operators.{IsStep, IsUnary, IsSpecifierWord, operato
 use Rattle.mc_grammar.specs.Operators as o
 use Rattle.mc_grammar.specs.Nonterminal.{Level}
 use Rattle.mc_grammar.specs.Nonterminal as n
-use Rattle.mc_reading.specs.Expressions.{step_at, unary_at}
-use Rattle.mc_reading.specs.Specifiers.{word_at}
+use Rattle.mc_grammar.specs.steps.Next.{step_at, unary_at, word_at}
 
 pub and_left : (a b : Bool) → (a && b) ≡ true → a ≡ true
 and_left true b e = refl

@@ -2,7 +2,7 @@
 use Rattle.std.proofs.Common.{◌≡◌, ℕ, ◌+◌, ◌<◌, Bool, true, false, cond, nat_le, List, [], ◌∷◌, Option, Some, None, refl, subst, arith}
 use Rattle.std.proofs.lemmas.Bool.Decides.{nat_tests}
 use Rattle.mc_grammar.specs.Words.{Lexeme}
-use Rattle.mc_reading.specs.Parsers.{Parser, and_then, take, accept}
+use Rattle.mc_grammar.specs.steps.Parsers.{Parser, and_then, take, accept}
 
 -- what is claimed of all that is given
 pub record After {B : Type 0} (Q : B → List Lexeme → Type 0) (read : Option (B × List Lexeme)) : Type 0 where

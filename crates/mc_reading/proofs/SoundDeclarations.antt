@@ -9,7 +9,7 @@ use Rattle.mc_grammar.specs.Places.{at}
 use Rattle.mc_grammar.specs.Nonterminal as n
 use Rattle.mc_grammar.specs.Statements.{ReadsInitializer, ReadsInitializers, ReadsInitDeclarator, ReadsInitDeclarators, ReadsDeclaration, after}
 use Rattle.mc_grammar.specs.Statements as r
-use Rattle.mc_reading.specs.Parsers.{Parser}
+use Rattle.mc_grammar.specs.steps.Parsers.{Parser}
 use Rattle.mc_reading.specs.Rooms.{reading}
 use Rattle.mc_reading.specs.Declarations.{braced_of, initializer_of, valued_of, init_declarator_of, more_declarators_of, declared_of, undeclared_of, local_of}
 use Rattle.mc_reading.proofs.Rules.{After, done, nothing, reads, accepts, takes, takes_at, so, test}

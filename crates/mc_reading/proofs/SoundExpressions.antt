@@ -18,8 +18,9 @@ use Rattle.mc_grammar.specs.Nonterminal.{Nonterminal, Level, operand}
 use Rattle.mc_grammar.specs.Nonterminal as n
 use Rattle.mc_grammar.specs.Expressions.{Reads, ReadsExpressions, is_unary}
 use Rattle.mc_grammar.specs.Expressions as r
-use Rattle.mc_reading.specs.Parsers.{Parser}
-use Rattle.mc_reading.specs.Expressions.{Parts, expressions_after, arguments_of, named_of, parenthesized_of, primary_by, primary_of, step_at, step_next, index_of, member_of, stepped, fits, suffix_of, suffixes_loop, postfix_of, unary_next, operated, prefixed, unary_of, cast_to_of, cast_of, operation_of, operations_by, operations_loop, climb, up_to, level_of, conditional_of, cond_of, assignment_next, assignment_of, assign_by, assign_of, operands_of, comma_of, expression_by, expression_of}
+use Rattle.mc_grammar.specs.steps.Parsers.{Parser}
+use Rattle.mc_grammar.specs.steps.Next.{step_at, step_next, unary_next, up_to, assignment_next}
+use Rattle.mc_reading.specs.Expressions.{Parts, expressions_after, arguments_of, named_of, parenthesized_of, primary_by, primary_of, index_of, member_of, stepped, fits, suffix_of, suffixes_loop, postfix_of, operated, prefixed, unary_of, cast_to_of, cast_of, operation_of, operations_by, operations_loop, climb, level_of, conditional_of, cond_of, assignment_of, assign_by, assign_of, operands_of, comma_of, expression_by, expression_of}
 use Rattle.mc_reading.proofs.Known.{and_left, and_right}
 use Rattle.mc_reading.proofs.Rules.{After, done, nothing, reads, accepts, accepts_at, takes_at, so, test, only_where, fitting}
 use Rattle.mc_reading.proofs.SoundLists.{CommaList, comma_last, comma_more, Added, sound_comma_list, all_added}

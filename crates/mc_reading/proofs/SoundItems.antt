@@ -14,9 +14,10 @@ use Rattle.mc_grammar.specs.Expressions as e
 use Rattle.mc_grammar.specs.Statements.{ReadsCompound}
 use Rattle.mc_grammar.specs.Items.{ReadsItem, ReadsUnit, is_item_of}
 use Rattle.mc_grammar.specs.Items as r
+use Rattle.mc_grammar.specs.steps.Next.{ended}
 use Rattle.mc_reading.specs.Rooms.{reading}
 use Rattle.mc_reading.specs.Statements.{statement_of}
-use Rattle.mc_reading.specs.Items.{is_function, body_of, defined_of, item_of, ended, unit_of}
+use Rattle.mc_reading.specs.Items.{is_function, body_of, defined_of, item_of, unit_of}
 use Rattle.mc_reading.proofs.Known.{and_left, and_right}
 use Rattle.mc_reading.proofs.Rules.{After, done, nothing, reads, so, test, only_where}
 use Rattle.mc_reading.proofs.SoundLists.{UntilList, until_end, until_more, all_added, sound_until_list}

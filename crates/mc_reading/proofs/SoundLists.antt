@@ -1,7 +1,7 @@
 -- What the readers of lists give, one part after the other.
 use Rattle.std.proofs.Common.{◌≡◌, ℕ, zero, suc, Bool, true, false, List, [], ◌∷◌, ◌++◌, refl, sym, ◌∙◌, append_assoc, append-nil, subst, codes}
 use Rattle.mc_grammar.specs.Words.{Lexeme, is_punctuator, sees}
-use Rattle.mc_reading.specs.Parsers.{Parser}
+use Rattle.mc_grammar.specs.steps.Parsers.{Parser}
 use Rattle.mc_reading.specs.Lists.{comma_list, braced_list, some_list, until_list}
 use Rattle.mc_reading.proofs.Rules.{After, done, nothing, reads, takes, so, test}
 

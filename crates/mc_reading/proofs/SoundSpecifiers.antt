@@ -11,8 +11,9 @@ use Rattle.mc_grammar.specs.Words.{Lexeme, is_punctuator, is_keyword, is_tag, is
 use Rattle.mc_grammar.specs.Places.{at, name_at, to}
 use Rattle.mc_grammar.specs.Expressions.{ReadsSpecifiers, ReadsMembers, ReadsEnumerators}
 use Rattle.mc_grammar.specs.Expressions as r
+use Rattle.mc_grammar.specs.steps.Next.{word_at}
 use Rattle.mc_reading.specs.Expressions.{Parts}
-use Rattle.mc_reading.specs.Specifiers.{structure_list, structure_of, enumeration_list, enumeration_of, word_at, specifier_by, specifier_of, is_type_specifier, specifiers_loop, specifiers_of}
+use Rattle.mc_reading.specs.Specifiers.{structure_list, structure_of, enumeration_list, enumeration_of, specifier_by, specifier_of, is_type_specifier, specifiers_loop, specifiers_of}
 use Rattle.mc_reading.specs.Rooms.{reading}
 use Rattle.mc_reading.proofs.Rules.{After, done, nothing, reads, accepts, accepts_at, takes_at, so, test, only_where}
 use Rattle.mc_reading.proofs.SoundLists.{Added, added_more, all_added}

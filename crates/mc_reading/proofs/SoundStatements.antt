@@ -9,7 +9,7 @@ use Rattle.mc_grammar.specs.Counts.{for_local, for_type}
 use Rattle.mc_grammar.specs.Nonterminal as n
 use Rattle.mc_grammar.specs.Statements.{ReadsOptional, ReadsTest, ReadsForStart, ReadsStatement, ReadsCompound, ReadsBlockItems}
 use Rattle.mc_grammar.specs.Statements as r
-use Rattle.mc_reading.specs.Parsers.{Parser}
+use Rattle.mc_grammar.specs.steps.Parsers.{Parser}
 use Rattle.mc_reading.specs.Rooms.{reading}
 use Rattle.mc_reading.specs.Statements.{optional_of, test_of, block_item_of, Block, compound_of, block_statement_of, null_of, expression_statement_of, if_of, switch_of, while_of, do_while_of, for_start_of, for_of, case_of, default_of, label_of, goto_of, continue_of, break_of, return_of, Beginning, keyword_begins, begins, statement_by, statement_in, statement_of}
 use Rattle.mc_reading.specs.Statements as b

@@ -11,10 +11,10 @@ use Rattle.mc_grammar.specs.Words.{Lexeme, is_punctuator, is_keyword, is_plain_s
 use Rattle.mc_grammar.specs.Operators.{IsStep, IsUnary, IsSpecifierWord, is_prefix, sees_assignment, assignment_at, is_there}
 use Rattle.mc_grammar.specs.Operators as o
 use Rattle.mc_reading.proofs.Known.{and_left, and_right}
-use Rattle.mc_reading.specs.Expressions.{step_at, step_next, unary_at, unary_next, assignment_next}
 use Rattle.mc_tree.specs.Tree.{Name}
 use Rattle.mc_grammar.specs.Places.{name_at}
-use Rattle.mc_reading.specs.Specifiers.{word_at, name_next}
+use Rattle.mc_grammar.specs.steps.Next.{step_at, step_next, unary_at, unary_next, assignment_next, word_at}
+use Rattle.mc_reading.specs.Specifiers.{name_next}
 
 -- the first choice whose test holds
 pick : {A : Type 0} {a : A} (T : A → Type 0) (b : Bool) (here : A) (more : Option A) → (b ≡ true → T here) → (more ≡ Some a → T a) → cond b (Some here) more ≡ Some a → T a

@@ -10,10 +10,11 @@ use Rattle.mc_grammar.specs.Words.{Lexeme, is_punctuator, is_keyword, is_name, i
 use Rattle.mc_grammar.specs.Places.{at, name_at, to, end_of_specifiers}
 use Rattle.mc_grammar.specs.Counts.{for_type}
 use Rattle.mc_grammar.specs.Nonterminal as n
-use Rattle.mc_reading.specs.Parsers.{accept}
+use Rattle.mc_grammar.specs.steps.Parsers.{accept}
+use Rattle.mc_grammar.specs.steps.Next.{word_at}
 use Rattle.mc_reading.specs.Lists.{braced_list, comma_list, some_list}
 use Rattle.mc_reading.specs.Expressions.{Parts, stars_of}
-use Rattle.mc_reading.specs.Specifiers.{Lengths, length_of, lengths_loop, lengths_of, name_next, parameter_of, parameters_of, declarator_of, struct_member_of, enumerator_of, structure_of, enumeration_of, word_at, specifier_of, is_type_specifier, specifiers_loop, specifiers_of}
+use Rattle.mc_reading.specs.Specifiers.{Lengths, length_of, lengths_loop, lengths_of, name_next, parameter_of, parameters_of, declarator_of, struct_member_of, enumerator_of, structure_of, enumeration_of, specifier_of, is_type_specifier, specifiers_loop, specifiers_of}
 use Rattle.mc_reading.proofs.Known.{word, typed, tagged}
 use Rattle.mc_reading.proofs.CompleteLists.{Adds, one_turn, later, added}
 use Rattle.mc_reading.proofs.ExpressionSteps.{starred}

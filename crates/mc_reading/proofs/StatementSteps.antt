@@ -7,7 +7,7 @@ use Rattle.mc_grammar.specs.Words.{Lexeme, is_keyword, is_name, is_punctuator, s
 use Rattle.mc_grammar.specs.Places.{at, name_at, to}
 use Rattle.mc_grammar.specs.Counts.{for_local, for_type}
 use Rattle.mc_grammar.specs.Nonterminal as n
-use Rattle.mc_reading.specs.Parsers.{Parser, accept}
+use Rattle.mc_grammar.specs.steps.Parsers.{Parser, accept}
 use Rattle.mc_reading.specs.Lists.{until_list}
 use Rattle.mc_reading.specs.Expressions.{Parts}
 use Rattle.mc_reading.specs.Rooms.{reading}

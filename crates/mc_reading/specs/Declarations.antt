@@ -7,7 +7,7 @@ use Rattle.mc_tree.specs.Units.{initializers_from}
 use Rattle.mc_grammar.specs.Places.{at, to}
 use Rattle.mc_grammar.specs.Nonterminal as n
 use Rattle.mc_grammar.specs.Statements.{after}
-use Rattle.mc_reading.specs.Parsers.{Parser, ◌>>=◌, pure, refuse, see, take, expect, first}
+use Rattle.mc_grammar.specs.steps.Parsers.{Parser, ◌>>=◌, pure, refuse, see, take, expect, first}
 use Rattle.mc_reading.specs.Lists.{braced_list, comma_list, listed}
 use Rattle.mc_reading.specs.Expressions.{Parts}
 use Rattle.mc_reading.specs.Specifiers.{declarator_of}

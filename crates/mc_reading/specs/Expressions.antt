@@ -4,23 +4,22 @@ use Rattle.mc_lex.specs.declared.token.TokenKind.{TokenKind}
 use Rattle.mc_lex.specs.declared.token.TokenKind.TheVariants as kind
 use Rattle.mc_span.specs.declared.span.Span.{Span}
 use Rattle.mc_tree.specs.declared.expressions.unary_operator.UnaryOperator.{UnaryOperator}
-use Rattle.mc_tree.specs.declared.expressions.unary_operator.UnaryOperator.TheVariants as unary
 use Rattle.mc_tree.specs.declared.expressions.step_operator.StepOperator.{StepOperator}
-use Rattle.mc_tree.specs.declared.expressions.step_operator.StepOperator.TheVariants as step
 use Rattle.mc_tree.specs.declared.expressions.binary_operator.BinaryOperator.{BinaryOperator}
 use Rattle.mc_tree.specs.declared.expressions.assignment_operator.AssignmentOperator.{AssignmentOperator}
 use Rattle.mc_tree.specs.Tree.{Expression, TypeName, Specifiers, span_of}
 use Rattle.mc_tree.specs.Tree as t
 use Rattle.mc_tree.specs.Height.{height}
 use Rattle.mc_tree.specs.Views.{expressions_from}
-use Rattle.mc_grammar.specs.Words.{Lexeme, is_punctuator, is_name, next_is, sees_specifiers, sees_cast}
+use Rattle.mc_grammar.specs.Words.{Lexeme, is_name, next_is, sees_specifiers, sees_cast}
 use Rattle.mc_grammar.specs.Places.{at, name_at, to, end_of_expressions, end_of_specifiers}
-use Rattle.mc_grammar.specs.Operators.{operator_next, assignment_at, is_suffix}
+use Rattle.mc_grammar.specs.Operators.{operator_next, is_suffix}
 use Rattle.mc_grammar.specs.Counts.{for_type}
 use Rattle.mc_grammar.specs.Expressions.{is_unary}
 use Rattle.mc_grammar.specs.Nonterminal.{Nonterminal, Level, operand}
 use Rattle.mc_grammar.specs.Nonterminal as n
-use Rattle.mc_reading.specs.Parsers.{Parser, ◌>>=◌, pure, refuse, ask, see, take, accept, expect, first, only}
+use Rattle.mc_grammar.specs.steps.Parsers.{Parser, ◌>>=◌, pure, refuse, ask, see, take, accept, expect, first, only}
+use Rattle.mc_grammar.specs.steps.Next.{assignment_next, step_next, unary_next, up_to}
 use Rattle.mc_reading.specs.Lists.{comma_list, listed}
 
 -- what reads the parts: expressions, and specifiers that meet a test
@@ -108,14 +107,6 @@ unfoldable pub primary_of : Parts → Parser Expression
 primary_of parts [] = None
 primary_of parts (x ∷ ts) = primary_by parts x.token.kind (x ∷ ts)
 
-abbrev pub step_at : Lexeme → Option StepOperator
-step_at x = if is_punctuator (codes "++") x then Some step.Increment
-    else (if is_punctuator (codes "--") x then Some step.Decrement else None)
-
-abbrev pub step_next : List Lexeme → Option StepOperator
-step_next [] = None
-step_next (x ∷ ts) = step_at x
-
 abbrev pub index_of : Parts → Expression → Parser Expression
 index_of parts a = do
   x ← take
@@ -167,18 +158,6 @@ postfix_of parts room = do
   listed (λ turns. suffixes_loop turns parts room a)
 
 -- ---- prefix operators and casts
-
-abbrev pub unary_at : Lexeme → Option UnaryOperator
-unary_at x = if is_punctuator (codes "+") x then Some unary.Plus
-    else (if is_punctuator (codes "-") x then Some unary.Minus
-    else (if is_punctuator (codes "~") x then Some unary.Complement
-    else (if is_punctuator (codes "!") x then Some unary.Not
-    else (if is_punctuator (codes "*") x then Some unary.Dereference
-    else (if is_punctuator (codes "&") x then Some unary.Address else None)))))
-
-abbrev pub unary_next : List Lexeme → Option UnaryOperator
-unary_next [] = None
-unary_next (x ∷ ts) = unary_at x
 
 abbrev pub operated : Parts → ℕ → Option UnaryOperator → Parser Expression
 operated parts room None = postfix_of parts room
@@ -251,25 +230,6 @@ climb parts room (k ∷ levels) a = do
   b ← operations_of parts room k a
   climb parts room levels b
 
--- from the level that binds closest
-abbrev pub up_to : Level → List Level
-up_to n.product = n.product ∷ []
-up_to n.sum = n.product ∷ n.sum ∷ []
-up_to n.shift = n.product ∷ n.sum ∷ n.shift ∷ []
-up_to n.relation = n.product ∷ n.sum ∷ n.shift ∷ n.relation ∷ []
-up_to n.equality = n.product ∷ n.sum ∷ n.shift ∷ n.relation ∷ n.equality ∷ []
-up_to n.bit_and = n.product ∷ n.sum ∷ n.shift ∷ n.relation ∷ n.equality ∷ n.bit_and ∷ []
-up_to n.bit_xor =
-    n.product ∷ n.sum ∷ n.shift ∷ n.relation ∷ n.equality ∷ n.bit_and ∷ n.bit_xor ∷ []
-up_to n.bit_or =
-    n.product ∷ n.sum ∷ n.shift ∷ n.relation ∷ n.equality ∷ n.bit_and ∷ n.bit_xor ∷ n.bit_or ∷ []
-up_to n.land =
-    n.product ∷ n.sum ∷ n.shift ∷ n.relation ∷ n.equality ∷ n.bit_and ∷ n.bit_xor ∷ n.bit_or
-    ∷ n.land ∷ []
-up_to n.lor =
-    n.product ∷ n.sum ∷ n.shift ∷ n.relation ∷ n.equality ∷ n.bit_and ∷ n.bit_xor ∷ n.bit_or
-    ∷ n.land ∷ n.lor ∷ []
-
 unfoldable pub level_of : Parts → ℕ → Level → Parser Expression
 level_of parts room k = do
   a ← cast_of parts room
@@ -290,10 +250,6 @@ cond_of parts room = do
   a ← level_of parts room n.lor
   asks ← see (codes "?")
   if asks then conditional_of parts room a else pure a
-
-abbrev pub assignment_next : List Lexeme → Option AssignmentOperator
-assignment_next [] = None
-assignment_next (x ∷ ts) = assignment_at x
 
 unfoldable pub assignment_of : Parts → ℕ → AssignmentOperator → Expression → Parser Expression
 assignment_of parts room operator a = only (fits a room) (do

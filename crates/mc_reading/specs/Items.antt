@@ -1,13 +1,13 @@
 -- The readers of external declarations and of a whole unit, of fewer than so many levels.
-use Rattle.std.specs.Prelude.{ℕ, zero, suc, Bool, true, false, ◌&&◌, nat_le, if◌then◌else◌, List, [], ◌∷◌, codes}
+use Rattle.std.specs.Prelude.{ℕ, zero, suc, Bool, true, false, ◌&&◌, nat_le, if◌then◌else◌, List, [], codes}
 use Rattle.mc_span.specs.declared.span.Span.{Span}
 use Rattle.mc_tree.specs.Tree.{Declarator, Item, Specifiers}
 use Rattle.mc_tree.specs.Tree as t
 use Rattle.mc_tree.specs.Units.{block_from}
-use Rattle.mc_grammar.specs.Words.{Lexeme}
 use Rattle.mc_grammar.specs.Places.{to}
 use Rattle.mc_grammar.specs.Counts.{for_item, for_function, is_typedef}
-use Rattle.mc_reading.specs.Parsers.{Parser, ◌>>=◌, pure, refuse, see, first, only}
+use Rattle.mc_grammar.specs.steps.Parsers.{Parser, ◌>>=◌, pure, refuse, see, first, only}
+use Rattle.mc_grammar.specs.steps.Next.{ended}
 use Rattle.mc_reading.specs.Lists.{listed, until_list}
 use Rattle.mc_reading.specs.Specifiers.{declarator_of}
 use Rattle.mc_reading.specs.Rooms.{reading}
@@ -48,10 +48,6 @@ item_of rooms = do
     d ← declarator_of (reading rooms)
     opens ← see (codes "{")
     if opens then defined_of rooms start s d else declaration_item_of rooms start s d)
-
-abbrev pub ended : List Lexeme → Bool
-ended [] = true
-ended (x ∷ ts) = false
 
 unfoldable pub unit_of : ℕ → Parser (List Item)
 unit_of rooms = listed (λ turns. until_list turns ended (item_of rooms) [])

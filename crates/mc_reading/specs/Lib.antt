@@ -1,4 +1,3 @@
-pub mod Parsers
 pub mod Lists
 pub mod Expressions
 pub mod Specifiers

@@ -2,7 +2,7 @@
 -- than there are tokens.
 use Rattle.std.specs.Prelude.{ℕ, zero, suc, ◌+◌, Bool, if◌then◌else◌, List, [], ◌∷◌, ◌++◌, length, codes}
 use Rattle.mc_grammar.specs.Words.{Lexeme}
-use Rattle.mc_reading.specs.Parsers.{Parser, ◌>>=◌, pure, refuse, ask, see, take}
+use Rattle.mc_grammar.specs.steps.Parsers.{Parser, ◌>>=◌, pure, refuse, ask, see, take}
 
 -- parts with commas between them
 abbrev pub comma_turn : {A : Type 0} → (List A → Parser (List A)) → Parser A → List A

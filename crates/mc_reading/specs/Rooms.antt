@@ -1,6 +1,6 @@
 -- The knot: what reads expressions and specifiers of fewer than so many levels.
 use Rattle.std.specs.Prelude.{ℕ, zero, suc}
-use Rattle.mc_reading.specs.Parsers.{refuse}
+use Rattle.mc_grammar.specs.steps.Parsers.{refuse}
 use Rattle.mc_reading.specs.Expressions.{Parts, expression_of}
 use Rattle.mc_reading.specs.Specifiers.{specifiers_of}
 

@@ -3,7 +3,6 @@
 use Rattle.std.specs.Prelude.{ℕ, zero, suc, Bool, true, false, ◌||◌, nat_le, if◌then◌else◌, List, [], ◌∷◌, ◌++◌, Option, Some, None, codes}
 use Rattle.mc_span.specs.declared.span.Span.{Span}
 use Rattle.mc_tree.specs.declared.declarations.specifier_word.SpecifierWord.{SpecifierWord}
-use Rattle.mc_tree.specs.declared.declarations.specifier_word.SpecifierWord.TheVariants as word
 use Rattle.mc_tree.specs.Tree.{Name, ArrayLengths, Declarator, Enumerator, Parameter, Parameters, Specifier, Specifiers, StructMember, span_of_parameters}
 use Rattle.mc_tree.specs.Tree as t
 use Rattle.mc_tree.specs.Views.{declarators_from, enumerators_from, lengths_from, members_from, parameters_from, specifiers_from}
@@ -12,7 +11,8 @@ use Rattle.mc_grammar.specs.Places.{at, name_at, to, end_of_specifiers}
 use Rattle.mc_grammar.specs.Operators.{is_type_word}
 use Rattle.mc_grammar.specs.Counts.{for_type}
 use Rattle.mc_grammar.specs.Nonterminal as n
-use Rattle.mc_reading.specs.Parsers.{Parser, ◌>>=◌, pure, refuse, ask, see, take, accept, expect, first, only}
+use Rattle.mc_grammar.specs.steps.Parsers.{Parser, ◌>>=◌, pure, refuse, ask, see, take, accept, expect, first, only}
+use Rattle.mc_grammar.specs.steps.Next.{word_next}
 use Rattle.mc_reading.specs.Lists.{braced_list, comma_list, listed, some_list}
 use Rattle.mc_reading.specs.Expressions.{Parts, stars_of}
 
@@ -168,25 +168,6 @@ enumeration_of parts room = do
     lists ← see (codes "{")
     if lists then enumeration_list parts room x (Some (name_at y)) else
         pure (t.EnumerationTag (name_at y) (to (at x) (at y))))
-
--- which keyword alone is a specifier
-abbrev pub word_at : Lexeme → Option SpecifierWord
-word_at x = if is_keyword (codes "typedef") x then Some word.Typedef
-    else (if is_keyword (codes "static") x then Some word.Static
-    else (if is_keyword (codes "extern") x then Some word.Extern
-    else (if is_keyword (codes "const") x then Some word.Const
-    else (if is_keyword (codes "void") x then Some word.Void
-    else (if is_keyword (codes "_Bool") x then Some word.Bool
-    else (if is_keyword (codes "char") x then Some word.Char
-    else (if is_keyword (codes "short") x then Some word.Short
-    else (if is_keyword (codes "int") x then Some word.Int
-    else (if is_keyword (codes "long") x then Some word.Long
-    else (if is_keyword (codes "signed") x then Some word.Signed
-    else (if is_keyword (codes "unsigned") x then Some word.Unsigned else None)))))))))))
-
-abbrev pub word_next : List Lexeme → Option SpecifierWord
-word_next [] = None
-word_next (x ∷ ts) = word_at x
 
 -- one specifier; which stand first was asked
 abbrev pub specifier_by : Parts → ℕ → Option SpecifierWord → Parser Specifier

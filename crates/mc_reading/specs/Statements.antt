@@ -8,7 +8,7 @@ use Rattle.mc_grammar.specs.Words.{Lexeme, is_name, sees, sees_keyword, sees_lab
 use Rattle.mc_grammar.specs.Places.{at, name_at, to}
 use Rattle.mc_grammar.specs.Counts.{for_local, for_type}
 use Rattle.mc_grammar.specs.Nonterminal as n
-use Rattle.mc_reading.specs.Parsers.{Parser, ◌>>=◌, pure, refuse, ask, see, take, accept, expect, expect_keyword}
+use Rattle.mc_grammar.specs.steps.Parsers.{Parser, ◌>>=◌, pure, refuse, ask, see, take, accept, expect, expect_keyword}
 use Rattle.mc_reading.specs.Lists.{listed, until_list}
 use Rattle.mc_reading.specs.Expressions.{Parts}
 use Rattle.mc_reading.specs.Rooms.{reading}

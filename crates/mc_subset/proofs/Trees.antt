@@ -1,5 +1,5 @@
 -- What the trees of the program stand for whose parts are several: an equation for each.
-use Rattle.std.proofs.Common.{◌≡◌, ℕ, Option, Vec, Box, Global, map, option_map, sym, ap, ◌∙◌}
+use Rattle.std.proofs.Common.{◌≡◌, ℕ, Option, Vec, Box, Global, map, sym, ap, ◌∙◌}
 use Rattle.mc_span.specs.declared.span.Span.{Span}
 use Rattle.mc_tree.specs.declared.declarations.array_length.ArrayLength.TheVariants as bracket
 use Rattle.mc_tree.specs.declared.declarations.member.Member.{Member}
@@ -20,7 +20,7 @@ use Rattle.mc_tree.specs.declared.statements.statement.Statement.TheVariants as 
 use Rattle.mc_tree.specs.declared.statements.block_item.BlockItem.TheVariants as block_item
 use Rattle.mc_tree.specs.declared.statements.block_item.BlockItem.TheOpen.{Statement-F, BlockItem-F}
 use Rattle.mc_tree.specs.declared.statements.block_item.BlockItem.TheFolds.{fold-roll-Statement, fold-roll-BlockItem}
-use Rattle.mc_tree.specs.Units.{block_item_of, declaration_of, node_block_item, node_statement, start_of, statement_of}
+use Rattle.mc_tree.specs.Units.{block_item_of, declaration_of, node_block_item, node_statement, option_of, start_of, statement_of}
 use Rattle.mc_subset.proofs.Order.{first_of_both}
 
 pub expression_of-Index : (a b : Box Expression Global) (span : Span) → expression_of (code.Index a b span) ≡ t.Index (expression_of a.value) (expression_of b.value) span
@@ -55,25 +55,25 @@ pub ruleset declarations = (first_of_both, member_of-parts, parameter_of-parts)
 
 -- statements
 
-pub statement_of-If : (a : Expression) (s : Box Statement Global) (span : Span) → statement_of (statement.If a s span) ≡ t.If (expression_of a) (statement_of s.value) span
+pub statement_of-If : (a : Box Expression Global) (s : Box Statement Global) (span : Span) → statement_of (statement.If a s span) ≡ t.If (expression_of a.value) (statement_of s.value) span
 statement_of-If a s span = ap statement_of (sym (statement.rolls-If a s span)) ∙ fold-roll-Statement (t.BlockItems → t.BlockItems) t.Statement node_block_item node_statement (Statement-F.If a s span)
 
-pub statement_of-IfElse : (a : Expression) (s u : Box Statement Global) (span : Span) → statement_of (statement.IfElse a s u span) ≡ t.IfElse (expression_of a) (statement_of s.value) (statement_of u.value) span
+pub statement_of-IfElse : (a : Box Expression Global) (s u : Box Statement Global) (span : Span) → statement_of (statement.IfElse a s u span) ≡ t.IfElse (expression_of a.value) (statement_of s.value) (statement_of u.value) span
 statement_of-IfElse a s u span = ap statement_of (sym (statement.rolls-IfElse a s u span)) ∙ fold-roll-Statement (t.BlockItems → t.BlockItems) t.Statement node_block_item node_statement (Statement-F.IfElse a s u span)
 
-pub statement_of-Switch : (a : Expression) (s : Box Statement Global) (span : Span) → statement_of (statement.Switch a s span) ≡ t.Switch (expression_of a) (statement_of s.value) span
+pub statement_of-Switch : (a : Box Expression Global) (s : Box Statement Global) (span : Span) → statement_of (statement.Switch a s span) ≡ t.Switch (expression_of a.value) (statement_of s.value) span
 statement_of-Switch a s span = ap statement_of (sym (statement.rolls-Switch a s span)) ∙ fold-roll-Statement (t.BlockItems → t.BlockItems) t.Statement node_block_item node_statement (Statement-F.Switch a s span)
 
-pub statement_of-While : (a : Expression) (s : Box Statement Global) (span : Span) → statement_of (statement.While a s span) ≡ t.While (expression_of a) (statement_of s.value) span
+pub statement_of-While : (a : Box Expression Global) (s : Box Statement Global) (span : Span) → statement_of (statement.While a s span) ≡ t.While (expression_of a.value) (statement_of s.value) span
 statement_of-While a s span = ap statement_of (sym (statement.rolls-While a s span)) ∙ fold-roll-Statement (t.BlockItems → t.BlockItems) t.Statement node_block_item node_statement (Statement-F.While a s span)
 
-pub statement_of-DoWhile : (s : Box Statement Global) (a : Expression) (span : Span) → statement_of (statement.DoWhile s a span) ≡ t.DoWhile (statement_of s.value) (expression_of a) span
+pub statement_of-DoWhile : (s : Box Statement Global) (a : Box Expression Global) (span : Span) → statement_of (statement.DoWhile s a span) ≡ t.DoWhile (statement_of s.value) (expression_of a.value) span
 statement_of-DoWhile s a span = ap statement_of (sym (statement.rolls-DoWhile s a span)) ∙ fold-roll-Statement (t.BlockItems → t.BlockItems) t.Statement node_block_item node_statement (Statement-F.DoWhile s a span)
 
-pub statement_of-For : (start : ForStart) (a b : Option Expression) (s : Box Statement Global) (span : Span) → statement_of (statement.For start a b s span) ≡ t.For (start_of start) (option_map expression_of a) (option_map expression_of b) (statement_of s.value) span
+pub statement_of-For : (start : Box ForStart Global) (a b : Option (Box Expression Global)) (s : Box Statement Global) (span : Span) → statement_of (statement.For start a b s span) ≡ t.For (start_of start.value) (option_of a) (option_of b) (statement_of s.value) span
 statement_of-For start a b s span = ap statement_of (sym (statement.rolls-For start a b s span)) ∙ fold-roll-Statement (t.BlockItems → t.BlockItems) t.Statement node_block_item node_statement (Statement-F.For start a b s span)
 
-pub statement_of-Case : (a : Expression) (label : Span) (s : Box Statement Global) (span : Span) → statement_of (statement.Case a label s span) ≡ t.Case (expression_of a) label (statement_of s.value) span
+pub statement_of-Case : (a : Box Expression Global) (label : Span) (s : Box Statement Global) (span : Span) → statement_of (statement.Case a label s span) ≡ t.Case (expression_of a.value) label (statement_of s.value) span
 statement_of-Case a label s span = ap statement_of (sym (statement.rolls-Case a label s span)) ∙ fold-roll-Statement (t.BlockItems → t.BlockItems) t.Statement node_block_item node_statement (Statement-F.Case a label s span)
 
 pub block_item_of-Local : (d : Declaration) → block_item_of (block_item.Local d) ≡ t.local (declaration_of d)

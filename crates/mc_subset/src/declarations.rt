@@ -1,9 +1,8 @@
 //! The first node outside in initializers and declarations.
 #![tactic(auto, using(crate::proofs::Order::lists))]
 
-ghost use Rattle.std.specs.Prelude.{◌≡◌, map, option_map};
-ghost use Rattle.mc_tree.specs.Views.{expression_of};
-ghost use Rattle.mc_tree.specs.Units.{declaration_of, init_declarator_of, initializer_of, initializers_from, start_of};
+ghost use Rattle.std.specs.Prelude.{◌≡◌, map};
+ghost use Rattle.mc_tree.specs.Units.{declaration_of, init_declarator_of, initializer_of, initializers_from, option_of, start_of};
 ghost use Rattle.mc_subset.specs.Nodes as n;
 ghost use Rattle.mc_subset.specs.Forms.{first_outside};
 
@@ -86,8 +85,8 @@ pub(crate) fn declaration(
     init_declarators(&tree.declarators, region, has_extern(&tree.specifiers))
 }
 
-pub(crate) fn optional(tree: &Option<Expression<'_>>, role: Role) -> Option<Outside>
-    ensures { let value = option_map expression_of tree.now in
+pub(crate) fn optional(tree: &Option<Box<Expression<'_>>>, role: Role) -> Option<Outside>
+    ensures { let value = option_of tree.now in
         result ≡ first_outside (n.nodes_of_optional role value) }
 {
     match tree {
@@ -110,11 +109,11 @@ fn for_start(tree: &ForStart<'_>) -> Option<Outside>
 /// The three parts of a `for`.
 pub(crate) fn for_parts(
     start: &ForStart<'_>,
-    test: &Option<Expression<'_>>,
-    step: &Option<Expression<'_>>,
+    test: &Option<Box<Expression<'_>>>,
+    step: &Option<Box<Expression<'_>>>,
 ) -> Option<Outside>
-    ensures { let second = option_map expression_of test.now in
-        let third = option_map expression_of step.now in
+    ensures { let second = option_of test.now in
+        let third = option_of step.now in
         result ≡ first_outside (n.nodes_of_parts (start_of start.now) second third) }
 {
     if let Some(first) = for_start(start) {

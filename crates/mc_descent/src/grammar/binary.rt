@@ -3,38 +3,24 @@ ghost use Rattle.std.specs.Prelude.{◌≡◌, ◌≤◌, ◌+◌, IfOk, List, m
 ghost use Rattle.mc_tree.specs.Tree as t;
 ghost use Rattle.mc_tree.specs.Tree.{span_of};
 ghost use Rattle.mc_tree.specs.Views.{expression_of, expressions_from};
-ghost use Rattle.mc_grammar.specs.Expressions as grammar;
 ghost use Rattle.mc_grammar.specs.Places as places;
 ghost use Rattle.mc_reading.specs.Expressions as spec;
-ghost use Rattle.mc_reading.specs.Parsers.{and_then};
+ghost use Rattle.mc_grammar.specs.steps.Parsers.{and_then};
 ghost use Rattle.mc_reading.specs.Rooms.{reading};
-ghost use Rattle.mc_descent.specs.Cursors.{left_of};
-ghost use Rattle.mc_descent.specs.Rules.{level_of, levels_of};
+ghost use Rattle.mc_cursor.specs.Cursors.{left_of};
+ghost use Rattle.mc_cursor.specs.Rules.{level_of, levels_of};
 ghost use Rattle.mc_descent.specs.Given.{GivesMade, GivesTree, IsHigh, Nests, NestsTypes, tree_of, trees_of};
 
-use crate::cursor::Cursor;
-use crate::fault::Fault;
 use crate::grammar::Grammar;
-use crate::grammar::makers::{boxed, end_of_expressions, to};
+use crate::grammar::makers::{boxed, end_of_expressions};
 use crate::read::{Read, ReadAll, ReadSpecifiers};
-use crate::rule::{Level, Rule};
+use mc_cursor::cursor::Cursor;
+use mc_cursor::fault::Fault;
+use mc_cursor::rule::{Level, Rule};
+use mc_cursor::{is_unary, to};
 use mc_span::Span;
 use mc_tree::{AssignmentOperator, BinaryOperator, Expression};
 use std::alloc::Global;
-
-/// Whether the tree is one of a unary expression.
-fn is_unary(tree: &Expression<'_>) -> bool
-    ensures { result ≡ grammar.is_unary (expression_of tree.now) }
-{
-    !matches!(
-        tree,
-        Expression::Cast { .. }
-            | Expression::Binary { .. }
-            | Expression::Conditional { .. }
-            | Expression::Assignment { .. }
-            | Expression::Comma { .. }
-    )
-}
 
 impl<
     'a,
@@ -82,7 +68,7 @@ impl<
             (left_of tokens.new) }
         ensures height { IfOk result (λ r. r.height ≤ self.now.room) }
     {
-        if left.height >= self.room {
+        if left.is_too_high(self.room) {
             return Err(Fault::Syntax);
         }
         tokens.take()?;
@@ -186,7 +172,7 @@ impl<
             (tree_of test.entry) (left_of tokens.old)) result (left_of tokens.new) }
         ensures height { IfOk result (λ r. r.height ≤ self.now.room) }
     {
-        if test.height >= self.room {
+        if test.is_too_high(self.room) {
             return Err(Fault::Syntax);
         }
         tokens.take()?;
@@ -253,7 +239,7 @@ impl<
             (tree_of target.entry) (left_of tokens.old)) result (left_of tokens.new) }
         ensures height { IfOk result (λ r. r.height ≤ self.now.room) }
     {
-        if target.height >= self.room {
+        if target.is_too_high(self.room) {
             return Err(Fault::Syntax);
         }
         tokens.take()?;
@@ -307,14 +293,14 @@ impl<
             (left_of tokens.old)) result (left_of tokens.new) }
         ensures height { IfOk result (λ r. r.height ≤ self.now.room) }
     {
-        if first.height >= self.room {
+        if first.is_too_high(self.room) {
             return Err(Fault::Syntax);
         }
         tokens.take()?;
         let start = first.tree.span();
         let mut all = ReadAll::new(self.alloc);
         all.push(first.tree, first.height)?;
-        let all = self.expressions(all, tokens)?;
+        self.expressions(&mut all, tokens)?;
         self.made_comma(start, all)
     }
 

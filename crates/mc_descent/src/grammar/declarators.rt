@@ -1,22 +1,30 @@
 //! Declarators and their parts (C17 6.7.6).
 ghost use Rattle.std.specs.Prelude.{◌≡◌, ◌≤◌, ◌+◌, ◌-◌, IfOk, [], map};
-ghost use Rattle.mc_tree.specs.Views.{declarator_of, name_of, parameter_of, tag_of};
+ghost use Rattle.mc_lex.specs.Tokens.{tok_of};
+ghost use Rattle.mc_tree.specs.Views.{declarator_of, parameters_from, tag_of};
 ghost use Rattle.mc_tree.specs.Height.{height_declarator, height_parameter, height_specifiers};
+ghost use Rattle.mc_tree.specs.Tree as t;
+ghost use Rattle.mc_grammar.specs.Words.{lexeme_of};
+ghost use Rattle.mc_grammar.specs.Places as places;
+ghost use Rattle.mc_grammar.specs.Places.{name_at};
 ghost use Rattle.mc_reading.specs.Lists.{comma_list, listed};
 ghost use Rattle.mc_reading.specs.Specifiers as spec;
 ghost use Rattle.mc_reading.specs.Rooms.{reading};
-ghost use Rattle.mc_descent.specs.Cursors.{left_of};
+ghost use Rattle.mc_cursor.specs.Cursors.{left_of};
+ghost use Rattle.mc_cursor.specs.Short.{IsShort};
 ghost use Rattle.mc_descent.specs.Given.{GivesPart, Nests, NestsTypes, specifiers_of};
 ghost use Rattle.mc_descent.specs.Parts as view;
 
-use crate::cursor::{Cursor, identifier, place};
-use crate::fault::Fault;
 use crate::grammar::Grammar;
-use crate::grammar::lists::push;
-use crate::grammar::makers::{end_of_specifiers, to};
+use crate::grammar::lists::{push, push_boxed};
+use crate::grammar::makers::end_of_specifiers;
 use crate::grammar::unary::stars;
 use crate::read::{Read, ReadLength, ReadLengths, ReadSpecifiers};
-use crate::rule::Rule;
+use mc_cursor::cursor::{Cursor, identifier, place};
+use mc_cursor::fault::Fault;
+use mc_cursor::rule::Rule;
+use mc_cursor::to;
+use mc_lex::Token;
 use mc_span::Span;
 use mc_tree::{ArrayLength, Declarator, Identifier, Parameter};
 use std::alloc::Global;
@@ -47,7 +55,7 @@ impl<
             let close = tokens.take()?;
             return Ok(ReadLength {
                 one: ArrayLength::Absent,
-                end: place(&close),
+                end: place(close),
             });
         }
         let Read {
@@ -58,7 +66,7 @@ impl<
         *tallest = (*tallest).max(height);
         Ok(ReadLength {
             one: ArrayLength::Given { value },
-            end: place(&close),
+            end: place(close),
         })
     }
 
@@ -103,12 +111,12 @@ impl<
         end: Span,
         tokens: &mut Cursor<'_, 'a>,
         tallest: &mut u32,
-    ) -> Result<Parameter<'a>, Fault>
+    ) -> Result<Box<Parameter<'a>>, Fault>
         requires room { self.now.room ≤ 1000 }
         requires nests { Nests self.now.room (F.pre self.now.inner) (F.post self.now.inner) }
         requires low { (tallest.now ≤ self.now.room - 1) × (read.height ≤ self.now.room - 1) }
         requires high { read.height ≡ height_specifiers (specifiers_of read) }
-        ensures parameter { GivesPart parameter_of height_parameter
+        ensures parameter { GivesPart view.boxed_parameter height_parameter
             (view.parameter_after (reading self.now.room) start (specifiers_of read.entry) stars
             (tag_of name.entry) end (left_of tokens.old)) result (left_of tokens.new) tallest.old
             tallest.new }
@@ -120,38 +128,41 @@ impl<
         } = read;
         let ReadLengths { all: lengths, end } = self.lengths(end, tokens, tallest)?;
         *tallest = (*tallest).max(height);
-        Ok(Parameter {
+        let parameter = Parameter {
             specifiers,
             stars,
             name,
             lengths,
             span: to(start, end),
-        })
+        };
+        Ok(Box::new(self.alloc, parameter)?)
     }
 
+    /// A parameter, after its specifiers. It stands apart, so that it takes no room of the stack
+    /// where structures nest.
     #[inline(never)]
-    #[tactic(auto, using(crate::proofs::Parts::name_steps), unfolding(mc_reading::specs::Specifiers::parameter_of))]
-    fn parameter(
+    #[tactic(auto, using(crate::proofs::Parts::name_steps))]
+    fn parameter_named(
         &self,
+        start: Span,
+        read: ReadSpecifiers<'a>,
         tokens: &mut Cursor<'_, 'a>,
         tallest: &mut u32,
-    ) -> Result<Parameter<'a>, Fault>
+    ) -> Result<Box<Parameter<'a>>, Fault>
         requires room { self.now.room ≤ 1000 }
         requires nests { Nests self.now.room (F.pre self.now.inner) (F.post self.now.inner) }
-        requires types { NestsTypes self.now.room (G.pre self.now.typed) (G.post self.now.typed) }
-        requires low { tallest.now ≤ self.now.room - 1 }
-        ensures parameter { GivesPart parameter_of height_parameter
-            (spec.parameter_of (reading self.now.room) (left_of tokens.old)) result
-            (left_of tokens.new) tallest.old tallest.new }
+        requires low { (tallest.now ≤ self.now.room - 1) × (read.height ≤ self.now.room - 1) }
+        requires high { read.height ≡ height_specifiers (specifiers_of read) }
+        ensures parameter { GivesPart view.boxed_parameter height_parameter
+            (view.parameter_named (reading self.now.room) start (specifiers_of read.entry)
+            (left_of tokens.old)) result (left_of tokens.new) tallest.old tallest.new }
         ensures low { IfOk result (λ _. tallest.new ≤ self.now.room - 1) }
     {
-        let start = tokens.first()?;
-        let read = self.types(tokens)?;
         let stars = stars(end_of_specifiers(start, &read.all), tokens)?;
         if !tokens.sees_name() {
             return self.parameter_after(start, read, stars.count, None, stars.end, tokens, tallest);
         }
-        let name = identifier(&tokens.take()?);
+        let name = identifier(tokens.take()?);
         self.parameter_after(
             start,
             read,
@@ -161,6 +172,27 @@ impl<
             tokens,
             tallest,
         )
+    }
+
+    #[inline(never)]
+    #[tactic(auto, unfolding(mc_reading::specs::Specifiers::parameter_of))]
+    fn parameter(
+        &self,
+        tokens: &mut Cursor<'_, 'a>,
+        tallest: &mut u32,
+    ) -> Result<Box<Parameter<'a>>, Fault>
+        requires room { self.now.room ≤ 1000 }
+        requires nests { Nests self.now.room (F.pre self.now.inner) (F.post self.now.inner) }
+        requires types { NestsTypes self.now.room (G.pre self.now.typed) (G.post self.now.typed) }
+        requires low { tallest.now ≤ self.now.room - 1 }
+        ensures parameter { GivesPart view.boxed_parameter height_parameter
+            (spec.parameter_of (reading self.now.room) (left_of tokens.old)) result
+            (left_of tokens.new) tallest.old tallest.new }
+        ensures low { IfOk result (λ _. tallest.new ≤ self.now.room - 1) }
+    {
+        let start = tokens.first()?;
+        let read = self.types(tokens)?;
+        self.parameter_named(start, read, tokens, tallest)
     }
 
     #[inline(never)]
@@ -182,13 +214,84 @@ impl<
         let mut all = Vec::new(self.alloc);
         for _turn in 0..tokens.turns() {
             let one = self.parameter(tokens, tallest)?;
-            push(&mut all, one)?;
+            push_boxed(&mut all, one)?;
             if !tokens.sees(b",") {
                 return Ok(all);
             }
             tokens.take()?;
         }
         Err(Fault::Syntax)
+    }
+
+    /// A declarator on the heap.
+    #[inline(never)]
+    fn made(&self, declarator: Declarator<'a>) -> Result<Box<Declarator<'a>>, Fault>
+        ensures { view.IsMadeDeclarator (declarator_of declarator.entry) result }
+    {
+        Ok(Box::new(self.alloc, declarator)?)
+    }
+
+    #[inline(never)]
+    fn empty_function(
+        &self,
+        start: Span,
+        stars: u32,
+        name: &Token<'a>,
+        list_span: Span,
+    ) -> Result<Box<Declarator<'a>>, Fault>
+        requires short { IsShort name.now }
+        ensures { view.IsMadeDeclarator (t.function stars (name_at (lexeme_of (tok_of name.now)))
+            (t.Empty list_span) (places.to start list_span)) result }
+    {
+        self.made(Declarator::EmptyFunction {
+            stars,
+            name: identifier(name),
+            list_span,
+            span: to(start, list_span),
+        })
+    }
+
+    #[inline(never)]
+    fn void_function(
+        &self,
+        start: Span,
+        stars: u32,
+        name: &Token<'a>,
+        list_span: Span,
+    ) -> Result<Box<Declarator<'a>>, Fault>
+        requires short { IsShort name.now }
+        ensures { view.IsMadeDeclarator (t.function stars (name_at (lexeme_of (tok_of name.now)))
+            (t.Void list_span) (places.to start list_span)) result }
+    {
+        self.made(Declarator::VoidFunction {
+            stars,
+            name: identifier(name),
+            list_span,
+            span: to(start, list_span),
+        })
+    }
+
+    #[inline(never)]
+    fn listed_function(
+        &self,
+        start: Span,
+        stars: u32,
+        name: &Token<'a>,
+        parameters: Vec<Parameter<'a>>,
+        list_span: Span,
+    ) -> Result<Box<Declarator<'a>>, Fault>
+        requires short { IsShort name.now }
+        ensures { view.IsMadeDeclarator (t.function stars (name_at (lexeme_of (tok_of name.now)))
+            (t.Listed (parameters_from (view.parameters_of parameters.entry)) list_span)
+            (places.to start list_span)) result }
+    {
+        self.made(Declarator::Function {
+            stars,
+            name: identifier(name),
+            parameters,
+            list_span,
+            span: to(start, list_span),
+        })
     }
 
     /// The parentheses of a function's declarator, after its name.
@@ -198,48 +301,65 @@ impl<
         &self,
         start: Span,
         stars: u32,
-        name: Identifier<'a>,
+        name: &Token<'a>,
         tokens: &mut Cursor<'_, 'a>,
         tallest: &mut u32,
-    ) -> Result<Declarator<'a>, Fault>
+    ) -> Result<Box<Declarator<'a>>, Fault>
         requires room { self.now.room ≤ 1000 }
         requires nests { Nests self.now.room (F.pre self.now.inner) (F.post self.now.inner) }
         requires types { NestsTypes self.now.room (G.pre self.now.typed) (G.post self.now.typed) }
         requires low { tallest.now ≤ self.now.room - 1 }
-        ensures declarator { GivesPart declarator_of height_declarator
-            (view.function_of (reading self.now.room) start stars (name_of name.entry)
-            (left_of tokens.old)) result (left_of tokens.new) tallest.old tallest.new }
+        requires short { IsShort name.now }
+        ensures declarator { GivesPart view.boxed_declarator height_declarator
+            (view.function_of (reading self.now.room) start stars
+            (name_at (lexeme_of (tok_of name.now))) (left_of tokens.old)) result
+            (left_of tokens.new) tallest.old tallest.new }
         ensures low { IfOk result (λ _. tallest.new ≤ self.now.room - 1) }
     {
         let open = tokens.expect(b"(")?;
         if tokens.sees(b")") {
-            let list_span = to(place(&open), place(&tokens.take()?));
-            return Ok(Declarator::EmptyFunction {
-                stars,
-                name,
-                list_span,
-                span: to(start, list_span),
-            });
+            let list_span = to(place(open), place(tokens.take()?));
+            return self.empty_function(start, stars, name, list_span);
         }
         if tokens.sees_void_alone() {
             tokens.take()?;
-            let list_span = to(place(&open), place(&tokens.take()?));
-            return Ok(Declarator::VoidFunction {
-                stars,
-                name,
-                list_span,
-                span: to(start, list_span),
-            });
+            let list_span = to(place(open), place(tokens.take()?));
+            return self.void_function(start, stars, name, list_span);
         }
         let parameters = self.parameters(tokens, tallest)?;
-        let list_span = to(place(&open), place(&tokens.expect(b")")?));
-        Ok(Declarator::Function {
+        let list_span = to(place(open), place(tokens.expect(b")")?));
+        self.listed_function(start, stars, name, parameters, list_span)
+    }
+
+    /// The brackets of a declarator, after its name.
+    #[inline(never)]
+    fn object(
+        &self,
+        start: Span,
+        stars: u32,
+        name: &Token<'a>,
+        tokens: &mut Cursor<'_, 'a>,
+        tallest: &mut u32,
+    ) -> Result<Box<Declarator<'a>>, Fault>
+        requires room { self.now.room ≤ 1000 }
+        requires nests { Nests self.now.room (F.pre self.now.inner) (F.post self.now.inner) }
+        requires low { tallest.now ≤ self.now.room - 1 }
+        requires short { IsShort name.now }
+        ensures declarator { GivesPart view.boxed_declarator height_declarator
+            (view.object_of (reading self.now.room) start stars
+            (name_at (lexeme_of (tok_of name.now))) (left_of tokens.old)) result
+            (left_of tokens.new) tallest.old tallest.new }
+        ensures low { IfOk result (λ _. tallest.new ≤ self.now.room - 1) }
+    {
+        let name = identifier(name);
+        let ReadLengths { all: lengths, end } = self.lengths(name.span, tokens, tallest)?;
+        let declarator = Declarator::Object {
             stars,
             name,
-            parameters,
-            list_span,
-            span: to(start, list_span),
-        })
+            lengths,
+            span: to(start, end),
+        };
+        self.made(declarator)
     }
 
     #[inline(never)]
@@ -248,28 +368,22 @@ impl<
         &self,
         tokens: &mut Cursor<'_, 'a>,
         tallest: &mut u32,
-    ) -> Result<Declarator<'a>, Fault>
+    ) -> Result<Box<Declarator<'a>>, Fault>
         requires room { self.now.room ≤ 1000 }
         requires nests { Nests self.now.room (F.pre self.now.inner) (F.post self.now.inner) }
         requires types { NestsTypes self.now.room (G.pre self.now.typed) (G.post self.now.typed) }
         requires low { tallest.now ≤ self.now.room - 1 }
-        ensures declarator { GivesPart declarator_of height_declarator
+        ensures declarator { GivesPart view.boxed_declarator height_declarator
             (spec.declarator_of (reading self.now.room) (left_of tokens.old)) result
             (left_of tokens.new) tallest.old tallest.new }
         ensures low { IfOk result (λ _. tallest.new ≤ self.now.room - 1) }
     {
         let start = tokens.first()?;
         let stars = stars(start, tokens)?;
-        let name = identifier(&tokens.expect_name()?);
+        let name = tokens.expect_name()?;
         if tokens.sees(b"(") {
             return self.function(start, stars.count, name, tokens, tallest);
         }
-        let ReadLengths { all: lengths, end } = self.lengths(name.span, tokens, tallest)?;
-        Ok(Declarator::Object {
-            stars: stars.count,
-            name,
-            lengths,
-            span: to(start, end),
-        })
+        self.object(start, stars.count, name, tokens, tallest)
     }
 }

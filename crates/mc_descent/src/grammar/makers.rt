@@ -4,21 +4,11 @@ ghost use Rattle.mc_tree.specs.Views.{expression_of, expressions_from, specifier
 ghost use Rattle.mc_grammar.specs.Places as places;
 ghost use Rattle.mc_descent.specs.Given.{GivesMade};
 
-use crate::fault::Fault;
 use crate::read::Read;
+use mc_cursor::fault::Fault;
 use mc_span::Span;
 use mc_tree::{Expression, Specifier};
 use std::alloc::Global;
-
-/// From the start of one place to the end of another.
-pub fn to(first: Span, last: Span) -> Span
-    ensures { result ≡ places.to first last }
-{
-    Span {
-        start: first.start,
-        end: last.end,
-    }
-}
 
 /// A tree on the heap.
 #[inline(never)]

@@ -1,22 +1,23 @@
 //! Members of structures and constants of enumerations (C17 6.7.2.1, 6.7.2.2).
 ghost use Rattle.std.specs.Prelude.{◌≡◌, ◌≤◌, ◌+◌, ◌-◌, IfOk, [], map};
-ghost use Rattle.mc_tree.specs.Views.{enumerator_of, member_of};
+ghost use Rattle.mc_tree.specs.Views.{enumerator_of};
 ghost use Rattle.mc_tree.specs.Height.{height_enumerator, height_member};
 ghost use Rattle.mc_grammar.specs.Words.{sees_specifiers};
 ghost use Rattle.mc_reading.specs.Lists.{braced_list, comma_list, listed, some_list};
 ghost use Rattle.mc_reading.specs.Specifiers as spec;
 ghost use Rattle.mc_reading.specs.Rooms.{reading};
-ghost use Rattle.mc_descent.specs.Cursors.{left_of};
-ghost use Rattle.mc_descent.specs.Given.{GivesPart, Nests, NestsTypes};
+ghost use Rattle.mc_cursor.specs.Cursors.{left_of};
+ghost use Rattle.mc_descent.specs.Given.{GivesPart, Nests, NestsTypes, specifiers_of};
 ghost use Rattle.mc_descent.specs.Parts as view;
 
-use crate::cursor::{Cursor, identifier, place};
-use crate::fault::Fault;
 use crate::grammar::Grammar;
-use crate::grammar::lists::push;
-use crate::grammar::makers::to;
+use crate::grammar::lists::{push, push_boxed};
 use crate::read::{Read, ReadSpecifiers};
-use crate::rule::Rule;
+use mc_cursor::cursor::{Cursor, identifier, place};
+use mc_cursor::fault::Fault;
+use mc_cursor::rule::Rule;
+use mc_cursor::to;
+use mc_span::Span;
 use mc_tree::{Declarator, Enumerator, Member};
 use std::alloc::Global;
 
@@ -44,7 +45,7 @@ impl<
         let mut all = Vec::new(self.alloc);
         for _turn in 0..tokens.turns() {
             let one = self.declarator(tokens, tallest)?;
-            push(&mut all, one)?;
+            push_boxed(&mut all, one)?;
             if !tokens.sees(b",") {
                 return Ok(all);
             }
@@ -53,35 +54,58 @@ impl<
         Err(Fault::Syntax)
     }
 
+    /// The end of a declaration of members, after their declarators. It stands apart, so that it
+    /// takes no room of the stack where structures nest.
+    #[inline(never)]
+    fn member_end(
+        &self,
+        start: Span,
+        read: ReadSpecifiers<'a>,
+        declarators: Vec<Declarator<'a>>,
+        tokens: &mut Cursor<'_, 'a>,
+        tallest: &mut u32,
+    ) -> Result<Box<Member<'a>>, Fault>
+        requires low { (tallest.now ≤ self.now.room - 1) × (read.height ≤ self.now.room - 1) }
+        ensures member { GivesPart view.boxed_member (λ _. read.entry.height)
+            (view.member_end start (specifiers_of read.entry)
+            (view.declarators_of declarators.entry) (left_of tokens.old)) result
+            (left_of tokens.new) tallest.old tallest.new }
+        ensures low { IfOk result (λ _. tallest.new ≤ self.now.room - 1) }
+    {
+        let ReadSpecifiers {
+            all: specifiers,
+            height,
+        } = read;
+        let close = tokens.expect(b";")?;
+        *tallest = (*tallest).max(height);
+        let member = Member {
+            specifiers,
+            declarators,
+            span: to(start, place(close)),
+        };
+        Ok(Box::new(self.alloc, member)?)
+    }
+
     #[inline(never)]
     #[tactic(auto, unfolding(mc_reading::specs::Specifiers::struct_member_of))]
     fn member_declaration(
         &self,
         tokens: &mut Cursor<'_, 'a>,
         tallest: &mut u32,
-    ) -> Result<Member<'a>, Fault>
+    ) -> Result<Box<Member<'a>>, Fault>
         requires room { self.now.room ≤ 1000 }
         requires nests { Nests self.now.room (F.pre self.now.inner) (F.post self.now.inner) }
         requires types { NestsTypes self.now.room (G.pre self.now.typed) (G.post self.now.typed) }
         requires low { tallest.now ≤ self.now.room - 1 }
-        ensures member { GivesPart member_of height_member
+        ensures member { GivesPart view.boxed_member height_member
             (spec.struct_member_of (reading self.now.room) (left_of tokens.old)) result
             (left_of tokens.new) tallest.old tallest.new }
         ensures low { IfOk result (λ _. tallest.new ≤ self.now.room - 1) }
     {
         let start = tokens.first()?;
-        let ReadSpecifiers {
-            all: specifiers,
-            height,
-        } = self.types(tokens)?;
+        let read = self.types(tokens)?;
         let declarators = self.declarators(tokens, tallest)?;
-        let close = tokens.expect(b";")?;
-        *tallest = (*tallest).max(height);
-        Ok(Member {
-            specifiers,
-            declarators,
-            span: to(start, place(&close)),
-        })
+        self.member_end(start, read, declarators, tokens, tallest)
     }
 
     #[inline(never)]
@@ -104,7 +128,7 @@ impl<
         let mut all = Vec::new(self.alloc);
         for _turn in 0..tokens.turns() {
             let one = self.member_declaration(tokens, tallest)?;
-            push(&mut all, one)?;
+            push_boxed(&mut all, one)?;
             if !tokens.sees_specifiers() {
                 return Ok(all);
             }
@@ -127,7 +151,7 @@ impl<
             (left_of tokens.new) tallest.old tallest.new }
         ensures low { IfOk result (λ _. tallest.new ≤ self.now.room - 1) }
     {
-        let name = identifier(&tokens.expect_name()?);
+        let name = identifier(tokens.expect_name()?);
         if !tokens.sees(b"=") {
             return Ok(Enumerator::Bare { name });
         }

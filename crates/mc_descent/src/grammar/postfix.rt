@@ -7,15 +7,16 @@ ghost use Rattle.mc_tree.specs.Height.{height};
 ghost use Rattle.mc_grammar.specs.Places as places;
 ghost use Rattle.mc_reading.specs.Expressions as spec;
 ghost use Rattle.mc_reading.specs.Rooms.{reading};
-ghost use Rattle.mc_descent.specs.Cursors.{left_of};
+ghost use Rattle.mc_cursor.specs.Cursors.{left_of};
 ghost use Rattle.mc_descent.specs.Given.{GivesMade, GivesTree, IsHigh, Nests, tree_of};
 
-use crate::cursor::{Cursor, identifier, place};
-use crate::fault::Fault;
 use crate::grammar::Grammar;
-use crate::grammar::makers::{boxed, to};
+use crate::grammar::makers::boxed;
 use crate::read::{Read, ReadSpecifiers};
-use crate::rule::Rule;
+use mc_cursor::cursor::{Cursor, identifier, place};
+use mc_cursor::fault::Fault;
+use mc_cursor::rule::Rule;
+use mc_cursor::to;
 use mc_span::Span;
 use mc_tree::{Expression, StepOperator};
 use std::alloc::Global;
@@ -59,7 +60,7 @@ impl<
         tokens.take()?;
         let index = self.part(Rule::Comma, tokens)?;
         let close = tokens.expect(b"]")?;
-        self.made_index(array, index, place(&close))
+        self.made_index(array, index, place(close))
     }
 
     /// A member's name, after its object.
@@ -72,7 +73,7 @@ impl<
         ensures height { IfOk result (λ r. r.height ≤ self.now.room) }
     {
         tokens.take()?;
-        let name = identifier(&tokens.expect_name()?);
+        let name = identifier(tokens.expect_name()?);
         let span = to(object.tree.span(), name.span);
         let height = object.height + 1;
         let tree = Expression::Member {
@@ -99,7 +100,7 @@ impl<
         ensures height { IfOk result (λ r. r.height ≤ self.now.room) }
     {
         let last = tokens.take()?;
-        let span = to(operand.tree.span(), place(&last));
+        let span = to(operand.tree.span(), place(last));
         let height = operand.height + 1;
         let tree = Expression::PostfixStep {
             operator,
@@ -121,7 +122,7 @@ impl<
             (left_of tokens.old)) result (left_of tokens.new) }
         ensures height { IfOk result (λ r. r.height ≤ self.now.room) }
     {
-        if base.height >= self.room {
+        if base.is_too_high(self.room) {
             return Err(Fault::Syntax);
         }
         if tokens.sees(b"[") {

@@ -1,6 +1,7 @@
 //! Primary and postfix expressions (C17 6.5.1, 6.5.2).
-ghost use Rattle.std.specs.Prelude.{◌≡◌, ◌≤◌, ◌<◌, ◌+◌, ◌-◌, IfOk, length, map};
+ghost use Rattle.std.specs.Prelude.{◌≡◌, ◌≤◌, ◌<◌, ◌+◌, ◌-◌, IfOk, length};
 ghost use Rattle.mc_lex.specs.Tokens.{tok_of};
+ghost use Rattle.mc_lex.specs.declared.token.TokenKind.TheVariants as kind;
 ghost use Rattle.mc_grammar.specs.Words.{lexeme_of};
 ghost use Rattle.mc_grammar.specs.Places.{at, name_at};
 ghost use Rattle.mc_grammar.specs.Places as places;
@@ -8,17 +9,18 @@ ghost use Rattle.mc_tree.specs.Tree as t;
 ghost use Rattle.mc_tree.specs.Views.{expression_of, expressions_from};
 ghost use Rattle.mc_reading.specs.Expressions as spec;
 ghost use Rattle.mc_reading.specs.Rooms.{reading};
-ghost use Rattle.mc_descent.specs.Cursors.{left_of};
-ghost use Rattle.mc_descent.specs.Rules.{nonterminal_of};
-ghost use Rattle.mc_descent.specs.Short.{IsShort};
-ghost use Rattle.mc_descent.specs.Given.{GivesAll, GivesMade, GivesTree, IsAllHigh, Nests, trees_of};
+ghost use Rattle.mc_cursor.specs.Cursors.{left_of};
+ghost use Rattle.mc_cursor.specs.Rules.{nonterminal_of};
+ghost use Rattle.mc_cursor.specs.Short.{IsShort};
+ghost use Rattle.mc_descent.specs.Given.{GivesMade, GivesMore, GivesTree, IsAllHigh, Nests, trees_of};
 
-use crate::cursor::{Cursor, identifier, place};
-use crate::fault::Fault;
 use crate::grammar::Grammar;
-use crate::grammar::makers::{boxed, to};
+use crate::grammar::makers::boxed;
 use crate::read::{Read, ReadAll, ReadSpecifiers};
-use crate::rule::Rule;
+use mc_cursor::cursor::{Cursor, identifier, place};
+use mc_cursor::fault::Fault;
+use mc_cursor::rule::Rule;
+use mc_cursor::to;
 use mc_lex::{Token, TokenKind};
 use mc_span::Span;
 use mc_tree::Expression;
@@ -40,6 +42,24 @@ impl<
     }
 
     #[inline(never)]
+    fn made_parenthesized(
+        &self,
+        inner: Box<Expression<'a>>,
+        height: u32,
+        span: Span,
+    ) -> Result<Read<'a>, Fault>
+        requires small { height ≤ 1000 }
+        ensures { GivesMade (t.Parenthesized (expression_of inner.entry.value) span) (height + 1)
+            result }
+    {
+        boxed(
+            self.alloc,
+            Expression::Parenthesized { inner, span },
+            height + 1,
+        )
+    }
+
+    #[inline(never)]
     #[tactic(auto, unfolding(mc_reading::specs::Expressions::parenthesized_of))]
     fn parenthesized(&self, tokens: &mut Cursor<'_, 'a>) -> Result<Read<'a>, Fault>
         requires room { self.now.room ≤ 1000 }
@@ -58,37 +78,31 @@ impl<
             height,
         } = self.part(Rule::Comma, tokens)?;
         let close = tokens.expect(b")")?;
-        let span = to(place(&open), place(&close));
-        boxed(
-            self.alloc,
-            Expression::Parenthesized { inner, span },
-            height + 1,
-        )
+        self.made_parenthesized(inner, height, to(place(open), place(close)))
     }
 
-    /// The expressions of a list with commas between them, after these.
+    /// Reads the expressions of a list with commas between them, and puts them after these.
     #[inline(never)]
     #[tactic(auto, using(crate::proofs::Lists::expressions_steps))]
     pub fn expressions(
         &self,
-        before: ReadAll<'a>,
+        all: &mut ReadAll<'a>,
         tokens: &mut Cursor<'_, 'a>,
-    ) -> Result<ReadAll<'a>, Fault>
+    ) -> Result<(), Fault>
         requires room { self.now.room ≤ 1000 }
         requires nests { Nests self.now.room (F.pre self.now.inner) (F.post self.now.inner) }
-        requires all_high { IsAllHigh before }
-        requires low { before.height ≤ self.now.room - 1 }
-        ensures all { GivesAll
-            (spec.expressions_after (reading self.now.room) (trees_of before.entry)
-            (left_of tokens.old)) result (left_of tokens.new) }
-        ensures height { IfOk result (λ r. r.height + 1 ≤ self.now.room) }
+        requires all_high { IsAllHigh all.now }
+        requires low { all.now.height ≤ self.now.room - 1 }
+        ensures all { GivesMore
+            (spec.expressions_after (reading self.now.room) (trees_of all.old)
+            (left_of tokens.old)) all.new result (left_of tokens.new) }
+        ensures height { IfOk result (λ _. all.new.height + 1 ≤ self.now.room) }
     {
-        let mut all = before;
         for _turn in 0..tokens.turns() {
             let Read { tree, height } = self.part(Rule::Assign, tokens)?;
             all.push(tree, height)?;
             if !tokens.sees(b",") {
-                return Ok(all);
+                return Ok(());
             }
             tokens.take()?;
         }
@@ -97,47 +111,55 @@ impl<
 
     /// The arguments of a call and the parenthesis after them.
     #[inline(never)]
-    fn arguments(&self, name: Token<'a>, tokens: &mut Cursor<'_, 'a>) -> Result<Read<'a>, Fault>
+    fn arguments(&self, name: &Token<'a>, tokens: &mut Cursor<'_, 'a>) -> Result<Read<'a>, Fault>
         requires room { (self.now.room ≤ 1000) × (1 ≤ self.now.room) }
         requires nests { Nests self.now.room (F.pre self.now.inner) (F.post self.now.inner) }
-        requires short { IsShort name }
+        requires short { IsShort name.now }
         ensures tree { GivesTree
-            (spec.arguments_of (reading self.now.room) (lexeme_of (tok_of name.entry))
+            (spec.arguments_of (reading self.now.room) (lexeme_of (tok_of name.now))
             (left_of tokens.old)) result (left_of tokens.new) }
         ensures height { IfOk result (λ r. r.height ≤ self.now.room) }
     {
         if tokens.sees(b")") {
             let close = tokens.take()?;
-            return self.call(name, Vec::new(self.alloc), 0, place(&close));
+            return self.call(name, ReadAll::new(self.alloc), place(close));
         }
-        let ReadAll { trees, height } = self.expressions(ReadAll::new(self.alloc), tokens)?;
+        let mut all = ReadAll::new(self.alloc);
+        self.expressions(&mut all, tokens)?;
         let close = tokens.expect(b")")?;
-        self.call(name, trees, height, place(&close))
+        self.call(name, all, place(close))
     }
 
     #[inline(never)]
-    fn call(
-        &self,
-        name: Token<'a>,
-        arguments: Vec<Expression<'a>>,
-        height: u32,
-        close: Span,
-    ) -> Result<Read<'a>, Fault>
-        requires short { IsShort name }
-        requires small { height ≤ 1000 }
+    fn call(&self, name: &Token<'a>, all: ReadAll<'a>, close: Span) -> Result<Read<'a>, Fault>
+        requires short { IsShort name.now }
+        requires small { all.height ≤ 1000 }
         ensures { GivesMade
-            (t.Call (name_at (lexeme_of (tok_of name.entry)))
-            (expressions_from (map expression_of arguments.entry.items))
-            (places.to (at (lexeme_of (tok_of name.entry))) close)) (height + 1) result }
+            (t.Call (name_at (lexeme_of (tok_of name.now)))
+            (expressions_from (trees_of all.entry))
+            (places.to (at (lexeme_of (tok_of name.now))) close)) (all.entry.height + 1) result }
     {
-        let name = identifier(&name);
+        let name = identifier(name);
         let span = to(name.span, close);
+        let ReadAll {
+            trees: arguments,
+            height,
+        } = all;
         let tree = Expression::Call {
             name,
             arguments,
             span,
         };
         boxed(self.alloc, tree, height + 1)
+    }
+
+    #[inline(never)]
+    fn made_name(&self, name: &Token<'a>) -> Result<Read<'a>, Fault>
+        requires short { IsShort name.now }
+        ensures { GivesMade (t.Named (name_at (lexeme_of (tok_of name.now)))) 1 result }
+    {
+        let name = identifier(name);
+        boxed(self.alloc, Expression::Name { name }, 1)
     }
 
     /// A name, or a call.
@@ -155,9 +177,46 @@ impl<
             tokens.take()?;
             self.arguments(name, tokens)
         } else {
-            let name = identifier(&name);
-            boxed(self.alloc, Expression::Name { name }, 1)
+            self.made_name(name)
         }
+    }
+
+    /// A constant, which is the next token.
+    #[inline(never)]
+    fn constant(
+        &self,
+        value: u64,
+        decimal: bool,
+        unsigned: bool,
+        longs: u32,
+        tokens: &mut Cursor<'_, 'a>,
+    ) -> Result<Read<'a>, Fault>
+        ensures tree { GivesTree
+            (spec.primary_by (reading self.now.room) (kind.Constant value decimal unsigned longs)
+            (left_of tokens.old)) result (left_of tokens.new) }
+        ensures height { IfOk result (λ r. r.height ≡ 1) }
+    {
+        let span = place(tokens.take()?);
+        let tree = Expression::Constant {
+            value,
+            decimal,
+            unsigned,
+            longs,
+            span,
+        };
+        boxed(self.alloc, tree, 1)
+    }
+
+    /// A character constant, which is the next token.
+    #[inline(never)]
+    fn character(&self, value: i32, tokens: &mut Cursor<'_, 'a>) -> Result<Read<'a>, Fault>
+        ensures tree { GivesTree
+            (spec.primary_by (reading self.now.room) (kind.Character value) (left_of tokens.old))
+            result (left_of tokens.new) }
+        ensures height { IfOk result (λ r. r.height ≡ 1) }
+    {
+        let span = place(tokens.take()?);
+        boxed(self.alloc, Expression::Character { value, span }, 1)
     }
 
     /// A primary expression, by the kind of the next token.
@@ -179,23 +238,8 @@ impl<
                     unsigned,
                     longs,
                 },
-            ) => {
-                let token = tokens.take()?;
-                let span = place(&token);
-                let tree = Expression::Constant {
-                    value,
-                    decimal,
-                    unsigned,
-                    longs,
-                    span,
-                };
-                boxed(self.alloc, tree, 1)
-            }
-            Some(TokenKind::Character { value }) => {
-                let token = tokens.take()?;
-                let span = place(&token);
-                boxed(self.alloc, Expression::Character { value, span }, 1)
-            }
+            ) => self.constant(value, decimal, unsigned, longs, tokens),
+            Some(TokenKind::Character { value }) => self.character(value, tokens),
             Some(TokenKind::Punctuator) if tokens.sees(b"(") => self.parenthesized(tokens),
             _ => Err(Fault::Syntax),
         }

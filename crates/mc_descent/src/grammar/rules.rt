@@ -2,15 +2,15 @@
 ghost use Rattle.std.specs.Prelude.{◌≤◌, IfOk};
 ghost use Rattle.mc_reading.specs.Expressions as spec;
 ghost use Rattle.mc_reading.specs.Rooms.{reading};
-ghost use Rattle.mc_descent.specs.Cursors.{left_of};
+ghost use Rattle.mc_cursor.specs.Cursors.{left_of};
 ghost use Rattle.mc_descent.specs.Given.{GivesTree, Nests, NestsTypes};
-ghost use Rattle.mc_descent.specs.Rules.{nonterminal_of};
+ghost use Rattle.mc_cursor.specs.Rules.{nonterminal_of};
 
-use crate::cursor::Cursor;
-use crate::fault::Fault;
 use crate::grammar::Grammar;
 use crate::read::{Read, ReadSpecifiers};
-use crate::rule::Rule;
+use mc_cursor::cursor::Cursor;
+use mc_cursor::fault::Fault;
+use mc_cursor::rule::Rule;
 use std::alloc::Global;
 
 impl<

@@ -1,27 +1,31 @@
 //! Specifiers (C17 6.7.1 to 6.7.3).
 ghost use Rattle.std.specs.Prelude.{◌≡◌, ◌≤◌, ◌+◌, ◌||◌, IfOk};
 ghost use Rattle.mc_lex.specs.Tokens.{tok_of};
-ghost use Rattle.mc_tree.specs.Views.{specifier_of, tag_of};
+ghost use Rattle.mc_tree.specs.Tree as t;
+ghost use Rattle.mc_tree.specs.Views.{name_of, specifier_of, tag_of};
 ghost use Rattle.mc_tree.specs.Height.{height_specifier};
+ghost use Rattle.mc_grammar.specs.Places as places;
+ghost use Rattle.mc_grammar.specs.Places.{at};
 ghost use Rattle.mc_grammar.specs.Words.{lexeme_of};
 ghost use Rattle.mc_reading.specs.Specifiers as spec;
 ghost use Rattle.mc_reading.specs.Rooms.{reading};
 ghost use Rattle.mc_descent.specs.Counted.{test_of};
-ghost use Rattle.mc_descent.specs.Cursors.{left_of};
-ghost use Rattle.mc_descent.specs.Short.{IsShort};
+ghost use Rattle.mc_cursor.specs.Cursors.{Gives, left_of};
+ghost use Rattle.mc_cursor.specs.Short.{IsShort};
 ghost use Rattle.mc_descent.specs.Given.{GivesPart, GivesSpecifiers, Nests, NestsTypes};
 ghost use Rattle.mc_descent.specs.Parts.{GivesList, all_specifiers_of};
+ghost use Rattle.mc_descent.specs.Parts as view;
 
 use crate::allowed::Allowed;
-use crate::cursor::{Cursor, identifier, place};
-use crate::fault::Fault;
 use crate::grammar::Grammar;
-use crate::grammar::lists::push;
-use crate::grammar::makers::to;
+use crate::grammar::lists::push_boxed;
 use crate::read::{Read, ReadSpecifiers};
-use crate::rule::Rule;
+use mc_cursor::cursor::{Cursor, identifier, place};
+use mc_cursor::fault::Fault;
+use mc_cursor::rule::Rule;
+use mc_cursor::to;
 use mc_lex::Token;
-use mc_tree::{Identifier, Specifier, SpecifierWord};
+use mc_tree::{Identifier, Member, Specifier, SpecifierWord};
 use std::alloc::Global;
 
 /// Whether there is a type after this specifier.
@@ -46,23 +50,78 @@ impl<
     F: Fn(Global, &mut Cursor<'_, 'a>, u32, Rule) -> Result<Read<'a>, Fault>,
     G: Fn(Global, &mut Cursor<'_, 'a>, u32) -> Result<ReadSpecifiers<'a>, Fault>,
 > Grammar<F, G> {
+    /// A keyword that is a whole specifier.
+    #[inline(never)]
+    fn word(
+        &self,
+        word: SpecifierWord,
+        tokens: &mut Cursor<'_, 'a>,
+    ) -> Result<Box<Specifier<'a>>, Fault>
+        ensures word { Gives view.boxed_specifier (view.word_of word (left_of tokens.old)) result
+            (left_of tokens.new) }
+        ensures flat { IfOk result (λ one. height_specifier (specifier_of one.value) ≡ 0) }
+    {
+        let span = place(tokens.take()?);
+        Ok(Box::new(self.alloc, Specifier::Word { word, span })?)
+    }
+
+    #[inline(never)]
+    fn typedef_name(&self, tokens: &mut Cursor<'_, 'a>) -> Result<Box<Specifier<'a>>, Fault>
+        ensures name { Gives view.boxed_specifier (view.typedef_name_of (left_of tokens.old)) result
+            (left_of tokens.new) }
+        ensures flat { IfOk result (λ one. height_specifier (specifier_of one.value) ≡ 0) }
+    {
+        let name = identifier(tokens.take()?);
+        Ok(Box::new(self.alloc, Specifier::TypedefName { name })?)
+    }
+
+    /// The end of a structure, after its members, the tallest of which has `inner` levels.
+    #[inline(never)]
+    fn structure_end(
+        &self,
+        first: &Token<'a>,
+        tag: Option<Identifier<'a>>,
+        members: Vec<Member<'a>>,
+        inner: u32,
+        tokens: &mut Cursor<'_, 'a>,
+        tallest: &mut u32,
+    ) -> Result<Box<Specifier<'a>>, Fault>
+        requires room { (self.now.room ≤ 1000) × (inner + 1 ≤ self.now.room) }
+        requires low { tallest.now ≤ self.now.room }
+        requires short { IsShort first.now }
+        ensures specifier { GivesPart view.boxed_specifier (λ _. inner + 1)
+            (view.structure_end (lexeme_of (tok_of first.now)) (tag_of tag.entry)
+            (view.members_of members.entry) (left_of tokens.old)) result (left_of tokens.new)
+            tallest.old tallest.new }
+        ensures low { IfOk result (λ _. tallest.new ≤ self.now.room) }
+    {
+        let close = tokens.expect(b"}")?;
+        *tallest = (*tallest).max(inner + 1);
+        let specifier = Specifier::Structure {
+            tag,
+            members,
+            span: to(place(first), place(close)),
+        };
+        Ok(Box::new(self.alloc, specifier)?)
+    }
+
     /// The members of a structure, from their brace on.
     #[inline(never)]
     fn structure_list(
         &self,
-        first: Token<'a>,
+        first: &Token<'a>,
         tag: Option<Identifier<'a>>,
         tokens: &mut Cursor<'_, 'a>,
         tallest: &mut u32,
-    ) -> Result<Specifier<'a>, Fault>
+    ) -> Result<Box<Specifier<'a>>, Fault>
         requires room { self.now.room ≤ 1000 }
         requires nests { Nests self.now.room (F.pre self.now.inner) (F.post self.now.inner) }
         requires types { NestsTypes self.now.room (G.pre self.now.typed) (G.post self.now.typed) }
         requires low { tallest.now ≤ self.now.room }
-        requires short { IsShort first }
-        ensures specifier { GivesPart specifier_of height_specifier
+        requires short { IsShort first.now }
+        ensures specifier { GivesPart view.boxed_specifier height_specifier
             (spec.structure_list (reading self.now.room) self.now.room
-            (lexeme_of (tok_of first.entry)) (tag_of tag.entry) (left_of tokens.old)) result
+            (lexeme_of (tok_of first.now)) (tag_of tag.entry) (left_of tokens.old)) result
             (left_of tokens.new) tallest.old tallest.new }
         ensures low { IfOk result (λ _. tallest.new ≤ self.now.room) }
     {
@@ -72,13 +131,24 @@ impl<
         tokens.take()?;
         let mut inner = 0;
         let members = self.members(tokens, &mut inner)?;
-        let close = tokens.expect(b"}")?;
-        *tallest = (*tallest).max(inner + 1);
-        Ok(Specifier::Structure {
-            tag,
-            members,
-            span: to(place(&first), place(&close)),
-        })
+        self.structure_end(first, tag, members, inner, tokens, tallest)
+    }
+
+    /// A structure without a list. It stands apart, so that it takes no room of the stack where
+    /// structures nest.
+    #[inline(never)]
+    fn structure_tag(
+        &self,
+        first: &Token<'a>,
+        tag: Identifier<'a>,
+    ) -> Result<Box<Specifier<'a>>, Fault>
+        requires short { IsShort first.now }
+        ensures { view.IsMadeSpecifier
+            (t.StructureTag (name_of tag.entry)
+            (places.to (at (lexeme_of (tok_of first.now))) tag.entry.span)) result }
+    {
+        let span = to(place(first), tag.span);
+        Ok(Box::new(self.alloc, Specifier::StructureTag { tag, span })?)
     }
 
     #[inline(never)]
@@ -87,12 +157,12 @@ impl<
         &self,
         tokens: &mut Cursor<'_, 'a>,
         tallest: &mut u32,
-    ) -> Result<Specifier<'a>, Fault>
+    ) -> Result<Box<Specifier<'a>>, Fault>
         requires room { self.now.room ≤ 1000 }
         requires nests { Nests self.now.room (F.pre self.now.inner) (F.post self.now.inner) }
         requires types { NestsTypes self.now.room (G.pre self.now.typed) (G.post self.now.typed) }
         requires low { tallest.now ≤ self.now.room }
-        ensures specifier { GivesPart specifier_of height_specifier
+        ensures specifier { GivesPart view.boxed_specifier height_specifier
             (spec.structure_of (reading self.now.room) self.now.room (left_of tokens.old)) result
             (left_of tokens.new) tallest.old tallest.new }
         ensures low { IfOk result (λ _. tallest.new ≤ self.now.room) }
@@ -101,32 +171,29 @@ impl<
         if tokens.sees(b"{") {
             return self.structure_list(first, None, tokens, tallest);
         }
-        let tag = identifier(&tokens.expect_tag()?);
+        let tag = identifier(tokens.expect_tag()?);
         if tokens.sees(b"{") {
             return self.structure_list(first, Some(tag), tokens, tallest);
         }
-        Ok(Specifier::StructureTag {
-            tag,
-            span: to(place(&first), tag.span),
-        })
+        self.structure_tag(first, tag)
     }
 
     /// The constants of an enumeration, from their brace on.
     #[inline(never)]
     fn enumeration_list(
         &self,
-        first: Token<'a>,
+        first: &Token<'a>,
         tag: Option<Identifier<'a>>,
         tokens: &mut Cursor<'_, 'a>,
         tallest: &mut u32,
-    ) -> Result<Specifier<'a>, Fault>
+    ) -> Result<Box<Specifier<'a>>, Fault>
         requires room { self.now.room ≤ 1000 }
         requires nests { Nests self.now.room (F.pre self.now.inner) (F.post self.now.inner) }
         requires low { tallest.now ≤ self.now.room }
-        requires short { IsShort first }
-        ensures specifier { GivesPart specifier_of height_specifier
+        requires short { IsShort first.now }
+        ensures specifier { GivesPart view.boxed_specifier height_specifier
             (spec.enumeration_list (reading self.now.room) self.now.room
-            (lexeme_of (tok_of first.entry)) (tag_of tag.entry) (left_of tokens.old)) result
+            (lexeme_of (tok_of first.now)) (tag_of tag.entry) (left_of tokens.old)) result
             (left_of tokens.new) tallest.old tallest.new }
         ensures low { IfOk result (λ _. tallest.new ≤ self.now.room) }
     {
@@ -138,11 +205,12 @@ impl<
         let enumerators = self.enumerators(tokens, &mut inner)?;
         let close = tokens.expect(b"}")?;
         *tallest = (*tallest).max(inner + 1);
-        Ok(Specifier::Enumeration {
+        let specifier = Specifier::Enumeration {
             tag,
             enumerators,
-            span: to(place(&first), place(&close)),
-        })
+            span: to(place(first), place(close)),
+        };
+        Ok(Box::new(self.alloc, specifier)?)
     }
 
     #[inline(never)]
@@ -151,11 +219,11 @@ impl<
         &self,
         tokens: &mut Cursor<'_, 'a>,
         tallest: &mut u32,
-    ) -> Result<Specifier<'a>, Fault>
+    ) -> Result<Box<Specifier<'a>>, Fault>
         requires room { self.now.room ≤ 1000 }
         requires nests { Nests self.now.room (F.pre self.now.inner) (F.post self.now.inner) }
         requires low { tallest.now ≤ self.now.room }
-        ensures specifier { GivesPart specifier_of height_specifier
+        ensures specifier { GivesPart view.boxed_specifier height_specifier
             (spec.enumeration_of (reading self.now.room) self.now.room (left_of tokens.old)) result
             (left_of tokens.new) tallest.old tallest.new }
         ensures low { IfOk result (λ _. tallest.new ≤ self.now.room) }
@@ -164,14 +232,12 @@ impl<
         if tokens.sees(b"{") {
             return self.enumeration_list(first, None, tokens, tallest);
         }
-        let tag = identifier(&tokens.expect_tag()?);
+        let tag = identifier(tokens.expect_tag()?);
         if tokens.sees(b"{") {
             return self.enumeration_list(first, Some(tag), tokens, tallest);
         }
-        Ok(Specifier::EnumerationTag {
-            tag,
-            span: to(place(&first), tag.span),
-        })
+        let span = to(place(first), tag.span);
+        Ok(Box::new(self.alloc, Specifier::EnumerationTag { tag, span })?)
     }
 
     #[inline(never)]
@@ -180,19 +246,18 @@ impl<
         &self,
         tokens: &mut Cursor<'_, 'a>,
         tallest: &mut u32,
-    ) -> Result<Specifier<'a>, Fault>
+    ) -> Result<Box<Specifier<'a>>, Fault>
         requires room { self.now.room ≤ 1000 }
         requires nests { Nests self.now.room (F.pre self.now.inner) (F.post self.now.inner) }
         requires types { NestsTypes self.now.room (G.pre self.now.typed) (G.post self.now.typed) }
         requires low { tallest.now ≤ self.now.room }
-        ensures specifier { GivesPart specifier_of height_specifier
+        ensures specifier { GivesPart view.boxed_specifier height_specifier
             (spec.specifier_of (reading self.now.room) self.now.room (left_of tokens.old)) result
             (left_of tokens.new) tallest.old tallest.new }
         ensures low { IfOk result (λ _. tallest.new ≤ self.now.room) }
     {
         if let Some(word) = tokens.specifier_word() {
-            let span = place(&tokens.take()?);
-            return Ok(Specifier::Word { word, span });
+            return self.word(word, tokens);
         }
         if tokens.sees_keyword(b"struct") {
             return self.structure(tokens, tallest);
@@ -200,8 +265,7 @@ impl<
         if tokens.sees_keyword(b"enum") {
             return self.enumeration(tokens, tallest);
         }
-        let name = identifier(&tokens.take()?);
-        Ok(Specifier::TypedefName { name })
+        self.typedef_name(tokens)
     }
 
     /// Specifiers, as long as they go on.
@@ -224,7 +288,7 @@ impl<
             }
             let one = self.specifier(tokens, &mut height)?;
             has_type = has_type_after(has_type, &one);
-            push(&mut all, one)?;
+            push_boxed(&mut all, one)?;
         }
         Err(Fault::Syntax)
     }

@@ -6,15 +6,16 @@ ghost use Rattle.mc_grammar.specs.Places as places;
 ghost use Rattle.mc_grammar.specs.Counts.{for_type};
 ghost use Rattle.mc_reading.specs.Expressions as spec;
 ghost use Rattle.mc_reading.specs.Rooms.{reading};
-ghost use Rattle.mc_descent.specs.Cursors.{Gives, left_of};
+ghost use Rattle.mc_cursor.specs.Cursors.{Gives, left_of};
 ghost use Rattle.mc_descent.specs.Given.{GivesMade, GivesSpecifiers, GivesTree, GivesType, IsHigh, Nests, NestsTypes, stars_of, tree_of, type_of};
 
-use crate::cursor::{Cursor, place};
-use crate::fault::Fault;
 use crate::grammar::Grammar;
-use crate::grammar::makers::{boxed, end_of_specifiers, to};
+use crate::grammar::makers::{boxed, end_of_specifiers};
 use crate::read::{Read, ReadSpecifiers, ReadStars, ReadType};
-use crate::rule::Rule;
+use mc_cursor::cursor::{Cursor, place};
+use mc_cursor::fault::Fault;
+use mc_cursor::rule::Rule;
+use mc_cursor::to;
 use mc_span::Span;
 use mc_tree::{Expression, StepOperator, UnaryOperator};
 use std::alloc::Global;
@@ -32,7 +33,7 @@ pub fn stars(before: Span, tokens: &mut Cursor<'_, '_>) -> Result<ReadStars, Fau
         if !tokens.sees(b"*") {
             return Ok(ReadStars { count, end });
         }
-        end = place(&tokens.take()?);
+        end = place(tokens.take()?);
         count += 1;
     }
     Err(Fault::Syntax)
@@ -123,7 +124,7 @@ impl<
         let name = self.type_name(tokens)?;
         tokens.expect(b")")?;
         let operand = self.part(Rule::Cast, tokens)?;
-        self.made_cast(place(&open), name, operand)
+        self.made_cast(place(open), name, operand)
     }
 
     /// `++` or `--` before its operand.
@@ -145,7 +146,7 @@ impl<
             tree: operand,
             height,
         } = self.part(Rule::Unary, tokens)?;
-        let span = to(place(&first), operand.span());
+        let span = to(place(first), operand.span());
         let tree = Expression::PrefixStep {
             operator,
             operand,
@@ -173,7 +174,7 @@ impl<
             tree: operand,
             height,
         } = self.part(Rule::Cast, tokens)?;
-        let span = to(place(&first), operand.span());
+        let span = to(place(first), operand.span());
         let tree = Expression::Unary {
             operator,
             operand,

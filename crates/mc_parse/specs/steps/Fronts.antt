@@ -6,7 +6,7 @@ use Rattle.mc_tree.specs.Tree as t
 use Rattle.mc_grammar.specs.Words.{Lexeme, sees, sees_keyword, sees_label}
 use Rattle.mc_grammar.specs.Places.{at, name_at, to}
 use Rattle.mc_grammar.specs.Nonterminal as n
-use Rattle.mc_reading.specs.Parsers.{Parser, ◌>>=◌, pure, ask, take, expect, expect_keyword}
+use Rattle.mc_grammar.specs.steps.Parsers.{Parser, ◌>>=◌, pure, ask, take, expect, expect_keyword}
 use Rattle.mc_reading.specs.Rooms.{reading}
 use Rattle.mc_reading.specs.Statements as spec
 use Rattle.mc_reading.specs.Statements.{Beginning, keyword_begins, optional_of, test_of}
@@ -103,6 +103,18 @@ front_by room statement spec.continue_ = whole_by spec.continue_of
 front_by room statement spec.break_ = whole_by spec.break_of
 front_by room statement spec.return_ = whole_by (spec.return_of (reading room))
 front_by room statement spec.expression = whole_by (spec.expression_statement_of (reading room))
+
+-- what the next tokens begin where it is none of the keywords before `goto`
+abbrev pub jump_begins : List Lexeme → Beginning
+jump_begins ts = if sees_keyword (codes "goto") ts then spec.goto_
+    else (if sees_keyword (codes "continue") ts then spec.continue_
+    else (if sees_keyword (codes "break") ts then spec.break_
+    else (if sees_keyword (codes "return") ts then spec.return_ else spec.expression)))
+
+-- what they begin where it is none of the keywords before `case`
+abbrev pub mark_begins : List Lexeme → Beginning
+mark_begins ts = if sees_keyword (codes "case") ts then spec.case_
+    else (if sees_keyword (codes "default") ts then spec.default_ else jump_begins ts)
 
 -- what the next tokens begin where it is not a block
 abbrev pub begins_front : List Lexeme → Beginning

@@ -4,15 +4,15 @@ ghost use Rattle.mc_tree.specs.Units.{block_item_of};
 ghost use Rattle.mc_grammar.specs.Words.{sees};
 ghost use Rattle.mc_reading.specs.Lists.{listed, until_list};
 ghost use Rattle.mc_reading.specs.Statements as spec;
-ghost use Rattle.mc_descent.specs.Cursors.{Gives, left_of};
+ghost use Rattle.mc_cursor.specs.Cursors.{Gives, left_of};
 ghost use Rattle.mc_parse.specs.steps.Made.{block_of};
 
 use crate::statements::statement;
+use mc_cursor::cursor::{Cursor, place};
+use mc_cursor::fault::Fault;
+use mc_cursor::to;
 use mc_descent::allowed::Allowed;
-use mc_descent::cursor::{Cursor, place};
 use mc_descent::declarations::local;
-use mc_descent::fault::Fault;
-use mc_descent::to;
 use mc_span::Span;
 use mc_tree::BlockItem;
 use std::alloc::{AllocError, Global};
@@ -25,7 +25,7 @@ pub struct Block<'a> {
 }
 
 #[inline(never)]
-#[tactic(auto, using(crate::proofs::Lists::map_push))]
+#[tactic(auto, using(mc_descent::proofs::Lists::map_push))]
 fn push<'a>(all: &mut Vec<BlockItem<'a>>, one: BlockItem<'a>) -> Result<(), AllocError>
     ensures { IfOk result (λ _. map block_item_of all.new.items ≡ map block_item_of all.old.items
         ++ block_item_of one.entry ∷ []) }
@@ -56,7 +56,7 @@ fn block_item<'a>(
 
 /// What stands between the braces.
 #[cycle(statements)]
-#[tactic(auto, using(crate::proofs::Lists::until_steps))]
+#[tactic(auto, using(mc_descent::proofs::Lists::until_steps))]
 fn block_items<'a>(
     alloc: Global,
     tokens: &mut Cursor<'_, 'a>,
@@ -94,6 +94,6 @@ pub fn compound<'a>(
     let first = tokens.expect(b"{")?;
     let items = block_items(alloc, tokens, room)?;
     let last = tokens.expect(b"}")?;
-    let span = to(place(&first), place(&last));
+    let span = to(place(first), place(last));
     Ok(Block { items, span })
 }

@@ -1,15 +1,16 @@
 //! The end of a statement, after the statement that is a part of it.
 ghost use Rattle.std.specs.Prelude.{◌≤◌};
-ghost use Rattle.mc_descent.specs.Cursors.{Gives, left_of};
+ghost use Rattle.mc_cursor.specs.Cursors.{Gives, left_of};
 ghost use Rattle.mc_parse.specs.steps.Fronts as fronts;
-ghost use Rattle.mc_parse.specs.steps.Made.{body_of, seen_opening};
+ghost use Rattle.mc_parse.specs.steps.Made.{seen_opening};
+ghost use Rattle.mc_makers.specs.Made.{body_of};
 
 use crate::statements::front::Opening;
-use crate::statements::makers::{case, default, do_loop, for_loop, labeled, switch, while_loop};
 use crate::statements::parts::test;
-use mc_descent::cursor::{Cursor, place};
-use mc_descent::fault::Fault;
-use mc_descent::to;
+use mc_cursor::cursor::{Cursor, place};
+use mc_cursor::fault::Fault;
+use mc_cursor::to;
+use mc_makers::statements::{case, default, do_loop, for_loop, labeled, switch, while_loop};
 use mc_span::Span;
 use mc_tree::Statement;
 use std::alloc::Global;
@@ -29,7 +30,7 @@ fn end_of_do<'a>(
 {
     tokens.expect_keyword(b"while")?;
     let test = test(alloc, tokens, room)?;
-    let last = place(&tokens.expect(b";")?);
+    let last = place(tokens.expect(b";")?);
     do_loop(alloc, to(first, last), body, test)
 }
 
@@ -39,14 +40,14 @@ pub fn end<'a>(
     alloc: Global,
     tokens: &mut Cursor<'_, 'a>,
     room: u32,
-    opening: Opening<'a>,
+    opening: Box<Opening<'a>>,
     body: Box<Statement<'a>>,
 ) -> Result<Box<Statement<'a>>, Fault>
     requires { room ≤ 1000 }
-    ensures { Gives body_of (fronts.end_by room (seen_opening opening.entry) (body_of body.entry)
+    ensures { Gives body_of (fronts.end_by room (seen_opening opening.entry.value) (body_of body.entry)
         (left_of tokens.old)) result (left_of tokens.new) }
 {
-    match opening {
+    match Box::into_inner(opening) {
         Opening::Label { name } => labeled(alloc, name, body),
         Opening::Case { label, value } => case(alloc, label, value, body),
         Opening::Default { label } => default(alloc, label, body),

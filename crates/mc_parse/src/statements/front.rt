@@ -2,21 +2,21 @@
 ghost use Rattle.std.specs.Prelude.{◌≤◌};
 ghost use Rattle.mc_tree.specs.Units.{start_of};
 ghost use Rattle.mc_reading.specs.Statements as spec;
-ghost use Rattle.mc_descent.specs.Cursors.{Gives, left_of};
+ghost use Rattle.mc_cursor.specs.Cursors.{Gives, left_of};
 ghost use Rattle.mc_parse.specs.steps.Fronts as fronts;
 ghost use Rattle.mc_parse.specs.steps.Made.{seen_front};
 
 use crate::statements::jumps::{
     break_statement, continue_statement, expression_statement, goto, null, return_statement,
 };
-use crate::statements::makers::unboxed;
+use crate::statements::makers::part;
 use crate::statements::parts::{optional, test, value};
+use mc_cursor::cursor::{Cursor, identifier, place};
+use mc_cursor::fault::Fault;
+use mc_cursor::rule::Rule;
+use mc_cursor::to;
 use mc_descent::allowed::Allowed;
-use mc_descent::cursor::{Cursor, identifier, place};
 use mc_descent::declarations::local;
-use mc_descent::fault::Fault;
-use mc_descent::rule::Rule;
-use mc_descent::to;
 use mc_span::Span;
 use mc_tree::{Expression, ForStart, Identifier, Statement};
 use std::alloc::Global;
@@ -47,7 +47,7 @@ pub enum Opening<'a> {
     },
     For {
         first: Span,
-        start: ForStart<'a>,
+        start: Box<ForStart<'a>>,
         test: Option<Box<Expression<'a>>>,
         step: Option<Box<Expression<'a>>>,
     },
@@ -67,19 +67,18 @@ pub enum Front<'a> {
     },
     /// The front of a statement with one statement as its part.
     Part {
-        opening: Opening<'a>,
+        opening: Box<Opening<'a>>,
     },
 }
 
 #[inline(never)]
-fn label<'a>(tokens: &mut Cursor<'_, 'a>) -> Result<Front<'a>, Fault>
+fn label<'a>(alloc: Global, tokens: &mut Cursor<'_, 'a>) -> Result<Front<'a>, Fault>
     ensures { Gives seen_front (fronts.label_front (left_of tokens.old)) result
         (left_of tokens.new) }
 {
-    let name = identifier(&tokens.take()?);
+    let name = identifier(tokens.take()?);
     tokens.take()?;
-    let opening = Opening::Label { name };
-    Ok(Front::Part { opening })
+    part(alloc, Opening::Label { name })
 }
 
 #[inline(never)]
@@ -88,24 +87,22 @@ fn case<'a>(alloc: Global, tokens: &mut Cursor<'_, 'a>, room: u32) -> Result<Fro
     ensures { Gives seen_front (fronts.case_front room (left_of tokens.old)) result
         (left_of tokens.new) }
 {
-    let first = place(&tokens.take()?);
+    let first = place(tokens.take()?);
     let value = value(alloc, tokens, room, Rule::Cond)?;
-    let colon = place(&tokens.expect(b":")?);
+    let colon = place(tokens.expect(b":")?);
     let label = to(first, colon);
-    let opening = Opening::Case { label, value };
-    Ok(Front::Part { opening })
+    part(alloc, Opening::Case { label, value })
 }
 
 #[inline(never)]
-fn default<'a>(tokens: &mut Cursor<'_, 'a>) -> Result<Front<'a>, Fault>
+fn default<'a>(alloc: Global, tokens: &mut Cursor<'_, 'a>) -> Result<Front<'a>, Fault>
     ensures { Gives seen_front (fronts.default_front (left_of tokens.old)) result
         (left_of tokens.new) }
 {
-    let first = place(&tokens.take()?);
-    let colon = place(&tokens.expect(b":")?);
+    let first = place(tokens.take()?);
+    let colon = place(tokens.expect(b":")?);
     let label = to(first, colon);
-    let opening = Opening::Default { label };
-    Ok(Front::Part { opening })
+    part(alloc, Opening::Default { label })
 }
 
 #[inline(never)]
@@ -114,7 +111,7 @@ fn choice<'a>(alloc: Global, tokens: &mut Cursor<'_, 'a>, room: u32) -> Result<F
     ensures { Gives seen_front (fronts.if_front room (left_of tokens.old)) result
         (left_of tokens.new) }
 {
-    let first = place(&tokens.take()?);
+    let first = place(tokens.take()?);
     let test = test(alloc, tokens, room)?;
     Ok(Front::If { first, test })
 }
@@ -125,10 +122,9 @@ fn switch<'a>(alloc: Global, tokens: &mut Cursor<'_, 'a>, room: u32) -> Result<F
     ensures { Gives seen_front (fronts.switch_front room (left_of tokens.old)) result
         (left_of tokens.new) }
 {
-    let first = place(&tokens.take()?);
+    let first = place(tokens.take()?);
     let value = test(alloc, tokens, room)?;
-    let opening = Opening::Switch { first, value };
-    Ok(Front::Part { opening })
+    part(alloc, Opening::Switch { first, value })
 }
 
 #[inline(never)]
@@ -137,19 +133,17 @@ fn while_loop<'a>(alloc: Global, tokens: &mut Cursor<'_, 'a>, room: u32) -> Resu
     ensures { Gives seen_front (fronts.while_front room (left_of tokens.old)) result
         (left_of tokens.new) }
 {
-    let first = place(&tokens.take()?);
+    let first = place(tokens.take()?);
     let test = test(alloc, tokens, room)?;
-    let opening = Opening::While { first, test };
-    Ok(Front::Part { opening })
+    part(alloc, Opening::While { first, test })
 }
 
 #[inline(never)]
-fn do_loop<'a>(tokens: &mut Cursor<'_, 'a>) -> Result<Front<'a>, Fault>
+fn do_loop<'a>(alloc: Global, tokens: &mut Cursor<'_, 'a>) -> Result<Front<'a>, Fault>
     ensures { Gives seen_front (fronts.do_front (left_of tokens.old)) result (left_of tokens.new) }
 {
-    let first = place(&tokens.take()?);
-    let opening = Opening::Do { first };
-    Ok(Front::Part { opening })
+    let first = place(tokens.take()?);
+    part(alloc, Opening::Do { first })
 }
 
 /// What stands before the first `;` of a `for`, and that `;`.
@@ -170,7 +164,6 @@ fn for_start<'a>(
     }
     let value = optional(alloc, tokens, room, b";")?;
     tokens.expect(b";")?;
-    let value = unboxed(value);
     Ok(ForStart::Expression { value })
 }
 
@@ -180,20 +173,61 @@ fn for_loop<'a>(alloc: Global, tokens: &mut Cursor<'_, 'a>, room: u32) -> Result
     ensures { Gives seen_front (fronts.for_front room (left_of tokens.old)) result
         (left_of tokens.new) }
 {
-    let first = place(&tokens.take()?);
+    let first = place(tokens.take()?);
     tokens.expect(b"(")?;
     let start = for_start(alloc, tokens, room)?;
+    let start = Box::new(alloc, start)?;
     let test = optional(alloc, tokens, room, b";")?;
     tokens.expect(b";")?;
     let step = optional(alloc, tokens, room, b")")?;
     tokens.expect(b")")?;
-    let opening = Opening::For {
-        first,
-        start,
-        test,
-        step,
-    };
-    Ok(Front::Part { opening })
+    part(
+        alloc,
+        Opening::For {
+            first,
+            start,
+            test,
+            step,
+        },
+    )
+}
+
+/// The front of a jump (C17 6.8.6), or an expression statement.
+#[inline(never)]
+fn jump<'a>(alloc: Global, tokens: &mut Cursor<'_, 'a>, room: u32) -> Result<Front<'a>, Fault>
+    requires { room ≤ 1000 }
+    ensures { Gives seen_front (fronts.front_by room (spec.statement_of room)
+        (fronts.jump_begins (left_of tokens.old)) (left_of tokens.old)) result
+        (left_of tokens.new) }
+{
+    if tokens.sees_keyword(b"goto") {
+        goto(alloc, tokens)
+    } else if tokens.sees_keyword(b"continue") {
+        continue_statement(alloc, tokens)
+    } else if tokens.sees_keyword(b"break") {
+        break_statement(alloc, tokens)
+    } else if tokens.sees_keyword(b"return") {
+        return_statement(alloc, tokens, room)
+    } else {
+        expression_statement(alloc, tokens, room)
+    }
+}
+
+/// The front of a `case` or a `default` (C17 6.8.1), or of what stands after these.
+#[inline(never)]
+fn marked<'a>(alloc: Global, tokens: &mut Cursor<'_, 'a>, room: u32) -> Result<Front<'a>, Fault>
+    requires { room ≤ 1000 }
+    ensures { Gives seen_front (fronts.front_by room (spec.statement_of room)
+        (fronts.mark_begins (left_of tokens.old)) (left_of tokens.old)) result
+        (left_of tokens.new) }
+{
+    if tokens.sees_keyword(b"case") {
+        case(alloc, tokens, room)
+    } else if tokens.sees_keyword(b"default") {
+        default(alloc, tokens)
+    } else {
+        jump(alloc, tokens, room)
+    }
 }
 
 /// The front that a keyword begins, or an expression statement.
@@ -210,23 +244,11 @@ fn by_keyword<'a>(alloc: Global, tokens: &mut Cursor<'_, 'a>, room: u32) -> Resu
     } else if tokens.sees_keyword(b"while") {
         while_loop(alloc, tokens, room)
     } else if tokens.sees_keyword(b"do") {
-        do_loop(tokens)
+        do_loop(alloc, tokens)
     } else if tokens.sees_keyword(b"for") {
         for_loop(alloc, tokens, room)
-    } else if tokens.sees_keyword(b"case") {
-        case(alloc, tokens, room)
-    } else if tokens.sees_keyword(b"default") {
-        default(tokens)
-    } else if tokens.sees_keyword(b"goto") {
-        goto(alloc, tokens)
-    } else if tokens.sees_keyword(b"continue") {
-        continue_statement(alloc, tokens)
-    } else if tokens.sees_keyword(b"break") {
-        break_statement(alloc, tokens)
-    } else if tokens.sees_keyword(b"return") {
-        return_statement(alloc, tokens, room)
     } else {
-        expression_statement(alloc, tokens, room)
+        marked(alloc, tokens, room)
     }
 }
 
@@ -245,7 +267,7 @@ pub fn read_front<'a>(
     if tokens.sees(b";") {
         null(alloc, tokens)
     } else if tokens.sees_label() {
-        label(tokens)
+        label(alloc, tokens)
     } else {
         by_keyword(alloc, tokens, room)
     }

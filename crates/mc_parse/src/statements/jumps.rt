@@ -3,17 +3,17 @@
 ghost use Rattle.std.specs.Prelude.{◌≤◌};
 ghost use Rattle.mc_reading.specs.Rooms.{reading};
 ghost use Rattle.mc_reading.specs.Statements as spec;
-ghost use Rattle.mc_descent.specs.Cursors.{Gives, left_of};
+ghost use Rattle.mc_cursor.specs.Cursors.{Gives, left_of};
 ghost use Rattle.mc_parse.specs.steps.Fronts.{whole_by};
 ghost use Rattle.mc_parse.specs.steps.Made.{seen_front};
 
 use crate::statements::front::Front;
-use crate::statements::makers::{unboxed, whole};
+use crate::statements::makers::whole;
 use crate::statements::parts::{optional, value};
-use mc_descent::cursor::{Cursor, identifier, place};
-use mc_descent::fault::Fault;
-use mc_descent::rule::Rule;
-use mc_descent::to;
+use mc_cursor::cursor::{Cursor, identifier, place};
+use mc_cursor::fault::Fault;
+use mc_cursor::rule::Rule;
+use mc_cursor::to;
 use mc_tree::Statement;
 use std::alloc::Global;
 
@@ -22,7 +22,7 @@ pub fn null<'a>(alloc: Global, tokens: &mut Cursor<'_, 'a>) -> Result<Front<'a>,
     ensures { Gives seen_front (whole_by spec.null_of (left_of tokens.old)) result
         (left_of tokens.new) }
 {
-    let span = place(&tokens.take()?);
+    let span = place(tokens.take()?);
     whole(alloc, Statement::Null { span })
 }
 
@@ -39,8 +39,7 @@ pub fn expression_statement<'a>(
 {
     let value = value(alloc, tokens, room, Rule::Comma)?;
     let last = tokens.expect(b";")?;
-    let span = to(value.span(), place(&last));
-    let value = Box::into_inner(value);
+    let span = to(value.span(), place(last));
     whole(alloc, Statement::Expression { value, span })
 }
 
@@ -52,8 +51,8 @@ pub fn goto<'a>(alloc: Global, tokens: &mut Cursor<'_, 'a>) -> Result<Front<'a>,
     let first = tokens.take()?;
     let name = tokens.expect_name()?;
     let last = tokens.expect(b";")?;
-    let name = identifier(&name);
-    let span = to(place(&first), place(&last));
+    let name = identifier(name);
+    let span = to(place(first), place(last));
     whole(alloc, Statement::Goto { name, span })
 }
 
@@ -67,7 +66,7 @@ pub fn continue_statement<'a>(
 {
     let first = tokens.take()?;
     let last = tokens.expect(b";")?;
-    let span = to(place(&first), place(&last));
+    let span = to(place(first), place(last));
     whole(alloc, Statement::Continue { span })
 }
 
@@ -78,7 +77,7 @@ pub fn break_statement<'a>(alloc: Global, tokens: &mut Cursor<'_, 'a>) -> Result
 {
     let first = tokens.take()?;
     let last = tokens.expect(b";")?;
-    let span = to(place(&first), place(&last));
+    let span = to(place(first), place(last));
     whole(alloc, Statement::Break { span })
 }
 
@@ -96,7 +95,6 @@ pub fn return_statement<'a>(
     let first = tokens.take()?;
     let value = optional(alloc, tokens, room, b";")?;
     let last = tokens.expect(b";")?;
-    let span = to(place(&first), place(&last));
-    let value = unboxed(value);
+    let span = to(place(first), place(last));
     whole(alloc, Statement::Return { value, span })
 }

@@ -1,27 +1,12 @@
-//! Makers of statements, which keep large values out of the frames of the recursion.
-ghost use Rattle.std.specs.Prelude.{◌≡◌, option_map};
-ghost use Rattle.mc_tree.specs.Tree as t;
-ghost use Rattle.mc_tree.specs.Tree.{span_of_statement};
-ghost use Rattle.mc_tree.specs.Views.{expression_of, name_of};
-ghost use Rattle.mc_tree.specs.Units.{block_from, start_of, statement_of};
-ghost use Rattle.mc_grammar.specs.Places as places;
-ghost use Rattle.mc_parse.specs.steps.Made.{IsMade, IsWhole, block_of, body_of, option_of, value_of};
+//! Makers of fronts, which keep large values out of the frames of the recursion.
+ghost use Rattle.mc_tree.specs.Units.{statement_of};
+ghost use Rattle.mc_parse.specs.steps.Made.{IsPart, IsWhole, seen_opening};
 
-use crate::statements::blocks::Block;
-use crate::statements::front::Front;
-use mc_descent::fault::Fault;
-use mc_descent::to;
-use mc_span::Span;
-use mc_tree::{Expression, ForStart, Identifier, Statement};
+use crate::statements::front::{Front, Opening};
+use mc_cursor::fault::Fault;
+use mc_makers::statements::boxed;
+use mc_tree::Statement;
 use std::alloc::Global;
-
-/// A statement on the heap.
-#[inline(never)]
-pub fn boxed<'a>(alloc: Global, statement: Statement<'a>) -> Result<Box<Statement<'a>>, Fault>
-    ensures { IsMade (statement_of statement.entry) result }
-{
-    Ok(Box::new(alloc, statement)?)
-}
 
 /// A statement that has no statement as a part.
 pub fn whole<'a>(alloc: Global, statement: Statement<'a>) -> Result<Front<'a>, Fault>
@@ -31,178 +16,12 @@ pub fn whole<'a>(alloc: Global, statement: Statement<'a>) -> Result<Front<'a>, F
     Ok(Front::Whole { statement })
 }
 
-/// An expression that may be left out, taken from the heap.
-pub fn unboxed<'a>(value: Option<Box<Expression<'a>>>) -> Option<Expression<'a>>
-    ensures { option_map expression_of result ≡ option_of value.entry }
-{
-    match value {
-        None => None,
-        Some(value) => Some(Box::into_inner(value)),
-    }
-}
-
+/// The front of a statement with one statement as its part. It goes to the heap, so that little of
+/// it is on the stack while the part is read.
 #[inline(never)]
-pub fn compound_statement<'a>(alloc: Global, block: Block<'a>) -> Result<Box<Statement<'a>>, Fault>
-    ensures { IsMade
-        (t.Compound (block_from (block_of block.entry).items) (block_of block.entry).span) result }
+pub fn part<'a>(alloc: Global, opening: Opening<'a>) -> Result<Front<'a>, Fault>
+    ensures { IsPart (seen_opening opening.entry) result }
 {
-    let Block { items, span } = block;
-    boxed(alloc, Statement::Compound { items, span })
-}
-
-#[inline(never)]
-pub fn if_only<'a>(
-    alloc: Global,
-    first: Span,
-    test: Box<Expression<'a>>,
-    chosen: Box<Statement<'a>>,
-) -> Result<Box<Statement<'a>>, Fault>
-    ensures { IsMade
-        (t.If (value_of test.entry) (body_of chosen.entry)
-        (places.to first (span_of_statement (body_of chosen.entry)))) result }
-{
-    let span = to(first, chosen.span());
-    let test = Box::into_inner(test);
-    boxed(alloc, Statement::If { test, chosen, span })
-}
-
-#[inline(never)]
-pub fn if_else<'a>(
-    alloc: Global,
-    first: Span,
-    test: Box<Expression<'a>>,
-    chosen: Box<Statement<'a>>,
-    other: Box<Statement<'a>>,
-) -> Result<Box<Statement<'a>>, Fault>
-    ensures { IsMade (t.IfElse (value_of test.entry) (body_of chosen.entry) (body_of other.entry)
-        (places.to first (span_of_statement (body_of other.entry)))) result }
-{
-    let span = to(first, other.span());
-    let test = Box::into_inner(test);
-    let statement = Statement::IfElse {
-        test,
-        chosen,
-        other,
-        span,
-    };
-    boxed(alloc, statement)
-}
-
-#[inline(never)]
-pub fn switch<'a>(
-    alloc: Global,
-    first: Span,
-    value: Box<Expression<'a>>,
-    body: Box<Statement<'a>>,
-) -> Result<Box<Statement<'a>>, Fault>
-    ensures { IsMade
-        (t.Switch (value_of value.entry) (body_of body.entry)
-        (places.to first (span_of_statement (body_of body.entry)))) result }
-{
-    let span = to(first, body.span());
-    let value = Box::into_inner(value);
-    boxed(alloc, Statement::Switch { value, body, span })
-}
-
-#[inline(never)]
-pub fn while_loop<'a>(
-    alloc: Global,
-    first: Span,
-    test: Box<Expression<'a>>,
-    body: Box<Statement<'a>>,
-) -> Result<Box<Statement<'a>>, Fault>
-    ensures { IsMade
-        (t.While (value_of test.entry) (body_of body.entry)
-        (places.to first (span_of_statement (body_of body.entry)))) result }
-{
-    let span = to(first, body.span());
-    let test = Box::into_inner(test);
-    boxed(alloc, Statement::While { test, body, span })
-}
-
-#[inline(never)]
-pub fn do_loop<'a>(
-    alloc: Global,
-    span: Span,
-    body: Box<Statement<'a>>,
-    test: Box<Expression<'a>>,
-) -> Result<Box<Statement<'a>>, Fault>
-    ensures { IsMade (t.DoWhile (body_of body.entry) (value_of test.entry) span) result }
-{
-    let test = Box::into_inner(test);
-    boxed(alloc, Statement::DoWhile { body, test, span })
-}
-
-#[inline(never)]
-pub fn for_loop<'a>(
-    alloc: Global,
-    first: Span,
-    start: ForStart<'a>,
-    test: Option<Box<Expression<'a>>>,
-    step: Option<Box<Expression<'a>>>,
-    body: Box<Statement<'a>>,
-) -> Result<Box<Statement<'a>>, Fault>
-    ensures { IsMade (t.For (start_of start.entry) (option_of test.entry) (option_of step.entry)
-        (body_of body.entry) (places.to first (span_of_statement (body_of body.entry)))) result }
-{
-    let span = to(first, body.span());
-    let test = unboxed(test);
-    let step = unboxed(step);
-    let statement = Statement::For {
-        start,
-        test,
-        step,
-        body,
-        span,
-    };
-    boxed(alloc, statement)
-}
-
-#[inline(never)]
-pub fn case<'a>(
-    alloc: Global,
-    label: Span,
-    value: Box<Expression<'a>>,
-    body: Box<Statement<'a>>,
-) -> Result<Box<Statement<'a>>, Fault>
-    ensures { IsMade (t.Case (value_of value.entry) label (body_of body.entry)
-        (places.to label (span_of_statement (body_of body.entry)))) result }
-{
-    let span = to(label, body.span());
-    let value = Box::into_inner(value);
-    let statement = Statement::Case {
-        value,
-        label,
-        body,
-        span,
-    };
-    boxed(alloc, statement)
-}
-
-#[inline(never)]
-pub fn default<'a>(
-    alloc: Global,
-    label: Span,
-    body: Box<Statement<'a>>,
-) -> Result<Box<Statement<'a>>, Fault>
-    ensures { IsMade
-        (t.Default label (body_of body.entry)
-        (places.to label (span_of_statement (body_of body.entry)))) result }
-{
-    let span = to(label, body.span());
-    boxed(alloc, Statement::Default { label, body, span })
-}
-
-#[inline(never)]
-pub fn labeled<'a>(
-    alloc: Global,
-    name: Identifier<'a>,
-    body: Box<Statement<'a>>,
-) -> Result<Box<Statement<'a>>, Fault>
-    ensures { IsMade
-        (t.Label (name_of name.entry) (body_of body.entry)
-        (places.to name.entry.span (span_of_statement (body_of body.entry)))) result }
-{
-    let span = to(name.span, body.span());
-    boxed(alloc, Statement::Label { name, body, span })
+    let opening = Box::new(alloc, opening)?;
+    Ok(Front::Part { opening })
 }

@@ -2,15 +2,15 @@
 ghost use Rattle.std.specs.Prelude.{◌≤◌};
 ghost use Rattle.mc_reading.specs.Rooms.{reading};
 ghost use Rattle.mc_reading.specs.Statements as spec;
-ghost use Rattle.mc_descent.specs.Cursors.{Gives, left_of};
-ghost use Rattle.mc_parse.specs.steps.Made.{option_of, value_of};
-ghost use Rattle.mc_descent.specs.Rules.{nonterminal_of};
+ghost use Rattle.mc_cursor.specs.Cursors.{Gives, left_of};
+ghost use Rattle.mc_tree.specs.Units.{option_of, value_of};
+ghost use Rattle.mc_cursor.specs.Rules.{nonterminal_of};
 
-use mc_descent::cursor::Cursor;
-use mc_descent::fault::Fault;
+use mc_cursor::cursor::Cursor;
+use mc_cursor::fault::Fault;
+use mc_cursor::rule::Rule;
 use mc_descent::knot::expression;
 use mc_descent::read::Read;
-use mc_descent::rule::Rule;
 use mc_tree::Expression;
 use std::alloc::Global;
 

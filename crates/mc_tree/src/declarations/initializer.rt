@@ -6,7 +6,7 @@ use mc_span::Span;
 #[derive(Drop)]
 pub enum Initializer<'a> {
     Single {
-        value: Expression<'a>,
+        value: Box<Expression<'a>>,
     },
     Braced {
         items: Vec<Initializer<'a>>,

@@ -1,7 +1,6 @@
 //! The height of initializers and declarations.
-ghost use Rattle.std.specs.Prelude.{◌≡◌, ◌≤◌, map, option_map};
-ghost use Rattle.mc_tree.specs.Units.{initializer_of, initializers_from, init_declarator_of, declaration_of, start_of};
-ghost use Rattle.mc_tree.specs.Views.{expression_of};
+ghost use Rattle.std.specs.Prelude.{◌≡◌, ◌≤◌, map};
+ghost use Rattle.mc_tree.specs.Units.{initializer_of, initializers_from, init_declarator_of, declaration_of, option_of, start_of};
 ghost use Rattle.mc_tree.specs.Height as h;
 
 use crate::declarations::declaration::Declaration;
@@ -64,9 +63,9 @@ pub(crate) fn declaration(tree: &Declaration<'_>) -> u32
     )
 }
 
-pub(crate) fn optional(tree: &Option<Expression<'_>>) -> u32
-    requires { h.height_optional (option_map expression_of tree.now) ≤ 800 }
-    ensures { result ≡ h.height_optional (option_map expression_of tree.now) }
+pub(crate) fn optional(tree: &Option<Box<Expression<'_>>>) -> u32
+    requires { h.height_optional (option_of tree.now) ≤ 800 }
+    ensures { result ≡ h.height_optional (option_of tree.now) }
 {
     match tree {
         Some(value) => expression(value),

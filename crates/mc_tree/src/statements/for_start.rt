@@ -6,5 +6,5 @@ use crate::expressions::expression::Expression;
 #[derive(Drop)]
 pub enum ForStart<'a> {
     Local { declaration: Declaration<'a> },
-    Expression { value: Option<Expression<'a>> },
+    Expression { value: Option<Box<Expression<'a>>> },
 }

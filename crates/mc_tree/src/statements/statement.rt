@@ -21,45 +21,45 @@ pub enum Statement<'a> {
         span: Span,
     },
     Expression {
-        value: Expression<'a>,
+        value: Box<Expression<'a>>,
         span: Span,
     },
     If {
-        test: Expression<'a>,
+        test: Box<Expression<'a>>,
         chosen: Box<Statement<'a>>,
         span: Span,
     },
     IfElse {
-        test: Expression<'a>,
+        test: Box<Expression<'a>>,
         chosen: Box<Statement<'a>>,
         other: Box<Statement<'a>>,
         span: Span,
     },
     Switch {
-        value: Expression<'a>,
+        value: Box<Expression<'a>>,
         body: Box<Statement<'a>>,
         span: Span,
     },
     While {
-        test: Expression<'a>,
+        test: Box<Expression<'a>>,
         body: Box<Statement<'a>>,
         span: Span,
     },
     DoWhile {
         body: Box<Statement<'a>>,
-        test: Expression<'a>,
+        test: Box<Expression<'a>>,
         span: Span,
     },
     For {
-        start: ForStart<'a>,
-        test: Option<Expression<'a>>,
-        step: Option<Expression<'a>>,
+        start: Box<ForStart<'a>>,
+        test: Option<Box<Expression<'a>>>,
+        step: Option<Box<Expression<'a>>>,
         body: Box<Statement<'a>>,
         span: Span,
     },
     /// `label` goes from the word `case` through the colon.
     Case {
-        value: Expression<'a>,
+        value: Box<Expression<'a>>,
         label: Span,
         body: Box<Statement<'a>>,
         span: Span,
@@ -86,7 +86,7 @@ pub enum Statement<'a> {
         span: Span,
     },
     Return {
-        value: Option<Expression<'a>>,
+        value: Option<Box<Expression<'a>>>,
         span: Span,
     },
 }

@@ -2,7 +2,7 @@ use Rattle.std.proofs.Common.{◌≡◌, map, ◌-◌}
 use Rattle.mc_tree.specs.Units.{init_declarator_of}
 use Rattle.mc_reading.specs.Declarations as spec
 use Rattle.mc_reading.specs.Lists.{comma_list, listed}
-use Rattle.mc_descent.specs.Cursors.{left_of}
+use Rattle.mc_cursor.specs.Cursors.{left_of}
 use Rattle.mc_descent.proofs.declarations.declarators.Given as goal
 
 abbrev pub invariant-loop-turn : goal.invariant-loop-turn

@@ -4,7 +4,7 @@ use Rattle.mc_tree.specs.Units.{block_item_of}
 use Rattle.mc_grammar.specs.Words.{sees}
 use Rattle.mc_reading.specs.Lists.{listed, until_list}
 use Rattle.mc_reading.specs.Statements as spec
-use Rattle.mc_descent.specs.Cursors.{left_of}
+use Rattle.mc_cursor.specs.Cursors.{left_of}
 
 -- a statement is read with less room than its block or what is not a block
 abbrev pub decreases-statement : goal.decreases-statement

@@ -2,7 +2,7 @@ use Rattle.std.proofs.Common.{◌≡◌, ◌≤◌, ◌-◌, map}
 use Rattle.mc_tree.specs.Views.{specifier_of}
 use Rattle.mc_reading.specs.Specifiers as spec
 use Rattle.mc_reading.specs.Rooms.{reading}
-use Rattle.mc_descent.specs.Cursors.{left_of}
+use Rattle.mc_cursor.specs.Cursors.{left_of}
 use Rattle.mc_descent.specs.Parts.{all_specifiers_of, high_specifiers}
 use Rattle.mc_descent.proofs.grammar.Grammar.all_specifiers.Given as goal
 

@@ -1,9 +1,9 @@
 use Rattle.std.proofs.Common.{◌≡◌, ◌≤◌, length}
 use Rattle.mc_reading.specs.Expressions as spec
-use Rattle.mc_reading.specs.Parsers.{and_then}
+use Rattle.mc_grammar.specs.steps.Parsers.{and_then}
 use Rattle.mc_reading.specs.Rooms.{reading}
-use Rattle.mc_descent.specs.Cursors.{left_of}
-use Rattle.mc_descent.specs.Rules.{levels_of}
+use Rattle.mc_cursor.specs.Cursors.{left_of}
+use Rattle.mc_cursor.specs.Rules.{levels_of}
 use Rattle.mc_descent.specs.Given.{IsHigh, tree_of}
 use Rattle.mc_descent.proofs.grammar.Grammar.climb.Given as goal
 

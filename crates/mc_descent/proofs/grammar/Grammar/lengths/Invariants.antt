@@ -3,7 +3,7 @@ use Rattle.mc_tree.specs.Views.{array_length_of, lengths_from}
 use Rattle.mc_tree.specs.Height.{height_lengths}
 use Rattle.mc_reading.specs.Specifiers as spec
 use Rattle.mc_reading.specs.Rooms.{reading}
-use Rattle.mc_descent.specs.Cursors.{left_of}
+use Rattle.mc_cursor.specs.Cursors.{left_of}
 use Rattle.mc_descent.proofs.grammar.Grammar.lengths.Given as goal
 
 abbrev pub invariant-loop-turn : goal.invariant-loop-turn

@@ -3,7 +3,7 @@ use Rattle.mc_grammar.specs.Words.{sees_specifiers}
 use Rattle.mc_reading.specs.Lists.{some_list, listed}
 use Rattle.mc_reading.specs.Specifiers as spec
 use Rattle.mc_reading.specs.Rooms.{reading}
-use Rattle.mc_descent.specs.Cursors.{left_of}
+use Rattle.mc_cursor.specs.Cursors.{left_of}
 use Rattle.mc_descent.specs.Parts.{high_members, members_of}
 use Rattle.mc_descent.proofs.grammar.Grammar.members.Given as goal
 

@@ -1,8 +1,8 @@
 use Rattle.std.proofs.Common.{◌≡◌, ◌≤◌, ◌-◌}
 use Rattle.mc_reading.specs.Expressions as spec
 use Rattle.mc_reading.specs.Rooms.{reading}
-use Rattle.mc_descent.specs.Cursors.{left_of}
-use Rattle.mc_descent.specs.Rules.{level_of}
+use Rattle.mc_cursor.specs.Cursors.{left_of}
+use Rattle.mc_cursor.specs.Rules.{level_of}
 use Rattle.mc_descent.specs.Given.{IsHigh, tree_of}
 use Rattle.mc_descent.proofs.grammar.Grammar.operations.Given as goal
 

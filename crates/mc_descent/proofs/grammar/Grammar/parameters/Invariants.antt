@@ -2,7 +2,7 @@ use Rattle.std.proofs.Common.{◌≡◌, ◌≤◌, ◌-◌, [], max}
 use Rattle.mc_reading.specs.Lists.{comma_list, listed}
 use Rattle.mc_reading.specs.Specifiers as spec
 use Rattle.mc_reading.specs.Rooms.{reading}
-use Rattle.mc_descent.specs.Cursors.{left_of}
+use Rattle.mc_cursor.specs.Cursors.{left_of}
 use Rattle.mc_descent.specs.Parts.{high_parameters, parameters_of}
 use Rattle.mc_descent.proofs.grammar.Grammar.parameters.Given as goal
 

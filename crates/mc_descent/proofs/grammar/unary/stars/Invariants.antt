@@ -1,6 +1,6 @@
 use Rattle.std.proofs.Common.{◌≡◌, ◌≤◌, ◌-◌}
 use Rattle.mc_reading.specs.Expressions as spec
-use Rattle.mc_descent.specs.Cursors.{left_of}
+use Rattle.mc_cursor.specs.Cursors.{left_of}
 use Rattle.mc_descent.proofs.grammar.unary.stars.Given as goal
 
 abbrev pub invariant-loop-turn : goal.invariant-loop-turn

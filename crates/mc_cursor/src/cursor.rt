@@ -1,0 +1,21 @@
+//! The tokens that are left to read.
+ghost use Rattle.std.specs.Prelude.{◌<◌, ◌^◌, All, length};
+ghost use Rattle.mc_cursor.specs.Short.{IsShort};
+
+mod asks;
+mod names;
+mod operators;
+mod takes;
+
+use mc_lex::Token;
+use std::collections::BTreeSet;
+pub use takes::{identifier, place};
+
+/// Tokens that are read from the front, and the names of the typedefs that are in force.
+#[derive(Drop)]
+pub struct Cursor<'t, 'a> {
+    pub rest: &'t [Token<'a>],
+    pub names: BTreeSet<&'a [u8]>,
+    ghost short: { All IsShort rest.now },
+    ghost few: { length rest.now < 2 ^ 31 },
+}

@@ -1,0 +1,175 @@
+//! Which operator or specifier word the next token is.
+ghost use Rattle.std.specs.Prelude.{◌≡◌};
+ghost use Rattle.mc_lex.specs.Tokens.{tok_of};
+ghost use Rattle.mc_grammar.specs.Words.{lexeme_of, next_is};
+ghost use Rattle.mc_grammar.specs.Operators as spec;
+ghost use Rattle.mc_grammar.specs.steps.Next.{assignment_next, step_next, unary_next, word_at, word_next};
+ghost use Rattle.mc_cursor.specs.Cursors.{left_of};
+ghost use Rattle.mc_cursor.specs.Rules.{level_of};
+
+use crate::cursor::Cursor;
+use crate::cursor::asks::{is_keyword, is_punctuator};
+use crate::rule::Level;
+use mc_lex::Token;
+use mc_tree::{AssignmentOperator, BinaryOperator, SpecifierWord, StepOperator, UnaryOperator};
+
+/// The operator between two operands that the token is, at this level (C17 6.5.5 to 6.5.14).
+fn operator_at(level: Level, token: &Token<'_>) -> Option<BinaryOperator>
+    ensures { result ≡ spec.operator_at (level_of level) (lexeme_of (tok_of token.now)) }
+{
+    match level {
+        Level::Product if is_punctuator(token, b"*") => Some(BinaryOperator::Multiply),
+        Level::Product if is_punctuator(token, b"/") => Some(BinaryOperator::Divide),
+        Level::Product if is_punctuator(token, b"%") => Some(BinaryOperator::Remainder),
+        Level::Sum if is_punctuator(token, b"+") => Some(BinaryOperator::Add),
+        Level::Sum if is_punctuator(token, b"-") => Some(BinaryOperator::Subtract),
+        Level::Shift if is_punctuator(token, b"<<") => Some(BinaryOperator::ShiftLeft),
+        Level::Shift if is_punctuator(token, b">>") => Some(BinaryOperator::ShiftRight),
+        Level::Relation if is_punctuator(token, b"<") => Some(BinaryOperator::Less),
+        Level::Relation if is_punctuator(token, b">") => Some(BinaryOperator::Greater),
+        Level::Relation if is_punctuator(token, b"<=") => Some(BinaryOperator::LessOrEqual),
+        Level::Relation if is_punctuator(token, b">=") => Some(BinaryOperator::GreaterOrEqual),
+        Level::Equality if is_punctuator(token, b"==") => Some(BinaryOperator::Equal),
+        Level::Equality if is_punctuator(token, b"!=") => Some(BinaryOperator::Unequal),
+        Level::BitAnd if is_punctuator(token, b"&") => Some(BinaryOperator::BitAnd),
+        Level::BitXor if is_punctuator(token, b"^") => Some(BinaryOperator::BitXor),
+        Level::BitOr if is_punctuator(token, b"|") => Some(BinaryOperator::BitOr),
+        Level::And if is_punctuator(token, b"&&") => Some(BinaryOperator::And),
+        Level::Or if is_punctuator(token, b"||") => Some(BinaryOperator::Or),
+        _ => None,
+    }
+}
+
+/// The operator that assigns which the token is (C17 6.5.16).
+fn assignment_at(token: &Token<'_>) -> Option<AssignmentOperator>
+    ensures { result ≡ spec.assignment_at (lexeme_of (tok_of token.now)) }
+{
+    if is_punctuator(token, b"=") {
+        Some(AssignmentOperator::Assign)
+    } else if is_punctuator(token, b"*=") {
+        Some(AssignmentOperator::Multiply)
+    } else if is_punctuator(token, b"/=") {
+        Some(AssignmentOperator::Divide)
+    } else if is_punctuator(token, b"%=") {
+        Some(AssignmentOperator::Remainder)
+    } else if is_punctuator(token, b"+=") {
+        Some(AssignmentOperator::Add)
+    } else if is_punctuator(token, b"-=") {
+        Some(AssignmentOperator::Subtract)
+    } else if is_punctuator(token, b"<<=") {
+        Some(AssignmentOperator::ShiftLeft)
+    } else if is_punctuator(token, b">>=") {
+        Some(AssignmentOperator::ShiftRight)
+    } else if is_punctuator(token, b"&=") {
+        Some(AssignmentOperator::BitAnd)
+    } else if is_punctuator(token, b"^=") {
+        Some(AssignmentOperator::BitXor)
+    } else if is_punctuator(token, b"|=") {
+        Some(AssignmentOperator::BitOr)
+    } else {
+        None
+    }
+}
+
+/// The keyword that alone is a specifier which the token is (C17 6.7.1 to 6.7.3).
+fn word_at(token: &Token<'_>) -> Option<SpecifierWord>
+    ensures { result ≡ word_at (lexeme_of (tok_of token.now)) }
+{
+    if is_keyword(token, b"typedef") {
+        Some(SpecifierWord::Typedef)
+    } else if is_keyword(token, b"static") {
+        Some(SpecifierWord::Static)
+    } else if is_keyword(token, b"extern") {
+        Some(SpecifierWord::Extern)
+    } else if is_keyword(token, b"const") {
+        Some(SpecifierWord::Const)
+    } else if is_keyword(token, b"void") {
+        Some(SpecifierWord::Void)
+    } else if is_keyword(token, b"_Bool") {
+        Some(SpecifierWord::Bool)
+    } else if is_keyword(token, b"char") {
+        Some(SpecifierWord::Char)
+    } else if is_keyword(token, b"short") {
+        Some(SpecifierWord::Short)
+    } else if is_keyword(token, b"int") {
+        Some(SpecifierWord::Int)
+    } else if is_keyword(token, b"long") {
+        Some(SpecifierWord::Long)
+    } else if is_keyword(token, b"signed") {
+        Some(SpecifierWord::Signed)
+    } else if is_keyword(token, b"unsigned") {
+        Some(SpecifierWord::Unsigned)
+    } else {
+        None
+    }
+}
+
+impl<'t, 'a> Cursor<'t, 'a> {
+    /// The operator between two operands that is next, at this level.
+    #[tactic(auto, unfolding(crate::specs::Cursors::marked_all))]
+    pub fn operator(&self, level: Level) -> Option<BinaryOperator>
+        ensures { result ≡ spec.operator_next (level_of level) (left_of self.now) }
+    {
+        match self.rest {
+            [] => None,
+            [first, ..] => operator_at(level, first),
+        }
+    }
+
+    /// The operator that assigns which is next.
+    #[tactic(auto, unfolding(crate::specs::Cursors::marked_all))]
+    pub fn assignment(&self) -> Option<AssignmentOperator>
+        ensures { result ≡ assignment_next (left_of self.now) }
+    {
+        match self.rest {
+            [] => None,
+            [first, ..] => assignment_at(first),
+        }
+    }
+
+    /// Which of `++` and `--` is next.
+    #[tactic(auto, unfolding(crate::specs::Cursors::marked_all))]
+    pub fn step(&self) -> Option<StepOperator>
+        ensures { result ≡ step_next (left_of self.now) }
+    {
+        match self.rest {
+            [first, ..] if is_punctuator(first, b"++") => Some(StepOperator::Increment),
+            [first, ..] if is_punctuator(first, b"--") => Some(StepOperator::Decrement),
+            _ => None,
+        }
+    }
+
+    /// The operator before one operand that is next.
+    #[tactic(auto, unfolding(crate::specs::Cursors::marked_all))]
+    pub fn unary(&self) -> Option<UnaryOperator>
+        ensures { result ≡ unary_next (left_of self.now) }
+    {
+        match self.rest {
+            [first, ..] if is_punctuator(first, b"+") => Some(UnaryOperator::Plus),
+            [first, ..] if is_punctuator(first, b"-") => Some(UnaryOperator::Minus),
+            [first, ..] if is_punctuator(first, b"~") => Some(UnaryOperator::Complement),
+            [first, ..] if is_punctuator(first, b"!") => Some(UnaryOperator::Not),
+            [first, ..] if is_punctuator(first, b"*") => Some(UnaryOperator::Dereference),
+            [first, ..] if is_punctuator(first, b"&") => Some(UnaryOperator::Address),
+            _ => None,
+        }
+    }
+
+    /// Whether a suffix is next: `[`, `.`, `++` or `--` (C17 6.5.2).
+    pub fn sees_suffix(&self) -> bool
+        ensures { result ≡ next_is spec.is_suffix (left_of self.now) }
+    {
+        self.sees(b"[") || self.sees(b".") || self.sees(b"++") || self.sees(b"--")
+    }
+
+    /// The keyword that alone is a specifier, where one is next.
+    #[tactic(auto, unfolding(crate::specs::Cursors::marked_all))]
+    pub fn specifier_word(&self) -> Option<SpecifierWord>
+        ensures { result ≡ word_next (left_of self.now) }
+    {
+        match self.rest {
+            [] => None,
+            [first, ..] => word_at(first),
+        }
+    }
+}
