@@ -395,14 +395,15 @@ object_more StaticStorage faults name lengths base u value s =
     let own = object_faults name lengths (count_listed value) base u s in
     let m = scope.Stored (next_static s) (unless_faulty (faults ++ own) u) in
     let named = with_name name m s in
-    let x = judge_optional_initializer true u value named in
+    let v = unless_faulty own u in
+    let x = judge_optional_initializer true v value named in
     let layout = layout_counted (own ++ x.faults) u x.scope in
     let sum = static_faults_with name.span.start layout x.value x.scope in
     let last = after_initializer (x.faults ++ sum) name (scope.Stored (next_static s) None) x.scope in
     let n = of_value value in
     more_two s last _ n 1 _
     (more_two s x.scope last n 0 n
-    (more_two s named x.scope 0 n n (more_same s named 0 refl refl) (optional_more true u value named) (none_plus n))
+    (more_two s named x.scope 0 n n (more_same s named 0 refl refl) (optional_more true v value named) (none_plus n))
     (after_more (x.faults ++ sum) name (scope.Stored (next_static s) None) x.scope) (plus_none n))
     (static_more layout x.value last) (omega arith)
 object_more AutomaticStorage faults name lengths base u value s =
@@ -410,14 +411,15 @@ object_more AutomaticStorage faults name lengths base u value s =
     let layout = layout_counted own u s in
     let named = with_name name (scope.Automatic (next_slot s) (unless_faulty (faults ++ own) u)) s in
     let d = with_counted layout named in
-    let x = judge_optional_initializer false u value d in
+    let v = unless_faulty own u in
+    let x = judge_optional_initializer false v value d in
     let last = after_initializer x.faults name (scope.Automatic (next_slot s) None) x.scope in
     let n = of_value value in
     more_two s last _ n 0 _
     (more_two s x.scope last n 0 n
     (more_two s d x.scope 0 n n
     (more_two s named d 0 0 0 (more_same s named 0 refl refl) (counted_more layout named) (none_plus 0))
-    (optional_more false u value d) (none_plus n))
+    (optional_more false v value d) (none_plus n))
     (after_more x.faults name (scope.Automatic (next_slot s) None) x.scope) (plus_none n))
     (counted_after_more x.faults (cells_counted layout) last) (omega arith)
 

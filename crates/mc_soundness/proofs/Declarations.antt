@@ -255,7 +255,8 @@ automatic_well w s faults name lengths base u value fit below o ends h =
     let own = object_faults name lengths (count_listed value) base u s in
     let layout = layout_counted own u s in
     let typed = unless_faulty (faults ++ own) u in
-    let x = judge_optional_initializer false u value (declared_at name typed layout s) in
+    let judged = unless_faulty own u in
+    let x = judge_optional_initializer false judged value (declared_at name typed layout s) in
     let rest = nil_right faults _ h in
     let own_nil = nil_left own x.faults rest in
     let x_nil = nil_right own x.faults rest in
@@ -268,19 +269,20 @@ automatic_well w s faults name lengths base u value fit below o ends h =
     ap (λ f. counted_after f (cells_counted layout)
     (after_initializer f name (Automatic (next_slot s) None) x.scope)) x_nil in
     let at = automatic_at w s name o.type value fit below o.complete o.object in
-    let at_u : Claim u (Some o.type) (Some l) = subst (λ z. Claim z (Some o.type) (Some l)) (sym o.is) at in
-    let at_t : Claim u typed (Some l) = subst (λ z. Claim u z (Some l)) (sym et) at_u in
-    let at_l : Claim u typed layout = subst (λ z. Claim u typed z) (sym el) at_t in
+    let ej : judged ≡ Some o.type = ap (λ f. unless_faulty f u) own_nil ∙ o.is in
+    let at_j : Claim judged (Some o.type) (Some l) = subst (λ z. Claim z (Some o.type) (Some l)) (sym ej) at in
+    let at_t : Claim judged typed (Some l) = subst (λ z. Claim judged z (Some l)) (sym et) at_j in
+    let at_l : Claim judged typed layout = subst (λ z. Claim judged typed z) (sym el) at_t in
     subst (λ z. IsDeclared w s (declarator_value (next_slot s) layout x.value) z) (sym es)
     (at_l (subst (Ends w) es ends) x_nil)
   where
     Claim : Option CType → Option CType → Option ObjectType → Type 0
-    Claim u typed layout =
-        Ends w (judge_optional_initializer false u value (declared_at name typed layout s)).scope
-        → (judge_optional_initializer false u value (declared_at name typed layout s)).faults ≡ []
+    Claim v typed layout =
+        Ends w (judge_optional_initializer false v value (declared_at name typed layout s)).scope
+        → (judge_optional_initializer false v value (declared_at name typed layout s)).faults ≡ []
         → IsDeclared w s (declarator_value (next_slot s) layout
-        (judge_optional_initializer false u value (declared_at name typed layout s)).value)
-        (judge_optional_initializer false u value (declared_at name typed layout s)).scope
+        (judge_optional_initializer false v value (declared_at name typed layout s)).value)
+        (judge_optional_initializer false v value (declared_at name typed layout s)).scope
 
 -- ---- objects with static storage duration
 
@@ -483,7 +485,8 @@ pub static_well : (w : World) (s : Scope) (faults : List Fault) (name : Name) (l
 static_well w s faults name lengths base u value fit below o ends h =
     let own = object_faults name lengths (count_listed value) base u s in
     let typed = unless_faulty (faults ++ own) u in
-    let x = judge_optional_initializer true u value (named_at name typed s) in
+    let judged = unless_faulty own u in
+    let x = judge_optional_initializer true judged value (named_at name typed s) in
     let layout = layout_counted (own ++ x.faults) u x.scope in
     let sum = static_faults_with name.span.start layout x.value x.scope in
     let rest = nil_right faults _ h in
@@ -499,27 +502,28 @@ static_well w s faults name lengths base u value fit below o ends h =
     let es : (static_judged faults name lengths base u value s).scope ≡ static_scope layout x.value x.scope =
     ap (λ f. static_scope layout x.value (after_initializer f name (Stored (next_static s) None) x.scope))
     (both_nil x.faults sum x_nil sum_nil) in
-    let claim : Claim u typed layout =
-    subst (λ z. Claim u typed z) (sym el)
-    (subst (λ z. Given u z) (sym et) (subst (λ z. Given z (Some o.type)) (sym o.is) at)) in
+    let ej : judged ≡ Some o.type = ap (λ f. unless_faulty f u) own_nil ∙ o.is in
+    let claim : Claim judged typed layout =
+    subst (λ z. Claim judged typed z) (sym el)
+    (subst (λ z. Given judged z) (sym et) (subst (λ z. Given z (Some o.type)) (sym ej) at)) in
     subst (λ z. IsDeclared w s (static_value layout x.value) z) (sym es)
     (claim (subst (Ends w) es ends) x_nil sum_nil)
   where
     Claim : Option CType → Option CType → Option ObjectType → Type 0
-    Claim u typed layout =
-        Ends w (static_scope layout (judge_optional_initializer true u value (named_at name typed s)).value
-        (judge_optional_initializer true u value (named_at name typed s)).scope)
-        → (judge_optional_initializer true u value (named_at name typed s)).faults ≡ []
+    Claim v typed layout =
+        Ends w (static_scope layout (judge_optional_initializer true v value (named_at name typed s)).value
+        (judge_optional_initializer true v value (named_at name typed s)).scope)
+        → (judge_optional_initializer true v value (named_at name typed s)).faults ≡ []
         → static_faults_with name.span.start layout
-        (judge_optional_initializer true u value (named_at name typed s)).value
-        (judge_optional_initializer true u value (named_at name typed s)).scope ≡ []
-        → IsDeclared w s (static_value layout (judge_optional_initializer true u value (named_at name typed s)).value)
-        (static_scope layout (judge_optional_initializer true u value (named_at name typed s)).value
-        (judge_optional_initializer true u value (named_at name typed s)).scope)
+        (judge_optional_initializer true v value (named_at name typed s)).value
+        (judge_optional_initializer true v value (named_at name typed s)).scope ≡ []
+        → IsDeclared w s (static_value layout (judge_optional_initializer true v value (named_at name typed s)).value)
+        (static_scope layout (judge_optional_initializer true v value (named_at name typed s)).value
+        (judge_optional_initializer true v value (named_at name typed s)).scope)
 
     Given : Option CType → Option CType → Type 0
-    Given u typed =
-        Claim u typed (Some (layout_of (judge_optional_initializer true u value (named_at name typed s)).scope.structures o.type))
+    Given v typed =
+        Claim v typed (Some (layout_of (judge_optional_initializer true v value (named_at name typed s)).scope.structures o.type))
 
     never : (i : Option t.Initializer) → Some i ≡ None → ⊥
     never i e = cc

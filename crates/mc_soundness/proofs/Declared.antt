@@ -1,6 +1,5 @@
 -- Whole declarations: what is found of them is well where they have no fault.
-use Rattle.std.proofs.Common.{◌≡◌, ℕ, true, ◌&&◌, ◌||◌, List, [], ◌∷◌, ◌++◌, length, Option, Some, None, is_some, refl, ap, sym, ◌∙◌, subst, append_assoc, ◌⊎◌, inl, inr}
-use Rattle.mc_span.specs.declared.span.Span.{Span}
+use Rattle.std.proofs.Common.{◌≡◌, ℕ, true, ◌&&◌, ◌||◌, List, [], ◌∷◌, ◌++◌, length, Option, Some, None, is_some, refl, ap, sym, ◌∙◌, subst, append_assoc}
 use Rattle.mc_tree.specs.Tree.{Name, ArrayLengths, Initializer, InitDeclarator, Declaration, Parameters}
 use Rattle.mc_tree.specs.Tree as tree
 use Rattle.mc_typed.specs.declared.expressions.Slot.{Slot}
@@ -16,7 +15,7 @@ use Rattle.mc_typing.specs.Scopes.{Typedef, Scope}
 use Rattle.mc_typing.specs.Declarators.{redeclared_faults, misnamed_faults, is_later_absent, is_first_absent, declared_type, absent_faults}
 use Rattle.mc_typing.specs.Judgement.{typed_by, judge_specifiers, judge_lengths}
 use Rattle.mc_typing.specs.Declarations.{Storage, TypedefStorage, StaticStorage, AutomaticStorage, storage_of, count_listed, object_faults, typedef_faults, typedef_judged, object_judged, judge_init, judge_init_declarator, judge_init_declarators, append, is_tag_alone, empty_faults, judge_declaration}
-use Rattle.mc_soundness.specs.Growth.{AreBelow, Extended}
+use Rattle.mc_soundness.specs.Growth.{AreBelow}
 use Rattle.mc_soundness.specs.Blocks.{IsNoFunction, declarator_of, HaveNoFunction, DeclaresNoFunction}
 use Rattle.mc_soundness.specs.Fits.{World, Completes, ArePositive, MeaningFits, Fits, Ends, Made, IsDeclared}
 use Rattle.mc_soundness.proofs.Lists.{right_nil}
@@ -80,22 +79,6 @@ typedef_well w s faults name lengths o b ns value fit below q p pb h =
 
 -- ---- declarators
 
--- What holds of functions that are declared: either none is, or what is found of them is well where
--- R holds of the scope after them.
-pub record FunctionRule (w : World) (storage : Storage) (b : CType) (R : Scope → Type 0) : Type 0 where
-  pub well : (stars : ℕ) (name : Name) (all : Parameters) (span : Span) (value : Option Initializer) (s : Scope)
-      → Fits w s → AreBelow (length s.statics) s.names
-      → R (judge_init storage (Some b) (tree.function stars name all span) value s).scope
-      → Ends w (judge_init storage (Some b) (tree.function stars name all span) value s).scope
-      → (judge_init storage (Some b) (tree.function stars name all span) value s).faults ≡ []
-      → IsDeclared w s (judge_init storage (Some b) (tree.function stars name all span) value s).value
-      (judge_init storage (Some b) (tree.function stars name all span) value s).scope
-  pub back : (s t : Scope) → Extended s t → R t → R s
-
--- no function, or a rule for functions
-abbrev pub Allowed : World → Storage → CType → (Scope → Type 0) → Type 0 → Type 0
-Allowed w storage b R none = none ⊎ FunctionRule w storage b R
-
 object_well : (w : World) (storage : Storage) (s : Scope) (faults : List Fault) (name : Name)
     (lengths : ArrayLengths) (o : Option (List ℕ)) (b : CType) (ns : List ℕ) (value : Option Initializer)
     → Fits w s → AreBelow (length s.statics) s.names → Completes s.structures w.structures → o ≡ Some ns
@@ -128,12 +111,11 @@ lengths_faults TypedefStorage faults name lengths base u value s h = nil_left fa
 lengths_faults StaticStorage faults name lengths base u value s h = nil_left faults _ h
 lengths_faults AutomaticStorage faults name lengths base u value s h = nil_left faults _ h
 
-pub init_well : (w : World) (storage : Storage) (b : CType) (R : Scope → Type 0) (d : tree.Declarator)
-    (value : Option Initializer) (s : Scope) → Allowed w storage b R (IsNoFunction d) → ArePositive b.lengths
-    → Fits w s → AreBelow (length s.statics) s.names → R (judge_init storage (Some b) d value s).scope
+pub init_well : (w : World) (storage : Storage) (b : CType) (d : tree.Declarator) (value : Option Initializer)
+    (s : Scope) → IsNoFunction d → ArePositive b.lengths → Fits w s → AreBelow (length s.statics) s.names
     → Ends w (judge_init storage (Some b) d value s).scope → (judge_init storage (Some b) d value s).faults ≡ []
     → IsDeclared w s (judge_init storage (Some b) d value s).value (judge_init storage (Some b) d value s).scope
-init_well w storage b R (tree.object stars name lengths span) value s rule pb fit below r ends h =
+init_well w storage b (tree.object stars name lengths span) value s none pb fit below ends h =
     let x = judge_lengths lengths s in
     let u = declared_type lengths x.value (count_listed value) (Some b) in
     let g = lengths_grow lengths s in
@@ -156,21 +138,17 @@ init_well w storage b R (tree.object stars name lengths span) value s rule pb fi
   where
     made_from : (s t u : Scope) (m : List Slot) → t.objects ≡ s.objects → Made t u m → Made s u m
     made_from s t u m e p = made_two s t u [] m ([], e ∙ sym (right_nil s.objects), refl) p
-init_well w storage b R (tree.function stars name all span) value s (inl none) pb fit below r ends h =
-    absurd none
-init_well w storage b R (tree.function stars name all span) value s (inr rule) pb fit below r ends h =
-    rule.well stars name all span value s fit below r ends h
+init_well w storage b (tree.function stars name all span) value s none pb fit below ends h = absurd none
 
-init_declarator_well : (w : World) (storage : Storage) (b : CType) (R : Scope → Type 0) (d : InitDeclarator)
-    (s : Scope) → Allowed w storage b R (IsNoFunction (declarator_of d)) → ArePositive b.lengths
-    → Fits w s → AreBelow (length s.statics) s.names → R (judge_init_declarator storage (Some b) d s).scope
+init_declarator_well : (w : World) (storage : Storage) (b : CType) (d : InitDeclarator) (s : Scope)
+    → IsNoFunction (declarator_of d) → ArePositive b.lengths → Fits w s → AreBelow (length s.statics) s.names
     → Ends w (judge_init_declarator storage (Some b) d s).scope
     → (judge_init_declarator storage (Some b) d s).faults ≡ []
     → IsDeclared w s (judge_init_declarator storage (Some b) d s).value (judge_init_declarator storage (Some b) d s).scope
-init_declarator_well w storage b R (tree.bare d) s rule pb fit below r ends h =
-    init_well w storage b R d None s rule pb fit below r ends h
-init_declarator_well w storage b R (tree.initialized d value) s rule pb fit below r ends h =
-    init_well w storage b R d (Some value) s rule pb fit below r ends h
+init_declarator_well w storage b (tree.bare d) s none pb fit below ends h =
+    init_well w storage b d None s none pb fit below ends h
+init_declarator_well w storage b (tree.initialized d value) s none pb fit below ends h =
+    init_well w storage b d (Some value) s none pb fit below ends h
 
 declarators_append : (c : sound.Scope) (xs ys : List Declarator) → AreDeclarators xs c → AreDeclarators ys c
     → AreDeclarators (xs ++ ys) c
@@ -183,25 +161,13 @@ slots_append (x ∷ xs) ys =
     ap (λ l. x.slot ∷ l) (ap (λ l. slots_value x.value ++ l) (slots_append xs ys)
     ∙ sym (append_assoc (slots_value x.value) (slots_declarators xs) (slots_declarators ys)))
 
-first_rule : (w : World) (storage : Storage) (b : CType) (R : Scope → Type 0) (A B : Type 0)
-    → Allowed w storage b R (A × B) → Allowed w storage b R A
-first_rule w storage b R A B (inl p) = inl p.0
-first_rule w storage b R A B (inr rule) = inr rule
-
-rest_rule : (w : World) (storage : Storage) (b : CType) (R : Scope → Type 0) (A B : Type 0)
-    → Allowed w storage b R (A × B) → Allowed w storage b R B
-rest_rule w storage b R A B (inl p) = inl p.1
-rest_rule w storage b R A B (inr rule) = inr rule
-
-pub init_declarators_well : (w : World) (storage : Storage) (b : CType) (R : Scope → Type 0)
-    (back : (s t : Scope) → Extended s t → R t → R s) (ds : List InitDeclarator) (s : Scope)
-    → Allowed w storage b R (HaveNoFunction ds) → ArePositive b.lengths → Fits w s
-    → AreBelow (length s.statics) s.names → R (judge_init_declarators storage (Some b) ds s).scope
+init_declarators_well : (w : World) (storage : Storage) (b : CType) (ds : List InitDeclarator) (s : Scope)
+    → HaveNoFunction ds → ArePositive b.lengths → Fits w s → AreBelow (length s.statics) s.names
     → Ends w (judge_init_declarators storage (Some b) ds s).scope
     → (judge_init_declarators storage (Some b) ds s).faults ≡ []
     → IsDeclared w s (judge_init_declarators storage (Some b) ds s).value
     (judge_init_declarators storage (Some b) ds s).scope
-init_declarators_well w storage b R back [] s rule pb fit below r ends h = record {
+init_declarators_well w storage b [] s none pb fit below ends h = record {
   declared = [];
   is = refl;
   sound = tt;
@@ -209,15 +175,13 @@ init_declarators_well w storage b R back [] s rule pb fit below r ends h = recor
   fits = fit;
   below = below;
 }
-init_declarators_well w storage b R back (d ∷ ds) s rule pb fit below r ends h =
+init_declarators_well w storage b (d ∷ ds) s none pb fit below ends h =
     let x = judge_init_declarator storage (Some b) d s in
     let y = judge_init_declarators storage (Some b) ds x.scope in
     let e = init_declarators_extend storage (Some b) ds x.scope in
-    let dx = init_declarator_well w storage b R d s
-    (first_rule w storage b R (IsNoFunction (declarator_of d)) (HaveNoFunction ds) rule) pb fit below
-    (back x.scope y.scope e r) (ends_before w x.scope y.scope e ends) (nil_left x.faults _ h) in
-    let dy = init_declarators_well w storage b R back ds x.scope
-    (rest_rule w storage b R (IsNoFunction (declarator_of d)) (HaveNoFunction ds) rule) pb dx.fits dx.below r ends
+    let dx = init_declarator_well w storage b d s none.0 pb fit below (ends_before w x.scope y.scope e ends)
+    (nil_left x.faults _ h) in
+    let dy = init_declarators_well w storage b ds x.scope none.1 pb dx.fits dx.below ends
     (nil_left y.faults [] (nil_right x.faults _ h)) in
     record {
       declared = dx.declared ++ dy.declared;
@@ -253,8 +217,7 @@ declaration_well w (tree.declaration all ds span) s none fit below ends h =
     → (judge_init_declarators storage o ds x.scope).faults ≡ []
     → IsDeclared w x.scope (judge_init_declarators storage o ds x.scope).value
     (judge_init_declarators storage o ds x.scope).scope) (sym tx.is)
-    (λ e f. init_declarators_well w storage tx.value (λ t. Unit {0}) (λ s t e u. tt) ds x.scope (inl none)
-    tx.positive tx.fits below_x tt e f) ends later in
+    (λ e f. init_declarators_well w storage tx.value ds x.scope none tx.positive tx.fits below_x e f) ends later in
     record {
       declared = d.declared;
       is = d.is;

@@ -71,9 +71,10 @@ automatic_extends faults name lengths base u value s =
     let own = object_faults name lengths (count_listed value) base u s in
     let layout = layout_counted own u s in
     let m = Automatic (next_slot s) (unless_faulty (faults ++ own) u) in
-    let x = judge_optional_initializer false u value (with_counted layout (with_name name m s)) in
+    let v = unless_faulty own u in
+    let x = judge_optional_initializer false v value (with_counted layout (with_name name m s)) in
     extended s _
-    (automatic_steps name m (Automatic (next_slot s) None) layout u value s x.faults (cells_counted layout) (λ n. tt) (λ n. tt) tt tt)
+    (automatic_steps name m (Automatic (next_slot s) None) layout v value s x.faults (cells_counted layout) (λ n. tt) (λ n. tt) tt tt)
 
 static_extends : (u : ObjectType) (vs : List ℤ) (s : Scope) → Extended s (with_static u vs s)
 static_extends u vs s = record {
@@ -97,10 +98,11 @@ static_judged_extends : (faults : List Fault) (name : Name) (lengths : ArrayLeng
     (value : Option Initializer) (s : Scope)
     → Extended s (static_judged faults name lengths base u value s).scope
 static_judged_extends faults name lengths base u value s =
+    let v = unless_faulty (object_faults name lengths (count_listed value) base u s) u in
     extended_trans s _ _
     (extended_trans s (with_name name _ s) _ (name_extends name _ s)
     (extended_trans (with_name name _ s) _ _
-    (extended (with_name name _ s) _ (optional_grows true u value (with_name name _ s)))
+    (extended (with_name name _ s) _ (optional_grows true v value (with_name name _ s)))
     (after_extends _ name _ _)))
     (scope_extends _ _ _)
 

@@ -1,5 +1,5 @@
 -- Declarations at file scope: without a fault, what is declared stands after them.
-use Rattle.std.proofs.Common.{◌≡◌, ℕ, ◌||◌, Bool, true, false, if◌then◌else◌, List, [], ◌∷◌, ◌++◌, length, drop, map, Option, Some, None, option_map, refl, ap, sym, ◌∙◌, subst, inl}
+use Rattle.std.proofs.Common.{◌≡◌, ℕ, ◌||◌, Bool, true, false, if◌then◌else◌, List, [], ◌∷◌, ◌++◌, length, drop, map, Option, Some, None, option_map, refl, ap, sym, ◌∙◌, subst}
 use Rattle.mc_span.specs.declared.span.Span.{Span}
 use Rattle.mc_tree.specs.declared.declarations.specifier_word.SpecifierWord.TheVariants as word
 use Rattle.mc_tree.specs.Tree.{Name, Specifiers, ArrayLengths, Initializer, InitDeclarator, Declaration, Parameters}
@@ -224,7 +224,7 @@ scope_adds (Some layout) (Some value) s = adds_none s.names
 scope_adds (Some layout) None s = adds_none s.names
 scope_adds None value s = adds_none s.names
 
-object_adds : (storage : Storage) (faults : List Fault) (name : Name) (lengths : ArrayLengths)
+pub object_adds : (storage : Storage) (faults : List Fault) (name : Name) (lengths : ArrayLengths)
     (base u : Option CType) (value : Option Initializer) (s : Scope) → IsOfFile storage
     → AddsNoFunction s.names (object_judged storage faults name lengths base u value s).scope.names
 object_adds TypedefStorage faults name lengths base u value s of =
@@ -236,13 +236,14 @@ object_adds StaticStorage faults name lengths base u value s of =
     let own = object_faults name lengths (count_listed value) base u s in
     let m = Stored (next_static s) (unless_faulty (faults ++ own) u) in
     let named = with_name name m s in
-    let x = judge_optional_initializer true u value named in
+    let v = unless_faulty own u in
+    let x = judge_optional_initializer true v value named in
     let layout = layout_counted (own ++ x.faults) u x.scope in
     let sum = static_faults_with name.span.start layout x.value x.scope in
     let last = after_initializer (x.faults ++ sum) name (Stored (next_static s) None) x.scope in
     adds_both s.names named.names (static_scope layout x.value last).names
     (record { name = name.text; meaning = m } ∷ [], refl, (tt, tt))
-    (adds_both named.names x.scope.names (static_scope layout x.value last).names (optional_grows true u value named).functions
+    (adds_both named.names x.scope.names (static_scope layout x.value last).names (optional_grows true v value named).functions
     (adds_both x.scope.names last.names (static_scope layout x.value last).names
     (after_adds (x.faults ++ sum) name (Stored (next_static s) None) x.scope tt) (scope_adds layout x.value last)))
 object_adds AutomaticStorage faults name lengths base u value s of = absurd of
@@ -285,15 +286,15 @@ object_stands storage b stars name lengths span value s of pb st h =
     let v_ends = stage_ends x.scope.names x.scope [] t.NoResult in
     let v_fun = stage_functions x.scope.names x.scope [] t.NoResult agree in
     let v_fit = stands_before v s x.scope x.scope.names st (later_passed s x.scope (passed s x.scope e)) e.names v_ends refl v_fun in
-    let r = init_well v storage b (λ t. Unit {0}) d value s (inl tt) pb v_fit st.below tt v_ends h in
+    let r = init_well v storage b d value s tt pb v_fit st.below v_ends h in
     let empty = none_automatic storage l.faults name lengths (Some b) u value l.scope r.declared of r.is in
     let nothing : r.made.0 ≡ [] = no_slots (length s.objects) r.declared r.made.0 empty r.made.2 in
     record {
       stands = record {
         fits = λ w ends bodies fun.
-            (init_well w storage b (λ t. Unit {0}) d value s (inl tt) pb
+            (init_well w storage b d value s tt pb
             (st.fits w (ends_before w s x.scope e ends) (sym e.bodies ∙ bodies)
-            (functions_before w s.names x.scope.names e.names fun)) st.below tt ends h).fits;
+            (functions_before w s.names x.scope.names e.names fun)) st.below ends h).fits;
         below = r.below;
         agree = agree;
         none = r.made.1 ∙ ap (λ o. s.objects ++ o) nothing ∙ right_nil s.objects ∙ st.none;
@@ -337,7 +338,7 @@ init_declarators_stand storage b (d ∷ ds) s of pb st h =
       is = lift2_some append x.value y.value one.value rest.value one.is rest.is;
     }
 
-storage_of_file : (all : Specifiers) (b : Bool) → b ≡ true → IsOfFile (storage_of all b)
+pub storage_of_file : (all : Specifiers) (b : Bool) → b ≡ true → IsOfFile (storage_of all b)
 storage_of_file all b e = by_words (has word.Typedef all) b e
   where
     by_words : (d c : Bool) → c ≡ true

@@ -27,3 +27,8 @@ pub mod Accepted
 pub mod Defined
 pub mod Units
 pub mod Counts
+pub mod Names
+pub mod PlainValues
+pub mod PlainConstants
+pub mod PlainInitializers
+pub mod PlainUnits

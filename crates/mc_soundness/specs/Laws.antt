@@ -1,11 +1,11 @@
 -- What is found of a node without a fault is sound, in every scope that fits the program in the
 -- end.
-use Rattle.std.specs.Prelude.{◌≡◌, ◌<◌, ◌^◌, Bool, true, false, List, [], length, Some, None}
+use Rattle.std.specs.Prelude.{◌≡◌, ◌≢◌, ℕ, ◌<◌, ◌^◌, Bool, true, false, List, [], ◌∷◌, length, Some, None}
 use Rattle.mc_tree.specs.Tree.{Expression, Specifiers, Initializer, BlockItems, ParameterList, Item}
 use Rattle.mc_tree.specs.Length.{token_count}
 use Rattle.mc_typed.specs.Sound.{IsSound}
 use Rattle.mc_typed.specs.Sound as sound
-use Rattle.mc_typed.specs.Tree.{Program}
+use Rattle.mc_typed.specs.Tree.{Function, Program}
 use Rattle.mc_subset.specs.Nodes.{nodes_of_unit}
 use Rattle.mc_subset.specs.Forms.{first_outside}
 use Rattle.mc_typing.specs.Types.{CType, is_complete, any_is_no_word}
@@ -17,6 +17,7 @@ use Rattle.mc_typing.specs.Bodies.{judge_block}
 use Rattle.mc_typing.specs.Typing.{HasTyping, IsTypingOf, typing_of}
 use Rattle.mc_soundness.specs.Growth.{AreBelow}
 use Rattle.mc_soundness.specs.Blocks.{BlockHasNoFunction}
+use Rattle.mc_soundness.specs.Plain.{IsPlainProgram}
 use Rattle.mc_soundness.specs.Fits.{World, Fits, Ends, IsWell, AreTyped, IsInitialized, IsAround, IsRun, ArraysEnd, AreParametersFound}
 
 abbrev pub ExpressionsAreSound : Type 0
@@ -82,3 +83,22 @@ UnitsAreSound =
 abbrev pub UnitsAreFew : Type 0
 UnitsAreFew =
     (items : List Item) (p : Program) → IsTypingOf items p → token_count items < 2 ^ 31 → IsFew p
+
+-- no function of a list has this name
+abbrev pub LacksName : List ℕ → List Function → Type 0
+LacksName name [] = Unit {0}
+LacksName name (f ∷ fs) = (f.name ≢ name) × LacksName name fs
+
+abbrev pub NamesDiffer : List Function → Type 0
+NamesDiffer [] = Unit {0}
+NamesDiffer (f ∷ fs) = LacksName f.name fs × NamesDiffer fs
+
+-- No two of its functions have one name (C17 6.9p3, p5).
+abbrev pub FunctionNamesDiffer : Type 0
+FunctionNamesDiffer =
+    (items : List Item) (p : Program) → IsTypingOf items p → NamesDiffer p.functions
+
+-- In a typed program no implied conversion stands on what is compared with 0, and each list that
+-- sets an object to 0 holds a constant of value 0.
+abbrev pub UnitsArePlain : Type 0
+UnitsArePlain = (items : List Item) (p : Program) → typing_of items ≡ Some p → IsPlainProgram p

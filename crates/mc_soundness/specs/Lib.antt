@@ -1,4 +1,5 @@
 pub mod Growth
 pub mod Fits
 pub mod Blocks
+pub mod Plain
 pub mod Laws

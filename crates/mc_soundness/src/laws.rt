@@ -4,10 +4,12 @@ ghost use Rattle.mc_soundness.specs.Growth.{ExpressionsGrow};
 ghost use Rattle.mc_soundness.specs.Laws.{
   BodiesAreSound,
   ExpressionsAreSound,
+  FunctionNamesDiffer,
   InitializersAreSound,
   ParametersAreSound,
   SpecifiersAreSound,
   UnitsAreFew,
+  UnitsArePlain,
   UnitsAreSound,
   UnitsAreTyped,
 };
@@ -45,11 +47,18 @@ pub fn parameters_are_sound()
     ensures { ParametersAreSound }
 {}
 
-/// A unit without a fault and without an outside form has a typed program, which is sound where
-/// there are fewer than 2^31 functions, static objects and structure types, as in a unit with fewer
-/// tokens.
+/// A unit without a fault and without an outside form has a typed program. It is sound where there
+/// are fewer than 2^31 functions, objects with static storage duration and structure types, and
+/// there are no more of each than tokens. No two functions have one name.
 pub fn units_are_sound()
     ensures typed { UnitsAreTyped }
     ensures sound { UnitsAreSound }
     ensures few { UnitsAreFew }
+    ensures names { FunctionNamesDiffer }
+{}
+
+/// In a typed program no implied conversion stands on a test or on an operand of `!`, `&&` or `||`,
+/// and a list that sets an object to 0 holds an integer constant expression of value 0.
+pub fn units_are_plain()
+    ensures { UnitsArePlain }
 {}

@@ -82,7 +82,8 @@ declarator_value slot (Some layout) (Some value) =
 declarator_value slot _ _ = None
 
 -- The name is in scope in its initializer (C17 6.2.1p7), and the object stands before those that
--- the initializer makes. With a fault in its declaration a name has no type.
+-- the initializer makes. With a fault in its declaration a name has no type, and with one of its
+-- declarator there is none that the initializer would have to fit.
 abbrev pub automatic_judged : List Fault → Name → ArrayLengths → Option CType → Option CType
     → Option Initializer → Scope → Judged (List Declarator)
 automatic_judged faults name lengths base u value s =
@@ -91,7 +92,7 @@ automatic_judged faults name lengths base u value s =
     let meaning = Automatic (next_slot s) in
     let declared =
     with_counted layout (with_name name (meaning (unless_faulty (faults ++ own) u)) s) in
-    let x = judge_optional_initializer false u value declared in
+    let x = judge_optional_initializer false (unless_faulty own u) value declared in
     record {
       faults = faults ++ (own ++ x.faults);
       value = declarator_value (next_slot s) layout x.value;
@@ -125,7 +126,7 @@ static_judged faults name lengths base u value s =
     let own = object_faults name lengths (count_listed value) base u s in
     let meaning = Stored (next_static s) in
     let declared = with_name name (meaning (unless_faulty (faults ++ own) u)) s in
-    let x = judge_optional_initializer true u value declared in
+    let x = judge_optional_initializer true (unless_faulty own u) value declared in
     let layout = layout_counted (own ++ x.faults) u x.scope in
     let sum = static_faults_with name.span.start layout x.value x.scope in
     record {
