@@ -6,3 +6,7 @@ pub mod Lengths
 pub mod Mapped
 pub mod Places
 pub mod Seen
+pub mod Squeezed
+pub mod Constants
+pub mod Filled
+pub mod Counts

@@ -8,3 +8,7 @@ pub mod Seen
 pub mod Views
 pub mod Blocks
 pub mod Prototypes
+pub mod Found
+pub mod steps
+pub mod Given
+pub mod Statements

@@ -1,5 +1,5 @@
 //! Labels of a `switch` (C17 6.8.1).
-ghost use Rattle.std.specs.Prelude.{◌≡◌, ℤ, ◌||◌, [], false, OnOk, OnErr};
+ghost use Rattle.std.specs.Prelude.{◌≡◌, ℤ, ◌||◌, [], false, IfOk, OnOk, OnErr};
 ghost use Rattle.mc_typing.specs.Statements.{has_value, with_value, default_in};
 ghost use Rattle.mc_value.specs.Arithmetic.{are_equal};
 ghost use Rattle.mc_scopes.specs.Seen.{is_in};
@@ -45,6 +45,20 @@ impl Labels {
             sorted: BTreeSet::new(alloc),
             has_default: false,
         }
+    }
+
+    /// The same labels.
+    pub fn try_clone(&self) -> Result<Labels, AllocError>
+        ensures { IfOk result (λ r. r ≡ self.now) }
+    {
+        let values = self.values.clone()?;
+        let sorted = self.sorted.clone()?;
+        Ok(Labels {
+            value_type: self.value_type,
+            values,
+            sorted,
+            has_default: self.has_default,
+        })
     }
 
     /// The promoted type of the controlling expression, where it has one. Takes no memory.

@@ -1,8 +1,17 @@
 //! Names in scope, types and objects: what the walk over a tree keeps as it gives a typed program.
 #![tactic(auto)]
 
+pub mod around;
+pub mod bare;
 mod blocks;
 mod bodies;
+pub mod conversions;
+pub mod count;
+pub mod effects;
+pub mod faults;
+pub mod found;
+pub mod initial;
+pub mod kind;
 mod labels;
 mod laws;
 mod layouts;
@@ -11,8 +20,11 @@ mod member;
 mod members;
 mod prototypes;
 mod scope;
+pub mod structures;
 mod table;
 mod types;
+pub mod value;
+pub mod values;
 
 pub use blocks::Block;
 pub use bodies::Bodies;

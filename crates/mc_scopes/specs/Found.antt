@@ -1,0 +1,44 @@
+-- What is found by the program, as what is found of a node.
+use Rattle.std.specs.Prelude.{option_map}
+use Rattle.mc_typed.specs.Views.{expression_of, place_of, call_of, effect_of}
+use Rattle.mc_typing.specs.Scopes.{Scope}
+use Rattle.mc_typing.specs.Values as v
+use Rattle.mc_scopes.specs.Types.{base_of, type_of}
+use Rattle.mc_scopes.specs.declared.found.Found.{Found}
+use Rattle.mc_scopes.specs.declared.found.Judged.{Judged}
+use Rattle.mc_scopes.specs.declared.kind.Kind.{Kind}
+use Rattle.mc_scopes.specs.declared.kind.Kind.TheVariants as kind
+use Rattle.mc_scopes.specs.declared.value.Value.{Value}
+use Rattle.mc_scopes.specs.declared.value.Value.TheVariants as value
+use Rattle.mc_scopes.specs.steps.Squeezed.{listed}
+
+abbrev pub value_of : Value → v.Value
+value_of (value.Number e) = v.Number (expression_of e)
+value_of (value.Stored place u) = v.Stored (place_of place) (type_of u)
+value_of (value.Borrowed array element span) = v.Borrowed array (type_of element) span
+value_of (value.Returned c k) = v.Returned (call_of c) k
+value_of (value.Done effect) = v.Done (effect_of effect)
+value_of (value.Assigned effect) = v.Assigned (effect_of effect)
+value_of value.Designator = v.Designator
+
+abbrev pub kind_of : Kind → v.Kind
+kind_of kind.Void = v.IsVoid
+kind_of kind.Assignment = v.IsAssignment
+kind_of kind.Integer = v.IsInteger
+kind_of (kind.Structure k) = v.IsStructure k
+kind_of (kind.Array base is_const lengths) =
+    v.IsArray (record { base = base_of base; is_const = is_const; lengths = lengths.now })
+kind_of kind.Function = v.IsFunction
+
+-- with the scope after it
+abbrev pub found_of : Found → Scope → v.Found
+found_of x s = record {
+  faults = listed x.fault;
+  value = option_map value_of x.value;
+  place = x.place;
+  constant = x.constant;
+  scope = s;
+}
+
+abbrev pub judged_of : {A B : Type 0} → (A → B) → Judged A → Scope → v.Judged B
+judged_of f x s = record { faults = listed x.fault; value = option_map f x.value; scope = s }

@@ -1,0 +1,22 @@
+-- What is found of arguments.
+use Rattle.std.specs.Prelude.{List, map, option_map, Vec}
+use Rattle.std.specs.declared.alloc.Global.{Global}
+use Rattle.mc_typed.specs.declared.expressions.Argument.{Argument}
+use Rattle.mc_typed.specs.Tree as t
+use Rattle.mc_typed.specs.Views.{argument_of, arguments_from}
+use Rattle.mc_typing.specs.Scopes.{Scope}
+use Rattle.mc_typing.specs.Calls as calls
+use Rattle.mc_scopes.specs.declared.found.Given.{Given}
+use Rattle.mc_scopes.specs.steps.Squeezed.{listed}
+
+-- arguments, in their order
+abbrev pub items_of : Vec Argument Global → List t.Argument
+items_of given = map argument_of given.items
+
+abbrev pub arguments_of : Vec Argument Global → t.Arguments
+arguments_of given = arguments_from (map argument_of given.items)
+
+-- with the scope after them
+abbrev pub given_of : {A B : Type 0} → (A → B) → Given A → Scope → calls.Given B
+given_of f x s =
+    record { faults = listed x.fault; value = option_map f x.value; copied = x.copied; scope = s }

@@ -1,0 +1,209 @@
+//! Expressions that have a type.
+ghost use Rattle.std.specs.Prelude.{◌≡◌, option_map};
+ghost use Rattle.mc_typed.specs.Views.{expression_of, effect_of, structure_of, place_of};
+ghost use Rattle.mc_typing.specs.Values as v;
+ghost use Rattle.mc_typing.specs.Expressions as e;
+ghost use Rattle.mc_scopes.specs.Types.{base_of, type_of};
+ghost use Rattle.mc_scopes.specs.Found.{kind_of, value_of};
+
+use crate::kind::Kind;
+use crate::types::{Base, CType};
+use mc_typed::{Effect, Expression, FunctionCall, Place, Span, Structure};
+
+/// An expression with a type.
+#[derive(Drop)]
+pub enum Value {
+    /// An integer that is not stored in an object.
+    Number(Expression),
+    /// An object or a part of one, and its type.
+    Stored(Place, CType),
+    /// The array that an array parameter names: its number, the type of its elements.
+    Borrowed {
+        array: u32,
+        element: CType,
+        span: Span,
+    },
+    /// A structure that a call returns, and the number of its type.
+    Returned(FunctionCall, u32),
+    /// A void expression.
+    Done(Effect),
+    /// An assignment or a step.
+    Assigned(Effect),
+    /// The name of a function.
+    Designator,
+}
+
+impl Value {
+    /// Whether it has an integer type.
+    pub fn is_integer(&self) -> bool
+        ensures { result ≡ v.is_integer (v.kind_of (value_of self.now)) }
+    {
+        match self {
+            Value::Number(_) => true,
+            Value::Stored(_, of) => of.lengths.is_empty() && matches!(of.base, Base::Integer(_)),
+            _ => false,
+        }
+    }
+
+    /// Its number, where it has an integer type (C17 6.3.2.1p2).
+    pub fn into_number(self) -> Option<Expression>
+        ensures { option_map expression_of result ≡ v.number_in (value_of self) }
+    {
+        match self {
+            Value::Number(number) => Some(number),
+            Value::Stored(place, of) => match of.base {
+                Base::Integer(integer) if of.lengths.is_empty() => {
+                    Some(Expression::Read { place, of: integer })
+                }
+                _ => None,
+            },
+            _ => None,
+        }
+    }
+
+    /// Its kind.
+    pub fn kind(&self) -> Kind<'_>
+        ensures { kind_of result ≡ v.kind_of (value_of self.now) }
+    {
+        match self {
+            Value::Number(_) => Kind::Integer,
+            Value::Stored(_, of) => kind_of_object(of),
+            Value::Borrowed { element, .. } => Kind::Array {
+                base: element.base,
+                is_const: element.is_const,
+                lengths: &element.lengths,
+            },
+            Value::Returned(_, number) => Kind::Structure(*number),
+            Value::Done(_) => Kind::Void,
+            Value::Assigned(_) => Kind::Assignment,
+            Value::Designator => Kind::Function,
+        }
+    }
+
+    /// The structure, where it has the structure type with this number.
+    pub fn into_structure(self, number: u32) -> Option<Structure>
+        ensures { option_map structure_of result ≡ v.structure_in number (value_of self) }
+    {
+        match self {
+            Value::Stored(place, of) => match of.base {
+                Base::Tagged(other) if of.lengths.is_empty() && other == number => {
+                    Some(Structure::Stored { place })
+                }
+                _ => None,
+            },
+            Value::Returned(call, other) => {
+                if other == number {
+                    Some(Structure::Returned { call })
+                } else {
+                    None
+                }
+            }
+            _ => None,
+        }
+    }
+
+    /// The effect that it is where its value is dropped, but for an assignment.
+    pub fn into_discarded(self) -> Option<Effect>
+        ensures { option_map effect_of result ≡ v.discarded_in (value_of self) }
+    {
+        match self {
+            Value::Number(value) => Some(Effect::Number {
+                value,
+                whole: false,
+            }),
+            Value::Stored(place, of) => effect_of_object(place, of),
+            Value::Borrowed { .. } => None,
+            Value::Returned(call, _) => Some(Effect::Structure {
+                value: Structure::Returned { call },
+                whole: false,
+            }),
+            Value::Done(effect) => Some(effect),
+            Value::Assigned(_) => None,
+            Value::Designator => None,
+        }
+    }
+
+    /// The effect that it is where its value is dropped (C17 6.8.3).
+    pub fn into_effect(self) -> Option<Effect>
+        ensures { option_map effect_of result ≡ v.effect_in (value_of self) }
+    {
+        match self {
+            Value::Assigned(effect) => Some(effect),
+            value => value.into_discarded(),
+        }
+    }
+}
+
+// The kind of a type without lengths.
+fn kind_of_base(base: Base) -> Kind<'static>
+    ensures { kind_of result ≡ v.kind_of_base (base_of base) }
+{
+    match base {
+        Base::Void => Kind::Void,
+        Base::Integer(_) => Kind::Integer,
+        Base::Tagged(number) => Kind::Structure(number),
+    }
+}
+
+// The kind of an object of a type.
+fn kind_of_object(of: &CType) -> Kind<'_>
+    ensures { kind_of result ≡ v.kind_of_object (type_of of.now) of.now.lengths.items }
+{
+    match of.lengths.as_slice() {
+        [_, lengths @ ..] => Kind::Array {
+            base: of.base,
+            is_const: of.is_const,
+            lengths,
+        },
+        _ => kind_of_base(of.base),
+    }
+}
+
+// The value of an object, dropped.
+fn effect_of_object(place: Place, of: CType) -> Option<Effect>
+    ensures { option_map effect_of result
+        ≡ v.discarded_in (v.Stored (place_of place) (type_of of)) }
+{
+    if !of.lengths.is_empty() {
+        return None;
+    }
+    match of.base {
+        Base::Void => None,
+        Base::Integer(of) => Some(Effect::Number {
+            value: Expression::Read { place, of },
+            whole: false,
+        }),
+        Base::Tagged(_) => Some(Effect::Structure {
+            value: Structure::Stored { place },
+            whole: false,
+        }),
+    }
+}
+
+/// Whether it is an object that is `const`.
+pub fn is_const(value: &Option<Value>) -> bool
+    ensures { result ≡ e.is_const_value (option_map value_of value.now) }
+{
+    match value {
+        Some(value) => match value {
+            Value::Stored(_, of) => of.is_const,
+            Value::Number(_)
+            | Value::Borrowed { .. }
+            | Value::Returned(_, _)
+            | Value::Done(_)
+            | Value::Assigned(_)
+            | Value::Designator => false,
+        },
+        None => false,
+    }
+}
+
+/// An assignment, where it has an effect.
+pub fn assigned(effect: Option<Effect>) -> Option<Value>
+    ensures { option_map value_of result ≡ option_map v.Assigned (option_map effect_of effect) }
+{
+    match effect {
+        Some(effect) => Some(Value::Assigned(effect)),
+        None => None,
+    }
+}
