@@ -1,0 +1,9 @@
+pub mod DeclarationFaults
+pub mod DeclarationNodes
+pub mod Begun
+pub mod Halves
+pub mod BodyHalves
+pub mod Growth
+pub mod Numbered
+pub mod Lists
+pub mod Alone

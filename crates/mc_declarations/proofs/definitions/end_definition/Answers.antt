@@ -1,0 +1,10 @@
+use Rattle.std.proofs.Common.{◌∙◌, ap}
+use Rattle.mc_scopes.specs.Blocks.{around_of}
+use Rattle.mc_scopes.specs.steps.Squeezed.{listed}
+use Rattle.mc_declarations.proofs.DeclarationFaults.{judged_same}
+use Rattle.mc_declarations.proofs.definitions.end_definition.Goals as goal
+
+pub returns : goal.returns
+returns c = λ u.
+    judged_same _ _ _ _ _ _ (ap listed (c.after_two-fault.ensures _ c.fault_where-frame.ensures.least))
+    c.in_ok-value.ensures.value (c.leave_function.ensures ∙ c.in_ok-value.ensures.scope (around_of c.args.body.block))

@@ -1,0 +1,12 @@
+use Rattle.mc_typing.specs.Constants.{constant_faults}
+use Rattle.mc_typing.specs.Values.{number_found}
+use Rattle.mc_scopes.specs.Found.{found_of}
+use Rattle.mc_declarations.proofs.DeclarationFaults.{valued_joined}
+use Rattle.mc_declarations.proofs.enumerations.valued_fault.Goals as goal
+
+pub returns : goal.returns
+returns c = λ s fs h.
+    let found = c.args.found.now in
+    valued_joined found.fault c.args.own c.in_ok-constant.constant c.lesser.result c.lesser-2.result fs
+    (constant_faults c.args.at found.constant (number_found (found_of found s)))
+    h (c.in_ok-constant.ensures s) c.lesser.ensures c.lesser-2.ensures

@@ -1,0 +1,16 @@
+use Rattle.std.proofs.Common.{◌∙◌, ap}
+use Rattle.mc_typing.specs.Constants.{constant_faults, constant_found}
+use Rattle.mc_typing.specs.Declarators.{is_no_length}
+use Rattle.mc_typing.specs.Values.{number_found}
+use Rattle.mc_scopes.specs.Found.{found_of}
+use Rattle.mc_declarations.proofs.DeclarationFaults.{length_joined}
+use Rattle.mc_declarations.proofs.lengths.length_fault.Goals as goal
+
+pub returns : goal.returns
+returns c = λ s.
+    let found = c.args.found.now in
+    length_joined c.in_ok-constant.constant c.fault_where-own.result c.lesser.result
+    (constant_faults c.args.at found.constant (number_found (found_of found s))) c.args.at c.in_ok-misfit.misfit
+    (is_no_length (constant_found (found_of found s)))
+    (c.in_ok-constant.ensures s) c.fault_where-own.ensures.least
+    (c.in_ok-misfit.ensures ∙ ap is_no_length (c.in_ok-value.ensures s)) c.lesser.ensures

@@ -1,0 +1,109 @@
+-- What is found of declarations by the program, as in the definitions.
+use Rattle.std.specs.Prelude.{ℕ, ℤ, Bool, true, false, List, [], ◌∷◌, ◌++◌, map, Option, Some, None, option_map, option_and_then, Vec}
+use Rattle.std.specs.declared.alloc.Global.{Global}
+use Rattle.std.specs.declared.sync.Arc.{Arc}
+use Rattle.mc_tree.specs.declared.declarations.array_length.ArrayLength.{ArrayLength}
+use Rattle.mc_tree.specs.Tree.{ArrayLengths, Specifier}
+use Rattle.mc_tree.specs.Tree as tree
+use Rattle.mc_tree.specs.Views.{array_length_of, lengths_from}
+use Rattle.mc_typed.specs.declared.functions.Function.{Function}
+use Rattle.mc_typed.specs.declared.initializers.Initializer.{Initializer}
+use Rattle.mc_typed.specs.Tree as t
+use Rattle.mc_typed.specs.Views.{function_of, initializer_of}
+use Rattle.mc_typing.specs.declared.fault.Fault.{Fault}
+use Rattle.mc_typing.specs.Types as types
+use Rattle.mc_typing.specs.Scopes.{Meaning, Scope}
+use Rattle.mc_typing.specs.Scopes as s
+use Rattle.mc_typing.specs.Values as v
+use Rattle.mc_typing.specs.Constants.{constant_found}
+use Rattle.mc_typing.specs.Declarators.{Listed, Opened, length_of, length_faults}
+use Rattle.mc_typing.specs.Declarations as w
+use Rattle.mc_scopes.specs.Listed.{listed_of}
+use Rattle.mc_scopes.specs.Tables.{Named}
+use Rattle.mc_scopes.specs.declared.member.Member.{Member}
+use Rattle.mc_scopes.specs.declared.types.ParameterKind.{ParameterKind}
+use Rattle.mc_scopes.specs.declared.types.Signature.{Signature}
+use Rattle.mc_scopes.specs.Types.{kind_of, signature_of}
+use Rattle.mc_scopes.specs.declared.found.Judged.{Judged}
+use Rattle.mc_declarations.specs.declared.earlier.Earlier.{Earlier}
+use Rattle.mc_declarations.specs.declared.earlier.Earlier.TheVariants as earlier
+use Rattle.mc_declarations.specs.declared.parameters.Parameters.{Parameters}
+use Rattle.mc_declarations.specs.declared.storage.Storage.{Storage}
+use Rattle.mc_declarations.specs.declared.storage.Storage.TheVariants as storage
+use Rattle.mc_declarations.specs.declared.structures.Opened as opened
+use Rattle.mc_scopes.specs.steps.Squeezed.{listed, least}
+
+-- ---- numbers, lengths and lists
+
+abbrev pub number_judged : Judged ℤ → Scope → v.Judged ℤ
+number_judged x s = record { faults = listed x.fault; value = x.value; scope = s }
+
+abbrev pub lengths_in : Vec ℕ Global → List ℕ
+lengths_in v = v.items
+
+-- the lengths of a declarator, as they are written
+abbrev pub written : List ArrayLength → ArrayLengths
+written lengths = lengths_from (map array_length_of lengths)
+
+-- lengths, and one more after them
+abbrev pub with_length : List ℕ → ℕ → List ℕ
+with_length ns n = ns ++ (n ∷ [])
+
+abbrev pub length_then : v.Judged (List ℕ) → ℕ → v.Found → v.Judged (List ℕ)
+length_then x at y = record {
+  faults = x.faults ++ (y.faults ++ length_faults at y.constant (v.number_found y));
+  value = v.lift2 with_length x.value (option_and_then length_of (constant_found y));
+  scope = y.scope;
+}
+
+-- an initializer that may be absent
+abbrev pub optional_of : Option Initializer → Option t.Initializer
+optional_of i = option_map initializer_of i
+
+abbrev pub functions_of : Vec Function Global → List t.Function
+functions_of v = map function_of v.items
+
+-- ---- structures and members
+
+abbrev pub opened_of : opened.Opened → Scope → Opened
+opened_of o s = record { faults = listed o.fault; number = o.number; scope = s }
+
+abbrev pub listed_members : Option Fault → List (Named Member) → Scope → Listed types.Member
+listed_members f members s =
+    record { faults = listed f; items = map listed_of members; scope = s }
+
+abbrev pub squeezed_listed : {A : Type 0} → Listed A → Listed A
+squeezed_listed x = record x { faults = least x.faults }
+
+-- ---- parameters and functions
+
+abbrev pub kind_found : Option ParameterKind → Option types.ParameterKind
+kind_found k = option_map kind_of k
+
+abbrev pub kinds_of : Vec ParameterKind Global → List types.ParameterKind
+kinds_of v = map kind_of v.items
+
+abbrev pub signature_in : Option (Arc Signature Global) → Option types.Signature
+signature_in f = option_map (λ g. signature_of g.value) f
+
+abbrev pub listed_parameters : Parameters → Scope → Listed (Option types.ParameterKind)
+listed_parameters p s =
+    record { faults = listed p.fault; items = map kind_found p.kinds.items; scope = s }
+
+-- a meaning that counts as much, where a function is declared
+abbrev pub meaning_of_earlier : Earlier → Option Meaning
+meaning_of_earlier earlier.Missing = None
+meaning_of_earlier (earlier.Function signature has_body) =
+    Some (s.Function (signature_in signature) has_body)
+meaning_of_earlier earlier.Other = Some (s.Typedef None)
+
+-- ---- storage
+
+abbrev pub storage_from : Storage → w.Storage
+storage_from storage.Typedef = w.TypedefStorage
+storage_from storage.Static = w.StaticStorage
+storage_from storage.Automatic = w.AutomaticStorage
+
+abbrev pub is_structure_tag : Specifier → Bool
+is_structure_tag (tree.StructureTag tag span) = true
+is_structure_tag _ = false

@@ -1,0 +1,4 @@
+pub mod Declarations
+pub mod Halves
+pub mod Bodies
+pub mod Laws

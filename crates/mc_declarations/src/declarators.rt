@@ -1,0 +1,231 @@
+//! Names that are declared (C17 6.7p3), and the types of declarators (6.7.6).
+ghost use Rattle.std.specs.Prelude.{◌≡◌, ◌||◌, ◌&&◌, map, is_some, IfOk, option_map};
+ghost use Rattle.mc_tree.specs.Tree as tree;
+ghost use Rattle.mc_tree.specs.Views.{array_length_of, name_of};
+ghost use Rattle.mc_typing.specs.Declarators as d;
+ghost use Rattle.mc_typing.specs.Faults.{least_of};
+ghost use Rattle.mc_typing.specs.Limits as limit;
+ghost use Rattle.mc_typing.specs.Scopes as s;
+ghost use Rattle.mc_typing.specs.Types as t;
+ghost use Rattle.mc_typing.specs.Values as v;
+ghost use Rattle.mc_scopes.specs.Types.{base_of, type_of, length_list};
+ghost use Rattle.mc_scopes.specs.Views.{scope_of, structure_of};
+ghost use Rattle.mc_declarations.specs.Declarations.{lengths_in, written};
+ghost use Rattle.mc_scopes.specs.steps.Squeezed.{listed};
+
+use crate::external::is_external;
+use mc_scopes::faults::fault_where;
+use mc_scopes::{CType, Scope, Structure, is_complete, is_too_large};
+use mc_tree::{ArrayLength, Identifier};
+use mc_typing::{Fault, FaultKind};
+use std::alloc::{AllocError, Global};
+
+fn is_declared_here(scope: &Scope<'_>, name: &Identifier<'_>) -> bool
+    ensures { result ≡ is_some (s.meaning_here (name_of name.now) (scope_of scope.now)) }
+{
+    match scope.meaning_here(name) {
+        Some(_) => true,
+        None => false,
+    }
+}
+
+/// The fault of a name that the innermost block declares already.
+pub(crate) fn redeclared_fault(scope: &Scope<'_>, name: &Identifier<'_>) -> Option<Fault>
+    ensures least { result ≡ least_of (d.redeclared_faults (name_of name.now) (scope_of scope.now)) }
+    ensures list { listed result ≡ d.redeclared_faults (name_of name.now) (scope_of scope.now) }
+{
+    let redeclared = is_declared_here(scope, name);
+    fault_where(redeclared, FaultKind::Redeclared, name.span.start)
+}
+
+/// The fault of an external function's name that stands for another thing.
+pub(crate) fn misnamed_fault(scope: &Scope<'_>, name: &Identifier<'_>) -> Option<Fault>
+    ensures least { result ≡ least_of (d.misnamed_faults (name_of name.now) (scope_of scope.now)) }
+    ensures list { listed result ≡ d.misnamed_faults (name_of name.now) (scope_of scope.now) }
+{
+    let external = is_external(name);
+    fault_where(
+        scope.is_file && external,
+        FaultKind::Mismatch,
+        name.span.start,
+    )
+}
+
+// ---- lengths
+
+fn is_first_absent(lengths: &[ArrayLength<'_>]) -> bool
+    ensures { result ≡ d.is_first_absent (written lengths.now) }
+{
+    match lengths {
+        [first, ..] => match first {
+            ArrayLength::Absent => true,
+            ArrayLength::Given { .. } => false,
+        },
+        [] => false,
+    }
+}
+
+fn is_absent(length: &ArrayLength<'_>) -> bool
+    ensures { (rest : tree.ArrayLengths) → d.has_absent (array_length_of length.now rest)
+        ≡ (result || d.has_absent rest) }
+{
+    match length {
+        ArrayLength::Absent => true,
+        ArrayLength::Given { .. } => false,
+    }
+}
+
+fn has_absent(lengths: &[ArrayLength<'_>]) -> bool
+    ensures { result ≡ d.has_absent (written lengths.now) }
+{
+    let mut found = false;
+    let mut left = lengths;
+    while let [first, later @ ..] = left {
+        if is_absent(first) {
+            found = true;
+        }
+        left = later;
+    }
+    found
+}
+
+/// Whether a length after the first one is absent. Takes no memory.
+pub(crate) fn is_later_absent(lengths: &[ArrayLength<'_>]) -> bool
+    ensures { result ≡ d.is_later_absent (written lengths.now) }
+{
+    match lengths {
+        [first, later @ ..] => match first {
+            ArrayLength::Absent => has_absent(later),
+            ArrayLength::Given { .. } => has_absent(later),
+        },
+        [] => false,
+    }
+}
+
+/// The fault of an absent length, where no list tells it.
+pub(crate) fn absent_fault(
+    lengths: &[ArrayLength<'_>],
+    count: Option<u64>,
+    at: u32,
+) -> Option<Fault>
+    ensures least { result ≡ least_of (d.absent_faults (written lengths.now) count at) }
+    ensures list { listed result ≡ d.absent_faults (written lengths.now) count at }
+{
+    let later = is_later_absent(lengths);
+    let first = is_first_absent(lengths);
+    let untold = count.is_none();
+    fault_where(later || (first && untold), FaultKind::Mismatch, at)
+}
+
+// The first length, where it is absent: it stands apart.
+fn leading(lengths: &[ArrayLength<'_>], count: Option<u64>) -> Option<Option<u64>>
+    ensures { option_map length_list result ≡ d.leading (written lengths.now) count }
+{
+    if is_first_absent(lengths) {
+        match count {
+            Some(count) => Some(Some(count)),
+            None => None,
+        }
+    } else {
+        Some(None)
+    }
+}
+
+fn array_of(
+    alloc: Global,
+    front: Option<Option<u64>>,
+    given: &Option<Vec<u64>>,
+    base: &Option<CType>,
+) -> Result<Option<CType>, AllocError>
+    ensures { IfOk result (λ r. option_map type_of r ≡ v.lift3 d.array_of
+        (option_map length_list front) (option_map lengths_in given.now)
+        (option_map type_of base.now)) }
+{
+    match front {
+        Some(front) => match given {
+            Some(given) => match base {
+                Some(base) => {
+                    let of = CType::array_of(alloc, front, given, base)?;
+                    Ok(Some(of))
+                }
+                None => Ok(None),
+            },
+            None => Ok(None),
+        },
+        None => Ok(None),
+    }
+}
+
+/// The type of a declarator, from its lengths, those that are given, the length in place of one
+/// that is absent, and the type of its specifiers.
+pub fn declared_type(
+    alloc: Global,
+    lengths: &[ArrayLength<'_>],
+    given: &Option<Vec<u64>>,
+    count: Option<u64>,
+    base: &Option<CType>,
+) -> Result<Option<CType>, AllocError>
+    ensures { IfOk result (λ r. option_map type_of r ≡ d.declared_type (written lengths.now)
+        (option_map lengths_in given.now) count (option_map type_of base.now)) }
+{
+    if is_later_absent(lengths) {
+        return Ok(None);
+    }
+    array_of(alloc, leading(lengths, count), given, base)
+}
+
+// ---- types
+
+/// The fault of an incomplete type where a complete one is asked for.
+pub(crate) fn incomplete_fault(
+    structures: &[Structure<'_>],
+    base: &Option<CType>,
+    at: u32,
+) -> Option<Fault>
+    ensures least { result ≡ least_of (d.incomplete_faults (map structure_of structures.now)
+        (option_map type_of base.now) at) }
+    ensures list { listed result ≡ d.incomplete_faults (map structure_of structures.now)
+        (option_map type_of base.now) at }
+{
+    match base {
+        Some(base) => fault_where(!is_complete(structures, base.base), FaultKind::Mismatch, at),
+        None => None,
+    }
+}
+
+/// Whether an object of the type would pass a limit.
+pub(crate) fn is_over_limit(structures: &[Structure<'_>], of: &CType) -> bool
+    ensures { result ≡ (t.is_complete (map structure_of structures.now) (base_of of.now.base)
+        && limit.is_too_large (map structure_of structures.now) (type_of of.now)) }
+{
+    let complete = is_complete(structures, of.base);
+    let large = is_too_large(structures, of);
+    complete && large
+}
+
+/// The fault of an object's type that passes a limit.
+pub(crate) fn object_limit_fault(
+    structures: &[Structure<'_>],
+    of: &Option<CType>,
+    at: u32,
+) -> Option<Fault>
+    ensures least { result ≡ least_of (limit.object_limit_faults (map structure_of structures.now)
+        (option_map type_of of.now) at) }
+    ensures list { listed result ≡ limit.object_limit_faults (map structure_of structures.now)
+        (option_map type_of of.now) at }
+{
+    match of {
+        Some(of) => fault_where(is_over_limit(structures, of), FaultKind::Limit, at),
+        None => None,
+    }
+}
+
+/// The same type, where there is one.
+pub(crate) fn copy_of(of: &Option<CType>) -> Result<Option<CType>, AllocError>
+    ensures { IfOk result (λ r. option_map type_of r ≡ option_map type_of of.now) }
+{
+    match of {
+        Some(of) => Ok(Some(of.try_clone()?)),
+        None => Ok(None),
+    }
+}

@@ -1,0 +1,38 @@
+//! Faults of declarations, in their order.
+ghost use Rattle.std.specs.Prelude.{◌≡◌, ◌++◌, [], List, option_map};
+ghost use Rattle.mc_typing.specs.declared.fault.Fault.{Fault};
+ghost use Rattle.mc_typing.specs.Faults.{least_of, unless_faulty};
+ghost use Rattle.mc_scopes.specs.Types.{type_of};
+ghost use Rattle.mc_scopes.specs.steps.Squeezed.{listed};
+
+use mc_scopes::CType;
+use mc_scopes::faults::lesser;
+use mc_typing::Fault;
+
+/// The first of two faults that may be there.
+#[tactic(auto, using(mc_scopes::proofs::Squeezed::joined_listed, mc_scopes::proofs::Squeezed::least_listed))]
+pub fn first_fault(one: Option<Fault>, more: Option<Fault>) -> Option<Fault>
+    ensures { result ≡ least_of (listed one ++ listed more) }
+{
+    lesser(one, more)
+}
+
+/// The first fault of two parts whose node has none of its own.
+#[tactic(auto, using(crate::proofs::DeclarationFaults::two_listed))]
+pub(crate) fn two_parts(one: Option<Fault>, other: Option<Fault>) -> Option<Fault>
+    ensures { result ≡ least_of (listed one ++ (listed other ++ [])) }
+{
+    lesser(one, other)
+}
+
+/// The type, unless there is a fault.
+#[tactic(auto, using(crate::proofs::DeclarationFaults::unless_by_least))]
+pub(crate) fn unless(fault: Option<Fault>, of: Option<CType>) -> Option<CType>
+    ensures { (fs : List Fault) → fault ≡ least_of fs
+        → option_map type_of result ≡ unless_faulty fs (option_map type_of of) }
+{
+    match fault {
+        Some(_) => None,
+        None => of,
+    }
+}

@@ -1,0 +1,116 @@
+//! Lengths of arrays (C17 6.7.6.2).
+ghost use Rattle.std.specs.Prelude.{◌≡◌, [], Some, IfOk, List, option_map, option_and_then};
+ghost use Rattle.mc_typing.specs.Constants as c;
+ghost use Rattle.mc_typing.specs.Declarators as d;
+ghost use Rattle.mc_typing.specs.Faults.{least_of};
+ghost use Rattle.mc_typing.specs.Scopes as s;
+ghost use Rattle.mc_typing.specs.Values as v;
+ghost use Rattle.mc_typing.specs.Values.{judged};
+ghost use Rattle.mc_declarations.specs.Declarations.{lengths_in, length_then, with_length};
+ghost use Rattle.mc_scopes.specs.Found.{found_of, judged_of};
+ghost use Rattle.mc_scopes.specs.steps.Squeezed.{squeezed_part};
+
+use mc_scopes::faults::{after_two, fault_where, lesser};
+use mc_scopes::found::{Found, Judged};
+use mc_scopes::values::{constant_found, fault_of_constant};
+use mc_typing::{Fault, FaultKind};
+use std::alloc::{AllocError, Global};
+
+/// No lengths. Takes no memory.
+pub fn no_lengths(alloc: Global) -> Judged<Vec<u64>>
+    ensures { (s : s.Scope) → judged_of lengths_in result s ≡ judged [] (Some []) s }
+{
+    Judged {
+        fault: None,
+        value: Some(Vec::new(alloc)),
+    }
+}
+
+/// The length of this value, where it is one.
+///
+/// # Errors
+///
+/// `AllocError` where 64 bits do not hold it, which hold each value of an integer type.
+fn length_of(value: i128) -> Result<Option<u64>, AllocError>
+    ensures { IfOk result (λ r. r ≡ d.length_of value) }
+{
+    if value < 1 {
+        return Ok(None);
+    }
+    match u64::try_from(value) {
+        Ok(length) => Ok(Some(length)),
+        Err(_) => Err(AllocError),
+    }
+}
+
+fn length_in(value: Option<i128>) -> Result<Option<u64>, AllocError>
+    ensures { IfOk result (λ r. r ≡ option_and_then d.length_of value) }
+{
+    match value {
+        Some(value) => length_of(value),
+        None => Ok(None),
+    }
+}
+
+// Whether the value is known, and is no length.
+fn is_no_length(value: Option<i128>) -> Result<bool, AllocError>
+    ensures { IfOk result (λ r. r ≡ d.is_no_length value) }
+{
+    match value {
+        Some(value) => {
+            let length = length_of(value)?;
+            Ok(length.is_none())
+        }
+        None => Ok(false),
+    }
+}
+
+// The fault of an expression that has to be a length.
+#[tactic(auto, using(mc_scopes::proofs::Squeezed::joined_leasts))]
+fn length_fault(at: u32, found: &Found) -> Result<Option<Fault>, AllocError>
+    ensures { IfOk result (λ r. (s : s.Scope) → r ≡ least_of
+        (d.length_faults at found.now.constant (v.number_found (found_of found.now s)))) }
+{
+    let constant = fault_of_constant(at, found)?;
+    let value = constant_found(found)?;
+    let misfit = is_no_length(value)?;
+    let own = fault_where(misfit, FaultKind::Mismatch, at);
+    Ok(lesser(constant, own))
+}
+
+fn push_length(list: Vec<u64>, one: u64) -> Result<Vec<u64>, AllocError>
+    ensures { IfOk result (λ r. lengths_in r ≡ with_length (lengths_in list) one) }
+{
+    let mut list = list;
+    list.push(one)?;
+    Ok(list)
+}
+
+fn lengths_with(list: Option<Vec<u64>>, one: Option<u64>) -> Result<Option<Vec<u64>>, AllocError>
+    ensures { IfOk result (λ r. option_map lengths_in r
+        ≡ v.lift2 with_length (option_map lengths_in list) one) }
+{
+    match list {
+        Some(list) => match one {
+            Some(one) => Ok(Some(push_length(list, one)?)),
+            None => Ok(None),
+        },
+        None => Ok(None),
+    }
+}
+
+/// Lengths, and one more after them, whose expression starts here.
+pub fn more_lengths(
+    list: Judged<Vec<u64>>,
+    at: u32,
+    found: &Found,
+) -> Result<Judged<Vec<u64>>, AllocError>
+    ensures { IfOk result (λ r. (s u : s.Scope) → judged_of lengths_in r u ≡ squeezed_part
+        (length_then (judged_of lengths_in list s) at (found_of found.now u))) }
+{
+    let own = length_fault(at, found)?;
+    let fault = after_two(list.fault, found.fault, own);
+    let one = length_in(constant_found(found)?)?;
+    let value = lengths_with(list.value, one)?;
+    Ok(Judged { fault, value })
+}

@@ -1,0 +1,185 @@
+//! Objects with automatic storage duration (C17 6.2.4p5).
+ghost use Rattle.std.specs.Prelude.{◌≡◌, [], IfOk, Some, option_map};
+ghost use Rattle.mc_tree.specs.Views.{name_of};
+ghost use Rattle.mc_typed.specs.Layout as sizes;
+ghost use Rattle.mc_typing.specs.Declarations as w;
+ghost use Rattle.mc_typing.specs.Scopes as s;
+ghost use Rattle.mc_scopes.specs.Types.{type_of};
+ghost use Rattle.mc_scopes.specs.Views.{scope_of};
+ghost use Rattle.mc_declarations.specs.Declarations.{optional_of, written};
+ghost use Rattle.mc_declarations.specs.Halves.{automatic_begun, automatic_ended, counted_value, local_of, squeezed_local, zero_or};
+ghost use Rattle.mc_scopes.specs.Statements.{declarators_of};
+ghost use Rattle.mc_scopes.specs.Found.{judged_of};
+ghost use Rattle.mc_scopes.specs.steps.Squeezed.{listed, squeezed_part};
+
+use crate::declarators::copy_of;
+use crate::faults::{first_fault, unless};
+use crate::objects::{declare_untyped, object_fault};
+use crate::parameters::add_object_of;
+use mc_scopes::faults::after;
+use mc_scopes::found::Judged;
+use mc_scopes::{CType, Meaning, Scope};
+use mc_tree::{ArrayLength, Identifier};
+use mc_typed::{Declarator, Initializer, Slot};
+use mc_typing::Fault;
+use std::alloc::{AllocError, Global};
+
+/// An object that is declared: its fault so far, that of its declarator itself, where it stands,
+/// and its cells where they count.
+#[derive(Drop)]
+pub struct Local {
+    pub fault: Option<Fault>,
+    pub own: Option<Fault>,
+    pub slot: Slot,
+    pub cells: Option<u32>,
+}
+
+// One more object of the function, where it has a type.
+fn add_typed(
+    alloc: Global,
+    scope: &mut Scope<'_>,
+    of: &Option<CType>,
+) -> Result<Option<u32>, AllocError>
+    ensures cells { IfOk result (λ n. n ≡ option_map sizes.cells
+        (w.layout_counted [] (option_map type_of of.now) (scope_of scope.old))) }
+    ensures scope { IfOk result (λ _. scope_of scope.new ≡ s.with_counted
+        (w.layout_counted [] (option_map type_of of.now) (scope_of scope.old))
+        (scope_of scope.old)) }
+{
+    match of {
+        Some(of) => {
+            let count = add_object_of(alloc, scope, of)?;
+            Ok(Some(count))
+        }
+        None => Ok(None),
+    }
+}
+
+// One more object of the function, where it has a type and no fault.
+fn add_counted(
+    alloc: Global,
+    scope: &mut Scope<'_>,
+    own: Option<Fault>,
+    of: &Option<CType>,
+) -> Result<Option<u32>, AllocError>
+    ensures cells { IfOk result (λ n. n ≡ option_map sizes.cells
+        (w.layout_counted (listed own) (option_map type_of of.now) (scope_of scope.old))) }
+    ensures scope { IfOk result (λ _. scope_of scope.new ≡ s.with_counted
+        (w.layout_counted (listed own) (option_map type_of of.now) (scope_of scope.old))
+        (scope_of scope.old)) }
+{
+    match own {
+        Some(_) => Ok(None),
+        None => add_typed(alloc, scope, of),
+    }
+}
+
+/// Declares an object with automatic storage duration, before its initializer; `faults` is the
+/// first fault of its lengths, and `base` the type of its specifiers.
+pub fn begin_local<'a>(
+    alloc: Global,
+    scope: &mut Scope<'a>,
+    faults: Option<Fault>,
+    name: &Identifier<'a>,
+    lengths: &[ArrayLength<'_>],
+    count: Option<u64>,
+    base: &Option<CType>,
+    of: &Option<CType>,
+) -> Result<Local, AllocError>
+    ensures { IfOk result (λ r. local_of r (scope_of scope.new) ≡ squeezed_local
+        (automatic_begun (listed faults) (name_of name.now) (written lengths.now) count
+        (option_map type_of base.now) (option_map type_of of.now) (scope_of scope.old))) }
+{
+    let own = object_fault(scope, name, lengths, count, base, of);
+    let fault = after(faults, own);
+    let slot = scope.next_slot()?;
+    let typed = unless(fault, copy_of(of)?);
+    scope.declare(name, Meaning::Automatic { slot, of: typed })?;
+    let cells = add_counted(alloc, scope, own, of)?;
+    Ok(Local {
+        fault,
+        own,
+        slot,
+        cells,
+    })
+}
+
+// ---- after the initializer
+
+fn zero_or(cells: Option<u32>) -> u64
+    ensures { result ≡ zero_or cells }
+{
+    match cells {
+        Some(cells) => cells as u64,
+        None => 0,
+    }
+}
+
+// The object does not count where its initializer has a fault.
+fn uncount_after(scope: &mut Scope<'_>, fault: Option<Fault>, cells: Option<u32>)
+    ensures { scope_of scope.new
+        ≡ w.counted_after (listed fault) (zero_or cells) (scope_of scope.old) }
+{
+    match fault {
+        Some(_) => scope.uncount(zero_or(cells)),
+        None => {}
+    }
+}
+
+fn one_declarator(
+    alloc: Global,
+    slot: Slot,
+    cells: u32,
+    value: Option<Initializer>,
+) -> Result<Vec<Declarator>, AllocError>
+    ensures { IfOk result (λ r. Some (declarators_of r)
+        ≡ counted_value slot (Some cells) (Some (optional_of value))) }
+{
+    let mut list = Vec::new(alloc);
+    list.push(Declarator { slot, cells, value })?;
+    Ok(list)
+}
+
+fn local_value(
+    alloc: Global,
+    slot: Slot,
+    cells: Option<u32>,
+    value: Option<Option<Initializer>>,
+) -> Result<Option<Vec<Declarator>>, AllocError>
+    ensures { IfOk result (λ r. option_map declarators_of r
+        ≡ counted_value slot cells (option_map optional_of value)) }
+{
+    match cells {
+        Some(cells) => match value {
+            Some(value) => Ok(Some(one_declarator(alloc, slot, cells, value)?)),
+            None => Ok(None),
+        },
+        None => Ok(None),
+    }
+}
+
+/// The object after its initializer.
+pub fn end_local<'a>(
+    alloc: Global,
+    scope: &mut Scope<'a>,
+    name: &Identifier<'a>,
+    local: Local,
+    value: Judged<Option<Initializer>>,
+) -> Result<Judged<Vec<Declarator>>, AllocError>
+    ensures { IfOk result (λ r. (u : s.Scope) → judged_of declarators_of r (scope_of scope.new)
+        ≡ squeezed_part (automatic_ended (local_of local u) (name_of name.now)
+        (judged_of optional_of value (scope_of scope.old)))) }
+{
+    let slot = local.slot;
+    declare_untyped(
+        scope,
+        value.fault,
+        name,
+        Meaning::Automatic { slot, of: None },
+    )?;
+    uncount_after(scope, value.fault, local.cells);
+    Ok(Judged {
+        fault: first_fault(local.fault, value.fault),
+        value: local_value(alloc, slot, local.cells, value.value)?,
+    })
+}

@@ -1,0 +1,153 @@
+//! Members of structures (C17 6.7.2.1).
+ghost use Rattle.std.specs.Prelude.{◌≡◌, ◌++◌, IfOk, OnOk, Some, map, option_map};
+ghost use Rattle.mc_tree.specs.Views.{name_of};
+ghost use Rattle.mc_typing.specs.Declarators as d;
+ghost use Rattle.mc_typing.specs.Faults.{least_of};
+ghost use Rattle.mc_typing.specs.Limits as limit;
+ghost use Rattle.mc_typing.specs.Scopes as s;
+ghost use Rattle.mc_scopes.specs.Listed.{listed_of};
+ghost use Rattle.mc_scopes.specs.Types.{type_of};
+ghost use Rattle.mc_scopes.specs.Views.{scope_of, structure_of};
+ghost use Rattle.mc_declarations.specs.Declarations.{lengths_in, listed_members, listed_parameters, squeezed_listed, written};
+ghost use Rattle.mc_scopes.specs.Found.{judged_of};
+ghost use Rattle.mc_scopes.specs.steps.Squeezed.{listed};
+
+use crate::declarators::{absent_fault, declared_type, incomplete_fault};
+use crate::faults::{first_fault, unless};
+use crate::parameters::Parameters;
+use mc_scopes::faults::{fault_where, lesser};
+use mc_scopes::found::Judged;
+use mc_scopes::{
+    CType, Members, Scope, Structure, cells, counted_nesting, is_large_member, layout,
+};
+use mc_tree::{ArrayLength, Identifier};
+use mc_typing::{Fault, FaultKind};
+use std::alloc::{AllocError, Global};
+
+fn member_limit_fault(
+    before: u32,
+    structures: &[Structure<'_>],
+    of: &Option<CType>,
+    at: u32,
+) -> Option<Fault>
+    ensures { result ≡ least_of (limit.member_limit_faults before
+        (map structure_of structures.now) (option_map type_of of.now) at) }
+{
+    match of {
+        Some(of) => fault_where(
+            is_large_member(before, structures, of),
+            FaultKind::Limit,
+            at,
+        ),
+        None => None,
+    }
+}
+
+// The fault of a member, after the members before it; `before` is that of its lengths.
+#[tactic(auto, using(mc_scopes::proofs::Squeezed::joined_listed, mc_scopes::proofs::Squeezed::joined_leasts))]
+fn member_fault(
+    structures: &[Structure<'_>],
+    before: Option<Fault>,
+    name: &Identifier<'_>,
+    lengths: &[ArrayLength<'_>],
+    base: &Option<CType>,
+    of: &Option<CType>,
+    members: &Members<'_>,
+) -> Option<Fault>
+    ensures { result ≡ least_of (listed before ++ d.declared_member_faults (name_of name.now)
+        (written lengths.now) (option_map type_of base.now) (option_map type_of of.now)
+        (map listed_of members.now) (map structure_of structures.now)) }
+{
+    let at = name.span.start;
+    let limit = member_limit_fault(members.cells(), structures, of, at);
+    let incomplete = incomplete_fault(structures, base, at);
+    let absent = absent_fault(lengths, None, at);
+    let again = fault_where(members.has(name.text), FaultKind::Redeclared, at);
+    lesser(
+        before,
+        lesser(again, lesser(absent, lesser(incomplete, limit))),
+    )
+}
+
+// A member of this type, after the others.
+fn push_typed<'a>(
+    alloc: Global,
+    structures: &[Structure<'a>],
+    name: &Identifier<'a>,
+    of: CType,
+    members: &mut Members<'a>,
+) -> Result<(), AllocError>
+    ensures { OnOk result (map listed_of members.new ≡ d.with_member (name_of name.now)
+        (Some (type_of of)) (map listed_of members.old) (map structure_of structures.now)) }
+{
+    let count = cells(structures, &of)?;
+    let nesting = counted_nesting(structures, &of)?;
+    let layout = layout(alloc, structures, &of)?;
+    members.push(name.text, Some(of), Some(layout), count, nesting)
+}
+
+// A member, after the others.
+fn push_member<'a>(
+    alloc: Global,
+    structures: &[Structure<'a>],
+    name: &Identifier<'a>,
+    of: Option<CType>,
+    members: &mut Members<'a>,
+) -> Result<(), AllocError>
+    ensures { OnOk result (map listed_of members.new ≡ d.with_member (name_of name.now)
+        (option_map type_of of) (map listed_of members.old) (map structure_of structures.now)) }
+{
+    match of {
+        Some(of) => push_typed(alloc, structures, name, of, members),
+        None => members.push(name.text, None, None, 0, 1),
+    }
+}
+
+/// A member of a type by its specifiers, after the members so far; `given` are its lengths.
+pub fn member<'a>(
+    alloc: Global,
+    scope: &Scope<'a>,
+    base: &Option<CType>,
+    name: &Identifier<'a>,
+    lengths: &[ArrayLength<'_>],
+    given: Judged<Vec<u64>>,
+    members: &mut Members<'a>,
+) -> Result<Option<Fault>, AllocError>
+    ensures { IfOk result (λ r. listed_members r members.new (scope_of scope.now)
+        ≡ squeezed_listed (d.member_listed (option_map type_of base.now) (name_of name.now)
+        (written lengths.now) (map listed_of members.old)
+        (judged_of lengths_in given (scope_of scope.now)))) }
+{
+    let of = declared_type(alloc, lengths, &given.value, None, base)?;
+    let fault = member_fault(
+        &scope.structures,
+        given.fault,
+        name,
+        lengths,
+        base,
+        &of,
+        members,
+    );
+    push_member(alloc, &scope.structures, name, unless(fault, of), members)?;
+    Ok(fault)
+}
+
+/// A function among the members, where none may be.
+pub fn function_member<'a>(
+    alloc: Global,
+    scope: &Scope<'a>,
+    name: &Identifier<'a>,
+    parameters: &Parameters,
+    members: &mut Members<'a>,
+) -> Result<Option<Fault>, AllocError>
+    ensures { IfOk result (λ r. (u : s.Scope) → listed_members r members.new (scope_of scope.now)
+        ≡ squeezed_listed (d.function_member_listed (name_of name.now) (map listed_of members.old)
+        (listed_parameters parameters.now u) (scope_of scope.now))) }
+{
+    let own = Fault {
+        kind: FaultKind::Mismatch,
+        at: name.span.start,
+    };
+    push_member(alloc, &scope.structures, name, None, members)?;
+    Ok(first_fault(parameters.fault, Some(own)))
+}

@@ -1,0 +1,242 @@
+//! Objects with static storage duration (C17 6.2.4p3).
+ghost use Rattle.std.specs.Prelude.{◌≡◌, ◌++◌, [], IfOk, OnOk, Some, None, option_map};
+ghost use Rattle.mc_tree.specs.Views.{name_of};
+ghost use Rattle.mc_typed.specs.Layout as sizes;
+ghost use Rattle.mc_typing.specs.declared.fault.FaultKind.TheVariants.{Limit};
+ghost use Rattle.mc_typing.specs.Declarations as w;
+ghost use Rattle.mc_typing.specs.Faults.{fault_if};
+ghost use Rattle.mc_typing.specs.Limits as limit;
+ghost use Rattle.mc_typing.specs.Scopes as s;
+ghost use Rattle.mc_typing.specs.Types as t;
+ghost use Rattle.mc_typing.specs.Values as v;
+ghost use Rattle.mc_scopes.specs.Types.{type_of};
+ghost use Rattle.mc_scopes.specs.Views.{scope_of};
+ghost use Rattle.mc_declarations.specs.Declarations.{optional_of, written};
+ghost use Rattle.mc_declarations.specs.Halves.{static_begun, static_ended, squeezed_static, stored_of};
+ghost use Rattle.mc_scopes.specs.Statements.{declarators_of};
+ghost use Rattle.mc_scopes.specs.Found.{judged_of};
+ghost use Rattle.mc_scopes.specs.steps.Squeezed.{listed, squeezed_part};
+
+use crate::declarators::copy_of;
+use crate::faults::{first_fault, unless};
+use crate::objects::{declare_untyped, object_fault};
+use mc_scopes::faults::{after, fault_where};
+use mc_scopes::found::Judged;
+use mc_scopes::initial::{values_of, zeros};
+use mc_scopes::{CType, Meaning, Scope, cells, is_passed_with, layout};
+use mc_tree::{ArrayLength, Identifier};
+use mc_typed::{Declarator, Initializer, Slot};
+use mc_typing::{Fault, FaultKind};
+use std::alloc::{AllocError, Global};
+
+/// An object that is declared: its fault so far, that of its declarator itself, and where it
+/// stands.
+#[derive(Drop)]
+pub struct Stored {
+    pub fault: Option<Fault>,
+    pub own: Option<Fault>,
+    pub slot: Slot,
+}
+
+/// Declares an object with static storage duration, before its initializer; `faults` is the first
+/// fault of its lengths, and `base` the type of its specifiers.
+pub fn begin_static<'a>(
+    scope: &mut Scope<'a>,
+    faults: Option<Fault>,
+    name: &Identifier<'a>,
+    lengths: &[ArrayLength<'_>],
+    count: Option<u64>,
+    base: &Option<CType>,
+    of: &Option<CType>,
+) -> Result<Stored, AllocError>
+    ensures { IfOk result (λ r. stored_of r (scope_of scope.new) ≡ squeezed_static
+        (static_begun (listed faults) (name_of name.now) (written lengths.now) count
+        (option_map type_of base.now) (option_map type_of of.now) (scope_of scope.old))) }
+{
+    let own = object_fault(scope, name, lengths, count, base, of);
+    let fault = after(faults, own);
+    let slot = scope.next_static()?;
+    let typed = unless(fault, copy_of(of)?);
+    scope.declare(name, Meaning::Static { slot, of: typed })?;
+    Ok(Stored { fault, own, slot })
+}
+
+// ---- after the initializer
+
+// The values of an object with so many cells.
+fn initial_values(
+    alloc: Global,
+    count: u32,
+    value: &Option<Initializer>,
+) -> Result<Vec<i128>, AllocError>
+    ensures { IfOk result (λ r. (u : sizes.ObjectType) → count ≡ sizes.cells u
+        → r.items ≡ w.initial_values u (optional_of value.now)) }
+{
+    match value {
+        Some(value) => values_of(alloc, value),
+        None => zeros(alloc, count),
+    }
+}
+
+// Adds an object of the type with these values.
+fn add_static(
+    alloc: Global,
+    scope: &mut Scope<'_>,
+    of: &CType,
+    count: u32,
+    value: &Option<Initializer>,
+) -> Result<(), AllocError>
+    requires { count ≡ sizes.cells (t.layout_of (scope_of scope.old).structures (type_of of.now)) }
+    ensures { OnOk result (scope_of scope.new ≡ s.with_static
+        (t.layout_of (scope_of scope.old).structures (type_of of.now))
+        (w.initial_values (t.layout_of (scope_of scope.old).structures (type_of of.now))
+        (optional_of value.now)) (scope_of scope.old)) }
+{
+    let object = layout(alloc, &scope.structures, of)?;
+    let initial = initial_values(alloc, count, value)?;
+    scope.add_static(object, count, initial)
+}
+
+// The fault of an object with so many cells that passes the limit of all of them.
+fn sum_fault(scope: &Scope<'_>, at: u32, count: u32) -> Option<Fault>
+    ensures { listed result ≡ fault_if
+        (limit.is_passed_with (scope_of scope.now).static_cells count) Limit at }
+{
+    let passed = is_passed_with(scope.static_cells, count);
+    fault_where(passed, FaultKind::Limit, at)
+}
+
+/// The first fault of an object whose type and initializer have none, but perhaps its cells; the
+/// object is added.
+fn add_faultless<'a>(
+    alloc: Global,
+    scope: &mut Scope<'a>,
+    name: &Identifier<'a>,
+    slot: Slot,
+    of: &CType,
+    value: &Option<Initializer>,
+) -> Result<Option<Fault>, AllocError>
+    ensures fault { IfOk result (λ r. listed r ≡ w.static_faults_with name.now.span.start
+        (Some (t.layout_of (scope_of scope.old).structures (type_of of.now)))
+        (Some (optional_of value.now)) (scope_of scope.old)) }
+    ensures scope { IfOk result (λ r. scope_of scope.new ≡ w.static_scope
+        (Some (t.layout_of (scope_of scope.old).structures (type_of of.now)))
+        (Some (optional_of value.now))
+        (w.after_initializer (listed r) (name_of name.now) (s.Stored slot None)
+        (scope_of scope.old))) }
+{
+    let count = cells(&scope.structures, of)?;
+    let sum = sum_fault(scope, name.span.start, count);
+    declare_untyped(scope, sum, name, Meaning::Static { slot, of: None })?;
+    add_static(alloc, scope, of, count, value)?;
+    Ok(sum)
+}
+
+// After an initializer with this fault an object is not added.
+fn end_uncounted<'a>(
+    scope: &mut Scope<'a>,
+    name: &Identifier<'a>,
+    stored: Stored,
+    inner: Option<Fault>,
+) -> Result<Judged<Vec<Declarator>>, AllocError>
+    ensures judged { IfOk result (λ r. judged_of declarators_of r (scope_of scope.new)
+        ≡ squeezed_part (v.judged (listed stored.fault ++ (listed inner ++ [])) None
+        (w.after_initializer (listed inner ++ []) (name_of name.now) (s.Stored stored.slot None)
+        (scope_of scope.old)))) }
+{
+    let slot = stored.slot;
+    declare_untyped(scope, inner, name, Meaning::Static { slot, of: None })?;
+    Ok(Judged {
+        fault: first_fault(stored.fault, inner),
+        value: None,
+    })
+}
+
+// An object whose declarator and initializer have no fault is added.
+fn end_counted<'a>(
+    alloc: Global,
+    scope: &mut Scope<'a>,
+    name: &Identifier<'a>,
+    of: &CType,
+    stored: Stored,
+    value: &Option<Initializer>,
+) -> Result<Judged<Vec<Declarator>>, AllocError>
+    requires { stored.own ≡ None }
+    ensures { IfOk result (λ r. (u : s.Scope) → judged_of declarators_of r (scope_of scope.new)
+        ≡ squeezed_part (static_ended (stored_of stored u) (name_of name.now)
+        (Some (type_of of.now)) (v.judged [] (Some (optional_of value.now)) (scope_of scope.old)))) }
+{
+    let sum = add_faultless(alloc, scope, name, stored.slot, of, value)?;
+    Ok(Judged {
+        fault: first_fault(stored.fault, sum),
+        value: Some(Vec::new(alloc)),
+    })
+}
+
+// The object after an initializer without a fault.
+fn end_faultless<'a>(
+    alloc: Global,
+    scope: &mut Scope<'a>,
+    name: &Identifier<'a>,
+    of: &Option<CType>,
+    stored: Stored,
+    value: &Option<Option<Initializer>>,
+) -> Result<Judged<Vec<Declarator>>, AllocError>
+    ensures { IfOk result (λ r. (u : s.Scope) → judged_of declarators_of r (scope_of scope.new)
+        ≡ squeezed_part (static_ended (stored_of stored u) (name_of name.now)
+        (option_map type_of of.now)
+        (v.judged [] (option_map optional_of value.now) (scope_of scope.old)))) }
+{
+    match stored.own {
+        Some(_) => end_uncounted(scope, name, stored, None),
+        None => match of {
+            Some(of) => match value {
+                Some(value) => end_counted(alloc, scope, name, of, stored, value),
+                None => end_uncounted(scope, name, stored, None),
+            },
+            None => end_uncounted(scope, name, stored, None),
+        },
+    }
+}
+
+// The object after an initializer with or without this fault.
+fn end_stored<'a>(
+    alloc: Global,
+    scope: &mut Scope<'a>,
+    name: &Identifier<'a>,
+    of: &Option<CType>,
+    stored: Stored,
+    inner: Option<Fault>,
+    value: &Option<Option<Initializer>>,
+) -> Result<Judged<Vec<Declarator>>, AllocError>
+    ensures { IfOk result (λ r. (u : s.Scope) → judged_of declarators_of r (scope_of scope.new)
+        ≡ squeezed_part (static_ended (stored_of stored u) (name_of name.now)
+        (option_map type_of of.now)
+        (v.judged (listed inner) (option_map optional_of value.now) (scope_of scope.old)))) }
+{
+    match inner {
+        Some(_) => match stored.own {
+            Some(_) => end_uncounted(scope, name, stored, inner),
+            None => end_uncounted(scope, name, stored, inner),
+        },
+        None => end_faultless(alloc, scope, name, of, stored, value),
+    }
+}
+
+/// The object after its initializer: one without a fault is added.
+pub fn end_static<'a>(
+    alloc: Global,
+    scope: &mut Scope<'a>,
+    name: &Identifier<'a>,
+    of: &Option<CType>,
+    stored: Stored,
+    value: Judged<Option<Initializer>>,
+) -> Result<Judged<Vec<Declarator>>, AllocError>
+    ensures { IfOk result (λ r. (u : s.Scope) → judged_of declarators_of r (scope_of scope.new)
+        ≡ squeezed_part (static_ended (stored_of stored u) (name_of name.now)
+        (option_map type_of of.now) (judged_of optional_of value (scope_of scope.old)))) }
+{
+    let ended = end_stored(alloc, scope, name, of, stored, value.fault, &value.value);
+    drop(value);
+    ended
+}

@@ -1,0 +1,174 @@
+//! Structures with a list (C17 6.7.2.1).
+ghost use Rattle.std.specs.Prelude.{◌≡◌, IfOk, Some, None, false, if◌then◌else◌, map, slice_get, option_map};
+ghost use Rattle.mc_tree.specs.Tree.{Name};
+ghost use Rattle.mc_tree.specs.Views.{name_of, tag_of};
+ghost use Rattle.mc_typing.specs.declared.fault.FaultKind.TheVariants.{Redeclared};
+ghost use Rattle.mc_typing.specs.Declarators as d;
+ghost use Rattle.mc_typing.specs.Faults.{fault, unless_faulty};
+ghost use Rattle.mc_typing.specs.Scopes as s;
+ghost use Rattle.mc_typing.specs.Types as t;
+ghost use Rattle.mc_scopes.specs.Listed.{listed_of};
+ghost use Rattle.mc_scopes.specs.Types.{type_of};
+ghost use Rattle.mc_scopes.specs.Views.{scope_of, structure_of};
+ghost use Rattle.mc_declarations.specs.Declarations.{opened_of, listed_members};
+ghost use Rattle.mc_scopes.specs.Found.{judged_of};
+ghost use Rattle.mc_scopes.specs.steps.Squeezed.{listed, squeezed_part};
+
+use crate::faults::first_fault;
+use crate::tags::{next_structure, plain};
+use mc_scopes::found::Judged;
+use mc_scopes::{Base, CType, Members, Scope, Structure, TagMeaning};
+use mc_tree::Identifier;
+use mc_typing::{Fault, FaultKind};
+use std::alloc::{AllocError, Global};
+
+/// A structure whose list begins: its fault so far, and its number.
+#[derive(Drop)]
+pub struct Opened {
+    pub fault: Option<Fault>,
+    pub number: u32,
+}
+
+fn open_anew<'a>(scope: &mut Scope<'a>, fault: Option<Fault>) -> Result<Opened, AllocError>
+    ensures { IfOk result (λ r. opened_of r (scope_of scope.new)
+        ≡ d.opened_anew (listed fault) (scope_of scope.old)) }
+{
+    let number = next_structure(scope)?;
+    scope.add_structure(Structure::Incomplete { begun: true })?;
+    Ok(Opened { fault, number })
+}
+
+fn open_with_tag<'a>(
+    scope: &mut Scope<'a>,
+    fault: Option<Fault>,
+    tag: &Identifier<'a>,
+) -> Result<Opened, AllocError>
+    ensures { IfOk result (λ r. opened_of r (scope_of scope.new)
+        ≡ d.opened_with_tag (listed fault) (name_of tag.now) (scope_of scope.old)) }
+{
+    let number = next_structure(scope)?;
+    scope.declare_tag(tag, TagMeaning::Structure(number))?;
+    open_anew(scope, fault)
+}
+
+/// The fault of a tag that is declared already.
+fn declared_already(tag: &Identifier<'_>) -> Option<Fault>
+    ensures { listed result ≡ fault Redeclared tag.now.span.start }
+{
+    Some(Fault {
+        kind: FaultKind::Redeclared,
+        at: tag.span.start,
+    })
+}
+
+/// Whether the structure type with this number has had no list so far.
+#[tactic(auto, using(crate::proofs::Numbered::structure_at))]
+fn has_no_list(scope: &Scope<'_>, number: u32) -> bool
+    ensures { (tag : Name) (u : s.Scope) → d.opened_again tag number u
+        (slice_get (scope_of scope.now).structures number)
+        ≡ d.opened_again tag number u (if result then Some (t.Incomplete false) else None) }
+{
+    match scope.structures.get(number as usize) {
+        Some(structure) => match structure {
+            Structure::Incomplete { begun } => !*begun,
+            Structure::Complete(_) => false,
+            Structure::Faulty => false,
+        },
+        None => false,
+    }
+}
+
+fn open_again<'a>(
+    scope: &mut Scope<'a>,
+    tag: &Identifier<'a>,
+    number: u32,
+) -> Result<Opened, AllocError>
+    ensures { IfOk result (λ r. opened_of r (scope_of scope.new)
+        ≡ d.opened_again (name_of tag.now) number (scope_of scope.old)
+        (slice_get (scope_of scope.old).structures number)) }
+{
+    if has_no_list(scope, number) {
+        scope.put_structure(number, Structure::Incomplete { begun: true });
+        Ok(Opened {
+            fault: None,
+            number,
+        })
+    } else {
+        let opened = open_with_tag(scope, declared_already(tag), tag)?;
+        Ok(opened)
+    }
+}
+
+fn open_tag<'a>(scope: &mut Scope<'a>, tag: &Identifier<'a>) -> Result<Opened, AllocError>
+    ensures { IfOk result (λ r. opened_of r (scope_of scope.new)
+        ≡ d.opened (Some (name_of tag.now)) (scope_of scope.old)) }
+{
+    match scope.tag_here(tag).copied() {
+        None => open_with_tag(scope, None, tag),
+        Some(TagMeaning::Structure(number)) => open_again(scope, tag, number),
+        Some(TagMeaning::Enumeration) => open_with_tag(scope, declared_already(tag), tag),
+    }
+}
+
+/// The list of a structure begins. Its tag is in scope from here on (C17 6.2.1p7).
+pub fn open_structure<'a>(
+    scope: &mut Scope<'a>,
+    tag: &Option<Identifier<'a>>,
+) -> Result<Opened, AllocError>
+    ensures { IfOk result (λ r. opened_of r (scope_of scope.new)
+        ≡ d.opened (tag_of tag.now) (scope_of scope.old)) }
+{
+    match tag {
+        Some(tag) => open_tag(scope, tag),
+        None => open_anew(scope, None),
+    }
+}
+
+/// The structure with these members, unless there is a fault.
+fn completed<'a>(
+    alloc: Global,
+    fault: Option<Fault>,
+    members: Members<'a>,
+) -> Result<Structure<'a>, AllocError>
+    ensures { IfOk result (λ r. structure_of r
+        ≡ d.completed (listed fault) (map listed_of members.entry)) }
+{
+    match fault {
+        Some(_) => Ok(Structure::Faulty),
+        None => Ok(Structure::Complete(members.complete(alloc)?)),
+    }
+}
+
+fn completed_type(alloc: Global, fault: Option<Fault>, number: u32) -> Option<CType>
+    ensures { option_map type_of result
+        ≡ unless_faulty (listed fault) (Some (t.plain (t.Tagged number))) }
+{
+    match fault {
+        Some(_) => None,
+        None => Some(plain(alloc, Base::Tagged(number))),
+    }
+}
+
+/// The list of a structure ends: with no fault before it and none in it, the type is complete (C17
+/// 6.7.2.1p8).
+#[tactic(auto, using(crate::proofs::DeclarationFaults::completed_by_least, crate::proofs::DeclarationFaults::unless_least_of))]
+pub fn close_structure<'a>(
+    alloc: Global,
+    scope: &mut Scope<'a>,
+    opened: Opened,
+    fault: Option<Fault>,
+    members: Members<'a>,
+) -> Result<Judged<CType>, AllocError>
+    ensures { IfOk result (λ r. (u : s.Scope) → judged_of type_of r (scope_of scope.new)
+        ≡ squeezed_part (d.structure_judged (opened_of opened u)
+        (listed_members fault members.entry (scope_of scope.old)))) }
+{
+    let number = opened.number;
+    let fault = first_fault(opened.fault, fault);
+    let structure = completed(alloc, fault, members)?;
+    scope.put_structure(number, structure);
+    Ok(Judged {
+        fault,
+        value: completed_type(alloc, fault, number),
+    })
+}

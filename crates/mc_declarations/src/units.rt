@@ -1,0 +1,156 @@
+//! External declarations (C17 6.9).
+ghost use Rattle.std.specs.Prelude.{◌≡◌, ◌++◌, [], ◌∷◌, List, Some, None, IfOk, OnOk, option_map};
+ghost use Rattle.mc_tree.specs.Units.{item_of, items_of};
+ghost use Rattle.mc_tree.specs.Tree as tree;
+ghost use Rattle.mc_tree.specs.Views.{declarator_of, name_of};
+ghost use Rattle.mc_typing.specs.declared.fault.FaultKind.TheVariants.{Mismatch};
+ghost use Rattle.mc_typing.specs.Declarations.{append, both_lists};
+ghost use Rattle.mc_typing.specs.Faults.{fault};
+ghost use Rattle.mc_typing.specs.Scopes as s;
+ghost use Rattle.mc_typing.specs.Typing as ty;
+ghost use Rattle.mc_typing.specs.Values.{judged, lift2};
+ghost use Rattle.mc_declarations.specs.Declarations.{functions_of};
+ghost use Rattle.mc_scopes.specs.Statements.{declarators_of};
+ghost use Rattle.mc_scopes.specs.Found.{judged_of};
+ghost use Rattle.mc_scopes.specs.steps.Squeezed.{squeezed_part};
+
+use crate::faults::two_parts;
+use mc_scopes::Bodies;
+use mc_scopes::found::Judged;
+use mc_tree::{Declarator, Identifier, Item};
+use mc_typed::{Function, Span};
+use mc_typing::{Fault, FaultKind};
+use std::alloc::{AllocError, Global};
+
+fn no_function_in<'a>(
+    alloc: Global,
+    declarators: Option<Vec<mc_typed::Declarator>>,
+) -> Option<Vec<Function<'a>>>
+    ensures { option_map functions_of result
+        ≡ option_map (λ ds. []) (option_map declarators_of declarators) }
+{
+    match declarators {
+        Some(_) => Some(Vec::new(alloc)),
+        None => None,
+    }
+}
+
+/// A declaration among the items of a unit: no function.
+pub fn declared_item<'a>(
+    alloc: Global,
+    declarators: Judged<Vec<mc_typed::Declarator>>,
+) -> Judged<Vec<Function<'a>>>
+    ensures { (s : s.Scope) → judged_of functions_of result s
+        ≡ ty.declared_only (judged_of declarators_of declarators s) }
+{
+    Judged {
+        fault: declarators.fault,
+        value: no_function_in(alloc, declarators.value),
+    }
+}
+
+/// A body after a declarator that is no function's, which no text has.
+pub fn wrong_definition<'a>(span: Span) -> Judged<Vec<Function<'a>>>
+    ensures { (s : s.Scope) → judged_of functions_of result s
+        ≡ judged (fault Mismatch span.start) None s }
+{
+    Judged {
+        fault: Some(Fault {
+            kind: FaultKind::Mismatch,
+            at: span.start,
+        }),
+        value: None,
+    }
+}
+
+/// No functions. Takes no memory.
+pub fn no_functions<'a>(alloc: Global) -> Judged<Vec<Function<'a>>>
+    ensures { (s : s.Scope) → judged_of functions_of result s ≡ judged [] (Some []) s }
+{
+    Judged {
+        fault: None,
+        value: Some(Vec::new(alloc)),
+    }
+}
+
+#[tactic(auto, using(crate::proofs::Lists::mapped_joined))]
+fn all_functions<'a>(
+    list: Vec<Function<'a>>,
+    more: Vec<Function<'a>>,
+) -> Result<Vec<Function<'a>>, AllocError>
+    ensures { IfOk result (λ r. functions_of r
+        ≡ append (functions_of list.entry) (functions_of more.entry)) }
+{
+    let mut list = list;
+    let mut more = more;
+    list.append(&mut more)?;
+    Ok(list)
+}
+
+fn functions_with<'a>(
+    list: Option<Vec<Function<'a>>>,
+    more: Option<Vec<Function<'a>>>,
+) -> Result<Option<Vec<Function<'a>>>, AllocError>
+    ensures { IfOk result (λ r. option_map functions_of r
+        ≡ lift2 append (option_map functions_of list.entry) (option_map functions_of more.entry)) }
+{
+    match list {
+        Some(list) => match more {
+            Some(more) => Ok(Some(all_functions(list, more)?)),
+            None => Ok(None),
+        },
+        None => Ok(None),
+    }
+}
+
+/// Functions, and more after them.
+pub fn more_functions<'a>(
+    list: Judged<Vec<Function<'a>>>,
+    more: Judged<Vec<Function<'a>>>,
+) -> Result<Judged<Vec<Function<'a>>>, AllocError>
+    ensures { IfOk result (λ r. (s : s.Scope) → judged_of functions_of r s ≡ squeezed_part
+        (both_lists (judged_of functions_of list.entry s) (judged_of functions_of more.entry s))) }
+{
+    Ok(Judged {
+        fault: two_parts(list.fault, more.fault),
+        value: functions_with(list.value, more.value)?,
+    })
+}
+
+// ---- functions with a body
+
+/// The name that a declarator declares.
+pub fn declared_name<'d, 'a>(declarator: &'d Declarator<'a>) -> &'d Identifier<'a>
+    ensures { name_of result.now ≡ tree.name_of (declarator_of declarator.now) }
+{
+    match declarator {
+        Declarator::Object { name, .. } => name,
+        Declarator::EmptyFunction { name, .. } => name,
+        Declarator::VoidFunction { name, .. } => name,
+        Declarator::Function { name, .. } => name,
+    }
+}
+
+// The function of an item, where it has a body.
+fn add_body<'a>(bodies: &mut Bodies<'a>, item: &Item<'a>) -> Result<(), AllocError>
+    ensures { OnOk result ((rest : List tree.Item) → bodies.new ++ ty.bodies_of rest
+        ≡ bodies.old ++ ty.bodies_of (item_of item.now ∷ rest)) }
+{
+    match item {
+        Item::Defined { declarator, .. } => bodies.push(declared_name(declarator).text),
+        Item::Declared { .. } => Ok(()),
+    }
+}
+
+/// The functions of a unit that have a body.
+pub fn bodies_of<'a>(alloc: Global, items: &[Item<'a>]) -> Result<Bodies<'a>, AllocError>
+    ensures { IfOk result (λ r. r ≡ ty.bodies_of (items_of items.now)) }
+{
+    let mut bodies = Bodies::new(alloc);
+    let mut left = items;
+    while let [item, later @ ..] = left {
+        add_body(&mut bodies, item)?;
+        left = later;
+    }
+    Ok(bodies)
+}

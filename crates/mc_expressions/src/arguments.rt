@@ -1,0 +1,301 @@
+//! Arguments of calls (C17 6.5.2.2).
+ghost use Rattle.std.specs.Prelude.{◌≡◌, IfOk, option_map, option_copied};
+ghost use Rattle.mc_typed.specs.Layout as objects;
+ghost use Rattle.mc_typed.specs.Tree as t;
+ghost use Rattle.mc_typed.specs.Views.{argument_of, expression_of, place_of};
+ghost use Rattle.mc_typed.specs.Views as typed;
+ghost use Rattle.mc_typing.specs.Faults.{least_of};
+ghost use Rattle.mc_typing.specs.Types as typing;
+ghost use Rattle.mc_typing.specs.Scopes as s;
+ghost use Rattle.mc_typing.specs.Expressions as e;
+ghost use Rattle.mc_typing.specs.Calls as c;
+ghost use Rattle.mc_scopes.specs.Types.{type_of};
+ghost use Rattle.mc_scopes.specs.Types as types;
+ghost use Rattle.mc_scopes.specs.Views.{scope_of};
+ghost use Rattle.mc_scopes.specs.Given.{given_of};
+ghost use Rattle.mc_scopes.specs.Found.{found_of, kind_of, value_of};
+ghost use Rattle.mc_expressions.specs.steps.Gathered.{squeezed_given};
+
+use crate::arrays::array_fits;
+use mc_scopes::conversions::convert_to;
+use mc_scopes::faults::{after, fault_where};
+use mc_scopes::found::{Found, Given, kind_found};
+use mc_scopes::kind::Kind;
+use mc_scopes::structures::structure_cells;
+use mc_scopes::value::Value;
+use mc_scopes::{Base, CType, ParameterKind, Scope, layout};
+use mc_typed::{Argument, Expression, Place};
+use mc_typing::{Fault, FaultKind};
+use mc_value::IntType;
+use std::alloc::{AllocError, Global};
+
+fn value_fits(base: Base, kind: Kind<'_>) -> bool
+    ensures { result ≡ c.argument_fits (typing.ByValue (types.base_of base)) (kind_of kind.entry) }
+{
+    match base {
+        Base::Void => false,
+        Base::Integer(_) => kind.is_integer(),
+        Base::Tagged(number) => match kind {
+            Kind::Structure(other) => number == other,
+            _ => false,
+        },
+    }
+}
+
+fn argument_fits(parameter: &ParameterKind, kind: Kind<'_>) -> bool
+    ensures { result ≡ c.argument_fits (types.kind_of parameter.now) (kind_of kind.entry) }
+{
+    match parameter {
+        ParameterKind::Value(base) => value_fits(*base, kind),
+        ParameterKind::Array(of) => match kind {
+            Kind::Array {
+                base,
+                is_const,
+                lengths,
+            } => array_fits(of, base, is_const, lengths),
+            _ => false,
+        },
+    }
+}
+
+fn argument_fault(
+    at: u32,
+    parameter: Option<&ParameterKind>,
+    kind: Option<Kind<'_>>,
+) -> Option<Fault>
+    ensures { result ≡ least_of (c.argument_faults at
+        (option_map types.kind_of (option_copied parameter.entry))
+        (option_map kind_of kind.entry)) }
+{
+    match parameter {
+        Some(parameter) => match kind {
+            Some(kind) => fault_where(!argument_fits(parameter, kind), FaultKind::Mismatch, at),
+            None => None,
+        },
+        None => None,
+    }
+}
+
+// ---- values
+
+fn number_argument(
+    alloc: Global,
+    to: IntType,
+    value: Option<Expression>,
+) -> Result<Option<Argument>, AllocError>
+    ensures { IfOk result (λ r. option_map argument_of r
+        ≡ option_map (λ f. t.NumberArgument (e.convert_to to f)) (option_map expression_of value)) }
+{
+    match value {
+        Some(value) => {
+            let value = convert_to(alloc, to, value)?;
+            Ok(Some(Argument::Number { value }))
+        }
+        None => Ok(None),
+    }
+}
+
+fn structure_argument(
+    scope: &Scope<'_>,
+    value: Option<mc_typed::Structure>,
+) -> Result<Option<Argument>, AllocError>
+    ensures { IfOk result (λ r. option_map argument_of r
+        ≡ option_map (λ w. t.StructureArgument w (s.next_slot (scope_of scope.now)))
+        (option_map typed.structure_of value)) }
+{
+    match value {
+        Some(value) => {
+            let copy = scope.next_slot()?;
+            Ok(Some(Argument::Structure { value, copy }))
+        }
+        None => Ok(None),
+    }
+}
+
+fn stored_array(parameter: &CType, place: Place, of: &CType) -> Result<Option<Argument>, AllocError>
+    ensures { IfOk result (λ r. option_map argument_of r
+        ≡ c.stored_array (type_of parameter.now) (place_of place) (type_of of.now)
+        of.now.lengths.items) }
+{
+    match of.lengths.as_slice() {
+        [length, rest @ ..] => {
+            let Ok(length) = u32::try_from(*length) else {
+                return Err(AllocError);
+            };
+            if array_fits(parameter, of.base, of.is_const, rest) {
+                Ok(Some(Argument::Array { place, length }))
+            } else {
+                Ok(None)
+            }
+        }
+        _ => Ok(None),
+    }
+}
+
+fn array_argument(parameter: &CType, value: Value) -> Result<Option<Argument>, AllocError>
+    ensures { IfOk result (λ r. option_map argument_of r
+        ≡ c.array_argument (type_of parameter.now) (value_of value)) }
+{
+    match value {
+        Value::Stored(place, of) => stored_array(parameter, place, &of),
+        Value::Borrowed {
+            array,
+            element,
+            span,
+        } => {
+            if array_fits(parameter, element.base, element.is_const, &element.lengths) {
+                Ok(Some(Argument::Again { array, span }))
+            } else {
+                Ok(None)
+            }
+        }
+        _ => {
+            drop(value);
+            Ok(None)
+        }
+    }
+}
+
+fn argument_for(
+    alloc: Global,
+    scope: &Scope<'_>,
+    parameter: &ParameterKind,
+    value: Value,
+) -> Result<Option<Argument>, AllocError>
+    ensures { IfOk result (λ r. option_map argument_of r
+        ≡ c.argument_of (scope_of scope.now) (types.kind_of parameter.now) (value_of value)) }
+{
+    match parameter {
+        ParameterKind::Value(base) => match *base {
+            Base::Void => {
+                drop(value);
+                Ok(None)
+            }
+            Base::Integer(to) => number_argument(alloc, to, value.into_number()),
+            Base::Tagged(number) => structure_argument(scope, value.into_structure(number)),
+        },
+        ParameterKind::Array(of) => array_argument(of, value),
+    }
+}
+
+fn argument_value(
+    alloc: Global,
+    scope: &Scope<'_>,
+    parameter: Option<&ParameterKind>,
+    value: Option<Value>,
+) -> Result<Option<Argument>, AllocError>
+    ensures { IfOk result (λ r. option_map argument_of r
+        ≡ c.argument_value (scope_of scope.now)
+        (option_map types.kind_of (option_copied parameter.entry)) (option_map value_of value)) }
+{
+    match parameter {
+        Some(parameter) => match value {
+            Some(value) => argument_for(alloc, scope, parameter, value),
+            None => Ok(None),
+        },
+        None => {
+            drop(value);
+            Ok(None)
+        }
+    }
+}
+
+// ---- copies of structures
+
+// The number of the structure type that an argument copies.
+fn copied_structure(parameter: Option<&ParameterKind>, value: &Option<Argument>) -> Option<u32>
+    ensures { (s : s.Scope) → option_map (c.layout_of_structure s) result
+        ≡ c.copy_of s (option_map types.kind_of (option_copied parameter.entry))
+        (option_map argument_of value.now) }
+{
+    match parameter {
+        Some(parameter) => match parameter {
+            ParameterKind::Value(base) => match base {
+                Base::Tagged(number) => match value {
+                    Some(_) => Some(*number),
+                    None => None,
+                },
+                Base::Void => None,
+                Base::Integer(_) => None,
+            },
+            ParameterKind::Array(_) => None,
+        },
+        None => None,
+    }
+}
+
+/// One more object of the function, of the structure type with this number; how many cells it has.
+pub fn add_temporary(alloc: Global, scope: &mut Scope<'_>, number: u32) -> Result<u32, AllocError>
+    ensures cells { IfOk result (λ n. n
+        ≡ objects.cells (c.layout_of_structure (scope_of scope.old) number)) }
+    ensures scope { IfOk result (λ _. scope_of scope.new
+        ≡ s.with_object (c.layout_of_structure (scope_of scope.old) number) (scope_of scope.old)) }
+{
+    let of = CType::plain(alloc, Base::Tagged(number));
+    let object = layout(alloc, &scope.structures, &of)?;
+    let count = structure_cells(alloc, &scope.structures, number)?;
+    scope.add_object(object, count)?;
+    Ok(count)
+}
+
+fn add_counted(alloc: Global, scope: &mut Scope<'_>, number: Option<u32>) -> Result<u32, AllocError>
+    ensures cells { IfOk result (λ n. n ≡ s.cells_counted
+        (option_map (c.layout_of_structure (scope_of scope.old)) number)) }
+    ensures scope { IfOk result (λ _. scope_of scope.new
+        ≡ s.with_counted (option_map (c.layout_of_structure (scope_of scope.old)) number)
+        (scope_of scope.old)) }
+{
+    match number {
+        Some(number) => add_temporary(alloc, scope, number),
+        None => Ok(0),
+    }
+}
+
+// The object of the copy of an argument, where it copies a structure; how many cells it has.
+fn add_copy(
+    alloc: Global,
+    scope: &mut Scope<'_>,
+    parameter: Option<&ParameterKind>,
+    value: &Option<Argument>,
+) -> Result<u32, AllocError>
+    ensures cells { IfOk result (λ n. n ≡ s.cells_counted (c.copy_of (scope_of scope.old)
+        (option_map types.kind_of (option_copied parameter.entry))
+        (option_map argument_of value.now))) }
+    ensures scope { IfOk result (λ _. scope_of scope.new
+        ≡ s.with_counted (c.copy_of (scope_of scope.old)
+        (option_map types.kind_of (option_copied parameter.entry))
+        (option_map argument_of value.now)) (scope_of scope.old)) }
+{
+    let number = copied_structure(parameter, value);
+    add_counted(alloc, scope, number)
+}
+
+/// An argument that starts here, for its parameter where there is one. The copy of a structure is
+/// an object of the function.
+pub fn argument(
+    alloc: Global,
+    scope: &mut Scope<'_>,
+    at: u32,
+    parameter: Option<&ParameterKind>,
+    found: Found,
+) -> Result<Given<Argument>, AllocError>
+    ensures { IfOk result (λ r. given_of argument_of r (scope_of scope.new)
+        ≡ squeezed_given (c.argument_judged at
+        (option_map types.kind_of (option_copied parameter.entry))
+        (found_of found (scope_of scope.old)))) }
+{
+    let own = argument_fault(at, parameter, kind_found(&found.value));
+    let fault = after(found.fault, own);
+    let value = argument_value(alloc, scope, parameter, found.value)?;
+    match add_copy(alloc, scope, parameter, &value) {
+        Ok(copied) => Ok(Given {
+            fault,
+            value,
+            copied: copied as u64,
+        }),
+        Err(error) => {
+            drop(value);
+            Err(error)
+        }
+    }
+}

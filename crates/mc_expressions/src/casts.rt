@@ -1,0 +1,190 @@
+//! Casts (C17 6.5.4).
+ghost use Rattle.std.specs.Prelude.{◌≡◌, IfOk, true, option_map};
+ghost use Rattle.mc_tree.specs.Views as syntax;
+ghost use Rattle.mc_typed.specs.Tree as t;
+ghost use Rattle.mc_typed.specs.Views.{effect_of, expression_of};
+ghost use Rattle.mc_typing.specs.Faults.{least_of};
+ghost use Rattle.mc_typing.specs.Scopes as s;
+ghost use Rattle.mc_typing.specs.Values as v;
+ghost use Rattle.mc_typing.specs.Expressions as e;
+ghost use Rattle.mc_scopes.specs.Types.{base_of, type_of};
+ghost use Rattle.mc_scopes.specs.Found.{found_of, judged_of, kind_of, value_of};
+ghost use Rattle.mc_scopes.specs.steps.Squeezed.{squeezed};
+
+use mc_scopes::bare::discarded_fault;
+use mc_scopes::faults::{after_two, fault_where};
+use mc_scopes::found::{Found, Judged, kind_found};
+use mc_scopes::kind::{Kind, fails_integer};
+use mc_scopes::value::Value;
+use mc_scopes::{Base, CType};
+use mc_tree::Expression;
+use mc_typed::{self as typed, Effect, Span};
+use mc_typing::{Fault, FaultKind};
+use mc_value::IntType;
+use std::alloc::{AllocError, Global};
+
+// The type of a cast, where it is scalar or void.
+fn cast_base(of: &CType) -> Option<Base>
+    ensures { option_map base_of result ≡ e.cast_base (type_of of.now) of.now.lengths.items }
+{
+    if !of.lengths.is_empty() {
+        return None;
+    }
+    match of.base {
+        Base::Void => Some(Base::Void),
+        Base::Integer(to) => Some(Base::Integer(to)),
+        Base::Tagged(_) => None,
+    }
+}
+
+fn fault_to(
+    at: u32,
+    tree: &Expression<'_>,
+    kind: Option<Kind<'_>>,
+    base: Option<Base>,
+) -> Option<Fault>
+    ensures { result ≡ least_of (e.cast_faults_to at (syntax.expression_of tree.now)
+        (option_map kind_of kind.entry) (option_map base_of base)) }
+{
+    match base {
+        Some(Base::Void) => discarded_fault(tree, kind),
+        Some(Base::Integer(_) | Base::Tagged(_)) => {
+            fault_where(fails_integer(kind), FaultKind::Mismatch, at)
+        }
+        None => Some(Fault {
+            kind: FaultKind::Mismatch,
+            at,
+        }),
+    }
+}
+
+fn cast_fault(
+    at: u32,
+    tree: &Expression<'_>,
+    kind: Option<Kind<'_>>,
+    of: &Option<CType>,
+) -> Option<Fault>
+    ensures { result ≡ least_of (e.cast_faults at (syntax.expression_of tree.now)
+        (option_map kind_of kind.entry) (option_map type_of of.now)) }
+{
+    match of {
+        Some(of) => fault_to(at, tree, kind, cast_base(of)),
+        None => None,
+    }
+}
+
+fn discarding(
+    alloc: Global,
+    span: Span,
+    operand: Option<Effect>,
+) -> Result<Option<Value>, AllocError>
+    ensures { IfOk result (λ r. option_map value_of r
+        ≡ option_map (λ a. v.Done (t.Discard a span)) (option_map effect_of operand)) }
+{
+    match operand {
+        Some(operand) => {
+            let operand = Box::new(alloc, operand)?;
+            Ok(Some(Value::Done(Effect::Discard { operand, span })))
+        }
+        None => Ok(None),
+    }
+}
+
+fn converting(
+    alloc: Global,
+    to: IntType,
+    span: Span,
+    operand: Option<typed::Expression>,
+) -> Result<Option<Value>, AllocError>
+    ensures { IfOk result (λ r. option_map value_of r
+        ≡ option_map (λ f. v.Number (t.Convert to true f span))
+        (option_map expression_of operand)) }
+{
+    match operand {
+        Some(operand) => {
+            let operand = Box::new(alloc, operand)?;
+            Ok(Some(Value::Number(typed::Expression::Convert {
+                to,
+                written: true,
+                operand,
+                span,
+            })))
+        }
+        None => Ok(None),
+    }
+}
+
+fn value_to(
+    alloc: Global,
+    span: Span,
+    operand: Value,
+    base: Option<Base>,
+) -> Result<Option<Value>, AllocError>
+    ensures { IfOk result (λ r. option_map value_of r
+        ≡ e.cast_value_to span (value_of operand) (option_map base_of base)) }
+{
+    match base {
+        Some(Base::Void) => discarding(alloc, span, operand.into_discarded()),
+        Some(Base::Integer(to)) => converting(alloc, to, span, operand.into_number()),
+        Some(Base::Tagged(_)) | None => {
+            drop(operand);
+            Ok(None)
+        }
+    }
+}
+
+fn cast_value(
+    alloc: Global,
+    span: Span,
+    of: &Option<CType>,
+    operand: Option<Value>,
+) -> Result<Option<Value>, AllocError>
+    ensures { IfOk result (λ r. option_map value_of r
+        ≡ e.cast_value span (option_map type_of of.now) (option_map value_of operand)) }
+{
+    match of {
+        Some(of) => match operand {
+            Some(operand) => value_to(alloc, span, operand, cast_base(of)),
+            None => Ok(None),
+        },
+        None => {
+            drop(operand);
+            Ok(None)
+        }
+    }
+}
+
+// Whether the cast is, or may be, one to an integer type.
+fn may_cast_to_integer(of: &Option<CType>) -> bool
+    ensures { result ≡ e.may_cast_to_integer (option_map type_of of.now) }
+{
+    match of {
+        Some(of) => matches!(cast_base(of), Some(Base::Integer(_))),
+        None => true,
+    }
+}
+
+/// A cast to a type, of an operand that is written so.
+pub fn cast(
+    alloc: Global,
+    span: Span,
+    of: Judged<CType>,
+    tree: &Expression<'_>,
+    operand: Found,
+) -> Result<Found, AllocError>
+    ensures { IfOk result (λ r. (s : s.Scope) → found_of r s
+        ≡ squeezed (e.cast_found span (judged_of type_of of s) (syntax.expression_of tree.now)
+        (found_of operand s))) }
+{
+    let own = cast_fault(span.start, tree, kind_found(&operand.value), &of.value);
+    let fault = after_two(of.fault, operand.fault, own);
+    let integer = may_cast_to_integer(&of.value);
+    let constant = operand.constant && integer;
+    let value = cast_value(alloc, span, &of.value, operand.value)?;
+    Ok(Found {
+        fault,
+        value,
+        place: false,
+        constant,
+    })
+}

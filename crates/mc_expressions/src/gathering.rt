@@ -1,0 +1,142 @@
+//! Arguments, gathered one after another.
+ghost use Rattle.std.specs.Prelude.{◌≡◌, ◌++◌, [], map, Some, None, IsTrue, IsFalse, IfOk, option_map, option_copied};
+ghost use Rattle.mc_typed.specs.Tree.{no_arguments};
+ghost use Rattle.mc_typed.specs.Views.{argument_of};
+ghost use Rattle.mc_typing.specs.Calls.{judged_given};
+ghost use Rattle.mc_typing.specs.Calls as c;
+ghost use Rattle.mc_typing.specs.Faults.{least_of};
+ghost use Rattle.mc_typing.specs.Scopes as s;
+ghost use Rattle.mc_typing.specs.Values as v;
+ghost use Rattle.mc_scopes.specs.Types.{kind_of};
+ghost use Rattle.mc_scopes.specs.Given.{arguments_of, given_of, items_of};
+ghost use Rattle.mc_scopes.specs.steps.Squeezed.{listed};
+ghost use Rattle.mc_expressions.specs.steps.Gathered.{before, extended, gathered, squeezed_given, with_last};
+
+use mc_scopes::ParameterKind;
+use mc_scopes::faults::lesser;
+use mc_scopes::found::Given;
+use mc_typed::Argument;
+use mc_typing::Fault;
+use std::alloc::{AllocError, Global};
+
+/// No arguments so far. Takes no memory.
+pub fn none_given(alloc: Global) -> Given<Vec<Argument>>
+    ensures { (s : s.Scope) → given_of items_of result s ≡ judged_given [] (Some []) 0 s }
+{
+    Given {
+        fault: None,
+        value: Some(Vec::new(alloc)),
+        copied: 0,
+    }
+}
+
+fn push_argument(
+    given: Option<Vec<Argument>>,
+    one: Option<Argument>,
+) -> Result<Option<Vec<Argument>>, AllocError>
+    ensures { IfOk result (λ r. option_map items_of r
+        ≡ v.lift2 with_last (option_map items_of given) (option_map argument_of one)) }
+{
+    match given {
+        Some(given) => match one {
+            Some(one) => {
+                let mut given = given;
+                given.push(one)?;
+                Ok(Some(given))
+            }
+            None => Ok(None),
+        },
+        None => {
+            drop(one);
+            Ok(None)
+        }
+    }
+}
+
+/// One more argument after those so far.
+pub fn gather(
+    given: Given<Vec<Argument>>,
+    one: Given<Argument>,
+) -> Result<Given<Vec<Argument>>, AllocError>
+    ensures { IfOk result (λ r. (s u : s.Scope) → given_of items_of r u
+        ≡ squeezed_given (extended (given_of items_of given s) (given_of argument_of one u))) }
+{
+    let Some(copied) = given.copied.checked_add(one.copied) else {
+        drop(one);
+        return Err(AllocError);
+    };
+    let fault = join(given.fault, one.fault);
+    let value = push_argument(given.value, one.value)?;
+    Ok(Given {
+        fault,
+        value,
+        copied,
+    })
+}
+
+// The first fault of two lists.
+#[tactic(auto, using(mc_scopes::proofs::Squeezed::joined_least))]
+fn join(one: Option<Fault>, other: Option<Fault>) -> Option<Fault>
+    ensures { result ≡ least_of (listed one ++ listed other) }
+{
+    lesser(one, other)
+}
+
+// Whether no parameters are left.
+fn none_left(left: &[ParameterKind]) -> bool
+    ensures none { IsTrue result → c.no_more (map kind_of left.now) ≡ Some no_arguments }
+    ensures more { IsFalse result → c.no_more (map kind_of left.now) ≡ None }
+{
+    match left {
+        [] => true,
+        [_, ..] => false,
+    }
+}
+
+// The arguments, unless parameters are left.
+#[tactic(auto, using(crate::proofs::Gathered::before_none))]
+fn only_complete(given: Option<Vec<Argument>>, left: &[ParameterKind]) -> Option<Vec<Argument>>
+    ensures { option_map arguments_of result
+        ≡ v.lift2 before (option_map items_of given) (c.no_more (map kind_of left.now)) }
+{
+    let complete = none_left(left);
+    match given {
+        Some(given) => if complete { Some(given) } else { None },
+        None => None,
+    }
+}
+
+/// All arguments, where these parameters are left: a call has as many as there are parameters.
+/// Takes no memory.
+#[tactic(auto, using(mc_scopes::proofs::Squeezed::least_alone))]
+pub fn given_for(given: Given<Vec<Argument>>, left: &[ParameterKind]) -> Given<Vec<Argument>>
+    ensures { (s : s.Scope) → given_of arguments_of result s
+        ≡ squeezed_given (gathered (given_of items_of given s)
+        (judged_given [] (c.no_more (map kind_of left.now)) 0 s)) }
+{
+    Given {
+        fault: given.fault,
+        value: only_complete(given.value, left),
+        copied: given.copied,
+    }
+}
+
+/// The parameter that the next argument is for, where there is one. Takes no memory.
+pub fn first_of(left: &[ParameterKind]) -> Option<&ParameterKind>
+    ensures { option_map kind_of (option_copied result) ≡ c.first_of (map kind_of left.now) }
+{
+    match left {
+        [first, ..] => Some(first),
+        [] => None,
+    }
+}
+
+/// The parameters that the arguments after the next one are for. Takes no memory.
+pub fn rest_of(left: &[ParameterKind]) -> &[ParameterKind]
+    ensures { map kind_of result.now ≡ c.rest_of (map kind_of left.now) }
+{
+    match left {
+        [_, rest @ ..] => rest,
+        [] => left,
+    }
+}

@@ -1,0 +1,150 @@
+//! Names (C17 6.5.1).
+ghost use Rattle.std.specs.Prelude.{◌≡◌, IfOk, option_copied, option_map, option_and_then};
+ghost use Rattle.mc_value.specs.declared.int_type.IntType.TheVariants as IntType;
+ghost use Rattle.mc_typed.specs.Tree as t;
+ghost use Rattle.mc_typed.specs.Views.{place_of};
+ghost use Rattle.mc_typing.specs.Faults.{least_of};
+ghost use Rattle.mc_typing.specs.Values as v;
+ghost use Rattle.mc_typing.specs.Scopes as s;
+ghost use Rattle.mc_typing.specs.Expressions as e;
+ghost use Rattle.mc_scopes.specs.Types.{type_of};
+ghost use Rattle.mc_scopes.specs.Views as scopes;
+ghost use Rattle.mc_scopes.specs.Found.{found_of, value_of};
+ghost use Rattle.mc_scopes.specs.steps.Squeezed.{squeezed};
+ghost use Rattle.mc_expressions.specs.steps.Names.{named_found};
+
+use mc_scopes::found::Found;
+use mc_scopes::value::Value;
+use mc_scopes::{CType, Meaning};
+use mc_typed::{Expression, Place, Span};
+use mc_typing::{Fault, FaultKind};
+use mc_value::IntType;
+use std::alloc::AllocError;
+
+fn is_object(meaning: Option<&Meaning>) -> bool
+    ensures { result ≡ e.is_object (option_map scopes.meaning_of (option_copied meaning.entry)) }
+{
+    match meaning {
+        Some(meaning) => match meaning {
+            Meaning::Automatic { .. } | Meaning::Static { .. } | Meaning::Borrowed { .. } => true,
+            Meaning::Constant { .. } | Meaning::Function { .. } | Meaning::Typedef { .. } => false,
+        },
+        None => true,
+    }
+}
+
+fn is_enumerator(meaning: Option<&Meaning>) -> bool
+    ensures { result
+        ≡ e.is_enumerator (option_map scopes.meaning_of (option_copied meaning.entry)) }
+{
+    match meaning {
+        Some(meaning) => match meaning {
+            Meaning::Constant { .. } => true,
+            Meaning::Automatic { .. }
+            | Meaning::Static { .. }
+            | Meaning::Borrowed { .. }
+            | Meaning::Function { .. }
+            | Meaning::Typedef { .. } => false,
+        },
+        None => true,
+    }
+}
+
+fn name_fault(meaning: Option<&Meaning>, at: u32) -> Option<Fault>
+    ensures { result
+        ≡ least_of (e.name_faults (option_map scopes.meaning_of (option_copied meaning.entry)) at) }
+{
+    match meaning {
+        Some(meaning) => match meaning {
+            Meaning::Typedef { .. } => Some(Fault {
+                kind: FaultKind::Mismatch,
+                at,
+            }),
+            Meaning::Automatic { .. }
+            | Meaning::Static { .. }
+            | Meaning::Borrowed { .. }
+            | Meaning::Constant { .. }
+            | Meaning::Function { .. } => None,
+        },
+        None => Some(Fault {
+            kind: FaultKind::Undeclared,
+            at,
+        }),
+    }
+}
+
+// An object with its type, where that is known.
+fn stored(place: Place, of: &Option<CType>) -> Result<Option<Value>, AllocError>
+    ensures { IfOk result (λ r. option_map value_of r
+        ≡ option_map (v.Stored (place_of place)) (option_map type_of of.now)) }
+{
+    match of {
+        Some(of) => Ok(Some(Value::Stored(place, of.try_clone()?))),
+        None => {
+            drop(place);
+            Ok(None)
+        }
+    }
+}
+
+// An enumeration constant, where its value is known.
+fn enumerator(value: Option<i128>, span: Span) -> Option<Value>
+    ensures { option_map value_of result
+        ≡ option_map (λ w. v.Number (t.Constant w IntType.Int span)) value }
+{
+    match value {
+        Some(value) => Some(Value::Number(Expression::Constant {
+            value,
+            of: IntType::Int,
+            span,
+        })),
+        None => None,
+    }
+}
+
+fn value_of_name(span: Span, meaning: &Meaning) -> Result<Option<Value>, AllocError>
+    ensures { IfOk result (λ r. option_map value_of r
+        ≡ e.value_of_name span (scopes.meaning_of meaning.now)) }
+{
+    match meaning {
+        Meaning::Automatic { slot, of } => stored(Place::Local { slot: *slot, span }, of),
+        Meaning::Static { slot, of } => stored(Place::Static { slot: *slot, span }, of),
+        Meaning::Borrowed { array, element } => {
+            let element = element.try_clone()?;
+            Ok(Some(Value::Borrowed {
+                array: *array,
+                element,
+                span,
+            }))
+        }
+        Meaning::Constant { value } => Ok(enumerator(*value, span)),
+        Meaning::Function { .. } => Ok(Some(Value::Designator)),
+        Meaning::Typedef { .. } => Ok(None),
+    }
+}
+
+fn value_named(span: Span, meaning: Option<&Meaning>) -> Result<Option<Value>, AllocError>
+    ensures { IfOk result (λ r. option_map value_of r
+        ≡ option_and_then (e.value_of_name span)
+        (option_map scopes.meaning_of (option_copied meaning.entry))) }
+{
+    match meaning {
+        Some(meaning) => value_of_name(span, meaning),
+        None => Ok(None),
+    }
+}
+
+/// A name that stands here, by what it means.
+pub fn name(span: Span, meaning: Option<&Meaning>) -> Result<Found, AllocError>
+    ensures { IfOk result (λ r. (s : s.Scope) → found_of r s
+        ≡ squeezed (named_found span
+        (option_map scopes.meaning_of (option_copied meaning.entry)) s)) }
+{
+    let value = value_named(span, meaning)?;
+    Ok(Found {
+        fault: name_fault(meaning, span.start),
+        value,
+        place: is_object(meaning),
+        constant: is_enumerator(meaning),
+    })
+}

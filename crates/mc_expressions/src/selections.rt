@@ -1,0 +1,198 @@
+//! Members of structures (C17 6.5.2.3).
+ghost use Rattle.std.specs.Prelude.{◌≡◌, ℕ, List, IfOk, IfSome, Some, map, slice_get, option_map, option_and_then};
+ghost use Rattle.mc_tree.specs.Views.{name_of};
+ghost use Rattle.mc_typed.specs.Layout as objects;
+ghost use Rattle.mc_typed.specs.Views.{place_of};
+ghost use Rattle.mc_typing.specs.Faults.{least_of};
+ghost use Rattle.mc_typing.specs.Types as types;
+ghost use Rattle.mc_typing.specs.Expressions as e;
+ghost use Rattle.mc_scopes.specs.Listed.{selected_of};
+ghost use Rattle.mc_scopes.specs.Types.{base_of, type_of};
+ghost use Rattle.mc_scopes.specs.Views.{scope_of, structure_of};
+ghost use Rattle.mc_scopes.specs.Found.{found_of, kind_of, value_of};
+ghost use Rattle.mc_scopes.specs.steps.Squeezed.{squeezed};
+
+use mc_scopes::faults::{after, fault_where, or_fault};
+use mc_scopes::found::{Found, kind_found};
+use mc_scopes::kind::{Kind, fails_structure};
+use mc_scopes::value::Value;
+use mc_scopes::{Base, CType, Member, Scope, Structure};
+use mc_tree::Identifier;
+use mc_typed::{Place, Span};
+use mc_typing::{Fault, FaultKind};
+use std::alloc::{AllocError, Global};
+
+// The member of a structure with this name, and its number.
+fn selected_in<'t>(structure: &'t Structure<'_>, name: &[u8]) -> Option<(u32, &'t Member)>
+    ensures member { option_map (λ r. selected_of name.now r.0 r.1.now) result
+        ≡ e.selected 0 name.now (types.members_of (Some (structure_of structure.now))) }
+    ensures offset { IfSome result (λ r. r.1.now.offset ≡ objects.start
+        (e.layouts_of (types.members_of (Some (structure_of structure.now)))) r.0) }
+{
+    match structure {
+        Structure::Complete(complete) => complete.select(name),
+        Structure::Incomplete { .. } => None,
+        Structure::Faulty => None,
+    }
+}
+
+// The same of the structure type with this number.
+#[tactic(auto, using(crate::proofs::Members::structure_at))]
+fn selected<'t>(
+    structures: &'t [Structure<'_>],
+    number: u32,
+    name: &[u8],
+) -> Option<(u32, &'t Member)>
+    ensures member { option_map (λ r. selected_of name.now r.0 r.1.now) result
+        ≡ e.selected 0 name.now
+        (types.members_of (slice_get (map structure_of structures.now) number)) }
+    ensures offset { IfSome result (λ r. r.1.now.offset ≡ objects.start
+        (e.layouts_of (types.members_of (slice_get (map structure_of structures.now) number)))
+        r.0) }
+{
+    match structures.get(number as usize) {
+        Some(structure) => selected_in(structure, name),
+        None => None,
+    }
+}
+
+fn is_undeclared(
+    structures: &[Structure<'_>],
+    name: &Identifier<'_>,
+    kind: Option<Kind<'_>>,
+) -> bool
+    ensures { result ≡ e.undeclared_member (map structure_of structures.now) (name_of name.now)
+        (option_map kind_of kind.entry) }
+{
+    match kind {
+        Some(kind) => match kind {
+            Kind::Structure(number) => match selected(structures, number, name.text) {
+                Some(_) => false,
+                None => true,
+            },
+            _ => false,
+        },
+        None => false,
+    }
+}
+
+fn member_fault(
+    at: u32,
+    name: &Identifier<'_>,
+    structures: &[Structure<'_>],
+    place: bool,
+    kind: Option<Kind<'_>>,
+) -> Option<Fault>
+    ensures { result ≡ least_of (e.member_faults at (name_of name.now)
+        (map structure_of structures.now) place (option_map kind_of kind.entry)) }
+{
+    let no_structure = fails_structure(kind);
+    let own = fault_where(!place || no_structure, FaultKind::Mismatch, at);
+    let undeclared = is_undeclared(structures, name, kind);
+    or_fault(own, undeclared, FaultKind::Undeclared, name.span.start)
+}
+
+// A member of a place, by its number, where the member has a type.
+fn member_at(
+    alloc: Global,
+    place: Place,
+    is_const: bool,
+    span: Span,
+    number: u32,
+    member: &Member,
+) -> Result<Option<Value>, AllocError>
+    ensures { IfOk result (λ r. (members : List types.Member) (name : List ℕ)
+        → member.now.offset ≡ objects.start (e.layouts_of members) number → option_map value_of r
+        ≡ e.member_at members (place_of place) is_const span (selected_of name number member.now)) }
+{
+    match &member.of {
+        Some(of) => {
+            let of = of.try_clone()?.qualified(is_const);
+            let structure = Box::new(alloc, place)?;
+            let place = Place::Member {
+                structure,
+                member: number,
+                offset: member.offset,
+                span,
+            };
+            Ok(Some(Value::Stored(place, of)))
+        }
+        None => {
+            drop(place);
+            Ok(None)
+        }
+    }
+}
+
+fn stored_member(
+    alloc: Global,
+    structures: &[Structure<'_>],
+    name: &Identifier<'_>,
+    span: Span,
+    place: Place,
+    of: &CType,
+) -> Result<Option<Value>, AllocError>
+    ensures { IfOk result (λ r. option_map value_of r
+        ≡ e.stored_member (map structure_of structures.now) (name_of name.now) span
+        (place_of place) (type_of of.now) of.now.lengths.items (base_of of.now.base)) }
+{
+    if !of.lengths.is_empty() {
+        return Ok(None);
+    }
+    match of.base {
+        Base::Void => Ok(None),
+        Base::Integer(_) => Ok(None),
+        Base::Tagged(base) => match selected(structures, base, name.text) {
+            Some((number, member)) => member_at(alloc, place, of.is_const, span, number, member),
+            None => Ok(None),
+        },
+    }
+}
+
+fn member_of(
+    alloc: Global,
+    structures: &[Structure<'_>],
+    name: &Identifier<'_>,
+    span: Span,
+    value: Option<Value>,
+) -> Result<Option<Value>, AllocError>
+    ensures { IfOk result (λ r. option_map value_of r
+        ≡ option_and_then (e.member_of (map structure_of structures.now) (name_of name.now) span)
+        (option_map value_of value)) }
+{
+    match value {
+        Some(value) => match value {
+            Value::Stored(place, of) => stored_member(alloc, structures, name, span, place, &of),
+            _ => {
+                drop(value);
+                Ok(None)
+            }
+        },
+        None => Ok(None),
+    }
+}
+
+/// `.` on a structure.
+pub fn member(
+    alloc: Global,
+    scope: &Scope<'_>,
+    name: &Identifier<'_>,
+    span: Span,
+    operand: Found,
+) -> Result<Found, AllocError>
+    ensures { IfOk result (λ r. found_of r (scope_of scope.now)
+        ≡ squeezed (e.member_found (name_of name.now) span
+        (found_of operand (scope_of scope.now)))) }
+{
+    let kind = kind_found(&operand.value);
+    let own = member_fault(span.start, name, &scope.structures, operand.place, kind);
+    let fault = after(operand.fault, own);
+    let place = operand.place;
+    let value = member_of(alloc, &scope.structures, name, span, operand.value)?;
+    Ok(Found {
+        fault,
+        value,
+        place,
+        constant: false,
+    })
+}

@@ -1,0 +1,177 @@
+//! Elements of arrays (C17 6.5.2.1).
+ghost use Rattle.std.specs.Prelude.{◌≡◌, IfOk, map, option_map};
+ghost use Rattle.mc_typed.specs.Layout as objects;
+ghost use Rattle.mc_typed.specs.Tree as t;
+ghost use Rattle.mc_typed.specs.Views.{expression_of, place_of};
+ghost use Rattle.mc_typing.specs.Types as types;
+ghost use Rattle.mc_typing.specs.Values as v;
+ghost use Rattle.mc_typing.specs.Expressions as e;
+ghost use Rattle.mc_scopes.specs.Types.{type_of};
+ghost use Rattle.mc_scopes.specs.Views.{scope_of, structure_of};
+ghost use Rattle.mc_scopes.specs.Found.{found_of, value_of};
+ghost use Rattle.mc_scopes.specs.steps.Squeezed.{squeezed};
+
+use mc_scopes::faults::two_or_fault;
+use mc_scopes::found::{Found, fails_integer, kind_found, number_in};
+use mc_scopes::kind::fails_array;
+use mc_scopes::value::Value;
+use mc_scopes::{CType, Scope, Structure, cells};
+use mc_typed::{Expression, Place, Span};
+use mc_typing::FaultKind;
+use std::alloc::{AllocError, Global};
+
+// The type of an element, whose lengths are these.
+fn element_type(alloc: Global, of: &CType, rest: &[u64]) -> Result<CType, AllocError>
+    ensures { IfOk result (λ r. type_of r ≡ record (type_of of.now) { lengths = rest.now }) }
+{
+    let mut lengths = Vec::new(alloc);
+    lengths.extend_from_slice(rest)?;
+    Ok(CType {
+        base: of.base,
+        is_const: of.is_const,
+        lengths,
+    })
+}
+
+fn stored_element(
+    alloc: Global,
+    structures: &[Structure<'_>],
+    place: Place,
+    of: &CType,
+    index: Expression,
+    span: Span,
+) -> Result<Option<Value>, AllocError>
+    ensures { IfOk result (λ r. option_map value_of r
+        ≡ e.stored_element (map structure_of structures.now) (place_of place) (type_of of.now)
+        of.now.lengths.items (expression_of index) span) }
+{
+    match of.lengths.as_slice() {
+        [length, rest @ ..] => {
+            let Ok(length) = u32::try_from(*length) else {
+                return Err(AllocError);
+            };
+            let element = element_type(alloc, of, rest)?;
+            let stride = cells(structures, &element)?;
+            let array = Box::new(alloc, place)?;
+            let index = Box::new(alloc, index)?;
+            let place = Place::Item {
+                array,
+                length,
+                stride,
+                index,
+                span,
+            };
+            Ok(Some(Value::Stored(place, element)))
+        }
+        _ => Ok(None),
+    }
+}
+
+// An element of the array that an array parameter names.
+fn borrowed_element(
+    alloc: Global,
+    structures: &[Structure<'_>],
+    array: u32,
+    element: CType,
+    index: Expression,
+    span: Span,
+) -> Result<Value, AllocError>
+    ensures { IfOk result (λ r. value_of r
+        ≡ v.Stored (t.Parameter array
+        (objects.cells (types.layout_of (map structure_of structures.now) (type_of element)))
+        (expression_of index) span) (type_of element)) }
+{
+    let stride = cells(structures, &element)?;
+    let index = Box::new(alloc, index)?;
+    let place = Place::Parameter {
+        array,
+        stride,
+        index,
+        span,
+    };
+    Ok(Value::Stored(place, element))
+}
+
+fn element_of(
+    alloc: Global,
+    structures: &[Structure<'_>],
+    span: Span,
+    array: Value,
+    index: Expression,
+) -> Result<Option<Value>, AllocError>
+    ensures { IfOk result (λ r. option_map value_of r
+        ≡ e.element_of (map structure_of structures.now) span (value_of array)
+        (expression_of index)) }
+{
+    match array {
+        Value::Stored(place, of) => stored_element(alloc, structures, place, &of, index, span),
+        Value::Borrowed { array, element, .. } => {
+            let element = borrowed_element(alloc, structures, array, element, index, span)?;
+            Ok(Some(element))
+        }
+        _ => {
+            drop(array);
+            drop(index);
+            Ok(None)
+        }
+    }
+}
+
+fn index_value(
+    alloc: Global,
+    structures: &[Structure<'_>],
+    span: Span,
+    array: Option<Value>,
+    index: Option<Expression>,
+) -> Result<Option<Value>, AllocError>
+    ensures { IfOk result (λ r. option_map value_of r
+        ≡ e.index_value (map structure_of structures.now) span (option_map value_of array)
+        (option_map expression_of index)) }
+{
+    match array {
+        Some(array) => match index {
+            Some(index) => element_of(alloc, structures, span, array, index),
+            None => {
+                drop(array);
+                Ok(None)
+            }
+        },
+        None => {
+            drop(index);
+            Ok(None)
+        }
+    }
+}
+
+/// `[ ]` on an array and an index.
+pub fn index(
+    alloc: Global,
+    scope: &Scope<'_>,
+    span: Span,
+    array: Found,
+    index: Found,
+) -> Result<Found, AllocError>
+    ensures { IfOk result (λ r. found_of r (scope_of scope.now)
+        ≡ squeezed (e.index_found span (found_of array (scope_of scope.now))
+        (found_of index (scope_of scope.now)))) }
+{
+    let no_array = fails_array(kind_found(&array.value));
+    let no_integer = fails_integer(&index.value);
+    let wrong = !array.place || no_array || no_integer;
+    let fault = two_or_fault(
+        array.fault,
+        index.fault,
+        wrong,
+        FaultKind::Mismatch,
+        span.start,
+    );
+    let place = array.place;
+    let index = number_in(index.value);
+    let value = index_value(alloc, &scope.structures, span, array.value, index)?;
+    Ok(Found {
+        fault,
+        value,
+        place,
+        constant: false,
+    })
+}

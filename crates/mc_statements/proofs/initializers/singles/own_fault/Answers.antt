@@ -1,0 +1,20 @@
+use Rattle.std.proofs.Common.{◌∙◌, ap}
+use Rattle.mc_typing.specs.Faults.{least_of}
+use Rattle.mc_typing.specs.Values.{kind_found, number_found}
+use Rattle.mc_typing.specs.Initializers.{item_faults, static_faults}
+use Rattle.mc_scopes.specs.Found.{found_of}
+use Rattle.mc_statements.specs.Initializers.{target_of}
+use Rattle.mc_statements.proofs.Leasts.{lesser_joined}
+use Rattle.mc_statements.proofs.initializers.singles.own_fault.Goals as goal
+
+pub returns : goal.returns
+returns c = λ s.
+    let x = found_of c.args.found.now s in
+    lesser_joined c.lesser.result c.item_fault-item.result c.in_ok-constant.constant
+    (item_faults c.args.is_static (target_of c.args.target) c.args.at (kind_found x))
+    (static_faults c.args.is_static c.args.at c.args.found.now.constant (number_found x))
+    c.lesser.ensures
+    (c.item_fault-item.ensures
+    ∙ ap (λ k. least_of (item_faults c.args.is_static (target_of c.args.target) c.args.at k))
+    c.kind_found.ensures)
+    (c.in_ok-constant.ensures s)

@@ -1,0 +1,63 @@
+//! Items of a list.
+ghost use Rattle.std.specs.Prelude.{◌≡◌, [], Some, IfOk, map, option_map};
+ghost use Rattle.mc_typed.specs.Tree as t;
+ghost use Rattle.mc_typed.specs.Views.{initializer_of};
+ghost use Rattle.mc_typing.specs.Scopes as s;
+ghost use Rattle.mc_typing.specs.Values.{judged, lift2};
+ghost use Rattle.mc_typing.specs.Initializers as i;
+ghost use Rattle.mc_scopes.specs.Found.{judged_of};
+ghost use Rattle.mc_statements.specs.Items.{items_of, then_item, item_then};
+ghost use Rattle.mc_scopes.specs.steps.Squeezed.{squeezed_part};
+
+use crate::statements::joined;
+use mc_scopes::found::Judged;
+use mc_typed::Initializer;
+use std::alloc::{AllocError, Global};
+
+/// No items. Takes no memory.
+pub fn no_items(alloc: Global) -> Judged<Vec<Initializer>>
+    ensures { (s : s.Scope) → judged_of items_of result s ≡ judged [] (Some t.no_initializers) s }
+{
+    Judged {
+        fault: None,
+        value: Some(Vec::new(alloc)),
+    }
+}
+
+#[tactic(auto, using(crate::proofs::Items::last_item))]
+fn all_items(list: Vec<Initializer>, one: Initializer) -> Result<Vec<Initializer>, AllocError>
+    ensures { IfOk result (λ r. items_of r ≡ then_item (items_of list) (initializer_of one)) }
+{
+    let mut list = list;
+    list.push(one)?;
+    Ok(list)
+}
+
+fn items_with(
+    list: Option<Vec<Initializer>>,
+    one: Option<Initializer>,
+) -> Result<Option<Vec<Initializer>>, AllocError>
+    ensures { IfOk result (λ r. option_map items_of r
+        ≡ lift2 then_item (option_map items_of list) (option_map initializer_of one)) }
+{
+    match list {
+        Some(list) => match one {
+            Some(one) => Ok(Some(all_items(list, one)?)),
+            None => Ok(None),
+        },
+        None => Ok(None),
+    }
+}
+
+/// Items, and one more after them.
+pub fn more_items(
+    list: Judged<Vec<Initializer>>,
+    one: Judged<Initializer>,
+) -> Result<Judged<Vec<Initializer>>, AllocError>
+    ensures { IfOk result (λ r. (s : s.Scope) → judged_of items_of r s
+        ≡ squeezed_part (item_then (judged_of items_of list s) (judged_of initializer_of one s))) }
+{
+    let fault = joined::of_two(list.fault, one.fault);
+    let value = items_with(list.value, one.value)?;
+    Ok(Judged { fault, value })
+}

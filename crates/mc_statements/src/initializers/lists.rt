@@ -1,0 +1,196 @@
+//! Lists as initializers (C17 6.7.9).
+ghost use Rattle.std.specs.Prelude.{◌≡◌, [], Some, IfOk, option_copied, option_map, option_and_then};
+ghost use Rattle.mc_typed.specs.Tree as t;
+ghost use Rattle.mc_typed.specs.Views.{expression_of, initializer_of};
+ghost use Rattle.mc_typing.specs.Values.{judged};
+ghost use Rattle.mc_typing.specs.Initializers as i;
+ghost use Rattle.mc_scopes.specs.Types.{type_of};
+ghost use Rattle.mc_scopes.specs.Views.{scope_of};
+ghost use Rattle.mc_scopes.specs.Found.{found_of, judged_of};
+ghost use Rattle.mc_statements.specs.Initializers.{target_of};
+ghost use Rattle.mc_statements.specs.Items.{items_of};
+ghost use Rattle.mc_scopes.specs.steps.Squeezed.{squeezed_part};
+
+use crate::initializers::items::{more_items, no_items};
+use crate::initializers::singles::single_initializer;
+use crate::initializers::target::{Target, fails_count, target_for};
+use mc_scopes::faults::or_fault;
+use mc_scopes::found::{Found, Judged, number_in};
+use mc_scopes::values::is_zero_found;
+use mc_scopes::{CType, Scope, cells};
+use mc_typed::{Expression, Initializer};
+use mc_typing::FaultKind;
+use std::alloc::{AllocError, Global};
+
+fn only_item(items: Vec<Initializer>) -> Option<Initializer>
+    ensures { option_map initializer_of result ≡ i.only_item (items_of items) }
+{
+    let mut items = items;
+    if items.len() == 1 { items.pop() } else { None }
+}
+
+fn list_of(
+    scope: &Scope<'_>,
+    of: &CType,
+    items: Vec<Initializer>,
+) -> Result<Option<Initializer>, AllocError>
+    ensures { IfOk result (λ r. option_map initializer_of r
+        ≡ Some (t.ListInitializer (items_of items)
+        (i.cells_of (scope_of scope.now).structures (type_of of.now)))) }
+{
+    let cells = cells(&scope.structures, of)?;
+    Ok(Some(Initializer::List { items, cells }))
+}
+
+fn list_for(
+    scope: &Scope<'_>,
+    of: &CType,
+    target: Target<'_, '_>,
+    items: Vec<Initializer>,
+) -> Result<Option<Initializer>, AllocError>
+    ensures { IfOk result (λ r. option_map initializer_of r
+        ≡ i.list_value (scope_of scope.now).structures (Some (type_of of.now))
+        (target_of target.entry) (items_of items)) }
+{
+    match target {
+        Target::Scalar(_) => Ok(only_item(items)),
+        Target::Array { .. } => list_of(scope, of, items),
+        Target::Structure { .. } => list_of(scope, of, items),
+        Target::Missing => Ok(None),
+    }
+}
+
+fn list_value(
+    scope: &Scope<'_>,
+    of: Option<&CType>,
+    target: Target<'_, '_>,
+    items: Option<Vec<Initializer>>,
+) -> Result<Option<Initializer>, AllocError>
+    ensures { IfOk result (λ r. option_map initializer_of r
+        ≡ option_and_then (i.list_value (scope_of scope.now).structures
+        (option_map type_of (option_copied of.entry)) (target_of target.entry))
+        (option_map items_of items)) }
+{
+    match items {
+        Some(items) => match of {
+            Some(of) => list_for(scope, of, target, items),
+            None => Ok(None),
+        },
+        None => Ok(None),
+    }
+}
+
+/// A list of so many items that starts here, for an object of this type.
+pub fn list_initializer(
+    scope: &Scope<'_>,
+    of: Option<&CType>,
+    at: u32,
+    count: usize,
+    items: Judged<Vec<Initializer>>,
+) -> Result<Judged<Initializer>, AllocError>
+    ensures { IfOk result (λ r. judged_of initializer_of r (scope_of scope.now)
+        ≡ squeezed_part (i.list_judged (option_map type_of (option_copied of.entry)) at count
+        (judged_of items_of items (scope_of scope.now)))) }
+{
+    let target = target_for(scope, of);
+    let wrong = fails_count(target, count);
+    let fault = or_fault(items.fault, wrong, FaultKind::Mismatch, at);
+    let value = list_value(scope, of, target, items.value)?;
+    Ok(Judged { fault, value })
+}
+
+// ---- `{0}`
+
+fn zero_of(scope: &Scope<'_>, of: &CType, value: Expression) -> Result<Initializer, AllocError>
+    ensures { IfOk result (λ r. initializer_of r
+        ≡ t.ZeroInitializer (expression_of value)
+        (i.cells_of (scope_of scope.now).structures (type_of of.now))) }
+{
+    let cells = cells(&scope.structures, of)?;
+    Ok(Initializer::Zero { value, cells })
+}
+
+fn zero_value(
+    scope: &Scope<'_>,
+    of: Option<&CType>,
+    value: Option<Expression>,
+) -> Result<Option<Initializer>, AllocError>
+    ensures { IfOk result (λ r. option_map initializer_of r
+        ≡ i.zero_value (scope_of scope.now).structures
+        (option_map type_of (option_copied of.entry)) (option_map expression_of value)) }
+{
+    match of {
+        Some(of) => match value {
+            Some(value) => Ok(Some(zero_of(scope, of, value)?)),
+            None => Ok(None),
+        },
+        None => Ok(None),
+    }
+}
+
+// The list of an integer constant expression of value 0, for an object of this type.
+#[tactic(auto, using(mc_scopes::proofs::Squeezed::least_listed))]
+fn zero_initializer(
+    scope: &Scope<'_>,
+    of: Option<&CType>,
+    only: Found,
+) -> Result<Judged<Initializer>, AllocError>
+    ensures { IfOk result (λ r. judged_of initializer_of r (scope_of scope.now)
+        ≡ squeezed_part (i.zero_judged (option_map type_of (option_copied of.entry))
+        (Some (found_of only (scope_of scope.now))) (scope_of scope.now))) }
+{
+    let fault = only.fault;
+    let value = zero_value(scope, of, number_in(only.value))?;
+    Ok(Judged { fault, value })
+}
+
+// ---- a list of one expression
+
+// As a list with an item of this type, whatever the value of the expression.
+fn list_of_expression(
+    alloc: Global,
+    is_static: bool,
+    scope: &Scope<'_>,
+    of: Option<&CType>,
+    item: Option<&CType>,
+    at: u32,
+    start: u32,
+    found: Found,
+) -> Result<Judged<Initializer>, AllocError>
+    ensures { IfOk result (λ r. judged_of initializer_of r (scope_of scope.now)
+        ≡ squeezed_part (i.list_judged (option_map type_of (option_copied of.entry)) at 1
+        (i.items_judged (i.single_judged is_static (option_map type_of (option_copied item.entry))
+        start (found_of found (scope_of scope.now)))
+        (judged [] (Some t.no_initializers) (scope_of scope.now))))) }
+{
+    let one = single_initializer(alloc, is_static, scope, item, start, found)?;
+    let items = more_items(no_items(alloc), one)?;
+    list_initializer(scope, of, at, 1, items)
+}
+
+/// A list that starts here with one expression, which starts at `start`, for an object of this
+/// type: `item` is the type of what its item is for.
+pub fn braced_expression(
+    alloc: Global,
+    is_static: bool,
+    scope: &Scope<'_>,
+    of: Option<&CType>,
+    item: Option<&CType>,
+    at: u32,
+    start: u32,
+    found: Found,
+) -> Result<Judged<Initializer>, AllocError>
+    ensures { IfOk result (λ r. judged_of initializer_of r (scope_of scope.now)
+        ≡ squeezed_part (i.braced_judged (option_map type_of (option_copied of.entry)) at 1
+        (Some (found_of found (scope_of scope.now)))
+        (i.items_judged (i.single_judged is_static (option_map type_of (option_copied item.entry))
+        start (found_of found (scope_of scope.now)))
+        (judged [] (Some t.no_initializers) (scope_of scope.now))) (scope_of scope.now))) }
+{
+    let zero = is_zero_found(&found)?;
+    if zero {
+        zero_initializer(scope, of, found)
+    } else {
+        list_of_expression(alloc, is_static, scope, of, item, at, start, found)
+    }
+}

@@ -1,0 +1,213 @@
+//! Expressions as initializers (C17 6.7.9p4, p11, p13).
+ghost use Rattle.std.specs.Prelude.{◌≡◌, ◌++◌, Some, IfOk, option_copied, option_map, option_and_then};
+ghost use Rattle.mc_typed.specs.Tree as t;
+ghost use Rattle.mc_typed.specs.Views.{expression_of, structure_of, initializer_of};
+ghost use Rattle.mc_typing.specs.Faults.{least_of};
+ghost use Rattle.mc_typing.specs.Scopes as s;
+ghost use Rattle.mc_typing.specs.Values as v;
+ghost use Rattle.mc_typing.specs.Expressions as expressions;
+ghost use Rattle.mc_typing.specs.Initializers as i;
+ghost use Rattle.mc_scopes.specs.Types.{base_of, type_of};
+ghost use Rattle.mc_scopes.specs.Views.{scope_of};
+ghost use Rattle.mc_scopes.specs.Found.{found_of, judged_of, kind_of, value_of};
+ghost use Rattle.mc_statements.specs.Initializers.{target_of};
+ghost use Rattle.mc_scopes.specs.steps.Squeezed.{squeezed_part};
+
+use crate::initializers::target::{Target, target_for};
+use mc_scopes::conversions::convert_to;
+use mc_scopes::faults::{after, fault_where, lesser};
+use mc_scopes::found::{Found, Judged, kind_found};
+use mc_scopes::kind::{Kind, fails_integer};
+use mc_scopes::value::Value;
+use mc_scopes::values::fault_of_constant;
+use mc_scopes::{Base, CType, Scope, cells};
+use mc_typed::{Expression, Initializer, Structure};
+use mc_typing::{Fault, FaultKind};
+use mc_value::IntType;
+use std::alloc::{AllocError, Global};
+
+/// Whether it is the kind of the structure type with this number.
+pub(crate) fn is_kind(number: u32, kind: Kind<'_>) -> bool
+    ensures { result ≡ i.is_kind number (kind_of kind.entry) }
+{
+    match kind {
+        Kind::Structure(other) => other == number,
+        Kind::Void | Kind::Assignment | Kind::Integer | Kind::Array { .. } | Kind::Function =>
+            false,
+    }
+}
+
+fn fails_kind(number: u32, kind: Option<Kind<'_>>) -> bool
+    ensures { result ≡ v.fails (i.is_kind number) (option_map kind_of kind.entry) }
+{
+    match kind {
+        Some(kind) => !is_kind(number, kind),
+        None => false,
+    }
+}
+
+// The fault of an expression of this kind, for this target.
+fn item_fault(
+    is_static: bool,
+    target: Target<'_, '_>,
+    at: u32,
+    kind: Option<Kind<'_>>,
+) -> Option<Fault>
+    ensures { result ≡ least_of
+        (i.item_faults is_static (target_of target.entry) at (option_map kind_of kind.entry)) }
+{
+    match target {
+        Target::Missing => None,
+        Target::Scalar(_) => fault_where(fails_integer(kind), FaultKind::Mismatch, at),
+        Target::Array { .. } => Some(Fault {
+            kind: FaultKind::Mismatch,
+            at,
+        }),
+        Target::Structure { number, .. } => fault_where(
+            is_static || fails_kind(number, kind),
+            FaultKind::Mismatch,
+            at,
+        ),
+    }
+}
+
+fn number_value(
+    alloc: Global,
+    to: IntType,
+    number: Option<Expression>,
+) -> Result<Option<Initializer>, AllocError>
+    ensures { IfOk result (λ r. option_map initializer_of r
+        ≡ option_map (λ e. t.NumberInitializer (expressions.convert_to to e))
+        (option_map expression_of number)) }
+{
+    match number {
+        Some(number) => {
+            let value = convert_to(alloc, to, number)?;
+            Ok(Some(Initializer::Number { value }))
+        }
+        None => Ok(None),
+    }
+}
+
+fn scalar_value(alloc: Global, of: &CType, value: Value) -> Result<Option<Initializer>, AllocError>
+    ensures { IfOk result (λ r. option_map initializer_of r
+        ≡ i.scalar_value (type_of of.now).base (value_of value)) }
+{
+    match of.base {
+        Base::Integer(to) => number_value(alloc, to, value.into_number()),
+        Base::Void => Ok(None),
+        Base::Tagged(_) => Ok(None),
+    }
+}
+
+fn structure_value(
+    scope: &Scope<'_>,
+    of: &CType,
+    value: Option<Structure>,
+) -> Result<Option<Initializer>, AllocError>
+    ensures { IfOk result (λ r. option_map initializer_of r
+        ≡ option_map
+        (λ w. t.StructureInitializer w
+        (i.cells_of (scope_of scope.now).structures (type_of of.now)))
+        (option_map structure_of value)) }
+{
+    match value {
+        Some(value) => {
+            let cells = cells(&scope.structures, of)?;
+            Ok(Some(Initializer::Structure { value, cells }))
+        }
+        None => Ok(None),
+    }
+}
+
+fn value_for(
+    alloc: Global,
+    scope: &Scope<'_>,
+    of: &CType,
+    target: Target<'_, '_>,
+    value: Value,
+) -> Result<Option<Initializer>, AllocError>
+    ensures { IfOk result (λ r. option_map initializer_of r
+        ≡ i.item_value (scope_of scope.now).structures (Some (type_of of.now))
+        (target_of target.entry) (value_of value)) }
+{
+    match target {
+        Target::Scalar(scalar) => scalar_value(alloc, scalar, value),
+        Target::Structure { number, .. } => {
+            structure_value(scope, of, value.into_structure(number))
+        }
+        Target::Missing => Ok(None),
+        Target::Array { .. } => Ok(None),
+    }
+}
+
+fn item_value(
+    alloc: Global,
+    scope: &Scope<'_>,
+    of: Option<&CType>,
+    target: Target<'_, '_>,
+    value: Option<Value>,
+) -> Result<Option<Initializer>, AllocError>
+    ensures { IfOk result (λ r. option_map initializer_of r
+        ≡ option_and_then (i.item_value (scope_of scope.now).structures
+        (option_map type_of (option_copied of.entry)) (target_of target.entry))
+        (option_map value_of value)) }
+{
+    match value {
+        Some(value) => match of {
+            Some(of) => value_for(alloc, scope, of, target, value),
+            None => Ok(None),
+        },
+        None => Ok(None),
+    }
+}
+
+// An object with static storage duration takes integer constant expressions.
+fn static_fault(is_static: bool, at: u32, found: &Found) -> Result<Option<Fault>, AllocError>
+    ensures { IfOk result (λ r. (s : s.Scope) → r ≡ least_of (i.static_faults is_static at
+        found.now.constant (v.number_found (found_of found.now s)))) }
+{
+    if is_static {
+        let fault = fault_of_constant(at, found)?;
+        Ok(fault)
+    } else {
+        Ok(None)
+    }
+}
+
+// The fault of the initializer itself.
+fn own_fault(
+    is_static: bool,
+    target: Target<'_, '_>,
+    at: u32,
+    found: &Found,
+) -> Result<Option<Fault>, AllocError>
+    ensures { IfOk result (λ r. (s : s.Scope) → r ≡ least_of
+        (i.item_faults is_static (target_of target.entry) at (v.kind_found (found_of found.now s))
+        ++ i.static_faults is_static at found.now.constant
+        (v.number_found (found_of found.now s)))) }
+{
+    let item = item_fault(is_static, target, at, kind_found(&found.value));
+    let constant = static_fault(is_static, at, found)?;
+    Ok(lesser(item, constant))
+}
+
+/// An expression that starts here, for an object of this type.
+pub fn single_initializer(
+    alloc: Global,
+    is_static: bool,
+    scope: &Scope<'_>,
+    of: Option<&CType>,
+    at: u32,
+    found: Found,
+) -> Result<Judged<Initializer>, AllocError>
+    ensures { IfOk result (λ r. judged_of initializer_of r (scope_of scope.now)
+        ≡ squeezed_part (i.single_judged is_static (option_map type_of (option_copied of.entry)) at
+        (found_of found (scope_of scope.now)))) }
+{
+    let target = target_for(scope, of);
+    let own = own_fault(is_static, target, at, &found)?;
+    let fault = after(found.fault, own);
+    let value = item_value(alloc, scope, of, target, found.value)?;
+    Ok(Judged { fault, value })
+}

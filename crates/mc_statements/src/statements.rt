@@ -1,0 +1,12 @@
+//! Nodes of statements (C17 6.8).
+pub(crate) mod blocks;
+pub(crate) mod clauses;
+pub(crate) mod effects;
+pub(crate) mod entered;
+pub(crate) mod joined;
+pub(crate) mod jumps;
+pub(crate) mod labels;
+pub(crate) mod lists;
+pub(crate) mod loops;
+pub(crate) mod returns;
+pub(crate) mod selections;

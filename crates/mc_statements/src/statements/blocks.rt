@@ -1,0 +1,198 @@
+//! Compound statements, local declarations and expression statements (C17 6.8.2, 6.8.3).
+ghost use Rattle.std.specs.Prelude.{◌≡◌, [], ◌∷◌, ◌++◌, None, Some, IfOk, option_map};
+ghost use Rattle.mc_typed.specs.Tree as t;
+ghost use Rattle.mc_typed.specs.Views.{effect_of, statement_of};
+ghost use Rattle.mc_typing.specs.declared.fault.FaultKind.TheVariants.{Mismatch};
+ghost use Rattle.mc_typing.specs.Faults.{fault, least_of};
+ghost use Rattle.mc_typing.specs.Scopes as s;
+ghost use Rattle.mc_typing.specs.Values.{judged};
+ghost use Rattle.mc_typing.specs.Statements as w;
+ghost use Rattle.mc_scopes.specs.Found.{judged_of};
+ghost use Rattle.mc_scopes.specs.Statements.{statements_of, declarators_of};
+ghost use Rattle.mc_scopes.specs.steps.Squeezed.{listed, squeezed_part};
+
+use crate::statements::joined;
+use crate::statements::lists::alone;
+use mc_scopes::faults::lesser;
+use mc_scopes::found::Judged;
+use mc_typed::{Declarator, Effect, Span, Statement};
+use mc_typing::{Fault, FaultKind};
+use std::alloc::{AllocError, Global};
+
+fn compound_of(
+    alloc: Global,
+    span: Span,
+    items: Option<Vec<Statement>>,
+) -> Result<Option<Vec<Statement>>, AllocError>
+    ensures { IfOk result (λ r. option_map statements_of r
+        ≡ option_map (λ items. w.alone (t.Compound items span))
+        (option_map statements_of items)) }
+{
+    match items {
+        Some(items) => Ok(Some(alone(alloc, Statement::Compound { items, span })?)),
+        None => Ok(None),
+    }
+}
+
+/// A compound statement.
+pub fn compound_statement(
+    alloc: Global,
+    span: Span,
+    items: Judged<Vec<Statement>>,
+) -> Result<Judged<Vec<Statement>>, AllocError>
+    ensures { IfOk result (λ r. (s : s.Scope) → judged_of statements_of r s
+        ≡ squeezed_part (w.compound_judged span (judged_of statements_of items s))) }
+{
+    let fault = joined::of_one(items.fault);
+    let value = compound_of(alloc, span, items.value)?;
+    Ok(Judged { fault, value })
+}
+
+fn declaration_of(
+    alloc: Global,
+    span: Span,
+    declarators: Option<Vec<Declarator>>,
+) -> Result<Option<Vec<Statement>>, AllocError>
+    ensures { IfOk result (λ r. option_map statements_of r
+        ≡ option_map (λ ds. w.alone (t.Declaration ds span))
+        (option_map declarators_of declarators)) }
+{
+    match declarators {
+        Some(declarators) => Ok(Some(alone(
+            alloc,
+            Statement::Declaration {
+                declarators,
+                span,
+                bit: None,
+            },
+        )?)),
+        None => Ok(None),
+    }
+}
+
+/// A local declaration.
+pub fn declaration_statement(
+    alloc: Global,
+    span: Span,
+    declarators: Judged<Vec<Declarator>>,
+) -> Result<Judged<Vec<Statement>>, AllocError>
+    ensures { IfOk result (λ r. (s : s.Scope) → judged_of statements_of r s
+        ≡ squeezed_part (w.declaration_judged span (judged_of declarators_of declarators s))) }
+{
+    let fault = joined::of_one(declarators.fault);
+    let value = declaration_of(alloc, span, declarators.value)?;
+    Ok(Judged { fault, value })
+}
+
+fn effect_statement_of(
+    alloc: Global,
+    span: Span,
+    effect: Option<Effect>,
+) -> Result<Option<Vec<Statement>>, AllocError>
+    ensures { IfOk result (λ r. option_map statements_of r
+        ≡ option_map (λ effect. w.alone (t.EffectStatement effect span))
+        (option_map effect_of effect)) }
+{
+    match effect {
+        Some(effect) => Ok(Some(alone(
+            alloc,
+            Statement::Effect {
+                effect,
+                span,
+                bit: None,
+            },
+        )?)),
+        None => Ok(None),
+    }
+}
+
+/// An expression statement.
+pub fn effect_statement(
+    alloc: Global,
+    span: Span,
+    effect: Judged<Effect>,
+) -> Result<Judged<Vec<Statement>>, AllocError>
+    ensures { IfOk result (λ r. (s : s.Scope) → judged_of statements_of r s
+        ≡ squeezed_part (w.effect_statement_judged span (judged_of effect_of effect s))) }
+{
+    let fault = joined::of_one(effect.fault);
+    let value = effect_statement_of(alloc, span, effect.value)?;
+    Ok(Judged { fault, value })
+}
+
+/// A statement of its own, which has this fault.
+pub(crate) fn leaf(
+    alloc: Global,
+    first: Option<Fault>,
+    one: Statement,
+) -> Result<Judged<Vec<Statement>>, AllocError>
+    ensures fault { IfOk result (λ r. r.fault ≡ first) }
+    ensures value { IfOk result (λ r.
+        option_map statements_of r.value ≡ Some (w.alone (statement_of one))) }
+{
+    let value = alone(alloc, one)?;
+    Ok(Judged {
+        fault: first,
+        value: Some(value),
+    })
+}
+
+/// A null statement.
+pub fn null_statement(alloc: Global, span: Span) -> Result<Judged<Vec<Statement>>, AllocError>
+    ensures { IfOk result (λ r. (s : s.Scope) → judged_of statements_of r s
+        ≡ squeezed_part (w.leaf [] (t.Null span) s)) }
+{
+    leaf(alloc, None, Statement::Null { span, bit: None })
+}
+
+/// No statements. Takes no memory.
+pub fn no_statements(alloc: Global) -> Judged<Vec<Statement>>
+    ensures { (s : s.Scope) → judged_of statements_of result s
+        ≡ judged [] (Some t.no_statements) s }
+{
+    Judged {
+        fault: None,
+        value: Some(Vec::new(alloc)),
+    }
+}
+
+// The first of a fault and one that may be there.
+fn first_of(fault: Fault, rest: Option<Fault>) -> Option<Fault>
+    ensures { result ≡ least_of (fault ∷ listed rest) }
+{
+    match rest {
+        Some(other) => lesser(Some(fault), Some(other)),
+        None => Some(fault),
+    }
+}
+
+/// A statement with an ordinary label, which is an outside form.
+pub fn named_label(span: Span, body: Judged<Vec<Statement>>) -> Judged<Vec<Statement>>
+    ensures { (s : s.Scope) → judged_of statements_of result s
+        ≡ squeezed_part (judged
+        (fault Mismatch span.start ++ (judged_of statements_of body s).faults) None s) }
+{
+    let fault = Fault {
+        kind: FaultKind::Mismatch,
+        at: span.start,
+    };
+    Judged {
+        fault: first_of(fault, body.fault),
+        value: None,
+    }
+}
+
+/// A `goto`, which is an outside form.
+pub fn goto_statement(span: Span) -> Judged<Vec<Statement>>
+    ensures { (s : s.Scope) → judged_of statements_of result s
+        ≡ judged (fault Mismatch span.start) None s }
+{
+    let fault = Fault {
+        kind: FaultKind::Mismatch,
+        at: span.start,
+    };
+    Judged {
+        fault: Some(fault),
+        value: None,
+    }
+}

@@ -1,0 +1,305 @@
+//! Selection statements (C17 6.8.4).
+ghost use Rattle.std.specs.Prelude.{◌≡◌, IfOk, option_map, option_and_then};
+ghost use Rattle.mc_value.specs.Conversions.{promoted};
+ghost use Rattle.mc_typed.specs.Sound.{type_of};
+ghost use Rattle.mc_typed.specs.Tree as t;
+ghost use Rattle.mc_typed.specs.Views.{expression_of, statement_of};
+ghost use Rattle.mc_tree.specs.Units as units;
+ghost use Rattle.mc_typing.specs.Scopes as s;
+ghost use Rattle.mc_typing.specs.Values as v;
+ghost use Rattle.mc_typing.specs.Values.{lift2, lift3};
+ghost use Rattle.mc_typing.specs.Expressions.{promote};
+ghost use Rattle.mc_typing.specs.Statements as w;
+ghost use Rattle.mc_scopes.specs.Found.{found_of, judged_of, value_of};
+ghost use Rattle.mc_scopes.specs.Statements.{statements_of};
+ghost use Rattle.mc_scopes.specs.steps.Squeezed.{squeezed_part};
+
+use crate::statements::lists::{alone, keyword, only_in};
+use mc_scopes::faults::{three_or_fault, two_or_fault};
+use mc_scopes::found::{Found, Judged, fails_integer, number_in};
+use mc_scopes::value::Value;
+use mc_scopes::{Base, conversions};
+use mc_tree::Statement as Tree;
+use mc_typed::{Expression, Span, Statement};
+use mc_typing::FaultKind;
+use mc_value::IntType;
+use std::alloc::{AllocError, Global};
+
+fn if_alone(
+    alloc: Global,
+    span: Span,
+    test: Expression,
+    chosen: Statement,
+) -> Result<Vec<Statement>, AllocError>
+    ensures { IfOk result (λ r. statements_of r ≡ w.alone
+        (t.If (expression_of test) (statement_of chosen) (w.keyword 2 span) span)) }
+{
+    let keyword = keyword(2, span)?;
+    let chosen = Box::new(alloc, chosen)?;
+    alone(
+        alloc,
+        Statement::If {
+            test,
+            chosen,
+            keyword,
+            span,
+            bit: None,
+        },
+    )
+}
+
+fn if_of(
+    alloc: Global,
+    span: Span,
+    test: Option<Expression>,
+    chosen: Option<Statement>,
+) -> Result<Option<Vec<Statement>>, AllocError>
+    ensures { IfOk result (λ r. option_map statements_of r
+        ≡ lift2 (λ e one. w.alone (t.If e one (w.keyword 2 span) span))
+        (option_map expression_of test) (option_map statement_of chosen)) }
+{
+    match test {
+        Some(test) => match chosen {
+            Some(chosen) => Ok(Some(if_alone(alloc, span, test, chosen)?)),
+            None => Ok(None),
+        },
+        None => Ok(None),
+    }
+}
+
+/// An `if` without `else`.
+pub fn if_statement(
+    alloc: Global,
+    span: Span,
+    test: Found,
+    chosen: Judged<Vec<Statement>>,
+) -> Result<Judged<Vec<Statement>>, AllocError>
+    ensures { IfOk result (λ r. (s : s.Scope) → judged_of statements_of r s
+        ≡ squeezed_part (w.if_judged span (found_of test s) (judged_of statements_of chosen s))) }
+{
+    let wrong = fails_integer(&test.value);
+    let fault = two_or_fault(
+        test.fault,
+        chosen.fault,
+        wrong,
+        FaultKind::Mismatch,
+        span.start,
+    );
+    let number = number_in(test.value);
+    let chosen = only_in(chosen.value);
+    let value = if_of(alloc, span, number, chosen)?;
+    Ok(Judged { fault, value })
+}
+
+fn if_else_alone(
+    alloc: Global,
+    span: Span,
+    test: Expression,
+    chosen: Statement,
+    other: Statement,
+) -> Result<Vec<Statement>, AllocError>
+    ensures { IfOk result (λ r. statements_of r ≡ w.alone
+        (t.IfElse (expression_of test) (statement_of chosen) (statement_of other)
+        (w.keyword 2 span) span)) }
+{
+    let keyword = keyword(2, span)?;
+    let chosen = Box::new(alloc, chosen)?;
+    let other = Box::new(alloc, other)?;
+    alone(
+        alloc,
+        Statement::IfElse {
+            test,
+            chosen,
+            other,
+            keyword,
+            span,
+            bit: None,
+        },
+    )
+}
+
+fn if_else_of(
+    alloc: Global,
+    span: Span,
+    test: Option<Expression>,
+    chosen: Option<Statement>,
+    other: Option<Statement>,
+) -> Result<Option<Vec<Statement>>, AllocError>
+    ensures { IfOk result (λ r. option_map statements_of r
+        ≡ lift3 (λ e one other. w.alone (t.IfElse e one other (w.keyword 2 span) span))
+        (option_map expression_of test) (option_map statement_of chosen)
+        (option_map statement_of other)) }
+{
+    match test {
+        Some(test) => match chosen {
+            Some(chosen) => match other {
+                Some(other) => Ok(Some(if_else_alone(alloc, span, test, chosen, other)?)),
+                None => Ok(None),
+            },
+            None => Ok(None),
+        },
+        None => Ok(None),
+    }
+}
+
+/// An `if` with its `else`.
+pub fn if_else_statement(
+    alloc: Global,
+    span: Span,
+    test: Found,
+    chosen: Judged<Vec<Statement>>,
+    other: Judged<Vec<Statement>>,
+) -> Result<Judged<Vec<Statement>>, AllocError>
+    ensures { IfOk result (λ r. (s : s.Scope) → judged_of statements_of r s
+        ≡ squeezed_part (w.if_else_judged span (found_of test s)
+        (judged_of statements_of chosen s) (judged_of statements_of other s))) }
+{
+    let wrong = fails_integer(&test.value);
+    let fault = three_or_fault(
+        test.fault,
+        chosen.fault,
+        other.fault,
+        wrong,
+        FaultKind::Mismatch,
+        span.start,
+    );
+    let number = number_in(test.value);
+    let chosen = only_in(chosen.value);
+    let other = only_in(other.value);
+    let value = if_else_of(alloc, span, number, chosen, other)?;
+    Ok(Judged { fault, value })
+}
+
+// ---- `switch` (C17 6.8.4.2)
+
+/// The promoted type of an integer.
+fn promoted_type(value: &Value) -> Option<IntType>
+    ensures { result ≡ option_map (λ e. promoted (type_of e)) (v.number_in (value_of value.now)) }
+{
+    match value {
+        Value::Number(number) => Some(mc_value::promote(number.integer_type())),
+        Value::Stored(_, of) => match of.base {
+            Base::Integer(integer) if of.lengths.is_empty() => Some(mc_value::promote(integer)),
+            _ => None,
+        },
+        _ => None,
+    }
+}
+
+/// The type of the labels of a `switch` on this expression (C17 6.8.4.2p5).
+pub fn label_type(value: &Found) -> Option<IntType>
+    ensures { result ≡ option_map (λ e. promoted (type_of e))
+        (option_and_then v.number_in (option_map value_of value.now.value)) }
+{
+    match &value.value {
+        Some(value) => promoted_type(value),
+        None => None,
+    }
+}
+
+// The items of a compound statement, taken out of it.
+fn items_of(alloc: Global, body: &mut Statement) -> Option<Vec<Statement>>
+    ensures { option_map statements_of result ≡ w.items_of (statement_of body.old) }
+{
+    match body {
+        Statement::Compound { items, .. } => Some(std::mem::replace(items, Vec::new(alloc))),
+        Statement::Label { .. }
+        | Statement::Declaration { .. }
+        | Statement::Null { .. }
+        | Statement::Effect { .. }
+        | Statement::If { .. }
+        | Statement::IfElse { .. }
+        | Statement::Switch { .. }
+        | Statement::For { .. }
+        | Statement::DoWhile { .. }
+        | Statement::Break { .. }
+        | Statement::Continue { .. }
+        | Statement::Return { .. } => None,
+    }
+}
+
+fn items_in(alloc: Global, body: Option<Statement>) -> Option<Vec<Statement>>
+    ensures { option_map statements_of result
+        ≡ option_and_then w.items_of (option_map statement_of body) }
+{
+    match body {
+        Some(mut body) => items_of(alloc, &mut body),
+        None => None,
+    }
+}
+
+fn is_compound(tree: &Tree<'_>) -> bool
+    ensures { result ≡ w.is_compound (units.statement_of tree.now) }
+{
+    matches!(tree, Tree::Compound { .. })
+}
+
+fn switch_alone(
+    alloc: Global,
+    span: Span,
+    value: Expression,
+    items: Vec<Statement>,
+) -> Result<Vec<Statement>, AllocError>
+    ensures { IfOk result (λ r. statements_of r ≡ w.alone
+        (t.Switch (promote (expression_of value)) (statements_of items)
+        (w.keyword 6 span) span)) }
+{
+    let keyword = keyword(6, span)?;
+    let value = conversions::promote(alloc, value)?;
+    alone(
+        alloc,
+        Statement::Switch {
+            value,
+            items,
+            keyword,
+            span,
+            bit: None,
+            absent: None,
+        },
+    )
+}
+
+fn switch_of(
+    alloc: Global,
+    span: Span,
+    value: Option<Expression>,
+    items: Option<Vec<Statement>>,
+) -> Result<Option<Vec<Statement>>, AllocError>
+    ensures { IfOk result (λ r. option_map statements_of r
+        ≡ lift2 (λ e items. w.alone (t.Switch (promote e) items (w.keyword 6 span) span))
+        (option_map expression_of value) (option_map statements_of items)) }
+{
+    match value {
+        Some(value) => match items {
+            Some(items) => Ok(Some(switch_alone(alloc, span, value, items)?)),
+            None => Ok(None),
+        },
+        None => Ok(None),
+    }
+}
+
+/// A `switch`, from what is found of its expression and of its body, which is this statement.
+pub fn switch_statement(
+    alloc: Global,
+    span: Span,
+    tree: &Tree<'_>,
+    value: Found,
+    body: Judged<Vec<Statement>>,
+) -> Result<Judged<Vec<Statement>>, AllocError>
+    ensures { IfOk result (λ r. (s : s.Scope) → judged_of statements_of r s
+        ≡ squeezed_part (w.switch_judged span (units.statement_of tree.now)
+        (found_of value s) (judged_of statements_of body s))) }
+{
+    let wrong = fails_integer(&value.value) || !is_compound(tree);
+    let fault = two_or_fault(
+        value.fault,
+        body.fault,
+        wrong,
+        FaultKind::Mismatch,
+        span.start,
+    );
+    let number = number_in(value.value);
+    let items = items_in(alloc, only_in(body.value));
+    let value = switch_of(alloc, span, number, items)?;
+    Ok(Judged { fault, value })
+}
