@@ -1,0 +1,11 @@
+pub mod Exits
+pub mod Trees
+pub mod Bodies
+pub mod Turns
+pub mod Parts
+pub mod Arms
+pub mod StatementArms
+pub mod InitializerArms
+pub mod Declarators
+pub mod DeclarationArms
+pub mod UnitArms

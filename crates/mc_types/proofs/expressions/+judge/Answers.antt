@@ -1,0 +1,375 @@
+-- Each exit of a node, and each turn of a loop over parts.
+use Rattle.std.proofs.Common.{◌∙◌, ◌+◌, false, drop, map, option_map, length, List, ℕ, Option, refl, sym, ap, rules, inl, inr}
+use Rattle.std.proofs.lemmas.Result.{IfOk-weaker}
+use Rattle.mc_tree.specs.Tree.{span_of}
+use Rattle.mc_tree.specs.Tree as tree
+use Rattle.mc_tree.specs.Views.{name_of, tag_of, array_length_of, declarator_of, declarators_from, enumerator_of, enumerators_from, expression_of, expressions_from, lengths_from, member_of, members_from, parameter_of, parameters_from, specifier_of, specifiers_from}
+use Rattle.mc_typed.specs.Views.{argument_of}
+use Rattle.mc_typed.specs.Tree.{Argument}
+use Rattle.mc_typing.specs.Values.{Judged}
+use Rattle.mc_typing.specs.Declarators.{Listed, function_member_listed}
+use Rattle.mc_typing.specs.Scopes.{Scope, prototype}
+use Rattle.mc_typing.specs.Types.{CType, ParameterKind}
+use Rattle.mc_typing.specs.Calls.{Given}
+use Rattle.mc_typing.specs.Declarators.{after_faults, joined}
+use Rattle.mc_typing.specs.Declarations.{both_lists}
+use Rattle.mc_typing.specs.Judgement.{after, judge, judge_arguments, judge_declarator, judge_declarators, judge_enumerator, judge_enumerators, judge_lengths, judge_member, judge_members, judge_parameter, judge_parameter_list, judge_specifier, judge_specifiers, specifiers_judged, typed_by}
+use Rattle.mc_scopes.specs.Types.{kind_of, type_of}
+use Rattle.mc_scopes.specs.Listed.{listed_of}
+use Rattle.mc_scopes.specs.Prototypes.{counted_of, cut_to, prototype_left_by, prototype_of}
+use Rattle.mc_scopes.specs.Views.{scope_of}
+use Rattle.mc_scopes.specs.Found.{found_of, judged_of}
+use Rattle.mc_scopes.specs.Given.{arguments_of, given_of, items_of}
+use Rattle.mc_declarations.specs.Declarations.{lengths_in, listed_members, listed_parameters, number_judged, opened_of, squeezed_listed}
+use Rattle.mc_expressions.specs.steps.Callees.{meaning_of_callee}
+use Rattle.mc_expressions.specs.steps.Gathered.{gathered, squeezed_given}
+use Rattle.mc_scopes.specs.steps.Squeezed.{listed, squeezed_part}
+use Rattle.mc_declarations.proofs.DeclarationNodes.{lengths_end, parameters_end, specifiers_end}
+use Rattle.mc_declarations.proofs.Growth.{prototype_left}
+use Rattle.mc_types.proofs.Exits.{found_as, found_each, found_with}
+use Rattle.mc_types.proofs.Trees.{array_length_of-Given, declarator_of-EmptyFunction, declarator_of-Function, declarator_of-VoidFunction, declarator_of-Object, enumerator_of-Valued, expression_of-Assignment, expression_of-Binary, expression_of-Cast, expression_of-Character, expression_of-Constant, expression_of-Comma, expression_of-Conditional, expression_of-Index, expression_of-Member, expression_of-PostfixStep, expression_of-PrefixStep, expression_of-Unary, member_of-parts, parameter_of-parts, specifier_of-Enumeration, specifier_of-EnumerationTag, specifier_of-Structure, specifier_of-Word}
+use Rattle.mc_types.proofs.Arms.{argument_turn, count_listed, none_before, in_assignment, in_binary, in_call, in_cast, in_comma, in_conditional, in_index, in_member, in_postfix, in_prefix, in_unary}
+use Rattle.mc_types.proofs.Declarators.{in_enumeration, in_function_member, in_object_member, in_parameter, in_structure, in_typed, in_valued}
+use Rattle.mc_types.proofs.Turns.{last_turn, next_turn}
+use Rattle.mc_types.proofs.Parts.{joined_first, judged_last, judged_turn, lengths_turn, listed_after, listed_turn, lists_first, parameters_turn, specifiers_first, specifiers_turn, squeezed_judged, squeezed_last, squeezed_parameters}
+use Rattle.mc_types.proofs.expressions.+judge.Goals as goal
+
+pub expression-returns-in_ok-object-in-Member : goal.expression-returns-in_ok-object-in-Member
+expression-returns-in_ok-object-in-Member t c =
+    let w = c.in-Member in
+    let s = scope_of c.args.scope.now in
+    let u = scope_of c.expression-in-Member.new.scope in
+    rw (w.is, expression_of-Member w.object w.name w.span)
+    (found_as c.member.result (λ z. found_of z u) _ _ c.member.ensures
+    (in_member (name_of w.name) w.span (expression_of w.object.value) s (found_of c.in_ok-object-in-Member.object u) (rw c.deref-in-Member.ensures at c.in_ok-object-in-Member.ensures)))
+
+pub expression-returns-in_ok-operand-in-PostfixStep : goal.expression-returns-in_ok-operand-in-PostfixStep
+expression-returns-in_ok-operand-in-PostfixStep t c =
+    let w = c.in-PostfixStep in
+    let s = scope_of c.args.scope.now in
+    let u = scope_of c.expression-in-PostfixStep.new.scope in
+    rw (w.is, expression_of-PostfixStep w.operator w.operand w.span)
+    (found_with c.postfix_step.result found_of u _ _ c.postfix_step.ensures
+    (in_postfix w.operator w.span (expression_of w.operand.value) s (found_of c.in_ok-operand-in-PostfixStep.operand u) (rw c.deref-in-PostfixStep.ensures at c.in_ok-operand-in-PostfixStep.ensures)))
+
+pub expression-returns-in_ok-operand-in-PrefixStep : goal.expression-returns-in_ok-operand-in-PrefixStep
+expression-returns-in_ok-operand-in-PrefixStep t c =
+    let w = c.in-PrefixStep in
+    let s = scope_of c.args.scope.now in
+    let u = scope_of c.expression-in-PrefixStep.new.scope in
+    rw (w.is, expression_of-PrefixStep w.operator w.operand w.span)
+    (found_with c.prefix_step.result found_of u _ _ c.prefix_step.ensures
+    (in_prefix w.operator w.span (expression_of w.operand.value) s (found_of c.in_ok-operand-in-PrefixStep.operand u) (rw c.deref-in-PrefixStep.ensures at c.in_ok-operand-in-PrefixStep.ensures)))
+
+pub expression-returns-in_ok-operand-in-Unary : goal.expression-returns-in_ok-operand-in-Unary
+expression-returns-in_ok-operand-in-Unary t c =
+    let w = c.in-Unary in
+    let s = scope_of c.args.scope.now in
+    let u = scope_of c.expression-in-Unary.new.scope in
+    rw (w.is, expression_of-Unary w.operator w.operand w.span)
+    (found_with c.unary.result found_of u _ _ c.unary.ensures
+    (in_unary w.operator w.span (expression_of w.operand.value) s (found_of c.in_ok-operand-in-Unary.operand u) (rw c.deref-in-Unary.ensures at c.in_ok-operand-in-Unary.ensures)))
+
+pub expression-returns-in_ok-index-in-Index : goal.expression-returns-in_ok-index-in-Index
+expression-returns-in_ok-index-in-Index t c =
+    let w = c.in-Index in
+    let s = scope_of c.args.scope.now in
+    let r = scope_of c.expression-in-Index.new.scope in
+    let u = scope_of c.expression-in-Index-2.new.scope in
+    rw (w.is, expression_of-Index w.array w.index w.span)
+    (found_as c.index.result (λ z. found_of z u) _ _ c.index.ensures
+    (in_index w.span (expression_of w.array.value) (expression_of w.index.value) s (found_of c.in_ok-array-in-Index.array r) (found_of c.in_ok-index-in-Index.index u) (rw c.deref-in-Index.ensures at c.in_ok-array-in-Index.ensures) (rw c.deref-in-Index-2.ensures at c.in_ok-index-in-Index.ensures)))
+
+pub expression-returns-in_ok-right-in-Binary : goal.expression-returns-in_ok-right-in-Binary
+expression-returns-in_ok-right-in-Binary t c =
+    let w = c.in-Binary in
+    let s = scope_of c.args.scope.now in
+    let r = scope_of c.expression-in-Binary.new.scope in
+    let u = scope_of c.expression-in-Binary-2.new.scope in
+    rw (w.is, expression_of-Binary w.operator w.left w.right w.span)
+    (found_with c.binary.result found_of u _ _ c.binary.ensures
+    (in_binary w.operator w.span (expression_of w.left.value) (expression_of w.right.value) s (found_of c.in_ok-left-in-Binary.left r) (found_of c.in_ok-right-in-Binary.right u) (rw c.deref-in-Binary.ensures at c.in_ok-left-in-Binary.ensures) (rw c.deref-in-Binary-2.ensures at c.in_ok-right-in-Binary.ensures)))
+
+pub expression-returns-in_ok-value-in-Assignment : goal.expression-returns-in_ok-value-in-Assignment
+expression-returns-in_ok-value-in-Assignment t c =
+    let w = c.in-Assignment in
+    let s = scope_of c.args.scope.now in
+    let r = scope_of c.expression-in-Assignment.new.scope in
+    let u = scope_of c.expression-in-Assignment-2.new.scope in
+    rw (w.is, expression_of-Assignment w.operator w.target w.value w.span)
+    (found_as c.assignment.result (λ z. found_of z u) _ _ c.assignment.ensures
+    (in_assignment w.operator w.span (expression_of w.target.value) (expression_of w.value.value) s (found_of c.in_ok-target-in-Assignment.target r) (found_of c.in_ok-value-in-Assignment.value u) (rw c.deref-in-Assignment.ensures at c.in_ok-target-in-Assignment.ensures) (rw c.deref-in-Assignment-2.ensures at c.in_ok-value-in-Assignment.ensures)))
+
+pub expression-returns-in_ok-other-in-Conditional : goal.expression-returns-in_ok-other-in-Conditional
+expression-returns-in_ok-other-in-Conditional t c =
+    let w = c.in-Conditional in
+    let s = scope_of c.args.scope.now in
+    let q = scope_of c.expression-in-Conditional.new.scope in
+    let r = scope_of c.expression-in-Conditional-2.new.scope in
+    let u = scope_of c.expression-in-Conditional-3.new.scope in
+    rw (w.is, expression_of-Conditional w.test w.chosen w.other w.span)
+    (found_with c.conditional.result found_of u _ _ c.conditional.ensures
+    (in_conditional w.span (expression_of w.test.value) (expression_of w.chosen.value) (expression_of w.other.value) s (found_of c.in_ok-test-in-Conditional.test q) (found_of c.in_ok-chosen-in-Conditional.chosen r) (found_of c.in_ok-other-in-Conditional.other u) (rw c.deref-in-Conditional.ensures at c.in_ok-test-in-Conditional.ensures) (rw c.deref-in-Conditional-2.ensures at c.in_ok-chosen-in-Conditional.ensures) (rw c.deref-in-Conditional-3.ensures at c.in_ok-other-in-Conditional.ensures)))
+
+pub expression-returns-in_ok-found-in-Cast : goal.expression-returns-in_ok-found-in-Cast
+expression-returns-in_ok-found-in-Cast t c =
+    let w = c.in-Cast in
+    let s = scope_of c.args.scope.now in
+    let r = scope_of c.typed.new.scope in
+    let u = scope_of c.expression-in-Cast.new.scope in
+    rw (w.is, expression_of-Cast w.words w.stars w.type_span w.operand w.span)
+    (found_with c.cast.result found_of u _ _ c.cast.ensures
+    (rw c.deref-in-Cast-3.ensures (in_cast w.span (specifiers_from (map specifier_of w.words.items)) w.stars w.type_span (expression_of w.operand.value) s (judged_of type_of c.in_ok-of-in-Cast.of r) (found_of c.in_ok-found-in-Cast.found u) (rw c.deref-in-Cast.ensures.value at c.in_ok-of-in-Cast.ensures) (rw c.deref-in-Cast-2.ensures at c.in_ok-found-in-Cast.ensures))))
+
+pub expression-returns-in-Constant : goal.expression-returns-in-Constant
+expression-returns-in-Constant t c =
+    let w = c.in-Constant in
+    rw (w.is, expression_of-Constant w.value w.decimal w.unsigned w.longs w.span)
+    (c.constant.ensures (scope_of c.args.scope.now))
+
+pub expression-returns-in-Character : goal.expression-returns-in-Character
+expression-returns-in-Character t c =
+    let w = c.in-Character in
+    rw (w.is, expression_of-Character w.value w.span)
+    (c.character.ensures (scope_of c.args.scope.now))
+
+pub expression-returns-in_ok-given-in-Comma : goal.expression-returns-in_ok-given-in-Comma
+expression-returns-in_ok-given-in-Comma t c =
+    let w = c.in-Comma in
+    let u = scope_of c.arguments.new.scope in
+    rw (w.is, expression_of-Comma w.operands w.span)
+    (c.comma.ensures u ∙ in_comma w.span (expressions_from (map expression_of w.operands.items)) (scope_of c.args.scope.now) (given_of arguments_of c.in_ok-given-in-Comma.given u) (rw c.deref-in-Comma.ensures.value at c.in_ok-given-in-Comma.ensures))
+
+pub call-returns : goal.call-returns
+call-returns t c =
+    let s = scope_of c.args.scope.now in
+    let u = scope_of c.arguments.new.scope in
+    let all = expressions_from (map expression_of c.args.trees.now) in
+    found_as c.call.result (λ z. found_of z (scope_of c.call.new.scope)) _ _ c.call.ensures
+    (in_call (name_of c.args.name.now) (length c.args.trees.now) c.args.span all s (meaning_of_callee c.in_ok-callee.callee) (map kind_of c.parameters.result.now) (given_of arguments_of c.in_ok-given.given u) (count_listed c.args.trees.now) c.parameters.ensures c.in_ok-callee.ensures.parameters c.in_ok-callee.ensures.found c.in_ok-given.ensures)
+
+pub arguments-loop-tree-init : goal.arguments-loop-tree-init
+arguments-loop-tree-init t c =
+    let s = scope_of c.args.scope.now in
+    let all = judge_arguments (expressions_from (map expression_of c.args.trees.now)) (map kind_of c.args.parameters.now) s in
+    ap (λ (x : Given (List Argument)). squeezed_given (gathered x all)) (c.none_given-given.ensures s)
+    ∙ none_before s all
+
+pub arguments-loop-tree-preserved : goal.arguments-loop-tree-preserved
+arguments-loop-tree-preserved t c =
+    let ps = map kind_of c.loop-tree.left.now in
+    let later = expressions_from (map expression_of (drop (c.loop-tree.tree-index + 1) c.args.trees.now)) in
+    next_turn c.args.trees.now c.loop-tree.tree-index c.tree-item.result (λ ts. squeezed_given (gathered (given_of items_of c.loop-tree.given (scope_of c.loop-tree.scope)) (judge_arguments (expressions_from (map expression_of ts)) (map kind_of c.loop-tree.left.now) (scope_of c.loop-tree.scope)))) _ _ (search rules) c.tree-item.is
+    (rw c.rest_of-left.ensures (c.in_ok-given.ensures ps later (sym c.first_of.ensures))) c.loop-tree.invariant
+
+pub arguments-returns : goal.arguments-returns
+arguments-returns t c =
+    c.given_for.ensures (scope_of c.loop-tree.scope) ∙ last_turn c.args.trees.now c.loop-tree.tree-index (λ ts. squeezed_given (gathered (given_of items_of c.loop-tree.given (scope_of c.loop-tree.scope)) (judge_arguments (expressions_from (map expression_of ts)) (map kind_of c.loop-tree.left.now) (scope_of c.loop-tree.scope)))) _ (search rules) c.loop-tree.invariant
+
+pub more_arguments-returns : goal.more_arguments-returns
+more_arguments-returns t c =
+    let s = scope_of c.args.scope.now in
+    let r = scope_of c.expression.new.scope in
+    let u = scope_of c.argument.new.scope in
+    IfOk-weaker c.gather.result _ _ (λ z h ps later first. argument_turn _ (expression_of c.args.tree.now) s u (found_of c.in_ok-found.found r) (given_of items_of c.args.given s) (given_of items_of z u) (given_of argument_of c.in_ok-one.one u) ps later c.in_ok-found.ensures (rw c.span.ensures at c.in_ok-one.ensures) (h u u) first) c.gather.ensures
+
+pub typed-returns : goal.typed-returns
+typed-returns t c =
+    let u = scope_of c.specifiers.new.scope in
+    c.typed_by.ensures u ∙ in_typed c.args.at c.args.alone (specifiers_from (map specifier_of c.args.trees.now)) (scope_of c.args.scope.now) (judged_of type_of c.in_ok-found.found u) c.in_ok-found.ensures
+
+pub specifiers-loop-tree-init : goal.specifiers-loop-tree-init
+specifiers-loop-tree-init t c =
+    let s = scope_of c.args.scope.now in
+    let all = judge_specifiers c.args.alone (specifiers_from (map specifier_of c.args.trees.now)) s in
+    ap (λ (x : Judged CType). squeezed_part (specifiers_judged x all)) (c.no_specifier-found.ensures s)
+    ∙ specifiers_first s all
+
+pub specifiers-loop-tree-preserved : goal.specifiers-loop-tree-preserved
+specifiers-loop-tree-preserved t c =
+    next_turn c.args.trees.now c.loop-tree.tree-index c.tree-item.result (λ ts. squeezed_part (specifiers_judged (judged_of type_of c.loop-tree.found (scope_of c.loop-tree.scope)) (judge_specifiers c.args.alone (specifiers_from (map specifier_of ts)) (scope_of c.loop-tree.scope)))) _ _ (search rules) c.tree-item.is
+    (specifiers_turn (judged_of type_of c.loop-tree.found (scope_of c.loop-tree.scope)) (judged_of type_of c.specifiers-found.result (scope_of c.specifier.new.scope)) (judged_of type_of c.in_ok-one.one (scope_of c.specifier.new.scope)) (judge_specifier c.args.alone (specifier_of c.tree-item.result) (scope_of c.loop-tree.scope)) (λ v. judge_specifiers c.args.alone (specifiers_from (map specifier_of (drop (c.loop-tree.tree-index + 1) c.args.trees.now))) v) c.in_ok-one.ensures (c.specifiers-found.ensures (scope_of c.specifier.new.scope))) c.loop-tree.invariant
+
+pub specifiers-returns : goal.specifiers-returns
+specifiers-returns t c =
+    sym (squeezed_judged type_of c.loop-tree.found (scope_of c.loop-tree.scope)) ∙ sym (specifiers_end (judged_of type_of c.loop-tree.found (scope_of c.loop-tree.scope))) ∙ last_turn c.args.trees.now c.loop-tree.tree-index (λ ts. squeezed_part (specifiers_judged (judged_of type_of c.loop-tree.found (scope_of c.loop-tree.scope)) (judge_specifiers c.args.alone (specifiers_from (map specifier_of ts)) (scope_of c.loop-tree.scope)))) _ (search rules) c.loop-tree.invariant
+
+pub specifier-returns-in-Word : goal.specifier-returns-in-Word
+specifier-returns-in-Word t c =
+    rw (c.in-Word.is, specifier_of-Word c.in-Word.word c.in-Word.span) (c.no_specifier.ensures (scope_of c.args.scope.now))
+
+pub specifier-returns-in-EnumerationTag : goal.specifier-returns-in-EnumerationTag
+specifier-returns-in-EnumerationTag t c =
+    let w = c.in-EnumerationTag in
+    rw (w.is, specifier_of-EnumerationTag w.tag w.span)
+    (sym (squeezed_judged type_of c.enumeration_tag.result (scope_of c.args.scope.now)) ∙ ap squeezed_part c.enumeration_tag.ensures)
+
+pub specifier-returns-in_ok-fault-in-Structure : goal.specifier-returns-in_ok-fault-in-Structure
+specifier-returns-in_ok-fault-in-Structure t c =
+    let w = c.in-Structure in
+    let s = scope_of c.args.scope.now in
+    let r = scope_of c.open_structure.new.scope in
+    let u = scope_of c.members.new.scope in
+    rw (w.is, specifier_of-Structure w.tag w.list w.span)
+    (found_each c.close_structure.result (λ z. judged_of type_of z (scope_of c.close_structure.new.scope)) u _ _ c.close_structure.ensures
+    (in_structure c.args.alone (tag_of w.tag) (members_from (map member_of w.list.items)) w.span s u (opened_of c.in_ok-opened-in-Structure.opened r) (listed_members c.in_ok-fault-in-Structure.fault c.members.new.parts u) c.in_ok-opened-in-Structure.ensures (rw (c.deref.ensures.value, c.new-parts.ensures) at c.in_ok-fault-in-Structure.ensures)))
+
+pub specifier-returns-in_ok-found-in-Enumeration : goal.specifier-returns-in_ok-found-in-Enumeration
+specifier-returns-in_ok-found-in-Enumeration t c =
+    let w = c.in-Enumeration in
+    let r = scope_of c.enter_enumeration.new.scope in
+    let u = scope_of c.enumerators.new.scope in
+    rw (w.is, specifier_of-Enumeration w.tag w.list w.span)
+    (c.enumeration.ensures u ∙ in_enumeration c.args.alone (tag_of w.tag) (enumerators_from (map enumerator_of w.list.items)) w.span (scope_of c.args.scope.now) r (listed c.in_ok-own-in-Enumeration.own) (number_judged c.in_ok-found-in-Enumeration.found u) c.in_ok-own-in-Enumeration.ensures.fault c.in_ok-own-in-Enumeration.ensures.scope (rw c.deref-in-Enumeration.ensures.value at c.in_ok-found-in-Enumeration.ensures))
+
+pub members-loop-tree-init : goal.members-loop-tree-init
+members-loop-tree-init t c =
+    refl
+
+pub members-loop-tree-preserved : goal.members-loop-tree-preserved
+members-loop-tree-preserved t c =
+    next_turn c.args.trees.now c.loop-tree.tree-index c.tree-item.result (λ ts. squeezed_listed (after_faults (listed c.loop-tree.fault) (judge_members (members_from (map member_of ts)) (map listed_of c.loop-tree.parts) (scope_of c.loop-tree.scope)))) _ _ (search rules) c.tree-item.is
+    (listed_turn c.loop-tree.fault _ (judge_member (member_of c.tree-item.result) (map listed_of c.loop-tree.parts) (scope_of c.loop-tree.scope)) (listed_members c.in_ok-one.one c.member.new.parts (scope_of c.member.new.scope)) (λ ms v. judge_members (members_from (map member_of (drop (c.loop-tree.tree-index + 1) c.args.trees.now))) ms v) c.in_ok-one.ensures c.first_fault-fault.ensures) c.loop-tree.invariant
+
+pub members-returns : goal.members-returns
+members-returns t c =
+    sym (squeezed_last c.loop-tree.fault (map listed_of c.loop-tree.parts) (scope_of c.loop-tree.scope)) ∙ last_turn c.args.trees.now c.loop-tree.tree-index (λ ts. squeezed_listed (after_faults (listed c.loop-tree.fault) (judge_members (members_from (map member_of ts)) (map listed_of c.loop-tree.parts) (scope_of c.loop-tree.scope)))) _ (search rules) c.loop-tree.invariant
+
+pub member-returns : goal.member-returns
+member-returns t c =
+    let m = c.args.tree.now in
+    let r = scope_of c.typed.new.scope in
+    let u = scope_of c.declarators.new.scope in
+    rw (member_of-parts m)
+    (listed_after (typed_by m.span.start (specifiers_from (map specifier_of m.specifiers.items)) (judge_specifiers false (specifiers_from (map specifier_of m.specifiers.items)) (scope_of c.args.scope.now))) (judged_of type_of c.in_ok-of.of r) (λ v w. judge_declarators v (declarators_from (map declarator_of m.declarators.items)) (map listed_of c.args.parts.now) w) (listed_members c.in_ok-fault.fault c.declarators.new.parts u) _ (rw c.deref.ensures.value at c.in_ok-of.ensures) (rw c.deref-2.ensures.value at c.in_ok-fault.ensures) c.first_fault.ensures)
+
+pub declarators-loop-tree-init : goal.declarators-loop-tree-init
+declarators-loop-tree-init t c =
+    refl
+
+pub declarators-loop-tree-preserved : goal.declarators-loop-tree-preserved
+declarators-loop-tree-preserved t c =
+    next_turn c.args.trees.now c.loop-tree.tree-index c.tree-item.result (λ ts. squeezed_listed (after_faults (listed c.loop-tree.fault) (judge_declarators (option_map type_of c.args.base.now) (declarators_from (map declarator_of ts)) (map listed_of c.loop-tree.parts) (scope_of c.loop-tree.scope)))) _ _ (search rules) c.tree-item.is
+    (listed_turn c.loop-tree.fault _ (judge_declarator (option_map type_of c.args.base.now) (declarator_of c.tree-item.result) (map listed_of c.loop-tree.parts) (scope_of c.loop-tree.scope)) (listed_members c.in_ok-one.one c.declarator.new.parts (scope_of c.declarator.new.scope)) (λ ms v. judge_declarators (option_map type_of c.args.base.now) (declarators_from (map declarator_of (drop (c.loop-tree.tree-index + 1) c.args.trees.now))) ms v) c.in_ok-one.ensures c.first_fault-fault.ensures) c.loop-tree.invariant
+
+pub declarators-returns : goal.declarators-returns
+declarators-returns t c =
+    sym (squeezed_last c.loop-tree.fault (map listed_of c.loop-tree.parts) (scope_of c.loop-tree.scope)) ∙ last_turn c.args.trees.now c.loop-tree.tree-index (λ ts. squeezed_listed (after_faults (listed c.loop-tree.fault) (judge_declarators (option_map type_of c.args.base.now) (declarators_from (map declarator_of ts)) (map listed_of c.loop-tree.parts) (scope_of c.loop-tree.scope)))) _ (search rules) c.loop-tree.invariant
+
+pub declarator-returns-in_ok-given-in-Object : goal.declarator-returns-in_ok-given-in-Object
+declarator-returns-in_ok-given-in-Object t c =
+    let w = c.in-Object in
+    let s = scope_of c.args.scope.now in
+    let r = scope_of c.lengths.new.scope in
+    rw (w.is, declarator_of-Object w.stars w.name w.list w.span)
+    (found_as c.member.result (λ z. listed_members z c.member.new.members r) _ _ c.member.ensures
+    (rw c.deref-in-Object.ensures.value (in_object_member (option_map type_of c.args.base.now) w.stars (name_of w.name) (lengths_from (map array_length_of w.list.items)) w.span (map listed_of c.args.parts.now) s (judged_of lengths_in c.in_ok-given-in-Object.given r) (rw c.deref.ensures.value at c.in_ok-given-in-Object.ensures))))
+
+pub declarator-returns-in_ok-found-in-Function : goal.declarator-returns-in_ok-found-in-Function
+declarator-returns-in_ok-found-in-Function t c =
+    let w = c.in-Function in
+    let s = scope_of c.args.scope.now in
+    rw (w.is, declarator_of-Function w.stars w.name w.list w.list_span w.span)
+    (found_each c.function_member.result (λ z. listed_members z c.function_member.new.members (scope_of c.prototype.new.scope)) s _ _ c.function_member.ensures
+    (ap (λ (v : Scope). squeezed_listed (function_member_listed (name_of w.name) (map listed_of c.args.parts.now) (listed_parameters c.in_ok-found-in-Function.found s) v)) c.in_ok-found-in-Function.ensures.scope
+    ∙ in_function_member (option_map type_of c.args.base.now) w.stars (name_of w.name) (tree.Listed (parameters_from (map parameter_of w.list.items)) w.list_span) w.span (map listed_of c.args.parts.now) s s (listed_parameters c.in_ok-found-in-Function.found s) (rw c.deref-in-Function.ensures.value at c.in_ok-found-in-Function.ensures.found s)))
+
+pub declarator-returns-in-EmptyFunction : goal.declarator-returns-in-EmptyFunction
+declarator-returns-in-EmptyFunction t c =
+    let w = c.in-EmptyFunction in
+    let s = scope_of c.args.scope.now in
+    elim w.is [
+      | inl x ↦ rw (x.3, declarator_of-EmptyFunction x.0 w.name x.1 x.2)
+          (found_each c.function_member-in-EmptyFunction.result (λ z. listed_members z c.function_member-in-EmptyFunction.new.members s) s _ _ c.function_member-in-EmptyFunction.ensures
+          (in_function_member (option_map type_of c.args.base.now) x.0 (name_of w.name) (tree.Empty x.1) x.2 (map listed_of c.args.parts.now) s s (listed_parameters c.no_parameters.result s) (c.no_parameters.ensures s)))
+      | inr x ↦ rw (x.3, declarator_of-VoidFunction x.0 w.name x.1 x.2)
+          (found_each c.function_member-in-EmptyFunction.result (λ z. listed_members z c.function_member-in-EmptyFunction.new.members s) s _ _ c.function_member-in-EmptyFunction.ensures
+          (in_function_member (option_map type_of c.args.base.now) x.0 (name_of w.name) (tree.Void x.1) x.2 (map listed_of c.args.parts.now) s s (listed_parameters c.no_parameters.result s) (c.no_parameters.ensures s)))
+    ]
+
+pub enumerator-returns-in_ok-found-in-Valued : goal.enumerator-returns-in_ok-found-in-Valued
+enumerator-returns-in_ok-found-in-Valued t c =
+    let w = c.in-Valued in
+    let r = scope_of c.expression.new.scope in
+    rw (w.is, enumerator_of-Valued w.name w.given)
+    (found_as c.valued_enumerator.result (λ z. number_judged z (scope_of c.valued_enumerator.new.scope)) _ _ (rw (c.span.ensures, c.deref-in-Valued.ensures) at c.valued_enumerator.ensures)
+    (in_valued (name_of w.name) (expression_of w.given.value) c.args.value (scope_of c.args.scope.now) (found_of c.in_ok-found-in-Valued.found r) (rw c.deref.ensures at c.in_ok-found-in-Valued.ensures)))
+
+pub enumerators-loop-tree-init : goal.enumerators-loop-tree-init
+enumerators-loop-tree-init t c =
+    refl
+
+pub enumerators-loop-tree-preserved : goal.enumerators-loop-tree-preserved
+enumerators-loop-tree-preserved t c =
+    next_turn c.args.trees.now c.loop-tree.tree-index c.tree-item.result (λ ts. squeezed_part (after (listed c.loop-tree.fault) (judge_enumerators (enumerators_from (map enumerator_of ts)) c.loop-tree.value (scope_of c.loop-tree.scope)))) _ _ (search rules) c.tree-item.is
+    (judged_turn c.loop-tree.fault _ (judge_enumerator (enumerator_of c.tree-item.result) c.loop-tree.value (scope_of c.loop-tree.scope)) (number_judged c.in_ok-one.one (scope_of c.enumerator.new.scope)) (λ w v. judge_enumerators (enumerators_from (map enumerator_of (drop (c.loop-tree.tree-index + 1) c.args.trees.now))) w v) c.in_ok-one.ensures c.first_fault-fault.ensures) c.loop-tree.invariant
+
+pub enumerators-returns : goal.enumerators-returns
+enumerators-returns t c =
+    sym (judged_last c.loop-tree.fault c.loop-tree.value (scope_of c.loop-tree.scope)) ∙ last_turn c.args.trees.now c.loop-tree.tree-index (λ ts. squeezed_part (after (listed c.loop-tree.fault) (judge_enumerators (enumerators_from (map enumerator_of ts)) c.loop-tree.value (scope_of c.loop-tree.scope)))) _ (search rules) c.loop-tree.invariant
+
+pub lengths-loop-tree-init : goal.lengths-loop-tree-init
+lengths-loop-tree-init t c =
+    let s = scope_of c.args.scope.now in
+    let all = judge_lengths (lengths_from (map array_length_of c.args.trees.now)) s in
+    ap (λ (x : Judged (List ℕ)). squeezed_part (both_lists x all)) (c.no_lengths-list.ensures s)
+    ∙ lists_first s all
+
+pub lengths-loop-tree-preserved : goal.lengths-loop-tree-preserved
+lengths-loop-tree-preserved t c =
+    next_turn c.args.trees.now c.loop-tree.tree-index c.tree-item.result (λ ts. squeezed_part (both_lists (judged_of lengths_in c.loop-tree.list (scope_of c.loop-tree.scope)) (judge_lengths (lengths_from (map array_length_of ts)) (scope_of c.loop-tree.scope)))) _ _ (search rules) c.tree-item.is
+    (c.in_ok-list.ensures (lengths_from (map array_length_of (drop (c.loop-tree.tree-index + 1) c.args.trees.now)))) c.loop-tree.invariant
+
+pub lengths-returns : goal.lengths-returns
+lengths-returns t c =
+    sym (squeezed_judged lengths_in c.loop-tree.list (scope_of c.loop-tree.scope)) ∙ sym (lengths_end (judged_of lengths_in c.loop-tree.list (scope_of c.loop-tree.scope))) ∙ last_turn c.args.trees.now c.loop-tree.tree-index (λ ts. squeezed_part (both_lists (judged_of lengths_in c.loop-tree.list (scope_of c.loop-tree.scope)) (judge_lengths (lengths_from (map array_length_of ts)) (scope_of c.loop-tree.scope)))) _ (search rules) c.loop-tree.invariant
+
+pub more_lengths-returns-in_ok-found-in-Given : goal.more_lengths-returns-in_ok-found-in-Given
+more_lengths-returns-in_ok-found-in-Given t c =
+    let w = c.in-Given in
+    let r = scope_of c.expression.new.scope in
+    let s = scope_of c.args.scope.now in
+    rw (w.is, array_length_of-Given w.value)
+    (IfOk-weaker c.more_lengths.result _ _ (λ z h rest. lengths_turn (span_of (expression_of w.value.value)).start (judged_of lengths_in c.args.list s) (judged_of lengths_in z r) (found_of c.in_ok-found-in-Given.found r) (judge (expression_of w.value.value) s) (λ v. judge_lengths rest v) (rw c.deref.ensures at c.in_ok-found-in-Given.ensures) (rw (c.span.ensures, c.deref-in-Given.ensures) at h s r)) c.more_lengths.ensures)
+
+pub parameters-loop-tree-init : goal.parameters-loop-tree-init
+parameters-loop-tree-init t c =
+    let s = scope_of c.args.scope.now in
+    let all = judge_parameter_list (parameters_from (map parameter_of c.args.trees.now)) s in
+    ap (λ (x : Listed (Option ParameterKind)). squeezed_listed (joined x all)) (c.no_parameters-list.ensures s)
+    ∙ joined_first s all
+
+pub parameters-loop-tree-preserved : goal.parameters-loop-tree-preserved
+parameters-loop-tree-preserved t c =
+    next_turn c.args.trees.now c.loop-tree.tree-index c.tree-item.result (λ ts. squeezed_listed (joined (listed_parameters c.loop-tree.list (scope_of c.loop-tree.scope)) (judge_parameter_list (parameters_from (map parameter_of ts)) (scope_of c.loop-tree.scope)))) _ _ (search rules) c.tree-item.is
+    (parameters_turn (listed_parameters c.loop-tree.list (scope_of c.loop-tree.scope)) (listed_parameters c.in_ok-list.list (scope_of c.parameter.new.scope)) (listed_parameters c.in_ok-one.one (scope_of c.parameter.new.scope)) (judge_parameter (parameter_of c.tree-item.result) (scope_of c.loop-tree.scope)) (λ v. judge_parameter_list (parameters_from (map parameter_of (drop (c.loop-tree.tree-index + 1) c.args.trees.now))) v) c.in_ok-one.ensures (c.in_ok-list.ensures (scope_of c.parameter.new.scope) (scope_of c.parameter.new.scope))) c.loop-tree.invariant
+
+pub parameters-returns : goal.parameters-returns
+parameters-returns t c =
+    sym (squeezed_parameters c.loop-tree.list (scope_of c.loop-tree.scope)) ∙ sym (parameters_end (listed_parameters c.loop-tree.list (scope_of c.loop-tree.scope))) ∙ last_turn c.args.trees.now c.loop-tree.tree-index (λ ts. squeezed_listed (joined (listed_parameters c.loop-tree.list (scope_of c.loop-tree.scope)) (judge_parameter_list (parameters_from (map parameter_of ts)) (scope_of c.loop-tree.scope)))) _ (search rules) c.loop-tree.invariant
+
+pub parameter-returns : goal.parameter-returns
+parameter-returns t c =
+    let p = c.args.tree.now in
+    let s = scope_of c.args.scope.now in
+    let r = scope_of c.typed.new.scope in
+    let u = scope_of c.lengths.new.scope in
+    rw (parameter_of-parts p)
+    (IfOk-weaker c.parameter.result _ _ (λ z h. in_parameter (specifiers_from (map specifier_of p.specifiers.items)) p.stars (tag_of p.name) (lengths_from (map array_length_of p.lengths.items)) p.span s (cut_to (counted_of c.objects_so_far-before.result) u) (judged_of type_of c.in_ok-of.of r) (judged_of lengths_in c.in_ok-given.given u) (listed_parameters z (scope_of c.parameter.new.scope)) (rw c.deref.ensures.value at c.in_ok-of.ensures) (rw c.deref-2.ensures.value at c.in_ok-given.ensures) (ap (λ k. cut_to k u) c.objects_so_far-before.ensures) (rw (c.name_start-at.ensures, c.deref-3.ensures.value) at h)) c.parameter.ensures)
+
+pub prototype-returns-clause-found : goal.prototype-returns-clause-found
+prototype-returns-clause-found t c =
+    λ u.
+    let all = parameters_from (map parameter_of c.args.trees.now) in
+    ap (λ (l : Listed (Option ParameterKind)). let v : Listed (Option ParameterKind) = record l { scope = u } in v)
+    (c.in_ok-found.ensures ∙ ap (λ (v : Scope). squeezed_listed (judge_parameter_list all v)) c.enter_declarator-prototype.ensures.entered)
+
+pub prototype-returns-clause-scope : goal.prototype-returns-clause-scope
+prototype-returns-clause-scope t c =
+    let s = scope_of c.args.scope.now in
+    let all = parameters_from (map parameter_of c.args.trees.now) in
+    c.leave_declarator.ensures
+    ∙ ap (λ (p : Scope). prototype_left_by (prototype_of c.enter_declarator-prototype.result) p)
+    (ap (λ (l : Listed (Option ParameterKind)). l.scope) (c.in_ok-found.ensures ∙ ap (λ (v : Scope). squeezed_listed (judge_parameter_list all v)) c.enter_declarator-prototype.ensures.entered))
+    ∙ ap (λ p. prototype_left_by p (judge_parameter_list all (prototype s)).scope) c.enter_declarator-prototype.ensures.around
+    ∙ prototype_left (tree.Listed all (record { start = 0; end = 0 })) s

@@ -1,0 +1,214 @@
+-- Each exit of a statement, and each turn of the loop over a block.
+use Rattle.std.proofs.Common.{◌∙◌, ◌+◌, drop, map, refl, sym, ap, rules}
+use Rattle.mc_tree.specs.Units.{block_from, block_item_of, declaration_of, option_of, start_of, statement_of}
+use Rattle.mc_tree.specs.Views.{expression_of, name_of}
+use Rattle.mc_typed.specs.Tree.{Statements}
+use Rattle.mc_typed.specs.Views.{effect_of}
+use Rattle.mc_typed.specs.Views as typed
+use Rattle.mc_typing.specs.Scopes.{block}
+use Rattle.mc_typing.specs.Values.{Judged}
+use Rattle.mc_typing.specs.Statements.{compound_scope, followed_judged, in_switch, inside, switch_scope}
+use Rattle.mc_typing.specs.Bodies.{judge_block, judge_statement}
+use Rattle.mc_scopes.specs.Blocks.{Around, left_by}
+use Rattle.mc_scopes.specs.Views.{scope_of}
+use Rattle.mc_scopes.specs.Found.{found_of, judged_of}
+use Rattle.mc_scopes.specs.Statements.{around_of, declarators_of, effects_of, statements_of, test_of}
+use Rattle.mc_scopes.specs.steps.Squeezed.{squeezed_part}
+use Rattle.std.proofs.lemmas.Result.{IfOk-weaker}
+use Rattle.mc_types.proofs.Exits.{found_as, found_with}
+use Rattle.mc_types.proofs.Bodies.{block_item_of-Local, block_item_of-Statement, statement_of-Break, statement_of-Case, statement_of-Compound, statement_of-Continue, statement_of-Default, statement_of-DoWhile, statement_of-Expression, statement_of-For, statement_of-Goto, statement_of-If, statement_of-IfElse, statement_of-Label, statement_of-Null, statement_of-Return, statement_of-Switch, statement_of-While}
+use Rattle.mc_types.proofs.StatementArms.{closes, in_case, in_compound, in_default, in_do, in_effect_statement, in_for, in_if, in_if_else, in_item, in_label, in_local, in_return, in_switch_statement, in_while}
+use Rattle.mc_types.proofs.Turns.{last_turn, next_turn}
+use Rattle.mc_types.proofs.Parts.{followed_first, followed_item, followed_last, squeezed_judged}
+use Rattle.mc_types.proofs.statements.+statements.Goals as goal
+
+pub statement-returns-in_ok-found-in-Compound : goal.statement-returns-in_ok-found-in-Compound
+statement-returns-in_ok-found-in-Compound t c =
+    let w = c.in-Compound in
+    let s = scope_of c.args.scope.now in
+    let r = scope_of c.block.new.scope in
+    let u = scope_of c.leave.new.self in
+    rw (w.is, statement_of-Compound w.items w.span)
+    (found_with c.compound_statement.result (λ z v. judged_of statements_of z v) u _ _ c.compound_statement.ensures
+    (in_compound (around_of c.args.around) (block_from (map block_item_of w.items.items)) w.span s (judged_of statements_of c.in_ok-found-in-Compound.found u) (closes s u (judged_of statements_of c.in_ok-found-in-Compound.found r) (judge_block (inside (around_of c.args.around)) (block_from (map block_item_of w.items.items)) (compound_scope (around_of c.args.around) s)) (rw (c.deref.ensures.value, c.inside.ensures, c.in_ok-outer-in-Compound.ensures.entered) at c.in_ok-found-in-Compound.ensures) (c.leave.ensures ∙ ap (λ (b : Around). left_by b r) c.in_ok-outer-in-Compound.ensures.block))))
+
+pub statement-returns-in_ok-found-in-Expression : goal.statement-returns-in_ok-found-in-Expression
+statement-returns-in_ok-found-in-Expression t c =
+    let w = c.in-Expression in
+    let s = scope_of c.args.scope.now in
+    let u = scope_of c.effect.new.scope in
+    rw (w.is, statement_of-Expression w.value w.span)
+    (found_with c.effect_statement.result (λ z v. judged_of statements_of z v) u _ _ c.effect_statement.ensures
+    (in_effect_statement (around_of c.args.around) (expression_of w.value.value) w.span s (judged_of effect_of c.in_ok-found-in-Expression.found u) (rw c.deref-in-Expression.ensures at c.in_ok-found-in-Expression.ensures)))
+
+pub statement-returns-in_ok-chosen-in-If : goal.statement-returns-in_ok-chosen-in-If
+statement-returns-in_ok-chosen-in-If t c =
+    let w = c.in-If in
+    let s = scope_of c.args.scope.now in
+    let r = scope_of c.expression.new.scope in
+    let u = scope_of c.inner.new.scope in
+    rw (w.is, statement_of-If w.test w.chosen w.span)
+    (found_with c.if_statement.result (λ z v. judged_of statements_of z v) u _ _ c.if_statement.ensures
+    (in_if (around_of c.args.around) (expression_of w.test.value) (statement_of w.chosen.value) w.span s (found_of c.in_ok-test-in-If.test r) (judged_of statements_of c.in_ok-chosen-in-If.chosen u) (rw c.deref-in-If.ensures at c.in_ok-test-in-If.ensures) (rw (c.deref-in-If-2.ensures, c.inside-in-If.ensures) at c.in_ok-chosen-in-If.ensures)))
+
+pub statement-returns-in_ok-other-in-IfElse : goal.statement-returns-in_ok-other-in-IfElse
+statement-returns-in_ok-other-in-IfElse t c =
+    let w = c.in-IfElse in
+    let s = scope_of c.args.scope.now in
+    let q = scope_of c.expression-in-IfElse.new.scope in
+    let r = scope_of c.inner-in-IfElse.new.scope in
+    let u = scope_of c.inner-in-IfElse-2.new.scope in
+    rw (w.is, statement_of-IfElse w.test w.chosen w.other w.span)
+    (found_with c.if_else_statement.result (λ z v. judged_of statements_of z v) u _ _ c.if_else_statement.ensures
+    (in_if_else (around_of c.args.around) (expression_of w.test.value) (statement_of w.chosen.value) (statement_of w.other.value) w.span s (found_of c.in_ok-test-in-IfElse.test q) (judged_of statements_of c.in_ok-chosen-in-IfElse.chosen r) (judged_of statements_of c.in_ok-other-in-IfElse.other u) (rw c.deref-in-IfElse.ensures at c.in_ok-test-in-IfElse.ensures) (rw (c.deref-in-IfElse-2.ensures, c.inside-in-IfElse.ensures) at c.in_ok-chosen-in-IfElse.ensures) (rw (c.deref-in-IfElse-3.ensures, c.inside-in-IfElse-2.ensures) at c.in_ok-other-in-IfElse.ensures)))
+
+pub statement-returns-in_ok-found-in-Switch : goal.statement-returns-in_ok-found-in-Switch
+statement-returns-in_ok-found-in-Switch t c =
+    let w = c.in-Switch in
+    let s = scope_of c.args.scope.now in
+    let q = scope_of c.expression-in-Switch.new.scope in
+    let r = scope_of c.statement.new.scope in
+    let u = scope_of c.leave-in-Switch.new.self in
+    rw (w.is, statement_of-Switch w.value w.body w.span)
+    (found_with c.switch_statement.result (λ z v. judged_of statements_of z v) u _ _ c.switch_statement.ensures
+    (rw c.deref-in-Switch-3.ensures (in_switch_statement (around_of c.args.around) (expression_of w.value.value) (statement_of w.body.value) w.span s (found_of c.in_ok-value-in-Switch.value q) (judged_of statements_of c.in_ok-found-in-Switch.found u) (rw c.deref-in-Switch.ensures at c.in_ok-value-in-Switch.ensures) (closes q u (judged_of statements_of c.in_ok-found-in-Switch.found r) (judge_statement (in_switch (around_of c.args.around)) (statement_of w.body.value) (switch_scope (found_of c.in_ok-value-in-Switch.value q))) (rw (c.deref-in-Switch-2.ensures, c.in_switch.ensures, c.enter_switch-outer.ensures.entered) at c.in_ok-found-in-Switch.ensures) (c.leave-in-Switch.ensures ∙ ap (λ (b : Around). left_by b r) c.enter_switch-outer.ensures.block)))))
+
+pub statement-returns-in_ok-body-in-While : goal.statement-returns-in_ok-body-in-While
+statement-returns-in_ok-body-in-While t c =
+    let w = c.in-While in
+    let s = scope_of c.args.scope.now in
+    let r = scope_of c.expression-in-While.new.scope in
+    let u = scope_of c.inner-in-While.new.scope in
+    rw (w.is, statement_of-While w.test w.body w.span)
+    (found_with c.loop_statement.result (λ z v. judged_of statements_of z v) u _ _ c.loop_statement.ensures
+    (in_while (around_of c.args.around) (expression_of w.test.value) (statement_of w.body.value) w.span s u (found_of c.in_ok-found-in-While.found r) (judged_of typed.start_of c.no_start-start.result u) (judged_of test_of c.loop_test-test.result r) (judged_of effects_of c.no_clauses-step.result u) (judged_of statements_of c.in_ok-body-in-While.body u) (rw c.deref-in-While.ensures at c.in_ok-found-in-While.ensures) (c.no_start-start.ensures u) (c.loop_test-test.ensures r) (c.no_clauses-step.ensures u) (rw (c.deref-in-While-2.ensures, c.in_loop.ensures) at c.in_ok-body-in-While.ensures)))
+
+pub statement-returns-in_ok-test-in-DoWhile : goal.statement-returns-in_ok-test-in-DoWhile
+statement-returns-in_ok-test-in-DoWhile t c =
+    let w = c.in-DoWhile in
+    let s = scope_of c.args.scope.now in
+    let r = scope_of c.inner-in-DoWhile.new.scope in
+    let u = scope_of c.expression-in-DoWhile.new.scope in
+    rw (w.is, statement_of-DoWhile w.body w.test w.span)
+    (found_with c.do_statement.result (λ z v. judged_of statements_of z v) u _ _ c.do_statement.ensures
+    (in_do (around_of c.args.around) (statement_of w.body.value) (expression_of w.test.value) w.span s (judged_of statements_of c.in_ok-body-in-DoWhile.body r) (found_of c.in_ok-test-in-DoWhile.test u) (rw (c.deref-in-DoWhile.ensures, c.in_loop-in-DoWhile.ensures) at c.in_ok-body-in-DoWhile.ensures) (rw c.deref-in-DoWhile-2.ensures at c.in_ok-test-in-DoWhile.ensures)))
+
+pub statement-returns-in_ok-body-in-For : goal.statement-returns-in_ok-body-in-For
+statement-returns-in_ok-body-in-For t c =
+    let w = c.in-For in
+    let s = scope_of c.args.scope.now in
+    let p = scope_of c.for_start.new.scope in
+    let q = scope_of c.optional_test.new.scope in
+    let o = scope_of c.optional_part.new.scope in
+    let r = scope_of c.inner-in-For.new.scope in
+    let u = scope_of c.leave-in-For.new.self in
+    rw (w.is, statement_of-For w.start w.test w.step w.body w.span)
+    (found_with c.loop_statement-in-For.result (λ z v. judged_of statements_of z v) u _ _ c.loop_statement-in-For.ensures
+    (in_for (around_of c.args.around) (start_of w.start.value) (option_of w.test) (option_of w.step) (statement_of w.body.value) w.span s u (judged_of typed.start_of c.in_ok-start-in-For.start p) (judged_of test_of c.in_ok-test-in-For.test q) (judged_of effects_of c.in_ok-step-in-For.step o) (judged_of statements_of c.in_ok-body-in-For.body r) (rw (c.deref-in-For.ensures, c.enter-outer.ensures.entered) at c.in_ok-start-in-For.ensures) c.in_ok-test-in-For.ensures c.in_ok-step-in-For.ensures (rw (c.deref-in-For-2.ensures, c.in_loop-in-For.ensures) at c.in_ok-body-in-For.ensures) (c.leave-in-For.ensures ∙ ap (λ (b : Around). left_by b r) c.enter-outer.ensures.block)))
+
+pub statement-returns-in_ok-rest-in-Case : goal.statement-returns-in_ok-rest-in-Case
+statement-returns-in_ok-rest-in-Case t c =
+    let w = c.in-Case in
+    let s = scope_of c.args.scope.now in
+    let q = scope_of c.expression-in-Case.new.scope in
+    let r = scope_of c.case_label.new.scope in
+    let u = scope_of c.statement-in-Case.new.scope in
+    rw (w.is, statement_of-Case w.value w.label w.body w.span)
+    (found_with c.followed.result (λ z v. judged_of statements_of z v) u _ _ c.followed.ensures
+    (in_case (around_of c.args.around) (expression_of w.value.value) w.label (statement_of w.body.value) w.span s (found_of c.in_ok-found-in-Case.found q) (judged_of statements_of c.in_ok-first-in-Case.first r) (judged_of statements_of c.in_ok-rest-in-Case.rest u) (rw c.deref-in-Case.ensures at c.in_ok-found-in-Case.ensures) (rw (c.span.ensures, c.deref-in-Case-2.ensures) at c.in_ok-first-in-Case.ensures) (rw (c.deref-in-Case-3.ensures, c.inside-in-Case.ensures) at c.in_ok-rest-in-Case.ensures)))
+
+pub statement-returns-in_ok-rest-in-Default : goal.statement-returns-in_ok-rest-in-Default
+statement-returns-in_ok-rest-in-Default t c =
+    let w = c.in-Default in
+    let s = scope_of c.args.scope.now in
+    let r = scope_of c.default_label.new.scope in
+    let u = scope_of c.statement-in-Default.new.scope in
+    rw (w.is, statement_of-Default w.label w.body w.span)
+    (found_with c.followed-in-Default.result (λ z v. judged_of statements_of z v) u _ _ c.followed-in-Default.ensures
+    (in_default (around_of c.args.around) w.label (statement_of w.body.value) w.span s (judged_of statements_of c.in_ok-first-in-Default.first r) (judged_of statements_of c.in_ok-rest-in-Default.rest u) c.in_ok-first-in-Default.ensures (rw (c.deref-in-Default.ensures, c.inside-in-Default.ensures) at c.in_ok-rest-in-Default.ensures)))
+
+pub statement-returns-in_ok-found-in-Label : goal.statement-returns-in_ok-found-in-Label
+statement-returns-in_ok-found-in-Label t c =
+    let w = c.in-Label in
+    let u = scope_of c.statement-in-Label.new.scope in
+    rw (w.is, statement_of-Label w.name w.body w.span)
+    (c.named_label.ensures u ∙ in_label (around_of c.args.around) (name_of w.name) (statement_of w.body.value) w.span (scope_of c.args.scope.now) (judged_of statements_of c.in_ok-found-in-Label.found u) (rw (c.deref-in-Label.ensures, c.inside-in-Label.ensures) at c.in_ok-found-in-Label.ensures))
+
+pub statement-returns-in-Goto : goal.statement-returns-in-Goto
+statement-returns-in-Goto t c =
+    let w = c.in-Goto in
+    rw (w.is, statement_of-Goto w.name w.span) (c.goto_statement.ensures (scope_of c.args.scope.now))
+
+pub statement-returns-in-Null : goal.statement-returns-in-Null
+statement-returns-in-Null t c =
+    let w = c.in-Null in
+    rw (w.is, statement_of-Null w.span)
+    (found_with c.null_statement.result (λ z v. judged_of statements_of z v) (scope_of c.args.scope.now) _ _ c.null_statement.ensures refl)
+
+pub statement-returns-in-Break : goal.statement-returns-in-Break
+statement-returns-in-Break t c =
+    let w = c.in-Break in
+    rw (w.is, statement_of-Break w.span)
+    (found_with c.break_statement.result (λ z v. judged_of statements_of z v) (scope_of c.args.scope.now) _ _ c.break_statement.ensures refl)
+
+pub statement-returns-in-Continue : goal.statement-returns-in-Continue
+statement-returns-in-Continue t c =
+    let w = c.in-Continue in
+    rw (w.is, statement_of-Continue w.span)
+    (found_with c.continue_statement.result (λ z v. judged_of statements_of z v) (scope_of c.args.scope.now) _ _ c.continue_statement.ensures refl)
+
+pub statement-returns-in_ok-found-in-Some : goal.statement-returns-in_ok-found-in-Some
+statement-returns-in_ok-found-in-Some t c =
+    let w = c.in-Return in
+    let s = scope_of c.args.scope.now in
+    let u = scope_of c.expression-in-Some.new.scope in
+    rw (w.is, statement_of-Return w.value w.span, c.in-Some.is)
+    (found_as c.return_statement.result (λ z. judged_of statements_of z u) _ _ c.return_statement.ensures
+    (in_return (around_of c.args.around) (expression_of c.in-Some.value.value) w.span s (found_of c.in_ok-found-in-Some.found u) (rw c.deref-in-Some.ensures at c.in_ok-found-in-Some.ensures)))
+
+pub statement-returns-in-None : goal.statement-returns-in-None
+statement-returns-in-None t c =
+    let w = c.in-Return in
+    rw (w.is, statement_of-Return w.value w.span, c.in-None.is)
+    (found_with c.return_nothing.result (λ z v. judged_of statements_of z v) (scope_of c.args.scope.now) _ _ c.return_nothing.ensures refl)
+
+pub inner-returns : goal.inner-returns
+inner-returns t c =
+    let r = scope_of c.statement.new.scope in
+    closes (scope_of c.args.scope.now) (scope_of c.leave.new.self) (judged_of statements_of c.in_ok-found.found r) (judge_statement (around_of c.args.around) (statement_of c.args.tree.now) (block (scope_of c.args.scope.now))) (rw c.enter-outer.ensures.entered at c.in_ok-found.ensures) (c.leave.ensures ∙ ap (λ (b : Around). left_by b r) c.enter-outer.ensures.block)
+
+pub block-loop-tree-init : goal.block-loop-tree-init
+block-loop-tree-init t c =
+    let s = scope_of c.args.scope.now in
+    let all = judge_block (around_of c.args.around) (block_from (map block_item_of c.args.trees.now)) s in
+    ap (λ (x : Judged Statements). squeezed_part (followed_judged x all)) (c.no_statements-list.ensures s)
+    ∙ followed_first s all
+
+pub block-loop-tree-preserved : goal.block-loop-tree-preserved
+block-loop-tree-preserved t c =
+    let s = scope_of c.loop-tree.scope in
+    let u = scope_of c.block_item.new.scope in
+    let later = block_from (map block_item_of (drop (c.loop-tree.tree-index + 1) c.args.trees.now)) in
+    next_turn c.args.trees.now c.loop-tree.tree-index c.tree-item.result (λ ts. squeezed_part (followed_judged (judged_of statements_of c.loop-tree.list (scope_of c.loop-tree.scope)) (judge_block (around_of c.args.around) (block_from (map block_item_of ts)) (scope_of c.loop-tree.scope)))) _ _ (search rules) c.tree-item.is
+    (followed_item (judged_of statements_of c.loop-tree.list (scope_of c.loop-tree.scope)) (judged_of statements_of c.in_ok-list.list u) (judged_of statements_of c.in_ok-one.one u) (judge_block (around_of c.args.around) later u) (judge_block (around_of c.args.around) (block_item_of c.tree-item.result later) s) u (c.in_ok-one.ensures later) (c.in_ok-list.ensures u)) c.loop-tree.invariant
+
+pub block-returns : goal.block-returns
+block-returns t c =
+    sym (squeezed_judged statements_of c.loop-tree.list (scope_of c.loop-tree.scope))
+    ∙ sym (followed_last (judged_of statements_of c.loop-tree.list (scope_of c.loop-tree.scope))) ∙ last_turn c.args.trees.now c.loop-tree.tree-index (λ ts. squeezed_part (followed_judged (judged_of statements_of c.loop-tree.list (scope_of c.loop-tree.scope)) (judge_block (around_of c.args.around) (block_from (map block_item_of ts)) (scope_of c.loop-tree.scope)))) _ (search rules) c.loop-tree.invariant
+
+pub block_item-returns-in_ok-found-in-Local : goal.block_item-returns-in_ok-found-in-Local
+block_item-returns-in_ok-found-in-Local t c =
+    let w = c.in-Local in
+    let s = scope_of c.args.scope.now in
+    let u = scope_of c.declaration.new.scope in
+    rw (w.is, block_item_of-Local w.local)
+    (IfOk-weaker c.declaration_statement.result _ _ (λ z h. in_local (around_of c.args.around) (declaration_of w.local) s (judged_of declarators_of c.in_ok-found-in-Local.found u) (judged_of statements_of z u) c.in_ok-found-in-Local.ensures (h u)) c.declaration_statement.ensures)
+
+pub block_item-returns-in-Statement : goal.block_item-returns-in-Statement
+block_item-returns-in-Statement t c =
+    let w = c.in-Statement in
+    let s = scope_of c.args.scope.now in
+    let u = scope_of c.statement.new.scope in
+    rw (w.is, block_item_of-Statement w.one)
+    (IfOk-weaker c.statement.result _ _ (λ z h. in_item (around_of c.args.around) (statement_of w.one.value) s (judged_of statements_of z u) (rw c.deref.ensures at h)) c.statement.ensures)

@@ -1,0 +1,4 @@
+pub mod Loops
+pub mod Operands
+pub mod Faults
+pub mod Single

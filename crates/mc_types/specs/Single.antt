@@ -1,0 +1,14 @@
+-- An initializer without braces, and what the items of a list are for.
+use Rattle.std.specs.Prelude.{◌≡◌, ◌<◌, ℕ, Option, Some, None}
+use Rattle.mc_tree.specs.Tree.{Expression, Initializer, Single, Braced}
+use Rattle.mc_typing.specs.Initializers.{Parts, first_part}
+use Rattle.mc_statements.specs.declared.initializers.parts.PartTypes.{PartTypes}
+use Rattle.mc_statements.specs.Initializers.{part_at, parts_from}
+
+abbrev pub single_in : Initializer → Option Expression
+single_in (Single e) = Some e
+single_in (Braced items span) = None
+
+-- the first so many items are for these parts
+abbrev pub AreParts : ℕ → PartTypes → Parts → Type 0
+AreParts count found parts = (n : ℕ) → n < count → part_at found n ≡ first_part (parts_from n parts)

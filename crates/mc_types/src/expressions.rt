@@ -1,0 +1,518 @@
+//! Expressions, specifiers and the declarators in them: each function walks a tree of one kind, and
+//! gives what is found of it. The scope becomes that after the tree.
+ghost use Rattle.std.specs.Prelude.{◌≡◌, IfOk, Some, false, pos, map, option_copied, option_map};
+ghost use Rattle.mc_tree.specs.Views.{name_of, expression_of, expressions_from, specifier_of, specifiers_from, member_of, members_from, enumerator_of, enumerators_from, declarator_of, declarators_from, array_length_of, lengths_from, parameter_of, parameters_from};
+ghost use Rattle.mc_tree.specs.Tree as t;
+ghost use Rattle.mc_typing.specs.Scopes as s;
+ghost use Rattle.mc_typing.specs.Declarators as d;
+ghost use Rattle.mc_typing.specs.Judgement as j;
+ghost use Rattle.mc_scopes.specs.Types.{type_of, kind_of};
+ghost use Rattle.mc_scopes.specs.Listed.{listed_of};
+ghost use Rattle.mc_scopes.specs.Views.{scope_of};
+ghost use Rattle.mc_scopes.specs.Found.{found_of, judged_of};
+ghost use Rattle.mc_scopes.specs.Given.{arguments_of, given_of};
+ghost use Rattle.mc_declarations.specs.Declarations.{lengths_in, listed_members, listed_parameters, number_judged, squeezed_listed};
+ghost use Rattle.mc_scopes.specs.steps.Squeezed.{squeezed, squeezed_part};
+ghost use Rattle.mc_expressions.specs.steps.Gathered.{squeezed_given};
+ghost use Rattle.mc_types.specs.Loops.{TakesArgument, TakesLength};
+
+use crate::leaves::{callee, character, named};
+use mc_declarations::Parameters;
+use mc_scopes::found::{Found, Given, Judged};
+use mc_scopes::{CType, Members, ParameterKind, Scope};
+use mc_tree::{
+    ArrayLength, Declarator, Enumerator, Expression, Identifier, Member, Parameter, Specifier,
+};
+use mc_typed::{Argument, Span};
+use mc_typing::Fault;
+use std::alloc::{AllocError, Global};
+
+/// An expression (C17 6.5).
+#[cycle(judge)]
+pub(crate) fn expression<'a>(
+    alloc: Global,
+    scope: &mut Scope<'a>,
+    tree: &Expression<'a>,
+) -> Result<Found, AllocError>
+    ensures { IfOk result (λ r. found_of r (scope_of scope.new)
+        ≡ squeezed (j.judge (expression_of tree.now) (scope_of scope.old))) }
+{
+    match tree {
+        Expression::Name { name } => named(scope, name),
+        Expression::Constant {
+            value,
+            decimal,
+            unsigned,
+            longs,
+            span,
+        } => Ok(mc_expressions::constant(*value, *decimal, *unsigned, *longs, *span)),
+        Expression::Character { value, span } => Ok(character(value, *span)),
+        Expression::Parenthesized { inner, .. } => expression(alloc, scope, inner),
+        Expression::Call {
+            name,
+            arguments: given,
+            span,
+        } => call(alloc, scope, name, given, *span),
+        Expression::Index { array, index, span } => {
+            let array = expression(alloc, scope, array)?;
+            let index = expression(alloc, scope, index)?;
+            mc_expressions::index(alloc, scope, *span, array, index)
+        }
+        Expression::Member { object, name, span } => {
+            let object = expression(alloc, scope, object)?;
+            mc_expressions::member(alloc, scope, name, *span, object)
+        }
+        Expression::PostfixStep {
+            operator,
+            operand,
+            span,
+        } => {
+            let operand = expression(alloc, scope, operand)?;
+            mc_expressions::postfix_step(alloc, *operator, *span, operand)
+        }
+        Expression::PrefixStep {
+            operator,
+            operand,
+            span,
+        } => {
+            let operand = expression(alloc, scope, operand)?;
+            mc_expressions::prefix_step(alloc, *operator, *span, operand)
+        }
+        Expression::Unary {
+            operator,
+            operand,
+            span,
+        } => {
+            let operand = expression(alloc, scope, operand)?;
+            mc_expressions::unary(alloc, *operator, *span, operand)
+        }
+        Expression::Cast {
+            specifiers: words,
+            type_span,
+            operand,
+            span,
+            ..
+        } => {
+            let of = typed(alloc, scope, type_span.start, false, words)?;
+            let found = expression(alloc, scope, operand)?;
+            mc_expressions::cast(alloc, *span, of, operand, found)
+        }
+        Expression::Binary {
+            operator,
+            left,
+            right,
+            span,
+        } => {
+            let left = expression(alloc, scope, left)?;
+            let right = expression(alloc, scope, right)?;
+            mc_expressions::binary(alloc, *operator, *span, left, right)
+        }
+        Expression::Conditional {
+            test,
+            chosen,
+            other,
+            span,
+        } => {
+            let test = expression(alloc, scope, test)?;
+            let chosen = expression(alloc, scope, chosen)?;
+            let other = expression(alloc, scope, other)?;
+            mc_expressions::conditional(alloc, *span, test, chosen, other)
+        }
+        Expression::Assignment {
+            operator,
+            target,
+            value,
+            span,
+        } => {
+            let target = expression(alloc, scope, target)?;
+            let value = expression(alloc, scope, value)?;
+            mc_expressions::assignment(alloc, scope, *operator, *span, target, value)
+        }
+        Expression::Comma { operands, span } => {
+            let given = arguments(alloc, scope, operands, &[])?;
+            Ok(mc_expressions::comma(span.start, given))
+        }
+    }
+}
+
+/// A call (C17 6.5.2.2).
+#[cycle(judge)]
+fn call<'a>(
+    alloc: Global,
+    scope: &mut Scope<'a>,
+    name: &Identifier<'a>,
+    trees: &[Expression<'a>],
+    span: Span,
+) -> Result<Found, AllocError>
+    ensures { IfOk result (λ r. found_of r (scope_of scope.new)
+        ≡ squeezed (j.judge (t.Call (name_of name.now)
+        (expressions_from (map expression_of trees.now)) span) (scope_of scope.old))) }
+{
+    let callee = callee(scope, name)?;
+    let given = arguments(alloc, scope, trees, callee.parameters())?;
+    mc_expressions::call(alloc, scope, name, trees.len(), span, &callee, given)
+}
+
+/// Arguments, for these parameters.
+#[cycle(judge)]
+fn arguments<'a>(
+    alloc: Global,
+    scope: &mut Scope<'a>,
+    trees: &[Expression<'a>],
+    parameters: &[ParameterKind],
+) -> Result<Given<Vec<Argument>>, AllocError>
+    ensures { IfOk result (λ r. given_of arguments_of r (scope_of scope.new)
+        ≡ squeezed_given (j.judge_arguments (expressions_from (map expression_of trees.now))
+        (map kind_of parameters.now) (scope_of scope.old))) }
+{
+    let mut given = mc_expressions::none_given(alloc);
+    let mut left = parameters;
+    for tree in trees {
+        given = more_arguments(alloc, scope, given, mc_expressions::first_of(left), tree)?;
+        left = mc_expressions::rest_of(left);
+    }
+    Ok(mc_expressions::given_for(given, left))
+}
+
+/// Arguments so far, and one more for its parameter where there is one.
+#[cycle(judge)]
+fn more_arguments<'a>(
+    alloc: Global,
+    scope: &mut Scope<'a>,
+    given: Given<Vec<Argument>>,
+    parameter: Option<&ParameterKind>,
+    tree: &Expression<'a>,
+) -> Result<Given<Vec<Argument>>, AllocError>
+    ensures { IfOk result (λ r. TakesArgument
+        (option_map kind_of (option_copied parameter.entry)) (expression_of tree.now) given
+        (scope_of scope.old) r (scope_of scope.new)) }
+{
+    let found = expression(alloc, scope, tree)?;
+    let one = mc_expressions::argument(alloc, scope, tree.span().start, parameter, found)?;
+    mc_expressions::gather(given, one)
+}
+
+/// The type of specifiers that stand at `at` (C17 6.7, 6.7.7).
+#[cycle(judge)]
+pub(crate) fn typed<'a>(
+    alloc: Global,
+    scope: &mut Scope<'a>,
+    at: u32,
+    alone: bool,
+    trees: &[Specifier<'a>],
+) -> Result<Judged<CType>, AllocError>
+    ensures { let all = specifiers_from (map specifier_of trees.now) in
+        IfOk result (λ r. judged_of type_of r (scope_of scope.new)
+        ≡ squeezed_part (j.typed_by at all (j.judge_specifiers alone all (scope_of scope.old)))) }
+{
+    let found = specifiers(alloc, scope, alone, trees)?;
+    Ok(mc_declarations::typed_by(alloc, at, trees, found))
+}
+
+/// The type of the specifiers that are no words (C17 6.7.2).
+#[cycle(judge)]
+fn specifiers<'a>(
+    alloc: Global,
+    scope: &mut Scope<'a>,
+    alone: bool,
+    trees: &[Specifier<'a>],
+) -> Result<Judged<CType>, AllocError>
+    ensures { IfOk result (λ r. judged_of type_of r (scope_of scope.new)
+        ≡ squeezed_part (j.judge_specifiers alone (specifiers_from (map specifier_of trees.now))
+        (scope_of scope.old))) }
+{
+    let mut found = mc_declarations::no_specifier();
+    for tree in trees {
+        let one = specifier(alloc, scope, alone, tree)?;
+        found = mc_declarations::specifiers(found, one);
+    }
+    Ok(found)
+}
+
+/// A specifier; `alone` says that it is a whole declaration.
+#[cycle(judge)]
+fn specifier<'a>(
+    alloc: Global,
+    scope: &mut Scope<'a>,
+    alone: bool,
+    tree: &Specifier<'a>,
+) -> Result<Judged<CType>, AllocError>
+    ensures { IfOk result (λ r. judged_of type_of r (scope_of scope.new)
+        ≡ squeezed_part (j.judge_specifier alone (specifier_of tree.now) (scope_of scope.old))) }
+{
+    match tree {
+        Specifier::Word { .. } => Ok(mc_declarations::no_specifier()),
+        Specifier::TypedefName { name } => mc_declarations::typedef_name(scope, name),
+        Specifier::StructureTag { tag, span } => {
+            mc_declarations::structure_tag(alloc, scope, alone, tag, *span)
+        }
+        Specifier::Structure {
+            tag,
+            members: list,
+            ..
+        } => {
+            let opened = mc_declarations::open_structure(scope, tag)?;
+            let mut parts = Members::new(alloc);
+            let fault = members(alloc, scope, list, &mut parts)?;
+            mc_declarations::close_structure(alloc, scope, opened, fault, parts)
+        }
+        Specifier::EnumerationTag { tag, span } => {
+            Ok(mc_declarations::enumeration_tag(alloc, scope, tag, *span))
+        }
+        Specifier::Enumeration {
+            tag,
+            enumerators: list,
+            ..
+        } => {
+            let own = mc_declarations::enter_enumeration(scope, tag)?;
+            let found = enumerators(alloc, scope, list)?;
+            Ok(mc_declarations::enumeration(alloc, own, found))
+        }
+    }
+}
+
+/// Members, after those so far (C17 6.7.2.1): the first fault of these.
+#[cycle(judge)]
+fn members<'a>(
+    alloc: Global,
+    scope: &mut Scope<'a>,
+    trees: &[Member<'a>],
+    parts: &mut Members<'a>,
+) -> Result<Option<Fault>, AllocError>
+    ensures { IfOk result (λ r. listed_members r parts.new (scope_of scope.new)
+        ≡ squeezed_listed (j.judge_members (members_from (map member_of trees.now))
+        (map listed_of parts.old) (scope_of scope.old))) }
+{
+    let mut fault = None;
+    for tree in trees {
+        let one = member(alloc, scope, tree, parts)?;
+        fault = mc_declarations::first_fault(fault, one);
+    }
+    Ok(fault)
+}
+
+/// The members of one declaration.
+#[cycle(judge)]
+fn member<'a>(
+    alloc: Global,
+    scope: &mut Scope<'a>,
+    tree: &Member<'a>,
+    parts: &mut Members<'a>,
+) -> Result<Option<Fault>, AllocError>
+    ensures { IfOk result (λ r. listed_members r parts.new (scope_of scope.new)
+        ≡ squeezed_listed (j.judge_member (member_of tree.now) (map listed_of parts.old)
+        (scope_of scope.old))) }
+{
+    let of = typed(alloc, scope, tree.span.start, false, &tree.specifiers)?;
+    let fault = declarators(alloc, scope, &of.value, &tree.declarators, parts)?;
+    Ok(mc_declarations::first_fault(of.fault, fault))
+}
+
+/// Declarators of members of this type.
+#[cycle(judge)]
+fn declarators<'a>(
+    alloc: Global,
+    scope: &mut Scope<'a>,
+    base: &Option<CType>,
+    trees: &[Declarator<'a>],
+    parts: &mut Members<'a>,
+) -> Result<Option<Fault>, AllocError>
+    ensures { IfOk result (λ r. listed_members r parts.new (scope_of scope.new)
+        ≡ squeezed_listed (j.judge_declarators (option_map type_of base.now)
+        (declarators_from (map declarator_of trees.now)) (map listed_of parts.old)
+        (scope_of scope.old))) }
+{
+    let mut fault = None;
+    for tree in trees {
+        let one = declarator(alloc, scope, base, tree, parts)?;
+        fault = mc_declarations::first_fault(fault, one);
+    }
+    Ok(fault)
+}
+
+/// A declarator of a member of this type.
+#[cycle(judge)]
+fn declarator<'a>(
+    alloc: Global,
+    scope: &mut Scope<'a>,
+    base: &Option<CType>,
+    tree: &Declarator<'a>,
+    parts: &mut Members<'a>,
+) -> Result<Option<Fault>, AllocError>
+    ensures { IfOk result (λ r. listed_members r parts.new (scope_of scope.new)
+        ≡ squeezed_listed (j.judge_declarator (option_map type_of base.now)
+        (declarator_of tree.now) (map listed_of parts.old) (scope_of scope.old))) }
+{
+    match tree {
+        Declarator::Object {
+            name,
+            lengths: list,
+            ..
+        } => {
+            let given = lengths(alloc, scope, list)?;
+            mc_declarations::structure_member(alloc, scope, base, name, list, given, parts)
+        }
+        Declarator::EmptyFunction { name, .. } | Declarator::VoidFunction { name, .. } => {
+            mc_declarations::function_member(
+                alloc,
+                scope,
+                name,
+                &mc_declarations::no_parameters(alloc),
+                parts,
+            )
+        }
+        Declarator::Function {
+            name,
+            parameters: list,
+            ..
+        } => {
+            let found = prototype(alloc, scope, list)?;
+            mc_declarations::function_member(alloc, scope, name, &found, parts)
+        }
+    }
+}
+
+/// The parameters of a function that is no definition: nothing of them stays in scope.
+#[cycle(judge)]
+pub(crate) fn prototype<'a>(
+    alloc: Global,
+    scope: &mut Scope<'a>,
+    trees: &[Parameter<'a>],
+) -> Result<Parameters, AllocError>
+    ensures found { let all = parameters_from (map parameter_of trees.now) in
+        IfOk result (λ r. (u : s.Scope) → listed_parameters r u
+        ≡ squeezed_listed (record (j.judge_parameter_list all (s.prototype (scope_of scope.old)))
+        { scope = u })) }
+    ensures scope { IfOk result (λ _. scope_of scope.new ≡ scope_of scope.old) }
+{
+    let prototype = scope.enter_declarator(alloc);
+    let found = parameters(alloc, scope, trees)?;
+    scope.leave_declarator(prototype);
+    Ok(found)
+}
+
+/// Enumerators, counted from 0 (C17 6.7.2.2).
+#[cycle(judge)]
+fn enumerators<'a>(
+    alloc: Global,
+    scope: &mut Scope<'a>,
+    trees: &[Enumerator<'a>],
+) -> Result<Judged<i128>, AllocError>
+    ensures { IfOk result (λ r. number_judged r (scope_of scope.new)
+        ≡ squeezed_part (j.judge_enumerators (enumerators_from (map enumerator_of trees.now))
+        (Some (pos 0)) (scope_of scope.old))) }
+{
+    let mut fault = None;
+    let mut value = Some(0);
+    for tree in trees {
+        let one = enumerator(alloc, scope, value, tree)?;
+        fault = mc_declarations::first_fault(fault, one.fault);
+        value = one.value;
+    }
+    Ok(Judged { fault, value })
+}
+
+/// An enumerator, whose value is this one where it has none of its own; the value of the next one.
+#[cycle(judge)]
+fn enumerator<'a>(
+    alloc: Global,
+    scope: &mut Scope<'a>,
+    value: Option<i128>,
+    tree: &Enumerator<'a>,
+) -> Result<Judged<i128>, AllocError>
+    ensures { IfOk result (λ r. number_judged r (scope_of scope.new)
+        ≡ squeezed_part (j.judge_enumerator (enumerator_of tree.now) value
+        (scope_of scope.old))) }
+{
+    match tree {
+        Enumerator::Bare { name } => mc_declarations::enumerator(scope, name, value),
+        Enumerator::Valued { name, value: given } => {
+            let found = expression(alloc, scope, given)?;
+            mc_declarations::valued_enumerator(scope, name, given.span().start, &found)
+        }
+    }
+}
+
+/// The lengths of an array that are given (C17 6.7.6.2).
+#[cycle(judge)]
+pub(crate) fn lengths<'a>(
+    alloc: Global,
+    scope: &mut Scope<'a>,
+    trees: &[ArrayLength<'a>],
+) -> Result<Judged<Vec<u64>>, AllocError>
+    ensures { IfOk result (λ r. judged_of lengths_in r (scope_of scope.new)
+        ≡ squeezed_part (j.judge_lengths (lengths_from (map array_length_of trees.now))
+        (scope_of scope.old))) }
+{
+    let mut list = mc_declarations::no_lengths(alloc);
+    for tree in trees {
+        list = more_lengths(alloc, scope, list, tree)?;
+    }
+    Ok(list)
+}
+
+/// Lengths so far, and one more where it is given.
+#[cycle(judge)]
+fn more_lengths<'a>(
+    alloc: Global,
+    scope: &mut Scope<'a>,
+    list: Judged<Vec<u64>>,
+    tree: &ArrayLength<'a>,
+) -> Result<Judged<Vec<u64>>, AllocError>
+    ensures { IfOk result (λ r. TakesLength (array_length_of tree.now) list (scope_of scope.old) r
+        (scope_of scope.new)) }
+{
+    match tree {
+        ArrayLength::Absent => Ok(list),
+        ArrayLength::Given { value } => {
+            let found = expression(alloc, scope, value)?;
+            mc_declarations::more_lengths(list, value.span().start, &found)
+        }
+    }
+}
+
+/// Parameters, in a scope of their own (C17 6.7.6.3).
+#[cycle(judge)]
+pub(crate) fn parameters<'a>(
+    alloc: Global,
+    scope: &mut Scope<'a>,
+    trees: &[Parameter<'a>],
+) -> Result<Parameters, AllocError>
+    ensures { IfOk result (λ r. listed_parameters r (scope_of scope.new)
+        ≡ squeezed_listed (j.judge_parameter_list (parameters_from (map parameter_of trees.now))
+        (scope_of scope.old))) }
+{
+    let mut list = mc_declarations::no_parameters(alloc);
+    for tree in trees {
+        let one = parameter(alloc, scope, tree)?;
+        list = mc_declarations::join_parameters(list, one)?;
+    }
+    Ok(list)
+}
+
+/// A parameter. A call in its type adds no object to the function's frame.
+#[cycle(judge)]
+fn parameter<'a>(
+    alloc: Global,
+    scope: &mut Scope<'a>,
+    tree: &Parameter<'a>,
+) -> Result<Parameters, AllocError>
+    ensures { IfOk result (λ r. listed_parameters r (scope_of scope.new)
+        ≡ squeezed_listed (j.judge_parameter (parameter_of tree.now) (scope_of scope.old))) }
+{
+    let before = scope.objects_so_far();
+    let of = typed(alloc, scope, tree.span.start, false, &tree.specifiers)?;
+    let given = lengths(alloc, scope, &tree.lengths)?;
+    let at = mc_declarations::name_start(&tree.name, tree.span);
+    mc_declarations::parameter(
+        alloc,
+        scope,
+        before,
+        &tree.name,
+        at,
+        &tree.lengths,
+        of.fault,
+        &of.value,
+        given,
+    )
+}

@@ -1,0 +1,150 @@
+//! Initializers (C17 6.7.9).
+ghost use Rattle.std.specs.Prelude.{◌≡◌, IfOk, length, map, option_copied, option_map};
+ghost use Rattle.mc_tree.specs.Tree as t;
+ghost use Rattle.mc_tree.specs.Units as units;
+ghost use Rattle.mc_tree.specs.Views.{expression_of};
+ghost use Rattle.mc_typed.specs.Views.{initializer_of};
+ghost use Rattle.mc_typing.specs.Initializers as i;
+ghost use Rattle.mc_scopes.specs.Types.{type_of};
+ghost use Rattle.mc_scopes.specs.Views.{scope_of};
+ghost use Rattle.mc_scopes.specs.Found.{judged_of};
+ghost use Rattle.mc_scopes.specs.steps.Squeezed.{squeezed_part};
+ghost use Rattle.mc_statements.specs.Items.{items_of};
+ghost use Rattle.mc_types.specs.Single.{AreParts, single_in};
+
+use crate::expressions::expression;
+use mc_scopes::count::count_of;
+use mc_scopes::found::Judged;
+use mc_scopes::{CType, Scope};
+use mc_statements::PartTypes;
+use mc_tree::{Expression, Initializer};
+use mc_typed::{self as typed, Span};
+use std::alloc::{AllocError, Global};
+
+/// An initializer of an object of this type; `is_static` says that the object has static storage
+/// duration.
+#[cycle(initializers)]
+pub(crate) fn initializer<'a>(
+    alloc: Global,
+    scope: &mut Scope<'a>,
+    is_static: bool,
+    of: Option<&CType>,
+    tree: &Initializer<'a>,
+) -> Result<Judged<typed::Initializer>, AllocError>
+    ensures { IfOk result (λ r. judged_of initializer_of r (scope_of scope.new)
+        ≡ squeezed_part (i.judge_initializer is_static (option_map type_of (option_copied of.entry))
+        (units.initializer_of tree.now) (scope_of scope.old))) }
+{
+    match tree {
+        Initializer::Single { value } => {
+            let found = expression(alloc, scope, value)?;
+            mc_statements::single_initializer(
+                alloc,
+                is_static,
+                scope,
+                of,
+                value.span().start,
+                found,
+            )
+        }
+        Initializer::Braced { items: trees, span } => match only(trees) {
+            Some(value) => only_expression(alloc, scope, is_static, of, *span, value),
+            None => list(alloc, scope, is_static, of, *span, trees),
+        },
+    }
+}
+
+/// The expression of an initializer that has no braces. Takes no memory.
+fn single<'t, 'a>(tree: &'t Initializer<'a>) -> Option<&'t Expression<'a>>
+    ensures { option_map expression_of (option_copied result)
+        ≡ single_in (units.initializer_of tree.now) }
+{
+    match tree {
+        Initializer::Single { value } => Some(value),
+        Initializer::Braced { .. } => None,
+    }
+}
+
+/// The expression of a list that has no more items. Takes no memory.
+#[tactic(auto, using(crate::proofs::InitializerArms::only_none))]
+fn only<'t, 'a>(trees: &'t [Initializer<'a>]) -> Option<&'t Expression<'a>>
+    ensures { option_map expression_of (option_copied result)
+        ≡ i.only_expression (units.initializers_from (map units.initializer_of trees.now)) }
+{
+    match trees {
+        [tree] => single(tree),
+        _ => None,
+    }
+}
+
+/// The list of an expression alone.
+fn only_expression<'a>(
+    alloc: Global,
+    scope: &mut Scope<'a>,
+    is_static: bool,
+    of: Option<&CType>,
+    span: Span,
+    tree: &Expression<'a>,
+) -> Result<Judged<typed::Initializer>, AllocError>
+    ensures { IfOk result (λ r. judged_of initializer_of r (scope_of scope.new)
+        ≡ squeezed_part (i.judge_initializer is_static (option_map type_of (option_copied of.entry))
+        (t.Braced (t.initializers (t.Single (expression_of tree.now)) t.no_initializers) span)
+        (scope_of scope.old))) }
+{
+    let parts = mc_statements::parts(alloc, scope, of, 1)?;
+    let found = expression(alloc, scope, tree)?;
+    let start = tree.span().start;
+    mc_statements::braced_expression(
+        alloc,
+        is_static,
+        scope,
+        of,
+        parts.get(0),
+        span.start,
+        start,
+        found,
+    )
+}
+
+/// A list as initializer that is not of an expression alone.
+#[cycle(initializers)]
+fn list<'a>(
+    alloc: Global,
+    scope: &mut Scope<'a>,
+    is_static: bool,
+    of: Option<&CType>,
+    span: Span,
+    trees: &[Initializer<'a>],
+) -> Result<Judged<typed::Initializer>, AllocError>
+    ensures { let all = units.initializers_from (map units.initializer_of trees.now) in
+        let u = option_map type_of (option_copied of.entry) in
+        IfOk result (λ r. judged_of initializer_of r (scope_of scope.new)
+        ≡ squeezed_part (i.list_judged u span.start (i.count_of all) (i.judge_items is_static
+        (i.parts_of (i.target_of (scope_of scope.old).structures u)) all (scope_of scope.old)))) }
+{
+    let parts = mc_statements::parts(alloc, scope, of, trees.len())?;
+    let found = items(alloc, scope, is_static, &parts, trees)?;
+    mc_statements::list_initializer(scope, of, span.start, count_of(trees), found)
+}
+
+/// The items of a list, which are for these parts.
+#[cycle(initializers)]
+fn items<'a>(
+    alloc: Global,
+    scope: &mut Scope<'a>,
+    is_static: bool,
+    parts: &PartTypes,
+    trees: &[Initializer<'a>],
+) -> Result<Judged<Vec<typed::Initializer>>, AllocError>
+    ensures { (p : i.Parts) → AreParts (length trees.now) parts.now p
+        → IfOk result (λ r. judged_of items_of r (scope_of scope.new)
+        ≡ squeezed_part (i.judge_items is_static p
+        (units.initializers_from (map units.initializer_of trees.now)) (scope_of scope.old))) }
+{
+    let mut list = mc_statements::no_items(alloc);
+    for (place, tree) in trees.iter().enumerate() {
+        let one = initializer(alloc, scope, is_static, parts.get(place), tree)?;
+        list = mc_statements::more_items(list, one)?;
+    }
+    Ok(list)
+}

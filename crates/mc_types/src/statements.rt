@@ -1,0 +1,319 @@
+//! Statements (C17 6.8).
+ghost use Rattle.std.specs.Prelude.{◌≡◌, IfOk, map, option_copied, option_map};
+ghost use Rattle.mc_tree.specs.Units as units;
+ghost use Rattle.mc_tree.specs.Views.{expression_of, expressions_from};
+ghost use Rattle.mc_typed.specs.Views.{effect_of, start_of};
+ghost use Rattle.mc_typing.specs.Scopes as s;
+ghost use Rattle.mc_typing.specs.Statements as w;
+ghost use Rattle.mc_typing.specs.Bodies as b;
+ghost use Rattle.mc_scopes.specs.Views.{scope_of};
+ghost use Rattle.mc_scopes.specs.Found.{judged_of};
+ghost use Rattle.mc_scopes.specs.Statements.{around_of, effects_of, statements_of, test_of};
+ghost use Rattle.mc_scopes.specs.steps.Squeezed.{squeezed_part};
+ghost use Rattle.mc_types.specs.Loops.{TakesItem};
+ghost use Rattle.mc_types.specs.Operands.{operands_in};
+
+use crate::declarations::declaration;
+use crate::expressions::expression;
+use mc_scopes::Scope;
+use mc_scopes::around::Around;
+use mc_scopes::found::Judged;
+use mc_tree::{BlockItem, Expression, ForStart, Statement};
+use mc_typed as typed;
+use mc_typed::{Effect, Span};
+use std::alloc::{AllocError, Global};
+
+/// A statement, as a list of one, or of more where labels stand before it.
+#[cycle(statements)]
+pub(crate) fn statement<'a>(
+    alloc: Global,
+    scope: &mut Scope<'a>,
+    around: Around,
+    tree: &Statement<'a>,
+) -> Result<Judged<Vec<typed::Statement>>, AllocError>
+    ensures { IfOk result (λ r. judged_of statements_of r (scope_of scope.new)
+        ≡ squeezed_part (b.judge_statement (around_of around) (units.statement_of tree.now)
+        (scope_of scope.old))) }
+{
+    match tree {
+        Statement::Compound { items, span } => {
+            let outer = mc_statements::enter_compound(scope, around)?;
+            let found = block(alloc, scope, around.inside(), items)?;
+            scope.leave(outer);
+            mc_statements::compound_statement(alloc, *span, found)
+        }
+        Statement::Null { span } => mc_statements::null_statement(alloc, *span),
+        Statement::Expression { value, span } => {
+            let found = effect(alloc, scope, value)?;
+            mc_statements::effect_statement(alloc, *span, found)
+        }
+        Statement::If { test, chosen, span } => {
+            let test = expression(alloc, scope, test)?;
+            let chosen = inner(alloc, scope, around.inside(), chosen)?;
+            mc_statements::if_statement(alloc, *span, test, chosen)
+        }
+        Statement::IfElse {
+            test,
+            chosen,
+            other,
+            span,
+        } => {
+            let test = expression(alloc, scope, test)?;
+            let chosen = inner(alloc, scope, around.inside(), chosen)?;
+            let other = inner(alloc, scope, around.inside(), other)?;
+            mc_statements::if_else_statement(alloc, *span, test, chosen, other)
+        }
+        Statement::Switch { value, body, span } => {
+            let value = expression(alloc, scope, value)?;
+            let outer = mc_statements::enter_switch(alloc, scope, &value);
+            let found = statement(alloc, scope, around.in_switch(), body)?;
+            scope.leave(outer);
+            mc_statements::switch_statement(alloc, *span, body, value, found)
+        }
+        Statement::While { test, body, span } => {
+            let found = expression(alloc, scope, test)?;
+            let test = mc_statements::loop_test(span.start, found);
+            let body = inner(alloc, scope, around.in_loop(), body)?;
+            let start = mc_statements::no_start(alloc);
+            let step = mc_statements::no_clauses(alloc);
+            mc_statements::loop_statement(alloc, 5, *span, start, test, step, body)
+        }
+        Statement::DoWhile { body, test, span } => {
+            let body = inner(alloc, scope, around.in_loop(), body)?;
+            let test = expression(alloc, scope, test)?;
+            mc_statements::do_statement(alloc, *span, body, test)
+        }
+        Statement::For {
+            start,
+            test,
+            step,
+            body,
+            span,
+        } => {
+            let outer = scope.enter(None);
+            let start = for_start(alloc, scope, start)?;
+            let test = optional_test(alloc, scope, span.start, test)?;
+            let step = optional_part(alloc, scope, step)?;
+            let body = inner(alloc, scope, around.in_loop(), body)?;
+            scope.leave(outer);
+            mc_statements::loop_statement(alloc, 3, *span, start, test, step, body)
+        }
+        Statement::Case {
+            value,
+            label,
+            body,
+            ..
+        } => {
+            let found = expression(alloc, scope, value)?;
+            let first = mc_statements::case_label(alloc, scope, *label, value.span().start, found)?;
+            let rest = statement(alloc, scope, around.inside(), body)?;
+            mc_statements::followed(first, rest)
+        }
+        Statement::Default { label, body, .. } => {
+            let first = mc_statements::default_label(alloc, scope, *label)?;
+            let rest = statement(alloc, scope, around.inside(), body)?;
+            mc_statements::followed(first, rest)
+        }
+        Statement::Label { body, span, .. } => {
+            let found = statement(alloc, scope, around.inside(), body)?;
+            Ok(mc_statements::named_label(*span, found))
+        }
+        Statement::Goto { span, .. } => Ok(mc_statements::goto_statement(*span)),
+        Statement::Break { span } => mc_statements::break_statement(alloc, around, *span),
+        Statement::Continue { span } => mc_statements::continue_statement(alloc, around, *span),
+        Statement::Return { value, span } => match value {
+            Some(value) => {
+                let found = expression(alloc, scope, value)?;
+                mc_statements::return_statement(alloc, scope, around.result, *span, found)
+            }
+            None => mc_statements::return_nothing(alloc, around.result, *span),
+        },
+    }
+}
+
+/// A statement that is a block of its own (C17 6.8.4p3, 6.8.5p5).
+#[cycle(statements)]
+fn inner<'a>(
+    alloc: Global,
+    scope: &mut Scope<'a>,
+    around: Around,
+    tree: &Statement<'a>,
+) -> Result<Judged<Vec<typed::Statement>>, AllocError>
+    ensures { IfOk result (λ r. judged_of statements_of r (scope_of scope.new)
+        ≡ squeezed_part (w.closed (scope_of scope.old) (b.judge_statement (around_of around)
+        (units.statement_of tree.now) (s.block (scope_of scope.old))))) }
+{
+    let outer = scope.enter(None);
+    let found = statement(alloc, scope, around, tree)?;
+    scope.leave(outer);
+    Ok(found)
+}
+
+/// The items of a block (C17 6.8.2).
+#[cycle(statements)]
+pub(crate) fn block<'a>(
+    alloc: Global,
+    scope: &mut Scope<'a>,
+    around: Around,
+    trees: &[BlockItem<'a>],
+) -> Result<Judged<Vec<typed::Statement>>, AllocError>
+    ensures { IfOk result (λ r. judged_of statements_of r (scope_of scope.new)
+        ≡ squeezed_part (b.judge_block (around_of around)
+        (units.block_from (map units.block_item_of trees.now)) (scope_of scope.old))) }
+{
+    let mut list = mc_statements::no_statements(alloc);
+    for tree in trees {
+        let one = block_item(alloc, scope, around, tree)?;
+        list = mc_statements::followed(list, one)?;
+    }
+    Ok(list)
+}
+
+/// A local declaration or a statement.
+#[cycle(statements)]
+fn block_item<'a>(
+    alloc: Global,
+    scope: &mut Scope<'a>,
+    around: Around,
+    tree: &BlockItem<'a>,
+) -> Result<Judged<Vec<typed::Statement>>, AllocError>
+    ensures { IfOk result (λ r. TakesItem (around_of around) (units.block_item_of tree.now)
+        (scope_of scope.old) r (scope_of scope.new)) }
+{
+    match tree {
+        BlockItem::Local { declaration: local } => {
+            let found = declaration(alloc, scope, local)?;
+            mc_statements::declaration_statement(alloc, local.span, found)
+        }
+        BlockItem::Statement { statement: one } => statement(alloc, scope, around, one),
+    }
+}
+
+// ---- parts of statements
+
+/// A whole expression statement or a clause of a `for`.
+fn effect<'a>(
+    alloc: Global,
+    scope: &mut Scope<'a>,
+    tree: &Expression<'a>,
+) -> Result<Judged<Effect>, AllocError>
+    ensures { IfOk result (λ r. judged_of effect_of r (scope_of scope.new)
+        ≡ squeezed_part (b.judge_effect (expression_of tree.now) (scope_of scope.old))) }
+{
+    let found = expression(alloc, scope, tree)?;
+    mc_statements::effect(alloc, tree, found)
+}
+
+/// The clauses of a `for`.
+fn clauses<'a>(
+    alloc: Global,
+    scope: &mut Scope<'a>,
+    trees: &[Expression<'a>],
+) -> Result<Judged<Vec<Effect>>, AllocError>
+    ensures { IfOk result (λ r. judged_of effects_of r (scope_of scope.new)
+        ≡ squeezed_part (b.judge_clauses (expressions_from (map expression_of trees.now))
+        (scope_of scope.old))) }
+{
+    let mut list = mc_statements::no_clauses(alloc);
+    for tree in trees {
+        let found = effect(alloc, scope, tree)?;
+        let one = mc_statements::clause(alloc, found)?;
+        list = mc_statements::more_clauses(list, one)?;
+    }
+    Ok(list)
+}
+
+/// The operands of a comma operator, where the expression is one. Takes no memory.
+fn operands<'t, 'a>(tree: &'t Expression<'a>) -> Option<&'t [Expression<'a>]>
+    ensures { option_map (λ all. expressions_from (map expression_of all)) (option_copied result)
+        ≡ operands_in (expression_of tree.now) }
+{
+    match tree {
+        Expression::Comma { operands, .. } => Some(operands),
+        Expression::Parenthesized { .. }
+        | Expression::Name { .. }
+        | Expression::Constant { .. }
+        | Expression::Character { .. }
+        | Expression::Call { .. }
+        | Expression::Index { .. }
+        | Expression::Member { .. }
+        | Expression::PostfixStep { .. }
+        | Expression::PrefixStep { .. }
+        | Expression::Unary { .. }
+        | Expression::Cast { .. }
+        | Expression::Binary { .. }
+        | Expression::Conditional { .. }
+        | Expression::Assignment { .. } => None,
+    }
+}
+
+/// The first or third part of a `for`.
+fn part<'a>(
+    alloc: Global,
+    scope: &mut Scope<'a>,
+    tree: &Expression<'a>,
+) -> Result<Judged<Vec<Effect>>, AllocError>
+    ensures { IfOk result (λ r. judged_of effects_of r (scope_of scope.new)
+        ≡ squeezed_part (b.judge_part (expression_of tree.now) (scope_of scope.old))) }
+{
+    match operands(tree) {
+        Some(all) => clauses(alloc, scope, all),
+        None => {
+            let found = effect(alloc, scope, tree)?;
+            mc_statements::clause(alloc, found)
+        }
+    }
+}
+
+fn optional_part<'a>(
+    alloc: Global,
+    scope: &mut Scope<'a>,
+    tree: &Option<Box<Expression<'a>>>,
+) -> Result<Judged<Vec<Effect>>, AllocError>
+    ensures { IfOk result (λ r. judged_of effects_of r (scope_of scope.new)
+        ≡ squeezed_part (b.judge_optional_part (units.option_of tree.now) (scope_of scope.old))) }
+{
+    match tree {
+        Some(tree) => part(alloc, scope, tree),
+        None => Ok(mc_statements::no_clauses(alloc)),
+    }
+}
+
+fn for_start<'a>(
+    alloc: Global,
+    scope: &mut Scope<'a>,
+    tree: &ForStart<'a>,
+) -> Result<Judged<typed::ForStart>, AllocError>
+    ensures { IfOk result (λ r. judged_of start_of r (scope_of scope.new)
+        ≡ squeezed_part (b.judge_start (units.start_of tree.now) (scope_of scope.old))) }
+{
+    match tree {
+        ForStart::Local { declaration: local } => {
+            let found = declaration(alloc, scope, local)?;
+            Ok(mc_statements::declaration_start(found))
+        }
+        ForStart::Expression { value } => {
+            let found = optional_part(alloc, scope, value)?;
+            Ok(mc_statements::effects_start(found))
+        }
+    }
+}
+
+/// The controlling expression of a loop that starts at `at`, where there is one.
+fn optional_test<'a>(
+    alloc: Global,
+    scope: &mut Scope<'a>,
+    at: u32,
+    tree: &Option<Box<Expression<'a>>>,
+) -> Result<Judged<Option<typed::Expression>>, AllocError>
+    ensures { IfOk result (λ r. judged_of test_of r (scope_of scope.new)
+        ≡ squeezed_part (b.judge_test at (units.option_of tree.now) (scope_of scope.old))) }
+{
+    match tree {
+        Some(tree) => {
+            let found = expression(alloc, scope, tree)?;
+            Ok(mc_statements::loop_test(at, found))
+        }
+        None => Ok(mc_statements::no_test()),
+    }
+}
