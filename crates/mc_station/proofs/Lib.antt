@@ -1,3 +1,5 @@
+pub mod Decided
+pub mod Firsts
 pub mod Leading
 pub mod Parts
 pub mod Phases

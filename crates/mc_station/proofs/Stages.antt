@@ -9,7 +9,8 @@ use Rattle.mc_station.specs.Calls.{Answers, Call, Fails, Leads, LeadsTo, Request
 use Rattle.mc_station.specs.Files.{File, request_of, status_of}
 use Rattle.mc_station.specs.Laws.{NoCommandAlone, SourceAlone}
 use Rattle.mc_station.specs.Reply.{Reply}
-use Rattle.mc_station.specs.Source.{JudgesSource}
+use Rattle.mc_tree.specs.Tree.{Item}
+use Rattle.mc_station.specs.Source.{JudgesNames, JudgesSource}
 use Rattle.mc_station.specs.Stages as stages
 use Rattle.mc_station.specs.Stages.{Judges, JudgesTests, Next, Stage, asks, done, first_stage, next_of}
 use Rattle.mc_station.specs.Status.{IsAnswer}
@@ -35,11 +36,17 @@ done_is r q is = let same : r ≡ q = cc is in sym (status_is r q same)
 kind_is : (f g : File) → asks f ≡ asks g → g.kind ≡ f.kind
 kind_is f g is = let same : f ≡ g = cc is in ap (λ (x : File). x.kind) (sym same)
 
+refused_names : (bytes : List ℕ) (unit : List Item) (r : Reply) → JudgesNames bytes unit (Err r) → r.status ≡ status.SourceRefused
+refused_names bytes unit r (inl (fault, first, is)) = status_is r _ is
+refused_names bytes unit r (inr (program, types, inl (ds, are, at, count, large, is))) = status_is r _ is
+refused_names bytes unit r (inr (program, types, inr (ds, decides, inl (d, many, is)))) = status_is r _ is
+refused_names bytes unit r (inr (program, types, inr (ds, decides, inr (u, numbers, (none, is))))) = status_is r _ is
+
 refused_source : (bytes : List ℕ) (r : Reply) → JudgesSource bytes (Err r) → r.status ≡ status.SourceRefused
 refused_source bytes r (inl (tokens, e, scans, is)) = status_is r _ is
 refused_source bytes r (inr (tokens, lexes, inl (none, (at, few, is)))) = status_is r _ is
 refused_source bytes r (inr (tokens, lexes, inr (unit, parses, inl (outside, first, is)))) = status_is r _ is
-refused_source bytes r (inr (tokens, lexes, inr (unit, parses, inr (u, admits, (none, is))))) = status_is r _ is
+refused_source bytes r (inr (tokens, lexes, inr (unit, parses, inr (u, admits, judges)))) = refused_names bytes unit r judges
 
 may_answer : (files : Option Files) (s : Stage) (a b : Requests) (r : Reply) → Answers files s a r b → May s r.status
 may_answer files stages.usage a b r (calls.finished x is) = done_is _ r is

@@ -11,7 +11,7 @@ use Rattle.mc_station.specs.Files.{status_of}
 use Rattle.mc_first.specs.Lines.{report_lines}
 use Rattle.mc_station.specs.Reply.{Reply, refusal, success}
 use Rattle.mc_station.specs.Texts.{usage_text}
-use Rattle.mc_station.specs.Source.{JudgesSource, JudgesTokens, JudgesTree, Lexes}
+use Rattle.mc_station.specs.Source.{JudgesNames, JudgesSource, JudgesTokens, JudgesTree, Lexes}
 use Rattle.mc_station.specs.Stages as stages
 use Rattle.mc_station.specs.Stages.{Judges, JudgesTests, Next, Stage, asks, done, files_left, next_of}
 use Rattle.mc_station.specs.Status.{IsAnswer, number_of}
@@ -38,9 +38,15 @@ kind_answers Tests = tt
 lex_answers : (source : List ℕ) (r : Reply) → Lexes source (Err r) → IsAnswer r.status
 lex_answers source r (tokens, e, scans, is) = answers_as r _ is tt
 
+names_answers : (source : List ℕ) (unit : List Item) (r : Reply) → JudgesNames source unit (Err r) → IsAnswer r.status
+names_answers source unit r (inl (fault, first, is)) = answers_as r _ is tt
+names_answers source unit r (inr (program, types, inl (ds, are, at, count, large, is))) = answers_as r _ is tt
+names_answers source unit r (inr (program, types, inr (ds, decides, inl (d, many, is)))) = answers_as r _ is tt
+names_answers source unit r (inr (program, types, inr (ds, decides, inr (u, numbers, (none, is))))) = answers_as r _ is tt
+
 tree_answers : (source : List ℕ) (unit : List Item) (r : Reply) → JudgesTree source unit (Err r) → IsAnswer r.status
 tree_answers source unit r (inl (outside, first, is)) = answers_as r _ is tt
-tree_answers source unit r (inr (u, admits, (none, is))) = answers_as r _ is tt
+tree_answers source unit r (inr (u, admits, judges)) = names_answers source unit r judges
 
 tokens_answers : (source : List ℕ) (tokens : List Tok) (r : Reply) → JudgesTokens source tokens (Err r) → IsAnswer r.status
 tokens_answers source tokens r (inl (none, (at, few, is))) = answers_as r _ is tt

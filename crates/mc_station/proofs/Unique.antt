@@ -9,6 +9,12 @@ use Rattle.mc_lex.proofs.Scanning.{one_scan}
 use Rattle.mc_lex.specs.Lines.{column_of, line_of}
 use Rattle.mc_tree.specs.Tree.{Item}
 use Rattle.mc_reading.proofs.OneTree.{one_tree}
+use Rattle.mc_typed.specs.Tree.{Program}
+use Rattle.mc_typing.specs.declared.fault.Fault.{Fault}
+use Rattle.mc_typing.specs.Typing.{faults_of}
+use Rattle.mc_paths.specs.Paths.{count_of}
+use Rattle.mc_decide.specs.Decisions.{Decision, IsSmall, IsFirstLarge}
+use Rattle.mc_decide.proofs.Once as decided
 use Rattle.mc_first.specs.Form.{Form}
 use Rattle.mc_port.specs.Store.{Files, HasFile, IsLonger, and_asked}
 use Rattle.mc_first.specs.TestsFile.{PlainTest}
@@ -18,12 +24,14 @@ use Rattle.mc_station.specs.Calls.{Answers, Call, CallsFor, Fails, IsKnown, Lead
 use Rattle.mc_station.specs.Files.{File, Holds, limit_of, request_of}
 use Rattle.mc_station.specs.Laws.{AreOne, IsOnSyntax}
 use Rattle.mc_station.specs.Reply.{Reply, longer, refusal}
-use Rattle.mc_station.specs.Source.{Admits, Forms, JudgesSource, JudgesTokens, JudgesTree, Lexes, Parses, Then}
+use Rattle.mc_station.specs.Source.{Admits, Decides, Forms, JudgesDecisions, JudgesNames, JudgesProgram, JudgesSource, JudgesTokens, JudgesTree, Lexes, Numbers, Parses, Then, Types}
 use Rattle.mc_station.specs.Stages as stages
 use Rattle.mc_station.specs.Stages.{Judges, JudgesTests, Next, Stage, after_source, asks, done, first_stage, next_of}
 use Rattle.mc_station.specs.Status.{IsAnswer}
-use Rattle.mc_station.specs.Texts.{fault_line, outside_line, start_of, syntax_line}
+use Rattle.mc_station.specs.Texts.{conditions_line, fault_line, outside_line, paths_line, start_of, syntax_line, type_line}
 use Rattle.mc_station.specs.declared.status.Status.TheVariants.{SourceRefused}
+use Rattle.mc_station.proofs.Firsts.{one_first, none_first}
+use Rattle.mc_station.proofs.Decided.{none_large, one_large, none_with_many, one_with_many}
 
 -- ---- phases
 
@@ -84,14 +92,52 @@ one_admitted source unit (Err r) (Err s) (one, p, is) (other, q, also) =
     let same : one ≡ other = cc (p, q) in
     inl (is ∙ ap (λ x. refusal SourceRefused (outside_line source x)) same ∙ sym also)
 
+one_typed : (source : List ℕ) (unit : List Item) → IsOne (Types source unit)
+one_typed source unit (Ok p) (Ok q) (none, is) (also, other) = cc (is, other)
+one_typed source unit (Ok p) (Err s) (none, is) (f, first, other) = absurd (none_first (faults_of unit) f none first)
+one_typed source unit (Err r) (Ok q) (f, first, is) (none, other) = absurd (none_first (faults_of unit) f none first)
+one_typed source unit (Err r) (Err s) (f, first, is) (g, also, other) =
+    let same : f ≡ g = one_first (faults_of unit) f g first also in
+    inl (is ∙ ap (λ (x : Fault). refusal SourceRefused (type_line source x)) same ∙ sym other)
+
+one_decided : (source : List ℕ) (program : Program) → IsOne (Decides source program)
+one_decided source program (Ok ds) (Ok es) (are, small) (also, few) = decided.one_list program.functions ds es are also
+one_decided source program (Ok ds) (Err s) (are, small) (es, also, at, count, large, is) =
+    let same : es ≡ ds = decided.one_list program.functions es ds also are in
+    absurd (none_large ds at count small (subst (λ (xs : List Decision). IsFirstLarge xs at count) same large))
+one_decided source program (Err r) (Ok es) (ds, are, at, count, large, is) (also, small) =
+    let same : ds ≡ es = decided.one_list program.functions ds es are also in
+    absurd (none_large es at count small (subst (λ (xs : List Decision). IsFirstLarge xs at count) same large))
+one_decided source program (Err r) (Err s) (ds, are, at, count, large, is) (es, also, place, number, first, other) =
+    let same : es ≡ ds = decided.one_list program.functions es ds also are in
+    let one = one_large ds at count place number large (subst (λ (xs : List Decision). IsFirstLarge xs place number) same first) in
+    inl (is ∙ ap (λ (n : ℕ). refusal SourceRefused (conditions_line source n count)) one.0 ∙ ap (λ (n : ℕ). refusal SourceRefused (conditions_line source place n)) one.1 ∙ sym other)
+
+one_numbered : (source : List ℕ) (ds : List Decision) → IsOne (Numbers source ds)
+one_numbered source ds (Ok u) (Ok v) few also = refl
+one_numbered source ds (Ok u) (Err s) few (e, many, is) = absurd (none_with_many ds e few many)
+one_numbered source ds (Err r) (Ok v) (d, many, is) few = absurd (none_with_many ds d few many)
+one_numbered source ds (Err r) (Err s) (d, many, is) (e, also, other) =
+    let same : d ≡ e = one_with_many ds d e many also in
+    inl (is ∙ ap (λ (x : Decision). refusal SourceRefused (paths_line source x.root.start (count_of x.tree))) same ∙ sym other)
+
 one_formed : (unit : List Item) → IsOne (Forms unit)
 one_formed unit (Ok f) (Ok g) p q = cc (p, q)
 one_formed unit (Ok f) (Err r) p (none, is) = absurd (cc (p, none))
 one_formed unit (Err r) (Ok g) (none, is) q = absurd (cc (q, none))
 one_formed unit (Err r) (Err s) (none, is) (also, other) = inl (is ∙ sym other)
 
+one_decisions_judged : (source : List ℕ) (unit : List Item) (ds : List Decision) → IsOne (JudgesDecisions source unit ds)
+one_decisions_judged source unit ds = one_then (Numbers source ds) (λ u. Forms unit) (one_numbered source ds) (λ u. one_formed unit)
+
+one_program_judged : (source : List ℕ) (unit : List Item) (program : Program) → IsOne (JudgesProgram source unit program)
+one_program_judged source unit program = one_then (Decides source program) (JudgesDecisions source unit) (one_decided source program) (one_decisions_judged source unit)
+
+one_names_judged : (source : List ℕ) (unit : List Item) → IsOne (JudgesNames source unit)
+one_names_judged source unit = one_then (Types source unit) (JudgesProgram source unit) (one_typed source unit) (one_program_judged source unit)
+
 one_tree_judged : (source : List ℕ) (unit : List Item) → IsOne (JudgesTree source unit)
-one_tree_judged source unit = one_then (Admits source unit) (λ u. Forms unit) (one_admitted source unit) (λ u. one_formed unit)
+one_tree_judged source unit = one_then (Admits source unit) (λ u. JudgesNames source unit) (one_admitted source unit) (λ u. one_names_judged source unit)
 
 one_tokens_judged : (source : List ℕ) (tokens : List Tok) → IsOne (JudgesTokens source tokens)
 one_tokens_judged source tokens = one_then (Parses source tokens) (JudgesTree source) (one_parsed source tokens) (one_tree_judged source)

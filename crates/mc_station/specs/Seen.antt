@@ -8,7 +8,7 @@ use Rattle.mc_subset.specs.Names.{name_of}
 use Rattle.mc_station.specs.Files.{File as AskedFile}
 use Rattle.mc_station.specs.Reply.{Reply as CalledFor, longer, out_of_memory, refusal}
 use Rattle.mc_station.specs.Stages.{Next as Follows, Stage as StageOf, asks, done, source, tests, usage, vectors}
-use Rattle.mc_station.specs.Texts.{form_line, place_line, source_form_line, tests_form_line}
+use Rattle.mc_station.specs.Texts.{form_line, many_line, place_line, source_form_line, tests_form_line}
 use Rattle.mc_station.specs.declared.file.File.{File}
 use Rattle.mc_station.specs.declared.refusal.Refusal.{Refusal}
 use Rattle.mc_station.specs.declared.refusal.Refusal.TheVariants as why
@@ -31,6 +31,8 @@ reply_to (why.Fault place word) =
     refusal SourceRefused (place_line place.line place.column word.now)
 reply_to (why.Outside place form) =
     refusal SourceRefused (form_line place.line place.column (name_of form))
+reply_to (why.TooMany place what count) =
+    refusal SourceRefused (many_line place.line place.column what.now count)
 reply_to why.SourceForm = refusal SourceRefused source_form_line
 reply_to why.TestsForm = refusal TestsRefused tests_form_line
 

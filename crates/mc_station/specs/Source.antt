@@ -1,6 +1,6 @@
 -- Which sources are accepted: by phases, of which the first with a fault answers. The length comes
 -- before them: a source that is longer than its limit has no phases.
-use Rattle.std.specs.Prelude.{◌≡◌, ◌⊎◌, ◌≤◌, ℕ, List, [], length, Option, Some, None, Result, Ok, Err}
+use Rattle.std.specs.Prelude.{◌≡◌, ◌⊎◌, ◌≤◌, ◌<◌, ℕ, List, [], ◌∷◌, length, Option, Some, None, Result, Ok, Err, All}
 use Rattle.mc_lex.specs.declared.token.Dialect.TheVariants.{Plain}
 use Rattle.mc_lex.specs.declared.fault.LexFault.{LexFault}
 use Rattle.mc_lex.specs.Scans.{Scans}
@@ -10,9 +10,14 @@ use Rattle.mc_grammar.specs.Items.{IsSyntaxOf}
 use Rattle.mc_subset.specs.Forms.{first_outside}
 use Rattle.mc_subset.specs.Nodes.{nodes_of_unit}
 use Rattle.mc_subset.specs.declared.outside.Outside.{Outside}
+use Rattle.mc_typed.specs.Tree.{Program}
+use Rattle.mc_typing.specs.declared.fault.Fault.{Fault}
+use Rattle.mc_typing.specs.Typing.{IsTypingOf, IsFirstFaultOf}
+use Rattle.mc_decide.specs.Decisions.{Decision, AreDecisions, IsSmall, IsFirstLarge}
+use Rattle.mc_paths.specs.Paths.{count_of}
 use Rattle.mc_first.specs.Form.{Form, first_form}
 use Rattle.mc_station.specs.Reply.{Reply, refusal}
-use Rattle.mc_station.specs.Texts.{fault_line, outside_line, source_form_line, syntax_line}
+use Rattle.mc_station.specs.Texts.{conditions_line, fault_line, outside_line, paths_line, source_form_line, syntax_line, type_line}
 use Rattle.mc_station.specs.declared.status.Status.TheVariants.{SourceRefused}
 
 -- a phase, and the next one on what it gives: the first that refuses answers
@@ -44,15 +49,62 @@ Admits source unit (Err reply) =
     (outside : Outside) × (first_outside (nodes_of_unit unit) ≡ Some outside)
     × (reply ≡ refusal SourceRefused (outside_line source outside))
 
+-- the typed program of a unit, or its first fault of names and types (C17 6.2 to 6.9)
+abbrev pub Types : List ℕ → List Item → Result Program Reply → Type 0
+Types source unit (Ok program) = IsTypingOf unit program
+Types source unit (Err reply) =
+    (fault : Fault) × IsFirstFaultOf unit fault
+    × (reply ≡ refusal SourceRefused (type_line source fault))
+
+-- the decisions of a program, where none has more than 64 conditions, or the first that has more
+abbrev pub Decides : List ℕ → Program → Result (List Decision) Reply → Type 0
+Decides source program (Ok ds) = AreDecisions program.functions ds × All IsSmall ds
+Decides source program (Err reply) =
+    (ds : List Decision) × AreDecisions program.functions ds
+    × (at : ℕ) × (count : ℕ) × IsFirstLarge ds at count
+    × (reply ≡ refusal SourceRefused (conditions_line source at count))
+
+-- at most this many paths lead through a decision that is accepted
+abbrev pub most_paths : ℕ
+most_paths = 4096
+
+abbrev pub HasFewPaths : Decision → Type 0
+HasFewPaths d = count_of d.tree ≤ most_paths
+
+-- it has too many paths, and none before it has
+abbrev pub IsFirstWithMany : List Decision → Decision → Type 0
+IsFirstWithMany [] e = ⊥
+IsFirstWithMany (d ∷ ds) e =
+    ((most_paths < count_of d.tree) × (d ≡ e)) ⊎ (HasFewPaths d × IsFirstWithMany ds e)
+
+-- that no decision has too many paths, or the first that has
+abbrev pub Numbers : List ℕ → List Decision → Result (Unit {0}) Reply → Type 0
+Numbers source ds (Ok u) = All HasFewPaths ds
+Numbers source ds (Err reply) =
+    (d : Decision) × IsFirstWithMany ds d
+    × (reply ≡ refusal SourceRefused (paths_line source d.root.start (count_of d.tree)))
+
 -- the first form that a tree has
 abbrev pub Forms : List Item → Result Form Reply → Type 0
 Forms unit (Ok form) = first_form unit ≡ Some form
 Forms unit (Err reply) =
     (first_form unit ≡ None) × (reply ≡ refusal SourceRefused source_form_line)
 
+-- the phases after the conditions
+abbrev pub JudgesDecisions : List ℕ → List Item → List Decision → Result Form Reply → Type 0
+JudgesDecisions source unit ds = Then (Numbers source ds) (λ u. Forms unit)
+
+-- the phases after names and types
+abbrev pub JudgesProgram : List ℕ → List Item → Program → Result Form Reply → Type 0
+JudgesProgram source unit program = Then (Decides source program) (JudgesDecisions source unit)
+
+-- the phases after the outside forms
+abbrev pub JudgesNames : List ℕ → List Item → Result Form Reply → Type 0
+JudgesNames source unit = Then (Types source unit) (JudgesProgram source unit)
+
 -- the phases after the syntax
 abbrev pub JudgesTree : List ℕ → List Item → Result Form Reply → Type 0
-JudgesTree source unit = Then (Admits source unit) (λ u. Forms unit)
+JudgesTree source unit = Then (Admits source unit) (λ u. JudgesNames source unit)
 
 -- the phases after the tokens
 abbrev pub JudgesTokens : List ℕ → List Tok → Result Form Reply → Type 0

@@ -6,6 +6,8 @@ use Rattle.mc_lex.specs.declared.fault.LexFault.{LexFault}
 use Rattle.mc_lex.specs.Faults.{fault_place, fault_word}
 use Rattle.mc_lex.specs.Lines.{line_of, column_of}
 use Rattle.mc_lex.specs.Tokens.{Tok}
+use Rattle.mc_typing.specs.declared.fault.Fault.{Fault}
+use Rattle.mc_types.specs.Faults.{kind_word}
 use Rattle.mc_subset.specs.Names.{name_of}
 use Rattle.mc_subset.specs.declared.outside.Outside.{Outside}
 
@@ -58,6 +60,27 @@ abbrev pub outside_line : (source : List ℕ) → Outside → List ℕ
 outside_line source outside =
     form_line (line_of source outside.span.start) (column_of source outside.span.start)
     (name_of outside.form)
+
+-- the line on a fault of names and types
+abbrev pub type_line : (source : List ℕ) → Fault → List ℕ
+type_line source f = line_at source (Some f.at) (kind_word f.kind)
+
+-- of what there are too many at a place of the source, and how many
+abbrev pub many_line : (line column : ℕ) → List ℕ → ℕ → List ℕ
+many_line line column what count =
+    concat (codes "mcdc: source " ∷ decimal line ∷ codes ":" ∷ decimal column
+    ∷ codes ": too many " ∷ what ∷ codes " " ∷ decimal count ∷ newline ∷ [])
+
+abbrev pub many_line_at : (source : List ℕ) → ℕ → List ℕ → ℕ → List ℕ
+many_line_at source at what count = many_line (line_of source at) (column_of source at) what count
+
+-- the line on the first decision with more than 64 conditions
+abbrev pub conditions_line : (source : List ℕ) (at count : ℕ) → List ℕ
+conditions_line source at count = many_line_at source at (codes "conditions") count
+
+-- the line on the first decision with too many paths
+abbrev pub paths_line : (source : List ℕ) (at count : ℕ) → List ℕ
+paths_line source at count = many_line_at source at (codes "paths") count
 
 abbrev pub source_form_line : List ℕ
 source_form_line = codes "mcdc: source: form not built" ++ newline

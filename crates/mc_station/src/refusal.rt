@@ -11,9 +11,21 @@ pub enum Refusal<'w> {
     /// It is longer than its limit.
     TooLong(File<'w>),
     /// The source has a fault at a place, and this is its kind.
-    Fault { place: Place, word: &'static str },
+    Fault {
+        place: Place,
+        word: &'static str,
+    },
     /// The source has a form of C at a place that the profile leaves out.
-    Outside { place: Place, form: Form },
+    Outside {
+        place: Place,
+        form: Form,
+    },
+    /// The decision at a place of the source has too many of these.
+    TooMany {
+        place: Place,
+        what: &'static str,
+        count: u128,
+    },
     /// The source has not the first form.
     SourceForm,
     /// The tests file has not the form that it has so far.

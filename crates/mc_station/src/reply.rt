@@ -76,9 +76,10 @@ impl Refusal<'_> {
     {
         match self {
             Refusal::TooLong(file) => file.kind.refused(),
-            Refusal::Fault { .. } | Refusal::Outside { .. } | Refusal::SourceForm => {
-                Status::SourceRefused
-            }
+            Refusal::Fault { .. }
+            | Refusal::Outside { .. }
+            | Refusal::TooMany { .. }
+            | Refusal::SourceForm => { Status::SourceRefused }
             Refusal::TestsForm => Status::TestsRefused,
         }
     }

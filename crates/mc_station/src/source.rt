@@ -1,20 +1,29 @@
 //! Which sources are accepted: by phases, of which the first with a fault answers.
-ghost use Rattle.std.specs.Prelude.{◌≡◌, ◌≤◌, ◌<◌, ◌^◌, All, IfOk, drop, length};
+ghost use Rattle.std.specs.Prelude.{[], ◌∷◌, ◌≡◌, ◌≤◌, ◌<◌, ◌^◌, All, IfOk, None, drop, length, map};
 ghost use Rattle.mc_first.specs.Seen.{form_of};
 ghost use Rattle.mc_lex.specs.Lines.{column_of, line_of};
 ghost use Rattle.mc_lex.specs.Returned.{IsSlice};
 ghost use Rattle.mc_lex.specs.Tokens.{toks_of};
 ghost use Rattle.mc_tree.specs.Units.{items_of};
+ghost use Rattle.mc_typed.specs.Views.{program_of};
+ghost use Rattle.mc_subset.specs.Forms.{first_outside};
+ghost use Rattle.mc_subset.specs.Nodes.{nodes_of_unit};
+ghost use Rattle.mc_cond.specs.Tree.{tree_of, IsNumbered};
+ghost use Rattle.mc_decide.specs.Seen.{decision_of};
 ghost use Rattle.mc_station.specs.Seen.{Gives};
-ghost use Rattle.mc_station.specs.Source.{Admits, Forms, JudgesSource, JudgesTokens, JudgesTree, Lexes, Parses};
+ghost use Rattle.mc_station.specs.Source.{Admits, Decides, Forms, JudgesDecisions, JudgesNames, JudgesProgram, JudgesSource, JudgesTokens, JudgesTree, Lexes, Numbers, Parses, Types};
 ghost use Rattle.mc_station.specs.Texts.{start_of};
 
 use crate::refusal::{Refusal, Stop};
+use mc_decide::{DecideFault, Decision, decisions};
 use mc_first::{Function, read_function};
 use mc_lex::{Dialect, Place, Token, lex, place_of};
 use mc_parse::{ParseFault, parse};
+use mc_paths::{NumberFault, number};
 use mc_subset::check;
 use mc_tree::Unit;
+use mc_typed::Program;
+use mc_types::type_unit;
 use std::alloc::Global;
 
 // The phase of the tokens.
@@ -91,6 +100,82 @@ fn admitted<'a>(source: &[u8], unit: &Unit<'_>) -> Result<(), Stop<'a>>
     }
 }
 
+// The phase of names and types.
+fn typed<'a>(alloc: Global, source: &[u8], unit: &Unit<'a>) -> Result<Program<'a>, Stop<'a>>
+    requires short { length source.now < 2 ^ 31 }
+    requires admitted { first_outside (nodes_of_unit (items_of unit.now.items.items)) ≡ None }
+    ensures { Gives program_of (Types source.now (items_of unit.now.items.items)) result }
+{
+    match type_unit(alloc, unit) {
+        Ok(program) => Ok(program),
+        Err(fault) => match fault.at() {
+            Some(at) => Err(Stop::Refused(Refusal::Fault {
+                place: place_within(source, at),
+                word: fault.words(),
+            })),
+            None => Err(Stop::OutOfMemory),
+        },
+    }
+}
+
+// The phase of the conditions.
+#[tactic(auto, using(crate::proofs::Decided::all_small))]
+fn decided<'a>(
+    alloc: Global,
+    source: &[u8],
+    program: &Program<'_>,
+) -> Result<Vec<Decision>, Stop<'a>>
+    requires { length source.now < 2 ^ 31 }
+    ensures decides { Gives (λ ds. map decision_of ds.items)
+        (Decides source.now (program_of program.now)) result }
+    ensures numbered { IfOk result (λ ds. All (λ d. IsNumbered (tree_of d.tree)) ds.items) }
+{
+    match decisions(alloc, program) {
+        Ok(decisions) => Ok(decisions),
+        Err(DecideFault::TooManyConditions { at, count }) => Err(Stop::Refused(Refusal::TooMany {
+            place: place_within(source, at),
+            what: "conditions",
+            count: count as u128,
+        })),
+        Err(DecideFault::OutOfMemory) => Err(Stop::OutOfMemory),
+    }
+}
+
+// Whether a decision has few paths.
+fn few_paths<'a>(alloc: Global, source: &[u8], decision: &Decision) -> Result<(), Stop<'a>>
+    requires short { length source.now < 2 ^ 31 }
+    requires numbered { IsNumbered (tree_of decision.now.tree) }
+    ensures { Gives (λ u. u) (Numbers source.now (decision_of decision.now ∷ [])) result }
+{
+    match number(alloc, &decision.tree) {
+        Ok(numbering) => {
+            drop(numbering);
+            Ok(())
+        }
+        Err(NumberFault::TooManyPaths { count }) => Err(Stop::Refused(Refusal::TooMany {
+            place: place_within(source, decision.root.start),
+            what: "paths",
+            count,
+        })),
+        Err(NumberFault::OutOfMemory) => Err(Stop::OutOfMemory),
+    }
+}
+
+// The phase of the paths.
+fn numbered<'a>(alloc: Global, source: &[u8], decisions: &[Decision]) -> Result<(), Stop<'a>>
+    requires short { length source.now < 2 ^ 31 }
+    requires numbered { All (λ d. IsNumbered (tree_of d.tree)) decisions.now }
+    ensures { Gives (λ u. u) (Numbers source.now (map decision_of decisions.now)) result }
+{
+    for decision in decisions {
+        match few_paths(alloc, source, decision) {
+            Ok(()) => {}
+            Err(stop) => return Err(stop),
+        }
+    }
+    Ok(())
+}
+
 // The last phase so far: the first form.
 fn formed<'a>(alloc: Global, unit: &Unit<'a>) -> Result<Function<'a>, Stop<'a>>
     ensures { Gives form_of (Forms (items_of unit.now.items.items)) result }
@@ -102,13 +187,54 @@ fn formed<'a>(alloc: Global, unit: &Unit<'a>) -> Result<Function<'a>, Stop<'a>>
     }
 }
 
+// The phases after the conditions.
+fn judge_decisions<'a>(
+    alloc: Global,
+    source: &[u8],
+    unit: &Unit<'a>,
+    decisions: &[Decision],
+) -> Result<Function<'a>, Stop<'a>>
+    requires short { length source.now < 2 ^ 31 }
+    requires numbered { All (λ d. IsNumbered (tree_of d.tree)) decisions.now }
+    ensures { Gives form_of (JudgesDecisions source.now (items_of unit.now.items.items)
+        (map decision_of decisions.now)) result }
+{
+    numbered(alloc, source, decisions)?;
+    formed(alloc, unit)
+}
+
+// The phases after names and types.
+fn judge_program<'a>(
+    alloc: Global,
+    source: &[u8],
+    unit: &Unit<'a>,
+    program: &Program<'_>,
+) -> Result<Function<'a>, Stop<'a>>
+    requires { length source.now < 2 ^ 31 }
+    ensures { Gives form_of (JudgesProgram source.now (items_of unit.now.items.items)
+        (program_of program.now)) result }
+{
+    let decisions = decided(alloc, source, program)?;
+    judge_decisions(alloc, source, unit, &decisions)
+}
+
+// The phases after the outside forms.
+fn judge_names<'a>(alloc: Global, source: &[u8], unit: &Unit<'a>) -> Result<Function<'a>, Stop<'a>>
+    requires short { length source.now < 2 ^ 31 }
+    requires admitted { first_outside (nodes_of_unit (items_of unit.now.items.items)) ≡ None }
+    ensures { Gives form_of (JudgesNames source.now (items_of unit.now.items.items)) result }
+{
+    let program = typed(alloc, source, unit)?;
+    judge_program(alloc, source, unit, &program)
+}
+
 // The phases after the syntax.
 fn judge_tree<'a>(alloc: Global, source: &[u8], unit: &Unit<'a>) -> Result<Function<'a>, Stop<'a>>
     requires { length source.now < 2 ^ 31 }
     ensures { Gives form_of (JudgesTree source.now (items_of unit.now.items.items)) result }
 {
     admitted(source, unit)?;
-    formed(alloc, unit)
+    judge_names(alloc, source, unit)
 }
 
 // The phases after the tokens.

@@ -1,7 +1,7 @@
 //! The texts on the errors' sink.
 ghost use Rattle.std.specs.Prelude.{◌≡◌, IfOk, string_bytes};
 ghost use Rattle.mc_station.specs.Seen.{reply_to};
-ghost use Rattle.mc_station.specs.Texts.{cannot_read_line, form_line, longer_line, place_line, usage_text};
+ghost use Rattle.mc_station.specs.Texts.{cannot_read_line, form_line, longer_line, many_line, place_line, usage_text};
 
 use crate::refusal::Refusal;
 use mc_lex::Place;
@@ -48,6 +48,16 @@ fn form_line(alloc: Global, place: Place, name: &str) -> Result<String, AllocErr
     format!(in alloc; "mcdc: source {line}:{column}: outside form {name}\n")
 }
 
+// The line that names of what there are too many at a place of the source, and how many.
+fn many_line(alloc: Global, place: Place, what: &str, count: u128) -> Result<String, AllocError>
+    ensures { IfOk result (λ text.
+        string_bytes text ≡ many_line place.line place.column what.now count) }
+{
+    let line = place.line;
+    let column = place.column;
+    format!(in alloc; "mcdc: source {line}:{column}: too many {what} {count}\n")
+}
+
 /// The line of a refusal.
 pub fn refusal_line(alloc: Global, refusal: Refusal<'_>) -> Result<String, AllocError>
     ensures { IfOk result (λ line. string_bytes line ≡ (reply_to refusal.entry).diag) }
@@ -56,6 +66,7 @@ pub fn refusal_line(alloc: Global, refusal: Refusal<'_>) -> Result<String, Alloc
         Refusal::TooLong(file) => longer_line(alloc, file.name, file.kind.limit()),
         Refusal::Fault { place, word } => place_line(alloc, place, word),
         Refusal::Outside { place, form } => form_line(alloc, place, form.as_str()),
+        Refusal::TooMany { place, what, count } => many_line(alloc, place, what, count),
         Refusal::SourceForm => String::from_str(alloc, "mcdc: source: form not built\n"),
         Refusal::TestsForm => String::from_str(alloc, "mcdc: tests: form not built\n"),
     }

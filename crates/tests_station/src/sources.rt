@@ -54,8 +54,7 @@ fn expressions_of_the_first_form(rt: HostRuntime) -> Result<(), Fail> {
 }
 
 /// Expressions of the subset that have another form.
-const OTHER_FORM: [&str; 30] = [
-    "",
+const OTHER_FORM: [&str; 26] = [
     "a",
     "(a)",
     "1&&2",
@@ -66,8 +65,6 @@ const OTHER_FORM: [&str; 30] = [
     "a<(1)",
     "!a<b",
     "!(a)<1",
-    "a&&d",
-    "a&&f",
     "a&&2147483648",
     "a&&007",
     "a&&00",
@@ -83,7 +80,6 @@ const OTHER_FORM: [&str; 30] = [
     "a!=1",
     "a|b",
     "a&&b;",
-    "a&&f(b)",
     "a?b:c",
 ];
 
@@ -95,8 +91,12 @@ fn expressions_of_another_form(rt: HostRuntime) -> Result<(), Fail> {
     Ok(())
 }
 
-/// Texts that are no expressions of the subset, and why.
-const NOT_IN_THE_SUBSET: [(&str, &str); 10] = [
+/// Texts that are refused where an expression of type `int` has to stand, and why.
+const NOT_ACCEPTED: [(&str, &str); 14] = [
+    ("", " 1:26: mismatch"),
+    ("a&&d", " 1:36: undeclared"),
+    ("a&&f", " 1:33: mismatch"),
+    ("a&&f(b)", " 1:36: mismatch"),
     ("a&&", " 1:36: syntax"),
     ("&&a", " 1:33: syntax"),
     ("(a&&b", " 1:38: syntax"),
@@ -111,7 +111,7 @@ const NOT_IN_THE_SUBSET: [(&str, &str); 10] = [
 
 #[test]
 fn expressions_that_are_refused(rt: HostRuntime) -> Result<(), Fail> {
-    for (expression, words) in NOT_IN_THE_SUBSET {
+    for (expression, words) in NOT_ACCEPTED {
         returns(&rt, rt.alloc(), expression, words)?;
     }
     Ok(())
@@ -134,23 +134,19 @@ fn sources_of_the_first_form(rt: HostRuntime) -> Result<(), Fail> {
 }
 
 /// Sources of the subset that have another form.
-const OTHERS: [&str; 18] = [
+const OTHERS: [&str; 14] = [
     "",
     "/* nothing */\n",
     "int a;",
     "typedef int T;T f(T a){return !a;}",
     "int f(int a);",
-    "int f(int a){returna<1;}",
     "int f(void){return !0;}",
-    "int f(int a,int a){return !a;}",
     "int f(int f){return !f;}",
-    "int mcdc_in(int a){return !a;}",
     "int f(int mcdc_out){return !mcdc_out;}",
     "int f(int a){return !a;;}",
     "int f(int a){{return !a;}}",
     "long f(int a){return !a;}",
     "int f(long a){return !a;}",
-    "int f(int a[1]){return !a;}",
     "static int f(int a){return !a;}",
     "int f(int a){return !a;}int g;",
 ];
@@ -233,6 +229,61 @@ const OUTSIDE: [(&str, &str); 15] = [
     ("int a;\n int *b;int f();", " 2:6: outside form pointer"),
 ];
 
+/// Sources with a fault of names or types; the first fault answers.
+const FAULTS: [(&str, &str); 12] = [
+    ("int f(int a){returna<1;}", " 1:14: undeclared"),
+    ("int f(int a){return b||c;}", " 1:21: undeclared"),
+    ("int f(int a,int a){return !a;}", " 1:17: redeclared"),
+    ("int mcdc_in(int a){return !a;}", " 1:5: redeclared"),
+    ("int f(int a[1]){return !a;}", " 1:24: mismatch"),
+    ("int f(void){return;}", " 1:13: mismatch"),
+    ("int n=1;int t[n];", " 1:15: not constant"),
+    (
+        "void f(int a){switch(a){case 1:;\ncase 1:;}}",
+        " 2:1: duplicate label",
+    ),
+    ("int g(void);int f(void){return g();}", " 1:32: no body"),
+    ("int t[65537];", " 1:5: type limit"),
+    ("int t[65536][65536]={0};", " 1:5: type limit"),
+    (
+        "int f(void){return x;}int *p;",
+        " 1:27: outside form pointer",
+    ),
+];
+
+#[test]
+fn sources_with_a_fault_of_types(rt: HostRuntime) -> Result<(), Fail> {
+    for (source, words) in FAULTS {
+        is_judged(&rt, rt.alloc(), source, words)?;
+    }
+    Ok(())
+}
+
+/// What is repeated, how often, what comes after it, and how the source is judged. All conditions
+/// are counted before any paths.
+const LARGE: [(&str, usize, &str, &str); 5] = [
+    ("a&&", 63, "a;}", NOT_BUILT),
+    ("a&&", 64, "a;}", " 1:27: too many conditions 65"),
+    ("(a||b)&&", 10, "(a||b);}", NOT_BUILT),
+    ("(a||b)&&", 11, "(a||b);}", " 1:27: too many paths 8191"),
+    (
+        "(a||b)&&",
+        31,
+        "(a||b);}",
+        " 1:27: too many paths 8589934591",
+    ),
+];
+
+#[test]
+fn decisions_that_are_too_large(rt: HostRuntime) -> Result<(), Fail> {
+    let front = "int f(int a,int b){return ";
+    for (piece, times, back, words) in LARGE {
+        let source = repeated(rt.alloc(), front, piece, times, back)?;
+        is_judged(&rt, rt.alloc(), source.as_str(), words)?;
+    }
+    Ok(())
+}
+
 #[test]
 fn sources_without_tokens(rt: HostRuntime) -> Result<(), Fail> {
     for (source, words) in NO_TOKENS {
@@ -311,7 +362,7 @@ fn limit_of_parameters(rt: HostRuntime) -> Result<(), Fail> {
     for count in 2..18 {
         text.push_str(format!(in alloc; ",int p{count}")?.as_str())?;
         let source = repeated(alloc, text.as_str(), "", 0, "){return !a;}")?;
-        let words = if count <= 16 { "" } else { NOT_BUILT };
+        let words = if count <= 16 { "" } else { " 1:5: type limit" };
         is_judged(&rt, alloc, source.as_str(), words)?;
     }
     Ok(())
