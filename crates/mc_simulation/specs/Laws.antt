@@ -3,6 +3,12 @@ use Rattle.std.specs.Prelude.{◌≡◌, ℕ, ◌+◌, ◌-◌, ◌*◌, ◌≤�
 use Rattle.mc_typed.specs.Layout.{ObjectType, Scalar, Array, Structure, Members, cells, cells_all, count, with_last, start, Leads}
 use Rattle.mc_cells.specs.Rows.{filled, moved}
 use Rattle.mc_meaning.specs.Stores.{Store, put, zeroed, copied}
+use Rattle.mc_typed.specs.Tree.{Program}
+use Rattle.mc_typed.specs.Sound.{IsSound}
+use Rattle.mc_probe.specs.Erase.{erase}
+use Rattle.mc_probe.specs.Maps.{Map}
+use Rattle.mc_probe.specs.Table.{instrumented}
+use Rattle.mc_probe.specs.WellFormed.{IsWellFormed}
 use Rattle.mc_simulation.specs.Related.{whole, Same}
 
 -- after how many cells of an array or a structure the part with this number begins
@@ -36,3 +42,11 @@ pub record StoresAreKept : Type 0 where
   -- and ends
   pub ends : (ms : Members) (t : ObjectType) (m : Store) (row : List (Option ℤ)) (base : ℕ) →
       base ≡ cells_all ms → Same (with_last ms t) m row → Same ms m (take base row)
+
+-- the probes taken away, an instrumented program is the program
+abbrev pub InstrumentedErases : Type 0
+InstrumentedErases = (m : Map) (p : Program) → erase (instrumented m p).program ≡ p
+
+-- and well-formed where the program is sound
+abbrev pub InstrumentedIsWellFormed : Type 0
+InstrumentedIsWellFormed = (m : Map) (p : Program) → IsSound p → IsWellFormed (instrumented m p)

@@ -3,4 +3,7 @@
 
 mod laws;
 
-pub use laws::stores_are_kept;
+pub use laws::{
+    bare_programs_run_as_plain, instrumented_programs_erase, instrumented_programs_run_as_plain,
+    stores_are_kept,
+};
