@@ -1,0 +1,10 @@
+use Rattle.std.proofs.Common.{◌≡◌, ◌++◌, length}
+use Rattle.std.specs.Prelude.{flat_map}
+use Rattle.mc_report.specs.Words.{value_text}
+use Rattle.mc_report.proofs.test_lines.push_values.Given as goal
+
+abbrev pub invariant-loop-left : goal.invariant-loop-left
+invariant-loop-left l = l.line.items ++ flat_map value_text l.left ≡ l.initial.line.items ++ flat_map value_text l.fn.values
+
+abbrev pub decreases-loop-left : goal.decreases-loop-left
+decreases-loop-left l = length l.left

@@ -1,0 +1,28 @@
+-- What follows from the definitions of a report.
+use Rattle.std.specs.Prelude.{ℕ, ◌<◌, List, All, IsUtf8}
+use Rattle.mc_cond.specs.Tree.{Tree, IsNumbered}
+use Rattle.mc_paths.specs.Paths.{count_of, IsPath}
+use Rattle.mc_core.specs.Matrix.{MatrixView}
+use Rattle.mc_probe.specs.Maps.{Map}
+use Rattle.mc_oblige.specs.declared.mode.Mode.{Mode}
+use Rattle.mc_oblige.specs.declared.justification.Justification.{Justification}
+use Rattle.mc_oblige.specs.declared.verdict.Verdict.{Verdict}
+use Rattle.mc_oblige.specs.Obligations.{obligations_of}
+use Rattle.mc_oblige.specs.Shown.{HasEvent}
+use Rattle.mc_oblige.specs.Verdicts.{AreVerdicts}
+use Rattle.mc_report.specs.Vectors.{vector_at}
+use Rattle.mc_report.specs.Report.{AreJudged}
+
+-- the vector that is written for a path is the one with its number
+abbrev pub VectorIsOfPath : Type 0
+VectorIsOfPath =
+    (t : Tree) (path : ℕ) → IsNumbered t → path < count_of t → IsPath t path (vector_at t path)
+
+-- the verdicts on a map's obligations by a matrix can be reported with the tests of the matrix, where
+-- each reason is text
+abbrev pub VerdictsAreReported : Type 0
+VerdictsAreReported =
+    (m : Map) (x : MatrixView) (mode : Mode) (named : List Justification) (vs : List Verdict) →
+    All (λ j. IsUtf8 j.reason) named →
+    AreVerdicts (HasEvent m x) m mode named vs →
+    AreJudged x.shape.tests m.decisions (obligations_of m) vs

@@ -1,0 +1,11 @@
+pub mod Words
+pub mod Vectors
+pub mod Report
+pub mod Status
+pub mod Lines
+pub mod Counts
+pub mod Text
+pub mod Seen
+pub mod Written
+pub mod Laws
+pub mod steps

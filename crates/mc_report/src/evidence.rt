@@ -1,0 +1,148 @@
+//! What shows an obligation, and why it need not be met.
+ghost use Rattle.std.specs.Prelude.{◌≡◌, ◌++◌, ◌<◌, length, map, slice_get, IfOk, OnOk, IsUtf8};
+ghost use Rattle.serde_json.specs.Data.{string};
+ghost use Rattle.serde_json.specs.Written.{compact_text};
+ghost use Rattle.mc_probe.specs.Mapped.{mapped_of};
+ghost use Rattle.mc_report.specs.Lines.{decision_in, name_text, path_text, reason_text, shown_text};
+ghost use Rattle.mc_report.specs.Report.{HasPath, IsOfKind, IsReason};
+ghost use Rattle.mc_report.specs.steps.Kinds.{IsCondition, IsIn};
+
+use crate::vector::push_vector;
+use mc_oblige::{Evidence, ObligationId, Reason};
+use mc_probe::MappedDecision;
+use mc_typed::Name;
+use serde_json::Value;
+use std::alloc::{AllocError, Global};
+use std::str;
+
+/// Adds the name of a test.
+fn push_name(line: &mut Vec<u8>, names: &[Name], test: u32) -> Result<(), AllocError>
+    requires { test < length names.now }
+    ensures { OnOk result (line.new.items ≡ line.old.items ++ name_text names.now test) }
+{
+    line.extend_from_slice(b" by ")?;
+    line.extend_from_slice(names[test as usize].bytes())
+}
+
+/// Adds the vector of a path of decision `d`.
+fn push_path(
+    line: &mut Vec<u8>,
+    decisions: &[MappedDecision],
+    d: u32,
+    path: u32,
+) -> Result<(), AllocError>
+    requires { HasPath (slice_get (map mapped_of decisions.now) d) path }
+    ensures { OnOk result (line.new.items ≡ line.old.items
+        ++ path_text (slice_get (map mapped_of decisions.now) d) path) }
+{
+    line.extend_from_slice(b" ")?;
+    push_vector(line, &decisions[d as usize].numbering.vector_of(path))
+}
+
+/// The vectors and the tests of a pair of paths of a condition's decision.
+#[derive(Clone, Copy)]
+struct Pair {
+    d: u32,
+    first: u32,
+    first_test: u32,
+    second: u32,
+    second_test: u32,
+}
+
+fn push_pair(
+    line: &mut Vec<u8>,
+    names: &[Name],
+    decisions: &[MappedDecision],
+    pair: Pair,
+) -> Result<(), AllocError>
+    requires first { HasPath (slice_get (map mapped_of decisions.now) pair.d) pair.first }
+    requires second { HasPath (slice_get (map mapped_of decisions.now) pair.d) pair.second }
+    requires first_test { pair.first_test < length names.now }
+    requires second_test { pair.second_test < length names.now }
+    ensures { OnOk result (line.new.items ≡ line.old.items
+        ++ shown_text names.now (slice_get (map mapped_of decisions.now) pair.d)
+        (Evidence.Pair pair.first pair.first_test pair.second pair.second_test)) }
+{
+    push_path(line, decisions, pair.d, pair.first)?;
+    push_name(line, names, pair.first_test)?;
+    push_path(line, decisions, pair.d, pair.second)?;
+    push_name(line, names, pair.second_test)
+}
+
+/// Adds the least test, or for a condition each vector of the pair with its least test.
+pub(crate) fn push_evidence(
+    line: &mut Vec<u8>,
+    names: &[Name],
+    decisions: &[MappedDecision],
+    id: ObligationId,
+    evidence: Evidence,
+) -> Result<(), AllocError>
+    requires { IsOfKind (length names.now) (map mapped_of decisions.now) id evidence }
+    ensures { OnOk result (line.new.items ≡ line.old.items
+        ++ shown_text names.now (decision_in (map mapped_of decisions.now) id) evidence) }
+{
+    match evidence {
+        Evidence::Absent => Ok(()),
+        Evidence::One { test } => push_name(line, names, test),
+        Evidence::Pair {
+            first,
+            first_test,
+            second,
+            second_test,
+        } => {
+            let pair = Pair {
+                d: decision_of(id),
+                first,
+                first_test,
+                second,
+                second_test,
+            };
+            push_pair(line, names, decisions, pair)
+        }
+    }
+}
+
+/// The decision of a condition.
+fn decision_of(id: ObligationId) -> u32
+    requires { IsCondition id }
+    ensures { IsIn result id }
+{
+    match id {
+        ObligationId::Condition(d, _) => d,
+        _ => unreachable!(),
+    }
+}
+
+/// A text as a JSON string.
+fn quoted(alloc: Global, text: &[u8]) -> Result<Vec<u8>, AllocError>
+    requires { IsUtf8 text.now }
+    ensures { IfOk result (λ v. v.items ≡ compact_text (string text.now)) }
+{
+    match str::from_utf8(text) {
+        Ok(text) => string_bytes(alloc, text),
+        Err(_) => unreachable!(),
+    }
+}
+
+fn string_bytes(alloc: Global, text: &str) -> Result<Vec<u8>, AllocError>
+    ensures { IfOk result (λ v. v.items ≡ compact_text (string text.now)) }
+{
+    Value::try_from_str(alloc, text)?.to_vec(alloc)
+}
+
+/// Adds the reason of a justification, where there is one.
+pub(crate) fn push_reason(
+    alloc: Global,
+    line: &mut Vec<u8>,
+    reason: &Option<Reason>,
+) -> Result<(), AllocError>
+    requires { IsReason reason.now }
+    ensures { OnOk result (line.new.items ≡ line.old.items ++ reason_text reason.now) }
+{
+    let Some(reason) = reason else {
+        return Ok(());
+    };
+    let text = quoted(alloc, reason.bytes())?;
+    line.extend_from_slice(b" ")?;
+    line.extend_from_slice(&text)
+}

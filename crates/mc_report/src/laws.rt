@@ -1,0 +1,12 @@
+//! What follows from the definitions. The functions do nothing: each has a law as its contract.
+ghost use Rattle.mc_report.specs.Laws.{VectorIsOfPath, VerdictsAreReported};
+
+/// The vector that is written for a path is the one with its number.
+pub fn vector_is_of_path()
+    ensures { VectorIsOfPath }
+{}
+
+/// The verdicts on a map's obligations can be reported.
+pub fn verdicts_are_reported()
+    ensures { VerdictsAreReported }
+{}
