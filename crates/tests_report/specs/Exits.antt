@@ -96,7 +96,12 @@ plain =
       closing = 22;
       left = codes "X1 1:14 missing" ∷ [];
     }
-    ∷ record { text = codes "int f(int n){}"; items = []; closing = 13; left = codes "X1 1:14 missing" ∷ [] }
+    ∷ record {
+      text = codes "int f(int n){}";
+      items = [];
+      closing = 13;
+      left = codes "X1 1:14 missing" ∷ [];
+    }
     ∷ record {
       text = codes "int f(int n){{return n;}}";
       items = t.Compound (block (return_at 14 ∷ [])) (span 13 24) ∷ [];

@@ -122,7 +122,8 @@ Reasons =
 
 -- of the two reports with one kind of reason each
 abbrev pub settled : List Verdict → ℕ
-settled verdicts = status_of (one_report Unique (take 2 names) (returned 1 ∷ returned 0 ∷ []) verdicts)
+settled verdicts =
+    status_of (one_report Unique (take 2 names) (returned 1 ∷ returned 0 ∷ []) verdicts)
 
 abbrev pub Settled : Type 0
 Settled =
@@ -133,7 +134,8 @@ Settled =
 -- a test that did not pass
 abbrev pub failed : TestState → ℕ
 failed state =
-    status_of (one_report Unique (take 2 names) (returned 1 ∷ record (returned 1) { state = state } ∷ []) [])
+    status_of (one_report Unique (take 2 names)
+    (returned 1 ∷ record (returned 1) { state = state } ∷ []) [])
 
 abbrev pub Failed : Type 0
 Failed =
@@ -277,4 +279,5 @@ TestLines =
     ≡ lines (codes
     "test a.b_c-1 trap-index values 18446744073709551615 void -9223372036854775808 output 0 -2147483648"
     ∷ []))
-    × (kept_lines (codes "a.b_c-1" ∷ []) (busy.state ∷ []) ≡ lines (codes "test a.b_c-1 trap-index" ∷ []))
+    × (kept_lines (codes "a.b_c-1" ∷ []) (busy.state ∷ [])
+    ≡ lines (codes "test a.b_c-1 trap-index" ∷ []))

@@ -62,7 +62,8 @@ returning statement root tree conditions = record {
 
 -- a test that passed and whose one call returned this
 abbrev pub returned : ℕ → Told
-returned value = record { ending = Returned; values = Some (pos value) ∷ []; output = []; state = Pass }
+returned value =
+    record { ending = Returned; values = Some (pos value) ∷ []; output = []; state = Pass }
 
 abbrev pub names : List (List ℕ)
 names =
@@ -70,7 +71,8 @@ names =
     ∷ codes "t8"
     ∷ []
 
-abbrev pub reported : List ℕ → List ℕ → Mode → Map → List (List ℕ) → List Told → List Verdict → Report
+abbrev pub reported : List ℕ → List ℕ → Mode → Map → List (List ℕ) → List Told → List Verdict
+    → Report
 reported source digest mode m tests results verdicts = record {
   source = source;
   digest = digest;
