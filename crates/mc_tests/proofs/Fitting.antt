@@ -14,9 +14,10 @@ use Rattle.mc_typed.specs.Tree as t
 use Rattle.mc_typed.specs.Plans.{AreInts, AreOutputs, AreValues, Call, CallFits, CallsFit, Fits, IsExpected, Plan, expected_outputs, outputs_of}
 use Rattle.mc_tests.specs.declared.fault.TestFault.{TestFault}
 use Rattle.mc_tests.specs.declared.fault.TestFault.TheVariants as fault
-use Rattle.mc_tests.specs.Fields.{Numbers, all_four, arguments_field, call_field, expected_output, expected_value, expect_field, inputs_field, is_header, is_readable, is_test_name, numbers_in, output_field, test_field}
-use Rattle.mc_tests.specs.Numbers.{all_numbers, and_number, if_int, int_of, number_of, numbers_of, pieces_of}
-use Rattle.mc_tests.specs.Lines.{Line, are_values, called, function_named, gives_structure, integer_types, is_callable, line_of, may_expect, numbered, takes_integers}
+use Rattle.mc_fields.specs.Fields.{Numbers, all_four, arguments_field, call_field, expected_output, expected_value, expect_field, inputs_field, is_header, is_readable, is_test_name, numbers_in, output_field, test_field}
+use Rattle.mc_fields.specs.Numbers.{all_numbers, and_number, if_int, int_of, number_of, numbers_of, pieces_of}
+use Rattle.mc_fields.specs.Calls.{are_values, gives_structure, integer_types, is_callable, may_expect, takes_integers}
+use Rattle.mc_tests.specs.Lines.{Line, called, function_named, line_of, numbered}
 use Rattle.mc_tests.specs.Tests.{are_distinct, before_test, before_tests, is_small, keeps_limits, names_of, test_of, tests_of, tests_fault}
 use Rattle.mc_tests.specs.File.{AllFit, AreNamed, after_line, records_from, rows_file, unless_fault}
 use Rattle.mc_tests.proofs.Adding.{and_parts}

@@ -1,5 +1,3 @@
-pub mod Digits
-pub mod Pieces
 pub mod ByName
 pub mod Names
 pub mod Adding

@@ -6,7 +6,7 @@ use Rattle.mc_typed.specs.Tree.{Function, Program}
 use Rattle.mc_typed.specs.Plans.{Fits, Plan}
 use Rattle.mc_tests.specs.declared.fault.TestFault.{TestFault}
 use Rattle.mc_tests.specs.declared.fault.TestFault.TheVariants as fault
-use Rattle.mc_tests.specs.Fields.{is_header, is_test_name}
+use Rattle.mc_fields.specs.Fields.{is_header, is_test_name}
 use Rattle.mc_tests.specs.Lines.{Line, line_of}
 use Rattle.mc_tests.specs.Tests.{are_distinct, names_of, tests_of, tests_fault}
 

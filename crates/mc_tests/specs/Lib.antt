@@ -1,6 +1,3 @@
--- What the text of a field says.
-pub mod Numbers
-pub mod Fields
 -- What one record says, and what several make.
 pub mod Lines
 pub mod Tests

@@ -1,16 +1,14 @@
 -- What a record of a tests file says by itself, and the faults that it has by itself, the lowest of
 -- which answers.
-use Rattle.std.specs.Prelude.{ℕ, ◌+◌, Bool, true, false, not, ◌&&◌, List, [], ◌∷◌, length, Option, Some, None, Result, Ok, Err, if◌then◌else◌, ◌==◌, ℤ}
+use Rattle.std.specs.Prelude.{ℕ, ◌+◌, not, ◌&&◌, List, [], ◌∷◌, length, Option, Some, None, Result, Ok, Err, if◌then◌else◌, ◌==◌, ℤ}
 use Rattle.std.specs.Str.{bytes_eq}
 use Rattle.mc_rows.specs.Rows.{Fields}
-use Rattle.mc_value.specs.declared.int_type.IntType.{IntType}
-use Rattle.mc_value.specs.IntTypes.{in_range}
-use Rattle.mc_typed.specs.Tree.{Function, ParameterType, ResultType}
-use Rattle.mc_typed.specs.Tree as t
+use Rattle.mc_typed.specs.Tree.{Function}
 use Rattle.mc_typed.specs.Plans.{Call}
+use Rattle.mc_fields.specs.Calls.{are_values, integer_types, is_callable, may_expect}
+use Rattle.mc_fields.specs.Fields.{Numbers, call_field, is_readable, numbers_in, test_field}
 use Rattle.mc_tests.specs.declared.fault.TestFault.{TestFault}
 use Rattle.mc_tests.specs.declared.fault.TestFault.TheVariants as fault
-use Rattle.mc_tests.specs.Fields.{Numbers, call_field, is_readable, numbers_in, test_field}
 
 -- one call of a test, and the inputs that its record adds to those of the test
 pub record Line : Type 0 where
@@ -23,40 +21,6 @@ abbrev pub function_named : List ℕ → ℕ → List Function → Option (ℕ �
 function_named name k [] = None
 function_named name k (f ∷ fs) =
     if bytes_eq f.name name then Some (k, f) else function_named name (k + 1) fs
-
--- the types of the parameters that are integers; a record has an argument for each of them
-abbrev pub integer_types : List ParameterType → List IntType
-integer_types [] = []
-integer_types (t.NumberParameter a ∷ ps) = a ∷ integer_types ps
-integer_types (t.StructureParameter u ∷ ps) = integer_types ps
-integer_types (t.ArrayParameter u ∷ ps) = integer_types ps
-
--- as many values as types, each in the range of its type
-abbrev pub are_values : List ℤ → List IntType → Bool
-are_values [] [] = true
-are_values [] (a ∷ types) = false
-are_values (v ∷ vs) [] = false
-are_values (v ∷ vs) (a ∷ types) = in_range a v && are_values vs types
-
--- no value may be expected of a void function
-abbrev pub may_expect : Option ℤ → ResultType → Bool
-may_expect (Some v) t.NoResult = false
-may_expect _ _ = true
-
-abbrev pub takes_integers : List ParameterType → Bool
-takes_integers [] = true
-takes_integers (t.NumberParameter a ∷ ps) = takes_integers ps
-takes_integers (t.StructureParameter u ∷ ps) = false
-takes_integers (t.ArrayParameter u ∷ ps) = false
-
-abbrev pub gives_structure : ResultType → Bool
-gives_structure t.NoResult = false
-gives_structure (t.NumberResult a) = false
-gives_structure (t.StructureResult u) = true
-
--- a test can call a function that has integers alone for parameters and gives no structure
-abbrev pub is_callable : Function → Bool
-is_callable f = takes_integers f.parameters && not (gives_structure f.result)
 
 abbrev pub called : ℕ → Fields → Numbers → Option (ℕ × Function) → Result Line TestFault
 called row fields numbers None = Err (fault.Function row)

@@ -1,5 +1,5 @@
 -- What clauses see of the texts, calls and tests that are read.
-use Rattle.std.specs.Prelude.{◌≡◌, ℕ, Bool, true, ℤ, List, [], ◌∷◌, ◌++◌, map, Option, Some, None, option_map, Vec}
+use Rattle.std.specs.Prelude.{◌≡◌, ℕ, Bool, true, List, [], ◌∷◌, ◌++◌, map, Option, Some, None, option_map, Vec}
 use Rattle.std.specs.List.{list_any}
 use Rattle.std.specs.Str.{bytes_eq}
 use Rattle.std.specs.declared.alloc.Global.{Global}
@@ -11,25 +11,12 @@ use denote.Ref.{Bor}
 use Rattle.mc_typed.specs.Plans.{Plan, expected_outputs, plan_call_of, plan_of}
 use Rattle.mc_typed.specs.declared.plans.TestPlan.{TestPlan}
 use Rattle.mc_typed.specs.Tree.{Function}
-use Rattle.mc_tests.specs.Fields as f
 use Rattle.mc_tests.specs.Lines as l
 use Rattle.mc_tests.specs.Lines.{function_named}
 use Rattle.mc_tests.specs.Tests.{are_distinct, keeps_limits, names_of}
 use Rattle.mc_tests.specs.declared.draft.Draft.{Draft}
-use Rattle.mc_tests.specs.declared.fields.Numbers.{Numbers}
 use Rattle.mc_tests.specs.declared.line.Line.{Line}
 use Rattle.mc_tests.specs.declared.tests.Tests.{Tests}
-
-abbrev pub seen_output : Option (Vec ℤ Global) → Option (List ℤ)
-seen_output o = option_map (λ v. v.items) o
-
-abbrev pub seen_numbers : Numbers → f.Numbers
-seen_numbers n = record {
-  arguments = n.arguments.items;
-  inputs = n.inputs.items;
-  expect = n.expect;
-  output = seen_output n.output;
-}
 
 abbrev pub seen_line : Line → l.Line
 seen_line line =

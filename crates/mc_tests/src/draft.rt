@@ -1,7 +1,8 @@
 //! A test whose records are being read.
 ghost use Rattle.std.specs.Prelude.{◌≡◌, ◌≤◌, ◌&&◌, ℕ, IfOk, length, nat_le};
 ghost use Rattle.mc_typed.specs.Plans.{outputs_of, plan_of};
-ghost use Rattle.mc_tests.specs.Seen.{IsCounted, seen_draft, seen_line, seen_output};
+ghost use Rattle.mc_fields.specs.Seen.{seen_output};
+ghost use Rattle.mc_tests.specs.Seen.{IsCounted, seen_draft, seen_line};
 ghost use Rattle.mc_tests.specs.Tests.{is_small, test_of};
 ghost use Rattle.mc_tests.specs.steps.Adding.{extended};
 

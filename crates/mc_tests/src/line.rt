@@ -2,12 +2,14 @@
 ghost use Rattle.std.specs.Prelude.{◌≡◌, ◌≢◌, ◌<◌, Ok, Err, Some, IfOk, IfErr, length, map, option_map};
 ghost use Rattle.mc_typed.specs.Views.{function_of};
 ghost use Rattle.mc_tests.specs.Lines.{called, function_named, line_of};
-ghost use Rattle.mc_tests.specs.Seen.{AreNumbers, number_named, seen_line, seen_numbers};
+ghost use Rattle.mc_fields.specs.Seen.{seen_numbers};
+ghost use Rattle.mc_tests.specs.Seen.{AreNumbers, number_named, seen_line};
 ghost use Rattle.mc_tests.specs.declared.fault.TestFault.TheVariants.{OutOfMemory};
 
-use crate::calls::{are_values, is_callable, may_expect};
 use crate::fault::TestFault;
-use crate::fields::{Numbers, has_six_fields, is_readable, read_all_numbers};
+use mc_fields::{
+    Numbers, are_values, has_six_fields, is_callable, is_readable, may_expect, read_all_numbers,
+};
 use mc_rows::Row;
 use mc_typed::{Call, Function};
 use std::alloc::Global;

@@ -6,10 +6,10 @@ ghost use Rattle.mc_tests.specs.Seen.{seen_plans};
 ghost use Rattle.mc_tests.specs.declared.fault.TestFault.TheVariants.{OutOfMemory};
 
 use crate::fault::TestFault;
-use crate::fields::is_header;
 use crate::functions::numbers_by_name;
 use crate::line::read_line;
 use crate::tests::{add, no_tests, to_plans};
+use mc_fields::is_header;
 use mc_rows::Rows;
 use mc_typed::{Function, Program, TestPlan};
 use std::alloc::Global;
