@@ -18,7 +18,7 @@ use Rattle.mc_oblige.specs.Obligations.{obligations_of}
 use Rattle.mc_oblige.specs.Evidence.{IsLeast, IsShown, IsEvaluated, AreSeen, IsTestEvidence, IsConditionEvidence, IsEvidence}
 use Rattle.mc_oblige.specs.Verdicts.{AreVerdictsFrom, AreVerdicts}
 
-least : (is also : ℕ → Type 0) (t : ℕ) → ((u : ℕ) → is u ↔ also u) → IsLeast is t → IsLeast also t
+pub least : (is also : ℕ → Type 0) (t : ℕ) → ((u : ℕ) → is u ↔ also u) → IsLeast is t → IsLeast also t
 least is also t same h = record { so = (same t).0 h.so; none_before = λ u less at. h.none_before u less ((same u).1 at) }
 
 module _ (stands standing : Event → ℕ → Type 0) (same : (e : Event) (t : ℕ) → stands e t ↔ standing e t) where
@@ -28,7 +28,7 @@ module _ (stands standing : Event → ℕ → Type 0) (same : (e : Event) (t : �
     λ h. record { event = h.event; shows = h.shows; under = (same h.event t).1 h.under },
   )
 
-  evaluated : (d : ℕ) (tree : Tree) (path t : ℕ) → IsEvaluated stands d tree path t ↔ IsEvaluated standing d tree path t
+  pub evaluated : (d : ℕ) (tree : Tree) (path t : ℕ) → IsEvaluated stands d tree path t ↔ IsEvaluated standing d tree path t
   evaluated d tree path t = (
     λ h. record { vector = h.vector; is_path = h.is_path; under = (same (Evaluated d h.vector) t).0 h.under },
     λ h. record { vector = h.vector; is_path = h.is_path; under = (same (Evaluated d h.vector) t).1 h.under },

@@ -31,6 +31,10 @@ least_by is also t same h = record { so = (same t).0 h.so; none_before = λ u le
 some_is : (o : Option ℕ) (t : ℕ) (is : ℕ → Type 0) → o ≡ Some t → IsLeastIf is o → IsLeast is t
 some_is o t is e h = let P : Option ℕ → Type 0 = λ p. IsLeastIf is p in subst P e h
 
+least_if_by : (is also : ℕ → Type 0) (o : Option ℕ) → ((u : ℕ) → is u ↔ also u) → IsLeastIf is o → IsLeastIf also o
+least_if_by is also None same h = λ t at. h t ((same t).1 at)
+least_if_by is also (Some t) same h = least_by is also t same h
+
 -- ---- obligations that one bit shows
 
 module _ (m : Map) (x : MatrixView) where
@@ -166,3 +170,10 @@ module _ (m : Map) (x : MatrixView) where
             first_least = least_evaluated first first_test one.0 h.first_at;
             second_least = least_evaluated second second_test other.0 h.second_at;
           }
+
+      -- ---- evaluated paths
+
+      pub least_path : (p : ℕ) → p < length tests → IsLeastIf (IsEvaluated stands d tree p) (get_or tests p None)
+      least_path p lt =
+          let v = vectors p lt in
+          least_if_by (Holds x (mapped.base + p)) (IsEvaluated stands d tree p) (get_or tests p None) (λ u. evaluated p u lt v.0 v.1) (least p lt)

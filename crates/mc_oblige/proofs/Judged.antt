@@ -18,12 +18,12 @@ use Rattle.mc_oblige.specs.declared.verdict.Evidence.{Evidence}
 use Rattle.mc_oblige.specs.declared.verdict.Evidence.TheVariants.{Absent}
 use Rattle.mc_oblige.specs.Obligations.{numbered, of_places, of_decision, of_decisions}
 use Rattle.mc_oblige.specs.Shown.{HasEvent}
-use Rattle.mc_oblige.specs.Evidence.{IsConditionEvidence, IsEvidence}
+use Rattle.mc_oblige.specs.Evidence.{IsEvaluated, IsConditionEvidence, IsEvidence}
 use Rattle.mc_oblige.specs.steps.Table.{IsLeastIf, AreLeast, evidence_of}
 use Rattle.mc_oblige.specs.steps.Found.{IsFoundCondition, AreFound, AreEvidence}
 use Rattle.mc_oblige.proofs.Listed.{decisions_more}
 use Rattle.mc_oblige.proofs.Bounds.{starts_low, based_end, placed_at}
-use Rattle.mc_oblige.proofs.Events.{entry, exit, statement, label, outcome, condition}
+use Rattle.mc_oblige.proofs.Events.{entry, exit, statement, label, outcome, condition, least_path}
 
 -- ---- lists
 
@@ -197,3 +197,9 @@ module _ (m : Map) (x : MatrixView) (mode : Mode) where
       next es own found h =
           decisions_next i mapped es own known h
           (decision i mapped known (placed_at m.decisions i mapped is.placed known) part part_count part_least own found)
+
+      -- the least tests of the decision's paths
+      pub least_paths : (p : ℕ) → p < length part → IsLeastIf (IsEvaluated (HasEvent m x) i mapped.decision.tree p) (get_or part p None)
+      least_paths p lt =
+          least_path m x i mapped known part part_count part_least.each
+          (vectors i mapped known (placed_at m.decisions i mapped is.placed known) part part_count part_least) p lt

@@ -7,3 +7,5 @@ pub mod Least
 pub mod Alike
 pub mod Single
 pub mod Pairs
+pub mod Tested
+pub mod Ascending

@@ -37,7 +37,7 @@ pub(crate) fn all_evidence(
 }
 
 /// The least tests of the paths of a decision, in those of all bits.
-fn path_tests<'a>(mapped: &MappedDecision, tests: &'a [Option<u32>]) -> &'a [Option<u32>]
+pub(crate) fn path_tests<'a>(mapped: &MappedDecision, tests: &'a [Option<u32>]) -> &'a [Option<u32>]
     requires { mapped.now.base + count_of (tree_of mapped.now.decision.tree) ≤ length tests.now }
     ensures part { result.now
         ≡ take (count_of (tree_of mapped.now.decision.tree)) (drop mapped.now.base tests.now) }

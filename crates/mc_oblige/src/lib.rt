@@ -3,6 +3,7 @@
 
 mod conditions;
 mod decisions;
+mod evaluated;
 mod evidence;
 mod judging;
 mod justification;
@@ -16,9 +17,10 @@ mod seen;
 mod table;
 mod verdict;
 
+pub use evaluated::{EvaluatedPath, evaluated_paths};
 pub use judging::judge;
 pub use justification::{Justification, Reason};
-pub use laws::verdicts_are_one;
+pub use laws::{evaluated_paths_are_one, verdicts_are_one};
 pub use listing::obligations;
 pub use mode::Mode;
 pub use obligation::{Obligation, ObligationId};
