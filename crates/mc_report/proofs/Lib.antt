@@ -4,3 +4,4 @@ pub mod Paths
 pub mod Judging
 pub mod Turns
 pub mod Answered
+pub mod Present

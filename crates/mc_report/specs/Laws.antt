@@ -7,11 +7,14 @@ use Rattle.mc_probe.specs.Maps.{Map}
 use Rattle.mc_oblige.specs.declared.mode.Mode.{Mode}
 use Rattle.mc_oblige.specs.declared.justification.Justification.{Justification}
 use Rattle.mc_oblige.specs.declared.verdict.Verdict.{Verdict}
+use Rattle.mc_oblige.specs.declared.evaluated.EvaluatedPath.{EvaluatedPath}
 use Rattle.mc_oblige.specs.Obligations.{obligations_of}
 use Rattle.mc_oblige.specs.Shown.{HasEvent}
 use Rattle.mc_oblige.specs.Verdicts.{AreVerdicts}
+use Rattle.mc_oblige.specs.Evaluated.{AreEvaluated}
 use Rattle.mc_report.specs.Vectors.{vector_at}
 use Rattle.mc_report.specs.Report.{AreJudged}
+use Rattle.mc_report.specs.VectorsText.{IsPresent}
 
 -- the vector that is written for a path is the one with its number
 abbrev pub VectorIsOfPath : Type 0
@@ -26,3 +29,10 @@ VerdictsAreReported =
     All (λ j. IsUtf8 j.reason) named →
     AreVerdicts (HasEvent m x) m mode named vs →
     AreJudged x.shape.tests m.decisions (obligations_of m) vs
+
+-- the evaluated paths of a matrix can be written with the tests of the matrix
+abbrev pub EvaluatedArePresent : Type 0
+EvaluatedArePresent =
+    (m : Map) (x : MatrixView) (paths : List EvaluatedPath) →
+    AreEvaluated (HasEvent m x) m paths →
+    All (IsPresent x.shape.tests m.decisions) paths

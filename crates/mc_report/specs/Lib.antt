@@ -5,6 +5,7 @@ pub mod Status
 pub mod Lines
 pub mod Counts
 pub mod Text
+pub mod VectorsText
 pub mod Seen
 pub mod Written
 pub mod Laws

@@ -16,7 +16,7 @@ use std::alloc::{AllocError, Global};
 use std::str;
 
 /// Adds the name of a test.
-fn push_name(line: &mut Vec<u8>, names: &[Name], test: u32) -> Result<(), AllocError>
+pub(crate) fn push_name(line: &mut Vec<u8>, names: &[Name], test: u32) -> Result<(), AllocError>
     requires { test < length names.now }
     ensures { OnOk result (line.new.items ≡ line.old.items ++ name_text names.now test) }
 {
@@ -25,7 +25,7 @@ fn push_name(line: &mut Vec<u8>, names: &[Name], test: u32) -> Result<(), AllocE
 }
 
 /// Adds the vector of a path of decision `d`.
-fn push_path(
+pub(crate) fn push_path(
     line: &mut Vec<u8>,
     decisions: &[MappedDecision],
     d: u32,

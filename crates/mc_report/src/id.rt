@@ -20,7 +20,7 @@ pub(crate) fn id_text(alloc: Global, id: ObligationId) -> Result<String, AllocEr
 }
 
 /// A letter, and the number that follows `k`.
-fn numbered(alloc: Global, letter: &str, k: u32) -> Result<String, AllocError>
+pub(crate) fn numbered(alloc: Global, letter: &str, k: u32) -> Result<String, AllocError>
     ensures { IfOk result (λ text. string_bytes text ≡ letter.now ++ decimal (k + 1)) }
 {
     let number = u64::from(k) + 1;

@@ -1,5 +1,5 @@
 //! What follows from the definitions. The functions do nothing: each has a law as its contract.
-ghost use Rattle.mc_report.specs.Laws.{VectorIsOfPath, VerdictsAreReported};
+ghost use Rattle.mc_report.specs.Laws.{VectorIsOfPath, VerdictsAreReported, EvaluatedArePresent};
 
 /// The vector that is written for a path is the one with its number.
 pub fn vector_is_of_path()
@@ -9,4 +9,9 @@ pub fn vector_is_of_path()
 /// The verdicts on a map's obligations can be reported.
 pub fn verdicts_are_reported()
     ensures { VerdictsAreReported }
+{}
+
+/// The evaluated paths of a matrix can be written with the tests of the matrix.
+pub fn evaluated_are_present()
+    ensures { EvaluatedArePresent }
 {}

@@ -15,11 +15,13 @@ mod settled;
 mod test_lines;
 mod text;
 mod vector;
+mod vectors;
 mod verdicts;
 mod words;
 
 pub use fault::ReportFault;
-pub use laws::{vector_is_of_path, verdicts_are_reported};
+pub use laws::{evaluated_are_present, vector_is_of_path, verdicts_are_reported};
 pub use report::Report;
 pub use settled::status;
 pub use text::{report_lines, write_text};
+pub use vectors::vectors_lines;

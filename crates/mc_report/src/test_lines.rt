@@ -89,7 +89,8 @@ fn push_run(
     Ok(())
 }
 
-fn push_runs(
+/// Adds a line for each test with its result.
+pub(crate) fn push_runs(
     alloc: Global,
     lines: &mut Vec<Vec<u8>>,
     names: &[Name],
