@@ -187,10 +187,17 @@ pub fn braced_expression(
         start (found_of found (scope_of scope.now)))
         (judged [] (Some t.no_initializers) (scope_of scope.now))) (scope_of scope.now))) }
 {
-    let zero = is_zero_found(&found)?;
-    if zero {
-        zero_initializer(scope, of, found)
-    } else {
-        list_of_expression(alloc, is_static, scope, of, item, at, start, found)
+    match is_zero_found(&found) {
+        Ok(zero) => {
+            if zero {
+                zero_initializer(scope, of, found)
+            } else {
+                list_of_expression(alloc, is_static, scope, of, item, at, start, found)
+            }
+        }
+        Err(error) => {
+            drop(found);
+            Err(error)
+        }
     }
 }

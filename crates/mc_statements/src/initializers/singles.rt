@@ -95,8 +95,14 @@ fn scalar_value(alloc: Global, of: &CType, value: Value) -> Result<Option<Initia
 {
     match of.base {
         Base::Integer(to) => number_value(alloc, to, value.into_number()),
-        Base::Void => Ok(None),
-        Base::Tagged(_) => Ok(None),
+        Base::Void => {
+            drop(value);
+            Ok(None)
+        }
+        Base::Tagged(_) => {
+            drop(value);
+            Ok(None)
+        }
     }
 }
 
@@ -136,8 +142,14 @@ fn value_for(
         Target::Structure { number, .. } => {
             structure_value(scope, of, value.into_structure(number))
         }
-        Target::Missing => Ok(None),
-        Target::Array { .. } => Ok(None),
+        Target::Missing => {
+            drop(value);
+            Ok(None)
+        }
+        Target::Array { .. } => {
+            drop(value);
+            Ok(None)
+        }
     }
 }
 
@@ -156,7 +168,10 @@ fn item_value(
     match value {
         Some(value) => match of {
             Some(of) => value_for(alloc, scope, of, target, value),
-            None => Ok(None),
+            None => {
+                drop(value);
+                Ok(None)
+            }
         },
         None => Ok(None),
     }
@@ -206,8 +221,15 @@ pub fn single_initializer(
         (found_of found (scope_of scope.now)))) }
 {
     let target = target_for(scope, of);
-    let own = own_fault(is_static, target, at, &found)?;
-    let fault = after(found.fault, own);
-    let value = item_value(alloc, scope, of, target, found.value)?;
-    Ok(Judged { fault, value })
+    match own_fault(is_static, target, at, &found) {
+        Ok(own) => {
+            let fault = after(found.fault, own);
+            let value = item_value(alloc, scope, of, target, found.value)?;
+            Ok(Judged { fault, value })
+        }
+        Err(error) => {
+            drop(found);
+            Err(error)
+        }
+    }
 }

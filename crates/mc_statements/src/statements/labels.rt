@@ -195,6 +195,25 @@ fn case_alone(
     }
 }
 
+// A `case` label, from what is found of its expression, which is lent.
+fn case_of(
+    alloc: Global,
+    scope: &mut Scope<'_>,
+    label: Span,
+    at: u32,
+    found: &Found,
+) -> Result<Judged<Vec<Statement>>, AllocError>
+    ensures { IfOk result (λ r. judged_of statements_of r (scope_of scope.new)
+        ≡ squeezed_part (w.case_judged label at (found_of found.now (scope_of scope.old)))) }
+{
+    let value = case_value(&scope.labels, found)?;
+    let own = case_fault(&scope.labels, label, at, found)?;
+    let fault = after(found.fault, own);
+    add_label(scope, value)?;
+    let value = case_alone(alloc, label, value)?;
+    Ok(Judged { fault, value })
+}
+
 /// A `case` label, from what is found of its expression, which starts at `at`. It is among the
 /// labels from now on.
 pub fn case_label(
@@ -207,10 +226,7 @@ pub fn case_label(
     ensures { IfOk result (λ r. judged_of statements_of r (scope_of scope.new)
         ≡ squeezed_part (w.case_judged label at (found_of found (scope_of scope.old)))) }
 {
-    let value = case_value(&scope.labels, &found)?;
-    let own = case_fault(&scope.labels, label, at, &found)?;
-    let fault = after(found.fault, own);
-    add_label(scope, value)?;
-    let value = case_alone(alloc, label, value)?;
-    Ok(Judged { fault, value })
+    let judged = case_of(alloc, scope, label, at, &found);
+    drop(found);
+    judged
 }

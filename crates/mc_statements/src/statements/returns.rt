@@ -115,13 +115,19 @@ fn value_for(
 {
     match gives {
         Some(base) => match base {
-            Base::Void => Ok(None),
+            Base::Void => {
+                drop(value);
+                Ok(None)
+            }
             Base::Integer(to) => return_number(alloc, to, value.into_number()),
             Base::Tagged(number) => {
                 return_structure(alloc, scope, number, value.into_structure(number))
             }
         },
-        None => Ok(None),
+        None => {
+            drop(value);
+            Ok(None)
+        }
     }
 }
 

@@ -9,15 +9,15 @@ use Rattle.mc_scopes.specs.Found.{found_of}
 use Rattle.mc_scopes.specs.Statements.{statements_of}
 use Rattle.mc_scopes.specs.steps.Squeezed.{listed}
 use Rattle.mc_statements.proofs.Leasts.{same_parts}
-use Rattle.mc_statements.proofs.statements.labels.case_label.Goals as goal
+use Rattle.mc_statements.proofs.statements.labels.case_of.Goals as goal
 
 pub returns : goal.returns
 returns c =
     let s = scope_of c.args.scope.now in
-    let x = found_of c.args.found s in
+    let x = found_of c.args.found.now s in
     let v = label_value s.labels (constant_found x) in
     let own = case_faults c.args.label c.args.at x.constant (number_found x) s.labels in
-    same_parts c.after-fault.result (least_of (listed c.args.found.fault ++ own))
+    same_parts c.after-fault.result (least_of (listed c.args.found.now.fault ++ own))
     (option_map statements_of c.in_ok-value-2.value)
     (option_map (λ w. alone (t.Label (Some w) c.args.label)) v)
     (scope_of c.add_label.new.scope) (with_label v s)
