@@ -1,0 +1,16 @@
+pub mod Runs
+pub mod Truths
+pub mod Kept
+pub mod Placed
+pub mod Rows
+pub mod Inputs
+pub mod Nodes
+pub mod Fills
+pub mod Arguments
+pub mod Called
+pub mod Stopped
+pub mod Passing
+pub mod Shapes
+pub mod Doings
+pub mod Initial
+pub mod Sequences

@@ -1,0 +1,10 @@
+use Rattle.std.proofs.Common.{None}
+use Rattle.mc_interp.proofs.Fills.{fill_ran, fill_kept, unset_fits}
+use Rattle.mc_interp.proofs.store.Store.unset.Goals as goal
+
+pub returns-clause-ran : goal.returns-clause-ran
+returns-clause-ran c = fill_ran c.args.self.now c.fill.new.self c.args.at c.args.count None c.fill.ensures
+
+pub returns-clause-kept : goal.returns-clause-kept
+returns-clause-kept c d w =
+    fill_kept d w c.args.self.now c.fill.new.self c.args.at c.args.count None c.requires unset_fits c.fill.ensures

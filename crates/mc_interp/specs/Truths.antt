@@ -1,0 +1,24 @@
+-- Expressions that give a truth value, 1 or 0, by their form.
+use Rattle.std.specs.Prelude.{Bool, true, false}
+use Rattle.mc_typed.specs.declared.probes.Probe as code
+use Rattle.mc_typed.specs.declared.probes.Probe.TheVariants as probe
+use Rattle.mc_probe.specs.Tree.{Expression}
+use Rattle.mc_probe.specs.Tree as p
+
+abbrev pub tells_truth : code.Probe → Bool
+tells_truth (probe.Decision register base) = true
+tells_truth (probe.Condition register on_true on_false) = true
+tells_truth (probe.Switch register) = false
+
+abbrev pub is_logical : Expression → Bool
+is_logical (p.Constant v a span) = false
+is_logical (p.Read place a) = false
+is_logical (p.Unary operator a e span) = false
+is_logical (p.Convert a written e span) = false
+is_logical (p.Not e span) = true
+is_logical (p.Binary operator a e f span) = false
+is_logical (p.Logic operator e f span) = true
+is_logical (p.Choice e f g a span) = false
+is_logical (p.Call k a) = false
+is_logical (p.Input span) = false
+is_logical (p.Probe q e) = tells_truth q
