@@ -11,8 +11,10 @@ mod initializers;
 mod objects;
 mod statements;
 
+pub use crate::copies::expressions::expression;
 use crate::copies::functions::all_functions;
-use crate::copies::objects::{all_structures, static_objects};
+pub use crate::copies::functions::{local_objects, parameters, result_type};
+pub use crate::copies::objects::{all_structures, static_objects};
 use mc_probe::Instrumented;
 use mc_typed::Program;
 use std::alloc::{AllocError, Global};

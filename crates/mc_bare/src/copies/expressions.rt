@@ -9,7 +9,7 @@ use std::alloc::{AllocError, Global};
 
 /// A copy of an expression.
 #[cycle(copy)]
-pub(super) fn expression(alloc: Global, tree: &Expression) -> Result<Expression, AllocError>
+pub fn expression(alloc: Global, tree: &Expression) -> Result<Expression, AllocError>
     ensures { IfOk result (λ c.
         probed.expression_of c ≡ bare_expression (plain.expression_of tree.now)) }
 {

@@ -25,7 +25,8 @@ fn parameter(tree: &ParameterType) -> Result<ParameterType, AllocError>
     }
 }
 
-fn parameters(alloc: Global, trees: &[ParameterType]) -> Result<Vec<ParameterType>, AllocError>
+/// Copies of the types of parameters.
+pub fn parameters(alloc: Global, trees: &[ParameterType]) -> Result<Vec<ParameterType>, AllocError>
     ensures { IfOk result (λ c.
         map plain.parameter_of c.items ≡ map plain.parameter_of trees.now) }
 {
@@ -37,7 +38,8 @@ fn parameters(alloc: Global, trees: &[ParameterType]) -> Result<Vec<ParameterTyp
     Ok(copies)
 }
 
-fn result_type(tree: &ResultType) -> Result<ResultType, AllocError>
+/// A copy of the type of a result.
+pub fn result_type(tree: &ResultType) -> Result<ResultType, AllocError>
     ensures { IfOk result (λ c. plain.result_of c ≡ plain.result_of tree.now) }
 {
     match tree {
@@ -61,7 +63,8 @@ fn object(tree: &Object) -> Result<Object, AllocError>
     })
 }
 
-fn objects(alloc: Global, trees: &[Object]) -> Result<Vec<Object>, AllocError>
+/// Copies of the objects of a function.
+pub fn local_objects(alloc: Global, trees: &[Object]) -> Result<Vec<Object>, AllocError>
     ensures { IfOk result (λ c. map plain.object_of c.items ≡ map plain.object_of trees.now) }
 {
     let mut copies = Vec::new(alloc);
@@ -78,7 +81,7 @@ fn function<'a>(alloc: Global, tree: &Function<'a>) -> Result<Function<'a>, Allo
 {
     let parameters = parameters(alloc, &tree.parameters)?;
     let result = result_type(&tree.result)?;
-    let objects = objects(alloc, &tree.objects)?;
+    let objects = local_objects(alloc, &tree.objects)?;
     let body = statements(alloc, &tree.body)?;
     Ok(Function {
         name: tree.name,

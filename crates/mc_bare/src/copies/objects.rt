@@ -22,7 +22,7 @@ fn static_object(alloc: Global, tree: &StaticObject) -> Result<StaticObject, All
 }
 
 /// Copies of static objects.
-pub(super) fn static_objects(
+pub fn static_objects(
     alloc: Global,
     trees: &[StaticObject],
 ) -> Result<Vec<StaticObject>, AllocError>
@@ -37,7 +37,7 @@ pub(super) fn static_objects(
 }
 
 /// Copies of structure types.
-pub(super) fn all_structures(alloc: Global, trees: &[ObjType]) -> Result<Vec<ObjType>, AllocError>
+pub fn all_structures(alloc: Global, trees: &[ObjType]) -> Result<Vec<ObjType>, AllocError>
     ensures { IfOk result (λ c. map object_type_of c.items ≡ map object_type_of trees.now) }
 {
     let mut copies = Vec::new(alloc);

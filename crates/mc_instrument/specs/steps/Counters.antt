@@ -1,0 +1,48 @@
+-- Counters of bits and registers.
+use Rattle.std.specs.Prelude.{◌≡◌, ℕ, ◌+◌, ◌==◌, Bool, true, false, if◌then◌else◌, List, [], ◌∷◌, Option, Some, None}
+use Rattle.mc_typed.specs.declared.probes.Mark.{Mark}
+use Rattle.mc_typed.specs.Tree.{Statements}
+use Rattle.mc_decide.specs.Nodes as n
+use Rattle.mc_decide.specs.Counts.{roots_in}
+use Rattle.mc_steps.specs.Points.{Points, points_of_all}
+use Rattle.mc_probe.specs.Maps.{Map, Mapped, exit_bit, label_bit, statement_bit}
+use Rattle.mc_probe.specs.Table.{At}
+use Rattle.mc_probe.specs.Switches.{switches_all}
+use Rattle.mc_instrument.specs.declared.copies.statements.At as code
+
+module _ (m : Map) (first : ℕ) where
+  -- what counters stand for
+  abbrev pub at_of : code.At → At m first
+  at_of at = record {
+    exit = at.exit;
+    statement = at.statement;
+    label = at.label;
+    decision = at.decision;
+    switch = at.switch;
+  }
+
+  -- after the items of a body
+  abbrev pub past_all : Statements → At m first → At m first
+  past_all items at = record {
+    exit = at.exit + (points_of_all items).exits;
+    statement = at.statement + (points_of_all items).statements;
+    label = at.label + (points_of_all items).labels;
+    decision = at.decision + roots_in (n.statements items);
+    switch = at.switch + switches_all items;
+  }
+
+-- the probe of an absent `default`, with this register and this bit
+abbrev pub mark_where : Bool → ℕ → ℕ → Option Mark
+mark_where true register bit = None
+mark_where false register bit = Some (record { register = register; bit = bit })
+
+-- how many decisions at the head of a list are those of a function
+abbrev pub leading : ℕ → List Mapped → ℕ
+leading function [] = 0
+leading function (d ∷ ds) = if d.decision.function == function then 1 + leading function ds else 0
+
+-- the counters stand where so many points are before
+pub record StandsAt (m : Map) (q : Points) (at : code.At) : Type 0 where
+  pub exit : at.exit ≡ exit_bit m q.exits
+  pub statement : at.statement ≡ statement_bit m q.statements
+  pub label : at.label ≡ label_bit m q.labels

@@ -1,0 +1,414 @@
+//! Statements with their probes.
+ghost use Rattle.std.specs.Prelude.{◌≡◌, ◌+◌, map, option_map, if◌then◌else◌, Some, None, IfOk};
+ghost use Rattle.mc_typed.specs.Views as plain;
+ghost use Rattle.mc_decide.specs.Counts.{roots, roots_in};
+ghost use Rattle.mc_decide.specs.Nodes as n;
+ghost use Rattle.mc_decide.specs.declared.role.Role.TheVariants as role;
+ghost use Rattle.mc_steps.specs.Points.{has_default, initializes, points_of, points_of_all, where_absent, where_counted};
+ghost use Rattle.mc_probe.specs.BitMaps.{map_of};
+ghost use Rattle.mc_probe.specs.Switches.{switches, switches_all};
+ghost use Rattle.mc_probe.specs.Table.{put_effects, put_optional, put_return, put_start, put_statement, put_statements};
+ghost use Rattle.mc_probe.specs.Views as probed;
+ghost use Rattle.mc_instrument.specs.steps.Counters.{at_of, mark_where};
+
+use crate::completes::{has_default, initializes};
+use crate::copies::effects::{effect, effects};
+use crate::copies::expressions::{expression, structure, test};
+use crate::copies::initializers::declarators;
+use crate::copies::walk::{Walk, with_probe};
+use crate::counting::count;
+use mc_typed::{Declarator, Effect, Expression, ForStart, Mark, Probe, ReturnValue, Statement};
+use std::alloc::AllocError;
+
+/// The bits of the next exit, counted statement and label, the number of the next decision of the
+/// function, and the register of its next `switch`.
+#[derive(Clone, Copy)]
+pub(crate) struct At {
+    pub exit: u32,
+    pub statement: u32,
+    pub label: u32,
+    pub decision: u32,
+    pub switch: u32,
+}
+
+fn start(walk: &Walk<'_>, next: &mut u32, tree: &ForStart) -> Result<ForStart, AllocError>
+    ensures copy { IfOk result (λ c. probed.start_of c
+        ≡ put_start (map_of walk.now.map.now) walk.now.first next.old (plain.start_of tree.now)) }
+    ensures next { IfOk result (λ _. next.new
+        ≡ next.old + roots role.Plain (n.start (plain.start_of tree.now))) }
+{
+    match tree {
+        ForStart::Effects { effects: clauses } => {
+            let effects = effects(walk, next, clauses)?;
+            Ok(ForStart::Effects { effects })
+        }
+        ForStart::Declaration {
+            declarators: declared,
+        } => {
+            let declarators = declarators(walk, next, declared)?;
+            Ok(ForStart::Declaration { declarators })
+        }
+    }
+}
+
+fn optional(
+    walk: &Walk<'_>,
+    next: &mut u32,
+    tree: &Option<Expression>,
+) -> Result<Option<Expression>, AllocError>
+    ensures copy { IfOk result (λ c. option_map probed.expression_of c
+        ≡ put_optional (map_of walk.now.map.now) walk.now.first next.old
+        (option_map plain.expression_of tree.now)) }
+    ensures next { IfOk result (λ _. next.new
+        ≡ next.old
+        + roots role.Plain (n.optional_test (option_map plain.expression_of tree.now))) }
+{
+    match tree {
+        Some(value) => {
+            let value = test(walk, next, value)?;
+            Ok(Some(value))
+        }
+        None => Ok(None),
+    }
+}
+
+fn return_value(
+    walk: &Walk<'_>,
+    next: &mut u32,
+    tree: &ReturnValue,
+) -> Result<ReturnValue, AllocError>
+    ensures copy { IfOk result (λ c. probed.return_value_of c
+        ≡ put_return (map_of walk.now.map.now) walk.now.first next.old
+        (plain.return_value_of tree.now)) }
+    ensures next { IfOk result (λ _. next.new
+        ≡ next.old + roots role.Plain (n.return_value (plain.return_value_of tree.now))) }
+{
+    match tree {
+        ReturnValue::Nothing => Ok(ReturnValue::Nothing),
+        ReturnValue::Number { value } => {
+            let value = expression(walk, next, value)?;
+            Ok(ReturnValue::Number { value })
+        }
+        ReturnValue::Structure { value, cells } => {
+            let value = structure(walk, next, value)?;
+            Ok(ReturnValue::Structure {
+                value,
+                cells: *cells,
+            })
+        }
+    }
+}
+
+/// The bit of a declaration, which has one where it initializes something.
+fn declaration_bit(counter: &mut u32, declarators: &[Declarator]) -> Result<Option<u32>, AllocError>
+    ensures bit { IfOk result (λ b. b
+        ≡ (if initializes (map plain.declarator_of declarators.now)
+        then Some counter.old else None)) }
+    ensures more { IfOk result (λ _. counter.new ≡ counter.old
+        + (where_counted (initializes (map plain.declarator_of declarators.now))).statements) }
+    ensures no_exit { (where_counted
+        (initializes (map plain.declarator_of declarators.now))).exits ≡ 0 }
+    ensures no_label { (where_counted
+        (initializes (map plain.declarator_of declarators.now))).labels ≡ 0 }
+{
+    if !initializes(declarators) {
+        return Ok(None);
+    }
+    let bit = count(counter)?;
+    Ok(Some(bit))
+}
+
+/// The probe of a `default` that is absent.
+fn absent_mark(
+    label: &mut u32,
+    register: u32,
+    items: &[Statement],
+) -> Result<Option<Mark>, AllocError>
+    ensures mark { IfOk result (λ k. k
+        ≡ mark_where (has_default (plain.statements_from (map plain.statement_of items.now)))
+        register label.old) }
+    ensures next { IfOk result (λ _. label.new
+        ≡ (if has_default (plain.statements_from (map plain.statement_of items.now))
+        then label.old else label.old + 1)) }
+    ensures more { IfOk result (λ _. label.new ≡ label.old
+        + (where_absent
+        (has_default (plain.statements_from (map plain.statement_of items.now)))).labels) }
+    ensures no_exit { (where_absent
+        (has_default (plain.statements_from (map plain.statement_of items.now)))).exits ≡ 0 }
+    ensures no_statement { (where_absent
+        (has_default (plain.statements_from (map plain.statement_of items.now)))).statements ≡ 0 }
+{
+    if has_default(items) {
+        return Ok(None);
+    }
+    let bit = count(label)?;
+    Ok(Some(Mark { register, bit }))
+}
+
+/// What a `for` has beside its body.
+#[derive(Drop)]
+struct Head {
+    start: ForStart,
+    test: Option<Expression>,
+    step: Vec<Effect>,
+}
+
+/// Copies of what a `for` has beside its body.
+fn for_head(
+    walk: &Walk<'_>,
+    next: &mut u32,
+    first: &ForStart,
+    test: &Option<Expression>,
+    step: &[Effect],
+) -> Result<Head, AllocError>
+    ensures start { IfOk result (λ h. probed.start_of h.start
+        ≡ put_start (map_of walk.now.map.now) walk.now.first next.old
+        (plain.start_of first.now)) }
+    ensures test { IfOk result (λ h. option_map probed.expression_of h.test
+        ≡ put_optional (map_of walk.now.map.now) walk.now.first
+        (next.old + roots role.Plain (n.start (plain.start_of first.now)))
+        (option_map plain.expression_of test.now)) }
+    ensures step { IfOk result (λ h. map probed.effect_of h.step.items
+        ≡ put_effects (map_of walk.now.map.now) walk.now.first
+        (next.old + roots role.Plain (n.start (plain.start_of first.now))
+        + roots role.Plain (n.optional_test (option_map plain.expression_of test.now)))
+        (map plain.effect_of step.now)) }
+    ensures next { IfOk result (λ _. next.new ≡ next.old
+        + (roots role.Plain (n.start (plain.start_of first.now))
+        + roots role.Plain (n.optional_test (option_map plain.expression_of test.now))
+        + roots_in (n.effects (map plain.effect_of step.now)))) }
+{
+    let start = start(walk, next, first)?;
+    let test = optional(walk, next, test)?;
+    let step = effects(walk, next, step)?;
+    Ok(Head { start, test, step })
+}
+
+/// A copy of a statement. `register` is that of the `switch` in whose body it stands.
+#[cycle(statement)]
+fn statement(
+    walk: &Walk<'_>,
+    register: u32,
+    at: &mut At,
+    tree: &Statement,
+) -> Result<Statement, AllocError>
+    ensures copy { IfOk result (λ c. let m = map_of walk.now.map.now in
+        probed.statement_of c
+        ≡ put_statement m walk.now.first register (at_of m walk.now.first at.old)
+        (plain.statement_of tree.now)) }
+    ensures exit { IfOk result (λ _. at.new.exit
+        ≡ at.old.exit + (points_of (plain.statement_of tree.now)).exits) }
+    ensures statement { IfOk result (λ _. at.new.statement
+        ≡ at.old.statement + (points_of (plain.statement_of tree.now)).statements) }
+    ensures label { IfOk result (λ _. at.new.label
+        ≡ at.old.label + (points_of (plain.statement_of tree.now)).labels) }
+    ensures decision { IfOk result (λ _. at.new.decision
+        ≡ at.old.decision + roots role.Plain (n.statement (plain.statement_of tree.now))) }
+    ensures switch { IfOk result (λ _. at.new.switch
+        ≡ at.old.switch + switches (plain.statement_of tree.now)) }
+{
+    match tree {
+        Statement::Compound { items, span } => {
+            let items = statements(walk, register, at, items)?;
+            Ok(Statement::Compound { items, span: *span })
+        }
+        Statement::Label { value, span, .. } => {
+            let bit = count(&mut at.label)?;
+            Ok(Statement::Label {
+                value: *value,
+                span: *span,
+                mark: Some(Mark { register, bit }),
+            })
+        }
+        Statement::Declaration {
+            declarators: declared,
+            span,
+            ..
+        } => {
+            let bit = declaration_bit(&mut at.statement, declared)?;
+            let declarators = declarators(walk, &mut at.decision, declared)?;
+            Ok(Statement::Declaration {
+                declarators,
+                span: *span,
+                bit,
+            })
+        }
+        Statement::Null { span, .. } => {
+            let bit = count(&mut at.statement)?;
+            Ok(Statement::Null {
+                span: *span,
+                bit: Some(bit),
+            })
+        }
+        Statement::Effect {
+            effect: whole,
+            span,
+            ..
+        } => {
+            let bit = count(&mut at.statement)?;
+            let effect = effect(walk, &mut at.decision, whole)?;
+            Ok(Statement::Effect {
+                effect,
+                span: *span,
+                bit: Some(bit),
+            })
+        }
+        Statement::If {
+            test: first,
+            chosen,
+            keyword,
+            span,
+            ..
+        } => {
+            let bit = count(&mut at.statement)?;
+            let test = test(walk, &mut at.decision, first)?;
+            let chosen = Box::new(walk.alloc, statement(walk, register, at, chosen)?)?;
+            Ok(Statement::If {
+                test,
+                chosen,
+                keyword: *keyword,
+                span: *span,
+                bit: Some(bit),
+            })
+        }
+        Statement::IfElse {
+            test: first,
+            chosen,
+            other,
+            keyword,
+            span,
+            ..
+        } => {
+            let bit = count(&mut at.statement)?;
+            let test = test(walk, &mut at.decision, first)?;
+            let chosen = Box::new(walk.alloc, statement(walk, register, at, chosen)?)?;
+            let other = Box::new(walk.alloc, statement(walk, register, at, other)?)?;
+            Ok(Statement::IfElse {
+                test,
+                chosen,
+                other,
+                keyword: *keyword,
+                span: *span,
+                bit: Some(bit),
+            })
+        }
+        Statement::Switch {
+            value,
+            items,
+            keyword,
+            span,
+            ..
+        } => {
+            let bit = count(&mut at.statement)?;
+            let own = count(&mut at.switch)?;
+            let absent = absent_mark(&mut at.label, own, items)?;
+            let value = expression(walk, &mut at.decision, value)?;
+            let value = with_probe(walk.alloc, Probe::Switch { register: own }, value)?;
+            let items = statements(walk, own, at, items)?;
+            Ok(Statement::Switch {
+                value,
+                items,
+                keyword: *keyword,
+                span: *span,
+                bit: Some(bit),
+                absent,
+            })
+        }
+        Statement::For {
+            start: first,
+            test,
+            step,
+            body,
+            keyword,
+            span,
+            ..
+        } => {
+            let bit = count(&mut at.statement)?;
+            let head = for_head(walk, &mut at.decision, first, test, step)?;
+            let body = Box::new(walk.alloc, statement(walk, register, at, body)?)?;
+            Ok(Statement::For {
+                start: head.start,
+                test: head.test,
+                step: head.step,
+                body,
+                keyword: *keyword,
+                span: *span,
+                bit: Some(bit),
+            })
+        }
+        Statement::DoWhile {
+            body,
+            test: last,
+            keyword,
+            span,
+            ..
+        } => {
+            let bit = count(&mut at.statement)?;
+            let body = Box::new(walk.alloc, statement(walk, register, at, body)?)?;
+            let test = test(walk, &mut at.decision, last)?;
+            Ok(Statement::DoWhile {
+                body,
+                test,
+                keyword: *keyword,
+                span: *span,
+                bit: Some(bit),
+            })
+        }
+        Statement::Break { span, .. } => {
+            let bit = count(&mut at.statement)?;
+            Ok(Statement::Break {
+                span: *span,
+                bit: Some(bit),
+            })
+        }
+        Statement::Continue { span, .. } => {
+            let bit = count(&mut at.statement)?;
+            Ok(Statement::Continue {
+                span: *span,
+                bit: Some(bit),
+            })
+        }
+        Statement::Return { value, span, .. } => {
+            let bit = count(&mut at.statement)?;
+            let exit = count(&mut at.exit)?;
+            let value = return_value(walk, &mut at.decision, value)?;
+            Ok(Statement::Return {
+                value,
+                span: *span,
+                bit: Some(bit),
+                exit: Some(exit),
+            })
+        }
+    }
+}
+
+/// Copies of the items of a body.
+#[cycle(statement)]
+pub(crate) fn statements(
+    walk: &Walk<'_>,
+    register: u32,
+    at: &mut At,
+    trees: &[Statement],
+) -> Result<Vec<Statement>, AllocError>
+    ensures copy { IfOk result (λ c. let m = map_of walk.now.map.now in
+        probed.statements_from (map probed.statement_of c.items)
+        ≡ put_statements m walk.now.first register (at_of m walk.now.first at.old)
+        (plain.statements_from (map plain.statement_of trees.now))) }
+    ensures exit { IfOk result (λ _. at.new.exit ≡ at.old.exit
+        + (points_of_all (plain.statements_from (map plain.statement_of trees.now))).exits) }
+    ensures statement { IfOk result (λ _. at.new.statement ≡ at.old.statement
+        + (points_of_all (plain.statements_from (map plain.statement_of trees.now))).statements) }
+    ensures label { IfOk result (λ _. at.new.label ≡ at.old.label
+        + (points_of_all (plain.statements_from (map plain.statement_of trees.now))).labels) }
+    ensures decision { IfOk result (λ _. at.new.decision ≡ at.old.decision
+        + roots_in (n.statements (plain.statements_from (map plain.statement_of trees.now)))) }
+    ensures switch { IfOk result (λ _. at.new.switch ≡ at.old.switch
+        + switches_all (plain.statements_from (map plain.statement_of trees.now))) }
+{
+    let mut copies = Vec::new(walk.alloc);
+    for tree in trees {
+        let copy = statement(walk, register, at, tree)?;
+        copies.push(copy)?;
+    }
+    Ok(copies)
+}
