@@ -1,32 +1,31 @@
 -- Arguments and the calls that they are for.
-use Rattle.std.proofs.Common.{◌≡◌, ℕ, zero, suc, ◌+◌, ◌*◌, ◌<◌, ◌≤◌, ◌^◌, ℤ, List, [], ◌∷◌, ◌++◌, length, map, get_or, drop, refl, sym, ap, subst, ◌∙◌, arith, Option, Some, None, option_map}
-use Rattle.std.specs.Prelude.{slice_get, unwrap_or, IfSome}
+use Rattle.std.proofs.Common.{◌≡◌, ℕ, zero, suc, ◌+◌, ◌<◌, ◌≤◌, List, [], ◌∷◌, ◌++◌, length, map, get_or, drop, refl, sym, ap, subst, ◌∙◌, arith, Option, Some, None, option_map}
+use Rattle.std.specs.Prelude.{slice_get, unwrap_or}
 use Rattle.std.proofs.lemmas.List.{append-nil, drop_all, length-map}
 use Rattle.std.proofs.Math.Seq.{drop-cons}
 use Rattle.mc_value.specs.declared.int_type.IntType.{IntType}
 use Rattle.mc_typed.specs.declared.expressions.Slot.{Slot}
 use Rattle.mc_typed.specs.declared.objects.Object as code_object
 use Rattle.mc_typed.specs.declared.expressions.Argument.{Argument}
-use Rattle.mc_typed.specs.Layout.{ObjectType, Scalar, Array, Structure, cells}
+use Rattle.mc_typed.specs.Layout.{ObjectType, Array, cells}
 use Rattle.mc_typed.specs.Tree.{Object, ParameterType, ResultType}
 use Rattle.mc_typed.specs.Tree as t
 use Rattle.mc_typed.specs.Views as plain
-use Rattle.mc_typed.specs.Sound.{Scope, AreArguments, AreFunctions, AreLaidOut, IsArgument, IsCall, IsStructureCall, IsStructure, IsSlot, IsSlotOf, Takes, IsStructureType, structure_result, structure_type, parameters_at, result_at, cells_at, object_type_at, type_of}
-use Rattle.mc_steps.specs.Runs.{State, Run, gives, after}
+use Rattle.mc_typed.specs.Sound.{Scope, AreArguments, AreFunctions, AreLaidOut, IsArgument, IsSlot, IsSlotOf, parameters_at, cells_at, object_type_at}
+use Rattle.mc_steps.specs.Runs.{Run, gives, after}
 use Rattle.mc_steps.specs.Calls as steps
 use Rattle.mc_words.specs.Words.{Holds}
 use Rattle.mc_probe.specs.Tree as p
 use Rattle.mc_probe.specs.Views as view
-use Rattle.mc_probe.specs.WellFormed.{FitArguments, FitsArgument}
+use Rattle.mc_probe.specs.WellFormed.{FitArguments}
 use Rattle.mc_probe.specs.Flat.{Flat, Does, Activation}
 use Rattle.mc_probe.specs.Expressions as does
 use Rattle.mc_interp.specs.declared.store.Store.{Store}
 use Rattle.mc_interp.specs.declared.frame.Frame.{Frame}
 use Rattle.mc_interp.specs.declared.values.Passed.{Passed}
 use Rattle.mc_interp.specs.declared.values.Passed.TheVariants as passed
-use Rattle.mc_interp.specs.declared.values.Lent as code
 use Rattle.mc_interp.specs.Stores.{limits_of, state_of, passed_of, Did}
-use Rattle.mc_interp.specs.Typed.{Stands, StandsSome, StandsArray, AreTyped, IsPlaced, IsAnyCall, IsSomeArgument, AreSomeArguments, IsPassedFor, ArePassedFor}
+use Rattle.mc_interp.specs.Typed.{Stands, StandsSome, StandsArray, AreTyped, IsPlaced, IsSomeArgument, AreSomeArguments, IsPassedFor, ArePassedFor}
 use Rattle.mc_interp.specs.Frames.{activation_of, scope_in, IsReady, IsKept}
 use Rattle.mc_interp.specs.Calls.{IsPassed, ArePassed}
 use Rattle.mc_interp.proofs.Runs.{did_gives, did_then, did_end}

@@ -1,20 +1,17 @@
 -- What a call is given, and what it gives.
-use Rattle.std.proofs.Common.{◌≡◌, ℕ, ◌+◌, ◌*◌, ◌<◌, ◌≤◌, ◌^◌, ℤ, List, [], ◌++◌, length, map, refl, sym, ap, subst, ◌∙◌, arith, Option, Some, None, option_map}
+use Rattle.std.proofs.Common.{◌≡◌, ℕ, ◌+◌, ◌<◌, ◌≤◌, List, [], ◌++◌, map, sym, subst, arith, Option, Some, None, option_map}
 use Rattle.std.specs.Prelude.{slice_get, IfSome}
 use Rattle.std.proofs.lemmas.List.{length-map}
 use Rattle.mc_value.specs.declared.int_type.IntType.{IntType}
 use Rattle.mc_typed.specs.declared.expressions.Slot.{Slot}
 use Rattle.mc_span.specs.declared.span.Span.{Span}
 use denote.Ref.{Bor}
-use Rattle.mc_typed.specs.Layout.{ObjectType, cells}
 use Rattle.mc_typed.specs.Tree.{ResultType}
 use Rattle.mc_typed.specs.Tree as t
 use Rattle.mc_typed.specs.Views as plain
-use Rattle.mc_typed.specs.Sound.{Scope, IsCall, IsStructureCall, Takes, IsStructureType, structure_result, structure_type, result_at, parameters_at}
-use Rattle.mc_steps.specs.Runs.{State, Run, gives}
-use Rattle.mc_steps.specs.Calls.{number_given, structure_given}
+use Rattle.mc_typed.specs.Sound.{Scope, IsCall, IsStructureCall, Takes, structure_result, structure_type, result_at, parameters_at}
+use Rattle.mc_steps.specs.Runs.{State}
 use Rattle.mc_steps.specs.Statements as steps
-use Rattle.mc_words.specs.Words.{number_of, Holds}
 use Rattle.mc_probe.specs.Flat.{Flat, Activation}
 use Rattle.mc_probe.specs.Calls.{calls}
 use Rattle.mc_probe.specs.Trees.{tree_of}
@@ -26,11 +23,11 @@ use Rattle.mc_interp.specs.declared.frame.Called.{Called}
 use Rattle.mc_interp.specs.declared.values.Passed.{Passed}
 use Rattle.mc_interp.specs.declared.values.Given.{Given}
 use Rattle.mc_interp.specs.declared.values.Given.TheVariants as given
-use Rattle.mc_interp.specs.Stores.{state_of, given_of, passed_of, told, Did, IsNumber, IsStructureAt}
+use Rattle.mc_interp.specs.Stores.{state_of, given_of, passed_of, Did, IsNumber, IsStructureAt}
 use Rattle.mc_interp.specs.Typed.{Stands, AreTyped, IsPlaced, IsAnyCall, ArePassedFor, result_in, into_of}
-use Rattle.mc_interp.specs.Frames.{activation_of, scope_in, most_in, shapes_of, IsReady, IsKept}
+use Rattle.mc_interp.specs.Frames.{activation_of, scope_in, IsReady, IsKept}
 use Rattle.mc_interp.specs.Calls.{ArePassed, IsInto, IsResultOf, AreGiven, IsCalled, CallKeeps, CallDid}
-use Rattle.mc_interp.proofs.Placed.{none_some, some_eq}
+use Rattle.mc_interp.proofs.Placed.{some_eq}
 use Rattle.mc_interp.proofs.Arguments.{are_passed, slot_placed}
 use Rattle.mc_interp.proofs.Kept.{kept_then}
 use Rattle.mc_interp.proofs.Runs.{did_then}

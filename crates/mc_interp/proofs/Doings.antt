@@ -1,6 +1,5 @@
 -- What effects do, from what their parts did.
-use Rattle.std.proofs.Common.{◌≡◌, ℕ, ◌+◌, ◌<◌, ◌≤◌, ℤ, Bool, true, false, List, [], ◌∷◌, ◌++◌, length, Option, Some, None, option_map, arith, Box, refl, sym, ap, subst, ◌∙◌}
-use Rattle.std.specs.Prelude.{slice_get}
+use Rattle.std.proofs.Common.{◌≡◌, ℕ, ◌+◌, ◌≤◌, ℤ, Bool, true, false, List, [], ◌∷◌, ◌++◌, length, Option, Some, None, option_map, arith, Box, refl, sym, ap, subst, ◌∙◌}
 use Rattle.mc_value.specs.declared.int_type.IntType.{IntType}
 use Rattle.mc_value.specs.declared.trap.Trap.TheVariants.{Unset}
 use Rattle.mc_value.specs.Conversions.{converted, promoted}
@@ -10,10 +9,10 @@ use Rattle.mc_typed.specs.declared.operators.Operator.TheVariants.{Binary, Shift
 use Rattle.mc_typed.specs.Layout.{ObjectType, cells}
 use Rattle.mc_typed.specs.Tree as t
 use Rattle.mc_typed.specs.Sound.{Scope, HasOperands, IsEffect, AreClauses}
-use Rattle.mc_steps.specs.Runs.{State, Run, Acts, gives, after, changes, with_some, with_result}
-use Rattle.mc_steps.specs.Expressions.{operated, assign_does, update_does, choice_does, copy_does, drop_does, output_does, is_true, where_true}
+use Rattle.mc_steps.specs.Runs.{State, gives, after, changes, with_some, with_result}
+use Rattle.mc_steps.specs.Expressions.{operated, assign_does, update_does, choice_does, copy_does, drop_does, is_true, where_true}
 use Rattle.mc_steps.specs.Statements.{test_does}
-use Rattle.mc_probe.specs.Flat.{Flat, Does, Activation, flat}
+use Rattle.mc_probe.specs.Flat.{Flat, Does, flat}
 use Rattle.mc_probe.specs.Tree as p
 use Rattle.mc_probe.specs.Views as view
 use Rattle.std.specs.Global.{Global}
@@ -23,8 +22,6 @@ use Rattle.mc_typed.specs.declared.effects.Effect as code
 use Rattle.mc_typed.specs.declared.effects.Effect.TheVariants as effect
 use Rattle.mc_typed.specs.declared.effects.Effect.TheOpen.{Effect-F}
 use Rattle.mc_typed.specs.declared.effects.Effect.TheFolds.{fold-roll-Effect}
-use Rattle.mc_probe.specs.Expressions.{value_of, structure_of, call_of}
-use Rattle.mc_probe.specs.Statements.{effect_of}
 use Rattle.mc_interp.specs.declared.store.Store.{Store}
 use Rattle.mc_interp.specs.declared.frame.Frame.{Frame}
 use Rattle.mc_interp.specs.Frames.{activation_of, scope_in, IsReady}

@@ -1,18 +1,18 @@
 -- Initializers of what stands at a place.
-use Rattle.std.proofs.Common.{◌≡◌, ℕ, zero, suc, ◌+◌, ◌*◌, ◌<◌, ◌≤◌, List, [], ◌∷◌, length, refl, sym, ap, subst, ◌∙◌, arith, Option, Some, None, option_map}
+use Rattle.std.proofs.Common.{◌≡◌, ℕ, zero, suc, ◌+◌, ◌*◌, ◌≤◌, List, [], ◌∷◌, length, refl, sym, ap, subst, ◌∙◌, arith, Option, Some, None, option_map}
 use Rattle.std.proofs.lemmas.Nat.{mul-le}
 use Rattle.mc_typed.specs.Layout.{ObjectType, Scalar, Array, Structure, Members, no_members, members, cells, cells_all, member, start}
 use Rattle.mc_typed.specs.Tree.{Declarator, Initializer, Initializers, Object}
 use Rattle.mc_typed.specs.Tree as t
-use Rattle.mc_typed.specs.Sound.{Scope, AreElements, AreLaidOut, AreMembers, IsDeclarator, IsInitial, IsInitializer, cells_at, count_of, object_type_at, structure_type}
+use Rattle.mc_typed.specs.Sound.{Scope, AreElements, AreLaidOut, AreMembers, IsDeclarator, IsInitial, IsInitializer, cells_at, count_of, object_type_at}
 use Rattle.mc_probe.specs.Flat.{Activation}
-use Rattle.mc_interp.specs.Typed.{Stands, AreTyped, IsPlaced}
+use Rattle.mc_interp.specs.Typed.{Stands, IsPlaced}
 use Rattle.mc_interp.specs.declared.store.Store.{Store}
 use Rattle.mc_interp.specs.declared.frame.Frame.{Frame}
 use Rattle.mc_interp.specs.Frames.{activation_of, scope_in, IsReady}
 use Rattle.mc_interp.specs.Effects.{width, IsBlock, Initializes, InitializeAll, InitializesSome}
 use Rattle.mc_interp.proofs.Doings.{placed_room}
-use Rattle.mc_interp.proofs.Placed.{none_some, some_eq, placed_local, placed_member, stands_item}
+use Rattle.mc_interp.proofs.Placed.{none_some, placed_local, placed_member, stands_item}
 
 module _ (c : Scope) (w : Activation) where
   width_is : (i : Initializer) (u : ObjectType) → IsInitializer i u c → width i ≡ cells u

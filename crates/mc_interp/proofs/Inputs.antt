@@ -1,8 +1,8 @@
 -- Units of fuel and inputs.
-use Rattle.std.proofs.Common.{◌≡◌, ℕ, zero, suc, ◌+◌, ◌<◌, ◌≤◌, ℤ, List, [], ◌∷◌, length, drop, refl, sym, ap, subst, ◌∙◌, arith, Option, Some, None}
+use Rattle.std.proofs.Common.{◌≡◌, ℕ, zero, suc, ◌+◌, List, [], ◌∷◌, drop, refl, sym, ap, subst, arith, Some}
 use Rattle.std.specs.Prelude.{slice_get}
 use Rattle.mc_typed.specs.Sound.{Scope}
-use Rattle.mc_steps.specs.Runs.{State, Out, Gave, Stopped, Run, Acts, gives, stops, with_fuel, spends}
+use Rattle.mc_steps.specs.Runs.{State, Out, Gave, Stopped, Run, Acts, gives, with_fuel, spends}
 use Rattle.mc_probe.specs.Flat.{Activation, Flat}
 use Rattle.mc_interp.specs.declared.store.Store.{Store}
 use Rattle.mc_interp.specs.Frames.{IsKept}

@@ -1,12 +1,11 @@
 -- What stays over a part of a run.
-use Rattle.std.proofs.Common.{◌≡◌, ℕ, ◌+◌, ◌*◌, ◌≤◌, ◌^◌, List, length, refl, sym, ap, subst, ◌∙◌, arith, Option, Some, None}
+use Rattle.std.proofs.Common.{◌≡◌, ℕ, refl, ◌∙◌, arith, Option, Some, None}
 use Rattle.std.specs.Prelude.{IfSome}
 use Rattle.mc_typed.specs.Sound.{Scope}
 use Rattle.mc_probe.specs.Flat.{Activation}
 use Rattle.mc_interp.specs.declared.store.Store.{Store}
 use Rattle.mc_interp.specs.declared.frame.Frame.{Frame}
-use Rattle.mc_interp.specs.Typed.{HasTypes, AreTyped}
-use Rattle.mc_interp.specs.Frames.{activation_of, scope_in, most_in, IsReady, IsKept}
+use Rattle.mc_interp.specs.Frames.{activation_of, scope_in, IsReady, IsKept}
 
 pub kept_then : (c : Scope) (w : Activation) (l m n : Store) → IsKept c w l m → IsKept c w m n → IsKept c w l n
 kept_then c w l m n h k = record {

@@ -1,5 +1,5 @@
 -- What nodes do, from what their parts did.
-use Rattle.std.proofs.Common.{◌≡◌, ℕ, ◌+◌, ◌*◌, ◌<◌, ℤ, Bool, true, false, not, List, [], ◌++◌, Option, Some, None, option_map, Result, refl, sym, ap, subst, ◌∙◌, if◌then◌else◌}
+use Rattle.std.proofs.Common.{◌≡◌, ℕ, ◌+◌, ◌*◌, ℤ, Bool, true, false, not, List, [], ◌++◌, Option, Some, None, option_map, Result, refl, sym, ap, subst, if◌then◌else◌}
 use Rattle.mc_value.specs.declared.int_type.IntType.{IntType}
 use Rattle.mc_value.specs.declared.trap.Trap.{Trap}
 use Rattle.mc_value.specs.declared.trap.Trap.TheVariants.{Index}
@@ -9,7 +9,7 @@ use Rattle.mc_typed.specs.declared.operators.Operator.{Operator}
 use Rattle.mc_typed.specs.declared.operators.Operator.TheVariants.{Binary, Shift}
 use Rattle.mc_typed.specs.declared.operators.LogicOperator.{LogicOperator}
 use Rattle.mc_typed.specs.Sound.{HasOperands, operator_type}
-use Rattle.mc_steps.specs.Runs.{State, Out, Run, Acts, gives, after, with_some, with_result}
+use Rattle.mc_steps.specs.Runs.{State, Run, gives, after, with_some, with_result}
 use Rattle.mc_steps.specs.Memories.{Lent}
 use Rattle.mc_steps.specs.Expressions.{operated, is_true, where_true, with_index, item_does, lent_item_does, binary_does, goes_on, logic_does, choice_does, as_does}
 use Rattle.mc_steps.specs.Statements.{test_does}

@@ -3,13 +3,12 @@ use Rattle.std.proofs.Common.{◌≡◌, ℕ, zero, suc, ◌+◌, ◌<◌, ◌�
 use Rattle.std.specs.Prelude.{slice_get}
 use Rattle.std.proofs.lemmas.Option.{slice_get-map}
 use Rattle.mc_value.specs.declared.int_type.IntType.{IntType}
-use Rattle.mc_value.specs.declared.trap.Trap.TheVariants.{Index}
 use Rattle.mc_typed.specs.declared.expressions.Slot.{Slot}
-use Rattle.mc_typed.specs.Layout.{ObjectType, Structure, Array}
+use Rattle.mc_typed.specs.Layout.{ObjectType}
 use Rattle.mc_typed.specs.Layout.{cells as size_of}
 use Rattle.mc_typed.specs.Tree as t
-use Rattle.mc_typed.specs.Sound.{Scope, IsSlot, IsStructure, IsStructureType, structure_result, structure_type, result_at}
-use Rattle.mc_steps.specs.Runs.{State, gives, after, changes, with_some}
+use Rattle.mc_typed.specs.Sound.{Scope, IsStructure, IsStructureType, structure_result, structure_type, result_at}
+use Rattle.mc_steps.specs.Runs.{State, gives, after, changes}
 use Rattle.mc_steps.specs.Memories as memory
 use Rattle.mc_steps.specs.Calls as steps
 use Rattle.mc_steps.specs.Calls.{Target, PassedStructure, PassedArray, structure_argument_does, again_argument_does}
@@ -19,8 +18,8 @@ use Rattle.mc_interp.specs.declared.store.Store.{Store}
 use Rattle.mc_interp.specs.declared.frame.Frame.{Frame}
 use Rattle.mc_interp.specs.declared.values.Lent as code
 use Rattle.mc_interp.specs.declared.values.Passed.TheVariants as passed
-use Rattle.mc_interp.specs.Stores.{state_of, lent_of, passed_of, told, Did}
-use Rattle.mc_interp.specs.Typed.{Stands, StandsSome, StandsArray, IsLent, AreTyped, IsPlaced, IsSomeArgument, IsPassedFor}
+use Rattle.mc_interp.specs.Stores.{state_of, lent_of, told, Did}
+use Rattle.mc_interp.specs.Typed.{StandsSome, StandsArray, IsLent, AreTyped, IsPlaced, IsSomeArgument, IsPassedFor}
 use Rattle.mc_interp.specs.Frames.{activation_of, scope_in, IsReady, IsKept}
 use Rattle.mc_interp.proofs.Placed.{place_small, lent_there}
 use Rattle.mc_interp.proofs.Arguments.{slot_cells, slot_placed}

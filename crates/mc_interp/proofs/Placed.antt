@@ -1,11 +1,11 @@
 -- Places of an activation, and the types of the cells that stand there.
-use Rattle.std.proofs.Common.{◌≡◌, ℕ, zero, suc, ◌+◌, ◌*◌, ◌<◌, ◌≤◌, ℤ, List, [], length, map, refl, sym, ap, subst, ◌∙◌, arith, Option, Some, None, option_map}
+use Rattle.std.proofs.Common.{◌≡◌, ℕ, ◌+◌, ◌*◌, ◌<◌, ◌≤◌, ℤ, List, [], length, map, refl, sym, ap, subst, ◌∙◌, arith, Option, Some, None, option_map}
 use Rattle.std.specs.Prelude.{slice_get, IfSome}
 use Rattle.std.proofs.lemmas.Option.{slice_get_within, slice_get-map}
 use Rattle.mc_value.specs.declared.int_type.IntType.{IntType}
 use Rattle.mc_value.specs.IntTypes.{InRange}
 use Rattle.mc_typed.specs.declared.expressions.Slot.{Slot}
-use Rattle.mc_typed.specs.Layout.{ObjectType, Scalar, Array, Structure, Members, cells, cells_all, member, start, IsPart}
+use Rattle.mc_typed.specs.Layout.{ObjectType, Scalar, Array, Structure, Members, cells, cells_all, member, start}
 use Rattle.mc_typed.specs.Tree.{Object}
 use Rattle.mc_typed.specs.Sound.{Scope, IsSlot, object_type_at, element_of, length_of, member_of, offset_of}
 use Rattle.mc_typed.proofs.Places.{block_fits, begins, within_in}
@@ -15,7 +15,7 @@ use Rattle.mc_interp.specs.declared.store.Store.{Store}
 use Rattle.mc_interp.specs.declared.frame.Frame.{Frame}
 use Rattle.mc_interp.specs.declared.values.Lent as code
 use Rattle.mc_interp.specs.Stores.{lent_of}
-use Rattle.mc_interp.specs.Typed.{HasTypes, Stands, StandsSome, IsLent, AreTyped, IsPlaced}
+use Rattle.mc_interp.specs.Typed.{Stands, StandsSome, IsLent, AreTyped, IsPlaced}
 use Rattle.mc_interp.specs.Frames.{activation_of, scope_in, IsReady}
 
 abbrev IsThere : {A : Type 0} → Option A → Type 0

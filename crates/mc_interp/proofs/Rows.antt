@@ -1,23 +1,23 @@
 -- Cells that are read and written keep their types.
-use Rattle.std.proofs.Common.{◌≡◌, ◌≢◌, ℕ, zero, suc, ◌+◌, ◌<◌, ◌≤◌, ◌⊎◌, ℤ, pos, negsuc, neg_ℤ, ◌≤ℤ◌, ◌<ℤ◌, Bool, true, false, List, [], ◌∷◌, ◌++◌, length, drop, refl, sym, ap, subst, ◌∙◌, arith, inl, inr, Option, Some, None, length-set}
+use Rattle.std.proofs.Common.{◌≡◌, ℕ, zero, suc, ◌+◌, ◌<◌, ◌⊎◌, ℤ, pos, true, false, List, [], ◌∷◌, length, refl, sym, ap, subst, ◌∙◌, arith, inl, inr, Option, Some, None, length-set}
 use Rattle.std.specs.Prelude.{slice_get, slice_set, IfSome}
 use Rattle.std.proofs.lemmas.Bool.{cases_eq}
 use Rattle.std.proofs.lemmas.Int.{ints}
 use Rattle.std.proofs.lemmas.Option.{slice_get_within}
 use Rattle.mc_value.specs.declared.int_type.IntType.{IntType}
-use Rattle.mc_value.specs.IntTypes.{signed_of, least_of, greatest_of, InRange}
+use Rattle.mc_value.specs.IntTypes.{signed_of, least_of, InRange}
 use Rattle.mc_value.proofs.Bounds.{low_side, high_side, signed_side}
 use Rattle.mc_typed.specs.Layout.{Scalar}
 use Rattle.mc_typed.specs.Sound.{Scope}
 use Rattle.mc_typed.proofs.CellTypes.{part_scalar}
 use Rattle.mc_cells.specs.Rows.{with_cells, filled, IsSigned, IsUnsigned}
-use Rattle.mc_steps.specs.Runs.{Gave, Run, State, gives, changes}
-use Rattle.mc_probe.specs.Flat.{Activation, Flat, flat}
+use Rattle.mc_steps.specs.Runs.{changes}
+use Rattle.mc_probe.specs.Flat.{Activation, flat}
 use Rattle.mc_interp.specs.declared.store.Store.{Store}
 use Rattle.mc_interp.specs.Stores.{state_of, told}
-use Rattle.mc_interp.specs.Typed.{HasTypes, Stands, AreTyped, IsPlaced}
+use Rattle.mc_interp.specs.Typed.{HasTypes, IsPlaced}
 use Rattle.mc_interp.specs.Frames.{IsKept}
-use Rattle.mc_interp.proofs.Placed.{none_some, some_eq}
+use Rattle.mc_interp.proofs.Placed.{some_eq}
 
 -- ---- numbers of 64 bits
 

@@ -1,11 +1,11 @@
 -- How the parts of a run join.
-use Rattle.std.proofs.Common.{◌≡◌, ℕ, ℤ, Bool, true, false, List, [], ◌++◌, Option, Some, None, refl, sym, ap, subst, ◌∙◌}
+use Rattle.std.proofs.Common.{◌≡◌, ℕ, ℤ, Bool, List, [], ◌++◌, Option, Some, None, refl, sym, ap, subst, ◌∙◌}
 use Rattle.std.proofs.lemmas.List.{append-nil}
 use Rattle.mc_steps.specs.Runs.{State, Out, Gave, Stopped, Run, Acts, gives, stops, go_on, preceded, after}
 use Rattle.mc_steps.specs.Expressions.{is_true}
 use Rattle.mc_probe.specs.Flat.{Flat}
 use Rattle.mc_interp.specs.declared.store.Store.{Store}
-use Rattle.mc_interp.specs.Stores.{state_of, out_of, told, Did}
+use Rattle.mc_interp.specs.Stores.{state_of, told, Did}
 
 -- what is asked of a value and goes on by its truth alone
 module _ {B : Type 0} (f : ℤ → Acts Flat ℕ B) (next : Bool → Acts Flat ℕ B)

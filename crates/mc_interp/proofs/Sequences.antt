@@ -1,17 +1,15 @@
 -- Parts that follow each other: what was done, and what is still to come.
-use Rattle.std.proofs.Common.{◌≡◌, ℕ, zero, suc, ◌+◌, ◌-◌, ◌<◌, ◌≤◌, length, drop, get_or, ℤ, pos, List, [], ◌∷◌, ◌++◌, map, refl, sym, ap, subst, ◌∙◌, arith, append_assoc, Option, Some, None, option_map}
-use Rattle.std.proofs.lemmas.List.{drop_all, drop_more}
+use Rattle.std.proofs.Common.{◌≡◌, ℕ, ◌+◌, ◌-◌, ◌<◌, ◌≤◌, length, drop, get_or, pos, List, [], ◌∷◌, ◌++◌, map, refl, sym, ap, subst, ◌∙◌, arith, append_assoc, Option, Some, None}
+use Rattle.std.proofs.lemmas.List.{drop_more}
 use Rattle.mc_typed.specs.declared.effects.Effect.{Effect}
 use Rattle.mc_typed.specs.declared.initializers.Initializer.{Initializer}
 use Rattle.mc_typed.specs.declared.statements.Declarator.{Declarator}
 use Rattle.mc_typed.specs.Sound.{Scope, AreDeclarators}
-use Rattle.mc_typed.specs.Tree as t
 use Rattle.mc_typed.specs.Views as plain
-use Rattle.mc_steps.specs.Runs.{State, Run, Out, Gave, Stopped, Acts, changes, gives, after, stops, preceded, go_on}
+use Rattle.mc_steps.specs.Runs.{Run, Out, Gave, Stopped, Acts, changes, gives, after, stops, preceded, go_on}
 use Rattle.mc_steps.specs.Calls.{unset_does}
 use Rattle.mc_probe.specs.Flat.{Flat, Does, Activation, flat}
 use Rattle.mc_probe.specs.Statements as does
-use Rattle.mc_probe.specs.Tree as p
 use Rattle.mc_probe.specs.Views as view
 use Rattle.mc_probe.specs.WellFormed.{FitEffects, FitInitializers, FitDeclarators}
 use Rattle.mc_interp.specs.declared.store.Store.{Store}

@@ -1,5 +1,5 @@
 -- The nodes of a tree, seen as those of the definitions.
-use Rattle.std.proofs.Common.{◌≡◌, ℕ, ℤ, Bool, List, map, sym, ap, ◌∙◌, Box}
+use Rattle.std.proofs.Common.{◌≡◌, ℕ, ℤ, Bool, map, sym, ap, ◌∙◌, Box}
 use Rattle.std.specs.Global.{Global}
 use Rattle.mc_span.specs.declared.span.Span.{Span}
 use Rattle.mc_value.specs.declared.int_type.IntType.{IntType}
@@ -14,7 +14,6 @@ use Rattle.mc_typed.specs.declared.expressions.Place.{Place}
 use Rattle.mc_typed.specs.declared.expressions.Place.TheVariants as place
 use Rattle.mc_typed.specs.declared.expressions.Structure.{Structure}
 use Rattle.mc_typed.specs.declared.expressions.Structure.TheVariants as structure
-use Rattle.mc_typed.specs.declared.expressions.Argument.{Argument}
 use Rattle.mc_typed.specs.declared.expressions.Argument.TheVariants as argument
 use Rattle.mc_typed.specs.declared.expressions.Argument.TheOpen.{Expression-F, Place-F, Structure-F, Argument-F}
 use Rattle.mc_typed.specs.declared.expressions.FunctionCall.{FunctionCall, out-FunctionCall}

@@ -1,13 +1,13 @@
 -- Steps that may stop the run, and what follows them.
-use Rattle.std.proofs.Common.{◌≡◌, ℕ, ◌<◌, ℤ, List, [], ◌∷◌, Option, Some, None, Result, Ok, Err, option_map, refl, sym, ap, subst, ◌∙◌}
+use Rattle.std.proofs.Common.{◌≡◌, ℕ, ℤ, [], Option, Some, None, Result, Ok, Err, sym, ap, subst, ◌∙◌}
 use Rattle.mc_value.specs.declared.int_type.IntType.{IntType}
 use Rattle.mc_value.specs.declared.trap.Trap.{Trap}
 use Rattle.mc_value.specs.declared.trap.Trap.TheVariants.{Unset}
 use Rattle.mc_value.specs.Conversions.{converted}
 use Rattle.mc_typed.specs.declared.operators.Operator.{Operator}
-use Rattle.mc_steps.specs.Runs.{State, Out, Gave, Stopped, Run, Acts, gives, stops, traps, changes, with_some, with_result}
+use Rattle.mc_steps.specs.Runs.{State, Out, Gave, Stopped, Run, Acts, gives, traps, changes, with_some, with_result}
 use Rattle.mc_steps.specs.Expressions.{operated}
-use Rattle.mc_words.specs.Words.{number_of, result_of, IsRightType}
+use Rattle.mc_words.specs.Words.{number_of, result_of}
 use Rattle.mc_typed.specs.Sound.{operator_type}
 use Rattle.mc_probe.specs.Flat.{Flat, flat}
 use Rattle.mc_interp.specs.declared.store.Store.{Store}

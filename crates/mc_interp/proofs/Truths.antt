@@ -11,15 +11,14 @@ use mir.Val.{bool_byte as from_bool}
 use Rattle.mc_value.specs.Conversions.{is_zero}
 use Rattle.mc_value.specs.Arithmetic.{truth}
 use Rattle.mc_typed.specs.declared.probes.Probe.TheVariants as probe
-use Rattle.mc_typed.specs.declared.operators.LogicOperator.{LogicOperator}
-use Rattle.mc_steps.specs.Runs.{State, Out, Gave, Stopped, Run, Acts, gives, stops, go_on, preceded, after}
+use Rattle.mc_steps.specs.Runs.{State, Out, Gave, Stopped, Run, Acts, gives, go_on, after}
 use Rattle.mc_steps.specs.Expressions.{is_true, where_true, goes_on}
 use Rattle.mc_probe.specs.Flat.{Flat, Activation, sets, adds, hits, register, wrapped_sum}
 use Rattle.mc_probe.specs.Tree.{Expression}
 use Rattle.mc_probe.specs.Tree as p
 use Rattle.mc_probe.specs.Expressions.{value_of}
 use Rattle.mc_interp.specs.declared.store.Store.{Store}
-use Rattle.mc_interp.specs.Stores.{state_of, out_of, told, Did}
+use Rattle.mc_interp.specs.Stores.{out_of, Did}
 use Rattle.mc_interp.specs.Truths.{is_logical}
 
 pub true_truth : (b : Bool) → is_true (truth b) ≡ b

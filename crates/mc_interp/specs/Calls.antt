@@ -2,8 +2,7 @@
 use Rattle.std.specs.Prelude.{◌≡◌, ℕ, ◌+◌, ◌*◌, ◌≤◌, ◌<◌, ◌^◌, List, [], ◌∷◌, length, map, slice_get, Option, Some, None, option_map, IfSome}
 use denote.Ref.{MutBor}
 use Rattle.mc_value.specs.declared.int_type.IntType.{IntType}
-use Rattle.mc_value.specs.IntTypes.{InRange}
-use Rattle.mc_typed.specs.Layout.{ObjectType, Array, cells}
+use Rattle.mc_typed.specs.Layout.{Array, cells}
 use Rattle.mc_typed.specs.Tree.{ParameterType, ResultType, Function, Program}
 use Rattle.mc_typed.specs.Tree as t
 use Rattle.mc_typed.specs.Sound.{parameters_at, result_at, IsSound}

@@ -1,12 +1,12 @@
 -- Effects and initializers as they are run.
-use Rattle.std.specs.Prelude.{◌≡◌, ℕ, ◌+◌, ◌≤◌, ℤ, nat_lt, Bool, List, [], ◌∷◌, ◌++◌, length, Option, Some, None, option_map}
+use Rattle.std.specs.Prelude.{◌≡◌, ℕ, ◌+◌, ◌≤◌, ℤ, nat_lt, List, [], ◌∷◌, ◌++◌, length, Option, Some, None, option_map}
 use Rattle.mc_value.specs.declared.int_type.IntType.{IntType}
 use Rattle.mc_value.specs.declared.int_type.IntType.TheVariants as the
 use Rattle.mc_typed.specs.declared.plans.Ending.TheVariants.{OutputFull}
-use Rattle.mc_typed.specs.Layout.{ObjectType, Scalar, cells}
+use Rattle.mc_typed.specs.Layout.{Scalar, cells}
 use Rattle.mc_typed.specs.Tree.{Effect, Initializer, Initializers}
 use Rattle.mc_typed.specs.Tree as t
-use Rattle.mc_typed.specs.Sound.{Scope, Converts, HasOperands, IsExpression, IsPlace, IsStructure, place_type, structure_type, type_of}
+use Rattle.mc_typed.specs.Sound.{Scope, HasOperands, IsExpression, IsPlace, IsStructure, place_type, structure_type, type_of}
 use Rattle.mc_steps.specs.Runs.{gives, stops}
 use Rattle.mc_steps.specs.Expressions.{both_do, where_true}
 use Rattle.mc_steps.specs.Calls.{unset_does}

@@ -6,7 +6,6 @@ use Rattle.mc_typed.specs.Frames.{frame_of}
 use Rattle.mc_typed.specs.Levels.{levels_of, limited}
 use Rattle.mc_typed.specs.Sound.{Scope, scope_of, IsFunction, IsSound}
 use Rattle.mc_typed.specs.Views as plain
-use Rattle.mc_steps.specs.Runs.{State}
 use Rattle.mc_probe.specs.Flat.{Activation}
 use Rattle.mc_probe.specs.Calls.{calls}
 use Rattle.mc_probe.specs.Trees.{Instrumented, tree_of}

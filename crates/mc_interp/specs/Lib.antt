@@ -4,3 +4,6 @@ pub mod Typed
 pub mod Calls
 pub mod Truths
 pub mod Effects
+pub mod Bodies
+pub mod Entries
+pub mod Machines

@@ -1,5 +1,5 @@
 -- The state of a run as it is kept, and what a part of a run did to it.
-use Rattle.std.specs.Prelude.{◌≡◌, ℕ, ℤ, List, [], ◌∷◌, drop, Option, Some, None}
+use Rattle.std.specs.Prelude.{◌≡◌, ℕ, List, [], ◌∷◌, drop, Option, Some, None}
 use Rattle.mc_steps.specs.Runs.{State, Out, Gave, Stopped, Run}
 use Rattle.mc_steps.specs.Statements.{Given}
 use Rattle.mc_steps.specs.Statements as give

@@ -9,7 +9,7 @@ use Rattle.mc_interp.specs.declared.values.Passed.TheVariants as passed
 use Rattle.mc_interp.specs.declared.values.Lent as code
 use Rattle.mc_typed.specs.Tree.{Object}
 use Rattle.mc_typed.specs.Tree as t
-use Rattle.mc_typed.specs.Sound.{Scope, AreArguments, IsExpression, IsPlace, IsSlot, IsSlotOf, IsStructure, Takes, parameters_at, place_type, object_type_at, result_at, structure_type, type_of}
+use Rattle.mc_typed.specs.Sound.{Scope, AreArguments, IsExpression, IsPlace, IsSlot, IsStructure, Takes, parameters_at, place_type, object_type_at, result_at, structure_type, type_of}
 use Rattle.mc_steps.specs.Memories.{Lent}
 use Rattle.mc_probe.specs.Flat.{Activation}
 

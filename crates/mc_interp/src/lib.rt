@@ -1,12 +1,24 @@
 //! The interpreter of instrumented programs.
 #![tactic(auto)]
 
+mod call_done;
+mod calls;
 mod effects;
+mod entries;
 mod expressions;
+mod flow;
 mod frame;
 mod initializers;
+mod labels;
+mod machine;
+mod parts;
+mod starts;
+mod statements;
 mod steps;
 mod store;
+mod tests;
 mod values;
 
+pub use call_done::CallDone;
+pub use machine::Machine;
 pub use mc_hits::{ListProbe, Probe};

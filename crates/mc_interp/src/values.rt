@@ -2,7 +2,7 @@
 use mc_value::IntType;
 
 /// An array that an array parameter names: its first cell, and its length.
-#[derive(Clone, Copy)]
+#[derive(Clone, Copy, Default)]
 pub(crate) struct Lent {
     pub base: u32,
     pub length: u32,

@@ -21,7 +21,7 @@ impl<T> Model for Stack<T> {
 
     ghost view = { λ s. record { items = s.items.items; limit = s.limit } };
 
-    ghost invariant = { λ s. s.limit ≤ vec_capacity s.items };
+    ghost invariant = { λ s. (s.limit ≤ vec_capacity s.items) × (length s.items.items ≤ s.limit) };
 }
 
 impl<T: Copy> Stack<T> {
@@ -36,6 +36,14 @@ impl<T: Copy> Stack<T> {
     /// How many values are in use. Takes no memory.
     pub fn len(&self) -> usize
         ensures { result ≡ length self.now.items }
+    {
+        self.items.len()
+    }
+
+    /// The same, which is no more than the limit. Takes no memory.
+    pub fn in_use(&self) -> usize
+        ensures count { result ≡ length self.now.items }
+        ensures within { result ≤ self.now.limit }
     {
         self.items.len()
     }

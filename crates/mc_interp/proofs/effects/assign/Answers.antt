@@ -1,12 +1,10 @@
-use Rattle.std.proofs.Common.{◌≡◌, ℕ, ◌+◌, ◌<◌, ◌≤◌, Bool, true, false, Option, Some, None, refl, sym, ap, subst, ◌∙◌, arith}
-use Rattle.mc_typed.specs.Sound.{type_of, place_type, structure_type}
-use Rattle.mc_typed.specs.Views as plain
-use Rattle.mc_words.specs.Words.{number_of, Holds}
+use Rattle.std.proofs.Common.{subst, ◌∙◌}
+use Rattle.mc_words.specs.Words.{Holds}
 use Rattle.mc_probe.specs.Views as view
 use Rattle.mc_probe.specs.Expressions as does
 use Rattle.mc_interp.specs.Stores.{state_of}
-use Rattle.mc_interp.specs.Frames.{activation_of, scope_in}
-use Rattle.mc_interp.proofs.Kept.{kept_then, if_any, if_kept, ready_kept}
+use Rattle.mc_interp.specs.Frames.{activation_of}
+use Rattle.mc_interp.proofs.Kept.{kept_then, ready_kept}
 use Rattle.mc_interp.proofs.Placed as placed
 use Rattle.mc_interp.proofs.Doings.{did_assign_end, did_assign}
 use Rattle.mc_interp.proofs.effects.assign.Goals as goal

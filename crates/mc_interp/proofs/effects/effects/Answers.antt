@@ -1,4 +1,4 @@
-use Rattle.std.proofs.Common.{◌+◌, ◌∷◌, List, drop, subst, rules}
+use Rattle.std.proofs.Common.{◌+◌, List, drop, subst, rules}
 use Rattle.std.proofs.lemmas.List.{drop_all}
 use Rattle.mc_typed.specs.declared.effects.Effect.{Effect}
 use Rattle.mc_interp.proofs.Sequences.{AreDoing, doing_step, doing_end, doing_done, drop_is}

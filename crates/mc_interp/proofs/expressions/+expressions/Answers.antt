@@ -1,14 +1,12 @@
-use Rattle.std.proofs.Common.{◌≡◌, ℕ, ◌+◌, ◌*◌, ◌≤◌, ◌<◌, List, length, map, drop, Bool, true, false, Option, Some, None, option_map, refl, sym, ap, subst, ◌∙◌, arith, rules}
+use Rattle.std.proofs.Common.{◌+◌, drop, refl, sym, ◌∙◌, arith, rules}
 use Rattle.std.specs.Prelude.{slice_get}
-use Rattle.mc_typed.specs.Sound.{type_of, place_type, element_of}
+use Rattle.mc_typed.specs.Sound.{type_of}
 use Rattle.mc_typed.specs.Views as plain
 use Rattle.mc_probe.specs.Views as view
 use Rattle.mc_probe.specs.Expressions as does
 use Rattle.mc_interp.specs.Stores.{lent_of, state_of}
-use Rattle.mc_probe.specs.WellFormed.{FitArguments}
-use Rattle.mc_interp.specs.Typed.{AreSomeArguments}
 use Rattle.mc_interp.specs.Frames.{activation_of, scope_in}
-use Rattle.mc_interp.proofs.Runs.{did_told, did_then, did_end}
+use Rattle.mc_interp.proofs.Runs.{did_then, did_end}
 use Rattle.mc_interp.proofs.Truths.{only_logical, did_word}
 use Rattle.mc_interp.proofs.Shapes.{plain_again_argument, plain_binary, plain_choice, plain_item, plain_local, plain_made, plain_member, plain_parameter, plain_read, plain_structure_argument, view_again_argument, view_binary, view_choice, view_item, view_logic, view_made, view_not, view_parameter, view_probe}
 use Rattle.mc_interp.proofs.Arguments.{few_arguments, passing_all, passing_done, passing_end, passing_next, passing_step, passing_typed, slot_there, some_arguments}
@@ -16,7 +14,7 @@ use Rattle.mc_interp.proofs.Passing.{source_there, copy_there, copy_keeps, again
 use Rattle.mc_interp.proofs.Called.{if_call_kept, into_small, is_called, made}
 use Rattle.mc_interp.proofs.Kept.{kept_then, if_any, ready_kept}
 use Rattle.mc_interp.proofs.Placed as placed
-use Rattle.mc_interp.proofs.Nodes.{has_promoted, left_is, is_left, is_right, did_operated, did_chosen, did_other, did_choice_end, did_item, did_lent, did_not, did_not_end, did_logic, did_logic_short, did_logic_end, did_decision, did_decision_end, did_condition, did_condition_end}
+use Rattle.mc_interp.proofs.Nodes.{has_promoted, is_left, is_right, did_operated, did_chosen, did_other, did_choice_end, did_item, did_lent, did_not, did_not_end, did_logic, did_logic_short, did_logic_end, did_decision, did_decision_end, did_condition, did_condition_end}
 use Rattle.mc_typed.specs.declared.expressions.FunctionCall.{the_lemmas as call_lemmas}
 use Rattle.mc_interp.proofs.expressions.+expressions.Goals as goal
 

@@ -1,10 +1,9 @@
-use Rattle.std.proofs.Common.{◌+◌, ◌-◌, ◌≤◌, ◌∷◌, List, drop, subst, rules, arith}
+use Rattle.std.proofs.Common.{◌+◌, List, drop, subst, rules}
 use Rattle.std.proofs.lemmas.List.{drop_all}
 use Rattle.mc_typed.specs.declared.initializers.Initializer.{Initializer}
-use Rattle.mc_interp.specs.Frames.{activation_of, scope_in}
+use Rattle.mc_interp.specs.Frames.{activation_of}
 use Rattle.mc_interp.proofs.Kept.{kept_then}
-use Rattle.mc_interp.proofs.Initial.{block_room, block_small}
-use Rattle.mc_interp.proofs.Sequences.{AreSetting, setting_step, setting_end, setting_done, setting_within, drop_is}
+use Rattle.mc_interp.proofs.Sequences.{AreSetting, setting_step, setting_end, setting_done, drop_is}
 use Rattle.mc_interp.proofs.initializers.+initializer.Goals as goal
 
 pub initializer-returns-in-Zero-clause-kept : goal.initializer-returns-in-Zero-clause-kept

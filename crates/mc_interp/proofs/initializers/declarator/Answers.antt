@@ -1,4 +1,4 @@
-use Rattle.std.proofs.Common.{◌≤◌, refl, arith}
+use Rattle.std.proofs.Common.{refl, arith}
 use Rattle.mc_typed.specs.Views as plain
 use Rattle.mc_interp.proofs.Kept.{if_kept, ready_kept}
 use Rattle.mc_interp.proofs.Initial.{declared_room, declared_set}

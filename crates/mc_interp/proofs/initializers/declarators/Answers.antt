@@ -1,4 +1,4 @@
-use Rattle.std.proofs.Common.{◌+◌, ◌∷◌, List, drop, subst, rules}
+use Rattle.std.proofs.Common.{◌+◌, List, drop, subst, rules}
 use Rattle.std.proofs.lemmas.List.{drop_all}
 use Rattle.mc_typed.specs.declared.statements.Declarator.{Declarator}
 use Rattle.mc_interp.proofs.Sequences.{AreDeclaring, declaring_step, declaring_end, declaring_done, drop_is}

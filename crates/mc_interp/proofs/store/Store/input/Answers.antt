@@ -1,4 +1,4 @@
-use Rattle.std.proofs.Common.{◌≡◌, ℕ, ◌+◌, ℤ, List, ◌∷◌, drop, refl, sym, ap, ◌∙◌, Some, rules}
+use Rattle.std.proofs.Common.{◌+◌, rules}
 use Rattle.mc_steps.specs.Runs.{gives}
 use Rattle.mc_steps.specs.Expressions.{with_input}
 use Rattle.mc_interp.specs.Stores.{state_of}

@@ -1,4 +1,3 @@
-use Rattle.std.proofs.Common.{Some, None}
 use Rattle.mc_words.specs.Words.{number_of}
 use Rattle.mc_interp.specs.Stores.{state_of}
 use Rattle.mc_interp.proofs.Kept.{kept_then}

@@ -1,0 +1,430 @@
+use Rattle.std.proofs.Common.{◌+◌, map, drop, Some, None, option_map, sym, ◌∙◌, arith, rules}
+use Rattle.mc_typed.specs.Sound.{type_of}
+use Rattle.mc_typed.specs.Views as plain
+use Rattle.mc_steps.specs.Runs.{gives}
+use Rattle.mc_steps.specs.Statements.{Completed, test_does}
+use Rattle.mc_words.specs.Words.{number_of}
+use Rattle.mc_probe.specs.Expressions.{value_of}
+use Rattle.mc_probe.specs.Probes.{mark_does}
+use Rattle.mc_probe.specs.Statements as does
+use Rattle.mc_probe.specs.Views as view
+use Rattle.mc_interp.specs.Bodies.{flow_of, labels_in, seek_of}
+use Rattle.mc_interp.specs.Stores.{state_of}
+use Rattle.mc_interp.specs.Frames.{activation_of, scope_in}
+use Rattle.mc_interp.proofs.Runs.{did_then, did_gives}
+use Rattle.mc_interp.proofs.Kept.{kept_same, kept_then, if_kept, ready_kept}
+use Rattle.mc_interp.proofs.BodyShapes.{view_do, view_for, view_if, view_if_else, view_switch}
+use Rattle.mc_interp.proofs.Equations.{absent_fits, end_typed, label_fits, next_is, next_typed}
+use Rattle.mc_interp.proofs.Bodies.{did_if_else, did_if_end, did_if_then, did_do, did_do_out, did_item, did_label, did_passed, did_statement, did_statement_end, did_switch, did_switch_end, did_switch_stop, did_turn_body_end, did_turn_end, did_turn_on, did_turn_out, did_turn_over, did_turn_step_end}
+use Rattle.mc_interp.proofs.Turnings.{running_done, running_end, running_here, running_last, running_out, running_start, running_step, turning_end, turning_out, turning_start, turning_step}
+use Rattle.mc_interp.proofs.statements.+statements.Goals as goal
+
+-- ---- items
+
+pub item-at_label-requires-clause-fits : goal.item-at_label-requires-clause-fits
+item-at_label-requires-clause-fits g t c =
+    label_fits c.args.frame.now.function.now.registers (view.statement_of c.args.tree.now) c.in-Some.label c.requires.fits (sym c.label_of.ensures ∙ c.in-Some.is)
+
+pub item-returns-in-Some-clause-did : goal.item-returns-in-Some-clause-did
+item-returns-in-Some-clause-did g t c =
+    let M = g.P.Probe.leads in let N = g.met.P.Probe.stays in let J = g.met.P.Probe.joins in
+    did_label M N J (activation_of c.args.frame.now) (view.statement_of c.args.tree.now) (state_of c.args.store.now) (seek_of c.args.seek) c.in-Some.label
+    (seek_of c.at_label.result) c.at_label.new.store c.args.probe.now c.at_label.new.probe (sym c.label_of.ensures ∙ c.in-Some.is) c.at_label.ensures.did
+
+pub item-returns-in-Some-clause-kept : goal.item-returns-in-Some-clause-kept
+item-returns-in-Some-clause-kept g t c = c.at_label.ensures.kept
+
+pub item-returns-then-not-is_running-clause-did : goal.item-returns-then-not-is_running-clause-did
+item-returns-then-not-is_running-clause-did g t c =
+    let M = g.P.Probe.leads in let N = g.met.P.Probe.stays in let J = g.met.P.Probe.joins in
+    did_passed M N J (activation_of c.args.frame.now) (view.statement_of c.args.tree.now) (seek_of c.args.seek) c.args.store.now c.args.probe.now
+    (sym c.label_of.ensures ∙ c.in_default.is) (sym c.is_running.ensures ∙ c.if-not-is_running.true)
+
+pub item-returns-then-not-is_running-clause-kept : goal.item-returns-then-not-is_running-clause-kept
+item-returns-then-not-is_running-clause-kept g t c = kept_same (scope_in c.args.frame.now) (activation_of c.args.frame.now) c.args.store.now
+
+pub item-returns-in_err-flow-clause-did : goal.item-returns-in_err-flow-clause-did
+item-returns-in_err-flow-clause-did g t c =
+    let M = g.P.Probe.leads in let N = g.met.P.Probe.stays in let J = g.met.P.Probe.joins in
+    rw c.from_residual.ensures
+    (did_item M N J (activation_of c.args.frame.now) (view.statement_of c.args.tree.now) (state_of c.args.store.now) (seek_of c.args.seek) None
+    c.statement.new.store c.args.probe.now c.statement.new.probe (sym c.label_of.ensures ∙ c.in_default.is) (sym c.is_running.ensures ∙ c.if-not-is_running.false)
+    c.in_err-flow.ensures.did)
+
+pub item-returns-clause-did : goal.item-returns-clause-did
+item-returns-clause-did g t c =
+    let M = g.P.Probe.leads in let N = g.met.P.Probe.stays in let J = g.met.P.Probe.joins in
+    rw (c.next_after.ensures, next_is c.in_ok-flow.flow c.statement.new.store)
+    (did_item M N J (activation_of c.args.frame.now) (view.statement_of c.args.tree.now) (state_of c.args.store.now) (seek_of c.args.seek)
+    (Some (flow_of c.in_ok-flow.flow c.statement.new.store)) c.statement.new.store c.args.probe.now c.statement.new.probe
+    (sym c.label_of.ensures ∙ c.in_default.is) (sym c.is_running.ensures ∙ c.if-not-is_running.false) c.in_ok-flow.ensures.did)
+
+pub item-returns-clause-typed : goal.item-returns-clause-typed
+item-returns-clause-typed g t c =
+    rw c.next_after.ensures (next_typed (scope_in c.args.frame.now) (activation_of c.args.frame.now) c.in_ok-flow.flow c.statement.new.store c.in_ok-flow.ensures.typed)
+
+-- ---- statements
+
+pub statement-returns-in_err-counted-clause-did : goal.statement-returns-in_err-counted-clause-did
+statement-returns-in_err-counted-clause-did g t c =
+    let M = g.P.Probe.leads in let N = g.met.P.Probe.stays in let J = g.met.P.Probe.joins in
+    let h = rw c.count_of.ensures at c.in_err-counted.ensures.did in
+    rw c.from_residual.ensures
+    (did_statement_end M N J (activation_of c.args.frame.now) (view.statement_of c.args.tree.now) (state_of c.args.store.now) c.counted.new.store c.args.probe.now c.counted.new.probe h)
+
+pub statement-act-requires : goal.statement-act-requires
+statement-act-requires g t c κs h =
+    let k = c.counted.ensures.kept (scope_in c.args.frame.now) (activation_of c.args.frame.now) in
+    let r = ready_kept c.args.frame.now c.args.store.now c.counted.new.store _ _ c.requires.ready k c.counted.ensures.bits in
+    (search rules, (search rules, (search rules, (c.requires.sound, (c.requires.fits, (r, c.requires.invokes))))))
+
+pub statement-returns-clause-did : goal.statement-returns-clause-did
+statement-returns-clause-did g t c =
+    let M = g.P.Probe.leads in let N = g.met.P.Probe.stays in let J = g.met.P.Probe.joins in
+    let h = rw c.count_of.ensures at c.in_ok-counted.ensures.did in
+    did_statement M N J (activation_of c.args.frame.now) (view.statement_of c.args.tree.now) (state_of c.args.store.now) c.counted.new.store _ _ c.args.probe.now c.counted.new.probe _ h
+    c.act.ensures.did
+
+pub statement-returns-clause-kept : goal.statement-returns-clause-kept
+statement-returns-clause-kept g t c =
+    if_kept _ _ _ _ _ c.act.result (c.counted.ensures.kept (scope_in c.args.frame.now) (activation_of c.args.frame.now)) c.act.ensures.kept
+
+-- ---- the items of a body
+
+pub statements-loop-tree-init : goal.statements-loop-tree-init
+statements-loop-tree-init g t c =
+    running_start g.P.Probe.bits g.P.Probe.leads g.met.P.Probe.stays g.met.P.Probe.joins c.args.frame.now c.args.trees.now c.args.seek c.args.store.now c.args.probe.now
+    c.requires.ready c.requires.sound c.requires.fits
+
+pub statements-returns-in_err-next-clause-did : goal.statements-returns-in_err-next-clause-did
+statements-returns-in_err-next-clause-did g t c =
+    let i = running_here g.P.Probe.bits g.P.Probe.leads g.met.P.Probe.stays g.met.P.Probe.joins c.args.frame.now c.args.trees.now c.args.seek c.loop-tree.tree-index c.tree-item.result c.loop-tree.sought
+    c.args.store.now c.loop-tree.store c.args.probe.now c.loop-tree.probe c.loop-tree-test.true c.tree-item.is c.loop-tree.invariant in
+    rw c.from_residual.ensures
+    (running_end g.P.Probe.bits g.P.Probe.leads g.met.P.Probe.stays g.met.P.Probe.joins c.args.frame.now c.args.trees.now c.args.seek (drop (c.loop-tree.tree-index + 1) c.args.trees.now) c.tree-item.result
+    c.loop-tree.sought c.args.store.now c.loop-tree.store c.item.new.store c.args.probe.now c.loop-tree.probe c.item.new.probe i c.in_err-next.ensures.did)
+
+pub statements-returns-in_err-next-clause-bits : goal.statements-returns-in_err-next-clause-bits
+statements-returns-in_err-next-clause-bits g t c = c.in_err-next.ensures.bits ∙ c.loop-tree.invariant.bits_same
+
+pub statements-returns-in_err-next-clause-limits : goal.statements-returns-in_err-next-clause-limits
+statements-returns-in_err-next-clause-limits g t c = c.in_err-next.ensures.limits ∙ c.loop-tree.invariant.limits_same
+
+pub statements-returns-in-End-clause-did : goal.statements-returns-in-End-clause-did
+statements-returns-in-End-clause-did g t c =
+    let i = running_here g.P.Probe.bits g.P.Probe.leads g.met.P.Probe.stays g.met.P.Probe.joins c.args.frame.now c.args.trees.now c.args.seek c.loop-tree.tree-index c.tree-item.result c.loop-tree.sought
+    c.args.store.now c.loop-tree.store c.args.probe.now c.loop-tree.probe c.loop-tree-test.true c.tree-item.is c.loop-tree.invariant in
+    let d = rw c.in-End.is at c.in_ok-next.ensures.did in
+    running_out g.P.Probe.bits g.P.Probe.leads g.met.P.Probe.stays g.met.P.Probe.joins c.args.frame.now c.args.trees.now c.args.seek (drop (c.loop-tree.tree-index + 1) c.args.trees.now) c.tree-item.result
+    c.loop-tree.sought c.args.store.now c.loop-tree.store c.item.new.store c.args.probe.now c.loop-tree.probe c.item.new.probe i (flow_of c.in-End.flow c.item.new.store) d
+
+pub statements-returns-in-End-clause-typed : goal.statements-returns-in-End-clause-typed
+statements-returns-in-End-clause-typed g t c = rw c.in-End.is at c.in_ok-next.ensures.typed
+
+pub statements-returns-in-End-clause-kept : goal.statements-returns-in-End-clause-kept
+statements-returns-in-End-clause-kept g t c = kept_then _ _ _ _ _ c.loop-tree.invariant.kept c.in_ok-next.ensures.kept
+
+pub statements-returns-in-End-clause-bits : goal.statements-returns-in-End-clause-bits
+statements-returns-in-End-clause-bits g t c = c.in_ok-next.ensures.bits ∙ c.loop-tree.invariant.bits_same
+
+pub statements-returns-in-End-clause-limits : goal.statements-returns-in-End-clause-limits
+statements-returns-in-End-clause-limits g t c = c.in_ok-next.ensures.limits ∙ c.loop-tree.invariant.limits_same
+
+pub statements-loop-tree-preserved : goal.statements-loop-tree-preserved
+statements-loop-tree-preserved g t c =
+    let i = running_here g.P.Probe.bits g.P.Probe.leads g.met.P.Probe.stays g.met.P.Probe.joins c.args.frame.now c.args.trees.now c.args.seek c.loop-tree.tree-index c.tree-item.result c.loop-tree.sought
+    c.args.store.now c.loop-tree.store c.args.probe.now c.loop-tree.probe c.loop-tree-test.true c.tree-item.is c.loop-tree.invariant in
+    let d = rw c.in-Item.is at c.in_ok-next.ensures.did in
+    running_step g.P.Probe.bits g.P.Probe.leads g.met.P.Probe.stays g.met.P.Probe.joins c.args.frame.now c.args.trees.now c.args.seek (drop (c.loop-tree.tree-index + 1) c.args.trees.now) c.tree-item.result
+    c.loop-tree.sought c.args.store.now c.loop-tree.store c.item.new.store c.args.probe.now c.loop-tree.probe c.item.new.probe i c.in-Item.following d
+    c.in_ok-next.ensures.kept c.in_ok-next.ensures.bits c.in_ok-next.ensures.limits
+
+pub statements-returns-clause-did : goal.statements-returns-clause-did
+statements-returns-clause-did g t c =
+    let i = running_last g.P.Probe.bits g.P.Probe.leads g.met.P.Probe.stays g.met.P.Probe.joins c.args.frame.now c.args.trees.now c.args.seek c.loop-tree.tree-index c.loop-tree.sought
+    c.args.store.now c.loop-tree.store c.args.probe.now c.loop-tree.probe c.loop-tree-test.false c.loop-tree.invariant in
+    running_done g.P.Probe.bits g.P.Probe.leads g.met.P.Probe.stays g.met.P.Probe.joins c.args.frame.now c.args.trees.now c.args.seek c.loop-tree.sought
+    c.args.store.now c.loop-tree.store c.args.probe.now c.loop-tree.probe i
+
+pub statements-returns-clause-kept : goal.statements-returns-clause-kept
+statements-returns-clause-kept g t c = c.loop-tree.invariant.kept
+
+pub statements-returns-clause-bits : goal.statements-returns-clause-bits
+statements-returns-clause-bits g t c = c.loop-tree.invariant.bits_same
+
+pub statements-returns-clause-limits : goal.statements-returns-clause-limits
+statements-returns-clause-limits g t c = c.loop-tree.invariant.limits_same
+
+-- ---- loops
+
+pub repeat-loop-turned-init : goal.repeat-loop-turned-init
+repeat-loop-turned-init g t c =
+    let W = activation_of c.args.frame.now in
+    turning_start g.P.Probe.bits g.P.Probe.leads g.met.P.Probe.stays g.met.P.Probe.joins c.args.frame.now
+    (does.test_of W (option_map (λ e. view.expression_of e.now) c.args.test)) (does.statement_of W (view.statement_of c.args.body.now)) (does.effects_of W (map view.effect_of c.args.step.now))
+    c.args.store.now c.args.probe.now c.requires.ready
+
+pub repeat-returns-in_err-turned-clause-did : goal.repeat-returns-in_err-turned-clause-did
+repeat-returns-in_err-turned-clause-did g t c =
+    let W = activation_of c.args.frame.now in
+    rw c.from_residual.ensures
+    (turning_end g.P.Probe.bits g.P.Probe.leads g.met.P.Probe.stays g.met.P.Probe.joins c.args.frame.now
+    (does.test_of W (option_map (λ e. view.expression_of e.now) c.args.test)) (does.statement_of W (view.statement_of c.args.body.now)) (does.effects_of W (map view.effect_of c.args.step.now))
+    c.args.store.now c.loop-turned.store c.turn.new.store c.args.probe.now c.loop-turned.probe c.turn.new.probe c.loop-turned.invariant c.in_err-turned.ensures.did)
+
+pub repeat-returns-in_err-turned-clause-bits : goal.repeat-returns-in_err-turned-clause-bits
+repeat-returns-in_err-turned-clause-bits g t c = c.in_err-turned.ensures.bits ∙ c.loop-turned.invariant.bits_same
+
+pub repeat-returns-in_err-turned-clause-limits : goal.repeat-returns-in_err-turned-clause-limits
+repeat-returns-in_err-turned-clause-limits g t c = c.in_err-turned.ensures.limits ∙ c.loop-turned.invariant.limits_same
+
+pub repeat-returns-in-Some-clause-did : goal.repeat-returns-in-Some-clause-did
+repeat-returns-in-Some-clause-did g t c =
+    let W = activation_of c.args.frame.now in
+    let d = rw c.in-Some.is at c.in_ok-turned.ensures.did in
+    turning_out g.P.Probe.bits g.P.Probe.leads g.met.P.Probe.stays g.met.P.Probe.joins c.args.frame.now
+    (does.test_of W (option_map (λ e. view.expression_of e.now) c.args.test)) (does.statement_of W (view.statement_of c.args.body.now)) (does.effects_of W (map view.effect_of c.args.step.now))
+    c.args.store.now c.loop-turned.store c.turn.new.store c.args.probe.now c.loop-turned.probe c.turn.new.probe (flow_of c.in-Some.flow c.turn.new.store) c.loop-turned.invariant d
+
+pub repeat-returns-in-Some-clause-typed : goal.repeat-returns-in-Some-clause-typed
+repeat-returns-in-Some-clause-typed g t c = rw c.in-Some.is at c.in_ok-turned.ensures.typed
+
+pub repeat-returns-in-Some-clause-kept : goal.repeat-returns-in-Some-clause-kept
+repeat-returns-in-Some-clause-kept g t c = kept_then _ _ _ _ _ c.loop-turned.invariant.kept c.in_ok-turned.ensures.kept
+
+pub repeat-returns-in-Some-clause-bits : goal.repeat-returns-in-Some-clause-bits
+repeat-returns-in-Some-clause-bits g t c = c.in_ok-turned.ensures.bits ∙ c.loop-turned.invariant.bits_same
+
+pub repeat-returns-in-Some-clause-limits : goal.repeat-returns-in-Some-clause-limits
+repeat-returns-in-Some-clause-limits g t c = c.in_ok-turned.ensures.limits ∙ c.loop-turned.invariant.limits_same
+
+pub repeat-loop-turned-preserved : goal.repeat-loop-turned-preserved
+repeat-loop-turned-preserved g t c =
+    let W = activation_of c.args.frame.now in
+    let d = rw c.in_default.is at c.in_ok-turned.ensures.did in
+    turning_step g.P.Probe.bits g.P.Probe.leads g.met.P.Probe.stays g.met.P.Probe.joins c.args.frame.now
+    (does.test_of W (option_map (λ e. view.expression_of e.now) c.args.test)) (does.statement_of W (view.statement_of c.args.body.now)) (does.effects_of W (map view.effect_of c.args.step.now))
+    c.args.store.now c.loop-turned.store c.turn.new.store c.args.probe.now c.loop-turned.probe c.turn.new.probe c.loop-turned.invariant d
+    c.in_ok-turned.ensures.kept c.in_ok-turned.ensures.less c.in_ok-turned.ensures.bits c.in_ok-turned.ensures.limits
+
+-- ---- a turn
+
+pub turn-returns-in_err-goes_on-clause-did : goal.turn-returns-in_err-goes_on-clause-did
+turn-returns-in_err-goes_on-clause-did g t c =
+    let M = g.P.Probe.leads in let N = g.met.P.Probe.stays in let J = g.met.P.Probe.joins in
+    let W = activation_of c.args.frame.now in
+    rw c.from_residual.ensures
+    (did_turn_end M N J (does.test_of W (option_map (λ e. view.expression_of e.now) c.args.test)) (does.statement_of W (view.statement_of c.args.body.now)) (does.effects_of W (map view.effect_of c.args.step.now))
+    (state_of c.args.store.now) c.turn_begins.new.store c.args.probe.now c.turn_begins.new.probe c.in_err-goes_on.ensures.did)
+
+pub turn-returns-then-not-goes_on-clause-did : goal.turn-returns-then-not-goes_on-clause-did
+turn-returns-then-not-goes_on-clause-did g t c =
+    let M = g.P.Probe.leads in let N = g.met.P.Probe.stays in let J = g.met.P.Probe.joins in
+    let W = activation_of c.args.frame.now in
+    did_turn_over M N J (does.test_of W (option_map (λ e. view.expression_of e.now) c.args.test)) (does.statement_of W (view.statement_of c.args.body.now)) (does.effects_of W (map view.effect_of c.args.step.now))
+    (state_of c.args.store.now) c.in_ok-goes_on.goes_on c.turn_begins.new.store c.args.probe.now c.turn_begins.new.probe c.in_ok-goes_on.ensures.did c.if-not-goes_on.true
+
+pub turn-returns-in_err-flow-clause-did : goal.turn-returns-in_err-flow-clause-did
+turn-returns-in_err-flow-clause-did g t c =
+    let M = g.P.Probe.leads in let N = g.met.P.Probe.stays in let J = g.met.P.Probe.joins in
+    let W = activation_of c.args.frame.now in
+    rw c.from_residual-in_err-flow.ensures
+    (did_turn_body_end M N J (does.test_of W (option_map (λ e. view.expression_of e.now) c.args.test)) (does.statement_of W (view.statement_of c.args.body.now)) (does.effects_of W (map view.effect_of c.args.step.now))
+    (state_of c.args.store.now) c.in_ok-goes_on.goes_on c.turn_begins.new.store c.statement.new.store c.args.probe.now c.turn_begins.new.probe c.statement.new.probe c.in_ok-goes_on.ensures.did c.if-not-goes_on.false
+    c.in_err-flow.ensures.did)
+
+pub turn-returns-in-Some-clause-did : goal.turn-returns-in-Some-clause-did
+turn-returns-in-Some-clause-did g t c =
+    let M = g.P.Probe.leads in let N = g.met.P.Probe.stays in let J = g.met.P.Probe.joins in
+    let W = activation_of c.args.frame.now in
+    did_turn_out M N J (does.test_of W (option_map (λ e. view.expression_of e.now) c.args.test)) (does.statement_of W (view.statement_of c.args.body.now)) (does.effects_of W (map view.effect_of c.args.step.now))
+    (state_of c.args.store.now) c.in_ok-goes_on.goes_on c.turn_begins.new.store c.statement.new.store c.args.probe.now c.turn_begins.new.probe c.statement.new.probe c.in_ok-goes_on.ensures.did c.if-not-goes_on.false
+    c.in_ok-flow.flow c.in_ok-flow.ensures.did c.in-Some.end (sym c.loop_end.ensures ∙ c.in-Some.is)
+
+pub turn-returns-in-Some-clause-typed : goal.turn-returns-in-Some-clause-typed
+turn-returns-in-Some-clause-typed g t c =
+    end_typed (scope_in c.args.frame.now) (activation_of c.args.frame.now) c.in_ok-flow.flow c.in-Some.end c.statement.new.store.given c.in_ok-flow.ensures.typed (sym c.loop_end.ensures ∙ c.in-Some.is)
+
+pub turn-returns-in-Some-clause-kept : goal.turn-returns-in-Some-clause-kept
+turn-returns-in-Some-clause-kept g t c = kept_then _ _ _ _ _ c.in_ok-goes_on.ensures.kept c.in_ok-flow.ensures.kept
+
+pub turn-returns-in-Some-clause-less : goal.turn-returns-in-Some-clause-less
+turn-returns-in-Some-clause-less g t c = omega (arith, c.in_ok-goes_on.ensures.less, c.in_ok-flow.ensures.kept.fuel)
+
+pub turn-effects-requires-clause-ready : goal.turn-effects-requires-clause-ready
+turn-effects-requires-clause-ready g t c =
+    ready_kept c.args.frame.now c.args.store.now c.statement.new.store _ _ c.requires.ready (kept_then _ _ _ _ _ c.in_ok-goes_on.ensures.kept c.in_ok-flow.ensures.kept) (c.in_ok-flow.ensures.bits ∙ c.in_ok-goes_on.ensures.bits)
+
+pub turn-returns-in_err-effects-clause-did : goal.turn-returns-in_err-effects-clause-did
+turn-returns-in_err-effects-clause-did g t c =
+    let M = g.P.Probe.leads in let N = g.met.P.Probe.stays in let J = g.met.P.Probe.joins in
+    let W = activation_of c.args.frame.now in
+    rw c.from_residual-in_err-effects.ensures
+    (did_turn_step_end M N J (does.test_of W (option_map (λ e. view.expression_of e.now) c.args.test)) (does.statement_of W (view.statement_of c.args.body.now)) (does.effects_of W (map view.effect_of c.args.step.now))
+    (state_of c.args.store.now) c.in_ok-goes_on.goes_on c.turn_begins.new.store c.statement.new.store c.args.probe.now c.turn_begins.new.probe c.statement.new.probe c.in_ok-goes_on.ensures.did c.if-not-goes_on.false
+    c.in_ok-flow.flow c.in_ok-flow.ensures.did c.effects.new.store c.effects.new.probe (sym c.loop_end.ensures ∙ c.in_default.is) c.in_err-effects.ensures.did)
+
+pub turn-returns-clause-did : goal.turn-returns-clause-did
+turn-returns-clause-did g t c =
+    let M = g.P.Probe.leads in let N = g.met.P.Probe.stays in let J = g.met.P.Probe.joins in
+    let W = activation_of c.args.frame.now in
+    did_turn_on M N J (does.test_of W (option_map (λ e. view.expression_of e.now) c.args.test)) (does.statement_of W (view.statement_of c.args.body.now)) (does.effects_of W (map view.effect_of c.args.step.now))
+    (state_of c.args.store.now) c.in_ok-goes_on.goes_on c.turn_begins.new.store c.statement.new.store c.args.probe.now c.turn_begins.new.probe c.statement.new.probe c.in_ok-goes_on.ensures.did c.if-not-goes_on.false
+    c.in_ok-flow.flow c.in_ok-flow.ensures.did c.effects.new.store c.effects.new.probe (sym c.loop_end.ensures ∙ c.in_default.is) c.in_ok-effects.ensures.did
+
+pub turn-returns-clause-kept : goal.turn-returns-clause-kept
+turn-returns-clause-kept g t c = kept_then _ _ _ _ _ (kept_then _ _ _ _ _ c.in_ok-goes_on.ensures.kept c.in_ok-flow.ensures.kept) c.in_ok-effects.ensures.kept
+
+pub turn-returns-clause-less : goal.turn-returns-clause-less
+turn-returns-clause-less g t c = omega (arith, c.in_ok-goes_on.ensures.less, c.in_ok-flow.ensures.kept.fuel, c.in_ok-effects.ensures.kept.fuel)
+
+-- ---- what a statement does after its unit
+
+pub act-returns-in_err-holds-in-If-clause-did : goal.act-returns-in_err-holds-in-If-clause-did
+act-returns-in_err-holds-in-If-clause-did g t c =
+    let M = g.P.Probe.leads in let N = g.met.P.Probe.stays in let J = g.met.P.Probe.joins in
+    let W = activation_of c.args.frame.now in
+    rw (c.from_residual.ensures, c.in-If.is, view_if)
+    (did_if_end M N J (value_of W (view.expression_of c.in-If.test)) (does.statement_of W (view.statement_of c.in-If.chosen.value)) (gives Completed) (state_of c.args.store.now)
+    _ _ _ c.in_err-holds-in-If.ensures.did)
+
+pub act-returns-then-holds-clause-did : goal.act-returns-then-holds-clause-did
+act-returns-then-holds-clause-did g t c =
+    let M = g.P.Probe.leads in let N = g.met.P.Probe.stays in let J = g.met.P.Probe.joins in
+    let W = activation_of c.args.frame.now in
+    let k = rw c.deref-then-holds.ensures at c.statement.ensures.did in
+    rw (c.in-If.is, view_if)
+    (did_if_then M N J (value_of W (view.expression_of c.in-If.test)) (does.statement_of W (view.statement_of c.in-If.chosen.value)) (gives Completed) (state_of c.args.store.now)
+    c.in_ok-holds-in-If.holds _ _ _ c.in_ok-holds-in-If.ensures.did _ _ _ c.if-holds.true k)
+
+pub act-returns-else-holds-clause-did : goal.act-returns-else-holds-clause-did
+act-returns-else-holds-clause-did g t c =
+    let M = g.P.Probe.leads in let N = g.met.P.Probe.stays in let J = g.met.P.Probe.joins in
+    let W = activation_of c.args.frame.now in
+    rw (c.in-If.is, view_if)
+    (did_if_else M N J (value_of W (view.expression_of c.in-If.test)) (does.statement_of W (view.statement_of c.in-If.chosen.value)) (gives Completed) (state_of c.args.store.now)
+    c.in_ok-holds-in-If.holds _ _ _ c.in_ok-holds-in-If.ensures.did (Some Completed) c.truth.new.store c.truth.new.probe c.if-holds.false (did_gives M N J Completed c.truth.new.store c.truth.new.probe))
+
+pub act-returns-then-holds-clause-kept : goal.act-returns-then-holds-clause-kept
+act-returns-then-holds-clause-kept g t c = if_kept _ _ _ _ _ c.statement.result c.in_ok-holds-in-If.ensures.kept c.statement.ensures.kept
+
+pub act-returns-in_err-is_true-in-IfElse-clause-did : goal.act-returns-in_err-is_true-in-IfElse-clause-did
+act-returns-in_err-is_true-in-IfElse-clause-did g t c =
+    let M = g.P.Probe.leads in let N = g.met.P.Probe.stays in let J = g.met.P.Probe.joins in
+    let W = activation_of c.args.frame.now in
+    rw (c.from_residual-in_err-is_true-in-IfElse.ensures, c.in-IfElse.is, view_if_else)
+    (did_if_end M N J (value_of W (view.expression_of c.in-IfElse.test)) (does.statement_of W (view.statement_of c.in-IfElse.chosen.value)) (does.statement_of W (view.statement_of c.in-IfElse.other.value)) (state_of c.args.store.now)
+    _ _ _ c.in_err-is_true-in-IfElse.ensures.did)
+
+pub act-returns-then-is_true-clause-did : goal.act-returns-then-is_true-clause-did
+act-returns-then-is_true-clause-did g t c =
+    let M = g.P.Probe.leads in let N = g.met.P.Probe.stays in let J = g.met.P.Probe.joins in
+    let W = activation_of c.args.frame.now in
+    let k = rw c.deref-then-is_true.ensures at c.statement-then-is_true.ensures.did in
+    rw (c.in-IfElse.is, view_if_else)
+    (did_if_then M N J (value_of W (view.expression_of c.in-IfElse.test)) (does.statement_of W (view.statement_of c.in-IfElse.chosen.value)) (does.statement_of W (view.statement_of c.in-IfElse.other.value)) (state_of c.args.store.now)
+    c.in_ok-is_true-in-IfElse.is_true _ _ _ c.in_ok-is_true-in-IfElse.ensures.did _ _ _ c.if-is_true.true k)
+
+pub act-returns-else-is_true-clause-did : goal.act-returns-else-is_true-clause-did
+act-returns-else-is_true-clause-did g t c =
+    let M = g.P.Probe.leads in let N = g.met.P.Probe.stays in let J = g.met.P.Probe.joins in
+    let W = activation_of c.args.frame.now in
+    let k = rw c.deref-else-is_true.ensures at c.statement-else-is_true.ensures.did in
+    rw (c.in-IfElse.is, view_if_else)
+    (did_if_else M N J (value_of W (view.expression_of c.in-IfElse.test)) (does.statement_of W (view.statement_of c.in-IfElse.chosen.value)) (does.statement_of W (view.statement_of c.in-IfElse.other.value)) (state_of c.args.store.now)
+    c.in_ok-is_true-in-IfElse.is_true _ _ _ c.in_ok-is_true-in-IfElse.ensures.did _ _ _ c.if-is_true.false k)
+
+pub act-returns-then-is_true-clause-kept : goal.act-returns-then-is_true-clause-kept
+act-returns-then-is_true-clause-kept g t c = if_kept _ _ _ _ _ c.statement-then-is_true.result c.in_ok-is_true-in-IfElse.ensures.kept c.statement-then-is_true.ensures.kept
+
+pub act-returns-else-is_true-clause-kept : goal.act-returns-else-is_true-clause-kept
+act-returns-else-is_true-clause-kept g t c = if_kept _ _ _ _ _ c.statement-else-is_true.result c.in_ok-is_true-in-IfElse.ensures.kept c.statement-else-is_true.ensures.kept
+
+pub act-returns-in_err-word-in-Switch-clause-did : goal.act-returns-in_err-word-in-Switch-clause-did
+act-returns-in_err-word-in-Switch-clause-did g t c =
+    let M = g.P.Probe.leads in let N = g.met.P.Probe.stays in let J = g.met.P.Probe.joins in
+    let W = activation_of c.args.frame.now in
+    let items = view.statements_from (map view.statement_of c.in-Switch.items.items) in
+    rw (c.from_residual-in_err-word-in-Switch.ensures, c.in-Switch.is, view_switch)
+    (did_switch_stop M N J (value_of W (view.expression_of c.in-Switch.controlling)) (labels_in items) (does.statements_of W items) (mark_does W c.in-Switch.absent) (state_of c.args.store.now)
+    _ _ _ c.in_err-word-in-Switch.ensures.did)
+
+pub act-returns-in_err-flow-in-Switch-clause-did : goal.act-returns-in_err-flow-in-Switch-clause-did
+act-returns-in_err-flow-in-Switch-clause-did g t c =
+    let M = g.P.Probe.leads in let N = g.met.P.Probe.stays in let J = g.met.P.Probe.joins in
+    let W = activation_of c.args.frame.now in
+    let items = view.statements_from (map view.statement_of c.in-Switch.items.items) in
+    let of = rw c.integer_type.ensures at c.sought-seek.ensures in
+    let looked = rw c.deref-in-Switch.ensures.value at of in
+    let k = rw c.deref-in-Switch-2.ensures.value at c.in_err-flow-in-Switch.ensures.did in
+    rw (c.from_residual-in_err-flow-in-Switch.ensures, c.in-Switch.is, view_switch)
+    (did_switch_end M N J (value_of W (view.expression_of c.in-Switch.controlling)) (labels_in items) (does.statements_of W items) (mark_does W c.in-Switch.absent) (state_of c.args.store.now)
+    (number_of (type_of (plain.expression_of c.in-Switch.controlling)) c.in_ok-word-in-Switch.word) (seek_of c.sought-seek.result) _ _ _ _ _ c.in_ok-word-in-Switch.ensures.did looked k)
+
+pub act-switch_ends-requires-clause-fits : goal.act-switch_ends-requires-clause-fits
+act-switch_ends-requires-clause-fits g t c =
+    let f = rw (c.in-Switch.is, view_switch) at c.requires.fits in
+    absent_fits c.args.frame.now.function.now.registers _ c.in-Switch.absent f.2
+
+pub act-switch_ends-requires-clause-ready : goal.act-switch_ends-requires-clause-ready
+act-switch_ends-requires-clause-ready g t c =
+    ready_kept c.args.frame.now c.args.store.now c.statements-in-Switch.new.store _ _ c.requires.ready (kept_then _ _ _ _ _ c.in_ok-word-in-Switch.ensures.kept c.in_ok-flow-in-Switch.ensures.kept)
+    (c.in_ok-flow-in-Switch.ensures.bits ∙ c.in_ok-word-in-Switch.ensures.bits)
+
+pub act-returns-in_ok-flow-in-Switch-clause-did : goal.act-returns-in_ok-flow-in-Switch-clause-did
+act-returns-in_ok-flow-in-Switch-clause-did g t c =
+    let M = g.P.Probe.leads in let N = g.met.P.Probe.stays in let J = g.met.P.Probe.joins in
+    let W = activation_of c.args.frame.now in
+    let items = view.statements_from (map view.statement_of c.in-Switch.items.items) in
+    let of = rw c.integer_type.ensures at c.sought-seek.ensures in
+    let looked = rw c.deref-in-Switch.ensures.value at of in
+    let k = rw c.deref-in-Switch-2.ensures.value at c.in_ok-flow-in-Switch.ensures.did in
+    rw (c.in-Switch.is, view_switch)
+    (did_switch M N J (value_of W (view.expression_of c.in-Switch.controlling)) (labels_in items) (does.statements_of W items) (mark_does W c.in-Switch.absent) (state_of c.args.store.now)
+    (number_of (type_of (plain.expression_of c.in-Switch.controlling)) c.in_ok-word-in-Switch.word) (seek_of c.sought-seek.result) (flow_of c.in_ok-flow-in-Switch.flow c.statements-in-Switch.new.store) _ _ _ _ _ _ _ _
+    c.in_ok-word-in-Switch.ensures.did looked k c.switch_ends.ensures.did)
+
+pub act-returns-in_ok-flow-in-Switch-clause-typed : goal.act-returns-in_ok-flow-in-Switch-clause-typed
+act-returns-in_ok-flow-in-Switch-clause-typed g t c = c.switch_ends.ensures.typed _ _ c.in_ok-flow-in-Switch.ensures.typed
+
+pub act-returns-in_ok-flow-in-Switch-clause-kept : goal.act-returns-in_ok-flow-in-Switch-clause-kept
+act-returns-in_ok-flow-in-Switch-clause-kept g t c =
+    kept_then _ _ _ _ _ (kept_then _ _ _ _ _ c.in_ok-word-in-Switch.ensures.kept c.in_ok-flow-in-Switch.ensures.kept) c.switch_ends.ensures.kept
+
+pub act-returns-in_ok-for_start-in-For-clause-did : goal.act-returns-in_ok-for_start-in-For-clause-did
+act-returns-in_ok-for_start-in-For-clause-did g t c =
+    let M = g.P.Probe.leads in let N = g.met.P.Probe.stays in let J = g.met.P.Probe.joins in
+    let W = activation_of c.args.frame.now in
+    let a = rw c.lent_test.ensures.run at c.repeat.ensures.did in
+    let b = rw (c.deref-in-For.ensures, c.deref-in-For-2.ensures.value) at a in
+    rw (c.in-For.is, view_for)
+    (did_then M N J (does.start_of W (view.start_of c.in-For.start) (state_of c.args.store.now)) _ tt _ _ _ _ _ _ c.in_ok-for_start-in-For.ensures.did b)
+
+pub act-returns-in_ok-for_start-in-For-clause-kept : goal.act-returns-in_ok-for_start-in-For-clause-kept
+act-returns-in_ok-for_start-in-For-clause-kept g t c = if_kept _ _ _ _ _ c.repeat.result c.in_ok-for_start-in-For.ensures.kept c.repeat.ensures.kept
+
+pub act-returns-in-Some-clause-did : goal.act-returns-in-Some-clause-did
+act-returns-in-Some-clause-did g t c =
+    let M = g.P.Probe.leads in let N = g.met.P.Probe.stays in let J = g.met.P.Probe.joins in
+    let W = activation_of c.args.frame.now in
+    let k = rw c.deref-in-DoWhile.ensures at c.in_ok-ended-in-DoWhile.ensures.did in
+    rw (c.in-DoWhile.is, view_do)
+    (did_do_out M N J (does.statement_of W (view.statement_of c.in-DoWhile.body.value)) (test_does (value_of W (view.expression_of c.in-DoWhile.test))) (state_of c.args.store.now)
+    c.in_ok-ended-in-DoWhile.ended _ _ _ k c.in-Some.end (sym c.loop_end.ensures ∙ c.in-Some.is))
+
+pub act-returns-in-Some-clause-typed : goal.act-returns-in-Some-clause-typed
+act-returns-in-Some-clause-typed g t c =
+    end_typed _ _ c.in_ok-ended-in-DoWhile.ended c.in-Some.end _ c.in_ok-ended-in-DoWhile.ensures.typed (sym c.loop_end.ensures ∙ c.in-Some.is)
+
+pub act-returns-in-None-clause-did : goal.act-returns-in-None-clause-did
+act-returns-in-None-clause-did g t c =
+    let M = g.P.Probe.leads in let N = g.met.P.Probe.stays in let J = g.met.P.Probe.joins in
+    let W = activation_of c.args.frame.now in
+    let k = rw c.deref-in-DoWhile.ensures at c.in_ok-ended-in-DoWhile.ensures.did in
+    let a = rw c.deref-in-None.ensures at c.repeat-in-None.ensures.did in
+    rw (c.in-DoWhile.is, view_do)
+    (did_do M N J (does.statement_of W (view.statement_of c.in-DoWhile.body.value)) (test_does (value_of W (view.expression_of c.in-DoWhile.test))) (state_of c.args.store.now)
+    c.in_ok-ended-in-DoWhile.ended _ _ _ k _ _ _ (sym c.loop_end.ensures ∙ c.in-None.is) a)
+
+pub act-returns-in-None-clause-kept : goal.act-returns-in-None-clause-kept
+act-returns-in-None-clause-kept g t c = if_kept _ _ _ _ _ c.repeat-in-None.result c.in_ok-ended-in-DoWhile.ensures.kept c.repeat-in-None.ensures.kept

@@ -1,0 +1,19 @@
+use Rattle.std.proofs.Common.{drop, map, option_map}
+use Rattle.mc_probe.specs.Statements.{effects_of, statement_of, test_of}
+use Rattle.mc_probe.specs.Views as view
+use Rattle.mc_interp.specs.Frames.{activation_of}
+use Rattle.mc_interp.proofs.Runnings.{AreRunning, IsTurning}
+use Rattle.mc_interp.proofs.statements.+statements.Given as goal
+
+abbrev pub invariant-repeat-loop-turned : goal.invariant-repeat-loop-turned
+invariant-repeat-loop-turned g l =
+    IsTurning g.P.Probe.bits g.P.Probe.leads l.frame (test_of (activation_of l.frame) (option_map (λ e. view.expression_of e.now) l.test))
+    (statement_of (activation_of l.frame) (view.statement_of l.body)) (effects_of (activation_of l.frame) (map view.effect_of l.step))
+    l.fn.store l.store l.fn.probe l.probe
+
+abbrev pub decreases-repeat-loop-turned : goal.decreases-repeat-loop-turned
+decreases-repeat-loop-turned g l = l.store.fuel
+
+abbrev pub invariant-statements-loop-tree : goal.invariant-statements-loop-tree
+invariant-statements-loop-tree g l =
+    AreRunning g.P.Probe.bits g.P.Probe.leads l.frame l.trees (drop l.tree-index l.trees) l.fn.seek l.sought l.fn.store l.store l.fn.probe l.probe

@@ -1,0 +1,266 @@
+-- Statements as they are run.
+use Rattle.std.specs.Prelude.{◌≡◌, ℕ, ℤ, Bool, true, false, not, List, map, Option, Some, None}
+use Rattle.mc_typed.specs.Layout.{cells}
+use Rattle.mc_typed.specs.Tree as t
+use Rattle.mc_typed.specs.Sound.{Scope, AreDeclarators, IsExpression, IsReturn, IsTest, labels_of}
+use Rattle.mc_steps.specs.Runs.{after, gives, spends}
+use Rattle.mc_steps.specs.Expressions.{where_true}
+use Rattle.mc_steps.specs.Statements.{Flow, Completed, Broke, Continued, Left, Seek, Running, For, at_label, do_does, effect_does, if_does, is_running, loop_does, same_label, switch_does}
+use Rattle.mc_steps.specs.Statements as steps
+use Rattle.mc_steps.specs.Calls.{leaves, where_left}
+use Rattle.mc_steps.specs.Points.{initializes}
+use Rattle.mc_words.specs.Words.{number_of, Holds}
+use Rattle.mc_probe.specs.Calls.{left}
+use Rattle.mc_probe.specs.Erase.{erase_declarator, erase_statements}
+use Rattle.mc_probe.specs.Expressions.{value_of}
+use Rattle.mc_probe.specs.Flat.{Activation, Does, Runs, flat, hits_some}
+use Rattle.mc_probe.specs.Probes.{mark_does}
+use Rattle.mc_probe.specs.Statements.{declarators_of, effect_of, effects_of, exit_does, return_of, start_of, statement_of, statements_of, test_of}
+use Rattle.mc_probe.specs.Tree as p
+use Rattle.mc_interp.specs.declared.flow.Flow as code_flow
+use Rattle.mc_interp.specs.declared.flow.Flow.TheVariants as ends
+use Rattle.mc_interp.specs.declared.flow.Seek as code_seek
+use Rattle.mc_interp.specs.declared.flow.Seek.TheVariants as seeks
+use Rattle.mc_interp.specs.declared.flow.Next as code_next
+use Rattle.mc_interp.specs.declared.flow.Next.TheVariants as nexts
+use Rattle.mc_interp.specs.declared.flow.Label.{Label}
+use Rattle.mc_interp.specs.declared.store.Store.{Store}
+use Rattle.mc_interp.specs.declared.values.Given.{Given}
+use Rattle.mc_interp.specs.declared.values.Given.TheVariants as given
+use Rattle.mc_interp.specs.Effects.{AreAnyEffects, IsAnyEffect}
+use Rattle.mc_interp.specs.Stores.{given_of}
+use Rattle.mc_interp.specs.Typed.{IsPlaced}
+
+-- ---- how they end
+
+abbrev pub flow_of : code_flow.Flow → Store → Flow ℕ
+flow_of ends.Completed m = Completed
+flow_of ends.Broke m = Broke
+flow_of ends.Continued m = Continued
+flow_of ends.Left m = Left (given_of m.given)
+
+abbrev pub seek_of : code_seek.Seek → Seek
+seek_of seeks.Running = Running
+seek_of (seeks.Case of word) = For (Some (number_of of word))
+seek_of seeks.Default = For None
+
+-- what follows an item of a body: the next one, or the end of the body
+pub data Next : Type 0 where
+  Item : Seek → Next
+  End : Flow ℕ → Next
+
+abbrev pub next_of : code_next.Next → Store → Next
+next_of (nexts.Item k) m = Item (seek_of k)
+next_of (nexts.End f) m = End (flow_of f m)
+
+abbrev pub next_after : Flow ℕ → Next
+next_after Completed = Item Running
+next_after Broke = End Broke
+next_after Continued = End Continued
+next_after (Left v) = End (Left v)
+
+abbrev pub code_next_after : code_flow.Flow → code_next.Next
+code_next_after ends.Completed = nexts.Item seeks.Running
+code_next_after ends.Broke = nexts.End ends.Broke
+code_next_after ends.Continued = nexts.End ends.Continued
+code_next_after ends.Left = nexts.End ends.Left
+
+-- whether a `switch` ends with an end of this kind of its items, and whether a body ended with a
+-- `return`
+abbrev pub ends_switch : code_flow.Flow → Bool
+ends_switch ends.Completed = true
+ends_switch ends.Broke = true
+ends_switch ends.Continued = false
+ends_switch ends.Left = false
+
+abbrev pub has_left : code_flow.Flow → Bool
+has_left ends.Completed = false
+has_left ends.Broke = false
+has_left ends.Continued = false
+has_left ends.Left = true
+
+-- what a `return` gave is of the function's result type
+abbrev pub IsGivenFor : Scope → Activation → t.ResultType → Given → Type 0
+IsGivenFor c w r given.Nothing = Unit {0}
+IsGivenFor c w (t.NumberResult a) (given.Number of word) = (of ≡ a) × Holds a word
+IsGivenFor c w (t.StructureResult u) (given.Structure at n) =
+    (n ≡ cells u) × IsPlaced c w at (Some u)
+IsGivenFor c w _ _ = ⊥
+
+abbrev pub IsReturned : Scope → Activation → code_flow.Flow → Given → Type 0
+IsReturned c w ends.Completed v = Unit {0}
+IsReturned c w ends.Broke v = Unit {0}
+IsReturned c w ends.Continued v = Unit {0}
+IsReturned c w ends.Left v = IsGivenFor c w c.result v
+
+abbrev pub IsNext : Scope → Activation → code_next.Next → Given → Type 0
+IsNext c w (nexts.Item k) v = Unit {0}
+IsNext c w (nexts.End f) v = IsReturned c w f v
+
+abbrev pub IsEnd : Scope → Activation → Option code_flow.Flow → Given → Type 0
+IsEnd c w None v = Unit {0}
+IsEnd c w (Some f) v = IsReturned c w f v
+
+-- ---- soundness, whatever stands around
+
+abbrev pub IsAnyStart : t.ForStart → Scope → Type 0
+IsAnyStart (t.StartEffects effects) c = AreAnyEffects effects c
+IsAnyStart (t.StartDeclaration declarators) c = AreDeclarators declarators c
+
+abbrev mutual
+  pub IsAnyStatement : t.Statement → Scope → Type 0
+  IsAnyStatement (t.Compound items span) c = AreAnyStatements items c
+  IsAnyStatement (t.Label v span) c = Unit {0}
+  IsAnyStatement (t.Declaration declarators span) c = AreDeclarators declarators c
+  IsAnyStatement (t.Null span) c = Unit {0}
+  IsAnyStatement (t.EffectStatement effect span) c = IsAnyEffect effect c
+  IsAnyStatement (t.If e s keyword span) c = IsExpression e c × IsAnyStatement s c
+  IsAnyStatement (t.IfElse e s u keyword span) c =
+      IsExpression e c × IsAnyStatement s c × IsAnyStatement u c
+  IsAnyStatement (t.Switch e items keyword span) c = IsExpression e c × AreAnyStatements items c
+  IsAnyStatement (t.For start test step s keyword span) c =
+      IsAnyStart start c × IsTest test c × AreAnyEffects step c × IsAnyStatement s c
+  IsAnyStatement (t.DoWhile s e keyword span) c = IsAnyStatement s c × IsExpression e c
+  IsAnyStatement (t.Break span) c = Unit {0}
+  IsAnyStatement (t.Continue span) c = Unit {0}
+  IsAnyStatement (t.Return value span) c = IsReturn value c.result c
+
+  pub AreAnyStatements : t.Statements → Scope → Type 0
+  AreAnyStatements t.no_statements c = Unit {0}
+  AreAnyStatements (t.statements s rest) c = IsAnyStatement s c × AreAnyStatements rest c
+
+-- ---- labels
+
+abbrev pub label_of : p.Statement → Option Label
+label_of (p.Compound items span) = None
+label_of (p.Label v span mark) = Some (record { value = v; mark = mark })
+label_of (p.Declaration declarators span bit) = None
+label_of (p.Null span bit) = None
+label_of (p.EffectStatement effect span bit) = None
+label_of (p.If e u keyword span bit) = None
+label_of (p.IfElse e u v keyword span bit) = None
+label_of (p.Switch e items keyword span bit absent) = None
+label_of (p.For start test step u keyword span bit) = None
+label_of (p.DoWhile u e keyword span bit) = None
+label_of (p.Break span bit) = None
+label_of (p.Continue span bit) = None
+label_of (p.Return value span bit exit) = None
+
+abbrev pub labels_in : p.Statements → List (Option ℤ)
+labels_in items = labels_of (erase_statements items)
+
+abbrev pub is_case : Option ℤ → Option Label → Bool
+is_case l None = false
+is_case l (Some label) = same_label l label.value
+
+-- ---- what they do
+
+module _ (w : Activation) where
+  -- a label of a body, and what comes of the search there
+  abbrev pub label_runs : Label → Seek → Does Seek
+  label_runs label k s =
+      where_true (is_running (at_label label.value k))
+      (λ s. after (mark_does w label.mark (not (is_running k)) s) (λ _ s.
+      gives (at_label label.value k) s))
+      (gives (at_label label.value k)) s
+
+  abbrev pub where_label : Option Label → p.Statement → Seek → Does Next
+  where_label (Some label) u k s = after (label_runs label k s) (λ l s. gives (Item l) s)
+  where_label None u Running s =
+      after (statement_of w u s) (λ flow s. gives (next_after flow) s)
+  where_label None u (For l) s = gives (Item (For l)) s
+
+  -- an item of a body
+  abbrev pub item_of : p.Statement → Seek → Does Next
+  item_of u k s = where_label (label_of u) u k s
+
+  -- the unit and the bit of a statement, where it is counted
+  abbrev pub counts_of : Option (Option ℕ) → Does (Unit {0})
+  counts_of None s = gives tt s
+  counts_of (Some bit) s = spends (hits_some w bit) s
+
+  -- what a statement does after them
+  abbrev pub act_of : p.Statement → Runs
+  act_of (p.Compound items span) s = statements_of w items Running s
+  act_of (p.Label v span mark) s = gives Completed s
+  act_of (p.Declaration declarators span bit) s = effect_does (declarators_of w declarators) s
+  act_of (p.Null span bit) s = gives Completed s
+  act_of (p.EffectStatement effect span bit) s = effect_does (effect_of w effect) s
+  act_of (p.If e u keyword span bit) s =
+      if_does (value_of w e) (statement_of w u) (gives Completed) s
+  act_of (p.IfElse e u v keyword span bit) s =
+      if_does (value_of w e) (statement_of w u) (statement_of w v) s
+  act_of (p.Switch e items keyword span bit absent) s =
+      switch_does (value_of w e) (labels_in items) (statements_of w items) (mark_does w absent) s
+  act_of (p.For start test step u keyword span bit) s =
+      after (start_of w start s) (λ _ s.
+      loop_does (test_of w test) (statement_of w u) (effects_of w step) s)
+  act_of (p.DoWhile u e keyword span bit) s =
+      do_does (statement_of w u) (steps.test_does (value_of w e)) s
+  act_of (p.Break span bit) s = gives Broke s
+  act_of (p.Continue span bit) s = gives Continued s
+  act_of (p.Return value span bit exit) s = exit_does w exit (return_of w value) s
+
+abbrev pub where_initializes : Bool → Option ℕ → Option (Option ℕ)
+where_initializes true bit = Some bit
+where_initializes false bit = None
+
+-- the bit of a counted statement, where it has one
+abbrev pub count_of : p.Statement → Option (Option ℕ)
+count_of (p.Compound items span) = None
+count_of (p.Label v span mark) = None
+count_of (p.Declaration declarators span bit) =
+    where_initializes (initializes (map erase_declarator declarators)) bit
+count_of (p.Null span bit) = Some bit
+count_of (p.EffectStatement effect span bit) = Some bit
+count_of (p.If e u keyword span bit) = Some bit
+count_of (p.IfElse e u v keyword span bit) = Some bit
+count_of (p.Switch e items keyword span bit absent) = Some bit
+count_of (p.For start test step u keyword span bit) = Some bit
+count_of (p.DoWhile u e keyword span bit) = Some bit
+count_of (p.Break span bit) = Some bit
+count_of (p.Continue span bit) = Some bit
+count_of (p.Return value span bit exit) = Some bit
+
+-- ---- loops
+
+-- a turn of a loop: nothing where another one follows, else how the loop ends
+abbrev pub where_turned : Flow ℕ → Does (Unit {0}) → Does (Option (Flow ℕ))
+where_turned Completed step s = after (step s) (λ _ s. gives None s)
+where_turned Broke step s = gives (Some Completed) s
+where_turned Continued step s = after (step s) (λ _ s. gives None s)
+where_turned (Left v) step s = gives (Some (Left v)) s
+
+abbrev pub turned : Bool → Runs → Does (Unit {0}) → Does (Option (Flow ℕ))
+turned true body step s = after (body s) (λ flow s. where_turned flow step s)
+turned false body step s = gives (Some Completed) s
+
+abbrev pub turn_of : Does Bool → Runs → Does (Unit {0}) → Does (Option (Flow ℕ))
+turn_of test body step s = after (spends test s) (λ goes_on s. turned goes_on body step s)
+
+abbrev pub end_of : Option code_flow.Flow → Store → Option (Flow ℕ)
+end_of None m = None
+end_of (Some f) m = Some (flow_of f m)
+
+-- how a loop ends after its body ended so, if it does
+abbrev pub loop_end : code_flow.Flow → Option code_flow.Flow
+loop_end ends.Completed = None
+loop_end ends.Broke = Some ends.Completed
+loop_end ends.Continued = None
+loop_end ends.Left = Some ends.Left
+
+abbrev pub where_ended : Option (Flow ℕ) → Does (Unit {0}) → Does (Option (Flow ℕ))
+where_ended None step s = after (step s) (λ _ s. gives None s)
+where_ended (Some f) step s = gives (Some f) s
+
+abbrev pub where_again : Option (Flow ℕ) → Runs → Runs
+where_again None again s = again s
+where_again (Some f) again s = gives f s
+
+-- ---- whole bodies
+
+-- the body of a function in its activation, after its objects are there
+abbrev pub body_of : Activation → p.Function → Option ℕ → Does (steps.Given ℕ)
+body_of w f into s =
+    after (hits_some w f.entry s) (λ _ s. after (statements_of w f.body Running s) (λ flow s.
+    after (where_left flow (hits_some w f.exit) s) (leaves flat into (left w.base w.first))))

@@ -1,0 +1,145 @@
+//! Calls of functions (C17 6.5.2.2, 6.9.1). None takes memory.
+ghost use Rattle.std.specs.Prelude.{◌≡◌, ◌<◌, ◌≤◌, length, map, slice_get, Some, None, option_map, IfNone, IfSome};
+ghost use Rattle.mc_typed.specs.Sound.{result_at, Scope};
+ghost use Rattle.mc_steps.specs.Calls.{where_left};
+ghost use Rattle.mc_steps.specs.Calls as steps;
+ghost use Rattle.mc_probe.specs.Calls.{calls};
+ghost use Rattle.mc_probe.specs.Trees.{tree_of};
+ghost use Rattle.mc_probe.specs.Flat.{Activation, hits_some};
+ghost use Rattle.mc_probe.specs.Views as view;
+ghost use Rattle.mc_probe.specs.WellFormed.{FitStatements};
+ghost use Rattle.mc_interp.specs.Bodies.{body_of, flow_of, IsGivenFor, IsReturned};
+ghost use Rattle.mc_interp.specs.Calls.{callee_of, CallDid, CallKeeps, Invokes, IsCalled, IsResultOf};
+ghost use Rattle.mc_interp.specs.Entries.{HasLeft, IntoRoom, IsOpened};
+ghost use Rattle.mc_interp.specs.Frames.{activation_of, scope_in, IsKept, IsReady};
+ghost use Rattle.mc_interp.specs.Stores.{given_of, lent_of, limits_of, passed_of, state_of, told, Did};
+
+use crate::entries::{lend, levels_with, pass};
+use crate::flow::{Flow, Seek, has_left};
+use crate::frame::{Called, Frame};
+use crate::parts::hit_some;
+use crate::statements::statements;
+use crate::store::Store;
+use crate::values::{Given, Lent, Shape};
+use arrayvec::ArrayVec;
+use mc_hits::Probe;
+
+/// A body that completes gives nothing, and its closing brace is an exit.
+fn close<P: Probe>(flow: Flow, frame: &Frame<'_, '_>, store: &mut Store, probe: &mut P)
+    requires bits { frame.now.program.now.bits ≤ P.bits probe.old }
+    ensures did { Did P.leads (where_left (flow_of flow store.old)
+        (hits_some (activation_of frame.now) frame.now.function.now.exit) (state_of store.old))
+        (Some (given_of store.new.given)) store.new probe.old probe.new }
+    ensures typed { (c : Scope) (w : Activation) → IsReturned c w flow store.old.given →
+        IsGivenFor c w c.result store.new.given }
+    ensures kept { (c : Scope) (w : Activation) → IsKept c w store.old store.new }
+    ensures bits { P.bits probe.new ≡ P.bits probe.old }
+    ensures limits { limits_of store.new ≡ limits_of store.old }
+{
+    if !has_left(flow) {
+        hit_some(frame.function.exit, frame, store, probe);
+        store.keep(Given::Nothing);
+    }
+}
+
+/// The body of a function in its activation, whose objects are there, up to the end of the call.
+fn body<P: Probe, F: Fn(Called<'_, '_>, &mut Store, &mut P) -> Option<()> + Copy>(
+    frame: &Frame<'_, '_>,
+    into: Option<u32>,
+    invoke: F,
+    store: &mut Store,
+    probe: &mut P,
+) -> Option<()>
+    requires fits { FitStatements frame.now.function.now.registers
+        (view.function_of frame.now.function.now).body }
+    requires into { IntoRoom (length store.old.cells.cells) into (scope_in frame.now).result }
+    requires base { frame.now.base ≤ length store.old.cells.cells }
+    requires ready { IsReady frame.now store.old (P.bits probe.old) }
+    requires invokes { Invokes frame.now P.bits P.leads (F.pre invoke) (F.post invoke) }
+    ensures did { Did P.leads (body_of (activation_of frame.now)
+        (view.function_of frame.now.function.now) into (state_of store.old))
+        (option_map (λ _. given_of store.new.given) result) store.new probe.old probe.new }
+    ensures given { IfSome result (λ _. IsResultOf into (scope_in frame.now).result
+        store.new.given) }
+    ensures left { IfSome result (λ _. HasLeft frame.now into store.old store.new) }
+    ensures bits { P.bits probe.new ≡ P.bits probe.old }
+    ensures limits { limits_of store.new ≡ limits_of store.old }
+{
+    hit_some(frame.function.entry, frame, store, probe);
+    let flow = statements(
+        &frame.function.body,
+        Seek::Running,
+        frame,
+        invoke,
+        store,
+        probe,
+    )?;
+    close(flow, frame, store, probe);
+    store.finish(into, frame.base, frame.first);
+    Some(())
+}
+
+/// What an activation of a function takes.
+fn shape_at(shapes: &[Shape], function: u32) -> Shape
+    requires { function < length shapes.now }
+    ensures { slice_get shapes.now function ≡ Some result }
+{
+    shapes[function as usize]
+}
+
+/// A call begins: the activation is there, and the parameters have their values, or the run stops.
+fn begin<'f, 'a>(
+    called: Called<'f, 'a>,
+    arrays: &'f [Lent],
+    store: &mut Store,
+) -> Option<Frame<'f, 'a>>
+    requires ready { IsCalled called store.old called.program.now.bits }
+    requires some { 1 ≤ called.depth }
+    requires arrays { map lent_of arrays.now ≡ steps.lent_of (map passed_of called.passed.now) }
+    ensures opened { IfSome result (λ frame. IsOpened called.entry frame store.old store.new) }
+    ensures stopped { IfNone result (calls (tree_of called.entry.program.now) called.entry.depth
+        called.entry.levels called.entry.function called.entry.into
+        (map passed_of called.entry.passed.now) (state_of store.old) ≡ told None store.new) }
+    ensures limits { limits_of store.new ≡ limits_of store.old }
+{
+    let function = called.program.program().function(called.function);
+    let shape = shape_at(called.shapes, called.function);
+    let levels = levels_with(called.levels, shape.levels);
+    let base = store.enter(levels, shape.cells)?;
+    let first = store.registers.len();
+    store.enter_registers(function.registers);
+    pass(called.passed, &function.objects, base, store);
+    Some(Frame {
+        program: called.program,
+        shapes: called.shapes,
+        function,
+        arrays,
+        base,
+        first,
+        depth: called.depth - 1,
+        levels,
+    })
+}
+
+/// A call of a function of the program. What it gives is kept in the store.
+pub(crate) fn invoke<P: Probe>(
+    called: Called<'_, '_>,
+    store: &mut Store,
+    probe: &mut P,
+) -> Option<()>
+    requires ready { IsCalled called store.old (P.bits probe.old) }
+    ensures did { CallDid P.leads called.entry store.old result store.new probe.old probe.new }
+    ensures given { IfSome result (λ _. IsResultOf called.entry.into
+        (result_at (callee_of called.entry)) store.new.given) }
+    ensures keeps { IfSome result (λ _. CallKeeps called.entry store.old store.new) }
+    ensures bits { P.bits probe.new ≡ P.bits probe.old }
+    ensures limits { limits_of store.new ≡ limits_of store.old }
+{
+    if called.depth == 0 {
+        return store.too_deep();
+    }
+    let mut arrays = ArrayVec::new();
+    lend(called.passed, &mut arrays);
+    let frame = begin(called, arrays.as_slice(), store)?;
+    body(&frame, called.into, invoke::<P>, store, probe)
+}

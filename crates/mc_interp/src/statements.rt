@@ -1,0 +1,310 @@
+//! Statements (C17 6.8).
+ghost use Rattle.std.specs.Prelude.{◌≡◌, ◌+◌, ◌≤◌, map, option_map, IfSome};
+ghost use Rattle.mc_typed.specs.Sound.{IsTest};
+ghost use Rattle.mc_typed.specs.Views as plain;
+ghost use Rattle.mc_steps.specs.Statements.{loop_does};
+ghost use Rattle.mc_probe.specs.Statements as does;
+ghost use Rattle.mc_probe.specs.Views as view;
+ghost use Rattle.mc_probe.specs.WellFormed.{FitEffects, FitStatements, FitsStatement, FitsTest};
+ghost use Rattle.mc_interp.specs.Bodies.{act_of, end_of, flow_of, item_of, next_of, seek_of, turn_of, AreAnyStatements, IsAnyStatement, IsEnd, IsNext, IsReturned};
+ghost use Rattle.mc_interp.specs.Effects.{AreAnyEffects};
+ghost use Rattle.mc_interp.specs.Stores.{limits_of, state_of, Did};
+ghost use Rattle.mc_interp.specs.Frames.{activation_of, scope_in, IsKept, IsReady};
+ghost use Rattle.mc_interp.specs.Calls.{Invokes};
+
+use crate::effects::effects;
+use crate::expressions::{truth, value};
+use crate::flow::{Flow, Next, Seek, is_running, label_of, loop_end, next_after};
+use crate::frame::{Called, Frame};
+use crate::labels::{at_label, sought, switch_ends};
+use crate::parts::{
+    count_of, counted, declaration, effect_statement, for_start, lent_test, return_statement,
+    turn_begins,
+};
+use crate::store::Store;
+use mc_hits::Probe;
+use mc_typed::{Effect, Expression, Statement};
+
+/// The turns of a loop, from the next one on.
+#[cycle(statements)]
+fn repeat<P: Probe, F: Fn(Called<'_, '_>, &mut Store, &mut P) -> Option<()> + Copy>(
+    body: &Statement,
+    test: Option<&Expression>,
+    step: &[Effect],
+    frame: &Frame<'_, '_>,
+    invoke: F,
+    store: &mut Store,
+    probe: &mut P,
+) -> Option<Flow>
+    requires body { IsAnyStatement (plain.statement_of body.now) (scope_in frame.now) }
+    requires test { IsTest (option_map (λ e. plain.expression_of e.now) test)
+        (scope_in frame.now) }
+    requires step { AreAnyEffects (map plain.effect_of step.now) (scope_in frame.now) }
+    requires body_fits { FitsStatement frame.now.function.now.registers
+        (view.statement_of body.now) }
+    requires test_fits { FitsTest frame.now.function.now.registers
+        (option_map (λ e. view.expression_of e.now) test) }
+    requires step_fits { FitEffects frame.now.function.now.registers
+        (map view.effect_of step.now) }
+    requires ready { IsReady frame.now store.old (P.bits probe.old) }
+    requires invokes { Invokes frame.now P.bits P.leads (F.pre invoke) (F.post invoke) }
+    ensures did { Did P.leads (loop_does (does.test_of (activation_of frame.now)
+        (option_map (λ e. view.expression_of e.now) test.entry))
+        (does.statement_of (activation_of frame.now) (view.statement_of body.now))
+        (does.effects_of (activation_of frame.now) (map view.effect_of step.now))
+        (state_of store.old))
+        (option_map (λ flow. flow_of flow store.new) result) store.new probe.old probe.new }
+    ensures typed { IfSome result (λ flow. IsReturned (scope_in frame.now)
+        (activation_of frame.now) flow store.new.given) }
+    ensures kept { IfSome result (λ _. IsKept (scope_in frame.now) (activation_of frame.now)
+        store.old store.new) }
+    ensures bits { P.bits probe.new ≡ P.bits probe.old }
+    ensures limits { limits_of store.new ≡ limits_of store.old }
+{
+    loop {
+        let turned = turn(body, test, step, frame, invoke, store, probe)?;
+        if let Some(flow) = turned {
+            return Some(flow);
+        }
+    }
+}
+
+/// A turn of a loop. It gives nothing where another one follows, else how the loop ends.
+#[cycle(statements)]
+fn turn<P: Probe, F: Fn(Called<'_, '_>, &mut Store, &mut P) -> Option<()> + Copy>(
+    body: &Statement,
+    test: Option<&Expression>,
+    step: &[Effect],
+    frame: &Frame<'_, '_>,
+    invoke: F,
+    store: &mut Store,
+    probe: &mut P,
+) -> Option<Option<Flow>>
+    requires body { IsAnyStatement (plain.statement_of body.now) (scope_in frame.now) }
+    requires test { IsTest (option_map (λ e. plain.expression_of e.now) test)
+        (scope_in frame.now) }
+    requires step { AreAnyEffects (map plain.effect_of step.now) (scope_in frame.now) }
+    requires body_fits { FitsStatement frame.now.function.now.registers
+        (view.statement_of body.now) }
+    requires test_fits { FitsTest frame.now.function.now.registers
+        (option_map (λ e. view.expression_of e.now) test) }
+    requires step_fits { FitEffects frame.now.function.now.registers
+        (map view.effect_of step.now) }
+    requires ready { IsReady frame.now store.old (P.bits probe.old) }
+    requires invokes { Invokes frame.now P.bits P.leads (F.pre invoke) (F.post invoke) }
+    ensures did { Did P.leads (turn_of (does.test_of (activation_of frame.now)
+        (option_map (λ e. view.expression_of e.now) test.entry))
+        (does.statement_of (activation_of frame.now) (view.statement_of body.now))
+        (does.effects_of (activation_of frame.now) (map view.effect_of step.now))
+        (state_of store.old))
+        (option_map (λ end. end_of end store.new) result) store.new probe.old probe.new }
+    ensures typed { IfSome result (λ end. IsEnd (scope_in frame.now) (activation_of frame.now) end
+        store.new.given) }
+    ensures less { IfSome result (λ _. store.new.fuel + 1 ≤ store.old.fuel) }
+    ensures kept { IfSome result (λ _. IsKept (scope_in frame.now) (activation_of frame.now)
+        store.old store.new) }
+    ensures bits { P.bits probe.new ≡ P.bits probe.old }
+    ensures limits { limits_of store.new ≡ limits_of store.old }
+{
+    let goes_on = turn_begins(test, frame, invoke, store, probe)?;
+    if !goes_on {
+        return Some(Some(Flow::Completed));
+    }
+    let flow = statement(body, frame, invoke, store, probe)?;
+    if let Some(end) = loop_end(flow) {
+        return Some(Some(end));
+    }
+    effects(step, frame, invoke, store, probe)?;
+    Some(None)
+}
+
+/// What a statement does.
+#[cycle(statements)]
+fn statement<P: Probe, F: Fn(Called<'_, '_>, &mut Store, &mut P) -> Option<()> + Copy>(
+    tree: &Statement,
+    frame: &Frame<'_, '_>,
+    invoke: F,
+    store: &mut Store,
+    probe: &mut P,
+) -> Option<Flow>
+    requires sound { IsAnyStatement (plain.statement_of tree.now) (scope_in frame.now) }
+    requires fits { FitsStatement frame.now.function.now.registers (view.statement_of tree.now) }
+    requires ready { IsReady frame.now store.old (P.bits probe.old) }
+    requires invokes { Invokes frame.now P.bits P.leads (F.pre invoke) (F.post invoke) }
+    ensures did { Did P.leads (does.statement_of (activation_of frame.now)
+        (view.statement_of tree.now) (state_of store.old))
+        (option_map (λ flow. flow_of flow store.new) result) store.new probe.old probe.new }
+    ensures typed { IfSome result (λ flow. IsReturned (scope_in frame.now)
+        (activation_of frame.now) flow store.new.given) }
+    ensures kept { IfSome result (λ _. IsKept (scope_in frame.now) (activation_of frame.now)
+        store.old store.new) }
+    ensures bits { P.bits probe.new ≡ P.bits probe.old }
+    ensures limits { limits_of store.new ≡ limits_of store.old }
+{
+    counted(count_of(tree), frame, store, probe)?;
+    act(tree, frame, invoke, store, probe)
+}
+
+/// What a statement does after its unit and its bit.
+#[cycle(statements)]
+fn act<P: Probe, F: Fn(Called<'_, '_>, &mut Store, &mut P) -> Option<()> + Copy>(
+    tree: &Statement,
+    frame: &Frame<'_, '_>,
+    invoke: F,
+    store: &mut Store,
+    probe: &mut P,
+) -> Option<Flow>
+    requires sound { IsAnyStatement (plain.statement_of tree.now) (scope_in frame.now) }
+    requires fits { FitsStatement frame.now.function.now.registers (view.statement_of tree.now) }
+    requires ready { IsReady frame.now store.old (P.bits probe.old) }
+    requires invokes { Invokes frame.now P.bits P.leads (F.pre invoke) (F.post invoke) }
+    ensures did { Did P.leads (act_of (activation_of frame.now) (view.statement_of tree.now)
+        (state_of store.old))
+        (option_map (λ flow. flow_of flow store.new) result) store.new probe.old probe.new }
+    ensures typed { IfSome result (λ flow. IsReturned (scope_in frame.now)
+        (activation_of frame.now) flow store.new.given) }
+    ensures kept { IfSome result (λ _. IsKept (scope_in frame.now) (activation_of frame.now)
+        store.old store.new) }
+    ensures bits { P.bits probe.new ≡ P.bits probe.old }
+    ensures limits { limits_of store.new ≡ limits_of store.old }
+{
+    match tree {
+        Statement::Compound { items, .. } => {
+            statements(items, Seek::Running, frame, invoke, store, probe)
+        }
+        Statement::Label { .. } => Some(Flow::Completed),
+        Statement::Declaration { declarators, .. } => {
+            declaration(declarators, frame, invoke, store, probe)
+        }
+        Statement::Null { .. } => Some(Flow::Completed),
+        Statement::Effect { effect, .. } => {
+            effect_statement(effect, frame, invoke, store, probe)
+        }
+        Statement::If { test, chosen, .. } => {
+            let holds = truth(test, frame, invoke, store, probe)?;
+            if holds {
+                statement(chosen, frame, invoke, store, probe)
+            } else {
+                Some(Flow::Completed)
+            }
+        }
+        Statement::IfElse {
+            test,
+            chosen,
+            other,
+            ..
+        } => {
+            let is_true = truth(test, frame, invoke, store, probe)?;
+            if is_true {
+                statement(chosen, frame, invoke, store, probe)
+            } else {
+                statement(other, frame, invoke, store, probe)
+            }
+        }
+        Statement::Switch {
+            value: controlling,
+            items,
+            absent,
+            ..
+        } => {
+            let word = value(controlling, frame, invoke, store, probe)?;
+            let seek = sought(items, controlling.integer_type(), word);
+            let flow = statements(items, seek, frame, invoke, store, probe)?;
+            Some(switch_ends(flow, *absent, frame, store, probe))
+        }
+        Statement::For {
+            start,
+            test,
+            step,
+            body,
+            ..
+        } => {
+            for_start(start, frame, invoke, store, probe)?;
+            repeat(body, lent_test(test), step, frame, invoke, store, probe)
+        }
+        Statement::DoWhile { body, test, .. } => {
+            let ended = statement(body, frame, invoke, store, probe)?;
+            match loop_end(ended) {
+                Some(end) => Some(end),
+                None => repeat(body, Some(test), &[], frame, invoke, store, probe),
+            }
+        }
+        Statement::Break { .. } => Some(Flow::Broke),
+        Statement::Continue { .. } => Some(Flow::Continued),
+        Statement::Return { value, exit, .. } => {
+            return_statement(value, *exit, frame, invoke, store, probe)
+        }
+    }
+}
+
+/// The items of a body, of which those before a label that is sought are passed over.
+#[cycle(statements)]
+pub(crate) fn statements<P: Probe, F: Fn(Called<'_, '_>, &mut Store, &mut P) -> Option<()> + Copy>(
+    trees: &[Statement],
+    seek: Seek,
+    frame: &Frame<'_, '_>,
+    invoke: F,
+    store: &mut Store,
+    probe: &mut P,
+) -> Option<Flow>
+    requires sound { AreAnyStatements (plain.statements_from (map plain.statement_of trees.now))
+        (scope_in frame.now) }
+    requires fits { FitStatements frame.now.function.now.registers
+        (view.statements_from (map view.statement_of trees.now)) }
+    requires ready { IsReady frame.now store.old (P.bits probe.old) }
+    requires invokes { Invokes frame.now P.bits P.leads (F.pre invoke) (F.post invoke) }
+    ensures did { Did P.leads (does.statements_of (activation_of frame.now)
+        (view.statements_from (map view.statement_of trees.now)) (seek_of seek)
+        (state_of store.old))
+        (option_map (λ flow. flow_of flow store.new) result) store.new probe.old probe.new }
+    ensures typed { IfSome result (λ flow. IsReturned (scope_in frame.now)
+        (activation_of frame.now) flow store.new.given) }
+    ensures kept { IfSome result (λ _. IsKept (scope_in frame.now) (activation_of frame.now)
+        store.old store.new) }
+    ensures bits { P.bits probe.new ≡ P.bits probe.old }
+    ensures limits { limits_of store.new ≡ limits_of store.old }
+{
+    let mut sought = seek;
+    for tree in trees {
+        let next = item(tree, sought, frame, invoke, store, probe)?;
+        match next {
+            Next::Item(following) => sought = following,
+            Next::End(flow) => return Some(flow),
+        }
+    }
+    Some(Flow::Completed)
+}
+
+/// An item of a body, and what follows it.
+#[cycle(statements)]
+fn item<P: Probe, F: Fn(Called<'_, '_>, &mut Store, &mut P) -> Option<()> + Copy>(
+    tree: &Statement,
+    seek: Seek,
+    frame: &Frame<'_, '_>,
+    invoke: F,
+    store: &mut Store,
+    probe: &mut P,
+) -> Option<Next>
+    requires sound { IsAnyStatement (plain.statement_of tree.now) (scope_in frame.now) }
+    requires fits { FitsStatement frame.now.function.now.registers (view.statement_of tree.now) }
+    requires ready { IsReady frame.now store.old (P.bits probe.old) }
+    requires invokes { Invokes frame.now P.bits P.leads (F.pre invoke) (F.post invoke) }
+    ensures did { Did P.leads (item_of (activation_of frame.now) (view.statement_of tree.now)
+        (seek_of seek) (state_of store.old))
+        (option_map (λ next. next_of next store.new) result) store.new probe.old probe.new }
+    ensures typed { IfSome result (λ next. IsNext (scope_in frame.now) (activation_of frame.now)
+        next store.new.given) }
+    ensures kept { IfSome result (λ _. IsKept (scope_in frame.now) (activation_of frame.now)
+        store.old store.new) }
+    ensures bits { P.bits probe.new ≡ P.bits probe.old }
+    ensures limits { limits_of store.new ≡ limits_of store.old }
+{
+    if let Some(label) = label_of(tree) {
+        return Some(Next::Item(at_label(label, seek, frame, store, probe)));
+    }
+    if !is_running(seek) {
+        return Some(Next::Item(seek));
+    }
+    let flow = statement(tree, frame, invoke, store, probe)?;
+    Some(next_after(flow))
+}
