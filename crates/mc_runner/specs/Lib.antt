@@ -1,0 +1,4 @@
+pub mod Recorded
+pub mod Marks
+pub mod Marked
+pub mod Laws
