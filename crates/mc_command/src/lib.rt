@@ -2,5 +2,11 @@
 #![tactic(auto)]
 
 mod command;
+mod files;
+mod independence;
+pub mod laws;
+mod number;
+mod settings;
 
 pub use command::{Command, read_command};
+pub use independence::Independence;

@@ -1,22 +1,20 @@
 -- Decisions that are few enough in conditions and in paths.
-use Rattle.std.proofs.Common.{◌≡◌, ◌∙◌, ◌<◌, ◌≤◌, ◌⊎◌, ◌+◌, ℕ, get_or, drop, List, codes, refl, [], ◌∷◌, length, map, Result, Ok, Err, All, ap, sym, subst, inl, inr, arith}
-use Rattle.std.proofs.lemmas.List.{drop_all, drop_more}
+use Rattle.std.proofs.Common.{◌≡◌, ◌∙◌, ◌≤◌, ℕ, List, codes, [], ◌∷◌, length, map, Ok, Err, All, ap, sym, subst, inl, inr, arith}
 use Rattle.std.proofs.lemmas.List.Elements.{All-nil, All-cons, All-head, All-tail, All-map}
 use Rattle.mc_cond.specs.Tree.{tree_of, size, IsNumbered}
-use Rattle.mc_typed.specs.Tree.{Function}
 use Rattle.mc_decide.specs.declared.decision.Decision as code
+use Rattle.mc_typed.specs.Tree.{Function, Program}
+use Rattle.mc_probe.specs.Maps.{Map, IsMapOf}
+use Rattle.mc_instrument.specs.Faults.{HasFewPaths, IsFault, IsFirstWithMany}
+use Rattle.mc_instrument.specs.declared.fault.InstrumentFault.TheVariants.{TooManyPaths, TooManyBits}
 use Rattle.mc_decide.specs.Roots.{Found}
 use Rattle.mc_decide.specs.Decisions.{Decision, Tells, AreTold, AreDecisions, IsSmall, IsFirstLarge}
 use Rattle.mc_decide.specs.Seen.{decision_of}
 use Rattle.mc_decide.proofs.Trees.{size_of_tree}
 use Rattle.mc_lex.specs.Lines.{column_of, line_of}
-use Rattle.mc_paths.specs.Paths.{count_of}
-use Rattle.mc_station.specs.Reply.{Reply, refusal}
-use Rattle.mc_station.specs.Source.{HasFewPaths, IsFirstWithMany, Numbers, most_paths}
-use Rattle.mc_station.specs.Texts.{many_line}
-use Rattle.mc_station.specs.Seen.{Gives, reply_to}
-use Rattle.mc_station.specs.declared.refusal.Stop.{Stop}
-use Rattle.mc_station.specs.declared.refusal.Stop.TheVariants as stop_code
+use Rattle.mc_station.specs.Reply.{refusal}
+use Rattle.mc_station.specs.Source.{Accepted, JudgesDecisions}
+use Rattle.mc_station.specs.Texts.{bits_line, many_line}
 use Rattle.mc_station.specs.declared.status.Status.TheVariants.{SourceRefused}
 
 -- ---- conditions
@@ -81,63 +79,31 @@ one_with_many (d ∷ ds) e f (inl a) (inr b) = absurd (omega (arith, a.0, b.0))
 one_with_many (d ∷ ds) e f (inr a) (inl b) = absurd (omega (arith, a.0, b.0))
 one_with_many (d ∷ ds) e f (inr a) (inr b) = one_with_many ds e f a.1 b.1
 
--- the line on a decision that has too many paths
-pub many_paths : (source : List ℕ) (d : Decision) (line column count : ℕ)
-    → (most_paths < count) × (count ≡ count_of d.tree) → line ≡ line_of source d.root.start
-    → column ≡ column_of source d.root.start
-    → Numbers source (d ∷ []) (Err (refusal SourceRefused (many_line line column (codes "paths") count)))
-many_paths source d line column count many line_is column_is = (
-  d,
-  inl (subst (λ (n : ℕ). most_paths < n) many.1 many.0, refl),
-  ap (λ (n : ℕ). refusal SourceRefused (many_line n column (codes "paths") count)) line_is
-      ∙ ap (λ (n : ℕ). refusal SourceRefused (many_line (line_of source d.root.start) n (codes "paths") count)) column_is
-      ∙ ap (λ (n : ℕ). refusal SourceRefused (many_line (line_of source d.root.start) (column_of source d.root.start) (codes "paths") n)) many.1,
-)
+-- ---- what an instrumenter gives and refuses
 
-from_one : (ds : List code.Decision) (d : code.Decision) (i : ℕ) → i < length ds
-    → d ≡ get_or ds i d
-    → map decision_of (drop i ds) ≡ decision_of d ∷ map decision_of (drop (i + 1) ds)
-from_one ds d i inside is =
-    ap (map decision_of) (drop_more ds i d inside
-    ∙ ap (λ (e : code.Decision). e ∷ drop (i + 1) ds) (sym is))
+module _ (source : List ℕ) (program : Program) (ds : List Decision) where
+  pub accepts : (m : Map) (a : Accepted) → All HasFewPaths ds → IsMapOf program m
+      → a ≡ record { source = source; program = program; map = m }
+      → JudgesDecisions source program ds (Ok a)
+  accepts m a few is_map is = (tt, few, (m, is_map, ap Ok is))
 
-few_before : (source : List ℕ) (d : Decision) (ds : List Decision) (v : Result Unit Reply)
-    → HasFewPaths d → Numbers source ds v → Numbers source (d ∷ ds) v
-few_before source d ds (Ok u) few all = All-cons HasFewPaths d ds few all
-few_before source d ds (Err r) few (e, first, is) = (e, inr (few, first), is)
+  -- the line on the decision that has too many paths
+  pub refuses_paths : (at count line column : ℕ) → IsFault program ds (TooManyPaths at count)
+      → line ≡ line_of source at → column ≡ column_of source at
+      → JudgesDecisions source program ds (Err (refusal SourceRefused (many_line line column (codes "paths") count)))
+  refuses_paths at count line column (d, many, at_is, count_is) line_is column_is =
+      let root_line : line ≡ line_of source d.root.start = line_is ∙ ap (line_of source) at_is in
+      let root_column : column ≡ column_of source d.root.start = column_is ∙ ap (column_of source) at_is in
+      inl (
+        d,
+        many,
+        ap (λ (n : ℕ). refusal SourceRefused (many_line n column (codes "paths") count)) root_line
+            ∙ ap (λ (n : ℕ). refusal SourceRefused (many_line (line_of source d.root.start) n (codes "paths") count)) root_column
+            ∙ ap (λ (n : ℕ). refusal SourceRefused (many_line (line_of source d.root.start) (column_of source d.root.start) (codes "paths") n)) count_is,
+      )
 
-many_first : (source : List ℕ) (d : Decision) (ds : List Decision) (r : Reply)
-    → Numbers source (d ∷ []) (Err r) → Numbers source (d ∷ ds) (Err r)
-many_first source d ds r (e, inl many, is) = (e, inl many, is)
-many_first source d ds r (e, inr later, is) = absurd later.1
-
--- a decision with few paths leaves the answer to those after it
-pub next_few : (source : List ℕ) (ds : List code.Decision) (d : code.Decision) (i : ℕ)
-    (v : Result Unit Reply) → i < length ds → d ≡ get_or ds i d
-    → Numbers source (decision_of d ∷ []) (Ok tt)
-    → Numbers source (map decision_of (drop (i + 1) ds)) v
-    → Numbers source (map decision_of (drop i ds)) v
-next_few source ds d i v inside is few rest =
-    subst (λ (es : List Decision). Numbers source es v) (sym (from_one ds d i inside is))
-    (few_before source (decision_of d) (map decision_of (drop (i + 1) ds)) v
-    (All-head HasFewPaths (decision_of d) [] few) rest)
-
--- and one with too many answers itself
-pub next_many : (source : List ℕ) (ds : List code.Decision) (d : code.Decision) (i : ℕ) (s : Stop)
-    → i < length ds → d ≡ get_or ds i d
-    → ((v : Result Unit Reply) → Numbers source (map decision_of (drop i ds)) v
-    → Numbers source (map decision_of ds) v)
-    → Gives {A = Unit {0}} {B = Unit {0}} (λ u. u) (Numbers source (decision_of d ∷ [])) (Err s)
-    → Gives {A = Unit {0}} {B = Unit {0}} (λ u. u) (Numbers source (map decision_of ds)) (Err s)
-next_many source ds d i (stop_code.Refused why) inside is goes many =
-    goes (Err (reply_to why))
-    (subst (λ (es : List Decision). Numbers source es (Err (reply_to why))) (sym (from_one ds d i inside is))
-    (many_first source (decision_of d) (map decision_of (drop (i + 1) ds)) (reply_to why) many))
-next_many source ds d i stop_code.OutOfMemory inside is goes many = tt
-
--- none are left
-pub none_left : (source : List ℕ) (ds : List code.Decision) (i : ℕ) → length ds ≤ i
-    → Numbers source (map decision_of (drop i ds)) (Ok tt)
-none_left source ds i past =
-    subst (λ (es : List code.Decision). All HasFewPaths (map decision_of es))
-    (sym (drop_all i ds past)) (All-nil HasFewPaths)
+  -- and on a program that has too many bits
+  pub refuses_bits : (count : ℕ) → IsFault program ds (TooManyBits count)
+      → JudgesDecisions source program ds (Err (refusal SourceRefused (bits_line count)))
+  refuses_bits count (few, many, is) =
+      inr (tt, few, inl (many, ap (λ (n : ℕ). refusal SourceRefused (bits_line n)) is))

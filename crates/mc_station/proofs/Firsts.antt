@@ -1,5 +1,5 @@
 -- A list of faults has at most one first fault.
-use Rattle.std.proofs.Common.{◌≡◌, ◌∙◌, ◌<◌, ◌≤◌, ◌⊎◌, ℕ, nat_eq, if◌then◌else◌, Bool, true, false, List, [], ◌∷◌, refl, sym, ap, subst, inl, inr, arith}
+use Rattle.std.proofs.Common.{◌≡◌, ◌∙◌, ℕ, nat_eq, if◌then◌else◌, List, [], ◌∷◌, refl, sym, ap, subst, inl, inr, arith}
 use Rattle.mc_typing.specs.declared.fault.Fault.{Fault}
 use Rattle.mc_typing.specs.declared.fault.FaultKind.{FaultKind}
 use Rattle.mc_typing.specs.declared.fault.FaultKind.TheVariants.{Undeclared, Redeclared, Mismatch, NotConstant, DuplicateLabel, NoBody, Limit}

@@ -1,5 +1,5 @@
 -- How a stage leads to a reply, by what was found of its file.
-use Rattle.std.proofs.Common.{◌≡◌, ◌≤◌, ℕ, List, length, Option, Result, Ok, Err, refl, sym, subst}
+use Rattle.std.proofs.Common.{◌≡◌, ◌≤◌, ℕ, List, length, Option, Some, Result, Ok, Err, refl, sym, subst}
 use Rattle.std.specs.Prelude.{IfOk}
 use Rattle.std.specs.declared.alloc.AllocError.{AllocError}
 use Rattle.mc_port.specs.Store.{Files, HasFile, IsLonger, and_asked}
@@ -8,19 +8,24 @@ use Rattle.mc_station.specs.Calls.{Answers, Leads, Requests}
 use Rattle.mc_station.specs.Files.{File, limit_of, request_of}
 use Rattle.mc_station.specs.Reply.{Reply, cannot_read, longer, out_of_memory}
 use Rattle.mc_station.specs.Seen.{Gives, IsReplyTo, outcome_of, reply_to, seen_reply, seen_stage}
-use Rattle.mc_station.specs.Stages.{Judges, Next, Stage, asks, done, next_of}
+use Rattle.mc_station.specs.Stages.{Ends, Judges, Stage, file_of}
 use Rattle.mc_station.specs.declared.refusal.Stop.{Stop}
 use Rattle.mc_station.specs.declared.refusal.Stop.TheVariants as stop
 use Rattle.mc_station.specs.declared.reply.Reply.{Reply as Given}
 
 module _ (files : Option Files) (s : Stage) (asked : Requests) where
-  pub finished : (r : Reply) → done r ≡ next_of s → Leads files s asked r asked
-  finished r is = calls.answers s asked asked r (calls.finished r (sym is))
+  pub finished : (r : Reply) → Ends s r → Leads files s asked r asked
+  finished r ends = calls.answers s asked asked r (calls.finished r ends)
 
   pub no_memory : (after : Requests) → after ≡ asked → Leads files s asked out_of_memory after
   no_memory after same = subst (λ (a : Requests). Leads files s asked out_of_memory a) (sym same) (calls.fails s asked asked out_of_memory calls.no_memory)
 
-module _ (files : Option Files) (s : Stage) (asked after : Requests) (f : File) (is : asks f ≡ next_of s) (then : after ≡ and_asked asked (request_of f)) where
+  -- a stage that asks for no file ends, or memory does not suffice
+  pub ended : (given : Result Given AllocError) → IfOk given (λ reply. Ends s (seen_reply reply)) → Leads files s asked (outcome_of given) asked
+  ended (Ok reply) ends = finished (seen_reply reply) ends
+  ended (Err e) ends = no_memory asked refl
+
+module _ (files : Option Files) (s : Stage) (asked after : Requests) (f : File) (is : Some f ≡ file_of s) (then : after ≡ and_asked asked (request_of f)) where
   at_end : (r : Reply) → Leads files s asked r (and_asked asked (request_of f)) → Leads files s asked r after
   at_end r leads = subst (λ (a : Requests). Leads files s asked r a) (sym then) leads
 

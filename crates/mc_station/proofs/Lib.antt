@@ -1,9 +1,14 @@
 pub mod Decided
+pub mod Finished
 pub mod Firsts
+pub mod Instrumenting
 pub mod Leading
+pub mod Mapped
 pub mod Parts
 pub mod Phases
 pub mod Places
+pub mod Recorded
+pub mod Reported
 pub mod Stages
 pub mod Statuses
 pub mod Unique

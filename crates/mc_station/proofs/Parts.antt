@@ -1,7 +1,7 @@
 -- A first part of a text after a text that was put.
 use Rattle.std.proofs.Common.{◌≡◌, ◌∙◌, ℕ, zero, suc, List, [], ◌∷◌, ◌++◌, length, take, Option, refl, sym, ap, subst, arith, ◌≤◌, ◌-◌, get_or, drop, Vec, Global, Result, Ok, Err, Some, None}
 use Rattle.std.specs.List.{concat}
-use Rattle.mc_first.specs.Seen.{bytes_of}
+use Rattle.mc_report.specs.Seen.{bytes_of}
 use Rattle.std.proofs.lemmas.List.{append-nil, take_all}
 use Rattle.std.proofs.KnownBytes.{Appends-trans}
 use Rattle.std.specs.Io.KnownBytes.{Appends}

@@ -1,5 +1,5 @@
 -- What a phase gives goes into the next one.
-use Rattle.std.proofs.Common.{Result, Ok, Err, inl, inr}
+use Rattle.std.proofs.Common.{Result, Ok, Err, inr}
 use Rattle.mc_station.specs.Reply.{Reply}
 use Rattle.mc_station.specs.Seen.{Gives}
 use Rattle.mc_station.specs.Source.{Then}

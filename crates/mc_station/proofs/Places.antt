@@ -1,10 +1,10 @@
 -- Places of tokens, and of the source's end.
-use Rattle.std.proofs.Common.{◌≡◌, ◌≤◌, ◌<◌, ◌+◌, ◌^◌, ℕ, zero, suc, List, [], ◌∷◌, length, map, drop, get_or, refl, subst, arith}
+use Rattle.std.proofs.Common.{◌≡◌, ◌≤◌, ◌<◌, ◌+◌, ◌^◌, ℕ, zero, suc, List, [], ◌∷◌, length, drop, get_or, refl, subst, arith}
 use Rattle.std.specs.Prelude.{All}
 use Rattle.std.proofs.Math.ListN.{get_or-map}
 use Rattle.std.proofs.lemmas.List.{length-map}
 use Rattle.mc_lex.specs.Returned.{IsSlice}
-use Rattle.mc_lex.specs.Tokens.{Tok, tok_of, toks_of}
+use Rattle.mc_lex.specs.Tokens.{tok_of, toks_of}
 use Rattle.mc_lex.specs.declared.token.Token.{Token}
 use Rattle.mc_station.specs.Texts.{start_of}
 

@@ -1,37 +1,42 @@
 -- Words and files call for at most one reply.
-use Rattle.std.proofs.Common.{◌≡◌, ◌∙◌, ◌≤◌, ◌<◌, ◌⊎◌, ℕ, List, [], length, drop, Option, Some, None, Result, Ok, Err, refl, sym, ap, subst, inl, inr, arith}
-use Rattle.mc_command.specs.Command.{Command, command_of}
+use Rattle.std.proofs.Common.{◌≡◌, ◌∙◌, ℕ, List, [], length, drop, Option, Some, None, Result, Ok, Err, refl, sym, ap, subst, inl, inr, arith}
+use Rattle.mc_command.specs.Command.{Command, Report, Vectors, command_of, fuel_of}
 use Rattle.mc_lex.specs.declared.token.Dialect.TheVariants.{Plain}
-use Rattle.mc_lex.specs.declared.fault.LexFault.{LexFault}
-use Rattle.mc_lex.specs.Scans.{Scans}
 use Rattle.mc_lex.specs.Tokens.{Tok}
 use Rattle.mc_lex.proofs.Scanning.{one_scan}
 use Rattle.mc_lex.specs.Lines.{column_of, line_of}
 use Rattle.mc_tree.specs.Tree.{Item}
 use Rattle.mc_reading.proofs.OneTree.{one_tree}
 use Rattle.mc_typed.specs.Tree.{Program}
+use Rattle.mc_typed.specs.Plans.{Plan}
 use Rattle.mc_typing.specs.declared.fault.Fault.{Fault}
 use Rattle.mc_typing.specs.Typing.{faults_of}
 use Rattle.mc_paths.specs.Paths.{count_of}
-use Rattle.mc_decide.specs.Decisions.{Decision, IsSmall, IsFirstLarge}
+use Rattle.mc_decide.specs.Decisions.{AreDecisions, Decision, IsFirstLarge}
 use Rattle.mc_decide.proofs.Once as decided
-use Rattle.mc_first.specs.Form.{Form}
-use Rattle.mc_port.specs.Store.{Files, HasFile, IsLonger, and_asked}
-use Rattle.mc_first.specs.TestsFile.{PlainTest}
-use Rattle.mc_first.proofs.Unique.{one_list}
+use Rattle.mc_port.specs.Store.{Files, IsLonger, and_asked}
+use Rattle.mc_oblige.specs.declared.evaluated.EvaluatedPath.{EvaluatedPath}
+use Rattle.mc_oblige.specs.declared.verdict.Verdict.{Verdict}
+use Rattle.mc_oblige.proofs.Ascending.{one_list_of_paths}
+use Rattle.mc_oblige.proofs.Single.{one}
+use Rattle.mc_report.specs.Status.{status_of}
+use Rattle.mc_report.specs.Text.{report_lines}
+use Rattle.mc_report.specs.VectorsText.{vectors_lines}
 use Rattle.mc_station.specs.Calls as calls
 use Rattle.mc_station.specs.Calls.{Answers, Call, CallsFor, Fails, IsKnown, Leads, Requests}
 use Rattle.mc_station.specs.Files.{File, Holds, limit_of, request_of}
 use Rattle.mc_station.specs.Laws.{AreOne, IsOnSyntax}
-use Rattle.mc_station.specs.Reply.{Reply, longer, refusal}
-use Rattle.mc_station.specs.Source.{Admits, Decides, Forms, JudgesDecisions, JudgesNames, JudgesProgram, JudgesSource, JudgesTokens, JudgesTree, Lexes, Numbers, Parses, Then, Types}
+use Rattle.mc_station.specs.Reply.{Reply, longer, refusal, written}
+use Rattle.mc_station.specs.Runs.{Finishes, Tells, mode_of, names, report, results, stands, states, status_where}
+use Rattle.mc_station.specs.Source.{Accepted, Accepts, Admits, Decides, JudgesDecisions, JudgesNames, JudgesProgram, JudgesSource, JudgesTokens, JudgesTree, Lexes, Maps, Numbers, Parses, Then, Types}
 use Rattle.mc_station.specs.Stages as stages
-use Rattle.mc_station.specs.Stages.{Judges, JudgesTests, Next, Stage, after_source, asks, done, first_stage, next_of}
+use Rattle.mc_station.specs.Stages.{Ends, Judges, JudgesTests, Stage, file_of, first_stage}
 use Rattle.mc_station.specs.Status.{IsAnswer}
-use Rattle.mc_station.specs.Texts.{conditions_line, fault_line, outside_line, paths_line, start_of, syntax_line, type_line}
-use Rattle.mc_station.specs.declared.status.Status.TheVariants.{SourceRefused}
+use Rattle.mc_station.specs.Texts.{conditions_line, fault_line, outside_line, paths_line, start_of, syntax_line, tests_line, type_line}
+use Rattle.mc_station.specs.declared.status.Status.TheVariants.{SourceRefused, TestsRefused}
 use Rattle.mc_station.proofs.Firsts.{one_first, none_first}
 use Rattle.mc_station.proofs.Decided.{none_large, one_large, none_with_many, one_with_many}
+use Rattle.mc_station.proofs.Mapped.{few_bits, one_map}
 
 -- ---- phases
 
@@ -46,24 +51,31 @@ Agree (Err r) (Err s) = AreOne r s
 abbrev IsOne : {A : Type 0} → (Result A Reply → Type 0) → Type 0
 IsOne {A} Phase = (u v : Result A Reply) → Phase u → Phase v → Agree u v
 
-one_then : {A B : Type 0} (Phase : Result A Reply → Type 0) (Next : A → Result B Reply → Type 0) → IsOne Phase → ((a : A) → IsOne (Next a)) → IsOne (Then Phase Next)
+one_then : {A B : Type 0} (Phase : Result A Reply → Type 0) (Next : A → Result B Reply → Type 0) → IsOne Phase → ((a : A) → Phase (Ok a) → IsOne (Next a)) → IsOne (Then Phase Next)
 one_then {A} {B} Phase Next one next (Ok b) (Ok c) (a, p, q) (d, r, s) =
     let same : a ≡ d = one (Ok a) (Ok d) p r in
-    next d (Ok b) (Ok c) (subst (λ (x : A). Next x (Ok b)) same q) s
+    next d r (Ok b) (Ok c) (subst (λ (x : A). Next x (Ok b)) same q) s
 one_then {A} {B} Phase Next one next (Ok b) (Err e) (a, p, q) (inl r) = absurd (one (Ok a) (Err e) p r)
 one_then {A} {B} Phase Next one next (Ok b) (Err e) (a, p, q) (inr (d, r, s)) =
     let same : a ≡ d = one (Ok a) (Ok d) p r in
-    next d (Ok b) (Err e) (subst (λ (x : A). Next x (Ok b)) same q) s
+    next d r (Ok b) (Err e) (subst (λ (x : A). Next x (Ok b)) same q) s
 one_then {A} {B} Phase Next one next (Err e) (Ok c) (inl p) (d, r, s) = absurd (one (Err e) (Ok d) p r)
 one_then {A} {B} Phase Next one next (Err e) (Ok c) (inr (a, p, q)) (d, r, s) =
     let same : a ≡ d = one (Ok a) (Ok d) p r in
-    next d (Err e) (Ok c) (subst (λ (x : A). Next x (Err e)) same q) s
+    next d r (Err e) (Ok c) (subst (λ (x : A). Next x (Err e)) same q) s
 one_then {A} {B} Phase Next one next (Err e) (Err f) (inl p) (inl r) = one (Err e) (Err f) p r
 one_then {A} {B} Phase Next one next (Err e) (Err f) (inl p) (inr (d, r, s)) = absurd (one (Err e) (Ok d) p r)
 one_then {A} {B} Phase Next one next (Err e) (Err f) (inr (a, p, q)) (inl r) = absurd (one (Ok a) (Err f) p r)
 one_then {A} {B} Phase Next one next (Err e) (Err f) (inr (a, p, q)) (inr (d, r, s)) =
     let same : a ≡ d = one (Ok a) (Ok d) p r in
-    next d (Err e) (Err f) (subst (λ (x : A). Next x (Err e)) same q) s
+    next d r (Err e) (Err f) (subst (λ (x : A). Next x (Err e)) same q) s
+
+-- one thing alone
+one_ok : {A : Type 0} (t : A) → IsOne (λ (v : Result A Reply). v ≡ Ok t)
+one_ok t (Ok a) (Ok b) p q = cc (p, q)
+one_ok t (Ok a) (Err s) p q = absurd (cc q)
+one_ok t (Err r) (Ok b) p q = absurd (cc p)
+one_ok t (Err r) (Err s) p q = absurd (cc p)
 
 one_lexed : (source : List ℕ) → IsOne (Lexes source)
 one_lexed source (Ok ts) (Ok us) p q = (one_scan Plain source ts us None None p q).0
@@ -121,49 +133,80 @@ one_numbered source ds (Err r) (Err s) (d, many, is) (e, also, other) =
     let same : d ≡ e = one_with_many ds d e many also in
     inl (is ∙ ap (λ (x : Decision). refusal SourceRefused (paths_line source x.root.start (count_of x.tree))) same ∙ sym other)
 
-one_formed : (unit : List Item) → IsOne (Forms unit)
-one_formed unit (Ok f) (Ok g) p q = cc (p, q)
-one_formed unit (Ok f) (Err r) p (none, is) = absurd (cc (p, none))
-one_formed unit (Err r) (Ok g) (none, is) q = absurd (cc (q, none))
-one_formed unit (Err r) (Err s) (none, is) (also, other) = inl (is ∙ sym other)
+one_mapped : (program : Program) (ds : List Decision) → AreDecisions program.functions ds → IsOne (Maps program ds)
+one_mapped program ds are (Ok m) (Ok n) p q = one_map program m n p q
+one_mapped program ds are (Ok m) (Err s) p (many, is) = absurd (few_bits program m p ds are many)
+one_mapped program ds are (Err r) (Ok n) (many, is) q = absurd (few_bits program n q ds are many)
+one_mapped program ds are (Err r) (Err s) (many, is) (also, other) = inl (is ∙ sym other)
 
-one_decisions_judged : (source : List ℕ) (unit : List Item) (ds : List Decision) → IsOne (JudgesDecisions source unit ds)
-one_decisions_judged source unit ds = one_then (Numbers source ds) (λ u. Forms unit) (one_numbered source ds) (λ u. one_formed unit)
+one_decisions_judged : (source : List ℕ) (program : Program) (ds : List Decision) → AreDecisions program.functions ds → IsOne (JudgesDecisions source program ds)
+one_decisions_judged source program ds are =
+    one_then (Numbers source ds) (λ u. Then (Maps program ds) (Accepts source program)) (one_numbered source ds)
+    (λ u few. one_then (Maps program ds) (Accepts source program) (one_mapped program ds are) (λ m is. one_ok (record { source = source; program = program; map = m })))
 
-one_program_judged : (source : List ℕ) (unit : List Item) (program : Program) → IsOne (JudgesProgram source unit program)
-one_program_judged source unit program = one_then (Decides source program) (JudgesDecisions source unit) (one_decided source program) (one_decisions_judged source unit)
+one_program_judged : (source : List ℕ) (program : Program) → IsOne (JudgesProgram source program)
+one_program_judged source program = one_then (Decides source program) (JudgesDecisions source program) (one_decided source program) (λ ds are. one_decisions_judged source program ds are.0)
 
 one_names_judged : (source : List ℕ) (unit : List Item) → IsOne (JudgesNames source unit)
-one_names_judged source unit = one_then (Types source unit) (JudgesProgram source unit) (one_typed source unit) (one_program_judged source unit)
+one_names_judged source unit = one_then (Types source unit) (JudgesProgram source) (one_typed source unit) (λ program is. one_program_judged source program)
 
 one_tree_judged : (source : List ℕ) (unit : List Item) → IsOne (JudgesTree source unit)
-one_tree_judged source unit = one_then (Admits source unit) (λ u. JudgesNames source unit) (one_admitted source unit) (λ u. one_names_judged source unit)
+one_tree_judged source unit = one_then (Admits source unit) (λ u. JudgesNames source unit) (one_admitted source unit) (λ u is. one_names_judged source unit)
 
 one_tokens_judged : (source : List ℕ) (tokens : List Tok) → IsOne (JudgesTokens source tokens)
-one_tokens_judged source tokens = one_then (Parses source tokens) (JudgesTree source) (one_parsed source tokens) (one_tree_judged source)
+one_tokens_judged source tokens = one_then (Parses source tokens) (JudgesTree source) (one_parsed source tokens) (λ unit is. one_tree_judged source unit)
 
 one_source : (source : List ℕ) → IsOne (JudgesSource source)
-one_source source = one_then (Lexes source) (JudgesTokens source) (one_lexed source) (one_tokens_judged source)
+one_source source = one_then (Lexes source) (JudgesTokens source) (one_lexed source) (λ tokens is. one_tokens_judged source tokens)
 
-one_tests : (form : Form) (bytes : List ℕ) → IsOne (JudgesTests form bytes)
-one_tests form bytes (Ok ts) (Ok us) p q = cc (one_list form bytes (Some ts) (Some us) p q)
-one_tests form bytes (Ok ts) (Err r) p (none, is) = absurd (cc (one_list form bytes (Some ts) None p none))
-one_tests form bytes (Err r) (Ok us) (none, is) q = absurd (cc (one_list form bytes None (Some us) none q))
-one_tests form bytes (Err r) (Err s) (none, is) (also, other) = inl (is ∙ sym other)
-
-one_stage : (t : Stage) → IsOne (λ (v : Result Stage Reply). v ≡ Ok t)
-one_stage t (Ok a) (Ok b) p q = cc (p, q)
-one_stage t (Ok a) (Err s) p q = absurd (cc q)
-one_stage t (Err r) (Ok b) p q = absurd (cc p)
-one_stage t (Err r) (Err s) p q = absurd (cc p)
+one_tests : (program : Program) (fuel : ℕ) (bytes : List ℕ) → IsOne (JudgesTests program fuel bytes)
+one_tests program fuel bytes (Ok ps) (Ok qs) p q = cc (p, q)
+one_tests program fuel bytes (Ok ps) (Err r) p (fault, q, is) = absurd (cc (p, q))
+one_tests program fuel bytes (Err r) (Ok qs) (fault, p, is) q = absurd (cc (p, q))
+one_tests program fuel bytes (Err r) (Err s) (f, p, is) (g, q, also) =
+    let same : f ≡ g = cc (p, q) in
+    inl (is ∙ ap (λ x. refusal TestsRefused (tests_line x)) same ∙ sym also)
 
 one_verdict : (s : Stage) (bytes : List ℕ) → IsOne (Judges s bytes)
 one_verdict stages.usage bytes u v p q = absurd p
 one_verdict (stages.source command) bytes u v p q =
-    one_then (JudgesSource bytes) (λ form w. w ≡ Ok (after_source command form)) (one_source bytes) (λ form. one_stage (after_source command form)) u v p q
-one_verdict (stages.tests name form) bytes u v p q =
-    one_then (JudgesTests form bytes) (λ list w. w ≡ Ok (stages.vectors form list)) (one_tests form bytes) (λ list. one_stage (stages.vectors form list)) u v p q
-one_verdict (stages.vectors form list) bytes u v p q = absurd p
+    one_then (JudgesSource bytes) (λ accepted w. w ≡ Ok (stages.tests command accepted)) (one_source bytes) (λ accepted is. one_ok (stages.tests command accepted)) u v p q
+one_verdict (stages.tests command accepted) bytes u v p q =
+    one_then (JudgesTests accepted.program (fuel_of command) bytes) (λ plans w. w ≡ Ok (stages.run command accepted plans)) (one_tests accepted.program (fuel_of command) bytes) (λ plans is. one_ok (stages.run command accepted plans)) u v p q
+one_verdict (stages.run command accepted plans) bytes u v p q = absurd p
+
+-- ---- ends
+
+one_told : (command : Command) (accepted : Accepted) (plans : List Plan) (r q : Reply) → Tells command accepted plans r → Tells command accepted plans q → r ≡ q
+one_told (Report source tests mode fuel) accepted plans r q (verdicts, are, is) (others, also, other) =
+    let same : verdicts ≡ others = one (stands accepted plans) accepted.map (mode_of mode) [] verdicts others are also in
+    is ∙ ap (λ (vs : List Verdict). written (status_of (report mode accepted plans vs)) (report_lines (report mode accepted plans vs))) same ∙ sym other
+one_told (Vectors source tests fuel) accepted plans r q (paths, are, is) (others, also, other) =
+    let same : paths ≡ others = one_list_of_paths (stands accepted plans) accepted.map paths others are also in
+    is
+    ∙ ap (λ (ps : List EvaluatedPath). written (status_where (states accepted.program plans))
+    (vectors_lines (names plans) (states accepted.program plans) (results accepted.program plans) accepted.map.decisions ps)) same
+    ∙ sym other
+
+one_finish : (command : Command) (accepted : Accepted) (plans : List Plan) (r q : Reply) → Finishes command accepted plans r → Finishes command accepted plans q → r ≡ q
+one_finish command accepted plans r q (inl (large, is)) (inl (also, other)) = is ∙ sym other
+one_finish command accepted plans r q (inl (large, is)) (inr (few, tells)) = absurd (omega (arith, large, few))
+one_finish command accepted plans r q (inr (few, tells)) (inl (large, is)) = absurd (omega (arith, large, few))
+one_finish command accepted plans r q (inr (few, tells)) (inr (also, others)) = one_told command accepted plans r q tells others
+
+-- a stage ends with one reply
+one_end_reply : (s : Stage) (r q : Reply) → Ends s r → Ends s q → r ≡ q
+one_end_reply stages.usage r q is also = is ∙ sym also
+one_end_reply (stages.source command) r q ends also = absurd ends
+one_end_reply (stages.tests command accepted) r q ends also = absurd ends
+one_end_reply (stages.run command accepted plans) r q ends also = one_finish command accepted plans r q ends also
+
+-- and then asks for no file
+no_file : (s : Stage) (r : Reply) (f : File) → Ends s r → file_of s ≡ Some f → ⊥
+no_file stages.usage r f ends is = cc is
+no_file (stages.source command) r f ends is = absurd ends
+no_file (stages.tests command accepted) r f ends is = absurd ends
+no_file (stages.run command accepted plans) r f ends is = cc is
 
 -- ---- stages
 
@@ -178,32 +221,32 @@ module _ (files : Files) where
       let same : longer ≡ bytes = cc (is, holds.0 files refl) in
       omega (arith, more, holds.1, ap length same)
 
-  same_verdict : (s : Stage) (f g : File) (a b : List ℕ) (u v : Result Stage Reply) → next_of s ≡ asks f → next_of s ≡ asks g
+  same_verdict : (s : Stage) (f g : File) (a b : List ℕ) (u v : Result Stage Reply) → file_of s ≡ Some f → file_of s ≡ Some g
       → Holds (Some files) f a → Holds (Some files) g b → Judges s a u → Judges s b v → Agree u v
   same_verdict s f g a b u v p q holds also judges other =
       let file : f ≡ g = cc (p, q) in
       let bytes : a ≡ b = same_bytes g a b (subst (λ (x : File). Holds (Some files) x a) file holds) also in
       one_verdict s b u v (subst (λ (x : List ℕ). Judges s x u) bytes judges) other
 
-  not_long : (s : Stage) (f g : File) (bytes : List ℕ) → next_of s ≡ asks f → next_of s ≡ asks g → IsLonger (Some files) f.name (limit_of f.kind) → Holds (Some files) g bytes → ⊥
+  not_long : (s : Stage) (f g : File) (bytes : List ℕ) → file_of s ≡ Some f → file_of s ≡ Some g → IsLonger (Some files) f.name (limit_of f.kind) → Holds (Some files) g bytes → ⊥
   not_long s f g bytes p q long holds =
       let file : f ≡ g = cc (p, q) in
       not_both g bytes (subst (λ (x : File). IsLonger (Some files) x.name (limit_of x.kind)) file long) holds
 
   one_answer : (s : Stage) (a b c d : Requests) (r q : Reply) → Answers (Some files) s a r b → Answers (Some files) s c q d → AreOne r q
-  one_answer s a b c d r q (calls.finished x p) (calls.finished y o) = inl (cc (p, o))
-  one_answer s a b c d r q (calls.finished x p) (calls.too_long g o long) = absurd (cc (p, o))
-  one_answer s a b c d r q (calls.finished x p) (calls.refused g bytes y o holds judges) = absurd (cc (p, o))
-  one_answer s a b c d r q (calls.too_long f p long) (calls.finished y o) = absurd (cc (p, o))
+  one_answer s a b c d r q (calls.finished x p) (calls.finished y o) = inl (one_end_reply s r q p o)
+  one_answer s a b c d r q (calls.finished x p) (calls.too_long g o long) = absurd (no_file s r g p o)
+  one_answer s a b c d r q (calls.finished x p) (calls.refused g bytes y o holds judges) = absurd (no_file s r g p o)
+  one_answer s a b c d r q (calls.too_long f p long) (calls.finished y o) = absurd (no_file s q f o p)
   one_answer s a b c d r q (calls.too_long f p long) (calls.too_long g o also) = let file : f ≡ g = cc (p, o) in inl (ap longer file)
   one_answer s a b c d r q (calls.too_long f p long) (calls.refused g bytes y o holds judges) = absurd (not_long s f g bytes p o long holds)
-  one_answer s a b c d r q (calls.refused f bytes x p holds judges) (calls.finished y o) = absurd (cc (p, o))
+  one_answer s a b c d r q (calls.refused f bytes x p holds judges) (calls.finished y o) = absurd (no_file s q f o p)
   one_answer s a b c d r q (calls.refused f bytes x p holds judges) (calls.too_long g o long) = absurd (not_long s g f bytes o p long holds)
   one_answer s a b c d r q (calls.refused f bytes x p holds judges) (calls.refused g text y o also other) =
       same_verdict s f g bytes text (Err r) (Err q) p o holds also judges other
 
-  no_answer : (s t : Stage) (f : File) (text : List ℕ) (a b : Requests) (r : Reply) → Answers (Some files) s a r b → next_of s ≡ asks f → Holds (Some files) f text → Judges s text (Ok t) → ⊥
-  no_answer s t f text a b r (calls.finished x p) is holds judges = absurd (cc (p, is))
+  no_answer : (s t : Stage) (f : File) (text : List ℕ) (a b : Requests) (r : Reply) → Answers (Some files) s a r b → file_of s ≡ Some f → Holds (Some files) f text → Judges s text (Ok t) → ⊥
+  no_answer s t f text a b r (calls.finished x p) is holds judges = no_file s r f p is
   no_answer s t f text a b r (calls.too_long g p long) is holds judges = not_long s g f text p is long holds
   no_answer s t f text a b r (calls.refused g bytes x p also refuses) is holds judges = same_verdict s g f bytes text (Err r) (Ok t) p is also holds refuses judges
 
@@ -225,10 +268,10 @@ one_end files s a b c d r q (calls.accepted _ t f bytes _ _ _ is holds judges le
 
 -- ---- calls
 
-one_usage : (files : Option Files) (a b : Requests) (r : Reply) → Leads files stages.usage a r b → IsAnswer r.status → done r ≡ next_of stages.usage
-one_usage files a b r (calls.answers _ _ _ _ (calls.finished x p)) answer = sym p
+one_usage : (files : Option Files) (a b : Requests) (r : Reply) → Leads files stages.usage a r b → IsAnswer r.status → Ends stages.usage r
+one_usage files a b r (calls.answers _ _ _ _ (calls.finished x p)) answer = p
 one_usage files a b r (calls.answers _ _ _ _ (calls.too_long f p long)) answer = absurd (cc p)
-one_usage files a b r (calls.answers _ _ _ _ (calls.refused f bytes x p holds judges)) answer = absurd (cc p)
+one_usage files a b r (calls.answers _ _ _ _ (calls.refused f bytes x p holds judges)) answer = absurd judges
 one_usage files a b r (calls.fails _ _ _ _ x) answer = absurd (no_fault stages.usage a b r x answer)
 one_usage files a b r (calls.accepted _ t f bytes _ _ _ is holds judges leads) answer = absurd judges
 
@@ -237,7 +280,7 @@ one_reply call r q (inl none) (p, (a, b, leads)) (o, (c, d, also)) =
     let first : first_stage (command_of call.words) ≡ stages.usage = ap first_stage none in
     let one = one_usage call.files a b r (subst (λ (s : Stage). Leads call.files s a r b) first leads) p in
     let two = one_usage call.files c d q (subst (λ (s : Stage). Leads call.files s c q d) first also) o in
-    inl (cc (one, two))
+    inl (one ∙ sym two)
 one_reply call r q (inr (files, told)) (p, (a, b, leads)) (o, (c, d, also)) =
     let first = first_stage (command_of call.words) in
     one_end files first a b c d r q (subst (λ (f : Option Files). Leads f first a r b) told leads) (subst (λ (f : Option Files). Leads f first c q d) told also) p o

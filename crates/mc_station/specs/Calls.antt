@@ -1,10 +1,10 @@
 -- What a call leads to.
-use Rattle.std.specs.Prelude.{◌≡◌, ◌⊎◌, ℕ, List, Option, Some, None, Result, Ok, Err}
+use Rattle.std.specs.Prelude.{◌≡◌, ◌⊎◌, ℕ, List, Option, Some, None, Ok, Err}
 use Rattle.mc_command.specs.Command.{command_of}
 use Rattle.mc_port.specs.Store.{Files, IsLonger, Request, State, and_asked}
 use Rattle.mc_station.specs.Files.{File, Holds, limit_of, request_of}
 use Rattle.mc_station.specs.Reply.{Reply, cannot_read, longer, out_of_memory}
-use Rattle.mc_station.specs.Stages.{Judges, Stage, asks, done, first_stage, next_of}
+use Rattle.mc_station.specs.Stages.{Ends, Judges, Stage, file_of, first_stage}
 use Rattle.mc_station.specs.Status.{IsAnswer}
 
 -- what was asked of the store, where it is told
@@ -14,20 +14,20 @@ Requests = Option (List Request)
 -- A stage answers: after the last file, or where it does not accept its file.
 pub data Answers (files : Option Files) (s : Stage) (asked : Requests) : Reply → Requests
     → Type 0 where
-  finished : (reply : Reply) → next_of s ≡ done reply → Answers files s asked reply asked
-  too_long : (file : File) → next_of s ≡ asks file
+  finished : (reply : Reply) → Ends s reply → Answers files s asked reply asked
+  too_long : (file : File) → file_of s ≡ Some file
       → IsLonger files file.name (limit_of file.kind)
       → Answers files s asked (longer file) (and_asked asked (request_of file))
-  refused : (file : File) (bytes : List ℕ) (reply : Reply) → next_of s ≡ asks file
+  refused : (file : File) (bytes : List ℕ) (reply : Reply) → file_of s ≡ Some file
       → Holds files file bytes → Judges s bytes (Err reply)
       → Answers files s asked reply (and_asked asked (request_of file))
 
 -- At a stage the file cannot be read, or memory does not suffice.
 pub data Fails (s : Stage) (asked : Requests) : Reply → Requests → Type 0 where
-  unreadable : (file : File) → next_of s ≡ asks file
+  unreadable : (file : File) → file_of s ≡ Some file
       → Fails s asked (cannot_read file) (and_asked asked (request_of file))
   no_memory : Fails s asked out_of_memory asked
-  no_memory_after : (file : File) → next_of s ≡ asks file
+  no_memory_after : (file : File) → file_of s ≡ Some file
       → Fails s asked out_of_memory (and_asked asked (request_of file))
 
 -- From a stage, with what was asked before, a command leads to a reply, with what was asked after.
@@ -39,7 +39,7 @@ pub data Leads (files : Option Files) : Stage → Requests → Reply → Request
       → Fails s asked reply after → Leads files s asked reply after
   accepted : (s later : Stage) (file : File) (bytes : List ℕ) (asked after : Requests)
       (reply : Reply)
-      → next_of s ≡ asks file → Holds files file bytes → Judges s bytes (Ok later)
+      → file_of s ≡ Some file → Holds files file bytes → Judges s bytes (Ok later)
       → Leads files later (and_asked asked (request_of file)) reply after
       → Leads files s asked reply after
 

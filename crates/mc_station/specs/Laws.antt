@@ -1,11 +1,11 @@
 -- Laws of what calls lead to.
-use Rattle.std.specs.Prelude.{◌≡◌, ◌↔◌, ◌⊎◌, ℕ, None, codes}
+use Rattle.std.specs.Prelude.{◌≡◌, ◌↔◌, ◌⊎◌, ℕ, None, codes, Some}
 use Rattle.mc_command.specs.Command.{command_of}
 use Rattle.mc_port.specs.Store.{and_asked}
 use Rattle.mc_station.specs.Calls.{Call, CallsFor, IsKnown, LeadsTo, Requests}
 use Rattle.mc_station.specs.Files.{File, request_of}
 use Rattle.mc_station.specs.Reply.{Reply, refusal}
-use Rattle.mc_station.specs.Stages.{asks, first_stage, next_of}
+use Rattle.mc_station.specs.Stages.{file_of, first_stage}
 use Rattle.mc_station.specs.Status.{IsAnswer}
 use Rattle.mc_station.specs.Texts.{place_line}
 use Rattle.mc_station.specs.declared.file.FileKind.TheVariants.{Source}
@@ -40,5 +40,5 @@ abbrev pub SourceAlone : Type 0
 SourceAlone =
     (call : Call) (asked after : Requests) (r : Reply) → LeadsTo call asked r after
     → r.status ≡ SourceRefused
-    → (file : File) × (next_of (first_stage (command_of call.words)) ≡ asks file)
+    → (file : File) × (file_of (first_stage (command_of call.words)) ≡ Some file)
     × (file.kind ≡ Source) × (after ≡ and_asked asked (request_of file))

@@ -4,6 +4,7 @@ pub mod Files
 pub mod Texts
 pub mod Reply
 pub mod Source
+pub mod Runs
 pub mod Stages
 pub mod Calls
 pub mod Laws
@@ -11,3 +12,5 @@ pub mod Laws
 pub mod Outcome
 -- What clauses see of the program's types.
 pub mod Seen
+-- What the tests gave, for the proofs alone.
+pub mod Ran

@@ -2,16 +2,18 @@
 use Rattle.std.specs.Prelude.{ℕ, List, []}
 use Rattle.mc_station.specs.Files.{File, limit_of, status_of}
 use Rattle.mc_station.specs.Texts.{cannot_read_line, longer_line}
+use Rattle.mc_station.specs.Status.{status_written}
 use Rattle.mc_station.specs.declared.status.Status.{Status}
-use Rattle.mc_station.specs.declared.status.Status.TheVariants.{Done, CannotRead, OutOfMemory}
+use Rattle.mc_station.specs.declared.status.Status.TheVariants.{CannotRead, OutOfMemory}
 
 pub record Reply : Type 0 where
   pub status : Status
   pub diag : List ℕ
   pub out : List (List ℕ)
 
-abbrev pub success : List (List ℕ) → Reply
-success lines = record { status = Done; diag = []; out = lines }
+-- all was written; the number is 0, or 1 where the text says that something is missing
+abbrev pub written : ℕ → List (List ℕ) → Reply
+written number lines = record { status = status_written number; diag = []; out = lines }
 
 abbrev pub refusal : Status → List ℕ → Reply
 refusal status line = record { status = status; diag = line; out = [] }

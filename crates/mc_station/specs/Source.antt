@@ -1,6 +1,6 @@
 -- Which sources are accepted: by phases, of which the first with a fault answers. The length comes
 -- before them: a source that is longer than its limit has no phases.
-use Rattle.std.specs.Prelude.{◌≡◌, ◌⊎◌, ◌≤◌, ◌<◌, ℕ, List, [], ◌∷◌, length, Option, Some, None, Result, Ok, Err, All}
+use Rattle.std.specs.Prelude.{◌≡◌, ◌⊎◌, ◌≤◌, ◌<◌, ◌-◌, ◌^◌, min, ℕ, List, [], length, Some, None, Result, Ok, Err, All}
 use Rattle.mc_lex.specs.declared.token.Dialect.TheVariants.{Plain}
 use Rattle.mc_lex.specs.declared.fault.LexFault.{LexFault}
 use Rattle.mc_lex.specs.Scans.{Scans}
@@ -15,9 +15,10 @@ use Rattle.mc_typing.specs.declared.fault.Fault.{Fault}
 use Rattle.mc_typing.specs.Typing.{IsTypingOf, IsFirstFaultOf}
 use Rattle.mc_decide.specs.Decisions.{Decision, AreDecisions, IsSmall, IsFirstLarge}
 use Rattle.mc_paths.specs.Paths.{count_of}
-use Rattle.mc_first.specs.Form.{Form, first_form}
+use Rattle.mc_probe.specs.Maps.{Map, IsMapOf}
+use Rattle.mc_instrument.specs.Faults.{HasFewPaths, IsFirstWithMany, bits_of, most_bits}
 use Rattle.mc_station.specs.Reply.{Reply, refusal}
-use Rattle.mc_station.specs.Texts.{conditions_line, fault_line, outside_line, paths_line, source_form_line, syntax_line, type_line}
+use Rattle.mc_station.specs.Texts.{bits_line, conditions_line, fault_line, outside_line, paths_line, syntax_line, type_line}
 use Rattle.mc_station.specs.declared.status.Status.TheVariants.{SourceRefused}
 
 -- a phase, and the next one on what it gives: the first that refuses answers
@@ -64,19 +65,6 @@ Decides source program (Err reply) =
     × (at : ℕ) × (count : ℕ) × IsFirstLarge ds at count
     × (reply ≡ refusal SourceRefused (conditions_line source at count))
 
--- at most this many paths lead through a decision that is accepted
-abbrev pub most_paths : ℕ
-most_paths = 4096
-
-abbrev pub HasFewPaths : Decision → Type 0
-HasFewPaths d = count_of d.tree ≤ most_paths
-
--- it has too many paths, and none before it has
-abbrev pub IsFirstWithMany : List Decision → Decision → Type 0
-IsFirstWithMany [] e = ⊥
-IsFirstWithMany (d ∷ ds) e =
-    ((most_paths < count_of d.tree) × (d ≡ e)) ⊎ (HasFewPaths d × IsFirstWithMany ds e)
-
 -- that no decision has too many paths, or the first that has
 abbrev pub Numbers : List ℕ → List Decision → Result (Unit {0}) Reply → Type 0
 Numbers source ds (Ok u) = All HasFewPaths ds
@@ -84,32 +72,48 @@ Numbers source ds (Err reply) =
     (d : Decision) × IsFirstWithMany ds d
     × (reply ≡ refusal SourceRefused (paths_line source d.root.start (count_of d.tree)))
 
--- the first form that a tree has
-abbrev pub Forms : List Item → Result Form Reply → Type 0
-Forms unit (Ok form) = first_form unit ≡ Some form
-Forms unit (Err reply) =
-    (first_form unit ≡ None) × (reply ≡ refusal SourceRefused source_form_line)
+-- ---- the map
+
+-- the map of the program's bits, or that there are too many; a greater number of them than 2^64 - 1
+-- is told as that
+abbrev pub Maps : Program → List Decision → Result Map Reply → Type 0
+Maps program ds (Ok m) = IsMapOf program m
+Maps program ds (Err reply) =
+    (most_bits < bits_of program ds)
+    × (reply ≡ refusal SourceRefused (bits_line (min (bits_of program ds) (2 ^ 64 - 1))))
+
+-- ---- all phases
+
+-- a source that is accepted: its bytes, its typed program, and the map of its bits
+pub record Accepted : Type 0 where
+  pub source : List ℕ
+  pub program : Program
+  pub map : Map
+
+abbrev pub Accepts : List ℕ → Program → Map → Result Accepted Reply → Type 0
+Accepts source program m v = v ≡ Ok (record { source = source; program = program; map = m })
 
 -- the phases after the conditions
-abbrev pub JudgesDecisions : List ℕ → List Item → List Decision → Result Form Reply → Type 0
-JudgesDecisions source unit ds = Then (Numbers source ds) (λ u. Forms unit)
+abbrev pub JudgesDecisions : List ℕ → Program → List Decision → Result Accepted Reply → Type 0
+JudgesDecisions source program ds =
+    Then (Numbers source ds) (λ u. Then (Maps program ds) (Accepts source program))
 
 -- the phases after names and types
-abbrev pub JudgesProgram : List ℕ → List Item → Program → Result Form Reply → Type 0
-JudgesProgram source unit program = Then (Decides source program) (JudgesDecisions source unit)
+abbrev pub JudgesProgram : List ℕ → Program → Result Accepted Reply → Type 0
+JudgesProgram source program = Then (Decides source program) (JudgesDecisions source program)
 
 -- the phases after the outside forms
-abbrev pub JudgesNames : List ℕ → List Item → Result Form Reply → Type 0
-JudgesNames source unit = Then (Types source unit) (JudgesProgram source unit)
+abbrev pub JudgesNames : List ℕ → List Item → Result Accepted Reply → Type 0
+JudgesNames source unit = Then (Types source unit) (JudgesProgram source)
 
 -- the phases after the syntax
-abbrev pub JudgesTree : List ℕ → List Item → Result Form Reply → Type 0
+abbrev pub JudgesTree : List ℕ → List Item → Result Accepted Reply → Type 0
 JudgesTree source unit = Then (Admits source unit) (λ u. JudgesNames source unit)
 
 -- the phases after the tokens
-abbrev pub JudgesTokens : List ℕ → List Tok → Result Form Reply → Type 0
+abbrev pub JudgesTokens : List ℕ → List Tok → Result Accepted Reply → Type 0
 JudgesTokens source tokens = Then (Parses source tokens) (JudgesTree source)
 
--- the form of a source that is accepted, or why it is refused
-abbrev pub JudgesSource : List ℕ → Result Form Reply → Type 0
+-- what a source is accepted as, or why it is refused
+abbrev pub JudgesSource : List ℕ → Result Accepted Reply → Type 0
 JudgesSource source = Then (Lexes source) (JudgesTokens source)

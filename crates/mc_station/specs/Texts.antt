@@ -8,6 +8,8 @@ use Rattle.mc_lex.specs.Lines.{line_of, column_of}
 use Rattle.mc_lex.specs.Tokens.{Tok}
 use Rattle.mc_typing.specs.declared.fault.Fault.{Fault}
 use Rattle.mc_types.specs.Faults.{kind_word}
+use Rattle.mc_tests.specs.declared.fault.TestFault.{TestFault}
+use Rattle.mc_tests.specs.declared.fault.TestFault.TheVariants as fault
 use Rattle.mc_subset.specs.Names.{name_of}
 use Rattle.mc_subset.specs.declared.outside.Outside.{Outside}
 
@@ -15,7 +17,9 @@ abbrev pub newline : List ℕ
 newline = 10 ∷ []
 
 abbrev pub usage_text : List ℕ
-usage_text = codes "usage: mcdc vectors SOURCE TESTS" ++ newline
+usage_text =
+    codes "usage: mcdc report SOURCE TESTS [--mode unique|masking] [--fuel N]" ++ (newline
+    ++ (codes "       mcdc vectors SOURCE TESTS [--fuel N]" ++ newline))
 
 abbrev pub cannot_read_line : List ℕ → List ℕ
 cannot_read_line name = concat (codes "mcdc: cannot read " ∷ name ∷ newline ∷ [])
@@ -82,8 +86,29 @@ conditions_line source at count = many_line_at source at (codes "conditions") co
 abbrev pub paths_line : (source : List ℕ) (at count : ℕ) → List ℕ
 paths_line source at count = many_line_at source at (codes "paths") count
 
-abbrev pub source_form_line : List ℕ
-source_form_line = codes "mcdc: source: form not built" ++ newline
+-- the line on a program with too many bits
+abbrev pub bits_line : (count : ℕ) → List ℕ
+bits_line count =
+    concat (codes "mcdc: source: too many bits " ∷ decimal count ∷ newline ∷ [])
 
-abbrev pub tests_form_line : List ℕ
-tests_form_line = codes "mcdc: tests: form not built" ++ newline
+-- the first fault of a tests file, by the record in which it stands
+abbrev pub record_line : (row : ℕ) → List ℕ → List ℕ
+record_line row word =
+    concat (codes "mcdc: tests record " ∷ decimal row ∷ codes ": " ∷ word ∷ newline ∷ [])
+
+abbrev pub tests_line : TestFault → List ℕ
+tests_line (fault.Header row) = record_line row (codes "header")
+tests_line (fault.Width row) = record_line row (codes "width")
+tests_line (fault.Text row) = record_line row (codes "text")
+tests_line (fault.Number row) = record_line row (codes "number")
+tests_line (fault.Function row) = record_line row (codes "function")
+tests_line (fault.Arguments row) = record_line row (codes "arguments")
+tests_line (fault.NotCallable row) = record_line row (codes "not callable")
+tests_line (fault.NameAgain row) = record_line row (codes "name again")
+tests_line (fault.Limit row) = record_line row (codes "limit")
+tests_line fault.OutOfMemory = []
+
+-- how many words the matrix of all bits under all tests needs
+abbrev pub matrix_line : (words : ℕ) → List ℕ
+matrix_line words =
+    concat (codes "mcdc: matrix needs " ∷ decimal words ∷ codes " words" ∷ newline ∷ [])

@@ -1,7 +1,9 @@
 //! The top call: the words of a command line, a store and two sinks in, a status out.
 #![tactic(auto)]
 
+mod accepted;
 mod file;
+mod finish;
 mod judge;
 pub mod laws;
 mod refusal;

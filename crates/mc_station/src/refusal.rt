@@ -3,6 +3,7 @@
 use crate::file::File;
 use mc_lex::Place;
 use mc_subset::Form;
+use mc_tests::TestFault;
 use std::alloc::AllocError;
 
 /// Why a file is refused.
@@ -26,10 +27,12 @@ pub enum Refusal<'w> {
         what: &'static str,
         count: u128,
     },
-    /// The source has not the first form.
-    SourceForm,
-    /// The tests file has not the form that it has so far.
-    TestsForm,
+    /// The program has too many bits.
+    TooManyBits {
+        count: u64,
+    },
+    /// The tests file has a first fault.
+    Tests(TestFault),
 }
 
 /// Why a phase gives nothing.

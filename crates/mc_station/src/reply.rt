@@ -1,7 +1,7 @@
 //! Replies.
 ghost use Rattle.std.specs.Prelude.{◌≡◌, IfOk, string_bytes};
-ghost use Rattle.mc_first.specs.Seen.{bytes_of};
-ghost use Rattle.mc_station.specs.Reply.{cannot_read, success};
+ghost use Rattle.mc_report.specs.Seen.{bytes_of};
+ghost use Rattle.mc_station.specs.Reply.{cannot_read, written};
 ghost use Rattle.mc_station.specs.Reply as spec;
 ghost use Rattle.mc_station.specs.Seen.{IsReplyTo, reply_to, seen_file, seen_reply};
 
@@ -20,12 +20,12 @@ pub struct Reply {
 }
 
 impl Reply {
-    /// Lines for the output.
-    pub fn of_lines(alloc: Global, out: Vec<Vec<u8>>) -> Reply
-        ensures { seen_reply result ≡ success (bytes_of out.items) }
+    /// Lines for the output. Something is missing where the number is not 0.
+    pub fn of_lines(alloc: Global, number: u8, out: Vec<Vec<u8>>) -> Reply
+        ensures { seen_reply result ≡ written number (bytes_of out.items) }
     {
         Reply {
-            status: Status::Done,
+            status: Status::written(number),
             diag: String::new(alloc),
             out,
         }
@@ -79,8 +79,8 @@ impl Refusal<'_> {
             Refusal::Fault { .. }
             | Refusal::Outside { .. }
             | Refusal::TooMany { .. }
-            | Refusal::SourceForm => { Status::SourceRefused }
-            Refusal::TestsForm => Status::TestsRefused,
+            | Refusal::TooManyBits { .. } => { Status::SourceRefused }
+            Refusal::Tests(_) => Status::TestsRefused,
         }
     }
 }

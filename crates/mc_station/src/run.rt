@@ -3,13 +3,13 @@ ghost use Rattle.std.specs.Prelude.{◌≡◌, ◌≢◌, ◌≤◌, IfOk, lengt
 ghost use Rattle.mc_station.specs.Stages.{files_left};
 ghost use Rattle.mc_port.specs.Causes.{Rose};
 ghost use Rattle.mc_station.specs.Calls.{Leads};
-ghost use Rattle.mc_station.specs.Seen.{outcome_of, seen_stage};
+ghost use Rattle.mc_station.specs.Seen.{IsReady, outcome_of, seen_stage};
 ghost use Rattle.mc_station.specs.declared.status.Status.TheVariants.{CannotRead, OutOfMemory};
 
 use crate::judge::judge;
 use crate::refusal::Refusal;
 use crate::reply::Reply;
-use crate::stage::{Next, Stage};
+use crate::stage::Stage;
 use mc_port::{LoadFault, Store};
 use std::alloc::{AllocError, Global};
 
@@ -21,7 +21,8 @@ pub fn run<'a, S: Store>(
     stage: Stage<'a>,
     slots: &'a mut [Vec<u8>],
 ) -> Result<Reply, AllocError>
-    requires { files_left (seen_stage stage) ≤ length slots.old }
+    requires room { files_left (seen_stage stage) ≤ length slots.old }
+    requires ready { IsReady stage }
     ensures leads { Leads (S.state store.old).contents (seen_stage stage.entry)
         (S.state store.old).asked (outcome_of result) (S.state store.new).asked }
     ensures unreadable { (outcome_of result).status ≡ CannotRead
@@ -30,10 +31,8 @@ pub fn run<'a, S: Store>(
     ensures contents { (S.state store.new).contents ≡ (S.state store.old).contents }
     ensures later { (S.state store.old).faults ≤ (S.state store.new).faults }
 {
-    let file = match stage.next(alloc) {
-        Ok(Next::Asks(file)) => file,
-        Ok(Next::Done(reply)) => return Ok(reply),
-        Err(_) => return Err(AllocError),
+    let Some(file) = stage.file() else {
+        return stage.end(alloc);
     };
     let [slot, later @ ..] = slots else {
         unreachable!();
@@ -46,8 +45,17 @@ pub fn run<'a, S: Store>(
                 Err(stop) => Reply::of_stop(alloc, stop),
             }
         }
-        Err(LoadFault::TooLong { .. }) => Reply::of_refusal(alloc, Refusal::TooLong(file)),
-        Err(LoadFault::Failed) => Reply::of_unreadable(alloc, file),
-        Err(LoadFault::OutOfMemory) => Err(AllocError),
+        Err(LoadFault::TooLong { .. }) => {
+            drop(stage);
+            Reply::of_refusal(alloc, Refusal::TooLong(file))
+        }
+        Err(LoadFault::Failed) => {
+            drop(stage);
+            Reply::of_unreadable(alloc, file)
+        }
+        Err(LoadFault::OutOfMemory) => {
+            drop(stage);
+            Err(AllocError)
+        }
     }
 }

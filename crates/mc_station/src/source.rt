@@ -1,6 +1,5 @@
 //! Which sources are accepted: by phases, of which the first with a fault answers.
 ghost use Rattle.std.specs.Prelude.{[], ◌∷◌, ◌≡◌, ◌≤◌, ◌<◌, ◌^◌, All, IfOk, None, drop, length, map};
-ghost use Rattle.mc_first.specs.Seen.{form_of};
 ghost use Rattle.mc_lex.specs.Lines.{column_of, line_of};
 ghost use Rattle.mc_lex.specs.Returned.{IsSlice};
 ghost use Rattle.mc_lex.specs.Tokens.{toks_of};
@@ -9,17 +8,18 @@ ghost use Rattle.mc_typed.specs.Views.{program_of};
 ghost use Rattle.mc_subset.specs.Forms.{first_outside};
 ghost use Rattle.mc_subset.specs.Nodes.{nodes_of_unit};
 ghost use Rattle.mc_cond.specs.Tree.{tree_of, IsNumbered};
+ghost use Rattle.mc_decide.specs.Decisions.{AreDecisions};
 ghost use Rattle.mc_decide.specs.Seen.{decision_of};
-ghost use Rattle.mc_station.specs.Seen.{Gives};
-ghost use Rattle.mc_station.specs.Source.{Admits, Decides, Forms, JudgesDecisions, JudgesNames, JudgesProgram, JudgesSource, JudgesTokens, JudgesTree, Lexes, Numbers, Parses, Types};
+ghost use Rattle.mc_station.specs.Seen.{Gives, IsInstrumented, seen_accepted};
+ghost use Rattle.mc_station.specs.Source.{Admits, Decides, JudgesDecisions, JudgesNames, JudgesProgram, JudgesSource, JudgesTokens, JudgesTree, Lexes, Parses, Types};
 ghost use Rattle.mc_station.specs.Texts.{start_of};
 
+use crate::accepted::Accepted;
 use crate::refusal::{Refusal, Stop};
 use mc_decide::{DecideFault, Decision, decisions};
-use mc_first::{Function, read_function};
+use mc_instrument::{InstrumentFault, instrument};
 use mc_lex::{Dialect, Place, Token, lex, place_of};
 use mc_parse::{ParseFault, parse};
-use mc_paths::{NumberFault, number};
 use mc_subset::check;
 use mc_tree::Unit;
 use mc_typed::Program;
@@ -128,6 +128,8 @@ fn decided<'a>(
     requires { length source.now < 2 ^ 31 }
     ensures decides { Gives (λ ds. map decision_of ds.items)
         (Decides source.now (program_of program.now)) result }
+    ensures decisions { IfOk result (λ ds.
+        AreDecisions (program_of program.now).functions (map decision_of ds.items)) }
     ensures numbered { IfOk result (λ ds. All (λ d. IsNumbered (tree_of d.tree)) ds.items) }
 {
     match decisions(alloc, program) {
@@ -141,97 +143,78 @@ fn decided<'a>(
     }
 }
 
-// Whether a decision has few paths.
-fn few_paths<'a>(alloc: Global, source: &[u8], decision: &Decision) -> Result<(), Stop<'a>>
+// The phases of the paths and of the map.
+fn judge_decisions<'a>(
+    alloc: Global,
+    source: &'a [u8],
+    program: &Program<'a>,
+    decisions: Vec<Decision>,
+) -> Result<Accepted<'a>, Stop<'a>>
     requires short { length source.now < 2 ^ 31 }
-    requires numbered { IsNumbered (tree_of decision.now.tree) }
-    ensures { Gives (λ u. u) (Numbers source.now (decision_of decision.now ∷ [])) result }
+    requires decisions { AreDecisions (program_of program.now).functions
+        (map decision_of decisions.items) }
+    requires numbered { All (λ d. IsNumbered (tree_of d.tree)) decisions.items }
+    ensures judges { Gives seen_accepted (JudgesDecisions source.now (program_of program.now)
+        (map decision_of decisions.items)) result }
+    ensures instrumented { IfOk result IsInstrumented }
 {
-    match number(alloc, &decision.tree) {
-        Ok(numbering) => {
-            drop(numbering);
-            Ok(())
-        }
-        Err(NumberFault::TooManyPaths { count }) => Err(Stop::Refused(Refusal::TooMany {
-            place: place_within(source, decision.root.start),
+    match instrument(alloc, program, decisions) {
+        Ok((tree, map)) => Ok(Accepted::new(source, tree, map)),
+        Err(InstrumentFault::TooManyPaths { at, count }) => Err(Stop::Refused(Refusal::TooMany {
+            place: place_within(source, at),
             what: "paths",
             count,
         })),
-        Err(NumberFault::OutOfMemory) => Err(Stop::OutOfMemory),
-    }
-}
-
-// The phase of the paths.
-fn numbered<'a>(alloc: Global, source: &[u8], decisions: &[Decision]) -> Result<(), Stop<'a>>
-    requires short { length source.now < 2 ^ 31 }
-    requires numbered { All (λ d. IsNumbered (tree_of d.tree)) decisions.now }
-    ensures { Gives (λ u. u) (Numbers source.now (map decision_of decisions.now)) result }
-{
-    for decision in decisions {
-        match few_paths(alloc, source, decision) {
-            Ok(()) => {}
-            Err(stop) => return Err(stop),
+        Err(InstrumentFault::TooManyBits { count }) => {
+            Err(Stop::Refused(Refusal::TooManyBits { count }))
         }
+        Err(InstrumentFault::OutOfMemory) => Err(Stop::OutOfMemory),
     }
-    Ok(())
-}
-
-// The last phase so far: the first form.
-fn formed<'a>(alloc: Global, unit: &Unit<'a>) -> Result<Function<'a>, Stop<'a>>
-    ensures { Gives form_of (Forms (items_of unit.now.items.items)) result }
-{
-    match read_function(alloc, unit) {
-        Ok(Some(function)) => Ok(function),
-        Ok(None) => Err(Stop::Refused(Refusal::SourceForm)),
-        Err(_) => Err(Stop::OutOfMemory),
-    }
-}
-
-// The phases after the conditions.
-fn judge_decisions<'a>(
-    alloc: Global,
-    source: &[u8],
-    unit: &Unit<'a>,
-    decisions: &[Decision],
-) -> Result<Function<'a>, Stop<'a>>
-    requires short { length source.now < 2 ^ 31 }
-    requires numbered { All (λ d. IsNumbered (tree_of d.tree)) decisions.now }
-    ensures { Gives form_of (JudgesDecisions source.now (items_of unit.now.items.items)
-        (map decision_of decisions.now)) result }
-{
-    numbered(alloc, source, decisions)?;
-    formed(alloc, unit)
 }
 
 // The phases after names and types.
 fn judge_program<'a>(
     alloc: Global,
-    source: &[u8],
-    unit: &Unit<'a>,
-    program: &Program<'_>,
-) -> Result<Function<'a>, Stop<'a>>
+    source: &'a [u8],
+    program: &Program<'a>,
+) -> Result<Accepted<'a>, Stop<'a>>
     requires { length source.now < 2 ^ 31 }
-    ensures { Gives form_of (JudgesProgram source.now (items_of unit.now.items.items)
-        (program_of program.now)) result }
+    ensures judges { Gives seen_accepted
+        (JudgesProgram source.now (program_of program.now)) result }
+    ensures instrumented { IfOk result IsInstrumented }
 {
     let decisions = decided(alloc, source, program)?;
-    judge_decisions(alloc, source, unit, &decisions)
+    judge_decisions(alloc, source, program, decisions)
 }
 
 // The phases after the outside forms.
-fn judge_names<'a>(alloc: Global, source: &[u8], unit: &Unit<'a>) -> Result<Function<'a>, Stop<'a>>
+fn judge_names<'a>(
+    alloc: Global,
+    source: &'a [u8],
+    unit: &Unit<'a>,
+) -> Result<Accepted<'a>, Stop<'a>>
     requires short { length source.now < 2 ^ 31 }
     requires admitted { first_outside (nodes_of_unit (items_of unit.now.items.items)) ≡ None }
-    ensures { Gives form_of (JudgesNames source.now (items_of unit.now.items.items)) result }
+    ensures judges { Gives seen_accepted
+        (JudgesNames source.now (items_of unit.now.items.items)) result }
+    ensures instrumented { IfOk result IsInstrumented }
 {
     let program = typed(alloc, source, unit)?;
-    judge_program(alloc, source, unit, &program)
+    let accepted = judge_program(alloc, source, &program);
+    drop(program);
+    accepted
 }
 
 // The phases after the syntax.
-fn judge_tree<'a>(alloc: Global, source: &[u8], unit: &Unit<'a>) -> Result<Function<'a>, Stop<'a>>
+fn judge_tree<'a>(
+    alloc: Global,
+    source: &'a [u8],
+    unit: &Unit<'a>,
+) -> Result<Accepted<'a>, Stop<'a>>
     requires { length source.now < 2 ^ 31 }
-    ensures { Gives form_of (JudgesTree source.now (items_of unit.now.items.items)) result }
+    ensures judges { Gives seen_accepted
+        (JudgesTree source.now (items_of unit.now.items.items)) result }
+    ensures instrumented { IfOk result IsInstrumented }
 {
     admitted(source, unit)?;
     judge_names(alloc, source, unit)
@@ -240,22 +223,26 @@ fn judge_tree<'a>(alloc: Global, source: &[u8], unit: &Unit<'a>) -> Result<Funct
 // The phases after the tokens.
 fn judge_tokens<'a>(
     alloc: Global,
-    source: &[u8],
+    source: &'a [u8],
     tokens: &[Token<'a>],
-) -> Result<Function<'a>, Stop<'a>>
+) -> Result<Accepted<'a>, Stop<'a>>
     requires short { length source.now < 2 ^ 31 }
     requires slices { All (IsSlice source.now) (toks_of tokens.now) }
     requires few { length tokens.now ≤ length source.now }
-    ensures { Gives form_of (JudgesTokens source.now (toks_of tokens.now)) result }
+    ensures judges { Gives seen_accepted (JudgesTokens source.now (toks_of tokens.now)) result }
+    ensures instrumented { IfOk result IsInstrumented }
 {
     let unit = parsed(alloc, source, tokens)?;
-    judge_tree(alloc, source, &unit)
+    let accepted = judge_tree(alloc, source, &unit);
+    drop(unit);
+    accepted
 }
 
-/// The function that a source is, by its phases.
-pub fn judge_source<'a>(alloc: Global, source: &'a [u8]) -> Result<Function<'a>, Stop<'a>>
+/// What a source is accepted as, by its phases.
+pub fn judge_source<'a>(alloc: Global, source: &'a [u8]) -> Result<Accepted<'a>, Stop<'a>>
     requires { length source.now < 2 ^ 31 }
-    ensures { Gives form_of (JudgesSource source.now) result }
+    ensures judges { Gives seen_accepted (JudgesSource source.now) result }
+    ensures instrumented { IfOk result IsInstrumented }
 {
     let tokens = lexed(alloc, source)?;
     judge_tokens(alloc, source, &tokens)

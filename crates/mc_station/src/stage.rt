@@ -1,16 +1,18 @@
 //! The stages of the commands.
-ghost use Rattle.std.specs.Prelude.{◌≡◌, IfOk};
+ghost use Rattle.std.specs.Prelude.{◌≡◌, None, IfOk, option_map};
 ghost use Rattle.mc_command.specs.Command.{command_of};
-ghost use Rattle.mc_station.specs.Seen.{seen_next, seen_stage};
-ghost use Rattle.mc_station.specs.Stages.{first_stage, next_of};
+ghost use Rattle.mc_station.specs.Seen.{IsReady, seen_file, seen_reply, seen_stage};
+ghost use Rattle.mc_station.specs.Stages.{Ends, file_of, first_stage};
 
+use crate::accepted::Accepted;
 use crate::file::{File, FileKind};
+use crate::finish::finish;
 use crate::reply::Reply;
 use crate::status::Status;
 use crate::text::usage_text;
 use mc_command::{Command, read_command};
-use mc_first::{Function, Test, report_lines};
 use mc_port::Words;
+use mc_typed::TestPlan;
 use std::alloc::{AllocError, Global};
 
 /// How far a command has come: what its files were accepted as so far.
@@ -20,22 +22,16 @@ pub enum Stage<'a> {
     Usage,
     /// The source of a command is asked for.
     Source(Command<'a>),
-    /// The source is accepted, and the tests file of that name is asked for.
-    Tests(&'a str, Function<'a>),
-    /// Both files of `vectors` are accepted.
-    Vectors(Function<'a>, Vec<Test>),
-}
-
-/// What a stage asks for, or the reply after the last file.
-#[derive(Drop)]
-pub enum Next<'a> {
-    Asks(File<'a>),
-    Done(Reply),
+    /// The source is accepted, and the tests file is asked for.
+    Tests(Command<'a>, Accepted<'a>),
+    /// Both files are accepted.
+    Run(Command<'a>, Accepted<'a>, Vec<TestPlan>),
 }
 
 /// The first stage of what the words ask for.
 pub fn first_stage(words: &Words) -> Stage<'_>
-    ensures { seen_stage result ≡ first_stage (command_of words.now) }
+    ensures stage { seen_stage result ≡ first_stage (command_of words.now) }
+    ensures ready { IsReady result }
 {
     match read_command(words) {
         Some(command) => Stage::Source(command),
@@ -44,27 +40,36 @@ pub fn first_stage(words: &Words) -> Stage<'_>
 }
 
 impl<'a> Stage<'a> {
-    /// What follows at this stage.
-    pub fn next(&self, alloc: Global) -> Result<Next<'a>, AllocError>
-        ensures { IfOk result (λ next. seen_next next ≡ next_of (seen_stage self.now)) }
+    /// The file that is asked for at this stage.
+    pub fn file(&self) -> Option<File<'a>>
+        ensures { option_map seen_file result ≡ file_of (seen_stage self.now) }
+    {
+        match self {
+            Stage::Source(command) => Some(File {
+                kind: FileKind::Source,
+                name: command.source(),
+            }),
+            Stage::Tests(command, _) => Some(File {
+                kind: FileKind::Tests,
+                name: command.tests(),
+            }),
+            Stage::Usage | Stage::Run(..) => None,
+        }
+    }
+
+    /// The reply of a stage that asks for no file.
+    pub fn end(self, alloc: Global) -> Result<Reply, AllocError>
+        requires last { file_of (seen_stage self) ≡ None }
+        requires ready { IsReady self }
+        ensures { IfOk result (λ reply. Ends (seen_stage self.entry) (seen_reply reply)) }
     {
         match self {
             Stage::Usage => {
                 let text = usage_text(alloc)?;
-                Ok(Next::Done(Reply::of_text(alloc, Status::NoCommand, text)))
+                Ok(Reply::of_text(alloc, Status::NoCommand, text))
             }
-            Stage::Source(Command::Vectors { source, .. }) => Ok(Next::Asks(File {
-                kind: FileKind::Source,
-                name: source,
-            })),
-            Stage::Tests(name, _) => Ok(Next::Asks(File {
-                kind: FileKind::Tests,
-                name,
-            })),
-            Stage::Vectors(function, tests) => {
-                let lines = report_lines(alloc, function, tests)?;
-                Ok(Next::Done(Reply::of_lines(alloc, lines)))
-            }
+            Stage::Run(command, accepted, plans) => finish(alloc, command, accepted, plans),
+            Stage::Source(..) | Stage::Tests(..) => unreachable!(),
         }
     }
 }

@@ -1,7 +1,7 @@
 //! The top call.
 ghost use Rattle.std.specs.Prelude.{◌≡◌, ◌≢◌, ◌⊎◌, ◌≤◌, OnErr, OnOk};
 ghost use Rattle.std.specs.List.{concat};
-ghost use Rattle.mc_first.specs.Seen.{bytes_of};
+ghost use Rattle.mc_report.specs.Seen.{bytes_of};
 ghost use Rattle.mc_port.specs.Causes.{Rose};
 ghost use Rattle.mc_port.specs.Sink.{Puts};
 ghost use Rattle.mc_station.specs.Calls.{CallsFor, IsKnown, call_of};
@@ -48,9 +48,10 @@ fn put<K: Sink, E: Sink>(reply: &Reply, out: &mut K, diag: &mut E) -> Result<(),
 
 /// Does what the words of a command line ask for, and gives the status of the program.
 ///
-/// The one command is `vectors SOURCE TESTS`. It puts on `out` a line for each test and one for
-/// each vector that some test evaluates. Everything is computed, and all memory taken, before the
-/// first `put`; a line is one `put`. The gate is for workers, which there are none of yet.
+/// The command `report` puts on `out` the report of the tests and of the verdicts, `vectors` a line
+/// for each test and one for each vector that some test evaluates. Everything is computed, and all
+/// memory taken, before the first `put`; a line is one `put`. The gate is for workers, which there
+/// are none of yet.
 pub fn station<S: Store, K: Sink, E: Sink, G: Gate>(
     alloc: Global,
     words: &Words,

@@ -5,8 +5,6 @@ use std::alloc::Global;
 use std::process::Abort;
 use std::test::Fail;
 
-const NOT_BUILT: (u8, &str, &str) = (4, "", "mcdc: tests: form not built\n");
-
 const NAME_64: &str = "aaaaaaaaaaaaaaaabbbbbbbbbbbbbbbbccccccccccccccccdddddddddddddddd";
 
 /// A tests file of the header and these lines gives this.
@@ -51,42 +49,43 @@ fn tests_that_are_accepted(rt: HostRuntime) -> Result<(), Fail> {
     Ok(())
 }
 
-/// What follows the header of a tests file that is refused.
-const REFUSED: [&str; 28] = [
-    "t1,f,-0 1,,,\n",
-    "t1,f,01 1,,,\n",
-    "t1,f,+1 1,,,\n",
-    "t1,f,2147483648 1,,,\n",
-    "t1,f,-2147483649 1,,,\n",
-    "t1,f,1  1,,,\n",
-    "t1,f, 1 1,,,\n",
-    "t1,f,1 1 ,,,\n",
-    "t1,f,1\t1,,,\n",
-    "t1,f,1,,,\n",
-    "t1,f,1 1 1,,,\n",
-    "t1,f,,,,\n",
-    "t1,f,1 a,,,\n",
-    "t1,f,1 -,,,\n",
-    "t1,f,1 \01,,,\n",
-    "t\01,f,1 1,,,\n",
-    "t1,f,1 1,\0,,\n",
-    "t1,g,1 1,,,\n",
-    "t1,,1 1,,,\n",
-    ",f,1 1,,,\n",
-    "t 1,f,1 1,,,\n",
-    "t1,f,1 1,0,,\n",
-    "t1,f,1 1,,1,\n",
-    "t1,f,1 1,,,1\n",
-    "t1,f,1 1,,\n",
-    "t1,f,1 1,,,,\n",
-    "t1,f,1 1,,,\nt1,f,1 0,,,\n",
-    "t1,f,1 1,,,\nt2,f,1 0,,,\nt1,f,1 1,,,\n",
+/// What follows the header of a tests file that is refused, and the record and its fault.
+const REFUSED: [(&str, &str); 27] = [
+    ("t1,f,-0 1,,,\n", "2: number"),
+    ("t1,f,01 1,,,\n", "2: number"),
+    ("t1,f,+1 1,,,\n", "2: number"),
+    ("t1,f,2147483648 1,,,\n", "2: arguments"),
+    ("t1,f,-2147483649 1,,,\n", "2: arguments"),
+    ("t1,f,1  1,,,\n", "2: number"),
+    ("t1,f, 1 1,,,\n", "2: number"),
+    ("t1,f,1 1 ,,,\n", "2: number"),
+    ("t1,f,1\t1,,,\n", "2: text"),
+    ("t1,f,1,,,\n", "2: arguments"),
+    ("t1,f,1 1 1,,,\n", "2: arguments"),
+    ("t1,f,,,,\n", "2: arguments"),
+    ("t1,f,1 a,,,\n", "2: number"),
+    ("t1,f,1 -,,,\n", "2: number"),
+    ("t1,f,1 \01,,,\n", "2: text"),
+    ("t\01,f,1 1,,,\n", "2: text"),
+    ("t1,f,1 1,\0,,\n", "2: text"),
+    ("t1,g,1 1,,,\n", "2: function"),
+    ("t1,,1 1,,,\n", "2: function"),
+    (",f,1 1,,,\n", "2: text"),
+    ("t 1,f,1 1,,,\n", "2: text"),
+    ("t1,f,1 1,2147483648,,\n", "2: number"),
+    ("t1,f,1 1,,a,\n", "2: number"),
+    ("t1,f,1 1,,,1 a\n", "2: number"),
+    ("t1,f,1 1,,\n", "2: width"),
+    ("t1,f,1 1,,,,\n", "2: width"),
+    ("t1,f,1 1,,,\nt2,f,1 0,,,\nt1,f,1 1,,,\n", "4: name again"),
 ];
 
 #[test]
 fn tests_that_are_refused(rt: HostRuntime) -> Result<(), Fail> {
-    for lines in REFUSED {
-        lists(&rt, rt.alloc(), lines, NOT_BUILT)?;
+    let alloc = rt.alloc();
+    for (lines, fault) in REFUSED {
+        let diag = format!(in alloc; "mcdc: tests record {fault}\n")?;
+        lists(&rt, alloc, lines, (4, "", diag.as_str()))?;
     }
     Ok(())
 }
@@ -136,7 +135,12 @@ const NO_HEADER: [&str; 7] = [
 #[test]
 fn files_without_a_header(rt: HostRuntime) -> Result<(), Fail> {
     for tests in NO_HEADER {
-        is_judged(&rt, rt.alloc(), tests, NOT_BUILT)?;
+        is_judged(
+            &rt,
+            rt.alloc(),
+            tests,
+            (4, "", "mcdc: tests record 1: header\n"),
+        )?;
     }
     Ok(())
 }
@@ -149,7 +153,12 @@ fn length_of_names(rt: HostRuntime) -> Result<(), Fail> {
     let out = format!(in alloc; "test {name} pass values 1 output\nD1 TT=T by {name}\n")?;
     lists(&rt, alloc, line.as_str(), (0, out.as_str(), ""))?;
     let line = format!(in alloc; "{name}e,f,1 1,,,\n")?;
-    lists(&rt, alloc, line.as_str(), NOT_BUILT)
+    lists(
+        &rt,
+        alloc,
+        line.as_str(),
+        (4, "", "mcdc: tests record 2: text\n"),
+    )
 }
 
 #[test]
@@ -164,7 +173,12 @@ fn number_of_tests(rt: HostRuntime) -> Result<(), Fail> {
     out.push_str("D1 TT=T by t0\n")?;
     lists(&rt, alloc, lines.as_str(), (0, out.as_str(), ""))?;
     lines.push_str("more,f,1 1,,,\n")?;
-    lists(&rt, alloc, lines.as_str(), NOT_BUILT)
+    lists(
+        &rt,
+        alloc,
+        lines.as_str(),
+        (4, "", "mcdc: tests record 4098: limit\n"),
+    )
 }
 
 /// The text, and a byte of white space up to that length.
@@ -212,14 +226,14 @@ fn lengths_of_files(rt: HostRuntime) -> Result<(), Fail> {
 #[test]
 fn faults_come_in_order(rt: HostRuntime) -> Result<(), Fail> {
     let alloc = rt.alloc();
-    let source = b"int f(int a){return a;}".as_slice();
+    let source = b"int f(int a){return b;}".as_slice();
     let mut setting = plain(source, b"");
     gives(
         &rt,
         alloc,
         &setting,
         "both",
-        (3, "", "mcdc: source: form not built\n"),
+        (3, "", "mcdc: source 1:21: undeclared\n"),
     )?;
     setting.failing_load = 1;
     gives(
@@ -235,6 +249,6 @@ fn faults_come_in_order(rt: HostRuntime) -> Result<(), Fail> {
         alloc,
         &setting,
         "source",
-        (3, "", "mcdc: source: form not built\n"),
+        (3, "", "mcdc: source 1:21: undeclared\n"),
     )
 }

@@ -3,7 +3,11 @@
 #![tactic(auto)]
 
 #[cfg(test)]
+mod endings;
+#[cfg(test)]
 mod files;
+#[cfg(test)]
+mod generated;
 #[cfg(test)]
 mod outcomes;
 #[cfg(test)]
@@ -14,3 +18,5 @@ mod run;
 mod sources;
 #[cfg(test)]
 mod truth_tables;
+#[cfg(test)]
+mod worked;

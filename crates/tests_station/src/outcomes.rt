@@ -3,21 +3,12 @@
 use crate::run::{HEADER, SOURCE, TESTS, gives, plain};
 use std::test::Fail;
 
-const USAGE: &str = "usage: mcdc vectors SOURCE TESTS\n";
+const USAGE: &str = "usage: mcdc report SOURCE TESTS [--mode unique|masking] [--fuel N]\n\
+    \x20      mcdc vectors SOURCE TESTS [--fuel N]\n";
 
 /// Sources, tests files, and what each run writes.
-const WORKED: [(&str, &str, &str); 4] = [
+const WORKED: [(&str, &str, &str); 2] = [
     (SOURCE, HEADER, ""),
-    (
-        SOURCE,
-        TESTS,
-        "test t1 pass values 1 output\ntest t2 pass values 0 output\ntest t3 pass values 0 output\nD1 TT=T by t1\nD1 TF=F by t2\nD1 F-=F by t3\n",
-    ),
-    (
-        "int f(int a,int b,int c){return !(a&&b)||c;}",
-        "test,call,arguments,inputs,expect,output\nt1,f,1 1 1,,,\nt2,f,1 1 0,,,\nt3,f,1 0 0,,,\nt4,f,0 0 0,,,\n",
-        "test t1 pass values 1 output\ntest t2 pass values 0 output\ntest t3 pass values 1 output\ntest t4 pass values 1 output\nD1 TTT=T by t1\nD1 TTF=F by t2\nD1 TF-=T by t3\nD1 F--=T by t4\n",
-    ),
     (
         "int f(int a,int b){return a<b||a==3;}",
         "test,call,arguments,inputs,expect,output\nt1,f,1 2,,,\nt2,f,3 1,,,\n",
@@ -34,24 +25,30 @@ fn worked_examples(rt: HostRuntime) -> Result<(), Fail> {
     Ok(())
 }
 
-/// Words, and how many of the four are given.
-const NOT_A_COMMAND: [([&str; 4], usize); 16] = [
-    (["", "", "", ""], 0),
-    (["vectors", "", "", ""], 1),
-    (["vectors", "s.c", "", ""], 2),
-    (["vectors", "s.c", "t.csv", "more"], 4),
-    (["vectors", "s.c", "t.csv", "--fuel"], 4),
-    (["report", "s.c", "t.csv", ""], 3),
-    (["", "s.c", "t.csv", ""], 3),
-    (["Vectors", "s.c", "t.csv", ""], 3),
-    (["vectors ", "s.c", "t.csv", ""], 3),
-    (["-vectors", "s.c", "t.csv", ""], 3),
-    (["-", "s.c", "t.csv", ""], 3),
-    (["vectors", "-s.c", "t.csv", ""], 3),
-    (["vectors", "-", "t.csv", ""], 3),
-    (["vectors", "s.c", "-t.csv", ""], 3),
-    (["vectors", "s.c", "-", ""], 3),
-    (["vectors", "s.c", "--", ""], 3),
+/// Words, and how many of the five are given.
+const NOT_A_COMMAND: [([&str; 5], usize); 22] = [
+    (["", "", "", "", ""], 0),
+    (["vectors", "", "", "", ""], 1),
+    (["vectors", "s.c", "", "", ""], 2),
+    (["vectors", "s.c", "t.csv", "more", ""], 4),
+    (["vectors", "s.c", "t.csv", "--fuel", ""], 4),
+    (["vectors", "s.c", "t.csv", "--fuel", "0"], 5),
+    (["vectors", "s.c", "t.csv", "--fuel", "08"], 5),
+    (["vectors", "s.c", "t.csv", "--fuel", "100000001"], 5),
+    (["vectors", "s.c", "t.csv", "--mode", "unique"], 5),
+    (["report", "s.c", "t.csv", "--mode", "both"], 5),
+    (["report", "s.c", "t.csv", "--format", "json"], 5),
+    (["", "s.c", "t.csv", "", ""], 3),
+    (["Vectors", "s.c", "t.csv", "", ""], 3),
+    (["vectors ", "s.c", "t.csv", "", ""], 3),
+    (["-vectors", "s.c", "t.csv", "", ""], 3),
+    (["-", "s.c", "t.csv", "", ""], 3),
+    (["vectors", "-s.c", "t.csv", "", ""], 3),
+    (["vectors", "-", "t.csv", "", ""], 3),
+    (["vectors", "s.c", "-t.csv", "", ""], 3),
+    (["vectors", "s.c", "-", "", ""], 3),
+    (["vectors", "s.c", "--", "", ""], 3),
+    (["instrument", "s.c", "", "", ""], 2),
 ];
 
 #[test]
@@ -69,24 +66,26 @@ const FIRST_LINE: &str = "test t1 pass values 1 output\n";
 
 const FIRST_LINE_AND_MORE: &str = "test t1 pass values 1 output\ntest ";
 
-const ABSENT: [&str; 4] = ["vectors", "u.c", "t.csv", ""];
+const ABSENT: [&str; 5] = ["vectors", "u.c", "t.csv", "", ""];
 
-const ABSENT_TESTS: [&str; 4] = ["vectors", "s.c", "u.csv", ""];
+const ABSENT_TESTS: [&str; 5] = ["vectors", "s.c", "u.csv", "", ""];
 
-const COMMAND: [&str; 4] = ["vectors", "s.c", "t.csv", ""];
+const COMMAND: [&str; 5] = ["vectors", "s.c", "t.csv", "", ""];
 
-const OTHER: [&str; 4] = ["report", "s.c", "t.csv", ""];
+const REPORT: [&str; 5] = ["report", "s.c", "t.csv", "", ""];
+
+const OTHER: [&str; 5] = ["instrument", "s.c", "t.csv", "", ""];
 
 /// A case, its words, the load that fails, the puts that fail on both sinks, and what the run
 /// gives.
 const FAULTS: [(
     &str,
-    [&str; 4],
+    [&str; 5],
     u32,
     (u32, u32),
     (u32, u32),
     (u8, &str, &str),
-); 10] = [
+); 11] = [
     (
         "no source",
         ABSENT,
@@ -143,6 +142,14 @@ const FAULTS: [(
         (2, 5),
         (0, 0),
         (7, FIRST_LINE_AND_MORE, ""),
+    ),
+    (
+        "second put of a report",
+        REPORT,
+        0,
+        (2, 0),
+        (0, 0),
+        (7, "mcdc report unique\n", ""),
     ),
     ("usage", OTHER, 0, (0, 0), (1, 0), (7, "", "")),
     (

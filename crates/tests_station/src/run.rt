@@ -13,11 +13,11 @@ pub const SOURCE: &str = "int f(int a,int b){return a&&b;}";
 pub const TESTS: &str =
     "test,call,arguments,inputs,expect,output\nt1,f,1 1,,,\nt2,f,1 0,,,\nt3,f,0 1,,,\n";
 
-/// A run: the first so many of four words, the bytes of `s.c` and `t.csv`, and where the outside
+/// A run: the first so many of five words, the bytes of `s.c` and `t.csv`, and where the outside
 /// fails.
 #[derive(Clone, Copy)]
 pub struct Setting<'a> {
-    pub words: [&'a str; 4],
+    pub words: [&'a str; 5],
     pub count: usize,
     pub source: &'a [u8],
     pub tests: &'a [u8],
@@ -31,7 +31,7 @@ pub struct Setting<'a> {
 /// A run of `vectors s.c t.csv` in which nothing fails.
 pub fn plain<'a>(source: &'a [u8], tests: &'a [u8]) -> Setting<'a> {
     Setting {
-        words: ["vectors", "s.c", "t.csv", ""],
+        words: ["vectors", "s.c", "t.csv", "", ""],
         count: 3,
         source,
         tests,
@@ -45,7 +45,7 @@ pub fn plain<'a>(source: &'a [u8], tests: &'a [u8]) -> Setting<'a> {
 fn words_of(alloc: Global, setting: &Setting<'_>) -> Result<Words, Fail> {
     let mut words = Words::new(alloc);
     for word in setting.words.iter().take(setting.count) {
-        if words.count() < 4 {
+        if words.count() < 5 {
             words.push(word)?;
         }
     }
@@ -113,4 +113,23 @@ pub fn is_refused(rt: &impl Abort, alloc: Global, source: &str, end: &str) -> Re
         "diag of {source}"
     );
     Ok(())
+}
+
+/// A case, the command with an option and its value, the source, the tests file, and what the run
+/// gives.
+pub type Row = (
+    &'static str,
+    [&'static str; 3],
+    &'static str,
+    &'static str,
+    (u8, &'static str, &'static str),
+);
+
+/// The run of a row gives what is wanted of it.
+pub fn is_written(rt: &impl Abort, alloc: Global, row: Row) -> Result<(), Fail> {
+    let (case, [command, option, value], source, tests, want) = row;
+    let mut setting = plain(source.as_bytes(), tests.as_bytes());
+    setting.words = [command, "s.c", "t.csv", option, value];
+    setting.count = if option.is_empty() { 3 } else { 5 };
+    gives(rt, alloc, &setting, case, want)
 }

@@ -5,8 +5,6 @@ use std::alloc::Global;
 use std::process::Abort;
 use std::test::Fail;
 
-const NOT_BUILT: &str = ": form not built";
-
 /// A run with a tests file of no test accepts this source where there are no words, and else
 /// refuses it with a line that ends in them.
 fn is_judged(rt: &impl Abort, alloc: Global, source: &str, words: &str) -> Result<(), Fail> {
@@ -25,68 +23,26 @@ fn returns(rt: &impl Abort, alloc: Global, expression: &str, words: &str) -> Res
     is_judged(rt, alloc, source.as_str(), words)
 }
 
-/// Expressions over `a`, `b` and `c` of the first form.
-const FIRST_FORM: [&str; 16] = [
+/// Expressions over `a`, `b` and `c` that are accepted.
+const EXPRESSIONS: [&str; 12] = [
     "a&&b||c",
-    "a||b&&c",
-    "!a",
-    "!!a",
     "!(!a)",
     "((a))&&b",
-    "(a&&b)",
-    "a<1",
-    "0==a",
-    "(a<1)",
-    "!(a<1)",
-    "1<2||a",
     "a&&0",
-    "a&&2147483647",
     "a\x0b&&\x0cb\r\n||\tc",
     "a/* with */&&// a comment\nb",
-];
-
-#[test]
-fn expressions_of_the_first_form(rt: HostRuntime) -> Result<(), Fail> {
-    for expression in FIRST_FORM {
-        returns(&rt, rt.alloc(), expression, "")?;
-    }
-    Ok(())
-}
-
-/// Expressions of the subset that have another form.
-const OTHER_FORM: [&str; 26] = [
-    "a",
-    "(a)",
     "1&&2",
-    "a<b==c",
-    "a==b<c",
     "(a<b)==a",
-    "(a)<1",
-    "a<(1)",
-    "!a<b",
-    "!(a)<1",
     "a&&2147483648",
-    "a&&007",
-    "a&&00",
-    "a&&1u",
-    "a&&1L",
-    "a&&0x1",
     "a&&'a'",
-    "a&&-1",
-    "a&b",
-    "a<<1",
-    "a<=1",
-    "a>1",
-    "a!=1",
-    "a|b",
-    "a&&b;",
+    "a<<1|b",
     "a?b:c",
 ];
 
 #[test]
-fn expressions_of_another_form(rt: HostRuntime) -> Result<(), Fail> {
-    for expression in OTHER_FORM {
-        returns(&rt, rt.alloc(), expression, NOT_BUILT)?;
+fn expressions_that_are_accepted(rt: HostRuntime) -> Result<(), Fail> {
+    for expression in EXPRESSIONS {
+        returns(&rt, rt.alloc(), expression, "")?;
     }
     Ok(())
 }
@@ -117,44 +73,23 @@ fn expressions_that_are_refused(rt: HostRuntime) -> Result<(), Fail> {
     Ok(())
 }
 
-/// Sources of the first form.
-const ACCEPTED: [&str; 4] = [
+/// Sources that are accepted.
+const ACCEPTED: [&str; 9] = [
     "int f(int a){return(a<1);}",
     "\n\t int\x0bf\x0c(int\ra)\n{ return!a ; } \n",
     "int f(int a/*x*/,int b){return a&&b;}",
     "# 1 \"flap.c\"\nint f(int a,int b){return a&&b;}",
-];
-
-#[test]
-fn sources_of_the_first_form(rt: HostRuntime) -> Result<(), Fail> {
-    for source in ACCEPTED {
-        is_judged(&rt, rt.alloc(), source, "")?;
-    }
-    Ok(())
-}
-
-/// Sources of the subset that have another form.
-const OTHERS: [&str; 14] = [
     "",
     "/* nothing */\n",
-    "int a;",
     "typedef int T;T f(T a){return !a;}",
     "int f(int a);",
-    "int f(void){return !0;}",
-    "int f(int f){return !f;}",
-    "int f(int mcdc_out){return !mcdc_out;}",
-    "int f(int a){return !a;;}",
-    "int f(int a){{return !a;}}",
-    "long f(int a){return !a;}",
-    "int f(long a){return !a;}",
-    "static int f(int a){return !a;}",
-    "int f(int a){return !a;}int g;",
+    "static int f(int f){return !f;}int g;",
 ];
 
 #[test]
-fn sources_of_another_form(rt: HostRuntime) -> Result<(), Fail> {
-    for source in OTHERS {
-        is_judged(&rt, rt.alloc(), source, NOT_BUILT)?;
+fn sources_that_are_accepted(rt: HostRuntime) -> Result<(), Fail> {
+    for source in ACCEPTED {
+        is_judged(&rt, rt.alloc(), source, "")?;
     }
     Ok(())
 }
@@ -262,9 +197,9 @@ fn sources_with_a_fault_of_types(rt: HostRuntime) -> Result<(), Fail> {
 /// What is repeated, how often, what comes after it, and how the source is judged. All conditions
 /// are counted before any paths.
 const LARGE: [(&str, usize, &str, &str); 5] = [
-    ("a&&", 63, "a;}", NOT_BUILT),
+    ("a&&", 63, "a;}", ""),
     ("a&&", 64, "a;}", " 1:27: too many conditions 65"),
-    ("(a||b)&&", 10, "(a||b);}", NOT_BUILT),
+    ("(a||b)&&", 10, "(a||b);}", ""),
     ("(a||b)&&", 11, "(a||b);}", " 1:27: too many paths 8191"),
     (
         "(a||b)&&",
@@ -337,22 +272,6 @@ fn repeated(
     }
     source.push_str(back)?;
     Ok(source)
-}
-
-/// A piece that is repeated before `a;}`, how often at most, and how one more is judged: 12
-/// conditions and 100 tokens are the most.
-const MOST: [(&str, usize); 2] = [("a&&", 11), ("!", 99)];
-
-#[test]
-fn limits_of_the_form(rt: HostRuntime) -> Result<(), Fail> {
-    let front = "int f(int a){return ";
-    for (piece, most) in MOST {
-        let source = repeated(rt.alloc(), front, piece, most, "a;}")?;
-        is_judged(&rt, rt.alloc(), source.as_str(), "")?;
-        let source = repeated(rt.alloc(), front, piece, most + 1, "a;}")?;
-        is_judged(&rt, rt.alloc(), source.as_str(), NOT_BUILT)?;
-    }
-    Ok(())
 }
 
 #[test]

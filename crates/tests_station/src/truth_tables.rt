@@ -195,9 +195,11 @@ fn is_reported(
     let text = text_of(alloc, nodes)?;
     let source = format!(in alloc; "int f(int a,int b,int c,int d){{return {text};}}")?;
     let setting = plain(source.as_bytes(), tests.as_bytes());
+    // a condition alone is no decision
     if text.as_str() == "a" {
-        let line = "mcdc: source: form not built\n";
-        return gives(rt, alloc, &setting, "a", (3, "", line));
+        let parts = all_parts(alloc, nodes)?;
+        let out = test_lines(alloc, &parts)?;
+        return gives(rt, alloc, &setting, "a", (0, out.as_str(), ""));
     }
     let out = report(alloc, nodes, vectors)?;
     gives(rt, alloc, &setting, text.as_str(), (0, out.as_str(), ""))

@@ -1,6 +1,6 @@
-use Rattle.std.proofs.Common.{ap, Ok}
-use Rattle.mc_first.specs.Seen.{form_of}
+use Rattle.std.proofs.Common.{refl}
+use Rattle.mc_station.specs.Seen.{seen_accepted}
 use Rattle.mc_station.proofs.judge.after_source.Goals as goal
 
-pub returns : goal.returns
-returns c = (form_of c.in_ok-function.function, c.in_ok-function.ensures, ap Ok c.accepted.ensures)
+pub returns-clause-judges : goal.returns-clause-judges
+returns-clause-judges c = (seen_accepted c.in_ok-accepted.accepted, c.in_ok-accepted.ensures.judges, refl)

@@ -1,7 +1,5 @@
 use Rattle.std.proofs.Common.{rules, ◌≡◌}
-use Rattle.std.specs.List.{concat}
 use Rattle.std.specs.Prelude.{string_bytes}
-use Rattle.mc_first.specs.Seen.{bytes_of}
 use Rattle.mc_station.proofs.Parts.{puts_part}
 use Rattle.mc_station.proofs.top.put.Goals as goal
 
