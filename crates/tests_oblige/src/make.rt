@@ -1,5 +1,5 @@
 //! Maps of programs with one function and one decision, and matrices.
-ghost use Rattle.std.specs.Prelude.{◌≡◌, ◌+◌, ◌≤◌, length, IfOk};
+ghost use Rattle.std.specs.Prelude.{◌≡◌, ◌+◌, ◌*◌, ◌≤◌, length, IfOk};
 ghost use Rattle.mc_cond.specs.Tree.{And, IsNumbered, Leaf, Or, tree_of};
 
 use mc_cond::{CondTree, conditions};
@@ -42,6 +42,20 @@ pub(crate) fn two_ands(alloc: Global) -> Result<CondTree, AllocError>
     let first = and(alloc, CondTree::Leaf(0), CondTree::Leaf(1))?;
     let second = and(alloc, CondTree::Leaf(2), CondTree::Leaf(3))?;
     or(alloc, first, second)
+}
+
+/// So many times `a || b`, joined by `&&`.
+pub(crate) fn many_ors(alloc: Global, count: u32) -> Result<CondTree, AllocError>
+    requires least { 1 ≤ count }
+    requires most { count ≤ 32 }
+    ensures { IfOk result (λ t. IsNumbered (tree_of t)) }
+{
+    let mut tree = or(alloc, CondTree::Leaf(0), CondTree::Leaf(1))?;
+    for at in 1..count {
+        let next = or(alloc, CondTree::Leaf(2 * at), CondTree::Leaf(2 * at + 1))?;
+        tree = and(alloc, tree, next)?;
+    }
+    Ok(tree)
 }
 
 /// Places that differ.

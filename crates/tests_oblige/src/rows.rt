@@ -1,7 +1,7 @@
 //! Verdicts on small programs, made by hand from the definitions.
 ghost use Rattle.std.specs.Prelude.{◌≡◌};
 
-use crate::make::{map, matrix, one_and, two_ands};
+use crate::make::{many_ors, map, matrix, one_and, two_ands};
 use mc_core::Matrix;
 use mc_oblige::{
     Evidence, Justification, Mode, ObligationId, Reason, Verdict, VerdictState, judge, obligations,
@@ -24,17 +24,17 @@ const MET: VerdictState = VerdictState::Met;
 const MISSING: VerdictState = VerdictState::Missing;
 
 /// The decision `a && b`, whose paths have the bits 4 (both true), 5 (the second false) and 6 (the
-/// first false). Bit 3 is that of a label, which no test sets. In the last row the arguments count
-/// (0, 0), (1, 0), (0, 1), (1, 1), twice.
+/// first false). Bit 3 is that of a label. In the first row all is met, in the fourth nothing is. In
+/// the last row the arguments count (0, 0), (1, 0), (0, 1), (1, 1), twice.
 const ONE_AND: [Row<'static>; 5] = [
     Row {
-        tests: &[&[0, 2, 4, 1], &[0, 2, 5, 1], &[0, 2, 6, 1]],
+        tests: &[&[0, 2, 4, 1], &[0, 2, 3, 5, 1], &[0, 2, 3, 6, 1]],
         named: None,
         verdicts: &[
             (MET, &[0]),
             (MET, &[0]),
             (MET, &[0]),
-            (MISSING, &[]),
+            (MET, &[1]),
             (MET, &[0]),
             (MET, &[1]),
             (MET, &[0, 0, 2, 2]),
@@ -144,6 +144,44 @@ const TWO_ANDS_MASKING: Row<'static> = Row {
     ],
 };
 
+/// Eleven times `a || b`, joined by `&&`: 22 conditions and 4,095 paths. The arguments are (0, 0),
+/// (1, 0), (0, 1) and (1, 1). Only the first two conditions have a pair, the same by both kinds:
+/// where the outcome is false no other one is evaluated.
+const MANY_ORS: Row<'static> = Row {
+    tests: &[&[4098], &[4], &[4087], &[4]],
+    named: None,
+    verdicts: &[
+        (MISSING, &[]),
+        (MISSING, &[]),
+        (MISSING, &[]),
+        (MISSING, &[]),
+        (MET, &[1]),
+        (MET, &[0]),
+        (MET, &[0, 1, 4094, 0]),
+        (MET, &[4083, 2, 4094, 0]),
+        (MISSING, &[]),
+        (MISSING, &[]),
+        (MISSING, &[]),
+        (MISSING, &[]),
+        (MISSING, &[]),
+        (MISSING, &[]),
+        (MISSING, &[]),
+        (MISSING, &[]),
+        (MISSING, &[]),
+        (MISSING, &[]),
+        (MISSING, &[]),
+        (MISSING, &[]),
+        (MISSING, &[]),
+        (MISSING, &[]),
+        (MISSING, &[]),
+        (MISSING, &[]),
+        (MISSING, &[]),
+        (MISSING, &[]),
+        (MISSING, &[]),
+        (MISSING, &[]),
+    ],
+};
+
 fn is_written(evidence: Evidence, parts: &[u32]) -> bool {
     match evidence {
         Evidence::Absent => parts.is_empty(),
@@ -203,6 +241,14 @@ fn verdicts_of_rows(rt: HostRuntime) -> Result<(), Fail> {
     let second = map(alloc, two_ands(alloc)?)?;
     check(&rt, alloc, &second, Mode::Unique, &TWO_ANDS_UNIQUE)?;
     check(&rt, alloc, &second, Mode::Masking, &TWO_ANDS_MASKING)
+}
+
+#[test]
+fn verdicts_on_many_conditions(rt: HostRuntime) -> Result<(), Fail> {
+    let alloc = rt.alloc();
+    let many = map(alloc, many_ors(alloc, 11)?)?;
+    check(&rt, alloc, &many, Mode::Unique, &MANY_ORS)?;
+    check(&rt, alloc, &many, Mode::Masking, &MANY_ORS)
 }
 
 /// Each kind of obligation, in order and with its place.

@@ -2,7 +2,10 @@
 use Rattle.std.proofs.Common.{refl}
 use Rattle.std.specs.Fmt.{digits}
 use Rattle.serde_json.proofs.OnLiterals.{serde_json_on_literals}
-use Rattle.tests_report.specs.Exits.{AreRight, loops, plain, switches}
+use Rattle.tests_report.specs.Bodies.{AreRight}
+use Rattle.tests_report.specs.Exits.{exits_asked, loops, plain, switches}
+use Rattle.tests_report.specs.Flap.{Reasoned, Unreasoned}
+use Rattle.tests_report.specs.Places.{TwoFunctions, counted_bodies, labelled_bodies, labels_asked, statements_asked}
 use Rattle.tests_report.specs.Rows.{AllMet, Failed, Ids, Limits, Negated, NoneRun, Reasons, Settled, States, TestLines, TwoAnds, TwoOrs}
 
 pub all_met : AllMet
@@ -21,7 +24,7 @@ pub settled : Settled
 settled = (refl, refl, refl)
 
 pub failed : Failed
-failed = (refl, refl, refl)
+failed = (refl, refl)
 
 pub negated : Negated
 unfolding digits
@@ -33,7 +36,7 @@ two_ands = (refl, refl)
 
 pub two_ors : TwoOrs
 unfolding digits
-two_ors = refl
+two_ors = (refl, refl)
 
 pub states : States
 states = refl
@@ -49,14 +52,34 @@ pub test_lines : TestLines
 unfolding digits
 test_lines = (refl, refl)
 
-pub plain_bodies : AreRight plain
+pub plain_bodies : AreRight exits_asked plain
 unfolding digits
-plain_bodies = (refl, (refl, (refl, (refl, (refl, (refl, (refl, tt)))))))
+plain_bodies = (refl, (refl, (refl, (refl, (refl, (refl, (refl, (refl, (refl, (refl, tt))))))))))
 
-pub loop_bodies : AreRight loops
+pub loop_bodies : AreRight exits_asked loops
 unfolding digits
-loop_bodies = (refl, (refl, (refl, (refl, (refl, tt)))))
+loop_bodies = (refl, (refl, (refl, (refl, (refl, (refl, (refl, (refl, (refl, (refl, (refl, (refl, (refl, (refl, tt))))))))))))))
 
-pub switch_bodies : AreRight switches
+pub switch_bodies : AreRight exits_asked switches
 unfolding digits
-switch_bodies = (refl, (refl, (refl, tt)))
+switch_bodies = (refl, (refl, (refl, (refl, (refl, (refl, (refl, (refl, tt))))))))
+
+pub labels_in_order : AreRight labels_asked labelled_bodies
+unfolding digits
+labels_in_order = (refl, (refl, (refl, (refl, (refl, (refl, (refl, (refl, tt))))))))
+
+pub statements_that_count : AreRight statements_asked counted_bodies
+unfolding digits
+statements_that_count = (refl, (refl, (refl, (refl, (refl, tt)))))
+
+pub two_functions : TwoFunctions
+unfolding digits
+two_functions = refl
+
+pub reasoned : Reasoned
+unfolding digits serde_json_on_literals
+reasoned = refl
+
+pub unreasoned : Unreasoned
+unfolding digits
+unreasoned = refl

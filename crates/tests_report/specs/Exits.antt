@@ -1,93 +1,23 @@
 -- Where bodies of each shape are left, written out by hand.
-use Rattle.std.specs.Prelude.{◌≡◌, ℕ, ◌+◌, List, [], ◌∷◌, map, codes, pos, Option, Some, None}
+use Rattle.std.specs.Prelude.{List, [], ◌∷◌, codes, Some, None}
 use Rattle.mc_value.specs.declared.int_type.IntType.TheVariants.{Int}
-use Rattle.mc_typed.specs.Tree.{Expression, Statement, Statements, Function}
+use Rattle.mc_value.specs.declared.operators.BinOp.TheVariants.{Sub}
+use Rattle.mc_typed.specs.declared.operators.Operator.TheVariants.{Binary}
+use Rattle.mc_typed.specs.Tree.{Function}
 use Rattle.mc_typed.specs.Tree as t
 use Rattle.mc_probe.specs.Obligations.{exits}
 use Rattle.mc_oblige.specs.Obligations.{numbered}
-use Rattle.mc_oblige.specs.declared.mode.Mode.TheVariants.{Unique}
 use Rattle.mc_oblige.specs.declared.obligation.Obligation.{Obligation}
 use Rattle.mc_oblige.specs.declared.obligation.ObligationId.TheVariants.{Exit}
-use Rattle.mc_report.specs.Report.{Report}
-use Rattle.mc_report.specs.Lines.{verdict_lines}
-use Rattle.tests_report.specs.Words.{lines, missing, span}
+use Rattle.tests_report.specs.Words.{span}
+use Rattle.tests_report.specs.Bodies.{Body, number, value, return_at, null_at, if_at, if_else_at, for_of, do_at, switch_of, compound, labelled, default_label, break_of, continue_at}
 
--- a function `int f(int n){..}`: its whole text, its body, its closing brace, and the lines of its
--- exits where no test is run
-pub record Body : Type 0 where
-  pub text : List ℕ
-  pub items : List Statement
-  pub closing : ℕ
-  pub left : List (List ℕ)
-
-abbrev pub block : List Statement → Statements
-block [] = t.no_statements
-block (s ∷ rest) = t.statements s (block rest)
-
-abbrev pub function : Body → Function
-function b = record {
-  name = codes "f";
-  name_span = span 4 5;
-  parameters = t.NumberParameter Int ∷ [];
-  result = t.NumberResult Int;
-  objects = [];
-  body = block b.items;
-  closing = span b.closing (b.closing + 1);
-}
-
-abbrev pub obligations : Body → List Obligation
-obligations b = numbered Exit 0 (exits (function b))
-
-abbrev pub unrun : Body → Report
-unrun b = record {
-  source = b.text;
-  digest = [];
-  mode = Unique;
-  names = [];
-  states = [];
-  results = None;
-  decisions = [];
-  obligations = obligations b;
-  verdicts = map (λ o. missing) (obligations b);
-}
-
-abbrev pub IsRight : Body → Type 0
-IsRight b = verdict_lines (unrun b) (unrun b).obligations (unrun b).verdicts ≡ lines b.left
-
-abbrev pub AreRight : List Body → Type 0
-AreRight [] = Unit {0}
-AreRight (b ∷ bs) = IsRight b × AreRight bs
-
--- ---- statements; only the places of `return` play a part
-
-abbrev pub number : ℕ → Expression
-number value = t.Constant (pos value) Int (span 0 0)
-
--- the parameter
-abbrev pub value : Expression
-value = t.Read (t.Local (record { object = 0; start = 0 }) (span 0 0)) Int
-
--- `return n;` or `return 1;` at this byte
-abbrev pub return_at : ℕ → Statement
-return_at from = t.Return (t.ReturnNumber value) (span from (from + 9))
-
-abbrev pub for_of : Option Expression → Statement → Statement
-for_of test s = t.For (t.StartEffects []) test [] s (span 0 0) (span 0 0)
-
-abbrev pub switch_of : List Statement → Statement
-switch_of items = t.Switch value (block items) (span 0 0) (span 0 0)
-
-abbrev pub labelled : Statement
-labelled = t.Label (Some (pos 1)) (span 0 0)
-
-abbrev pub default_label : Statement
-default_label = t.Label None (span 0 0)
-
-abbrev pub break_of : Statement
-break_of = t.Break (span 0 0)
+abbrev pub exits_asked : Function → List Obligation
+exits_asked f = numbered Exit 0 (exits f)
 
 -- ---- bodies that end, or do not
 
+-- a sequence ends where each item does, an `if` with `else` where one branch does
 abbrev pub plain : List Body
 plain =
     record {
@@ -104,21 +34,39 @@ plain =
     }
     ∷ record {
       text = codes "int f(int n){{return n;}}";
-      items = t.Compound (block (return_at 14 ∷ [])) (span 13 24) ∷ [];
+      items = compound (return_at 14 ∷ []) ∷ [];
       closing = 24;
       left = codes "X1 1:15 missing" ∷ [];
     }
     ∷ record {
       text = codes "int f(int n){if(n)return 1;}";
-      items = t.If value (return_at 18) (span 13 15) (span 13 27) ∷ [];
+      items = if_at 13 (return_at 18) ∷ [];
       closing = 27;
       left = codes "X1 1:19 missing" ∷ codes "X2 1:28 missing" ∷ [];
     }
     ∷ record {
       text = codes "int f(int n){if(n)return 1;else return n;}";
-      items = t.IfElse value (return_at 18) (return_at 32) (span 13 15) (span 13 41) ∷ [];
+      items = if_else_at 13 (return_at 18) (return_at 32) ∷ [];
       closing = 41;
       left = codes "X1 1:19 missing" ∷ codes "X2 1:33 missing" ∷ [];
+    }
+    ∷ record {
+      text = codes "int f(int n){if(n)return 1;else;}";
+      items = if_else_at 13 (return_at 18) (null_at 31) ∷ [];
+      closing = 32;
+      left = codes "X1 1:19 missing" ∷ codes "X2 1:33 missing" ∷ [];
+    }
+    ∷ record {
+      text = codes "int f(int n){if(n);else return 1;}";
+      items = if_else_at 13 (null_at 18) (return_at 24) ∷ [];
+      closing = 33;
+      left = codes "X1 1:25 missing" ∷ codes "X2 1:34 missing" ∷ [];
+    }
+    ∷ record {
+      text = codes "int f(int n){return n;;}";
+      items = return_at 13 ∷ null_at 22 ∷ [];
+      closing = 23;
+      left = codes "X1 1:14 missing" ∷ [];
     }
     ∷ record {
       text = codes "int f(int n){\n  return n;\n}\n";
@@ -128,24 +76,25 @@ plain =
     }
     ∷ record {
       text = codes "int f(int n){\n\n  ;\n}\n";
-      items = t.Null (span 17 18) ∷ [];
+      items = null_at 17 ∷ [];
       closing = 19;
       left = codes "X1 4:1 missing" ∷ [];
     }
     ∷ []
 
--- loops: with a test that is a constant other than 0, or absent, only a `break` leads out
+-- loops: with a test that is a constant other than 0, or absent, only a `break` of their own leads
+-- out
 abbrev pub loops : List Body
 loops =
     record {
       text = codes "int f(int n){while(1){}}";
-      items = for_of (Some (number 1)) (t.Compound t.no_statements (span 21 23)) ∷ [];
+      items = for_of (Some (number 1)) (compound []) ∷ [];
       closing = 23;
       left = [];
     }
     ∷ record {
       text = codes "int f(int n){while(1){break;}}";
-      items = for_of (Some (number 1)) (t.Compound (block (break_of ∷ [])) (span 21 29)) ∷ [];
+      items = for_of (Some (number 1)) (compound (break_of ∷ [])) ∷ [];
       closing = 29;
       left = codes "X1 1:30 missing" ∷ [];
     }
@@ -156,16 +105,72 @@ loops =
       left = codes "X1 1:22 missing" ∷ codes "X2 1:31 missing" ∷ [];
     }
     ∷ record {
+      text = codes "int f(int n){while(0);}";
+      items = for_of (Some (number 0)) (null_at 21) ∷ [];
+      closing = 22;
+      left = codes "X1 1:23 missing" ∷ [];
+    }
+    ∷ record {
+      text = codes "int f(int n){while(2-1);}";
+      items = for_of
+          (Some (t.Binary (Binary Sub) Int (number 2) (number 1) (span 19 22))) (null_at 23)
+          ∷ [];
+      closing = 24;
+      left = [];
+    }
+    ∷ record {
       text = codes "int f(int n){for(;;)return n;}";
       items = for_of None (return_at 20) ∷ [];
       closing = 29;
       left = codes "X1 1:21 missing" ∷ [];
     }
     ∷ record {
+      text = codes "int f(int n){for(;;)continue;}";
+      items = for_of None (continue_at 20) ∷ [];
+      closing = 29;
+      left = [];
+    }
+    ∷ record {
+      text = codes "int f(int n){for(;;);return n;}";
+      items = for_of None (null_at 20) ∷ return_at 21 ∷ [];
+      closing = 30;
+      left = codes "X1 1:22 missing" ∷ [];
+    }
+    ∷ record {
+      text = codes "int f(int n){for(;;){if(n)break;}}";
+      items = for_of None (compound (if_at 21 break_of ∷ [])) ∷ [];
+      closing = 33;
+      left = codes "X1 1:34 missing" ∷ [];
+    }
+    ∷ record {
+      text = codes "int f(int n){for(;;){while(n)break;}}";
+      items = for_of None (compound (for_of (Some value) break_of ∷ [])) ∷ [];
+      closing = 36;
+      left = [];
+    }
+    ∷ record {
+      text = codes "int f(int n){for(;;){switch(n){case 1:break;}}}";
+      items = for_of None (compound (switch_of (labelled ∷ break_of ∷ []) ∷ [])) ∷ [];
+      closing = 46;
+      left = [];
+    }
+    ∷ record {
       text = codes "int f(int n){do return n;while(0);}";
-      items = t.DoWhile (return_at 16) (number 0) (span 13 15) (span 13 34) ∷ [];
+      items = do_at 13 (return_at 16) (number 0) ∷ [];
       closing = 34;
       left = codes "X1 1:17 missing" ∷ codes "X2 1:35 missing" ∷ [];
+    }
+    ∷ record {
+      text = codes "int f(int n){do;while(1);}";
+      items = do_at 13 (null_at 15) (number 1) ∷ [];
+      closing = 25;
+      left = [];
+    }
+    ∷ record {
+      text = codes "int f(int n){do break;while(1);}";
+      items = do_at 13 break_of (number 1) ∷ [];
+      closing = 31;
+      left = codes "X1 1:32 missing" ∷ [];
     }
     ∷ []
 
@@ -189,5 +194,35 @@ switches =
       items = switch_of (default_label ∷ break_of ∷ []) ∷ [];
       closing = 38;
       left = codes "X1 1:39 missing" ∷ [];
+    }
+    ∷ record {
+      text = codes "int f(int n){switch(n){}}";
+      items = switch_of [] ∷ [];
+      closing = 24;
+      left = codes "X1 1:25 missing" ∷ [];
+    }
+    ∷ record {
+      text = codes "int f(int n){switch(n){case 1:return n;default:;}}";
+      items = switch_of (labelled ∷ return_at 30 ∷ default_label ∷ null_at 47 ∷ []) ∷ [];
+      closing = 49;
+      left = codes "X1 1:31 missing" ∷ codes "X2 1:50 missing" ∷ [];
+    }
+    ∷ record {
+      text = codes "int f(int n){switch(n){default:;case 1:return n;}}";
+      items = switch_of (default_label ∷ null_at 31 ∷ labelled ∷ return_at 39 ∷ []) ∷ [];
+      closing = 49;
+      left = codes "X1 1:40 missing" ∷ [];
+    }
+    ∷ record {
+      text = codes "int f(int n){switch(n){default:if(n)break;return n;}}";
+      items = switch_of (default_label ∷ if_at 31 break_of ∷ return_at 42 ∷ []) ∷ [];
+      closing = 52;
+      left = codes "X1 1:43 missing" ∷ codes "X2 1:53 missing" ∷ [];
+    }
+    ∷ record {
+      text = codes "int f(int n){switch(n){default:while(n)break;return n;}}";
+      items = switch_of (default_label ∷ for_of (Some value) break_of ∷ return_at 45 ∷ []) ∷ [];
+      closing = 55;
+      left = codes "X1 1:46 missing" ∷ [];
     }
     ∷ []

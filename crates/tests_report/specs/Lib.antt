@@ -1,3 +1,6 @@
 pub mod Words
 pub mod Rows
+pub mod Flap
+pub mod Bodies
 pub mod Exits
+pub mod Places

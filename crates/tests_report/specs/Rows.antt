@@ -1,5 +1,5 @@
 -- Reports of short functions, written out by hand.
-use Rattle.std.specs.Prelude.{◌≡◌, ℕ, List, [], ◌∷◌, map, take, codes, pos, negsuc, Some, None, true, false}
+use Rattle.std.specs.Prelude.{◌≡◌, ℕ, List, [], ◌∷◌, ◌++◌, map, take, replicate, codes, pos, negsuc, Some, None, true, false}
 use Rattle.mc_value.specs.declared.trap.Trap.TheVariants.{Overflow, Division, Shift, Index, Unset, NoReturn, InputEnd}
 use Rattle.mc_typed.specs.declared.plans.Ending.TheVariants as ending
 use Rattle.mc_typed.specs.declared.plans.TestState.{TestState}
@@ -131,15 +131,25 @@ Settled =
     × (settled (met 0 ∷ stale 0 (codes "x") ∷ []) ≡ 1)
     × (settled (met 0 ∷ missing ∷ []) ≡ 1)
 
--- a test that did not pass
+-- a test that did not pass, whichever way it ended
 abbrev pub failed : TestState → ℕ
 failed state =
     status_of (one_report Unique (take 2 names)
     (returned 1 ∷ record (returned 1) { state = state } ∷ []) [])
 
+abbrev pub traps : List TestState
+traps =
+    map (λ trap. Ended (ending.Trap trap))
+    (Overflow ∷ Division ∷ Shift ∷ Index ∷ Unset ∷ NoReturn ∷ InputEnd ∷ [])
+
+abbrev pub limits : List TestState
+limits =
+    map (λ why. Ended why)
+    (ending.Fuel ∷ ending.Levels ∷ ending.Cells ∷ ending.OutputFull ∷ [])
+
 abbrev pub Failed : Type 0
 Failed =
-    (failed Pass ≡ 0) × (failed Fail ≡ 1) × (failed (Ended ending.Fuel) ≡ 1)
+    (failed Pass ≡ 0) × (map failed (Fail ∷ traps ++ limits) ≡ replicate 12 1)
 
 -- ---- pairs
 
@@ -206,19 +216,19 @@ TwoAnds =
     × (verdict_lines masking_ands masking_ands.obligations masking_ands.verdicts
     ≡ two_ands_lines (codes "D1C3 1:42 met TFTT=T by t6 F-F-=F by t1"))
 
--- `(a||b)&&(c||d)` under (1, 0, 1, 0) and (0, 1, 0, 0), by masking
-abbrev pub two_ors : Report
-two_ors =
-    reported (codes "int f(int a,int b,int c,int d){return (a||b)&&(c||d);}") digest Masking
+-- `(a||b)&&(c||d)` under (1, 0, 1, 0) and (0, 1, 0, 0)
+abbrev pub two_ors : Mode → Verdict → Report
+two_ors mode third =
+    reported (codes "int f(int a,int b,int c,int d){return (a||b)&&(c||d);}") digest mode
     (returning (span 31 53) (span 38 52) (And (Or (Leaf 0) (Leaf 1)) (Or (Leaf 2) (Leaf 3)))
     (span 39 40 ∷ span 42 43 ∷ span 47 48 ∷ span 50 51 ∷ []))
     (take 2 names)
     (returned 1 ∷ returned 0 ∷ [])
-    (met 0 ∷ met 0 ∷ met 0 ∷ met 0 ∷ met 1 ∷ missing ∷ missing ∷ paired 0 0 5 1 ∷ missing ∷ [])
+    (met 0 ∷ met 0 ∷ met 0 ∷ met 0 ∷ met 1 ∷ missing ∷ missing ∷ third ∷ missing ∷ [])
 
-abbrev pub TwoOrs : Type 0
-TwoOrs =
-    verdict_lines two_ors two_ors.obligations two_ors.verdicts ≡ lines (
+abbrev pub two_ors_lines : List ℕ → List (List ℕ)
+two_ors_lines third =
+    lines (
     codes "E1 1:5 met by t1"
     ∷ codes "X1 1:32 met by t1"
     ∷ codes "S1 1:32 met by t1"
@@ -226,20 +236,29 @@ TwoOrs =
     ∷ codes "D1F 1:39 met by t2"
     ∷ codes "D1C1 1:40 missing"
     ∷ codes "D1C2 1:43 missing"
-    ∷ codes "D1C3 1:48 met T-T-=T by t1 FTFF=F by t2"
+    ∷ third
     ∷ codes "D1C4 1:51 missing"
     ∷ [])
+
+abbrev pub unique_ors : Report
+unique_ors = two_ors Unique missing
+
+abbrev pub masking_ors : Report
+masking_ors = two_ors Masking (paired 0 0 5 1)
+
+abbrev pub TwoOrs : Type 0
+TwoOrs =
+    (verdict_lines unique_ors unique_ors.obligations unique_ors.verdicts
+    ≡ two_ors_lines (codes "D1C3 1:48 missing"))
+    × (verdict_lines masking_ors masking_ors.obligations masking_ors.verdicts
+    ≡ two_ors_lines (codes "D1C3 1:48 met T-T-=T by t1 FTFF=F by t2"))
 
 -- ---- words
 
 -- the states of tests that end in each way
 abbrev pub States : Type 0
 States =
-    map state_word (
-    Pass
-    ∷ Fail
-    ∷ map (λ trap. Ended (ending.Trap trap))
-    (Overflow ∷ Division ∷ Shift ∷ Index ∷ Unset ∷ NoReturn ∷ InputEnd ∷ []))
+    map state_word (Pass ∷ Fail ∷ traps)
     ≡ codes "pass" ∷ codes "fail" ∷ codes "trap-overflow" ∷ codes "trap-division"
     ∷ codes "trap-shift"
     ∷ codes "trap-index"
@@ -250,8 +269,7 @@ States =
 
 abbrev pub Limits : Type 0
 Limits =
-    map (λ why. state_word (Ended why))
-    (ending.Fuel ∷ ending.Levels ∷ ending.Cells ∷ ending.OutputFull ∷ [])
+    map state_word limits
     ≡ codes "fuel" ∷ codes "levels" ∷ codes "cells" ∷ codes "output-full" ∷ []
 
 -- the names of each kind of obligation

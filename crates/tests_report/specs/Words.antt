@@ -1,11 +1,11 @@
 -- Words to write reports with, by hand.
-use Rattle.std.specs.Prelude.{ℕ, ◌+◌, List, [], ◌∷◌, ◌++◌, map, Option, Some, None, pos, codes}
+use Rattle.std.specs.Prelude.{ℕ, List, [], ◌∷◌, ◌++◌, map, Some, None, pos, codes}
 use Rattle.mc_span.specs.declared.span.Span.{Span}
 use Rattle.mc_typed.specs.declared.plans.Ending.TheVariants.{Returned}
 use Rattle.mc_typed.specs.declared.plans.TestState.TheVariants.{Pass}
 use Rattle.mc_cond.specs.Tree.{Tree}
 use Rattle.mc_meaning.specs.Seen.{Told}
-use Rattle.mc_probe.specs.Maps.{Mapped, Map}
+use Rattle.mc_probe.specs.Maps.{Map}
 use Rattle.mc_oblige.specs.Obligations.{obligations_of}
 use Rattle.mc_oblige.specs.declared.mode.Mode.{Mode}
 use Rattle.mc_oblige.specs.declared.verdict.Evidence.TheVariants.{Absent, One, Pair}

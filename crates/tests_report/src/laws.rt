@@ -1,6 +1,9 @@
 //! Reports of short functions, by the definition. The functions do nothing: each has a law as its
 //! contract. The lines were written out by hand.
-ghost use Rattle.tests_report.specs.Exits.{AreRight, loops, plain, switches};
+ghost use Rattle.tests_report.specs.Bodies.{AreRight};
+ghost use Rattle.tests_report.specs.Exits.{exits_asked, loops, plain, switches};
+ghost use Rattle.tests_report.specs.Flap.{Reasoned, Unreasoned};
+ghost use Rattle.tests_report.specs.Places.{TwoFunctions, counted_bodies, labelled_bodies, labels_asked, statements_asked};
 ghost use Rattle.tests_report.specs.Rows.{AllMet, Failed, Ids, Limits, Negated, NoneRun, Reasons, Settled, States, TestLines, TwoAnds, TwoOrs};
 
 /// A whole report where all is met, by either kind of independence.
@@ -13,6 +16,12 @@ pub fn none_run()
     ensures { NoneRun }
 {}
 
+/// Two whole reports on a program of 25 lines: with reasons for what is missing, and without.
+pub fn flap_controller()
+    ensures reasoned { Reasoned }
+    ensures unreasoned { Unreasoned }
+{}
+
 /// Reasons of justifications.
 pub fn reasons()
     ensures { Reasons }
@@ -23,7 +32,7 @@ pub fn settled()
     ensures { Settled }
 {}
 
-/// A test that did not pass makes the status 1.
+/// A test that did not pass makes the status 1, whichever way it ended.
 pub fn failed()
     ensures { Failed }
 {}
@@ -38,7 +47,7 @@ pub fn two_ands()
     ensures { TwoAnds }
 {}
 
-/// A condition that is shown while the others are missing.
+/// A condition that only the second kind shows, while the others are missing by either.
 pub fn two_ors()
     ensures { TwoOrs }
 {}
@@ -65,15 +74,30 @@ pub fn test_lines()
 
 /// The exits of bodies with `return`, `if` and blocks.
 pub fn exits_of_plain_bodies()
-    ensures { AreRight plain }
+    ensures { AreRight exits_asked plain }
 {}
 
 /// The exits of bodies that are loops.
 pub fn exits_of_loops()
-    ensures { AreRight loops }
+    ensures { AreRight exits_asked loops }
 {}
 
 /// The exits of bodies that are `switch`es.
 pub fn exits_of_switches()
-    ensures { AreRight switches }
+    ensures { AreRight exits_asked switches }
+{}
+
+/// The labels of a `switch`, and absent `default`s.
+pub fn labels_in_order()
+    ensures { AreRight labels_asked labelled_bodies }
+{}
+
+/// The statements that count, and declarations that do not.
+pub fn statements_that_count()
+    ensures { AreRight statements_asked counted_bodies }
+{}
+
+/// Two functions: each kind of obligation is numbered over the whole text.
+pub fn two_functions()
+    ensures { TwoFunctions }
 {}
