@@ -27,10 +27,12 @@ const ENDINGS: [Row; 11] = [
         "shift",
         ["vectors", "", ""],
         "int f(int a,int b){return a<<b;}",
-        "test,call,arguments,inputs,expect,output\nt1,f,1 30,,,\nt2,f,1 31,,,\nt3,f,1 32,,,\nt4,f,-1 1,,,\n",
+        "test,call,arguments,inputs,expect,output\nt1,f,1 30,,,\nt2,f,1 31,,,\nt3,f,1 32,,,\n\
+        t4,f,-1 1,,,\n",
         (
             1,
-            "test t1 pass values 1073741824 output\ntest t2 trap-shift values output\ntest t3 trap-shift values output\ntest t4 trap-shift values output\n",
+            "test t1 pass values 1073741824 output\ntest t2 trap-shift values output\n\
+            test t3 trap-shift values output\ntest t4 trap-shift values output\n",
             "",
         ),
     ),
@@ -41,7 +43,8 @@ const ENDINGS: [Row; 11] = [
         "test,call,arguments,inputs,expect,output\nt1,f,2,,,\nt2,f,3,,,\nt3,f,-1,,,\n",
         (
             1,
-            "test t1 pass values 0 output\ntest t2 trap-index values output\ntest t3 trap-index values output\n",
+            "test t1 pass values 0 output\ntest t2 trap-index values output\n\
+            test t3 trap-index values output\n",
             "",
         ),
     ),
@@ -62,7 +65,8 @@ const ENDINGS: [Row; 11] = [
     (
         "a structure as an argument",
         ["vectors", "", ""],
-        "struct S{int a;};static struct S s;int g(void){s.a=9;return 1;}int h(struct S p,int q){return p.a+q;}int f(void){s.a=2;return h(s,g());}",
+        "struct S{int a;};static struct S s;int g(void){s.a=9;return 1;}\
+        int h(struct S p,int q){return p.a+q;}int f(void){s.a=2;return h(s,g());}",
         "test,call,arguments,inputs,expect,output\nt1,f,,,,\n",
         (0, "test t1 pass values 3 output\n", ""),
     ),
@@ -73,7 +77,8 @@ const ENDINGS: [Row; 11] = [
         "test,call,arguments,inputs,expect,output\nt1,f,1,,,\nt2,f,0,,,\n",
         (
             1,
-            "test t1 pass values 1 output\ntest t2 trap-no-return values output\nD1 T=T by t1\nD1 F=F by t2\n",
+            "test t1 pass values 1 output\ntest t2 trap-no-return values output\nD1 T=T by t1\n\
+            D1 F=F by t2\n",
             "",
         ),
     ),
@@ -95,7 +100,8 @@ const ENDINGS: [Row; 11] = [
         "test,call,arguments,inputs,expect,output\nt1,f,84,,,\nt2,f,85,,,\n",
         (
             1,
-            "test t1 pass values 0 output\ntest t2 levels values output\nD1 T=T by t1\nD1 F=F by t1\n",
+            "test t1 pass values 0 output\ntest t2 levels values output\nD1 T=T by t1\n\
+            D1 F=F by t1\n",
             "",
         ),
     ),
@@ -106,7 +112,8 @@ const ENDINGS: [Row; 11] = [
         "test,call,arguments,inputs,expect,output\nt1,f,1,,,\nt2,f,2,,,\n",
         (
             1,
-            "test t1 pass values 0 output\ntest t2 cells values output\nD1 T=T by t1\nD1 F=F by t1\n",
+            "test t1 pass values 0 output\ntest t2 cells values output\nD1 T=T by t1\n\
+            D1 F=F by t1\n",
             "",
         ),
     ),

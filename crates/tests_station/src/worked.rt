@@ -43,7 +43,8 @@ int cycle(int lever) {\n\
 ";
 
 const MANY: &str =
-    "int f(int a,int b){return (a||b)&&(a||b)&&(a||b)&&(a||b)&&(a||b)&&(a||b)&&(a||b)&&(a||b)&&(a||b)&&(a||b)&&(a||b);}";
+    "int f(int a,int b){return (a||b)&&(a||b)&&(a||b)&&(a||b)&&(a||b)&&(a||b)&&(a||b)&&(a||b)\
+    &&(a||b)&&(a||b)&&(a||b);}";
 
 const MANY_TESTS: &str = "\
 test,call,arguments,inputs,expect,output\n\
@@ -467,7 +468,8 @@ const VECTORS_AND_PAIRS: [Row; 12] = [
         CONJUNCTION_TESTS,
         (
             0,
-            "test t1 pass values 1 output\ntest t2 pass values 0 output\ntest t3 pass values 0 output\nD1 TT=T by t1\nD1 TF=F by t2\nD1 F-=F by t3\n",
+            "test t1 pass values 1 output\ntest t2 pass values 0 output\n\
+            test t3 pass values 0 output\nD1 TT=T by t1\nD1 TF=F by t2\nD1 F-=F by t3\n",
             "",
         ),
     ),
@@ -492,7 +494,9 @@ const VECTORS_AND_PAIRS: [Row; 12] = [
         NEGATED_TESTS,
         (
             0,
-            "test t1 pass values 1 output\ntest t2 pass values 0 output\ntest t3 pass values 1 output\ntest t4 pass values 1 output\nD1 TTT=T by t1\nD1 TTF=F by t2\nD1 TF-=T by t3\nD1 F--=T by t4\n",
+            "test t1 pass values 1 output\ntest t2 pass values 0 output\n\
+            test t3 pass values 1 output\ntest t4 pass values 1 output\nD1 TTT=T by t1\n\
+            D1 TTF=F by t2\nD1 TF-=T by t3\nD1 F--=T by t4\n",
             "",
         ),
     ),
@@ -517,7 +521,11 @@ const VECTORS_AND_PAIRS: [Row; 12] = [
         TWICE_TESTS,
         (
             0,
-            "test t1 pass values 0 output\ntest t2 pass values 0 output\ntest t3 pass values 0 output\ntest t4 pass values 0 output\ntest t5 pass values 0 output\ntest t6 pass values 1 output\ntest t7 pass values 1 output\ntest t8 pass values 1 output\nD1 TT--=T by t7\nD1 TFTT=T by t6\nD1 TFTF=F by t5\nD1 F-F-=F by t1\n",
+            "test t1 pass values 0 output\ntest t2 pass values 0 output\n\
+            test t3 pass values 0 output\ntest t4 pass values 0 output\n\
+            test t5 pass values 0 output\ntest t6 pass values 1 output\n\
+            test t7 pass values 1 output\ntest t8 pass values 1 output\nD1 TT--=T by t7\n\
+            D1 TFTT=T by t6\nD1 TFTF=F by t5\nD1 F-F-=F by t1\n",
             "",
         ),
     ),
@@ -542,7 +550,8 @@ const VECTORS_AND_PAIRS: [Row; 12] = [
         BOTH_TESTS,
         (
             0,
-            "test t1 pass values 1 output\ntest t2 pass values 0 output\nD1 T-T-=T by t1\nD1 FTFF=F by t2\n",
+            "test t1 pass values 1 output\ntest t2 pass values 0 output\nD1 T-T-=T by t1\n\
+            D1 FTFF=F by t2\n",
             "",
         ),
     ),
@@ -561,7 +570,8 @@ const DECISIONS_AND_FUEL: [Row; 10] = [
     (
         "a decision as an argument",
         ["vectors", "", ""],
-        "int g(int v,int w){return v+w;}int f(int x,int p,int q){int y;y = x < 3;g(p && q, x);return y;}",
+        "int g(int v,int w){return v+w;}\
+        int f(int x,int p,int q){int y;y = x < 3;g(p && q, x);return y;}",
         "test,call,arguments,inputs,expect,output\nt1,f,2 1 1,,,\n",
         (
             0,
@@ -685,14 +695,18 @@ const LARGE_AND_REFUSED: [Row; 12] = [
         MANY_TESTS,
         (
             0,
-            "test t1 pass values 0 output\ntest t2 pass values 1 output\ntest t3 pass values 1 output\ntest t4 pass values 1 output\nD1 T-T-T-T-T-T-T-T-T-T-T-=T by t2\nD1 FTFTFTFTFTFTFTFTFTFTFT=T by t3\nD1 FF--------------------=F by t1\n",
+            "test t1 pass values 0 output\ntest t2 pass values 1 output\n\
+            test t3 pass values 1 output\ntest t4 pass values 1 output\n\
+            D1 T-T-T-T-T-T-T-T-T-T-T-=T by t2\nD1 FTFTFTFTFTFTFTFTFTFTFT=T by t3\n\
+            D1 FF--------------------=F by t1\n",
             "",
         ),
     ),
     (
         "8,191 paths",
         ["vectors", "", ""],
-        "int f(int a,int b){return (a||b)&&(a||b)&&(a||b)&&(a||b)&&(a||b)&&(a||b)&&(a||b)&&(a||b)&&(a||b)&&(a||b)&&(a||b)&&(a||b);}",
+        "int f(int a,int b){return (a||b)&&(a||b)&&(a||b)&&(a||b)&&(a||b)&&(a||b)&&(a||b)&&(a||b)\
+        &&(a||b)&&(a||b)&&(a||b)&&(a||b);}",
         HEADER,
         (3, "", "mcdc: source 1:27: too many paths 8191\n"),
     ),
@@ -710,7 +724,9 @@ const LARGE_AND_REFUSED: [Row; 12] = [
         FLAPS_TESTS,
         (
             0,
-            "test flight pass values 5 10 15 15 10 5 output 5 10 15 15 10 5\nD1 TT-=T by flight\nD1 TFT=T by flight\nD1 TFF=F by flight\nD1 F--=F by flight\nD2 T=T by flight\nD2 F=F by flight\nD3 T=T by flight\nD3 F=F by flight\n",
+            "test flight pass values 5 10 15 15 10 5 output 5 10 15 15 10 5\nD1 TT-=T by flight\n\
+            D1 TFT=T by flight\nD1 TFF=F by flight\nD1 F--=F by flight\nD2 T=T by flight\n\
+            D2 F=F by flight\nD3 T=T by flight\nD3 F=F by flight\n",
             "",
         ),
     ),
