@@ -22,6 +22,6 @@ mod words;
 pub use fault::ReportFault;
 pub use laws::{evaluated_are_present, vector_is_of_path, verdicts_are_reported};
 pub use report::Report;
-pub use settled::status;
+pub use settled::{all_passed, status};
 pub use text::{report_lines, write_text};
 pub use vectors::vectors_lines;

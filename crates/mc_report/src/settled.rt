@@ -19,7 +19,8 @@ pub fn status(report: &Report<'_>) -> u8
     }
 }
 
-fn all_passed(states: &[TestState]) -> bool
+/// Whether all tests passed. Takes no memory.
+pub fn all_passed(states: &[TestState]) -> bool
     ensures { result ≡ list_all passed states.now }
 {
     states.iter().all(|state| passed(*state))

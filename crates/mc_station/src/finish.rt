@@ -1,6 +1,5 @@
 //! The reply of a command whose files are accepted.
 ghost use Rattle.std.specs.Prelude.{◌≡◌, ◌≤◌, IfOk, map};
-ghost use Rattle.std.specs.List.{list_all};
 ghost use Rattle.sha2.specs.Sha256.{sha256};
 ghost use Rattle.mc_command.specs.Seen.{seen_command};
 ghost use Rattle.mc_tests.specs.Seen.{seen_plans};
@@ -12,7 +11,7 @@ ghost use Rattle.mc_station.specs.Ran.{IsRun};
 ghost use Rattle.mc_station.specs.declared.status.Status.TheVariants.{TooLarge};
 ghost use Rattle.mc_report.specs.Report.{IsReport};
 ghost use Rattle.mc_report.specs.Seen.{report_of};
-ghost use Rattle.mc_report.specs.Status.{passed, status_of};
+ghost use Rattle.mc_report.specs.Status.{status_of};
 ghost use Rattle.mc_report.specs.Text.{report_lines};
 
 use crate::accepted::Accepted;
@@ -23,7 +22,7 @@ use mc_command::{Command, Independence};
 use mc_core::{Matrix, Shape, words};
 use mc_meaning::TestResult;
 use mc_oblige::{Mode, evaluated_paths, judge, obligations};
-use mc_report::{Report, report_lines, status, vectors_lines};
+use mc_report::{Report, all_passed, report_lines, status, vectors_lines};
 use mc_runner::run_tests;
 use mc_typed::{Name, TestPlan, TestState};
 use sha2::{Digest, Sha256};
@@ -73,21 +72,6 @@ fn states(alloc: Global, results: &[TestResult]) -> Result<Vec<TestState>, Alloc
     ensures { IfOk result (λ all. all.items ≡ map (λ r. r.state) results.now) }
 {
     results.iter().map(|test| test.state).collect(alloc)
-}
-
-fn passed(state: TestState) -> bool
-    ensures { result ≡ passed state }
-{
-    match state {
-        TestState::Pass => true,
-        TestState::Fail | TestState::Ended(_) => false,
-    }
-}
-
-fn all_passed(states: &[TestState]) -> bool
-    ensures { result ≡ list_all passed states.now }
-{
-    states.iter().all(|state| passed(*state))
 }
 
 // 0 where all tests passed, else 1.

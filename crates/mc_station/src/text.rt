@@ -14,7 +14,8 @@ pub fn usage_text(alloc: Global) -> Result<String, AllocError>
 {
     String::from_str(
         alloc,
-        "usage: mcdc report SOURCE TESTS [--mode unique|masking] [--fuel N]\n       mcdc vectors SOURCE TESTS [--fuel N]\n",
+        "usage: mcdc report SOURCE TESTS [--mode unique|masking] [--fuel N]\n       \
+        mcdc vectors SOURCE TESTS [--fuel N]\n",
     )
 }
 
