@@ -63,7 +63,7 @@ signed_modulo w k m h e high = go (cases_lt w 9223372036854775808)
     go (inl l) = ap (λ z. modulo z m) (sign_low w (omega (arith, l)))
     go (inr l) = lifted w k m h e (omega (arith, l)) high
 
-whole : (t : IntType) → 2 ^ (64 - width_of t) * 2 ^ width_of t ≡ 18446744073709551616
+pub whole : (t : IntType) → 2 ^ (64 - width_of t) * 2 ^ width_of t ≡ 18446744073709551616
 whole the.Bool = refl
 whole the.Char = refl
 whole the.SChar = refl
@@ -77,7 +77,7 @@ whole the.ULong = refl
 whole the.LLong = refl
 whole the.ULLong = refl
 
-number_modulo : (u t : IntType) (w : ℕ) → w < 18446744073709551616 →
+pub number_modulo : (u t : IntType) (w : ℕ) → w < 18446744073709551616 →
     modulo (number_of u w) (2 ^ width_of t) ≡ w % 2 ^ width_of t
 number_modulo u t w h =
     by_sign (λ z. modulo z (2 ^ width_of t) ≡ w % 2 ^ width_of t) u w
@@ -92,7 +92,7 @@ zero_words u w h = by_sign (λ z. is_zero z ≡ (w == 0)) u w (go (cases_lt w 92
     go (inl l) = ap is_zero (sign_low w (omega (arith, l)))
     go (inr l) = ap is_zero (sign_high w (omega (arith, l)) h) ∙ grind arith
 
-wrapped_words : (u t : IntType) (w : ℕ) → w < 18446744073709551616 →
+pub wrapped_words : (u t : IntType) (w : ℕ) → w < 18446744073709551616 →
     wrapped t (number_of u w) ≡ wrapped t (pos w)
 wrapped_words u t w h = wrapped_same t (number_of u w) (pos w) (number_modulo u t w h)
 

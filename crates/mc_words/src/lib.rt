@@ -2,8 +2,16 @@
 //! memory.
 #![tactic(auto)]
 
+mod arithmetic;
+mod bits;
+mod comparisons;
+mod conversions;
 mod operators;
+mod shifts;
 mod words;
 
-pub use operators::{binary, compare, convert, operate, shift, unary};
+pub use comparisons::compare;
+pub use conversions::convert;
+pub use operators::{binary, operate, unary};
+pub use shifts::shift;
 pub use words::{is_signed, number, word};
