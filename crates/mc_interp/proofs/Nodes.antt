@@ -1,10 +1,11 @@
 -- What nodes do, from what their parts did.
-use Rattle.std.proofs.Common.{◌≡◌, ℕ, ◌+◌, ◌*◌, ℤ, Bool, true, false, not, List, [], ◌++◌, Option, Some, None, option_map, Result, refl, sym, ap, subst, if◌then◌else◌}
+use Rattle.std.proofs.Common.{◌≡◌, ℕ, ◌+◌, ◌*◌, ℤ, Bool, true, false, not, List, [], ◌++◌, Option, Some, None, option_map, Result, Ok, refl, sym, ap, subst, if◌then◌else◌}
 use Rattle.mc_value.specs.declared.int_type.IntType.{IntType}
 use Rattle.mc_value.specs.declared.trap.Trap.{Trap}
 use Rattle.mc_value.specs.declared.trap.Trap.TheVariants.{Index}
 use Rattle.mc_value.specs.Conversions.{is_zero, promoted}
-use Rattle.mc_value.specs.Arithmetic.{truth}
+use Rattle.mc_value.specs.declared.operators.BinOp.{BinOp}
+use Rattle.mc_value.specs.Arithmetic.{binary_of, truth}
 use Rattle.mc_typed.specs.declared.operators.Operator.{Operator}
 use Rattle.mc_typed.specs.declared.operators.Operator.TheVariants.{Binary, Shift}
 use Rattle.mc_typed.specs.declared.operators.LogicOperator.{LogicOperator}
@@ -128,6 +129,40 @@ module _ {P : Type 0} (leads : List ℕ → P → P → Type 0) (stays : (p : P)
   did_test_end : (r : Run Flat ℕ ℤ) (m : Store) (p q : P) → Did leads r None m p q →
       Did leads (after r (λ x s. gives (is_true x) s)) None m p q
   did_test_end r m p q h = did_end leads stays joins r (λ x s. gives (is_true x) s) m p q h
+
+  -- a comparison, whose operands have one type
+  module _ (operator : BinOp) (a : IntType) (E F : Does ℤ) (s : State Flat) where
+    abbrev compared : Does ℤ
+    compared s = binary_does (Binary operator) a E F s
+
+    abbrev with_left : ℤ → Does ℤ
+    with_left x s = after (F s) (λ y s. with_result (binary_of operator a x y) gives s)
+
+    pub did_compared : (l r : IntType) (x y : ℕ) (b : Bool) (m n : Store) (p q o : P) → HasOperands (Binary operator) a l r →
+        Did leads (E s) (Some (number_of l x)) m p q → Did leads (F (state_of m)) (Some (number_of r y)) n q o →
+        binary_of operator a (number_of a x) (number_of a y) ≡ Ok (truth b) →
+        Did leads (test_does compared s) (Some b) n p o
+    did_compared l r x y b m n p q o h d e value =
+        let X = number_of a x in
+        let Y = number_of a y in
+        let first : Did leads (E s) (Some X) m p q = subst (λ t. Did leads (E s) (Some (number_of t x)) m p q) h.1 d in
+        let second : Did leads (F (state_of m)) (Some Y) n q o =
+        subst (λ t. Did leads (F (state_of m)) (Some (number_of t y)) n q o) h.2 e in
+        did_test (compared s) b n p o
+        (did_then leads stays joins (E s) with_left X m n (Some (truth b)) p q o first
+        (did_then leads stays joins (F (state_of m)) (λ y s. with_result (binary_of operator a X y) gives s) Y n n (Some (truth b)) q o o second
+        (did_told leads stays joins (with_result (binary_of operator a X Y) gives (state_of n)) (Some (truth b)) n o
+        (ap (λ z. with_result z gives (state_of n)) value))))
+
+    pub did_compared_left : (m : Store) (p q : P) → Did leads (E s) None m p q → Did leads (test_does compared s) None m p q
+    did_compared_left m p q h = did_test_end (compared s) m p q (did_end leads stays joins (E s) with_left m p q h)
+
+    pub did_compared_right : (x : ℤ) (m n : Store) (p q o : P) → Did leads (E s) (Some x) m p q →
+        Did leads (F (state_of m)) None n q o → Did leads (test_does compared s) None n p o
+    did_compared_right x m n p q o d e =
+        did_test_end (compared s) n p o
+        (did_then leads stays joins (E s) with_left x m n None p q o d
+        (did_end leads stays joins (F (state_of m)) (λ y s. with_result (binary_of operator a x y) gives s) n q o e))
 
   pub did_not : (E : Does ℤ) (s : State Flat) (b : Bool) (m : Store) (p q : P) → Did leads (test_does E s) (Some b) m p q →
       Did leads (test_does (as_does (λ x. truth (is_zero x)) E) s) (Some (not b)) m p q

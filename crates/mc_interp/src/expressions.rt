@@ -1,7 +1,8 @@
 //! Expressions: their values, and whether they are true.
-ghost use Rattle.std.specs.Prelude.{◌≡◌, ◌≤◌, List, [], false, length, map, option_map, IfSome};
+ghost use Rattle.std.specs.Prelude.{◌≡◌, ◌≤◌, List, [], false, length, map, option_map, true, IfSome};
 ghost use Rattle.mc_value.specs.declared.int_type.IntType.{IntType};
-ghost use Rattle.mc_typed.specs.Sound.{IsExpression, IsPlace, IsStructure, place_type, structure_type, type_of};
+ghost use Rattle.mc_typed.specs.Sound.{IsExpression, IsPlace, IsStructure, compares, place_type, structure_type, type_of};
+ghost use Rattle.mc_typed.specs.declared.operators.Operator.TheVariants.{Binary};
 ghost use Rattle.mc_typed.specs.Views as plain;
 ghost use Rattle.mc_steps.specs.Statements.{test_does};
 ghost use Rattle.mc_words.specs.Words.{number_of, Holds};
@@ -20,8 +21,9 @@ use crate::store::Store;
 use crate::values::{Lent, Passed};
 use arrayvec::ArrayVec;
 use mc_hits::Probe;
-use mc_typed::{Argument, Expression, FunctionCall, Place, Probe as Mark, Structure};
-use mc_words::{convert, operate, unary, word};
+use mc_typed::{Argument, Expression, FunctionCall, Operator, Place, Probe as Mark, Structure};
+use mc_value::BinOp;
+use mc_words::{compare, convert, operate, unary, word};
 
 /// Whether a probe gives a truth value.
 fn tells_truth(probe: Mark) -> bool
@@ -48,6 +50,22 @@ fn is_logical(e: &Expression) -> bool
         | Expression::Choice { .. }
         | Expression::Call { .. }
         | Expression::Input { .. } => false,
+    }
+}
+
+/// The comparison that an operator is, where it is one (C17 6.5.8, 6.5.9).
+fn comparison(operator: Operator) -> Option<BinOp>
+    ensures { IfSome result (λ compared. (operator ≡ Binary compared)
+        × (compares compared ≡ true)) }
+{
+    match operator {
+        Operator::Binary(compared) => match compared {
+            BinOp::Lt | BinOp::Gt | BinOp::Le | BinOp::Ge | BinOp::Eq | BinOp::Ne => {
+                Some(compared)
+            }
+            _ => None,
+        },
+        Operator::Shift(_) => None,
     }
 }
 
@@ -143,11 +161,27 @@ pub(crate) fn truth<P: Probe, F: Fn(Called<'_, '_>, &mut Store, &mut P) -> Optio
                 Some(number != 0)
             }
         },
+        Expression::Binary {
+            operator,
+            of,
+            left,
+            right,
+            ..
+        } => match comparison(*operator) {
+            Some(compared) => {
+                let first = value(left, frame, invoke, store, probe)?;
+                let second = value(right, frame, invoke, store, probe)?;
+                Some(compare(compared, *of, first, second))
+            }
+            None => {
+                let number = other(e, frame, invoke, store, probe)?;
+                Some(number != 0)
+            }
+        },
         Expression::Constant { .. }
         | Expression::Read { .. }
         | Expression::Unary { .. }
         | Expression::Convert { .. }
-        | Expression::Binary { .. }
         | Expression::Choice { .. }
         | Expression::Call { .. }
         | Expression::Input { .. } => {
@@ -157,9 +191,56 @@ pub(crate) fn truth<P: Probe, F: Fn(Called<'_, '_>, &mut Store, &mut P) -> Optio
     }
 }
 
-/// The value of an expression that gives no truth value by its form.
+/// The value of an expression that gives no truth value by its form. Constants and scalars of the
+/// activation, which most operands are, are read without a further call.
 #[cycle(expressions)]
 fn other<P: Probe, F: Fn(Called<'_, '_>, &mut Store, &mut P) -> Option<()> + Copy>(
+    e: &Expression,
+    frame: &Frame<'_, '_>,
+    invoke: F,
+    store: &mut Store,
+    probe: &mut P,
+) -> Option<u64>
+    requires sound { IsExpression (plain.expression_of e.now) (scope_in frame.now) }
+    requires fits { Fits frame.now.function.now.registers (view.expression_of e.now) }
+    requires ready { IsReady frame.now store.old (P.bits probe.old) }
+    requires invokes { Invokes frame.now P.bits P.leads (F.pre invoke) (F.post invoke) }
+    requires other { truths.is_logical (view.expression_of e.now) ≡ false }
+    ensures did { Did P.leads (does.value_of (activation_of frame.now) (view.expression_of e.now)
+        (state_of store.old)) (option_map (number_of (type_of (plain.expression_of e.now))) result)
+        store.new probe.old probe.new }
+    ensures typed { IfSome result (Holds (type_of (plain.expression_of e.now))) }
+    ensures kept { IfSome result (λ _. IsKept (scope_in frame.now) (activation_of frame.now)
+        store.old store.new) }
+    ensures bits { P.bits probe.new ≡ P.bits probe.old }
+    ensures limits { limits_of store.new ≡ limits_of store.old }
+{
+    match e {
+        Expression::Constant { value, of, .. } => Some(word(*of, *value)),
+        Expression::Read { place: object, of } => match object {
+            Place::Local { slot, .. } => store.read(frame.base + slot.start, *of),
+            Place::Static { .. }
+            | Place::Parameter { .. }
+            | Place::Item { .. }
+            | Place::Member { .. } => inner(e, frame, invoke, store, probe),
+        },
+        Expression::Unary { .. }
+        | Expression::Convert { .. }
+        | Expression::Not { .. }
+        | Expression::Binary { .. }
+        | Expression::Logic { .. }
+        | Expression::Choice { .. }
+        | Expression::Call { .. }
+        | Expression::Input { .. }
+        | Expression::Probe { .. } => inner(e, frame, invoke, store, probe),
+    }
+}
+
+/// The same, for every such expression. It stays a function of its own, so that a leaf costs no
+/// large frame.
+#[cycle(expressions)]
+#[inline(never)]
+fn inner<P: Probe, F: Fn(Called<'_, '_>, &mut Store, &mut P) -> Option<()> + Copy>(
     e: &Expression,
     frame: &Frame<'_, '_>,
     invoke: F,

@@ -14,30 +14,30 @@ use Rattle.mc_interp.proofs.Passing.{source_there, copy_there, copy_keeps, again
 use Rattle.mc_interp.proofs.Called.{if_call_kept, into_small, is_called, made}
 use Rattle.mc_interp.proofs.Kept.{kept_then, if_any, ready_kept}
 use Rattle.mc_interp.proofs.Placed as placed
-use Rattle.mc_interp.proofs.Nodes.{has_promoted, is_left, is_right, did_operated, did_chosen, did_other, did_choice_end, did_item, did_lent, did_not, did_not_end, did_logic, did_logic_short, did_logic_end, did_decision, did_decision_end, did_condition, did_condition_end}
+use Rattle.mc_interp.proofs.Nodes.{has_promoted, is_left, is_right, did_operated, did_chosen, did_other, did_choice_end, did_item, did_lent, did_compared, did_compared_right, did_not, did_not_end, did_logic, did_logic_short, did_logic_end, did_decision, did_decision_end, did_condition, did_condition_end}
 use Rattle.mc_typed.specs.declared.expressions.FunctionCall.{the_lemmas as call_lemmas}
 use Rattle.mc_interp.proofs.expressions.+expressions.Goals as goal
 
-pub other-returns-in_err-second-in-Binary-clause-did : goal.other-returns-in_err-second-in-Binary-clause-did
-other-returns-in_err-second-in-Binary-clause-did g t c =
+pub inner-returns-in_err-second-in-Binary-clause-did : goal.inner-returns-in_err-second-in-Binary-clause-did
+inner-returns-in_err-second-in-Binary-clause-did g t c =
     let M = g.P.Probe.leads in let N = g.met.P.Probe.stays in let J = g.met.P.Probe.joins in
     rw (c.from_residual-in_err-second-in-Binary.ensures, c.in-Binary.is, view_binary, ← c.deref-in-Binary.ensures, ← c.deref-in-Binary-2.ensures)
     (did_then M N J _ _ _ _ _ _ _ _ _ c.in_ok-first-in-Binary.ensures.did (did_end M N J _ _ _ _ _ c.in_err-second-in-Binary.ensures.did))
 
-pub other-operate-requires-clause-left : goal.other-operate-requires-clause-left
-other-operate-requires-clause-left g t c =
+pub inner-operate-requires-clause-left : goal.inner-operate-requires-clause-left
+inner-operate-requires-clause-left g t c =
     let s = rw (c.in-Binary.is, plain_binary) at c.requires.sound in
     let h = rw c.deref-in-Binary.ensures at c.in_ok-first-in-Binary.ensures.typed in
     is_left c.in-Binary.operator c.in-Binary.of _ _ c.in_ok-first-in-Binary.first s.2 h
 
-pub other-operate-requires-clause-right : goal.other-operate-requires-clause-right
-other-operate-requires-clause-right g t c =
+pub inner-operate-requires-clause-right : goal.inner-operate-requires-clause-right
+inner-operate-requires-clause-right g t c =
     let s = rw (c.in-Binary.is, plain_binary) at c.requires.sound in
     let h = rw c.deref-in-Binary-2.ensures at c.in_ok-second-in-Binary.ensures.typed in
     is_right c.in-Binary.operator c.in-Binary.of _ _ c.in_ok-second-in-Binary.second s.2 h
 
-pub other-returns-in_ok-second-in-Binary-clause-did : goal.other-returns-in_ok-second-in-Binary-clause-did
-other-returns-in_ok-second-in-Binary-clause-did g t c =
+pub inner-returns-in_ok-second-in-Binary-clause-did : goal.inner-returns-in_ok-second-in-Binary-clause-did
+inner-returns-in_ok-second-in-Binary-clause-did g t c =
     let M = g.P.Probe.leads in let N = g.met.P.Probe.stays in let J = g.met.P.Probe.joins in
     let W = activation_of c.args.frame.now in let S = state_of c.args.store.now in
     let s = rw (c.in-Binary.is, plain_binary) at c.requires.sound in
@@ -47,31 +47,31 @@ other-returns-in_ok-second-in-Binary-clause-did g t c =
     (did_operated M N J c.in-Binary.operator c.in-Binary.of _ _ (does.value_of W (view.expression_of c.in-Binary.left.value)) (does.value_of W (view.expression_of c.in-Binary.right.value)) S c.in_ok-first-in-Binary.first c.in_ok-second-in-Binary.second _ _ _ _ _ _ _ _
     s.2 d e c.operate.ensures.value c.give-in-Binary.ensures.ran)
 
-pub other-returns-in_ok-second-in-Binary-clause-kept : goal.other-returns-in_ok-second-in-Binary-clause-kept
-other-returns-in_ok-second-in-Binary-clause-kept g t c =
+pub inner-returns-in_ok-second-in-Binary-clause-kept : goal.inner-returns-in_ok-second-in-Binary-clause-kept
+inner-returns-in_ok-second-in-Binary-clause-kept g t c =
     if_any c.give-in-Binary.result (kept_then _ _ _ _ _ (kept_then _ _ _ _ _ c.in_ok-first-in-Binary.ensures.kept c.in_ok-second-in-Binary.ensures.kept) (c.give-in-Binary.ensures.kept _ _))
 
-pub other-returns-in_ok-number-in-Unary-clause-kept : goal.other-returns-in_ok-number-in-Unary-clause-kept
-other-returns-in_ok-number-in-Unary-clause-kept g t c =
+pub inner-returns-in_ok-number-in-Unary-clause-kept : goal.inner-returns-in_ok-number-in-Unary-clause-kept
+inner-returns-in_ok-number-in-Unary-clause-kept g t c =
     if_any c.give.result (kept_then _ _ _ _ _ c.in_ok-number-in-Unary.ensures.kept (c.give.ensures.kept _ _))
 
-pub other-returns-in-Input-clause-kept : goal.other-returns-in-Input-clause-kept
-other-returns-in-Input-clause-kept g t c =
+pub inner-returns-in-Input-clause-kept : goal.inner-returns-in-Input-clause-kept
+inner-returns-in-Input-clause-kept g t c =
     if_any c.input.result (c.input.ensures.kept _ _)
 
-pub other-returns-in_ok-at-in-Read-clause-kept : goal.other-returns-in_ok-at-in-Read-clause-kept
-other-returns-in_ok-at-in-Read-clause-kept g t c =
+pub inner-returns-in_ok-at-in-Read-clause-kept : goal.inner-returns-in_ok-at-in-Read-clause-kept
+inner-returns-in_ok-at-in-Read-clause-kept g t c =
     if_any c.read.result (kept_then _ _ _ _ _ c.in_ok-at-in-Read.ensures.kept (c.read.ensures.kept _ _))
 
-pub other-returns-in_err-holds-in-Choice-clause-did : goal.other-returns-in_err-holds-in-Choice-clause-did
-other-returns-in_err-holds-in-Choice-clause-did g t c =
+pub inner-returns-in_err-holds-in-Choice-clause-did : goal.inner-returns-in_err-holds-in-Choice-clause-did
+inner-returns-in_err-holds-in-Choice-clause-did g t c =
     let M = g.P.Probe.leads in let N = g.met.P.Probe.stays in let J = g.met.P.Probe.joins in
     let W = activation_of c.args.frame.now in let S = state_of c.args.store.now in
     let h = rw c.deref-in-Choice.ensures at c.in_err-holds-in-Choice.ensures.did in
     rw (c.from_residual-in_err-holds-in-Choice.ensures, c.in-Choice.is, view_choice) (did_choice_end M N J (does.value_of W (view.expression_of c.in-Choice.test.value)) (does.value_of W (view.expression_of c.in-Choice.chosen.value)) (does.value_of W (view.expression_of c.in-Choice.other.value)) S _ _ _ h)
 
-pub other-returns-then-holds-clause-did : goal.other-returns-then-holds-clause-did
-other-returns-then-holds-clause-did g t c =
+pub inner-returns-then-holds-clause-did : goal.inner-returns-then-holds-clause-did
+inner-returns-then-holds-clause-did g t c =
     let M = g.P.Probe.leads in let N = g.met.P.Probe.stays in let J = g.met.P.Probe.joins in
     let W = activation_of c.args.frame.now in let S = state_of c.args.store.now in
     let s = rw (c.in-Choice.is, plain_choice) at c.requires.sound in
@@ -80,8 +80,8 @@ other-returns-then-holds-clause-did g t c =
     rw (c.in-Choice.is, view_choice, plain_choice)
     (did_chosen M N J (does.value_of W (view.expression_of c.in-Choice.test.value)) (does.value_of W (view.expression_of c.in-Choice.chosen.value)) (does.value_of W (view.expression_of c.in-Choice.other.value)) S c.in_ok-holds-in-Choice.holds _ _ _ _ _ _ _ _ h c.if-holds.true s.4 k)
 
-pub other-returns-else-holds-clause-did : goal.other-returns-else-holds-clause-did
-other-returns-else-holds-clause-did g t c =
+pub inner-returns-else-holds-clause-did : goal.inner-returns-else-holds-clause-did
+inner-returns-else-holds-clause-did g t c =
     let M = g.P.Probe.leads in let N = g.met.P.Probe.stays in let J = g.met.P.Probe.joins in
     let W = activation_of c.args.frame.now in let S = state_of c.args.store.now in
     let s = rw (c.in-Choice.is, plain_choice) at c.requires.sound in
@@ -90,8 +90,8 @@ other-returns-else-holds-clause-did g t c =
     rw (c.in-Choice.is, view_choice, plain_choice)
     (did_other M N J (does.value_of W (view.expression_of c.in-Choice.test.value)) (does.value_of W (view.expression_of c.in-Choice.chosen.value)) (does.value_of W (view.expression_of c.in-Choice.other.value)) S c.in_ok-holds-in-Choice.holds _ _ _ _ _ _ _ _ h c.if-holds.false s.5 k)
 
-pub other-read-requires-clause-typed : goal.other-read-requires-clause-typed
-other-read-requires-clause-typed g t c =
+pub inner-read-requires-clause-typed : goal.inner-read-requires-clause-typed
+inner-read-requires-clause-typed g t c =
     let F = c.args.frame.now in
     let s = rw (c.in-Read.is, plain_read) at c.requires.sound in
     let r = ready_kept F c.args.store.now c.place.new.store _ _ c.requires.ready c.in_ok-at-in-Read.ensures.kept c.in_ok-at-in-Read.ensures.bits in
@@ -220,6 +220,28 @@ truth-returns-else-goes_on-clause-did g t c =
     rw (c.in-Logic.is, view_logic)
     (did_logic_short M N J c.in-Logic.operator (does.value_of W (view.expression_of c.in-Logic.left.value)) (does.value_of W (view.expression_of c.in-Logic.right.value)) S c.in_ok-holds-in-Logic.holds _ _ _ h (sym c.goes_on.ensures ∙ c.if-goes_on.false))
 
+pub truth-returns-in_err-second-in-Some-clause-did : goal.truth-returns-in_err-second-in-Some-clause-did
+truth-returns-in_err-second-in-Some-clause-did g t c =
+    let M = g.P.Probe.leads in let N = g.met.P.Probe.stays in let J = g.met.P.Probe.joins in
+    let W = activation_of c.args.frame.now in let S = state_of c.args.store.now in
+    let r = rw c.in-Some.is at c.comparison.ensures in
+    let d = rw c.deref-in-Some.ensures at c.in_ok-first-in-Some.ensures.did in
+    let e = rw c.deref-in-Some-2.ensures at c.in_err-second-in-Some.ensures.did in
+    rw (c.from_residual-in_err-second-in-Some.ensures, c.in-Binary.is, view_binary, r.0)
+    (did_compared_right M N J c.in-Some.compared c.in-Binary.of (does.value_of W (view.expression_of c.in-Binary.left.value)) (does.value_of W (view.expression_of c.in-Binary.right.value)) S _ _ _ _ _ _ d e)
+
+pub truth-returns-in_ok-second-in-Some-clause-did : goal.truth-returns-in_ok-second-in-Some-clause-did
+truth-returns-in_ok-second-in-Some-clause-did g t c =
+    let M = g.P.Probe.leads in let N = g.met.P.Probe.stays in let J = g.met.P.Probe.joins in
+    let W = activation_of c.args.frame.now in let S = state_of c.args.store.now in
+    let r = rw c.in-Some.is at c.comparison.ensures in
+    let s = rw (c.in-Binary.is, plain_binary) at c.requires.sound in
+    let h = rw r.0 at s.2 in
+    let d = rw c.deref-in-Some.ensures at c.in_ok-first-in-Some.ensures.did in
+    let e = rw c.deref-in-Some-2.ensures at c.in_ok-second-in-Some.ensures.did in
+    rw (c.in-Binary.is, view_binary, r.0)
+    (did_compared M N J c.in-Some.compared c.in-Binary.of (does.value_of W (view.expression_of c.in-Binary.left.value)) (does.value_of W (view.expression_of c.in-Binary.right.value)) S _ _ c.in_ok-first-in-Some.first c.in_ok-second-in-Some.second c.compare.result _ _ _ _ _ h d e c.compare.ensures)
+
 pub value-returns-in_ok-holds-clause-did : goal.value-returns-in_ok-holds-clause-did
 value-returns-in_ok-holds-clause-did g t c =
     let M = g.P.Probe.leads in
@@ -269,12 +291,12 @@ pub truth-returns-in_ok-holds-in-Condition-clause-kept : goal.truth-returns-in_o
 truth-returns-in_ok-holds-in-Condition-clause-kept g t c =
     kept_then _ _ _ _ _ c.in_ok-holds-in-Condition.ensures.kept (c.note.ensures.kept _ _)
 
-pub other-returns-in_ok-number-in-Switch-clause-kept : goal.other-returns-in_ok-number-in-Switch-clause-kept
-other-returns-in_ok-number-in-Switch-clause-kept g t c =
+pub inner-returns-in_ok-number-in-Switch-clause-kept : goal.inner-returns-in_ok-number-in-Switch-clause-kept
+inner-returns-in_ok-number-in-Switch-clause-kept g t c =
     kept_then _ _ _ _ _ c.in_ok-number-in-Switch.ensures.kept (c.mark.ensures.kept _ _)
 
-pub other-returns-in_ok-call-in-Call-clause-kept : goal.other-returns-in_ok-call-in-Call-clause-kept
-other-returns-in_ok-call-in-Call-clause-kept g t c =
+pub inner-returns-in_ok-call-in-Call-clause-kept : goal.inner-returns-in_ok-call-in-Call-clause-kept
+inner-returns-in_ok-call-in-Call-clause-kept g t c =
     if_any c.number_given.result (kept_then _ _ _ _ _ c.in_ok-call-in-Call.ensures.kept (c.number_given.ensures.kept _ _))
 
 -- ---- structures
@@ -390,7 +412,35 @@ call-returns-clause-kept g t c =
 
 -- ---- operands
 
-pub other-operate-requires-clause-type_promoted : goal.other-operate-requires-clause-type_promoted
-other-operate-requires-clause-type_promoted g t c =
+pub inner-operate-requires-clause-type_promoted : goal.inner-operate-requires-clause-type_promoted
+inner-operate-requires-clause-type_promoted g t c =
     let s = rw (c.in-Binary.is, plain_binary) at c.requires.sound in
     has_promoted c.in-Binary.operator c.in-Binary.of _ _ s.2
+
+-- ---- scalars of the activation
+
+pub other-overflow_add-frame : goal.other-overflow_add-frame
+other-overflow_add-frame g t c =
+    let F = c.args.frame.now in
+    let s = rw (c.in-Read.is, plain_read, c.in-Local.is, plain_local) at c.requires.sound in
+    let p = placed.placed_local (scope_in F) (activation_of F) c.in-Local.slot s.0 in
+    let small = placed.place_small F c.args.store.now _ _ _ c.requires.ready p in
+    search rules
+
+pub other-read-requires-clause-there : goal.other-read-requires-clause-there
+other-read-requires-clause-there g t c =
+    let F = c.args.frame.now in
+    let s = rw (c.in-Read.is, plain_read, c.in-Local.is, plain_local) at c.requires.sound in
+    let p = placed.placed_local (scope_in F) (activation_of F) c.in-Local.slot s.0 in
+    placed.scalar_there F c.args.store.now _ _ _ c.in-Read.of c.requires.ready p s.1
+
+pub other-read-requires-clause-typed : goal.other-read-requires-clause-typed
+other-read-requires-clause-typed g t c =
+    let F = c.args.frame.now in
+    let s = rw (c.in-Read.is, plain_read, c.in-Local.is, plain_local) at c.requires.sound in
+    let p = placed.placed_local (scope_in F) (activation_of F) c.in-Local.slot s.0 in
+    placed.scalar_typed F c.args.store.now _ _ _ c.in-Read.of c.requires.ready p s.1
+
+pub other-returns-in-Local-clause-kept : goal.other-returns-in-Local-clause-kept
+other-returns-in-Local-clause-kept g t c =
+    if_any c.read.result (c.read.ensures.kept _ _)
