@@ -17,3 +17,5 @@ mod reading;
 mod row;
 #[cfg(test)]
 mod runs;
+#[cfg(test)]
+mod worked;
