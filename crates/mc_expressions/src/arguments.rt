@@ -232,8 +232,8 @@ pub fn add_temporary(alloc: Global, scope: &mut Scope<'_>, number: u32) -> Resul
         ≡ s.with_object (c.layout_of_structure (scope_of scope.old) number) (scope_of scope.old)) }
 {
     let of = CType::plain(alloc, Base::Tagged(number));
-    let object = layout(alloc, &scope.structures, &of)?;
     let count = structure_cells(alloc, &scope.structures, number)?;
+    let object = layout(alloc, &scope.structures, &of)?;
     scope.add_object(object, count)?;
     Ok(count)
 }

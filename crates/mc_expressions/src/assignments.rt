@@ -77,15 +77,18 @@ fn number_effect(
         (option_map expression_of value)) }
 {
     match value {
-        Some(value) => {
-            let value = convert_to(alloc, of, value)?;
-            Ok(Some(Effect::Assign {
+        Some(value) => match convert_to(alloc, of, value) {
+            Ok(value) => Ok(Some(Effect::Assign {
                 target,
                 of,
                 value,
                 span,
-            }))
-        }
+            })),
+            Err(error) => {
+                drop(target);
+                Err(error)
+            }
+        },
         None => {
             drop(target);
             Ok(None)

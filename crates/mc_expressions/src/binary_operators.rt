@@ -9,7 +9,7 @@ ghost use Rattle.mc_typing.specs.Expressions as e;
 ghost use Rattle.mc_scopes.specs.Found.{found_of};
 ghost use Rattle.mc_scopes.specs.steps.Squeezed.{squeezed};
 
-use mc_scopes::conversions::{convert_to, promote};
+use crate::operands::{both_boxed, both_converted, both_promoted};
 use mc_scopes::faults::two_or_fault;
 use mc_scopes::found::{Found, fails_integer, number_found, number_in};
 use mc_tree::BinaryOperator;
@@ -29,10 +29,8 @@ fn in_common_type(
         ≡ e.in_common_type operator span (expression_of left) (expression_of right)) }
 {
     let of = common(left.integer_type(), right.integer_type());
-    let left = convert_to(alloc, of, left)?;
-    let right = convert_to(alloc, of, right)?;
-    let left = Box::new(alloc, left)?;
-    let right = Box::new(alloc, right)?;
+    let (left, right) = both_converted(alloc, of, left, right)?;
+    let (left, right) = both_boxed(alloc, left, right)?;
     Ok(Expression::Binary {
         operator: Operator::Binary(operator),
         of,
@@ -52,11 +50,9 @@ fn shifting(
     ensures { IfOk result (λ r. expression_of r
         ≡ e.shifting (operators.Shift operator) span (expression_of left) (expression_of right)) }
 {
-    let left = promote(alloc, left)?;
-    let right = promote(alloc, right)?;
+    let (left, right) = both_promoted(alloc, left, right)?;
     let of = left.integer_type();
-    let left = Box::new(alloc, left)?;
-    let right = Box::new(alloc, right)?;
+    let (left, right) = both_boxed(alloc, left, right)?;
     Ok(Expression::Binary {
         operator: Operator::Shift(operator),
         of,
@@ -76,8 +72,7 @@ fn logic(
     ensures { IfOk result (λ r. expression_of r
         ≡ t.Logic operator (expression_of left) (expression_of right) span) }
 {
-    let left = Box::new(alloc, left)?;
-    let right = Box::new(alloc, right)?;
+    let (left, right) = both_boxed(alloc, left, right)?;
     Ok(Expression::Logic {
         operator,
         left,

@@ -1,5 +1,6 @@
 //! The conditional operator (C17 6.5.15).
 ghost use Rattle.std.specs.Prelude.{◌≡◌, ◌||◌, IfOk, option_map};
+ghost use Rattle.mc_typed.specs.Tree as t;
 ghost use Rattle.mc_typed.specs.Views.{expression_of, effect_of};
 ghost use Rattle.mc_typing.specs.Scopes as s;
 ghost use Rattle.mc_typing.specs.Values as v;
@@ -7,14 +8,14 @@ ghost use Rattle.mc_typing.specs.Expressions as e;
 ghost use Rattle.mc_scopes.specs.Found.{found_of, kind_of, value_of};
 ghost use Rattle.mc_scopes.specs.steps.Squeezed.{squeezed};
 
-use mc_scopes::conversions::convert_to;
+use crate::operands::{both_boxed, both_converted, boxed, boxed_effect};
 use mc_scopes::faults::three_or_fault;
 use mc_scopes::found::{Found, fails_integer, kind_found, number_in};
 use mc_scopes::kind::{Kind, fails_arm};
 use mc_scopes::value::Value;
 use mc_typed::{Effect, Expression, Span};
 use mc_typing::FaultKind;
-use mc_value::common;
+use mc_value::{IntType, common};
 use std::alloc::{AllocError, Global};
 
 fn are_arms(one: Kind<'_>, other: Kind<'_>) -> bool
@@ -39,6 +40,40 @@ fn arms_fail(one: Option<Kind<'_>>, other: Option<Kind<'_>>) -> bool
     }
 }
 
+// The same where both are of one type.
+fn choice_with(
+    alloc: Global,
+    of: IntType,
+    span: Span,
+    test: Expression,
+    chosen: Expression,
+    other: Expression,
+) -> Result<Value, AllocError>
+    ensures { IfOk result (λ r. value_of r ≡ v.Number (t.Choice (expression_of test)
+        (expression_of chosen) (expression_of other) of span)) }
+{
+    match both_boxed(alloc, chosen, other) {
+        Ok((chosen, other)) => match boxed(alloc, test) {
+            Ok(test) => Ok(Value::Number(Expression::Choice {
+                test,
+                chosen,
+                other,
+                of,
+                span,
+            })),
+            Err(error) => {
+                drop(chosen);
+                drop(other);
+                Err(error)
+            }
+        },
+        Err(error) => {
+            drop(test);
+            Err(error)
+        }
+    }
+}
+
 fn choice_of(
     alloc: Global,
     span: Span,
@@ -50,18 +85,13 @@ fn choice_of(
         ≡ e.choice_of span (expression_of test) (expression_of chosen) (expression_of other)) }
 {
     let of = common(chosen.integer_type(), other.integer_type());
-    let chosen = convert_to(alloc, of, chosen)?;
-    let other = convert_to(alloc, of, other)?;
-    let test = Box::new(alloc, test)?;
-    let chosen = Box::new(alloc, chosen)?;
-    let other = Box::new(alloc, other)?;
-    Ok(Value::Number(Expression::Choice {
-        test,
-        chosen,
-        other,
-        of,
-        span,
-    }))
+    match both_converted(alloc, of, chosen, other) {
+        Ok((chosen, other)) => choice_with(alloc, of, span, test, chosen, other),
+        Err(error) => {
+            drop(test);
+            Err(error)
+        }
+    }
 }
 
 fn choice_of_effects(
@@ -74,14 +104,26 @@ fn choice_of_effects(
     ensures { IfOk result (λ r. value_of r
         ≡ e.choice_of_effects span (expression_of test) (effect_of chosen) (effect_of other)) }
 {
-    let chosen = Box::new(alloc, chosen)?;
-    let other = Box::new(alloc, other)?;
-    Ok(Value::Done(Effect::Choice {
-        test,
-        chosen,
-        other,
-        span,
-    }))
+    match boxed_effect(alloc, chosen) {
+        Ok(chosen) => match boxed_effect(alloc, other) {
+            Ok(other) => Ok(Value::Done(Effect::Choice {
+                test,
+                chosen,
+                other,
+                span,
+            })),
+            Err(error) => {
+                drop(test);
+                drop(chosen);
+                Err(error)
+            }
+        },
+        Err(error) => {
+            drop(test);
+            drop(other);
+            Err(error)
+        }
+    }
 }
 
 fn number_arms(

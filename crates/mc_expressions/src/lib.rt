@@ -12,6 +12,7 @@ mod constants;
 mod function_calls;
 mod gathering;
 mod names;
+mod operands;
 mod selections;
 mod subscripts;
 mod unary_operators;

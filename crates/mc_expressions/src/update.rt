@@ -46,15 +46,20 @@ fn in_common_type(
         ≡ Some (e.update_in_common_type operator (place_of target) of (expression_of value) span)) }
 {
     let common = mc_value::common(of, value.integer_type());
-    let value = convert_to(alloc, common, value)?;
-    Ok(Some(Effect::Update {
-        target,
-        of,
-        operator: Operator::Binary(operator),
-        common,
-        value,
-        span,
-    }))
+    match convert_to(alloc, common, value) {
+        Ok(value) => Ok(Some(Effect::Update {
+            target,
+            of,
+            operator: Operator::Binary(operator),
+            common,
+            value,
+            span,
+        })),
+        Err(error) => {
+            drop(target);
+            Err(error)
+        }
+    }
 }
 
 fn shifting(
@@ -70,15 +75,20 @@ fn shifting(
         (e.promote (expression_of value)) span)) }
 {
     let common = mc_value::promote(of);
-    let value = promote(alloc, value)?;
-    Ok(Some(Effect::Update {
-        target,
-        of,
-        operator: Operator::Shift(operator),
-        common,
-        value,
-        span,
-    }))
+    match promote(alloc, value) {
+        Ok(value) => Ok(Some(Effect::Update {
+            target,
+            of,
+            operator: Operator::Shift(operator),
+            common,
+            value,
+            span,
+        })),
+        Err(error) => {
+            drop(target);
+            Err(error)
+        }
+    }
 }
 
 fn update_of(
@@ -317,6 +327,11 @@ pub fn prefix_step(
     ensures { IfOk result (λ r. (s : s.Scope) → found_of r s ≡ squeezed
         (e.step_found operator (e.operator_before span) span (found_of operand s))) }
 {
-    let at = operator_before(span)?;
-    step(alloc, operator, at, span, operand)
+    match operator_before(span) {
+        Ok(at) => step(alloc, operator, at, span, operand),
+        Err(error) => {
+            drop(operand);
+            Err(error)
+        }
+    }
 }

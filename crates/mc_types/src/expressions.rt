@@ -1,5 +1,8 @@
 //! Expressions, specifiers and the declarators in them: each function walks a tree of one kind, and
 //! gives what is found of it. The scope becomes that after the tree.
+//!
+//! Where a part fails after another was found, the found one is let go by a call of `drop`: written
+//! out at each exit, its drop would make the proof of the function several times as long.
 ghost use Rattle.std.specs.Prelude.{◌≡◌, IfOk, Some, false, pos, map, option_copied, option_map};
 ghost use Rattle.mc_tree.specs.Views.{name_of, expression_of, expressions_from, specifier_of, specifiers_from, member_of, members_from, enumerator_of, enumerators_from, declarator_of, declarators_from, array_length_of, lengths_from, parameter_of, parameters_from};
 ghost use Rattle.mc_tree.specs.Tree as t;
@@ -55,8 +58,13 @@ pub(crate) fn expression<'a>(
         } => call(alloc, scope, name, given, *span),
         Expression::Index { array, index, span } => {
             let array = expression(alloc, scope, array)?;
-            let index = expression(alloc, scope, index)?;
-            mc_expressions::index(alloc, scope, *span, array, index)
+            match expression(alloc, scope, index) {
+                Ok(index) => mc_expressions::index(alloc, scope, *span, array, index),
+                Err(error) => {
+                    drop(array);
+                    Err(error)
+                }
+            }
         }
         Expression::Member { object, name, span } => {
             let object = expression(alloc, scope, object)?;
@@ -104,8 +112,13 @@ pub(crate) fn expression<'a>(
             span,
         } => {
             let left = expression(alloc, scope, left)?;
-            let right = expression(alloc, scope, right)?;
-            mc_expressions::binary(alloc, *operator, *span, left, right)
+            match expression(alloc, scope, right) {
+                Ok(right) => mc_expressions::binary(alloc, *operator, *span, left, right),
+                Err(error) => {
+                    drop(left);
+                    Err(error)
+                }
+            }
         }
         Expression::Conditional {
             test,
@@ -114,9 +127,20 @@ pub(crate) fn expression<'a>(
             span,
         } => {
             let test = expression(alloc, scope, test)?;
-            let chosen = expression(alloc, scope, chosen)?;
-            let other = expression(alloc, scope, other)?;
-            mc_expressions::conditional(alloc, *span, test, chosen, other)
+            match expression(alloc, scope, chosen) {
+                Ok(chosen) => match expression(alloc, scope, other) {
+                    Ok(other) => { mc_expressions::conditional(alloc, *span, test, chosen, other) }
+                    Err(error) => {
+                        drop(chosen);
+                        drop(test);
+                        Err(error)
+                    }
+                },
+                Err(error) => {
+                    drop(test);
+                    Err(error)
+                }
+            }
         }
         Expression::Assignment {
             operator,
@@ -125,8 +149,15 @@ pub(crate) fn expression<'a>(
             span,
         } => {
             let target = expression(alloc, scope, target)?;
-            let value = expression(alloc, scope, value)?;
-            mc_expressions::assignment(alloc, scope, *operator, *span, target, value)
+            match expression(alloc, scope, value) {
+                Ok(value) => {
+                    mc_expressions::assignment(alloc, scope, *operator, *span, target, value)
+                }
+                Err(error) => {
+                    drop(target);
+                    Err(error)
+                }
+            }
         }
         Expression::Comma { operands, span } => {
             let given = arguments(alloc, scope, operands, &[])?;
@@ -428,7 +459,9 @@ fn enumerator<'a>(
         Enumerator::Bare { name } => mc_declarations::enumerator(scope, name, value),
         Enumerator::Valued { name, value: given } => {
             let found = expression(alloc, scope, given)?;
-            mc_declarations::valued_enumerator(scope, name, given.span().start, &found)
+            let next = mc_declarations::valued_enumerator(scope, name, given.span().start, &found);
+            drop(found);
+            next
         }
     }
 }
@@ -466,7 +499,9 @@ fn more_lengths<'a>(
         ArrayLength::Absent => Ok(list),
         ArrayLength::Given { value } => {
             let found = expression(alloc, scope, value)?;
-            mc_declarations::more_lengths(list, value.span().start, &found)
+            let more = mc_declarations::more_lengths(list, value.span().start, &found);
+            drop(found);
+            more
         }
     }
 }

@@ -1,4 +1,7 @@
 //! Statements (C17 6.8).
+//!
+//! Where a part fails after another was found, the found one is let go by a call of `drop`: written
+//! out at each exit, its drop would make the proof of the function several times as long.
 ghost use Rattle.std.specs.Prelude.{◌≡◌, IfOk, map, option_copied, option_map};
 ghost use Rattle.mc_tree.specs.Units as units;
 ghost use Rattle.mc_tree.specs.Views.{expression_of, expressions_from};
@@ -49,8 +52,13 @@ pub(crate) fn statement<'a>(
         }
         Statement::If { test, chosen, span } => {
             let test = expression(alloc, scope, test)?;
-            let chosen = inner(alloc, scope, around.inside(), chosen)?;
-            mc_statements::if_statement(alloc, *span, test, chosen)
+            match inner(alloc, scope, around.inside(), chosen) {
+                Ok(chosen) => mc_statements::if_statement(alloc, *span, test, chosen),
+                Err(error) => {
+                    drop(test);
+                    Err(error)
+                }
+            }
         }
         Statement::IfElse {
             test,
@@ -59,16 +67,35 @@ pub(crate) fn statement<'a>(
             span,
         } => {
             let test = expression(alloc, scope, test)?;
-            let chosen = inner(alloc, scope, around.inside(), chosen)?;
-            let other = inner(alloc, scope, around.inside(), other)?;
-            mc_statements::if_else_statement(alloc, *span, test, chosen, other)
+            match inner(alloc, scope, around.inside(), chosen) {
+                Ok(chosen) => match inner(alloc, scope, around.inside(), other) {
+                    Ok(other) => {
+                        mc_statements::if_else_statement(alloc, *span, test, chosen, other)
+                    }
+                    Err(error) => {
+                        drop(test);
+                        Err(error)
+                    }
+                },
+                Err(error) => {
+                    drop(test);
+                    Err(error)
+                }
+            }
         }
         Statement::Switch { value, body, span } => {
             let value = expression(alloc, scope, value)?;
             let outer = mc_statements::enter_switch(alloc, scope, &value);
-            let found = statement(alloc, scope, around.in_switch(), body)?;
-            scope.leave(outer);
-            mc_statements::switch_statement(alloc, *span, body, value, found)
+            match statement(alloc, scope, around.in_switch(), body) {
+                Ok(found) => {
+                    scope.leave(outer);
+                    mc_statements::switch_statement(alloc, *span, body, value, found)
+                }
+                Err(error) => {
+                    drop(value);
+                    Err(error)
+                }
+            }
         }
         Statement::While { test, body, span } => {
             let found = expression(alloc, scope, test)?;

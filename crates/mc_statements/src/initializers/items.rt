@@ -43,9 +43,15 @@ fn items_with(
     match list {
         Some(list) => match one {
             Some(one) => Ok(Some(all_items(list, one)?)),
-            None => Ok(None),
+            None => {
+                drop(list);
+                Ok(None)
+            }
         },
-        None => Ok(None),
+        None => {
+            drop(one);
+            Ok(None)
+        }
     }
 }
 

@@ -56,7 +56,10 @@ fn list_for(
         Target::Scalar(_) => Ok(only_item(items)),
         Target::Array { .. } => list_of(scope, of, items),
         Target::Structure { .. } => list_of(scope, of, items),
-        Target::Missing => Ok(None),
+        Target::Missing => {
+            drop(items);
+            Ok(None)
+        }
     }
 }
 
@@ -74,7 +77,10 @@ fn list_value(
     match items {
         Some(items) => match of {
             Some(of) => list_for(scope, of, target, items),
-            None => Ok(None),
+            None => {
+                drop(items);
+                Ok(None)
+            }
         },
         None => Ok(None),
     }
@@ -124,7 +130,10 @@ fn zero_value(
             Some(value) => Ok(Some(zero_of(scope, of, value)?)),
             None => Ok(None),
         },
-        None => Ok(None),
+        None => {
+            drop(value);
+            Ok(None)
+        }
     }
 }
 

@@ -97,9 +97,15 @@ fn clauses_of(
     match list {
         Some(list) => match more {
             Some(more) => Ok(Some(all_clauses(list, more)?)),
-            None => Ok(None),
+            None => {
+                drop(list);
+                Ok(None)
+            }
         },
-        None => Ok(None),
+        None => {
+            drop(more);
+            Ok(None)
+        }
     }
 }
 
@@ -153,9 +159,15 @@ fn declarators_with(
     match list {
         Some(list) => match more {
             Some(more) => Ok(Some(all_declarators(list, more)?)),
-            None => Ok(None),
+            None => {
+                drop(list);
+                Ok(None)
+            }
         },
-        None => Ok(None),
+        None => {
+            drop(more);
+            Ok(None)
+        }
     }
 }
 

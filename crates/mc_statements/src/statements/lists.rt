@@ -62,9 +62,15 @@ fn followed_of(
     match list {
         Some(list) => match more {
             Some(more) => Ok(Some(followed_by(list, more)?)),
-            None => Ok(None),
+            None => {
+                drop(list);
+                Ok(None)
+            }
         },
-        None => Ok(None),
+        None => {
+            drop(more);
+            Ok(None)
+        }
     }
 }
 
@@ -80,6 +86,35 @@ pub fn followed(
     let fault = joined::of_two(list.fault, more.fault);
     let value = followed_of(list.value, more.value)?;
     Ok(Judged { fault, value })
+}
+
+/// A statement in a box.
+pub(crate) fn boxed(alloc: Global, one: Statement) -> Result<Box<Statement>, AllocError>
+    ensures { IfOk result (λ r. r.value ≡ one) }
+{
+    Ok(Box::new(alloc, one)?)
+}
+
+/// The word of so many bytes with which a statement begins, and a statement in it, in a box.
+pub(crate) fn begun(
+    alloc: Global,
+    size: u32,
+    span: Span,
+    inner: Statement,
+) -> Result<(Span, Box<Statement>), AllocError>
+    ensures word { IfOk result (λ r. r.0 ≡ w.keyword size span) }
+    ensures inner { IfOk result (λ r. r.1.value ≡ inner) }
+{
+    match keyword(size, span) {
+        Ok(keyword) => {
+            let inner = boxed(alloc, inner)?;
+            Ok((keyword, inner))
+        }
+        Err(error) => {
+            drop(inner);
+            Err(error)
+        }
+    }
 }
 
 /// The word with which a statement begins, of so many bytes. Takes no memory.

@@ -10,7 +10,7 @@ ghost use Rattle.mc_scopes.specs.Statements.{statements_of, effects_of, declarat
 ghost use Rattle.mc_scopes.specs.steps.Squeezed.{squeezed_part};
 
 use crate::statements::joined;
-use crate::statements::lists::{alone, keyword, only_in};
+use crate::statements::lists::{alone, begun, only_in};
 use mc_scopes::faults::{or_fault, two_or_fault};
 use mc_scopes::found::{Found, Judged, fails_integer, number_in};
 use mc_typed::{Declarator, Effect, Expression, ForStart, Span, Statement};
@@ -46,18 +46,22 @@ fn do_alone(
     ensures { IfOk result (λ r. statements_of r ≡ w.alone
         (t.DoWhile (statement_of body) (expression_of test) (w.keyword 2 span) span)) }
 {
-    let keyword = keyword(2, span)?;
-    let body = Box::new(alloc, body)?;
-    alone(
-        alloc,
-        Statement::DoWhile {
-            body,
-            test,
-            keyword,
-            span,
-            bit: None,
-        },
-    )
+    match begun(alloc, 2, span, body) {
+        Ok((keyword, body)) => alone(
+            alloc,
+            Statement::DoWhile {
+                body,
+                test,
+                keyword,
+                span,
+                bit: None,
+            },
+        ),
+        Err(error) => {
+            drop(test);
+            Err(error)
+        }
+    }
 }
 
 fn do_of(
@@ -73,9 +77,15 @@ fn do_of(
     match body {
         Some(body) => match test {
             Some(test) => Ok(Some(do_alone(alloc, span, body, test)?)),
-            None => Ok(None),
+            None => {
+                drop(body);
+                Ok(None)
+            }
         },
-        None => Ok(None),
+        None => {
+            drop(test);
+            Ok(None)
+        }
     }
 }
 
@@ -161,20 +171,24 @@ fn loop_alone(
     ensures { IfOk result (λ r. statements_of r ≡ w.loop size span
         (start_of head.start) (test_of head.test) (effects_of head.step) (statement_of body)) }
 {
-    let keyword = keyword(size, span)?;
-    let body = Box::new(alloc, body)?;
-    alone(
-        alloc,
-        Statement::For {
-            start: head.start,
-            test: head.test,
-            step: head.step,
-            body,
-            keyword,
-            span,
-            bit: None,
-        },
-    )
+    match begun(alloc, size, span, body) {
+        Ok((keyword, body)) => alone(
+            alloc,
+            Statement::For {
+                start: head.start,
+                test: head.test,
+                step: head.step,
+                body,
+                keyword,
+                span,
+                bit: None,
+            },
+        ),
+        Err(error) => {
+            drop(head);
+            Err(error)
+        }
+    }
 }
 
 fn loop_of(
@@ -198,13 +212,33 @@ fn loop_of(
                         let head = Head { start, test, step };
                         Ok(Some(loop_alone(alloc, size, span, head, body)?))
                     }
-                    None => Ok(None),
+                    None => {
+                        drop(start);
+                        drop(test);
+                        drop(step);
+                        Ok(None)
+                    }
                 },
-                None => Ok(None),
+                None => {
+                    drop(start);
+                    drop(test);
+                    drop(body);
+                    Ok(None)
+                }
             },
-            None => Ok(None),
+            None => {
+                drop(start);
+                drop(step);
+                drop(body);
+                Ok(None)
+            }
         },
-        None => Ok(None),
+        None => {
+            drop(test);
+            drop(step);
+            drop(body);
+            Ok(None)
+        }
     }
 }
 

@@ -14,7 +14,7 @@ ghost use Rattle.mc_scopes.specs.Found.{found_of, judged_of, value_of};
 ghost use Rattle.mc_scopes.specs.Statements.{statements_of};
 ghost use Rattle.mc_scopes.specs.steps.Squeezed.{squeezed_part};
 
-use crate::statements::lists::{alone, keyword, only_in};
+use crate::statements::lists::{alone, begun, boxed, keyword, only_in};
 use mc_scopes::faults::{three_or_fault, two_or_fault};
 use mc_scopes::found::{Found, Judged, fails_integer, number_in};
 use mc_scopes::value::Value;
@@ -34,18 +34,22 @@ fn if_alone(
     ensures { IfOk result (λ r. statements_of r ≡ w.alone
         (t.If (expression_of test) (statement_of chosen) (w.keyword 2 span) span)) }
 {
-    let keyword = keyword(2, span)?;
-    let chosen = Box::new(alloc, chosen)?;
-    alone(
-        alloc,
-        Statement::If {
-            test,
-            chosen,
-            keyword,
-            span,
-            bit: None,
-        },
-    )
+    match begun(alloc, 2, span, chosen) {
+        Ok((keyword, chosen)) => alone(
+            alloc,
+            Statement::If {
+                test,
+                chosen,
+                keyword,
+                span,
+                bit: None,
+            },
+        ),
+        Err(error) => {
+            drop(test);
+            Err(error)
+        }
+    }
 }
 
 fn if_of(
@@ -61,9 +65,15 @@ fn if_of(
     match test {
         Some(test) => match chosen {
             Some(chosen) => Ok(Some(if_alone(alloc, span, test, chosen)?)),
-            None => Ok(None),
+            None => {
+                drop(test);
+                Ok(None)
+            }
         },
-        None => Ok(None),
+        None => {
+            drop(chosen);
+            Ok(None)
+        }
     }
 }
 
@@ -91,6 +101,39 @@ pub fn if_statement(
     Ok(Judged { fault, value })
 }
 
+// The same where the first statement is in a box.
+fn if_else_with(
+    alloc: Global,
+    span: Span,
+    keyword: Span,
+    test: Expression,
+    chosen: Box<Statement>,
+    other: Statement,
+) -> Result<Vec<Statement>, AllocError>
+    ensures { IfOk result (λ r. statements_of r ≡ w.alone
+        (t.IfElse (expression_of test) (statement_of chosen.value) (statement_of other)
+        keyword span)) }
+{
+    match boxed(alloc, other) {
+        Ok(other) => alone(
+            alloc,
+            Statement::IfElse {
+                test,
+                chosen,
+                other,
+                keyword,
+                span,
+                bit: None,
+            },
+        ),
+        Err(error) => {
+            drop(test);
+            drop(chosen);
+            Err(error)
+        }
+    }
+}
+
 fn if_else_alone(
     alloc: Global,
     span: Span,
@@ -102,20 +145,14 @@ fn if_else_alone(
         (t.IfElse (expression_of test) (statement_of chosen) (statement_of other)
         (w.keyword 2 span) span)) }
 {
-    let keyword = keyword(2, span)?;
-    let chosen = Box::new(alloc, chosen)?;
-    let other = Box::new(alloc, other)?;
-    alone(
-        alloc,
-        Statement::IfElse {
-            test,
-            chosen,
-            other,
-            keyword,
-            span,
-            bit: None,
-        },
-    )
+    match begun(alloc, 2, span, chosen) {
+        Ok((keyword, chosen)) => if_else_with(alloc, span, keyword, test, chosen, other),
+        Err(error) => {
+            drop(test);
+            drop(other);
+            Err(error)
+        }
+    }
 }
 
 fn if_else_of(
@@ -134,11 +171,23 @@ fn if_else_of(
         Some(test) => match chosen {
             Some(chosen) => match other {
                 Some(other) => Ok(Some(if_else_alone(alloc, span, test, chosen, other)?)),
-                None => Ok(None),
+                None => {
+                    drop(test);
+                    drop(chosen);
+                    Ok(None)
+                }
             },
-            None => Ok(None),
+            None => {
+                drop(test);
+                drop(other);
+                Ok(None)
+            }
         },
-        None => Ok(None),
+        None => {
+            drop(chosen);
+            drop(other);
+            Ok(None)
+        }
     }
 }
 
@@ -223,7 +272,11 @@ fn items_in(alloc: Global, body: Option<Statement>) -> Option<Vec<Statement>>
         ≡ option_and_then w.items_of (option_map statement_of body) }
 {
     match body {
-        Some(mut body) => items_of(alloc, &mut body),
+        Some(mut body) => {
+            let items = items_of(alloc, &mut body);
+            drop(body);
+            items
+        }
         None => None,
     }
 }
@@ -232,6 +285,35 @@ fn is_compound(tree: &Tree<'_>) -> bool
     ensures { result ≡ w.is_compound (units.statement_of tree.now) }
 {
     matches!(tree, Tree::Compound { .. })
+}
+
+fn switch_with(
+    alloc: Global,
+    span: Span,
+    keyword: Span,
+    value: Expression,
+    items: Vec<Statement>,
+) -> Result<Vec<Statement>, AllocError>
+    ensures { IfOk result (λ r. statements_of r ≡ w.alone
+        (t.Switch (promote (expression_of value)) (statements_of items) keyword span)) }
+{
+    match conversions::promote(alloc, value) {
+        Ok(value) => alone(
+            alloc,
+            Statement::Switch {
+                value,
+                items,
+                keyword,
+                span,
+                bit: None,
+                absent: None,
+            },
+        ),
+        Err(error) => {
+            drop(items);
+            Err(error)
+        }
+    }
 }
 
 fn switch_alone(
@@ -244,19 +326,14 @@ fn switch_alone(
         (t.Switch (promote (expression_of value)) (statements_of items)
         (w.keyword 6 span) span)) }
 {
-    let keyword = keyword(6, span)?;
-    let value = conversions::promote(alloc, value)?;
-    alone(
-        alloc,
-        Statement::Switch {
-            value,
-            items,
-            keyword,
-            span,
-            bit: None,
-            absent: None,
-        },
-    )
+    match keyword(6, span) {
+        Ok(keyword) => switch_with(alloc, span, keyword, value, items),
+        Err(error) => {
+            drop(value);
+            drop(items);
+            Err(error)
+        }
+    }
 }
 
 fn switch_of(
@@ -272,9 +349,15 @@ fn switch_of(
     match value {
         Some(value) => match items {
             Some(items) => Ok(Some(switch_alone(alloc, span, value, items)?)),
-            None => Ok(None),
+            None => {
+                drop(value);
+                Ok(None)
+            }
         },
-        None => Ok(None),
+        None => {
+            drop(items);
+            Ok(None)
+        }
     }
 }
 

@@ -70,46 +70,46 @@ expression-returns-in_ok-operand-in-Unary t c =
     (found_with c.unary.result found_of u _ _ c.unary.ensures
     (in_unary w.operator w.span (expression_of w.operand.value) s (found_of c.in_ok-operand-in-Unary.operand u) (rw c.deref-in-Unary.ensures at c.in_ok-operand-in-Unary.ensures)))
 
-pub expression-returns-in_ok-index-in-Index : goal.expression-returns-in_ok-index-in-Index
-expression-returns-in_ok-index-in-Index t c =
+pub expression-returns-in-Ok : goal.expression-returns-in-Ok
+expression-returns-in-Ok t c =
     let w = c.in-Index in
     let s = scope_of c.args.scope.now in
     let r = scope_of c.expression-in-Index.new.scope in
     let u = scope_of c.expression-in-Index-2.new.scope in
     rw (w.is, expression_of-Index w.array w.index w.span)
     (found_as c.index.result (λ z. found_of z u) _ _ c.index.ensures
-    (in_index w.span (expression_of w.array.value) (expression_of w.index.value) s (found_of c.in_ok-array-in-Index.array r) (found_of c.in_ok-index-in-Index.index u) (rw c.deref-in-Index.ensures at c.in_ok-array-in-Index.ensures) (rw c.deref-in-Index-2.ensures at c.in_ok-index-in-Index.ensures)))
+    (in_index w.span (expression_of w.array.value) (expression_of w.index.value) s (found_of c.in_ok-array-in-Index.array r) (found_of c.in-Ok.index u) (rw c.deref-in-Index.ensures at c.in_ok-array-in-Index.ensures) (rw c.deref-in-Index-2.ensures at c.in-Ok.ensures)))
 
-pub expression-returns-in_ok-right-in-Binary : goal.expression-returns-in_ok-right-in-Binary
-expression-returns-in_ok-right-in-Binary t c =
+pub expression-returns-in-Ok-expression : goal.expression-returns-in-Ok-expression
+expression-returns-in-Ok-expression t c =
     let w = c.in-Binary in
     let s = scope_of c.args.scope.now in
     let r = scope_of c.expression-in-Binary.new.scope in
     let u = scope_of c.expression-in-Binary-2.new.scope in
     rw (w.is, expression_of-Binary w.operator w.left w.right w.span)
     (found_with c.binary.result found_of u _ _ c.binary.ensures
-    (in_binary w.operator w.span (expression_of w.left.value) (expression_of w.right.value) s (found_of c.in_ok-left-in-Binary.left r) (found_of c.in_ok-right-in-Binary.right u) (rw c.deref-in-Binary.ensures at c.in_ok-left-in-Binary.ensures) (rw c.deref-in-Binary-2.ensures at c.in_ok-right-in-Binary.ensures)))
+    (in_binary w.operator w.span (expression_of w.left.value) (expression_of w.right.value) s (found_of c.in_ok-left-in-Binary.left r) (found_of c.in-Ok-expression.right u) (rw c.deref-in-Binary.ensures at c.in_ok-left-in-Binary.ensures) (rw c.deref-in-Binary-2.ensures at c.in-Ok-expression.ensures)))
 
-pub expression-returns-in_ok-value-in-Assignment : goal.expression-returns-in_ok-value-in-Assignment
-expression-returns-in_ok-value-in-Assignment t c =
+pub expression-returns-in-Ok-expression-4 : goal.expression-returns-in-Ok-expression-4
+expression-returns-in-Ok-expression-4 t c =
     let w = c.in-Assignment in
     let s = scope_of c.args.scope.now in
     let r = scope_of c.expression-in-Assignment.new.scope in
     let u = scope_of c.expression-in-Assignment-2.new.scope in
     rw (w.is, expression_of-Assignment w.operator w.target w.value w.span)
     (found_as c.assignment.result (λ z. found_of z u) _ _ c.assignment.ensures
-    (in_assignment w.operator w.span (expression_of w.target.value) (expression_of w.value.value) s (found_of c.in_ok-target-in-Assignment.target r) (found_of c.in_ok-value-in-Assignment.value u) (rw c.deref-in-Assignment.ensures at c.in_ok-target-in-Assignment.ensures) (rw c.deref-in-Assignment-2.ensures at c.in_ok-value-in-Assignment.ensures)))
+    (in_assignment w.operator w.span (expression_of w.target.value) (expression_of w.value.value) s (found_of c.in_ok-target-in-Assignment.target r) (found_of c.in-Ok-expression-4.value u) (rw c.deref-in-Assignment.ensures at c.in_ok-target-in-Assignment.ensures) (rw c.deref-in-Assignment-2.ensures at c.in-Ok-expression-4.ensures)))
 
-pub expression-returns-in_ok-other-in-Conditional : goal.expression-returns-in_ok-other-in-Conditional
-expression-returns-in_ok-other-in-Conditional t c =
+pub expression-returns-in-Ok-expression-3 : goal.expression-returns-in-Ok-expression-3
+expression-returns-in-Ok-expression-3 t c =
     let w = c.in-Conditional in
     let s = scope_of c.args.scope.now in
     let q = scope_of c.expression-in-Conditional.new.scope in
     let r = scope_of c.expression-in-Conditional-2.new.scope in
-    let u = scope_of c.expression-in-Conditional-3.new.scope in
+    let u = scope_of c.expression-in-Ok-expression-2.new.scope in
     rw (w.is, expression_of-Conditional w.test w.chosen w.other w.span)
     (found_with c.conditional.result found_of u _ _ c.conditional.ensures
-    (in_conditional w.span (expression_of w.test.value) (expression_of w.chosen.value) (expression_of w.other.value) s (found_of c.in_ok-test-in-Conditional.test q) (found_of c.in_ok-chosen-in-Conditional.chosen r) (found_of c.in_ok-other-in-Conditional.other u) (rw c.deref-in-Conditional.ensures at c.in_ok-test-in-Conditional.ensures) (rw c.deref-in-Conditional-2.ensures at c.in_ok-chosen-in-Conditional.ensures) (rw c.deref-in-Conditional-3.ensures at c.in_ok-other-in-Conditional.ensures)))
+    (in_conditional w.span (expression_of w.test.value) (expression_of w.chosen.value) (expression_of w.other.value) s (found_of c.in_ok-test-in-Conditional.test q) (found_of c.in-Ok-expression-2.chosen r) (found_of c.in-Ok-expression-3.other u) (rw c.deref-in-Conditional.ensures at c.in_ok-test-in-Conditional.ensures) (rw c.deref-in-Conditional-2.ensures at c.in-Ok-expression-2.ensures) (rw c.deref-in-Ok-expression-2.ensures at c.in-Ok-expression-3.ensures)))
 
 pub expression-returns-in_ok-found-in-Cast : goal.expression-returns-in_ok-found-in-Cast
 expression-returns-in_ok-found-in-Cast t c =
@@ -292,7 +292,7 @@ enumerator-returns-in_ok-found-in-Valued t c =
     let w = c.in-Valued in
     let r = scope_of c.expression.new.scope in
     rw (w.is, enumerator_of-Valued w.name w.given)
-    (found_as c.valued_enumerator.result (λ z. number_judged z (scope_of c.valued_enumerator.new.scope)) _ _ (rw (c.span.ensures, c.deref-in-Valued.ensures) at c.valued_enumerator.ensures)
+    (found_as c.valued_enumerator-next.result (λ z. number_judged z (scope_of c.valued_enumerator-next.new.scope)) _ _ (rw (c.span.ensures, c.deref-in-Valued.ensures) at c.valued_enumerator-next.ensures)
     (in_valued (name_of w.name) (expression_of w.given.value) c.args.value (scope_of c.args.scope.now) (found_of c.in_ok-found-in-Valued.found r) (rw c.deref.ensures at c.in_ok-found-in-Valued.ensures)))
 
 pub enumerators-loop-tree-init : goal.enumerators-loop-tree-init
@@ -330,7 +330,7 @@ more_lengths-returns-in_ok-found-in-Given t c =
     let r = scope_of c.expression.new.scope in
     let s = scope_of c.args.scope.now in
     rw (w.is, array_length_of-Given w.value)
-    (IfOk-weaker c.more_lengths.result _ _ (λ z h rest. lengths_turn (span_of (expression_of w.value.value)).start (judged_of lengths_in c.args.list s) (judged_of lengths_in z r) (found_of c.in_ok-found-in-Given.found r) (judge (expression_of w.value.value) s) (λ v. judge_lengths rest v) (rw c.deref.ensures at c.in_ok-found-in-Given.ensures) (rw (c.span.ensures, c.deref-in-Given.ensures) at h s r)) c.more_lengths.ensures)
+    (IfOk-weaker c.more_lengths-more.result _ _ (λ z h rest. lengths_turn (span_of (expression_of w.value.value)).start (judged_of lengths_in c.args.list s) (judged_of lengths_in z r) (found_of c.in_ok-found-in-Given.found r) (judge (expression_of w.value.value) s) (λ v. judge_lengths rest v) (rw c.deref.ensures at c.in_ok-found-in-Given.ensures) (rw (c.span.ensures, c.deref-in-Given.ensures) at h s r)) c.more_lengths-more.ensures)
 
 pub parameters-loop-tree-init : goal.parameters-loop-tree-init
 parameters-loop-tree-init t c =

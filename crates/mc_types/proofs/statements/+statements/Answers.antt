@@ -41,37 +41,37 @@ statement-returns-in_ok-found-in-Expression t c =
     (found_with c.effect_statement.result (λ z v. judged_of statements_of z v) u _ _ c.effect_statement.ensures
     (in_effect_statement (around_of c.args.around) (expression_of w.value.value) w.span s (judged_of effect_of c.in_ok-found-in-Expression.found u) (rw c.deref-in-Expression.ensures at c.in_ok-found-in-Expression.ensures)))
 
-pub statement-returns-in_ok-chosen-in-If : goal.statement-returns-in_ok-chosen-in-If
-statement-returns-in_ok-chosen-in-If t c =
+pub statement-returns-in-Ok : goal.statement-returns-in-Ok
+statement-returns-in-Ok t c =
     let w = c.in-If in
     let s = scope_of c.args.scope.now in
     let r = scope_of c.expression.new.scope in
     let u = scope_of c.inner.new.scope in
     rw (w.is, statement_of-If w.test w.chosen w.span)
     (found_with c.if_statement.result (λ z v. judged_of statements_of z v) u _ _ c.if_statement.ensures
-    (in_if (around_of c.args.around) (expression_of w.test.value) (statement_of w.chosen.value) w.span s (found_of c.in_ok-test-in-If.test r) (judged_of statements_of c.in_ok-chosen-in-If.chosen u) (rw c.deref-in-If.ensures at c.in_ok-test-in-If.ensures) (rw (c.deref-in-If-2.ensures, c.inside-in-If.ensures) at c.in_ok-chosen-in-If.ensures)))
+    (in_if (around_of c.args.around) (expression_of w.test.value) (statement_of w.chosen.value) w.span s (found_of c.in_ok-test-in-If.test r) (judged_of statements_of c.in-Ok.chosen u) (rw c.deref-in-If.ensures at c.in_ok-test-in-If.ensures) (rw (c.deref-in-If-2.ensures, c.inside-in-If.ensures) at c.in-Ok.ensures)))
 
-pub statement-returns-in_ok-other-in-IfElse : goal.statement-returns-in_ok-other-in-IfElse
-statement-returns-in_ok-other-in-IfElse t c =
+pub statement-returns-in-Ok-inner-2 : goal.statement-returns-in-Ok-inner-2
+statement-returns-in-Ok-inner-2 t c =
     let w = c.in-IfElse in
     let s = scope_of c.args.scope.now in
     let q = scope_of c.expression-in-IfElse.new.scope in
     let r = scope_of c.inner-in-IfElse.new.scope in
-    let u = scope_of c.inner-in-IfElse-2.new.scope in
+    let u = scope_of c.inner-in-Ok-inner.new.scope in
     rw (w.is, statement_of-IfElse w.test w.chosen w.other w.span)
     (found_with c.if_else_statement.result (λ z v. judged_of statements_of z v) u _ _ c.if_else_statement.ensures
-    (in_if_else (around_of c.args.around) (expression_of w.test.value) (statement_of w.chosen.value) (statement_of w.other.value) w.span s (found_of c.in_ok-test-in-IfElse.test q) (judged_of statements_of c.in_ok-chosen-in-IfElse.chosen r) (judged_of statements_of c.in_ok-other-in-IfElse.other u) (rw c.deref-in-IfElse.ensures at c.in_ok-test-in-IfElse.ensures) (rw (c.deref-in-IfElse-2.ensures, c.inside-in-IfElse.ensures) at c.in_ok-chosen-in-IfElse.ensures) (rw (c.deref-in-IfElse-3.ensures, c.inside-in-IfElse-2.ensures) at c.in_ok-other-in-IfElse.ensures)))
+    (in_if_else (around_of c.args.around) (expression_of w.test.value) (statement_of w.chosen.value) (statement_of w.other.value) w.span s (found_of c.in_ok-test-in-IfElse.test q) (judged_of statements_of c.in-Ok-inner.chosen r) (judged_of statements_of c.in-Ok-inner-2.other u) (rw c.deref-in-IfElse.ensures at c.in_ok-test-in-IfElse.ensures) (rw (c.deref-in-IfElse-2.ensures, c.inside-in-IfElse.ensures) at c.in-Ok-inner.ensures) (rw (c.deref-in-Ok-inner.ensures, c.inside-in-Ok-inner.ensures) at c.in-Ok-inner-2.ensures)))
 
-pub statement-returns-in_ok-found-in-Switch : goal.statement-returns-in_ok-found-in-Switch
-statement-returns-in_ok-found-in-Switch t c =
+pub statement-returns-in-Ok-statement : goal.statement-returns-in-Ok-statement
+statement-returns-in-Ok-statement t c =
     let w = c.in-Switch in
     let s = scope_of c.args.scope.now in
     let q = scope_of c.expression-in-Switch.new.scope in
     let r = scope_of c.statement.new.scope in
-    let u = scope_of c.leave-in-Switch.new.self in
+    let u = scope_of c.leave-in-Ok-statement.new.self in
     rw (w.is, statement_of-Switch w.value w.body w.span)
     (found_with c.switch_statement.result (λ z v. judged_of statements_of z v) u _ _ c.switch_statement.ensures
-    (rw c.deref-in-Switch-3.ensures (in_switch_statement (around_of c.args.around) (expression_of w.value.value) (statement_of w.body.value) w.span s (found_of c.in_ok-value-in-Switch.value q) (judged_of statements_of c.in_ok-found-in-Switch.found u) (rw c.deref-in-Switch.ensures at c.in_ok-value-in-Switch.ensures) (closes q u (judged_of statements_of c.in_ok-found-in-Switch.found r) (judge_statement (in_switch (around_of c.args.around)) (statement_of w.body.value) (switch_scope (found_of c.in_ok-value-in-Switch.value q))) (rw (c.deref-in-Switch-2.ensures, c.in_switch.ensures, c.enter_switch-outer.ensures.entered) at c.in_ok-found-in-Switch.ensures) (c.leave-in-Switch.ensures ∙ ap (λ (b : Around). left_by b r) c.enter_switch-outer.ensures.block)))))
+    (rw c.deref-in-Ok-statement.ensures (in_switch_statement (around_of c.args.around) (expression_of w.value.value) (statement_of w.body.value) w.span s (found_of c.in_ok-value-in-Switch.value q) (judged_of statements_of c.in-Ok-statement.found u) (rw c.deref-in-Switch.ensures at c.in_ok-value-in-Switch.ensures) (closes q u (judged_of statements_of c.in-Ok-statement.found r) (judge_statement (in_switch (around_of c.args.around)) (statement_of w.body.value) (switch_scope (found_of c.in_ok-value-in-Switch.value q))) (rw (c.deref-in-Switch-2.ensures, c.in_switch.ensures, c.enter_switch-outer.ensures.entered) at c.in-Ok-statement.ensures) (c.leave-in-Ok-statement.ensures ∙ ap (λ (b : Around). left_by b r) c.enter_switch-outer.ensures.block)))))
 
 pub statement-returns-in_ok-body-in-While : goal.statement-returns-in_ok-body-in-While
 statement-returns-in_ok-body-in-While t c =
