@@ -235,7 +235,7 @@ fn is_right(alloc: Global, row: &str) -> Result<bool, Fail> {
     if let Some((front, back)) = text.split_once('@') {
         return has_fault(alloc, words, front, back);
     }
-    Ok(matches!(judged(alloc, text.as_bytes())?, Outcome::Typed))
+    Ok(matches!(judged(alloc, text.as_bytes())?, Outcome::Typed { .. }))
 }
 
 #[test]

@@ -5,3 +5,5 @@
 mod faults;
 #[cfg(test)]
 mod reading;
+#[cfg(test)]
+mod sizes;

@@ -5,6 +5,7 @@ use mc_lex::{Dialect, LexFault, lex};
 use mc_parse::{ParseFault, parse};
 use mc_subset::check;
 use mc_tree::Unit;
+use mc_typed::{Program, frame, levels};
 use mc_types::type_unit;
 use std::alloc::{AllocError, AllocFailed, Global};
 
@@ -13,8 +14,16 @@ use std::alloc::{AllocError, AllocFailed, Global};
 pub enum Outcome {
     /// It has no tree, or one with an outside form.
     NotAccepted,
-    Typed,
+    /// It has a typed program, whose last function takes so much, where it has one.
+    Typed { last: Option<Size> },
     Refused { words: &'static str, at: usize },
+}
+
+/// What an activation of a function takes.
+#[derive(Clone, Copy, PartialEq, Eq)]
+pub struct Size {
+    pub levels: u32,
+    pub cells: u32,
 }
 
 /// A test could not go on: memory ran out.
@@ -33,12 +42,25 @@ impl<T: Drop> From<AllocFailed<T>> for Fail {
     }
 }
 
+fn last_size(program: &Program<'_>) -> Option<Size> {
+    let last = program.functions().len().checked_sub(1)?;
+    let last = u32::try_from(last).ok()?;
+    Some(Size {
+        levels: levels(program, last),
+        cells: frame(program, last),
+    })
+}
+
 fn typed(alloc: Global, unit: &Unit<'_>) -> Result<Outcome, Fail> {
     if check(unit).is_err() {
         return Ok(Outcome::NotAccepted);
     }
     match type_unit(alloc, unit) {
-        Ok(_) => Ok(Outcome::Typed),
+        Ok(program) => {
+            let last = last_size(&program);
+            drop(program);
+            Ok(Outcome::Typed { last })
+        }
         Err(fault) => match fault.at() {
             Some(at) => Ok(Outcome::Refused {
                 words: fault.words(),
