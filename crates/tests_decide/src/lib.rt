@@ -1,11 +1,9 @@
-//! Tests of decisions.
+//! Tests of the decisions of a program: sources, from their text on, and laws of worked texts.
 #![tactic(auto)]
 
 pub mod laws;
 #[cfg(test)]
-mod make;
-#[cfg(test)]
-mod paths;
+mod reading;
 #[cfg(test)]
 mod rows;
 #[cfg(test)]

@@ -1,172 +1,152 @@
-//! Rows of expressions that are returned: the text, how it is made, and its decisions. Each decision
-//! is shown as its function, the start and text of its root, its tree, and the start and text of
-//! each condition. The laws of laws.rt have more texts.
-use crate::make::Kind::{And, Binary, Constant, Name, Not, Or, Return};
-use crate::make::Step;
-use mc_value::BinOp::{Eq, Lt};
+//! Sources and their decisions, read off by hand. Each decision is shown as its function, the start
+//! and text of its root, its tree, and the start and text of each condition.
 
-pub const ROWS: &[(&str, &[Step], &str)] = &[
+/// A row is a source, `@` and its decisions. A line without `@` tells what follows.
+pub const ROWS: &str = "\
+# operators of a value that is returned
+int f(int a,int b,int c){return !(a&&b)||c;}@0@32:!(a&&b)||c (!(0&1)|2) 34:a 37:b 41:c;
+int f(int a,int b,int c){return (a&&b)||(a&&c);}@0@32:(a&&b)||(a&&c) ((0&1)|(2&3)) 33:a 36:b 41:a 44:c;
+int f(int a,int b,int c,int d){return (a||b)&&(c||d);}@0@38:(a||b)&&(c||d) ((0|1)&(2|3)) 39:a 42:b 47:c 50:d;
+int f(int p,int q,int r,int s){return (p<q) == (r<s);}@0@38:(p<q) == (r<s) 0 38:(p<q) == (r<s);0@39:p<q 0 39:p<q;0@48:r<s 0 48:r<s;
+int f(int a,int b,int c){return a<b==b<c;}@0@32:a<b==b<c 0 32:a<b==b<c;0@32:a<b 0 32:a<b;0@37:b<c 0 37:b<c;
+int f(int a,int b){return ((a&&b));}@0@28:a&&b (0&1) 28:a 31:b;
+int f(int a,int b){return (a)||((b));}@0@26:(a)||((b)) (0|1) 27:a 33:b;
+int f(int a){return !a;}@0@20:!a !0 21:a;
+int f(int a){return !!a;}@0@20:!!a !!0 22:a;
+int f(int a,int b){return !(a<b);}@0@26:!(a<b) !0 28:a<b;
+int f(int a,int b){return !a==b;}@0@26:!a==b 0 26:!a==b;0@26:!a !0 27:a;
+int f(int a,int b,int c){return (a&&b)==c;}@0@32:(a&&b)==c 0 32:(a&&b)==c;0@33:a&&b (0&1) 33:a 36:b;
+int f(int a,int b,int c){return (a<b)+c;}@0@33:a<b 0 33:a<b;
+long f(int a,int b){return (long)(a>=b);}@0@34:a>=b 0 34:a>=b;
+int f(int a,int b){return -(a!=b);}@0@28:a!=b 0 28:a!=b;
+int f(int a,int b,int c,int d){return a<=b?c:d;}@0@38:a<=b 0 38:a<=b;
+int f(int a,int b,int c,int d){return a?b:c&&d;}@0@38:a 0 38:a;0@42:c&&d (0&1) 42:c 45:d;
+int f(int a,int b){return (a?b:1)&&b;}@0@26:(a?b:1)&&b (0&1) 27:a?b:1 35:b;0@27:a 0 27:a;
+int f(int a){return a;}int g(int a){return a+1;}@
+# arguments and indexes
+int g(int v,int w){return v+w;}int f(int x,int p,int q){int y;y = x < 3;g(p && q, x);return y;}@1@66:x < 3 0 66:x < 3;1@74:p && q (0&1) 74:p 79:q;
+int f(int n){return n>0 && f(n-1);}@0@20:n>0 && f(n-1) (0&1) 20:n>0 27:f(n-1);
+int f(int a){return a;}int g(int a,int b,int c){return a&&f(b<c);}@1@55:a&&f(b<c) (0&1) 55:a 58:f(b<c);1@60:b<c 0 60:b<c;
+int f(int a){return a;}int g(int a,int b,int c,int d){return f(a&&f(b||f(c==f(!d))));}@1@63:a&&f(b||f(c==f(!d))) (0&1) 63:a 66:f(b||f(c==f(!d)));1@68:b||f(c==f(!d)) (0|1) 68:b 71:f(c==f(!d));1@73:c==f(!d) 0 73:c==f(!d);1@78:!d !0 79:d;
+int f(int a,int b){int t[2]={0};return t[a<b];}@0@41:a<b 0 41:a<b;
+int f(int t[],int a,int b){t[!a]=b;return t[a<b];}@0@29:!a !0 30:a;0@44:a<b 0 44:a<b;
+struct S{int m;};int f(int a,int b){struct S t[2];t[a==b].m=1;return t[0].m;}@0@52:a==b 0 52:a==b;
+struct S{int m;};int h(struct S s){return s.m;}int f(int a,int b){struct S t[2]={{1},{2}};return h(t[a<b]);}@1@101:a<b 0 101:a<b;
+int h(int t[]){return t[0];}int f(int a,int b){int t[2][2]={{0}};return h(t[!b]);}@1@76:!b !0 77:b;
+struct S{int m;};struct S f(int a,int b){struct S t[2]={{1},{2}};struct S s=t[a<b];t[a>b]=s;return t[a!=b];}@0@78:a<b 0 78:a<b;0@85:a>b 0 85:a>b;0@101:a!=b 0 101:a!=b;
+# expressions as statements, and assignments
+void f(int a,int b){a<b;}@0@20:a<b 0 20:a<b;
+void f(int a,int b){(void)(a||b);}@0@27:a||b (0|1) 27:a 30:b;
+void f(int a,int b){a+=a<b;}@0@23:a<b 0 23:a<b;
+void mcdc_out(int v);void f(int a,int b){mcdc_out(a>b);}@0@50:a>b 0 50:a>b;
+void v(int a){}void f(int a,int b){a?v(!b):v(b);}@1@35:a 0 35:a;1@39:!b !0 40:b;
+# initial values
+int f(int a){int x=!a;return x;}@0@19:!a !0 20:a;
+int f(int a,int b){int y=a<5;return y && a != 0 && 10 / b > 1;}@0@25:a<5 0 25:a<5;0@36:y && a != 0 && 10 / b > 1 ((0&1)&2) 36:y 41:a != 0 51:10 / b > 1;
+int f(int a,int b){int t[2]={a==b,a&&b};return t[0];}@0@29:a==b 0 29:a==b;0@34:a&&b (0&1) 34:a 37:b;
+struct S{int m;};int f(int a,int b){struct S s={a!=b};return s.m;}@0@48:a!=b 0 48:a!=b;
+static int x=1<2;int f(void){static int y=!0;return x+y;}@
+struct S{int m;};struct S g(int a){struct S s={a};return s;}int f(int a,int b){struct S s=g(a<b);s=g(!a);g(a||b);return s.m;}@1@92:a<b 0 92:a<b;1@101:!a !0 102:a;1@107:a||b (0|1) 107:a 110:b;
+# controlling expressions, statements in statements, and several functions
+int f(void){long x=4294967296;if(x)return 1;return 0;}@0@33:x 0 33:x;
+int f(int n){while(n>0)n--;return n;}@0@19:n>0 0 19:n>0;
+void f(int a,int b){do a=a<b;while(b);}@0@25:a<b 0 25:a<b;0@35:b 0 35:b;
+int f(int a,int b){int i;for(i=!a;b;i=a==b);return i;}@0@31:!a !0 32:a;0@34:b 0 34:b;0@38:a==b 0 38:a==b;
+void f(int a,int b){for(int i=a<b;i;i--)b=i!=1;}@0@30:a<b 0 30:a<b;0@34:i 0 34:i;0@42:i!=1 0 42:i!=1;
+void f(int a,int b){for(;;)if(a)break;else{b=a>1;}}@0@30:a 0 30:a;0@45:a>1 0 45:a>1;
+int f(int a,int b){switch(a||b){default:return a&&b;}}@0@26:a||b (0|1) 26:a 29:b;0@47:a&&b (0&1) 47:a 50:b;
+int f(int a){return !a;}int g(void){return 1;}int h(int a){if(a)return 1;return 0;}@0@20:!a !0 21:a;2@62:a 0 62:a;
+# integer constant expressions are none
+void f(void){while(1){}}@
+void f(int a){if(0)a=1;while(1/1-1);while(1/0);}@
+int f(void){return 1<2;}@
+int f(void){return (1&&0)||!1;}@
+enum{E};int f(void){return E<'a'||(char)1;}@
+int f(void){return -1<1u;}int g(void){return -2147483648<0;}@
+int f(int a){return a&&1;}@0@20:a&&1 (0&1) 20:a 23:1;
+int f(int a){return (1&&0)||a;}@0@20:(1&&0)||a ((0&1)|2) 21:1 24:0 28:a;
+int f(int a,int b,int c){return 1?a<b:c;}@0@34:a<b 0 34:a<b;
+int f(int a){static int n=1;return n<2?a:n<3;}@0@35:n<2 0 35:n<2;0@41:n<3 0 41:n<3;
+";
+
+/// A flap controller.
+pub const FLAPS: &str = "\
+# 1 \"flap.c\"
+typedef enum { UP, TAKEOFF, LANDING } Lever;
+typedef struct { int speed; _Bool ground; } Air;
+extern int mcdc_in(void);
+void mcdc_out(int angle);
+static int angle;
+static int target(Lever lever) {
+  switch (lever) {
+  case UP: return 0;
+  case TAKEOFF: return 15;
+  case LANDING: return 30;
+  default: return 0;
+  }
+}
+int cycle(int lever) {
+  Air air;
+  air.speed = mcdc_in();
+  air.ground = mcdc_in();
+  int want = target(lever);
+  if (want > 15 && (air.speed > 160 || air.ground)) want = 15;
+  if (angle < want) angle += 5;
+  else if (angle > want) angle -= 5;
+  mcdc_out(angle);
+  return angle;
+}
+";
+
+pub const FLAPS_DECISIONS: &str = "\
+1@450:want > 15 && (air.speed > 160 || air.ground) (0&(1|2)) 450:want > 15 464:air.speed > 160 483:air.ground;\
+1@513:angle < want 0 513:angle < want;\
+1@550:angle > want 0 550:angle > want;";
+
+/// What stands before a piece, the piece, how often, and what comes after it; and the vectors of the
+/// decision, how many they are where they are more than eight, or why it is refused.
+pub const LARGE: [(&str, &str, usize, &str, &str); 7] = [
+    ("int f(int a){return ", "!", 189, "a;}", "T=F F=T "),
+    ("int f(int a){return ", "!", 190, "a;}", "T=T F=F "),
+    ("int f(int a){return ", "a&&", 63, "a;}", "65 "),
     (
-        "!(a&&b)||c",
-        &[
-            (Name, 2, 3),
-            (Name, 5, 6),
-            (And, 2, 6),
-            (Not, 0, 7),
-            (Name, 9, 10),
-            (Or, 0, 10),
-            (Return, 0, 0),
-        ],
-        "0@0:!(a&&b)||c (!(0&1)|2) 2:a 5:b 9:c;",
+        "int f(int a){return ",
+        "a&&",
+        64,
+        "a;}",
+        "20: too many conditions 65",
     ),
     (
-        "(a&&b)||(a&&c)",
-        &[
-            (Name, 1, 2),
-            (Name, 4, 5),
-            (And, 1, 5),
-            (Name, 9, 10),
-            (Name, 12, 13),
-            (And, 9, 13),
-            (Or, 0, 14),
-            (Return, 0, 0),
-        ],
-        "0@0:(a&&b)||(a&&c) ((0&1)|(2&3)) 1:a 4:b 9:a 12:c;",
+        "int f(int a){return ",
+        "a&&",
+        189,
+        "a;}",
+        "20: too many conditions 190",
     ),
     (
-        "(a||b)&&(c||d)",
-        &[
-            (Name, 1, 2),
-            (Name, 4, 5),
-            (Or, 1, 5),
-            (Name, 9, 10),
-            (Name, 12, 13),
-            (Or, 9, 13),
-            (And, 0, 14),
-            (Return, 0, 0),
-        ],
-        "0@0:(a||b)&&(c||d) ((0|1)&(2|3)) 1:a 4:b 9:c 12:d;",
+        "int f(int a,int b){return ",
+        "(a||b)&&",
+        10,
+        "(a||b);}",
+        "4095 ",
     ),
     (
-        "(p<q) == (r<s)",
-        &[
-            (Name, 1, 2),
-            (Name, 3, 4),
-            (Binary(Lt), 1, 4),
-            (Name, 10, 11),
-            (Name, 12, 13),
-            (Binary(Lt), 10, 13),
-            (Binary(Eq), 0, 14),
-            (Return, 0, 0),
-        ],
-        "0@0:(p<q) == (r<s) 0 0:(p<q) == (r<s);0@1:p<q 0 1:p<q;0@10:r<s 0 10:r<s;",
-    ),
-    (
-        "!!a;",
-        &[(Name, 2, 3), (Not, 1, 3), (Not, 0, 3), (Return, 0, 0)],
-        "0@0:!!a !!0 2:a;",
-    ),
-    (
-        "!(a<b);",
-        &[
-            (Name, 2, 3),
-            (Name, 4, 5),
-            (Binary(Lt), 2, 5),
-            (Not, 0, 6),
-            (Return, 0, 0),
-        ],
-        "0@0:!(a<b) !0 2:a<b;",
-    ),
-    (
-        "!a==b;",
-        &[
-            (Name, 1, 2),
-            (Not, 0, 2),
-            (Name, 4, 5),
-            (Binary(Eq), 0, 5),
-            (Return, 0, 0),
-        ],
-        "0@0:!a==b 0 0:!a==b;0@0:!a !0 1:a;",
-    ),
-    (
-        "(a&&b)==c;",
-        &[
-            (Name, 1, 2),
-            (Name, 4, 5),
-            (And, 1, 5),
-            (Name, 8, 9),
-            (Binary(Eq), 0, 9),
-            (Return, 0, 0),
-        ],
-        "0@0:(a&&b)==c 0 0:(a&&b)==c;0@1:a&&b (0&1) 1:a 4:b;",
-    ),
-    (
-        "1<2;",
-        &[
-            (Constant, 0, 1),
-            (Constant, 2, 3),
-            (Binary(Lt), 0, 3),
-            (Return, 0, 0),
-        ],
-        "",
-    ),
-    (
-        "(1&&0)||!1;",
-        &[
-            (Constant, 1, 2),
-            (Constant, 4, 5),
-            (And, 1, 5),
-            (Constant, 9, 10),
-            (Not, 8, 10),
-            (Or, 0, 10),
-            (Return, 0, 0),
-        ],
-        "",
-    ),
-    (
-        "a&&1;",
-        &[(Name, 0, 1), (Constant, 3, 4), (And, 0, 4), (Return, 0, 0)],
-        "0@0:a&&1 (0&1) 0:a 3:1;",
-    ),
-    (
-        "(1&&0)||a;",
-        &[
-            (Constant, 1, 2),
-            (Constant, 4, 5),
-            (And, 1, 5),
-            (Name, 8, 9),
-            (Or, 0, 9),
-            (Return, 0, 0),
-        ],
-        "0@0:(1&&0)||a ((0&1)|2) 1:1 4:0 8:a;",
+        "int f(int a,int b){return ",
+        "(a||b)&&",
+        11,
+        "(a||b);}",
+        "too many paths 8191 ",
     ),
 ];
 
-/// The vectors of single decisions, in the order of their numbers.
-pub const VECTORS: &[(&[Step], &str)] = &[
+/// Sources and the vectors of their decisions, in the order of their numbers.
+pub const VECTORS: [(&str, &str); 2] = [
     (
-        &[
-            (Name, 2, 3),
-            (Name, 5, 6),
-            (And, 2, 6),
-            (Not, 0, 7),
-            (Name, 9, 10),
-            (Or, 0, 10),
-            (Return, 0, 0),
-        ],
+        "int f(int a,int b,int c){return !(a&&b)||c;}",
         "TTT=T TTF=F TF-=T F--=T ",
     ),
     (
-        &[
-            (Name, 1, 2),
-            (Name, 4, 5),
-            (And, 1, 5),
-            (Name, 9, 10),
-            (Name, 12, 13),
-            (And, 9, 13),
-            (Or, 0, 14),
-            (Return, 0, 0),
-        ],
+        "int f(int a,int b,int c){return (a&&b)||(a&&c);}",
         "TT--=T TFTT=T TFTF=F TFF-=F F-TT=T F-TF=F F-F-=F ",
     ),
 ];

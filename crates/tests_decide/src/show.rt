@@ -1,11 +1,19 @@
 //! Decisions as texts.
+ghost use Rattle.std.specs.Prelude.{All};
+ghost use Rattle.mc_cond.specs.Tree.{tree_of, IsNumbered};
+
+use mc_cond::Vector;
 use mc_decide::{CondTree, Decision, Span};
-use std::alloc::Global;
+use mc_paths::{Numbering, number};
+use std::alloc::{AllocError, Global};
 use std::test::Fail;
+
+/// The most vectors that are shown of a decision.
+const FEW: u32 = 8;
 
 /// For each decision its function, the start and text of its root, its tree, and the start and text
 /// of each condition.
-pub fn show(alloc: Global, text: &str, decisions: &[Decision]) -> Result<String, Fail> {
+pub fn show_decisions(alloc: Global, text: &str, decisions: &[Decision]) -> Result<String, Fail> {
     let mut shown = String::new(alloc);
     for decision in decisions {
         let function = decision.function;
@@ -56,4 +64,45 @@ fn show_tree(shown: &mut String, tree: &CondTree) -> Result<(), Fail> {
             Ok(())
         }
     }
+}
+
+fn show_vector(shown: &mut String, vector: &Vector) -> Result<(), AllocError> {
+    for k in 0..vector.len() {
+        let sign = match vector.answer(k) {
+            Some(true) => "T",
+            Some(false) => "F",
+            None => "-",
+        };
+        shown.push_str(sign)?;
+    }
+    let outcome = if vector.outcome() { "=T " } else { "=F " };
+    shown.push_str(outcome)?;
+    Ok(())
+}
+
+fn show_numbering(shown: &mut String, numbering: &Numbering) -> Result<(), Fail> {
+    let count = numbering.count();
+    if count > FEW {
+        write!(shown, "{count} ")?;
+        return Ok(());
+    }
+    for path in 0..count {
+        show_vector(shown, &numbering.vector_of(path))?;
+    }
+    Ok(())
+}
+
+/// For each decision its vectors in the order of their numbers, how many they are where they are
+/// more than eight, or why it has none.
+pub fn show_vectors(alloc: Global, decisions: &[Decision]) -> Result<String, Fail>
+    requires { All (λ d. IsNumbered (tree_of d.tree)) decisions.now }
+{
+    let mut shown = String::new(alloc);
+    for decision in decisions {
+        match number(alloc, &decision.tree) {
+            Ok(numbering) => show_numbering(&mut shown, &numbering)?,
+            Err(fault) => write!(shown, "{fault} ")?,
+        }
+    }
+    Ok(shown)
 }

@@ -1,1 +1,1 @@
-pub mod Objects
+pub mod Short

@@ -161,6 +161,7 @@ const FILES: &str = "\
 1: header@test,call,arguments,inputs,output,expect$
 1: header@test, call,arguments,inputs,expect,output$
 1: header@?,test,call,arguments,inputs,expect,output$
+1: header@test,call,arguments,inputs,expect$t1$
 # the header, also with quotes, after a byte-order mark and after blank lines
 none@test,call,arguments,inputs,expect,output
 none@\"test\",\"call\",\"arguments\",\"inputs\",\"expect\",\"output\"^$
@@ -200,7 +201,7 @@ fn is_right(alloc: Global, program: &Program<'_>, head: &str, row: &str) -> Resu
     Ok(told.as_str().strip_prefix("tests record ") == Some(want))
 }
 
-/// Checks each file, and the text of what comes when memory runs out.
+/// Checks each file, and the texts of the faults that none of them has.
 pub(crate) fn check_faults(
     rt: &impl Abort,
     alloc: Global,
@@ -212,6 +213,8 @@ pub(crate) fn check_faults(
     for row in FILES.lines() {
         assert!(rt; is_right(alloc, program, "", row)?, "{row}");
     }
+    let text = told(alloc, Some(TestFault::Limit { row: 9 }))?;
+    assert_eq!(rt; text.as_str(), "tests record 9: limit");
     let text = told(alloc, Some(TestFault::OutOfMemory))?;
     assert_eq!(rt; text.as_str(), "out of memory");
     Ok(())
