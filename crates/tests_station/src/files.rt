@@ -1,184 +1,197 @@
 //! Which tests files are accepted, and the limits of both files.
 
-use crate::run::{HEADER, SOURCE, TESTS, gives, plain};
+use crate::fail::Fail;
+use crate::run::{HEADER, SOURCE, TESTS, Want, gives, plain};
+use crate::text::{lines_of, push};
 use std::alloc::Global;
-use std::process::Abort;
-use std::test::Fail;
 
 const NAME_64: &str = "aaaaaaaaaaaaaaaabbbbbbbbbbbbbbbbccccccccccccccccdddddddddddddddd";
 
-/// A tests file of the header and these lines gives this.
-fn lists(rt: &impl Abort, alloc: Global, lines: &str, want: (u8, &str, &str)) -> Result<(), Fail> {
-    let mut tests = String::from_str(alloc, HEADER)?;
-    tests.push_str(lines)?;
-    let mut setting = plain(SOURCE.as_bytes(), tests.as_bytes());
+/// Whether a tests file of the header and these lines gives this.
+fn lists(alloc: Global, lines: &[u8], want: Want<'_>) -> Result<bool, Fail> {
+    let mut tests = Vec::new(alloc);
+    tests.extend_from_slice(HEADER.as_bytes())?;
+    tests.extend_from_slice(lines)?;
+    let mut setting = plain(SOURCE.as_bytes(), &tests);
     setting.room = 200000;
-    gives(rt, alloc, &setting, lines, want)
+    let is_wanted = gives(alloc, &setting, want);
+    drop(tests);
+    is_wanted
 }
 
-const ONE: &str = "test t1 pass values 1 output\nD1 TT=T by t1\n";
+/// Whether a tests file of the header and these lines is refused with this record and fault.
+fn is_refused(alloc: Global, lines: &[u8], fault: &str) -> Result<bool, Fail> {
+    let diag = format!(in alloc; "mcdc: tests record {fault}\n")?;
+    let is_wanted = lists(alloc, lines, (4, b"", diag.as_bytes()));
+    drop(diag);
+    is_wanted
+}
 
-/// What follows the header of a tests file that is accepted, and what the run writes.
-const ACCEPTED: [(&str, &str); 9] = [
-    ("t1,f,1 1,,,", ONE),
-    ("t1,f,1 1,,,\n", ONE),
-    ("t1,f,1 1,,,\r\n", ONE),
-    ("\nt1,f,1 1,,,\n\n", ONE),
-    ("\"t1\",\"f\",\"1 1\",\"\",\"\",\"\"\n", ONE),
-    ("t1,f,-1 2147483647,,,\n", ONE),
-    (
-        "t1,f,-2147483648 0,,,\n",
-        "test t1 pass values 0 output\nD1 TF=F by t1\n",
-    ),
-    (
-        "A_z-0.9,f,0 0,,,\n",
-        "test A_z-0.9 pass values 0 output\nD1 F-=F by A_z-0.9\n",
-    ),
-    // a vector is the least test's that evaluates it
-    (
-        "z,f,0 5,,,\na,f,0 6,,,\n",
-        "test z pass values 0 output\ntest a pass values 0 output\nD1 F-=F by z\n",
-    ),
-];
+/// What the run writes, and what follows the header of a tests file that is accepted. A vector is
+/// the least test's that evaluates it. Here and below `$` is the end of a line.
+const ACCEPTED: &str = "\
+test t1 pass values 1 output$D1 TT=T by t1$@t1,f,1 1,,,
+test t1 pass values 1 output$D1 TT=T by t1$@t1,f,1 1,,,$
+test t1 pass values 1 output$D1 TT=T by t1$@t1,f,1 1,,,\r$
+test t1 pass values 1 output$D1 TT=T by t1$@$t1,f,1 1,,,$$
+test t1 pass values 1 output$D1 TT=T by t1$@\"t1\",\"f\",\"1 1\",\"\",\"\",\"\"$
+test t1 pass values 1 output$D1 TT=T by t1$@t1,f,-1 2147483647,,,$
+test t1 pass values 0 output$D1 TF=F by t1$@t1,f,-2147483648 0,,,$
+test A_z-0.9 pass values 0 output$D1 F-=F by A_z-0.9$@A_z-0.9,f,0 0,,,$
+test z pass values 0 output$test a pass values 0 output$D1 F-=F by z$@z,f,0 5,,,$a,f,0 6,,,$
+";
+
+fn is_accepted_row(alloc: Global, row: &str) -> Result<bool, Fail> {
+    let Some((out, lines)) = row.split_once('@') else {
+        return Err(Fail);
+    };
+    let out = lines_of(alloc, out)?;
+    let lines = lines_of(alloc, lines)?;
+    let is_wanted = lists(alloc, &lines, (0, &out, b""));
+    drop(lines);
+    drop(out);
+    is_wanted
+}
+
+/// The record and its fault, and what follows the header of a tests file that is refused.
+const REFUSED: &str = "\
+2: number@t1,f,-0 1,,,$
+2: number@t1,f,01 1,,,$
+2: number@t1,f,+1 1,,,$
+2: arguments@t1,f,2147483648 1,,,$
+2: arguments@t1,f,-2147483649 1,,,$
+2: number@t1,f,1  1,,,$
+2: number@t1,f, 1 1,,,$
+2: number@t1,f,1 1 ,,,$
+2: text@t1,f,1\t1,,,$
+2: arguments@t1,f,1,,,$
+2: arguments@t1,f,1 1 1,,,$
+2: arguments@t1,f,,,,$
+2: number@t1,f,1 a,,,$
+2: number@t1,f,1 -,,,$
+2: text@t1,f,1 \01,,,$
+2: text@t\01,f,1 1,,,$
+2: text@t1,f,1 1,\0,,$
+2: function@t1,g,1 1,,,$
+2: function@t1,,1 1,,,$
+2: text@,f,1 1,,,$
+2: text@t 1,f,1 1,,,$
+2: number@t1,f,1 1,2147483648,,$
+2: number@t1,f,1 1,,a,$
+2: number@t1,f,1 1,,,1 a$
+2: width@t1,f,1 1,,$
+2: width@t1,f,1 1,,,,$
+4: name again@t1,f,1 1,,,$t2,f,1 0,,,$t1,f,1 1,,,$
+";
+
+fn is_refused_row(alloc: Global, row: &str) -> Result<bool, Fail> {
+    let Some((fault, lines)) = row.split_once('@') else {
+        return Err(Fail);
+    };
+    let lines = lines_of(alloc, lines)?;
+    let is_wanted = is_refused(alloc, &lines, fault);
+    drop(lines);
+    is_wanted
+}
+
+/// The record and its fault, where there is one, and the whole tests file.
+const HEADERS: &str = "\
+@test,call,arguments,inputs,expect,output
+@test,call,arguments,inputs,expect,output\r$
+@\"test\",call,arguments,inputs,expect,output$
+1: header@
+1: header@$
+1: header@t1,f,1 1,,,$
+1: header@test,call,arguments,inputs,expect$
+1: header@test,call,arguments,inputs,expect,output,$
+1: header@test,call,arguments,expect,inputs,output$
+1: header@Test,call,arguments,inputs,expect,output$
+";
+
+/// Whether a tests file without a test is accepted, or else has no header.
+fn is_judged_row(alloc: Global, row: &str) -> Result<bool, Fail> {
+    let Some((fault, file)) = row.split_once('@') else {
+        return Err(Fail);
+    };
+    let tests = lines_of(alloc, file)?;
+    let setting = plain(SOURCE.as_bytes(), &tests);
+    let want: Want<'_> = if fault.is_empty() {
+        (0, b"", b"")
+    } else {
+        (4, b"", b"mcdc: tests record 1: header\n")
+    };
+    let is_wanted = gives(alloc, &setting, want);
+    drop(tests);
+    is_wanted
+}
 
 #[test]
-fn tests_that_are_accepted(rt: HostRuntime) -> Result<(), Fail> {
-    for (lines, out) in ACCEPTED {
-        lists(&rt, rt.alloc(), lines, (0, out, ""))?;
+fn tests_files(rt: HostRuntime) -> Result<(), Fail> {
+    for row in ACCEPTED.lines() {
+        assert!(rt; is_accepted_row(rt.alloc(), row)?, "{row}");
+    }
+    for row in REFUSED.lines() {
+        assert!(rt; is_refused_row(rt.alloc(), row)?, "{row}");
+    }
+    for row in HEADERS.lines() {
+        assert!(rt; is_judged_row(rt.alloc(), row)?, "{row}");
     }
     Ok(())
 }
 
-/// What follows the header of a tests file that is refused, and the record and its fault.
-const REFUSED: [(&str, &str); 27] = [
-    ("t1,f,-0 1,,,\n", "2: number"),
-    ("t1,f,01 1,,,\n", "2: number"),
-    ("t1,f,+1 1,,,\n", "2: number"),
-    ("t1,f,2147483648 1,,,\n", "2: arguments"),
-    ("t1,f,-2147483649 1,,,\n", "2: arguments"),
-    ("t1,f,1  1,,,\n", "2: number"),
-    ("t1,f, 1 1,,,\n", "2: number"),
-    ("t1,f,1 1 ,,,\n", "2: number"),
-    ("t1,f,1\t1,,,\n", "2: text"),
-    ("t1,f,1,,,\n", "2: arguments"),
-    ("t1,f,1 1 1,,,\n", "2: arguments"),
-    ("t1,f,,,,\n", "2: arguments"),
-    ("t1,f,1 a,,,\n", "2: number"),
-    ("t1,f,1 -,,,\n", "2: number"),
-    ("t1,f,1 \01,,,\n", "2: text"),
-    ("t\01,f,1 1,,,\n", "2: text"),
-    ("t1,f,1 1,\0,,\n", "2: text"),
-    ("t1,g,1 1,,,\n", "2: function"),
-    ("t1,,1 1,,,\n", "2: function"),
-    (",f,1 1,,,\n", "2: text"),
-    ("t 1,f,1 1,,,\n", "2: text"),
-    ("t1,f,1 1,2147483648,,\n", "2: number"),
-    ("t1,f,1 1,,a,\n", "2: number"),
-    ("t1,f,1 1,,,1 a\n", "2: number"),
-    ("t1,f,1 1,,\n", "2: width"),
-    ("t1,f,1 1,,,,\n", "2: width"),
-    ("t1,f,1 1,,,\nt2,f,1 0,,,\nt1,f,1 1,,,\n", "4: name again"),
-];
-
-#[test]
-fn tests_that_are_refused(rt: HostRuntime) -> Result<(), Fail> {
-    let alloc = rt.alloc();
-    for (lines, fault) in REFUSED {
-        let diag = format!(in alloc; "mcdc: tests record {fault}\n")?;
-        lists(&rt, alloc, lines, (4, "", diag.as_str()))?;
-    }
-    Ok(())
+/// Whether a test with a name of 64 bytes is accepted.
+fn is_named(alloc: Global, name: &str) -> Result<bool, Fail> {
+    let line = format!(in alloc; "{name},f,1 1,,,\n")?;
+    let out = format!(in alloc; "test {name} pass values 1 output\nD1 TT=T by {name}\n")?;
+    let is_wanted = lists(alloc, line.as_bytes(), (0, out.as_bytes(), b""));
+    drop(out);
+    drop(line);
+    is_wanted
 }
 
-/// A tests file gives this.
-fn is_judged(
-    rt: &impl Abort,
-    alloc: Global,
-    tests: &str,
-    want: (u8, &str, &str),
-) -> Result<(), Fail> {
-    gives(
-        rt,
-        alloc,
-        &plain(SOURCE.as_bytes(), tests.as_bytes()),
-        tests,
-        want,
-    )
-}
-
-/// Headers.
-const HEADERS: [&str; 3] = [
-    "test,call,arguments,inputs,expect,output",
-    "test,call,arguments,inputs,expect,output\r\n",
-    "\"test\",call,arguments,inputs,expect,output\n",
-];
-
-#[test]
-fn headers(rt: HostRuntime) -> Result<(), Fail> {
-    for tests in HEADERS {
-        is_judged(&rt, rt.alloc(), tests, (0, "", ""))?;
-    }
-    Ok(())
-}
-
-/// Tests files without a header.
-const NO_HEADER: [&str; 7] = [
-    "",
-    "\n",
-    "t1,f,1 1,,,\n",
-    "test,call,arguments,inputs,expect\n",
-    "test,call,arguments,inputs,expect,output,\n",
-    "test,call,arguments,expect,inputs,output\n",
-    "Test,call,arguments,inputs,expect,output\n",
-];
-
-#[test]
-fn files_without_a_header(rt: HostRuntime) -> Result<(), Fail> {
-    for tests in NO_HEADER {
-        is_judged(
-            &rt,
-            rt.alloc(),
-            tests,
-            (4, "", "mcdc: tests record 1: header\n"),
-        )?;
-    }
-    Ok(())
+/// Whether a test with a name of one byte more is refused.
+fn is_too_long(alloc: Global, name: &str) -> Result<bool, Fail> {
+    let line = format!(in alloc; "{name}e,f,1 1,,,\n")?;
+    let is_wanted = is_refused(alloc, line.as_bytes(), "2: text");
+    drop(line);
+    is_wanted
 }
 
 #[test]
 fn length_of_names(rt: HostRuntime) -> Result<(), Fail> {
-    let alloc = rt.alloc();
-    let name = NAME_64;
-    let line = format!(in alloc; "{name},f,1 1,,,\n")?;
-    let out = format!(in alloc; "test {name} pass values 1 output\nD1 TT=T by {name}\n")?;
-    lists(&rt, alloc, line.as_str(), (0, out.as_str(), ""))?;
-    let line = format!(in alloc; "{name}e,f,1 1,,,\n")?;
-    lists(
-        &rt,
-        alloc,
-        line.as_str(),
-        (4, "", "mcdc: tests record 2: text\n"),
-    )
+    assert!(rt; is_named(rt.alloc(), NAME_64)?);
+    assert!(rt; is_too_long(rt.alloc(), NAME_64)?);
+    Ok(())
+}
+
+/// 4,096 lines with their numbers.
+fn numbered(alloc: Global, front: &str, back: &str) -> Result<String, Fail> {
+    let mut text = String::new(alloc);
+    for count in 0..4096_u32 {
+        push(&mut text, format!(in alloc; "{front}{count}{back}"))?;
+    }
+    Ok(text)
+}
+
+fn are_most(alloc: Global, lines: &str) -> Result<bool, Fail> {
+    let mut out = numbered(alloc, "test t", " pass values 1 output\n")?;
+    out.push_str("D1 TT=T by t0\n")?;
+    let is_wanted = lists(alloc, lines.as_bytes(), (0, out.as_bytes(), b""));
+    drop(out);
+    is_wanted
+}
+
+fn are_too_many(alloc: Global, lines: &mut String) -> Result<bool, Fail> {
+    lines.push_str("more,f,1 1,,,\n")?;
+    is_refused(alloc, lines.as_bytes(), "4098: limit")
 }
 
 #[test]
 fn number_of_tests(rt: HostRuntime) -> Result<(), Fail> {
-    let alloc = rt.alloc();
-    let mut lines = String::new(alloc);
-    let mut out = String::new(alloc);
-    for count in 0..4096 {
-        lines.push_str(format!(in alloc; "t{count},f,1 1,,,\n")?.as_str())?;
-        out.push_str(format!(in alloc; "test t{count} pass values 1 output\n")?.as_str())?;
-    }
-    out.push_str("D1 TT=T by t0\n")?;
-    lists(&rt, alloc, lines.as_str(), (0, out.as_str(), ""))?;
-    lines.push_str("more,f,1 1,,,\n")?;
-    lists(
-        &rt,
-        alloc,
-        lines.as_str(),
-        (4, "", "mcdc: tests record 4098: limit\n"),
-    )
+    let mut lines = numbered(rt.alloc(), "t", ",f,1 1,,,\n")?;
+    assert!(rt; are_most(rt.alloc(), lines.as_str())?);
+    assert!(rt; are_too_many(rt.alloc(), &mut lines)?);
+    Ok(())
 }
 
 /// The text, and a byte of white space up to that length.
@@ -191,64 +204,60 @@ fn padded(alloc: Global, text: &str, space: u8, length: usize) -> Result<Vec<u8>
     Ok(bytes)
 }
 
+/// Whether files of these lengths give this.
+fn is_limited(
+    alloc: Global,
+    source: usize,
+    tests: usize,
+    status: u8,
+    diag: &str,
+) -> Result<bool, Fail> {
+    let source = padded(alloc, SOURCE, b' ', source)?;
+    let tests = padded(alloc, HEADER, b'\n', tests)?;
+    let is_wanted = gives(
+        alloc,
+        &plain(&source, &tests),
+        (status, b"", diag.as_bytes()),
+    );
+    drop(tests);
+    drop(source);
+    is_wanted
+}
+
 /// Lengths of both files, and what the run gives.
-const LENGTHS: [(usize, usize, (u8, &str, &str)); 5] = [
-    (1048576, 0, (0, "", "")),
-    (
-        1048577,
-        0,
-        (3, "", "mcdc: s.c: longer than 1048576 bytes\n"),
-    ),
-    (0, 4194304, (0, "", "")),
-    (
-        0,
-        4194305,
-        (4, "", "mcdc: t.csv: longer than 4194304 bytes\n"),
-    ),
+const LENGTHS: [(usize, usize, u8, &str); 5] = [
+    (1048576, 0, 0, ""),
+    (1048577, 0, 3, "mcdc: s.c: longer than 1048576 bytes\n"),
+    (0, 4194304, 0, ""),
+    (0, 4194305, 4, "mcdc: t.csv: longer than 4194304 bytes\n"),
     (
         1048576,
         4194305,
-        (4, "", "mcdc: t.csv: longer than 4194304 bytes\n"),
+        4,
+        "mcdc: t.csv: longer than 4194304 bytes\n",
     ),
 ];
 
 #[test]
 fn lengths_of_files(rt: HostRuntime) -> Result<(), Fail> {
-    let alloc = rt.alloc();
-    for (source, tests, want) in LENGTHS {
-        let source = padded(alloc, SOURCE, b' ', source)?;
-        let tests = padded(alloc, HEADER, b'\n', tests)?;
-        gives(&rt, alloc, &plain(&source, &tests), "lengths", want)?;
+    for (source, tests, status, diag) in LENGTHS {
+        assert!(rt;
+            is_limited(rt.alloc(), source, tests, status, diag)?,
+            "{source} {tests}"
+        );
     }
     Ok(())
 }
 
 #[test]
 fn faults_come_in_order(rt: HostRuntime) -> Result<(), Fail> {
-    let alloc = rt.alloc();
     let source = b"int f(int a){return b;}".as_slice();
+    let fault: Want<'_> = (3, b"", b"mcdc: source 1:21: undeclared\n");
     let mut setting = plain(source, b"");
-    gives(
-        &rt,
-        alloc,
-        &setting,
-        "both",
-        (3, "", "mcdc: source 1:21: undeclared\n"),
-    )?;
+    assert!(rt; gives(rt.alloc(), &setting, fault)?);
     setting.failing_load = 1;
-    gives(
-        &rt,
-        alloc,
-        &setting,
-        "no source",
-        (6, "", "mcdc: cannot read s.c\n"),
-    )?;
+    assert!(rt; gives(rt.alloc(), &setting, (6, b"", b"mcdc: cannot read s.c\n"))?);
     setting = plain(source, TESTS.as_bytes());
-    gives(
-        &rt,
-        alloc,
-        &setting,
-        "source",
-        (3, "", "mcdc: source 1:21: undeclared\n"),
-    )
+    assert!(rt; gives(rt.alloc(), &setting, fault)?);
+    Ok(())
 }

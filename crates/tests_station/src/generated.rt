@@ -1,8 +1,9 @@
 //! Runs whose files or texts are put together: many tests, many functions, and a long output.
 
+use crate::fail::Fail;
 use crate::run::{HEADER, gives, plain};
+use crate::text::push;
 use std::alloc::Global;
-use std::test::Fail;
 
 /// A header, and as many tests of `f` with the two lowest bits of their number as arguments.
 fn many_tests(alloc: Global, count: u32) -> Result<String, Fail> {
@@ -11,52 +12,91 @@ fn many_tests(alloc: Global, count: u32) -> Result<String, Fail> {
         let j = before + 1;
         let first = j % 2;
         let second = j / 2 % 2;
-        tests.push_str(format!(in alloc; "t{j},f,{first} {second},,,\n")?.as_str())?;
+        push(
+            &mut tests,
+            format!(in alloc; "t{j},f,{first} {second},,,\n"),
+        )?;
     }
     Ok(tests)
 }
 
-#[test]
-fn least_of_many_tests(rt: HostRuntime) -> Result<(), Fail> {
-    let alloc = rt.alloc();
-    let tests = many_tests(alloc, 130)?;
+/// The lines of 130 such tests of `a&&b`, and those of the vectors.
+fn lines_of_tests(alloc: Global) -> Result<String, Fail> {
     let mut out = String::new(alloc);
     for j in 1..131 {
         let value = if j % 4 == 3 { 1 } else { 0 };
-        out.push_str(format!(in alloc; "test t{j} pass values {value} output\n")?.as_str())?;
+        push(
+            &mut out,
+            format!(in alloc; "test t{j} pass values {value} output\n"),
+        )?;
     }
     out.push_str("D1 TT=T by t3\nD1 TF=F by t1\nD1 F-=F by t2\n")?;
+    Ok(out)
+}
+
+fn are_least(alloc: Global, tests: &str) -> Result<bool, Fail> {
+    let out = lines_of_tests(alloc)?;
     let mut setting = plain(b"int f(int a,int b){return a&&b;}", tests.as_bytes());
     setting.room = 65536;
-    gives(&rt, alloc, &setting, "130 tests", (0, out.as_str(), ""))
+    let is_wanted = gives(alloc, &setting, (0, out.as_bytes(), b""));
+    drop(out);
+    is_wanted
+}
+
+#[test]
+fn least_of_many_tests(rt: HostRuntime) -> Result<(), Fail> {
+    let tests = many_tests(rt.alloc(), 130)?;
+    assert!(rt; are_least(rt.alloc(), tests.as_str())?);
+    Ok(())
 }
 
 /// A decision of 4,095 paths.
 const PATHS: &str =
     "(a||b)&&(a||b)&&(a||b)&&(a||b)&&(a||b)&&(a||b)&&(a||b)&&(a||b)&&(a||b)&&(a||b)&&(a||b)";
 
-/// How many functions with such a decision, how many tests, and the status and line of the run.
-const SIZES: [(u32, u32, u8, &str); 2] = [
-    (5, 4096, 9, "mcdc: matrix needs 1311360 words\n"),
-    (16, 0, 3, "mcdc: source: too many bits 65568\n"),
-];
+fn many_functions(alloc: Global, functions: u32) -> Result<String, Fail> {
+    let mut source = String::new(alloc);
+    for before in 0..functions {
+        let k = before + 1;
+        push(
+            &mut source,
+            format!(in alloc; "int f{k}(int a,int b){{return {PATHS};}}"),
+        )?;
+    }
+    Ok(source)
+}
+
+fn tests_of_first(alloc: Global, count: u32) -> Result<String, Fail> {
+    let mut tests = String::from_str(alloc, HEADER)?;
+    for j in 0..count {
+        push(&mut tests, format!(in alloc; "t{j},f1,1 1,,,\n"))?;
+    }
+    Ok(tests)
+}
+
+/// Whether a program of so many functions with such a decision, under so many tests, is refused.
+fn is_too_large(
+    alloc: Global,
+    functions: u32,
+    count: u32,
+    status: u8,
+    line: &str,
+) -> Result<bool, Fail> {
+    let source = many_functions(alloc, functions)?;
+    let tests = tests_of_first(alloc, count)?;
+    let setting = plain(source.as_bytes(), tests.as_bytes());
+    let is_wanted = gives(alloc, &setting, (status, b"", line.as_bytes()));
+    drop(tests);
+    drop(source);
+    is_wanted
+}
 
 #[test]
 fn sizes_of_maps_and_matrices(rt: HostRuntime) -> Result<(), Fail> {
-    let alloc = rt.alloc();
-    for (functions, count, status, line) in SIZES {
-        let mut source = String::new(alloc);
-        for k in 1..functions + 1 {
-            let function = format!(in alloc; "int f{k}(int a,int b){{return {PATHS};}}")?;
-            source.push_str(function.as_str())?;
-        }
-        let mut tests = String::from_str(alloc, HEADER)?;
-        for j in 0..count {
-            tests.push_str(format!(in alloc; "t{j},f1,1 1,,,\n")?.as_str())?;
-        }
-        let setting = plain(source.as_bytes(), tests.as_bytes());
-        gives(&rt, alloc, &setting, line, (status, "", line))?;
-    }
+    let words = "mcdc: matrix needs 1311360 words\n";
+    assert!(rt; is_too_large(rt.alloc(), 5, 4096, 9, words)?);
+    let bits = "mcdc: source: too many bits 65568\n";
+    assert!(rt; is_too_large(rt.alloc(), 16, 0, 3, bits)?);
     Ok(())
 }
 
@@ -66,21 +106,32 @@ const COUNTS_DOWN: &str = "void mcdc_out(int v);void f(int n){while(n>0){mcdc_ou
 fn push_down(alloc: Global, text: &mut String, first: u32) -> Result<(), Fail> {
     for turn in 0..4096_u32 {
         let number = first.saturating_sub(turn);
-        text.push_str(format!(in alloc; " {number}")?.as_str())?;
+        push(text, format!(in alloc; " {number}"))?;
     }
     Ok(())
 }
 
-#[test]
-fn a_full_output(rt: HostRuntime) -> Result<(), Fail> {
-    let alloc = rt.alloc();
-    let tests = format!(in alloc; "{HEADER}t1,f,4096,,,\nt2,f,4097,,,\n")?;
+fn lines_of_outputs(alloc: Global) -> Result<String, Fail> {
     let mut out = String::from_str(alloc, "test t1 pass values void output")?;
     push_down(alloc, &mut out, 4096)?;
     out.push_str("\ntest t2 output-full values output")?;
     push_down(alloc, &mut out, 4097)?;
     out.push_str("\nD1 T=T by t1\nD1 F=F by t1\n")?;
+    Ok(out)
+}
+
+fn is_full(alloc: Global, out: &str) -> Result<bool, Fail> {
+    let tests = format!(in alloc; "{HEADER}t1,f,4096,,,\nt2,f,4097,,,\n")?;
     let mut setting = plain(COUNTS_DOWN.as_bytes(), tests.as_bytes());
     setting.room = 65536;
-    gives(&rt, alloc, &setting, "output", (1, out.as_str(), ""))
+    let is_wanted = gives(alloc, &setting, (1, out.as_bytes(), b""));
+    drop(tests);
+    is_wanted
+}
+
+#[test]
+fn a_full_output(rt: HostRuntime) -> Result<(), Fail> {
+    let out = lines_of_outputs(rt.alloc())?;
+    assert!(rt; is_full(rt.alloc(), out.as_str())?);
+    Ok(())
 }

@@ -5,17 +5,23 @@
 #[cfg(test)]
 mod endings;
 #[cfg(test)]
+mod fail;
+#[cfg(test)]
 mod files;
 #[cfg(test)]
 mod generated;
 #[cfg(test)]
 mod outcomes;
 #[cfg(test)]
+mod row;
+#[cfg(test)]
 mod rows;
 #[cfg(test)]
 mod run;
 #[cfg(test)]
 mod sources;
+#[cfg(test)]
+mod text;
 #[cfg(test)]
 mod truth_tables;
 #[cfg(test)]

@@ -1,63 +1,45 @@
-//! Worked runs, words that are not a command, and faults of the outside.
+//! Words that are not a command, and faults of the outside.
 
-use crate::run::{HEADER, SOURCE, TESTS, gives, plain};
-use std::test::Fail;
+use crate::fail::Fail;
+use crate::run::{SOURCE, TESTS, gives, plain};
 
 const USAGE: &str = "usage: mcdc report SOURCE TESTS [--mode unique|masking] [--fuel N]\n\
     \x20      mcdc vectors SOURCE TESTS [--fuel N]\n";
 
-/// Sources, tests files, and what each run writes.
-const WORKED: [(&str, &str, &str); 2] = [
-    (SOURCE, HEADER, ""),
-    (
-        "int f(int a,int b){return a<b||a==3;}",
-        "test,call,arguments,inputs,expect,output\nt1,f,1 2,,,\nt2,f,3 1,,,\n",
-        "test t1 pass values 1 output\ntest t2 pass values 1 output\nD1 T-=T by t1\nD1 FT=T by t2\n",
-    ),
-];
-
-#[test]
-fn worked_examples(rt: HostRuntime) -> Result<(), Fail> {
-    for (source, tests, out) in WORKED {
-        let setting = plain(source.as_bytes(), tests.as_bytes());
-        gives(&rt, rt.alloc(), &setting, source, (0, out, ""))?;
-    }
-    Ok(())
-}
-
-/// Words, and how many of the five are given.
-const NOT_A_COMMAND: [([&str; 5], usize); 22] = [
-    (["", "", "", "", ""], 0),
-    (["vectors", "", "", "", ""], 1),
-    (["vectors", "s.c", "", "", ""], 2),
-    (["vectors", "s.c", "t.csv", "more", ""], 4),
-    (["vectors", "s.c", "t.csv", "--fuel", ""], 4),
-    (["vectors", "s.c", "t.csv", "--fuel", "0"], 5),
-    (["vectors", "s.c", "t.csv", "--fuel", "08"], 5),
-    (["vectors", "s.c", "t.csv", "--fuel", "100000001"], 5),
-    (["vectors", "s.c", "t.csv", "--mode", "unique"], 5),
-    (["report", "s.c", "t.csv", "--mode", "both"], 5),
-    (["report", "s.c", "t.csv", "--format", "json"], 5),
-    (["", "s.c", "t.csv", "", ""], 3),
-    (["Vectors", "s.c", "t.csv", "", ""], 3),
-    (["vectors ", "s.c", "t.csv", "", ""], 3),
-    (["-vectors", "s.c", "t.csv", "", ""], 3),
-    (["-", "s.c", "t.csv", "", ""], 3),
-    (["vectors", "-s.c", "t.csv", "", ""], 3),
-    (["vectors", "-", "t.csv", "", ""], 3),
-    (["vectors", "s.c", "-t.csv", "", ""], 3),
-    (["vectors", "s.c", "-", "", ""], 3),
-    (["vectors", "s.c", "--", "", ""], 3),
-    (["instrument", "s.c", "", "", ""], 2),
-];
+/// Words with `|` between each two; the first line has none.
+const NOT_A_COMMAND: &str = "\n\
+vectors
+vectors|s.c
+vectors|s.c|t.csv|more
+vectors|s.c|t.csv|--fuel
+vectors|s.c|t.csv|--fuel|0
+vectors|s.c|t.csv|--fuel|08
+vectors|s.c|t.csv|--fuel|100000001
+vectors|s.c|t.csv|--mode|unique
+report|s.c|t.csv|--mode|both
+report|s.c|t.csv|--format|json
+|s.c|t.csv
+Vectors|s.c|t.csv
+vectors |s.c|t.csv
+-vectors|s.c|t.csv
+-|s.c|t.csv
+vectors|-s.c|t.csv
+vectors|-|t.csv
+vectors|s.c|-t.csv
+vectors|s.c|-
+vectors|s.c|--
+instrument|s.c
+";
 
 #[test]
 fn words_that_are_not_a_command(rt: HostRuntime) -> Result<(), Fail> {
-    for (words, count) in NOT_A_COMMAND {
+    for words in NOT_A_COMMAND.lines() {
         let mut setting = plain(SOURCE.as_bytes(), TESTS.as_bytes());
         setting.words = words;
-        setting.count = count;
-        gives(&rt, rt.alloc(), &setting, "words", (2, "", USAGE))?;
+        assert!(rt;
+            gives(rt.alloc(), &setting, (2, b"", USAGE.as_bytes()))?,
+            "{words}"
+        );
     }
     Ok(())
 }
@@ -66,26 +48,19 @@ const FIRST_LINE: &str = "test t1 pass values 1 output\n";
 
 const FIRST_LINE_AND_MORE: &str = "test t1 pass values 1 output\ntest ";
 
-const ABSENT: [&str; 5] = ["vectors", "u.c", "t.csv", "", ""];
+const ABSENT: &str = "vectors|u.c|t.csv";
 
-const ABSENT_TESTS: [&str; 5] = ["vectors", "s.c", "u.csv", "", ""];
+const ABSENT_TESTS: &str = "vectors|s.c|u.csv";
 
-const COMMAND: [&str; 5] = ["vectors", "s.c", "t.csv", "", ""];
+const COMMAND: &str = "vectors|s.c|t.csv";
 
-const REPORT: [&str; 5] = ["report", "s.c", "t.csv", "", ""];
+const REPORT: &str = "report|s.c|t.csv";
 
-const OTHER: [&str; 5] = ["instrument", "s.c", "t.csv", "", ""];
+const OTHER: &str = "instrument|s.c|t.csv";
 
 /// A case, its words, the load that fails, the puts that fail on both sinks, and what the run
 /// gives.
-const FAULTS: [(
-    &str,
-    [&str; 5],
-    u32,
-    (u32, u32),
-    (u32, u32),
-    (u8, &str, &str),
-); 11] = [
+const FAULTS: [(&str, &str, u32, (u32, u32), (u32, u32), (u8, &str, &str)); 11] = [
     (
         "no source",
         ABSENT,
@@ -164,13 +139,14 @@ const FAULTS: [(
 
 #[test]
 fn faults_outside(rt: HostRuntime) -> Result<(), Fail> {
-    for (case, words, load, out, diag, want) in FAULTS {
+    for (case, words, load, out, diag, (status, written, told)) in FAULTS {
         let mut setting = plain(SOURCE.as_bytes(), TESTS.as_bytes());
         setting.words = words;
         setting.failing_load = load;
         setting.failing_out = out;
         setting.failing_diag = diag;
-        gives(&rt, rt.alloc(), &setting, case, want)?;
+        let want = (status, written.as_bytes(), told.as_bytes());
+        assert!(rt; gives(rt.alloc(), &setting, want)?, "{case}");
     }
     Ok(())
 }

@@ -1,10 +1,9 @@
 //! Runs of the top call over a store and sinks in memory.
 
+use crate::fail::Fail;
 use mc_port::{MemorySink, MemoryStore, OpenGate, Words};
 use mc_station::station;
 use std::alloc::Global;
-use std::process::Abort;
-use std::test::Fail;
 
 pub const HEADER: &str = "test,call,arguments,inputs,expect,output\n";
 
@@ -13,12 +12,11 @@ pub const SOURCE: &str = "int f(int a,int b){return a&&b;}";
 pub const TESTS: &str =
     "test,call,arguments,inputs,expect,output\nt1,f,1 1,,,\nt2,f,1 0,,,\nt3,f,0 1,,,\n";
 
-/// A run: the first so many of five words, the bytes of `s.c` and `t.csv`, and where the outside
-/// fails.
+/// A run: its words, at most five, with `|` between each two, the bytes of `s.c` and `t.csv`, and
+/// where the outside fails.
 #[derive(Clone, Copy)]
 pub struct Setting<'a> {
-    pub words: [&'a str; 5],
-    pub count: usize,
+    pub words: &'a str,
     pub source: &'a [u8],
     pub tests: &'a [u8],
     /// How many bytes the output takes.
@@ -31,8 +29,7 @@ pub struct Setting<'a> {
 /// A run of `vectors s.c t.csv` in which nothing fails.
 pub fn plain<'a>(source: &'a [u8], tests: &'a [u8]) -> Setting<'a> {
     Setting {
-        words: ["vectors", "s.c", "t.csv", "", ""],
-        count: 3,
+        words: "vectors|s.c|t.csv",
         source,
         tests,
         room: 4096,
@@ -42,9 +39,15 @@ pub fn plain<'a>(source: &'a [u8], tests: &'a [u8]) -> Setting<'a> {
     }
 }
 
-fn words_of(alloc: Global, setting: &Setting<'_>) -> Result<Words, Fail> {
+/// A status, and what both sinks have.
+pub type Want<'a> = (u8, &'a [u8], &'a [u8]);
+
+fn words_of(alloc: Global, text: &str) -> Result<Words, Fail> {
     let mut words = Words::new(alloc);
-    for word in setting.words.iter().take(setting.count) {
+    if text.is_empty() {
+        return Ok(words);
+    }
+    for word in text.split('|') {
         if words.count() < 5 {
             words.push(word)?;
         }
@@ -77,59 +80,46 @@ struct Given {
     diag: MemorySink,
 }
 
-fn run(alloc: Global, setting: &Setting<'_>) -> Result<Given, Fail> {
-    let words = words_of(alloc, setting)?;
-    let mut store = store_of(alloc, setting)?;
+// The run over these words and this store.
+fn called(
+    alloc: Global,
+    words: &Words,
+    store: &mut MemoryStore,
+    setting: &Setting<'_>,
+) -> Result<Given, Fail> {
     let mut out = sink_of(alloc, setting.room, setting.failing_out)?;
     let mut diag = sink_of(alloc, 200, setting.failing_diag)?;
     let gate = OpenGate::new();
-    let status = station(alloc, &words, &mut store, &mut out, &mut diag, &gate);
+    let status = station(alloc, words, store, &mut out, &mut diag, &gate);
     Ok(Given { status, out, diag })
 }
 
-/// A run gives this status and exactly these bytes.
-pub fn gives(
-    rt: &impl Abort,
-    alloc: Global,
-    setting: &Setting<'_>,
-    case: &str,
-    want: (u8, &str, &str),
-) -> Result<(), Fail> {
+fn run(alloc: Global, setting: &Setting<'_>) -> Result<Given, Fail> {
+    let mut store = store_of(alloc, setting)?;
+    let words = words_of(alloc, setting.words)?;
+    let given = called(alloc, &words, &mut store, setting);
+    drop(words);
+    drop(store);
+    given
+}
+
+/// Whether a run gives this status and exactly these bytes.
+pub fn gives(alloc: Global, setting: &Setting<'_>, want: Want<'_>) -> Result<bool, Fail> {
     let (status, out, diag) = want;
     let given = run(alloc, setting)?;
-    assert_eq!(rt; given.status, status, "status of {case}");
-    assert!(rt; given.out.bytes() == out.as_bytes(), "out of {case}");
-    assert!(rt; given.diag.bytes() == diag.as_bytes(), "diag of {case}");
-    Ok(())
+    let is_wanted = given.status == status
+        && given.out.bytes() == out
+        && given.diag.bytes() == diag;
+    drop(given);
+    Ok(is_wanted)
 }
 
-/// A run with a tests file of no test refuses this source with a line that ends so.
-pub fn is_refused(rt: &impl Abort, alloc: Global, source: &str, end: &str) -> Result<(), Fail> {
-    let given = run(alloc, &plain(source.as_bytes(), HEADER.as_bytes()))?;
-    assert_eq!(rt; given.status, 3, "status of {source}");
-    assert!(rt; given.out.bytes().is_empty(), "out of {source}");
-    assert!(rt;
-        given.diag.bytes().ends_with(end.as_bytes()),
-        "diag of {source}"
-    );
-    Ok(())
-}
-
-/// A case, the command with an option and its value, the source, the tests file, and what the run
-/// gives.
-pub type Row = (
-    &'static str,
-    [&'static str; 3],
-    &'static str,
-    &'static str,
-    (u8, &'static str, &'static str),
-);
-
-/// The run of a row gives what is wanted of it.
-pub fn is_written(rt: &impl Abort, alloc: Global, row: Row) -> Result<(), Fail> {
-    let (case, [command, option, value], source, tests, want) = row;
-    let mut setting = plain(source.as_bytes(), tests.as_bytes());
-    setting.words = [command, "s.c", "t.csv", option, value];
-    setting.count = if option.is_empty() { 3 } else { 5 };
-    gives(rt, alloc, &setting, case, want)
+/// Whether a run with a tests file of no test refuses this source with a line that ends so.
+pub fn is_refused(alloc: Global, source: &[u8], end: &str) -> Result<bool, Fail> {
+    let given = run(alloc, &plain(source, HEADER.as_bytes()))?;
+    let is_wanted = given.status == 3
+        && given.out.bytes().is_empty()
+        && given.diag.bytes().ends_with(end.as_bytes());
+    drop(given);
+    Ok(is_wanted)
 }

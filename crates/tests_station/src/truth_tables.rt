@@ -2,10 +2,10 @@
 //! at each node, on its whole truth table, against values and vectors that are put together here
 //! from those of the operands.
 
+use crate::fail::Fail;
 use crate::run::{HEADER, gives, plain};
-use std::alloc::{AllocError, Global};
-use std::process::Abort;
-use std::test::Fail;
+use crate::text::push;
+use std::alloc::Global;
 
 /// A node of an expression: a condition, or the operator that joins the two parts before it.
 #[derive(Clone, Copy)]
@@ -17,7 +17,7 @@ struct Node {
 
 /// The nodes of a shape, in which `l` is a condition and a dot an operator, by the bits of a
 /// choice.
-fn nodes_of(alloc: Global, shape: &str, choice: u32) -> Result<Vec<Node>, AllocError> {
+fn nodes_of(alloc: Global, shape: &str, choice: u32) -> Result<Vec<Node>, Fail> {
     let mut nodes = Vec::new(alloc);
     let mut bits = choice;
     for symbol in shape.as_bytes() {
@@ -32,42 +32,75 @@ fn nodes_of(alloc: Global, shape: &str, choice: u32) -> Result<Vec<Node>, AllocE
     Ok(nodes)
 }
 
-/// Two operands with an operator between them, in parentheses.
+/// The last two parts with an operator between them, in parentheses.
 fn joined_text(
     alloc: Global,
     conjunction: bool,
     left: Option<String>,
     right: Option<String>,
 ) -> Result<String, Fail> {
-    let left = left.ok_or("no left operand")?;
-    let right = right.ok_or("no right operand")?;
+    let (Some(left), Some(right)) = (left, right) else {
+        return Err(Fail);
+    };
     let operator = if conjunction { "&&" } else { "||" };
-    Ok(format!(in alloc; "({left}{operator}{right})")?)
+    let text = format!(in alloc; "({left}{operator}{right})");
+    drop(left);
+    drop(right);
+    Ok(text?)
+}
+
+/// The text of a node; a condition has this name.
+fn node_text(
+    alloc: Global,
+    node: Node,
+    name: &str,
+    parts: &mut Vec<String>,
+) -> Result<String, Fail> {
+    let negation = if node.negated { "!" } else { "" };
+    if node.is_leaf {
+        return Ok(format!(in alloc; "{negation}{name}")?);
+    }
+    let right = parts.pop();
+    let left = parts.pop();
+    let joined = joined_text(alloc, node.conjunction, left, right)?;
+    let text = format!(in alloc; "{negation}{joined}");
+    drop(joined);
+    Ok(text?)
+}
+
+/// The name of the next condition, where there were so many before it.
+fn name_of(before: u32) -> &'static str {
+    match before {
+        0 => "a",
+        1 => "b",
+        2 => "c",
+        _ => "d",
+    }
 }
 
 /// The text of an expression, whose conditions are `a`, `b` and so on.
 fn text_of(alloc: Global, nodes: &[Node]) -> Result<String, Fail> {
-    let mut names = ["d", "c", "b", "a"].to_vec(alloc)?;
+    let mut leaves = 0u32;
     let mut parts = Vec::new(alloc);
     for node in nodes {
-        let text = if node.is_leaf {
-            String::from_str(alloc, names.pop().unwrap_or("a"))?
-        } else {
-            let right = parts.pop();
-            let left = parts.pop();
-            joined_text(alloc, node.conjunction, left, right)?
-        };
-        let sign = if node.negated { "!" } else { "" };
-        parts.push(format!(in alloc; "{sign}{text}")?)?;
+        let text = node_text(alloc, *node, name_of(leaves), &mut parts)?;
+        parts.push(text)?;
+        if node.is_leaf {
+            leaves = leaves.saturating_add(1);
+        }
     }
-    Ok(parts.pop().ok_or("no expression")?)
+    parts.pop().ok_or(Fail)
 }
+
+/// The answers of up to four conditions, and nothing after the last.
+type Answers = [&'static str; 4];
 
 /// What a part of an expression gives on a row: an answer for each of its conditions, and its
 /// value.
-#[derive(Drop)]
+#[derive(Clone, Copy)]
 struct Part {
-    answers: String,
+    answers: Answers,
+    count: usize,
     value: bool,
 }
 
@@ -75,24 +108,49 @@ fn letter(value: bool) -> &'static str {
     if value { "T" } else { "F" }
 }
 
-fn condition(alloc: Global, value: bool) -> Result<Part, Fail> {
-    let answers = String::from_str(alloc, letter(value))?;
-    Ok(Part { answers, value })
+/// The part with one answer more.
+fn with_answer(part: Part, answer: &'static str) -> Part {
+    let mut part = part;
+    let count = part.count;
+    if count < 4 {
+        part.answers[count] = answer;
+        part.count = count + 1;
+    }
+    part
+}
+
+fn condition(value: bool) -> Part {
+    Part {
+        answers: [letter(value), "", "", ""],
+        count: 1,
+        value,
+    }
 }
 
 /// The right operand is evaluated exactly where the left one does not decide.
-fn joined_part(conjunction: bool, left: Option<Part>, right: Option<Part>) -> Result<Part, Fail> {
-    let mut part = left.ok_or("no left operand")?;
-    let right = right.ok_or("no right operand")?;
-    if part.value == conjunction {
-        part.answers.push_str(right.answers.as_str())?;
-        part.value = right.value;
-    } else {
-        for _answer in right.answers.as_bytes() {
-            part.answers.push_str("-")?;
-        }
+fn joined_part(conjunction: bool, left: Part, right: Part) -> Part {
+    let is_evaluated = left.value == conjunction;
+    let mut part = left;
+    for answer in right.answers.iter().take(right.count) {
+        part = with_answer(part, if is_evaluated { *answer } else { "-" });
     }
-    Ok(part)
+    if is_evaluated {
+        part.value = right.value;
+    }
+    part
+}
+
+/// What a node gives, from the parts before it.
+fn node_part(node: Node, value: bool, parts: &mut Vec<Part>) -> Option<Part> {
+    let mut part = if node.is_leaf {
+        condition(value)
+    } else {
+        let right = parts.pop()?;
+        let left = parts.pop()?;
+        joined_part(node.conjunction, left, right)
+    };
+    part.value = part.value != node.negated;
+    Some(part)
 }
 
 /// What an expression gives on a row, whose lowest bit is the value of the first condition.
@@ -100,19 +158,15 @@ fn part_of(alloc: Global, nodes: &[Node], row: u32) -> Result<Part, Fail> {
     let mut values = row;
     let mut parts = Vec::new(alloc);
     for node in nodes {
-        let mut part = if node.is_leaf {
-            let value = values % 2 == 1;
-            values /= 2;
-            condition(alloc, value)?
-        } else {
-            let right = parts.pop();
-            let left = parts.pop();
-            joined_part(node.conjunction, left, right)?
+        let Some(part) = node_part(*node, values % 2 == 1, &mut parts) else {
+            return Err(Fail);
         };
-        part.value = part.value != node.negated;
         parts.push(part)?;
+        if node.is_leaf {
+            values /= 2;
+        }
     }
-    Ok(parts.pop().ok_or("no expression")?)
+    parts.pop().ok_or(Fail)
 }
 
 fn all_parts(alloc: Global, nodes: &[Node]) -> Result<Vec<Part>, Fail> {
@@ -128,39 +182,65 @@ fn all_tests(alloc: Global) -> Result<String, Fail> {
     let mut tests = String::from_str(alloc, HEADER)?;
     for row in 0..16u32 {
         let (a, b, c, d) = (row % 2, row / 2 % 2, row / 4 % 2, row / 8);
-        tests.push_str(format!(in alloc; "t{row},f,{a} {b} {c} {d},,,\n")?.as_str())?;
+        push(
+            &mut tests,
+            format!(in alloc; "t{row},f,{a} {b} {c} {d},,,\n"),
+        )?;
     }
     Ok(tests)
 }
 
-/// Each text with each answer after it.
-fn longer_by_one(alloc: Global, texts: &[String]) -> Result<Vec<String>, Fail> {
-    let mut longer = Vec::new(alloc);
-    for text in texts {
-        longer.push(format!(in alloc; "{text}T")?)?;
-        longer.push(format!(in alloc; "{text}F")?)?;
-        longer.push(format!(in alloc; "{text}-")?)?;
+/// The answer that the lowest digit to the base 3 stands for.
+fn answer_of(number: u32) -> &'static str {
+    match number % 3 {
+        0 => "T",
+        1 => "F",
+        _ => "-",
     }
-    Ok(longer)
 }
 
-/// All texts of so many answers, in order.
-fn all_vectors(alloc: Global, conditions: u32) -> Result<Vec<String>, Fail> {
-    let mut texts = Vec::new(alloc);
-    texts.push(String::new(alloc))?;
-    for _turn in 0..conditions {
-        texts = longer_by_one(alloc, &texts)?;
+/// The vector of so many conditions with a number; their numbers are in their order.
+fn vector_of(conditions: u32, number: u32) -> Answers {
+    match conditions {
+        1 => [answer_of(number), "", "", ""],
+        2 => [answer_of(number / 3), answer_of(number), "", ""],
+        3 => [
+            answer_of(number / 9),
+            answer_of(number / 3),
+            answer_of(number),
+            "",
+        ],
+        _ => [
+            answer_of(number / 27),
+            answer_of(number / 9),
+            answer_of(number / 3),
+            answer_of(number),
+        ],
     }
-    Ok(texts)
+}
+
+fn is_vector(part: &Part, vector: &Answers) -> bool {
+    part.answers
+        .iter()
+        .zip(vector)
+        .all(|(one, other)| *one == *other)
 }
 
 /// Adds the line of a vector and of the first row with it, where there is one.
-fn push_vector(alloc: Global, out: &mut String, parts: &[Part], vector: &str) -> Result<(), Fail> {
+fn push_vector(
+    alloc: Global,
+    out: &mut String,
+    parts: &[Part],
+    vector: Answers,
+) -> Result<(), Fail> {
     for (row, part) in parts.iter().enumerate() {
-        if part.answers.as_str() == vector {
+        if is_vector(part, &vector) {
+            let [a, b, c, d] = vector;
             let outcome = letter(part.value);
-            out.push_str(format!(in alloc; "D1 {vector}={outcome} by t{row}\n")?.as_str())?;
-            return Ok(());
+            return push(
+                out,
+                format!(in alloc; "D1 {a}{b}{c}{d}={outcome} by t{row}\n"),
+            );
         }
     }
     Ok(())
@@ -170,98 +250,119 @@ fn test_lines(alloc: Global, parts: &[Part]) -> Result<String, Fail> {
     let mut out = String::new(alloc);
     for (row, part) in parts.iter().enumerate() {
         let value = u8::from(part.value);
-        out.push_str(format!(in alloc; "test t{row} pass values {value} output\n")?.as_str())?;
+        push(
+            &mut out,
+            format!(in alloc; "test t{row} pass values {value} output\n"),
+        )?;
     }
     Ok(out)
 }
 
-fn report(alloc: Global, nodes: &[Node], vectors: &[String]) -> Result<String, Fail> {
+/// The lines of the tests, and those of as many vectors where the expression is a decision.
+fn lines_of(alloc: Global, nodes: &[Node], conditions: u32, vectors: u32) -> Result<String, Fail> {
     let parts = all_parts(alloc, nodes)?;
     let mut out = test_lines(alloc, &parts)?;
-    for vector in vectors {
-        push_vector(alloc, &mut out, &parts, vector.as_str())?;
+    for number in 0..vectors {
+        push_vector(alloc, &mut out, &parts, vector_of(conditions, number))?;
     }
     Ok(out)
 }
 
-/// A run of the expression gives the report of its truth table.
-fn is_reported(
-    rt: &impl Abort,
-    alloc: Global,
-    nodes: &[Node],
-    tests: &str,
-    vectors: &[String],
-) -> Result<(), Fail> {
-    let text = text_of(alloc, nodes)?;
+/// Expressions of one shape: how many conditions and vectors they have, how many choices of
+/// operators.
+#[derive(Clone, Copy)]
+struct Shape {
+    text: &'static str,
+    conditions: u32,
+    vectors: u32,
+    choices: u32,
+}
+
+/// Whether a run of an expression writes these lines.
+fn writes(alloc: Global, text: &str, tests: &str, out: &str) -> Result<bool, Fail> {
     let source = format!(in alloc; "int f(int a,int b,int c,int d){{return {text};}}")?;
     let setting = plain(source.as_bytes(), tests.as_bytes());
+    let is_wanted = gives(alloc, &setting, (0, out.as_bytes(), b""));
+    drop(source);
+    is_wanted
+}
+
+/// Whether a run of the expression gives the lines of its truth table.
+fn is_reported(alloc: Global, nodes: &[Node], tests: &str, shape: Shape) -> Result<bool, Fail> {
+    let text = text_of(alloc, nodes)?;
     // a condition alone is no decision
-    if text.as_str() == "a" {
-        let parts = all_parts(alloc, nodes)?;
-        let out = test_lines(alloc, &parts)?;
-        return gives(rt, alloc, &setting, "a", (0, out.as_str(), ""));
-    }
-    let out = report(alloc, nodes, vectors)?;
-    gives(rt, alloc, &setting, text.as_str(), (0, out.as_str(), ""))
+    let vectors = if text.as_str() == "a" {
+        0
+    } else {
+        shape.vectors
+    };
+    let out = lines_of(alloc, nodes, shape.conditions, vectors)?;
+    let is_wanted = writes(alloc, text.as_str(), tests, out.as_str());
+    drop(out);
+    drop(text);
+    is_wanted
 }
 
-/// All expressions of a shape with so many conditions.
-fn all_of_shape(
-    rt: &impl Abort,
-    alloc: Global,
-    shape: &str,
-    conditions: u32,
-    choices: u32,
-) -> Result<(), Fail> {
+/// Whether all expressions of a shape are reported so.
+fn are_reported(alloc: Global, tests: &str, shape: Shape) -> Result<bool, Fail> {
+    for choice in 0..shape.choices {
+        let nodes = nodes_of(alloc, shape.text, choice)?;
+        let is_wanted = is_reported(alloc, &nodes, tests, shape);
+        drop(nodes);
+        if !is_wanted? {
+            return Ok(false);
+        }
+    }
+    Ok(true)
+}
+
+fn all_of_shape(alloc: Global, shape: Shape) -> Result<bool, Fail> {
     let tests = all_tests(alloc)?;
-    let vectors = all_vectors(alloc, conditions)?;
-    for choice in 0..choices {
-        let nodes = nodes_of(alloc, shape, choice)?;
-        is_reported(rt, alloc, &nodes, tests.as_str(), &vectors)?;
-    }
-    Ok(())
+    let is_wanted = are_reported(alloc, tests.as_str(), shape);
+    drop(tests);
+    is_wanted
 }
 
-/// Shapes, how many conditions each has, and how many choices of operators.
-const UP_TO_THREE: [(&str, u32, u32); 4] = [
-    ("l", 1, 2),
-    ("ll.", 2, 16),
-    ("ll.l.", 3, 128),
-    ("lll..", 3, 128),
-];
+fn shape_of(text: &'static str, conditions: u32, vectors: u32, choices: u32) -> Shape {
+    Shape {
+        text,
+        conditions,
+        vectors,
+        choices,
+    }
+}
 
 #[test]
 fn expressions_of_up_to_three_conditions(rt: HostRuntime) -> Result<(), Fail> {
-    for (shape, conditions, choices) in UP_TO_THREE {
-        all_of_shape(&rt, rt.alloc(), shape, conditions, choices)?;
-    }
+    let alloc = rt.alloc();
+    assert!(rt; all_of_shape(alloc, shape_of("l", 1, 3, 2))?);
+    assert!(rt; all_of_shape(alloc, shape_of("ll.", 2, 9, 16))?);
+    assert!(rt; all_of_shape(alloc, shape_of("ll.l.", 3, 27, 128))?);
+    assert!(rt; all_of_shape(alloc, shape_of("lll..", 3, 27, 128))?);
     Ok(())
 }
 
 /// The right operand of the last operator is one condition.
-const FOUR_AND_ONE_LAST: [&str; 2] = ["ll.l.l.", "lll..l."];
-
 #[test]
 fn expressions_of_four_conditions_with_one_last(rt: HostRuntime) -> Result<(), Fail> {
-    for shape in FOUR_AND_ONE_LAST {
-        all_of_shape(&rt, rt.alloc(), shape, 4, 1024)?;
-    }
+    let alloc = rt.alloc();
+    assert!(rt; all_of_shape(alloc, shape_of("ll.l.l.", 4, 81, 1024))?);
+    assert!(rt; all_of_shape(alloc, shape_of("lll..l.", 4, 81, 1024))?);
     Ok(())
 }
 
 /// The right operand of the last operator is two conditions.
 #[test]
 fn expressions_of_four_conditions_with_two_last(rt: HostRuntime) -> Result<(), Fail> {
-    all_of_shape(&rt, rt.alloc(), "ll.ll..", 4, 1024)
+    assert!(rt; all_of_shape(rt.alloc(), shape_of("ll.ll..", 4, 81, 1024))?);
+    Ok(())
 }
 
 /// The right operand of the last operator is three conditions.
-const FOUR_AND_THREE_LAST: [&str; 2] = ["lll.l..", "llll..."];
-
 #[test]
 fn expressions_of_four_conditions_with_three_last(rt: HostRuntime) -> Result<(), Fail> {
-    for shape in FOUR_AND_THREE_LAST {
-        all_of_shape(&rt, rt.alloc(), shape, 4, 1024)?;
-    }
+    let alloc = rt.alloc();
+    assert!(rt; all_of_shape(alloc, shape_of("lll.l..", 4, 81, 1024))?);
+    assert!(rt; all_of_shape(alloc, shape_of("llll...", 4, 81, 1024))?);
     Ok(())
 }
