@@ -147,7 +147,7 @@ const TWO_ANDS_MASKING: Row<'static> = Row {
 /// Eleven times `a || b`, joined by `&&`: 22 conditions and 4,095 paths. The arguments are (0, 0),
 /// (1, 0), (0, 1) and (1, 1). Only the first two conditions have a pair, the same by both kinds:
 /// where the outcome is false no other one is evaluated.
-const MANY_ORS: Row<'static> = Row {
+const MANY_ORS: [Row<'static>; 1] = [Row {
     tests: &[&[4098], &[4], &[4087], &[4]],
     named: None,
     verdicts: &[
@@ -180,7 +180,7 @@ const MANY_ORS: Row<'static> = Row {
         (MISSING, &[]),
         (MISSING, &[]),
     ],
-};
+}];
 
 fn is_written(evidence: Evidence, parts: &[u32]) -> bool {
     match evidence {
@@ -230,25 +230,44 @@ fn check(rt: &impl Abort, alloc: Global, map: &BitMap, mode: Mode, row: &Row) ->
     Ok(())
 }
 
+fn check_by_both(rt: &impl Abort, alloc: Global, map: &BitMap, rows: &[Row]) -> Result<(), Fail> {
+    for row in rows {
+        check(rt, alloc, map, Mode::Unique, row)?;
+        check(rt, alloc, map, Mode::Masking, row)?;
+    }
+    Ok(())
+}
+
 #[test]
 fn verdicts_of_rows(rt: HostRuntime) -> Result<(), Fail> {
     let alloc = rt.alloc();
-    let first = map(alloc, one_and(alloc)?)?;
-    for row in &ONE_AND {
-        check(&rt, alloc, &first, Mode::Unique, row)?;
-        check(&rt, alloc, &first, Mode::Masking, row)?;
-    }
-    let second = map(alloc, two_ands(alloc)?)?;
-    check(&rt, alloc, &second, Mode::Unique, &TWO_ANDS_UNIQUE)?;
-    check(&rt, alloc, &second, Mode::Masking, &TWO_ANDS_MASKING)
+    let map = map(alloc, one_and(alloc)?)?;
+    let checked = check_by_both(&rt, alloc, &map, &ONE_AND);
+    drop(map);
+    checked
+}
+
+fn check_two_ands(rt: &impl Abort, alloc: Global, map: &BitMap) -> Result<(), Fail> {
+    check(rt, alloc, map, Mode::Unique, &TWO_ANDS_UNIQUE)?;
+    check(rt, alloc, map, Mode::Masking, &TWO_ANDS_MASKING)
+}
+
+#[test]
+fn verdicts_that_differ(rt: HostRuntime) -> Result<(), Fail> {
+    let alloc = rt.alloc();
+    let map = map(alloc, two_ands(alloc)?)?;
+    let checked = check_two_ands(&rt, alloc, &map);
+    drop(map);
+    checked
 }
 
 #[test]
 fn verdicts_on_many_conditions(rt: HostRuntime) -> Result<(), Fail> {
     let alloc = rt.alloc();
-    let many = map(alloc, many_ors(alloc, 11)?)?;
-    check(&rt, alloc, &many, Mode::Unique, &MANY_ORS)?;
-    check(&rt, alloc, &many, Mode::Masking, &MANY_ORS)
+    let map = map(alloc, many_ors(alloc, 11)?)?;
+    let checked = check_by_both(&rt, alloc, &map, &MANY_ORS);
+    drop(map);
+    checked
 }
 
 /// Each kind of obligation, in order and with its place.
@@ -263,15 +282,21 @@ const LISTED: [(ObligationId, u32); 8] = [
     (ObligationId::Condition(0, 1), 31),
 ];
 
-#[test]
-fn obligations_in_order(rt: HostRuntime) -> Result<(), Fail> {
-    let alloc = rt.alloc();
-    let map = map(alloc, one_and(alloc)?)?;
-    let listed = obligations(alloc, &map)?;
+fn check_listed(rt: &impl Abort, alloc: Global, map: &BitMap) -> Result<(), Fail> {
+    let listed = obligations(alloc, map)?;
     assert_eq!(rt; listed.len(), LISTED.len());
     for (obligation, (id, start)) in listed.iter().zip(&LISTED) {
         assert_eq!(rt; obligation.id, *id);
         assert_eq!(rt; obligation.span.start, *start);
     }
     Ok(())
+}
+
+#[test]
+fn obligations_in_order(rt: HostRuntime) -> Result<(), Fail> {
+    let alloc = rt.alloc();
+    let map = map(alloc, one_and(alloc)?)?;
+    let checked = check_listed(&rt, alloc, &map);
+    drop(map);
+    checked
 }

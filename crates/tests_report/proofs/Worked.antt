@@ -58,7 +58,7 @@ plain_bodies = (refl, (refl, (refl, (refl, (refl, (refl, (refl, (refl, (refl, (r
 
 pub loop_bodies : AreRight exits_asked loops
 unfolding digits
-loop_bodies = (refl, (refl, (refl, (refl, (refl, (refl, (refl, (refl, (refl, (refl, (refl, (refl, (refl, (refl, tt))))))))))))))
+loop_bodies = (refl, (refl, (refl, (refl, (refl, (refl, (refl, (refl, (refl, (refl, (refl, (refl, (refl, (refl, (refl, tt)))))))))))))))
 
 pub switch_bodies : AreRight exits_asked switches
 unfolding digits

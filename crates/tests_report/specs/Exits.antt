@@ -143,6 +143,14 @@ loops =
       left = codes "X1 1:34 missing" ∷ [];
     }
     ∷ record {
+      text = codes "int f(int n){for(;;){if(n);else{break;}}}";
+      items = for_of None
+          (compound (if_else_at 21 (null_at 26) (compound (break_of ∷ [])) ∷ []))
+          ∷ [];
+      closing = 40;
+      left = codes "X1 1:41 missing" ∷ [];
+    }
+    ∷ record {
       text = codes "int f(int n){for(;;){while(n)break;}}";
       items = for_of None (compound (for_of (Some value) break_of ∷ [])) ∷ [];
       closing = 36;
