@@ -4,9 +4,9 @@
 mod command;
 mod files;
 mod independence;
-pub mod laws;
 mod number;
 mod settings;
+pub mod worked;
 
 pub use command::{Command, read_command};
 pub use independence::Independence;

@@ -1,5 +1,5 @@
-//! The tokens of a source that are left to read, and what the parser asks of them. The crates of the
-//! parser alone stand on this one.
+//! The tokens of a source that are left to read, and what the parser asks of them. The crates of
+//! the parser alone stand on this one.
 #![tactic(auto)]
 
 pub mod cursor;

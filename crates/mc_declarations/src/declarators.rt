@@ -31,7 +31,8 @@ fn is_declared_here(scope: &Scope<'_>, name: &Identifier<'_>) -> bool
 
 /// The fault of a name that the innermost block declares already.
 pub(crate) fn redeclared_fault(scope: &Scope<'_>, name: &Identifier<'_>) -> Option<Fault>
-    ensures least { result ≡ least_of (d.redeclared_faults (name_of name.now) (scope_of scope.now)) }
+    ensures least { result
+        ≡ least_of (d.redeclared_faults (name_of name.now) (scope_of scope.now)) }
     ensures list { listed result ≡ d.redeclared_faults (name_of name.now) (scope_of scope.now) }
 {
     let redeclared = is_declared_here(scope, name);

@@ -154,7 +154,10 @@ fn local_value(
             Some(value) => Ok(Some(one_declarator(alloc, slot, cells, value)?)),
             None => Ok(None),
         },
-        None => Ok(None),
+        None => {
+            drop(value);
+            Ok(None)
+        }
     }
 }
 
@@ -171,15 +174,18 @@ pub fn end_local<'a>(
         (judged_of optional_of value (scope_of scope.old)))) }
 {
     let slot = local.slot;
-    declare_untyped(
-        scope,
-        value.fault,
-        name,
-        Meaning::Automatic { slot, of: None },
-    )?;
-    uncount_after(scope, value.fault, local.cells);
-    Ok(Judged {
-        fault: first_fault(local.fault, value.fault),
-        value: local_value(alloc, slot, local.cells, value.value)?,
-    })
+    let inner = value.fault;
+    match declare_untyped(scope, inner, name, Meaning::Automatic { slot, of: None }) {
+        Ok(()) => {
+            uncount_after(scope, inner, local.cells);
+            Ok(Judged {
+                fault: first_fault(local.fault, inner),
+                value: local_value(alloc, slot, local.cells, value.value)?,
+            })
+        }
+        Err(error) => {
+            drop(value);
+            Err(error)
+        }
+    }
 }

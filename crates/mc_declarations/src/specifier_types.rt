@@ -146,7 +146,8 @@ fn type_of_words_or(alloc: Global, other: Option<CType>, base: Option<Base>) -> 
 }
 
 fn qualified(is_const: bool, of: Option<CType>) -> Option<CType>
-    ensures { option_map type_of result ≡ option_map (t.qualified is_const) (option_map type_of of) }
+    ensures { option_map type_of result
+        ≡ option_map (t.qualified is_const) (option_map type_of of) }
 {
     match of {
         Some(of) => Some(CType {

@@ -92,8 +92,8 @@ fn add_static(
         (w.initial_values (t.layout_of (scope_of scope.old).structures (type_of of.now))
         (optional_of value.now)) (scope_of scope.old)) }
 {
-    let object = layout(alloc, &scope.structures, of)?;
     let initial = initial_values(alloc, count, value)?;
+    let object = layout(alloc, &scope.structures, of)?;
     scope.add_static(object, count, initial)
 }
 
@@ -164,7 +164,8 @@ fn end_counted<'a>(
     requires { stored.own ≡ None }
     ensures { IfOk result (λ r. (u : s.Scope) → judged_of declarators_of r (scope_of scope.new)
         ≡ squeezed_part (static_ended (stored_of stored u) (name_of name.now)
-        (Some (type_of of.now)) (v.judged [] (Some (optional_of value.now)) (scope_of scope.old)))) }
+        (Some (type_of of.now))
+        (v.judged [] (Some (optional_of value.now)) (scope_of scope.old)))) }
 {
     let sum = add_faultless(alloc, scope, name, stored.slot, of, value)?;
     Ok(Judged {

@@ -67,7 +67,8 @@ fn at_least_one(count: usize) -> Option<u64>
 
 /// The number of items of an initializer, where it is a list (C17 6.7.9p22).
 pub fn count_listed(value: Option<&mc_tree::Initializer<'_>>) -> Option<u64>
-    ensures { result ≡ w.count_listed (option_map units.initializer_of (option_copied value.entry)) }
+    ensures { result
+        ≡ w.count_listed (option_map units.initializer_of (option_copied value.entry)) }
 {
     match value {
         Some(value) => match value {

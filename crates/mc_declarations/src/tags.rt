@@ -153,7 +153,8 @@ pub fn enumeration_tag(
     span: Span,
 ) -> Judged<CType>
     ensures { judged_of type_of result (scope_of scope.now) ≡ d.used_enumeration_tag
-        (name_of tag.now) span (scope_of scope.now) (s.tag_of (name_of tag.now) (scope_of scope.now)) }
+        (name_of tag.now) span (scope_of scope.now)
+        (s.tag_of (name_of tag.now) (scope_of scope.now)) }
 {
     match scope.tag(tag).copied() {
         None => faulty(FaultKind::Undeclared, tag.span.start),

@@ -105,8 +105,10 @@ pub fn end_declared(
     ensures { (s : s.Scope) → judged_of declarators_of result s
         ≡ squeezed_part (declared_ended (listed fault) (judged_of optional_of value s)) }
 {
+    let first = first_fault(fault, value.fault);
+    drop(value);
     Judged {
-        fault: first_fault(fault, value.fault),
+        fault: first,
         value: Some(Vec::new(alloc)),
     }
 }

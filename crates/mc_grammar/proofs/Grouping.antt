@@ -81,7 +81,7 @@ top = each (λ k. rank k ≤ 14) (omega arith) (omega arith) (omega arith) (omeg
 
 -- each operator stands at the level of its section, and at no other
 At : BinaryOperator → ℕ → Level → Type 0
-At operator place k = operator_at k (g.sign operator place) ≡ (if nat_eq (rank k) (section operator) then Some operator else None)
+At operator place k = operator_at k (g.infix_token operator place) ≡ (if nat_eq (rank k) (section operator) then Some operator else None)
 
 stands : (operator : BinaryOperator) (place : ℕ) (k : Level) → At operator place k
 unfolding At
@@ -112,11 +112,11 @@ others : {A : Type 0} (b : Bool) (x y : A) → (b ≡ true → ⊥) → (if b th
 others true x y h = absurd (h refl)
 others false x y h = refl
 
-operator_here : (operator : BinaryOperator) (place : ℕ) (k : Level) → rank k ≡ section operator → operator_at k (g.sign operator place) ≡ Some operator
+operator_here : (operator : BinaryOperator) (place : ℕ) (k : Level) → rank k ≡ section operator → operator_at k (g.infix_token operator place) ≡ Some operator
 unfolding At
 operator_here operator place k e = stands operator place k ∙ chosen (nat_eq (rank k) (section operator)) (Some operator) None (eq-eqb (rank k) (section operator) e)
 
-none_here : (operator : BinaryOperator) (place : ℕ) (k : Level) → rank k ≢ section operator → operator_at k (g.sign operator place) ≡ None
+none_here : (operator : BinaryOperator) (place : ℕ) (k : Level) → rank k ≢ section operator → operator_at k (g.infix_token operator place) ≡ None
 unfolding At
 none_here operator place k h = stands operator place k ∙ others (nat_eq (rank k) (section operator)) (Some operator) None (λ e. h (eqb-true (rank k) (section operator) e))
 
@@ -201,7 +201,7 @@ to_lor k f p = climb (14 - rank k) k n.lor (omega (arith, top k)) p (λ j h i. f
 
 -- an operand before an operator of another section, to the operand of a level that is no higher than the operator
 before : {d : Dialect} {ts rest : List Lexeme} {a : Expression} (operator : BinaryOperator) (place : ℕ) (k : Level) → rank k ≤ section operator
-    → Reads d n.cast ts a (g.sign operator place ∷ rest) → Reads d (operand k) ts a (g.sign operator place ∷ rest)
+    → Reads d n.cast ts a (g.infix_token operator place ∷ rest) → Reads d (operand k) ts a (g.infix_token operator place ∷ rest)
 before operator place k e p = cast_to_operand k p (λ j h. none_here operator place j (λ i. omega (arith, e, h, i)))
 
 ends : {d : Dialect} {x : Lexeme} {ts rest : List Lexeme} {a : Expression} (k : Level) → IsQuiet x → Reads d n.cast ts a (x ∷ rest) → Reads d (operand k) ts a (x ∷ rest)
@@ -210,7 +210,7 @@ ends k f p = cast_to_operand k p (λ j h. f j)
 
 -- one operator, up to a token that is none
 one_operator : {d : Dialect} {x : Lexeme} {ts us rest : List Lexeme} {a b : Expression} (o : BinaryOperator) (i : ℕ) → IsQuiet x
-    → g.Operand d ts a (g.sign o i ∷ us) → g.Operand d us b (x ∷ rest) → Reads d (n.level (level_of o)) ts (g.binary o a b) (x ∷ rest)
+    → g.Operand d ts a (g.infix_token o i ∷ us) → g.Operand d us b (x ∷ rest) → Reads d (n.level (level_of o)) ts (g.binary o a b) (x ∷ rest)
 unfolding IsQuiet
 one_operator o i f p q =
     let e = level_section o in
@@ -218,7 +218,7 @@ one_operator o i f p q =
 
 -- two operators of one section
 same_section : {d : Dialect} {x : Lexeme} {ts us vs rest : List Lexeme} {a b c : Expression} (o p : BinaryOperator) (i j : ℕ) → IsQuiet x → section o ≡ section p
-    → g.Operand d ts a (g.sign o i ∷ us) → g.Operand d us b (g.sign p j ∷ vs) → g.Operand d vs c (x ∷ rest)
+    → g.Operand d ts a (g.infix_token o i ∷ us) → g.Operand d us b (g.infix_token p j ∷ vs) → g.Operand d vs c (x ∷ rest)
     → Reads d (n.level (level_of p)) ts (g.binary p (g.binary o a b) c) (x ∷ rest)
 unfolding IsQuiet
 same_section o p i j f h u v w =
@@ -229,7 +229,7 @@ same_section o p i j f h u v w =
 
 -- the first of an earlier one
 first_closer : {d : Dialect} {x : Lexeme} {ts us vs rest : List Lexeme} {a b c : Expression} (o p : BinaryOperator) (i j : ℕ) → IsQuiet x → section o < section p
-    → g.Operand d ts a (g.sign o i ∷ us) → g.Operand d us b (g.sign p j ∷ vs) → g.Operand d vs c (x ∷ rest)
+    → g.Operand d ts a (g.infix_token o i ∷ us) → g.Operand d us b (g.infix_token p j ∷ vs) → g.Operand d vs c (x ∷ rest)
     → Reads d (n.level (level_of p)) ts (g.binary p (g.binary o a b) c) (x ∷ rest)
 unfolding IsQuiet
 first_closer o p i j f h u v w =
@@ -243,7 +243,7 @@ first_closer o p i j f h u v w =
 
 -- the second of an earlier one
 second_closer : {d : Dialect} {x : Lexeme} {ts us vs rest : List Lexeme} {a b c : Expression} (o p : BinaryOperator) (i j : ℕ) → IsQuiet x → section p < section o
-    → g.Operand d ts a (g.sign o i ∷ us) → g.Operand d us b (g.sign p j ∷ vs) → g.Operand d vs c (x ∷ rest)
+    → g.Operand d ts a (g.infix_token o i ∷ us) → g.Operand d us b (g.infix_token p j ∷ vs) → g.Operand d vs c (x ∷ rest)
     → Reads d (n.level (level_of o)) ts (g.binary o a (g.binary p b c)) (x ∷ rest)
 unfolding IsQuiet
 second_closer o p i j f h u v w =

@@ -16,8 +16,8 @@ use Rattle.mc_grammar.specs.Meaning.{identifier, type_name, punctuator}
 use Rattle.mc_grammar.specs.Spelling.{text_of_unary, text_of_step, text_of_binary, text_of_assignment}
 use Rattle.mc_grammar.specs.Precedence.{section}
 
-abbrev pub sign : BinaryOperator → ℕ → Lexeme
-sign operator place = punctuator (text_of_binary operator) place
+abbrev pub infix_token : BinaryOperator → ℕ → Lexeme
+infix_token operator place = punctuator (text_of_binary operator) place
 
 abbrev pub assigning : AssignmentOperator → ℕ → Lexeme
 assigning operator place = punctuator (text_of_assignment operator) place
@@ -44,7 +44,7 @@ abbrev pub GroupsToTheLeft : Type 0
 GroupsToTheLeft =
     (d : Dialect) (o p : BinaryOperator) (i j k : ℕ) (ts us vs rest : List Lexeme)
     (a b c : Expression) → section o ≤ section p
-    → Operand d ts a (sign o i ∷ us) → Operand d us b (sign p j ∷ vs)
+    → Operand d ts a (infix_token o i ∷ us) → Operand d us b (infix_token p j ∷ vs)
     → Operand d vs c (punctuator (codes ";") k ∷ rest)
     → Whole d ts (binary p (binary o a b) c) k rest
 
@@ -53,7 +53,7 @@ abbrev pub GroupsToTheRight : Type 0
 GroupsToTheRight =
     (d : Dialect) (o p : BinaryOperator) (i j k : ℕ) (ts us vs rest : List Lexeme)
     (a b c : Expression) → section p < section o
-    → Operand d ts a (sign o i ∷ us) → Operand d us b (sign p j ∷ vs)
+    → Operand d ts a (infix_token o i ∷ us) → Operand d us b (infix_token p j ∷ vs)
     → Operand d vs c (punctuator (codes ";") k ∷ rest)
     → Whole d ts (binary o a (binary p b c)) k rest
 
@@ -72,7 +72,7 @@ ConditionalGroupsToTheRight =
 abbrev pub ConditionalTakesBinary : Type 0
 ConditionalTakesBinary =
     (d : Dialect) (o : BinaryOperator) (i j k l : ℕ) (ts us vs ws rest : List Lexeme)
-    (a b c e : Expression) → Operand d ts a (sign o i ∷ us)
+    (a b c e : Expression) → Operand d ts a (infix_token o i ∷ us)
     → Operand d us b (punctuator (codes "?") j ∷ vs)
     → Operand d vs c (punctuator (codes ":") k ∷ ws)
     → Operand d ws e (punctuator (codes ";") l ∷ rest)
@@ -83,7 +83,7 @@ ConditionalEndsWithBinary =
     (d : Dialect) (o : BinaryOperator) (i j k l : ℕ) (ts us vs ws rest : List Lexeme)
     (a b c e : Expression) → Operand d ts a (punctuator (codes "?") i ∷ us)
     → Operand d us b (punctuator (codes ":") j ∷ vs)
-    → Operand d vs c (sign o k ∷ ws) → Operand d ws e (punctuator (codes ";") l ∷ rest)
+    → Operand d vs c (infix_token o k ∷ ws) → Operand d ws e (punctuator (codes ";") l ∷ rest)
     → Whole d ts (conditional a b (binary o c e)) l rest
 
 -- `a o b p c;` with assignment operators is `a o (b p c)`
@@ -100,7 +100,7 @@ abbrev pub AssignmentTakesBinary : Type 0
 AssignmentTakesBinary =
     (d : Dialect) (o : AssignmentOperator) (p : BinaryOperator) (i j k : ℕ)
     (ts us vs rest : List Lexeme) (a b c : Expression)
-    → Reads d n.unary ts a (assigning o i ∷ us) → Operand d us b (sign p j ∷ vs)
+    → Reads d n.unary ts a (assigning o i ∷ us) → Operand d us b (infix_token p j ∷ vs)
     → Operand d vs c (punctuator (codes ";") k ∷ rest)
     → Whole d ts (assignment o a (binary p b c)) k rest
 

@@ -77,8 +77,8 @@ left_after (passed.Structure at) (o ∷ os) = os
 left_after (passed.Array l) os = os
 
 -- what is passed has the types of the parameters, and their objects stand in the row
-pub record IsPassing (arguments : List code_passed.Passed) (objects : List code_object.Object) (base : ℕ)
-    (m : Store) : Type 0 where
+pub record IsPassing (arguments : List code_passed.Passed) (objects : List code_object.Object)
+    (base : ℕ) (m : Store) : Type 0 where
   pub types : List IntType
   pub parameters : List ParameterType
   pub typed : ArePassed types arguments parameters
@@ -124,8 +124,8 @@ IntoRoom room (Some at) (StructureResult u) = at + cells u ≤ room
 IntoRoom room (Some at) _ = ⊥
 IntoRoom room None r = Unit {0}
 
--- The rows are those from before the call, and their cells keep their types: `more` are the types of
--- the frame's cells.
+-- The rows are those from before the call, and their cells keep their types: `more` are the types
+-- of the frame's cells.
 pub record HasLeft (f : Frame) (into : Option ℕ) (old new : Store) : Type 0 where
   pub cells : length new.cells.cells ≡ f.base
   pub registers : length new.registers.items ≡ f.first

@@ -76,7 +76,8 @@ GivesNumber (t.StructureResult u) = ⊥
 GivesNumber _ = Unit {0}
 
 -- what a call of a test asks for: the rows have their limits, and the static objects stand in them
-pub record AreReady (program : Instrumented) (all : List Shape) (m : Store) (room : ℕ) : Type 0 where
+pub record AreReady (program : Instrumented) (all : List Shape) (m : Store)
+    (room : ℕ) : Type 0 where
   pub sound : IsSound (plain.program_of program.program)
   pub shapes : all ≡ shapes_of program
   pub limit : m.cells.limit ≡ 65536

@@ -224,8 +224,8 @@ fn test_of<P: Probe, F: Fn(Called<'_, '_>, &mut Store, &mut P) -> Option<()> + C
     requires ready { IsReady frame.now store.old (P.bits probe.old) }
     requires invokes { Invokes frame.now P.bits P.leads (F.pre invoke) (F.post invoke) }
     ensures did { Did P.leads (does.test_of (activation_of frame.now)
-        (option_map (λ e. view.expression_of e.now) test.entry) (state_of store.old)) result store.new
-        probe.old probe.new }
+        (option_map (λ e. view.expression_of e.now) test.entry) (state_of store.old)) result
+        store.new probe.old probe.new }
     ensures kept { IfSome result (λ _. IsKept (scope_in frame.now) (activation_of frame.now)
         store.old store.new) }
     ensures bits { P.bits probe.new ≡ P.bits probe.old }
@@ -252,8 +252,8 @@ pub(crate) fn turn_begins<P: Probe, F: Fn(Called<'_, '_>, &mut Store, &mut P) ->
     requires ready { IsReady frame.now store.old (P.bits probe.old) }
     requires invokes { Invokes frame.now P.bits P.leads (F.pre invoke) (F.post invoke) }
     ensures did { Did P.leads (spends (does.test_of (activation_of frame.now)
-        (option_map (λ e. view.expression_of e.now) test.entry)) (state_of store.old)) result store.new
-        probe.old probe.new }
+        (option_map (λ e. view.expression_of e.now) test.entry)) (state_of store.old)) result
+        store.new probe.old probe.new }
     ensures less { IfSome result (λ _. store.new.fuel + 1 ≤ store.old.fuel) }
     ensures kept { IfSome result (λ _. IsKept (scope_in frame.now) (activation_of frame.now)
         store.old store.new) }

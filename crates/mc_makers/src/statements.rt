@@ -119,8 +119,9 @@ pub fn for_loop<'a>(
     step: Option<Box<Expression<'a>>>,
     body: Box<Statement<'a>>,
 ) -> Result<Box<Statement<'a>>, Fault>
-    ensures { IsMade (t.For (start_of start.entry.value) (option_of test.entry) (option_of step.entry)
-        (body_of body.entry) (places.to first (span_of_statement (body_of body.entry)))) result }
+    ensures { IsMade (t.For (start_of start.entry.value) (option_of test.entry)
+        (option_of step.entry) (body_of body.entry)
+        (places.to first (span_of_statement (body_of body.entry)))) result }
 {
     let span = to(first, body.span());
     let statement = Statement::For {

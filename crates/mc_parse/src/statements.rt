@@ -46,8 +46,8 @@ pub fn statement<'a>(
     other_than_block(alloc, tokens, room - 1)
 }
 
-/// Reads a statement that is not a block, whose parts have fewer than `room` levels. It stands apart
-/// from `statement`, so that its front takes no room of the stack where blocks nest.
+/// Reads a statement that is not a block, whose parts have fewer than `room` levels. It stands
+/// apart from `statement`, so that its front takes no room of the stack where blocks nest.
 #[cycle(statements)]
 #[inline(never)]
 fn other_than_block<'a>(

@@ -5,3 +5,4 @@ pub mod Rooms
 pub mod Declarations
 pub mod Statements
 pub mod Items
+pub mod Laws

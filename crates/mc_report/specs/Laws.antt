@@ -21,8 +21,8 @@ abbrev pub VectorIsOfPath : Type 0
 VectorIsOfPath =
     (t : Tree) (path : ℕ) → IsNumbered t → path < count_of t → IsPath t path (vector_at t path)
 
--- the verdicts on a map's obligations by a matrix can be reported with the tests of the matrix, where
--- each reason is text
+-- the verdicts on a map's obligations by a matrix can be reported with the tests of the matrix,
+-- where each reason is text
 abbrev pub VerdictsAreReported : Type 0
 VerdictsAreReported =
     (m : Map) (x : MatrixView) (mode : Mode) (named : List Justification) (vs : List Verdict) →

@@ -12,8 +12,8 @@ use Rattle.mc_oblige.specs.declared.verdict.Evidence.{Evidence}
 use Rattle.mc_oblige.specs.declared.verdict.Evidence.TheVariants.{Absent, One, Pair}
 use Rattle.mc_oblige.specs.declared.verdict.Verdict.{Verdict}
 
--- the source and its digest, the kind of independence, the tests by name with their states and, from
--- a run, their results, the decisions, and the obligations with their verdicts
+-- the source and its digest, the kind of independence, the tests by name with their states and,
+-- from a run, their results, the decisions, and the obligations with their verdicts
 pub record Report : Type 0 where
   pub source : List ℕ
   pub digest : List ℕ

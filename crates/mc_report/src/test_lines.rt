@@ -165,7 +165,8 @@ pub(crate) fn push_tests(
     report: &Report<'_>,
 ) -> Result<(), AllocError>
     requires states { length (report_of report.now).states ≡ length (report_of report.now).names }
-    requires results { HasEach (length (report_of report.now).names) (report_of report.now).results }
+    requires results { HasEach (length (report_of report.now).names)
+        (report_of report.now).results }
     ensures { OnOk result (bytes_of lines.new.items ≡ bytes_of lines.old.items
         ++ (let r = report_of report.now in test_lines r.names r.states r.results)) }
 {

@@ -61,7 +61,8 @@ fn read_rows(
 
 /// The plans that the bytes of a tests file stand for, each with so many units of fuel, from 1 to
 /// 100,000,000, or the first fault of the file. Each plan fits the program. The file is read up to
-/// the first record that has a fault, and a record is dropped as soon as its call stands in its test.
+/// the first record that has a fault, and a record is dropped as soon as its call stands in its
+/// test.
 pub fn read_tests(
     alloc: Global,
     bytes: &[u8],

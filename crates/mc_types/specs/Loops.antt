@@ -28,7 +28,8 @@ abbrev pub TakesArgument : Option ParameterKind → t.Expression → Given (Vec 
 TakesArgument p e x s y u =
     (ps : List ParameterKind) (rest : t.Expressions) → first_of ps ≡ p
     → squeezed_given (gathered (given_of items_of y u) (judge_arguments rest (rest_of ps) u))
-    ≡ squeezed_given (gathered (given_of items_of x s) (judge_arguments (t.expressions e rest) ps s))
+    ≡ squeezed_given (gathered (given_of items_of x s)
+    (judge_arguments (t.expressions e rest) ps s))
 
 -- brackets, after those before them
 abbrev pub TakesLength : (t.ArrayLengths → t.ArrayLengths) → Judged (Vec ℕ Global) → Scope

@@ -140,8 +140,8 @@ fn program<'a>(
 ///
 /// # Errors
 ///
-/// The fault at the least place, and there the one with the lowest number, exactly where the unit has
-/// a fault; `OutOfMemory` where memory runs out.
+/// The fault at the least place, and there the one with the lowest number, exactly where the unit
+/// has a fault; `OutOfMemory` where memory runs out.
 pub fn type_unit<'a>(alloc: Global, unit: &Unit<'a>) -> Result<Program<'a>, TypeFault>
     requires accepted { IsAccepted (units.items_of unit.now.items.items) }
     ensures typing { IfOk result (λ p.

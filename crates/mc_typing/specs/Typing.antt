@@ -68,7 +68,7 @@ function_from name span s f body = record {
   closing = closing span;
 }
 
--- the scope behind a definition's declarator, where the function's name is in scope
+-- the scope after a definition's declarator, where the function's name is in scope
 abbrev pub with_function : Name → Option Signature → Scope → Scope
 with_function name f s = with_name name (Function f true) s
 

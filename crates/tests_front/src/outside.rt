@@ -66,7 +66,7 @@ comma@int f(int a){switch(@a,1){default:;}return a;}
 goto@int f(void){@goto a;}
 goto@int f(void){@a:return 1;}
 goto@int f(int a){if(a)@b:;return a;}
-# label behind a case label
+# label after a case label
 goto@int f(int a){switch(a){case 1:@b:;}return a;}
 # label before the first case label: the upper row answers
 goto@int f(int a){switch(a){@b:case 1:;}return a;}
@@ -77,7 +77,7 @@ goto@int f(int a){switch(a){@goto b;case 1:;}return a;}
 # empty parameters
 empty parameters@int f(@){return 1;}
 empty parameters@int f(@);
-# with a blank: the )
+# with a space: the )
 empty parameters@int f( @);
 # with a comment: the )
 empty parameters@int f(/*x*/@);
@@ -126,7 +126,7 @@ local tag@int f(@struct S{int a;}b);
 local tag@int f(@enum E{A}b){return 1;}
 # type words of a definition
 local tag@@struct S{int a;}f(void){struct S b;return b;}
-# type words of a definition, behind static
+# type words of a definition, after static
 local tag@static @enum E{A}f(void){return A;}
 # first part of a for
 local tag@int f(void){for(@enum{A}a=A;a;);return 1;}
@@ -161,7 +161,7 @@ external object@extern struct{int b;}@a;
 @extern struct S{int a;};
 # const member
 const member@struct{@const int a;}b;
-# const behind the type: the member
+# const after the type: the member
 const member@struct{int a;@int const b;}c;
 const member@struct S{struct{@const int a;}b;};
 # const of an inner structure

@@ -65,7 +65,7 @@ fn are_met(done: &[CallDone], all: &[i32], calls: &[Call]) -> bool {
     true
 }
 
-/// Whether these are the hits that are told, with a blank between each two.
+/// Whether these are the hits that are told, with a space between each two.
 fn are_hits(alloc: Global, hits: &[u32], told: &str) -> Result<bool, Fail> {
     let mut words = String::new(alloc);
     for hit in hits {

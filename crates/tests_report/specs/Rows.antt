@@ -294,8 +294,8 @@ busy = record {
 abbrev pub TestLines : Type 0
 TestLines =
     (run_lines (codes "a.b_c-1" ∷ []) (busy.state ∷ []) (busy ∷ [])
-    ≡ lines (codes
-    "test a.b_c-1 trap-index values 18446744073709551615 void -9223372036854775808 output 0 -2147483648"
+    ≡ lines ((codes "test a.b_c-1 trap-index values 18446744073709551615 void "
+    ++ codes "-9223372036854775808 output 0 -2147483648")
     ∷ []))
     × (kept_lines (codes "a.b_c-1" ∷ []) (busy.state ∷ [])
     ≡ lines (codes "test a.b_c-1 trap-index" ∷ []))

@@ -44,8 +44,8 @@ pub fn end<'a>(
     body: Box<Statement<'a>>,
 ) -> Result<Box<Statement<'a>>, Fault>
     requires { room ≤ 1000 }
-    ensures { Gives body_of (fronts.end_by room (seen_opening opening.entry.value) (body_of body.entry)
-        (left_of tokens.old)) result (left_of tokens.new) }
+    ensures { Gives body_of (fronts.end_by room (seen_opening opening.entry.value)
+        (body_of body.entry) (left_of tokens.old)) result (left_of tokens.new) }
 {
     match Box::into_inner(opening) {
         Opening::Label { name } => labeled(alloc, name, body),
