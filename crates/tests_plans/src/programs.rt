@@ -51,7 +51,11 @@ fn check_unit(rt: &impl Abort, alloc: Global, unit: &Unit<'_>) -> Result<(), Fai
 /// Checks the tests files of the program.
 #[tactic(auto, using(crate::proofs::Short::all_short))]
 pub(crate) fn check_all(rt: &impl Abort, alloc: Global) -> Result<(), Fail> {
-    let tokens = match lex(alloc, SOURCE, Dialect::Plain) {
+    let source = SOURCE;
+    if source.len() >= 0x8000_0000 {
+        return Err(Fail::new("length"));
+    }
+    let tokens = match lex(alloc, source, Dialect::Plain) {
         Ok(tokens) => tokens,
         Err(_) => return Err(Fail::new("tokens")),
     };
