@@ -55,9 +55,15 @@ impl Value {
                 Base::Integer(integer) if of.lengths.is_empty() => {
                     Some(Expression::Read { place, of: integer })
                 }
-                _ => None,
+                _ => {
+                    drop(place);
+                    None
+                }
             },
-            _ => None,
+            other => {
+                drop(other);
+                None
+            }
         }
     }
 
@@ -89,16 +95,23 @@ impl Value {
                 Base::Tagged(other) if of.lengths.is_empty() && other == number => {
                     Some(Structure::Stored { place })
                 }
-                _ => None,
+                _ => {
+                    drop(place);
+                    None
+                }
             },
             Value::Returned(call, other) => {
                 if other == number {
                     Some(Structure::Returned { call })
                 } else {
+                    drop(call);
                     None
                 }
             }
-            _ => None,
+            other => {
+                drop(other);
+                None
+            }
         }
     }
 
@@ -118,7 +131,10 @@ impl Value {
                 whole: false,
             }),
             Value::Done(effect) => Some(effect),
-            Value::Assigned(_) => None,
+            Value::Assigned(effect) => {
+                drop(effect);
+                None
+            }
             Value::Designator => None,
         }
     }
@@ -165,10 +181,14 @@ fn effect_of_object(place: Place, of: CType) -> Option<Effect>
         ≡ v.discarded_in (v.Stored (place_of place) (type_of of)) }
 {
     if !of.lengths.is_empty() {
+        drop(place);
         return None;
     }
     match of.base {
-        Base::Void => None,
+        Base::Void => {
+            drop(place);
+            None
+        }
         Base::Integer(of) => Some(Effect::Number {
             value: Expression::Read { place, of },
             whole: false,

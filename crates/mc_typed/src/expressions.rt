@@ -18,7 +18,6 @@ pub struct Slot {
 }
 
 /// An expression that designates an object (an lvalue of C17 6.3.2.1).
-#[derive(Drop)]
 #[cycle(expressions)]
 pub enum Place {
     /// An object of the function with automatic storage duration.
@@ -57,8 +56,37 @@ pub enum Place {
     },
 }
 
+// Not derived: a derived one would be proved again in each crate that lets such a tree go.
+impl Drop for Place {
+    #[cycle(expressions)]
+    fn drop(self) {
+        match self {
+            Place::Local { slot: _, span: _ }
+            | Place::Static { slot: _, span: _ }
+            | Place::Parameter {
+                array: _,
+                stride: _,
+                index: _,
+                span: _,
+            }
+            | Place::Item {
+                array: _,
+                length: _,
+                stride: _,
+                index: _,
+                span: _,
+            }
+            | Place::Member {
+                structure: _,
+                member: _,
+                offset: _,
+                span: _,
+            } => {}
+        }
+    }
+}
+
 /// An expression whose value is an integer.
-#[derive(Drop)]
 #[cycle(expressions)]
 pub enum Expression {
     /// An integer, character or enumeration constant (C17 6.4.4).
@@ -131,6 +159,62 @@ pub enum Expression {
     },
 }
 
+impl Drop for Expression {
+    #[cycle(expressions)]
+    fn drop(self) {
+        match self {
+            Expression::Constant {
+                value: _,
+                of: _,
+                span: _,
+            }
+            | Expression::Read { place: _, of: _ }
+            | Expression::Unary {
+                operator: _,
+                of: _,
+                operand: _,
+                span: _,
+            }
+            | Expression::Convert {
+                to: _,
+                written: _,
+                operand: _,
+                span: _,
+            }
+            | Expression::Not {
+                operand: _,
+                span: _,
+            }
+            | Expression::Binary {
+                operator: _,
+                of: _,
+                left: _,
+                right: _,
+                span: _,
+            }
+            | Expression::Logic {
+                operator: _,
+                left: _,
+                right: _,
+                span: _,
+            }
+            | Expression::Choice {
+                test: _,
+                chosen: _,
+                other: _,
+                of: _,
+                span: _,
+            }
+            | Expression::Call { call: _, of: _ }
+            | Expression::Input { span: _ }
+            | Expression::Probe {
+                probe: _,
+                operand: _,
+            } => {}
+        }
+    }
+}
+
 /// An expression whose value is a structure.
 #[derive(Drop)]
 #[cycle(expressions)]
@@ -142,7 +226,6 @@ pub enum Structure {
 }
 
 /// A call of a function of the program (C17 6.5.2.2).
-#[derive(Drop)]
 #[cycle(expressions)]
 pub struct FunctionCall {
     pub function: u32,
@@ -152,8 +235,19 @@ pub struct FunctionCall {
     pub span: Span,
 }
 
+impl Drop for FunctionCall {
+    #[cycle(expressions)]
+    fn drop(self) {
+        let Self {
+            function: _,
+            arguments: _,
+            result: _,
+            span: _,
+        } = self;
+    }
+}
+
 /// An argument of a call.
-#[derive(Drop)]
 #[cycle(expressions)]
 pub enum Argument {
     /// An integer, converted to the parameter's type.
@@ -164,6 +258,21 @@ pub enum Argument {
     Array { place: Place, length: u32 },
     /// The array that the caller's array parameter with this number names.
     Again { array: u32, span: Span },
+}
+
+impl Drop for Argument {
+    #[cycle(expressions)]
+    fn drop(self) {
+        match self {
+            Argument::Number { value: _ }
+            | Argument::Structure { value: _, copy: _ }
+            | Argument::Array {
+                place: _,
+                length: _,
+            }
+            | Argument::Again { array: _, span: _ } => {}
+        }
+    }
 }
 
 impl Place {

@@ -7,7 +7,6 @@ use mc_span::Span;
 
 /// A statement, a label of a `switch` or a local declaration. `span` is all of it, `keyword` the
 /// word that it begins with, and `bit` the bit of its probe in an instrumented tree.
-#[derive(Drop)]
 pub enum Statement {
     Compound {
         items: Vec<Statement>,
@@ -93,6 +92,78 @@ pub enum Statement {
         bit: Option<u32>,
         exit: Option<u32>,
     },
+}
+
+// Not derived: a derived one would be proved again in each crate that lets such a tree go.
+impl Drop for Statement {
+    fn drop(self) {
+        match self {
+            Statement::Compound { items: _, span: _ }
+            | Statement::Label {
+                value: _,
+                span: _,
+                mark: _,
+            }
+            | Statement::Declaration {
+                declarators: _,
+                span: _,
+                bit: _,
+            }
+            | Statement::Null { span: _, bit: _ }
+            | Statement::Effect {
+                effect: _,
+                span: _,
+                bit: _,
+            }
+            | Statement::If {
+                test: _,
+                chosen: _,
+                keyword: _,
+                span: _,
+                bit: _,
+            }
+            | Statement::IfElse {
+                test: _,
+                chosen: _,
+                other: _,
+                keyword: _,
+                span: _,
+                bit: _,
+            }
+            | Statement::Switch {
+                value: _,
+                items: _,
+                keyword: _,
+                span: _,
+                bit: _,
+                absent: _,
+            }
+            | Statement::For {
+                start: _,
+                test: _,
+                step: _,
+                body: _,
+                keyword: _,
+                span: _,
+                bit: _,
+            }
+            | Statement::DoWhile {
+                body: _,
+                test: _,
+                keyword: _,
+                span: _,
+                bit: _,
+            }
+            | Statement::Break { span: _, bit: _ }
+            | Statement::Continue { span: _, bit: _ }
+            | Statement::Return {
+                value: _,
+                span: _,
+                bit: _,
+                exit: _,
+            } => {}
+        }
+    }
 }
 
 /// An object that a local declaration declares, how many cells it has, and what it is initialized

@@ -6,7 +6,6 @@ use mc_span::Span;
 
 /// How many `*`, a name, and what stands after it (C17 6.7.6). Its span starts at the
 /// first `*`, or at the name where there is none.
-#[derive(Drop)]
 #[cycle(syntax)]
 pub enum Declarator<'a> {
     Object {
@@ -37,4 +36,38 @@ pub enum Declarator<'a> {
         list_span: Span,
         span: Span,
     },
+}
+
+// Not derived: a derived one would be proved again in each crate that lets such a tree go.
+impl Drop for Declarator<'_> {
+    #[cycle(syntax)]
+    fn drop(self) {
+        match self {
+            Declarator::Object {
+                stars: _,
+                name: _,
+                lengths: _,
+                span: _,
+            }
+            | Declarator::EmptyFunction {
+                stars: _,
+                name: _,
+                list_span: _,
+                span: _,
+            }
+            | Declarator::VoidFunction {
+                stars: _,
+                name: _,
+                list_span: _,
+                span: _,
+            }
+            | Declarator::Function {
+                stars: _,
+                name: _,
+                parameters: _,
+                list_span: _,
+                span: _,
+            } => {}
+        }
+    }
 }

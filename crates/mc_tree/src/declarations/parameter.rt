@@ -5,7 +5,6 @@ use crate::identifier::Identifier;
 use mc_span::Span;
 
 /// A parameter, perhaps without a name (C17 6.7.6.3).
-#[derive(Drop)]
 #[cycle(syntax)]
 pub struct Parameter<'a> {
     pub specifiers: Vec<Specifier<'a>>,
@@ -13,4 +12,18 @@ pub struct Parameter<'a> {
     pub name: Option<Identifier<'a>>,
     pub lengths: Vec<ArrayLength<'a>>,
     pub span: Span,
+}
+
+// Not derived: a derived one would be proved again in each crate that lets such a tree go.
+impl Drop for Parameter<'_> {
+    #[cycle(syntax)]
+    fn drop(self) {
+        let Self {
+            specifiers: _,
+            stars: _,
+            name: _,
+            lengths: _,
+            span: _,
+        } = self;
+    }
 }

@@ -11,7 +11,6 @@ use mc_span::Span;
 
 /// One of the specifiers of a declaration, a parameter, a member or a type name (C17 6.7.1 to
 /// 6.7.3).
-#[derive(Drop)]
 #[cycle(syntax)]
 pub enum Specifier<'a> {
     Word {
@@ -43,6 +42,29 @@ pub enum Specifier<'a> {
         enumerators: Vec<Enumerator<'a>>,
         span: Span,
     },
+}
+
+// Not derived: a derived one would be proved again in each crate that lets such a tree go.
+impl Drop for Specifier<'_> {
+    #[cycle(syntax)]
+    fn drop(self) {
+        match self {
+            Specifier::Word { word: _, span: _ }
+            | Specifier::TypedefName { name: _ }
+            | Specifier::StructureTag { tag: _, span: _ }
+            | Specifier::Structure {
+                tag: _,
+                members: _,
+                span: _,
+            }
+            | Specifier::EnumerationTag { tag: _, span: _ }
+            | Specifier::Enumeration {
+                tag: _,
+                enumerators: _,
+                span: _,
+            } => {}
+        }
+    }
 }
 
 impl Specifier<'_> {

@@ -12,7 +12,6 @@ use crate::identifier::Identifier;
 use mc_span::Span;
 
 /// An expression, with a variant for each alternative of its productions (C17 6.5).
-#[derive(Drop)]
 #[cycle(syntax)]
 pub enum Expression<'a> {
     Name {
@@ -99,6 +98,84 @@ pub enum Expression<'a> {
         operands: Vec<Expression<'a>>,
         span: Span,
     },
+}
+
+// Not derived: a derived one would be proved again in each crate that lets such a tree go.
+impl Drop for Expression<'_> {
+    #[cycle(syntax)]
+    fn drop(self) {
+        match self {
+            Expression::Name { name: _ }
+            | Expression::Constant {
+                value: _,
+                decimal: _,
+                unsigned: _,
+                longs: _,
+                span: _,
+            }
+            | Expression::Character { value: _, span: _ }
+            | Expression::Parenthesized { inner: _, span: _ }
+            | Expression::Call {
+                name: _,
+                arguments: _,
+                span: _,
+            }
+            | Expression::Index {
+                array: _,
+                index: _,
+                span: _,
+            }
+            | Expression::Member {
+                object: _,
+                name: _,
+                span: _,
+            }
+            | Expression::PostfixStep {
+                operator: _,
+                operand: _,
+                span: _,
+            }
+            | Expression::PrefixStep {
+                operator: _,
+                operand: _,
+                span: _,
+            }
+            | Expression::Unary {
+                operator: _,
+                operand: _,
+                span: _,
+            }
+            | Expression::Cast {
+                specifiers: _,
+                stars: _,
+                type_span: _,
+                operand: _,
+                span: _,
+            }
+            | Expression::Binary {
+                operator: _,
+                left: _,
+                right: _,
+                span: _,
+            }
+            | Expression::Conditional {
+                test: _,
+                chosen: _,
+                other: _,
+                span: _,
+            }
+            | Expression::Assignment {
+                operator: _,
+                target: _,
+                value: _,
+                span: _,
+            }
+            | Expression::Comma {
+                operands: _,
+                span: _,
+            } => {}
+        }
+    }
 }
 
 impl Expression<'_> {

@@ -10,7 +10,6 @@ use crate::statements::for_start::ForStart;
 use mc_span::Span;
 
 /// A statement, with a variant for each alternative of its production (C17 6.8).
-#[derive(Drop)]
 #[cycle(statements)]
 pub enum Statement<'a> {
     Compound {
@@ -89,6 +88,71 @@ pub enum Statement<'a> {
         value: Option<Box<Expression<'a>>>,
         span: Span,
     },
+}
+
+// Not derived: a derived one would be proved again in each crate that lets such a tree go.
+impl Drop for Statement<'_> {
+    #[cycle(statements)]
+    fn drop(self) {
+        match self {
+            Statement::Compound { items: _, span: _ }
+            | Statement::Null { span: _ }
+            | Statement::Expression { value: _, span: _ }
+            | Statement::If {
+                test: _,
+                chosen: _,
+                span: _,
+            }
+            | Statement::IfElse {
+                test: _,
+                chosen: _,
+                other: _,
+                span: _,
+            }
+            | Statement::Switch {
+                value: _,
+                body: _,
+                span: _,
+            }
+            | Statement::While {
+                test: _,
+                body: _,
+                span: _,
+            }
+            | Statement::DoWhile {
+                body: _,
+                test: _,
+                span: _,
+            }
+            | Statement::For {
+                start: _,
+                test: _,
+                step: _,
+                body: _,
+                span: _,
+            }
+            | Statement::Case {
+                value: _,
+                label: _,
+                body: _,
+                span: _,
+            }
+            | Statement::Default {
+                label: _,
+                body: _,
+                span: _,
+            }
+            | Statement::Label {
+                name: _,
+                body: _,
+                span: _,
+            }
+            | Statement::Goto { name: _, span: _ }
+            | Statement::Break { span: _ }
+            | Statement::Continue { span: _ }
+            | Statement::Return { value: _, span: _ } => {}
+        }
+    }
 }
 
 impl Statement<'_> {
