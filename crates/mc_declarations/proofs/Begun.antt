@@ -3,8 +3,8 @@ use Rattle.std.proofs.Common.{◌≡◌, ◌∙◌, ℕ, ◌+◌, ℤ, pos, ◌+
 use Rattle.mc_tree.specs.Tree.{Name, ArrayLengths}
 use Rattle.mc_typed.specs.declared.expressions.Slot.{Slot}
 use Rattle.mc_typed.specs.Layout.{ObjectType, cells}
-use Rattle.mc_typing.specs.declared.fault.Fault.{Fault}
-use Rattle.mc_typing.specs.Faults.{lesser, least_of, unless_faulty}
+use Rattle.mc_faults.specs.declared.fault.Fault.{Fault}
+use Rattle.mc_faults.specs.Faults.{lesser, least_of, unless_faulty}
 use Rattle.mc_typing.specs.Types.{CType, ParameterKind, Signature}
 use Rattle.mc_typing.specs.Scopes.{Entry, Meaning, Automatic, Constant, Function, Scope, body_scope, with_name, next_slot, with_counted}
 use Rattle.mc_typing.specs.Values.{Found, Judged, judged, lift2, number_found}
@@ -15,7 +15,8 @@ use Rattle.mc_typing.specs.Typing.{with_function}
 use Rattle.mc_scopes.specs.Prototypes.{body_in}
 use Rattle.mc_declarations.specs.Declarations.{with_length, length_then, squeezed_listed}
 use Rattle.mc_declarations.specs.Halves.{Local, squeezed_local, automatic_begun}
-use Rattle.mc_scopes.specs.steps.Squeezed.{listed, least, squeezed_part}
+use Rattle.mc_faults.specs.Kept.{listed, least}
+use Rattle.mc_scopes.specs.steps.Squeezed.{squeezed_part}
 use Rattle.mc_scopes.proofs.Squeezed.{joined_listed, joined_leasts}
 use Rattle.mc_declarations.proofs.DeclarationFaults.{counted_by_least, unless_by_least, judged_same, listed_by, listed_same}
 

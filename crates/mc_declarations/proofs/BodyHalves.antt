@@ -3,7 +3,7 @@ use Rattle.std.proofs.Common.{◌≡◌, false, List, ◌++◌, length, Option, 
 use Rattle.mc_span.specs.declared.span.Span.{Span}
 use Rattle.mc_tree.specs.Tree.{Name, Specifiers, Parameters, BlockItems}
 use Rattle.mc_typed.specs.Tree.{Statements}
-use Rattle.mc_typing.specs.declared.fault.Fault.{Fault}
+use Rattle.mc_faults.specs.declared.fault.Fault.{Fault}
 use Rattle.mc_typing.specs.Types.{CType, ParameterKind, Signature}
 use Rattle.mc_typing.specs.Scopes.{Scope, meaning_here, prototype, left_function}
 use Rattle.mc_typing.specs.Values.{Judged, judged}

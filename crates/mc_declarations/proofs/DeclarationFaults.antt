@@ -1,16 +1,16 @@
 -- What the first of some faults tells of them.
 use Rattle.std.proofs.Common.{◌≡◌, ◌∙◌, ℕ, nat_lt, nat_le, Bool, true, false, if◌then◌else◌, arith, List, [], ◌∷◌, ◌++◌, Option, Some, None, refl, sym, ap, append_assoc}
-use Rattle.mc_typing.specs.declared.fault.Fault.{Fault}
-use Rattle.mc_typing.specs.declared.fault.FaultKind.{FaultKind}
-use Rattle.mc_typing.specs.declared.fault.FaultKind.TheVariants.{Undeclared, Redeclared, Mismatch, NotConstant, DuplicateLabel, NoBody, Limit}
-use Rattle.mc_typing.specs.Faults.{fault_if, number_of, lesser_of, lesser, least_of, unless_faulty}
+use Rattle.mc_faults.specs.declared.fault.Fault.{Fault}
+use Rattle.mc_faults.specs.declared.fault.FaultKind.{FaultKind}
+use Rattle.mc_faults.specs.declared.fault.FaultKind.TheVariants.{Undeclared, Redeclared, Mismatch, NotConstant, DuplicateLabel, NoBody, Limit}
+use Rattle.mc_faults.specs.Faults.{fault_if, number_of, lesser_of, lesser, least_of, unless_faulty}
 use Rattle.mc_typing.specs.Types.{Member, CType}
 use Rattle.mc_typing.specs.Scopes.{Scope}
 use Rattle.mc_typing.specs.Values.{judged}
 use Rattle.mc_typing.specs.Declarators.{Listed, completed}
 use Rattle.mc_typing.specs.Declarations.{layout_counted}
-use Rattle.mc_typing.proofs.Leasts.{least_joined}
-use Rattle.mc_scopes.specs.steps.Squeezed.{listed, least}
+use Rattle.mc_faults.proofs.Leasts.{least_joined}
+use Rattle.mc_faults.specs.Kept.{listed, least}
 use Rattle.mc_scopes.proofs.Squeezed.{joined_listed, joined_leasts, least_front, least_least, least_listed, unless_least}
 
 abbrev pub listed_by : {A : Type 0} → List Fault → List A → Scope → Listed A

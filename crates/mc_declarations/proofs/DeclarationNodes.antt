@@ -2,9 +2,9 @@
 -- gathered from the left.
 use Rattle.std.proofs.Common.{◌≡◌, ◌∙◌, ℕ, ℤ, List, [], ◌∷◌, ◌++◌, Option, Some, None, not, refl, sym, ap, option_and_then, append_assoc, append-nil}
 use Rattle.mc_tree.specs.Tree.{Name, Specifiers, ArrayLengths}
-use Rattle.mc_typing.specs.declared.fault.Fault.{Fault}
-use Rattle.mc_typing.specs.declared.fault.FaultKind.TheVariants.{Mismatch}
-use Rattle.mc_typing.specs.Faults.{fault, fault_if, unless_faulty}
+use Rattle.mc_faults.specs.declared.fault.Fault.{Fault}
+use Rattle.mc_faults.specs.declared.fault.FaultKind.TheVariants.{Mismatch}
+use Rattle.mc_faults.specs.Faults.{fault, fault_if, unless_faulty}
 use Rattle.mc_typing.specs.Types.{CType, Member, Structure, ParameterKind, plain, int, Tagged, has_type, type_of_specifiers}
 use Rattle.mc_typing.specs.Scopes.{Scope, with_structure_at}
 use Rattle.mc_typing.specs.Values.{Judged, judged, Found, number_found, lift2}
@@ -13,7 +13,8 @@ use Rattle.mc_typing.specs.Declarators.{Listed, after_faults, Opened, completed,
 use Rattle.mc_typing.specs.Declarations.{append, both_lists}
 use Rattle.mc_typing.specs.Judgement.{typed_by, one_of, specifiers_judged, after}
 use Rattle.mc_declarations.specs.Declarations.{with_length, length_then, squeezed_listed}
-use Rattle.mc_scopes.specs.steps.Squeezed.{listed, least, squeezed, squeezed_part}
+use Rattle.mc_faults.specs.Kept.{listed, least}
+use Rattle.mc_scopes.specs.steps.Squeezed.{squeezed, squeezed_part}
 use Rattle.mc_scopes.proofs.Squeezed.{least_front, least_back, least_least, least_two, two_parts}
 use Rattle.mc_declarations.proofs.DeclarationFaults.{unless_same, completed_same, judged_same, listed_same, least_swapped}
 

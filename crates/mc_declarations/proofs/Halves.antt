@@ -5,8 +5,8 @@ use Rattle.mc_typed.specs.declared.expressions.Slot.{Slot}
 use Rattle.mc_typed.specs.Layout.{ObjectType, cells}
 use Rattle.mc_typed.specs.Tree.{Declarator}
 use Rattle.mc_typed.specs.Tree as t
-use Rattle.mc_typing.specs.declared.fault.Fault.{Fault}
-use Rattle.mc_typing.specs.Faults.{lesser, least_of, unless_faulty}
+use Rattle.mc_faults.specs.declared.fault.Fault.{Fault}
+use Rattle.mc_faults.specs.Faults.{lesser, least_of, unless_faulty}
 use Rattle.mc_typing.specs.Types.{CType, ParameterKind}
 use Rattle.mc_typing.specs.Scopes.{Meaning, Automatic, Stored, Typedef, Scope, with_name, next_slot, next_static, cells_counted, with_counted, uncounted}
 use Rattle.mc_typing.specs.Values.{Judged, judged}
@@ -14,7 +14,8 @@ use Rattle.mc_typing.specs.Declarators.{Listed}
 use Rattle.mc_typing.specs.Declarations.{Storage, count_listed, judge_optional_initializer, object_faults, layout_counted, after_initializer, counted_after, declarator_value, automatic_judged, static_faults_with, static_scope, static_value, static_judged, typedef_judged, typedef_faults, signature_listed, again_faults, function_faults, function_form_faults, function_judged}
 use Rattle.mc_declarations.specs.Declarations.{squeezed_listed}
 use Rattle.mc_declarations.specs.Halves.{Begun, squeezed_begun, Local, squeezed_local, automatic_begun, zero_or, counted_value, automatic_ended, StaticBegun, squeezed_static, static_begun, static_ended, typedef_begun, function_begun, declared_ended}
-use Rattle.mc_scopes.specs.steps.Squeezed.{listed, least, squeezed_part}
+use Rattle.mc_faults.specs.Kept.{listed, least}
+use Rattle.mc_scopes.specs.steps.Squeezed.{squeezed_part}
 use Rattle.mc_scopes.proofs.Squeezed.{least_front, least_back, least_least, least_two}
 use Rattle.mc_declarations.proofs.DeclarationFaults.{unless_same, counted_same, judged_same}
 

@@ -5,7 +5,7 @@ use Rattle.mc_span.specs.declared.span.Span.{Span}
 use Rattle.mc_tree.specs.Tree.{Name, Parameters}
 use Rattle.mc_typed.specs.Tree.{Statements}
 use Rattle.mc_typed.specs.Tree as t
-use Rattle.mc_typing.specs.declared.fault.Fault.{Fault}
+use Rattle.mc_faults.specs.declared.fault.Fault.{Fault}
 use Rattle.mc_typing.specs.Types.{CType, ParameterKind, Signature}
 use Rattle.mc_typing.specs.Scopes.{Scope, meaning_here, body_scope}
 use Rattle.mc_typing.specs.Values.{Judged, lift2}
@@ -17,7 +17,7 @@ use Rattle.mc_scopes.specs.Blocks.{Around, function_left_by}
 use Rattle.mc_declarations.specs.declared.definitions.Body.{Body}
 use Rattle.mc_declarations.specs.declared.definitions.Heading.{Heading}
 use Rattle.mc_declarations.specs.Declarations.{meaning_of_earlier, signature_in}
-use Rattle.mc_scopes.specs.steps.Squeezed.{listed, least}
+use Rattle.mc_faults.specs.Kept.{listed, least}
 
 -- what is known of a definition before its parameters, in the scope before them
 pub record IsHeading (h : Heading) (name : Name) (gives : Option CType) (s : Scope) : Type 0 where

@@ -10,7 +10,7 @@ use Rattle.mc_typed.specs.declared.functions.Function.{Function}
 use Rattle.mc_typed.specs.declared.initializers.Initializer.{Initializer}
 use Rattle.mc_typed.specs.Tree as t
 use Rattle.mc_typed.specs.Views.{function_of, initializer_of}
-use Rattle.mc_typing.specs.declared.fault.Fault.{Fault}
+use Rattle.mc_faults.specs.declared.fault.Fault.{Fault}
 use Rattle.mc_typing.specs.Types as types
 use Rattle.mc_typing.specs.Scopes.{Meaning, Scope}
 use Rattle.mc_typing.specs.Scopes as s
@@ -19,7 +19,7 @@ use Rattle.mc_typing.specs.Constants.{constant_found}
 use Rattle.mc_typing.specs.Declarators.{Listed, Opened, length_of, length_faults}
 use Rattle.mc_typing.specs.Declarations as w
 use Rattle.mc_scopes.specs.Listed.{listed_of}
-use Rattle.mc_scopes.specs.Tables.{Named}
+use Rattle.mc_names.specs.Tables.{Named}
 use Rattle.mc_scopes.specs.declared.member.Member.{Member}
 use Rattle.mc_scopes.specs.declared.types.ParameterKind.{ParameterKind}
 use Rattle.mc_scopes.specs.declared.types.Signature.{Signature}
@@ -31,7 +31,7 @@ use Rattle.mc_declarations.specs.declared.parameters.Parameters.{Parameters}
 use Rattle.mc_declarations.specs.declared.storage.Storage.{Storage}
 use Rattle.mc_declarations.specs.declared.storage.Storage.TheVariants as storage
 use Rattle.mc_declarations.specs.declared.structures.Opened as opened
-use Rattle.mc_scopes.specs.steps.Squeezed.{listed, least}
+use Rattle.mc_faults.specs.Kept.{listed, least}
 
 -- ---- numbers, lengths and lists
 

@@ -5,8 +5,8 @@ use Rattle.mc_typed.specs.declared.expressions.Slot.{Slot}
 use Rattle.mc_typed.specs.Layout.{cells}
 use Rattle.mc_typed.specs.Tree.{Declarator}
 use Rattle.mc_typed.specs.Tree as t
-use Rattle.mc_typing.specs.declared.fault.Fault.{Fault}
-use Rattle.mc_typing.specs.Faults.{unless_faulty}
+use Rattle.mc_faults.specs.declared.fault.Fault.{Fault}
+use Rattle.mc_faults.specs.Faults.{unless_faulty}
 use Rattle.mc_typing.specs.Types.{CType, ParameterKind}
 use Rattle.mc_typing.specs.Scopes.{Automatic, Stored, Typedef, Scope, meaning_here, with_name, next_slot, next_static, with_counted}
 use Rattle.mc_typing.specs.Values.{Judged, judged}
@@ -14,7 +14,7 @@ use Rattle.mc_typing.specs.Declarators.{Listed}
 use Rattle.mc_typing.specs.Declarations.{Storage, object_faults, layout_counted, after_initializer, counted_after, static_faults_with, static_scope, static_value, typedef_faults, signature_listed, again_faults, function_faults, function_form_faults, function_meaning}
 use Rattle.mc_declarations.specs.declared.locals.Local as local
 use Rattle.mc_declarations.specs.declared.statics.Stored as stored
-use Rattle.mc_scopes.specs.steps.Squeezed.{listed, least}
+use Rattle.mc_faults.specs.Kept.{listed, least}
 
 -- what is declared: its faults so far, and the scope of its initializer
 pub record Begun : Type 0 where

@@ -2,8 +2,8 @@
 use Rattle.std.specs.Prelude.{◌≡◌, ℕ, false, true, List, length, take, Option}
 use Rattle.mc_span.specs.declared.span.Span.{Span}
 use Rattle.mc_tree.specs.Tree.{Name, ArrayLengths, BlockItems, Initializer, Parameters, Specifiers}
-use Rattle.mc_typing.specs.declared.fault.Fault.{Fault}
-use Rattle.mc_typing.specs.Faults.{unless_faulty}
+use Rattle.mc_faults.specs.declared.fault.Fault.{Fault}
+use Rattle.mc_faults.specs.Faults.{unless_faulty}
 use Rattle.mc_typing.specs.Types.{CType, ParameterKind}
 use Rattle.mc_typing.specs.Scopes.{Scope, prototype, with_objects_of}
 use Rattle.mc_typing.specs.Values.{Found, Judged}

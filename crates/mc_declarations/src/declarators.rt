@@ -3,7 +3,7 @@ ghost use Rattle.std.specs.Prelude.{◌≡◌, ◌||◌, ◌&&◌, map, is_some,
 ghost use Rattle.mc_tree.specs.Tree as tree;
 ghost use Rattle.mc_tree.specs.Views.{array_length_of, name_of};
 ghost use Rattle.mc_typing.specs.Declarators as d;
-ghost use Rattle.mc_typing.specs.Faults.{least_of};
+ghost use Rattle.mc_faults.specs.Faults.{least_of};
 ghost use Rattle.mc_typing.specs.Limits as limit;
 ghost use Rattle.mc_typing.specs.Scopes as s;
 ghost use Rattle.mc_typing.specs.Types as t;
@@ -11,13 +11,12 @@ ghost use Rattle.mc_typing.specs.Values as v;
 ghost use Rattle.mc_scopes.specs.Types.{base_of, type_of, length_list};
 ghost use Rattle.mc_scopes.specs.Views.{scope_of, structure_of};
 ghost use Rattle.mc_declarations.specs.Declarations.{lengths_in, written};
-ghost use Rattle.mc_scopes.specs.steps.Squeezed.{listed};
+ghost use Rattle.mc_faults.specs.Kept.{listed};
 
 use crate::external::is_external;
-use mc_scopes::faults::fault_where;
+use mc_faults::{Fault, FaultKind, fault_where};
 use mc_scopes::{CType, Scope, Structure, is_complete, is_too_large};
 use mc_tree::{ArrayLength, Identifier};
-use mc_typing::{Fault, FaultKind};
 use std::alloc::{AllocError, Global};
 
 fn is_declared_here(scope: &Scope<'_>, name: &Identifier<'_>) -> bool

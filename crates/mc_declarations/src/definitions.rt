@@ -5,9 +5,9 @@ ghost use Rattle.mc_tree.specs.Views.{name_of, parameter_of, parameters_from};
 ghost use Rattle.mc_typed.specs.Tree as typed;
 ghost use Rattle.mc_typed.specs.Views.{object_of};
 ghost use Rattle.mc_typed.specs.Views as views;
-ghost use Rattle.mc_typing.specs.declared.fault.Fault.{Fault};
+ghost use Rattle.mc_faults.specs.declared.fault.Fault.{Fault};
 ghost use Rattle.mc_typing.specs.Declarations as w;
-ghost use Rattle.mc_typing.specs.Faults.{least_of};
+ghost use Rattle.mc_faults.specs.Faults.{least_of};
 ghost use Rattle.mc_typing.specs.Scopes as s;
 ghost use Rattle.mc_typing.specs.Types as t;
 ghost use Rattle.mc_typing.specs.Typing as ty;
@@ -19,7 +19,8 @@ ghost use Rattle.mc_declarations.specs.Declarations.{functions_of, listed_parame
 ghost use Rattle.mc_declarations.specs.Bodies.{IsHeading, body_of, definition_begun, definition_ended, listed_function, squeezed_body};
 ghost use Rattle.mc_scopes.specs.Statements.{statements_of};
 ghost use Rattle.mc_scopes.specs.Found.{judged_of};
-ghost use Rattle.mc_scopes.specs.steps.Squeezed.{listed, squeezed_part};
+ghost use Rattle.mc_faults.specs.Kept.{listed};
+ghost use Rattle.mc_scopes.specs.steps.Squeezed.{squeezed_part};
 
 use crate::earlier::{Earlier, declared_before, share_signature};
 use crate::external::is_external;
@@ -27,14 +28,13 @@ use crate::faults::first_fault;
 use crate::parameters::Parameters;
 use crate::signatures::{function_fault, repeated_fault, result_of, signature};
 use crate::tags::plain;
-use mc_scopes::faults::{after_two, fault_where, lesser};
+use mc_faults::{Fault, FaultKind, after_two, fault_where, lesser};
 use mc_scopes::found::Judged;
 use mc_scopes::{
     Base, Block, CType, Meaning, ParameterKind, Scope, Signature, Structure, is_complete, layout,
 };
 use mc_tree::{Identifier, Parameter};
 use mc_typed::{Function, Object, ParameterType, ResultType, Span, Statement};
-use mc_typing::{Fault, FaultKind};
 use std::alloc::{AllocError, Global};
 use std::sync::Arc;
 

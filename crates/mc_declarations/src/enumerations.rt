@@ -1,9 +1,9 @@
 //! Enumerations (C17 6.7.2.2).
 ghost use Rattle.std.specs.Prelude.{◌≡◌, ◌++◌, ◌+ℤ◌, pos, IfOk, List, Some, is_some, option_map};
 ghost use Rattle.mc_tree.specs.Views.{name_of, tag_of};
-ghost use Rattle.mc_typing.specs.declared.fault.Fault.{Fault};
+ghost use Rattle.mc_faults.specs.declared.fault.Fault.{Fault};
 ghost use Rattle.mc_typing.specs.Declarators as d;
-ghost use Rattle.mc_typing.specs.Faults.{least_of, unless_faulty};
+ghost use Rattle.mc_faults.specs.Faults.{least_of, unless_faulty};
 ghost use Rattle.mc_typing.specs.Scopes as s;
 ghost use Rattle.mc_typing.specs.Types as t;
 ghost use Rattle.mc_typing.specs.Values as v;
@@ -12,17 +12,17 @@ ghost use Rattle.mc_scopes.specs.Types.{type_of};
 ghost use Rattle.mc_scopes.specs.Views.{scope_of};
 ghost use Rattle.mc_declarations.specs.Declarations.{number_judged};
 ghost use Rattle.mc_scopes.specs.Found.{found_of, judged_of};
-ghost use Rattle.mc_scopes.specs.steps.Squeezed.{listed, squeezed_part};
+ghost use Rattle.mc_faults.specs.Kept.{listed};
+ghost use Rattle.mc_scopes.specs.steps.Squeezed.{squeezed_part};
 
 use crate::declarators::{misnamed_fault, redeclared_fault};
 use crate::faults::first_fault;
 use crate::tags::plain;
-use mc_scopes::faults::{fault_where, lesser};
+use mc_faults::{Fault, FaultKind, fault_where, lesser};
 use mc_scopes::found::{Found, Judged};
 use mc_scopes::values::{constant_found, fault_of_constant};
 use mc_scopes::{Base, CType, Meaning, Scope, TagMeaning};
 use mc_tree::Identifier;
-use mc_typing::{Fault, FaultKind};
 use mc_value::{IntType, range};
 use std::alloc::{AllocError, Global};
 

@@ -1,13 +1,12 @@
 //! Faults of declarations, in their order.
 ghost use Rattle.std.specs.Prelude.{◌≡◌, ◌++◌, [], List, option_map};
-ghost use Rattle.mc_typing.specs.declared.fault.Fault.{Fault};
-ghost use Rattle.mc_typing.specs.Faults.{least_of, unless_faulty};
+ghost use Rattle.mc_faults.specs.declared.fault.Fault.{Fault};
+ghost use Rattle.mc_faults.specs.Faults.{least_of, unless_faulty};
 ghost use Rattle.mc_scopes.specs.Types.{type_of};
-ghost use Rattle.mc_scopes.specs.steps.Squeezed.{listed};
+ghost use Rattle.mc_faults.specs.Kept.{listed};
 
+use mc_faults::{Fault, lesser};
 use mc_scopes::CType;
-use mc_scopes::faults::lesser;
-use mc_typing::Fault;
 
 /// The first of two faults that may be there.
 #[tactic(auto, using(mc_scopes::proofs::Squeezed::joined_listed, mc_scopes::proofs::Squeezed::least_listed))]

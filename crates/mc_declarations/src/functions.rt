@@ -2,9 +2,9 @@
 ghost use Rattle.std.specs.Prelude.{◌≡◌, ◌++◌, ℕ, IfOk, List, Option, option_map, option_copied};
 ghost use Rattle.mc_tree.specs.Units as units;
 ghost use Rattle.mc_tree.specs.Views.{name_of};
-ghost use Rattle.mc_typing.specs.declared.fault.Fault.{Fault};
+ghost use Rattle.mc_faults.specs.declared.fault.Fault.{Fault};
 ghost use Rattle.mc_typing.specs.Declarations as w;
-ghost use Rattle.mc_typing.specs.Faults.{least_of, unless_faulty};
+ghost use Rattle.mc_faults.specs.Faults.{least_of, unless_faulty};
 ghost use Rattle.mc_typing.specs.Scopes as s;
 ghost use Rattle.mc_typing.specs.Types as t;
 ghost use Rattle.mc_scopes.specs.Types.{type_of};
@@ -17,10 +17,9 @@ use crate::earlier::{Earlier, declared_before};
 use crate::parameters::Parameters;
 use crate::signatures::{function_fault, repeated_fault, signature};
 use crate::storage::{Storage, has_initializer};
-use mc_scopes::faults::{after, fault_where, lesser};
+use mc_faults::{Fault, FaultKind, after, fault_where, lesser};
 use mc_scopes::{CType, Meaning, Scope, Signature};
 use mc_tree::{Identifier, Initializer};
-use mc_typing::{Fault, FaultKind};
 use std::alloc::{AllocError, Global};
 use std::sync::Arc;
 

@@ -2,7 +2,7 @@
 ghost use Rattle.std.specs.Prelude.{◌≡◌, [], Some, IfOk, List, option_map, option_and_then};
 ghost use Rattle.mc_typing.specs.Constants as c;
 ghost use Rattle.mc_typing.specs.Declarators as d;
-ghost use Rattle.mc_typing.specs.Faults.{least_of};
+ghost use Rattle.mc_faults.specs.Faults.{least_of};
 ghost use Rattle.mc_typing.specs.Scopes as s;
 ghost use Rattle.mc_typing.specs.Values as v;
 ghost use Rattle.mc_typing.specs.Values.{judged};
@@ -10,10 +10,9 @@ ghost use Rattle.mc_declarations.specs.Declarations.{lengths_in, length_then, wi
 ghost use Rattle.mc_scopes.specs.Found.{found_of, judged_of};
 ghost use Rattle.mc_scopes.specs.steps.Squeezed.{squeezed_part};
 
-use mc_scopes::faults::{after_two, fault_where, lesser};
+use mc_faults::{Fault, FaultKind, after_two, fault_where, lesser};
 use mc_scopes::found::{Found, Judged};
 use mc_scopes::values::{constant_found, fault_of_constant};
-use mc_typing::{Fault, FaultKind};
 use std::alloc::{AllocError, Global};
 
 /// No lengths. Takes no memory.

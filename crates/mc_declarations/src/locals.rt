@@ -10,18 +10,18 @@ ghost use Rattle.mc_declarations.specs.Declarations.{optional_of, written};
 ghost use Rattle.mc_declarations.specs.Halves.{automatic_begun, automatic_ended, counted_value, local_of, squeezed_local, zero_or};
 ghost use Rattle.mc_scopes.specs.Statements.{declarators_of};
 ghost use Rattle.mc_scopes.specs.Found.{judged_of};
-ghost use Rattle.mc_scopes.specs.steps.Squeezed.{listed, squeezed_part};
+ghost use Rattle.mc_faults.specs.Kept.{listed};
+ghost use Rattle.mc_scopes.specs.steps.Squeezed.{squeezed_part};
 
 use crate::declarators::copy_of;
 use crate::faults::{first_fault, unless};
 use crate::objects::{declare_untyped, object_fault};
 use crate::parameters::add_object_of;
-use mc_scopes::faults::after;
+use mc_faults::{Fault, after};
 use mc_scopes::found::Judged;
 use mc_scopes::{CType, Meaning, Scope};
 use mc_tree::{ArrayLength, Identifier};
 use mc_typed::{Declarator, Initializer, Slot};
-use mc_typing::Fault;
 use std::alloc::{AllocError, Global};
 
 /// An object that is declared: its fault so far, that of its declarator itself, where it stands,

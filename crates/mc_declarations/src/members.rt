@@ -2,7 +2,7 @@
 ghost use Rattle.std.specs.Prelude.{◌≡◌, ◌++◌, IfOk, OnOk, Some, map, option_map};
 ghost use Rattle.mc_tree.specs.Views.{name_of};
 ghost use Rattle.mc_typing.specs.Declarators as d;
-ghost use Rattle.mc_typing.specs.Faults.{least_of};
+ghost use Rattle.mc_faults.specs.Faults.{least_of};
 ghost use Rattle.mc_typing.specs.Limits as limit;
 ghost use Rattle.mc_typing.specs.Scopes as s;
 ghost use Rattle.mc_scopes.specs.Listed.{listed_of};
@@ -10,18 +10,17 @@ ghost use Rattle.mc_scopes.specs.Types.{type_of};
 ghost use Rattle.mc_scopes.specs.Views.{scope_of, structure_of};
 ghost use Rattle.mc_declarations.specs.Declarations.{lengths_in, listed_members, listed_parameters, squeezed_listed, written};
 ghost use Rattle.mc_scopes.specs.Found.{judged_of};
-ghost use Rattle.mc_scopes.specs.steps.Squeezed.{listed};
+ghost use Rattle.mc_faults.specs.Kept.{listed};
 
 use crate::declarators::{absent_fault, declared_type, incomplete_fault};
 use crate::faults::{first_fault, unless};
 use crate::parameters::Parameters;
-use mc_scopes::faults::{fault_where, lesser};
+use mc_faults::{Fault, FaultKind, fault_where, lesser};
 use mc_scopes::found::Judged;
 use mc_scopes::{
     CType, Members, Scope, Structure, cells, counted_nesting, is_large_member, layout,
 };
 use mc_tree::{ArrayLength, Identifier};
-use mc_typing::{Fault, FaultKind};
 use std::alloc::{AllocError, Global};
 
 fn member_limit_fault(

@@ -3,20 +3,19 @@ ghost use Rattle.std.specs.Prelude.{◌≡◌, OnOk, option_map, option_copied};
 ghost use Rattle.mc_tree.specs.Units as units;
 ghost use Rattle.mc_tree.specs.Views.{name_of};
 ghost use Rattle.mc_typing.specs.Declarations as w;
-ghost use Rattle.mc_typing.specs.Faults.{least_of, unless_faulty};
+ghost use Rattle.mc_faults.specs.Faults.{least_of, unless_faulty};
 ghost use Rattle.mc_scopes.specs.Types.{type_of};
 ghost use Rattle.mc_scopes.specs.Views.{meaning_of, scope_of};
 ghost use Rattle.mc_declarations.specs.Declarations.{written};
-ghost use Rattle.mc_scopes.specs.steps.Squeezed.{listed};
+ghost use Rattle.mc_faults.specs.Kept.{listed};
 
 use crate::declarators::{
     absent_fault, incomplete_fault, misnamed_fault, object_limit_fault, redeclared_fault,
 };
 use crate::storage::has_initializer;
-use mc_scopes::faults::{fault_where, lesser};
+use mc_faults::{Fault, FaultKind, fault_where, lesser};
 use mc_scopes::{CType, Meaning, Scope};
 use mc_tree::{ArrayLength, Identifier, Initializer};
-use mc_typing::{Fault, FaultKind};
 use std::alloc::AllocError;
 
 /// The fault of an object's declarator itself; `base` is the type of its specifiers.

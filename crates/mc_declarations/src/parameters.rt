@@ -3,7 +3,7 @@ ghost use Rattle.std.specs.Prelude.{◌≡◌, ◌++◌, [], ◌∷◌, IfOk, On
 ghost use Rattle.mc_tree.specs.Views.{name_of, tag_of};
 ghost use Rattle.mc_typed.specs.Layout as sizes;
 ghost use Rattle.mc_typing.specs.Declarators as d;
-ghost use Rattle.mc_typing.specs.Faults.{least_of, unless_faulty};
+ghost use Rattle.mc_faults.specs.Faults.{least_of, unless_faulty};
 ghost use Rattle.mc_typing.specs.Limits as limit;
 ghost use Rattle.mc_typing.specs.Scopes as s;
 ghost use Rattle.mc_typing.specs.Types as t;
@@ -12,20 +12,19 @@ ghost use Rattle.mc_scopes.specs.Types.{kind_of, type_of};
 ghost use Rattle.mc_scopes.specs.Views.{meaning_of, scope_of, structure_of};
 ghost use Rattle.mc_declarations.specs.Declarations.{kind_found, lengths_in, listed_parameters, squeezed_listed, written};
 ghost use Rattle.mc_scopes.specs.Found.{judged_of};
-ghost use Rattle.mc_scopes.specs.steps.Squeezed.{listed};
+ghost use Rattle.mc_faults.specs.Kept.{listed};
 
 use crate::declarators::{
     copy_of, declared_type, incomplete_fault, is_later_absent, is_over_limit, redeclared_fault,
 };
 use crate::faults::{first_fault, unless};
-use mc_scopes::faults::{fault_where, lesser};
+use mc_faults::{Fault, FaultKind, fault_where, lesser};
 use mc_scopes::found::Judged;
 use mc_scopes::{
     CType, Meaning, Objects, ParameterKind, Scope, Structure, cells, is_complete, layout,
 };
 use mc_tree::{ArrayLength, Identifier};
 use mc_typed::Span;
-use mc_typing::{Fault, FaultKind};
 use std::alloc::{AllocError, Global};
 
 /// What is found of parameters: their first fault, and for each what it takes, where that can be

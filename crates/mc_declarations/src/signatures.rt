@@ -2,7 +2,7 @@
 ghost use Rattle.std.specs.Prelude.{◌≡◌, ◌||◌, ◌&&◌, IfOk, Some, map, option_map};
 ghost use Rattle.mc_tree.specs.Views.{name_of};
 ghost use Rattle.mc_typing.specs.Declarations as w;
-ghost use Rattle.mc_typing.specs.Faults.{least_of};
+ghost use Rattle.mc_faults.specs.Faults.{least_of};
 ghost use Rattle.mc_typing.specs.Scopes as s;
 ghost use Rattle.mc_scopes.specs.Types.{base_of, type_of};
 ghost use Rattle.mc_scopes.specs.Types as types;
@@ -10,10 +10,9 @@ ghost use Rattle.mc_declarations.specs.Declarations.{kind_found, kinds_of, meani
 
 use crate::earlier::Earlier;
 use crate::external::{is_input, is_output};
-use mc_scopes::faults::{fault_where, lesser};
+use mc_faults::{Fault, FaultKind, fault_where, lesser};
 use mc_scopes::{Base, CType, ParameterKind, Signature};
 use mc_tree::Identifier;
-use mc_typing::{Fault, FaultKind};
 use mc_value::IntType;
 use std::alloc::{AllocError, Global};
 use std::sync::Arc;

@@ -10,11 +10,10 @@ ghost use Rattle.mc_scopes.specs.Found.{judged_of};
 ghost use Rattle.mc_scopes.specs.steps.Squeezed.{squeezed_part};
 
 use crate::faults::two_parts;
-use mc_scopes::faults::or_fault;
+use mc_faults::{FaultKind, or_fault};
 use mc_scopes::found::Judged;
 use mc_scopes::{Base, CType};
 use mc_tree::{Specifier, SpecifierWord};
-use mc_typing::FaultKind;
 use mc_value::IntType;
 use std::alloc::Global;
 

@@ -2,9 +2,9 @@
 ghost use Rattle.std.specs.Prelude.{◌≡◌, ◌++◌, [], IfOk, OnOk, Some, None, option_map};
 ghost use Rattle.mc_tree.specs.Views.{name_of};
 ghost use Rattle.mc_typed.specs.Layout as sizes;
-ghost use Rattle.mc_typing.specs.declared.fault.FaultKind.TheVariants.{Limit};
+ghost use Rattle.mc_faults.specs.declared.fault.FaultKind.TheVariants.{Limit};
 ghost use Rattle.mc_typing.specs.Declarations as w;
-ghost use Rattle.mc_typing.specs.Faults.{fault_if};
+ghost use Rattle.mc_faults.specs.Faults.{fault_if};
 ghost use Rattle.mc_typing.specs.Limits as limit;
 ghost use Rattle.mc_typing.specs.Scopes as s;
 ghost use Rattle.mc_typing.specs.Types as t;
@@ -15,18 +15,18 @@ ghost use Rattle.mc_declarations.specs.Declarations.{optional_of, written};
 ghost use Rattle.mc_declarations.specs.Halves.{static_begun, static_ended, squeezed_static, stored_of};
 ghost use Rattle.mc_scopes.specs.Statements.{declarators_of};
 ghost use Rattle.mc_scopes.specs.Found.{judged_of};
-ghost use Rattle.mc_scopes.specs.steps.Squeezed.{listed, squeezed_part};
+ghost use Rattle.mc_faults.specs.Kept.{listed};
+ghost use Rattle.mc_scopes.specs.steps.Squeezed.{squeezed_part};
 
 use crate::declarators::copy_of;
 use crate::faults::{first_fault, unless};
 use crate::objects::{declare_untyped, object_fault};
-use mc_scopes::faults::{after, fault_where};
+use mc_faults::{Fault, FaultKind, after, fault_where};
 use mc_scopes::found::Judged;
 use mc_scopes::initial::{values_of, zeros};
 use mc_scopes::{CType, Meaning, Scope, cells, is_passed_with, layout};
 use mc_tree::{ArrayLength, Identifier};
 use mc_typed::{Declarator, Initializer, Slot};
-use mc_typing::{Fault, FaultKind};
 use std::alloc::{AllocError, Global};
 
 /// An object that is declared: its fault so far, that of its declarator itself, and where it

@@ -11,16 +11,16 @@ ghost use Rattle.mc_declarations.specs.Declarations.{is_structure_tag, optional_
 ghost use Rattle.mc_declarations.specs.Halves.{optional_judged};
 ghost use Rattle.mc_scopes.specs.Statements.{declarators_of};
 ghost use Rattle.mc_scopes.specs.Found.{judged_of};
-ghost use Rattle.mc_scopes.specs.steps.Squeezed.{listed, squeezed_part};
+ghost use Rattle.mc_faults.specs.Kept.{listed};
+ghost use Rattle.mc_scopes.specs.steps.Squeezed.{squeezed_part};
 
 use crate::faults::first_fault;
 use crate::specifier_types::has;
+use mc_faults::{Fault, FaultKind, fault_where};
 use mc_scopes::count::count_of;
-use mc_scopes::faults::fault_where;
 use mc_scopes::found::Judged;
 use mc_tree::{InitDeclarator, Specifier, SpecifierWord};
 use mc_typed::{Declarator, Initializer};
-use mc_typing::{Fault, FaultKind};
 
 /// What a declaration declares names to be.
 #[derive(Clone, Copy, Debug, PartialEq, Eq)]

@@ -2,9 +2,9 @@
 ghost use Rattle.std.specs.Prelude.{◌≡◌, IfOk, Some, None, false, if◌then◌else◌, map, slice_get, option_map};
 ghost use Rattle.mc_tree.specs.Tree.{Name};
 ghost use Rattle.mc_tree.specs.Views.{name_of, tag_of};
-ghost use Rattle.mc_typing.specs.declared.fault.FaultKind.TheVariants.{Redeclared};
+ghost use Rattle.mc_faults.specs.declared.fault.FaultKind.TheVariants.{Redeclared};
 ghost use Rattle.mc_typing.specs.Declarators as d;
-ghost use Rattle.mc_typing.specs.Faults.{fault, unless_faulty};
+ghost use Rattle.mc_faults.specs.Faults.{fault, unless_faulty};
 ghost use Rattle.mc_typing.specs.Scopes as s;
 ghost use Rattle.mc_typing.specs.Types as t;
 ghost use Rattle.mc_scopes.specs.Listed.{listed_of};
@@ -12,14 +12,15 @@ ghost use Rattle.mc_scopes.specs.Types.{type_of};
 ghost use Rattle.mc_scopes.specs.Views.{scope_of, structure_of};
 ghost use Rattle.mc_declarations.specs.Declarations.{opened_of, listed_members};
 ghost use Rattle.mc_scopes.specs.Found.{judged_of};
-ghost use Rattle.mc_scopes.specs.steps.Squeezed.{listed, squeezed_part};
+ghost use Rattle.mc_faults.specs.Kept.{listed};
+ghost use Rattle.mc_scopes.specs.steps.Squeezed.{squeezed_part};
 
 use crate::faults::first_fault;
 use crate::tags::{next_structure, plain};
+use mc_faults::{Fault, FaultKind};
 use mc_scopes::found::Judged;
 use mc_scopes::{Base, CType, Members, Scope, Structure, TagMeaning};
 use mc_tree::Identifier;
-use mc_typing::{Fault, FaultKind};
 use std::alloc::{AllocError, Global};
 
 /// A structure whose list begins: its fault so far, and its number.

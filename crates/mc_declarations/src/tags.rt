@@ -8,11 +8,11 @@ ghost use Rattle.mc_scopes.specs.Types.{base_of, type_of};
 ghost use Rattle.mc_scopes.specs.Views.{scope_of};
 ghost use Rattle.mc_scopes.specs.Found.{judged_of};
 
+use mc_faults::{Fault, FaultKind};
 use mc_scopes::found::Judged;
 use mc_scopes::{Base, CType, Scope, Structure, TagMeaning};
 use mc_tree::Identifier;
 use mc_typed::Span;
-use mc_typing::{Fault, FaultKind};
 use mc_value::IntType;
 use std::alloc::{AllocError, Global};
 

@@ -11,18 +11,18 @@ ghost use Rattle.mc_declarations.specs.Declarations.{optional_of, written};
 ghost use Rattle.mc_declarations.specs.Halves.{begun, declared_ended, squeezed_begun, typedef_begun};
 ghost use Rattle.mc_scopes.specs.Statements.{declarators_of};
 ghost use Rattle.mc_scopes.specs.Found.{judged_of};
-ghost use Rattle.mc_scopes.specs.steps.Squeezed.{listed, squeezed_part};
+ghost use Rattle.mc_faults.specs.Kept.{listed};
+ghost use Rattle.mc_scopes.specs.steps.Squeezed.{squeezed_part};
 
 use crate::declarators::copy_of;
 use crate::faults::{first_fault, unless};
 use crate::objects::typedef_fault;
 use crate::tags::{faultless, faulty};
-use mc_scopes::faults::after;
+use mc_faults::{Fault, FaultKind, after};
 use mc_scopes::found::Judged;
 use mc_scopes::{CType, Meaning, Scope, is_faulty};
 use mc_tree::{ArrayLength, Identifier};
 use mc_typed::{Declarator, Initializer};
-use mc_typing::{Fault, FaultKind};
 use std::alloc::{AllocError, Global};
 
 // A type that is used: none where its structure has a list with a fault.

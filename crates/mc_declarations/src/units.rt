@@ -3,9 +3,9 @@ ghost use Rattle.std.specs.Prelude.{◌≡◌, ◌++◌, [], ◌∷◌, List, So
 ghost use Rattle.mc_tree.specs.Units.{item_of, items_of};
 ghost use Rattle.mc_tree.specs.Tree as tree;
 ghost use Rattle.mc_tree.specs.Views.{declarator_of, name_of};
-ghost use Rattle.mc_typing.specs.declared.fault.FaultKind.TheVariants.{Mismatch};
+ghost use Rattle.mc_faults.specs.declared.fault.FaultKind.TheVariants.{Mismatch};
 ghost use Rattle.mc_typing.specs.Declarations.{append, both_lists};
-ghost use Rattle.mc_typing.specs.Faults.{fault};
+ghost use Rattle.mc_faults.specs.Faults.{fault};
 ghost use Rattle.mc_typing.specs.Scopes as s;
 ghost use Rattle.mc_typing.specs.Typing as ty;
 ghost use Rattle.mc_typing.specs.Values.{judged, lift2};
@@ -15,11 +15,11 @@ ghost use Rattle.mc_scopes.specs.Found.{judged_of};
 ghost use Rattle.mc_scopes.specs.steps.Squeezed.{squeezed_part};
 
 use crate::faults::two_parts;
+use mc_faults::{Fault, FaultKind};
 use mc_scopes::Bodies;
 use mc_scopes::found::Judged;
 use mc_tree::{Declarator, Identifier, Item};
 use mc_typed::{Function, Span};
-use mc_typing::{Fault, FaultKind};
 use std::alloc::{AllocError, Global};
 
 fn no_function_in<'a>(

@@ -3,13 +3,14 @@ use Rattle.std.proofs.Common.{◌≡◌, ◌∙◌, ℕ, ◌+◌, List, [], ◌�
 use Rattle.mc_typed.specs.Tree.{Argument, Arguments, arguments}
 use Rattle.mc_typed.specs.Tree.{no_arguments}
 use Rattle.mc_typed.specs.Views.{arguments_from}
-use Rattle.mc_typing.specs.declared.fault.Fault.{Fault}
+use Rattle.mc_faults.specs.declared.fault.Fault.{Fault}
 use Rattle.mc_typing.specs.Scopes.{Scope}
 use Rattle.mc_typing.specs.Values.{lift2}
 use Rattle.mc_typing.specs.Types.{ParameterKind}
 use Rattle.mc_typing.specs.Values.{Found}
 use Rattle.mc_typing.specs.Calls.{Given, judged_given, argument_judged, arguments_judged}
-use Rattle.mc_scopes.specs.steps.Squeezed.{least, squeezed}
+use Rattle.mc_faults.specs.Kept.{least}
+use Rattle.mc_scopes.specs.steps.Squeezed.{squeezed}
 use Rattle.mc_expressions.specs.steps.Gathered.{squeezed_given, before, gathered, with_last, extended}
 use Rattle.mc_scopes.proofs.Squeezed.{least_front, least_back}
 use Rattle.mc_expressions.proofs.Nodes.{argument_node}

@@ -9,7 +9,7 @@ use Rattle.mc_tree.specs.declared.expressions.assignment_operator.AssignmentOper
 use Rattle.mc_tree.specs.declared.expressions.assignment_operator.AssignmentOperator.TheVariants as assign
 use Rattle.mc_tree.specs.Tree.{Name, Expression}
 use Rattle.mc_value.specs.declared.int_type.IntType.TheVariants as the
-use Rattle.mc_typing.specs.declared.fault.Fault.{Fault}
+use Rattle.mc_faults.specs.declared.fault.Fault.{Fault}
 use Rattle.mc_typing.specs.Types.{CType}
 use Rattle.mc_typing.specs.Scopes.{Scope}
 use Rattle.mc_typing.specs.Values.{Judged, Number, Found, found, part, kind_found, number_found, lift2}
@@ -18,11 +18,12 @@ use Rattle.mc_typing.specs.Types.{ParameterKind}
 use Rattle.mc_typing.specs.Scopes.{Meaning, cells_counted, with_counted}
 use Rattle.mc_typing.specs.Values.{judged}
 use Rattle.mc_typing.specs.Calls.{Given, judged_given, argument_faults, argument_value, copy_of, argument_judged, arguments_judged, callee_faults, call_value, after_call, call_found, comma_found}
-use Rattle.mc_typing.specs.Faults.{fault}
-use Rattle.mc_typing.specs.declared.fault.FaultKind.TheVariants.{Mismatch}
+use Rattle.mc_faults.specs.Faults.{fault}
+use Rattle.mc_faults.specs.declared.fault.FaultKind.TheVariants.{Mismatch}
 use Rattle.mc_typed.specs.Tree.{Argument, Arguments}
 use Rattle.mc_typed.specs.Tree as t
-use Rattle.mc_scopes.specs.steps.Squeezed.{listed, squeezed, squeezed_part, least}
+use Rattle.mc_faults.specs.Kept.{listed, least}
+use Rattle.mc_scopes.specs.steps.Squeezed.{squeezed, squeezed_part}
 use Rattle.mc_expressions.specs.steps.Gathered.{squeezed_given}
 use Rattle.mc_scopes.proofs.Squeezed.{one_part, two_parts, three_parts, least_front, least_back, least_least}
 

@@ -4,7 +4,7 @@ ghost use Rattle.mc_typed.specs.Layout as objects;
 ghost use Rattle.mc_typed.specs.Tree as t;
 ghost use Rattle.mc_typed.specs.Views.{argument_of, expression_of, place_of};
 ghost use Rattle.mc_typed.specs.Views as typed;
-ghost use Rattle.mc_typing.specs.Faults.{least_of};
+ghost use Rattle.mc_faults.specs.Faults.{least_of};
 ghost use Rattle.mc_typing.specs.Types as typing;
 ghost use Rattle.mc_typing.specs.Scopes as s;
 ghost use Rattle.mc_typing.specs.Expressions as e;
@@ -17,15 +17,14 @@ ghost use Rattle.mc_scopes.specs.Found.{found_of, kind_of, value_of};
 ghost use Rattle.mc_expressions.specs.steps.Gathered.{squeezed_given};
 
 use crate::arrays::array_fits;
+use mc_faults::{Fault, FaultKind, after, fault_where};
 use mc_scopes::conversions::convert_to;
-use mc_scopes::faults::{after, fault_where};
 use mc_scopes::found::{Found, Given, kind_found};
 use mc_scopes::kind::Kind;
 use mc_scopes::structures::structure_cells;
 use mc_scopes::value::Value;
 use mc_scopes::{Base, CType, ParameterKind, Scope, layout};
 use mc_typed::{Argument, Expression, Place};
-use mc_typing::{Fault, FaultKind};
 use mc_value::IntType;
 use std::alloc::{AllocError, Global};
 

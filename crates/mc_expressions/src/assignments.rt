@@ -13,8 +13,8 @@ ghost use Rattle.mc_scopes.specs.Found.{found_of, kind_of, value_of};
 ghost use Rattle.mc_scopes.specs.steps.Squeezed.{squeezed};
 
 use crate::update::update;
+use mc_faults::{FaultKind, two_or_fault};
 use mc_scopes::conversions::convert_to;
-use mc_scopes::faults::two_or_fault;
 use mc_scopes::found::{Found, kind_found};
 use mc_scopes::kind::{Kind, fails_assigned};
 use mc_scopes::structures::structure_cells;
@@ -22,7 +22,6 @@ use mc_scopes::value::{Value, assigned, is_const};
 use mc_scopes::{Base, CType, Scope, Structure};
 use mc_tree::AssignmentOperator;
 use mc_typed::{Effect, Expression, Place, Span};
-use mc_typing::FaultKind;
 use mc_value::IntType;
 use std::alloc::{AllocError, Global};
 

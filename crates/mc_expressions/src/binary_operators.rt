@@ -10,11 +10,10 @@ ghost use Rattle.mc_scopes.specs.Found.{found_of};
 ghost use Rattle.mc_scopes.specs.steps.Squeezed.{squeezed};
 
 use crate::operands::{both_boxed, both_converted, both_promoted};
-use mc_scopes::faults::two_or_fault;
+use mc_faults::{FaultKind, two_or_fault};
 use mc_scopes::found::{Found, fails_integer, number_found, number_in};
 use mc_tree::BinaryOperator;
 use mc_typed::{Expression, LogicOperator, Operator, Span};
-use mc_typing::FaultKind;
 use mc_value::{BinOp, ShiftOp, common};
 use std::alloc::{AllocError, Global};
 

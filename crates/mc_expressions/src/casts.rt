@@ -3,7 +3,7 @@ ghost use Rattle.std.specs.Prelude.{◌≡◌, IfOk, true, option_map};
 ghost use Rattle.mc_tree.specs.Views as syntax;
 ghost use Rattle.mc_typed.specs.Tree as t;
 ghost use Rattle.mc_typed.specs.Views.{effect_of, expression_of};
-ghost use Rattle.mc_typing.specs.Faults.{least_of};
+ghost use Rattle.mc_faults.specs.Faults.{least_of};
 ghost use Rattle.mc_typing.specs.Scopes as s;
 ghost use Rattle.mc_typing.specs.Values as v;
 ghost use Rattle.mc_typing.specs.Expressions as e;
@@ -11,15 +11,14 @@ ghost use Rattle.mc_scopes.specs.Types.{base_of, type_of};
 ghost use Rattle.mc_scopes.specs.Found.{found_of, judged_of, kind_of, value_of};
 ghost use Rattle.mc_scopes.specs.steps.Squeezed.{squeezed};
 
+use mc_faults::{Fault, FaultKind, after_two, fault_where};
 use mc_scopes::bare::discarded_fault;
-use mc_scopes::faults::{after_two, fault_where};
 use mc_scopes::found::{Found, Judged, kind_found};
 use mc_scopes::kind::{Kind, fails_integer};
 use mc_scopes::value::Value;
 use mc_scopes::{Base, CType};
 use mc_tree::Expression;
 use mc_typed::{self as typed, Effect, Span};
-use mc_typing::{Fault, FaultKind};
 use mc_value::IntType;
 use std::alloc::{AllocError, Global};
 

@@ -9,12 +9,11 @@ ghost use Rattle.mc_scopes.specs.Found.{found_of, kind_of, value_of};
 ghost use Rattle.mc_scopes.specs.steps.Squeezed.{squeezed};
 
 use crate::operands::{both_boxed, both_converted, boxed, boxed_effect};
-use mc_scopes::faults::three_or_fault;
+use mc_faults::{FaultKind, three_or_fault};
 use mc_scopes::found::{Found, fails_integer, kind_found, number_in};
 use mc_scopes::kind::{Kind, fails_arm};
 use mc_scopes::value::Value;
 use mc_typed::{Effect, Expression, Span};
-use mc_typing::FaultKind;
 use mc_value::{IntType, common};
 use std::alloc::{AllocError, Global};
 

@@ -3,8 +3,8 @@ ghost use Rattle.std.specs.Prelude.{◌≡◌, if◌then◌else◌, pos, Some, N
 ghost use Rattle.mc_value.specs.declared.int_type.IntType.TheVariants as IntType;
 ghost use Rattle.mc_value.specs.IntTypes.{in_range};
 ghost use Rattle.mc_typed.specs.Tree as t;
-ghost use Rattle.mc_typing.specs.declared.fault.FaultKind.TheVariants.{Mismatch};
-ghost use Rattle.mc_typing.specs.Faults.{fault_if, least_of};
+ghost use Rattle.mc_faults.specs.declared.fault.FaultKind.TheVariants.{Mismatch};
+ghost use Rattle.mc_faults.specs.Faults.{fault_if, least_of};
 ghost use Rattle.mc_typing.specs.Scopes as s;
 ghost use Rattle.mc_typing.specs.Values as v;
 ghost use Rattle.mc_typing.specs.Constants as c;
@@ -12,10 +12,9 @@ ghost use Rattle.mc_typing.specs.Expressions as e;
 ghost use Rattle.mc_scopes.specs.Found.{found_of, value_of};
 ghost use Rattle.mc_scopes.specs.steps.Squeezed.{squeezed};
 
-use mc_scopes::faults::fault_where;
+use mc_faults::{FaultKind, fault_where};
 use mc_scopes::found::{Found, number_found};
 use mc_typed::{Expression, Span};
-use mc_typing::FaultKind;
 use mc_value::{IntType, range};
 
 // Whether a number is a value of the type.

@@ -2,26 +2,26 @@
 ghost use Rattle.std.specs.Prelude.{◌≡◌, IfOk, map, not, ◌&&◌, is_none, option_map};
 ghost use Rattle.mc_tree.specs.Views.{name_of};
 ghost use Rattle.mc_typed.specs.Tree as t;
-ghost use Rattle.mc_typed.specs.Views.{argument_of, call_of};
-ghost use Rattle.mc_typing.specs.Faults.{least_of};
+ghost use Rattle.mc_typed.specs.Views.{argument_of, call_of, expression_of};
+ghost use Rattle.mc_faults.specs.Faults.{least_of};
 ghost use Rattle.mc_typing.specs.Scopes as s;
 ghost use Rattle.mc_typing.specs.Calls as c;
 ghost use Rattle.mc_scopes.specs.Types.{base_of, signature_of};
 ghost use Rattle.mc_scopes.specs.Views.{scope_of, structure_of};
 ghost use Rattle.mc_scopes.specs.Given.{arguments_of, given_of};
 ghost use Rattle.mc_scopes.specs.Found.{found_of, value_of};
-ghost use Rattle.mc_scopes.specs.steps.Squeezed.{listed, squeezed};
-ghost use Rattle.mc_expressions.specs.steps.Callees.{meaning_of_callee, only_argument};
+ghost use Rattle.mc_faults.specs.Kept.{listed};
+ghost use Rattle.mc_scopes.specs.steps.Squeezed.{squeezed};
+ghost use Rattle.mc_expressions.specs.steps.Callees.{given_number, meaning_of_callee, only_argument, output_with};
 
 use crate::arguments::add_temporary;
 use crate::callee::Callee;
-use mc_scopes::faults::{after, fault_where, or_fault};
+use mc_faults::{Fault, FaultKind, after, fault_where, or_fault};
 use mc_scopes::found::{Found, Given};
 use mc_scopes::value::Value;
 use mc_scopes::{Base, Scope, Signature, Structure, is_complete};
 use mc_tree::Identifier;
 use mc_typed::{Argument, Effect, Expression, FunctionCall, Slot, Span};
-use mc_typing::{Fault, FaultKind};
 use std::alloc::{AllocError, Global};
 use std::sync::Arc;
 
@@ -137,23 +137,34 @@ fn only(arguments: Vec<Argument>) -> Option<Argument>
     }
 }
 
+// The number that an argument is, taken out of it.
+fn number_of(argument: &mut Argument, span: Span) -> Option<Expression>
+    ensures { option_map expression_of result ≡ given_number (argument_of argument.old) }
+{
+    match argument {
+        Argument::Number { value } => { Some(std::mem::replace(value, Expression::Input { span })) }
+        Argument::Structure { .. } | Argument::Array { .. } | Argument::Again { .. } => None,
+    }
+}
+
+fn output_with(span: Span, argument: Argument) -> Option<Value>
+    ensures { option_map value_of result ≡ output_with span (argument_of argument) }
+{
+    let mut argument = argument;
+    let number = number_of(&mut argument, span);
+    drop(argument);
+    match number {
+        Some(value) => Some(Value::Done(Effect::Output { value, span })),
+        None => None,
+    }
+}
+
 #[tactic(auto, using(crate::proofs::Calls::output_of_only))]
 fn output_of(span: Span, arguments: Vec<Argument>) -> Option<Value>
     ensures { option_map value_of result ≡ c.output_of span (arguments_of arguments) }
 {
     match only(arguments) {
-        Some(argument) => match argument {
-            Argument::Number { value } => Some(Value::Done(Effect::Output { value, span })),
-            Argument::Structure { .. } => {
-                drop(argument);
-                None
-            }
-            Argument::Array { .. } => {
-                drop(argument);
-                None
-            }
-            Argument::Again { .. } => None,
-        },
+        Some(argument) => output_with(span, argument),
         None => None,
     }
 }

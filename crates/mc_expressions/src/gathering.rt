@@ -4,19 +4,18 @@ ghost use Rattle.mc_typed.specs.Tree.{no_arguments};
 ghost use Rattle.mc_typed.specs.Views.{argument_of};
 ghost use Rattle.mc_typing.specs.Calls.{judged_given};
 ghost use Rattle.mc_typing.specs.Calls as c;
-ghost use Rattle.mc_typing.specs.Faults.{least_of};
+ghost use Rattle.mc_faults.specs.Faults.{least_of};
 ghost use Rattle.mc_typing.specs.Scopes as s;
 ghost use Rattle.mc_typing.specs.Values as v;
 ghost use Rattle.mc_scopes.specs.Types.{kind_of};
 ghost use Rattle.mc_scopes.specs.Given.{arguments_of, given_of, items_of};
-ghost use Rattle.mc_scopes.specs.steps.Squeezed.{listed};
+ghost use Rattle.mc_faults.specs.Kept.{listed};
 ghost use Rattle.mc_expressions.specs.steps.Gathered.{before, extended, gathered, squeezed_given, with_last};
 
+use mc_faults::{Fault, lesser};
 use mc_scopes::ParameterKind;
-use mc_scopes::faults::lesser;
 use mc_scopes::found::Given;
 use mc_typed::Argument;
-use mc_typing::Fault;
 use std::alloc::{AllocError, Global};
 
 /// No arguments so far. Takes no memory.

@@ -3,7 +3,7 @@ ghost use Rattle.std.specs.Prelude.{◌≡◌, IfOk, option_copied, option_map, 
 ghost use Rattle.mc_value.specs.declared.int_type.IntType.TheVariants as IntType;
 ghost use Rattle.mc_typed.specs.Tree as t;
 ghost use Rattle.mc_typed.specs.Views.{place_of};
-ghost use Rattle.mc_typing.specs.Faults.{least_of};
+ghost use Rattle.mc_faults.specs.Faults.{least_of};
 ghost use Rattle.mc_typing.specs.Values as v;
 ghost use Rattle.mc_typing.specs.Scopes as s;
 ghost use Rattle.mc_typing.specs.Expressions as e;
@@ -13,11 +13,11 @@ ghost use Rattle.mc_scopes.specs.Found.{found_of, value_of};
 ghost use Rattle.mc_scopes.specs.steps.Squeezed.{squeezed};
 ghost use Rattle.mc_expressions.specs.steps.Names.{named_found};
 
+use mc_faults::{Fault, FaultKind};
 use mc_scopes::found::Found;
 use mc_scopes::value::Value;
 use mc_scopes::{CType, Meaning};
 use mc_typed::{Expression, Place, Span};
-use mc_typing::{Fault, FaultKind};
 use mc_value::IntType;
 use std::alloc::AllocError;
 

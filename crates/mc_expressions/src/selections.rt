@@ -3,7 +3,7 @@ ghost use Rattle.std.specs.Prelude.{◌≡◌, ℕ, List, IfOk, IfSome, Some, ma
 ghost use Rattle.mc_tree.specs.Views.{name_of};
 ghost use Rattle.mc_typed.specs.Layout as objects;
 ghost use Rattle.mc_typed.specs.Views.{place_of};
-ghost use Rattle.mc_typing.specs.Faults.{least_of};
+ghost use Rattle.mc_faults.specs.Faults.{least_of};
 ghost use Rattle.mc_typing.specs.Types as types;
 ghost use Rattle.mc_typing.specs.Expressions as e;
 ghost use Rattle.mc_scopes.specs.Listed.{selected_of};
@@ -12,14 +12,13 @@ ghost use Rattle.mc_scopes.specs.Views.{scope_of, structure_of};
 ghost use Rattle.mc_scopes.specs.Found.{found_of, kind_of, value_of};
 ghost use Rattle.mc_scopes.specs.steps.Squeezed.{squeezed};
 
-use mc_scopes::faults::{after, fault_where, or_fault};
+use mc_faults::{Fault, FaultKind, after, fault_where, or_fault};
 use mc_scopes::found::{Found, kind_found};
 use mc_scopes::kind::{Kind, fails_structure};
 use mc_scopes::value::Value;
 use mc_scopes::{Base, CType, Member, Scope, Structure};
 use mc_tree::Identifier;
 use mc_typed::{Place, Span};
-use mc_typing::{Fault, FaultKind};
 use std::alloc::{AllocError, Global};
 
 // The member of a structure with this name, and its number.

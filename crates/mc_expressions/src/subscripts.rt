@@ -11,13 +11,12 @@ ghost use Rattle.mc_scopes.specs.Views.{scope_of, structure_of};
 ghost use Rattle.mc_scopes.specs.Found.{found_of, value_of};
 ghost use Rattle.mc_scopes.specs.steps.Squeezed.{squeezed};
 
-use mc_scopes::faults::two_or_fault;
+use mc_faults::{FaultKind, two_or_fault};
 use mc_scopes::found::{Found, fails_integer, kind_found, number_in};
 use mc_scopes::kind::fails_array;
 use mc_scopes::value::Value;
 use mc_scopes::{CType, Scope, Structure, cells};
 use mc_typed::{Expression, Place, Span};
-use mc_typing::FaultKind;
 use std::alloc::{AllocError, Global};
 
 // The type of an element, whose lengths are these.

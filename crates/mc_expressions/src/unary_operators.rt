@@ -6,12 +6,11 @@ ghost use Rattle.mc_typing.specs.Expressions as e;
 ghost use Rattle.mc_scopes.specs.Found.{found_of};
 ghost use Rattle.mc_scopes.specs.steps.Squeezed.{squeezed};
 
+use mc_faults::{FaultKind, or_fault};
 use mc_scopes::conversions::promote;
-use mc_scopes::faults::or_fault;
 use mc_scopes::found::{Found, fails_integer, number_found, number_in};
 use mc_tree::UnaryOperator;
 use mc_typed::{Expression, Span};
-use mc_typing::FaultKind;
 use mc_value::UnOp;
 use std::alloc::{AllocError, Global};
 

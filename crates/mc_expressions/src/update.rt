@@ -12,14 +12,13 @@ ghost use Rattle.mc_scopes.specs.Found.{found_of, value_of};
 ghost use Rattle.mc_scopes.specs.steps.Squeezed.{squeezed};
 
 use crate::constants::one;
+use mc_faults::{FaultKind, two_or_fault};
 use mc_scopes::conversions::{convert_to, promote};
-use mc_scopes::faults::two_or_fault;
 use mc_scopes::found::{Found, fails_integer};
 use mc_scopes::value::{Value, assigned, is_const};
 use mc_scopes::{Base, CType};
 use mc_tree::{AssignmentOperator, StepOperator};
 use mc_typed::{Effect, Expression, Operator, Place, Span};
-use mc_typing::FaultKind;
 use mc_value::{BinOp, IntType, ShiftOp};
 use std::alloc::{AllocError, Global};
 

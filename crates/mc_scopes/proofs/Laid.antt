@@ -9,7 +9,7 @@ use Rattle.mc_value.specs.declared.object_type.ObjType.{ObjType}
 use Rattle.mc_typed.specs.Layout.{ObjectType, object_type_of, cells, cells_all, nesting, nesting_all, members_from, start}
 use Rattle.mc_typing.specs.Declarators.{has_member}
 use Rattle.mc_typing.specs.Expressions.{Selected, selected, layouts_of}
-use Rattle.mc_scopes.specs.Tables.{Named, last_of, later_or, last_place_of}
+use Rattle.mc_names.specs.Tables.{Named, last_of, later_or, last_place_of}
 use Rattle.mc_scopes.specs.Listed.{layout_of, listed_of, selected_of, found_member, member_at, AreLaid}
 use Rattle.mc_scopes.specs.declared.member.Member.{Member}
 

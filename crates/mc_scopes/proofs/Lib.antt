@@ -1,12 +1,11 @@
 pub mod Arrays
 pub mod Counted
-pub mod Kept
 pub mod Laid
 pub mod Lengths
 pub mod Mapped
-pub mod Places
 pub mod Seen
 pub mod Squeezed
 pub mod Constants
 pub mod Filled
 pub mod Counts
+pub mod Leasts

@@ -3,7 +3,7 @@ use Rattle.std.proofs.Common.{◌≡◌, ◌∙◌, ℕ, List, [], ◌∷◌, �
 use Rattle.std.specs.Str.{bytes_eq}
 use Rattle.std.proofs.lemmas.List.{drop-map, take-map, map-append}
 use Rattle.mc_typing.specs.Scopes as s
-use Rattle.mc_scopes.specs.Tables.{Named, last_of, later_or}
+use Rattle.mc_names.specs.Tables.{Named, last_of, later_or}
 use Rattle.mc_scopes.specs.Views.{meaning_of, tag_of, entry_of, tag_entry_of, structure_of}
 use Rattle.mc_typed.specs.Views.{object_of}
 use Rattle.mc_typed.specs.declared.objects.Object.{Object}

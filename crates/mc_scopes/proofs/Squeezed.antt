@@ -1,10 +1,11 @@
 -- Nodes see of the faults of their parts the least alone.
 use Rattle.std.proofs.Common.{◌≡◌, ◌∙◌, List, [], ◌∷◌, ◌++◌, Option, Some, None, refl, sym, ap}
-use Rattle.mc_typing.specs.declared.fault.Fault.{Fault}
-use Rattle.mc_typing.specs.Faults.{lesser, least_of, unless_faulty}
+use Rattle.mc_faults.specs.declared.fault.Fault.{Fault}
+use Rattle.mc_faults.specs.Faults.{lesser, least_of, unless_faulty}
 use Rattle.mc_typing.specs.Values.{Judged, judged_one, judged_two, judged_three, judged_four}
-use Rattle.mc_typing.proofs.Leasts.{least_joined}
-use Rattle.mc_scopes.specs.steps.Squeezed.{listed, least, squeezed_part}
+use Rattle.mc_faults.proofs.Leasts.{least_joined}
+use Rattle.mc_faults.specs.Kept.{listed, least}
+use Rattle.mc_scopes.specs.steps.Squeezed.{squeezed_part}
 
 pub least_listed : (o : Option Fault) → least_of (listed o) ≡ o
 least_listed None = refl

@@ -10,7 +10,7 @@ use Rattle.mc_scopes.specs.declared.kind.Kind.{Kind}
 use Rattle.mc_scopes.specs.declared.kind.Kind.TheVariants as kind
 use Rattle.mc_scopes.specs.declared.value.Value.{Value}
 use Rattle.mc_scopes.specs.declared.value.Value.TheVariants as value
-use Rattle.mc_scopes.specs.steps.Squeezed.{listed}
+use Rattle.mc_faults.specs.Kept.{listed}
 
 abbrev pub value_of : Value → v.Value
 value_of (value.Number e) = v.Number (expression_of e)

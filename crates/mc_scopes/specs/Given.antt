@@ -7,7 +7,7 @@ use Rattle.mc_typed.specs.Views.{argument_of, arguments_from}
 use Rattle.mc_typing.specs.Scopes.{Scope}
 use Rattle.mc_typing.specs.Calls as calls
 use Rattle.mc_scopes.specs.declared.found.Given.{Given}
-use Rattle.mc_scopes.specs.steps.Squeezed.{listed}
+use Rattle.mc_faults.specs.Kept.{listed}
 
 -- arguments, in their order
 abbrev pub items_of : Vec Argument Global → List t.Argument

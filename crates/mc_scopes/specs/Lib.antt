@@ -1,6 +1,3 @@
-pub mod Tables
-pub mod Taken
-pub mod Indexed
 pub mod Types
 pub mod Listed
 pub mod Counted

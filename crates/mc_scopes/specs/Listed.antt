@@ -7,7 +7,7 @@ use Rattle.mc_typing.specs.Types.{nothing}
 use Rattle.mc_typing.specs.Types as t
 use Rattle.mc_typing.specs.Declarators.{cells_of_members}
 use Rattle.mc_typing.specs.Expressions.{Selected, layouts_of}
-use Rattle.mc_scopes.specs.Tables.{Named}
+use Rattle.mc_names.specs.Tables.{Named}
 use Rattle.mc_scopes.specs.declared.member.Member.{Member}
 use Rattle.mc_scopes.specs.Types.{type_of}
 

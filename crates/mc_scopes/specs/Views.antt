@@ -3,7 +3,7 @@ use Rattle.std.specs.Prelude.{List, map, Option, Some, None, option_map}
 use Rattle.mc_typed.specs.Views.{object_of, static_of}
 use Rattle.mc_typing.specs.Types as t
 use Rattle.mc_typing.specs.Scopes as s
-use Rattle.mc_scopes.specs.Tables.{Named}
+use Rattle.mc_names.specs.Tables.{Named}
 use Rattle.mc_scopes.specs.Types.{type_of, signature_of}
 use Rattle.mc_scopes.specs.Listed.{listed_of}
 use Rattle.mc_scopes.specs.declared.meanings.Meaning.{Meaning}

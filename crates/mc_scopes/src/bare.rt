@@ -1,14 +1,13 @@
 //! Where an expression starts inside the parentheses round it, and faults that stand there.
 ghost use Rattle.std.specs.Prelude.{◌≡◌, option_map};
 ghost use Rattle.mc_tree.specs.Views as tree;
-ghost use Rattle.mc_typing.specs.Faults.{least_of};
+ghost use Rattle.mc_faults.specs.Faults.{least_of};
 ghost use Rattle.mc_typing.specs.Values as v;
 ghost use Rattle.mc_scopes.specs.Found.{kind_of};
 
-use crate::faults::fault_where;
 use crate::kind::{Kind, fails_discarded, fails_effect};
+use mc_faults::{Fault, FaultKind, fault_where};
 use mc_tree::Expression;
-use mc_typing::{Fault, FaultKind};
 
 /// Where an expression starts inside the parentheses round it. Takes no memory.
 pub fn bare_start(expression: &Expression<'_>) -> u32

@@ -6,8 +6,8 @@ ghost use Rattle.mc_scopes.specs.Found.{kind_of, value_of};
 
 use crate::kind::Kind;
 use crate::value::Value;
+use mc_faults::Fault;
 use mc_typed::Expression;
-use mc_typing::Fault;
 
 /// What is found of an expression: its first fault, its value where it has a type, whether it
 /// designates an object, and whether it is built as an integer constant expression (C17 6.6p6).

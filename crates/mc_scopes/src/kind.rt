@@ -2,6 +2,7 @@
 ghost use Rattle.std.specs.Prelude.{◌≡◌, option_map};
 ghost use Rattle.mc_typing.specs.Values as v;
 ghost use Rattle.mc_typing.specs.Expressions as e;
+ghost use Rattle.mc_typing.specs.Initializers as i;
 ghost use Rattle.mc_scopes.specs.Found.{kind_of};
 
 use crate::types::Base;
@@ -99,6 +100,17 @@ impl Kind<'_> {
 }
 
 // ---- an operand whose kind is known, and does not pass the test
+
+/// Whether it is the kind of the structure type with this number.
+pub fn is_kind(number: u32, kind: Kind<'_>) -> bool
+    ensures { result ≡ i.is_kind number (kind_of kind.entry) }
+{
+    match kind {
+        Kind::Structure(other) => other == number,
+        Kind::Void | Kind::Assignment | Kind::Integer | Kind::Array { .. } | Kind::Function =>
+            false,
+    }
+}
 
 pub fn fails_integer(kind: Option<Kind<'_>>) -> bool
     ensures { result ≡ v.fails v.is_integer (option_map kind_of kind.entry) }

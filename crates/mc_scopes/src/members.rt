@@ -10,8 +10,8 @@ ghost use Rattle.mc_scopes.specs.Listed.{layout_of, listed_of, selected_of, foun
 ghost use Rattle.mc_scopes.specs.Views.{complete_in};
 
 use crate::member::Member;
-use crate::table::Table;
 use crate::types::CType;
+use mc_names::Table;
 use mc_value::ObjType;
 use std::alloc::{AllocError, Global};
 use std::marker::Model;
@@ -47,7 +47,7 @@ impl<'a> Model for Members<'a> {
     ghost use Rattle.std.specs.Coded.{codes};
     ghost use Rattle.mc_value.specs.contracts.object_type.ObjType as object_types_of;
     ghost use Rattle.mc_scopes.specs.declared.member.Member.{Member};
-    ghost use Rattle.mc_scopes.specs.Tables.{Named};
+    ghost use Rattle.mc_names.specs.Tables.{Named};
     ghost use Rattle.mc_scopes.specs.Listed.{AreLaid};
 
     ghost Value = { List (Named Member) };
@@ -65,7 +65,7 @@ impl<'a> Model for Complete<'a> {
     ghost use Rattle.mc_value.specs.contracts.object_type.ObjType as object_types_of;
     ghost use Rattle.mc_typed.specs.Layout.{object_type_of};
     ghost use Rattle.mc_scopes.specs.declared.member.Member.{Member};
-    ghost use Rattle.mc_scopes.specs.Tables.{Named};
+    ghost use Rattle.mc_names.specs.Tables.{Named};
     ghost use Rattle.mc_scopes.specs.Listed.{listed_of};
 
     ghost Value = { List (Named Member) };

@@ -105,8 +105,7 @@ impl<'a> Scope<'a> {
             ≡ body_in (around_of block).names (name_of name.now) (meaning_of meaning)
             (scope_of self.old)) }
     {
-        let count = block.names.checked_add(1).ok_or(AllocError)?;
-        self.names.insert(alloc, block.names, name.text, meaning)?;
+        let count = self.names.insert(alloc, block.names, name.text, meaning)?;
         self.names_from = count;
         Ok(Block {
             names: count,

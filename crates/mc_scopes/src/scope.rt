@@ -10,7 +10,7 @@ use crate::bodies::Bodies;
 use crate::labels::Labels;
 use crate::meanings::{Meaning, TagMeaning};
 use crate::members::Structure;
-use crate::table::Table;
+use mc_names::Table;
 use mc_tree::Identifier;
 use mc_typed::{Object, Slot, StaticObject};
 use mc_value::ObjType;

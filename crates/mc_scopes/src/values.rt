@@ -7,7 +7,7 @@ ghost use Rattle.mc_value.specs.Conversions.{converted, promoted};
 ghost use Rattle.mc_value.specs.Conversions as conversions;
 ghost use Rattle.mc_value.specs.Arithmetic.{unary_of};
 ghost use Rattle.mc_typed.specs.Views.{expression_of};
-ghost use Rattle.mc_typing.specs.Faults.{least_of};
+ghost use Rattle.mc_faults.specs.Faults.{least_of};
 ghost use Rattle.mc_typing.specs.Scopes as s;
 ghost use Rattle.mc_typing.specs.Values as v;
 ghost use Rattle.mc_typing.specs.Constants as c;
@@ -15,11 +15,10 @@ ghost use Rattle.mc_typing.specs.Initializers as i;
 ghost use Rattle.mc_scopes.specs.Found.{found_of, value_of};
 ghost use Rattle.mc_scopes.specs.steps.Logic as logic;
 
-use crate::faults::fault_where;
 use crate::found::Found;
 use crate::value::Value;
+use mc_faults::{Fault, FaultKind, fault_where};
 use mc_typed::{Expression, LogicOperator, Operator};
-use mc_typing::{Fault, FaultKind};
 use mc_value::{IntType, Trap, UnOp, binary, convert, range, shift, unary};
 use std::alloc::AllocError;
 

@@ -2,7 +2,7 @@
 use Rattle.std.proofs.Common.{◌≡◌, ℕ, Bool, true, false, ◌&&◌, if◌then◌else◌, List, [], ◌∷◌, ◌++◌, Option, Some, None, refl, ap, sym, ◌∙◌, subst, bytes_eq, ◌⊎◌, inl, inr}
 use Rattle.std.proofs.lemmas.Slice.Eq.{bytes_eq-Decides}
 use Rattle.mc_tree.specs.Tree.{Name}
-use Rattle.mc_typing.specs.declared.fault.FaultKind.TheVariants.{Mismatch}
+use Rattle.mc_faults.specs.declared.fault.FaultKind.TheVariants.{Mismatch}
 use Rattle.mc_typing.specs.Types.{Base, CType, ParameterKind, ByValue, ByArray, Signature, same_base, same_lengths, same_unqualified, same_bool, same_type, same_parameter, same_parameters, same_signature}
 use Rattle.mc_typing.specs.Scopes.{Entry, Meaning, Automatic, Stored, Borrowed, Constant, Function, Typedef, later_or, named, is_input, is_output}
 use Rattle.mc_typing.specs.Declarations.{differs, repeated_faults, input_signature, output_signature, external_faults}

@@ -8,8 +8,8 @@ use Rattle.mc_value.specs.Conversions.{promoted}
 use Rattle.mc_typed.specs.Tree as t
 use Rattle.mc_typed.specs.Sound.{AreStatements, labels_of, type_of}
 use Rattle.mc_typed.specs.Sound as sound
-use Rattle.mc_typing.specs.declared.fault.FaultKind.TheVariants.{Mismatch}
-use Rattle.mc_typing.specs.Faults.{fault, fault_if}
+use Rattle.mc_faults.specs.declared.fault.FaultKind.TheVariants.{Mismatch}
+use Rattle.mc_faults.specs.Faults.{fault, fault_if}
 use Rattle.mc_typing.specs.Scopes.{Labels, Scope, entered, block, left}
 use Rattle.mc_typing.specs.Values.{Judged, Found, kind_found, is_integer, fails, number_found}
 use Rattle.mc_typing.specs.Constants.{constant_found, constant_faults}

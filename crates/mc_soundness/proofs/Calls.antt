@@ -11,7 +11,7 @@ use Rattle.mc_typed.specs.Tree.{Place, Argument, Arguments, Object, ParameterTyp
 use Rattle.mc_typed.specs.Tree as t
 use Rattle.mc_typed.specs.Frames.{slots, slots_argument, slots_arguments}
 use Rattle.mc_typed.specs.Sound.{structure_result, result_at, IsSlotOf, IsExpression, IsStructureType, IsArgument, AreArguments, Takes, type_of}
-use Rattle.mc_typing.specs.declared.fault.FaultKind.TheVariants.{Mismatch, NoBody}
+use Rattle.mc_faults.specs.declared.fault.FaultKind.TheVariants.{Mismatch, NoBody}
 use Rattle.mc_typing.specs.Profile.{start_at}
 use Rattle.mc_typing.specs.Types.{Base, Void, Integer, Tagged, CType, plain, Structure, is_complete, layout_of_base, arrays_of, layout_of, same_base, same_lengths, same_unqualified, ParameterKind, ByValue, ByArray, Signature}
 use Rattle.mc_typing.specs.Scopes.{Function, Scope, place_from, function_number, is_input, is_output, is_external, next_slot, with_object, with_counted}

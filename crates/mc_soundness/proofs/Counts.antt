@@ -8,8 +8,8 @@ use Rattle.mc_tree.specs.Length.{after_comma, of_expression, of_expressions, of_
 use Rattle.mc_typed.specs.Layout.{ObjectType}
 use Rattle.mc_typed.specs.Tree.{Statements}
 use Rattle.mc_typed.specs.Tree as t
-use Rattle.mc_typing.specs.declared.fault.Fault.{Fault}
-use Rattle.mc_typing.specs.Faults.{unless_faulty}
+use Rattle.mc_faults.specs.declared.fault.Fault.{Fault}
+use Rattle.mc_faults.specs.Faults.{unless_faulty}
 use Rattle.mc_typing.specs.Types.{CType, Member, Structure, Incomplete, Complete, Faulty, structures_from, ParameterKind, ByValue, ByArray, Signature}
 use Rattle.mc_typing.specs.Scopes.{Meaning, Typedef, TagMeaning, StructureTag, EnumerationTag, Scope, Labels, file_scope, entered, block, left, cells_counted, next_slot, next_static, with_counted, with_objects_of, with_name, meaning_here, meaning_of, tag_of, tag_here, prototype, body_scope, left_function}
 use Rattle.mc_typing.specs.Scopes as scope

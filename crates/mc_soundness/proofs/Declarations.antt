@@ -9,9 +9,9 @@ use Rattle.mc_typed.specs.Tree as t
 use Rattle.mc_typed.specs.Frames.{slots_value}
 use Rattle.mc_typed.specs.Sound.{IsSlotOf, cells_at, IsInitial, IsObjectType, AreInRange, slots_from}
 use Rattle.mc_typed.proofs.CellTypes.{length_scalars}
-use Rattle.mc_typing.specs.declared.fault.Fault.{Fault}
-use Rattle.mc_typing.specs.declared.fault.FaultKind.TheVariants.{Mismatch, Limit}
-use Rattle.mc_typing.specs.Faults.{unless_faulty}
+use Rattle.mc_faults.specs.declared.fault.Fault.{Fault}
+use Rattle.mc_faults.specs.declared.fault.FaultKind.TheVariants.{Mismatch, Limit}
+use Rattle.mc_faults.specs.Faults.{unless_faulty}
 use Rattle.mc_typing.specs.Profile.{most_cells, most_nesting, most_lengths, start_at}
 use Rattle.mc_typing.specs.Types.{CType, Structure, Incomplete, Complete, Faulty, is_complete, layout_of}
 use Rattle.mc_typing.specs.Scopes.{Entry, Meaning, Automatic, Stored, Borrowed, Constant, Function, Typedef, Scope, with_name, with_counted, cells_counted, with_object, with_static, next_slot, next_static}

@@ -7,9 +7,9 @@ use Rattle.mc_typed.specs.Tree.{Declarator}
 use Rattle.mc_typed.specs.Frames.{slots_value, slots_declarators}
 use Rattle.mc_typed.specs.Sound.{AreDeclarators}
 use Rattle.mc_typed.specs.Sound as sound
-use Rattle.mc_typing.specs.declared.fault.Fault.{Fault}
-use Rattle.mc_typing.specs.declared.fault.FaultKind.TheVariants.{Mismatch}
-use Rattle.mc_typing.specs.Faults.{fault_if, unless_faulty}
+use Rattle.mc_faults.specs.declared.fault.Fault.{Fault}
+use Rattle.mc_faults.specs.declared.fault.FaultKind.TheVariants.{Mismatch}
+use Rattle.mc_faults.specs.Faults.{fault_if, unless_faulty}
 use Rattle.mc_typing.specs.Types.{CType}
 use Rattle.mc_typing.specs.Scopes.{Typedef, Scope}
 use Rattle.mc_typing.specs.Declarators.{redeclared_faults, misnamed_faults, is_later_absent, is_first_absent, declared_type, absent_faults}

@@ -12,7 +12,7 @@ use Rattle.mc_typed.specs.Tree as t
 use Rattle.mc_typed.specs.Frames.{slots_statements}
 use Rattle.mc_typed.specs.Sound.{AreStatements, AreLaidOut, AreObjectTypes, AreParameters, IsResult, slots_from, scope_of, IsFunction}
 use Rattle.mc_typed.specs.Sound as sound
-use Rattle.mc_typing.specs.declared.fault.FaultKind.TheVariants.{Limit}
+use Rattle.mc_faults.specs.declared.fault.FaultKind.TheVariants.{Limit}
 use Rattle.mc_typing.specs.Profile.{most_cells, start_at}
 use Rattle.mc_typing.specs.Types.{Base, Void, Integer, Tagged, plain, Structure, Incomplete, Complete, Faulty, is_complete, layout_of, structures_from, ParameterKind, ByValue, ByArray, Signature}
 use Rattle.mc_typing.specs.Scopes.{Entry, Scope, prototype, body_scope, left_function}

@@ -22,7 +22,7 @@ use Rattle.mc_typed.specs.Tree.{Place, Expression, Effect}
 use Rattle.mc_typed.specs.Tree as t
 use Rattle.mc_typed.specs.Frames.{slots, slots_place, slots_effect}
 use Rattle.mc_typed.specs.Sound.{type_of, place_type, IsPlace, IsExpression, IsEffect, compares}
-use Rattle.mc_typing.specs.declared.fault.FaultKind.TheVariants.{Mismatch}
+use Rattle.mc_faults.specs.declared.fault.FaultKind.TheVariants.{Mismatch}
 use Rattle.mc_typing.specs.Types.{Base, Void, Integer, Tagged, CType, plain, Structure, is_complete, layout_of}
 use Rattle.mc_typing.specs.Scopes.{Scope}
 use Rattle.mc_typing.specs.Values.{Judged, Value, Number, Stored, Borrowed, Returned, Done, Assigned, Designator, Kind, IsVoid, IsInteger, IsStructure, IsArray, IsAssignment, IsFunction, kind_of_base, kind_of_object, kind_of, Found, kind_found, is_integer, is_discarded, fails, number_in, number_found, lift2, whole}

@@ -28,8 +28,8 @@ use Rattle.mc_typed.specs.Tree as t
 use Rattle.mc_typed.specs.Frames.{slots}
 use Rattle.mc_typed.specs.Sound.{type_of, place_type, structure_type, IsPlace, IsExpression, IsEffect, IsUnary, HasOperands, Updates, Converts, compares}
 use Rattle.mc_typed.specs.Sound as sound
-use Rattle.mc_typing.specs.declared.fault.FaultKind.TheVariants.{Mismatch, Undeclared}
-use Rattle.mc_typing.specs.Faults.{fault_if}
+use Rattle.mc_faults.specs.declared.fault.FaultKind.TheVariants.{Mismatch, Undeclared}
+use Rattle.mc_faults.specs.Faults.{fault_if}
 use Rattle.mc_typing.specs.Types.{Base, Void, Integer, Tagged, CType, Member, Structure, Complete, members_of, is_complete, layout_of_base, arrays_of, layout_of}
 use Rattle.mc_typing.specs.Scopes.{Meaning, Automatic, Constant, Function, Typedef, Scope, meaning_of, later_or}
 use Rattle.mc_typing.specs.Scopes as scope

@@ -5,8 +5,8 @@ use Rattle.mc_tree.specs.Tree as tree
 use Rattle.mc_typed.specs.Layout.{ObjectType}
 use Rattle.mc_typed.specs.Tree.{Object, StaticObject}
 use Rattle.mc_typed.specs.Tree as t
-use Rattle.mc_typing.specs.declared.fault.Fault.{Fault}
-use Rattle.mc_typing.specs.Faults.{unless_faulty}
+use Rattle.mc_faults.specs.declared.fault.Fault.{Fault}
+use Rattle.mc_faults.specs.Faults.{unless_faulty}
 use Rattle.mc_typing.specs.Types.{CType, ParameterKind}
 use Rattle.mc_typing.specs.Scopes.{Entry, Meaning, Automatic, Scope, next_slot, cells_counted, with_name, with_counted, with_static, prototype}
 use Rattle.mc_typing.specs.Declarators.{Listed, declared_type}

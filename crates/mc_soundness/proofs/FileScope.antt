@@ -9,9 +9,9 @@ use Rattle.mc_typed.specs.Tree.{Object, Declarator}
 use Rattle.mc_typed.specs.Tree as t
 use Rattle.mc_typed.specs.Frames.{slots_declarators}
 use Rattle.mc_typed.specs.Sound.{slots_from}
-use Rattle.mc_typing.specs.declared.fault.Fault.{Fault}
-use Rattle.mc_typing.specs.declared.fault.FaultKind.TheVariants.{Mismatch}
-use Rattle.mc_typing.specs.Faults.{fault, fault_if, unless_faulty}
+use Rattle.mc_faults.specs.declared.fault.Fault.{Fault}
+use Rattle.mc_faults.specs.declared.fault.FaultKind.TheVariants.{Mismatch}
+use Rattle.mc_faults.specs.Faults.{fault, fault_if, unless_faulty}
 use Rattle.mc_typing.specs.Types.{CType, has, ParameterKind, Signature}
 use Rattle.mc_typing.specs.Scopes.{Entry, Meaning, Stored, Function, Typedef, Scope, named, meaning_here, with_name, next_static, prototype}
 use Rattle.mc_typing.specs.Values.{Judged}

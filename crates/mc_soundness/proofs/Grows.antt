@@ -9,7 +9,7 @@ use Rattle.mc_tree.specs.Tree.{Name, Expression, Expressions, TypeName, Specifie
 use Rattle.mc_tree.specs.Tree as tree
 use Rattle.mc_typed.specs.Layout.{ObjectType}
 use Rattle.mc_typed.specs.Tree.{Object}
-use Rattle.mc_typing.specs.declared.fault.Fault.{Fault}
+use Rattle.mc_faults.specs.declared.fault.Fault.{Fault}
 use Rattle.mc_typing.specs.Types.{CType, Member, Structure, Incomplete, Complete, Faulty, ParameterKind}
 use Rattle.mc_typing.specs.Scopes.{Entry, Scope, Meaning, TagMeaning, StructureTag, EnumerationTag, with_name, with_tag, with_structure, with_structure_at, with_object, with_counted, uncounted, meaning_of, tag_of, tag_here}
 use Rattle.mc_typing.specs.Scopes as scope

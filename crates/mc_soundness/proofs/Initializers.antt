@@ -10,8 +10,8 @@ use Rattle.mc_typed.specs.Frames.{slots_initializer, slots_initializers}
 use Rattle.mc_typed.specs.Sound.{type_of, IsInitializer, AreElements, AreMembers, AreInRange}
 use Rattle.mc_typed.specs.Sound as sound
 use Rattle.mc_typed.proofs.CellTypes.{length_scalars}
-use Rattle.mc_typing.specs.declared.fault.FaultKind.TheVariants.{Mismatch}
-use Rattle.mc_typing.specs.Faults.{fault, fault_if}
+use Rattle.mc_faults.specs.declared.fault.FaultKind.TheVariants.{Mismatch}
+use Rattle.mc_faults.specs.Faults.{fault, fault_if}
 use Rattle.mc_typing.specs.Types.{Base, Void, Integer, Tagged, CType, plain, Member, Structure, Complete, members_of, is_complete, layout_of}
 use Rattle.mc_typing.specs.Scopes.{Scope}
 use Rattle.mc_typing.specs.Values.{Judged, judged, judged_one, part, Found, kind_found, is_integer, fails, number_in, number_found}

@@ -4,8 +4,8 @@ use Rattle.std.proofs.lemmas.List.{map-append}
 use Rattle.mc_tree.specs.Tree.{Name, ArrayLengths}
 use Rattle.mc_typed.specs.Layout.{ObjectType, cells, cells_all, nesting, nesting_all, members_from}
 use Rattle.mc_typed.specs.Sound.{IsFormed, AreFormed}
-use Rattle.mc_typing.specs.declared.fault.FaultKind.TheVariants.{Mismatch, Limit, Redeclared}
-use Rattle.mc_typing.specs.Faults.{fault_if, unless_faulty}
+use Rattle.mc_faults.specs.declared.fault.FaultKind.TheVariants.{Mismatch, Limit, Redeclared}
+use Rattle.mc_faults.specs.Faults.{fault_if, unless_faulty}
 use Rattle.mc_typing.specs.Profile.{most_nesting, most_lengths}
 use Rattle.mc_typing.specs.Types.{Base, Void, Integer, Tagged, CType, plain, Member, Structure, Incomplete, Complete, Faulty, is_complete, layout_of_base, arrays_of, layout_of}
 use Rattle.mc_typing.specs.Scopes.{TagMeaning, StructureTag, EnumerationTag, Scope, tag_here, with_tag, with_structure, with_structure_at}

@@ -6,9 +6,9 @@ use Rattle.mc_tree.specs.Tree.{Name, Specifiers, Parameters, InitDeclarator, Ini
 use Rattle.mc_tree.specs.Tree as tree
 use Rattle.mc_typed.specs.Tree.{Statements}
 use Rattle.mc_typed.specs.Tree as t
-use Rattle.mc_typing.specs.declared.fault.Fault.{Fault}
-use Rattle.mc_typing.specs.declared.fault.FaultKind.TheVariants.{Mismatch, Redeclared}
-use Rattle.mc_typing.specs.Faults.{fault, fault_if, unless_faulty}
+use Rattle.mc_faults.specs.declared.fault.Fault.{Fault}
+use Rattle.mc_faults.specs.declared.fault.FaultKind.TheVariants.{Mismatch, Redeclared}
+use Rattle.mc_faults.specs.Faults.{fault, fault_if, unless_faulty}
 use Rattle.mc_typing.specs.Types.{CType, Signature}
 use Rattle.mc_typing.specs.Scopes.{Entry, Meaning, Automatic, Stored, Borrowed, Constant, Function, Typedef, Scope, file_scope, later_or, named, meaning_here, is_external, with_name, prototype, body_scope}
 use Rattle.mc_typing.specs.Values.{Judged, lift2}

@@ -8,8 +8,8 @@ use Rattle.mc_typed.specs.Tree.{Object, StaticObject, ParameterType}
 use Rattle.mc_typed.specs.Tree as t
 use Rattle.mc_typed.specs.Sound.{IsSlotOf, IsObjectType, AreObjectTypes}
 use Rattle.mc_typed.specs.Sound as sound
-use Rattle.mc_typing.specs.declared.fault.FaultKind.TheVariants.{Mismatch}
-use Rattle.mc_typing.specs.Faults.{fault_if, unless_faulty}
+use Rattle.mc_faults.specs.declared.fault.FaultKind.TheVariants.{Mismatch}
+use Rattle.mc_faults.specs.Faults.{fault_if, unless_faulty}
 use Rattle.mc_typing.specs.Profile.{start_at}
 use Rattle.mc_typing.specs.Types.{Base, Void, Integer, Tagged, CType, plain, Structure, is_complete, layout_of_base, arrays_of, layout_of, ParameterKind, ByValue, ByArray}
 use Rattle.mc_typing.specs.Scopes.{Entry, Meaning, Automatic, Borrowed, Scope, next_slot, with_name, with_object, with_array, with_objects_of}

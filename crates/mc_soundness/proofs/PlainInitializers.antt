@@ -7,8 +7,8 @@ use Rattle.mc_typed.specs.declared.expressions.Slot.{Slot}
 use Rattle.mc_typed.specs.Layout.{ObjectType}
 use Rattle.mc_typed.specs.Tree.{Declarator}
 use Rattle.mc_typed.specs.Tree as t
-use Rattle.mc_typing.specs.declared.fault.Fault.{Fault}
-use Rattle.mc_typing.specs.Faults.{unless_faulty}
+use Rattle.mc_faults.specs.declared.fault.Fault.{Fault}
+use Rattle.mc_faults.specs.Faults.{unless_faulty}
 use Rattle.mc_typing.specs.Types.{Base, Void, Integer, Tagged, CType, Structure}
 use Rattle.mc_typing.specs.Scopes.{Automatic, Scope, next_slot, next_static, with_name, with_counted}
 use Rattle.mc_typing.specs.Scopes as scope

@@ -7,8 +7,8 @@ use Rattle.mc_value.specs.declared.int_type.IntType.{IntType}
 use Rattle.mc_value.specs.declared.int_type.IntType.TheVariants as the
 use Rattle.mc_value.specs.IntTypes.{InRange, in_range}
 use Rattle.mc_typed.specs.Tree as t
-use Rattle.mc_typing.specs.declared.fault.Fault.{Fault}
-use Rattle.mc_typing.specs.Faults.{unless_faulty}
+use Rattle.mc_faults.specs.declared.fault.Fault.{Fault}
+use Rattle.mc_faults.specs.Faults.{unless_faulty}
 use Rattle.mc_typing.specs.Types.{CType, int, Member, Structure, Incomplete, ParameterKind, Signature, any_is_no_word, is_no_word}
 use Rattle.mc_typing.specs.Scopes.{Meaning, Automatic, Constant, Function, Typedef, Scope, meaning_of, tag_of, prototype, with_structure_at}
 use Rattle.mc_typing.specs.Scopes as scope

@@ -14,7 +14,7 @@ use Rattle.mc_typed.specs.Tree as t
 use Rattle.mc_typed.specs.Frames.{slots_effect, slots_effects, slots_start, slots_optional, slots_statement, slots_statements}
 use Rattle.mc_typed.specs.Sound.{type_of, IsExpression, IsEffect, AreClauses, IsStart, IsTest, IsReturn, IsLabel, IsStatement, AreStatements, AreDeclarators, labels_of, Lacks, Differ, slots_from}
 use Rattle.mc_typed.specs.Sound as sound
-use Rattle.mc_typing.specs.declared.fault.FaultKind.TheVariants.{Mismatch, DuplicateLabel}
+use Rattle.mc_faults.specs.declared.fault.FaultKind.TheVariants.{Mismatch, DuplicateLabel}
 use Rattle.mc_typing.specs.Types.{Base, Void, Integer, Tagged, plain, layout_of}
 use Rattle.mc_typing.specs.Scopes.{Labels, Scope}
 use Rattle.mc_typing.specs.Values.{Judged, Found, Kind, kind_found, is_integer, is_effect, fails, integer_faults, number_found, effect_in, whole, lift3}

@@ -7,7 +7,7 @@ use Rattle.mc_tree.specs.declared.expressions.step_operator.StepOperator.{StepOp
 use Rattle.mc_tree.specs.declared.expressions.step_operator.StepOperator.TheVariants as step
 use Rattle.mc_tree.specs.Tree.{Name, Expression, TypeName, Specifier, Specifiers, StructMember, Members, Enumerator, Enumerators, Declarator, Declarators, ArrayLengths, span_of}
 use Rattle.mc_tree.specs.Tree as tree
-use Rattle.mc_typing.specs.declared.fault.FaultKind.TheVariants.{NotConstant}
+use Rattle.mc_faults.specs.declared.fault.FaultKind.TheVariants.{NotConstant}
 use Rattle.mc_typing.specs.Types.{CType, Member}
 use Rattle.mc_typing.specs.Scopes.{Meaning, TagMeaning, StructureTag, EnumerationTag, Scope, meaning_of, tag_of, tag_here, prototype}
 use Rattle.mc_typing.specs.Scopes as scope

@@ -1,8 +1,8 @@
 -- Tests that hold where a list of faults is empty, and values that are there.
 use Rattle.std.proofs.Common.{◌≡◌, ℕ, Bool, true, false, not, ◌&&◌, ◌||◌, List, [], ◌∷◌, ◌++◌, Option, Some, None, option_map, option_and_then, refl, ap, ◌∙◌}
-use Rattle.mc_typing.specs.declared.fault.Fault.{Fault}
-use Rattle.mc_typing.specs.declared.fault.FaultKind.{FaultKind}
-use Rattle.mc_typing.specs.Faults.{fault_if}
+use Rattle.mc_faults.specs.declared.fault.Fault.{Fault}
+use Rattle.mc_faults.specs.declared.fault.FaultKind.{FaultKind}
+use Rattle.mc_faults.specs.Faults.{fault_if}
 use Rattle.mc_typing.specs.Values.{lift2}
 
 pub nil_left : (xs ys : List Fault) → xs ++ ys ≡ [] → xs ≡ []

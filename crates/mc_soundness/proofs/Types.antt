@@ -5,7 +5,7 @@ use Rattle.mc_span.specs.declared.span.Span.{Span}
 use Rattle.mc_tree.specs.Tree.{Name, Specifiers}
 use Rattle.mc_value.specs.declared.int_type.IntType.TheVariants as the
 use Rattle.mc_value.specs.IntTypes.{in_range}
-use Rattle.mc_typing.specs.declared.fault.FaultKind.TheVariants.{Mismatch, NotConstant}
+use Rattle.mc_faults.specs.declared.fault.FaultKind.TheVariants.{Mismatch, NotConstant}
 use Rattle.mc_typing.specs.Types.{Base, Void, Integer, Tagged, CType, plain, int, Structure, Incomplete, Complete, Faulty, is_faulty_structure, is_faulty, base_of_words, qualified, any_is_no_word, has_type, has, type_of_words_or}
 use Rattle.mc_tree.specs.declared.declarations.specifier_word.SpecifierWord.TheVariants as word
 use Rattle.mc_typing.specs.Scopes.{Meaning, Automatic, Borrowed, Constant, Function, Typedef, TagMeaning, StructureTag, EnumerationTag, Scope, meaning_of, tag_of, tag_here, with_name, with_tag, with_structure, with_structure_at}

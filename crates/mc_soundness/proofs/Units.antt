@@ -8,9 +8,9 @@ use Rattle.mc_typed.specs.Layout.{ObjectType}
 use Rattle.mc_typed.specs.Tree.{Object, StaticObject, ResultType, Program}
 use Rattle.mc_typed.specs.Tree as t
 use Rattle.mc_typed.specs.Sound.{AreStructures, AreFunctions, parameters_at, result_at, IsSound}
-use Rattle.mc_typing.specs.declared.fault.Fault.{Fault}
-use Rattle.mc_typing.specs.declared.fault.FaultKind.TheVariants.{Mismatch}
-use Rattle.mc_typing.specs.Faults.{fault_if}
+use Rattle.mc_faults.specs.declared.fault.Fault.{Fault}
+use Rattle.mc_faults.specs.declared.fault.FaultKind.TheVariants.{Mismatch}
+use Rattle.mc_faults.specs.Faults.{fault_if}
 use Rattle.mc_typing.specs.Types.{Base, CType, Structure, Incomplete, Complete, Faulty, structure_from, structures_from, Signature}
 use Rattle.mc_typing.specs.Scopes.{Entry, Scope, file_scope, meaning_here, prototype, body_scope, left_function}
 use Rattle.mc_typing.specs.Values.{Judged, lift2}

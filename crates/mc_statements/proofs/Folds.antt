@@ -1,14 +1,15 @@
 -- Lists of parts may be joined from the left: a walk joins each part to those before it.
 use Rattle.std.proofs.Common.{◌≡◌, ◌∙◌, List, [], ◌++◌, Option, Some, None, refl, ap, append_assoc, append-nil}
 use Rattle.mc_typed.specs.Tree as t
-use Rattle.mc_typing.specs.declared.fault.Fault.{Fault}
+use Rattle.mc_faults.specs.declared.fault.Fault.{Fault}
 use Rattle.mc_typing.specs.Scopes.{Scope}
 use Rattle.mc_typing.specs.Values.{Judged, judged, judged_two, lift2}
 use Rattle.mc_typing.specs.Declarations.{append, both_lists}
 use Rattle.mc_typing.specs.Initializers.{items_judged}
 use Rattle.mc_typing.specs.Statements.{followed, followed_judged}
 use Rattle.mc_statements.specs.Items.{then_item, item_then, joined_items, items_joined}
-use Rattle.mc_scopes.specs.steps.Squeezed.{listed, least, squeezed_part}
+use Rattle.mc_faults.specs.Kept.{listed, least}
+use Rattle.mc_scopes.specs.steps.Squeezed.{squeezed_part}
 use Rattle.mc_scopes.proofs.Squeezed.{least_listed, least_front, least_back}
 
 lifted : {A B C D E F : Type 0} (f : D → C → F) (g : A → B → D) (h : A → E → F) (k : B → C → E)

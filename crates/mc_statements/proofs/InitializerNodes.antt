@@ -1,12 +1,13 @@
 -- Nodes of initializers see of the faults of their parts the least alone.
 use Rattle.std.proofs.Common.{◌≡◌, ◌∙◌, ℕ, Bool, true, false, List, [], ◌++◌, Option, Some, None, option_map, option_and_then, if◌then◌else◌, ap}
 use Rattle.mc_typed.specs.Tree as t
-use Rattle.mc_typing.specs.declared.fault.Fault.{Fault}
+use Rattle.mc_faults.specs.declared.fault.Fault.{Fault}
 use Rattle.mc_typing.specs.Types.{CType}
 use Rattle.mc_typing.specs.Scopes.{Scope}
 use Rattle.mc_typing.specs.Values.{Judged, judged, Found, part, kind_found, number_found, lift2}
 use Rattle.mc_typing.specs.Initializers.{target_of, item_faults, static_faults, item_value, single_judged, zero_value, is_zero, zero_judged, count_faults, list_value, list_judged, braced_judged, items_judged}
-use Rattle.mc_scopes.specs.steps.Squeezed.{listed, least, squeezed, squeezed_part}
+use Rattle.mc_faults.specs.Kept.{listed, least}
+use Rattle.mc_scopes.specs.steps.Squeezed.{squeezed, squeezed_part}
 use Rattle.mc_statements.specs.Items.{then_item, item_then}
 use Rattle.mc_scopes.proofs.Squeezed.{least_front, least_least, one_part, two_parts}
 

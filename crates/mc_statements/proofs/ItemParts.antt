@@ -5,7 +5,7 @@ use Rattle.mc_typing.specs.Types as types
 use Rattle.mc_typing.specs.Initializers.{Parts, Elements, Members, NoParts, first_part, later_parts}
 use Rattle.mc_scopes.specs.declared.member.Member.{Member}
 use Rattle.mc_scopes.specs.declared.types.CType.{CType}
-use Rattle.mc_scopes.specs.Tables.{Named}
+use Rattle.mc_names.specs.Tables.{Named}
 use Rattle.mc_scopes.specs.Listed.{listed_of}
 use Rattle.mc_statements.specs.Initializers.{optional_type, parts_from, type_at}
 

@@ -4,4 +4,3 @@ pub mod Items
 pub mod InitializerNodes
 pub mod Folds
 pub mod ItemParts
-pub mod Leasts

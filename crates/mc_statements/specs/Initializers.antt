@@ -4,7 +4,7 @@ use denote.Ref.{Bor}
 use Rattle.mc_typing.specs.Types as types
 use Rattle.mc_typing.specs.Initializers as i
 use Rattle.mc_scopes.specs.declared.member.Member.{Member}
-use Rattle.mc_scopes.specs.Tables.{Named}
+use Rattle.mc_names.specs.Tables.{Named}
 use Rattle.mc_scopes.specs.declared.types.CType.{CType}
 use Rattle.mc_scopes.specs.Listed.{listed_of}
 use Rattle.mc_scopes.specs.Types.{base_of, type_of}

@@ -17,11 +17,8 @@ pub use statements::clauses::{
 };
 pub use statements::effects::effect;
 pub use statements::entered::{enter_compound, enter_switch};
-pub use statements::jumps::{break_statement, continue_statement, return_nothing};
-pub use statements::labels::{case_label, default_label};
 pub use statements::lists::followed;
 pub use statements::loops::{
     declaration_start, do_statement, effects_start, loop_statement, loop_test,
 };
-pub use statements::returns::return_statement;
 pub use statements::selections::{if_else_statement, if_statement, switch_statement};

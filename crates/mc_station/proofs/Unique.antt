@@ -9,7 +9,7 @@ use Rattle.mc_tree.specs.Tree.{Item}
 use Rattle.mc_reading.proofs.OneTree.{one_tree}
 use Rattle.mc_typed.specs.Tree.{Program}
 use Rattle.mc_typed.specs.Plans.{Plan}
-use Rattle.mc_typing.specs.declared.fault.Fault.{Fault}
+use Rattle.mc_faults.specs.declared.fault.Fault.{Fault}
 use Rattle.mc_typing.specs.Typing.{faults_of}
 use Rattle.mc_paths.specs.Paths.{count_of}
 use Rattle.mc_decide.specs.Decisions.{AreDecisions, Decision, IsFirstLarge}

@@ -11,7 +11,7 @@ use Rattle.mc_subset.specs.Forms.{first_outside}
 use Rattle.mc_subset.specs.Nodes.{nodes_of_unit}
 use Rattle.mc_subset.specs.declared.outside.Outside.{Outside}
 use Rattle.mc_typed.specs.Tree.{Program}
-use Rattle.mc_typing.specs.declared.fault.Fault.{Fault}
+use Rattle.mc_faults.specs.declared.fault.Fault.{Fault}
 use Rattle.mc_typing.specs.Typing.{IsTypingOf, IsFirstFaultOf}
 use Rattle.mc_decide.specs.Decisions.{Decision, AreDecisions, IsSmall, IsFirstLarge}
 use Rattle.mc_paths.specs.Paths.{count_of}

@@ -6,7 +6,7 @@ use Rattle.mc_lex.specs.declared.fault.LexFault.{LexFault}
 use Rattle.mc_lex.specs.Faults.{fault_place, fault_word}
 use Rattle.mc_lex.specs.Lines.{line_of, column_of}
 use Rattle.mc_lex.specs.Tokens.{Tok}
-use Rattle.mc_typing.specs.declared.fault.Fault.{Fault}
+use Rattle.mc_faults.specs.declared.fault.Fault.{Fault}
 use Rattle.mc_types.specs.Faults.{kind_word}
 use Rattle.mc_tests.specs.declared.fault.TestFault.{TestFault}
 use Rattle.mc_tests.specs.declared.fault.TestFault.TheVariants as fault

@@ -4,7 +4,7 @@ use Rattle.std.proofs.Common.{◌≡◌, ◌∙◌, ℕ, ℤ, pos, Bool, false, 
 use Rattle.mc_span.specs.declared.span.Span.{Span}
 use Rattle.mc_tree.specs.Tree.{span_of}
 use Rattle.mc_tree.specs.Tree as t
-use Rattle.mc_typing.specs.declared.fault.Fault.{Fault}
+use Rattle.mc_faults.specs.declared.fault.Fault.{Fault}
 use Rattle.mc_typing.specs.Types.{CType, Member, ParameterKind}
 use Rattle.mc_typing.specs.Scopes.{Scope, prototype, with_objects_of}
 use Rattle.mc_typing.specs.Values.{Judged, Found}

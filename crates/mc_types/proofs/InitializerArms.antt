@@ -7,13 +7,14 @@ use Rattle.mc_tree.specs.declared.declarations.initializer.Initializer as writte
 use Rattle.mc_tree.specs.Units.{initializer_of, initializers_from}
 use Rattle.mc_typed.specs.Tree.{Initializer, Initializers}
 use Rattle.mc_typed.specs.Tree as typed
-use Rattle.mc_typing.specs.declared.fault.Fault.{Fault}
+use Rattle.mc_faults.specs.declared.fault.Fault.{Fault}
 use Rattle.mc_typing.specs.Types.{CType}
 use Rattle.mc_typing.specs.Scopes.{Scope}
 use Rattle.mc_typing.specs.Values.{Judged, judged, lift2, Found}
 use Rattle.mc_typing.specs.Judgement.{judge}
 use Rattle.mc_typing.specs.Initializers.{Parts, braced_judged, count_of, first_part, is_zero, items_judged, judge_initializer, judge_items, later_parts, list_judged, only_expression, parts_of, single_judged, target_of, zero_judged}
-use Rattle.mc_scopes.specs.steps.Squeezed.{least, squeezed, squeezed_part}
+use Rattle.mc_faults.specs.Kept.{least}
+use Rattle.mc_scopes.specs.steps.Squeezed.{squeezed, squeezed_part}
 use Rattle.mc_scopes.proofs.Squeezed.{least_front}
 use Rattle.mc_statements.specs.Initializers.{parts_from}
 use Rattle.mc_statements.proofs.ItemParts.{later}

@@ -4,8 +4,8 @@ use Rattle.std.proofs.Common.{◌≡◌, ◌∙◌, ◌<◌, ◌^◌, ℕ, false
 use Rattle.mc_span.specs.declared.span.Span.{Span}
 use Rattle.mc_tree.specs.Tree as t
 use Rattle.mc_typed.specs.Tree.{Function, Statements}
-use Rattle.mc_typing.specs.declared.fault.Fault.{Fault}
-use Rattle.mc_typing.specs.Faults.{least_of}
+use Rattle.mc_faults.specs.declared.fault.Fault.{Fault}
+use Rattle.mc_faults.specs.Faults.{least_of}
 use Rattle.mc_typing.specs.Types.{CType, ParameterKind}
 use Rattle.mc_typing.specs.Scopes.{Scope, prototype}
 use Rattle.mc_typing.specs.Values.{Judged}
@@ -15,11 +15,12 @@ use Rattle.mc_typing.specs.Judgement.{judge_parameters, judge_specifiers, typed_
 use Rattle.mc_typing.specs.Statements.{outermost}
 use Rattle.mc_typing.specs.Bodies.{judge_block}
 use Rattle.mc_typing.specs.Typing.{IsFirstFaultOf, IsTypingOf, faults_of, found_of, judge_definition, program_from, with_function}
-use Rattle.mc_typing.proofs.Leasts.{least_is_first, no_least}
+use Rattle.mc_faults.proofs.Leasts.{least_is_first, no_least}
 use Rattle.mc_soundness.specs.Laws.{IsAccepted}
 use Rattle.mc_soundness.proofs.Units.{units_typed}
 use Rattle.mc_scopes.specs.Blocks.{Around, around}
-use Rattle.mc_scopes.specs.steps.Squeezed.{listed, least, squeezed_part}
+use Rattle.mc_faults.specs.Kept.{listed, least}
+use Rattle.mc_scopes.specs.steps.Squeezed.{squeezed_part}
 use Rattle.mc_declarations.specs.Bodies.{BodyBegun, definition_begun, definition_ended, squeezed_body}
 use Rattle.mc_declarations.specs.Declarations.{squeezed_listed}
 use Rattle.mc_declarations.proofs.BodyHalves.{definition_begun_node, definition_ended_node, definition_halves}

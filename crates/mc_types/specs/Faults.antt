@@ -2,9 +2,9 @@
 use Rattle.std.specs.Prelude.{ℕ, List, [], Option, Some, None, option_map, codes}
 use Rattle.mc_tree.specs.Tree.{Item}
 use Rattle.mc_typing.specs.Typing.{IsFirstFaultOf}
-use Rattle.mc_typing.specs.declared.fault.Fault.{Fault}
-use Rattle.mc_typing.specs.declared.fault.FaultKind.{FaultKind}
-use Rattle.mc_typing.specs.declared.fault.FaultKind.TheVariants as kind
+use Rattle.mc_faults.specs.declared.fault.Fault.{Fault}
+use Rattle.mc_faults.specs.declared.fault.FaultKind.{FaultKind}
+use Rattle.mc_faults.specs.declared.fault.FaultKind.TheVariants as kind
 use Rattle.mc_types.specs.declared.fault.TypeFault.{TypeFault}
 use Rattle.mc_types.specs.declared.fault.TypeFault.TheVariants as fault
 

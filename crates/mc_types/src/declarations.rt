@@ -13,16 +13,17 @@ ghost use Rattle.mc_scopes.specs.Views.{scope_of};
 ghost use Rattle.mc_scopes.specs.Found.{judged_of};
 ghost use Rattle.mc_declarations.specs.Declarations.{listed_parameters, optional_of, squeezed_listed, storage_from, written};
 ghost use Rattle.mc_scopes.specs.Statements.{declarators_of};
-ghost use Rattle.mc_scopes.specs.steps.Squeezed.{listed, squeezed_part};
+ghost use Rattle.mc_faults.specs.Kept.{listed};
+ghost use Rattle.mc_scopes.specs.steps.Squeezed.{squeezed_part};
 
 use crate::expressions::{lengths, prototype, typed};
 use crate::initializers::initializer;
 use mc_declarations::{Parameters, Storage};
+use mc_faults::Fault;
 use mc_scopes::found::Judged;
 use mc_scopes::{CType, Scope};
 use mc_tree::{ArrayLength, Declaration, Declarator, Identifier, InitDeclarator, Initializer};
 use mc_typed as typed_tree;
-use mc_typing::Fault;
 use std::alloc::{AllocError, Global};
 
 /// An initializer, where there is one.

@@ -21,13 +21,13 @@ ghost use Rattle.mc_types.specs.Loops.{TakesArgument, TakesLength};
 
 use crate::leaves::{callee, character, named};
 use mc_declarations::Parameters;
+use mc_faults::Fault;
 use mc_scopes::found::{Found, Given, Judged};
 use mc_scopes::{CType, Members, ParameterKind, Scope};
 use mc_tree::{
     ArrayLength, Declarator, Enumerator, Expression, Identifier, Member, Parameter, Specifier,
 };
 use mc_typed::{Argument, Span};
-use mc_typing::Fault;
 use std::alloc::{AllocError, Global};
 
 /// An expression (C17 6.5).

@@ -1,6 +1,6 @@
 //! Why a unit has no typed program.
 
-use mc_typing::{Fault, FaultKind};
+use mc_faults::{Fault, FaultKind};
 use std::alloc::AllocError;
 use thiserror::Error;
 

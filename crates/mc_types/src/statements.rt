@@ -132,12 +132,12 @@ pub(crate) fn statement<'a>(
             ..
         } => {
             let found = expression(alloc, scope, value)?;
-            let first = mc_statements::case_label(alloc, scope, *label, value.span().start, found)?;
+            let first = mc_jumps::case_label(alloc, scope, *label, value.span().start, found)?;
             let rest = statement(alloc, scope, around.inside(), body)?;
             mc_statements::followed(first, rest)
         }
         Statement::Default { label, body, .. } => {
-            let first = mc_statements::default_label(alloc, scope, *label)?;
+            let first = mc_jumps::default_label(alloc, scope, *label)?;
             let rest = statement(alloc, scope, around.inside(), body)?;
             mc_statements::followed(first, rest)
         }
@@ -146,14 +146,14 @@ pub(crate) fn statement<'a>(
             Ok(mc_statements::named_label(*span, found))
         }
         Statement::Goto { span, .. } => Ok(mc_statements::goto_statement(*span)),
-        Statement::Break { span } => mc_statements::break_statement(alloc, around, *span),
-        Statement::Continue { span } => mc_statements::continue_statement(alloc, around, *span),
+        Statement::Break { span } => mc_jumps::break_statement(alloc, around, *span),
+        Statement::Continue { span } => mc_jumps::continue_statement(alloc, around, *span),
         Statement::Return { value, span } => match value {
             Some(value) => {
                 let found = expression(alloc, scope, value)?;
-                mc_statements::return_statement(alloc, scope, around.result, *span, found)
+                mc_jumps::return_statement(alloc, scope, around.result, *span, found)
             }
-            None => mc_statements::return_nothing(alloc, around.result, *span),
+            None => mc_jumps::return_nothing(alloc, around.result, *span),
         },
     }
 }

@@ -5,8 +5,8 @@ use Rattle.mc_tree.specs.Tree.{Expression, Expressions, Declaration, Statement, 
 use Rattle.mc_tree.specs.Tree as tree
 use Rattle.mc_typed.specs.Tree.{Effect, Statements}
 use Rattle.mc_typed.specs.Tree as t
-use Rattle.mc_typing.specs.declared.fault.FaultKind.TheVariants.{Mismatch}
-use Rattle.mc_typing.specs.Faults.{fault}
+use Rattle.mc_faults.specs.declared.fault.FaultKind.TheVariants.{Mismatch}
+use Rattle.mc_faults.specs.Faults.{fault}
 use Rattle.mc_typing.specs.Scopes.{Scope, block}
 use Rattle.mc_typing.specs.Values.{Judged, judged}
 use Rattle.mc_typing.specs.Judgement.{judge}

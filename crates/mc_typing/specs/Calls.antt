@@ -6,9 +6,9 @@ use Rattle.mc_tree.specs.Tree as tree
 use Rattle.mc_typed.specs.Layout.{ObjectType}
 use Rattle.mc_typed.specs.Tree.{Place, Argument, Arguments}
 use Rattle.mc_typed.specs.Tree as t
-use Rattle.mc_typing.specs.declared.fault.Fault.{Fault}
-use Rattle.mc_typing.specs.declared.fault.FaultKind.TheVariants.{Undeclared, Mismatch, NoBody}
-use Rattle.mc_typing.specs.Faults.{fault, fault_if}
+use Rattle.mc_faults.specs.declared.fault.Fault.{Fault}
+use Rattle.mc_faults.specs.declared.fault.FaultKind.TheVariants.{Undeclared, Mismatch, NoBody}
+use Rattle.mc_faults.specs.Faults.{fault, fault_if}
 use Rattle.mc_typing.specs.Types.{Base, Void, Integer, Tagged, CType, plain, Structure, is_complete, layout_of, same_unqualified, ParameterKind, ByValue, ByArray, Signature}
 use Rattle.mc_typing.specs.Scopes.{Meaning, Function, Scope, function_number, is_input, is_output, is_external, next_slot, with_object, with_counted, cells_counted, uncounted}
 use Rattle.mc_typing.specs.Values.{judged, Value, Number, Stored, Borrowed, Returned, Done, Kind, IsStructure, IsArray, Found, kind_found, is_integer, fails, number_in, structure_in, lift2, found}

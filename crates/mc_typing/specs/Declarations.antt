@@ -8,9 +8,9 @@ use Rattle.mc_typed.specs.declared.expressions.Slot.{Slot}
 use Rattle.mc_typed.specs.Layout.{ObjectType, cells}
 use Rattle.mc_typed.specs.Tree.{Declarator}
 use Rattle.mc_typed.specs.Tree as t
-use Rattle.mc_typing.specs.declared.fault.Fault.{Fault}
-use Rattle.mc_typing.specs.declared.fault.FaultKind.TheVariants.{Redeclared, Mismatch}
-use Rattle.mc_typing.specs.Faults.{fault, fault_if, unless_faulty}
+use Rattle.mc_faults.specs.declared.fault.Fault.{Fault}
+use Rattle.mc_faults.specs.declared.fault.FaultKind.TheVariants.{Redeclared, Mismatch}
+use Rattle.mc_faults.specs.Faults.{fault, fault_if, unless_faulty}
 use Rattle.mc_typing.specs.Types.{Base, Void, Integer, CType, has, layout_of, ParameterKind, ByValue, Signature, same_signature}
 use Rattle.mc_typing.specs.Scopes.{Meaning, Automatic, Stored, Function, Typedef, Scope, meaning_here, is_input, is_output, with_name, next_slot, next_static, with_counted, cells_counted, uncounted, with_static, prototype}
 use Rattle.mc_typing.specs.Values.{Judged, judged, judged_two, lift2}

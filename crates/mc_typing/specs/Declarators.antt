@@ -8,9 +8,9 @@ use Rattle.mc_value.specs.declared.int_type.IntType.TheVariants as the
 use Rattle.mc_value.specs.IntTypes.{in_range}
 use Rattle.mc_typed.specs.Tree as t
 use Rattle.mc_typed.specs.Layout.{cells_all, members_from}
-use Rattle.mc_typing.specs.declared.fault.Fault.{Fault}
-use Rattle.mc_typing.specs.declared.fault.FaultKind.TheVariants.{Undeclared, Redeclared, Mismatch}
-use Rattle.mc_typing.specs.Faults.{fault, fault_if, unless_faulty}
+use Rattle.mc_faults.specs.declared.fault.Fault.{Fault}
+use Rattle.mc_faults.specs.declared.fault.FaultKind.TheVariants.{Undeclared, Redeclared, Mismatch}
+use Rattle.mc_faults.specs.Faults.{fault, fault_if, unless_faulty}
 use Rattle.mc_typing.specs.Profile.{most_lengths}
 use Rattle.mc_typing.specs.Types.{Tagged, CType, plain, int, Member, Structure, Incomplete, Complete, Faulty, is_faulty, is_complete, layout_of, layout_of_member, ParameterKind, ByValue, ByArray}
 use Rattle.mc_typing.specs.Scopes.{Meaning, Automatic, Borrowed, Constant, Typedef, TagMeaning, StructureTag, EnumerationTag, Scope, meaning_here, tag_of, tag_here, is_external, with_name, with_tag, with_structure, with_structure_at, next_slot, with_object, with_array}

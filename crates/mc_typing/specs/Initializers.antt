@@ -4,9 +4,9 @@ use Rattle.mc_tree.specs.Tree.{Expression, Initializer, Initializers, span_of}
 use Rattle.mc_tree.specs.Tree as tree
 use Rattle.mc_typed.specs.Layout.{cells}
 use Rattle.mc_typed.specs.Tree as t
-use Rattle.mc_typing.specs.declared.fault.Fault.{Fault}
-use Rattle.mc_typing.specs.declared.fault.FaultKind.TheVariants.{Mismatch}
-use Rattle.mc_typing.specs.Faults.{fault, fault_if}
+use Rattle.mc_faults.specs.declared.fault.Fault.{Fault}
+use Rattle.mc_faults.specs.declared.fault.FaultKind.TheVariants.{Mismatch}
+use Rattle.mc_faults.specs.Faults.{fault, fault_if}
 use Rattle.mc_typing.specs.Types.{Base, Void, Integer, Tagged, CType, Member, Structure, members_of, layout_of}
 use Rattle.mc_typing.specs.Scopes.{Scope}
 use Rattle.mc_typing.specs.Values.{Judged, judged, judged_one, judged_two, Value, Kind, IsStructure, Found, part, kind_found, is_integer, fails, number_in, structure_in, number_found, lift2}

@@ -4,9 +4,9 @@ use Rattle.std.specs.Prelude.{ℕ, ℤ, Bool, false, not, List, [], ◌++◌, Op
 use Rattle.mc_tree.specs.Tree.{Expression, Expressions, TypeName, Specifier, Specifiers, StructMember, Members, Enumerator, Enumerators, Declarator, Declarators, ArrayLengths, Parameters, Parameter, ParameterList, span_of}
 use Rattle.mc_tree.specs.Tree as tree
 use Rattle.mc_typed.specs.Tree.{Arguments}
-use Rattle.mc_typing.specs.declared.fault.Fault.{Fault}
-use Rattle.mc_typing.specs.declared.fault.FaultKind.TheVariants.{Mismatch}
-use Rattle.mc_typing.specs.Faults.{fault_if}
+use Rattle.mc_faults.specs.declared.fault.Fault.{Fault}
+use Rattle.mc_faults.specs.declared.fault.FaultKind.TheVariants.{Mismatch}
+use Rattle.mc_faults.specs.Faults.{fault_if}
 use Rattle.mc_typing.specs.Types.{CType, Member, ParameterKind, has_type, type_of_specifiers}
 use Rattle.mc_typing.specs.Scopes.{Scope, meaning_of, tag_of, prototype, with_objects_of}
 use Rattle.mc_typing.specs.Values.{Judged, judged, judged_two, Found}

@@ -1,4 +1,3 @@
-pub mod Faults
 pub mod Profile
 pub mod Types
 pub mod Scopes

@@ -1,9 +1,9 @@
 -- Limits of this profile: cells, parameters, and types inside one another.
 use Rattle.std.specs.Prelude.{ℕ, ◌+◌, nat_lt, nat_le, Bool, false, ◌&&◌, ◌||◌, List, [], ◌∷◌, Option, Some, None}
 use Rattle.mc_typed.specs.Layout.{ObjectType, cells, nesting}
-use Rattle.mc_typing.specs.declared.fault.Fault.{Fault}
-use Rattle.mc_typing.specs.declared.fault.FaultKind.TheVariants.{Limit}
-use Rattle.mc_typing.specs.Faults.{fault_if}
+use Rattle.mc_faults.specs.declared.fault.Fault.{Fault}
+use Rattle.mc_faults.specs.declared.fault.FaultKind.TheVariants.{Limit}
+use Rattle.mc_faults.specs.Faults.{fault_if}
 use Rattle.mc_typing.specs.Profile.{most_cells, most_nesting, most_parameters}
 use Rattle.mc_typing.specs.Types.{CType, Structure, is_complete, layout_of}
 

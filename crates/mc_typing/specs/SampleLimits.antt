@@ -2,7 +2,7 @@
 use Rattle.std.specs.Prelude.{true, false, List, [], ◌∷◌, codes, Some, None}
 use Rattle.mc_tree.specs.declared.declarations.specifier_word.SpecifierWord.TheVariants as word
 use Rattle.mc_tree.specs.Tree as tree
-use Rattle.mc_typing.specs.declared.fault.FaultKind.TheVariants.{Undeclared, NotConstant, Limit}
+use Rattle.mc_faults.specs.declared.fault.FaultKind.TheVariants.{Undeclared, NotConstant, Limit}
 use Rattle.mc_typing.specs.Sampled.{Row, row, accepted, refused, name, span, int, void, the, digit, object, one_expression, ones}
 
 -- int a[40000];void f(void){static int b[40000];}

@@ -4,7 +4,7 @@ use Rattle.mc_tree.specs.declared.expressions.binary_operator.BinaryOperator.The
 use Rattle.mc_tree.specs.declared.expressions.assignment_operator.AssignmentOperator.TheVariants as assign
 use Rattle.mc_tree.specs.declared.declarations.specifier_word.SpecifierWord.TheVariants as word
 use Rattle.mc_tree.specs.Tree as tree
-use Rattle.mc_typing.specs.declared.fault.FaultKind.TheVariants.{Undeclared, Redeclared, Mismatch, NoBody}
+use Rattle.mc_faults.specs.declared.fault.FaultKind.TheVariants.{Undeclared, Redeclared, Mismatch, NoBody}
 use Rattle.mc_typing.specs.Sampled.{Row, row, accepted, refused, name, span, int, void, the, digit, object, one_expression}
 
 -- int f(void){return x;}

@@ -3,7 +3,7 @@ use Rattle.std.specs.Prelude.{true, false, List, [], ◌∷◌, codes, Some, Non
 use Rattle.mc_tree.specs.declared.expressions.binary_operator.BinaryOperator.TheVariants as binary
 use Rattle.mc_tree.specs.declared.declarations.specifier_word.SpecifierWord.TheVariants as word
 use Rattle.mc_tree.specs.Tree as tree
-use Rattle.mc_typing.specs.declared.fault.FaultKind.TheVariants.{Undeclared, Mismatch, NotConstant}
+use Rattle.mc_faults.specs.declared.fault.FaultKind.TheVariants.{Undeclared, Mismatch, NotConstant}
 use Rattle.mc_typing.specs.Sampled.{Row, row, accepted, refused, name, span, int, void, the, digit, zero_at, object}
 
 -- int n=1;int t[n];

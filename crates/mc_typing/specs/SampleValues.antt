@@ -4,7 +4,7 @@ use Rattle.mc_tree.specs.declared.expressions.unary_operator.UnaryOperator.TheVa
 use Rattle.mc_tree.specs.declared.expressions.binary_operator.BinaryOperator.TheVariants as binary
 use Rattle.mc_tree.specs.declared.expressions.assignment_operator.AssignmentOperator.TheVariants as assign
 use Rattle.mc_tree.specs.Tree as tree
-use Rattle.mc_typing.specs.declared.fault.FaultKind.TheVariants.{Undeclared, Mismatch}
+use Rattle.mc_faults.specs.declared.fault.FaultKind.TheVariants.{Undeclared, Mismatch}
 use Rattle.mc_typing.specs.Sampled.{Row, row, accepted, refused, name, span, int, void, the, digit, object, one_expression}
 
 -- int f(int a){return f(a,a);}

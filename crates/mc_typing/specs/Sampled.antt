@@ -7,8 +7,8 @@ use Rattle.mc_tree.specs.Tree.{Item, Name, Specifiers, Expression, Expressions, 
 use Rattle.mc_tree.specs.Tree as tree
 use Rattle.mc_typed.specs.Tree.{Function, Program}
 use Rattle.mc_typed.specs.Sound.{IsSound}
-use Rattle.mc_typing.specs.declared.fault.Fault.{Fault}
-use Rattle.mc_typing.specs.declared.fault.FaultKind.{FaultKind}
+use Rattle.mc_faults.specs.declared.fault.Fault.{Fault}
+use Rattle.mc_faults.specs.declared.fault.FaultKind.{FaultKind}
 use Rattle.mc_typing.specs.Typing.{first_fault_of, HasTyping, typing_of}
 
 -- a text and what is said of it

@@ -10,9 +10,9 @@ use Rattle.mc_typed.specs.Layout.{cells}
 use Rattle.mc_typed.specs.Sound.{type_of}
 use Rattle.mc_typed.specs.Tree.{Declarator, Effect, ForStart, ReturnValue, Statement, Statements}
 use Rattle.mc_typed.specs.Tree as t
-use Rattle.mc_typing.specs.declared.fault.Fault.{Fault}
-use Rattle.mc_typing.specs.declared.fault.FaultKind.TheVariants.{Mismatch, DuplicateLabel}
-use Rattle.mc_typing.specs.Faults.{fault, fault_if}
+use Rattle.mc_faults.specs.declared.fault.Fault.{Fault}
+use Rattle.mc_faults.specs.declared.fault.FaultKind.TheVariants.{Mismatch, DuplicateLabel}
+use Rattle.mc_faults.specs.Faults.{fault, fault_if}
 use Rattle.mc_typing.specs.Types.{Base, Void, Integer, Tagged, plain, Structure, layout_of}
 use Rattle.mc_typing.specs.Scopes.{Labels, Scope, block, entered, left}
 use Rattle.mc_typing.specs.Values.{Judged, judged, judged_one, judged_two, judged_three, judged_four, with_scope, Value, Kind, Found, part, kind_found, is_integer, fails, integer_faults, effect_faults, number_in, structure_in, number_found, effect_in, whole, lift2, lift3}

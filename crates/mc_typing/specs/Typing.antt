@@ -5,9 +5,9 @@ use Rattle.mc_tree.specs.Tree.{Name, Specifiers, Declarator, Parameters, Paramet
 use Rattle.mc_tree.specs.Tree as tree
 use Rattle.mc_typed.specs.Tree.{Statements, ParameterType, ResultType, Program}
 use Rattle.mc_typed.specs.Tree as t
-use Rattle.mc_typing.specs.declared.fault.Fault.{Fault}
-use Rattle.mc_typing.specs.declared.fault.FaultKind.TheVariants.{Redeclared, Mismatch}
-use Rattle.mc_typing.specs.Faults.{fault, fault_if, IsFirst, least_of}
+use Rattle.mc_faults.specs.declared.fault.Fault.{Fault}
+use Rattle.mc_faults.specs.declared.fault.FaultKind.TheVariants.{Redeclared, Mismatch}
+use Rattle.mc_faults.specs.Faults.{fault, fault_if, IsFirst, least_of}
 use Rattle.mc_typing.specs.Types.{Base, Void, Integer, Tagged, plain, Structure, is_complete, layout_of, structures_from, ParameterKind, ByValue, ByArray, Signature}
 use Rattle.mc_typing.specs.Scopes.{Function, Scope, file_scope, meaning_here, is_external, with_name, prototype, body_scope, left_function}
 use Rattle.mc_typing.specs.Values.{Judged, judged, lift2}

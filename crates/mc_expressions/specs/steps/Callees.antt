@@ -1,7 +1,7 @@
 -- What a call names, as far as it counts.
 use Rattle.std.specs.Prelude.{true, Option, Some, None, option_map}
 use Rattle.mc_span.specs.declared.span.Span.{Span}
-use Rattle.mc_typed.specs.Tree.{Argument, NumberArgument, Arguments, arguments, no_arguments, Output}
+use Rattle.mc_typed.specs.Tree.{Argument, NumberArgument, Arguments, Expression, arguments, no_arguments, Output}
 use Rattle.mc_typing.specs.Values.{Value, Done}
 use Rattle.mc_typing.specs.Scopes.{Meaning, Function, Typedef}
 use Rattle.mc_scopes.specs.Types.{signature_of}
@@ -20,7 +20,11 @@ abbrev pub only_argument : Arguments → Option Argument
 only_argument (arguments a no_arguments) = Some a
 only_argument _ = None
 
+-- the number that an argument is
+abbrev pub given_number : Argument → Option Expression
+given_number (NumberArgument e) = Some e
+given_number _ = None
+
 -- what a call of the function for output is with this argument
 abbrev pub output_with : Span → Argument → Option Value
-output_with span (NumberArgument e) = Some (Done (Output e span))
-output_with span _ = None
+output_with span a = option_map (λ e. Done (Output e span)) (given_number a)

@@ -3,7 +3,7 @@ use Rattle.std.specs.Prelude.{◌+◌, List, [], ◌∷◌, ◌++◌}
 use Rattle.mc_typed.specs.Tree.{Argument, Arguments, arguments}
 use Rattle.mc_typing.specs.Values.{lift2}
 use Rattle.mc_typing.specs.Calls.{Given, judged_given}
-use Rattle.mc_scopes.specs.steps.Squeezed.{least}
+use Rattle.mc_faults.specs.Kept.{least}
 
 abbrev pub squeezed_given : {A : Type 0} → Given A → Given A
 squeezed_given x = record x { faults = least x.faults }

@@ -14,12 +14,11 @@ ghost use Rattle.mc_scopes.specs.steps.Squeezed.{squeezed_part};
 use crate::initializers::items::{more_items, no_items};
 use crate::initializers::singles::single_initializer;
 use crate::initializers::target::{Target, fails_count, target_for};
-use mc_scopes::faults::or_fault;
+use mc_faults::{FaultKind, or_fault};
 use mc_scopes::found::{Found, Judged, number_in};
 use mc_scopes::values::is_zero_found;
 use mc_scopes::{CType, Scope, cells};
 use mc_typed::{Expression, Initializer};
-use mc_typing::FaultKind;
 use std::alloc::{AllocError, Global};
 
 fn only_item(items: Vec<Initializer>) -> Option<Initializer>

@@ -2,7 +2,7 @@
 ghost use Rattle.std.specs.Prelude.{◌≡◌, ◌++◌, Some, IfOk, option_copied, option_map, option_and_then};
 ghost use Rattle.mc_typed.specs.Tree as t;
 ghost use Rattle.mc_typed.specs.Views.{expression_of, structure_of, initializer_of};
-ghost use Rattle.mc_typing.specs.Faults.{least_of};
+ghost use Rattle.mc_faults.specs.Faults.{least_of};
 ghost use Rattle.mc_typing.specs.Scopes as s;
 ghost use Rattle.mc_typing.specs.Values as v;
 ghost use Rattle.mc_typing.specs.Expressions as expressions;
@@ -14,28 +14,16 @@ ghost use Rattle.mc_statements.specs.Initializers.{target_of};
 ghost use Rattle.mc_scopes.specs.steps.Squeezed.{squeezed_part};
 
 use crate::initializers::target::{Target, target_for};
+use mc_faults::{Fault, FaultKind, after, fault_where, lesser};
 use mc_scopes::conversions::convert_to;
-use mc_scopes::faults::{after, fault_where, lesser};
 use mc_scopes::found::{Found, Judged, kind_found};
-use mc_scopes::kind::{Kind, fails_integer};
+use mc_scopes::kind::{Kind, fails_integer, is_kind};
 use mc_scopes::value::Value;
 use mc_scopes::values::fault_of_constant;
 use mc_scopes::{Base, CType, Scope, cells};
 use mc_typed::{Expression, Initializer, Structure};
-use mc_typing::{Fault, FaultKind};
 use mc_value::IntType;
 use std::alloc::{AllocError, Global};
-
-/// Whether it is the kind of the structure type with this number.
-pub(crate) fn is_kind(number: u32, kind: Kind<'_>) -> bool
-    ensures { result ≡ i.is_kind number (kind_of kind.entry) }
-{
-    match kind {
-        Kind::Structure(other) => other == number,
-        Kind::Void | Kind::Assignment | Kind::Integer | Kind::Array { .. } | Kind::Function =>
-            false,
-    }
-}
 
 fn fails_kind(number: u32, kind: Option<Kind<'_>>) -> bool
     ensures { result ≡ v.fails (i.is_kind number) (option_map kind_of kind.entry) }

@@ -2,21 +2,21 @@
 ghost use Rattle.std.specs.Prelude.{◌≡◌, [], ◌∷◌, ◌++◌, None, Some, IfOk, option_map};
 ghost use Rattle.mc_typed.specs.Tree as t;
 ghost use Rattle.mc_typed.specs.Views.{effect_of, statement_of};
-ghost use Rattle.mc_typing.specs.declared.fault.FaultKind.TheVariants.{Mismatch};
-ghost use Rattle.mc_typing.specs.Faults.{fault, least_of};
+ghost use Rattle.mc_faults.specs.declared.fault.FaultKind.TheVariants.{Mismatch};
+ghost use Rattle.mc_faults.specs.Faults.{fault, least_of};
 ghost use Rattle.mc_typing.specs.Scopes as s;
 ghost use Rattle.mc_typing.specs.Values.{judged};
 ghost use Rattle.mc_typing.specs.Statements as w;
 ghost use Rattle.mc_scopes.specs.Found.{judged_of};
 ghost use Rattle.mc_scopes.specs.Statements.{statements_of, declarators_of};
-ghost use Rattle.mc_scopes.specs.steps.Squeezed.{listed, squeezed_part};
+ghost use Rattle.mc_faults.specs.Kept.{listed};
+ghost use Rattle.mc_scopes.specs.steps.Squeezed.{squeezed_part};
 
 use crate::statements::joined;
-use crate::statements::lists::alone;
-use mc_scopes::faults::lesser;
+use mc_faults::{Fault, FaultKind, lesser};
 use mc_scopes::found::Judged;
+use mc_scopes::leaves::{alone, leaf};
 use mc_typed::{Declarator, Effect, Span, Statement};
-use mc_typing::{Fault, FaultKind};
 use std::alloc::{AllocError, Global};
 
 fn compound_of(
@@ -118,23 +118,6 @@ pub fn effect_statement(
     let fault = joined::of_one(effect.fault);
     let value = effect_statement_of(alloc, span, effect.value)?;
     Ok(Judged { fault, value })
-}
-
-/// A statement of its own, which has this fault.
-pub(crate) fn leaf(
-    alloc: Global,
-    first: Option<Fault>,
-    one: Statement,
-) -> Result<Judged<Vec<Statement>>, AllocError>
-    ensures fault { IfOk result (λ r. r.fault ≡ first) }
-    ensures value { IfOk result (λ r.
-        option_map statements_of r.value ≡ Some (w.alone (statement_of one))) }
-{
-    let value = alone(alloc, one)?;
-    Ok(Judged {
-        fault: first,
-        value: Some(value),
-    })
 }
 
 /// A null statement.

@@ -8,9 +8,9 @@ ghost use Rattle.mc_typing.specs.Statements as w;
 ghost use Rattle.mc_scopes.specs.Found.{found_of, judged_of, value_of};
 ghost use Rattle.mc_scopes.specs.steps.Squeezed.{squeezed_part};
 
+use mc_faults::after;
 use mc_scopes::bare::effect_fault;
 use mc_scopes::effects;
-use mc_scopes::faults::after;
 use mc_scopes::found::{Found, Judged, kind_found};
 use mc_scopes::value::Value;
 use mc_tree::Expression;

@@ -1,10 +1,9 @@
 //! The fault of a node, from those of its parts in their order.
 ghost use Rattle.std.specs.Prelude.{◌≡◌, ◌++◌, []};
-ghost use Rattle.mc_typing.specs.Faults.{least_of};
-ghost use Rattle.mc_scopes.specs.steps.Squeezed.{listed};
+ghost use Rattle.mc_faults.specs.Faults.{least_of};
+ghost use Rattle.mc_faults.specs.Kept.{listed};
 
-use mc_scopes::faults::lesser;
-use mc_typing::Fault;
+use mc_faults::{Fault, lesser};
 
 /// Of one part.
 pub(crate) fn of_one(one: Option<Fault>) -> Option<Fault>

@@ -13,15 +13,6 @@ use mc_scopes::found::Judged;
 use mc_typed::{Span, Statement};
 use std::alloc::{AllocError, Global};
 
-/// A list of one statement.
-pub(crate) fn alone(alloc: Global, one: Statement) -> Result<Vec<Statement>, AllocError>
-    ensures { IfOk result (λ r. statements_of r ≡ w.alone (statement_of one)) }
-{
-    let mut list = Vec::new(alloc);
-    list.push(one)?;
-    Ok(list)
-}
-
 /// The statement of a list of one.
 fn only(list: Vec<Statement>) -> Option<Statement>
     ensures { option_map statement_of result ≡ w.only (statements_of list) }

@@ -10,11 +10,11 @@ ghost use Rattle.mc_scopes.specs.Statements.{statements_of, effects_of, declarat
 ghost use Rattle.mc_scopes.specs.steps.Squeezed.{squeezed_part};
 
 use crate::statements::joined;
-use crate::statements::lists::{alone, begun, only_in};
-use mc_scopes::faults::{or_fault, two_or_fault};
+use crate::statements::lists::{begun, only_in};
+use mc_faults::{FaultKind, or_fault, two_or_fault};
 use mc_scopes::found::{Found, Judged, fails_integer, number_in};
+use mc_scopes::leaves::alone;
 use mc_typed::{Declarator, Effect, Expression, ForStart, Span, Statement};
-use mc_typing::FaultKind;
 use std::alloc::{AllocError, Global};
 
 fn test_found(number: Option<Expression>) -> Option<Option<Expression>>

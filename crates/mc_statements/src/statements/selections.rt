@@ -14,14 +14,14 @@ ghost use Rattle.mc_scopes.specs.Found.{found_of, judged_of, value_of};
 ghost use Rattle.mc_scopes.specs.Statements.{statements_of};
 ghost use Rattle.mc_scopes.specs.steps.Squeezed.{squeezed_part};
 
-use crate::statements::lists::{alone, begun, boxed, keyword, only_in};
-use mc_scopes::faults::{three_or_fault, two_or_fault};
+use crate::statements::lists::{begun, boxed, keyword, only_in};
+use mc_faults::{FaultKind, three_or_fault, two_or_fault};
 use mc_scopes::found::{Found, Judged, fails_integer, number_in};
+use mc_scopes::leaves::alone;
 use mc_scopes::value::Value;
 use mc_scopes::{Base, conversions};
 use mc_tree::Statement as Tree;
 use mc_typed::{Expression, Span, Statement};
-use mc_typing::FaultKind;
 use mc_value::IntType;
 use std::alloc::{AllocError, Global};
 

@@ -1,6 +1,6 @@
 use Rattle.std.proofs.Common.{◌≡◌, ◌∙◌, List, Option, true, ap, map, option_map}
 use Rattle.mc_tree.specs.Views.{name_of}
-use Rattle.mc_typing.specs.declared.fault.Fault.{Fault}
+use Rattle.mc_faults.specs.declared.fault.Fault.{Fault}
 use Rattle.mc_typing.specs.Declarations as w
 use Rattle.mc_typing.specs.Scopes as s
 use Rattle.mc_typing.specs.Types as t
@@ -11,7 +11,7 @@ use Rattle.mc_scopes.specs.Views.{scope_of}
 use Rattle.mc_scopes.specs.declared.types.ParameterKind.{ParameterKind}
 use Rattle.mc_declarations.specs.Declarations.{kind_found, listed_parameters}
 use Rattle.mc_declarations.specs.Bodies.{BodyBegun}
-use Rattle.mc_scopes.specs.steps.Squeezed.{listed}
+use Rattle.mc_faults.specs.Kept.{listed}
 use Rattle.mc_declarations.proofs.Begun.{body_placed}
 use Rattle.mc_declarations.proofs.definitions.begin_definition.Goals as goal
 

@@ -1,6 +1,6 @@
 use Rattle.std.proofs.Common.{◌∙◌, ap}
 use Rattle.mc_scopes.specs.Blocks.{around_of}
-use Rattle.mc_scopes.specs.steps.Squeezed.{listed}
+use Rattle.mc_faults.specs.Kept.{listed}
 use Rattle.mc_declarations.proofs.DeclarationFaults.{judged_same}
 use Rattle.mc_declarations.proofs.definitions.end_definition.Goals as goal
 

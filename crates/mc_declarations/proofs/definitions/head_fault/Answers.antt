@@ -2,7 +2,7 @@ use Rattle.std.proofs.Common.{◌≡◌, ◌∙◌, ℕ, Option, ap, map, length
 use Rattle.std.proofs.lemmas.List.{length-map}
 use Rattle.mc_tree.specs.Views.{name_of}
 use Rattle.mc_typing.specs.Declarations as w
-use Rattle.mc_typing.specs.Faults.{least_of}
+use Rattle.mc_faults.specs.Faults.{least_of}
 use Rattle.mc_typing.specs.Scopes as s
 use Rattle.mc_typing.specs.Types as t
 use Rattle.mc_typing.specs.Typing as ty

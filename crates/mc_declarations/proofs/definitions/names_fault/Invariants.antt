@@ -1,9 +1,9 @@
 -- The first fault so far, and those still to come.
 use Rattle.std.proofs.Common.{◌≡◌, ◌++◌, map, length}
 use Rattle.mc_tree.specs.Views.{parameter_of, parameters_from}
-use Rattle.mc_typing.specs.Faults.{least_of}
+use Rattle.mc_faults.specs.Faults.{least_of}
 use Rattle.mc_typing.specs.Typing.{list_names_faults}
-use Rattle.mc_scopes.specs.steps.Squeezed.{listed}
+use Rattle.mc_faults.specs.Kept.{listed}
 use Rattle.mc_declarations.proofs.definitions.names_fault.Given as goal
 
 abbrev pub invariant-loop-left : goal.invariant-loop-left

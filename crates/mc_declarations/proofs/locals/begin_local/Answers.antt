@@ -4,7 +4,7 @@ use Rattle.mc_typing.specs.Declarations.{object_faults}
 use Rattle.mc_scopes.specs.Types.{type_of}
 use Rattle.mc_scopes.specs.Views.{scope_of}
 use Rattle.mc_declarations.specs.Declarations.{written}
-use Rattle.mc_scopes.specs.steps.Squeezed.{listed}
+use Rattle.mc_faults.specs.Kept.{listed}
 use Rattle.mc_declarations.proofs.Begun.{begun_local}
 use Rattle.mc_declarations.proofs.locals.begin_local.Goals as goal
 

@@ -7,7 +7,7 @@ use Rattle.mc_scopes.specs.Views.{scope_of, structure_of}
 use Rattle.mc_scopes.specs.declared.members.Structure.{Structure}
 use Rattle.mc_typing.specs.Values.{judged}
 use Rattle.mc_declarations.specs.Declarations.{kind_found, lengths_in, squeezed_listed, written}
-use Rattle.mc_scopes.specs.steps.Squeezed.{listed}
+use Rattle.mc_faults.specs.Kept.{listed}
 use Rattle.mc_declarations.proofs.Begun.{parameter_found}
 use Rattle.mc_declarations.proofs.parameters.parameter.Goals as goal
 

@@ -5,7 +5,7 @@ use Rattle.mc_scopes.specs.Types.{type_of}
 use Rattle.mc_scopes.specs.Views.{scope_of}
 use Rattle.mc_scopes.specs.Found.{judged_of}
 use Rattle.mc_scopes.specs.Statements.{declarators_of}
-use Rattle.mc_scopes.specs.steps.Squeezed.{listed}
+use Rattle.mc_faults.specs.Kept.{listed}
 use Rattle.mc_types.proofs.DeclarationArms.{in_declaration}
 use Rattle.mc_types.proofs.declarations.declaration.Goals as goal
 

@@ -23,7 +23,8 @@ use Rattle.mc_scopes.specs.Given.{arguments_of, given_of, items_of}
 use Rattle.mc_declarations.specs.Declarations.{lengths_in, listed_members, listed_parameters, number_judged, opened_of, squeezed_listed}
 use Rattle.mc_expressions.specs.steps.Callees.{meaning_of_callee}
 use Rattle.mc_expressions.specs.steps.Gathered.{gathered, squeezed_given}
-use Rattle.mc_scopes.specs.steps.Squeezed.{listed, squeezed_part}
+use Rattle.mc_faults.specs.Kept.{listed}
+use Rattle.mc_scopes.specs.steps.Squeezed.{squeezed_part}
 use Rattle.mc_declarations.proofs.DeclarationNodes.{lengths_end, parameters_end, specifiers_end}
 use Rattle.mc_declarations.proofs.Growth.{prototype_left}
 use Rattle.mc_types.proofs.Exits.{found_as, found_each, found_with}

@@ -10,7 +10,8 @@ use Rattle.mc_scopes.specs.Views.{scope_of}
 use Rattle.mc_scopes.specs.Found.{judged_of}
 use Rattle.mc_scopes.specs.Given.{given_of, items_of}
 use Rattle.mc_declarations.specs.Declarations.{lengths_in, listed_parameters, squeezed_listed}
-use Rattle.mc_scopes.specs.steps.Squeezed.{listed, squeezed_part}
+use Rattle.mc_faults.specs.Kept.{listed}
+use Rattle.mc_scopes.specs.steps.Squeezed.{squeezed_part}
 use Rattle.mc_expressions.specs.steps.Gathered.{gathered, squeezed_given}
 use Rattle.mc_types.proofs.expressions.+judge.Given as goal
 

@@ -3,7 +3,7 @@ use Rattle.mc_tree.specs.Units as units
 use Rattle.mc_typing.specs.Typing.{IsTypingOf, program_from}
 use Rattle.mc_scopes.specs.Views.{scope_of}
 use Rattle.mc_scopes.specs.Found.{judged_of}
-use Rattle.mc_scopes.specs.steps.Squeezed.{listed}
+use Rattle.mc_faults.specs.Kept.{listed}
 use Rattle.mc_declarations.specs.Declarations.{functions_of}
 use Rattle.mc_types.specs.Faults.{IsFirstIn}
 use Rattle.mc_types.proofs.UnitArms.{typed_program, typed_value, unit_first}

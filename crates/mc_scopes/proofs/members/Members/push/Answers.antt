@@ -1,5 +1,5 @@
 use Rattle.std.proofs.Common.{◌≡◌, ◌+◌, ◌<◌, ◌∷◌, ◌++◌, [], max, length, refl, sym, subst, arith, rules}
-use Rattle.mc_scopes.specs.Tables.{Named}
+use Rattle.mc_names.specs.Tables.{Named}
 use Rattle.mc_scopes.specs.Listed.{AreLaid}
 use Rattle.mc_scopes.specs.declared.member.Member.{Member}
 use Rattle.mc_scopes.proofs.Laid.{laid_more}

@@ -1,5 +1,5 @@
 use Rattle.std.proofs.Common.{◌∙◌, Some, None, sym, ap, subst}
-use Rattle.mc_scopes.specs.Tables.{last_place_of}
+use Rattle.mc_names.specs.Tables.{last_place_of}
 use Rattle.mc_scopes.specs.Listed.{AreLaid}
 use Rattle.mc_scopes.proofs.Laid.{selected_at, numbered_selects, numbered_begins}
 use Rattle.mc_scopes.proofs.members.Members.select.Goals as goal

@@ -1,10 +1,10 @@
 use Rattle.std.proofs.Common.{◌∙◌, ap}
-use Rattle.mc_typing.specs.Faults.{least_of}
+use Rattle.mc_faults.specs.Faults.{least_of}
 use Rattle.mc_typing.specs.Values.{kind_found, number_found}
 use Rattle.mc_typing.specs.Initializers.{item_faults, static_faults}
 use Rattle.mc_scopes.specs.Found.{found_of}
 use Rattle.mc_statements.specs.Initializers.{target_of}
-use Rattle.mc_statements.proofs.Leasts.{lesser_joined}
+use Rattle.mc_scopes.proofs.Leasts.{lesser_joined}
 use Rattle.mc_statements.proofs.initializers.singles.own_fault.Goals as goal
 
 pub returns : goal.returns

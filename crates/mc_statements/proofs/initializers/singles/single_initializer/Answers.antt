@@ -1,15 +1,15 @@
 use Rattle.std.proofs.Common.{◌∙◌, ◌++◌, refl, ap, option_copied, option_map, option_and_then}
 use Rattle.mc_typed.specs.Views.{initializer_of}
-use Rattle.mc_typing.specs.Faults.{least_of}
+use Rattle.mc_faults.specs.Faults.{least_of}
 use Rattle.mc_typing.specs.Values.{kind_found, number_found}
 use Rattle.mc_typing.specs.Initializers.{item_faults, static_faults, item_value}
 use Rattle.mc_typing.specs.Initializers as i
 use Rattle.mc_scopes.specs.Types.{type_of}
 use Rattle.mc_scopes.specs.Views.{scope_of}
 use Rattle.mc_scopes.specs.Found.{found_of}
-use Rattle.mc_scopes.specs.steps.Squeezed.{listed}
+use Rattle.mc_faults.specs.Kept.{listed}
 use Rattle.mc_statements.specs.Initializers.{target_of}
-use Rattle.mc_statements.proofs.Leasts.{same_parts}
+use Rattle.mc_scopes.proofs.Leasts.{same_parts}
 use Rattle.mc_statements.proofs.initializers.singles.single_initializer.Goals as goal
 
 pub returns-in_ok-value-in-Ok : goal.returns-in_ok-value-in-Ok

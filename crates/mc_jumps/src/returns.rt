@@ -1,0 +1,188 @@
+//! `return` with an expression (C17 6.8.6.4).
+ghost use Rattle.std.specs.Prelude.{◌≡◌, Some, IfOk, option_map, option_and_then};
+ghost use Rattle.mc_typed.specs.Layout.{cells};
+ghost use Rattle.mc_typed.specs.Tree as t;
+ghost use Rattle.mc_typed.specs.Views.{expression_of, structure_of, return_value_of};
+ghost use Rattle.mc_faults.specs.Faults.{least_of};
+ghost use Rattle.mc_typing.specs.Types.{Tagged, layout_of, plain};
+ghost use Rattle.mc_typing.specs.Values as v;
+ghost use Rattle.mc_typing.specs.Expressions as expressions;
+ghost use Rattle.mc_typing.specs.Statements as w;
+ghost use Rattle.mc_scopes.specs.Types.{base_of};
+ghost use Rattle.mc_scopes.specs.Views.{scope_of};
+ghost use Rattle.mc_scopes.specs.Found.{found_of, judged_of, kind_of, value_of};
+ghost use Rattle.mc_scopes.specs.Statements.{statements_of};
+ghost use Rattle.mc_scopes.specs.steps.Squeezed.{squeezed_part};
+
+use mc_faults::{Fault, FaultKind, after, fault_where};
+use mc_scopes::conversions::convert_to;
+use mc_scopes::found::{Found, Judged, kind_found};
+use mc_scopes::kind::{Kind, is_kind};
+use mc_scopes::leaves::alone;
+use mc_scopes::structures::structure_cells;
+use mc_scopes::value::Value;
+use mc_scopes::{Base, Scope};
+use mc_typed::{Expression, ReturnValue, Span, Statement, Structure};
+use mc_value::IntType;
+use std::alloc::{AllocError, Global};
+
+fn fits(base: Base, kind: Kind<'_>) -> bool
+    ensures { result ≡ w.fits (base_of base) (kind_of kind.entry) }
+{
+    match base {
+        Base::Void => false,
+        Base::Integer(_) => kind.is_integer(),
+        Base::Tagged(number) => is_kind(number, kind),
+    }
+}
+
+fn fails_fit(base: Base, kind: Option<Kind<'_>>) -> bool
+    ensures { result ≡ v.fails (w.fits (base_of base)) (option_map kind_of kind.entry) }
+{
+    match kind {
+        Some(kind) => !fits(base, kind),
+        None => false,
+    }
+}
+
+fn return_fault(gives: Option<Base>, at: u32, kind: Option<Kind<'_>>) -> Option<Fault>
+    ensures { result ≡ least_of
+        (w.return_faults (option_map base_of gives) at (option_map kind_of kind.entry)) }
+{
+    match gives {
+        None => None,
+        Some(base) => match base {
+            Base::Void => Some(Fault {
+                kind: FaultKind::Mismatch,
+                at,
+            }),
+            Base::Integer(_) => fault_where(fails_fit(base, kind), FaultKind::Mismatch, at),
+            Base::Tagged(_) => fault_where(fails_fit(base, kind), FaultKind::Mismatch, at),
+        },
+    }
+}
+
+fn return_number(
+    alloc: Global,
+    to: IntType,
+    number: Option<Expression>,
+) -> Result<Option<ReturnValue>, AllocError>
+    ensures { IfOk result (λ r. option_map return_value_of r
+        ≡ option_map (λ e. t.ReturnNumber (expressions.convert_to to e))
+        (option_map expression_of number)) }
+{
+    match number {
+        Some(number) => {
+            let value = convert_to(alloc, to, number)?;
+            Ok(Some(ReturnValue::Number { value }))
+        }
+        None => Ok(None),
+    }
+}
+
+fn return_structure(
+    alloc: Global,
+    scope: &Scope<'_>,
+    number: u32,
+    value: Option<Structure>,
+) -> Result<Option<ReturnValue>, AllocError>
+    ensures { IfOk result (λ r. option_map return_value_of r
+        ≡ option_map
+        (λ w. t.ReturnStructure w
+        (cells (layout_of (scope_of scope.now).structures (plain (Tagged number)))))
+        (option_map structure_of value)) }
+{
+    match value {
+        Some(value) => {
+            let cells = structure_cells(alloc, &scope.structures, number)?;
+            Ok(Some(ReturnValue::Structure { value, cells }))
+        }
+        None => Ok(None),
+    }
+}
+
+fn value_for(
+    alloc: Global,
+    scope: &Scope<'_>,
+    gives: Option<Base>,
+    value: Value,
+) -> Result<Option<ReturnValue>, AllocError>
+    ensures { IfOk result (λ r. option_map return_value_of r
+        ≡ w.return_value (scope_of scope.now).structures (option_map base_of gives)
+        (value_of value)) }
+{
+    match gives {
+        Some(base) => match base {
+            Base::Void => {
+                drop(value);
+                Ok(None)
+            }
+            Base::Integer(to) => return_number(alloc, to, value.into_number()),
+            Base::Tagged(number) => {
+                return_structure(alloc, scope, number, value.into_structure(number))
+            }
+        },
+        None => {
+            drop(value);
+            Ok(None)
+        }
+    }
+}
+
+fn return_value(
+    alloc: Global,
+    scope: &Scope<'_>,
+    gives: Option<Base>,
+    value: Option<Value>,
+) -> Result<Option<ReturnValue>, AllocError>
+    ensures { IfOk result (λ r. option_map return_value_of r
+        ≡ option_and_then
+        (w.return_value (scope_of scope.now).structures (option_map base_of gives))
+        (option_map value_of value)) }
+{
+    match value {
+        Some(value) => value_for(alloc, scope, gives, value),
+        None => Ok(None),
+    }
+}
+
+fn return_alone(
+    alloc: Global,
+    span: Span,
+    value: Option<ReturnValue>,
+) -> Result<Option<Vec<Statement>>, AllocError>
+    ensures { IfOk result (λ r. option_map statements_of r
+        ≡ option_map (λ v. w.alone (t.Return v span)) (option_map return_value_of value)) }
+{
+    match value {
+        Some(value) => Ok(Some(alone(
+            alloc,
+            Statement::Return {
+                value,
+                span,
+                bit: None,
+                exit: None,
+            },
+        )?)),
+        None => Ok(None),
+    }
+}
+
+/// A `return` with an expression, in a function that gives this.
+pub fn return_statement(
+    alloc: Global,
+    scope: &Scope<'_>,
+    gives: Option<Base>,
+    span: Span,
+    found: Found,
+) -> Result<Judged<Vec<Statement>>, AllocError>
+    ensures { IfOk result (λ r. judged_of statements_of r (scope_of scope.now)
+        ≡ squeezed_part (w.return_judged (option_map base_of gives) span
+        (found_of found (scope_of scope.now)))) }
+{
+    let own = return_fault(gives, span.start, kind_found(&found.value));
+    let fault = after(found.fault, own);
+    let value = return_value(alloc, scope, gives, found.value)?;
+    let value = return_alone(alloc, span, value)?;
+    Ok(Judged { fault, value })
+}

@@ -1,0 +1,36 @@
+//! Statements that stand alone.
+ghost use Rattle.std.specs.Prelude.{◌≡◌, Some, IfOk, option_map};
+ghost use Rattle.mc_typed.specs.Views.{statement_of};
+ghost use Rattle.mc_typing.specs.Statements as w;
+ghost use Rattle.mc_scopes.specs.Statements.{statements_of};
+
+use crate::found::Judged;
+use mc_faults::Fault;
+use mc_typed::Statement;
+use std::alloc::{AllocError, Global};
+
+/// A list of one statement.
+pub fn alone(alloc: Global, one: Statement) -> Result<Vec<Statement>, AllocError>
+    ensures { IfOk result (λ r. statements_of r ≡ w.alone (statement_of one)) }
+{
+    let mut list = Vec::new(alloc);
+    list.push(one)?;
+    Ok(list)
+}
+
+/// A statement of its own, which has this fault.
+pub fn leaf(
+    alloc: Global,
+    first: Option<Fault>,
+    one: Statement,
+) -> Result<Judged<Vec<Statement>>, AllocError>
+    ensures fault { IfOk result (λ r. r.fault ≡ first) }
+    ensures value { IfOk result (λ r.
+        option_map statements_of r.value ≡ Some (w.alone (statement_of one))) }
+{
+    let value = alone(alloc, one)?;
+    Ok(Judged {
+        fault: first,
+        value: Some(value),
+    })
+}
