@@ -1,9 +1,11 @@
 -- The fields of a record of a tests file.
-use Rattle.std.specs.Prelude.{ℕ, Bool, ◌&&◌, ◌||◌, List, [], ◌∷◌, length, Option, Some, None, option_map, if◌then◌else◌, codes, ◌==◌, nat_le, ℤ}
+use Rattle.std.specs.Prelude.{ℕ, Bool, ◌&&◌, List, [], ◌∷◌, length, Option, Some, None, option_map, if◌then◌else◌, codes, ◌==◌, nat_le, ℤ}
 use Rattle.std.specs.List.{list_all}
 use Rattle.std.specs.Str.{bytes_eq}
 use Rattle.mc_rows.specs.Rows.{Fields, field_or_empty}
-use Rattle.mc_fields.specs.Numbers.{number_of, int_of, numbers_of}
+use Rattle.mc_rows.specs.Names.{is_name}
+use Rattle.mc_rows.specs.Numbers.{number_of}
+use Rattle.mc_fields.specs.Numbers.{int_of, numbers_of}
 
 -- the six fields
 abbrev pub test_field : Fields → List ℕ
@@ -38,18 +40,9 @@ is_header fields = (length fields == 6)
 abbrev pub is_printable : ℕ → Bool
 is_printable b = nat_le 32 b && nat_le b 126
 
--- a letter, a digit, `_`, `-` or `.`
-abbrev pub is_name_byte : ℕ → Bool
-is_name_byte b =
-    (nat_le 97 b && nat_le b 122) || (nat_le 65 b && nat_le b 90) || (nat_le 48 b && nat_le b 57)
-    || (b == 95) || (b == 45) || (b == 46)
-
--- the name of a test: 1 to 64 of them
-abbrev pub is_test_name : List ℕ → Bool
-is_test_name text = nat_le 1 (length text) && nat_le (length text) 64 && list_all is_name_byte text
-
+-- printable characters alone, and the name of a test
 abbrev pub is_readable : Fields → Bool
-is_readable fields = list_all (list_all is_printable) fields && is_test_name (test_field fields)
+is_readable fields = list_all (list_all is_printable) fields && is_name (test_field fields)
 
 -- the value that has to be returned: any where the field is empty
 abbrev pub expected_value : List ℕ → Option (Option ℤ)

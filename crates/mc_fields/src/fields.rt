@@ -1,17 +1,17 @@
 //! The fields of a record of a tests file.
 ghost use Rattle.std.specs.Prelude.{◌≡◌, ◌==◌, IfOk, length, option_map};
 ghost use Rattle.std.specs.List.{list_all};
-ghost use Rattle.mc_fields.specs.Fields.{all_four, expected_output, expected_value, is_header, is_name_byte, is_printable, is_readable, is_test_name, numbers_in};
-ghost use Rattle.mc_fields.specs.Numbers.{int_of, number_of, numbers_of};
+ghost use Rattle.mc_fields.specs.Fields.{all_four, expected_output, expected_value, is_header, is_printable, is_readable, numbers_in};
+ghost use Rattle.mc_rows.specs.Names.{is_name};
+ghost use Rattle.mc_rows.specs.Numbers.{number_of};
+ghost use Rattle.mc_fields.specs.Numbers.{int_of, numbers_of};
 ghost use Rattle.mc_fields.specs.Seen.{seen_numbers, seen_output};
 
-use crate::numbers::{read_ints, read_number, read_numbers};
-use mc_rows::Row;
+use crate::numbers::{read_ints, read_numbers};
+use mc_rows::{Row, is_name, read_number};
 use std::alloc::{AllocError, Global};
 
 const FIELDS: usize = 6;
-
-const MAX_NAME: usize = 64;
 
 /// Whether the record is the first one that each tests file has. Takes no memory.
 pub fn is_header(fields: &Row) -> bool
@@ -38,29 +38,6 @@ fn has_only_printable(text: &[u8]) -> bool
     text.iter().all(|b| is_printable(*b))
 }
 
-fn is_name_byte(b: u8) -> bool
-    ensures { result ≡ is_name_byte b }
-{
-    (b >= b'a' && b <= b'z')
-        || (b >= b'A' && b <= b'Z')
-        || (b >= b'0' && b <= b'9')
-        || b == b'_'
-        || b == b'-'
-        || b == b'.'
-}
-
-fn has_only_name_bytes(text: &[u8]) -> bool
-    ensures { result ≡ list_all is_name_byte text.now }
-{
-    text.iter().all(|b| is_name_byte(*b))
-}
-
-fn is_test_name(text: &[u8]) -> bool
-    ensures { result ≡ is_test_name text.now }
-{
-    1 <= text.len() && text.len() <= MAX_NAME && has_only_name_bytes(text)
-}
-
 /// Whether there are six fields. Takes no memory.
 pub fn has_six_fields(fields: &Row) -> bool
     ensures { result ≡ (length fields.now == 6) }
@@ -80,7 +57,7 @@ pub fn is_readable(fields: &Row) -> bool
         && has_only_printable(fields.field(3))
         && has_only_printable(fields.field(4))
         && has_only_printable(fields.field(5))
-        && is_test_name(fields.field(0))
+        && is_name(fields.field(0))
 }
 
 /// What the four fields of numbers of a record say.

@@ -1,6 +1,7 @@
 //! Worked examples: what short texts say. The functions do nothing: each has a law as its contract.
 ghost use Rattle.std.specs.Prelude.{◌≡◌, ◌∷◌, [], None, Some, codes, pos, neg_ℤ};
-ghost use Rattle.mc_fields.specs.Numbers.{int_of, number_of, numbers_of};
+ghost use Rattle.mc_rows.specs.Numbers.{number_of};
+ghost use Rattle.mc_fields.specs.Numbers.{int_of, numbers_of};
 
 /// A number has no `+`, no leading 0 and no `-0`, and lies from -2^63 to 2^64 - 1.
 pub fn numbers_have_one_spelling()

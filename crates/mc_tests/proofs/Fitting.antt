@@ -14,8 +14,10 @@ use Rattle.mc_typed.specs.Tree as t
 use Rattle.mc_typed.specs.Plans.{AreInts, AreOutputs, AreValues, Call, CallFits, CallsFit, Fits, IsExpected, Plan, expected_outputs, outputs_of}
 use Rattle.mc_tests.specs.declared.fault.TestFault.{TestFault}
 use Rattle.mc_tests.specs.declared.fault.TestFault.TheVariants as fault
-use Rattle.mc_fields.specs.Fields.{Numbers, all_four, arguments_field, call_field, expected_output, expected_value, expect_field, inputs_field, is_header, is_readable, is_test_name, numbers_in, output_field, test_field}
-use Rattle.mc_fields.specs.Numbers.{all_numbers, and_number, if_int, int_of, number_of, numbers_of, pieces_of}
+use Rattle.mc_fields.specs.Fields.{Numbers, all_four, arguments_field, call_field, expected_output, expected_value, expect_field, inputs_field, is_header, is_readable, numbers_in, output_field, test_field}
+use Rattle.mc_rows.specs.Names.{is_name}
+use Rattle.mc_rows.specs.Numbers.{number_of}
+use Rattle.mc_fields.specs.Numbers.{all_numbers, and_number, if_int, int_of, numbers_of, pieces_of}
 use Rattle.mc_fields.specs.Calls.{are_values, gives_structure, integer_types, is_callable, may_expect, takes_integers}
 use Rattle.mc_tests.specs.Lines.{Line, called, function_named, line_of, numbered}
 use Rattle.mc_tests.specs.Tests.{are_distinct, before_test, before_tests, is_small, keeps_limits, names_of, test_of, tests_of, tests_fault}
@@ -131,12 +133,12 @@ expected-fits e (t.NumberResult a) may none = tt
 expected-fits e (t.StructureResult u) may none = absurd (false≢true none)
 
 pub record LineFits (p : Program) (line : Line) : Type 0 where
-  pub named : is_test_name line.name ≡ true
+  pub named : is_name line.name ≡ true
   pub call : CallFits line.call (slice_get p.functions line.call.function)
   pub inputs : AreInts line.inputs
   pub output : AreInts (outputs_of line.call.output)
 
-module _ (p : Program) (row : ℕ) (fields : Fields) (line : Line) (named : is_test_name (test_field fields) ≡ true) where
+module _ (p : Program) (row : ℕ) (fields : Fields) (line : Line) (named : is_name (test_field fields) ≡ true) where
   from_callable : (n : Numbers) (k : ℕ) (f : Function) → NumbersFit n → slice_get p.functions k ≡ Some f → (fits : Bool) → (are_values n.arguments (integer_types f.parameters) && may_expect n.expect f.result) ≡ fits
       → (can : Bool) → is_callable f ≡ can
       → called row fields n (Some (k, f)) ≡ Ok line → LineFits p line
@@ -179,7 +181,7 @@ ints-joined [] ys a b = b
 ints-joined (x ∷ xs) ys a b = (a.0, ints-joined xs ys a.1 b)
 
 record PlanFits (p : Program) (fuel : ℕ) (plan : Plan) : Type 0 where
-  named : is_test_name plan.name ≡ true
+  named : is_name plan.name ≡ true
   calls : CallsFit plan.calls p
   inputs : AreInts plan.inputs
   outputs : AreOutputs plan.calls
@@ -235,7 +237,7 @@ smalls-fit p fuel (plan ∷ plans) some few fit small =
     let parts = and_parts (is_small plan) (list_all is_small plans) small in
     (small-fits p fuel plan some few fit.0 parts.0, smalls-fit p fuel plans some few fit.1 parts.1)
 
-names-fit : (p : Program) (fuel : ℕ) (plans : List Plan) → PlansFit p fuel plans → list_all is_test_name (names_of plans) ≡ true
+names-fit : (p : Program) (fuel : ℕ) (plans : List Plan) → PlansFit p fuel plans → list_all is_name (names_of plans) ≡ true
 names-fit p fuel [] fit = refl
 names-fit p fuel (plan ∷ plans) fit = rw (fit.0.named, names-fit p fuel plans fit.1) refl
 

@@ -6,7 +6,8 @@ use Rattle.mc_typed.specs.Tree.{Function, Program}
 use Rattle.mc_typed.specs.Plans.{Fits, Plan}
 use Rattle.mc_tests.specs.declared.fault.TestFault.{TestFault}
 use Rattle.mc_tests.specs.declared.fault.TestFault.TheVariants as fault
-use Rattle.mc_fields.specs.Fields.{is_header, is_test_name}
+use Rattle.mc_rows.specs.Names.{is_name}
+use Rattle.mc_fields.specs.Fields.{is_header}
 use Rattle.mc_tests.specs.Lines.{Line, line_of}
 use Rattle.mc_tests.specs.Tests.{are_distinct, names_of, tests_of, tests_fault}
 
@@ -48,5 +49,5 @@ AllFit program (plan ∷ plans) = Fits plan program × AllFit program plans
 
 -- each is the name of a test, and no two are the same
 pub record AreNamed (plans : List Plan) : Type 0 where
-  pub each : list_all is_test_name (names_of plans) ≡ true
+  pub each : list_all is_name (names_of plans) ≡ true
   pub distinct : are_distinct (names_of plans) ≡ true

@@ -1,5 +1,6 @@
 use Rattle.std.proofs.Common.{◌≡◌, ◌++◌, ◌∷◌, [], sym, option_map, rules}
-use Rattle.mc_fields.specs.Numbers.{number_of, numbers_of}
+use Rattle.mc_rows.specs.Numbers.{number_of}
+use Rattle.mc_fields.specs.Numbers.{numbers_of}
 use Rattle.mc_fields.proofs.Pieces.{next_number}
 use Rattle.mc_fields.proofs.numbers.read_numbers.Goals as goal
 

@@ -1,6 +1,7 @@
 use Rattle.std.proofs.Common.{◌≡◌, ◌++◌, ◌+◌, length, option_map}
 use Rattle.std.specs.Option.{option_map_or}
-use Rattle.mc_fields.specs.Numbers.{number_of, all_numbers, numbers_of}
+use Rattle.mc_rows.specs.Numbers.{number_of}
+use Rattle.mc_fields.specs.Numbers.{all_numbers, numbers_of}
 use Rattle.mc_fields.specs.steps.Pieces.{pieces_after}
 use Rattle.mc_fields.proofs.numbers.read_numbers.Given as goal
 

@@ -1,7 +1,7 @@
 -- The number that one more digit makes.
 use Rattle.std.proofs.Common.{◌≡◌, ◌∙◌, ◌<◌, ◌+◌, ◌-◌, ◌*◌, ℕ, List, [], ◌∷◌, ◌++◌, length, take, get_or, refl, ap}
 use Rattle.std.proofs.lemmas.List.{take_more}
-use Rattle.mc_fields.specs.Numbers.{number_after, magnitude_of}
+use Rattle.mc_rows.specs.Numbers.{number_after, magnitude_of}
 
 number_after-push : (n : ℕ) (ds : List ℕ) (d : ℕ) → number_after n (ds ++ d ∷ []) ≡ 10 * number_after n ds + (d - 48)
 number_after-push n [] d = refl
