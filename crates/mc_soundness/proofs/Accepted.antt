@@ -3,15 +3,17 @@ use Rattle.std.proofs.Common.{◌≡◌, ℕ, nat_lt, Bool, true, false, if◌th
 use Rattle.mc_span.specs.declared.span.Span.{Span}
 use Rattle.mc_tree.specs.Tree.{Name, Expression, InitDeclarator, Declaration, ForStart, Statement, BlockItems, Item, Parameters, Specifiers}
 use Rattle.mc_tree.specs.Tree as tree
-use Rattle.mc_subset.specs.declared.context.Region.TheVariants as region
-use Rattle.mc_subset.specs.declared.context.Role.TheVariants as role
-use Rattle.mc_subset.specs.declared.context.Standing.{Standing}
-use Rattle.mc_subset.specs.declared.context.Standing.TheVariants as standing
-use Rattle.mc_subset.specs.declared.form.Form.{Form}
-use Rattle.mc_subset.specs.declared.form.Form.TheVariants as form
-use Rattle.mc_subset.specs.declared.outside.Outside.{Outside}
-use Rattle.mc_subset.specs.Nodes.{Node, a_declarator, a_declaration, a_statement, has_extern, nodes_of_expression, nodes_of_specifiers, nodes_of_declarator, nodes_of_initializer, nodes_of_init_declarator, nodes_of_init_declarators, nodes_of_declaration, nodes_of_optional, nodes_of_start, nodes_of_parts, standing_of_items, standing_from, nodes_of_statement, nodes_of_block, nodes_of_item, nodes_of_unit}
-use Rattle.mc_subset.specs.Forms.{form_of, place_of, outside_at, or_else, first_outside}
+use Rattle.mc_forms.specs.declared.context.Region.TheVariants as region
+use Rattle.mc_forms.specs.declared.context.Role.TheVariants as role
+use Rattle.mc_forms.specs.declared.context.Standing.{Standing}
+use Rattle.mc_forms.specs.declared.context.Standing.TheVariants as standing
+use Rattle.mc_forms.specs.declared.form.Form.{Form}
+use Rattle.mc_forms.specs.declared.form.Form.TheVariants as form
+use Rattle.mc_forms.specs.declared.outside.Outside.{Outside}
+use Rattle.mc_forms.specs.Contexts.{standing_of_items}
+use Rattle.mc_forms.specs.Order.{or_else}
+use Rattle.mc_subset.specs.Nodes.{Node, a_declarator, a_declaration, a_statement, has_extern, nodes_of_expression, nodes_of_specifiers, nodes_of_declarator, nodes_of_initializer, nodes_of_init_declarator, nodes_of_init_declarators, nodes_of_declaration, nodes_of_optional, nodes_of_start, nodes_of_parts, standing_from, nodes_of_statement, nodes_of_block, nodes_of_item, nodes_of_unit}
+use Rattle.mc_subset.specs.Forms.{form_of, place_of, outside_at, first_outside}
 use Rattle.mc_soundness.specs.Blocks.{IsNoFunction, declarator_of, HaveNoFunction, DeclaresNoFunction, StartsWithNoFunction, HasNoFunction, BlockHasNoFunction}
 
 -- ---- lists of nodes

@@ -2,7 +2,7 @@
 use Rattle.std.specs.Prelude.{◌≡◌, ◌≤◌, ◌<◌, ◌^◌, List, length, Result, Ok, Err, ⊤, string_bytes}
 use Rattle.std.specs.declared.alloc.AllocError.{AllocError}
 use Rattle.mc_command.specs.Seen.{HasFuel, seen_command}
-use Rattle.mc_subset.specs.Names.{name_of}
+use Rattle.mc_forms.specs.Names.{name_of}
 use Rattle.mc_typed.specs.Sound.{IsSound}
 use Rattle.mc_typed.specs.Views.{program_of}
 use Rattle.mc_typed.specs.declared.plans.TestPlan.{TestPlan}

@@ -9,7 +9,7 @@ use Rattle.mc_tree.specs.Tree.{Item}
 use Rattle.mc_grammar.specs.Items.{IsSyntaxOf}
 use Rattle.mc_subset.specs.Forms.{first_outside}
 use Rattle.mc_subset.specs.Nodes.{nodes_of_unit}
-use Rattle.mc_subset.specs.declared.outside.Outside.{Outside}
+use Rattle.mc_forms.specs.declared.outside.Outside.{Outside}
 use Rattle.mc_typed.specs.Tree.{Program}
 use Rattle.mc_faults.specs.declared.fault.Fault.{Fault}
 use Rattle.mc_typing.specs.Typing.{IsTypingOf, IsFirstFaultOf}

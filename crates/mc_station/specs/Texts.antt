@@ -10,8 +10,8 @@ use Rattle.mc_faults.specs.declared.fault.Fault.{Fault}
 use Rattle.mc_types.specs.Faults.{kind_word}
 use Rattle.mc_tests.specs.declared.fault.TestFault.{TestFault}
 use Rattle.mc_tests.specs.declared.fault.TestFault.TheVariants as fault
-use Rattle.mc_subset.specs.Names.{name_of}
-use Rattle.mc_subset.specs.declared.outside.Outside.{Outside}
+use Rattle.mc_forms.specs.Names.{name_of}
+use Rattle.mc_forms.specs.declared.outside.Outside.{Outside}
 
 abbrev pub newline : List ℕ
 newline = 10 ∷ []

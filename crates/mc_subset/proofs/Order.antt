@@ -1,16 +1,17 @@
 -- The first node outside of two lists after each other.
 use Rattle.std.proofs.Common.{◌≡◌, List, [], ◌∷◌, ◌++◌, Option, Some, None, refl, ap, ◌∙◌}
 use Rattle.std.proofs.lemmas.Grind.{common_steps}
-use Rattle.mc_subset.specs.declared.outside.Outside.{Outside}
-use Rattle.mc_subset.specs.declared.context.Region.{Region}
-use Rattle.mc_subset.specs.declared.context.Role.{Role}
-use Rattle.mc_subset.specs.declared.context.Standing.{Standing}
+use Rattle.mc_forms.specs.declared.outside.Outside.{Outside}
+use Rattle.mc_forms.specs.declared.context.Region.{Region}
+use Rattle.mc_forms.specs.declared.context.Role.{Role}
+use Rattle.mc_forms.specs.declared.context.Standing.{Standing}
 use Rattle.mc_tree.specs.Tree.{Expression, Statement}
 use Rattle.mc_tree.specs.Tree as t
 use Rattle.mc_subset.specs.Nodes.{Node, an_expression, a_statement, nodes_of_expression, nodes_of_statement, after_first}
-use Rattle.mc_subset.specs.Forms.{form_of, place_of, outside_at, or_else, first_outside}
+use Rattle.mc_forms.specs.Order.{or_else}
+use Rattle.mc_subset.specs.Forms.{form_of, place_of, outside_at, first_outside}
 
-or_else_assoc : (a b c : Option Outside) → or_else a (or_else b c) ≡ or_else (or_else a b) c
+pub or_else_assoc : (a b c : Option Outside) → or_else a (or_else b c) ≡ or_else (or_else a b) c
 or_else_assoc None b c = refl
 or_else_assoc (Some first) b c = refl
 
@@ -20,8 +21,15 @@ first_of_both (n ∷ xs) ys =
     ap (or_else (outside_at (form_of n) (place_of n))) (first_of_both xs ys)
     ∙ or_else_assoc (outside_at (form_of n) (place_of n)) (first_outside xs) (first_outside ys)
 
+pub or_else_none : (a : Option Outside) → or_else a None ≡ a
+or_else_none None = refl
+or_else_none (Some first) = refl
+
 -- for the loops
 pub ruleset lists = (common_steps, first_of_both)
+
+-- for the loop that goes through all items
+pub ruleset all_lists = (common_steps, first_of_both, or_else_assoc, or_else_none)
 
 -- an expression is the first of its nodes
 pub first_of_expression : (g : Region) (r : Role) (e : Expression)

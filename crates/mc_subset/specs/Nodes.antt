@@ -6,12 +6,13 @@ use Rattle.std.specs.Prelude.{Bool, true, false, ◌||◌, List, [], ◌∷◌, 
 use Rattle.mc_tree.specs.declared.declarations.specifier_word.SpecifierWord.TheVariants as word
 use Rattle.mc_tree.specs.Tree.{Expression, Expressions, TypeName, Specifier, Specifiers, StructMember, Members, Enumerator, Enumerators, Declarator, Declarators, ArrayLengths, Parameters, Parameter, ParameterList, Initializer, Initializers, InitDeclarator, Declaration, ForStart, Statement, BlockItems, Item}
 use Rattle.mc_tree.specs.Tree as t
-use Rattle.mc_subset.specs.declared.context.Region.{Region}
-use Rattle.mc_subset.specs.declared.context.Region.TheVariants.{File, Function}
-use Rattle.mc_subset.specs.declared.context.Role.{Role}
-use Rattle.mc_subset.specs.declared.context.Role.TheVariants as role
-use Rattle.mc_subset.specs.declared.context.Standing.{Standing}
-use Rattle.mc_subset.specs.declared.context.Standing.TheVariants as standing
+use Rattle.mc_forms.specs.declared.context.Region.{Region}
+use Rattle.mc_forms.specs.declared.context.Region.TheVariants.{File, Function}
+use Rattle.mc_forms.specs.declared.context.Role.{Role}
+use Rattle.mc_forms.specs.declared.context.Role.TheVariants as role
+use Rattle.mc_forms.specs.declared.context.Standing.{Standing}
+use Rattle.mc_forms.specs.declared.context.Standing.TheVariants as standing
+use Rattle.mc_forms.specs.Contexts.{role_of_operands, role_in_parentheses, standing_of_items, standing_of_label}
 
 pub data Node : Type 0 where
   an_expression : Expression → Role → Node
@@ -31,11 +32,6 @@ abbrev pub after_first : List Node → List Node
 after_first [] = []
 after_first (n ∷ rest) = rest
 
--- the commas of a part of a `for` stand between its clauses; other expressions have parts
-abbrev pub role_of_operands : Role → Role
-role_of_operands role.ForPart = role.Clause
-role_of_operands _ = role.Part
-
 abbrev pub is_extern : Specifier → Bool
 is_extern (t.Word word.Extern span) = true
 is_extern _ = false
@@ -52,7 +48,7 @@ abbrev mutual
       an_expression (t.Constant value decimal unsigned longs span) r ∷ []
   nodes_of_expression g r (t.Character value span) = an_expression (t.Character value span) r ∷ []
   nodes_of_expression g r (t.Parenthesized a span) = an_expression (t.Parenthesized a span) r
-      ∷ nodes_of_expression g role.Part a
+      ∷ nodes_of_expression g (role_in_parentheses r) a
   nodes_of_expression g r (t.Call name all span) = an_expression (t.Call name all span) r
       ∷ nodes_of_expressions g role.Part all
   nodes_of_expression g r (t.Index a b span) = an_expression (t.Index a b span) r
@@ -196,16 +192,6 @@ nodes_of_start (t.StartsExpression a) = nodes_of_optional role.ForPart a
 abbrev pub nodes_of_parts : ForStart → Option Expression → Option Expression → List Node
 nodes_of_parts start a b = nodes_of_start start
     ++ (nodes_of_optional role.Part a ++ nodes_of_optional role.ForPart b)
-
--- where the items of a compound statement stand that stands here itself
-abbrev pub standing_of_items : Standing → Standing
-standing_of_items standing.Body = standing.BeforeLabels
-standing_of_items _ = standing.Elsewhere
-
--- the first label of a `switch` stands among the labels, and so does what follows it
-abbrev pub standing_of_label : Standing → Standing
-standing_of_label standing.BeforeLabels = standing.AmongLabels
-standing_of_label w = w
 
 -- where a statement stands whose place in its compound statement is `w`
 abbrev pub standing_from : Statement → Standing → Standing

@@ -6,10 +6,9 @@ ghost use Rattle.mc_tree.specs.Units.{declaration_of, init_declarator_of, initia
 ghost use Rattle.mc_subset.specs.Nodes as n;
 ghost use Rattle.mc_subset.specs.Forms.{first_outside};
 
-use crate::context::{Region, Role, Standing};
 use crate::expressions::{declarator, expression, specifiers};
-use crate::outside::Outside;
 use crate::rows::{declaration_form, has_extern, is_local, judge};
+use mc_forms::{Outside, Region, Role, Standing};
 use mc_tree::{Declaration, Expression, ForStart, InitDeclarator, Initializer};
 
 #[cycle(initializers)]

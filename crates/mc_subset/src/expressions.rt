@@ -5,15 +5,14 @@ ghost use Rattle.std.specs.Prelude.{◌≡◌, map};
 ghost use Rattle.mc_tree.specs.Views.{array_length_of, declarator_of, declarators_from, enumerator_of, enumerators_from, expression_of, expressions_from, lengths_from, member_of, members_from, parameter_of, parameters_from, specifier_of, specifiers_from};
 ghost use Rattle.mc_tree.specs.Tree as t;
 ghost use Rattle.mc_subset.specs.Nodes as n;
-ghost use Rattle.mc_subset.specs.Forms.{first_outside, or_else};
+ghost use Rattle.mc_forms.specs.Order.{or_else};
+ghost use Rattle.mc_subset.specs.Forms.{first_outside};
 
-use crate::context::{Region, Role};
-use crate::form::Form;
-use crate::outside::Outside;
 use crate::rows::{
     closing_of, expression_form, function_form, has_extern, judge, member_form, object_form,
-    pointer_form, role_of_operands, tag_form,
+    pointer_form, tag_form,
 };
+use mc_forms::{Form, Outside, Region, Role};
 use mc_span::Span;
 use mc_tree::{ArrayLength, Declarator, Enumerator, Expression, Member, Parameter, Specifier};
 
@@ -38,7 +37,7 @@ fn parts_of_expression(tree: &Expression<'_>, region: Region, role: Role) -> Opt
     match tree {
         Expression::Name { .. } | Expression::Constant { .. } | Expression::Character { .. } =>
             None,
-        Expression::Parenthesized { inner, .. } => expression(inner, region, Role::Part),
+        Expression::Parenthesized { inner, .. } => expression(inner, region, role.in_parentheses()),
         Expression::Call { arguments, .. } => expressions(arguments, region, Role::Part),
         Expression::Index { array, index, .. } => {
             if let Some(first) = expression(array, region, Role::Part) {
@@ -88,7 +87,7 @@ fn parts_of_expression(tree: &Expression<'_>, region: Region, role: Role) -> Opt
             }
             expression(value, region, Role::Part)
         }
-        Expression::Comma { operands, .. } => expressions(operands, region, role_of_operands(role)),
+        Expression::Comma { operands, .. } => expressions(operands, region, role.of_operands()),
     }
 }
 

@@ -2,15 +2,13 @@
 ghost use Rattle.std.specs.Prelude.{◌≡◌, ◌||◌, map, nat_lt, if◌then◌else◌};
 ghost use Rattle.mc_tree.specs.Views.{expression_of, specifier_of, specifiers_from};
 ghost use Rattle.mc_tree.specs.Units.{statement_of};
-ghost use Rattle.mc_subset.specs.declared.form.Form.TheVariants as form;
+ghost use Rattle.mc_forms.specs.declared.form.Form.TheVariants as form;
 ghost use Rattle.mc_subset.specs.Nodes.{an_expression, a_statement};
 ghost use Rattle.mc_subset.specs.Nodes as n;
 ghost use Rattle.mc_subset.specs.Forms.{closing, form_of, outside_at};
 ghost use Rattle.mc_subset.specs.Forms as f;
 
-use crate::context::{Region, Role, Standing};
-use crate::form::Form;
-use crate::outside::Outside;
+use mc_forms::{Form, Outside, Region, Role, Standing};
 use mc_span::Span;
 use mc_tree::{Expression, Specifier, SpecifierWord, Statement, UnaryOperator};
 
@@ -188,41 +186,12 @@ fn is_extern(tree: &Specifier<'_>) -> bool
     )
 }
 
-/// What the operands of a comma are.
-pub(crate) fn role_of_operands(role: Role) -> Role
-    ensures { result ≡ n.role_of_operands role }
-{
-    match role {
-        Role::ForPart => Role::Clause,
-        Role::Part | Role::Statement | Role::Clause => Role::Part,
-    }
-}
-
-/// Where the items of a compound statement stand.
-pub(crate) fn standing_of_items(standing: Standing) -> Standing
-    ensures { result ≡ n.standing_of_items standing }
-{
-    match standing {
-        Standing::Body => Standing::BeforeLabels,
-        Standing::BeforeLabels | Standing::AmongLabels | Standing::Elsewhere => Standing::Elsewhere,
-    }
-}
-
-fn standing_of_label(standing: Standing) -> Standing
-    ensures { result ≡ n.standing_of_label standing }
-{
-    match standing {
-        Standing::BeforeLabels => Standing::AmongLabels,
-        Standing::Body | Standing::AmongLabels | Standing::Elsewhere => standing,
-    }
-}
-
 /// Where a statement stands whose place in its compound statement is `standing`.
 pub(crate) fn standing_from(tree: &Statement<'_>, standing: Standing) -> Standing
     ensures { result ≡ n.standing_from (statement_of tree.now) standing }
 {
     match tree {
-        Statement::Case { .. } | Statement::Default { .. } => standing_of_label(standing),
+        Statement::Case { .. } | Statement::Default { .. } => standing.of_label(),
         Statement::Compound { .. }
         | Statement::Null { .. }
         | Statement::Expression { .. }

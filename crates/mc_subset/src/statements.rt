@@ -5,13 +5,13 @@ ghost use Rattle.std.specs.Prelude.{◌≡◌, map};
 ghost use Rattle.mc_tree.specs.Units.{block_from, block_item_of, statement_of};
 ghost use Rattle.mc_tree.specs.Tree as t;
 ghost use Rattle.mc_subset.specs.Nodes as n;
-ghost use Rattle.mc_subset.specs.Forms.{first_outside, or_else};
+ghost use Rattle.mc_forms.specs.Order.{or_else};
+ghost use Rattle.mc_subset.specs.Forms.{first_outside};
 
-use crate::context::{Region, Role, Standing};
 use crate::declarations::{declaration, for_parts, optional};
 use crate::expressions::expression;
-use crate::outside::Outside;
-use crate::rows::{judge, standing_from, standing_of_items, statement_form};
+use crate::rows::{judge, standing_from, statement_form};
+use mc_forms::{Outside, Region, Role, Standing};
 use mc_tree::{BlockItem, Statement};
 
 #[cycle(check)]
@@ -32,7 +32,7 @@ fn parts_of_statement(tree: &Statement<'_>, standing: Standing) -> Option<Outsid
         result ≡ first_outside (n.after_first all) }
 {
     match tree {
-        Statement::Compound { items, .. } => block(items, standing_of_items(standing)),
+        Statement::Compound { items, .. } => block(items, standing.of_items()),
         Statement::Null { .. }
         | Statement::Goto { .. }
         | Statement::Break { .. }

@@ -6,12 +6,11 @@ ghost use Rattle.mc_tree.specs.Units.{item_of, items_of};
 ghost use Rattle.mc_subset.specs.Nodes.{nodes_of_item, nodes_of_unit};
 ghost use Rattle.mc_subset.specs.Forms.{accepted_unless, first_outside};
 
-use crate::context::{Region, Standing};
 use crate::declarations::declaration;
 use crate::expressions::{declarator, specifiers};
-use crate::outside::Outside;
 use crate::rows::has_extern;
 use crate::statements::block;
+use mc_forms::{Outside, Region, Standing, first_of};
 use mc_tree::{Item, Unit};
 
 /// Accepts a tree without a node outside, and else gives the first one in preorder: a node comes
@@ -26,15 +25,15 @@ pub fn check(unit: &Unit<'_>) -> Result<(), Outside>
     }
 }
 
+#[tactic(auto, using(crate::proofs::Order::all_lists))]
 fn items(trees: &[Item<'_>]) -> Option<Outside>
     ensures { result ≡ first_outside (nodes_of_unit (items_of trees.now)) }
 {
+    let mut found = None;
     for tree in trees {
-        if let Some(first) = item(tree) {
-            return Some(first);
-        }
+        found = first_of(found, item(tree));
     }
-    None
+    found
 }
 
 fn item(tree: &Item<'_>) -> Option<Outside>

@@ -1,7 +1,7 @@
 -- The printed names of the forms.
 use Rattle.std.specs.Prelude.{ℕ, List, codes}
-use Rattle.mc_subset.specs.declared.form.Form.{Form}
-use Rattle.mc_subset.specs.declared.form.Form.TheVariants as form
+use Rattle.mc_forms.specs.declared.form.Form.{Form}
+use Rattle.mc_forms.specs.declared.form.Form.TheVariants as form
 
 abbrev pub name_of : Form → List ℕ
 name_of form.Pointer = codes "pointer"

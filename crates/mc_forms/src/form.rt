@@ -1,6 +1,6 @@
 //! Forms of C that have a tree and are left out.
 ghost use Rattle.std.specs.Prelude.{◌≡◌};
-ghost use Rattle.mc_subset.specs.Names.{name_of};
+ghost use Rattle.mc_forms.specs.Names.{name_of};
 
 use std::fmt;
 
