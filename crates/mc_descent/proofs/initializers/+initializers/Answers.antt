@@ -1,0 +1,21 @@
+use Rattle.std.proofs.Common.{arith}
+use Rattle.mc_descent.proofs.Lists.{braced_steps}
+use Rattle.mc_descent.proofs.initializers.+initializers.Goals as goal
+
+pub initializers-returns-in_err-one : goal.initializers-returns-in_err-one
+initializers-returns-in_err-one t c = grind (arith, braced_steps)
+
+pub initializers-returns-then-not-sees : goal.initializers-returns-then-not-sees
+initializers-returns-then-not-sees t c = grind (arith, braced_steps)
+
+pub initializers-returns-in_err-take : goal.initializers-returns-in_err-take
+initializers-returns-in_err-take t c = grind (arith, braced_steps)
+
+pub initializers-returns-then-sees : goal.initializers-returns-then-sees
+initializers-returns-then-sees t c = grind (arith, braced_steps)
+
+pub initializers-loop-turn-preserved : goal.initializers-loop-turn-preserved
+initializers-loop-turn-preserved t c = grind (arith, braced_steps)
+
+pub initializers-returns : goal.initializers-returns
+initializers-returns t c = grind (arith, braced_steps)
