@@ -5,5 +5,6 @@ pub mod Each
 pub mod Ordered
 pub mod Trees
 pub mod Told
+pub mod Gathers
 pub mod Once
 pub mod InOrder

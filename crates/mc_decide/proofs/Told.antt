@@ -1,20 +1,15 @@
 -- The decisions that are made of a program are its decisions.
-use Rattle.std.proofs.Common.{◌≡◌, ◌∙◌, refl, sym, ap, subst, ℕ, suc, ◌+◌, ◌<◌, List, [], ◌∷◌, ◌++◌, map, length, All, Contains, add-one, inl, inr, get_or, drop, append_assoc, Bor}
-use Rattle.std.proofs.lemmas.List.{drop_more, map_push}
+use Rattle.std.proofs.Common.{◌≡◌, refl, sym, subst, ℕ, suc, ◌+◌, List, [], ◌∷◌, ◌++◌, map, All, Contains, add-one, inl, inr}
 use Rattle.std.proofs.lemmas.List.Elements.{All-nil, All-head, All-tail}
 use Rattle.mc_decide.specs.declared.fault.DecideFault.{DecideFault}
 use Rattle.mc_decide.specs.declared.fault.DecideFault.TheVariants.{TooManyConditions, OutOfMemory}
-use Rattle.mc_decide.specs.declared.decision.Decision as told_code
-use Rattle.mc_decide.specs.Seen.{decision_of, IsFault}
-use Rattle.mc_typed.specs.declared.functions.Function as code
-use Rattle.mc_typed.specs.declared.expressions.Expression.{Expression}
+use Rattle.mc_decide.specs.Seen.{IsFault}
 use Rattle.mc_typed.specs.Tree as t
-use Rattle.mc_typed.specs.Views.{expression_of, function_of}
 use Rattle.mc_decide.specs.declared.role.Role.TheVariants.{Plain}
-use Rattle.mc_decide.specs.Nodes.{Node, program, function, functions, statements, expression}
+use Rattle.mc_decide.specs.Nodes.{Node, program, function, functions, statements}
 use Rattle.mc_decide.specs.Roots.{standing, Found, IsRoot}
 use Rattle.mc_decide.specs.Decisions.{Decision, Tells, AreTold, AreDecisions, IsSmall, IsFirstLarge}
-use Rattle.mc_decide.specs.steps.Walk.{nodes, inside, decision, decided, IsLarge, IsLargeAmong}
+use Rattle.mc_decide.specs.steps.Walk.{inside, decision, decided, IsLargeAmong}
 use Rattle.mc_decide.proofs.Listed.{under, in_node, in_parts}
 use Rattle.mc_decide.proofs.Walked.{nodes_of, walks_parts}
 use Rattle.mc_decide.proofs.Only.{node_only}
@@ -71,15 +66,6 @@ first_later [] (e ∷ es) rest at count all (inr (small, h)) = inr (small, first
 first_later (d ∷ ds) es rest at count all h =
     inr (All-head IsSmall d ds all, first_later ds es rest at count (All-tail IsSmall d ds all) h)
 
-pub large_later : (ds es rest all : List Decision) (fault : DecideFault) → All IsSmall ds → IsLargeAmong es fault → ds ++ (es ++ rest) ≡ all → IsLargeAmong all fault
-large_later ds es rest all (TooManyConditions at count) small h e =
-    subst (λ (xs : List Decision). IsFirstLarge xs at count) e (first_later ds es rest at count small h)
-large_later ds es rest all OutOfMemory small h e = tt
-
-pub large_is_first : (d : Decision) (fault : DecideFault) → IsLarge d fault → IsLargeAmong (d ∷ []) fault
-large_is_first d (TooManyConditions at count) h = inl h
-large_is_first d OutOfMemory h = tt
-
 pub fault_of_all : (fs : List t.Function) (fault : DecideFault) → IsLargeAmong (decided 0 fs) fault → IsFault fs fault
 fault_of_all fs (TooManyConditions at count) h = (decided 0 fs, are_decisions fs, h)
 fault_of_all fs OutOfMemory h = tt
@@ -94,31 +80,7 @@ large_more xs ys all (TooManyConditions at count) h e =
     subst (λ (zs : List Decision). IsFirstLarge zs at count) e (first_more xs ys at count h)
 large_more xs ys all OutOfMemory h e = tt
 
--- ---- the steps of the loops
-
-pub function_large : (fs : List code.Function) (f : code.Function) (k : ℕ) (ds : List Decision) (fault : DecideFault) → k < length fs → f ≡ get_or fs k f → ds ++ decided k (map function_of (drop k fs)) ≡ decided 0 (map function_of fs) → IsLargeAmong (ds ++ map (decision k) (inside (function (function_of f)) [])) fault → IsLargeAmong (decided 0 (map function_of fs)) fault
-function_large fs f k ds fault lt is inv h =
-    let split : drop k fs ≡ f ∷ drop (k + 1) fs = drop_more fs k f lt ∙ ap (λ (g : code.Function). g ∷ drop (k + 1) fs) (sym is) in
-    large_more (ds ++ map (decision k) (inside (function (function_of f)) []))
-    (decided (k + 1) (map function_of (drop (k + 1) fs))) (decided 0 (map function_of fs)) fault h
-    (append_assoc ds (map (decision k) (inside (function (function_of f)) [])) (decided (k + 1) (map function_of (drop (k + 1) fs)))
-    ∙ (ap (λ (gs : List code.Function). ds ++ decided k (map function_of gs)) (sym split) ∙ inv))
-
-pub root_large : (roots : List (Bor Expression)) (r : Bor Expression) (k i : ℕ) (ds all : List Decision) (fault : DecideFault) → i < length roots → r ≡ get_or roots i r → All IsSmall ds → ds ++ map (decision k) (nodes (drop i roots)) ≡ all → IsLarge (decision k (expression (expression_of r.now))) fault → IsLargeAmong all fault
-root_large roots r k i ds all fault lt is small inv h =
-    let split : drop i roots ≡ r ∷ drop (i + 1) roots = drop_more roots i r lt ∙ ap (λ (g : Bor Expression). g ∷ drop (i + 1) roots) (sym is) in
-    large_later ds (decision k (expression (expression_of r.now)) ∷ []) (map (decision k) (nodes (drop (i + 1) roots))) all fault small
-    (large_is_first (decision k (expression (expression_of r.now))) fault h)
-    (ap (λ (gs : List (Bor Expression)). ds ++ map (decision k) (nodes gs)) (sym split) ∙ inv)
+-- ---- what tells all
 
 pub told_as : (fs : List t.Function) (ds : List Decision) → ds ≡ decided 0 fs → AreDecisions fs ds
 told_as fs ds e = subst (λ (es : List Decision). AreDecisions fs es) (sym e) (are_decisions fs)
-
-pub root_told : (roots : List (Bor Expression)) (r : Bor Expression) (k i : ℕ) (ds new : List told_code.Decision) (d : told_code.Decision) (all : List Decision) → i < length roots → r ≡ get_or roots i r → new ≡ ds ++ d ∷ [] → decision_of d ≡ decision k (expression (expression_of r.now)) → map decision_of ds ++ map (decision k) (nodes (drop i roots)) ≡ all → map decision_of new ++ map (decision k) (nodes (drop (i + 1) roots)) ≡ all
-root_told roots r k i ds new d all lt is e told inv =
-    let split : drop i roots ≡ r ∷ drop (i + 1) roots = drop_more roots i r lt ∙ ap (λ (g : Bor Expression). g ∷ drop (i + 1) roots) (sym is) in
-    let rest : List Decision = map (decision k) (nodes (drop (i + 1) roots)) in
-    ap (λ (xs : List Decision). xs ++ rest)
-    (ap (map decision_of) e ∙ (map_push decision_of ds d ∙ ap (λ (x : Decision). map decision_of ds ++ x ∷ []) told))
-    ∙ (append_assoc (map decision_of ds) (decision k (expression (expression_of r.now)) ∷ []) rest
-    ∙ (ap (λ (gs : List (Bor Expression)). map decision_of ds ++ map (decision k) (nodes gs)) (sym split) ∙ inv))

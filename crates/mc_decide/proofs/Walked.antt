@@ -1,14 +1,11 @@
 -- The walk collects the nodes of what is listed.
-use Rattle.std.proofs.Common.{◌≡◌, ◌∙◌, refl, sym, ap, ℕ, suc, Bool, true, false, List, [], ◌∷◌, ◌++◌, map, length, take, append_assoc, if◌then◌else◌, Bor}
-use Rattle.std.proofs.lemmas.List.{append-nil, map-append, take_at, take-map, length-map}
-use Rattle.mc_typed.specs.declared.expressions.Expression as code
-use Rattle.mc_typed.specs.Views.{expression_of}
-use Rattle.mc_decide.specs.Nodes as n
+use Rattle.std.proofs.Common.{◌≡◌, ◌∙◌, refl, sym, ap, ℕ, suc, Bool, true, false, List, [], ◌∷◌, ◌++◌, map, append_assoc}
+use Rattle.std.proofs.lemmas.List.{append-nil, map-append}
 use Rattle.mc_decide.specs.declared.role.Role.{Role}
 use Rattle.mc_decide.specs.declared.role.Role.TheVariants.{Test, Inner, Plain}
 use Rattle.mc_decide.specs.Nodes.{Node, Constant, Not, Logic, Expression, Whole, Parts, no_parts, part, test}
 use Rattle.mc_decide.specs.Roots.{Found, is_constant, is_candidate}
-use Rattle.mc_decide.specs.steps.Walk.{nodes, pushed, kept, entered, inside, inside_parts, visited}
+use Rattle.mc_decide.specs.steps.Walk.{pushed, kept, inside, inside_parts, visited}
 use Rattle.mc_decide.proofs.Listed.{under, own, unless, whole, in_node, in_parts}
 
 abbrev pub nodes_of : List Found → List Node
@@ -53,22 +50,3 @@ mutual
   walks_parts i (test a ps) found =
       joins (inside_parts ps) found (visited Test a found) (map (under i) (whole Test a (in_node a)))
       (in_parts (suc i) ps) (one i Test a found (λ xs. walks a xs)) (walks_parts (suc i) ps _)
-
--- so what was found before is a first part of what is found after
-pub begins : (candidate : Bool) (a : Node) (found : List Node) → take (length found) (inside a (pushed candidate a found)) ≡ found
-begins true a found =
-    ap (take (length found)) (walks a (found ++ a ∷ []) ∙ append_assoc found (a ∷ []) (nodes_of (in_node a)))
-    ∙ take_at found ((a ∷ []) ++ nodes_of (in_node a)) (length found) refl
-begins false a found =
-    ap (take (length found)) (walks a found) ∙ take_at found (nodes_of (in_node a)) (length found) refl
-
--- a node, what was found in it, and what is left where it is constant
-pub settles : (old now new : List (Bor code.Expression)) (role : Role) (a : Node) (before : ℕ) (constant : Bool) → before ≡ length old → nodes now ≡ inside a (entered role a (nodes old)) → constant ≡ is_constant a → new ≡ (if constant then take before now else now) → nodes new ≡ visited role a (nodes old)
-settles old now new role a before true e1 e2 e3 e4 =
-    ap nodes e4 ∙ (sym (take-map (λ (e : Bor code.Expression). n.expression (expression_of e.now)) before now)
-    ∙ (ap (λ (k : ℕ). take k (nodes now)) (e1 ∙ sym (length-map old (λ (e : Bor code.Expression). n.expression (expression_of e.now))))
-    ∙ (ap (take (length (nodes old))) e2
-    ∙ (begins (is_candidate role a) a (nodes old)
-    ∙ ap (λ (b : Bool). kept b (nodes old) (inside a (entered role a (nodes old)))) e3))))
-settles old now new role a before false e1 e2 e3 e4 =
-    ap nodes e4 ∙ (e2 ∙ ap (λ (b : Bool). kept b (nodes old) (inside a (entered role a (nodes old)))) e3)

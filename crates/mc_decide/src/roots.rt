@@ -1,27 +1,37 @@
-//! The roots of a function's body.
-ghost use Rattle.std.specs.Prelude.{◌≡◌, map, [], IfOk};
-ghost use Rattle.mc_typed.specs.Views.{statement_of, statements_from};
-ghost use Rattle.mc_decide.specs.Nodes.{statements, Whole};
-ghost use Rattle.mc_decide.specs.steps.Walk.{inside, nodes};
+//! The walk over the functions of a program.
+ghost use Rattle.std.specs.Prelude.{◌≡◌, ◌<◌, ◌^◌, length, map, IfOk};
+ghost use Rattle.mc_typed.specs.Views.{function_of};
+ghost use Rattle.mc_decide.specs.Nodes as n;
+ghost use Rattle.mc_decide.specs.steps.Gathering.{gathered_of, in_function, in_functions, inside};
 
+mod candidates;
 mod effects;
 mod expressions;
-mod found;
+mod gathered;
 mod initializers;
 mod statements;
 
-use mc_typed::{Expression, Statement};
-use std::alloc::{AllocError, Global};
+pub(crate) use gathered::{Gathered, nothing};
+use mc_typed::Function;
+use std::alloc::AllocError;
 
-/// The roots in the items of a body, in the order of the text, the outer one first.
-pub(crate) fn roots<'p>(
-    alloc: Global,
-    body: &'p [Statement],
-) -> Result<Vec<&'p Expression>, AllocError>
-    ensures { IfOk result (λ found. nodes found.items
-        ≡ inside (Whole (statements (statements_from (map statement_of body.now)))) []) }
+/// Adds the decisions of functions.
+pub(crate) fn functions(found: &mut Gathered, trees: &[Function<'_>]) -> Result<(), AllocError>
+    requires few { length trees.now < 2 ^ 31 }
+    ensures { IfOk result (λ _. gathered_of found.new
+        ≡ in_functions 0 (map function_of trees.now) (gathered_of found.old)) }
 {
-    let mut found = Vec::new(alloc);
-    statements::statements(&mut found, body)?;
-    Ok(found)
+    for (number, tree) in trees.iter().enumerate() {
+        function(found, number as u32, tree)?;
+    }
+    Ok(())
+}
+
+/// Adds the decisions of the function with this number.
+fn function(found: &mut Gathered, number: u32, tree: &Function<'_>) -> Result<(), AllocError>
+    ensures { IfOk result (λ _. gathered_of found.new
+        ≡ inside (n.function (function_of tree.now)) (in_function number (gathered_of found.old))) }
+{
+    found.function = number;
+    statements::statements(found, &tree.body)
 }

@@ -1,24 +1,16 @@
 -- The walk that collects roots, as functions on nodes.
-use Rattle.std.specs.Prelude.{◌≡◌, ℕ, ◌+◌, ◌<◌, Bool, true, false, List, [], ◌∷◌, ◌++◌, length, map}
+use Rattle.std.specs.Prelude.{ℕ, ◌+◌, Bool, true, false, List, [], ◌∷◌, ◌++◌, map}
 use Rattle.mc_span.specs.declared.span.Span.{Span}
-use denote.Ref.{Bor}
-use Rattle.mc_typed.specs.declared.expressions.Expression as code
 use Rattle.mc_typed.specs.Tree as t
-use Rattle.mc_typed.specs.Views.{expression_of}
 use Rattle.mc_decide.specs.declared.role.Role.{Role}
 use Rattle.mc_decide.specs.declared.role.Role.TheVariants.{Test, Inner, Plain}
 use Rattle.mc_decide.specs.Nodes.{Node, Constant, Not, Logic, Expression, Whole, Parts, no_parts, part, test}
 use Rattle.mc_decide.specs.Nodes as n
 use Rattle.mc_decide.specs.Roots.{is_constant, is_candidate}
 use Rattle.mc_decide.specs.Conditions.{tree_from}
-use Rattle.mc_typed.specs.Levels.{limited}
 use Rattle.mc_decide.specs.declared.fault.DecideFault.{DecideFault}
 use Rattle.mc_decide.specs.declared.fault.DecideFault.TheVariants.{TooManyConditions, OutOfMemory}
 use Rattle.mc_decide.specs.Decisions.{Decision, IsFirstLarge}
-
--- the nodes of expressions that are lent
-abbrev pub nodes : List (Bor code.Expression) → List Node
-nodes = map (λ e. n.expression (expression_of e.now))
 
 -- a candidate goes to the end of what is found
 abbrev pub pushed : Bool → Node → List Node → List Node
@@ -75,12 +67,7 @@ abbrev pub decided : ℕ → List t.Function → List Decision
 decided k [] = []
 decided k (f ∷ fs) = map (decision k) (inside (n.function f) []) ++ decided (k + 1) fs
 
--- the fault of a decision that is not small, and of the first of a list
-abbrev pub IsLarge : Decision → DecideFault → Type 0
-IsLarge d (TooManyConditions at count) =
-    (64 < length d.conditions) × (at ≡ d.root.start) × (count ≡ limited (length d.conditions))
-IsLarge d OutOfMemory = Unit {0}
-
+-- the fault of the first that is not small
 abbrev pub IsLargeAmong : List Decision → DecideFault → Type 0
 IsLargeAmong ds (TooManyConditions at count) = IsFirstLarge ds at count
 IsLargeAmong ds OutOfMemory = Unit {0}

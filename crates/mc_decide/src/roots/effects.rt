@@ -2,20 +2,18 @@
 ghost use Rattle.std.specs.Prelude.{◌≡◌, map, IfOk};
 ghost use Rattle.mc_typed.specs.Views.{effect_of};
 ghost use Rattle.mc_decide.specs.Nodes as n;
-ghost use Rattle.mc_decide.specs.steps.Walk.{inside_parts, nodes, visited};
+ghost use Rattle.mc_decide.specs.steps.Gathering.{gathered_of, inside_parts, visited};
 
 use crate::role::Role;
 use crate::roots::expressions::{call, expression, place, structure};
-use mc_typed::{Effect, Expression};
+use crate::roots::gathered::Gathered;
+use mc_typed::Effect;
 use std::alloc::AllocError;
 
 /// Adds the roots in an effect.
-pub(super) fn effect<'p>(
-    found: &mut Vec<&'p Expression>,
-    tree: &'p Effect,
-) -> Result<(), AllocError>
-    ensures { IfOk result (λ _. nodes found.new.items
-        ≡ visited Role.Plain (n.effect (effect_of tree.now)) (nodes found.old.items)) }
+pub(super) fn effect(found: &mut Gathered, tree: &Effect) -> Result<(), AllocError>
+    ensures { IfOk result (λ _. gathered_of found.new
+        ≡ visited Role.Plain (n.effect (effect_of tree.now)) (gathered_of found.old)) }
 {
     match tree {
         Effect::Assign { target, value, .. } | Effect::Update { target, value, .. } => {
@@ -48,12 +46,9 @@ pub(super) fn effect<'p>(
 }
 
 /// Adds the roots in effects that follow each other.
-pub(super) fn effects<'p>(
-    found: &mut Vec<&'p Expression>,
-    trees: &'p [Effect],
-) -> Result<(), AllocError>
-    ensures { IfOk result (λ _. nodes found.new.items
-        ≡ inside_parts (n.effects (map effect_of trees.now)) (nodes found.old.items)) }
+pub(super) fn effects(found: &mut Gathered, trees: &[Effect]) -> Result<(), AllocError>
+    ensures { IfOk result (λ _. gathered_of found.new
+        ≡ inside_parts (n.effects (map effect_of trees.now)) (gathered_of found.old)) }
 {
     for tree in trees {
         effect(found, tree)?;

@@ -3,27 +3,28 @@ ghost use Rattle.std.specs.Prelude.{◌≡◌, ◌&&◌, map, IfOk};
 ghost use Rattle.mc_typed.specs.Views.{expression_of, place_of, structure_of, call_of, argument_of, arguments_from};
 ghost use Rattle.mc_decide.specs.Nodes as n;
 ghost use Rattle.mc_decide.specs.Roots.{is_constant};
-ghost use Rattle.mc_decide.specs.steps.Walk.{inside, inside_parts, nodes, visited};
+ghost use Rattle.mc_decide.specs.steps.Gathering.{gathered_of, inside, inside_parts, visited};
 
 use crate::role::Role;
-use crate::roots::found::{enter, settle};
+use crate::roots::candidates::enter;
+use crate::roots::gathered::{Gathered, mark_of, settle};
 use mc_typed::{Argument, Expression, FunctionCall, Place, Structure};
 use std::alloc::AllocError;
 
 /// Adds the roots in an expression, and says whether it is an integer constant expression.
 #[cycle(walk)]
-pub(super) fn expression<'p>(
-    found: &mut Vec<&'p Expression>,
+pub(super) fn expression(
+    found: &mut Gathered,
     role: Role,
-    tree: &'p Expression,
+    tree: &Expression,
 ) -> Result<bool, AllocError>
-    ensures found { IfOk result (λ _. nodes found.new.items
+    ensures found { IfOk result (λ _. gathered_of found.new
         ≡ visited role (n.expression (expression_of tree.now))
-        (nodes found.old.items)) }
+        (gathered_of found.old)) }
     ensures constant { IfOk result (λ constant.
         constant ≡ is_constant (n.expression (expression_of tree.now))) }
 {
-    let before = found.len();
+    let before = mark_of(found);
     enter(found, role, tree)?;
     let constant = operands(found, tree)?;
     settle(found, before, constant);
@@ -32,10 +33,10 @@ pub(super) fn expression<'p>(
 
 /// The same of the operands of an expression.
 #[cycle(walk)]
-fn operands<'p>(found: &mut Vec<&'p Expression>, tree: &'p Expression) -> Result<bool, AllocError>
-    ensures found { IfOk result (λ _. nodes found.new.items
+fn operands(found: &mut Gathered, tree: &Expression) -> Result<bool, AllocError>
+    ensures found { IfOk result (λ _. gathered_of found.new
         ≡ inside (n.expression (expression_of tree.now))
-        (nodes found.old.items)) }
+        (gathered_of found.old)) }
     ensures constant { IfOk result (λ constant.
         constant ≡ is_constant (n.expression (expression_of tree.now))) }
 {
@@ -81,10 +82,10 @@ fn operands<'p>(found: &mut Vec<&'p Expression>, tree: &'p Expression) -> Result
 
 /// Adds the roots in a place.
 #[cycle(walk)]
-pub(super) fn place<'p>(found: &mut Vec<&'p Expression>, tree: &'p Place) -> Result<(), AllocError>
-    ensures { IfOk result (λ _. nodes found.new.items
+pub(super) fn place(found: &mut Gathered, tree: &Place) -> Result<(), AllocError>
+    ensures { IfOk result (λ _. gathered_of found.new
         ≡ visited Role.Plain (n.place (place_of tree.now))
-        (nodes found.old.items)) }
+        (gathered_of found.old)) }
 {
     match tree {
         Place::Local { .. } | Place::Static { .. } => Ok(()),
@@ -106,13 +107,10 @@ pub(super) fn place<'p>(found: &mut Vec<&'p Expression>, tree: &'p Place) -> Res
 
 /// Adds the roots in a structure.
 #[cycle(walk)]
-pub(super) fn structure<'p>(
-    found: &mut Vec<&'p Expression>,
-    tree: &'p Structure,
-) -> Result<(), AllocError>
-    ensures { IfOk result (λ _. nodes found.new.items
+pub(super) fn structure(found: &mut Gathered, tree: &Structure) -> Result<(), AllocError>
+    ensures { IfOk result (λ _. gathered_of found.new
         ≡ visited Role.Plain (n.structure (structure_of tree.now))
-        (nodes found.old.items)) }
+        (gathered_of found.old)) }
 {
     match tree {
         Structure::Stored { place: object } => place(found, object),
@@ -122,22 +120,19 @@ pub(super) fn structure<'p>(
 
 /// Adds the roots in the arguments of a call.
 #[cycle(walk)]
-pub(super) fn call<'p>(
-    found: &mut Vec<&'p Expression>,
-    tree: &'p FunctionCall,
-) -> Result<(), AllocError>
-    ensures { IfOk result (λ _. nodes found.new.items
+pub(super) fn call(found: &mut Gathered, tree: &FunctionCall) -> Result<(), AllocError>
+    ensures { IfOk result (λ _. gathered_of found.new
         ≡ inside_parts (n.call_parts (call_of tree.now))
-        (nodes found.old.items)) }
+        (gathered_of found.old)) }
 {
     arguments(found, &tree.arguments)
 }
 
 #[cycle(walk)]
-fn argument<'p>(found: &mut Vec<&'p Expression>, tree: &'p Argument) -> Result<(), AllocError>
-    ensures { IfOk result (λ _. nodes found.new.items
+fn argument(found: &mut Gathered, tree: &Argument) -> Result<(), AllocError>
+    ensures { IfOk result (λ _. gathered_of found.new
         ≡ visited Role.Plain (n.argument (argument_of tree.now))
-        (nodes found.old.items)) }
+        (gathered_of found.old)) }
 {
     match tree {
         Argument::Number { value } => {
@@ -151,10 +146,10 @@ fn argument<'p>(found: &mut Vec<&'p Expression>, tree: &'p Argument) -> Result<(
 }
 
 #[cycle(walk)]
-fn arguments<'p>(found: &mut Vec<&'p Expression>, trees: &'p [Argument]) -> Result<(), AllocError>
-    ensures { IfOk result (λ _. nodes found.new.items
+fn arguments(found: &mut Gathered, trees: &[Argument]) -> Result<(), AllocError>
+    ensures { IfOk result (λ _. gathered_of found.new
         ≡ inside_parts (n.arguments (arguments_from (map argument_of trees.now)))
-        (nodes found.old.items)) }
+        (gathered_of found.old)) }
 {
     for tree in trees {
         argument(found, tree)?;

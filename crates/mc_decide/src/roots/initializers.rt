@@ -2,18 +2,19 @@
 ghost use Rattle.std.specs.Prelude.{◌≡◌, map, option_map, IfOk};
 ghost use Rattle.mc_typed.specs.Views.{declarator_of, initializer_of, initializers_from};
 ghost use Rattle.mc_decide.specs.Nodes as n;
-ghost use Rattle.mc_decide.specs.steps.Walk.{inside_parts, nodes, visited};
+ghost use Rattle.mc_decide.specs.steps.Gathering.{gathered_of, inside_parts, visited};
 
 use crate::role::Role;
 use crate::roots::expressions::{expression, structure};
-use mc_typed::{Declarator, Expression, Initializer};
+use crate::roots::gathered::Gathered;
+use mc_typed::{Declarator, Initializer};
 use std::alloc::AllocError;
 
 /// Adds the roots in an initializer.
 #[cycle(initializer)]
-fn initializer<'p>(found: &mut Vec<&'p Expression>, tree: &'p Initializer) -> Result<(), AllocError>
-    ensures { IfOk result (λ _. nodes found.new.items
-        ≡ visited Role.Plain (n.initializer (initializer_of tree.now)) (nodes found.old.items)) }
+fn initializer(found: &mut Gathered, tree: &Initializer) -> Result<(), AllocError>
+    ensures { IfOk result (λ _. gathered_of found.new
+        ≡ visited Role.Plain (n.initializer (initializer_of tree.now)) (gathered_of found.old)) }
 {
     match tree {
         Initializer::Number { value } | Initializer::Zero { value, .. } => {
@@ -26,13 +27,10 @@ fn initializer<'p>(found: &mut Vec<&'p Expression>, tree: &'p Initializer) -> Re
 }
 
 #[cycle(initializer)]
-fn initializers<'p>(
-    found: &mut Vec<&'p Expression>,
-    trees: &'p [Initializer],
-) -> Result<(), AllocError>
-    ensures { IfOk result (λ _. nodes found.new.items
+fn initializers(found: &mut Gathered, trees: &[Initializer]) -> Result<(), AllocError>
+    ensures { IfOk result (λ _. gathered_of found.new
         ≡ inside_parts (n.initializers (initializers_from (map initializer_of trees.now)))
-        (nodes found.old.items)) }
+        (gathered_of found.old)) }
 {
     for tree in trees {
         initializer(found, tree)?;
@@ -40,13 +38,10 @@ fn initializers<'p>(
     Ok(())
 }
 
-fn initial<'p>(
-    found: &mut Vec<&'p Expression>,
-    tree: &'p Option<Initializer>,
-) -> Result<(), AllocError>
-    ensures { IfOk result (λ _. nodes found.new.items
+fn initial(found: &mut Gathered, tree: &Option<Initializer>) -> Result<(), AllocError>
+    ensures { IfOk result (λ _. gathered_of found.new
         ≡ visited Role.Plain (n.initial (option_map initializer_of tree.now))
-        (nodes found.old.items)) }
+        (gathered_of found.old)) }
 {
     match tree {
         Some(value) => initializer(found, value),
@@ -55,12 +50,9 @@ fn initial<'p>(
 }
 
 /// Adds the roots in the initializers of a declaration.
-pub(super) fn declarators<'p>(
-    found: &mut Vec<&'p Expression>,
-    trees: &'p [Declarator],
-) -> Result<(), AllocError>
-    ensures { IfOk result (λ _. nodes found.new.items
-        ≡ inside_parts (n.declarators (map declarator_of trees.now)) (nodes found.old.items)) }
+pub(super) fn declarators(found: &mut Gathered, trees: &[Declarator]) -> Result<(), AllocError>
+    ensures { IfOk result (λ _. gathered_of found.new
+        ≡ inside_parts (n.declarators (map declarator_of trees.now)) (gathered_of found.old)) }
 {
     for tree in trees {
         initial(found, &tree.value)?;

@@ -2,22 +2,20 @@
 ghost use Rattle.std.specs.Prelude.{◌≡◌, map, option_map, IfOk};
 ghost use Rattle.mc_typed.specs.Views.{expression_of, return_value_of, start_of, statement_of, statements_from};
 ghost use Rattle.mc_decide.specs.Nodes as n;
-ghost use Rattle.mc_decide.specs.steps.Walk.{inside_parts, nodes, visited};
+ghost use Rattle.mc_decide.specs.steps.Gathering.{gathered_of, inside_parts, visited};
 
 use crate::role::Role;
 use crate::roots::effects::{effect, effects};
 use crate::roots::expressions::{expression, structure};
+use crate::roots::gathered::Gathered;
 use crate::roots::initializers::declarators;
 use mc_typed::{Expression, ForStart, ReturnValue, Statement};
 use std::alloc::AllocError;
 
-fn optional_test<'p>(
-    found: &mut Vec<&'p Expression>,
-    tree: &'p Option<Expression>,
-) -> Result<(), AllocError>
-    ensures { IfOk result (λ _. nodes found.new.items
+fn optional_test(found: &mut Gathered, tree: &Option<Expression>) -> Result<(), AllocError>
+    ensures { IfOk result (λ _. gathered_of found.new
         ≡ visited Role.Plain (n.optional_test (option_map expression_of tree.now))
-        (nodes found.old.items)) }
+        (gathered_of found.old)) }
 {
     match tree {
         Some(value) => {
@@ -28,9 +26,9 @@ fn optional_test<'p>(
     }
 }
 
-fn start<'p>(found: &mut Vec<&'p Expression>, tree: &'p ForStart) -> Result<(), AllocError>
-    ensures { IfOk result (λ _. nodes found.new.items
-        ≡ visited Role.Plain (n.start (start_of tree.now)) (nodes found.old.items)) }
+fn start(found: &mut Gathered, tree: &ForStart) -> Result<(), AllocError>
+    ensures { IfOk result (λ _. gathered_of found.new
+        ≡ visited Role.Plain (n.start (start_of tree.now)) (gathered_of found.old)) }
 {
     match tree {
         ForStart::Effects { effects: clauses } => effects(found, clauses),
@@ -40,12 +38,9 @@ fn start<'p>(found: &mut Vec<&'p Expression>, tree: &'p ForStart) -> Result<(), 
     }
 }
 
-fn return_value<'p>(
-    found: &mut Vec<&'p Expression>,
-    tree: &'p ReturnValue,
-) -> Result<(), AllocError>
-    ensures { IfOk result (λ _. nodes found.new.items
-        ≡ visited Role.Plain (n.return_value (return_value_of tree.now)) (nodes found.old.items)) }
+fn return_value(found: &mut Gathered, tree: &ReturnValue) -> Result<(), AllocError>
+    ensures { IfOk result (λ _. gathered_of found.new
+        ≡ visited Role.Plain (n.return_value (return_value_of tree.now)) (gathered_of found.old)) }
 {
     match tree {
         ReturnValue::Nothing => Ok(()),
@@ -59,9 +54,9 @@ fn return_value<'p>(
 
 /// Adds the roots in a statement.
 #[cycle(statement)]
-fn statement<'p>(found: &mut Vec<&'p Expression>, tree: &'p Statement) -> Result<(), AllocError>
-    ensures { IfOk result (λ _. nodes found.new.items
-        ≡ visited Role.Plain (n.statement (statement_of tree.now)) (nodes found.old.items)) }
+fn statement(found: &mut Gathered, tree: &Statement) -> Result<(), AllocError>
+    ensures { IfOk result (λ _. gathered_of found.new
+        ≡ visited Role.Plain (n.statement (statement_of tree.now)) (gathered_of found.old)) }
 {
     match tree {
         Statement::Compound { items, .. } => statements(found, items),
@@ -115,13 +110,10 @@ fn statement<'p>(found: &mut Vec<&'p Expression>, tree: &'p Statement) -> Result
 
 /// Adds the roots in the items of a body.
 #[cycle(statement)]
-pub(super) fn statements<'p>(
-    found: &mut Vec<&'p Expression>,
-    trees: &'p [Statement],
-) -> Result<(), AllocError>
-    ensures { IfOk result (λ _. nodes found.new.items
+pub(super) fn statements(found: &mut Gathered, trees: &[Statement]) -> Result<(), AllocError>
+    ensures { IfOk result (λ _. gathered_of found.new
         ≡ inside_parts (n.statements (statements_from (map statement_of trees.now)))
-        (nodes found.old.items)) }
+        (gathered_of found.old)) }
 {
     for tree in trees {
         statement(found, tree)?;

@@ -1,13 +1,23 @@
-use Rattle.std.proofs.Common.{map}
+use Rattle.std.proofs.Common.{◌∙◌, ap, map}
 use Rattle.mc_typed.specs.Views.{function_of}
-use Rattle.mc_decide.specs.Seen.{decision_of}
-use Rattle.mc_decide.proofs.Told.{told_as, fault_of_all}
+use Rattle.mc_decide.specs.steps.Gathering.{in_functions}
+use Rattle.mc_decide.proofs.Gathers.{answers_decisions, answers_numbered, answers_fault}
 use Rattle.mc_decide.proofs.find.decisions_of.Goals as goal
 
 pub returns-in-Ok-clause-decisions : goal.returns-in-Ok-clause-decisions
 returns-in-Ok-clause-decisions c =
-    told_as (map function_of c.args.functions.now) (map decision_of c.add_all.new.decisions.items) c.in-Ok.ensures.decisions
+    let functions = map function_of c.args.functions.now in
+    answers_decisions functions c.functions.new.found c.answer.result
+    (c.in-Ok.ensures ∙ ap (in_functions 0 functions) c.nothing-found.ensures) c.answer.ensures.decisions
 
-pub returns-in-Err-clause-refused : goal.returns-in-Err-clause-refused
-returns-in-Err-clause-refused c =
-    fault_of_all (map function_of c.args.functions.now) c.in-Err.fault c.in-Err.ensures.refused
+pub returns-in-Ok-clause-numbered : goal.returns-in-Ok-clause-numbered
+returns-in-Ok-clause-numbered c =
+    let functions = map function_of c.args.functions.now in
+    answers_numbered functions c.functions.new.found c.answer.result
+    (c.in-Ok.ensures ∙ ap (in_functions 0 functions) c.nothing-found.ensures) c.answer.ensures.decisions
+
+pub returns-in-Ok-clause-refused : goal.returns-in-Ok-clause-refused
+returns-in-Ok-clause-refused c =
+    let functions = map function_of c.args.functions.now in
+    answers_fault functions c.functions.new.found c.answer.result
+    (c.in-Ok.ensures ∙ ap (in_functions 0 functions) c.nothing-found.ensures) c.answer.ensures.refused

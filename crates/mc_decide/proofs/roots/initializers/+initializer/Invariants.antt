@@ -2,8 +2,8 @@
 use Rattle.std.proofs.Common.{◌≡◌, drop, map}
 use Rattle.mc_typed.specs.Views.{initializer_of, initializers_from}
 use Rattle.mc_decide.specs.Nodes as n
-use Rattle.mc_decide.specs.steps.Walk.{inside_parts, nodes}
+use Rattle.mc_decide.specs.steps.Gathering.{gathered_of, inside_parts}
 use Rattle.mc_decide.proofs.roots.initializers.+initializer.Given as goal
 
 abbrev pub invariant-initializers-loop-tree : goal.invariant-initializers-loop-tree
-invariant-initializers-loop-tree l = inside_parts (n.initializers (initializers_from (map initializer_of (drop l.tree-index l.trees)))) (nodes l.found.items) ≡ inside_parts (n.initializers (initializers_from (map initializer_of l.trees))) (nodes l.fn.found.items)
+invariant-initializers-loop-tree l = inside_parts (n.initializers (initializers_from (map initializer_of (drop l.tree-index l.trees)))) (gathered_of l.found) ≡ inside_parts (n.initializers (initializers_from (map initializer_of l.trees))) (gathered_of l.fn.found)

@@ -2,8 +2,8 @@
 use Rattle.std.proofs.Common.{◌≡◌, drop, map}
 use Rattle.mc_typed.specs.Views.{declarator_of}
 use Rattle.mc_decide.specs.Nodes as n
-use Rattle.mc_decide.specs.steps.Walk.{inside_parts, nodes}
+use Rattle.mc_decide.specs.steps.Gathering.{gathered_of, inside_parts}
 use Rattle.mc_decide.proofs.roots.initializers.declarators.Given as goal
 
 abbrev pub invariant-loop-tree : goal.invariant-loop-tree
-invariant-loop-tree l = inside_parts (n.declarators (map declarator_of (drop l.tree-index l.trees))) (nodes l.found.items) ≡ inside_parts (n.declarators (map declarator_of l.trees)) (nodes l.fn.found.items)
+invariant-loop-tree l = inside_parts (n.declarators (map declarator_of (drop l.tree-index l.trees))) (gathered_of l.found) ≡ inside_parts (n.declarators (map declarator_of l.trees)) (gathered_of l.fn.found)

@@ -2,8 +2,8 @@
 use Rattle.std.proofs.Common.{◌≡◌, drop, map}
 use Rattle.mc_typed.specs.Views.{statement_of, statements_from}
 use Rattle.mc_decide.specs.Nodes as n
-use Rattle.mc_decide.specs.steps.Walk.{inside_parts, nodes}
+use Rattle.mc_decide.specs.steps.Gathering.{gathered_of, inside_parts}
 use Rattle.mc_decide.proofs.roots.statements.+statement.Given as goal
 
 abbrev pub invariant-statements-loop-tree : goal.invariant-statements-loop-tree
-invariant-statements-loop-tree l = inside_parts (n.statements (statements_from (map statement_of (drop l.tree-index l.trees)))) (nodes l.found.items) ≡ inside_parts (n.statements (statements_from (map statement_of l.trees))) (nodes l.fn.found.items)
+invariant-statements-loop-tree l = inside_parts (n.statements (statements_from (map statement_of (drop l.tree-index l.trees)))) (gathered_of l.found) ≡ inside_parts (n.statements (statements_from (map statement_of l.trees))) (gathered_of l.fn.found)

@@ -1,47 +1,40 @@
-//! What is found so far.
-ghost use Rattle.std.specs.Prelude.{◌≡◌, take, if◌then◌else◌, IfOk};
+//! Which expressions are candidates: roots unless they are constant.
+ghost use Rattle.std.specs.Prelude.{◌≡◌, IfOk};
 ghost use Rattle.mc_typed.specs.Views.{expression_of};
 ghost use Rattle.mc_decide.specs.Nodes.{expression, is_comparison};
 ghost use Rattle.mc_decide.specs.Roots.{is_boolean, is_candidate};
-ghost use Rattle.mc_decide.specs.steps.Walk.{entered, nodes};
+ghost use Rattle.mc_decide.specs.steps.Gathering.{entered, gathered_of, is_taken};
 
 use crate::role::Role;
+use crate::roots::gathered::{Gathered, add};
 use mc_typed::{Expression, Operator};
 use mc_value::BinOp;
 use std::alloc::AllocError;
 
-/// Puts an expression to the end where it is a root unless it is constant.
-pub(super) fn enter<'p>(
-    found: &mut Vec<&'p Expression>,
-    role: Role,
-    tree: &'p Expression,
-) -> Result<(), AllocError>
-    ensures { IfOk result (λ _. nodes found.new.items
-        ≡ entered role (expression (expression_of tree.now)) (nodes found.old.items)) }
+/// Adds the decision with this root where it is one unless it is constant.
+pub(super) fn enter(found: &mut Gathered, role: Role, tree: &Expression) -> Result<(), AllocError>
+    ensures { IfOk result (λ _. gathered_of found.new
+        ≡ entered role (expression (expression_of tree.now)) (gathered_of found.old)) }
 {
     if is_candidate(role, tree) {
-        found.push(tree)?;
+        add(found, tree)?;
     }
     Ok(())
-}
-
-/// Drops what was found since there were `before`, where it stands in a constant.
-pub(super) fn settle(found: &mut Vec<&Expression>, before: usize, constant: bool)
-    ensures { found.new.items
-        ≡ (if constant then take before found.old.items else found.old.items) }
-{
-    if constant {
-        found.truncate(before);
-    }
 }
 
 fn is_candidate(role: Role, tree: &Expression) -> bool
     ensures { result ≡ is_candidate role (expression (expression_of tree.now)) }
 {
+    is_taken(role, is_boolean(tree))
+}
+
+fn is_taken(role: Role, boolean: bool) -> bool
+    ensures { result ≡ is_taken role boolean }
+{
     match role {
         Role::Test => true,
         Role::Inner => false,
-        Role::Plain => is_boolean(tree),
+        Role::Plain => boolean,
     }
 }
 
