@@ -23,7 +23,7 @@ use Rattle.mc_probe.specs.Tree as p
 use Rattle.mc_probe.specs.Views as probed
 use Rattle.mc_instrument.specs.declared.copies.statements.At as code
 use Rattle.mc_instrument.specs.steps.Counters.{leading, StandsAt}
-use Rattle.mc_instrument.proofs.Each.{split}
+use Rattle.mc_map.proofs.Each.{split}
 
 -- ---- how many decisions a function has
 

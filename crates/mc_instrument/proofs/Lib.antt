@@ -1,11 +1,8 @@
 pub mod Lists
 pub mod Puts
 pub mod Rooted
-pub mod Each
-pub mod Last
 pub mod Leading
 pub mod Edges
-pub mod Numbering
 pub mod Done
 pub mod OneFunction
 pub mod Functions

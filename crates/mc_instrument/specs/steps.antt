@@ -1,6 +1,3 @@
 -- What the proofs need between the definitions and the code. No public clause rests on it.
-pub mod Constants
 pub mod Inside
 pub mod Counters
-pub mod Completes
-pub mod Numbered

@@ -4,6 +4,5 @@ pub(crate) mod effects;
 pub(crate) mod expressions;
 pub(crate) mod functions;
 pub(crate) mod initializers;
-pub(crate) mod loose;
 pub(crate) mod statements;
 pub(crate) mod walk;

@@ -2,14 +2,8 @@
 //! event.
 #![tactic(auto)]
 
-mod completes;
-mod constants;
 mod copies;
-mod counting;
-mod fault;
-mod mapped;
-mod places;
 mod program;
 
-pub use fault::InstrumentFault;
+pub use mc_map::InstrumentFault;
 pub use program::instrument;

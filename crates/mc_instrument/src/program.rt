@@ -1,5 +1,5 @@
 //! Whole programs.
-ghost use Rattle.std.specs.Prelude.{◌≡◌, ◌+◌, ◌-◌, ◌^◌, min, map, length, All, IfOk, IfErr};
+ghost use Rattle.std.specs.Prelude.{◌≡◌, map, All, IfOk, IfErr};
 ghost use Rattle.mc_cond.specs.Tree as c;
 ghost use Rattle.mc_typed.specs.Plans.{Fits, Plan};
 ghost use Rattle.mc_typed.specs.Sound.{IsSound};
@@ -9,19 +9,16 @@ ghost use Rattle.mc_decide.specs.Seen.{decision_of};
 ghost use Rattle.mc_meaning.specs.Tests.{plain_run};
 ghost use Rattle.mc_probe.specs.BitMaps.{map_of};
 ghost use Rattle.mc_probe.specs.Erase.{erase};
-ghost use Rattle.mc_probe.specs.Maps.{IsMapOf};
 ghost use Rattle.mc_probe.specs.Table.{instrumented, IsInstrumented};
 ghost use Rattle.mc_probe.specs.Tests.{run_of};
 ghost use Rattle.mc_probe.specs.Trees.{tree_of};
 ghost use Rattle.mc_simulation.specs.Simulation.{RunsAs};
-ghost use Rattle.mc_instrument.specs.Faults.{HasFewPaths, IsFault};
+ghost use Rattle.mc_map.specs.Faults.{HasFewPaths, IsFault};
 
 use crate::copies::functions::all_functions;
-use crate::fault::InstrumentFault;
-use crate::mapped::{MOST_BITS, number_decisions};
-use crate::places::{Places, list_places};
 use mc_bare::{all_structures, static_objects};
 use mc_decide::Decision;
+use mc_map::{InstrumentFault, map_of_bits};
 use mc_probe::{BitMap, Instrumented};
 use mc_typed::Program;
 use std::alloc::{AllocError, Global};
@@ -60,58 +57,6 @@ pub fn instrument<'a>(
     };
     let tree = with_probes(alloc, program, &map)?;
     Ok((tree, map))
-}
-
-/// How many places there are; 2^64 - 1 where there are more.
-fn count_places(places: &Places) -> u64
-    ensures { result ≡ min (length places.now.entries.items + length places.now.exits.items
-        + length places.now.statements.items + length places.now.labels.items) (2 ^ 64 - 1) }
-{
-    let entries = places.entries.len() as u64;
-    let exits = places.exits.len() as u64;
-    let statements = places.statements.len() as u64;
-    let labels = places.labels.len() as u64;
-    entries
-        .saturating_add(exits)
-        .saturating_add(statements)
-        .saturating_add(labels)
-}
-
-/// The map of the bits.
-fn map_of_bits(
-    alloc: Global,
-    program: &Program<'_>,
-    decisions: Vec<Decision>,
-) -> Result<BitMap, InstrumentFault>
-    requires decisions { AreDecisions (program_of program.now).functions
-        (map decision_of decisions.items) }
-    requires numbered { All (λ d. c.IsNumbered (c.tree_of d.tree)) decisions.items }
-    ensures is_map { IfOk result (λ m. IsMapOf (program_of program.now) (map_of m)) }
-    ensures decisions { IfOk result (λ m. map (λ d. d.decision) (map_of m).decisions
-        ≡ map decision_of decisions.items) }
-    ensures few { IfOk result (λ m. All HasFewPaths (map decision_of decisions.items)) }
-    ensures refused { IfErr result
-        (IsFault (program_of program.now) (map decision_of decisions.items)) }
-{
-    let places = list_places(alloc, program)?;
-    let first = count_places(&places);
-    let numbered = match number_decisions(alloc, first, decisions) {
-        Ok(numbered) => numbered,
-        Err(fault) => return Err(fault),
-    };
-    if numbered.bits > MOST_BITS {
-        return Err(InstrumentFault::TooManyBits {
-            count: numbered.bits,
-        });
-    }
-    Ok(BitMap {
-        entries: places.entries,
-        exits: places.exits,
-        statements: places.statements,
-        labels: places.labels,
-        decisions: numbered.decisions,
-        bits: numbered.bits as u32,
-    })
 }
 
 /// The program with the probes that the table puts.

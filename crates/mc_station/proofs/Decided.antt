@@ -5,8 +5,8 @@ use Rattle.mc_cond.specs.Tree.{tree_of, size, IsNumbered}
 use Rattle.mc_decide.specs.declared.decision.Decision as code
 use Rattle.mc_typed.specs.Tree.{Function, Program}
 use Rattle.mc_probe.specs.Maps.{Map, IsMapOf}
-use Rattle.mc_instrument.specs.Faults.{HasFewPaths, IsFault, IsFirstWithMany}
-use Rattle.mc_instrument.specs.declared.fault.InstrumentFault.TheVariants.{TooManyPaths, TooManyBits}
+use Rattle.mc_map.specs.Faults.{HasFewPaths, IsFault, IsFirstWithMany}
+use Rattle.mc_map.specs.declared.fault.InstrumentFault.TheVariants.{TooManyPaths, TooManyBits}
 use Rattle.mc_decide.specs.Roots.{Found}
 use Rattle.mc_decide.specs.Decisions.{Decision, Tells, AreTold, AreDecisions, IsSmall, IsFirstLarge}
 use Rattle.mc_decide.specs.Seen.{decision_of}

@@ -5,7 +5,7 @@ use Rattle.mc_decide.specs.Decisions.{Decision, AreDecisions}
 use Rattle.mc_decide.proofs.Once as decided
 use Rattle.mc_paths.specs.Paths.{count_of}
 use Rattle.mc_probe.specs.Maps.{AreBased, IsMapOf, Map, Mapped, first_path}
-use Rattle.mc_instrument.specs.Faults.{bits_of, most_bits, paths_of, places_of}
+use Rattle.mc_map.specs.Faults.{bits_of, most_bits, paths_of, places_of}
 
 abbrev decision_in : Mapped → Decision
 decision_in d = d.decision

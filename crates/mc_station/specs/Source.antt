@@ -16,7 +16,7 @@ use Rattle.mc_typing.specs.Typing.{IsTypingOf, IsFirstFaultOf}
 use Rattle.mc_decide.specs.Decisions.{Decision, AreDecisions, IsSmall, IsFirstLarge}
 use Rattle.mc_paths.specs.Paths.{count_of}
 use Rattle.mc_probe.specs.Maps.{Map, IsMapOf}
-use Rattle.mc_instrument.specs.Faults.{HasFewPaths, IsFirstWithMany, bits_of, most_bits}
+use Rattle.mc_map.specs.Faults.{HasFewPaths, IsFirstWithMany, bits_of, most_bits}
 use Rattle.mc_station.specs.Reply.{Reply, refusal}
 use Rattle.mc_station.specs.Texts.{bits_line, conditions_line, fault_line, outside_line, paths_line, syntax_line, type_line}
 use Rattle.mc_station.specs.declared.status.Status.TheVariants.{SourceRefused}

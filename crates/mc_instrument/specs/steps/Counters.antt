@@ -1,6 +1,5 @@
 -- Counters of bits and registers.
-use Rattle.std.specs.Prelude.{◌≡◌, ℕ, ◌+◌, ◌==◌, Bool, true, false, if◌then◌else◌, List, [], ◌∷◌, Option, Some, None}
-use Rattle.mc_typed.specs.declared.probes.Mark.{Mark}
+use Rattle.std.specs.Prelude.{◌≡◌, ℕ, ◌+◌, ◌==◌, if◌then◌else◌, List, [], ◌∷◌}
 use Rattle.mc_typed.specs.Tree.{Statements}
 use Rattle.mc_decide.specs.Nodes as n
 use Rattle.mc_decide.specs.Counts.{roots_in}
@@ -30,11 +29,6 @@ module _ (m : Map) (first : ℕ) where
     decision = at.decision + roots_in (n.statements items);
     switch = at.switch + switches_all items;
   }
-
--- the probe of an absent `default`, with this register and this bit
-abbrev pub mark_where : Bool → ℕ → ℕ → Option Mark
-mark_where true register bit = None
-mark_where false register bit = Some (record { register = register; bit = bit })
 
 -- how many decisions at the head of a list are those of a function
 abbrev pub leading : ℕ → List Mapped → ℕ

@@ -10,9 +10,8 @@ ghost use Rattle.mc_probe.specs.Table.{InTree, Loose, put, put_argument, put_arg
 ghost use Rattle.mc_probe.specs.Views as probed;
 ghost use Rattle.mc_instrument.specs.steps.Inside as i;
 
-use crate::copies::loose::{is_root, is_root_as_test};
 use crate::copies::walk::{Walk, with_probe};
-use crate::counting::count;
+use mc_map::{count, is_root, is_root_as_test};
 use mc_typed::{Argument, Expression, FunctionCall, Place, Probe, Structure};
 use std::alloc::AllocError;
 

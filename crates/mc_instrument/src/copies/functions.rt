@@ -1,5 +1,5 @@
 //! Functions with their probes.
-ghost use Rattle.std.specs.Prelude.{◌≡◌, ◌==◌, ℕ, ◌+◌, ◌<◌, ◌^◌, map, drop, length, if◌then◌else◌, Some, None, IfOk};
+ghost use Rattle.std.specs.Prelude.{◌≡◌, ◌==◌, ℕ, ◌+◌, ◌<◌, ◌^◌, map, drop, length, IfOk};
 ghost use Rattle.mc_typed.specs.Views as plain;
 ghost use Rattle.mc_decide.specs.Decisions.{AreDecisions};
 ghost use Rattle.mc_steps.specs.Points.{◌⊕◌};
@@ -10,12 +10,11 @@ ghost use Rattle.mc_probe.specs.Table.{decisions_in, put_function, put_functions
 ghost use Rattle.mc_probe.specs.Views as probed;
 ghost use Rattle.mc_instrument.specs.steps.Counters.{leading, StandsAt};
 
-use crate::completes::all_complete;
 use crate::copies::statements::{At, statements};
 use crate::copies::walk::Walk;
-use crate::counting::count;
+use mc_map::{closing_exit, count};
 use mc_probe::{BitMap, MappedDecision};
-use mc_typed::{Function, Span, Statement};
+use mc_typed::{Function, Span};
 use std::alloc::{AllocError, Global};
 
 fn stands_in(mapped: &MappedDecision, function: u32) -> bool
@@ -59,23 +58,6 @@ fn decisions_from(decisions: &[MappedDecision], first: usize) -> &[MappedDecisio
     } else {
         &[]
     }
-}
-
-/// The bit of the exit at the closing brace, where the body completes.
-fn closing_exit(counter: &mut u32, body: &[Statement]) -> Result<Option<u32>, AllocError>
-    ensures bit { IfOk result (λ b. b
-        ≡ (if points.all_complete (plain.statements_from (map plain.statement_of body.now))
-        then Some counter.old else None)) }
-    ensures more { IfOk result (λ _. counter.new ≡ counter.old
-        + (points.where_completes
-        (points.all_complete (plain.statements_from (map plain.statement_of body.now)))).exits) }
-{
-    let completes = all_complete(body)?;
-    if !completes {
-        return Ok(None);
-    }
-    let bit = count(counter)?;
-    Ok(Some(bit))
 }
 
 /// A copy of the function with this number, before which `first` decisions stand.

@@ -1,23 +1,22 @@
 //! Statements with their probes.
-ghost use Rattle.std.specs.Prelude.{◌≡◌, ◌+◌, map, option_map, if◌then◌else◌, Some, None, IfOk};
+ghost use Rattle.std.specs.Prelude.{◌≡◌, ◌+◌, map, option_map, IfOk};
 ghost use Rattle.mc_typed.specs.Views as plain;
 ghost use Rattle.mc_decide.specs.Counts.{roots, roots_in};
 ghost use Rattle.mc_decide.specs.Nodes as n;
 ghost use Rattle.mc_decide.specs.declared.role.Role.TheVariants as role;
-ghost use Rattle.mc_steps.specs.Points.{has_default, initializes, points_of, points_of_all, where_absent, where_counted};
+ghost use Rattle.mc_steps.specs.Points.{points_of, points_of_all};
 ghost use Rattle.mc_probe.specs.BitMaps.{map_of};
 ghost use Rattle.mc_probe.specs.Switches.{switches, switches_all};
 ghost use Rattle.mc_probe.specs.Table.{put_effects, put_optional, put_return, put_start, put_statement, put_statements};
 ghost use Rattle.mc_probe.specs.Views as probed;
-ghost use Rattle.mc_instrument.specs.steps.Counters.{at_of, mark_where};
+ghost use Rattle.mc_instrument.specs.steps.Counters.{at_of};
 
-use crate::completes::{has_default, initializes};
 use crate::copies::effects::{effect, effects};
 use crate::copies::expressions::{expression, structure, test};
 use crate::copies::initializers::declarators;
 use crate::copies::walk::{Walk, with_probe};
-use crate::counting::count;
-use mc_typed::{Declarator, Effect, Expression, ForStart, Mark, Probe, ReturnValue, Statement};
+use mc_map::{absent_mark, count, declaration_bit};
+use mc_typed::{Effect, Expression, ForStart, Mark, Probe, ReturnValue, Statement};
 use std::alloc::AllocError;
 
 /// The bits of the next exit, counted statement and label, the number of the next decision of the
@@ -97,52 +96,6 @@ fn return_value(
             })
         }
     }
-}
-
-/// The bit of a declaration, which has one where it initializes something.
-fn declaration_bit(counter: &mut u32, declarators: &[Declarator]) -> Result<Option<u32>, AllocError>
-    ensures bit { IfOk result (λ b. b
-        ≡ (if initializes (map plain.declarator_of declarators.now)
-        then Some counter.old else None)) }
-    ensures more { IfOk result (λ _. counter.new ≡ counter.old
-        + (where_counted (initializes (map plain.declarator_of declarators.now))).statements) }
-    ensures no_exit { (where_counted
-        (initializes (map plain.declarator_of declarators.now))).exits ≡ 0 }
-    ensures no_label { (where_counted
-        (initializes (map plain.declarator_of declarators.now))).labels ≡ 0 }
-{
-    if !initializes(declarators) {
-        return Ok(None);
-    }
-    let bit = count(counter)?;
-    Ok(Some(bit))
-}
-
-/// The probe of a `default` that is absent.
-fn absent_mark(
-    label: &mut u32,
-    register: u32,
-    items: &[Statement],
-) -> Result<Option<Mark>, AllocError>
-    ensures mark { IfOk result (λ k. k
-        ≡ mark_where (has_default (plain.statements_from (map plain.statement_of items.now)))
-        register label.old) }
-    ensures next { IfOk result (λ _. label.new
-        ≡ (if has_default (plain.statements_from (map plain.statement_of items.now))
-        then label.old else label.old + 1)) }
-    ensures more { IfOk result (λ _. label.new ≡ label.old
-        + (where_absent
-        (has_default (plain.statements_from (map plain.statement_of items.now)))).labels) }
-    ensures no_exit { (where_absent
-        (has_default (plain.statements_from (map plain.statement_of items.now)))).exits ≡ 0 }
-    ensures no_statement { (where_absent
-        (has_default (plain.statements_from (map plain.statement_of items.now)))).statements ≡ 0 }
-{
-    if has_default(items) {
-        return Ok(None);
-    }
-    let bit = count(label)?;
-    Ok(Some(Mark { register, bit }))
 }
 
 /// What a `for` has beside its body.

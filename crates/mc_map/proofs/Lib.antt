@@ -1,0 +1,4 @@
+pub mod Each
+pub mod Last
+pub mod Numbering
+pub mod Maps
