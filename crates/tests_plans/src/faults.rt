@@ -1,4 +1,5 @@
 //! One file for each fault, for each two faults that one record can have, and for two records.
+use crate::limits::{LIMITS, written_out};
 use crate::outcome::outcome;
 use mc_tests::TestFault;
 use mc_typed::Program;
@@ -183,11 +184,11 @@ fn file_of(alloc: Global, head: &str, text: &str) -> Result<Vec<u8>, AllocError>
     Ok(file)
 }
 
-/// What is told of a file.
-fn told(alloc: Global, fault: Option<TestFault>) -> Result<String, Fail> {
+/// What is told of a file: how many tests it makes, or its fault.
+fn told(alloc: Global, tests: usize, fault: Option<TestFault>) -> Result<String, Fail> {
     match fault {
         Some(fault) => Ok(format!(in alloc; "{fault}")?),
-        None => Ok(format!(in alloc; "tests record none")?),
+        None => Ok(format!(in alloc; "tests record {tests} tests")?),
     }
 }
 
@@ -195,10 +196,28 @@ fn is_right(alloc: Global, program: &Program<'_>, head: &str, row: &str) -> Resu
     let Some((want, text)) = row.split_once('@') else {
         return Ok(row.starts_with('#'));
     };
-    let file = file_of(alloc, head, text)?;
-    let (_, fault) = outcome(alloc, program, &file);
-    let told = told(alloc, fault)?;
+    let text = written_out(alloc, text)?;
+    let file = file_of(alloc, head, text.as_str())?;
+    let (tests, fault) = outcome(alloc, program, &file);
+    if want == "none" {
+        return Ok(fault.is_none());
+    }
+    let told = told(alloc, tests, fault)?;
     Ok(told.as_str().strip_prefix("tests record ") == Some(want))
+}
+
+/// Checks each file of the rows, whose records stand after `head`.
+fn check_rows(
+    rt: &impl Abort,
+    alloc: Global,
+    program: &Program<'_>,
+    head: &str,
+    rows: &str,
+) -> Result<(), Fail> {
+    for row in rows.lines() {
+        assert!(rt; is_right(alloc, program, head, row)?, "{row}");
+    }
+    Ok(())
 }
 
 /// Checks each file, and the texts of the faults that none of them has.
@@ -207,15 +226,12 @@ pub(crate) fn check_faults(
     alloc: Global,
     program: &Program<'_>,
 ) -> Result<(), Fail> {
-    for row in RECORDS.lines() {
-        assert!(rt; is_right(alloc, program, HEADER, row)?, "{row}");
-    }
-    for row in FILES.lines() {
-        assert!(rt; is_right(alloc, program, "", row)?, "{row}");
-    }
-    let text = told(alloc, Some(TestFault::Limit { row: 9 }))?;
-    assert_eq!(rt; text.as_str(), "tests record 9: limit");
-    let text = told(alloc, Some(TestFault::OutOfMemory))?;
-    assert_eq!(rt; text.as_str(), "out of memory");
+    check_rows(rt, alloc, program, HEADER, RECORDS)?;
+    check_rows(rt, alloc, program, HEADER, LIMITS)?;
+    check_rows(rt, alloc, program, "", FILES)?;
+    let text = told(alloc, 0, Some(TestFault::Limit { row: 9 }))?;
+    assert!(rt; text.as_str() == "tests record 9: limit");
+    let text = told(alloc, 0, Some(TestFault::OutOfMemory))?;
+    assert!(rt; text.as_str() == "out of memory");
     Ok(())
 }

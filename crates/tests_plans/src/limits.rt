@@ -1,147 +1,63 @@
 //! The limits of tests, calls, inputs and expected outputs, and one more of each.
-use crate::outcome::outcome;
-use mc_tests::TestFault;
-use mc_typed::Program;
 use std::alloc::{AllocError, Global};
-use std::process::Abort;
-use std::test::Fail;
 
-/// A text, and then each number from 0 on, so many times, with a text after it.
-type Part = (&'static str, u32, &'static str);
+/// A row for each file: how many tests it makes or its fault, and after `@` its records. There `$`
+/// is a line feed, and `{9|,}` stands for the numbers from 0 to 8, a comma after each.
+pub(crate) const LIMITS: &str = "\
+# 4,096 tests, one more, and one more with an earlier name, which is the lower fault
+4096 tests@t{4095|,z,,,,$t}x,z,,,,$
+4098: limit@t{4096|,z,,,,$t}x,z,,,,$
+4098: name again@t{4096|,z,,,,$t}0,z,,,,$
+# 1,024 calls of a test, and one more
+1 tests@a,z,,,{1023|,$a,z,,,},$
+1026: limit@a,z,,,{1024|,$a,z,,,},$
+# 4,096 inputs of a test in three records, and one more
+1 tests@a,z,,{2047| }1,,$a,z,,,,$a,z,,{2047| }1,,$
+4: limit@a,z,,{2047| }1,,$a,z,,,,$a,z,,{2048| }1,,$
+# the same with expected outputs
+1 tests@a,z,,,,{2047| }1$a,z,,,,none$a,z,,,,{2047| }1$
+4: limit@a,z,,,,{2047| }1$a,z,,,,none$a,z,,,,{2048| }1$
+# a record that passes a limit and has another fault too: the lower number answers
+2: limit@a,z,,{4096| }1,,$
+2: width@a,z,{4096| }1,,$
+2: text@a+,z,,{4096| }1,,$
+2: number@a,z,,x {4096| }1,,$
+2: function@a,g,,{4096| }1,,$
+2: arguments@a,z,1,{4096| }1,,$
+2: not callable@a,t,,{4096| }1,,$
+4: name again@a,z,,,,$b,z,,,,$a,z,,{4096| }1,,$
+4: limit@a,z,,,,$b,z,,,,$b,z,,{4096| }1,,$
+";
 
-// The parts after the header, how many tests they make, and the fault.
-const FILES: [(&[Part], usize, Option<TestFault>); 18] = [
-    // 4,096 tests, one more, and one more with an earlier name, which is the lower fault
-    (
-        &[("t", 4095, ",z,,,,\nt"), ("x,z,,,,\n", 0, "")],
-        4096,
-        None,
-    ),
-    (
-        &[("t", 4096, ",z,,,,\nt"), ("x,z,,,,\n", 0, "")],
-        0,
-        Some(TestFault::Limit { row: 4098 }),
-    ),
-    (
-        &[("t", 4096, ",z,,,,\nt"), ("0,z,,,,\n", 0, "")],
-        0,
-        Some(TestFault::NameAgain { row: 4098 }),
-    ),
-    // 1,024 calls of a test, and one more
-    (&[("a,z,,,", 1023, ",\na,z,,,"), (",\n", 0, "")], 1, None),
-    (
-        &[("a,z,,,", 1024, ",\na,z,,,"), (",\n", 0, "")],
-        0,
-        Some(TestFault::Limit { row: 1026 }),
-    ),
-    // 4,096 inputs of a test in three records, and one more
-    (
-        &[
-            ("a,z,,", 2047, " "),
-            ("1,,\na,z,,,,\na,z,,", 2047, " "),
-            ("1,,\n", 0, ""),
-        ],
-        1,
-        None,
-    ),
-    (
-        &[
-            ("a,z,,", 2047, " "),
-            ("1,,\na,z,,,,\na,z,,", 2048, " "),
-            ("1,,\n", 0, ""),
-        ],
-        0,
-        Some(TestFault::Limit { row: 4 }),
-    ),
-    // the same with expected outputs
-    (
-        &[
-            ("a,z,,,,", 2047, " "),
-            ("1\na,z,,,,none\na,z,,,,", 2047, " "),
-            ("1\n", 0, ""),
-        ],
-        1,
-        None,
-    ),
-    (
-        &[
-            ("a,z,,,,", 2047, " "),
-            ("1\na,z,,,,none\na,z,,,,", 2048, " "),
-            ("1\n", 0, ""),
-        ],
-        0,
-        Some(TestFault::Limit { row: 4 }),
-    ),
-    // a record that passes a limit and has another fault too: the lower number answers
-    (
-        &[("a,z,,", 4096, " "), ("1,,\n", 0, "")],
-        0,
-        Some(TestFault::Limit { row: 2 }),
-    ),
-    (
-        &[("a,z,", 4096, " "), ("1,,\n", 0, "")],
-        0,
-        Some(TestFault::Width { row: 2 }),
-    ),
-    (
-        &[("a+,z,,", 4096, " "), ("1,,\n", 0, "")],
-        0,
-        Some(TestFault::Text { row: 2 }),
-    ),
-    (
-        &[("a,z,,x ", 4096, " "), ("1,,\n", 0, "")],
-        0,
-        Some(TestFault::Number { row: 2 }),
-    ),
-    (
-        &[("a,g,,", 4096, " "), ("1,,\n", 0, "")],
-        0,
-        Some(TestFault::Function { row: 2 }),
-    ),
-    (
-        &[("a,z,1,", 4096, " "), ("1,,\n", 0, "")],
-        0,
-        Some(TestFault::Arguments { row: 2 }),
-    ),
-    (
-        &[("a,t,,", 4096, " "), ("1,,\n", 0, "")],
-        0,
-        Some(TestFault::NotCallable { row: 2 }),
-    ),
-    (
-        &[("a,z,,,,\nb,z,,,,\na,z,,", 4096, " "), ("1,,\n", 0, "")],
-        0,
-        Some(TestFault::NameAgain { row: 4 }),
-    ),
-    (
-        &[("a,z,,,,\nb,z,,,,\nb,z,,", 4096, " "), ("1,,\n", 0, "")],
-        0,
-        Some(TestFault::Limit { row: 4 }),
-    ),
-];
-
-// The file of these parts.
-fn file_of(alloc: Global, parts: &[Part]) -> Result<String, AllocError> {
-    let mut file = String::from_str(alloc, "test,call,arguments,inputs,expect,output\n")?;
-    for (head, count, tail) in parts {
-        file.push_str(head)?;
-        for number in 0..*count {
-            file.push_str(format!(in alloc; "{number}{tail}")?.as_str())?;
-        }
-    }
-    Ok(file)
+fn push_number(
+    alloc: Global,
+    text: &mut String,
+    number: u32,
+    tail: &str,
+) -> Result<(), AllocError> {
+    let one = format!(in alloc; "{number}{tail}")?;
+    text.push_str(one.as_str())
 }
 
-/// Checks each file.
-pub(crate) fn check_limits(
-    rt: &impl Abort,
-    alloc: Global,
-    program: &Program<'_>,
-) -> Result<(), Fail> {
-    for (parts, tests, fault) in &FILES {
-        let file = file_of(alloc, parts)?;
-        let found = outcome(alloc, program, file.as_bytes());
-        assert_eq!(rt; found, (*tests, *fault), "{parts:?}");
+// What a part of a row stands for: `9|,}x` are numbers with a text after each, and then `x`.
+fn push_part(alloc: Global, text: &mut String, part: &str) -> Result<(), AllocError> {
+    let Some((count, rest)) = part.split_once('|') else {
+        return text.push_str(part);
+    };
+    let Some((tail, last)) = rest.split_once('}') else {
+        return text.push_str(part);
+    };
+    for number in 0..count.parse::<u32>().unwrap_or(0) {
+        push_number(alloc, text, number, tail)?;
     }
-    Ok(())
+    text.push_str(last)
+}
+
+/// The text of a row with its numbers written out.
+pub(crate) fn written_out(alloc: Global, row: &str) -> Result<String, AllocError> {
+    let mut text = String::new(alloc);
+    for part in row.split('{') {
+        push_part(alloc, &mut text, part)?;
+    }
+    Ok(text)
 }

@@ -10,7 +10,11 @@ pub(crate) fn outcome(
     file: &[u8],
 ) -> (usize, Option<TestFault>) {
     match read_tests(alloc, file, program, 1) {
-        Ok(plans) => (plans.len(), None),
+        Ok(plans) => {
+            let tests = plans.len();
+            drop(plans);
+            (tests, None)
+        }
         Err(fault) => (0, Some(fault)),
     }
 }

@@ -80,7 +80,11 @@ fn are_same(plans: &[TestPlan]) -> bool {
 /// Whether the plans of the file hold what its records say.
 pub(crate) fn are_read(alloc: Global, program: &Program<'_>) -> bool {
     match read_tests(alloc, FILE, program, 100000000) {
-        Ok(plans) => are_same(&plans),
+        Ok(plans) => {
+            let same = are_same(&plans);
+            drop(plans);
+            same
+        }
         Err(_) => false,
     }
 }

@@ -2,7 +2,6 @@
 ghost use Rattle.std.specs.Prelude.{◌≤◌};
 
 use crate::faults::check_faults;
-use crate::limits::check_limits;
 use crate::plans::are_read;
 use mc_lex::{Dialect, lex};
 use mc_parse::parse;
@@ -30,8 +29,7 @@ struct S s(void){struct S a={1};return a;}
 
 fn check_program(rt: &impl Abort, alloc: Global, program: &Program<'_>) -> Result<(), Fail> {
     assert!(rt; are_read(alloc, program));
-    check_faults(rt, alloc, program)?;
-    check_limits(rt, alloc, program)
+    check_faults(rt, alloc, program)
 }
 
 fn check_unit(rt: &impl Abort, alloc: Global, unit: &Unit<'_>) -> Result<(), Fail> {
