@@ -5,7 +5,6 @@ use mc_span::Span;
 use mc_value::IntType;
 
 /// A whole expression statement, a clause of a `for`, or a void expression in one of them.
-#[derive(Drop)]
 pub enum Effect {
     /// `=` on integers. The value has the type `of` of the target (C17 6.5.16.1).
     Assign {
@@ -66,4 +65,45 @@ pub enum Effect {
         operand: Box<Effect>,
         span: Span,
     },
+}
+
+impl Drop for Effect {
+    fn drop(self) {
+        match self {
+            Effect::Assign {
+                target: _,
+                of: _,
+                value: _,
+                span: _,
+            }
+            | Effect::Update {
+                target: _,
+                of: _,
+                operator: _,
+                common: _,
+                value: _,
+                span: _,
+            }
+            | Effect::Copy {
+                target: _,
+                value: _,
+                cells: _,
+                span: _,
+            }
+            | Effect::Number { value: _, whole: _ }
+            | Effect::Structure { value: _, whole: _ }
+            | Effect::Call { call: _ }
+            | Effect::Output { value: _, span: _ }
+            | Effect::Choice {
+                test: _,
+                chosen: _,
+                other: _,
+                span: _,
+            }
+            | Effect::Discard {
+                operand: _,
+                span: _,
+            } => {}
+        }
+    }
 }

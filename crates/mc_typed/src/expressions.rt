@@ -216,13 +216,21 @@ impl Drop for Expression {
 }
 
 /// An expression whose value is a structure.
-#[derive(Drop)]
 #[cycle(expressions)]
 pub enum Structure {
     /// The value of a structure that is stored in an object.
     Stored { place: Place },
     /// What a call of a function gives.
     Returned { call: FunctionCall },
+}
+
+impl Drop for Structure {
+    #[cycle(expressions)]
+    fn drop(self) {
+        match self {
+            Structure::Stored { place: _ } | Structure::Returned { call: _ } => {}
+        }
+    }
 }
 
 /// A call of a function of the program (C17 6.5.2.2).

@@ -5,7 +5,6 @@ use mc_span::Span;
 use mc_value::{IntType, ObjType};
 
 /// The type of a parameter.
-#[derive(Drop)]
 pub enum ParameterType {
     Int(IntType),
     Structure(ObjType),
@@ -13,16 +12,30 @@ pub enum ParameterType {
     Array(ObjType),
 }
 
+impl Drop for ParameterType {
+    fn drop(self) {
+        match self {
+            ParameterType::Int(_) | ParameterType::Structure(_) | ParameterType::Array(_) => {}
+        }
+    }
+}
+
 /// What a function gives.
-#[derive(Drop)]
 pub enum ResultType {
     Void,
     Int(IntType),
     Structure(ObjType),
 }
 
+impl Drop for ResultType {
+    fn drop(self) {
+        match self {
+            ResultType::Void | ResultType::Int(_) | ResultType::Structure(_) => {}
+        }
+    }
+}
+
 /// A function with a body.
-#[derive(Drop)]
 pub struct Function<'a> {
     pub name: &'a [u8],
     /// Where the name stands in the definition.
@@ -42,4 +55,21 @@ pub struct Function<'a> {
     pub registers: u32,
     pub entry: Option<u32>,
     pub exit: Option<u32>,
+}
+
+impl Drop for Function<'_> {
+    fn drop(self) {
+        let Self {
+            name: _,
+            name_span: _,
+            parameters: _,
+            result: _,
+            objects: _,
+            body: _,
+            closing: _,
+            registers: _,
+            entry: _,
+            exit: _,
+        } = self;
+    }
 }

@@ -8,21 +8,40 @@ use std::sync::Arc;
 
 /// An object of a function with automatic storage duration: its type, how many cells it has, and
 /// which cell of the frame is its first.
-#[derive(Drop)]
 pub struct Object {
     pub object_type: ObjType,
     pub cells: u32,
     pub start: u32,
 }
 
+impl Drop for Object {
+    fn drop(self) {
+        let Self {
+            object_type: _,
+            cells: _,
+            start: _,
+        } = self;
+    }
+}
+
 /// An object with static storage duration: its type, how many cells it has, which static cell is
 /// its first, and the initial value of each of its cells.
-#[derive(Drop)]
 pub struct StaticObject {
     pub object_type: ObjType,
     pub cells: u32,
     pub start: u32,
     pub initial: Vec<i128>,
+}
+
+impl Drop for StaticObject {
+    fn drop(self) {
+        let Self {
+            object_type: _,
+            cells: _,
+            start: _,
+            initial: _,
+        } = self;
+    }
 }
 
 /// The same type, which shares its parts with the one that is given.

@@ -12,11 +12,20 @@ use std::marker::Model;
 /// definitions, its objects with static storage duration and its structure types, each by its
 /// number. Each program is sound: types fit, conversions are written, what is named exists, and the
 /// limits hold. It is the same program whatever probes its tree has.
-#[derive(Drop)]
 pub struct Program<'a> {
     functions: Vec<Function<'a>>,
     statics: Vec<StaticObject>,
     structures: Vec<ObjType>,
+}
+
+impl Drop for Program<'_> {
+    fn drop(self) {
+        let Self {
+            functions: _,
+            statics: _,
+            structures: _,
+        } = self;
+    }
 }
 
 impl<'a> Model for Program<'a> {

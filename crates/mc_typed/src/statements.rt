@@ -168,25 +168,50 @@ impl Drop for Statement {
 
 /// An object that a local declaration declares, how many cells it has, and what it is initialized
 /// with.
-#[derive(Drop)]
 pub struct Declarator {
     pub slot: Slot,
     pub cells: u32,
     pub value: Option<Initializer>,
 }
 
+impl Drop for Declarator {
+    fn drop(self) {
+        let Self {
+            slot: _,
+            cells: _,
+            value: _,
+        } = self;
+    }
+}
+
 /// The first part of a `for` (C17 6.8.5.3).
-#[derive(Drop)]
 pub enum ForStart {
     Effects { effects: Vec<Effect> },
     Declaration { declarators: Vec<Declarator> },
 }
 
+impl Drop for ForStart {
+    fn drop(self) {
+        match self {
+            ForStart::Effects { effects: _ } | ForStart::Declaration { declarators: _ } => {}
+        }
+    }
+}
+
 /// What a `return` gives: nothing, an integer converted to the function's type, or a structure of
 /// `cells` cells.
-#[derive(Drop)]
 pub enum ReturnValue {
     Nothing,
     Number { value: Expression },
     Structure { value: Structure, cells: u32 },
+}
+
+impl Drop for ReturnValue {
+    fn drop(self) {
+        match self {
+            ReturnValue::Nothing
+            | ReturnValue::Number { value: _ }
+            | ReturnValue::Structure { value: _, cells: _ } => {}
+        }
+    }
 }

@@ -228,7 +228,7 @@ fn effect<'a>(
         ≡ squeezed_part (b.judge_effect (expression_of tree.now) (scope_of scope.old))) }
 {
     let found = expression(alloc, scope, tree)?;
-    mc_statements::effect(alloc, tree, found)
+    Ok(mc_statements::effect(tree, found))
 }
 
 /// The clauses of a `for`.

@@ -1,5 +1,5 @@
 //! Expressions that stand as statements (C17 6.8.3).
-ghost use Rattle.std.specs.Prelude.{◌≡◌, IfOk, option_map, option_and_then};
+ghost use Rattle.std.specs.Prelude.{◌≡◌, option_map, option_and_then};
 ghost use Rattle.mc_tree.specs.Views as tree;
 ghost use Rattle.mc_typed.specs.Views.{effect_of};
 ghost use Rattle.mc_typing.specs.Scopes as s;
@@ -10,20 +10,21 @@ ghost use Rattle.mc_scopes.specs.steps.Squeezed.{squeezed_part};
 
 use mc_faults::after;
 use mc_scopes::bare::effect_fault;
-use mc_scopes::effects;
+use mc_scopes::effects::make_whole;
 use mc_scopes::found::{Found, Judged, kind_found};
 use mc_scopes::value::Value;
 use mc_tree::Expression;
 use mc_typed::Effect;
-use std::alloc::{AllocError, Global};
 
-fn whole(alloc: Global, effect: Option<Effect>) -> Result<Option<Effect>, AllocError>
-    ensures { IfOk result (λ r.
-        option_map effect_of r ≡ option_map v.whole (option_map effect_of effect)) }
+fn whole(effect: Option<Effect>) -> Option<Effect>
+    ensures { option_map effect_of result ≡ option_map v.whole (option_map effect_of effect) }
 {
     match effect {
-        Some(effect) => Ok(Some(effects::whole(alloc, effect)?)),
-        None => Ok(None),
+        Some(mut effect) => {
+            make_whole(&mut effect);
+            Some(effect)
+        }
+        None => None,
     }
 }
 
@@ -38,16 +39,12 @@ fn effect_in(value: Option<Value>) -> Option<Effect>
 }
 
 /// A whole expression statement or a clause of a `for`, from what is found of the expression.
-pub fn effect(
-    alloc: Global,
-    expression: &Expression<'_>,
-    found: Found,
-) -> Result<Judged<Effect>, AllocError>
-    ensures { IfOk result (λ r. (s : s.Scope) → judged_of effect_of r s ≡ squeezed_part
-        (w.effect_judged (tree.expression_of expression.now) (found_of found s))) }
+pub fn effect(expression: &Expression<'_>, found: Found) -> Judged<Effect>
+    ensures { (s : s.Scope) → judged_of effect_of result s ≡ squeezed_part
+        (w.effect_judged (tree.expression_of expression.now) (found_of found s)) }
 {
     let own = effect_fault(expression, kind_found(&found.value));
     let fault = after(found.fault, own);
-    let value = whole(alloc, effect_in(found.value))?;
-    Ok(Judged { fault, value })
+    let value = whole(effect_in(found.value));
+    Judged { fault, value }
 }

@@ -4,9 +4,18 @@ use crate::declarations::specifier::Specifier;
 use mc_span::Span;
 
 /// A declaration that is not a function definition (C17 6.7).
-#[derive(Drop)]
 pub struct Declaration<'a> {
     pub specifiers: Vec<Specifier<'a>>,
     pub declarators: Vec<InitDeclarator<'a>>,
     pub span: Span,
+}
+
+impl Drop for Declaration<'_> {
+    fn drop(self) {
+        let Self {
+            specifiers: _,
+            declarators: _,
+            span: _,
+        } = self;
+    }
 }

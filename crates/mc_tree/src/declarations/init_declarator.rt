@@ -3,7 +3,6 @@ use crate::declarations::declarator::Declarator;
 use crate::declarations::initializer::Initializer;
 
 /// A declarator, perhaps with an initializer (C17 6.7).
-#[derive(Drop)]
 pub enum InitDeclarator<'a> {
     Bare {
         declarator: Declarator<'a>,
@@ -12,4 +11,16 @@ pub enum InitDeclarator<'a> {
         declarator: Declarator<'a>,
         value: Initializer<'a>,
     },
+}
+
+impl Drop for InitDeclarator<'_> {
+    fn drop(self) {
+        match self {
+            InitDeclarator::Bare { declarator: _ }
+            | InitDeclarator::Initialized {
+                declarator: _,
+                value: _,
+            } => {}
+        }
+    }
 }

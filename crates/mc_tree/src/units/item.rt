@@ -6,7 +6,6 @@ use crate::statements::block_item::BlockItem;
 use mc_span::Span;
 
 /// A declaration or a function definition (C17 6.9).
-#[derive(Drop)]
 pub enum Item<'a> {
     Declared {
         declaration: Declaration<'a>,
@@ -17,4 +16,18 @@ pub enum Item<'a> {
         body: Vec<BlockItem<'a>>,
         span: Span,
     },
+}
+
+impl Drop for Item<'_> {
+    fn drop(self) {
+        match self {
+            Item::Declared { declaration: _ }
+            | Item::Defined {
+                specifiers: _,
+                declarator: _,
+                body: _,
+                span: _,
+            } => {}
+        }
+    }
 }

@@ -1,13 +1,12 @@
+use Rattle.std.proofs.Common.{◌∙◌}
 use Rattle.mc_tree.specs.Views.{expression_of}
-use Rattle.mc_typed.specs.Views.{effect_of}
 use Rattle.mc_scopes.specs.Views.{scope_of}
-use Rattle.mc_scopes.specs.Found.{found_of, judged_of}
-use Rattle.mc_types.proofs.Exits.{found_with}
+use Rattle.mc_scopes.specs.Found.{found_of}
 use Rattle.mc_types.proofs.StatementArms.{in_effect}
 use Rattle.mc_types.proofs.statements.effect.Goals as goal
 
 pub returns : goal.returns
 returns c =
     let u = scope_of c.expression.new.scope in
-    found_with c.effect.result (λ z v. judged_of effect_of z v) u _ _ c.effect.ensures
-    (in_effect (expression_of c.args.tree.now) (scope_of c.args.scope.now) (found_of c.in_ok-found.found u) c.in_ok-found.ensures)
+    c.effect.ensures u
+    ∙ in_effect (expression_of c.args.tree.now) (scope_of c.args.scope.now) (found_of c.in_ok-found.found u) c.in_ok-found.ensures
