@@ -7,7 +7,6 @@ use crate::int_type::IntType;
 use std::sync::Arc;
 
 /// The type of an object (C17 6.2.5). Types that are made of one type share it.
-#[derive(Drop)]
 pub enum ObjType {
     /// A scalar.
     Int(IntType),
@@ -21,6 +20,22 @@ pub enum ObjType {
         number: u32,
         members: Arc<Vec<ObjType>>,
     },
+}
+
+impl Drop for ObjType {
+    fn drop(self) {
+        match self {
+            ObjType::Int(_)
+            | ObjType::Array {
+                element: _,
+                length: _,
+            }
+            | ObjType::Struct {
+                number: _,
+                members: _,
+            } => {}
+        }
+    }
 }
 
 /// How many scalars an object of the type consists of.
