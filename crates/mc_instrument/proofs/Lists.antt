@@ -18,7 +18,7 @@ module _ {S T Q C : Type 0} (put : S → T → Q) (after : T → S → S) (plain
     pub copied : map probed copies ++ put_list put after s (map plain (drop i trees)) ≡ put_list put after start (map plain trees)
     pub counted : last put after s (map plain (drop i trees)) ≡ last put after start (map plain trees)
 
-  pub split : (xs : List C) (i : ℕ) (x : C) → i < length xs → x ≡ get_or xs i x → drop i xs ≡ x ∷ drop (i + 1) xs
+  split : (xs : List C) (i : ℕ) (x : C) → i < length xs → x ≡ get_or xs i x → drop i xs ≡ x ∷ drop (i + 1) xs
   split xs i x lt is = drop_more xs i x lt ∙ ap (λ (y : C). y ∷ drop (i + 1) xs) (sym is)
 
   pub begin : (copies trees : List C) (start : S) → copies ≡ [] → Left copies start trees 0 start

@@ -33,6 +33,10 @@ pub fn closing_exit(counter: &mut u32, body: &[Statement]) -> Result<Option<u32>
 }
 
 /// The bit of a declaration, which has one where it initializes something.
+///
+/// # Errors
+///
+/// `AllocError` at the end of the type of a bit.
 pub fn declaration_bit(
     counter: &mut u32,
     declarators: &[Declarator],
@@ -41,7 +45,8 @@ pub fn declaration_bit(
         ≡ (if points.initializes (map plain.declarator_of declarators.now)
         then Some counter.old else None)) }
     ensures more { IfOk result (λ _. counter.new ≡ counter.old
-        + (points.where_counted (points.initializes (map plain.declarator_of declarators.now))).statements) }
+        + (points.where_counted
+        (points.initializes (map plain.declarator_of declarators.now))).statements) }
     ensures no_exit { (points.where_counted
         (points.initializes (map plain.declarator_of declarators.now))).exits ≡ 0 }
     ensures no_label { (points.where_counted
@@ -55,6 +60,10 @@ pub fn declaration_bit(
 }
 
 /// The probe of a `default` that is absent.
+///
+/// # Errors
+///
+/// `AllocError` at the end of the type of a bit.
 pub fn absent_mark(
     label: &mut u32,
     register: u32,
@@ -72,7 +81,8 @@ pub fn absent_mark(
     ensures no_exit { (points.where_absent
         (points.has_default (plain.statements_from (map plain.statement_of items.now)))).exits ≡ 0 }
     ensures no_statement { (points.where_absent
-        (points.has_default (plain.statements_from (map plain.statement_of items.now)))).statements ≡ 0 }
+        (points.has_default (plain.statements_from (map plain.statement_of items.now)))).statements
+        ≡ 0 }
 {
     if has_default(items) {
         return Ok(None);
