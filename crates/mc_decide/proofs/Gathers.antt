@@ -1,32 +1,27 @@
 -- The walk gathers the decisions, up to the first that is too large.
-use Rattle.std.proofs.Common.{◌≡◌, ◌∙◌, refl, sym, ap, subst, ℕ, ◌+◌, ◌<◌, ◌≤◌, Bool, true, false, List, [], ◌∷◌, ◌++◌, map, length, take, append_assoc, if◌then◌else◌, nat_lt, Option, Some, None, All, ltb-true, lt-ltb, le-ltb, inl, Result, Ok, Err, Vec, Global, IfOk, IfErr}
+use Rattle.std.proofs.Common.{◌≡◌, ◌∙◌, refl, sym, ap, subst, ℕ, ◌+◌, ◌<◌, ◌≤◌, Bool, true, false, List, [], ◌∷◌, ◌++◌, map, length, take, append_assoc, if◌then◌else◌, nat_lt, Option, Some, None, All, ltb-true, inl, Result, Ok, Err, Vec, Global, IfOk, IfErr}
 use Rattle.std.proofs.lemmas.Bool.{ltb-false}
 use Rattle.std.proofs.lemmas.List.{append-nil, take_at, map_push}
 use Rattle.std.proofs.lemmas.List.Elements.{All-nil, All-cons, All-head, All-tail, All-push}
 use Rattle.mc_cond.specs.Tree.{tree_of, IsNumbered}
 use Rattle.mc_typed.specs.Levels.{limited}
 use Rattle.mc_typed.specs.Tree as t
-use Rattle.mc_decide.specs.declared.role.Role.{Role}
-use Rattle.mc_decide.specs.declared.role.Role.TheVariants.{Test, Inner, Plain}
-use Rattle.mc_decide.specs.declared.decision.Decision as code
-use Rattle.mc_decide.specs.declared.roots.gathered.Gathered as code_gathered
-use Rattle.mc_decide.specs.declared.fault.DecideFault.{DecideFault}
-use Rattle.mc_decide.specs.Nodes.{Node, Constant, Not, Logic, Expression, Whole, Parts, no_parts, part, test}
-use Rattle.mc_decide.specs.Nodes as n
-use Rattle.mc_decide.specs.Roots.{is_constant, is_boolean, is_candidate}
-use Rattle.mc_decide.specs.Conditions.{width}
-use Rattle.mc_decide.specs.Decisions.{Decision, AreDecisions, IsSmall}
-use Rattle.mc_decide.specs.Seen.{decision_of, IsFault}
-use Rattle.mc_decide.specs.steps.Walk as w
-use Rattle.mc_decide.specs.steps.Walk.{decision, decided, IsLargeAmong}
-use Rattle.mc_decide.specs.steps.Gathering.{Gathered, gathered_of, begun, grown, stopped, sized, added, cut, is_taken, pushed, kept, entered, inside, inside_parts, visited, in_function, in_functions}
-use Rattle.mc_decide.proofs.Trees.{length_spans, numbered, over, not_over}
-use Rattle.mc_decide.proofs.Told.{are_decisions, first_later, large_more, fault_of_all}
-
-pub taken : (role : Role) (a : Node) → is_taken role (is_boolean a) ≡ is_candidate role a
-taken Test a = refl
-taken Inner a = refl
-taken Plain a = refl
+use Rattle.mc_roots.specs.declared.role.Role.{Role}
+use Rattle.mc_roots.specs.declared.role.Role.TheVariants.{Test, Inner, Plain}
+use Rattle.mc_roots.specs.declared.decision.Decision as code
+use Rattle.mc_gather.specs.declared.gathered.Gathered as code_gathered
+use Rattle.mc_roots.specs.declared.fault.DecideFault.{DecideFault}
+use Rattle.mc_roots.specs.Nodes.{Node, Constant, Not, Logic, Expression, Whole, Parts, no_parts, part, test}
+use Rattle.mc_roots.specs.Nodes as n
+use Rattle.mc_roots.specs.Roots.{is_constant, is_candidate}
+use Rattle.mc_roots.specs.Conditions.{width}
+use Rattle.mc_roots.specs.Decisions.{Decision, AreDecisions, IsSmall}
+use Rattle.mc_roots.specs.Seen.{decision_of, IsFault}
+use Rattle.mc_roots.specs.steps.Walk as w
+use Rattle.mc_roots.specs.steps.Walk.{decision, decided, IsLargeAmong}
+use Rattle.mc_gather.specs.steps.Gathering.{Gathered, gathered_of, begun, sized, added, cut, pushed, kept, entered, inside, inside_parts, visited, in_function, in_functions}
+use Rattle.mc_roots.proofs.Trees.{length_spans, numbered}
+use Rattle.mc_roots.proofs.Told.{are_decisions, first_later, large_more, fault_of_all}
 
 -- ---- what was gathered before stays at the front
 
@@ -99,18 +94,6 @@ settles old now new role a count fault true e0 e1 e2 e3 e4 =
     ∙ ap (λ (b : Bool). kept b old (inside a (entered role a old))) e3))))
 settles old now new role a count fault false e0 e1 e2 e3 e4 =
     e4 ∙ (e2 ∙ ap (λ (b : Bool). kept b old (inside a (entered role a old))) e3)
-
--- ---- one decision more, or the first that is too large
-
-pub stops : (a : Node) (old new : Gathered) (at count : ℕ) → at ≡ (n.span_of a).start → count ≡ limited (width a) → 64 < count → new ≡ stopped at count old → new ≡ sized (nat_lt 64 (width a)) a old
-stops a old new at count e0 e1 lt e =
-    e ∙ (ap (λ (k : ℕ). stopped k count old) e0
-    ∙ (ap (λ (k : ℕ). stopped (n.span_of a).start k old) e1
-    ∙ ap (λ (b : Bool). sized b a old) (sym (lt-ltb 64 (width a) (over (width a) count e1 lt)))))
-
-pub grows : (a : Node) (old new : Gathered) (count : ℕ) → count ≡ limited (width a) → count ≤ 64 → new ≡ grown a old → new ≡ sized (nat_lt 64 (width a)) a old
-grows a old new count e0 le e =
-    e ∙ ap (λ (b : Bool). sized b a old) (sym (le-ltb 64 (width a) (not_over (width a) count e0 le)))
 
 -- ---- what is gathered of decisions
 

@@ -1,10 +1,1 @@
-pub mod Listed
-pub mod Walked
-pub mod Only
-pub mod Each
-pub mod Ordered
-pub mod Trees
-pub mod Told
 pub mod Gathers
-pub mod Once
-pub mod InOrder

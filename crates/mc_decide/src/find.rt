@@ -2,12 +2,12 @@
 ghost use Rattle.std.specs.Prelude.{◌≡◌, ◌<◌, ◌^◌, map, length, All, IfOk, IfErr, Some, None};
 ghost use Rattle.mc_cond.specs.Tree.{tree_of, IsNumbered};
 ghost use Rattle.mc_typed.specs.Views.{function_of, program_of};
-ghost use Rattle.mc_decide.specs.Decisions.{AreDecisions};
-ghost use Rattle.mc_decide.specs.Seen.{decision_of, IsFault};
+ghost use Rattle.mc_roots.specs.Decisions.{AreDecisions};
+ghost use Rattle.mc_roots.specs.Seen.{decision_of, IsFault};
 
-use crate::decision::Decision;
-use crate::fault::DecideFault;
-use crate::roots::{Gathered, functions as walk, nothing};
+use crate::roots::functions as walk;
+use mc_gather::{answer, nothing};
+use mc_roots::{DecideFault, Decision};
 use mc_typed::{Function, Program};
 use std::alloc::Global;
 
@@ -42,25 +42,6 @@ pub fn decisions_of(alloc: Global, functions: &[Function<'_>]) -> Result<Vec<Dec
         Err(_) => {
             drop(found);
             Err(DecideFault::OutOfMemory)
-        }
-    }
-}
-
-/// What was found, or why it is refused.
-fn answer(found: Gathered) -> Result<Vec<Decision>, DecideFault>
-    ensures decisions { IfOk result (λ ds. found.fault ≡ None × ds ≡ found.decisions) }
-    ensures refused { IfErr result (λ fault. found.fault ≡ Some fault) }
-{
-    let Gathered {
-        decisions,
-        fault,
-        ..
-    } = found;
-    match fault {
-        None => Ok(decisions),
-        Some(fault) => {
-            drop(decisions);
-            Err(fault)
         }
     }
 }

@@ -1,17 +1,15 @@
 //! The walk over the functions of a program.
 ghost use Rattle.std.specs.Prelude.{◌≡◌, ◌<◌, ◌^◌, length, map, IfOk};
 ghost use Rattle.mc_typed.specs.Views.{function_of};
-ghost use Rattle.mc_decide.specs.Nodes as n;
-ghost use Rattle.mc_decide.specs.steps.Gathering.{gathered_of, in_function, in_functions, inside};
+ghost use Rattle.mc_roots.specs.Nodes as n;
+ghost use Rattle.mc_gather.specs.steps.Gathering.{gathered_of, in_function, in_functions, inside};
 
-mod candidates;
 mod effects;
 mod expressions;
-mod gathered;
 mod initializers;
 mod statements;
 
-pub(crate) use gathered::{Gathered, nothing};
+use mc_gather::Gathered;
 use mc_typed::Function;
 use std::alloc::AllocError;
 

@@ -6,14 +6,14 @@ use Rattle.mc_cond.specs.Tree.{Tree}
 use Rattle.mc_typed.specs.declared.functions.Function.{Function}
 use Rattle.mc_typed.specs.Tree as t
 use Rattle.mc_typed.specs.Views as plain
-use Rattle.mc_decide.specs.declared.role.Role.TheVariants.{Plain}
-use Rattle.mc_decide.specs.Nodes.{Node}
-use Rattle.mc_decide.specs.Nodes as n
-use Rattle.mc_decide.specs.Counts.{roots}
-use Rattle.mc_decide.specs.Decisions.{Decision, AreDecisions}
-use Rattle.mc_decide.specs.steps.Walk.{decided, decision, inside}
-use Rattle.mc_decide.proofs.Once.{one_list}
-use Rattle.mc_decide.proofs.Told.{are_decisions}
+use Rattle.mc_roots.specs.declared.role.Role.TheVariants.{Plain}
+use Rattle.mc_roots.specs.Nodes.{Node}
+use Rattle.mc_roots.specs.Nodes as n
+use Rattle.mc_roots.specs.Counts.{roots}
+use Rattle.mc_roots.specs.Decisions.{Decision, AreDecisions}
+use Rattle.mc_roots.specs.steps.Walk.{decided, decision, inside}
+use Rattle.mc_roots.proofs.Once.{one_list}
+use Rattle.mc_roots.proofs.Told.{are_decisions}
 use Rattle.mc_meaning.proofs.Decided.{decided_trees}
 use Rattle.mc_meaning.proofs.Numbered.{trees, trees_length}
 use Rattle.mc_steps.specs.Points.{Points, ◌⊕◌, no_points, points_of_function}

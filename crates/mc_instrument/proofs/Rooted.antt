@@ -2,13 +2,13 @@
 use Rattle.std.proofs.Common.{◌≡◌, ◌∙◌, refl, sym, ap, ℕ, ◌+◌, Bool, true, false, ◌||◌, if◌then◌else◌, arith}
 use Rattle.mc_typed.specs.declared.probes.Probe.TheVariants as probe
 use Rattle.mc_typed.specs.Tree as t
-use Rattle.mc_decide.specs.declared.role.Role.{Role}
-use Rattle.mc_decide.specs.declared.role.Role.TheVariants.{Test, Inner, Plain}
-use Rattle.mc_decide.specs.Nodes.{Node, Constant, Not, Logic, Expression, Whole}
-use Rattle.mc_decide.specs.Nodes as n
-use Rattle.mc_decide.specs.Roots.{is_root, is_inner}
-use Rattle.mc_decide.specs.Conditions.{width}
-use Rattle.mc_decide.specs.Counts.{one_where, roots, roots_in}
+use Rattle.mc_roots.specs.declared.role.Role.{Role}
+use Rattle.mc_roots.specs.declared.role.Role.TheVariants.{Test, Inner, Plain}
+use Rattle.mc_roots.specs.Nodes.{Node, Constant, Not, Logic, Expression, Whole}
+use Rattle.mc_roots.specs.Nodes as n
+use Rattle.mc_roots.specs.Roots.{is_root, is_inner}
+use Rattle.mc_roots.specs.Conditions.{width}
+use Rattle.mc_roots.specs.Counts.{one_where, roots, roots_in}
 use Rattle.mc_probe.specs.Maps.{Map}
 use Rattle.mc_probe.specs.Table.{Stand, Loose, InTree, base_of, mapped, round_condition, wrap, put, put_place, put_call, beside, role_of, plain_roots, test_roots}
 use Rattle.mc_probe.specs.Tree as p

@@ -4,8 +4,8 @@ ghost use Rattle.mc_cond.specs.Tree as c;
 ghost use Rattle.mc_typed.specs.Plans.{Fits, Plan};
 ghost use Rattle.mc_typed.specs.Sound.{IsSound};
 ghost use Rattle.mc_typed.specs.Views.{program_of};
-ghost use Rattle.mc_decide.specs.Decisions.{AreDecisions};
-ghost use Rattle.mc_decide.specs.Seen.{decision_of};
+ghost use Rattle.mc_roots.specs.Decisions.{AreDecisions};
+ghost use Rattle.mc_roots.specs.Seen.{decision_of};
 ghost use Rattle.mc_meaning.specs.Tests.{plain_run};
 ghost use Rattle.mc_probe.specs.BitMaps.{map_of};
 ghost use Rattle.mc_probe.specs.Erase.{erase};
@@ -17,9 +17,9 @@ ghost use Rattle.mc_map.specs.Faults.{HasFewPaths, IsFault};
 
 use crate::copies::functions::all_functions;
 use mc_bare::{all_structures, static_objects};
-use mc_decide::Decision;
 use mc_map::{InstrumentFault, map_of_bits};
 use mc_probe::{BitMap, Instrumented};
+use mc_roots::Decision;
 use mc_typed::Program;
 use std::alloc::{AllocError, Global};
 

@@ -2,7 +2,7 @@
 use Rattle.std.proofs.Common.{◌≡◌, ◌∙◌, sym, ap, subst, ℕ, ◌+◌, ◌<◌, ◌≤◌, min, List, [], ◌∷◌, map, length, All, arith}
 use Rattle.mc_span.specs.declared.span.Span.{Span}
 use Rattle.mc_typed.specs.Tree as t
-use Rattle.mc_decide.specs.Decisions.{Decision, AreDecisions}
+use Rattle.mc_roots.specs.Decisions.{Decision, AreDecisions}
 use Rattle.mc_probe.specs.declared.mapped.MappedDecision.{MappedDecision}
 use Rattle.mc_probe.specs.Mapped.{mapped_of}
 use Rattle.mc_probe.specs.Maps.{Mapped, IsMapOf, AreBased, ArePlaced}

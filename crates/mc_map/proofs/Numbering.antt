@@ -5,11 +5,11 @@ use Rattle.std.proofs.lemmas.List.Elements.{All-nil, All-cons, All-head, All-tai
 use Rattle.mc_cond.specs.Tree.{tree_of, size, IsNumbered}
 use Rattle.mc_paths.specs.Paths.{count_of}
 use Rattle.mc_typed.specs.Tree.{Function}
-use Rattle.mc_decide.specs.declared.decision.Decision as code
-use Rattle.mc_decide.specs.Roots.{Found}
-use Rattle.mc_decide.specs.Decisions.{Decision, Tells, AreTold, AreDecisions}
-use Rattle.mc_decide.specs.Seen.{decision_of}
-use Rattle.mc_decide.proofs.Trees.{size_of_tree}
+use Rattle.mc_roots.specs.declared.decision.Decision as code
+use Rattle.mc_roots.specs.Roots.{Found}
+use Rattle.mc_roots.specs.Decisions.{Decision, Tells, AreTold, AreDecisions}
+use Rattle.mc_roots.specs.Seen.{decision_of}
+use Rattle.mc_roots.proofs.Trees.{size_of_tree}
 use Rattle.mc_probe.specs.declared.mapped.MappedDecision.{MappedDecision}
 use Rattle.mc_probe.specs.Mapped.{mapped_of}
 use Rattle.mc_probe.specs.Maps.{Mapped, AreBased}

@@ -2,7 +2,7 @@
 use Rattle.std.specs.Prelude.{◌≡◌, ℕ, ◌+◌, ◌-◌, ◌<◌, ◌≤◌, ◌^◌, ◌⊎◌, min, List, [], ◌∷◌, length, All}
 use Rattle.mc_paths.specs.Paths.{count_of}
 use Rattle.mc_typed.specs.Tree.{Program}
-use Rattle.mc_decide.specs.Decisions.{Decision}
+use Rattle.mc_roots.specs.Decisions.{Decision}
 use Rattle.mc_probe.specs.Obligations.{entries_of, exits_of, statements_of, labels_of}
 use Rattle.mc_map.specs.declared.fault.InstrumentFault.{InstrumentFault}
 use Rattle.mc_map.specs.declared.fault.InstrumentFault.TheVariants.{TooManyPaths, TooManyBits, OutOfMemory}

@@ -1,9 +1,9 @@
 //! Which expressions are roots of decisions.
 ghost use Rattle.std.specs.Prelude.{◌≡◌};
 ghost use Rattle.mc_typed.specs.Views.{expression_of};
-ghost use Rattle.mc_decide.specs.Nodes.{expression, is_comparison};
-ghost use Rattle.mc_decide.specs.Roots as roots;
-ghost use Rattle.mc_decide.specs.declared.role.Role.TheVariants as role;
+ghost use Rattle.mc_roots.specs.Nodes.{expression, is_comparison};
+ghost use Rattle.mc_roots.specs.Roots as roots;
+ghost use Rattle.mc_roots.specs.declared.role.Role.TheVariants as role;
 
 use crate::constants::is_constant;
 use mc_typed::{Expression, Operator};

@@ -2,16 +2,16 @@
 ghost use Rattle.std.specs.Prelude.{◌≡◌, ◌+◌, ◌-◌, ◌<◌, ◌≤◌, ◌^◌, ◌++◌, ◌∷◌, [], min, map, length, All, IfOk, IfErr};
 ghost use Rattle.mc_cond.specs.Tree.{tree_of, size, IsNumbered};
 ghost use Rattle.mc_paths.specs.Paths.{count_of};
-ghost use Rattle.mc_decide.specs.Seen.{decision_of};
+ghost use Rattle.mc_roots.specs.Seen.{decision_of};
 ghost use Rattle.mc_probe.specs.Maps as maps;
 ghost use Rattle.mc_probe.specs.Mapped.{mapped_of};
 ghost use Rattle.mc_map.specs.Faults.{most_bits, paths_of, HasFewPaths};
 ghost use Rattle.mc_map.specs.steps.Numbered.{based, IsOne, IsRefused, IsReady};
 
 use crate::fault::InstrumentFault;
-use mc_decide::Decision;
 use mc_paths::{NumberFault, Numbering, number};
 use mc_probe::MappedDecision;
+use mc_roots::Decision;
 use std::alloc::{AllocError, Global};
 
 /// How many bits a program has at most.

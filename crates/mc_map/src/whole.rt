@@ -2,8 +2,8 @@
 ghost use Rattle.std.specs.Prelude.{◌≡◌, ◌+◌, ◌-◌, ◌^◌, min, map, length, All, IfOk, IfErr};
 ghost use Rattle.mc_cond.specs.Tree as c;
 ghost use Rattle.mc_typed.specs.Views.{program_of};
-ghost use Rattle.mc_decide.specs.Decisions.{AreDecisions};
-ghost use Rattle.mc_decide.specs.Seen.{decision_of};
+ghost use Rattle.mc_roots.specs.Decisions.{AreDecisions};
+ghost use Rattle.mc_roots.specs.Seen.{decision_of};
 ghost use Rattle.mc_probe.specs.BitMaps.{map_of};
 ghost use Rattle.mc_probe.specs.Maps.{IsMapOf};
 ghost use Rattle.mc_map.specs.Faults.{HasFewPaths, IsFault};
@@ -11,8 +11,8 @@ ghost use Rattle.mc_map.specs.Faults.{HasFewPaths, IsFault};
 use crate::fault::InstrumentFault;
 use crate::mapped::{MOST_BITS, number_decisions};
 use crate::places::{Places, list_places};
-use mc_decide::Decision;
 use mc_probe::BitMap;
+use mc_roots::Decision;
 use mc_typed::Program;
 use std::alloc::Global;
 

@@ -2,8 +2,8 @@
 use Rattle.std.proofs.Common.{◌≡◌, ◌∙◌, refl, ap, Bool, true, false, ◌&&◌}
 use Rattle.mc_typed.specs.Tree.{Expression}
 use Rattle.mc_typed.specs.Tree as t
-use Rattle.mc_decide.specs.Nodes as n
-use Rattle.mc_decide.specs.Roots as roots
+use Rattle.mc_roots.specs.Nodes as n
+use Rattle.mc_roots.specs.Roots as roots
 use Rattle.mc_steps.specs.Points.{is_constant}
 use Rattle.mc_meaning.specs.Laws.{ConstantsAgree}
 

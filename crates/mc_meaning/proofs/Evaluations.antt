@@ -5,18 +5,18 @@ use Rattle.mc_cond.specs.Tree.{Tree, Leaf}
 use Rattle.mc_cond.specs.Vectors.{IsVector}
 use Rattle.mc_typed.specs.Tree.{Place, Expression, StructureValue, FunctionCall, Argument, Arguments, Effect, Initializer, Initializers, Declarator, ForStart, ReturnValue, Statement, Statements, Function, Program}
 use Rattle.mc_typed.specs.Tree as t
-use Rattle.mc_decide.specs.declared.role.Role.{Role}
-use Rattle.mc_decide.specs.declared.role.Role.TheVariants.{Test, Plain}
-use Rattle.mc_decide.specs.Nodes.{Node, Parts}
-use Rattle.mc_decide.specs.Nodes as n
-use Rattle.mc_decide.specs.Roots.{is_root, operand_role}
-use Rattle.mc_decide.specs.Conditions.{tree_from}
+use Rattle.mc_roots.specs.declared.role.Role.{Role}
+use Rattle.mc_roots.specs.declared.role.Role.TheVariants.{Test, Plain}
+use Rattle.mc_roots.specs.Nodes.{Node, Parts}
+use Rattle.mc_roots.specs.Nodes as n
+use Rattle.mc_roots.specs.Roots.{is_root, operand_role}
+use Rattle.mc_roots.specs.Conditions.{tree_from}
 use Rattle.mc_steps.specs.Runs.{State, Out, Gave, Stopped, gives, after, go_on}
 use Rattle.mc_steps.specs.Expressions.{unary_does, convert_does, binary_does, logic_does, choice_does, as_does, input_does, read_does}
 use Rattle.mc_steps.specs.Calls.{Passed, number_given, structure_given}
 use Rattle.mc_meaning.specs.Stores.{Path, Store, on_places}
 use Rattle.mc_steps.specs.Events.{Event, Entered, Exited, Started, Chosen, Evaluated}
-use Rattle.mc_decide.specs.Counts.{one_where, roots}
+use Rattle.mc_roots.specs.Counts.{one_where, roots}
 use Rattle.mc_meaning.specs.Expressions.{Does, Within, Judged, past, into, value, as_condition, negated, holds, first_alone, both, tells, where_root, condition, place_of, value_of, structure_of, call_of, argument_of, arguments_of, target}
 use Rattle.mc_meaning.proofs.Runs.{IsGiven, Gives}
 use Rattle.mc_meaning.proofs.Vectors.{IsOf, condition_is, not_gives, logic_gives, value_is}

@@ -11,7 +11,7 @@ use Rattle.mc_steps.specs.Calls.{Passed, Target, lent_of, passed_to, leaves, cal
 use Rattle.mc_steps.specs.Points.{Points, ◌⊕◌, points_of_all, points_before}
 use Rattle.mc_meaning.specs.Stores.{Path, Store, put, on_places}
 use Rattle.mc_steps.specs.Events.{Entered, Exited}
-use Rattle.mc_decide.specs.Counts.{roots_before}
+use Rattle.mc_roots.specs.Counts.{roots_before}
 use Rattle.mc_meaning.specs.Expressions.{Does}
 use Rattle.mc_meaning.specs.Statements.{run_from}
 

@@ -7,12 +7,12 @@ use Rattle.mc_cond.specs.Vectors.{Evaluation}
 use Rattle.mc_typed.specs.declared.expressions.Slot.{Slot}
 use Rattle.mc_typed.specs.Tree.{Place, Expression, StructureValue, FunctionCall, Argument, Arguments}
 use Rattle.mc_typed.specs.Tree as t
-use Rattle.mc_decide.specs.declared.role.Role.{Role}
-use Rattle.mc_decide.specs.declared.role.Role.TheVariants.{Test, Plain}
-use Rattle.mc_decide.specs.Nodes.{Node}
-use Rattle.mc_decide.specs.Nodes as n
-use Rattle.mc_decide.specs.Roots.{is_root, operand_role}
-use Rattle.mc_decide.specs.Conditions.{width}
+use Rattle.mc_roots.specs.declared.role.Role.{Role}
+use Rattle.mc_roots.specs.declared.role.Role.TheVariants.{Test, Plain}
+use Rattle.mc_roots.specs.Nodes.{Node}
+use Rattle.mc_roots.specs.Nodes as n
+use Rattle.mc_roots.specs.Roots.{is_root, operand_role}
+use Rattle.mc_roots.specs.Conditions.{width}
 use Rattle.mc_steps.specs.Runs.{Acts, gives, lists, after}
 use Rattle.mc_steps.specs.Memories.{Lent}
 use Rattle.mc_steps.specs.Expressions.{is_true, item_does, lent_item_does, member_does, read_does, unary_does, convert_does, binary_does, logic_does, choice_does, as_does, input_does}
@@ -21,7 +21,7 @@ use Rattle.mc_steps.specs.Calls.{Passed, Target, structure_argument_does, number
 use Rattle.mc_steps.specs.Points.{Points}
 use Rattle.mc_meaning.specs.Stores.{Path, Store, on_places}
 use Rattle.mc_steps.specs.Events.{Event, Evaluated}
-use Rattle.mc_decide.specs.Counts.{one_where, roots}
+use Rattle.mc_roots.specs.Counts.{one_where, roots}
 
 abbrev pub Does : Type 0 → Type 0
 Does A = Acts Store Event A

@@ -3,8 +3,8 @@ use Rattle.std.specs.Prelude.{ℕ, suc, Bool, true, false, List, [], ◌∷◌, 
 use Rattle.mc_typed.specs.Tree.{Expression, Effect, Initializer, Initializers, Declarator, ForStart, ReturnValue, Statement, Statements}
 use Rattle.mc_typed.specs.Tree as t
 use Rattle.mc_typed.specs.Sound.{labels_of}
-use Rattle.mc_decide.specs.declared.role.Role.TheVariants.{Test, Plain}
-use Rattle.mc_decide.specs.Nodes as n
+use Rattle.mc_roots.specs.declared.role.Role.TheVariants.{Test, Plain}
+use Rattle.mc_roots.specs.Nodes as n
 use Rattle.mc_steps.specs.Runs.{gives, lists, after}
 use Rattle.mc_steps.specs.Expressions.{assign_does, update_does, copy_does, choice_does, drop_does, both_do, output_does}
 use Rattle.mc_steps.specs.Statements.{Given, Nothing, Number, Structure, Flow, Completed, Broke, Continued, Left, Seek, Running, counted_does, effect_does, if_does, loop_does, do_does, absent_test, test_does, label_does, item_runs, switch_does}

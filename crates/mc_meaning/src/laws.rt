@@ -12,7 +12,7 @@ pub fn evaluations_are_of_decisions()
     ensures { EvaluationsAreOfDecisions }
 {}
 
-/// The integer constant expressions of `mc_steps` are those of `mc_decide`.
+/// The integer constant expressions of `mc_steps` are those of `mc_roots`.
 pub fn constants_agree()
     ensures { ConstantsAgree }
 {}

@@ -10,9 +10,9 @@ use Rattle.mc_typed.specs.Tree.{ResultType, NoResult, NumberResult, StructureRes
 use Rattle.mc_typed.specs.Tree as t
 use Rattle.mc_typed.specs.Sound.{IsSound, IsFunction, AreFunctions, scope_of, outermost, labels_of, result_at}
 use Rattle.mc_typed.specs.Plans.{Call, Plan}
-use Rattle.mc_decide.specs.declared.role.Role.TheVariants.{Test, Plain}
-use Rattle.mc_decide.specs.Nodes as n
-use Rattle.mc_decide.specs.Counts.{roots_before}
+use Rattle.mc_roots.specs.declared.role.Role.TheVariants.{Test, Plain}
+use Rattle.mc_roots.specs.Nodes as n
+use Rattle.mc_roots.specs.Counts.{roots_before}
 use Rattle.mc_steps.specs.Events.{Event, Entered, Exited, Started, Chosen, Evaluated}
 use Rattle.mc_steps.specs.Runs.{State, Out, Gave, Stopped, Run, go_on, gives, stops, lists, after, with_some, changes}
 use Rattle.mc_steps.specs.Statements.{Given, Nothing, Flow, Completed, Broke, Continued, Left, Seek, Running, is_absent, sought, has_label, effect_does, if_does, switch_does, test_does, do_does, loop_does, where_switch_ends}

@@ -9,7 +9,7 @@ use Rattle.mc_cond.specs.Vectors.{Evaluation, IsVector}
 use Rattle.mc_typed.specs.Tree.{Program}
 use Rattle.mc_typed.specs.Sound.{IsSound}
 use Rattle.mc_typed.specs.Plans.{Plan, Fits}
-use Rattle.mc_decide.specs.Decisions.{Decision}
+use Rattle.mc_roots.specs.Decisions.{Decision}
 use Rattle.mc_steps.specs.Events.{Event, Entered, Exited, Started, Chosen, Evaluated}
 use Rattle.mc_steps.specs.Calls.{CallDone}
 use Rattle.mc_meaning.specs.Seen.{plainly_told}

@@ -18,7 +18,7 @@ use Rattle.mc_steps.specs.Statements.{Given, Nothing, Number, Flow, Completed, B
 use Rattle.mc_steps.specs.Statements as give
 use Rattle.mc_steps.specs.Calls.{Passed, PassedNumber, TestRun, lent_of, leaves, where_left, body_does, call_does, where_returned, calls_do, value_given, number_given}
 use Rattle.mc_steps.specs.Points.{points_before}
-use Rattle.mc_decide.specs.Counts.{roots_before}
+use Rattle.mc_roots.specs.Counts.{roots_before}
 use Rattle.mc_meaning.specs.Stores.{Path, Store, put, on_places, initial}
 use Rattle.mc_meaning.specs.Expressions as plain
 use Rattle.mc_meaning.specs.Expressions.{Within}

@@ -15,13 +15,13 @@ use Rattle.mc_typed.specs.Sound.{IsSound, IsFunction, AreFunctions, scope_of, ou
 use Rattle.mc_typed.specs.Levels.{levels_of}
 use Rattle.mc_typed.specs.Frames.{frame_of}
 use Rattle.mc_typed.proofs.Places.{cells_last, count_last}
-use Rattle.mc_decide.specs.declared.role.Role.TheVariants.{Plain}
-use Rattle.mc_decide.specs.Nodes as n
-use Rattle.mc_decide.specs.Decisions.{Decision}
-use Rattle.mc_decide.specs.steps.Walk.{decided}
-use Rattle.mc_decide.specs.Counts.{roots, roots_before}
-use Rattle.mc_decide.proofs.Once.{one_list}
-use Rattle.mc_decide.proofs.Told.{are_decisions}
+use Rattle.mc_roots.specs.declared.role.Role.TheVariants.{Plain}
+use Rattle.mc_roots.specs.Nodes as n
+use Rattle.mc_roots.specs.Decisions.{Decision}
+use Rattle.mc_roots.specs.steps.Walk.{decided}
+use Rattle.mc_roots.specs.Counts.{roots, roots_before}
+use Rattle.mc_roots.proofs.Once.{one_list}
+use Rattle.mc_roots.proofs.Told.{are_decisions}
 use Rattle.mc_steps.specs.Runs.{State, Out, Gave, Stopped, Run, Acts, gives, stops, lists, after, go_on, with_some, with_fuel, spends}
 use Rattle.mc_steps.specs.Events.{Event, Entered, Exited}
 use Rattle.mc_steps.specs.Expressions.{where_true}

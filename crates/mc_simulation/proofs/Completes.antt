@@ -5,8 +5,8 @@ use Rattle.mc_value.specs.declared.int_type.IntType.{IntType}
 use Rattle.mc_typed.specs.Tree.{Expression, Effect, Declarator, ForStart, ReturnValue, Statement, Statements}
 use Rattle.mc_typed.specs.Tree as t
 use Rattle.mc_typed.specs.Sound.{Scope, Around, inside, in_loop, in_switch, IsLabel, IsStatement, AreStatements, labels_of, type_of}
-use Rattle.mc_decide.specs.declared.role.Role.TheVariants.{Test, Plain}
-use Rattle.mc_decide.specs.Nodes as n
+use Rattle.mc_roots.specs.declared.role.Role.TheVariants.{Test, Plain}
+use Rattle.mc_roots.specs.Nodes as n
 use Rattle.mc_steps.specs.Runs.{State, Out, Gave, Stopped, gives, lists, after, with_fuel}
 use Rattle.mc_steps.specs.Events.{Started}
 use Rattle.mc_steps.specs.Expressions.{is_true, where_true}

@@ -7,10 +7,10 @@ use Rattle.mc_span.specs.declared.span.Span.{Span}
 use Rattle.mc_typed.specs.declared.operators.LogicOperator.{LogicOperator}
 use Rattle.mc_typed.specs.Tree.{Expression}
 use Rattle.mc_typed.specs.Tree as t
-use Rattle.mc_decide.specs.declared.role.Role.{Role}
-use Rattle.mc_decide.specs.declared.role.Role.TheVariants.{Test, Plain}
-use Rattle.mc_decide.specs.Nodes as n
-use Rattle.mc_decide.specs.Roots.{is_root, operand_role}
+use Rattle.mc_roots.specs.declared.role.Role.{Role}
+use Rattle.mc_roots.specs.declared.role.Role.TheVariants.{Test, Plain}
+use Rattle.mc_roots.specs.Nodes as n
+use Rattle.mc_roots.specs.Roots.{is_root, operand_role}
 use Rattle.mc_steps.specs.Runs.{Out, Gave, Stopped, gives, after, with_result}
 use Rattle.mc_steps.specs.Expressions.{operated, is_true, where_true, goes_on, unary_does, convert_does, binary_does, logic_does, choice_does, as_does}
 use Rattle.mc_steps.specs.Points.{is_constant, number, on_number, logic_value, choice_value, is_nonzero, is_always}

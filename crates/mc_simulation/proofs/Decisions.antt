@@ -15,13 +15,13 @@ use Rattle.mc_typed.specs.declared.probes.Probe.TheVariants as probe
 use Rattle.mc_typed.specs.declared.operators.LogicOperator.{LogicOperator}
 use Rattle.mc_typed.specs.Layout.{Members}
 use Rattle.mc_typed.specs.Tree.{Expression}
-use Rattle.mc_decide.specs.declared.role.Role.{Role}
-use Rattle.mc_decide.specs.declared.role.Role.TheVariants.{Test, Inner, Plain}
-use Rattle.mc_decide.specs.Nodes.{Node}
-use Rattle.mc_decide.specs.Nodes as n
-use Rattle.mc_decide.specs.Roots.{is_root, is_boolean, operand_role}
-use Rattle.mc_decide.specs.Conditions.{width, tree_from, is_operator}
-use Rattle.mc_decide.specs.Counts.{one_where}
+use Rattle.mc_roots.specs.declared.role.Role.{Role}
+use Rattle.mc_roots.specs.declared.role.Role.TheVariants.{Test, Inner, Plain}
+use Rattle.mc_roots.specs.Nodes.{Node}
+use Rattle.mc_roots.specs.Nodes as n
+use Rattle.mc_roots.specs.Roots.{is_root, is_boolean, operand_role}
+use Rattle.mc_roots.specs.Conditions.{width, tree_from, is_operator}
+use Rattle.mc_roots.specs.Counts.{one_where}
 use Rattle.mc_steps.specs.Runs.{State, Out, Gave, Stopped, Run, Acts, gives, after}
 use Rattle.mc_steps.specs.Events.{Event}
 use Rattle.mc_steps.specs.Expressions.{is_true, where_true, goes_on, logic_does, as_does}

@@ -10,12 +10,12 @@ use Rattle.mc_typed.specs.Tree.{Place, Expression, StructureValue, FunctionCall,
 use Rattle.mc_typed.specs.Tree as t
 use Rattle.mc_typed.specs.Sound.{Scope, IsSlotOf, object_type_at, place_type, structure_type, structure_result, IsStructureType, result_at, Takes, IsPlace, IsExpression, IsStructure, IsEffect, AreClauses, IsInitializer, AreElements, AreMembers, IsInitial, AreDeclarators, count_of}
 use Rattle.mc_typed.proofs.Places.{here, begins, joined, block_fits}
-use Rattle.mc_decide.specs.declared.role.Role.TheVariants.{Test, Plain}
-use Rattle.mc_decide.specs.Nodes.{Node}
-use Rattle.mc_decide.specs.Nodes as n
-use Rattle.mc_decide.specs.Roots.{is_root}
-use Rattle.mc_decide.specs.Conditions.{width}
-use Rattle.mc_decide.specs.Counts.{roots}
+use Rattle.mc_roots.specs.declared.role.Role.TheVariants.{Test, Plain}
+use Rattle.mc_roots.specs.Nodes.{Node}
+use Rattle.mc_roots.specs.Nodes as n
+use Rattle.mc_roots.specs.Roots.{is_root}
+use Rattle.mc_roots.specs.Conditions.{width}
+use Rattle.mc_roots.specs.Counts.{roots}
 use Rattle.mc_steps.specs.Expressions.{drop_does, both_do}
 use Rattle.mc_steps.specs.Calls.{unset_does}
 use Rattle.mc_meaning.specs.Stores.{Path, on_places}

@@ -14,13 +14,13 @@ use Rattle.mc_typed.specs.Layout.{ObjectType, Scalar, Array, Structure, Members,
 use Rattle.mc_typed.specs.Tree.{Place, Expression, StructureValue, FunctionCall, Argument, Arguments, ParameterType, NumberParameter, StructureParameter, ArrayParameter, ResultType, NoResult, NumberResult, StructureResult, Object}
 use Rattle.mc_typed.specs.Tree as t
 use Rattle.mc_typed.specs.Sound.{Scope, IsSlotOf, cells_at, place_type, structure_type, structure_result, element_of, length_of, member_of, offset_of, result_at, parameters_at, Takes, IsPlace, IsExpression, IsStructure, IsCall, IsStructureCall, IsArgument, AreArguments}
-use Rattle.mc_decide.specs.declared.role.Role.{Role}
-use Rattle.mc_decide.specs.declared.role.Role.TheVariants.{Test, Inner, Plain}
-use Rattle.mc_decide.specs.Nodes.{Node, Parts, is_comparison}
-use Rattle.mc_decide.specs.Nodes as n
-use Rattle.mc_decide.specs.Roots.{is_root, is_boolean, operand_role}
-use Rattle.mc_decide.specs.Conditions.{width, tree_from, is_operator}
-use Rattle.mc_decide.specs.Counts.{one_where, roots}
+use Rattle.mc_roots.specs.declared.role.Role.{Role}
+use Rattle.mc_roots.specs.declared.role.Role.TheVariants.{Test, Inner, Plain}
+use Rattle.mc_roots.specs.Nodes.{Node, Parts, is_comparison}
+use Rattle.mc_roots.specs.Nodes as n
+use Rattle.mc_roots.specs.Roots.{is_root, is_boolean, operand_role}
+use Rattle.mc_roots.specs.Conditions.{width, tree_from, is_operator}
+use Rattle.mc_roots.specs.Counts.{one_where, roots}
 use Rattle.mc_steps.specs.Runs.{gives, after, with_result}
 use Rattle.mc_steps.specs.Memories.{Lent}
 use Rattle.mc_steps.specs.Events.{Event}

@@ -5,13 +5,13 @@ use Rattle.mc_typed.specs.declared.probes.Probe.TheVariants as probe
 use Rattle.mc_typed.specs.Tree as t
 use Rattle.mc_typed.specs.Sound.{Scope, Around, outermost, inside, in_loop, IsLabel, IsStatement, AreStatements, IsSound, IsFunction, AreFunctions, scope_of, type_of}
 use Rattle.mc_typed.specs.Sound as sound
-use Rattle.mc_decide.specs.declared.role.Role.{Role}
-use Rattle.mc_decide.specs.declared.role.Role.TheVariants.{Test, Inner, Plain}
-use Rattle.mc_decide.specs.Nodes.{Node}
-use Rattle.mc_decide.specs.Nodes as n
-use Rattle.mc_decide.specs.Roots.{is_root}
-use Rattle.mc_decide.specs.Conditions.{width, is_operator}
-use Rattle.mc_decide.specs.Counts.{one_where, roots, roots_in}
+use Rattle.mc_roots.specs.declared.role.Role.{Role}
+use Rattle.mc_roots.specs.declared.role.Role.TheVariants.{Test, Inner, Plain}
+use Rattle.mc_roots.specs.Nodes.{Node}
+use Rattle.mc_roots.specs.Nodes as n
+use Rattle.mc_roots.specs.Roots.{is_root}
+use Rattle.mc_roots.specs.Conditions.{width, is_operator}
+use Rattle.mc_roots.specs.Counts.{one_where, roots, roots_in}
 use Rattle.mc_steps.specs.Points.{Points, no_points, ◌⊕◌, points_of_function, has_default, initializes}
 use Rattle.mc_probe.specs.Tree as p
 use Rattle.mc_probe.specs.Maps.{Map, exit_bit, statement_bit, label_bit}

@@ -8,10 +8,10 @@ use Rattle.mc_typed.specs.Layout.{ObjectType, Scalar, Array, Structure, Members,
 use Rattle.mc_typed.specs.Tree.{Place, Expression, StructureValue, FunctionCall, Argument, Arguments, ParameterType, NumberParameter, StructureParameter, ArrayParameter, ResultType, NoResult, NumberResult, StructureResult, Object}
 use Rattle.mc_typed.specs.Tree as t
 use Rattle.mc_typed.specs.Sound.{Scope, IsSlotOf, object_type_at, cells_at, place_type, structure_type, structure_result, element_of, result_at, parameters_at, Takes, IsPlace, IsExpression, IsStructure, IsCall, IsStructureCall, IsArgument, AreArguments}
-use Rattle.mc_decide.specs.declared.role.Role.{Role}
-use Rattle.mc_decide.specs.declared.role.Role.TheVariants.{Test, Plain}
-use Rattle.mc_decide.specs.Nodes as n
-use Rattle.mc_decide.specs.Roots.{is_root, operand_role}
+use Rattle.mc_roots.specs.declared.role.Role.{Role}
+use Rattle.mc_roots.specs.declared.role.Role.TheVariants.{Test, Plain}
+use Rattle.mc_roots.specs.Nodes as n
+use Rattle.mc_roots.specs.Roots.{is_root, operand_role}
 use Rattle.mc_steps.specs.Runs.{State, Out, Gave, Stopped, Run, Acts, gives, after, go_on}
 use Rattle.mc_steps.specs.Memories.{Lent}
 use Rattle.mc_steps.specs.Events.{Event}

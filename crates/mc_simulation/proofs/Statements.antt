@@ -8,11 +8,11 @@ use Rattle.mc_typed.specs.Tree.{Expression, Declarator, ForStart, ReturnValue, S
 use Rattle.mc_typed.specs.Tree as t
 use Rattle.mc_typed.specs.Sound.{Scope, Around, inside, in_loop, IsExpression, IsStart, IsTest, IsReturn, IsLabel, IsStatement, AreStatements, AreClauses, labels_of, type_of}
 use Rattle.mc_typed.specs.Sound as sound
-use Rattle.mc_decide.specs.declared.role.Role.{Role}
-use Rattle.mc_decide.specs.declared.role.Role.TheVariants.{Test, Plain}
-use Rattle.mc_decide.specs.Nodes.{Node}
-use Rattle.mc_decide.specs.Nodes as n
-use Rattle.mc_decide.specs.Counts.{roots, roots_in}
+use Rattle.mc_roots.specs.declared.role.Role.{Role}
+use Rattle.mc_roots.specs.declared.role.Role.TheVariants.{Test, Plain}
+use Rattle.mc_roots.specs.Nodes.{Node}
+use Rattle.mc_roots.specs.Nodes as n
+use Rattle.mc_roots.specs.Counts.{roots, roots_in}
 use Rattle.mc_steps.specs.Runs.{State, Out, Gave, Stopped, Run, Acts, gives, lists, after}
 use Rattle.mc_steps.specs.Events.{Event, Exited, Started}
 use Rattle.mc_steps.specs.Expressions.{where_true}

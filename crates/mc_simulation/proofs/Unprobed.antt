@@ -8,8 +8,8 @@ use Rattle.mc_typed.specs.Tree as t
 use Rattle.mc_typed.specs.Sound.{Scope, Around, inside, in_loop, IsSlotOf, object_type_at, place_type, structure_type, structure_result, IsStructureType, result_at, IsExpression, IsStructure, IsEffect, AreClauses, IsInitializer, AreElements, AreMembers, IsInitial, IsDeclarator, AreDeclarators, count_of, IsStart, IsTest, IsReturn, IsLabel, IsStatement, AreStatements, labels_of, type_of}
 use Rattle.mc_typed.specs.Sound as sound
 use Rattle.mc_typed.proofs.Places.{here, begins, joined}
-use Rattle.mc_decide.specs.declared.role.Role.TheVariants.{Test, Plain}
-use Rattle.mc_decide.specs.Nodes as n
+use Rattle.mc_roots.specs.declared.role.Role.TheVariants.{Test, Plain}
+use Rattle.mc_roots.specs.Nodes as n
 use Rattle.mc_steps.specs.Runs.{State, gives, lists, after}
 use Rattle.mc_steps.specs.Events.{Event, Exited, Started, Chosen}
 use Rattle.mc_steps.specs.Expressions.{where_true, drop_does, both_do}

@@ -2,8 +2,8 @@
 use Rattle.std.specs.Prelude.{◌≡◌, ℕ, suc, ◌+◌, ◌<◌, ◌≤◌, ◌%◌, ◌^◌, ◌⊎◌, ℤ, true, false, List, [], ◌∷◌, length, Some, None}
 use Rattle.mc_cond.specs.Order.{Answer}
 use Rattle.mc_typed.specs.Layout.{Members}
-use Rattle.mc_decide.specs.declared.role.Role.{Role}
-use Rattle.mc_decide.specs.declared.role.Role.TheVariants.{Inner, Plain}
+use Rattle.mc_roots.specs.declared.role.Role.{Role}
+use Rattle.mc_roots.specs.declared.role.Role.TheVariants.{Inner, Plain}
 use Rattle.mc_steps.specs.Runs.{State}
 use Rattle.mc_steps.specs.Events.{Event}
 use Rattle.mc_steps.specs.Expressions.{is_true}

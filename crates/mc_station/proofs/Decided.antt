@@ -2,15 +2,15 @@
 use Rattle.std.proofs.Common.{◌≡◌, ◌∙◌, ◌≤◌, ℕ, List, codes, [], ◌∷◌, length, map, Ok, Err, All, ap, sym, subst, inl, inr, arith}
 use Rattle.std.proofs.lemmas.List.Elements.{All-nil, All-cons, All-head, All-tail, All-map}
 use Rattle.mc_cond.specs.Tree.{tree_of, size, IsNumbered}
-use Rattle.mc_decide.specs.declared.decision.Decision as code
+use Rattle.mc_roots.specs.declared.decision.Decision as code
 use Rattle.mc_typed.specs.Tree.{Function, Program}
 use Rattle.mc_probe.specs.Maps.{Map, IsMapOf}
 use Rattle.mc_map.specs.Faults.{HasFewPaths, IsFault, IsFirstWithMany}
 use Rattle.mc_map.specs.declared.fault.InstrumentFault.TheVariants.{TooManyPaths, TooManyBits}
-use Rattle.mc_decide.specs.Roots.{Found}
-use Rattle.mc_decide.specs.Decisions.{Decision, Tells, AreTold, AreDecisions, IsSmall, IsFirstLarge}
-use Rattle.mc_decide.specs.Seen.{decision_of}
-use Rattle.mc_decide.proofs.Trees.{size_of_tree}
+use Rattle.mc_roots.specs.Roots.{Found}
+use Rattle.mc_roots.specs.Decisions.{Decision, Tells, AreTold, AreDecisions, IsSmall, IsFirstLarge}
+use Rattle.mc_roots.specs.Seen.{decision_of}
+use Rattle.mc_roots.proofs.Trees.{size_of_tree}
 use Rattle.mc_lex.specs.Lines.{column_of, line_of}
 use Rattle.mc_station.specs.Reply.{refusal}
 use Rattle.mc_station.specs.Source.{Accepted, JudgesDecisions}

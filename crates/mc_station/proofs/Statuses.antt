@@ -7,7 +7,7 @@ use Rattle.mc_lex.specs.Tokens.{Tok}
 use Rattle.mc_tree.specs.Tree.{Item}
 use Rattle.mc_typed.specs.Tree.{Program}
 use Rattle.mc_typed.specs.Plans.{Plan}
-use Rattle.mc_decide.specs.Decisions.{Decision}
+use Rattle.mc_roots.specs.Decisions.{Decision}
 use Rattle.mc_port.specs.Store.{Files}
 use Rattle.mc_station.specs.Calls as calls
 use Rattle.mc_station.specs.Calls.{Answers, Fails, Leads, Requests}

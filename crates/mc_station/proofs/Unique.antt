@@ -12,8 +12,8 @@ use Rattle.mc_typed.specs.Plans.{Plan}
 use Rattle.mc_faults.specs.declared.fault.Fault.{Fault}
 use Rattle.mc_typing.specs.Typing.{faults_of}
 use Rattle.mc_paths.specs.Paths.{count_of}
-use Rattle.mc_decide.specs.Decisions.{AreDecisions, Decision, IsFirstLarge}
-use Rattle.mc_decide.proofs.Once as decided
+use Rattle.mc_roots.specs.Decisions.{AreDecisions, Decision, IsFirstLarge}
+use Rattle.mc_roots.proofs.Once as decided
 use Rattle.mc_port.specs.Store.{Files, IsLonger, and_asked}
 use Rattle.mc_oblige.specs.declared.evaluated.EvaluatedPath.{EvaluatedPath}
 use Rattle.mc_oblige.specs.declared.verdict.Verdict.{Verdict}

@@ -13,7 +13,7 @@ use Rattle.mc_forms.specs.declared.outside.Outside.{Outside}
 use Rattle.mc_typed.specs.Tree.{Program}
 use Rattle.mc_faults.specs.declared.fault.Fault.{Fault}
 use Rattle.mc_typing.specs.Typing.{IsTypingOf, IsFirstFaultOf}
-use Rattle.mc_decide.specs.Decisions.{Decision, AreDecisions, IsSmall, IsFirstLarge}
+use Rattle.mc_roots.specs.Decisions.{Decision, AreDecisions, IsSmall, IsFirstLarge}
 use Rattle.mc_paths.specs.Paths.{count_of}
 use Rattle.mc_probe.specs.Maps.{Map, IsMapOf}
 use Rattle.mc_map.specs.Faults.{HasFewPaths, IsFirstWithMany, bits_of, most_bits}

@@ -4,9 +4,9 @@ ghost use Rattle.mc_cond.specs.Tree.{And, IsNumbered, Leaf, Or, tree_of};
 
 use mc_cond::{CondTree, conditions};
 use mc_core::{Matrix, Shape};
-use mc_decide::Decision;
 use mc_paths::number;
 use mc_probe::{BitMap, MappedDecision};
+use mc_roots::Decision;
 use mc_span::Span;
 use std::alloc::{AllocError, Global};
 use std::process::Abort;

@@ -7,12 +7,12 @@ ghost use Rattle.mc_report.specs.Seen.{report_of};
 
 use mc_cond::CondTree;
 use mc_core::{Matrix, Shape};
-use mc_decide::Decision;
 use mc_meaning::TestResult;
 use mc_oblige::{Mode, Obligation, Verdict, judge, obligations};
 use mc_paths::number;
 use mc_probe::{BitMap, MappedDecision};
 use mc_report::Report;
+use mc_roots::Decision;
 use mc_span::Span;
 use mc_typed::{Ending, Name, TestState};
 use std::alloc::{AllocError, Global};

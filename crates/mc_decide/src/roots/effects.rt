@@ -1,12 +1,12 @@
 //! Roots in effects.
 ghost use Rattle.std.specs.Prelude.{◌≡◌, map, IfOk};
 ghost use Rattle.mc_typed.specs.Views.{effect_of};
-ghost use Rattle.mc_decide.specs.Nodes as n;
-ghost use Rattle.mc_decide.specs.steps.Gathering.{gathered_of, inside_parts, visited};
+ghost use Rattle.mc_roots.specs.Nodes as n;
+ghost use Rattle.mc_gather.specs.steps.Gathering.{gathered_of, inside_parts, visited};
 
-use crate::role::Role;
-use crate::roots::expressions::{call, expression, place, structure};
-use crate::roots::gathered::Gathered;
+use crate::roots::expressions::{call, place, structure, value};
+use mc_gather::Gathered;
+use mc_roots::Role;
 use mc_typed::Effect;
 use std::alloc::AllocError;
 
@@ -16,20 +16,31 @@ pub(super) fn effect(found: &mut Gathered, tree: &Effect) -> Result<(), AllocErr
         ≡ visited Role.Plain (n.effect (effect_of tree.now)) (gathered_of found.old)) }
 {
     match tree {
-        Effect::Assign { target, value, .. } | Effect::Update { target, value, .. } => {
+        Effect::Assign {
+            target,
+            value: number,
+            ..
+        }
+        | Effect::Update {
+            target,
+            value: number,
+            ..
+        } => {
             place(found, target)?;
-            expression(found, Role::Plain, value)?;
-            Ok(())
+            value(found, Role::Plain, number)
         }
-        Effect::Copy { target, value, .. } => {
+        Effect::Copy {
+            target,
+            value: whole,
+            ..
+        } => {
             place(found, target)?;
-            structure(found, value)
+            structure(found, whole)
         }
-        Effect::Number { value, .. } | Effect::Output { value, .. } => {
-            expression(found, Role::Plain, value)?;
-            Ok(())
+        Effect::Number { value: number, .. } | Effect::Output { value: number, .. } => {
+            value(found, Role::Plain, number)
         }
-        Effect::Structure { value, .. } => structure(found, value),
+        Effect::Structure { value: whole, .. } => structure(found, whole),
         Effect::Call { call: made } => call(found, made),
         Effect::Choice {
             test,
@@ -37,7 +48,7 @@ pub(super) fn effect(found: &mut Gathered, tree: &Effect) -> Result<(), AllocErr
             other,
             ..
         } => {
-            expression(found, Role::Test, test)?;
+            value(found, Role::Test, test)?;
             effect(found, chosen)?;
             effect(found, other)
         }

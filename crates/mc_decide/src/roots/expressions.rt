@@ -1,13 +1,12 @@
 //! Roots in expressions.
 ghost use Rattle.std.specs.Prelude.{◌≡◌, ◌&&◌, map, IfOk};
 ghost use Rattle.mc_typed.specs.Views.{expression_of, place_of, structure_of, call_of, argument_of, arguments_from};
-ghost use Rattle.mc_decide.specs.Nodes as n;
-ghost use Rattle.mc_decide.specs.Roots.{is_constant};
-ghost use Rattle.mc_decide.specs.steps.Gathering.{gathered_of, inside, inside_parts, visited};
+ghost use Rattle.mc_roots.specs.Nodes as n;
+ghost use Rattle.mc_roots.specs.Roots.{is_constant};
+ghost use Rattle.mc_gather.specs.steps.Gathering.{gathered_of, inside, inside_parts, visited};
 
-use crate::role::Role;
-use crate::roots::candidates::enter;
-use crate::roots::gathered::{Gathered, mark_of, settle};
+use mc_gather::{Gathered, call_parts, enter, mark_of, settle};
+use mc_roots::Role;
 use mc_typed::{Argument, Expression, FunctionCall, Place, Structure};
 use std::alloc::AllocError;
 
@@ -80,6 +79,16 @@ fn operands(found: &mut Gathered, tree: &Expression) -> Result<bool, AllocError>
     }
 }
 
+/// Adds the roots in an expression.
+#[cycle(walk)]
+pub(super) fn value(found: &mut Gathered, role: Role, tree: &Expression) -> Result<(), AllocError>
+    ensures { IfOk result (λ _. gathered_of found.new
+        ≡ visited role (n.expression (expression_of tree.now)) (gathered_of found.old)) }
+{
+    expression(found, role, tree)?;
+    Ok(())
+}
+
 /// Adds the roots in a place.
 #[cycle(walk)]
 pub(super) fn place(found: &mut Gathered, tree: &Place) -> Result<(), AllocError>
@@ -89,14 +98,10 @@ pub(super) fn place(found: &mut Gathered, tree: &Place) -> Result<(), AllocError
 {
     match tree {
         Place::Local { .. } | Place::Static { .. } => Ok(()),
-        Place::Parameter { index, .. } => {
-            expression(found, Role::Plain, index)?;
-            Ok(())
-        }
+        Place::Parameter { index, .. } => value(found, Role::Plain, index),
         Place::Item { array, index, .. } => {
             place(found, array)?;
-            expression(found, Role::Plain, index)?;
-            Ok(())
+            value(found, Role::Plain, index)
         }
         Place::Member {
             structure: whole,
@@ -125,7 +130,7 @@ pub(super) fn call(found: &mut Gathered, tree: &FunctionCall) -> Result<(), Allo
         ≡ inside_parts (n.call_parts (call_of tree.now))
         (gathered_of found.old)) }
 {
-    arguments(found, &tree.arguments)
+    arguments(found, call_parts(tree))
 }
 
 #[cycle(walk)]
@@ -135,10 +140,7 @@ fn argument(found: &mut Gathered, tree: &Argument) -> Result<(), AllocError>
         (gathered_of found.old)) }
 {
     match tree {
-        Argument::Number { value } => {
-            expression(found, Role::Plain, value)?;
-            Ok(())
-        }
+        Argument::Number { value: number } => value(found, Role::Plain, number),
         Argument::Structure { value, .. } => structure(found, value),
         Argument::Array { place: object, .. } => place(found, object),
         Argument::Again { .. } => Ok(()),

@@ -1,12 +1,12 @@
 //! Roots in initializers.
 ghost use Rattle.std.specs.Prelude.{◌≡◌, map, option_map, IfOk};
 ghost use Rattle.mc_typed.specs.Views.{declarator_of, initializer_of, initializers_from};
-ghost use Rattle.mc_decide.specs.Nodes as n;
-ghost use Rattle.mc_decide.specs.steps.Gathering.{gathered_of, inside_parts, visited};
+ghost use Rattle.mc_roots.specs.Nodes as n;
+ghost use Rattle.mc_gather.specs.steps.Gathering.{gathered_of, inside_parts, visited};
 
-use crate::role::Role;
-use crate::roots::expressions::{expression, structure};
-use crate::roots::gathered::Gathered;
+use crate::roots::expressions::{structure, value};
+use mc_gather::Gathered;
+use mc_roots::Role;
 use mc_typed::{Declarator, Initializer};
 use std::alloc::AllocError;
 
@@ -17,11 +17,10 @@ fn initializer(found: &mut Gathered, tree: &Initializer) -> Result<(), AllocErro
         ≡ visited Role.Plain (n.initializer (initializer_of tree.now)) (gathered_of found.old)) }
 {
     match tree {
-        Initializer::Number { value } | Initializer::Zero { value, .. } => {
-            expression(found, Role::Plain, value)?;
-            Ok(())
+        Initializer::Number { value: number } | Initializer::Zero { value: number, .. } => {
+            value(found, Role::Plain, number)
         }
-        Initializer::Structure { value, .. } => structure(found, value),
+        Initializer::Structure { value: whole, .. } => structure(found, whole),
         Initializer::List { items, .. } => initializers(found, items),
     }
 }

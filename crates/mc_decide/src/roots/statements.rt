@@ -1,15 +1,15 @@
 //! Roots in statements.
 ghost use Rattle.std.specs.Prelude.{◌≡◌, map, option_map, IfOk};
-ghost use Rattle.mc_typed.specs.Views.{expression_of, return_value_of, start_of, statement_of, statements_from};
-ghost use Rattle.mc_decide.specs.Nodes as n;
-ghost use Rattle.mc_decide.specs.steps.Gathering.{gathered_of, inside_parts, visited};
+ghost use Rattle.mc_typed.specs.Views.{effect_of, expression_of, return_value_of, start_of, statement_of, statements_from};
+ghost use Rattle.mc_roots.specs.Nodes as n;
+ghost use Rattle.mc_gather.specs.steps.Gathering.{gathered_of, inside_parts, visited};
 
-use crate::role::Role;
 use crate::roots::effects::{effect, effects};
-use crate::roots::expressions::{expression, structure};
-use crate::roots::gathered::Gathered;
+use crate::roots::expressions::{structure, value};
 use crate::roots::initializers::declarators;
-use mc_typed::{Expression, ForStart, ReturnValue, Statement};
+use mc_gather::Gathered;
+use mc_roots::Role;
+use mc_typed::{Effect, Expression, ForStart, ReturnValue, Statement};
 use std::alloc::AllocError;
 
 fn optional_test(found: &mut Gathered, tree: &Option<Expression>) -> Result<(), AllocError>
@@ -18,10 +18,7 @@ fn optional_test(found: &mut Gathered, tree: &Option<Expression>) -> Result<(), 
         (gathered_of found.old)) }
 {
     match tree {
-        Some(value) => {
-            expression(found, Role::Test, value)?;
-            Ok(())
-        }
+        Some(test) => value(found, Role::Test, test),
         None => Ok(()),
     }
 }
@@ -38,17 +35,31 @@ fn start(found: &mut Gathered, tree: &ForStart) -> Result<(), AllocError>
     }
 }
 
+/// Adds the roots in the three parts of a `for` before its body.
+fn parts(
+    found: &mut Gathered,
+    first: &ForStart,
+    test: &Option<Expression>,
+    step: &[Effect],
+) -> Result<(), AllocError>
+    ensures { IfOk result (λ _. gathered_of found.new
+        ≡ inside_parts (n.effects (map effect_of step.now))
+        (visited Role.Plain (n.optional_test (option_map expression_of test.now))
+        (visited Role.Plain (n.start (start_of first.now)) (gathered_of found.old)))) }
+{
+    start(found, first)?;
+    optional_test(found, test)?;
+    effects(found, step)
+}
+
 fn return_value(found: &mut Gathered, tree: &ReturnValue) -> Result<(), AllocError>
     ensures { IfOk result (λ _. gathered_of found.new
         ≡ visited Role.Plain (n.return_value (return_value_of tree.now)) (gathered_of found.old)) }
 {
     match tree {
         ReturnValue::Nothing => Ok(()),
-        ReturnValue::Number { value } => {
-            expression(found, Role::Plain, value)?;
-            Ok(())
-        }
-        ReturnValue::Structure { value, .. } => structure(found, value),
+        ReturnValue::Number { value: number } => value(found, Role::Plain, number),
+        ReturnValue::Structure { value: whole, .. } => structure(found, whole),
     }
 }
 
@@ -70,7 +81,7 @@ fn statement(found: &mut Gathered, tree: &Statement) -> Result<(), AllocError>
         } => declarators(found, declared),
         Statement::Effect { effect: whole, .. } => effect(found, whole),
         Statement::If { test, chosen, .. } => {
-            expression(found, Role::Test, test)?;
+            value(found, Role::Test, test)?;
             statement(found, chosen)
         }
         Statement::IfElse {
@@ -79,12 +90,16 @@ fn statement(found: &mut Gathered, tree: &Statement) -> Result<(), AllocError>
             other,
             ..
         } => {
-            expression(found, Role::Test, test)?;
+            value(found, Role::Test, test)?;
             statement(found, chosen)?;
             statement(found, other)
         }
-        Statement::Switch { value, items, .. } => {
-            expression(found, Role::Plain, value)?;
+        Statement::Switch {
+            value: number,
+            items,
+            ..
+        } => {
+            value(found, Role::Plain, number)?;
             statements(found, items)
         }
         Statement::For {
@@ -94,17 +109,14 @@ fn statement(found: &mut Gathered, tree: &Statement) -> Result<(), AllocError>
             body,
             ..
         } => {
-            start(found, first)?;
-            optional_test(found, test)?;
-            effects(found, step)?;
+            parts(found, first, test, step)?;
             statement(found, body)
         }
         Statement::DoWhile { body, test, .. } => {
             statement(found, body)?;
-            expression(found, Role::Test, test)?;
-            Ok(())
+            value(found, Role::Test, test)
         }
-        Statement::Return { value, .. } => return_value(found, value),
+        Statement::Return { value: what, .. } => return_value(found, what),
     }
 }
 

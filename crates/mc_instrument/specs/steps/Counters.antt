@@ -1,8 +1,8 @@
 -- Counters of bits and registers.
 use Rattle.std.specs.Prelude.{◌≡◌, ℕ, ◌+◌, ◌==◌, if◌then◌else◌, List, [], ◌∷◌}
 use Rattle.mc_typed.specs.Tree.{Statements}
-use Rattle.mc_decide.specs.Nodes as n
-use Rattle.mc_decide.specs.Counts.{roots_in}
+use Rattle.mc_roots.specs.Nodes as n
+use Rattle.mc_roots.specs.Counts.{roots_in}
 use Rattle.mc_steps.specs.Points.{Points, points_of_all}
 use Rattle.mc_probe.specs.Maps.{Map, Mapped, exit_bit, label_bit, statement_bit}
 use Rattle.mc_probe.specs.Table.{At}

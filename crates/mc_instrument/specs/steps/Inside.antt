@@ -2,10 +2,10 @@
 use Rattle.std.specs.Prelude.{ℕ, ◌+◌}
 use Rattle.mc_typed.specs.declared.probes.Probe.TheVariants as probe
 use Rattle.mc_typed.specs.Tree as t
-use Rattle.mc_decide.specs.declared.role.Role.TheVariants.{Test, Plain}
-use Rattle.mc_decide.specs.Nodes.{Node, Constant, Not, Logic, Expression, Whole}
-use Rattle.mc_decide.specs.Nodes as n
-use Rattle.mc_decide.specs.Counts.{roots, roots_in}
+use Rattle.mc_roots.specs.declared.role.Role.TheVariants.{Test, Plain}
+use Rattle.mc_roots.specs.Nodes.{Node, Constant, Not, Logic, Expression, Whole}
+use Rattle.mc_roots.specs.Nodes as n
+use Rattle.mc_roots.specs.Counts.{roots, roots_in}
 use Rattle.mc_probe.specs.Tree as p
 use Rattle.mc_probe.specs.Maps.{Map}
 use Rattle.mc_probe.specs.Table.{Loose, InTree, base_of, increment_of, mapped, put, put_place, put_call, plain_roots, test_roots}

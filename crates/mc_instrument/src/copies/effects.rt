@@ -1,9 +1,9 @@
 //! Effects with their probes.
 ghost use Rattle.std.specs.Prelude.{◌≡◌, ◌+◌, map, IfOk};
 ghost use Rattle.mc_typed.specs.Views as plain;
-ghost use Rattle.mc_decide.specs.Counts.{roots, roots_in};
-ghost use Rattle.mc_decide.specs.Nodes as n;
-ghost use Rattle.mc_decide.specs.declared.role.Role.TheVariants as role;
+ghost use Rattle.mc_roots.specs.Counts.{roots, roots_in};
+ghost use Rattle.mc_roots.specs.Nodes as n;
+ghost use Rattle.mc_roots.specs.declared.role.Role.TheVariants as role;
 ghost use Rattle.mc_probe.specs.BitMaps.{map_of};
 ghost use Rattle.mc_probe.specs.Table.{put_effect, put_effects};
 ghost use Rattle.mc_probe.specs.Views as probed;

@@ -1,7 +1,7 @@
 //! Functions with their probes.
 ghost use Rattle.std.specs.Prelude.{◌≡◌, ◌==◌, ℕ, ◌+◌, ◌<◌, ◌^◌, map, drop, length, IfOk};
 ghost use Rattle.mc_typed.specs.Views as plain;
-ghost use Rattle.mc_decide.specs.Decisions.{AreDecisions};
+ghost use Rattle.mc_roots.specs.Decisions.{AreDecisions};
 ghost use Rattle.mc_steps.specs.Points.{◌⊕◌};
 ghost use Rattle.mc_steps.specs.Points as points;
 ghost use Rattle.mc_probe.specs.BitMaps.{map_of};

@@ -2,8 +2,8 @@
 use Rattle.std.specs.Prelude.{◌≡◌, ℕ, ◌+◌, ◌<◌, List, [], ◌∷◌, length}
 use Rattle.mc_cond.specs.Tree.{tree_of, size, IsNumbered}
 use Rattle.mc_paths.specs.Paths.{count_of}
-use Rattle.mc_decide.specs.declared.decision.Decision as code
-use Rattle.mc_decide.specs.Decisions.{Decision}
+use Rattle.mc_roots.specs.declared.decision.Decision as code
+use Rattle.mc_roots.specs.Decisions.{Decision}
 use Rattle.mc_probe.specs.Maps.{Mapped}
 use Rattle.mc_map.specs.declared.fault.InstrumentFault.{InstrumentFault}
 use Rattle.mc_map.specs.declared.fault.InstrumentFault.TheVariants.{TooManyPaths, TooManyBits, OutOfMemory}

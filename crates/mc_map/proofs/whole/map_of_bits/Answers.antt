@@ -1,6 +1,6 @@
 use Rattle.std.proofs.Common.{map, arith}
 use Rattle.mc_typed.specs.Views.{program_of}
-use Rattle.mc_decide.specs.Seen.{decision_of}
+use Rattle.mc_roots.specs.Seen.{decision_of}
 use Rattle.mc_probe.specs.Mapped.{mapped_of}
 use Rattle.mc_map.proofs.Numbering.{all_ready}
 use Rattle.mc_map.proofs.Maps.{is_based, is_map, is_refused, refused_all, same_decisions}

@@ -1,6 +1,6 @@
 use Rattle.std.proofs.Common.{map}
 use Rattle.mc_typed.specs.Views.{program_of}
-use Rattle.mc_decide.specs.Seen.{decision_of}
+use Rattle.mc_roots.specs.Seen.{decision_of}
 use Rattle.mc_station.specs.Seen.{seen_accepted}
 use Rattle.mc_station.specs.Source.{Decides, JudgesDecisions}
 use Rattle.mc_station.proofs.Phases.{goes_on}

@@ -1,7 +1,7 @@
 use Rattle.std.proofs.Common.{◌∙◌, ap}
 use Rattle.mc_typed.specs.Views.{expression_of}
-use Rattle.mc_decide.specs.Nodes as n
-use Rattle.mc_decide.specs.steps.Gathering.{gathered_of, inside}
+use Rattle.mc_roots.specs.Nodes as n
+use Rattle.mc_gather.specs.steps.Gathering.{gathered_of, inside}
 use Rattle.mc_decide.proofs.Gathers.{settles}
 use Rattle.mc_decide.proofs.roots.expressions.+walk.Goals as goal
 

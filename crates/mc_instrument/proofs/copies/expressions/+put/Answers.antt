@@ -1,7 +1,7 @@
 use Rattle.mc_instrument.proofs.Rooted.{root_counted}
-use Rattle.mc_decide.specs.declared.role.Role.TheVariants as role
+use Rattle.mc_roots.specs.declared.role.Role.TheVariants as role
 use Rattle.mc_typed.specs.Views as plain
-use Rattle.mc_decide.specs.Nodes as n
+use Rattle.mc_roots.specs.Nodes as n
 use Rattle.std.proofs.lemmas.Result.{IfOk-weaker}
 use Rattle.std.proofs.Common.{arith, rules}
 use Rattle.mc_probe.specs.BitMaps.{map_of}

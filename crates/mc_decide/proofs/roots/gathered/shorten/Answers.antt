@@ -1,6 +1,0 @@
-use Rattle.std.proofs.Common.{rules}
-use Rattle.std.proofs.lemmas.List.{take-map}
-use Rattle.mc_decide.proofs.roots.gathered.shorten.Goals as goal
-
-pub returns : goal.returns
-returns c = search (rules, take-map)

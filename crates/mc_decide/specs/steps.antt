@@ -1,3 +1,0 @@
--- What the proofs need between the definitions and the code. No public clause rests on it.
-pub mod Walk
-pub mod Gathering

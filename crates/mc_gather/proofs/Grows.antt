@@ -1,0 +1,28 @@
+-- What is done at one expression.
+use Rattle.std.proofs.Common.{◌≡◌, ◌∙◌, refl, sym, ap, ℕ, ◌<◌, ◌≤◌, Bool, nat_lt, lt-ltb, le-ltb}
+use Rattle.mc_typed.specs.Levels.{limited}
+use Rattle.mc_roots.specs.declared.role.Role.{Role}
+use Rattle.mc_roots.specs.declared.role.Role.TheVariants.{Test, Inner, Plain}
+use Rattle.mc_roots.specs.Nodes.{Node}
+use Rattle.mc_roots.specs.Nodes as n
+use Rattle.mc_roots.specs.Roots.{is_boolean, is_candidate}
+use Rattle.mc_roots.specs.Conditions.{width}
+use Rattle.mc_roots.proofs.Trees.{over, not_over}
+use Rattle.mc_gather.specs.steps.Gathering.{Gathered, grown, stopped, sized, is_taken}
+
+pub taken : (role : Role) (a : Node) → is_taken role (is_boolean a) ≡ is_candidate role a
+taken Test a = refl
+taken Inner a = refl
+taken Plain a = refl
+
+-- ---- one decision more, or the first that is too large
+
+pub stops : (a : Node) (old new : Gathered) (at count : ℕ) → at ≡ (n.span_of a).start → count ≡ limited (width a) → 64 < count → new ≡ stopped at count old → new ≡ sized (nat_lt 64 (width a)) a old
+stops a old new at count e0 e1 lt e =
+    e ∙ (ap (λ (k : ℕ). stopped k count old) e0
+    ∙ (ap (λ (k : ℕ). stopped (n.span_of a).start k old) e1
+    ∙ ap (λ (b : Bool). sized b a old) (sym (lt-ltb 64 (width a) (over (width a) count e1 lt)))))
+
+pub grows : (a : Node) (old new : Gathered) (count : ℕ) → count ≡ limited (width a) → count ≤ 64 → new ≡ grown a old → new ≡ sized (nat_lt 64 (width a)) a old
+grows a old new count e0 le e =
+    e ∙ ap (λ (b : Bool). sized b a old) (sym (le-ltb 64 (width a) (not_over (width a) count e0 le)))

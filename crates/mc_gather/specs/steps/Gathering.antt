@@ -1,0 +1,112 @@
+-- The walk that gathers decisions, as functions on nodes.
+use Rattle.std.specs.Prelude.{ℕ, ◌+◌, Bool, true, false, nat_lt, List, [], ◌∷◌, ◌++◌, map, take, Option, Some, None}
+use Rattle.mc_typed.specs.Tree as t
+use Rattle.mc_typed.specs.Levels.{limited}
+use Rattle.mc_roots.specs.declared.role.Role.{Role}
+use Rattle.mc_roots.specs.declared.role.Role.TheVariants.{Test, Inner, Plain}
+use Rattle.mc_roots.specs.declared.fault.DecideFault.{DecideFault}
+use Rattle.mc_roots.specs.declared.fault.DecideFault.TheVariants.{TooManyConditions}
+use Rattle.mc_gather.specs.declared.gathered.Gathered as code
+use Rattle.mc_roots.specs.Nodes.{Node, Constant, Not, Logic, Expression, Whole, Parts, no_parts, part, test}
+use Rattle.mc_roots.specs.Nodes as n
+use Rattle.mc_roots.specs.Roots.{is_constant, is_candidate}
+use Rattle.mc_roots.specs.Conditions.{width}
+use Rattle.mc_roots.specs.Decisions.{Decision}
+use Rattle.mc_roots.specs.Seen.{decision_of}
+use Rattle.mc_roots.specs.steps.Walk.{decision}
+
+-- the number of the function in whose body the walk is, the decisions so far, up to the first that
+-- is too large, and the fault of this one
+pub record Gathered : Type 0 where
+  pub function : ℕ
+  pub decisions : List Decision
+  pub fault : Option DecideFault
+
+abbrev pub gathered_of : code.Gathered → Gathered
+gathered_of g = record {
+  function = g.function;
+  decisions = map decision_of g.decisions.items;
+  fault = g.fault;
+}
+
+abbrev pub begun : Gathered
+begun = record { function = 0; decisions = []; fault = None }
+
+-- one decision more
+abbrev pub grown : Node → Gathered → Gathered
+grown a g = record {
+  function = g.function;
+  decisions = g.decisions ++ decision g.function a ∷ [];
+  fault = g.fault;
+}
+
+-- one that is too large
+abbrev pub stopped : ℕ → ℕ → Gathered → Gathered
+stopped at count g = record {
+  function = g.function;
+  decisions = g.decisions;
+  fault = Some (TooManyConditions at count);
+}
+
+abbrev pub sized : Bool → Node → Gathered → Gathered
+sized true a g = stopped (n.span_of a).start (limited (width a)) g
+sized false a g = grown a g
+
+abbrev pub added : Option DecideFault → Node → Gathered → Gathered
+added (Some fault) a g = g
+added None a g = sized (nat_lt 64 (width a)) a g
+
+-- what stands in a constant goes again
+abbrev pub cut : ℕ → Option DecideFault → Gathered → Gathered
+cut count fault g = record {
+  function = g.function;
+  decisions = take count g.decisions;
+  fault = fault;
+}
+
+abbrev pub pushed : Bool → Node → Gathered → Gathered
+pushed true a g = added g.fault a g
+pushed false a g = g
+
+abbrev pub kept : Bool → Gathered → Gathered → Gathered
+kept true before after = before
+kept false before after = after
+
+-- whether an expression with this role is a candidate, by whether it is Boolean
+abbrev pub is_taken : Role → Bool → Bool
+is_taken Test boolean = true
+is_taken Inner boolean = false
+is_taken Plain boolean = boolean
+
+abbrev pub entered : Role → Node → Gathered → Gathered
+entered role a g = pushed (is_candidate role a) a g
+
+abbrev mutual
+  -- what is gathered inside a node that is no root of a constant
+  pub inside : Node → Gathered → Gathered
+  inside (Constant span) g = g
+  inside (Not a span) g = kept (is_constant a) g (inside a (entered Inner a g))
+  inside (Logic operator a b span) g =
+      let first = kept (is_constant a) g (inside a (entered Inner a g)) in
+      kept (is_constant b) first (inside b (entered Inner b first))
+  inside (Expression top ps span) g = inside_parts ps g
+  inside (Whole ps) g = inside_parts ps g
+
+  pub inside_parts : Parts → Gathered → Gathered
+  inside_parts no_parts g = g
+  inside_parts (part a ps) g =
+      inside_parts ps (kept (is_constant a) g (inside a (entered Plain a g)))
+  inside_parts (test a ps) g =
+      inside_parts ps (kept (is_constant a) g (inside a (entered Test a g)))
+
+abbrev pub visited : Role → Node → Gathered → Gathered
+visited role a g = kept (is_constant a) g (inside a (entered role a g))
+
+-- in the function with this number
+abbrev pub in_function : ℕ → Gathered → Gathered
+in_function k g = record { function = k; decisions = g.decisions; fault = g.fault }
+
+-- in functions that are numbered from k on
+abbrev pub in_functions : ℕ → List t.Function → Gathered → Gathered
+in_functions k [] g = g
+in_functions k (f ∷ fs) g = in_functions (k + 1) fs (inside (n.function f) (in_function k g))

@@ -1,0 +1,9 @@
+pub mod Listed
+pub mod Walked
+pub mod Only
+pub mod Each
+pub mod Ordered
+pub mod Trees
+pub mod Told
+pub mod Once
+pub mod InOrder

@@ -1,0 +1,14 @@
+//! What the decisions of a typed program are, as definitions, with what follows from them.
+#![tactic(auto)]
+
+mod decision;
+mod fault;
+mod laws;
+mod role;
+
+pub use decision::Decision;
+pub use fault::DecideFault;
+pub use laws::{one_list, starts_are_in_order};
+pub use mc_cond::CondTree;
+pub use mc_typed::Span;
+pub use role::Role;
