@@ -174,7 +174,7 @@ impl<
         )
     }
 
-    #[inline(never)]
+    #[inline(always)]
     #[tactic(auto, unfolding(mc_reading::specs::Specifiers::parameter_of))]
     fn parameter(
         &self,
@@ -195,7 +195,7 @@ impl<
         self.parameter_named(start, read, tokens, tallest)
     }
 
-    #[inline(never)]
+    #[inline(always)]
     #[tactic(auto, using(crate::proofs::Parts::parameters_steps))]
     fn parameters(
         &self,
@@ -295,7 +295,7 @@ impl<
     }
 
     /// The parentheses of a function's declarator, after its name.
-    #[inline(never)]
+    #[inline(always)]
     #[tactic(auto, unfolding(mc_reading::specs::Specifiers::parameters_of))]
     fn function(
         &self,
@@ -362,7 +362,7 @@ impl<
         self.made(declarator)
     }
 
-    #[inline(never)]
+    #[inline(always)]
     #[tactic(auto, unfolding(mc_reading::specs::Specifiers::declarator_of))]
     pub fn declarator(
         &self,

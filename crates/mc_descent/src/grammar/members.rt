@@ -86,7 +86,7 @@ impl<
         Ok(Box::new(self.alloc, member)?)
     }
 
-    #[inline(never)]
+    #[inline(always)]
     #[tactic(auto, unfolding(mc_reading::specs::Specifiers::struct_member_of))]
     fn member_declaration(
         &self,
@@ -108,7 +108,7 @@ impl<
         self.member_end(start, read, declarators, tokens, tallest)
     }
 
-    #[inline(never)]
+    #[inline(always)]
     #[tactic(auto, using(crate::proofs::Parts::members_steps))]
     pub fn members(
         &self,

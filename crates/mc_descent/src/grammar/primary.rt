@@ -163,7 +163,7 @@ impl<
     }
 
     /// A name, or a call.
-    #[inline(never)]
+    #[inline(always)]
     #[tactic(auto, unfolding(mc_reading::specs::Expressions::named_of))]
     fn named(&self, tokens: &mut Cursor<'_, 'a>) -> Result<Read<'a>, Fault>
         requires room { (self.now.room ≤ 1000) × (1 ≤ self.now.room) }

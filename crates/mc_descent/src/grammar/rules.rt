@@ -19,6 +19,7 @@ impl<
     G: Fn(Global, &mut Cursor<'_, 'a>, u32) -> Result<ReadSpecifiers<'a>, Fault>,
 > Grammar<F, G> {
     /// Reads an expression by this rule.
+    #[inline(always)]
     #[tactic(auto, using(crate::proofs::Rooms::operand_at))]
     pub fn by_rule(&self, tokens: &mut Cursor<'_, 'a>, rule: Rule) -> Result<Read<'a>, Fault>
         requires room { (self.now.room ≤ 1000) × (1 ≤ self.now.room) }

@@ -106,7 +106,7 @@ impl<
     }
 
     /// The members of a structure, from their brace on.
-    #[inline(never)]
+    #[inline(always)]
     fn structure_list(
         &self,
         first: &Token<'a>,
@@ -151,7 +151,7 @@ impl<
         Ok(Box::new(self.alloc, Specifier::StructureTag { tag, span })?)
     }
 
-    #[inline(never)]
+    #[inline(always)]
     #[tactic(auto, unfolding(mc_reading::specs::Specifiers::structure_of))]
     fn structure(
         &self,
@@ -240,7 +240,7 @@ impl<
         Ok(Box::new(self.alloc, Specifier::EnumerationTag { tag, span })?)
     }
 
-    #[inline(never)]
+    #[inline(always)]
     #[tactic(auto, unfolding(mc_reading::specs::Specifiers::specifier_of))]
     fn specifier(
         &self,
@@ -269,7 +269,7 @@ impl<
     }
 
     /// Specifiers, as long as they go on.
-    #[inline(never)]
+    #[inline(always)]
     #[tactic(auto, using(crate::proofs::Parts::specifiers_steps))]
     fn all_specifiers(&self, tokens: &mut Cursor<'_, 'a>) -> Result<ReadSpecifiers<'a>, Fault>
         requires room { self.now.room ≤ 1000 }
@@ -294,6 +294,7 @@ impl<
     }
 
     /// Specifiers that may stand together here.
+    #[inline(always)]
     #[tactic(auto, unfolding(mc_reading::specs::Specifiers::specifiers_of))]
     pub fn specifiers(
         &self,
