@@ -1,5 +1,5 @@
 -- What the functions of the descent return is what the readers of mc_reading give.
-use Rattle.std.specs.Prelude.{◌≡◌, ◌≤◌, ◌+◌, max, ℕ, IfOk, List, map, Option, Some, Result, Ok, Err}
+use Rattle.std.specs.Prelude.{◌≡◌, ◌≤◌, ◌+◌, max, ℕ, IfOk, List, map, Option, Some, Result, Ok, Err, Box}
 use Rattle.std.specs.declared.alloc.Global.{Global}
 use denote.Ref.{MutBor}
 use Rattle.mc_tree.specs.Tree as t
@@ -12,6 +12,8 @@ use Rattle.mc_reading.specs.Rooms.{reading}
 use Rattle.mc_cursor.specs.declared.cursor.Cursor.{Cursor}
 use Rattle.mc_cursor.specs.declared.fault.Fault.{Fault}
 use Rattle.mc_cursor.specs.declared.rule.Rule.{Rule}
+use Rattle.mc_descent.specs.declared.allowed.Allowed.{Allowed}
+use Rattle.mc_descent.specs.declared.allowed.Allowed.TheVariants as allowed
 use Rattle.mc_descent.specs.declared.read.Read.{Read}
 use Rattle.mc_descent.specs.declared.read.ReadAll.{ReadAll}
 use Rattle.mc_descent.specs.declared.read.ReadSpecifiers.{ReadSpecifiers}
@@ -68,6 +70,11 @@ GivesType read (Ok r) rest =
     (read ≡ Some (type_of r, rest)) × (r.height ≡ h.height_type (type_of r))
 GivesType read (Err fault) rest = Refuses read fault
 
+-- a value that was put on the heap: nothing else can go wrong than memory
+abbrev pub IsOnHeap : {X : Type 0} → X → Result (Box X Global) Fault → Type 0
+IsOnHeap x (Ok one) = one.value ≡ x
+IsOnHeap x (Err fault) = NotMade fault
+
 -- a node that was made on the heap
 abbrev pub GivesMade : t.Expression → ℕ → Result Read Fault → Type 0
 GivesMade tree high (Ok r) = (expression_of r.tree.value ≡ tree) × (r.height ≡ high)
@@ -92,11 +99,12 @@ pub record Nests (room : ℕ) (pre : Global → MutBor Cursor → ℕ → Rule �
       × IfOk r (λ read. read.height + 1 ≤ room)
 
 -- a function value that reads the specifiers of a type of fewer than so many levels
-pub record NestsTypes (room : ℕ) (pre : Global → MutBor Cursor → ℕ → Type 0)
-    (post : Global → MutBor Cursor → ℕ → Result ReadSpecifiers Fault → MutBor Cursor → Type 0)
+pub record NestsTypes (room : ℕ) (pre : Global → MutBor Cursor → ℕ → Allowed → Type 0)
+    (post : Global → MutBor Cursor → ℕ → Allowed → Result ReadSpecifiers Fault → MutBor Cursor
+    → Type 0)
     : Type 0 where
-  pub callable : (alloc : Global) (old : MutBor Cursor) → pre alloc old room
+  pub callable : (alloc : Global) (old : MutBor Cursor) → pre alloc old room allowed.Type
   pub reads : (alloc : Global) (old new : MutBor Cursor) (r : Result ReadSpecifiers Fault)
-      → post alloc old room r new
+      → post alloc old room allowed.Type r new
       → GivesSpecifiers ((reading room).specifiers for_type (left_of old.now)) r (left_of new.now)
       × IfOk r (λ read. read.height + 1 ≤ room)

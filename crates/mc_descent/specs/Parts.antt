@@ -99,6 +99,12 @@ structure_end x tag ms = do
   v ← expect (codes "}")
   pure (t.Structure tag (members_from ms) (to (at x) (at v)))
 
+-- an enumeration, after its constants
+abbrev pub enumeration_end : Lexeme → Option Name → List Enumerator → Parser Specifier
+enumeration_end x tag es = do
+  v ← expect (codes "}")
+  pure (t.Enumeration tag (enumerators_from es) (to (at x) (at v)))
+
 -- members, after their declarators
 abbrev pub member_end : Span → Specifiers → List Declarator → Parser StructMember
 member_end start s ds = do
@@ -123,17 +129,29 @@ abbrev pub IsMadeSpecifier : Specifier → Result (Box code_specifier.Specifier 
 IsMadeSpecifier tree (Ok one) = boxed_specifier one ≡ tree
 IsMadeSpecifier tree (Err fault) = NotMade fault
 
--- a declarator that was made on the heap
-abbrev pub IsMadeDeclarator : Declarator → Result (Box code_declarator.Declarator Global) Fault
-    → Type 0
-IsMadeDeclarator tree (Ok one) = boxed_declarator one ≡ tree
-IsMadeDeclarator tree (Err fault) = NotMade fault
-
 -- the lengths of a parameter, after what stands before them
 abbrev pub parameter_after : Parts → Span → Specifiers → ℕ → Option Name → Span → Parser Parameter
 parameter_after parts start s stars name end = do
   lengths ← lengths_of parts end
   pure (t.parameter s stars name (lengths_from lengths.all) (to start lengths.end))
+
+-- a declarator of a function, after the parenthesis that opens its list
+abbrev pub empty_function : Span → ℕ → Name → Span → Parser Declarator
+empty_function start stars name list_start = do
+  y ← take
+  pure (t.function stars name (t.Empty (to list_start (at y))) (to start (to list_start (at y))))
+
+abbrev pub void_function : Span → ℕ → Name → Span → Parser Declarator
+void_function start stars name list_start = do
+  y ← take
+  z ← take
+  pure (t.function stars name (t.Void (to list_start (at z))) (to start (to list_start (at z))))
+
+abbrev pub listed_function : Span → ℕ → Name → Span → List Parameter → Parser Declarator
+listed_function start stars name list_start ps = do
+  y ← expect (codes ")")
+  pure (t.function stars name (t.Listed (parameters_from ps) (to list_start (at y)))
+      (to start (to list_start (at y))))
 
 -- the parameters of a declarator, after its name
 abbrev pub function_of : Parts → Span → ℕ → Name → Parser Declarator

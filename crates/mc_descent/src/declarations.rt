@@ -11,6 +11,8 @@ ghost use Rattle.mc_cursor.specs.Cursors.{Gives, left_of};
 ghost use Rattle.mc_descent.specs.Heads.{words_of};
 
 use crate::allowed::Allowed;
+use crate::grammar::lists;
+use crate::grammar::makers::on_heap;
 use crate::initializers::initializer;
 use crate::knot::{declarator, specifiers};
 use mc_cursor::cursor::{Cursor, place};
@@ -36,26 +38,30 @@ fn valued<'a>(
     room: u32,
     declarator: Declarator<'a>,
     tokens: &mut Cursor<'_, 'a>,
-) -> Result<InitDeclarator<'a>, Fault>
+) -> Result<Box<InitDeclarator<'a>>, Fault>
     requires { room ≤ 1000 }
-    ensures { Gives init_declarator_of (spec.valued_of typedef room (declarator_of declarator.entry)
-        (left_of tokens.old)) result (left_of tokens.new) }
+    ensures { Gives (λ one. init_declarator_of one.value)
+        (spec.valued_of typedef room (declarator_of declarator.entry) (left_of tokens.old)) result
+        (left_of tokens.new) }
 {
     tokens.declare(typedef, &declarator)?;
     if !tokens.sees(b"=") {
-        return Ok(InitDeclarator::Bare { declarator });
+        return on_heap(alloc, InitDeclarator::Bare { declarator });
     }
     tokens.take()?;
     let value = initializer(alloc, tokens, room)?;
-    Ok(InitDeclarator::Initialized { declarator, value })
+    on_heap(alloc, InitDeclarator::Initialized { declarator, value })
 }
 
 #[tactic(auto, using(crate::proofs::Lists::map_push))]
-fn push<'a>(all: &mut Vec<InitDeclarator<'a>>, one: InitDeclarator<'a>) -> Result<(), AllocError>
+fn push<'a>(
+    all: &mut Vec<InitDeclarator<'a>>,
+    one: Box<InitDeclarator<'a>>,
+) -> Result<(), AllocError>
     ensures { IfOk result (λ _. map init_declarator_of all.new.items
-        ≡ map init_declarator_of all.old.items ++ init_declarator_of one.entry ∷ []) }
+        ≡ map init_declarator_of all.old.items ++ init_declarator_of one.entry.value ∷ []) }
 {
-    Ok(all.push(one)?)
+    lists::push_boxed(all, one)
 }
 
 /// The declarators of a list with commas between them, after these.
@@ -87,6 +93,29 @@ fn declarators<'a>(
     Err(Fault::Syntax)
 }
 
+/// The declarators of a declaration, the first of which is read.
+#[inline(never)]
+fn more_declarators<'a>(
+    alloc: Global,
+    typedef: bool,
+    room: u32,
+    first: Box<InitDeclarator<'a>>,
+    tokens: &mut Cursor<'_, 'a>,
+) -> Result<Vec<InitDeclarator<'a>>, Fault>
+    requires { room ≤ 1000 }
+    ensures { Gives (λ all. map init_declarator_of all.items)
+        (spec.more_declarators_of typedef room (init_declarator_of first.entry.value)
+        (left_of tokens.old)) result (left_of tokens.new) }
+{
+    let mut all = Vec::new(alloc);
+    push(&mut all, first)?;
+    if !tokens.sees(b",") {
+        return Ok(all);
+    }
+    tokens.take()?;
+    declarators(alloc, typedef, room, all, tokens)
+}
+
 /// The rest of a declaration, whose first declarator is read.
 #[inline(never)]
 #[tactic(auto, unfolding(mc_reading::specs::Declarations::declared_of))]
@@ -104,12 +133,7 @@ pub fn declared<'a>(
         (declarator_of first.entry) (left_of tokens.old)) result (left_of tokens.new) }
 {
     let first = valued(alloc, typedef, room, first, tokens)?;
-    let mut all = Vec::new(alloc);
-    push(&mut all, first)?;
-    if tokens.sees(b",") {
-        tokens.take()?;
-        all = declarators(alloc, typedef, room, all, tokens)?;
-    }
+    let all = more_declarators(alloc, typedef, room, first, tokens)?;
     let last = tokens.expect(b";")?;
     Ok(declaration(head, all, place(last)))
 }

@@ -2,7 +2,7 @@
 
 mod binary;
 mod declarators;
-mod lists;
+pub mod lists;
 pub mod makers;
 mod members;
 mod postfix;
@@ -24,6 +24,6 @@ pub struct Grammar<F, G> {
     pub room: u32,
     /// Reads an expression.
     pub inner: F,
-    /// Reads the specifiers of a type.
+    /// Reads specifiers.
     pub typed: G,
 }

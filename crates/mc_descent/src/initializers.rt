@@ -7,6 +7,7 @@ ghost use Rattle.mc_reading.specs.Lists.{braced_list, listed};
 ghost use Rattle.mc_reading.specs.Rooms.{reading};
 ghost use Rattle.mc_cursor.specs.Cursors.{Gives, left_of};
 
+use crate::grammar::lists;
 use crate::knot::expression;
 use crate::read::Read;
 use mc_cursor::cursor::{Cursor, place};
@@ -94,5 +95,5 @@ fn push<'a>(all: &mut Vec<Initializer<'a>>, one: Initializer<'a>) -> Result<(), 
     ensures { IfOk result (λ _. map initializer_of all.new.items ≡ map initializer_of all.old.items
         ++ initializer_of one.entry ∷ []) }
 {
-    Ok(all.push(one)?)
+    lists::push(all, one)
 }

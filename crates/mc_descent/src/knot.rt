@@ -1,6 +1,5 @@
 //! What reads parts of fewer than so many levels: each rule stands over these two functions.
 ghost use Rattle.std.specs.Prelude.{◌≤◌, ◌+◌, IfOk};
-ghost use Rattle.mc_grammar.specs.Counts.{for_type};
 ghost use Rattle.mc_tree.specs.Views as views;
 ghost use Rattle.mc_reading.specs.Specifiers as spec;
 ghost use Rattle.mc_reading.specs.Rooms.{reading};
@@ -40,22 +39,24 @@ pub fn expression<'a>(
         alloc,
         room: room - 1,
         inner: expression,
-        typed: type_specifiers,
+        typed: read_specifiers,
     };
     grammar.by_rule(tokens, rule)
 }
 
-/// Reads the specifiers of a type, of fewer than `room` levels.
+/// Reads specifiers of fewer than `room` levels that may stand together here, with their height.
 #[cycle(knot)]
 #[tactic(auto, using(crate::proofs::Rooms::knot_steps))]
-pub fn type_specifiers<'a>(
+pub fn read_specifiers<'a>(
     alloc: Global,
     tokens: &mut Cursor<'_, 'a>,
     room: u32,
+    allowed: Allowed,
 ) -> Result<ReadSpecifiers<'a>, Fault>
     requires { room ≤ 1000 }
-    ensures specifiers { GivesSpecifiers ((reading room).specifiers for_type (left_of tokens.old))
-        result (left_of tokens.new) }
+    ensures specifiers { GivesSpecifiers
+        ((reading room).specifiers (test_of allowed) (left_of tokens.old)) result
+        (left_of tokens.new) }
     ensures height { IfOk result (λ r. r.height + 1 ≤ room) }
 {
     if room == 0 {
@@ -65,13 +66,12 @@ pub fn type_specifiers<'a>(
         alloc,
         room: room - 1,
         inner: expression,
-        typed: type_specifiers,
+        typed: read_specifiers,
     };
-    grammar.specifiers(tokens, Allowed::Type)
+    grammar.specifiers(tokens, allowed)
 }
 
 /// Reads specifiers of fewer than `room` levels that may stand together here.
-#[tactic(auto, using(crate::proofs::Rooms::knot_steps))]
 pub fn specifiers<'a>(
     alloc: Global,
     tokens: &mut Cursor<'_, 'a>,
@@ -82,16 +82,7 @@ pub fn specifiers<'a>(
     ensures { Gives specifiers_in ((reading room).specifiers (test_of allowed) (left_of tokens.old))
         result (left_of tokens.new) }
 {
-    if room == 0 {
-        return Err(Fault::Syntax);
-    }
-    let grammar = Grammar {
-        alloc,
-        room: room - 1,
-        inner: expression,
-        typed: type_specifiers,
-    };
-    let ReadSpecifiers { all, .. } = grammar.specifiers(tokens, allowed)?;
+    let ReadSpecifiers { all, .. } = read_specifiers(alloc, tokens, room, allowed)?;
     Ok(all)
 }
 
@@ -109,7 +100,7 @@ pub fn declarator<'a>(
         alloc,
         room,
         inner: expression,
-        typed: type_specifiers,
+        typed: read_specifiers,
     };
     let mut tallest = 0;
     let one = grammar.declarator(tokens, &mut tallest)?;

@@ -4,6 +4,7 @@ ghost use Rattle.mc_tree.specs.Height as h;
 ghost use Rattle.mc_tree.specs.Views.{expression_of};
 ghost use Rattle.mc_descent.specs.Given.{IsAllHigh, trees_of};
 
+use crate::grammar::lists::push_boxed;
 use mc_cursor::is_too_high;
 use mc_span::Span;
 use mc_tree::{ArrayLength, Expression, Specifier};
@@ -55,7 +56,7 @@ impl<'a> ReadAll<'a> {
         ensures all_high { IfOk result (λ _. IsAllHigh self.new) }
         ensures height { IfOk result (λ _. self.new.height ≡ max self.old.height height) }
     {
-        self.trees.push(Box::into_inner(tree))?;
+        push_boxed(&mut self.trees, tree)?;
         self.height = self.height.max(height);
         Ok(())
     }

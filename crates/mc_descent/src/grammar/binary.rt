@@ -11,6 +11,7 @@ ghost use Rattle.mc_cursor.specs.Cursors.{left_of};
 ghost use Rattle.mc_cursor.specs.Rules.{level_of, levels_of};
 ghost use Rattle.mc_descent.specs.Given.{GivesMade, GivesTree, IsHigh, Nests, NestsTypes, tree_of, trees_of};
 
+use crate::allowed::Allowed;
 use crate::grammar::Grammar;
 use crate::grammar::makers::{boxed, end_of_expressions};
 use crate::read::{Read, ReadAll, ReadSpecifiers};
@@ -22,34 +23,110 @@ use mc_span::Span;
 use mc_tree::{AssignmentOperator, BinaryOperator, Expression};
 use std::alloc::Global;
 
+#[inline(never)]
+fn made_binary<'a>(
+    alloc: Global,
+    operator: BinaryOperator,
+    left: Read<'a>,
+    right: Read<'a>,
+) -> Result<Read<'a>, Fault>
+    requires small { (left.height ≤ 1000) × (right.height ≤ 1000) }
+    ensures { GivesMade (t.Binary operator (tree_of left.entry) (tree_of right.entry)
+        (places.to (span_of (tree_of left.entry)) (span_of (tree_of right.entry))))
+        (max left.entry.height right.entry.height + 1) result }
+{
+    let span = to(left.tree.span(), right.tree.span());
+    let height = left.height.max(right.height) + 1;
+    let tree = Expression::Binary {
+        operator,
+        left: left.tree,
+        right: right.tree,
+        span,
+    };
+    boxed(alloc, tree, height)
+}
+
+#[inline(never)]
+fn made_conditional<'a>(
+    alloc: Global,
+    test: Read<'a>,
+    chosen: Read<'a>,
+    other: Read<'a>,
+) -> Result<Read<'a>, Fault>
+    requires small { (test.height ≤ 1000) × (chosen.height ≤ 1000) × (other.height ≤ 1000) }
+    ensures { GivesMade (t.Conditional (tree_of test.entry) (tree_of chosen.entry)
+        (tree_of other.entry)
+        (places.to (span_of (tree_of test.entry)) (span_of (tree_of other.entry))))
+        (max test.entry.height (max chosen.entry.height other.entry.height) + 1) result }
+{
+    let Read {
+        tree: test,
+        height: test_height,
+    } = test;
+    let Read {
+        tree: chosen,
+        height: chosen_height,
+    } = chosen;
+    let Read {
+        tree: other,
+        height,
+    } = other;
+    let span = to(test.span(), other.span());
+    let height = test_height.max(chosen_height.max(height)) + 1;
+    let tree = Expression::Conditional {
+        test,
+        chosen,
+        other,
+        span,
+    };
+    boxed(alloc, tree, height)
+}
+
+#[inline(never)]
+fn made_assignment<'a>(
+    alloc: Global,
+    operator: AssignmentOperator,
+    target: Read<'a>,
+    value: Read<'a>,
+) -> Result<Read<'a>, Fault>
+    requires small { (target.height ≤ 1000) × (value.height ≤ 1000) }
+    ensures { GivesMade (t.Assignment operator (tree_of target.entry) (tree_of value.entry)
+        (places.to (span_of (tree_of target.entry)) (span_of (tree_of value.entry))))
+        (max target.entry.height value.entry.height + 1) result }
+{
+    let span = to(target.tree.span(), value.tree.span());
+    let height = target.height.max(value.height) + 1;
+    let tree = Expression::Assignment {
+        operator,
+        target: target.tree,
+        value: value.tree,
+        span,
+    };
+    boxed(alloc, tree, height)
+}
+
+#[inline(never)]
+fn made_comma<'a>(alloc: Global, start: Span, all: ReadAll<'a>) -> Result<Read<'a>, Fault>
+    requires small { all.height ≤ 1000 }
+    ensures { GivesMade
+        (t.Comma (expressions_from (trees_of all.entry))
+        (places.to start
+        (places.end_of_expressions start (expressions_from (trees_of all.entry)))))
+        (all.entry.height + 1) result }
+{
+    let span = to(start, end_of_expressions(start, &all.trees));
+    let tree = Expression::Comma {
+        operands: all.trees,
+        span,
+    };
+    boxed(alloc, tree, all.height + 1)
+}
+
 impl<
     'a,
     F: Fn(Global, &mut Cursor<'_, 'a>, u32, Rule) -> Result<Read<'a>, Fault>,
-    G: Fn(Global, &mut Cursor<'_, 'a>, u32) -> Result<ReadSpecifiers<'a>, Fault>,
+    G: Fn(Global, &mut Cursor<'_, 'a>, u32, Allowed) -> Result<ReadSpecifiers<'a>, Fault>,
 > Grammar<F, G> {
-    #[inline(never)]
-    fn made_binary(
-        &self,
-        operator: BinaryOperator,
-        left: Read<'a>,
-        right: Read<'a>,
-    ) -> Result<Read<'a>, Fault>
-        requires small { (left.height ≤ 1000) × (right.height ≤ 1000) }
-        ensures { GivesMade (t.Binary operator (tree_of left.entry) (tree_of right.entry)
-            (places.to (span_of (tree_of left.entry)) (span_of (tree_of right.entry))))
-            (max left.entry.height right.entry.height + 1) result }
-    {
-        let span = to(left.tree.span(), right.tree.span());
-        let height = left.height.max(right.height) + 1;
-        let tree = Expression::Binary {
-            operator,
-            left: left.tree,
-            right: right.tree,
-            span,
-        };
-        boxed(self.alloc, tree, height)
-    }
-
     /// One operator and its right operand, after the left one.
     #[inline(never)]
     #[tactic(auto, unfolding(mc_reading::specs::Expressions::operation_of))]
@@ -73,7 +150,7 @@ impl<
         }
         tokens.take()?;
         let right = self.part(Rule::Operand(level), tokens)?;
-        self.made_binary(operator, left, right)
+        made_binary(self.alloc, operator, left, right)
     }
 
     /// The operators of a level and their right operands, after the first operand.
@@ -125,42 +202,6 @@ impl<
         Ok(left)
     }
 
-    #[inline(never)]
-    fn made_conditional(
-        &self,
-        test: Read<'a>,
-        chosen: Read<'a>,
-        other: Read<'a>,
-    ) -> Result<Read<'a>, Fault>
-        requires small { (test.height ≤ 1000) × (chosen.height ≤ 1000) × (other.height ≤ 1000) }
-        ensures { GivesMade (t.Conditional (tree_of test.entry) (tree_of chosen.entry)
-            (tree_of other.entry)
-            (places.to (span_of (tree_of test.entry)) (span_of (tree_of other.entry))))
-            (max test.entry.height (max chosen.entry.height other.entry.height) + 1) result }
-    {
-        let Read {
-            tree: test,
-            height: test_height,
-        } = test;
-        let Read {
-            tree: chosen,
-            height: chosen_height,
-        } = chosen;
-        let Read {
-            tree: other,
-            height,
-        } = other;
-        let span = to(test.span(), other.span());
-        let height = test_height.max(chosen_height.max(height)) + 1;
-        let tree = Expression::Conditional {
-            test,
-            chosen,
-            other,
-            span,
-        };
-        boxed(self.alloc, tree, height)
-    }
-
     /// `?`, two operands and the `:` between them, after the test.
     #[inline(never)]
     #[tactic(auto, unfolding(mc_reading::specs::Expressions::conditional_of))]
@@ -179,7 +220,7 @@ impl<
         let chosen = self.part(Rule::Comma, tokens)?;
         tokens.expect(b":")?;
         let other = self.part(Rule::Cond, tokens)?;
-        self.made_conditional(test, chosen, other)
+        made_conditional(self.alloc, test, chosen, other)
     }
 
     #[tactic(auto, unfolding(mc_reading::specs::Expressions::cond_of, mc_reading::specs::Expressions::level_of))]
@@ -198,29 +239,6 @@ impl<
         } else {
             Ok(test)
         }
-    }
-
-    #[inline(never)]
-    fn made_assignment(
-        &self,
-        operator: AssignmentOperator,
-        target: Read<'a>,
-        value: Read<'a>,
-    ) -> Result<Read<'a>, Fault>
-        requires small { (target.height ≤ 1000) × (value.height ≤ 1000) }
-        ensures { GivesMade (t.Assignment operator (tree_of target.entry) (tree_of value.entry)
-            (places.to (span_of (tree_of target.entry)) (span_of (tree_of value.entry))))
-            (max target.entry.height value.entry.height + 1) result }
-    {
-        let span = to(target.tree.span(), value.tree.span());
-        let height = target.height.max(value.height) + 1;
-        let tree = Expression::Assignment {
-            operator,
-            target: target.tree,
-            value: value.tree,
-            span,
-        };
-        boxed(self.alloc, tree, height)
     }
 
     /// An operator that assigns and the value, after the target.
@@ -244,7 +262,7 @@ impl<
         }
         tokens.take()?;
         let value = self.part(Rule::Assign, tokens)?;
-        self.made_assignment(operator, target, value)
+        made_assignment(self.alloc, operator, target, value)
     }
 
     #[tactic(auto, unfolding(mc_reading::specs::Expressions::assign_of))]
@@ -262,23 +280,6 @@ impl<
             Some(operator) if is_unary(&target.tree) => self.assignment(operator, target, tokens),
             _ => Ok(target),
         }
-    }
-
-    #[inline(never)]
-    fn made_comma(&self, start: Span, all: ReadAll<'a>) -> Result<Read<'a>, Fault>
-        requires small { all.height ≤ 1000 }
-        ensures { GivesMade
-            (t.Comma (expressions_from (trees_of all.entry))
-            (places.to start
-            (places.end_of_expressions start (expressions_from (trees_of all.entry)))))
-            (all.entry.height + 1) result }
-    {
-        let span = to(start, end_of_expressions(start, &all.trees));
-        let tree = Expression::Comma {
-            operands: all.trees,
-            span,
-        };
-        boxed(self.alloc, tree, all.height + 1)
     }
 
     /// The operands of a comma, after the first.
@@ -301,7 +302,7 @@ impl<
         let mut all = ReadAll::new(self.alloc);
         all.push(first.tree, first.height)?;
         self.expressions(&mut all, tokens)?;
-        self.made_comma(start, all)
+        made_comma(self.alloc, start, all)
     }
 
     #[tactic(auto, unfolding(mc_reading::specs::Expressions::comma_of))]

@@ -1,23 +1,22 @@
 //! Declarators and their parts (C17 6.7.6).
 ghost use Rattle.std.specs.Prelude.{◌≡◌, ◌≤◌, ◌+◌, ◌-◌, IfOk, [], map};
 ghost use Rattle.mc_lex.specs.Tokens.{tok_of};
-ghost use Rattle.mc_tree.specs.Views.{declarator_of, parameters_from, tag_of};
+ghost use Rattle.mc_tree.specs.Views.{tag_of};
 ghost use Rattle.mc_tree.specs.Height.{height_declarator, height_parameter, height_specifiers};
-ghost use Rattle.mc_tree.specs.Tree as t;
 ghost use Rattle.mc_grammar.specs.Words.{lexeme_of};
-ghost use Rattle.mc_grammar.specs.Places as places;
 ghost use Rattle.mc_grammar.specs.Places.{name_at};
 ghost use Rattle.mc_reading.specs.Lists.{comma_list, listed};
 ghost use Rattle.mc_reading.specs.Specifiers as spec;
 ghost use Rattle.mc_reading.specs.Rooms.{reading};
-ghost use Rattle.mc_cursor.specs.Cursors.{left_of};
+ghost use Rattle.mc_cursor.specs.Cursors.{Gives, left_of};
 ghost use Rattle.mc_cursor.specs.Short.{IsShort};
 ghost use Rattle.mc_descent.specs.Given.{GivesPart, Nests, NestsTypes, specifiers_of};
 ghost use Rattle.mc_descent.specs.Parts as view;
 
+use crate::allowed::Allowed;
 use crate::grammar::Grammar;
 use crate::grammar::lists::{push, push_boxed};
-use crate::grammar::makers::end_of_specifiers;
+use crate::grammar::makers::{end_of_specifiers, on_heap};
 use crate::grammar::unary::stars;
 use crate::read::{Read, ReadLength, ReadLengths, ReadSpecifiers};
 use mc_cursor::cursor::{Cursor, identifier, place};
@@ -29,10 +28,94 @@ use mc_span::Span;
 use mc_tree::{ArrayLength, Declarator, Identifier, Parameter};
 use std::alloc::Global;
 
+/// A declarator of a function without parameters, from the parenthesis that closes its list on.
+#[inline(never)]
+fn empty_function<'a>(
+    alloc: Global,
+    start: Span,
+    stars: u32,
+    name: &Token<'a>,
+    list_start: Span,
+    tokens: &mut Cursor<'_, 'a>,
+) -> Result<Box<Declarator<'a>>, Fault>
+    requires short { IsShort name.now }
+    ensures { Gives view.boxed_declarator
+        (view.empty_function start stars (name_at (lexeme_of (tok_of name.now))) list_start
+        (left_of tokens.old)) result (left_of tokens.new) }
+{
+    let list_span = to(list_start, place(tokens.take()?));
+    on_heap(
+        alloc,
+        Declarator::EmptyFunction {
+            stars,
+            name: identifier(name),
+            list_span,
+            span: to(start, list_span),
+        },
+    )
+}
+
+/// A declarator of a function whose list is `void`, from this word on.
+#[inline(never)]
+fn void_function<'a>(
+    alloc: Global,
+    start: Span,
+    stars: u32,
+    name: &Token<'a>,
+    list_start: Span,
+    tokens: &mut Cursor<'_, 'a>,
+) -> Result<Box<Declarator<'a>>, Fault>
+    requires short { IsShort name.now }
+    ensures { Gives view.boxed_declarator
+        (view.void_function start stars (name_at (lexeme_of (tok_of name.now))) list_start
+        (left_of tokens.old)) result (left_of tokens.new) }
+{
+    tokens.take()?;
+    let list_span = to(list_start, place(tokens.take()?));
+    on_heap(
+        alloc,
+        Declarator::VoidFunction {
+            stars,
+            name: identifier(name),
+            list_span,
+            span: to(start, list_span),
+        },
+    )
+}
+
+/// A declarator of a function, after its parameters.
+#[inline(never)]
+fn listed_function<'a>(
+    alloc: Global,
+    start: Span,
+    stars: u32,
+    name: &Token<'a>,
+    list_start: Span,
+    parameters: Vec<Parameter<'a>>,
+    tokens: &mut Cursor<'_, 'a>,
+) -> Result<Box<Declarator<'a>>, Fault>
+    requires short { IsShort name.now }
+    ensures { Gives view.boxed_declarator
+        (view.listed_function start stars (name_at (lexeme_of (tok_of name.now))) list_start
+        (view.parameters_of parameters.entry) (left_of tokens.old)) result (left_of tokens.new) }
+{
+    let list_span = to(list_start, place(tokens.expect(b")")?));
+    on_heap(
+        alloc,
+        Declarator::Function {
+            stars,
+            name: identifier(name),
+            parameters,
+            list_span,
+            span: to(start, list_span),
+        },
+    )
+}
+
 impl<
     'a,
     F: Fn(Global, &mut Cursor<'_, 'a>, u32, Rule) -> Result<Read<'a>, Fault>,
-    G: Fn(Global, &mut Cursor<'_, 'a>, u32) -> Result<ReadSpecifiers<'a>, Fault>,
+    G: Fn(Global, &mut Cursor<'_, 'a>, u32, Allowed) -> Result<ReadSpecifiers<'a>, Fault>,
 > Grammar<F, G> {
     /// A pair of brackets, perhaps with a length.
     #[inline(never)]
@@ -135,7 +218,7 @@ impl<
             lengths,
             span: to(start, end),
         };
-        Ok(Box::new(self.alloc, parameter)?)
+        on_heap(self.alloc, parameter)
     }
 
     /// A parameter, after its specifiers. It stands apart, so that it takes no room of the stack
@@ -223,77 +306,6 @@ impl<
         Err(Fault::Syntax)
     }
 
-    /// A declarator on the heap.
-    #[inline(never)]
-    fn made(&self, declarator: Declarator<'a>) -> Result<Box<Declarator<'a>>, Fault>
-        ensures { view.IsMadeDeclarator (declarator_of declarator.entry) result }
-    {
-        Ok(Box::new(self.alloc, declarator)?)
-    }
-
-    #[inline(never)]
-    fn empty_function(
-        &self,
-        start: Span,
-        stars: u32,
-        name: &Token<'a>,
-        list_span: Span,
-    ) -> Result<Box<Declarator<'a>>, Fault>
-        requires short { IsShort name.now }
-        ensures { view.IsMadeDeclarator (t.function stars (name_at (lexeme_of (tok_of name.now)))
-            (t.Empty list_span) (places.to start list_span)) result }
-    {
-        self.made(Declarator::EmptyFunction {
-            stars,
-            name: identifier(name),
-            list_span,
-            span: to(start, list_span),
-        })
-    }
-
-    #[inline(never)]
-    fn void_function(
-        &self,
-        start: Span,
-        stars: u32,
-        name: &Token<'a>,
-        list_span: Span,
-    ) -> Result<Box<Declarator<'a>>, Fault>
-        requires short { IsShort name.now }
-        ensures { view.IsMadeDeclarator (t.function stars (name_at (lexeme_of (tok_of name.now)))
-            (t.Void list_span) (places.to start list_span)) result }
-    {
-        self.made(Declarator::VoidFunction {
-            stars,
-            name: identifier(name),
-            list_span,
-            span: to(start, list_span),
-        })
-    }
-
-    #[inline(never)]
-    fn listed_function(
-        &self,
-        start: Span,
-        stars: u32,
-        name: &Token<'a>,
-        parameters: Vec<Parameter<'a>>,
-        list_span: Span,
-    ) -> Result<Box<Declarator<'a>>, Fault>
-        requires short { IsShort name.now }
-        ensures { view.IsMadeDeclarator (t.function stars (name_at (lexeme_of (tok_of name.now)))
-            (t.Listed (parameters_from (view.parameters_of parameters.entry)) list_span)
-            (places.to start list_span)) result }
-    {
-        self.made(Declarator::Function {
-            stars,
-            name: identifier(name),
-            parameters,
-            list_span,
-            span: to(start, list_span),
-        })
-    }
-
     /// The parentheses of a function's declarator, after its name.
     #[inline(always)]
     #[tactic(auto, unfolding(mc_reading::specs::Specifiers::parameters_of))]
@@ -316,19 +328,15 @@ impl<
             (left_of tokens.new) tallest.old tallest.new }
         ensures low { IfOk result (λ _. tallest.new ≤ self.now.room - 1) }
     {
-        let open = tokens.expect(b"(")?;
+        let open = place(tokens.expect(b"(")?);
         if tokens.sees(b")") {
-            let list_span = to(place(open), place(tokens.take()?));
-            return self.empty_function(start, stars, name, list_span);
+            return empty_function(self.alloc, start, stars, name, open, tokens);
         }
         if tokens.sees_void_alone() {
-            tokens.take()?;
-            let list_span = to(place(open), place(tokens.take()?));
-            return self.void_function(start, stars, name, list_span);
+            return void_function(self.alloc, start, stars, name, open, tokens);
         }
         let parameters = self.parameters(tokens, tallest)?;
-        let list_span = to(place(open), place(tokens.expect(b")")?));
-        self.listed_function(start, stars, name, parameters, list_span)
+        listed_function(self.alloc, start, stars, name, open, parameters, tokens)
     }
 
     /// The brackets of a declarator, after its name.
@@ -359,7 +367,7 @@ impl<
             lengths,
             span: to(start, end),
         };
-        self.made(declarator)
+        on_heap(self.alloc, declarator)
     }
 
     #[inline(always)]

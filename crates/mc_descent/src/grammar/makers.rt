@@ -2,7 +2,7 @@
 ghost use Rattle.std.specs.Prelude.{◌≡◌, map};
 ghost use Rattle.mc_tree.specs.Views.{expression_of, expressions_from, specifier_of, specifiers_from};
 ghost use Rattle.mc_grammar.specs.Places as places;
-ghost use Rattle.mc_descent.specs.Given.{GivesMade};
+ghost use Rattle.mc_descent.specs.Given.{GivesMade, IsOnHeap};
 
 use crate::read::Read;
 use mc_cursor::fault::Fault;
@@ -10,12 +10,20 @@ use mc_span::Span;
 use mc_tree::{Expression, Specifier};
 use std::alloc::Global;
 
+/// A value on the heap.
+#[inline(never)]
+pub fn on_heap<T: Drop>(alloc: Global, one: T) -> Result<Box<T>, Fault>
+    ensures { IsOnHeap one result }
+{
+    Ok(Box::new(alloc, one)?)
+}
+
 /// A tree on the heap.
 #[inline(never)]
 pub fn boxed<'a>(alloc: Global, tree: Expression<'a>, height: u32) -> Result<Read<'a>, Fault>
     ensures { GivesMade (expression_of tree.entry) height result }
 {
-    let tree = Box::new(alloc, tree)?;
+    let tree = on_heap(alloc, tree)?;
     Ok(Read { tree, height })
 }
 

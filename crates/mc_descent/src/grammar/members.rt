@@ -10,8 +10,10 @@ ghost use Rattle.mc_cursor.specs.Cursors.{left_of};
 ghost use Rattle.mc_descent.specs.Given.{GivesPart, Nests, NestsTypes, specifiers_of};
 ghost use Rattle.mc_descent.specs.Parts as view;
 
+use crate::allowed::Allowed;
 use crate::grammar::Grammar;
 use crate::grammar::lists::{push, push_boxed};
+use crate::grammar::makers::on_heap;
 use crate::read::{Read, ReadSpecifiers};
 use mc_cursor::cursor::{Cursor, identifier, place};
 use mc_cursor::fault::Fault;
@@ -21,10 +23,40 @@ use mc_span::Span;
 use mc_tree::{Declarator, Enumerator, Member};
 use std::alloc::Global;
 
+/// The end of a declaration of members, after their declarators. It stands apart, so that it
+/// takes no room of the stack where structures nest.
+#[inline(never)]
+fn member_end<'a>(
+    alloc: Global,
+    start: Span,
+    read: ReadSpecifiers<'a>,
+    declarators: Vec<Declarator<'a>>,
+    tokens: &mut Cursor<'_, 'a>,
+    tallest: &mut u32,
+) -> Result<Box<Member<'a>>, Fault>
+    ensures member { GivesPart view.boxed_member (λ _. read.entry.height)
+        (view.member_end start (specifiers_of read.entry)
+        (view.declarators_of declarators.entry) (left_of tokens.old)) result
+        (left_of tokens.new) tallest.old tallest.new }
+{
+    let ReadSpecifiers {
+        all: specifiers,
+        height,
+    } = read;
+    let close = tokens.expect(b";")?;
+    *tallest = (*tallest).max(height);
+    let member = Member {
+        specifiers,
+        declarators,
+        span: to(start, place(close)),
+    };
+    on_heap(alloc, member)
+}
+
 impl<
     'a,
     F: Fn(Global, &mut Cursor<'_, 'a>, u32, Rule) -> Result<Read<'a>, Fault>,
-    G: Fn(Global, &mut Cursor<'_, 'a>, u32) -> Result<ReadSpecifiers<'a>, Fault>,
+    G: Fn(Global, &mut Cursor<'_, 'a>, u32, Allowed) -> Result<ReadSpecifiers<'a>, Fault>,
 > Grammar<F, G> {
     #[inline(never)]
     #[tactic(auto, using(crate::proofs::Parts::declarators_steps))]
@@ -54,38 +86,6 @@ impl<
         Err(Fault::Syntax)
     }
 
-    /// The end of a declaration of members, after their declarators. It stands apart, so that it
-    /// takes no room of the stack where structures nest.
-    #[inline(never)]
-    fn member_end(
-        &self,
-        start: Span,
-        read: ReadSpecifiers<'a>,
-        declarators: Vec<Declarator<'a>>,
-        tokens: &mut Cursor<'_, 'a>,
-        tallest: &mut u32,
-    ) -> Result<Box<Member<'a>>, Fault>
-        requires low { (tallest.now ≤ self.now.room - 1) × (read.height ≤ self.now.room - 1) }
-        ensures member { GivesPart view.boxed_member (λ _. read.entry.height)
-            (view.member_end start (specifiers_of read.entry)
-            (view.declarators_of declarators.entry) (left_of tokens.old)) result
-            (left_of tokens.new) tallest.old tallest.new }
-        ensures low { IfOk result (λ _. tallest.new ≤ self.now.room - 1) }
-    {
-        let ReadSpecifiers {
-            all: specifiers,
-            height,
-        } = read;
-        let close = tokens.expect(b";")?;
-        *tallest = (*tallest).max(height);
-        let member = Member {
-            specifiers,
-            declarators,
-            span: to(start, place(close)),
-        };
-        Ok(Box::new(self.alloc, member)?)
-    }
-
     #[inline(always)]
     #[tactic(auto, unfolding(mc_reading::specs::Specifiers::struct_member_of))]
     fn member_declaration(
@@ -105,7 +105,7 @@ impl<
         let start = tokens.first()?;
         let read = self.types(tokens)?;
         let declarators = self.declarators(tokens, tallest)?;
-        self.member_end(start, read, declarators, tokens, tallest)
+        member_end(self.alloc, start, read, declarators, tokens, tallest)
     }
 
     #[inline(always)]

@@ -10,6 +10,7 @@ ghost use Rattle.mc_reading.specs.Rooms.{reading};
 ghost use Rattle.mc_cursor.specs.Cursors.{left_of};
 ghost use Rattle.mc_descent.specs.Given.{GivesMade, GivesTree, IsHigh, Nests, tree_of};
 
+use crate::allowed::Allowed;
 use crate::grammar::Grammar;
 use crate::grammar::makers::boxed;
 use crate::read::{Read, ReadSpecifiers};
@@ -21,32 +22,88 @@ use mc_span::Span;
 use mc_tree::{Expression, StepOperator};
 use std::alloc::Global;
 
+#[inline(never)]
+fn made_index<'a>(
+    alloc: Global,
+    array: Read<'a>,
+    index: Read<'a>,
+    close: Span,
+) -> Result<Read<'a>, Fault>
+    requires small { (array.height ≤ 1000) × (index.height ≤ 1000) }
+    ensures { GivesMade
+        (t.Index (tree_of array.entry) (tree_of index.entry)
+        (places.to (span_of (tree_of array.entry)) close))
+        (max array.entry.height index.entry.height + 1) result }
+{
+    let Read {
+        tree: array,
+        height: array_height,
+    } = array;
+    let Read {
+        tree: index,
+        height,
+    } = index;
+    let span = to(array.span(), close);
+    let tree = Expression::Index { array, index, span };
+    boxed(alloc, tree, array_height.max(height) + 1)
+}
+
+/// A member's name, after its object.
+#[inline(never)]
+fn member<'a>(
+    alloc: Global,
+    object: Read<'a>,
+    tokens: &mut Cursor<'_, 'a>,
+) -> Result<Read<'a>, Fault>
+    requires small { object.height ≤ 1000 }
+    requires high { IsHigh object }
+    ensures tree { GivesTree (spec.member_of (tree_of object.entry) (left_of tokens.old)) result
+        (left_of tokens.new) }
+    ensures height { IfOk result (λ r. r.height ≡ object.entry.height + 1) }
+{
+    tokens.take()?;
+    let name = identifier(tokens.expect_name()?);
+    let span = to(object.tree.span(), name.span);
+    let height = object.height + 1;
+    let tree = Expression::Member {
+        object: object.tree,
+        name,
+        span,
+    };
+    boxed(alloc, tree, height)
+}
+
+/// `++` or `--`, after its operand.
+#[inline(never)]
+fn postfix_step<'a>(
+    alloc: Global,
+    operand: Read<'a>,
+    operator: StepOperator,
+    tokens: &mut Cursor<'_, 'a>,
+) -> Result<Read<'a>, Fault>
+    requires small { operand.height ≤ 1000 }
+    requires high { IsHigh operand }
+    ensures tree { GivesTree
+        (spec.stepped (tree_of operand.entry) (Some operator) (left_of tokens.old)) result
+        (left_of tokens.new) }
+    ensures height { IfOk result (λ r. r.height ≡ operand.entry.height + 1) }
+{
+    let last = tokens.take()?;
+    let span = to(operand.tree.span(), place(last));
+    let height = operand.height + 1;
+    let tree = Expression::PostfixStep {
+        operator,
+        operand: operand.tree,
+        span,
+    };
+    boxed(alloc, tree, height)
+}
+
 impl<
     'a,
     F: Fn(Global, &mut Cursor<'_, 'a>, u32, Rule) -> Result<Read<'a>, Fault>,
-    G: Fn(Global, &mut Cursor<'_, 'a>, u32) -> Result<ReadSpecifiers<'a>, Fault>,
+    G: Fn(Global, &mut Cursor<'_, 'a>, u32, Allowed) -> Result<ReadSpecifiers<'a>, Fault>,
 > Grammar<F, G> {
-    #[inline(never)]
-    fn made_index(&self, array: Read<'a>, index: Read<'a>, close: Span) -> Result<Read<'a>, Fault>
-        requires small { (array.height ≤ 1000) × (index.height ≤ 1000) }
-        ensures { GivesMade
-            (t.Index (tree_of array.entry) (tree_of index.entry)
-            (places.to (span_of (tree_of array.entry)) close))
-            (max array.entry.height index.entry.height + 1) result }
-    {
-        let Read {
-            tree: array,
-            height: array_height,
-        } = array;
-        let Read {
-            tree: index,
-            height,
-        } = index;
-        let span = to(array.span(), close);
-        let tree = Expression::Index { array, index, span };
-        boxed(self.alloc, tree, array_height.max(height) + 1)
-    }
-
     /// An index, after the array.
     #[inline(never)]
     fn index(&self, array: Read<'a>, tokens: &mut Cursor<'_, 'a>) -> Result<Read<'a>, Fault>
@@ -60,54 +117,7 @@ impl<
         tokens.take()?;
         let index = self.part(Rule::Comma, tokens)?;
         let close = tokens.expect(b"]")?;
-        self.made_index(array, index, place(close))
-    }
-
-    /// A member's name, after its object.
-    #[inline(never)]
-    fn member(&self, object: Read<'a>, tokens: &mut Cursor<'_, 'a>) -> Result<Read<'a>, Fault>
-        requires room { (self.now.room ≤ 1000) × (object.height + 1 ≤ self.now.room) }
-        requires high { IsHigh object }
-        ensures tree { GivesTree (spec.member_of (tree_of object.entry) (left_of tokens.old)) result
-            (left_of tokens.new) }
-        ensures height { IfOk result (λ r. r.height ≤ self.now.room) }
-    {
-        tokens.take()?;
-        let name = identifier(tokens.expect_name()?);
-        let span = to(object.tree.span(), name.span);
-        let height = object.height + 1;
-        let tree = Expression::Member {
-            object: object.tree,
-            name,
-            span,
-        };
-        boxed(self.alloc, tree, height)
-    }
-
-    /// `++` or `--`, after its operand.
-    #[inline(never)]
-    fn postfix_step(
-        &self,
-        operand: Read<'a>,
-        operator: StepOperator,
-        tokens: &mut Cursor<'_, 'a>,
-    ) -> Result<Read<'a>, Fault>
-        requires room { (self.now.room ≤ 1000) × (operand.height + 1 ≤ self.now.room) }
-        requires high { IsHigh operand }
-        ensures tree { GivesTree
-            (spec.stepped (tree_of operand.entry) (Some operator) (left_of tokens.old)) result
-            (left_of tokens.new) }
-        ensures height { IfOk result (λ r. r.height ≤ self.now.room) }
-    {
-        let last = tokens.take()?;
-        let span = to(operand.tree.span(), place(last));
-        let height = operand.height + 1;
-        let tree = Expression::PostfixStep {
-            operator,
-            operand: operand.tree,
-            span,
-        };
-        boxed(self.alloc, tree, height)
+        made_index(self.alloc, array, index, place(close))
     }
 
     /// One suffix, after its expression.
@@ -129,10 +139,10 @@ impl<
             return self.index(base, tokens);
         }
         if tokens.sees(b".") {
-            return self.member(base, tokens);
+            return member(self.alloc, base, tokens);
         }
         match tokens.step() {
-            Some(operator) => self.postfix_step(base, operator, tokens),
+            Some(operator) => postfix_step(self.alloc, base, operator, tokens),
             None => Err(Fault::Syntax),
         }
     }

@@ -14,6 +14,7 @@ ghost use Rattle.mc_cursor.specs.Rules.{nonterminal_of};
 ghost use Rattle.mc_cursor.specs.Short.{IsShort};
 ghost use Rattle.mc_descent.specs.Given.{GivesMade, GivesMore, GivesTree, IsAllHigh, Nests, trees_of};
 
+use crate::allowed::Allowed;
 use crate::grammar::Grammar;
 use crate::grammar::makers::boxed;
 use crate::read::{Read, ReadAll, ReadSpecifiers};
@@ -26,10 +27,61 @@ use mc_span::Span;
 use mc_tree::Expression;
 use std::alloc::Global;
 
+#[inline(never)]
+fn made_parenthesized<'a>(
+    alloc: Global,
+    inner: Box<Expression<'a>>,
+    height: u32,
+    span: Span,
+) -> Result<Read<'a>, Fault>
+    requires small { height ≤ 1000 }
+    ensures { GivesMade (t.Parenthesized (expression_of inner.entry.value) span) (height + 1)
+        result }
+{
+    boxed(alloc, Expression::Parenthesized { inner, span }, height + 1)
+}
+
+#[inline(never)]
+fn call<'a>(
+    alloc: Global,
+    name: &Token<'a>,
+    all: ReadAll<'a>,
+    close: Span,
+) -> Result<Read<'a>, Fault>
+    requires short { IsShort name.now }
+    requires small { all.height ≤ 1000 }
+    ensures { GivesMade
+        (t.Call (name_at (lexeme_of (tok_of name.now)))
+        (expressions_from (trees_of all.entry))
+        (places.to (at (lexeme_of (tok_of name.now))) close)) (all.entry.height + 1) result }
+{
+    let name = identifier(name);
+    let span = to(name.span, close);
+    let ReadAll {
+        trees: arguments,
+        height,
+    } = all;
+    let tree = Expression::Call {
+        name,
+        arguments,
+        span,
+    };
+    boxed(alloc, tree, height + 1)
+}
+
+#[inline(never)]
+fn made_name<'a>(alloc: Global, name: &Token<'a>) -> Result<Read<'a>, Fault>
+    requires short { IsShort name.now }
+    ensures { GivesMade (t.Named (name_at (lexeme_of (tok_of name.now)))) 1 result }
+{
+    let name = identifier(name);
+    boxed(alloc, Expression::Name { name }, 1)
+}
+
 impl<
     'a,
     F: Fn(Global, &mut Cursor<'_, 'a>, u32, Rule) -> Result<Read<'a>, Fault>,
-    G: Fn(Global, &mut Cursor<'_, 'a>, u32) -> Result<ReadSpecifiers<'a>, Fault>,
+    G: Fn(Global, &mut Cursor<'_, 'a>, u32, Allowed) -> Result<ReadSpecifiers<'a>, Fault>,
 > Grammar<F, G> {
     /// Reads an expression of fewer than `room` levels.
     pub fn part(&self, rule: Rule, tokens: &mut Cursor<'_, 'a>) -> Result<Read<'a>, Fault>
@@ -39,24 +91,6 @@ impl<
         ensures height { IfOk result (λ r. r.height + 1 ≤ self.now.room) }
     {
         (self.inner)(self.alloc, tokens, self.room, rule)
-    }
-
-    #[inline(never)]
-    fn made_parenthesized(
-        &self,
-        inner: Box<Expression<'a>>,
-        height: u32,
-        span: Span,
-    ) -> Result<Read<'a>, Fault>
-        requires small { height ≤ 1000 }
-        ensures { GivesMade (t.Parenthesized (expression_of inner.entry.value) span) (height + 1)
-            result }
-    {
-        boxed(
-            self.alloc,
-            Expression::Parenthesized { inner, span },
-            height + 1,
-        )
     }
 
     #[inline(never)]
@@ -78,7 +112,7 @@ impl<
             height,
         } = self.part(Rule::Comma, tokens)?;
         let close = tokens.expect(b")")?;
-        self.made_parenthesized(inner, height, to(place(open), place(close)))
+        made_parenthesized(self.alloc, inner, height, to(place(open), place(close)))
     }
 
     /// Reads the expressions of a list with commas between them, and puts them after these.
@@ -122,44 +156,12 @@ impl<
     {
         if tokens.sees(b")") {
             let close = tokens.take()?;
-            return self.call(name, ReadAll::new(self.alloc), place(close));
+            return call(self.alloc, name, ReadAll::new(self.alloc), place(close));
         }
         let mut all = ReadAll::new(self.alloc);
         self.expressions(&mut all, tokens)?;
         let close = tokens.expect(b")")?;
-        self.call(name, all, place(close))
-    }
-
-    #[inline(never)]
-    fn call(&self, name: &Token<'a>, all: ReadAll<'a>, close: Span) -> Result<Read<'a>, Fault>
-        requires short { IsShort name.now }
-        requires small { all.height ≤ 1000 }
-        ensures { GivesMade
-            (t.Call (name_at (lexeme_of (tok_of name.now)))
-            (expressions_from (trees_of all.entry))
-            (places.to (at (lexeme_of (tok_of name.now))) close)) (all.entry.height + 1) result }
-    {
-        let name = identifier(name);
-        let span = to(name.span, close);
-        let ReadAll {
-            trees: arguments,
-            height,
-        } = all;
-        let tree = Expression::Call {
-            name,
-            arguments,
-            span,
-        };
-        boxed(self.alloc, tree, height + 1)
-    }
-
-    #[inline(never)]
-    fn made_name(&self, name: &Token<'a>) -> Result<Read<'a>, Fault>
-        requires short { IsShort name.now }
-        ensures { GivesMade (t.Named (name_at (lexeme_of (tok_of name.now)))) 1 result }
-    {
-        let name = identifier(name);
-        boxed(self.alloc, Expression::Name { name }, 1)
+        call(self.alloc, name, all, place(close))
     }
 
     /// A name, or a call.
@@ -177,7 +179,7 @@ impl<
             tokens.take()?;
             self.arguments(name, tokens)
         } else {
-            self.made_name(name)
+            made_name(self.alloc, name)
         }
     }
 

@@ -6,6 +6,7 @@ ghost use Rattle.mc_cursor.specs.Cursors.{left_of};
 ghost use Rattle.mc_descent.specs.Given.{GivesTree, Nests, NestsTypes};
 ghost use Rattle.mc_cursor.specs.Rules.{nonterminal_of};
 
+use crate::allowed::Allowed;
 use crate::grammar::Grammar;
 use crate::read::{Read, ReadSpecifiers};
 use mc_cursor::cursor::Cursor;
@@ -16,7 +17,7 @@ use std::alloc::Global;
 impl<
     'a,
     F: Fn(Global, &mut Cursor<'_, 'a>, u32, Rule) -> Result<Read<'a>, Fault>,
-    G: Fn(Global, &mut Cursor<'_, 'a>, u32) -> Result<ReadSpecifiers<'a>, Fault>,
+    G: Fn(Global, &mut Cursor<'_, 'a>, u32, Allowed) -> Result<ReadSpecifiers<'a>, Fault>,
 > Grammar<F, G> {
     /// Reads an expression by this rule.
     #[inline(always)]

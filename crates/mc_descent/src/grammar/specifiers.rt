@@ -19,13 +19,14 @@ ghost use Rattle.mc_descent.specs.Parts as view;
 use crate::allowed::Allowed;
 use crate::grammar::Grammar;
 use crate::grammar::lists::push_boxed;
+use crate::grammar::makers::on_heap;
 use crate::read::{Read, ReadSpecifiers};
 use mc_cursor::cursor::{Cursor, identifier, place};
 use mc_cursor::fault::Fault;
 use mc_cursor::rule::Rule;
 use mc_cursor::to;
 use mc_lex::Token;
-use mc_tree::{Identifier, Member, Specifier, SpecifierWord};
+use mc_tree::{Enumerator, Identifier, Member, Specifier, SpecifierWord};
 use std::alloc::Global;
 
 /// Whether there is a type after this specifier.
@@ -45,66 +46,125 @@ fn has_type_after(has_type: bool, one: &Specifier<'_>) -> bool
         )
 }
 
+/// A keyword that is a whole specifier.
+#[inline(never)]
+fn keyword<'a>(
+    alloc: Global,
+    word: SpecifierWord,
+    tokens: &mut Cursor<'_, 'a>,
+) -> Result<Box<Specifier<'a>>, Fault>
+    ensures word { Gives view.boxed_specifier (view.word_of word (left_of tokens.old)) result
+        (left_of tokens.new) }
+    ensures flat { IfOk result (λ one. height_specifier (specifier_of one.value) ≡ 0) }
+{
+    let span = place(tokens.take()?);
+    on_heap(alloc, Specifier::Word { word, span })
+}
+
+#[inline(never)]
+fn typedef_name<'a>(alloc: Global, tokens: &mut Cursor<'_, 'a>) -> Result<Box<Specifier<'a>>, Fault>
+    ensures name { Gives view.boxed_specifier (view.typedef_name_of (left_of tokens.old)) result
+        (left_of tokens.new) }
+    ensures flat { IfOk result (λ one. height_specifier (specifier_of one.value) ≡ 0) }
+{
+    let name = identifier(tokens.take()?);
+    on_heap(alloc, Specifier::TypedefName { name })
+}
+
+/// The end of a structure, after its members, the tallest of which has `inner` levels.
+#[inline(never)]
+fn structure_end<'a>(
+    alloc: Global,
+    first: &Token<'a>,
+    tag: Option<Identifier<'a>>,
+    members: Vec<Member<'a>>,
+    inner: u32,
+    tokens: &mut Cursor<'_, 'a>,
+    tallest: &mut u32,
+) -> Result<Box<Specifier<'a>>, Fault>
+    requires small { inner ≤ 1000 }
+    requires short { IsShort first.now }
+    ensures specifier { GivesPart view.boxed_specifier (λ _. inner + 1)
+        (view.structure_end (lexeme_of (tok_of first.now)) (tag_of tag.entry)
+        (view.members_of members.entry) (left_of tokens.old)) result (left_of tokens.new)
+        tallest.old tallest.new }
+{
+    let close = tokens.expect(b"}")?;
+    *tallest = (*tallest).max(inner + 1);
+    let specifier = Specifier::Structure {
+        tag,
+        members,
+        span: to(place(first), place(close)),
+    };
+    on_heap(alloc, specifier)
+}
+
+/// The end of an enumeration, after its constants, the tallest of which has `inner` levels.
+#[inline(never)]
+fn enumeration_end<'a>(
+    alloc: Global,
+    first: &Token<'a>,
+    tag: Option<Identifier<'a>>,
+    enumerators: Vec<Enumerator<'a>>,
+    inner: u32,
+    tokens: &mut Cursor<'_, 'a>,
+    tallest: &mut u32,
+) -> Result<Box<Specifier<'a>>, Fault>
+    requires small { inner ≤ 1000 }
+    requires short { IsShort first.now }
+    ensures specifier { GivesPart view.boxed_specifier (λ _. inner + 1)
+        (view.enumeration_end (lexeme_of (tok_of first.now)) (tag_of tag.entry)
+        (view.enumerators_of enumerators.entry) (left_of tokens.old)) result (left_of tokens.new)
+        tallest.old tallest.new }
+{
+    let close = tokens.expect(b"}")?;
+    *tallest = (*tallest).max(inner + 1);
+    let specifier = Specifier::Enumeration {
+        tag,
+        enumerators,
+        span: to(place(first), place(close)),
+    };
+    on_heap(alloc, specifier)
+}
+
+/// An enumeration without a list.
+#[inline(never)]
+fn enumeration_tag<'a>(
+    alloc: Global,
+    first: &Token<'a>,
+    tag: Identifier<'a>,
+) -> Result<Box<Specifier<'a>>, Fault>
+    requires short { IsShort first.now }
+    ensures { view.IsMadeSpecifier
+        (t.EnumerationTag (name_of tag.entry)
+        (places.to (at (lexeme_of (tok_of first.now))) tag.entry.span)) result }
+{
+    let span = to(place(first), tag.span);
+    on_heap(alloc, Specifier::EnumerationTag { tag, span })
+}
+
+/// A structure without a list. It stands apart, so that it takes no room of the stack where
+/// structures nest.
+#[inline(never)]
+fn structure_tag<'a>(
+    alloc: Global,
+    first: &Token<'a>,
+    tag: Identifier<'a>,
+) -> Result<Box<Specifier<'a>>, Fault>
+    requires short { IsShort first.now }
+    ensures { view.IsMadeSpecifier
+        (t.StructureTag (name_of tag.entry)
+        (places.to (at (lexeme_of (tok_of first.now))) tag.entry.span)) result }
+{
+    let span = to(place(first), tag.span);
+    on_heap(alloc, Specifier::StructureTag { tag, span })
+}
+
 impl<
     'a,
     F: Fn(Global, &mut Cursor<'_, 'a>, u32, Rule) -> Result<Read<'a>, Fault>,
-    G: Fn(Global, &mut Cursor<'_, 'a>, u32) -> Result<ReadSpecifiers<'a>, Fault>,
+    G: Fn(Global, &mut Cursor<'_, 'a>, u32, Allowed) -> Result<ReadSpecifiers<'a>, Fault>,
 > Grammar<F, G> {
-    /// A keyword that is a whole specifier.
-    #[inline(never)]
-    fn word(
-        &self,
-        word: SpecifierWord,
-        tokens: &mut Cursor<'_, 'a>,
-    ) -> Result<Box<Specifier<'a>>, Fault>
-        ensures word { Gives view.boxed_specifier (view.word_of word (left_of tokens.old)) result
-            (left_of tokens.new) }
-        ensures flat { IfOk result (λ one. height_specifier (specifier_of one.value) ≡ 0) }
-    {
-        let span = place(tokens.take()?);
-        Ok(Box::new(self.alloc, Specifier::Word { word, span })?)
-    }
-
-    #[inline(never)]
-    fn typedef_name(&self, tokens: &mut Cursor<'_, 'a>) -> Result<Box<Specifier<'a>>, Fault>
-        ensures name { Gives view.boxed_specifier (view.typedef_name_of (left_of tokens.old)) result
-            (left_of tokens.new) }
-        ensures flat { IfOk result (λ one. height_specifier (specifier_of one.value) ≡ 0) }
-    {
-        let name = identifier(tokens.take()?);
-        Ok(Box::new(self.alloc, Specifier::TypedefName { name })?)
-    }
-
-    /// The end of a structure, after its members, the tallest of which has `inner` levels.
-    #[inline(never)]
-    fn structure_end(
-        &self,
-        first: &Token<'a>,
-        tag: Option<Identifier<'a>>,
-        members: Vec<Member<'a>>,
-        inner: u32,
-        tokens: &mut Cursor<'_, 'a>,
-        tallest: &mut u32,
-    ) -> Result<Box<Specifier<'a>>, Fault>
-        requires room { (self.now.room ≤ 1000) × (inner + 1 ≤ self.now.room) }
-        requires low { tallest.now ≤ self.now.room }
-        requires short { IsShort first.now }
-        ensures specifier { GivesPart view.boxed_specifier (λ _. inner + 1)
-            (view.structure_end (lexeme_of (tok_of first.now)) (tag_of tag.entry)
-            (view.members_of members.entry) (left_of tokens.old)) result (left_of tokens.new)
-            tallest.old tallest.new }
-        ensures low { IfOk result (λ _. tallest.new ≤ self.now.room) }
-    {
-        let close = tokens.expect(b"}")?;
-        *tallest = (*tallest).max(inner + 1);
-        let specifier = Specifier::Structure {
-            tag,
-            members,
-            span: to(place(first), place(close)),
-        };
-        Ok(Box::new(self.alloc, specifier)?)
-    }
-
     /// The members of a structure, from their brace on.
     #[inline(always)]
     fn structure_list(
@@ -131,24 +191,7 @@ impl<
         tokens.take()?;
         let mut inner = 0;
         let members = self.members(tokens, &mut inner)?;
-        self.structure_end(first, tag, members, inner, tokens, tallest)
-    }
-
-    /// A structure without a list. It stands apart, so that it takes no room of the stack where
-    /// structures nest.
-    #[inline(never)]
-    fn structure_tag(
-        &self,
-        first: &Token<'a>,
-        tag: Identifier<'a>,
-    ) -> Result<Box<Specifier<'a>>, Fault>
-        requires short { IsShort first.now }
-        ensures { view.IsMadeSpecifier
-            (t.StructureTag (name_of tag.entry)
-            (places.to (at (lexeme_of (tok_of first.now))) tag.entry.span)) result }
-    {
-        let span = to(place(first), tag.span);
-        Ok(Box::new(self.alloc, Specifier::StructureTag { tag, span })?)
+        structure_end(self.alloc, first, tag, members, inner, tokens, tallest)
     }
 
     #[inline(always)]
@@ -175,7 +218,7 @@ impl<
         if tokens.sees(b"{") {
             return self.structure_list(first, Some(tag), tokens, tallest);
         }
-        self.structure_tag(first, tag)
+        structure_tag(self.alloc, first, tag)
     }
 
     /// The constants of an enumeration, from their brace on.
@@ -203,14 +246,7 @@ impl<
         tokens.take()?;
         let mut inner = 0;
         let enumerators = self.enumerators(tokens, &mut inner)?;
-        let close = tokens.expect(b"}")?;
-        *tallest = (*tallest).max(inner + 1);
-        let specifier = Specifier::Enumeration {
-            tag,
-            enumerators,
-            span: to(place(first), place(close)),
-        };
-        Ok(Box::new(self.alloc, specifier)?)
+        enumeration_end(self.alloc, first, tag, enumerators, inner, tokens, tallest)
     }
 
     #[inline(never)]
@@ -236,8 +272,7 @@ impl<
         if tokens.sees(b"{") {
             return self.enumeration_list(first, Some(tag), tokens, tallest);
         }
-        let span = to(place(first), tag.span);
-        Ok(Box::new(self.alloc, Specifier::EnumerationTag { tag, span })?)
+        enumeration_tag(self.alloc, first, tag)
     }
 
     #[inline(always)]
@@ -257,7 +292,7 @@ impl<
         ensures low { IfOk result (λ _. tallest.new ≤ self.now.room) }
     {
         if let Some(word) = tokens.specifier_word() {
-            return self.word(word, tokens);
+            return keyword(self.alloc, word, tokens);
         }
         if tokens.sees_keyword(b"struct") {
             return self.structure(tokens, tallest);
@@ -265,7 +300,7 @@ impl<
         if tokens.sees_keyword(b"enum") {
             return self.enumeration(tokens, tallest);
         }
-        self.typedef_name(tokens)
+        typedef_name(self.alloc, tokens)
     }
 
     /// Specifiers, as long as they go on.

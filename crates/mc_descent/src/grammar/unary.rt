@@ -9,6 +9,7 @@ ghost use Rattle.mc_reading.specs.Rooms.{reading};
 ghost use Rattle.mc_cursor.specs.Cursors.{Gives, left_of};
 ghost use Rattle.mc_descent.specs.Given.{GivesMade, GivesSpecifiers, GivesTree, GivesType, IsHigh, Nests, NestsTypes, stars_of, tree_of, type_of};
 
+use crate::allowed::Allowed;
 use crate::grammar::Grammar;
 use crate::grammar::makers::{boxed, end_of_specifiers};
 use crate::read::{Read, ReadSpecifiers, ReadStars, ReadType};
@@ -39,10 +40,44 @@ pub fn stars(before: Span, tokens: &mut Cursor<'_, '_>) -> Result<ReadStars, Fau
     Err(Fault::Syntax)
 }
 
+#[inline(never)]
+fn made_cast<'a>(
+    alloc: Global,
+    first: Span,
+    name: ReadType<'a>,
+    operand: Read<'a>,
+) -> Result<Read<'a>, Fault>
+    requires small { (name.height ≤ 1000) × (operand.height ≤ 1000) }
+    ensures { GivesMade
+        (t.Cast (type_of name.entry) (tree_of operand.entry)
+        (places.to first (span_of (tree_of operand.entry))))
+        (max name.entry.height operand.entry.height + 1) result }
+{
+    let ReadType {
+        all: specifiers,
+        stars,
+        span: type_span,
+        height: type_height,
+    } = name;
+    let Read {
+        tree: operand,
+        height,
+    } = operand;
+    let span = to(first, operand.span());
+    let tree = Expression::Cast {
+        specifiers,
+        stars,
+        type_span,
+        operand,
+        span,
+    };
+    boxed(alloc, tree, type_height.max(height) + 1)
+}
+
 impl<
     'a,
     F: Fn(Global, &mut Cursor<'_, 'a>, u32, Rule) -> Result<Read<'a>, Fault>,
-    G: Fn(Global, &mut Cursor<'_, 'a>, u32) -> Result<ReadSpecifiers<'a>, Fault>,
+    G: Fn(Global, &mut Cursor<'_, 'a>, u32, Allowed) -> Result<ReadSpecifiers<'a>, Fault>,
 > Grammar<F, G> {
     /// Reads the specifiers of a type, of fewer than `room` levels.
     pub fn types(&self, tokens: &mut Cursor<'_, 'a>) -> Result<ReadSpecifiers<'a>, Fault>
@@ -52,7 +87,7 @@ impl<
             (left_of tokens.new) }
         ensures height { IfOk result (λ r. r.height + 1 ≤ self.now.room) }
     {
-        (self.typed)(self.alloc, tokens, self.room)
+        (self.typed)(self.alloc, tokens, self.room, Allowed::Type)
     }
 
     #[inline(never)]
@@ -75,40 +110,6 @@ impl<
         })
     }
 
-    #[inline(never)]
-    fn made_cast(
-        &self,
-        first: Span,
-        name: ReadType<'a>,
-        operand: Read<'a>,
-    ) -> Result<Read<'a>, Fault>
-        requires small { (name.height ≤ 1000) × (operand.height ≤ 1000) }
-        ensures { GivesMade
-            (t.Cast (type_of name.entry) (tree_of operand.entry)
-            (places.to first (span_of (tree_of operand.entry))))
-            (max name.entry.height operand.entry.height + 1) result }
-    {
-        let ReadType {
-            all: specifiers,
-            stars,
-            span: type_span,
-            height: type_height,
-        } = name;
-        let Read {
-            tree: operand,
-            height,
-        } = operand;
-        let span = to(first, operand.span());
-        let tree = Expression::Cast {
-            specifiers,
-            stars,
-            type_span,
-            operand,
-            span,
-        };
-        boxed(self.alloc, tree, type_height.max(height) + 1)
-    }
-
     /// A cast, from its parenthesis on.
     #[inline(never)]
     #[tactic(auto, unfolding(mc_reading::specs::Expressions::cast_to_of))]
@@ -124,7 +125,7 @@ impl<
         let name = self.type_name(tokens)?;
         tokens.expect(b")")?;
         let operand = self.part(Rule::Cast, tokens)?;
-        self.made_cast(place(open), name, operand)
+        made_cast(self.alloc, place(open), name, operand)
     }
 
     /// `++` or `--` before its operand.

@@ -3,5 +3,5 @@ use Rattle.mc_descent.proofs.knot.+knot.Given as goal
 abbrev pub decreases-expression : goal.decreases-expression
 decreases-expression l = l.room
 
-abbrev pub decreases-type_specifiers : goal.decreases-type_specifiers
-decreases-type_specifiers l = l.room
+abbrev pub decreases-read_specifiers : goal.decreases-read_specifiers
+decreases-read_specifiers l = l.room
