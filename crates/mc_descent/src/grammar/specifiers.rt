@@ -211,14 +211,16 @@ impl<
         ensures low { IfOk result (λ _. tallest.new ≤ self.now.room) }
     {
         let first = tokens.take()?;
-        if tokens.sees(b"{") {
-            return self.structure_list(first, None, tokens, tallest);
-        }
-        let tag = identifier(tokens.expect_tag()?);
-        if tokens.sees(b"{") {
-            return self.structure_list(first, Some(tag), tokens, tallest);
-        }
-        structure_tag(self.alloc, first, tag)
+        let tag = if tokens.sees(b"{") {
+            None
+        } else {
+            let tag = identifier(tokens.expect_tag()?);
+            if !tokens.sees(b"{") {
+                return structure_tag(self.alloc, first, tag);
+            }
+            Some(tag)
+        };
+        self.structure_list(first, tag, tokens, tallest)
     }
 
     /// The constants of an enumeration, from their brace on.
