@@ -12,6 +12,7 @@ mod ends;
 mod front;
 mod jumps;
 mod makers;
+mod nodes;
 mod parts;
 
 use crate::statements::blocks::{Block, compound};
@@ -19,7 +20,7 @@ use crate::statements::ends::end;
 use crate::statements::front::{Front, read_front};
 use mc_cursor::cursor::Cursor;
 use mc_cursor::fault::Fault;
-use mc_makers::statements as nodes;
+use mc_makers::statements::{if_else, if_only};
 use mc_span::Span;
 use mc_tree::{Expression, Statement};
 use std::alloc::Global;
@@ -86,9 +87,9 @@ fn choice<'a>(
 {
     let chosen = statement(alloc, tokens, room)?;
     if !tokens.sees_keyword(b"else") {
-        return nodes::if_only(alloc, first, test, chosen);
+        return if_only(alloc, first, test, chosen);
     }
     tokens.take()?;
     let other = statement(alloc, tokens, room)?;
-    nodes::if_else(alloc, first, test, chosen, other)
+    if_else(alloc, first, test, chosen, other)
 }

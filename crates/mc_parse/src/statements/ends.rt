@@ -6,11 +6,11 @@ ghost use Rattle.mc_parse.specs.steps.Made.{seen_opening};
 ghost use Rattle.mc_makers.specs.Made.{body_of};
 
 use crate::statements::front::Opening;
+use crate::statements::nodes::{case, default, do_loop, for_loop, labeled, switch, while_loop};
 use crate::statements::parts::test;
 use mc_cursor::cursor::{Cursor, place};
 use mc_cursor::fault::Fault;
 use mc_cursor::to;
-use mc_makers::statements::{case, default, do_loop, for_loop, labeled, switch, while_loop};
 use mc_span::Span;
 use mc_tree::Statement;
 use std::alloc::Global;
