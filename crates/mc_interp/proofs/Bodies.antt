@@ -7,11 +7,12 @@ use Rattle.mc_steps.specs.Statements.{if_does, test_does, Flow, Completed, Seek,
 use Rattle.mc_probe.specs.Flat.{Flat, Does, Runs, Activation}
 use Rattle.mc_probe.specs.Statements.{statement_of, statements_of}
 use Rattle.mc_probe.specs.Tree as tree
-use Rattle.mc_interp.specs.declared.flow.Flow as code_flow
+use Rattle.mc_course.specs.Ends.{loop_end}
+use Rattle.mc_course.specs.declared.ends.Flow as code_flow
 use Rattle.mc_interp.specs.declared.flow.Label.{Label}
 use Rattle.mc_interp.specs.declared.store.Store.{Store}
 use Rattle.mc_interp.specs.Stores.{state_of, Did}
-use Rattle.mc_interp.specs.Bodies.{Next, Item, End, act_of, count_of, counts_of, end_of, flow_of, item_of, loop_end, where_again, where_ended, label_of, label_runs, next_after, turn_of, turned, where_label, where_turned}
+use Rattle.mc_interp.specs.Bodies.{Next, Item, End, act_of, count_of, counts_of, end_of, flow_of, item_of, where_again, where_ended, label_of, label_runs, next_after, turn_of, turned, where_label, where_turned}
 use Rattle.mc_interp.proofs.Nodes.{did_choice, did_choice_end}
 use Rattle.mc_interp.proofs.Runs.{did_gives, did_then, did_end}
 use Rattle.mc_interp.proofs.Equations.{where_next, end_again, end_turned, statement_is, statements_are, turn_is}

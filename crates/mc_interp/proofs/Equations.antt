@@ -13,13 +13,14 @@ use Rattle.mc_probe.specs.Probes.{mark_does}
 use Rattle.mc_probe.specs.Statements.{statement_of, statements_of}
 use Rattle.mc_probe.specs.Tree as p
 use Rattle.mc_probe.specs.WellFormed.{FitsAbsent, FitsMark, FitsStatement}
-use Rattle.mc_interp.specs.declared.flow.Flow as code_flow
-use Rattle.mc_interp.specs.declared.flow.Flow.TheVariants as ends
+use Rattle.mc_course.specs.Ends.{loop_end}
+use Rattle.mc_course.specs.declared.ends.Flow as code_flow
+use Rattle.mc_course.specs.declared.ends.Flow.TheVariants as ends
 use Rattle.mc_interp.specs.declared.flow.Label.{Label}
 use Rattle.mc_interp.specs.declared.store.Store.{Store}
 use Rattle.mc_interp.specs.declared.values.Given.{Given}
 use Rattle.mc_interp.specs.Effects.{AreAnyEffects, IsAnyEffect}
-use Rattle.mc_interp.specs.Bodies.{Next, Item, End, act_of, code_next_after, count_of, counts_of, end_of, flow_of, is_case, item_of, loop_end, where_again, where_ended, label_of, label_runs, labels_in, next_after, next_of, turn_of, turned, where_initializes, where_label, where_turned, AreAnyStatements, IsAnyStart, IsAnyStatement, IsReturned, IsNext}
+use Rattle.mc_interp.specs.Bodies.{Next, Item, End, act_of, code_next_after, count_of, counts_of, end_of, flow_of, is_case, item_of, where_again, where_ended, label_of, label_runs, labels_in, next_after, next_of, turn_of, turned, where_initializes, where_label, where_turned, AreAnyStatements, IsAnyStart, IsAnyStatement, IsReturned, IsNext}
 use Rattle.mc_interp.proofs.Placed.{none_some, some_eq}
 use Rattle.mc_interp.proofs.Called.{any_call}
 

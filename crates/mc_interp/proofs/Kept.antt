@@ -1,5 +1,5 @@
 -- What stays over a part of a run.
-use Rattle.std.proofs.Common.{◌≡◌, ℕ, refl, ◌∙◌, arith, Option, Some, None}
+use Rattle.std.proofs.Common.{◌≡◌, ℕ, ◌+◌, ◌<◌, ◌≤◌, ◌^◌, length, refl, ◌∙◌, arith, Option, Some, None}
 use Rattle.std.specs.Prelude.{IfSome}
 use Rattle.mc_typed.specs.Sound.{Scope}
 use Rattle.mc_probe.specs.Flat.{Activation}
@@ -56,3 +56,15 @@ ready_kept f m n room new h k e = record {
   typed = h.typed;
   has = k.typed h.types h.typed h.has;
 }
+
+-- a register of an activation, where a part of its run gave something
+pub register_there : {A : Type 0} (f : Frame) (m n : Store) (room r : ℕ) (o : Option A) → IsReady f m room →
+    r < f.function.now.registers → IfSome o (λ _. IsKept (scope_in f) (activation_of f) m n) →
+    IfSome o (λ _. f.first + r < length n.registers.items)
+register_there f m n room r (Some a) h i k = omega (arith, h.registers, i, k.registers)
+register_there f m n room r None h i k = tt
+
+pub registers_few : {A : Type 0} (f : Frame) (m n : Store) (room : ℕ) (o : Option A) → IsReady f m room →
+    IfSome o (λ _. IsKept (scope_in f) (activation_of f) m n) → IfSome o (λ _. length n.registers.items ≤ 2 ^ 42)
+registers_few f m n room (Some a) h k = omega (arith, h.registers_small, k.registers)
+registers_few f m n room None h k = tt

@@ -27,6 +27,7 @@ pub mod Entering
 pub mod Callings
 pub mod BodyShapes
 pub mod Endings
+pub mod Exits
 pub mod Finishing
 pub mod Starting
 pub mod Passes

@@ -19,7 +19,8 @@ use Rattle.mc_probe.specs.Flat.{Flat, Does, Activation, flat, sets, adds, hits, 
 use Rattle.mc_probe.specs.Probes.{decision_does, condition_does}
 use Rattle.mc_interp.specs.declared.store.Store.{Store}
 use Rattle.mc_interp.specs.Stores.{state_of, told, Did}
-use Rattle.mc_interp.proofs.Runs.{did_told, did_gives, did_then, did_end, did_by_truth}
+use Rattle.mc_interp.specs.Truths.{path_does}
+use Rattle.mc_interp.proofs.Runs.{did_told, did_gives, did_then, did_end, did_no_more, did_by_truth}
 use Rattle.mc_interp.proofs.Truths.{true_truth, not_zero}
 
 -- ---- operands
@@ -259,6 +260,15 @@ module _ {P : Type 0} (leads : List ℕ → P → P → Type 0) (stays : (p : P)
         (did_told leads stays joins (sets w r 0 s) (Some tt) l p e)
         (did_by_truth leads stays joins (E (state_of l)) (λ x s. decided (is_true x) s) decided (λ x s. refl) None m p q
         (did_end leads stays joins (test_does E (state_of l)) decided m p q h)))
+
+    -- a decision that came out, or in which the run stopped
+    pub did_decided : (outcome : Option Bool) (l m : Store) (p q o : P) → sets w r 0 s ≡ told (Some tt) l →
+        Did leads (test_does E (state_of l)) outcome m p q →
+        Did leads (path_does w r base outcome (state_of m)) (Some tt) m q o →
+        Did leads (test_does decision s) outcome m p o
+    did_decided (Some b) l m p q o e h k = did_decision b l m p q o e h k
+    did_decided None l m p q o e h k =
+        did_decision_end l m p o e (did_no_more leads stays joins (test_does E (state_of l)) None m p q o h k.led)
 
   module _ (w : Activation) (r on_true on_false : ℕ) (E : Does ℤ) (s : State Flat) where
     abbrev noted : Bool → Does ℤ

@@ -47,6 +47,14 @@ module _ {P : Type 0} (leads : List ℕ → P → P → Type 0) (stays : (p : P)
         (joins r.events [] p q q h.led (stays q));
   }
 
+  -- nothing is hit after the part
+  pub did_no_more : {A : Type 0} (r : Run Flat ℕ A) (result : Option A) (m : Store) (p q s : P) →
+      Did leads r result m p q → leads [] q s → Did leads r result m p s
+  did_no_more r result m p q s h k = record {
+    ran = h.ran;
+    led = subst (λ (xs : List ℕ). leads xs p s) (append-nil r.events) (joins r.events [] p q s h.led k);
+  }
+
   -- what follows goes on by the truth of what the part gave
   pub did_by_truth : {B : Type 0} (r : Run Flat ℕ ℤ) (f : ℤ → Acts Flat ℕ B) (next : Bool → Acts Flat ℕ B)
       (same : (x : ℤ) (s : State Flat) → f x s ≡ next (is_true x) s) (result : Option B) (m : Store) (p q : P) →

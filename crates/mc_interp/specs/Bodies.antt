@@ -17,8 +17,8 @@ use Rattle.mc_probe.specs.Flat.{Activation, Does, Runs, flat, hits_some}
 use Rattle.mc_probe.specs.Probes.{mark_does}
 use Rattle.mc_probe.specs.Statements.{declarators_of, effect_of, effects_of, exit_does, return_of, start_of, statement_of, statements_of, test_of}
 use Rattle.mc_probe.specs.Tree as p
-use Rattle.mc_interp.specs.declared.flow.Flow as code_flow
-use Rattle.mc_interp.specs.declared.flow.Flow.TheVariants as ends
+use Rattle.mc_course.specs.declared.ends.Flow as code_flow
+use Rattle.mc_course.specs.declared.ends.Flow.TheVariants as ends
 use Rattle.mc_interp.specs.declared.flow.Seek as code_seek
 use Rattle.mc_interp.specs.declared.flow.Seek.TheVariants as seeks
 use Rattle.mc_interp.specs.declared.flow.Next as code_next
@@ -241,13 +241,6 @@ turn_of test body step s = after (spends test s) (λ goes_on s. turned goes_on b
 abbrev pub end_of : Option code_flow.Flow → Store → Option (Flow ℕ)
 end_of None m = None
 end_of (Some f) m = Some (flow_of f m)
-
--- how a loop ends after its body ended so, if it does
-abbrev pub loop_end : code_flow.Flow → Option code_flow.Flow
-loop_end ends.Completed = None
-loop_end ends.Broke = Some ends.Completed
-loop_end ends.Continued = None
-loop_end ends.Left = Some ends.Left
 
 abbrev pub where_ended : Option (Flow ℕ) → Does (Unit {0}) → Does (Option (Flow ℕ))
 where_ended None step s = after (step s) (λ _ s. gives None s)

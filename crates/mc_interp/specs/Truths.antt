@@ -1,7 +1,9 @@
--- Expressions that give a truth value, 1 or 0, by their form.
-use Rattle.std.specs.Prelude.{Bool, true, false}
+-- Expressions that give a truth value, 1 or 0, by their form; the end of a decision.
+use Rattle.std.specs.Prelude.{ℕ, ◌+◌, Bool, true, false, Option, Some, None}
 use Rattle.mc_typed.specs.declared.probes.Probe as code
 use Rattle.mc_typed.specs.declared.probes.Probe.TheVariants as probe
+use Rattle.mc_steps.specs.Runs.{gives}
+use Rattle.mc_probe.specs.Flat.{Activation, Does, hits, register, wrapped_sum}
 use Rattle.mc_probe.specs.Tree.{Expression}
 use Rattle.mc_probe.specs.Tree as p
 
@@ -22,3 +24,8 @@ is_logical (p.Choice e f g a span) = false
 is_logical (p.Call k a) = false
 is_logical (p.Input span) = false
 is_logical (p.Probe q e) = tells_truth q
+
+-- where a decision came out the bit of its path is hit
+abbrev pub path_does : Activation → ℕ → ℕ → Option Bool → Does (Unit {0})
+path_does w r base None s = gives tt s
+path_does w r base (Some b) s = hits w (wrapped_sum base (register (w.first + r) s.memory)) s

@@ -15,13 +15,14 @@ ghost use Rattle.mc_interp.specs.Frames.{activation_of, scope_in, IsKept, IsRead
 ghost use Rattle.mc_interp.specs.Stores.{given_of, lent_of, limits_of, passed_of, state_of, told, Did};
 
 use crate::entries::{lend, levels_with, pass};
-use crate::flow::{Flow, Seek, has_left};
+use crate::flow::{Seek, has_left};
 use crate::frame::{Called, Frame};
 use crate::parts::hit_some;
 use crate::statements::statements;
 use crate::store::Store;
 use crate::values::{Given, Lent, Shape};
 use arrayvec::ArrayVec;
+use mc_course::Flow;
 use mc_hits::Probe;
 
 /// A body that completes gives nothing, and its closing brace is an exit.

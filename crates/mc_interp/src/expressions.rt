@@ -20,6 +20,7 @@ use crate::steps::goes_on;
 use crate::store::Store;
 use crate::values::{Lent, Passed};
 use arrayvec::ArrayVec;
+use mc_course::is_true;
 use mc_hits::Probe;
 use mc_typed::{Argument, Expression, FunctionCall, Operator, Place, Probe as Mark, Structure};
 use mc_value::BinOp;
@@ -143,9 +144,9 @@ pub(crate) fn truth<P: Probe, F: Fn(Called<'_, '_>, &mut Store, &mut P) -> Optio
         } => match mark {
             Mark::Decision { register, base } => {
                 frame.begin(*register, store);
-                let holds = truth(operand, frame, invoke, store, probe)?;
-                frame.decide(*register, *base, store, probe);
-                Some(holds)
+                let outcome = truth(operand, frame, invoke, store, probe);
+                frame.decide(outcome, *register, *base, store, probe);
+                outcome
             }
             Mark::Condition {
                 register,
@@ -158,7 +159,7 @@ pub(crate) fn truth<P: Probe, F: Fn(Called<'_, '_>, &mut Store, &mut P) -> Optio
             }
             Mark::Switch { .. } => {
                 let number = other(e, frame, invoke, store, probe)?;
-                Some(number != 0)
+                Some(is_true(number))
             }
         },
         Expression::Binary {
@@ -175,7 +176,7 @@ pub(crate) fn truth<P: Probe, F: Fn(Called<'_, '_>, &mut Store, &mut P) -> Optio
             }
             None => {
                 let number = other(e, frame, invoke, store, probe)?;
-                Some(number != 0)
+                Some(is_true(number))
             }
         },
         Expression::Constant { .. }
@@ -186,7 +187,7 @@ pub(crate) fn truth<P: Probe, F: Fn(Called<'_, '_>, &mut Store, &mut P) -> Optio
         | Expression::Call { .. }
         | Expression::Input { .. } => {
             let number = other(e, frame, invoke, store, probe)?;
-            Some(number != 0)
+            Some(is_true(number))
         }
     }
 }

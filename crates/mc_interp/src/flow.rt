@@ -4,17 +4,9 @@ ghost use Rattle.mc_probe.specs.Views as view;
 ghost use Rattle.mc_interp.specs.Bodies as bodies;
 ghost use Rattle.mc_steps.specs.Statements as steps;
 
+use mc_course::Flow;
 use mc_typed::{Mark, Statement};
 use mc_value::IntType;
-
-/// How a statement ended. What a `return` gave is kept in the store.
-#[derive(Clone, Copy)]
-pub(crate) enum Flow {
-    Completed,
-    Broke,
-    Continued,
-    Left,
-}
 
 /// Whether the items of a body run, or are passed over up to the label of a value, or to `default`.
 #[derive(Clone, Copy)]
@@ -79,18 +71,6 @@ pub(crate) fn next_after(flow: Flow) -> Next
     match flow {
         Flow::Completed => Next::Item(Seek::Running),
         Flow::Broke | Flow::Continued | Flow::Left => Next::End(flow),
-    }
-}
-
-/// How a loop ends after its body ended so, if it does: `continue` ends the body alone, `break` the
-/// loop.
-pub(crate) fn loop_end(flow: Flow) -> Option<Flow>
-    ensures { result ≡ bodies.loop_end flow }
-{
-    match flow {
-        Flow::Completed | Flow::Continued => None,
-        Flow::Broke => Some(Flow::Completed),
-        Flow::Left => Some(Flow::Left),
     }
 }
 

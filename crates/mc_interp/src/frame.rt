@@ -4,19 +4,19 @@ ghost use Rattle.mc_value.specs.declared.int_type.IntType.{IntType};
 ghost use Rattle.mc_value.specs.declared.trap.Trap.{Trap};
 ghost use Rattle.mc_typed.specs.Layout.{ObjectType, cells};
 ghost use Rattle.mc_typed.specs.Sound.{Scope, cells_at};
-ghost use Rattle.mc_probe.specs.Flat.{Activation, adds, flat, hits, sets, wrapped_sum};
-ghost use Rattle.mc_probe.specs.Flat.{register as register_at};
+ghost use Rattle.mc_probe.specs.Flat.{Activation, adds, flat, sets};
 ghost use Rattle.mc_steps.specs.Runs.{changes, gives, with_some};
 ghost use Rattle.mc_steps.specs.Expressions.{with_index};
 ghost use Rattle.mc_words.specs.Words.{number_of};
 ghost use Rattle.mc_probe.specs.Expressions.{target};
 ghost use Rattle.mc_interp.specs.Typed.{IsPlaced};
 ghost use Rattle.mc_interp.specs.Stores.{lent_of, limits_of, state_of, told, Did};
+ghost use Rattle.mc_interp.specs.Truths.{path_does};
 ghost use Rattle.mc_interp.specs.Frames.{activation_of, scope_in, IsKept};
 
-use crate::steps::hit;
 use crate::store::Store;
 use crate::values::{Lent, Passed, Shape};
+use mc_course::hit_path;
 use mc_hits::Probe;
 use mc_probe::Instrumented;
 use mc_typed::{Function, Slot};
@@ -60,7 +60,7 @@ impl<'f, 'a> Frame<'f, 'a> {
         ensures kept { IsKept (scope_in self.now) (activation_of self.now) store.old store.new }
         ensures limits { limits_of store.new ≡ limits_of store.old }
     {
-        store.set_register(self.first + register as usize, 0);
+        store.set_register(self.first, register, 0);
     }
 
     /// The register of a `switch` tells that no label was chosen yet.
@@ -72,7 +72,7 @@ impl<'f, 'a> Frame<'f, 'a> {
         ensures kept { (c : Scope) (w : Activation) → IsKept c w store.old store.new }
         ensures limits { limits_of store.new ≡ limits_of store.old }
     {
-        store.set_register(self.first + register as usize, 1);
+        store.set_register(self.first, register, 1);
     }
 
     /// A condition adds to its decision's register.
@@ -92,21 +92,36 @@ impl<'f, 'a> Frame<'f, 'a> {
         ensures limits { limits_of store.new ≡ limits_of store.old }
     {
         let more = if holds { on_true } else { on_false };
-        store.add_to_register(self.first + register as usize, more);
+        store.add_to_register(self.first, register, more);
     }
 
-    /// The bit of a decision's path is hit.
-    pub(crate) fn decide<P: Probe>(&self, register: u32, base: u32, store: &Store, probe: &mut P)
-        requires there { self.now.first + register < length store.now.registers.items }
-        requires small { length store.now.registers.items ≤ 2 ^ 42 }
+    /// The bit of a decision's path is hit, where the decision came out.
+    pub(crate) fn decide<P: Probe>(
+        &self,
+        outcome: Option<bool>,
+        register: u32,
+        base: u32,
+        store: &Store,
+        probe: &mut P,
+    )
+        requires there { IfSome outcome (λ _. self.now.first + register
+            < length store.now.registers.items) }
+        requires small { IfSome outcome (λ _. length store.now.registers.items ≤ 2 ^ 42) }
         requires bits { self.now.program.now.bits ≤ P.bits probe.old }
-        ensures did { Did P.leads (hits (activation_of self.now) (wrapped_sum base
-            (register_at (self.now.first + register) (state_of store.now).memory))
+        ensures did { Did P.leads (path_does (activation_of self.now) register base outcome
             (state_of store.now)) (Some tt) store.now probe.old probe.new }
         ensures bits { P.bits probe.new ≡ P.bits probe.old }
     {
-        let sum = store.registers.get(self.first + register as usize);
-        hit(self.program.bits(), base.wrapping_add(sum), probe);
+        let bits = self.program.bits();
+        hit_path(
+            outcome,
+            &store.registers,
+            self.first,
+            register,
+            base,
+            bits,
+            probe,
+        );
     }
 
     /// An item of the array that an array parameter names; its index is tested, or the run stops.

@@ -12,10 +12,10 @@ ghost use Rattle.mc_interp.specs.Bodies as bodies;
 ghost use Rattle.mc_interp.specs.Stores.{limits_of, state_of, Did};
 ghost use Rattle.mc_interp.specs.Frames.{activation_of, scope_in, IsKept, IsReady};
 
-use crate::flow::{Flow, Label, Seek, ends_switch, is_running, label_of};
+use crate::flow::{Label, Seek, ends_switch, is_running, label_of};
 use crate::frame::Frame;
-use crate::steps::hit;
 use crate::store::Store;
+use mc_course::{Flow, hit, take};
 use mc_hits::Probe;
 use mc_typed::{Mark, Statement};
 use mc_value::IntType;
@@ -88,6 +88,7 @@ fn seek_at(label: Option<i128>, seek: Seek) -> Seek
 }
 
 /// A label's probe: the label whose register is not 0 is the one that the `switch` chose.
+#[tactic(auto, unfolding(crate::specs::Stores::limits_of))]
 pub(crate) fn mark<P: Probe>(
     mark: Option<Mark>,
     frame: &Frame<'_, '_>,
@@ -103,9 +104,8 @@ pub(crate) fn mark<P: Probe>(
     ensures limits { limits_of store.new ≡ limits_of store.old }
 {
     if let Some(set) = mark {
-        if store.registers.get(frame.first + set.register as usize) != 0 {
+        if take(&mut store.registers, frame.first, set.register) {
             hit(frame.program.bits(), set.bit, probe);
-            frame.begin(set.register, store);
         }
     }
 }

@@ -19,14 +19,13 @@ ghost use Rattle.mc_interp.specs.Calls.{Invokes};
 
 use crate::effects::{effect, effects};
 use crate::expressions::{structure, truth, value};
-use crate::flow::Flow;
 use crate::frame::{Called, Frame};
 use crate::initializers::declarators;
-use crate::steps::hit;
 use crate::store::Store;
 use crate::values::Given;
+use mc_course::{Flow, hit, hit_after, spend_for};
 use mc_hits::Probe;
-use mc_typed::{Declarator, Effect, Expression, ForStart, ReturnValue, Statement};
+use mc_typed::{Declarator, Effect, Ending, Expression, ForStart, ReturnValue, Statement};
 
 /// Whether a declaration has an initializer.
 fn initializes(declarators: &[Declarator]) -> bool
@@ -90,6 +89,7 @@ pub(crate) fn hit_some<P: Probe>(
 }
 
 /// A unit is spent for a counted statement, and its bit is hit.
+#[tactic(auto, unfolding(crate::specs::Stores::limits_of))]
 pub(crate) fn counted<P: Probe>(
     count: Option<Option<u32>>,
     frame: &Frame<'_, '_>,
@@ -105,9 +105,12 @@ pub(crate) fn counted<P: Probe>(
 {
     match count {
         Some(bit) => {
-            store.spend()?;
-            hit_some(bit, frame, store, probe);
-            Some(())
+            if spend_for(&mut store.fuel, frame.program.bits(), bit, probe) {
+                Some(())
+            } else {
+                store.ending = Ending::Fuel;
+                None
+            }
         }
         None => Some(()),
     }
@@ -339,7 +342,10 @@ pub(crate) fn return_statement<
     ensures bits { P.bits probe.new ≡ P.bits probe.old }
     ensures limits { limits_of store.new ≡ limits_of store.old }
 {
-    return_value(tree, frame, invoke, store, probe)?;
-    hit_some(exit, frame, store, probe);
-    Some(Flow::Left)
+    let outcome = return_value(tree, frame, invoke, store, probe);
+    hit_after(outcome.is_some(), frame.program.bits(), exit, probe);
+    match outcome {
+        Some(()) => Some(Flow::Left),
+        None => None,
+    }
 }

@@ -14,7 +14,7 @@ ghost use Rattle.mc_interp.specs.Calls.{Invokes};
 
 use crate::effects::effects;
 use crate::expressions::{truth, value};
-use crate::flow::{Flow, Next, Seek, is_running, label_of, loop_end, next_after};
+use crate::flow::{Next, Seek, is_running, label_of, next_after};
 use crate::frame::{Called, Frame};
 use crate::labels::{at_label, sought, switch_ends};
 use crate::parts::{
@@ -22,6 +22,7 @@ use crate::parts::{
     turn_begins,
 };
 use crate::store::Store;
+use mc_course::{Flow, loop_end};
 use mc_hits::Probe;
 use mc_typed::{Effect, Expression, Statement};
 

@@ -1,7 +1,7 @@
 //! The steps of a run that evaluate nothing. None takes memory.
 #![tactic(auto, unfolding(crate::specs::Stores::limits_of))]
 
-ghost use Rattle.std.specs.Prelude.{◌≡◌, ℕ, ℤ, ◌+◌, ◌*◌, ◌<◌, ◌≤◌, pos, length, slice_get, slice_set, nat_lt, if◌then◌else◌, [], ◌∷◌, Some, None, Ok, Err, option_map, IfSome};
+ghost use Rattle.std.specs.Prelude.{◌≡◌, ℕ, ℤ, ◌+◌, ◌*◌, ◌<◌, ◌≤◌, ◌^◌, pos, length, slice_get, slice_set, Some, None, Ok, Err, option_map, IfSome};
 ghost use Rattle.mc_value.specs.declared.int_type.IntType.{IntType};
 ghost use Rattle.mc_value.specs.IntTypes.{InRange};
 ghost use Rattle.mc_typed.specs.Layout.{ObjectType, Scalar};
@@ -13,28 +13,18 @@ ghost use Rattle.mc_steps.specs.Calls.{number_given, structure_given};
 ghost use Rattle.mc_cells.specs.Rows.{with_cells};
 ghost use Rattle.mc_words.specs.Words.{number_of, result_of, Holds, IsRight, IsRightType};
 ghost use Rattle.mc_value.specs.Conversions.{converted, promoted};
-ghost use Rattle.mc_probe.specs.Flat.{Activation, flat, value_in, with_register, register, wrapped_sum};
+ghost use Rattle.mc_probe.specs.Flat.{Activation, flat, value_in, with_register, wrapped_sum};
+ghost use Rattle.mc_probe.specs.Flat.{register as register_at};
 ghost use Rattle.mc_interp.specs.Stores.{limits_of, state_of, told, given_of, IsNumber, IsStructureAt};
 ghost use Rattle.mc_interp.specs.Typed.{IsPlaced};
 ghost use Rattle.mc_interp.specs.Frames.{IsKept};
 
 use crate::store::Store;
 use crate::values::Given;
-use mc_hits::Probe;
+use mc_course::{add, item, set};
 use mc_typed::{Ending, LogicOperator, Operator};
 use mc_value::{IntType, Trap};
 use mc_words::{convert, is_signed, operate};
-
-/// A bit is hit where it is one of the tree's.
-pub(crate) fn hit<P: Probe>(bits: u32, bit: u32, probe: &mut P)
-    requires { bits ≤ P.bits probe.old }
-    ensures led { P.leads (if nat_lt bit bits then bit ∷ [] else []) probe.old probe.new }
-    ensures bits { P.bits probe.new ≡ P.bits probe.old }
-{
-    if bit < bits {
-        probe.hit(bit);
-    }
-}
 
 impl Store {
     /// The run stops in a trap.
@@ -219,36 +209,38 @@ impl Store {
         ensures kept { (c : Scope) (w : Activation) → IsKept c w self.old self.new }
         ensures limits { limits_of self.new ≡ limits_of self.old }
     {
-        if index < u64::from(length) {
-            Some(place_of_item(base, length, stride, index as u32))
-        } else {
-            self.trap(Trap::Index);
-            None
+        match item(base, length, stride, index) {
+            Some(at) => Some(at),
+            None => {
+                self.trap(Trap::Index);
+                None
+            }
         }
     }
 
     /// A register gets a value.
-    pub(crate) fn set_register(&mut self, at: usize, value: u32)
-        requires { at < length self.old.registers.items }
-        ensures ran { changes (with_register at value) (state_of self.old)
+    pub(crate) fn set_register(&mut self, first: usize, register: u32, value: u32)
+        requires there { first + register < length self.old.registers.items }
+        requires small { length self.old.registers.items ≤ 2 ^ 42 }
+        ensures ran { changes (with_register (first + register) value) (state_of self.old)
             ≡ told (Some tt) self.new }
         ensures kept { (c : Scope) (w : Activation) → IsKept c w self.old self.new }
         ensures limits { limits_of self.new ≡ limits_of self.old }
     {
-        self.registers.set(at, value);
+        set(&mut self.registers, first, register, value);
     }
 
     /// A number is added to a register; sums wrap.
-    pub(crate) fn add_to_register(&mut self, at: usize, value: u32)
-        requires { at < length self.old.registers.items }
-        ensures ran { changes (with_register at
-            (wrapped_sum (register at (state_of self.old).memory) value)) (state_of self.old)
-            ≡ told (Some tt) self.new }
+    pub(crate) fn add_to_register(&mut self, first: usize, register: u32, value: u32)
+        requires there { first + register < length self.old.registers.items }
+        requires small { length self.old.registers.items ≤ 2 ^ 42 }
+        ensures ran { changes (with_register (first + register) (wrapped_sum
+            (register_at (first + register) (state_of self.old).memory) value))
+            (state_of self.old) ≡ told (Some tt) self.new }
         ensures kept { (c : Scope) (w : Activation) → IsKept c w self.old self.new }
         ensures limits { limits_of self.new ≡ limits_of self.old }
     {
-        let old = self.registers.get(at);
-        self.registers.set(at, old.wrapping_add(value));
+        add(&mut self.registers, first, register, value);
     }
 
     /// The value of a call that is used.
@@ -304,15 +296,6 @@ impl Store {
             None
         }
     }
-}
-
-/// The first cell of an item.
-fn place_of_item(base: u32, length: u32, stride: u32, index: u32) -> u32
-    requires within { index < length }
-    requires small { base + length * stride ≤ 65536 }
-    ensures { result ≡ base + index * stride }
-{
-    base + index * stride
 }
 
 /// Whether the second operand of `&&` or `||` is evaluated.

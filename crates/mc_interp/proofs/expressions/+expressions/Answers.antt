@@ -12,9 +12,9 @@ use Rattle.mc_interp.proofs.Shapes.{plain_again_argument, plain_binary, plain_ch
 use Rattle.mc_interp.proofs.Arguments.{few_arguments, passing_all, passing_done, passing_end, passing_next, passing_step, passing_typed, slot_there, some_arguments}
 use Rattle.mc_interp.proofs.Passing.{source_there, copy_there, copy_keeps, again_there, again_is, again_typed, did_again}
 use Rattle.mc_interp.proofs.Called.{if_call_kept, into_small, is_called, made}
-use Rattle.mc_interp.proofs.Kept.{kept_then, if_any, ready_kept}
+use Rattle.mc_interp.proofs.Kept.{kept_then, if_any, if_kept, ready_kept, register_there, registers_few}
 use Rattle.mc_interp.proofs.Placed as placed
-use Rattle.mc_interp.proofs.Nodes.{has_promoted, is_left, is_right, did_operated, did_chosen, did_other, did_choice_end, did_item, did_lent, did_compared, did_compared_right, did_not, did_not_end, did_logic, did_logic_short, did_logic_end, did_decision, did_decision_end, did_condition, did_condition_end}
+use Rattle.mc_interp.proofs.Nodes.{has_promoted, is_left, is_right, did_operated, did_chosen, did_other, did_choice_end, did_item, did_lent, did_compared, did_compared_right, did_not, did_not_end, did_logic, did_logic_short, did_logic_end, did_decided, did_condition, did_condition_end}
 use Rattle.mc_typed.specs.declared.expressions.FunctionCall.{the_lemmas as call_lemmas}
 use Rattle.mc_interp.proofs.expressions.+expressions.Goals as goal
 
@@ -251,25 +251,30 @@ value-returns-in_ok-holds-clause-did g t c =
     (only_logical (activation_of F) (view.expression_of c.args.e.now) (state_of c.args.store.now) (sym c.is_logical.ensures ∙ c.if-is_logical.true))
     c.from.ensures c.in_ok-holds.ensures.did
 
-pub truth-returns-in_err-holds-in-Decision-clause-did : goal.truth-returns-in_err-holds-in-Decision-clause-did
-truth-returns-in_err-holds-in-Decision-clause-did g t c =
-    let M = g.P.Probe.leads in let N = g.met.P.Probe.stays in let J = g.met.P.Probe.joins in
-    let W = activation_of c.args.frame.now in let S = state_of c.args.store.now in
-    let h = rw c.deref-in-Decision.ensures at c.in_err-holds-in-Decision.ensures.did in
-    rw (c.from_residual-in_err-holds-in-Decision.ensures, c.in-Probe.is, view_probe, c.in-Decision.is)
-    (did_decision_end M N J W c.in-Decision.register c.in-Decision.base (does.value_of W (view.expression_of c.in-Probe.operand.value)) S c.begin.new.store _ _ _ c.begin.ensures.ran h)
+pub truth-decide-requires-clause-there : goal.truth-decide-requires-clause-there
+truth-decide-requires-clause-there g t c =
+    let F = c.args.frame.now in
+    let f = rw (c.in-Probe.is, view_probe, c.in-Decision.is) at c.requires.fits in
+    register_there F c.args.store.now c.truth-outcome.new.store _ c.in-Decision.register c.truth-outcome.result c.requires.ready f.0
+    (if_kept (scope_in F) (activation_of F) c.args.store.now c.begin.new.store c.truth-outcome.new.store c.truth-outcome.result c.begin.ensures.kept c.truth-outcome.ensures.kept)
 
-pub truth-returns-in_ok-holds-in-Decision-clause-did : goal.truth-returns-in_ok-holds-in-Decision-clause-did
-truth-returns-in_ok-holds-in-Decision-clause-did g t c =
+pub truth-decide-requires-clause-small : goal.truth-decide-requires-clause-small
+truth-decide-requires-clause-small g t c =
+    let F = c.args.frame.now in
+    registers_few F c.args.store.now c.truth-outcome.new.store _ c.truth-outcome.result c.requires.ready
+    (if_kept (scope_in F) (activation_of F) c.args.store.now c.begin.new.store c.truth-outcome.new.store c.truth-outcome.result c.begin.ensures.kept c.truth-outcome.ensures.kept)
+
+pub truth-returns-in-Decision-clause-did : goal.truth-returns-in-Decision-clause-did
+truth-returns-in-Decision-clause-did g t c =
     let M = g.P.Probe.leads in let N = g.met.P.Probe.stays in let J = g.met.P.Probe.joins in
     let W = activation_of c.args.frame.now in let S = state_of c.args.store.now in
-    let h = rw c.deref-in-Decision.ensures at c.in_ok-holds-in-Decision.ensures.did in
+    let h = rw c.deref-in-Decision.ensures at c.truth-outcome.ensures.did in
     rw (c.in-Probe.is, view_probe, c.in-Decision.is)
-    (did_decision M N J W c.in-Decision.register c.in-Decision.base (does.value_of W (view.expression_of c.in-Probe.operand.value)) S c.in_ok-holds-in-Decision.holds c.begin.new.store _ _ _ _ c.begin.ensures.ran h c.decide.ensures.did)
+    (did_decided M N J W c.in-Decision.register c.in-Decision.base (does.value_of W (view.expression_of c.in-Probe.operand.value)) S c.truth-outcome.result c.begin.new.store c.truth-outcome.new.store _ _ _ c.begin.ensures.ran h c.decide.ensures.did)
 
-pub truth-returns-in_ok-holds-in-Decision-clause-kept : goal.truth-returns-in_ok-holds-in-Decision-clause-kept
-truth-returns-in_ok-holds-in-Decision-clause-kept g t c =
-    kept_then _ _ _ _ _ c.begin.ensures.kept c.in_ok-holds-in-Decision.ensures.kept
+pub truth-returns-in-Decision-clause-kept : goal.truth-returns-in-Decision-clause-kept
+truth-returns-in-Decision-clause-kept g t c =
+    if_kept _ _ _ _ _ c.truth-outcome.result c.begin.ensures.kept c.truth-outcome.ensures.kept
 
 pub truth-returns-in_err-holds-in-Condition-clause-did : goal.truth-returns-in_err-holds-in-Condition-clause-did
 truth-returns-in_err-holds-in-Condition-clause-did g t c =
