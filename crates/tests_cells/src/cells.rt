@@ -6,7 +6,7 @@ use std::alloc::Global;
 use std::test::Fail;
 
 /// The ends of the ranges of 64 and of 128 bits, and numbers beside them.
-const NUMBERS: [i128; 12] = [
+static NUMBERS: [i128; 12] = [
     0,
     1,
     -1,
@@ -21,9 +21,9 @@ const NUMBERS: [i128; 12] = [
     i128::MAX,
 ];
 
-const SIGNED: [i64; 5] = [0, 1, -1, i64::MIN, i64::MAX];
+static SIGNED: [i64; 5] = [0, 1, -1, i64::MIN, i64::MAX];
 
-const UNSIGNED: [u64; 4] = [0, 1, 9223372036854775808, 18446744073709551615];
+static UNSIGNED: [u64; 4] = [0, 1, 9223372036854775808, 18446744073709551615];
 
 /// Six cells, the first five of them set to 0 to 4.
 fn six(alloc: Global) -> Result<Cells, Fail>
@@ -80,14 +80,14 @@ fn is_unsigned_kept(cells: &mut Cells, number: u64) -> bool
 #[test]
 fn keeps_numbers(rt: HostRuntime) -> Result<(), Fail> {
     let mut cells = six(rt.alloc())?;
-    for number in NUMBERS {
-        assert!(rt; is_kept(&mut cells, number), "{number}");
+    for number in &NUMBERS {
+        assert!(rt; is_kept(&mut cells, *number), "{number}");
     }
-    for number in SIGNED {
-        assert!(rt; is_signed_kept(&mut cells, number), "{number}");
+    for number in &SIGNED {
+        assert!(rt; is_signed_kept(&mut cells, *number), "{number}");
     }
-    for number in UNSIGNED {
-        assert!(rt; is_unsigned_kept(&mut cells, number), "{number}");
+    for number in &UNSIGNED {
+        assert!(rt; is_unsigned_kept(&mut cells, *number), "{number}");
     }
     Ok(())
 }

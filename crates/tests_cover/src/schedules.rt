@@ -40,7 +40,7 @@ fn check_runs(
 }
 
 /// Test 0 hits bit 0, and test 1 bit 1.
-const ONE_BIT_EACH: [Run<'static>; 3] = [
+static ONE_BIT_EACH: [Run<'static>; 3] = [
     Run {
         schedule: &[0, 1, 0, 1, 0, 1],
         draws: 4,
@@ -63,7 +63,7 @@ const ONE_BIT_EACH: [Run<'static>; 3] = [
 ];
 
 /// Test 0 hits nothing, and test 1 hits bit 1 twice.
-const NONE_AND_ONE_TWICE: [Run<'static>; 2] = [
+static NONE_AND_ONE_TWICE: [Run<'static>; 2] = [
     Run {
         schedule: &[0, 0, 0],
         draws: 2,

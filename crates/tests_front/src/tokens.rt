@@ -6,7 +6,7 @@ use mc_span::Span;
 use std::alloc::Global;
 
 /// Sources that are refused, with the byte at which the fault stands, and its words.
-const REFUSED: [(&[u8], u32, &str); 70] = [
+static REFUSED: [(&[u8], u32, &str); 70] = [
     // words, punctuators and literals that are left out
     (b"1.5", 0, "outside word"),
     (b".5", 0, "outside word"),
@@ -87,7 +87,7 @@ const REFUSED: [(&[u8], u32, &str); 70] = [
 
 /// Sources of one integer constant: its value, whether it is decimal, whether it has a `u`, and
 /// how many `l` it has.
-const CONSTANTS: [(&[u8], u64, bool, bool, u32); 12] = [
+static CONSTANTS: [(&[u8], u64, bool, bool, u32); 12] = [
     (b"0", 0, false, false, 0),
     (b"7", 7, true, false, 0),
     (b"010", 8, false, false, 0),
@@ -109,7 +109,7 @@ const CONSTANTS: [(&[u8], u64, bool, bool, u32); 12] = [
 ];
 
 /// Sources of one character constant, and its value.
-const CHARACTERS: [(&[u8], i32); 13] = [
+static CHARACTERS: [(&[u8], i32); 13] = [
     (b"'a'", 97),
     (b"' '", 32),
     (b"'#'", 35),
@@ -127,7 +127,7 @@ const CHARACTERS: [(&[u8], i32); 13] = [
 
 /// Sources, the texts of their tokens, each with a `|` after it, and a letter for the kind of
 /// each.
-const LISTS: [(&[u8], &[u8], &[u8]); 24] = [
+static LISTS: [(&[u8], &[u8], &[u8]); 24] = [
     // no token
     (b"", b"", b""),
     (b" \t\n\x0b\x0c\r", b"", b""),
@@ -160,7 +160,7 @@ const LISTS: [(&[u8], &[u8], &[u8]); 24] = [
 ];
 
 /// Offsets in the source `ab`, CR, LF, `c`, LF, and their places.
-const PLACES: [(u32, u32, u32); 4] = [(0, 1, 1), (3, 1, 4), (4, 2, 1), (6, 3, 1)];
+static PLACES: [(u32, u32, u32); 4] = [(0, 1, 1), (3, 1, 4), (4, 2, 1), (6, 3, 1)];
 
 fn fault_of(alloc: Global, source: &[u8]) -> Option<LexFault> {
     if source.len() > 100 {
@@ -225,10 +225,10 @@ fn is_list(alloc: Global, source: &[u8], texts: &[u8], kinds: &[u8]) -> bool {
 #[test]
 fn refuses(rt: HostRuntime) {
     let mut row = 0u32;
-    for (source, at, words) in REFUSED {
-        let fault = fault_of(rt.alloc(), source);
+    for (source, at, words) in &REFUSED {
+        let fault = fault_of(rt.alloc(), *source);
         assert!(rt;
-            fault.is_some_and(|fault| fault.at() == Some(at) && fault.words() == words),
+            fault.is_some_and(|fault| fault.at() == Some(*at) && fault.words() == *words),
             "row {row}"
         );
         row = row.wrapping_add(1);
@@ -236,27 +236,39 @@ fn refuses(rt: HostRuntime) {
 }
 
 #[test]
-fn accepts(rt: HostRuntime) {
-    for (source, value, decimal, unsigned, longs) in CONSTANTS {
+fn accepts_constants(rt: HostRuntime) {
+    for (source, value, decimal, unsigned, longs) in &CONSTANTS {
         let want = TokenKind::Constant {
-            value,
-            decimal,
-            unsigned,
-            longs,
+            value: *value,
+            decimal: *decimal,
+            unsigned: *unsigned,
+            longs: *longs,
         };
-        assert_eq!(rt; kind_of(rt.alloc(), source), Some(want), "constant {value}");
-    }
-    for (source, value) in CHARACTERS {
-        let want = TokenKind::Character { value };
         assert_eq!(rt;
-            kind_of(rt.alloc(), source),
+            kind_of(rt.alloc(), *source),
+            Some(want),
+            "constant {value}"
+        );
+    }
+}
+
+#[test]
+fn accepts_characters(rt: HostRuntime) {
+    for (source, value) in &CHARACTERS {
+        let want = TokenKind::Character { value: *value };
+        assert_eq!(rt;
+            kind_of(rt.alloc(), *source),
             Some(want),
             "character {value}"
         );
     }
+}
+
+#[test]
+fn accepts_lists(rt: HostRuntime) {
     let mut row = 0u32;
-    for (source, texts, kinds) in LISTS {
-        assert!(rt; is_list(rt.alloc(), source, texts, kinds), "row {row}");
+    for (source, texts, kinds) in &LISTS {
+        assert!(rt; is_list(rt.alloc(), *source, *texts, *kinds), "row {row}");
         row = row.wrapping_add(1);
     }
 }
@@ -264,9 +276,13 @@ fn accepts(rt: HostRuntime) {
 #[test]
 fn tells_places(rt: HostRuntime) {
     let source = b"ab\r\nc\n";
-    for (at, line, column) in PLACES {
-        if at <= 6 {
-            assert_eq!(rt; place_of(source, at), Place { line, column });
+    for (at, line, column) in &PLACES {
+        if *at <= 6 {
+            let place = Place {
+                line: *line,
+                column: *column,
+            };
+            assert_eq!(rt; place_of(source, *at), place);
         }
     }
     assert!(rt; quote(source, Span { start: 1, end: 5 }) == b"b\r\nc".as_slice());

@@ -5,7 +5,7 @@ use crate::fail::Fail;
 use crate::reading::told;
 use std::alloc::Global;
 
-const OPERATORS: [&str; 16] = [
+static OPERATORS: [&str; 16] = [
     "+", "-", "*", "/", "%", "<<", ">>", "<", ">", "<=", ">=", "==", "!=", "&", "^", "|",
 ];
 

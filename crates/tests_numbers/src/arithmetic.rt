@@ -15,12 +15,12 @@ use std::alloc::Global;
 use std::sync::Arc;
 use std::test::Fail;
 
-const TYPES: [IntType; 12] = [
+static TYPES: [IntType; 12] = [
     Bool, Char, SChar, UChar, Short, UShort, Int, UInt, Long, ULong, LLong, ULLong,
 ];
 
 /// What each number becomes in each of the types.
-const CONVERTED: [(i128, &str); 8] = [
+static CONVERTED: [(i128, &str); 8] = [
     (
         -1,
         "1 -1 -1 255 -1 65535 -1 4294967295 -1 18446744073709551615 -1 18446744073709551615",
@@ -50,7 +50,7 @@ const CONVERTED: [(i128, &str); 8] = [
 const PROMOTED: &str = "Int Int Int Int Int Int Int UInt Long ULong LLong ULLong";
 
 /// The common type of each type with each.
-const COMMON: [&str; 12] = [
+static COMMON: [&str; 12] = [
     "Int Int Int Int Int Int Int UInt Long ULong LLong ULLong",
     "Int Int Int Int Int Int Int UInt Long ULong LLong ULLong",
     "Int Int Int Int Int Int Int UInt Long ULong LLong ULLong",
@@ -65,7 +65,7 @@ const COMMON: [&str; 12] = [
     "ULLong ULLong ULLong ULLong ULLong ULLong ULLong ULLong ULLong ULLong ULLong ULLong",
 ];
 
-const BINARY_OPERATORS: [BinOp; 14] = [
+static BINARY_OPERATORS: [BinOp; 14] = [
     BinOp::Mul,
     BinOp::Div,
     BinOp::Rem,
@@ -83,7 +83,7 @@ const BINARY_OPERATORS: [BinOp; 14] = [
 ];
 
 /// Two types of one width, two operands, and what each operator gives for them.
-const BINARY: [([IntType; 2], i128, i128, &str); 20] = [
+static BINARY: [([IntType; 2], i128, i128, &str); 20] = [
     (
         [Int, Int],
         -2147483648,
@@ -181,10 +181,10 @@ const BINARY: [([IntType; 2], i128, i128, &str); 20] = [
     ([Int, Int], 12, 10, "120 1 2 22 2 0 1 0 1 0 1 8 6 14"),
 ];
 
-const UNARY_OPERATORS: [UnOp; 4] = [UnOp::Plus, UnOp::Minus, UnOp::Flip, UnOp::Not];
+static UNARY_OPERATORS: [UnOp; 4] = [UnOp::Plus, UnOp::Minus, UnOp::Flip, UnOp::Not];
 
 /// Two types of one width, an operand, and what each operator gives for it.
-const UNARY: [([IntType; 2], i128, &str); 8] = [
+static UNARY: [([IntType; 2], i128, &str); 8] = [
     ([Int, Int], -2147483648, "-2147483648 Overflow 2147483647 0"),
     (
         [Int, Int],
@@ -211,10 +211,10 @@ const UNARY: [([IntType; 2], i128, &str); 8] = [
     ),
 ];
 
-const COUNTS: [i128; 6] = [-1, 0, 31, 32, 63, 64];
+static COUNTS: [i128; 6] = [-1, 0, 31, 32, 63, 64];
 
 /// An operator, two types of one width, an operand, and what it gives for each count.
-const SHIFTS: [(ShiftOp, [IntType; 2], i128, &str); 24] = [
+static SHIFTS: [(ShiftOp, [IntType; 2], i128, &str); 24] = [
     (Left, [Int, Int], 1, "Shift 1 Shift Shift Shift Shift"),
     (Left, [Int, Int], -1, "Shift Shift Shift Shift Shift Shift"),
     (Left, [Int, Int], 0, "Shift 0 0 Shift Shift Shift"),
@@ -380,8 +380,8 @@ fn shift_agrees(
 
 #[test]
 fn converts(rt: HostRuntime) -> Result<(), Fail> {
-    for (number, wants) in CONVERTED {
-        assert!(rt; convert_agrees(rt.alloc(), number, wants)?, "{number}");
+    for (number, wants) in &CONVERTED {
+        assert!(rt; convert_agrees(rt.alloc(), *number, wants)?, "{number}");
     }
     for (a, wants) in TYPES.iter().zip(COMMON.iter()) {
         assert!(rt; common_agrees(rt.alloc(), *a, wants)?, "{a:?}");
@@ -394,20 +394,23 @@ fn converts(rt: HostRuntime) -> Result<(), Fail> {
 
 #[test]
 fn operates(rt: HostRuntime) -> Result<(), Fail> {
-    for (types, a, b, wants) in BINARY {
-        for t in types {
-            assert!(rt; binary_agrees(rt.alloc(), t, a, b, wants)?, "{t:?} {a} {b}");
-        }
-    }
-    for (types, a, wants) in UNARY {
-        for t in types {
-            assert!(rt; unary_agrees(rt.alloc(), t, a, wants)?, "{t:?} {a}");
-        }
-    }
-    for (op, types, a, wants) in SHIFTS {
+    for (types, a, b, wants) in &BINARY {
         for t in types {
             assert!(rt;
-                shift_agrees(rt.alloc(), op, t, a, wants)?,
+                binary_agrees(rt.alloc(), *t, *a, *b, wants)?,
+                "{t:?} {a} {b}"
+            );
+        }
+    }
+    for (types, a, wants) in &UNARY {
+        for t in types {
+            assert!(rt; unary_agrees(rt.alloc(), *t, *a, wants)?, "{t:?} {a}");
+        }
+    }
+    for (op, types, a, wants) in &SHIFTS {
+        for t in types {
+            assert!(rt;
+                shift_agrees(rt.alloc(), *op, *t, *a, wants)?,
                 "{t:?} {a} {op:?}"
             );
         }

@@ -26,7 +26,7 @@ const MISSING: VerdictState = VerdictState::Missing;
 /// The decision `a && b`, whose paths have the bits 4 (both true), 5 (the second false) and 6 (the
 /// first false). Bit 3 is that of a label. In the first row all is met, in the fourth nothing is.
 /// In the last row the arguments count (0, 0), (1, 0), (0, 1), (1, 1), twice.
-const ONE_AND: [Row<'static>; 5] = [
+static ONE_AND: [Row<'static>; 5] = [
     Row {
         tests: &[&[0, 2, 4, 1], &[0, 2, 3, 5, 1], &[0, 2, 3, 6, 1]],
         named: None,
@@ -147,7 +147,7 @@ const TWO_ANDS_MASKING: Row<'static> = Row {
 /// Eleven times `a || b`, joined by `&&`: 22 conditions and 4,095 paths. The arguments are (0, 0),
 /// (1, 0), (0, 1) and (1, 1). Only the first two conditions have a pair, the same by both kinds:
 /// where the outcome is false no other one is evaluated.
-const MANY_ORS: [Row<'static>; 1] = [Row {
+static MANY_ORS: [Row<'static>; 1] = [Row {
     tests: &[&[4098], &[4], &[4087], &[4]],
     named: None,
     verdicts: &[
@@ -271,7 +271,7 @@ fn verdicts_on_many_conditions(rt: HostRuntime) -> Result<(), Fail> {
 }
 
 /// Each kind of obligation, in order and with its place.
-const LISTED: [(ObligationId, u32); 8] = [
+static LISTED: [(ObligationId, u32); 8] = [
     (ObligationId::Entry(0), 0),
     (ObligationId::Exit(0), 10),
     (ObligationId::Statement(0), 15),

@@ -44,7 +44,7 @@ fn check_rows(rt: &impl Abort, alloc: Global, tree: &CondTree, rows: &[Row]) -> 
     Ok(())
 }
 
-const ONE_AND: [Row<'static>; 3] = [
+static ONE_AND: [Row<'static>; 3] = [
     Row {
         seen: &[0, 1, 2],
         unique: &[Some((0, 2)), Some((0, 1))],
@@ -62,7 +62,7 @@ const ONE_AND: [Row<'static>; 3] = [
     },
 ];
 
-const NEGATED_AND: [Row<'static>; 2] = [
+static NEGATED_AND: [Row<'static>; 2] = [
     Row {
         seen: &[0, 1, 2, 3],
         unique: &[Some((1, 3)), Some((1, 2)), Some((0, 1))],
@@ -75,13 +75,13 @@ const NEGATED_AND: [Row<'static>; 2] = [
     },
 ];
 
-const TWO_ANDS: [Row<'static>; 1] = [Row {
+static TWO_ANDS: [Row<'static>; 1] = [Row {
     seen: &[0, 1, 2, 6],
     unique: &[Some((0, 6)), Some((0, 2)), None, Some((1, 2))],
     masking: &[Some((0, 6)), Some((0, 2)), Some((1, 6)), Some((1, 2))],
 }];
 
-const TWO_ORS: [Row<'static>; 1] = [Row {
+static TWO_ORS: [Row<'static>; 1] = [Row {
     seen: &[0, 5],
     unique: &[None, None, None, None],
     masking: &[None, None, Some((0, 5)), None],

@@ -74,7 +74,7 @@ fn count_of_paths(alloc: Global, tree: &CondTree) -> u128
 }
 
 /// What C gives for `!(a && b) || c` on some answers.
-const NEGATED_AND: [(&[bool], &str); 4] = [
+static NEGATED_AND: [(&[bool], &str); 4] = [
     (&[true, true, true], "TTT=T"),
     (&[true, true, false], "TTF=F"),
     (&[true, false, true], "TF-=T"),
@@ -82,7 +82,7 @@ const NEGATED_AND: [(&[bool], &str); 4] = [
 ];
 
 /// What C gives for `(a && b) || (a && c)` on some answers.
-const TWO_ANDS: [(&[bool], &str); 4] = [
+static TWO_ANDS: [(&[bool], &str); 4] = [
     (&[true, true, true, false], "TT--=T"),
     (&[true, false, true, true], "TFTT=T"),
     (&[true, false, true, false], "TFTF=F"),
@@ -90,16 +90,16 @@ const TWO_ANDS: [(&[bool], &str); 4] = [
 ];
 
 /// The vectors of each, in order.
-const NEGATED_AND_PATHS: [&str; 4] = ["TTT=T", "TTF=F", "TF-=T", "F--=T"];
+static NEGATED_AND_PATHS: [&str; 4] = ["TTT=T", "TTF=F", "TF-=T", "F--=T"];
 
-const TWO_ANDS_PATHS: [&str; 7] = [
+static TWO_ANDS_PATHS: [&str; 7] = [
     "TT--=T", "TFTT=T", "TFTF=F", "TFF-=F", "F-TT=T", "F-TF=F", "F-F-=F",
 ];
 
 /// Which conditions each evaluates, and which of these are true: condition 0 is the lowest bit.
-const NEGATED_AND_MASKS: [(u64, u64); 4] = [(7, 7), (7, 3), (3, 1), (1, 0)];
+static NEGATED_AND_MASKS: [(u64, u64); 4] = [(7, 7), (7, 3), (3, 1), (1, 0)];
 
-const TWO_ANDS_MASKS: [(u64, u64); 7] = [
+static TWO_ANDS_MASKS: [(u64, u64); 7] = [
     (3, 3),
     (15, 13),
     (15, 5),

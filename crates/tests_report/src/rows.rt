@@ -47,7 +47,7 @@ const STOPPED: Test<'static> = Test {
 };
 
 /// All is met; a condition is missing; all is met, by a test that did not pass; no test is run.
-const ROWS: [Row<'static>; 4] = [
+static ROWS: [Row<'static>; 4] = [
     Row {
         tests: &[BOTH, FIRST, NEITHER],
         text: "mcdc report unique
@@ -166,7 +166,7 @@ fn reports_of_rows(rt: HostRuntime) -> Result<(), Fail> {
 
 /// Puts that fail, how many bytes each takes before, and how many bytes the sink then has of the
 /// first report, which has 19 lines and 655 bytes. The first line has 19, the last one 9.
-const STOPS: [(u32, u32, usize); 4] = [(1, 0, 0), (2, 0, 19), (2, 7, 26), (19, 0, 646)];
+static STOPS: [(u32, u32, usize); 4] = [(1, 0, 0), (2, 0, 19), (2, 7, 26), (19, 0, 646)];
 
 fn check_stop(
     rt: &impl Abort,

@@ -225,7 +225,7 @@ fn is_limited(
 }
 
 /// Lengths of both files, and what the run gives.
-const LENGTHS: [(usize, usize, u8, &str); 5] = [
+static LENGTHS: [(usize, usize, u8, &str); 5] = [
     (1048576, 0, 0, ""),
     (1048577, 0, 3, "mcdc: s.c: longer than 1048576 bytes\n"),
     (0, 4194304, 0, ""),
@@ -240,9 +240,9 @@ const LENGTHS: [(usize, usize, u8, &str); 5] = [
 
 #[test]
 fn lengths_of_files(rt: HostRuntime) -> Result<(), Fail> {
-    for (source, tests, status, diag) in LENGTHS {
+    for (source, tests, status, diag) in &LENGTHS {
         assert!(rt;
-            is_limited(rt.alloc(), source, tests, status, diag)?,
+            is_limited(rt.alloc(), *source, *tests, *status, diag)?,
             "{source} {tests}"
         );
     }

@@ -60,7 +60,7 @@ const OTHER: &str = "instrument|s.c|t.csv";
 
 /// A case, its words, the load that fails, the puts that fail on both sinks, and what the run
 /// gives.
-const FAULTS: [(&str, &str, u32, (u32, u32), (u32, u32), (u8, &str, &str)); 11] = [
+static FAULTS: [(&str, &str, u32, (u32, u32), (u32, u32), (u8, &str, &str)); 11] = [
     (
         "no source",
         ABSENT,
@@ -139,13 +139,13 @@ const FAULTS: [(&str, &str, u32, (u32, u32), (u32, u32), (u8, &str, &str)); 11] 
 
 #[test]
 fn faults_outside(rt: HostRuntime) -> Result<(), Fail> {
-    for (case, words, load, out, diag, (status, written, told)) in FAULTS {
+    for (case, words, load, out, diag, (status, written, told)) in &FAULTS {
         let mut setting = plain(SOURCE.as_bytes(), TESTS.as_bytes());
         setting.words = words;
-        setting.failing_load = load;
-        setting.failing_out = out;
-        setting.failing_diag = diag;
-        let want = (status, written.as_bytes(), told.as_bytes());
+        setting.failing_load = *load;
+        setting.failing_out = *out;
+        setting.failing_diag = *diag;
+        let want = (*status, written.as_bytes(), told.as_bytes());
         assert!(rt; gives(rt.alloc(), &setting, want)?, "{case}");
     }
     Ok(())

@@ -23,7 +23,7 @@ fn shown(alloc: Global, text: &[u8], most: u32) -> Result<Vec<u8>, AllocError> {
 }
 
 /// Texts, how many records are asked for, and what is read.
-const TEXTS: [(&str, u32, &str); 10] = [
+static TEXTS: [(&str, u32, &str); 10] = [
     ("", 9, ""),
     ("\n\r\n", 9, ""),
     ("a", 9, "[a]\n"),
@@ -39,22 +39,22 @@ const TEXTS: [(&str, u32, &str); 10] = [
 #[test]
 fn reads_every_record(rt: HostRuntime) -> Result<(), Fail> {
     let alloc = rt.alloc();
-    for (text, most, want) in TEXTS {
-        let got = shown(alloc, text.as_bytes(), most)?;
+    for (text, most, want) in &TEXTS {
+        let got = shown(alloc, text.as_bytes(), *most)?;
         assert_eq!(rt; got.as_slice(), want.as_bytes(), "{text}");
     }
     Ok(())
 }
 
 /// Places in the record `a,b`, and the field at each; there is nothing after the last.
-const FIELDS: [(usize, &str); 4] = [(0, "a"), (1, "b"), (2, ""), (usize::MAX, "")];
+static FIELDS: [(usize, &str); 4] = [(0, "a"), (1, "b"), (2, ""), (usize::MAX, "")];
 
 #[test]
 fn has_no_field_past_the_last(rt: HostRuntime) -> Result<(), Fail> {
     let mut rows = Rows::of(rt.alloc(), b"a,b");
     let row = rows.next_row()?.ok_or("no record")?;
-    for (at, want) in FIELDS {
-        assert!(rt; row.field(at) == want.as_bytes(), "field {at}");
+    for (at, want) in &FIELDS {
+        assert!(rt; row.field(*at) == want.as_bytes(), "field {at}");
     }
     Ok(())
 }

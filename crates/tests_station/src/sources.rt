@@ -161,7 +161,7 @@ fn is_repeated(
 
 /// What is repeated, how often, what comes after it, and how the source is judged. All conditions
 /// are counted before any paths.
-const LARGE: [(&str, usize, &str, &str); 5] = [
+static LARGE: [(&str, usize, &str, &str); 5] = [
     ("a&&", 63, "a;}", ""),
     ("a&&", 64, "a;}", " 1:21: too many conditions 65"),
     ("(a||a)&&", 10, "(a||a);}", ""),
@@ -177,8 +177,8 @@ const LARGE: [(&str, usize, &str, &str); 5] = [
 #[test]
 fn decisions_that_are_too_large(rt: HostRuntime) -> Result<(), Fail> {
     let front = "int f(int a){return ";
-    for (piece, times, back, words) in LARGE {
-        let is_judged = is_repeated(rt.alloc(), front, (piece, times), back, words)?;
+    for (piece, times, back, words) in &LARGE {
+        let is_judged = is_repeated(rt.alloc(), front, (piece, *times), back, words)?;
         assert!(rt; is_judged, "{piece} {times}");
     }
     Ok(())
