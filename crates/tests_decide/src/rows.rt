@@ -105,10 +105,19 @@ pub const FLAPS_DECISIONS: &str = "\
 
 /// What stands before a piece, the piece, how often, and what comes after it; and the vectors of the
 /// decision, how many they are where they are more than eight, or why it is refused.
-pub const LARGE: [(&str, &str, usize, &str, &str); 7] = [
-    ("int f(int a){return ", "!", 189, "a;}", "T=F F=T "),
-    ("int f(int a){return ", "!", 190, "a;}", "T=T F=F "),
-    ("int f(int a){return ", "a&&", 63, "a;}", "65 "),
+pub type LargeRow = (
+    &'static str,
+    &'static str,
+    usize,
+    &'static str,
+    &'static str,
+);
+
+/// Decisions of many operators.
+pub static LARGE: [LargeRow; 7] = [
+    ("int f(int a){return ", "!", 189, "a;}", "T=F;F=T;"),
+    ("int f(int a){return ", "!", 190, "a;}", "T=T;F=F;"),
+    ("int f(int a){return ", "a&&", 63, "a;}", "65;"),
     (
         "int f(int a){return ",
         "a&&",
@@ -128,25 +137,19 @@ pub const LARGE: [(&str, &str, usize, &str, &str); 7] = [
         "(a||b)&&",
         10,
         "(a||b);}",
-        "4095 ",
+        "4095;",
     ),
     (
         "int f(int a,int b){return ",
         "(a||b)&&",
         11,
         "(a||b);}",
-        "too many paths 8191 ",
+        "too many paths 8191;",
     ),
 ];
 
-/// Sources and the vectors of their decisions, in the order of their numbers.
-pub const VECTORS: [(&str, &str); 2] = [
-    (
-        "int f(int a,int b,int c){return !(a&&b)||c;}",
-        "TTT=T TTF=F TF-=T F--=T ",
-    ),
-    (
-        "int f(int a,int b,int c){return (a&&b)||(a&&c);}",
-        "TT--=T TFTT=T TFTF=F TFF-=F F-TT=T F-TF=F F-F-=F ",
-    ),
-];
+/// Sources and the vectors of their decisions, in the order of their numbers, after `@`.
+pub const VECTORS: &str = "\
+int f(int a,int b,int c){return !(a&&b)||c;}@TTT=T;TTF=F;TF-=T;F--=T;
+int f(int a,int b,int c){return (a&&b)||(a&&c);}@TT--=T;TFTT=T;TFTF=F;TFF-=F;F-TT=T;F-TF=F;F-F-=F;
+";

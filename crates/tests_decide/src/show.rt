@@ -13,21 +13,30 @@ const FEW: u32 = 8;
 
 /// For each decision its function, the start and text of its root, its tree, and the start and text
 /// of each condition.
-pub fn show_decisions(alloc: Global, text: &str, decisions: &[Decision]) -> Result<String, Fail> {
-    let mut shown = String::new(alloc);
+pub fn show_decisions(shown: &mut String, text: &str, decisions: &[Decision]) -> Result<(), Fail> {
     for decision in decisions {
-        let function = decision.function;
-        write!(shown, "{function}@")?;
-        show_place(&mut shown, text, decision.root)?;
-        shown.push_str(" ")?;
-        show_tree(&mut shown, &decision.tree)?;
-        for condition in &decision.conditions {
-            shown.push_str(" ")?;
-            show_place(&mut shown, text, *condition)?;
-        }
-        shown.push_str(";")?;
+        show_decision(shown, text, decision)?;
     }
-    Ok(shown)
+    Ok(())
+}
+
+fn show_decision(shown: &mut String, text: &str, decision: &Decision) -> Result<(), Fail> {
+    let function = decision.function;
+    write!(shown, "{function}@")?;
+    show_place(shown, text, decision.root)?;
+    shown.push_str(" ")?;
+    show_tree(shown, &decision.tree)?;
+    show_places(shown, text, &decision.conditions)?;
+    shown.push_str(";")?;
+    Ok(())
+}
+
+fn show_places(shown: &mut String, text: &str, places: &[Span]) -> Result<(), Fail> {
+    for place in places {
+        shown.push_str(" ")?;
+        show_place(shown, text, *place)?;
+    }
+    Ok(())
 }
 
 fn show_place(shown: &mut String, text: &str, span: Span) -> Result<(), Fail> {
@@ -75,7 +84,7 @@ fn show_vector(shown: &mut String, vector: &Vector) -> Result<(), AllocError> {
         };
         shown.push_str(sign)?;
     }
-    let outcome = if vector.outcome() { "=T " } else { "=F " };
+    let outcome = if vector.outcome() { "=T;" } else { "=F;" };
     shown.push_str(outcome)?;
     Ok(())
 }
@@ -83,7 +92,7 @@ fn show_vector(shown: &mut String, vector: &Vector) -> Result<(), AllocError> {
 fn show_numbering(shown: &mut String, numbering: &Numbering) -> Result<(), Fail> {
     let count = numbering.count();
     if count > FEW {
-        write!(shown, "{count} ")?;
+        write!(shown, "{count};")?;
         return Ok(());
     }
     for path in 0..count {
@@ -94,15 +103,18 @@ fn show_numbering(shown: &mut String, numbering: &Numbering) -> Result<(), Fail>
 
 /// For each decision its vectors in the order of their numbers, how many they are where they are
 /// more than eight, or why it has none.
-pub fn show_vectors(alloc: Global, decisions: &[Decision]) -> Result<String, Fail>
+pub fn show_vectors(alloc: Global, shown: &mut String, decisions: &[Decision]) -> Result<(), Fail>
     requires { All (λ d. IsNumbered (tree_of d.tree)) decisions.now }
 {
-    let mut shown = String::new(alloc);
     for decision in decisions {
         match number(alloc, &decision.tree) {
-            Ok(numbering) => show_numbering(&mut shown, &numbering)?,
-            Err(fault) => write!(shown, "{fault} ")?,
+            Ok(numbering) => {
+                let told = show_numbering(shown, &numbering);
+                drop(numbering);
+                told?;
+            }
+            Err(fault) => write!(shown, "{fault};")?,
         }
     }
-    Ok(shown)
+    Ok(())
 }

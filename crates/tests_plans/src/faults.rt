@@ -1,5 +1,5 @@
 //! One file for each fault, for each two faults that one record can have, and for two records.
-use crate::limits::{LIMITS, written_out};
+use crate::limits::{LIMITS, write_out};
 use crate::outcome::outcome;
 use mc_tests::TestFault;
 use mc_typed::Program;
@@ -170,18 +170,38 @@ none@\u{feff}test,call,arguments,inputs,expect,output$
 none@$^$test,call,arguments,inputs,expect,output$
 ";
 
-/// The bytes that two texts are written for.
-fn file_of(alloc: Global, head: &str, text: &str) -> Result<Vec<u8>, AllocError> {
-    let mut file = Vec::new(alloc);
-    for byte in head.as_bytes().iter().chain(text.as_bytes().iter()) {
-        file.push(match *byte {
-            b'$' => b'\n',
-            b'^' => b'\r',
-            b'?' => 255,
-            _ => *byte,
-        })?;
+/// The byte that a character of a row stands for.
+fn meant(byte: u8) -> u8 {
+    match byte {
+        b'$' => b'\n',
+        b'^' => b'\r',
+        b'?' => 255,
+        _ => byte,
     }
-    Ok(file)
+}
+
+/// Adds the bytes that a text is written for.
+fn add_text(file: &mut Vec<u8>, text: &str) -> Result<(), AllocError> {
+    for byte in text.as_bytes() {
+        file.push(meant(*byte))?;
+    }
+    Ok(())
+}
+
+/// Adds the bytes that a row is written for.
+fn add_row(alloc: Global, file: &mut Vec<u8>, row: &str) -> Result<(), AllocError> {
+    let mut text = String::new(alloc);
+    let written = write_out(alloc, &mut text, row);
+    let added = add_text(file, text.as_str());
+    drop(text);
+    written?;
+    added
+}
+
+/// Adds the bytes of a file whose records stand after `head`.
+fn add_file(alloc: Global, file: &mut Vec<u8>, head: &str, row: &str) -> Result<(), AllocError> {
+    add_text(file, head)?;
+    add_row(alloc, file, row)
 }
 
 /// What is told of a file: how many tests it makes, or its fault.
@@ -192,18 +212,63 @@ fn told(alloc: Global, tests: usize, fault: Option<TestFault>) -> Result<String,
     }
 }
 
-fn is_right(alloc: Global, program: &Program<'_>, head: &str, row: &str) -> Result<bool, Fail> {
-    let Some((want, text)) = row.split_once('@') else {
-        return Ok(row.starts_with('#'));
-    };
-    let text = written_out(alloc, text)?;
-    let file = file_of(alloc, head, text.as_str())?;
-    let (tests, fault) = outcome(alloc, program, &file);
+fn is_told(
+    alloc: Global,
+    tests: usize,
+    fault: Option<TestFault>,
+    want: &str,
+) -> Result<bool, Fail> {
+    let text = told(alloc, tests, fault)?;
+    let same = text.as_str().strip_prefix("tests record ") == Some(want);
+    drop(text);
+    Ok(same)
+}
+
+fn is_text(alloc: Global, fault: TestFault, want: &str) -> Result<bool, Fail> {
+    let text = told(alloc, 0, Some(fault))?;
+    let same = text.as_str() == want;
+    drop(text);
+    Ok(same)
+}
+
+fn is_outcome(alloc: Global, program: &Program<'_>, file: &[u8], want: &str) -> Result<bool, Fail> {
+    let (tests, fault) = outcome(alloc, program, file);
     if want == "none" {
         return Ok(fault.is_none());
     }
-    let told = told(alloc, tests, fault)?;
-    Ok(told.as_str().strip_prefix("tests record ") == Some(want))
+    is_told(alloc, tests, fault, want)
+}
+
+fn is_right_in(
+    alloc: Global,
+    program: &Program<'_>,
+    file: &mut Vec<u8>,
+    head: &str,
+    want: &str,
+    row: &str,
+) -> Result<bool, Fail> {
+    add_file(alloc, file, head, row)?;
+    is_outcome(alloc, program, file, want)
+}
+
+fn is_row_right(
+    alloc: Global,
+    program: &Program<'_>,
+    head: &str,
+    want: &str,
+    row: &str,
+) -> Result<bool, Fail> {
+    let mut file = Vec::new(alloc);
+    let same = is_right_in(alloc, program, &mut file, head, want, row);
+    drop(file);
+    same
+}
+
+fn is_right(alloc: Global, program: &Program<'_>, head: &str, row: &str) -> Result<bool, Fail> {
+    match row.split_once('@') {
+        Some((want, text)) => is_row_right(alloc, program, head, want, text),
+        None => Ok(row.starts_with('#')),
+    }
 }
 
 /// Checks each file of the rows, whose records stand after `head`.
@@ -229,9 +294,7 @@ pub(crate) fn check_faults(
     check_rows(rt, alloc, program, HEADER, RECORDS)?;
     check_rows(rt, alloc, program, HEADER, LIMITS)?;
     check_rows(rt, alloc, program, "", FILES)?;
-    let text = told(alloc, 0, Some(TestFault::Limit { row: 9 }))?;
-    assert!(rt; text.as_str() == "tests record 9: limit");
-    let text = told(alloc, 0, Some(TestFault::OutOfMemory))?;
-    assert!(rt; text.as_str() == "out of memory");
+    assert!(rt; is_text(alloc, TestFault::Limit { row: 9 }, "tests record 9: limit")?);
+    assert!(rt; is_text(alloc, TestFault::OutOfMemory, "out of memory")?);
     Ok(())
 }

@@ -53,11 +53,10 @@ fn push_part(alloc: Global, text: &mut String, part: &str) -> Result<(), AllocEr
     text.push_str(last)
 }
 
-/// The text of a row with its numbers written out.
-pub(crate) fn written_out(alloc: Global, row: &str) -> Result<String, AllocError> {
-    let mut text = String::new(alloc);
+/// Adds the text of a row with its numbers written out.
+pub(crate) fn write_out(alloc: Global, text: &mut String, row: &str) -> Result<(), AllocError> {
     for part in row.split('{') {
-        push_part(alloc, &mut text, part)?;
+        push_part(alloc, text, part)?;
     }
-    Ok(text)
+    Ok(())
 }

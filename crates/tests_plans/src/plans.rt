@@ -18,7 +18,7 @@ type CallRow = (u32, &'static [i128], Option<i128>, Option<&'static [i32]>);
 /// A test's name, inputs and calls.
 type PlanRow = (&'static [u8], &'static [i32], &'static [CallRow]);
 
-const PLANS: [PlanRow; 3] = [
+static PLANS: [PlanRow; 3] = [
     (
         b"one",
         &[1, 2, 3],
@@ -69,7 +69,7 @@ fn are_same(plans: &[TestPlan]) -> bool {
     if plans.len() != PLANS.len() {
         return false;
     }
-    for (plan, row) in plans.iter().zip(PLANS.iter()) {
+    for (plan, row) in plans.iter().zip(&PLANS) {
         if !is_same_plan(plan, row) {
             return false;
         }

@@ -1,9 +1,9 @@
 //! The program whose functions the tests files call.
-ghost use Rattle.std.specs.Prelude.{◌≤◌};
+ghost use Rattle.std.specs.Prelude.{◌<◌, ◌+◌, ◌^◌, All, length};
 
 use crate::faults::check_faults;
 use crate::plans::are_read;
-use mc_lex::{Dialect, lex};
+use mc_lex::{Dialect, Token, lex};
 use mc_parse::parse;
 use mc_subset::check;
 use mc_tree::Unit;
@@ -46,6 +46,20 @@ fn check_unit(rt: &impl Abort, alloc: Global, unit: &Unit<'_>) -> Result<(), Fai
     }
 }
 
+fn check_tokens(rt: &impl Abort, alloc: Global, tokens: &[Token<'_>]) -> Result<(), Fail>
+    requires short { All (λ token. token.start + length token.text.now < 2 ^ 31) tokens.now }
+    requires few { length tokens.now < 2 ^ 31 }
+{
+    match parse(alloc, tokens, Dialect::Plain) {
+        Ok(unit) => {
+            let checked = check_unit(rt, alloc, &unit);
+            drop(unit);
+            checked
+        }
+        Err(_) => Err(Fail::new("syntax")),
+    }
+}
+
 /// Checks the tests files of the program.
 #[tactic(auto, using(crate::proofs::Short::all_short))]
 pub(crate) fn check_all(rt: &impl Abort, alloc: Global) -> Result<(), Fail> {
@@ -53,16 +67,12 @@ pub(crate) fn check_all(rt: &impl Abort, alloc: Global) -> Result<(), Fail> {
     if source.len() >= 0x8000_0000 {
         return Err(Fail::new("length"));
     }
-    let tokens = match lex(alloc, source, Dialect::Plain) {
-        Ok(tokens) => tokens,
-        Err(_) => return Err(Fail::new("tokens")),
-    };
-    match parse(alloc, &tokens, Dialect::Plain) {
-        Ok(unit) => {
-            let checked = check_unit(rt, alloc, &unit);
-            drop(unit);
+    match lex(alloc, source, Dialect::Plain) {
+        Ok(tokens) => {
+            let checked = check_tokens(rt, alloc, &tokens);
+            drop(tokens);
             checked
         }
-        Err(_) => Err(Fail::new("syntax")),
+        Err(_) => Err(Fail::new("tokens")),
     }
 }
