@@ -14,7 +14,8 @@ use Rattle.mc_course.specs.declared.ends.Flow as code_flow
 use Rattle.mc_course.specs.declared.ends.Flow.TheVariants as ends
 use Rattle.mc_interp.specs.declared.store.Store.{Store}
 use Rattle.mc_interp.specs.declared.values.Given as code_given
-use Rattle.mc_interp.specs.Bodies.{body_of, ends_switch, flow_of, has_left, IsGivenFor, IsReturned}
+use Rattle.mc_interp.specs.Entries.{inside_of}
+use Rattle.mc_interp.specs.Bodies.{ends_switch, flow_of, has_left, IsGivenFor, IsReturned}
 use Rattle.mc_interp.specs.Stores.{given_of, state_of, told, Did}
 use Rattle.mc_interp.proofs.Runs.{did_told, did_gives, did_then, did_end}
 
@@ -62,29 +63,23 @@ module _ {P : Type 0} (leads : List ℕ → P → P → Type 0) (stays : (p : P)
   did_left closing m p ends.Continued e = absurd (false≢true e)
   did_left closing m p ends.Left e = did_gives leads stays joins (given_of m.given) m p
 
-  -- a whole body
+  -- a body after its entry
   module _ (w : Activation) (f : p.Function) (into : Option ℕ) (s : State Flat) where
     abbrev leaving : Flow ℕ → Does (Given ℕ)
     leaving flow s = after (where_left flow (hits_some w f.exit) s) (leaves flat into (left w.base w.first))
 
-    abbrev running : Does (Given ℕ)
-    running s = after (statements_of w f.body steps.Running s) leaving
+    pub did_inside_end : (n : Store) (q r : P) → Did leads (statements_of w f.body steps.Running s) None n q r →
+        Did leads (inside_of w f into s) None n q r
+    did_inside_end n q r g = did_end leads stays joins (statements_of w f.body steps.Running s) leaving n q r g
 
-    pub did_body_end : (m n : Store) (p q r : P) → Did leads (hits_some w f.entry s) (Some tt) m p q →
-        Did leads (statements_of w f.body steps.Running (state_of m)) None n q r → Did leads (body_of w f into s) None n p r
-    did_body_end m n p q r h g =
-        did_then leads stays joins (hits_some w f.entry s) (λ _ s. running s) tt m n None p q r h
-        (did_end leads stays joins (statements_of w f.body steps.Running (state_of m)) leaving n q r g)
-
-    pub did_body : (m n k o : Store) (flow : Flow ℕ) (v u : Given ℕ) (p q r t : P) → Did leads (hits_some w f.entry s) (Some tt) m p q →
-        Did leads (statements_of w f.body steps.Running (state_of m)) (Some flow) n q r →
+    pub did_inside : (n k o : Store) (flow : Flow ℕ) (v u : Given ℕ) (q r t : P) →
+        Did leads (statements_of w f.body steps.Running s) (Some flow) n q r →
         Did leads (where_left flow (hits_some w f.exit) (state_of n)) (Some v) k r t →
-        leaves flat into (left w.base w.first) v (state_of k) ≡ told (Some u) o → Did leads (body_of w f into s) (Some u) o p t
-    did_body m n k o flow v u p q r t h g d e =
-        did_then leads stays joins (hits_some w f.entry s) (λ _ s. running s) tt m o (Some u) p q t h
-        (did_then leads stays joins (statements_of w f.body steps.Running (state_of m)) leaving flow n o (Some u) q r t g
+        leaves flat into (left w.base w.first) v (state_of k) ≡ told (Some u) o → Did leads (inside_of w f into s) (Some u) o q t
+    did_inside n k o flow v u q r t g d e =
+        did_then leads stays joins (statements_of w f.body steps.Running s) leaving flow n o (Some u) q r t g
         (did_then leads stays joins (where_left flow (hits_some w f.exit) (state_of n)) (leaves flat into (left w.base w.first)) v k o (Some u) r t t d
-        (did_told leads stays joins (leaves flat into (left w.base w.first) v (state_of k)) (Some u) o t e)))
+        (did_told leads stays joins (leaves flat into (left w.base w.first) v (state_of k)) (Some u) o t e))
 
 -- ---- what is given
 

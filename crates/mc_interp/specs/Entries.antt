@@ -1,5 +1,5 @@
 -- The entry of a call and its end.
-use Rattle.std.specs.Prelude.{◌≡◌, ℕ, ◌+◌, ◌≤◌, List, [], ◌∷◌, ◌++◌, length, map, replicate, Option, Some, None}
+use Rattle.std.specs.Prelude.{◌≡◌, ℕ, ◌+◌, ◌≤◌, List, [], ◌∷◌, ◌++◌, length, map, replicate, slice_get, Option, Some, None}
 use Rattle.mc_value.specs.declared.int_type.IntType.{IntType}
 use Rattle.mc_typed.specs.declared.objects.Object as code_object
 use Rattle.mc_typed.specs.declared.plans.Ending.TheVariants as ending
@@ -10,9 +10,11 @@ use Rattle.mc_typed.specs.Views as plain
 use Rattle.mc_cells.specs.Rows.{with_cells}
 use Rattle.mc_steps.specs.Runs.{State, after, changes, gives, spends}
 use Rattle.mc_steps.specs.Statements as steps
-use Rattle.mc_steps.specs.Calls.{with_room, passed_to, Passed, Target}
-use Rattle.mc_probe.specs.Calls.{calls}
-use Rattle.mc_probe.specs.Flat.{Does, Flat, flat}
+use Rattle.mc_steps.specs.Calls.{leaves, where_left, with_room, passed_to, Passed, Target}
+use Rattle.mc_probe.specs.Calls.{calls, left}
+use Rattle.mc_probe.specs.Flat.{Activation, Does, Flat, flat, hits_some}
+use Rattle.mc_probe.specs.Statements.{statements_of}
+use Rattle.mc_probe.specs.Tree as p
 use Rattle.mc_probe.specs.Trees.{tree_of}
 use Rattle.mc_probe.specs.Views as view
 use Rattle.mc_probe.specs.WellFormed.{FitStatements}
@@ -135,6 +137,12 @@ pub record HasLeft (f : Frame) (into : Option ℕ) (old new : Store) : Type 0 wh
       IsInto (types ++ more) into (scope_in f).result →
       HasTypes (types ++ more) old.cells.cells → HasTypes types new.cells.cells
 
+-- a body after its entry
+abbrev pub inside_of : Activation → p.Function → Option ℕ → Does (steps.Given ℕ)
+inside_of w f into s =
+    after (statements_of w f.body steps.Running s) (λ flow s.
+    after (where_left flow (hits_some w f.exit) s) (leaves flat into (left w.base w.first)))
+
 -- The activation F of a call has begun, and its parameters have their values: the call is its body
 -- from here on, and what the body leaves is what the call keeps.
 pub record IsOpened (k : Called) (F : Frame) (old full : Store) : Type 0 where
@@ -143,6 +151,7 @@ pub record IsOpened (k : Called) (F : Frame) (old full : Store) : Type 0 where
   pub into : IntoRoom (length full.cells.cells) k.into (scope_in F).result
   pub base : F.base ≤ length full.cells.cells
   pub program : F.program.now ≡ k.program.now
+  pub function : slice_get k.program.now.program.functions k.function ≡ Some F.function.now
   pub depth : F.depth + 1 ≡ k.depth
   pub ran : calls (tree_of k.program.now) k.depth k.levels k.function k.into
       (map passed_of k.passed.now) (state_of old)

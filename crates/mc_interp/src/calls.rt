@@ -1,5 +1,6 @@
 //! Calls of functions (C17 6.5.2.2, 6.9.1). None takes memory.
 ghost use Rattle.std.specs.Prelude.{◌≡◌, ◌<◌, ◌≤◌, length, map, slice_get, Some, None, option_map, IfNone, IfSome};
+ghost use Rattle.mc_typed.specs.declared.functions.Function.{Function};
 ghost use Rattle.mc_typed.specs.Sound.{result_at, Scope};
 ghost use Rattle.mc_steps.specs.Calls.{where_left};
 ghost use Rattle.mc_steps.specs.Calls as steps;
@@ -8,9 +9,9 @@ ghost use Rattle.mc_probe.specs.Trees.{tree_of};
 ghost use Rattle.mc_probe.specs.Flat.{Activation, hits_some};
 ghost use Rattle.mc_probe.specs.Views as view;
 ghost use Rattle.mc_probe.specs.WellFormed.{FitStatements};
-ghost use Rattle.mc_interp.specs.Bodies.{body_of, flow_of, IsGivenFor, IsReturned};
+ghost use Rattle.mc_interp.specs.Bodies.{flow_of, IsGivenFor, IsReturned};
 ghost use Rattle.mc_interp.specs.Calls.{callee_of, CallDid, CallKeeps, Invokes, IsCalled, IsResultOf};
-ghost use Rattle.mc_interp.specs.Entries.{HasLeft, IntoRoom, IsOpened};
+ghost use Rattle.mc_interp.specs.Entries.{inside_of, HasLeft, IntoRoom, IsOpened};
 ghost use Rattle.mc_interp.specs.Frames.{activation_of, scope_in, IsKept, IsReady};
 ghost use Rattle.mc_interp.specs.Stores.{given_of, lent_of, limits_of, passed_of, state_of, told, Did};
 
@@ -22,7 +23,7 @@ use crate::statements::statements;
 use crate::store::Store;
 use crate::values::{Given, Lent, Shape};
 use arrayvec::ArrayVec;
-use mc_course::Flow;
+use mc_course::{Flow, hit_after};
 use mc_hits::Probe;
 
 /// A body that completes gives nothing, and its closing brace is an exit.
@@ -43,7 +44,7 @@ fn close<P: Probe>(flow: Flow, frame: &Frame<'_, '_>, store: &mut Store, probe: 
     }
 }
 
-/// The body of a function in its activation, whose objects are there, up to the end of the call.
+/// The body of a function in its activation, after its entry, up to the end of the call.
 fn body<P: Probe, F: Fn(Called<'_, '_>, &mut Store, &mut P) -> Option<()> + Copy>(
     frame: &Frame<'_, '_>,
     into: Option<u32>,
@@ -57,7 +58,7 @@ fn body<P: Probe, F: Fn(Called<'_, '_>, &mut Store, &mut P) -> Option<()> + Copy
     requires base { frame.now.base ≤ length store.old.cells.cells }
     requires ready { IsReady frame.now store.old (P.bits probe.old) }
     requires invokes { Invokes frame.now P.bits P.leads (F.pre invoke) (F.post invoke) }
-    ensures did { Did P.leads (body_of (activation_of frame.now)
+    ensures did { Did P.leads (inside_of (activation_of frame.now)
         (view.function_of frame.now.function.now) into (state_of store.old))
         (option_map (λ _. given_of store.new.given) result) store.new probe.old probe.new }
     ensures given { IfSome result (λ _. IsResultOf into (scope_in frame.now).result
@@ -66,7 +67,6 @@ fn body<P: Probe, F: Fn(Called<'_, '_>, &mut Store, &mut P) -> Option<()> + Copy
     ensures bits { P.bits probe.new ≡ P.bits probe.old }
     ensures limits { limits_of store.new ≡ limits_of store.old }
 {
-    hit_some(frame.function.entry, frame, store, probe);
     let flow = statements(
         &frame.function.body,
         Seek::Running,
@@ -122,7 +122,17 @@ fn begin<'f, 'a>(
     })
 }
 
-/// A call of a function of the program. What it gives is kept in the store.
+/// The bit of the entry of the function that is called, where it has one.
+fn entry_of(called: Called<'_, '_>) -> Option<u32>
+    requires { called.function < length called.program.now.program.functions }
+    ensures { (f : Function) → slice_get called.entry.program.now.program.functions
+        called.entry.function ≡ Some f → result ≡ f.entry }
+{
+    called.program.program().function(called.function).entry
+}
+
+/// A call of a function of the program: its entry is hit where it begins. What it gives is kept in
+/// the store.
 pub(crate) fn invoke<P: Probe>(
     called: Called<'_, '_>,
     store: &mut Store,
@@ -141,6 +151,11 @@ pub(crate) fn invoke<P: Probe>(
     }
     let mut arrays = ArrayVec::new();
     lend(called.passed, &mut arrays);
-    let frame = begin(called, arrays.as_slice(), store)?;
-    body(&frame, called.into, invoke::<P>, store, probe)
+    let opened = begin(called, arrays.as_slice(), store);
+    let bits = called.program.bits();
+    hit_after(opened.is_some(), bits, entry_of(called), probe);
+    match opened {
+        Some(frame) => body(&frame, called.into, invoke::<P>, store, probe),
+        None => None,
+    }
 }

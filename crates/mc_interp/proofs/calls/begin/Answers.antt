@@ -95,6 +95,7 @@ returns-clause-opened c =
       into = into_room F k.depth k.levels k.function k.into k.passed there whole c.requires.arrays m l o F.program.now.bits c.requires.ready at rows registers limits still;
       base = base_within F k.depth k.levels k.function k.into k.passed there whole c.requires.arrays m l o F.program.now.bits c.requires.ready at rows registers limits still;
       program = refl;
+      function = there;
       depth = omega (arith, c.requires.some);
       ran =
           ap (λ n. calls (tree_of k.program.now) n k.levels k.function k.into (map passed_of k.passed.now) (state_of m)) d
