@@ -97,9 +97,10 @@ fn shares_types(rt: HostRuntime) -> Result<(), Fail> {
         number: 7,
         members: Arc::new(alloc, vec![in alloc; share(&row)?, row]?)?,
     };
-    match share(&pair)? {
+    let shared = share(&pair)?;
+    match &shared {
         ObjType::Struct { number, members } => {
-            assert_eq!(rt; number, 7);
+            assert_eq!(rt; *number, 7);
             assert_eq!(rt; members.len(), 2);
         }
         ObjType::Int(_) | ObjType::Array { .. } => assert!(rt; false, "another type"),
