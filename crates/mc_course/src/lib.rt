@@ -1,6 +1,6 @@
 //! Small steps of a run, which the interpreter puts together: units of fuel and the bits that are
-//! hit for them, registers of activations, items of arrays, the truth of words, and how the turns of
-//! a loop end. None takes memory.
+//! hit for them, registers of activations, items of arrays, the truth of words, and how the turns
+//! of a loop end. None takes memory.
 #![tactic(auto)]
 
 mod ends;
