@@ -2,8 +2,8 @@
 use Rattle.std.proofs.Common.{◌≡◌, ℕ, suc, ℤ, Bool, true, false, List, [], ◌++◌, sym, subst, Option, Some, None, option_map}
 use Rattle.std.proofs.lemmas.Bool.{false≢true}
 use Rattle.mc_steps.specs.Runs.{State, Run, gives, after, spends}
-use Rattle.mc_steps.specs.Expressions.{where_true}
-use Rattle.mc_steps.specs.Statements.{if_does, test_does, Flow, Completed, Seek, Running, For, do_does, is_absent, is_running, loop_does, sought, switch_does, turns, where_loop_goes_on, where_switch_ends}
+use Rattle.mc_steps.specs.Expressions.{where_true, as_does, choice_does, is_true}
+use Rattle.mc_steps.specs.Statements.{Flow, Completed, Seek, Running, For, do_does, is_absent, is_running, loop_does, sought, switch_does, turns, where_loop_goes_on, where_switch_ends}
 use Rattle.mc_probe.specs.Flat.{Flat, Does, Runs, Activation}
 use Rattle.mc_probe.specs.Statements.{statement_of, statements_of}
 use Rattle.mc_probe.specs.Tree as tree
@@ -172,21 +172,21 @@ module _ {P : Type 0} (leads : List ℕ → P → P → Type 0) (stays : (p : P)
     did_do result n r e d = do_by None result n r e d
 
   -- a selection
-  module _ (E : Does ℤ) (C O : Runs) (s : State Flat) (b : Bool) (m : Store) (p q : P) (h : Did leads (test_does E s) (Some b) m p q) where
+  module _ (E : Does ℤ) (C O : Runs) (s : State Flat) (b : Bool) (m : Store) (p q : P) (h : Did leads (as_does is_true E s) (Some b) m p q) where
     pub did_if_then : (result : Option (Flow ℕ)) (n : Store) (r : P) → b ≡ true → Did leads (C (state_of m)) result n q r →
-        Did leads (if_does E C O s) result n p r
+        Did leads (choice_does E C O s) result n p r
     did_if_then result n r e g =
         did_choice leads stays joins E C O s b m n result p q r h
         (subst (λ (b : Bool). Did leads (where_true b C O (state_of m)) result n q r) (sym e) g)
 
     pub did_if_else : (result : Option (Flow ℕ)) (n : Store) (r : P) → b ≡ false → Did leads (O (state_of m)) result n q r →
-        Did leads (if_does E C O s) result n p r
+        Did leads (choice_does E C O s) result n p r
     did_if_else result n r e g =
         did_choice leads stays joins E C O s b m n result p q r h
         (subst (λ (b : Bool). Did leads (where_true b C O (state_of m)) result n q r) (sym e) g)
 
-  pub did_if_end : (E : Does ℤ) (C O : Runs) (s : State Flat) (m : Store) (p q : P) → Did leads (test_does E s) None m p q →
-      Did leads (if_does E C O s) None m p q
+  pub did_if_end : (E : Does ℤ) (C O : Runs) (s : State Flat) (m : Store) (p q : P) → Did leads (as_does is_true E s) None m p q →
+      Did leads (choice_does E C O s) None m p q
   did_if_end E C O s m p q h = did_choice_end leads stays joins E C O s m p q h
 
   -- a switch

@@ -15,7 +15,7 @@ use Rattle.mc_typed.specs.Sound.{parameters_at, result_at}
 use Rattle.mc_typed.specs.Tree as t
 use Rattle.mc_typed.specs.Views as plain
 use Rattle.mc_steps.specs.Runs.{State, Run, Out, Gave, Stopped}
-use Rattle.mc_steps.specs.Calls.{CallDone, TestRun, calls_do, value_given, where_returned}
+use Rattle.mc_steps.specs.Tests.{CallDone, TestRun, calls_do, value_given, where_returned}
 use Rattle.mc_steps.specs.Calls as steps
 use Rattle.mc_steps.specs.Statements.{Given}
 use Rattle.mc_steps.specs.Statements as give

@@ -10,8 +10,7 @@ use Rattle.mc_typed.specs.Layout.{ObjectType, cells}
 use Rattle.mc_typed.specs.Tree as t
 use Rattle.mc_typed.specs.Sound.{Scope, HasOperands, IsEffect, AreClauses}
 use Rattle.mc_steps.specs.Runs.{State, gives, after, changes, with_some, with_result}
-use Rattle.mc_steps.specs.Expressions.{operated, assign_does, update_does, choice_does, copy_does, drop_does, is_true, where_true}
-use Rattle.mc_steps.specs.Statements.{test_does}
+use Rattle.mc_steps.specs.Expressions.{operated, assign_does, update_does, choice_does, copy_does, drop_does, is_true, where_true, as_does}
 use Rattle.mc_probe.specs.Flat.{Flat, Does, flat}
 use Rattle.mc_probe.specs.Tree as p
 use Rattle.mc_probe.specs.Views as view
@@ -165,17 +164,17 @@ module _ {P : Type 0} (leads : List ℕ → P → P → Type 0) (stays : (p : P)
   -- ---- choices
 
   pub did_choice_true : (E : Does ℤ) (C O : Does (Unit {0})) (s : State Flat) (b : Bool) (result : Option (Unit {0})) (m n : Store) (p q r : P) →
-      Did leads (test_does E s) (Some b) m p q → b ≡ true → Did leads (C (state_of m)) result n q r →
+      Did leads (as_does is_true E s) (Some b) m p q → b ≡ true → Did leads (C (state_of m)) result n q r →
       Did leads (choice_does E C O s) result n p r
   did_choice_true E C O s b result m n p q r h e g =
       did_by_truth leads stays joins (E s) (λ x s. where_true (is_true x) C O s) (λ b s. where_true b C O s) (λ x s. refl) result n p r
-      (did_then leads stays joins (test_does E s) (λ b s. where_true b C O s) b m n result p q r h
+      (did_then leads stays joins (as_does is_true E s) (λ b s. where_true b C O s) b m n result p q r h
       (subst (λ c. Did leads (where_true c C O (state_of m)) result n q r) (sym e) g))
 
   pub did_choice_false : (E : Does ℤ) (C O : Does (Unit {0})) (s : State Flat) (b : Bool) (result : Option (Unit {0})) (m n : Store) (p q r : P) →
-      Did leads (test_does E s) (Some b) m p q → b ≡ false → Did leads (O (state_of m)) result n q r →
+      Did leads (as_does is_true E s) (Some b) m p q → b ≡ false → Did leads (O (state_of m)) result n q r →
       Did leads (choice_does E C O s) result n p r
   did_choice_false E C O s b result m n p q r h e g =
       did_by_truth leads stays joins (E s) (λ x s. where_true (is_true x) C O s) (λ b s. where_true b C O s) (λ x s. refl) result n p r
-      (did_then leads stays joins (test_does E s) (λ b s. where_true b C O s) b m n result p q r h
+      (did_then leads stays joins (as_does is_true E s) (λ b s. where_true b C O s) b m n result p q r h
       (subst (λ c. Did leads (where_true c C O (state_of m)) result n q r) (sym e) g))

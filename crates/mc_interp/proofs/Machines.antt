@@ -16,7 +16,7 @@ use Rattle.mc_typed.specs.Tree as t
 use Rattle.mc_typed.specs.Views as plain
 use Rattle.mc_typed.proofs.CellTypes.{length_scalars}
 use Rattle.mc_stack.specs.Rooms.{Room}
-use Rattle.mc_steps.specs.Calls.{calls_do, CallDone}
+use Rattle.mc_steps.specs.Tests.{calls_do, CallDone}
 use Rattle.mc_steps.specs.Runs.{State}
 use Rattle.mc_probe.specs.Erase.{erase}
 use Rattle.mc_probe.specs.Flat.{Flat}

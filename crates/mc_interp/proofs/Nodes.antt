@@ -13,7 +13,6 @@ use Rattle.mc_typed.specs.Sound.{HasOperands, operator_type}
 use Rattle.mc_steps.specs.Runs.{State, Run, gives, after, with_some, with_result}
 use Rattle.mc_steps.specs.Memories.{Lent}
 use Rattle.mc_steps.specs.Expressions.{operated, is_true, where_true, with_index, item_does, lent_item_does, binary_does, goes_on, logic_does, choice_does, as_does}
-use Rattle.mc_steps.specs.Statements.{test_does}
 use Rattle.mc_words.specs.Words.{number_of, result_of, Holds, IsRight, IsRightType}
 use Rattle.mc_probe.specs.Flat.{Flat, Does, Activation, flat, sets, adds, hits, register, wrapped_sum}
 use Rattle.mc_probe.specs.Probes.{decision_does, condition_does}
@@ -70,20 +69,20 @@ module _ {P : Type 0} (leads : List ℕ → P → P → Type 0) (stays : (p : P)
       (did_told leads stays joins (with_result (operated operator a X Y) gives (state_of n)) result k o step))
 
   pub did_choice : {A : Type 0} (E : Does ℤ) (C O : Does A) (s : State Flat) (b : Bool) (m n : Store) (result : Option A) (p q r : P) →
-      Did leads (test_does E s) (Some b) m p q → Did leads (where_true b C O (state_of m)) result n q r →
+      Did leads (as_does is_true E s) (Some b) m p q → Did leads (where_true b C O (state_of m)) result n q r →
       Did leads (choice_does E C O s) result n p r
   did_choice E C O s b m n result p q r h g =
       did_by_truth leads stays joins (E s) (λ x s. where_true (is_true x) C O s) (λ b s. where_true b C O s) (λ x s. refl) result n p r
-      (did_then leads stays joins (test_does E s) (λ b s. where_true b C O s) b m n result p q r h g)
+      (did_then leads stays joins (as_does is_true E s) (λ b s. where_true b C O s) b m n result p q r h g)
 
   pub did_choice_end : {A : Type 0} (E : Does ℤ) (C O : Does A) (s : State Flat) (m : Store) (p q : P) →
-      Did leads (test_does E s) None m p q → Did leads (choice_does E C O s) None m p q
+      Did leads (as_does is_true E s) None m p q → Did leads (choice_does E C O s) None m p q
   did_choice_end E C O s m p q h =
       did_by_truth leads stays joins (E s) (λ x s. where_true (is_true x) C O s) (λ b s. where_true b C O s) (λ x s. refl) None m p q
-      (did_end leads stays joins (test_does E s) (λ b s. where_true b C O s) m p q h)
+      (did_end leads stays joins (as_does is_true E s) (λ b s. where_true b C O s) m p q h)
 
   pub did_chosen : (E C O : Does ℤ) (s : State Flat) (b : Bool) (t a : IntType) (out : Option ℕ) (m n : Store) (p q r : P) →
-      Did leads (test_does E s) (Some b) m p q → b ≡ true → t ≡ a →
+      Did leads (as_does is_true E s) (Some b) m p q → b ≡ true → t ≡ a →
       Did leads (C (state_of m)) (option_map (number_of t) out) n q r →
       Did leads (choice_does E C O s) (option_map (number_of a) out) n p r
   did_chosen E C O s b t a out m n p q r h e u g =
@@ -92,7 +91,7 @@ module _ {P : Type 0} (leads : List ℕ → P → P → Type 0) (stays : (p : P)
       (subst (λ x. Did leads (C (state_of m)) (option_map (number_of x) out) n q r) u g))
 
   pub did_other : (E C O : Does ℤ) (s : State Flat) (b : Bool) (t a : IntType) (out : Option ℕ) (m n : Store) (p q r : P) →
-      Did leads (test_does E s) (Some b) m p q → b ≡ false → t ≡ a →
+      Did leads (as_does is_true E s) (Some b) m p q → b ≡ false → t ≡ a →
       Did leads (O (state_of m)) (option_map (number_of t) out) n q r →
       Did leads (choice_does E C O s) (option_map (number_of a) out) n p r
   did_other E C O s b t a out m n p q r h e u g =
@@ -142,7 +141,7 @@ module _ {P : Type 0} (leads : List ℕ → P → P → Type 0) (stays : (p : P)
     pub did_compared : (l r : IntType) (x y : ℕ) (b : Bool) (m n : Store) (p q o : P) → HasOperands (Binary operator) a l r →
         Did leads (E s) (Some (number_of l x)) m p q → Did leads (F (state_of m)) (Some (number_of r y)) n q o →
         binary_of operator a (number_of a x) (number_of a y) ≡ Ok (truth b) →
-        Did leads (test_does compared s) (Some b) n p o
+        Did leads (as_does is_true compared s) (Some b) n p o
     did_compared l r x y b m n p q o h d e value =
         let X = number_of a x in
         let Y = number_of a y in
@@ -155,43 +154,43 @@ module _ {P : Type 0} (leads : List ℕ → P → P → Type 0) (stays : (p : P)
         (did_told leads stays joins (with_result (binary_of operator a X Y) gives (state_of n)) (Some (truth b)) n o
         (ap (λ z. with_result z gives (state_of n)) value))))
 
-    pub did_compared_left : (m : Store) (p q : P) → Did leads (E s) None m p q → Did leads (test_does compared s) None m p q
+    pub did_compared_left : (m : Store) (p q : P) → Did leads (E s) None m p q → Did leads (as_does is_true compared s) None m p q
     did_compared_left m p q h = did_test_end (compared s) m p q (did_end leads stays joins (E s) with_left m p q h)
 
     pub did_compared_right : (x : ℤ) (m n : Store) (p q o : P) → Did leads (E s) (Some x) m p q →
-        Did leads (F (state_of m)) None n q o → Did leads (test_does compared s) None n p o
+        Did leads (F (state_of m)) None n q o → Did leads (as_does is_true compared s) None n p o
     did_compared_right x m n p q o d e =
         did_test_end (compared s) n p o
         (did_then leads stays joins (E s) with_left x m n None p q o d
         (did_end leads stays joins (F (state_of m)) (λ y s. with_result (binary_of operator a x y) gives s) n q o e))
 
-  pub did_not : (E : Does ℤ) (s : State Flat) (b : Bool) (m : Store) (p q : P) → Did leads (test_does E s) (Some b) m p q →
-      Did leads (test_does (as_does (λ x. truth (is_zero x)) E) s) (Some (not b)) m p q
+  pub did_not : (E : Does ℤ) (s : State Flat) (b : Bool) (m : Store) (p q : P) → Did leads (as_does is_true E s) (Some b) m p q →
+      Did leads (as_does is_true (as_does (λ x. truth (is_zero x)) E) s) (Some (not b)) m p q
   did_not E s b m p q h =
       did_test (as_does (λ x. truth (is_zero x)) E s) (not b) m p q
       (did_by_truth leads stays joins (E s) (λ x s. gives (truth (is_zero x)) s) (λ b s. gives (truth (not b)) s)
       (λ x s. ap (λ v. gives v s) (not_zero x)) (Some (truth (not b))) m p q
-      (did_then leads stays joins (test_does E s) (λ b s. gives (truth (not b)) s) b m m (Some (truth (not b))) p q q h
+      (did_then leads stays joins (as_does is_true E s) (λ b s. gives (truth (not b)) s) b m m (Some (truth (not b))) p q q h
       (did_gives leads stays joins (truth (not b)) m q)))
 
-  pub did_not_end : (E : Does ℤ) (s : State Flat) (m : Store) (p q : P) → Did leads (test_does E s) None m p q →
-      Did leads (test_does (as_does (λ x. truth (is_zero x)) E) s) None m p q
+  pub did_not_end : (E : Does ℤ) (s : State Flat) (m : Store) (p q : P) → Did leads (as_does is_true E s) None m p q →
+      Did leads (as_does is_true (as_does (λ x. truth (is_zero x)) E) s) None m p q
   did_not_end E s m p q h =
       did_test_end (as_does (λ x. truth (is_zero x)) E s) m p q
       (did_by_truth leads stays joins (E s) (λ x s. gives (truth (is_zero x)) s) (λ b s. gives (truth (not b)) s)
       (λ x s. ap (λ v. gives v s) (not_zero x)) None m p q
-      (did_end leads stays joins (test_does E s) (λ b s. gives (truth (not b)) s) m p q h))
+      (did_end leads stays joins (as_does is_true E s) (λ b s. gives (truth (not b)) s) m p q h))
 
   -- what a truth value is as a number
   did_number : (E : Does ℤ) (s : State Flat) (result : Option Bool) (m : Store) (p q : P) →
-      Did leads (test_does E s) result m p q →
+      Did leads (as_does is_true E s) result m p q →
       Did leads (after (E s) (λ y s. gives (truth (is_true y)) s)) (option_map truth result) m p q
   did_number E s (Some b) m p q h =
       did_by_truth leads stays joins (E s) (λ y s. gives (truth (is_true y)) s) (λ b s. gives (truth b) s) (λ x s. refl) (Some (truth b)) m p q
-      (did_then leads stays joins (test_does E s) (λ b s. gives (truth b) s) b m m (Some (truth b)) p q q h (did_gives leads stays joins (truth b) m q))
+      (did_then leads stays joins (as_does is_true E s) (λ b s. gives (truth b) s) b m m (Some (truth b)) p q q h (did_gives leads stays joins (truth b) m q))
   did_number E s None m p q h =
       did_by_truth leads stays joins (E s) (λ y s. gives (truth (is_true y)) s) (λ b s. gives (truth b) s) (λ x s. refl) None m p q
-      (did_end leads stays joins (test_does E s) (λ b s. gives (truth b) s) m p q h)
+      (did_end leads stays joins (as_does is_true E s) (λ b s. gives (truth b) s) m p q h)
 
   did_test_all : (r : Run Flat ℕ ℤ) (result : Option Bool) (m : Store) (p q : P) → Did leads r (option_map truth result) m p q →
       Did leads (after r (λ x s. gives (is_true x) s)) result m p q
@@ -205,30 +204,30 @@ module _ {P : Type 0} (leads : List ℕ → P → P → Type 0) (stays : (p : P)
     abbrev both : Does ℤ
     both s = logic_does operator is_true (λ x. truth (is_true x)) (λ x y. truth (is_true y)) E F s
 
-    pub did_logic : (b : Bool) (result : Option Bool) (m n : Store) (p q r : P) → Did leads (test_does E s) (Some b) m p q →
-        goes_on operator b ≡ true → Did leads (test_does F (state_of m)) result n q r →
-        Did leads (test_does both s) result n p r
+    pub did_logic : (b : Bool) (result : Option Bool) (m n : Store) (p q r : P) → Did leads (as_does is_true E s) (Some b) m p q →
+        goes_on operator b ≡ true → Did leads (as_does is_true F (state_of m)) result n q r →
+        Did leads (as_does is_true both s) result n p r
     did_logic b result m n p q r h e g =
         did_test_all (both s) result n p r
         (did_by_truth leads stays joins (E s) (λ x s. second (is_true x) s) second (λ x s. refl) (option_map truth result) n p r
-        (did_then leads stays joins (test_does E s) second b m n (option_map truth result) p q r h
+        (did_then leads stays joins (as_does is_true E s) second b m n (option_map truth result) p q r h
         (subst (λ c. Did leads (where_true c (λ s. after (F s) (λ y s. gives (truth (is_true y)) s)) (gives (truth b)) (state_of m)) (option_map truth result) n q r)
         (sym e) (did_number F (state_of m) result n q r g))))
 
-    pub did_logic_short : (b : Bool) (m : Store) (p q : P) → Did leads (test_does E s) (Some b) m p q →
-        goes_on operator b ≡ false → Did leads (test_does both s) (Some b) m p q
+    pub did_logic_short : (b : Bool) (m : Store) (p q : P) → Did leads (as_does is_true E s) (Some b) m p q →
+        goes_on operator b ≡ false → Did leads (as_does is_true both s) (Some b) m p q
     did_logic_short b m p q h e =
         did_test (both s) b m p q
         (did_by_truth leads stays joins (E s) (λ x s. second (is_true x) s) second (λ x s. refl) (Some (truth b)) m p q
-        (did_then leads stays joins (test_does E s) second b m m (Some (truth b)) p q q h
+        (did_then leads stays joins (as_does is_true E s) second b m m (Some (truth b)) p q q h
         (subst (λ c. Did leads (where_true c (λ s. after (F s) (λ y s. gives (truth (is_true y)) s)) (gives (truth b)) (state_of m)) (Some (truth b)) m q q)
         (sym e) (did_gives leads stays joins (truth b) m q))))
 
-    pub did_logic_end : (m : Store) (p q : P) → Did leads (test_does E s) None m p q → Did leads (test_does both s) None m p q
+    pub did_logic_end : (m : Store) (p q : P) → Did leads (as_does is_true E s) None m p q → Did leads (as_does is_true both s) None m p q
     did_logic_end m p q h =
         did_test_end (both s) m p q
         (did_by_truth leads stays joins (E s) (λ x s. second (is_true x) s) second (λ x s. refl) None m p q
-        (did_end leads stays joins (test_does E s) second m p q h))
+        (did_end leads stays joins (as_does is_true E s) second m p q h))
 
   -- ---- probes
 
@@ -240,35 +239,35 @@ module _ {P : Type 0} (leads : List ℕ → P → P → Type 0) (stays : (p : P)
     decision s = decision_does w r base E s
 
     pub did_decision : (b : Bool) (l m : Store) (p q o : P) → sets w r 0 s ≡ told (Some tt) l →
-        Did leads (test_does E (state_of l)) (Some b) m p q →
+        Did leads (as_does is_true E (state_of l)) (Some b) m p q →
         Did leads (hits w (wrapped_sum base (register (w.first + r) (state_of m).memory)) (state_of m)) (Some tt) m q o →
-        Did leads (test_does decision s) (Some b) m p o
+        Did leads (as_does is_true decision s) (Some b) m p o
     did_decision b l m p q o e h k =
         did_test (decision s) b m p o
         (did_then leads stays joins (sets w r 0 s) (λ _ s. after (E s) (λ x s. decided (is_true x) s)) tt l m (Some (truth b)) p p o
         (did_told leads stays joins (sets w r 0 s) (Some tt) l p e)
         (did_by_truth leads stays joins (E (state_of l)) (λ x s. decided (is_true x) s) decided (λ x s. refl) (Some (truth b)) m p o
-        (did_then leads stays joins (test_does E (state_of l)) decided b m m (Some (truth b)) p q o h
+        (did_then leads stays joins (as_does is_true E (state_of l)) decided b m m (Some (truth b)) p q o h
         (did_then leads stays joins (hits w (wrapped_sum base (register (w.first + r) (state_of m).memory)) (state_of m)) (λ _ s. gives (truth b) s) tt m m (Some (truth b)) q o o k
         (did_gives leads stays joins (truth b) m o)))))
 
     pub did_decision_end : (l m : Store) (p q : P) → sets w r 0 s ≡ told (Some tt) l →
-        Did leads (test_does E (state_of l)) None m p q → Did leads (test_does decision s) None m p q
+        Did leads (as_does is_true E (state_of l)) None m p q → Did leads (as_does is_true decision s) None m p q
     did_decision_end l m p q e h =
         did_test_end (decision s) m p q
         (did_then leads stays joins (sets w r 0 s) (λ _ s. after (E s) (λ x s. decided (is_true x) s)) tt l m None p p q
         (did_told leads stays joins (sets w r 0 s) (Some tt) l p e)
         (did_by_truth leads stays joins (E (state_of l)) (λ x s. decided (is_true x) s) decided (λ x s. refl) None m p q
-        (did_end leads stays joins (test_does E (state_of l)) decided m p q h)))
+        (did_end leads stays joins (as_does is_true E (state_of l)) decided m p q h)))
 
     -- a decision that came out, or in which the run stopped
     pub did_decided : (outcome : Option Bool) (l m : Store) (p q o : P) → sets w r 0 s ≡ told (Some tt) l →
-        Did leads (test_does E (state_of l)) outcome m p q →
+        Did leads (as_does is_true E (state_of l)) outcome m p q →
         Did leads (path_does w r base outcome (state_of m)) (Some tt) m q o →
-        Did leads (test_does decision s) outcome m p o
+        Did leads (as_does is_true decision s) outcome m p o
     did_decided (Some b) l m p q o e h k = did_decision b l m p q o e h k
     did_decided None l m p q o e h k =
-        did_decision_end l m p o e (did_no_more leads stays joins (test_does E (state_of l)) None m p q o h k.led)
+        did_decision_end l m p o e (did_no_more leads stays joins (as_does is_true E (state_of l)) None m p q o h k.led)
 
   module _ (w : Activation) (r on_true on_false : ℕ) (E : Does ℤ) (s : State Flat) where
     abbrev noted : Bool → Does ℤ
@@ -277,20 +276,20 @@ module _ {P : Type 0} (leads : List ℕ → P → P → Type 0) (stays : (p : P)
     abbrev condition : Does ℤ
     condition s = condition_does w r on_true on_false E s
 
-    pub did_condition : (b : Bool) (m n : Store) (p q : P) → Did leads (test_does E s) (Some b) m p q →
+    pub did_condition : (b : Bool) (m n : Store) (p q : P) → Did leads (as_does is_true E s) (Some b) m p q →
         adds w r (if b then on_true else on_false) (state_of m) ≡ told (Some tt) n →
-        Did leads (test_does condition s) (Some b) n p q
+        Did leads (as_does is_true condition s) (Some b) n p q
     did_condition b m n p q h e =
         did_test (condition s) b n p q
         (did_by_truth leads stays joins (E s) (λ x s. noted (is_true x) s) noted (λ x s. refl) (Some (truth b)) n p q
-        (did_then leads stays joins (test_does E s) noted b m n (Some (truth b)) p q q h
+        (did_then leads stays joins (as_does is_true E s) noted b m n (Some (truth b)) p q q h
         (did_then leads stays joins (adds w r (if b then on_true else on_false) (state_of m)) (λ _ s. gives (truth b) s) tt n n (Some (truth b)) q q q
         (did_told leads stays joins (adds w r (if b then on_true else on_false) (state_of m)) (Some tt) n q e)
         (did_gives leads stays joins (truth b) n q))))
 
-    pub did_condition_end : (m : Store) (p q : P) → Did leads (test_does E s) None m p q →
-        Did leads (test_does condition s) None m p q
+    pub did_condition_end : (m : Store) (p q : P) → Did leads (as_does is_true E s) None m p q →
+        Did leads (as_does is_true condition s) None m p q
     did_condition_end m p q h =
         did_test_end (condition s) m p q
         (did_by_truth leads stays joins (E s) (λ x s. noted (is_true x) s) noted (λ x s. refl) None m p q
-        (did_end leads stays joins (test_does E s) noted m p q h))
+        (did_end leads stays joins (as_does is_true E s) noted m p q h))

@@ -4,8 +4,8 @@ use Rattle.mc_typed.specs.Layout.{cells}
 use Rattle.mc_typed.specs.Tree as t
 use Rattle.mc_typed.specs.Sound.{Scope, AreDeclarators, IsExpression, IsReturn, IsTest, labels_of}
 use Rattle.mc_steps.specs.Runs.{after, gives, spends}
-use Rattle.mc_steps.specs.Expressions.{where_true}
-use Rattle.mc_steps.specs.Statements.{Flow, Completed, Broke, Continued, Left, Seek, Running, For, at_label, do_does, effect_does, if_does, is_running, loop_does, same_label, switch_does}
+use Rattle.mc_steps.specs.Expressions.{where_true, as_does, choice_does, is_true}
+use Rattle.mc_steps.specs.Statements.{Flow, Completed, Broke, Continued, Left, Seek, Running, For, at_label, do_does, effect_does, is_running, loop_does, same_label, switch_does}
 use Rattle.mc_steps.specs.Statements as steps
 use Rattle.mc_steps.specs.Calls.{leaves, where_left}
 use Rattle.mc_steps.specs.Points.{initializes}
@@ -187,16 +187,16 @@ module _ (w : Activation) where
   act_of (p.Null span bit) s = gives Completed s
   act_of (p.EffectStatement effect span bit) s = effect_does (effect_of w effect) s
   act_of (p.If e u keyword span bit) s =
-      if_does (value_of w e) (statement_of w u) (gives Completed) s
+      choice_does (value_of w e) (statement_of w u) (gives Completed) s
   act_of (p.IfElse e u v keyword span bit) s =
-      if_does (value_of w e) (statement_of w u) (statement_of w v) s
+      choice_does (value_of w e) (statement_of w u) (statement_of w v) s
   act_of (p.Switch e items keyword span bit absent) s =
       switch_does (value_of w e) (labels_in items) (statements_of w items) (mark_does w absent) s
   act_of (p.For start test step u keyword span bit) s =
       after (start_of w start s) (λ _ s.
       loop_does (test_of w test) (statement_of w u) (effects_of w step) s)
   act_of (p.DoWhile u e keyword span bit) s =
-      do_does (statement_of w u) (steps.test_does (value_of w e)) s
+      do_does (statement_of w u) (as_does is_true (value_of w e)) s
   act_of (p.Break span bit) s = gives Broke s
   act_of (p.Continue span bit) s = gives Continued s
   act_of (p.Return value span bit exit) s = exit_does w exit (return_of w value) s

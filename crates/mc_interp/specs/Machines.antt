@@ -6,7 +6,7 @@ use Rattle.mc_typed.specs.Frames.{frame_of}
 use Rattle.mc_typed.specs.Sound.{IsSound}
 use Rattle.mc_typed.specs.Tree as t
 use Rattle.mc_typed.specs.Views as plain
-use Rattle.mc_steps.specs.Calls.{CallDone, TestRun}
+use Rattle.mc_steps.specs.Tests.{CallDone, TestRun}
 use Rattle.mc_steps.specs.Runs.{State}
 use Rattle.mc_probe.specs.Flat.{Flat}
 use Rattle.mc_probe.specs.Trees.{Instrumented}

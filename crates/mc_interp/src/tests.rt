@@ -6,7 +6,8 @@ ghost use Rattle.mc_value.specs.declared.int_type.IntType.{IntType};
 ghost use Rattle.mc_typed.specs.Plans.{plan_call_of, AreValues, CallFits, CallsFit};
 ghost use Rattle.mc_typed.specs.Tree as t;
 ghost use Rattle.mc_typed.specs.Views as plain;
-ghost use Rattle.mc_steps.specs.Calls as steps;
+ghost use Rattle.mc_steps.specs.Calls as passing;
+ghost use Rattle.mc_steps.specs.Tests as steps;
 ghost use Rattle.mc_probe.specs.Tests as definition;
 ghost use Rattle.mc_probe.specs.Trees.{tree_of};
 ghost use Rattle.mc_interp.specs.Calls.{ArePassed, IsPassed, IsResultOf};
@@ -29,7 +30,7 @@ use mc_words::{number, word};
 /// A number that a test passes, for a parameter of its type.
 fn number_passed(of: IntType, value: i128) -> Passed
     requires { InRange of value }
-    ensures value { passed_of result ≡ steps.PassedNumber value }
+    ensures value { passed_of result ≡ passing.PassedNumber value }
     ensures typed { (types : List IntType) → IsPassed types result (t.NumberParameter of) }
 {
     Passed::Number {
@@ -43,7 +44,7 @@ fn pass_values(values: &[i128], parameters: &[ParameterType], passed: &mut Array
     requires fits { AreValues values.now (map plain.parameter_of parameters.now) }
     requires room { array_vec_len passed.old + length values.now ≤ 16 }
     ensures values { map passed_of passed.new.items
-        ≡ map passed_of passed.old.items ++ map steps.PassedNumber values.now }
+        ≡ map passed_of passed.old.items ++ map passing.PassedNumber values.now }
     ensures typed { (types : List IntType) (before : List t.ParameterType) →
         ArePassed types passed.old.items before →
         ArePassed types passed.new.items (before ++ map plain.parameter_of parameters.now) }

@@ -12,16 +12,20 @@ use Rattle.mc_roots.specs.Nodes as n
 use Rattle.mc_roots.specs.Roots.{is_root, operand_role}
 use Rattle.mc_roots.specs.Conditions.{tree_from}
 use Rattle.mc_steps.specs.Runs.{State, Out, Gave, Stopped, gives, after, go_on}
-use Rattle.mc_steps.specs.Expressions.{unary_does, convert_does, binary_does, logic_does, choice_does, as_does, input_does, read_does}
-use Rattle.mc_steps.specs.Calls.{Passed, number_given, structure_given}
+use Rattle.mc_steps.specs.Expressions.{unary_does, binary_does, logic_does, choice_does, as_does, input_does, read_does}
+use Rattle.mc_steps.specs.Calls.{Passed, PassedNumber, PassedArray, number_given, structure_given}
 use Rattle.mc_meaning.specs.Stores.{Path, Store, on_places}
 use Rattle.mc_steps.specs.Events.{Event, Entered, Exited, Started, Chosen, Evaluated}
 use Rattle.mc_roots.specs.Counts.{one_where, roots}
-use Rattle.mc_meaning.specs.Expressions.{Does, Within, Judged, past, into, value, as_condition, negated, holds, first_alone, both, tells, where_root, condition, place_of, value_of, structure_of, call_of, argument_of, arguments_of, target}
+use Rattle.mc_meaning.specs.Within.{Does, Within, target}
+use Rattle.mc_meaning.specs.Positions.{past, into}
+use Rattle.mc_meaning.specs.Decisions.{Judged, value, as_condition, negated, holds, first_alone, both, tells, where_root, condition}
+use Rattle.mc_meaning.specs.Expressions.{place_of, value_of, structure_of, call_of, argument_of, arguments_of}
 use Rattle.mc_meaning.proofs.Runs.{IsGiven, Gives}
 use Rattle.mc_meaning.proofs.Vectors.{IsOf, condition_is, not_gives, logic_gives, value_is}
 use Rattle.mc_meaning.proofs.Numbered.{own, trees, trees_in, trees_length, own_length, StandsAt, stands_left, stands_right}
 use Rattle.mc_meaning.proofs.Listed as l
+use Rattle.mc_value.specs.Conversions.{converted}
 
 -- ---- events
 
@@ -89,7 +93,7 @@ module _ (all : List Tree) where
         (value_only (value_of index Plain v) (value_is_fine index Plain v c
         (stands_left all v.decisions (trees Plain (n.expression index)) [] (past_node w.decisions Plain (n.place array) rest h))))
     place_is_fine (t.Member structure i offset span) w c h =
-        l.member_keeps IsFine on_places i offset (place_of structure w)
+        l.as_keeps IsFine (on_places.part i offset) (place_of structure w)
         (place_is_fine structure w c (stands_left all w.decisions (trees Plain (n.place structure)) [] h))
 
     pub value_is_fine : (e : Expression) (role : Role) (w : Within) → CallsAreFine w → StandsAt all w.decisions (trees role (n.expression e)) → Fine (value_of e role w)
@@ -107,8 +111,8 @@ module _ (all : List Tree) where
         (value_is_fine e Plain v c (stands_left all v.decisions (trees Plain (n.expression e)) [] h))))
     value_is_fine (t.Convert a written e span) role w c h =
         let v : Within = into role (t.Convert a written e span) w in
-        condition_is_fine role (t.Convert a written e span) w (λ w. convert_does a (value (value_of e Plain w))) (trees Plain (n.expression e) ++ []) (λ first. refl) h
-        (λ h. l.convert_keeps IsFine a (value (value_of e Plain v)) (value_only (value_of e Plain v)
+        condition_is_fine role (t.Convert a written e span) w (λ w. as_does (converted a) (value (value_of e Plain w))) (trees Plain (n.expression e) ++ []) (λ first. refl) h
+        (λ h. l.as_keeps IsFine (converted a) (value (value_of e Plain v)) (value_only (value_of e Plain v)
         (value_is_fine e Plain v c (stands_left all v.decisions (trees Plain (n.expression e)) [] h))))
     value_is_fine (t.Not e span) role w c h =
         let a : Node = n.Not (n.expression e) span in
@@ -177,11 +181,11 @@ module _ (all : List Tree) where
 
     argument_is_fine : (x : Argument) (w : Within) → CallsAreFine w → StandsAt all w.decisions (trees Plain (n.argument x)) → Fine (argument_of x w)
     argument_is_fine (t.NumberArgument e) w c h =
-        l.number_argument_keeps IsFine Path (value (value_of e Plain w)) (value_only (value_of e Plain w) (value_is_fine e Plain w c h))
+        l.as_keeps IsFine PassedNumber (value (value_of e Plain w)) (value_only (value_of e Plain w) (value_is_fine e Plain w c h))
     argument_is_fine (t.StructureArgument structure copy) w c h =
         l.structure_argument_keeps IsFine on_places (target w copy) (structure_of structure w) (structure_is_fine structure w c h)
     argument_is_fine (t.ArrayArgument place k) w c h =
-        l.array_argument_keeps IsFine k (place_of place w) (place_is_fine place w c h)
+        l.as_keeps IsFine (λ (p : Path). PassedArray (record { place = p; length = k })) (place_of place w) (place_is_fine place w c h)
     argument_is_fine (t.AgainArgument array span) w c h =
         l.again_argument_keeps IsFine (slice_get w.arrays array)
 

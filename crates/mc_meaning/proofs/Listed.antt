@@ -9,9 +9,9 @@ use Rattle.mc_typed.specs.declared.operators.LogicOperator.{LogicOperator}
 use Rattle.mc_typed.specs.declared.plans.Ending.{Ending}
 use Rattle.mc_steps.specs.Runs.{State, Out, Gave, Stopped, Run, Acts, gives, stops, traps, after, go_on, changes, with_some, with_result, with_fuel, spends}
 use Rattle.mc_steps.specs.Memories.{Lent, Memory}
-use Rattle.mc_steps.specs.Expressions.{operated, is_true, where_true, with_index, item_does, lent_item_does, member_does, read_does, assign_does, update_does, copy_does, unary_does, convert_does, binary_does, goes_on, logic_does, choice_does, as_does, drop_does, both_do, with_input, input_does, output_does}
-use Rattle.mc_steps.specs.Statements.{Given, Nothing, Number, Structure, Flow, Completed, Broke, Continued, Left, Body, Seek, Running, For, counted_does, effect_does, where_completed, then_does, if_does, where_loop_goes_on, turn, turns, loop_does, do_does, test_does, at_label, is_running, label_does, item_runs, where_switch_ends, switch_does}
-use Rattle.mc_steps.specs.Calls.{Passed, Target, store_does, store_structure_does, structure_argument_does, leaves, number_argument_does, array_argument_does, again_argument_does, arguments_do, with_room, where_left, body_does, call_does, number_given, structure_given}
+use Rattle.mc_steps.specs.Expressions.{operated, is_true, where_true, with_index, item_does, lent_item_does, read_does, assign_does, update_does, copy_does, unary_does, binary_does, goes_on, logic_does, choice_does, as_does, drop_does, both_do, with_input, input_does, output_does}
+use Rattle.mc_steps.specs.Statements.{Given, Nothing, Number, Structure, Flow, Completed, Broke, Continued, Left, Body, Seek, Running, For, counted_does, effect_does, where_completed, then_does, where_loop_goes_on, turn, turns, loop_does, do_does, at_label, is_running, label_does, item_runs, where_switch_ends, switch_does}
+use Rattle.mc_steps.specs.Calls.{Passed, Target, store_does, store_structure_does, structure_argument_does, leaves, again_argument_does, arguments_do, with_room, where_left, body_does, call_does, number_given, structure_given}
 
 module _ {E : Type 0} (P : E → Type 0) where
   abbrev pub Each : List E → Type 0
@@ -70,9 +70,6 @@ module _ {E : Type 0} (P : E → Type 0) where
     lent_item_keeps l stride index b s =
         after_keeps (index s) _ (b s) (λ x s. some_keeps _ l _ (λ l s. index_keeps x l.length _ (λ i s. tt) s) s)
 
-    pub member_keeps : (i offset : ℕ) (structure : Acts M E Q) → Keeps structure → Keeps (member_does m i offset structure)
-    member_keeps i offset structure a s = after_keeps (structure s) _ (a s) (λ p s. tt)
-
     pub read_keeps : (place : Acts M E Q) → Keeps place → Keeps (read_does m place)
     read_keeps place a s = after_keeps (place s) _ (a s) (λ p s. some_keeps _ (m.read p s.memory) gives (λ v s. tt) s)
 
@@ -112,9 +109,6 @@ module _ {E : Type 0} (P : E → Type 0) where
     unary_keeps operator a e k s =
         after_keeps (e s) _ (k s) (λ x s. result_keeps _ gives (λ v s. tt) s)
 
-    pub convert_keeps : (a : IntType) (e : Acts M E ℤ) → Keeps e → Keeps (convert_does a e)
-    convert_keeps a e k s = after_keeps (e s) _ (k s) (λ x s. tt)
-
     pub binary_keeps : (operator : Operator) (a : IntType) (e f : Acts M E ℤ) → Keeps e → Keeps f → Keeps (binary_does operator a e f)
     binary_keeps operator a e f k l s =
         after_keeps (e s) _ (k s) (λ x s. after_keeps (f s) _ (l s) (λ y s.
@@ -148,14 +142,8 @@ module _ {E : Type 0} (P : E → Type 0) where
     output_keeps e k s =
         after_keeps (e s) _ (k s) (λ v s. spends_keeps _ (λ s. true_keeps (nat_lt (length s.output) 4096) _ _ (λ s. tt) (λ s. tt) s) s)
 
-    pub test_keeps : (e : Acts M E ℤ) → Keeps e → Keeps (test_does e)
-    test_keeps e k s = after_keeps (e s) _ (k s) (λ x s. tt)
-
     pub effect_keeps : (Q : Type 0) (act : Acts M E (Unit {0})) → Keeps act → Keeps (effect_does {P = Q} act)
     effect_keeps Q act k s = after_keeps (act s) _ (k s) (λ u s. tt)
-
-    pub number_argument_keeps : (Q : Type 0) (e : Acts M E ℤ) → Keeps e → Keeps (number_argument_does {P = Q} e)
-    number_argument_keeps Q e k s = after_keeps (e s) _ (k s) (λ v s. tt)
 
     room_keeps : {A : Type 0} (n limit : ℕ) (e : Ending) (next : Acts M E A) → Keeps next → Keeps (with_room n limit e next)
     room_keeps n limit e next k s = true_keeps (nat_le n limit) next (λ s. stops e s) k (λ s. tt) s
@@ -172,10 +160,6 @@ module _ {E : Type 0} (P : E → Type 0) where
 
     pub then_keeps : (act next : Body M E Q) → Keeps act → Keeps next → Keeps (then_does act next)
     then_keeps act next k l s = after_keeps (act s) _ (k s) (λ flow s. completed_keeps flow next l s)
-
-    pub if_keeps : (test : Acts M E ℤ) (chosen other : Body M E Q) → Keeps test → Keeps chosen → Keeps other → Keeps (if_does test chosen other)
-    if_keeps test chosen other k l j s =
-        after_keeps (test s) _ (k s) (λ x s. true_keeps (is_true x) chosen other l j s)
 
     loop_on_keeps : (flow : Flow Q) (next : Body M E Q) → Keeps next → Keeps (where_loop_goes_on flow next)
     loop_on_keeps Completed next k s = k s
@@ -222,9 +206,6 @@ module _ {E : Type 0} (P : E → Type 0) where
         after_keeps (value s) _ (k s) (λ v s. after_keeps (items _ s) _ (j _ s) (λ flow s. ends_keeps flow _ (l _) s))
 
     -- ---- calls
-
-    pub array_argument_keeps : (n : ℕ) (array : Acts M E Q) → Keeps array → Keeps (array_argument_does n array)
-    array_argument_keeps n array k s = after_keeps (array s) _ (k s) (λ p s. tt)
 
     pub again_argument_keeps : (l : Option (Lent Q)) → Keeps (again_argument_does {M = M} l)
     again_argument_keeps l s = some_keeps _ l _ (λ l s. tt) s

@@ -18,14 +18,16 @@ use Rattle.mc_roots.proofs.Once.{one_list}
 use Rattle.mc_roots.proofs.Told.{are_decisions}
 use Rattle.mc_steps.specs.Runs.{State, Out, Gave, Stopped, stops, lists, with_some}
 use Rattle.mc_steps.specs.Statements.{Given, Running}
-use Rattle.mc_steps.specs.Calls.{Passed, PassedNumber, TestRun, lent_of, where_returned, calls_do, value_given, number_given, leaves, body_does}
+use Rattle.mc_steps.specs.Calls.{Passed, PassedNumber, lent_of, number_given, leaves, body_does}
+use Rattle.mc_steps.specs.Tests.{TestRun, where_returned, calls_do, value_given}
 use Rattle.mc_steps.specs.Points.{points_before}
 use Rattle.mc_meaning.specs.Stores.{Path, Store, on_places}
 use Rattle.mc_steps.specs.Events.{Event, Entered, Exited, Started, Chosen, Evaluated}
 use Rattle.mc_roots.specs.Counts.{roots, roots_before}
-use Rattle.mc_meaning.specs.Expressions.{Does, Within}
+use Rattle.mc_meaning.specs.Within.{Does, Within}
 use Rattle.mc_meaning.specs.Statements.{run_from}
-use Rattle.mc_meaning.specs.Calls.{Open, with_one, enter, points_at_end, call_in}
+use Rattle.mc_meaning.specs.Positions.{points_at_end}
+use Rattle.mc_meaning.specs.Calls.{Open, with_one, enter, call_in}
 use Rattle.mc_meaning.specs.Tests.{none_open, call_made, start, plain_run}
 use Rattle.mc_meaning.specs.Laws.{IsOfDecision, EvaluationsAreOfDecisions}
 use Rattle.mc_meaning.proofs.Numbered.{trees, trees_in, StandsAt, stands_left}

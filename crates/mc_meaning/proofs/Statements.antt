@@ -9,14 +9,17 @@ use Rattle.mc_roots.specs.declared.role.Role.TheVariants.{Test, Plain}
 use Rattle.mc_roots.specs.Nodes.{Node}
 use Rattle.mc_roots.specs.Nodes as n
 use Rattle.mc_steps.specs.Runs.{gives, lists, after}
-use Rattle.mc_steps.specs.Statements.{Number, Structure, Flow, Completed, Broke, Continued, Left, Seek, Running, effect_does, if_does, switch_does, test_does, do_does, loop_does}
-use Rattle.mc_steps.specs.Expressions.{both_do}
+use Rattle.mc_steps.specs.Statements.{Number, Structure, Flow, Completed, Broke, Continued, Left, Seek, Running, effect_does, switch_does, do_does, loop_does}
+use Rattle.mc_steps.specs.Expressions.{both_do, as_does, choice_does, is_true}
 use Rattle.mc_steps.specs.Calls.{unset_does}
 use Rattle.mc_steps.specs.Points.{initializes}
 use Rattle.mc_meaning.specs.Stores.{Path, on_places}
 use Rattle.mc_steps.specs.Events.{Exited, Started}
-use Rattle.mc_meaning.specs.Expressions.{Does, Within, local, past, value, place_of, value_of, structure_of, call_of}
-use Rattle.mc_meaning.specs.Statements.{effect, effects, initialize, initialize_from, initialize_where, declare, past_statement, into_statement, counted, where_initializes, choose, start, loop_test, returned, leave, past_start, past_test, past_step, in_switch, run, run_from}
+use Rattle.mc_meaning.specs.Within.{Does, Within, local}
+use Rattle.mc_meaning.specs.Positions.{past, past_statement, into_statement, past_start, past_test, past_step, in_switch}
+use Rattle.mc_meaning.specs.Decisions.{value, choose}
+use Rattle.mc_meaning.specs.Expressions.{place_of, value_of, structure_of, call_of}
+use Rattle.mc_meaning.specs.Statements.{effect, effects, initialize, initialize_from, initialize_where, declare, counted, where_initializes, start, loop_test, returned, leave, run, run_from}
 use Rattle.mc_meaning.proofs.Numbered.{trees, trees_in, StandsAt, stands_left}
 use Rattle.mc_meaning.proofs.Evaluations.{IsFine, Fine, CallsAreFine, past_node, value_only, place_is_fine, value_is_fine, structure_is_fine, call_is_fine}
 use Rattle.mc_meaning.proofs.Listed as l
@@ -137,7 +140,7 @@ module _ (all : List Tree) where
   test_is_fine : (o : Option Expression) (w : Within) → CallsAreFine all w → StandsAt all w.decisions (trees Plain (n.optional_test o)) → Fine all (loop_test o w)
   test_is_fine None w c h = λ s. tt
   test_is_fine (Some e) w c h =
-      l.test_keeps (IsFine all) (value (value_of e Test w)) (number e Test w c (first w.decisions Test (n.expression e) [] h))
+      l.as_keeps (IsFine all) is_true (value (value_of e Test w)) (number e Test w c (first w.decisions Test (n.expression e) [] h))
 
   returned_is_fine : (r : ReturnValue) (w : Within) → CallsAreFine all w → StandsAt all w.decisions (trees Plain (n.return_value r)) → Fine all (returned r w)
   returned_is_fine t.ReturnNothing w c h = λ s. tt
@@ -169,8 +172,8 @@ module _ (all : List Tree) where
         let v : Within = past Test (n.expression e) x in
         let rest : List Tree = trees Plain (n.statement a) ++ [] in
         counted_is_fine w
-        (λ w. if_does (value (value_of e Test w)) (run a (past Test (n.expression e) w)) (gives Completed))
-        (l.if_keeps (IsFine all) (value (value_of e Test x)) (run a v) (gives Completed)
+        (λ w. choice_does (value (value_of e Test w)) (run a (past Test (n.expression e) w)) (gives Completed))
+        (l.choice_keeps (IsFine all) (value (value_of e Test x)) (run a v) (gives Completed)
         (number e Test x c (first w.decisions Test (n.expression e) rest h))
         (run_is_fine a v c (first v.decisions Plain (n.statement a) [] (past_node all w.decisions Test (n.expression e) rest h)))
         (λ s. tt))
@@ -182,8 +185,8 @@ module _ (all : List Tree) where
         let rest : List Tree = trees Plain (n.statement a) ++ last in
         let later = past_node all w.decisions Test (n.expression e) rest h in
         counted_is_fine w
-        (λ w. if_does (value (value_of e Test w)) (run a (past Test (n.expression e) w)) (run b (past_statement a (past Test (n.expression e) w))))
-        (l.if_keeps (IsFine all) (value (value_of e Test x)) (run a v) (run b u)
+        (λ w. choice_does (value (value_of e Test w)) (run a (past Test (n.expression e) w)) (run b (past_statement a (past Test (n.expression e) w))))
+        (l.choice_keeps (IsFine all) (value (value_of e Test x)) (run a v) (run b u)
         (number e Test x c (first w.decisions Test (n.expression e) rest h))
         (run_is_fine a v c (first v.decisions Plain (n.statement a) last later))
         (run_is_fine b u c (first u.decisions Plain (n.statement b) [] (past_node all v.decisions Plain (n.statement a) last later))))
@@ -222,10 +225,10 @@ module _ (all : List Tree) where
         let v : Within = past_statement a x in
         let rest : List Tree = trees Test (n.expression e) ++ [] in
         counted_is_fine w
-        (λ w. do_does (run a w) (test_does (value (value_of e Test (past_statement a w)))))
-        (l.do_keeps (IsFine all) (run a x) (test_does (value (value_of e Test v)))
+        (λ w. do_does (run a w) (as_does is_true (value (value_of e Test (past_statement a w)))))
+        (l.do_keeps (IsFine all) (run a x) (as_does is_true (value (value_of e Test v)))
         (run_is_fine a x c (first w.decisions Plain (n.statement a) rest h))
-        (l.test_keeps (IsFine all) (value (value_of e Test v))
+        (l.as_keeps (IsFine all) is_true (value (value_of e Test v))
         (number e Test v c (first v.decisions Test (n.expression e) [] (past_node all w.decisions Plain (n.statement a) rest h)))))
     run_is_fine (t.Break span) w c h = counted_is_fine w (λ w. gives Broke) (λ s. tt)
     run_is_fine (t.Continue span) w c h = counted_is_fine w (λ w. gives Continued) (λ s. tt)

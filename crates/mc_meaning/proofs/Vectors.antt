@@ -1,7 +1,7 @@
 -- The answers of an expression's conditions are a vector of its tree.
 use Rattle.std.proofs.Common.{◌≡◌, ◌∙◌, refl, sym, ap, subst, ℕ, ◌+◌, ℤ, Bool, true, false, not, ◌++◌, None}
 use Rattle.std.specs.Prelude.{replicate, if◌then◌else◌}
-use Rattle.mc_value.specs.Conversions.{is_zero}
+use Rattle.mc_value.specs.Conversions.{is_zero, converted}
 use Rattle.mc_value.specs.Arithmetic.{truth}
 use Rattle.mc_cond.specs.Tree.{Tree, Leaf, size, IsNumberedFrom}
 use Rattle.mc_cond.specs.Vectors.{Row, Evaluation, evaluated, followed_where, IsVector}
@@ -19,10 +19,13 @@ use Rattle.mc_roots.specs.Roots.{is_root, operand_role}
 use Rattle.mc_roots.specs.Conditions.{width, tree_from, joined}
 use Rattle.mc_roots.proofs.Trees.{numbered_from, size_of_tree}
 use Rattle.mc_steps.specs.Runs.{Out, Gave, Stopped, gives, after}
-use Rattle.mc_steps.specs.Expressions.{is_true, where_true, goes_on, logic_does, as_does, read_does, unary_does, convert_does, binary_does, choice_does, input_does}
+use Rattle.mc_steps.specs.Expressions.{is_true, where_true, goes_on, logic_does, as_does, read_does, unary_does, binary_does, choice_does, input_does}
 use Rattle.mc_steps.specs.Calls.{number_given}
 use Rattle.mc_meaning.specs.Stores.{Store, on_places}
-use Rattle.mc_meaning.specs.Expressions.{Does, Within, Judged, past, into, holds, vector_of, as_condition, negated, first_alone, both, tells, where_root, condition, value, value_of, place_of, call_of}
+use Rattle.mc_meaning.specs.Within.{Does, Within}
+use Rattle.mc_meaning.specs.Positions.{past, into}
+use Rattle.mc_meaning.specs.Decisions.{Judged, holds, vector_of, as_condition, negated, first_alone, both, tells, where_root, condition, value}
+use Rattle.mc_meaning.specs.Expressions.{value_of, place_of, call_of}
 use Rattle.mc_meaning.specs.Laws.{AnswersAreVectors}
 use Rattle.mc_meaning.proofs.Runs.{IsGiven, Gives, given_then, given_is}
 
@@ -155,7 +158,7 @@ value_is (t.Read place a) role w = leaf_gives role (t.Read place a) w
 value_is (t.Unary operator a e span) role w = leaf_gives role (t.Unary operator a e span) w
     (λ w. unary_does operator a (value (value_of e Plain w))) (λ first. refl)
 value_is (t.Convert a written e span) role w = leaf_gives role (t.Convert a written e span) w
-    (λ w. convert_does a (value (value_of e Plain w))) (λ first. refl)
+    (λ w. as_does (converted a) (value (value_of e Plain w))) (λ first. refl)
 value_is (t.Not e span) role w =
     let r : Role = operand_role role (n.expression (t.Not e span)) in
     let v : Within = into role (t.Not e span) w in

@@ -5,14 +5,15 @@ use Rattle.mc_typed.specs.declared.plans.Ending.TheVariants.{Levels}
 use Rattle.mc_typed.specs.Tree.{Object, Function, Program}
 use Rattle.mc_typed.specs.Levels.{levels_of}
 use Rattle.mc_typed.specs.Frames.{frame_of}
+use Rattle.mc_roots.specs.Counts.{roots_before}
 use Rattle.mc_steps.specs.Runs.{stops, spends, lists, with_some}
+use Rattle.mc_steps.specs.Events.{Entered, Exited}
 use Rattle.mc_steps.specs.Statements.{Given, Running}
 use Rattle.mc_steps.specs.Calls.{Passed, Target, lent_of, passed_to, leaves, call_does, body_does}
-use Rattle.mc_steps.specs.Points.{Points, ◌⊕◌, points_of_all, points_before}
+use Rattle.mc_steps.specs.Points.{points_before}
 use Rattle.mc_meaning.specs.Stores.{Path, Store, put, on_places}
-use Rattle.mc_steps.specs.Events.{Entered, Exited}
-use Rattle.mc_roots.specs.Counts.{roots_before}
-use Rattle.mc_meaning.specs.Expressions.{Does}
+use Rattle.mc_meaning.specs.Within.{Does}
+use Rattle.mc_meaning.specs.Positions.{points_at_end}
 use Rattle.mc_meaning.specs.Statements.{run_from}
 
 -- the open activations: how many, their levels, and their cells with the static ones
@@ -40,9 +41,6 @@ abbrev pub enter : ℕ → Function → List (Passed Path) → Store → Store
 enter activation g passed m =
     passed_to on_places (objects_from activation 0 g.objects) passed
     (put (activation ∷ []) None m)
-
-abbrev pub points_at_end : Function → Points → Points
-points_at_end g points = points ⊕ points_of_all g.body
 
 -- A call of function f of the program. Each activation has a level at least, so no more than 512
 -- are open.

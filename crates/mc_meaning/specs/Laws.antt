@@ -12,7 +12,9 @@ use Rattle.mc_steps.specs.Runs.{State, Gave}
 use Rattle.mc_steps.specs.Points as points
 use Rattle.mc_meaning.specs.Stores.{Store}
 use Rattle.mc_steps.specs.Events.{Event, Evaluated}
-use Rattle.mc_meaning.specs.Expressions.{Within, Judged, vector_of, value_of}
+use Rattle.mc_meaning.specs.Within.{Within}
+use Rattle.mc_meaning.specs.Decisions.{Judged, vector_of}
+use Rattle.mc_meaning.specs.Expressions.{value_of}
 use Rattle.mc_meaning.specs.Tests.{plain_run}
 
 -- What an expression gives of its conditions is a vector of the tree that it is, from its top down,

@@ -1,4 +1,7 @@
 pub mod Stores
+pub mod Within
+pub mod Positions
+pub mod Decisions
 pub mod Expressions
 pub mod Statements
 pub mod Calls

@@ -1,18 +1,21 @@
 -- What effects, initializers and statements do (C17 6.7.9, 6.8).
-use Rattle.std.specs.Prelude.{ℕ, suc, Bool, true, false, List, [], ◌∷◌, Option, Some, None}
+use Rattle.std.specs.Prelude.{ℕ, suc, pos, Bool, true, false, List, [], ◌∷◌, Option, Some, None}
 use Rattle.mc_typed.specs.Tree.{Expression, Effect, Initializer, Initializers, Declarator, ForStart, ReturnValue, Statement, Statements}
 use Rattle.mc_typed.specs.Tree as t
 use Rattle.mc_typed.specs.Sound.{labels_of}
 use Rattle.mc_roots.specs.declared.role.Role.TheVariants.{Test, Plain}
 use Rattle.mc_roots.specs.Nodes as n
-use Rattle.mc_steps.specs.Runs.{gives, lists, after}
-use Rattle.mc_steps.specs.Expressions.{assign_does, update_does, copy_does, choice_does, drop_does, both_do, output_does}
-use Rattle.mc_steps.specs.Statements.{Given, Nothing, Number, Structure, Flow, Completed, Broke, Continued, Left, Seek, Running, counted_does, effect_does, if_does, loop_does, do_does, absent_test, test_does, label_does, item_runs, switch_does}
-use Rattle.mc_steps.specs.Calls.{unset_does, store_does, store_structure_does, rest_does, zero_does}
-use Rattle.mc_steps.specs.Points.{◌⊕◌, a_statement, initializes, has_default, where_absent, points_of}
+use Rattle.mc_steps.specs.Runs.{gives, lists, after, changes}
+use Rattle.mc_steps.specs.Events.{Exited, Started}
+use Rattle.mc_steps.specs.Expressions.{is_true, assign_does, update_does, copy_does, choice_does, as_does, drop_does, both_do, output_does}
+use Rattle.mc_steps.specs.Statements.{Given, Nothing, Number, Structure, Flow, Completed, Broke, Continued, Left, Seek, Running, counted_does, effect_does, loop_does, do_does, label_does, item_runs, switch_does}
+use Rattle.mc_steps.specs.Calls.{unset_does, store_does, store_structure_does}
+use Rattle.mc_steps.specs.Points.{initializes}
 use Rattle.mc_meaning.specs.Stores.{Path, on_places}
-use Rattle.mc_steps.specs.Events.{Exited, Started, Chosen}
-use Rattle.mc_meaning.specs.Expressions.{Does, Within, local, past, value, place_of, value_of, structure_of, call_of}
+use Rattle.mc_meaning.specs.Within.{Does, Within, local}
+use Rattle.mc_meaning.specs.Positions.{past, past_statement, into_statement, in_switch, past_start, past_test, past_step}
+use Rattle.mc_meaning.specs.Decisions.{value, choose}
+use Rattle.mc_meaning.specs.Expressions.{place_of, value_of, structure_of, call_of}
 
 -- ---- effects (C17 6.5.16, 6.8.3)
 
@@ -52,11 +55,12 @@ abbrev mutual
   initialize (t.StructureInitializer structure k) p w s =
       store_structure_does on_places p k (structure_of structure w) s
   initialize (t.ListInitializer items k) p w s = initialize_from items p 0 w s
-  initialize (t.ZeroInitializer e k) p w s = zero_does on_places p k s
+  -- the list `{0}`
+  initialize (t.ZeroInitializer e k) p w s = changes (on_places.put p k (Some (pos 0))) s
 
-  -- the parts of an object, from part i on
+  -- the parts of an object, from part i on; where its list ends they become 0 (C17 6.7.9p21)
   pub initialize_from : Initializers → Path → ℕ → Within → Does (Unit {0})
-  initialize_from t.no_initializers p i w s = rest_does on_places p i 0 0 s
+  initialize_from t.no_initializers p i w s = changes (on_places.zero_rest p i 0 0) s
   initialize_from (t.initializers item rest) p i w s =
       both_do (initialize item (on_places.part i 0 p) w)
       (initialize_from rest p (suc i) (past Plain (n.initializer item) w)) s
@@ -74,59 +78,34 @@ declare (d ∷ rest) w s =
 
 -- ---- statements (C17 6.8)
 
--- after a statement, in the text
-abbrev pub past_statement : Statement → Within → Within
-past_statement a w = past Plain (n.statement a) (record w { points = w.points ⊕ points_of a })
-
-abbrev pub into_statement : Within → Within
-into_statement w = record w { points = w.points ⊕ a_statement }
-
 -- a unit, the event, and then the statement
 abbrev pub counted : Within → (Within → Does (Flow Path)) → Does (Flow Path)
-counted w act s =
-    counted_does (lists (Started w.points.statements ∷ [])) (act (into_statement w)) s
+counted w act s = counted_does (lists (Started w.points.statements ∷ [])) (act (into_statement w)) s
 
 abbrev pub where_initializes : Bool → Within → (Within → Does (Flow Path)) → Does (Flow Path)
 where_initializes true w act s = counted w act s
 where_initializes false w act s = act w s
 
-abbrev pub choose : ℕ → Bool → Does (Unit {0})
-choose label true s = lists (Chosen label ∷ []) s
-choose label false s = gives tt s
-
 abbrev pub start : ForStart → Within → Does (Unit {0})
 start (t.StartEffects clauses) w s = effects clauses w s
 start (t.StartDeclaration declarators) w s = declare declarators w s
 
+-- a controlling expression that is absent counts as true (C17 6.8.5.3p2)
 abbrev pub loop_test : Option Expression → Within → Does Bool
-loop_test None w s = absent_test s
-loop_test (Some e) w s = test_does (value (value_of e Test w)) s
+loop_test None w s = gives true s
+loop_test (Some e) w s = as_does is_true (value (value_of e Test w)) s
 
 abbrev pub returned : ReturnValue → Within → Does (Given Path)
 returned t.ReturnNothing w s = gives Nothing s
-returned (t.ReturnNumber e) w s =
-    after (value (value_of e Plain w) s) (λ v s. gives (Number v) s)
+returned (t.ReturnNumber e) w s = as_does Number (value (value_of e Plain w)) s
 returned (t.ReturnStructure structure k) w s =
-    after (structure_of structure w s) (λ p s. gives (Structure p k) s)
+    as_does (λ p. Structure p k) (structure_of structure w) s
 
 -- A `return` is an exit when its value is there.
 abbrev pub leave : ReturnValue → Within → Does (Flow Path)
 leave r w s =
     after (returned r w s) (λ v s. after (lists (Exited w.points.exits ∷ []) s) (λ _ s.
     gives (Left v) s))
-
--- where the parts of a `for` stand
-abbrev pub past_start : ForStart → Within → Within
-past_start first w = past Plain (n.start first) w
-
-abbrev pub past_test : Option Expression → Within → Within
-past_test test w = past Plain (n.optional_test test) w
-
-abbrev pub past_step : List Effect → Within → Within
-past_step step w = past Plain (n.Whole (n.effects step)) w
-
-abbrev pub in_switch : Statements → Within → Within
-in_switch items w = record w { points = w.points ⊕ where_absent (has_default items) }
 
 abbrev mutual
   pub run : Statement → Within → Does (Flow Path)
@@ -137,10 +116,10 @@ abbrev mutual
   run (t.Null span) w s = counted w (λ w. gives Completed) s
   run (t.EffectStatement whole span) w s = counted w (λ w. effect_does (effect whole w)) s
   run (t.If e a keyword span) w s =
-      counted w (λ w. if_does (value (value_of e Test w))
+      counted w (λ w. choice_does (value (value_of e Test w))
       (run a (past Test (n.expression e) w)) (gives Completed)) s
   run (t.IfElse e a b keyword span) w s =
-      counted w (λ w. if_does (value (value_of e Test w))
+      counted w (λ w. choice_does (value (value_of e Test w))
       (run a (past Test (n.expression e) w))
       (run b (past_statement a (past Test (n.expression e) w)))) s
   run (t.Switch e items keyword span) w s =
@@ -154,7 +133,7 @@ abbrev mutual
       (effects step (past_test test (past_start first w))))) s
   run (t.DoWhile a e keyword span) w s =
       counted w (λ w. do_does (run a w)
-      (test_does (value (value_of e Test (past_statement a w))))) s
+      (as_does is_true (value (value_of e Test (past_statement a w))))) s
   run (t.Break span) w s = counted w (λ w. gives Broke) s
   run (t.Continue span) w s = counted w (λ w. gives Continued) s
   run (t.Return r span) w s = counted w (leave r) s

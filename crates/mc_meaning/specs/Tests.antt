@@ -10,10 +10,11 @@ use Rattle.mc_typed.specs.Frames.{static_cells}
 use Rattle.mc_typed.specs.Plans.{Call, Plan}
 use Rattle.mc_typed.specs.Sound.{result_at}
 use Rattle.mc_steps.specs.Runs.{State, after}
-use Rattle.mc_steps.specs.Calls.{PassedNumber, CallDone, TestRun, calls_do, value_given}
-use Rattle.mc_meaning.specs.Stores.{Store, initial}
 use Rattle.mc_steps.specs.Events.{Event}
-use Rattle.mc_meaning.specs.Expressions.{Does}
+use Rattle.mc_steps.specs.Calls.{PassedNumber}
+use Rattle.mc_steps.specs.Tests.{CallDone, TestRun, calls_do, value_given}
+use Rattle.mc_meaning.specs.Stores.{Store, initial}
+use Rattle.mc_meaning.specs.Within.{Does}
 use Rattle.mc_meaning.specs.Calls.{Open, call_in}
 
 -- ---- the run

@@ -26,8 +26,7 @@ entered f passed m = passed_to flat (targets (length m.cells) f.objects) passed 
 
 -- the row and the registers that were there before the call
 abbrev pub left : ℕ → ℕ → Flat → Flat
-left base first m =
-    record { cells = take base m.cells; registers = take first m.registers }
+left base first m = record { cells = take base m.cells; registers = take first m.registers }
 
 abbrev pub activation : Callee → ℕ → Function → List (Passed ℕ) → Flat → Activation
 activation call bits f passed m = record {

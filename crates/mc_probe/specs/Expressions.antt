@@ -1,13 +1,13 @@
 -- What expressions do (C17 6.5).
 use Rattle.std.specs.Prelude.{ℕ, ◌+◌, ℤ, List, [], slice_get, unwrap_or, option_map}
-use Rattle.mc_value.specs.Conversions.{is_zero}
+use Rattle.mc_value.specs.Conversions.{converted, is_zero}
 use Rattle.mc_value.specs.Arithmetic.{truth}
 use Rattle.mc_typed.specs.declared.expressions.Slot.{Slot}
 use Rattle.mc_typed.specs.Sound.{cells_at}
 use Rattle.mc_steps.specs.Runs.{gives, after}
-use Rattle.mc_steps.specs.Expressions.{is_true, item_does, lent_item_does, member_does, read_does, unary_does, convert_does, binary_does, logic_does, choice_does, as_does, input_does}
+use Rattle.mc_steps.specs.Expressions.{is_true, item_does, lent_item_does, read_does, unary_does, binary_does, logic_does, choice_does, as_does, input_does}
 use Rattle.mc_steps.specs.Statements.{Given}
-use Rattle.mc_steps.specs.Calls.{Passed, Target, structure_argument_does, number_argument_does, array_argument_does, again_argument_does, arguments_do, number_given, structure_given}
+use Rattle.mc_steps.specs.Calls.{Passed, PassedNumber, PassedArray, Target, structure_argument_does, again_argument_does, arguments_do, number_given, structure_given}
 use Rattle.mc_probe.specs.Tree.{Place, Expression, StructureValue, FunctionCall, Argument, Arguments}
 use Rattle.mc_probe.specs.Tree as p
 use Rattle.mc_probe.specs.Flat.{Does, Activation, flat}
@@ -27,13 +27,14 @@ module _ (w : Activation) where
     place_of (p.Item array n stride index span) s =
         item_does flat n stride (place_of array) (value_of index) s
     place_of (p.Member structure i offset span) s =
-        member_does flat i offset (place_of structure) s
+        as_does (flat.part i offset) (place_of structure) s
 
     pub value_of : Expression → Does ℤ
     value_of (p.Constant v a span) s = gives v s
     value_of (p.Read place a) s = read_does flat (place_of place) s
     value_of (p.Unary operator a e span) s = unary_does operator a (value_of e) s
-    value_of (p.Convert a written e span) s = convert_does a (value_of e) s
+    -- C17 6.3.1
+    value_of (p.Convert a written e span) s = as_does (converted a) (value_of e) s
     value_of (p.Not e span) s = as_does (λ x. truth (is_zero x)) (value_of e) s
     value_of (p.Binary operator a e f span) s = binary_does operator a (value_of e) (value_of f) s
     value_of (p.Logic operator e f span) s =
@@ -54,10 +55,11 @@ module _ (w : Activation) where
         (λ passed s. w.call f (option_map (λ slot. w.base + slot.start) result) passed s)
 
     pub argument_of : Argument → Does (Passed ℕ)
-    argument_of (p.NumberArgument e) s = number_argument_does (value_of e) s
+    argument_of (p.NumberArgument e) s = as_does PassedNumber (value_of e) s
     argument_of (p.StructureArgument value copy) s =
         structure_argument_does flat (target copy) (structure_of value) s
-    argument_of (p.ArrayArgument place n) s = array_argument_does n (place_of place) s
+    argument_of (p.ArrayArgument place n) s =
+        as_does (λ p. PassedArray (record { place = p; length = n })) (place_of place) s
     argument_of (p.AgainArgument array span) s = again_argument_does (slice_get w.arrays array) s
 
     pub arguments_of : Arguments → Does (List (Passed ℕ))

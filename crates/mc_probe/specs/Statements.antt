@@ -1,11 +1,11 @@
 -- What effects, initializers and statements do (C17 6.7.9, 6.8).
-use Rattle.std.specs.Prelude.{ℕ, ◌+◌, Bool, true, List, [], ◌∷◌, map, Option, Some, None}
+use Rattle.std.specs.Prelude.{ℕ, ◌+◌, pos, Bool, true, List, [], ◌∷◌, map, Option, Some, None}
 use Rattle.mc_typed.specs.Sound.{labels_of}
-use Rattle.mc_steps.specs.Runs.{gives, after}
-use Rattle.mc_steps.specs.Expressions.{assign_does, update_does, copy_does, choice_does, as_does, drop_does, both_do, output_does, where_true}
-use Rattle.mc_steps.specs.Statements.{Given, Completed, Left, Seek, Running, absent_test, test_does, counted_does, effect_does, if_does, loop_does, do_does, label_does, item_runs, switch_does}
+use Rattle.mc_steps.specs.Runs.{gives, after, changes}
+use Rattle.mc_steps.specs.Expressions.{is_true, assign_does, update_does, copy_does, choice_does, as_does, drop_does, both_do, output_does, where_true}
+use Rattle.mc_steps.specs.Statements.{Given, Completed, Left, Seek, Running, counted_does, effect_does, loop_does, do_does, label_does, item_runs, switch_does}
 use Rattle.mc_steps.specs.Statements as give
-use Rattle.mc_steps.specs.Calls.{unset_does, store_does, store_structure_does, rest_does, zero_does}
+use Rattle.mc_steps.specs.Calls.{unset_does, store_does, store_structure_does}
 use Rattle.mc_steps.specs.Points.{initializes}
 use Rattle.mc_probe.specs.Tree.{Expression, StructureValue, Effect, Initializer, Initializers, Declarator, ForStart, ReturnValue, Statement, Statements}
 use Rattle.mc_probe.specs.Tree as p
@@ -30,8 +30,7 @@ module _ (w : Activation) where
   effect_of (p.StructureEffect value whole) s = drop_does (structure_of w value) s
   effect_of (p.CallEffect k) s = drop_does (call_of w k) s
   effect_of (p.Output e span) s = output_does (value_of w e) s
-  effect_of (p.ChoiceEffect e a b span) s =
-      choice_does (value_of w e) (effect_of a) (effect_of b) s
+  effect_of (p.ChoiceEffect e a b span) s = choice_does (value_of w e) (effect_of a) (effect_of b) s
   effect_of (p.Discard a span) s = effect_of a s
 
   abbrev pub effects_of : List Effect → Does (Unit {0})
@@ -53,11 +52,13 @@ module _ (w : Activation) where
     initializer_of (p.StructureInitializer value n) at s =
         store_structure_does flat at n (structure_of w value) s
     initializer_of (p.ListInitializer items n) at s = items_of items at 0 0 n s
-    initializer_of (p.ZeroInitializer e n) at s = zero_does flat at n s
+    -- the list `{0}`
+    initializer_of (p.ZeroInitializer e n) at s = changes (flat.put at n (Some (pos 0))) s
 
-    -- from item i on, which begins after `offset` of n cells
+    -- from item i on, which begins after `offset` of n cells; where the list ends they become 0
+    -- (C17 6.7.9p21)
     pub items_of : Initializers → ℕ → ℕ → ℕ → ℕ → Does (Unit {0})
-    items_of p.no_initializers at i offset n s = rest_does flat at i offset n s
+    items_of p.no_initializers at i offset n s = changes (flat.zero_rest at i offset n) s
     items_of (p.initializers x rest) at i offset n s =
         both_do (initializer_of x (at + offset)) (items_of rest at (i + 1) (offset + width x) n) s
 
@@ -81,9 +82,10 @@ module _ (w : Activation) where
   start_of (p.StartEffects effects) s = effects_of effects s
   start_of (p.StartDeclaration declarators) s = declarators_of declarators s
 
+  -- a controlling expression that is absent counts as true (C17 6.8.5.3p2)
   abbrev pub test_of : Option Expression → Does Bool
-  test_of None s = absent_test s
-  test_of (Some e) s = test_does (value_of w e) s
+  test_of None s = gives true s
+  test_of (Some e) s = as_does is_true (value_of w e) s
 
   abbrev pub return_of : ReturnValue → Does (Given ℕ)
   return_of p.ReturnNothing s = gives give.Nothing s
@@ -108,9 +110,9 @@ module _ (w : Activation) where
     statement_of (p.EffectStatement effect span bit) s =
         counts bit (effect_does (effect_of effect)) s
     statement_of (p.If e u keyword span bit) s =
-        counts bit (if_does (value_of w e) (statement_of u) (gives Completed)) s
+        counts bit (choice_does (value_of w e) (statement_of u) (gives Completed)) s
     statement_of (p.IfElse e u v keyword span bit) s =
-        counts bit (if_does (value_of w e) (statement_of u) (statement_of v)) s
+        counts bit (choice_does (value_of w e) (statement_of u) (statement_of v)) s
     statement_of (p.Switch e items keyword span bit absent) s =
         counts bit (switch_does (value_of w e) (labels_of (erase_statements items))
         (statements_of items) (mark_does w absent)) s
@@ -118,11 +120,10 @@ module _ (w : Activation) where
         counts bit (λ s. after (start_of start s) (λ _ s.
         loop_does (test_of test) (statement_of u) (effects_of step) s)) s
     statement_of (p.DoWhile u e keyword span bit) s =
-        counts bit (do_does (statement_of u) (test_does (value_of w e))) s
+        counts bit (do_does (statement_of u) (as_does is_true (value_of w e))) s
     statement_of (p.Break span bit) s = counts bit (gives give.Broke) s
     statement_of (p.Continue span bit) s = counts bit (gives give.Continued) s
-    statement_of (p.Return value span bit exit) s =
-        counts bit (exit_does exit (return_of value)) s
+    statement_of (p.Return value span bit exit) s = counts bit (exit_does exit (return_of value)) s
 
     -- the items of a body, of which those before a label that is sought are passed over
     pub statements_of : Statements → Seek → Runs

@@ -3,7 +3,8 @@ use Rattle.std.specs.Prelude.{ℕ, ℤ, [], map, flat_map, slice_get, Option, So
 use Rattle.mc_typed.specs.Sound.{result_at}
 use Rattle.mc_typed.specs.Plans.{Call, Plan}
 use Rattle.mc_steps.specs.Runs.{after}
-use Rattle.mc_steps.specs.Calls.{PassedNumber, TestRun, value_given, calls_do}
+use Rattle.mc_steps.specs.Calls.{PassedNumber}
+use Rattle.mc_steps.specs.Tests.{TestRun, value_given, calls_do}
 use Rattle.mc_probe.specs.Tree.{Program, Tree}
 use Rattle.mc_probe.specs.Erase.{erase_function}
 use Rattle.mc_probe.specs.Flat.{Flat, Does}

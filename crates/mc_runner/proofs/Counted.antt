@@ -15,13 +15,18 @@ use Rattle.mc_roots.specs.Nodes as n
 use Rattle.mc_roots.specs.Counts.{roots_before}
 use Rattle.mc_steps.specs.Events.{Event, Entered, Exited, Started, Chosen, Evaluated}
 use Rattle.mc_steps.specs.Runs.{State, Out, Gave, Stopped, Run, go_on, gives, stops, lists, after, with_some, changes}
-use Rattle.mc_steps.specs.Statements.{Given, Nothing, Flow, Completed, Broke, Continued, Left, Seek, Running, is_absent, sought, has_label, effect_does, if_does, switch_does, test_does, do_does, loop_does, where_switch_ends}
-use Rattle.mc_steps.specs.Calls.{Passed, PassedNumber, TestRun, lent_of, where_left, where_returned, calls_do, value_given, number_given, leaves, body_does}
+use Rattle.mc_steps.specs.Statements.{Given, Nothing, Flow, Completed, Broke, Continued, Left, Seek, Running, is_absent, sought, has_label, effect_does, switch_does, do_does, loop_does, where_switch_ends}
+use Rattle.mc_steps.specs.Calls.{Passed, PassedNumber, lent_of, where_left, number_given, leaves, body_does}
+use Rattle.mc_steps.specs.Tests.{TestRun, where_returned, calls_do, value_given}
 use Rattle.mc_steps.specs.Points.{Points, ◌⊕◌, no_points, a_statement, an_exit, a_label, where_counted, where_absent, where_completes, has_default, initializes, points_of, points_of_all, points_of_function, points_before, all_complete, some_breaks}
+use Rattle.mc_steps.specs.Expressions.{as_does, choice_does, is_true}
 use Rattle.mc_meaning.specs.Stores.{Path, Store, on_places}
-use Rattle.mc_meaning.specs.Expressions.{Does, Within, past, value, value_of}
-use Rattle.mc_meaning.specs.Statements.{effect, effects, declare, past_statement, into_statement, counted, where_initializes, choose, start, loop_test, returned, leave, past_start, past_test, past_step, in_switch, run, run_from}
-use Rattle.mc_meaning.specs.Calls.{Open, with_one, enter, points_at_end, call_in}
+use Rattle.mc_meaning.specs.Within.{Does, Within}
+use Rattle.mc_meaning.specs.Positions.{past, past_statement, into_statement, past_start, past_test, past_step, in_switch, points_at_end}
+use Rattle.mc_meaning.specs.Decisions.{value, choose}
+use Rattle.mc_meaning.specs.Expressions.{value_of}
+use Rattle.mc_meaning.specs.Statements.{effect, effects, declare, counted, where_initializes, start, loop_test, returned, leave, run, run_from}
+use Rattle.mc_meaning.specs.Calls.{Open, with_one, enter, call_in}
 use Rattle.mc_meaning.specs.Tests.{none_open, call_made, start as first_state, plain_run}
 use Rattle.mc_meaning.proofs.Listed as l
 use Rattle.mc_meaning.proofs.Runs.{IsGiven, Gives}
@@ -141,9 +146,9 @@ module _ (entries : ℕ) (all : Points) where
         let x : Within = into_statement w in
         let v : Within = past Test (n.expression e) x in
         counted_in w
-        (λ w. if_does (value (value_of e Test w)) (run a (past Test (n.expression e) w)) (gives Completed))
+        (λ w. choice_does (value (value_of e Test w)) (run a (past Test (n.expression e) w)) (gives Completed))
         (first_under w.points a_statement (points_of a) h)
-        (l.if_keeps P (value (value_of e Test x)) (run a v) (gives Completed) (test e x c)
+        (l.choice_keeps P (value (value_of e Test x)) (run a v) (gives Completed) (test e x c)
         (run_in a v c (later_under w.points a_statement (points_of a) h)) (λ s. tt))
     run_in (t.IfElse e a b keyword span) w c h =
         let x : Within = into_statement w in
@@ -151,9 +156,9 @@ module _ (entries : ℕ) (all : Points) where
         let u : Within = past_statement a v in
         let inner = later_under w.points a_statement (points_of a ⊕ points_of b) h in
         counted_in w
-        (λ w. if_does (value (value_of e Test w)) (run a (past Test (n.expression e) w)) (run b (past_statement a (past Test (n.expression e) w))))
+        (λ w. choice_does (value (value_of e Test w)) (run a (past Test (n.expression e) w)) (run b (past_statement a (past Test (n.expression e) w))))
         (first_under w.points a_statement (points_of a ⊕ points_of b) h)
-        (l.if_keeps P (value (value_of e Test x)) (run a v) (run b u) (test e x c)
+        (l.choice_keeps P (value (value_of e Test x)) (run a v) (run b u) (test e x c)
         (run_in a v c (first_under x.points (points_of a) (points_of b) inner))
         (run_in b u c (later_under x.points (points_of a) (points_of b) inner)))
     run_in (t.Switch e items keyword span) w c h =
@@ -182,11 +187,11 @@ module _ (entries : ℕ) (all : Points) where
         let x : Within = into_statement w in
         let v : Within = past_statement a x in
         counted_in w
-        (λ w. do_does (run a w) (test_does (value (value_of e Test (past_statement a w)))))
+        (λ w. do_does (run a w) (as_does is_true (value (value_of e Test (past_statement a w)))))
         (first_under w.points a_statement (points_of a) h)
-        (l.do_keeps P (run a x) (test_does (value (value_of e Test v)))
+        (l.do_keeps P (run a x) (as_does is_true (value (value_of e Test v)))
         (run_in a x c (later_under w.points a_statement (points_of a) h))
-        (l.test_keeps P (value (value_of e Test v)) (test e v c)))
+        (l.as_keeps P is_true (value (value_of e Test v)) (test e v c)))
     run_in (t.Break span) w c h = counted_in w (λ w. gives Broke) h (λ s. tt)
     run_in (t.Continue span) w c h = counted_in w (λ w. gives Continued) h (λ s. tt)
     run_in (t.Return r span) w c h =

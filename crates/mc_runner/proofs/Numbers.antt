@@ -12,12 +12,16 @@ use Rattle.mc_roots.specs.Roots.{is_root, operand_role}
 use Rattle.mc_steps.specs.Events.{Event, Evaluated}
 use Rattle.mc_steps.specs.Runs.{State, gives, after}
 use Rattle.mc_steps.specs.Statements.{Number, Structure}
-use Rattle.mc_steps.specs.Expressions.{unary_does, convert_does, binary_does, logic_does, choice_does, as_does, input_does, read_does, both_do}
-use Rattle.mc_steps.specs.Calls.{Passed, number_given, structure_given, unset_does}
+use Rattle.mc_steps.specs.Expressions.{is_true, unary_does, binary_does, logic_does, choice_does, as_does, input_does, read_does, both_do}
+use Rattle.mc_steps.specs.Calls.{Passed, PassedNumber, PassedArray, number_given, structure_given, unset_does}
 use Rattle.mc_meaning.specs.Stores.{Path, Store, on_places}
-use Rattle.mc_meaning.specs.Expressions.{Does, Within, Judged, local, target, past, into, value, as_condition, negated, holds, first_alone, both, tells, vector_of, where_root, place_of, value_of, structure_of, call_of, argument_of, arguments_of}
+use Rattle.mc_meaning.specs.Within.{Does, Within, local, target}
+use Rattle.mc_meaning.specs.Positions.{past, into}
+use Rattle.mc_meaning.specs.Decisions.{Judged, value, as_condition, negated, holds, first_alone, both, tells, vector_of, where_root}
+use Rattle.mc_meaning.specs.Expressions.{place_of, value_of, structure_of, call_of, argument_of, arguments_of}
 use Rattle.mc_meaning.specs.Statements.{effect, effects, initialize, initialize_from, initialize_where, declare, start, loop_test, returned}
 use Rattle.mc_meaning.proofs.Listed as l
+use Rattle.mc_value.specs.Conversions.{converted}
 
 module _ (P : Event → Type 0) (evaluated : (d : ℕ) (v : Evaluation) → P (Evaluated d v)) where
   abbrev pub Keeps : {A : Type 0} → Does A → Type 0
@@ -50,7 +54,7 @@ module _ (P : Event → Type 0) (evaluated : (d : ℕ) (v : Evaluation) → P (E
         let v : Within = past Plain (n.place array) w in
         l.item_keeps P on_places k stride (place_of array w) (value (value_of index Plain v)) (place_in array w c) (only (value_of index Plain v) (value_in index Plain v c))
     place_in (t.Member structure i offset span) w c =
-        l.member_keeps P on_places i offset (place_of structure w) (place_in structure w c)
+        l.as_keeps P (on_places.part i offset) (place_of structure w) (place_in structure w c)
 
     pub value_in : (e : Expression) (role : Role) (w : Within) → CallsKeep w → Keeps (value_of e role w)
     value_in (t.Constant v a span) role w c =
@@ -65,8 +69,8 @@ module _ (P : Event → Type 0) (evaluated : (d : ℕ) (v : Evaluation) → P (E
         (l.unary_keeps P operator a (value (value_of e Plain v)) (only (value_of e Plain v) (value_in e Plain v c)))
     value_in (t.Convert a written e span) role w c =
         let v : Within = into role (t.Convert a written e span) w in
-        condition_in (is_root role (n.expression (t.Convert a written e span))) w.decisions (convert_does a (value (value_of e Plain v)))
-        (l.convert_keeps P a (value (value_of e Plain v)) (only (value_of e Plain v) (value_in e Plain v c)))
+        condition_in (is_root role (n.expression (t.Convert a written e span))) w.decisions (as_does (converted a) (value (value_of e Plain v)))
+        (l.as_keeps P (converted a) (value (value_of e Plain v)) (only (value_of e Plain v) (value_in e Plain v c)))
     value_in (t.Not e span) role w c =
         let a : n.Node = n.Not (n.expression e) span in
         let r : Role = operand_role role a in
@@ -108,10 +112,10 @@ module _ (P : Event → Type 0) (evaluated : (d : ℕ) (v : Evaluation) → P (E
     call_in (t.call f given result span) w c = λ s. l.after_keeps P (arguments_of given w s) _ (arguments_in given w c s) (λ passed s. c f _ passed s)
 
     argument_in : (x : Argument) (w : Within) → CallsKeep w → Keeps (argument_of x w)
-    argument_in (t.NumberArgument e) w c = l.number_argument_keeps P Path (value (value_of e Plain w)) (only (value_of e Plain w) (value_in e Plain w c))
+    argument_in (t.NumberArgument e) w c = l.as_keeps P PassedNumber (value (value_of e Plain w)) (only (value_of e Plain w) (value_in e Plain w c))
     argument_in (t.StructureArgument structure copy) w c =
         l.structure_argument_keeps P on_places (target w copy) (structure_of structure w) (structure_in structure w c)
-    argument_in (t.ArrayArgument place k) w c = l.array_argument_keeps P k (place_of place w) (place_in place w c)
+    argument_in (t.ArrayArgument place k) w c = l.as_keeps P (λ (p : Path). PassedArray (record { place = p; length = k })) (place_of place w) (place_in place w c)
     argument_in (t.AgainArgument array span) w c = l.again_argument_keeps P (slice_get w.arrays array)
 
     arguments_in : (xs : Arguments) (w : Within) → CallsKeep w → Keeps (arguments_of xs w)
@@ -190,7 +194,7 @@ module _ (P : Event → Type 0) (evaluated : (d : ℕ) (v : Evaluation) → P (E
 
   pub test_in : (o : Option Expression) (w : Within) → CallsKeep w → Keeps (loop_test o w)
   test_in None w c = λ s. tt
-  test_in (Some e) w c = l.test_keeps P (value (value_of e Test w)) (number_in e Test w c)
+  test_in (Some e) w c = l.as_keeps P is_true (value (value_of e Test w)) (number_in e Test w c)
 
   pub returned_in : (r : ReturnValue) (w : Within) → CallsKeep w → Keeps (returned r w)
   returned_in t.ReturnNothing w c = λ s. tt

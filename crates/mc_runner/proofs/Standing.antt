@@ -11,7 +11,7 @@ use Rattle.mc_typed.specs.Sound.{IsSound}
 use Rattle.mc_typed.specs.Plans.{Plan, Fits}
 use Rattle.mc_roots.specs.Decisions.{Decision}
 use Rattle.mc_steps.specs.Events.{Event, Entered, Exited, Started, Chosen, Evaluated}
-use Rattle.mc_steps.specs.Calls.{CallDone}
+use Rattle.mc_steps.specs.Tests.{CallDone}
 use Rattle.mc_meaning.specs.Seen.{plainly_told}
 use Rattle.mc_meaning.specs.Tests.{plain_run, state_of}
 use Rattle.mc_meaning.specs.Laws.{IsOfDecision}

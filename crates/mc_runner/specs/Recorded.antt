@@ -3,7 +3,7 @@ use Rattle.std.specs.Prelude.{◌≡◌, ℕ, ℤ, ◌↔◌, List, length, map,
 use Rattle.mc_core.specs.Matrix.{MatrixView, Holds}
 use Rattle.mc_typed.specs.declared.plans.Ending.{Ending}
 use Rattle.mc_typed.specs.Plans.{Plan}
-use Rattle.mc_steps.specs.Calls.{CallDone}
+use Rattle.mc_steps.specs.Tests.{CallDone}
 use Rattle.mc_meaning.specs.Seen.{Told}
 use Rattle.mc_meaning.specs.Tests.{state_of}
 use Rattle.mc_probe.specs.Tree.{Tree}

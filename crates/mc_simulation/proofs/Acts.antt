@@ -10,9 +10,9 @@ use Rattle.mc_typed.specs.Layout.{ObjectType, Scalar, Members, cells}
 use Rattle.mc_typed.specs.Tree.{ResultType}
 use Rattle.mc_steps.specs.Runs.{Acts, gives, stops, after, changes, with_some, with_result}
 use Rattle.mc_steps.specs.Events.{Event}
-use Rattle.mc_steps.specs.Expressions.{operated, is_true, where_true, assign_does, update_does, copy_does, drop_does, both_do, output_does}
-use Rattle.mc_steps.specs.Statements.{Flow, Completed, Broke, Continued, Left, Body, counted_does, effect_does, where_completed, then_does, if_does, where_loop_goes_on, turn, turns, loop_does, do_does, test_does}
-use Rattle.mc_steps.specs.Calls.{store_does, store_structure_does, rest_does}
+use Rattle.mc_steps.specs.Expressions.{operated, is_true, where_true, assign_does, update_does, copy_does, drop_does, both_do, output_does, as_does, choice_does}
+use Rattle.mc_steps.specs.Statements.{Flow, Completed, Broke, Continued, Left, Body, counted_does, effect_does, where_completed, then_does, where_loop_goes_on, turn, turns, loop_does, do_does}
+use Rattle.mc_steps.specs.Calls.{store_does, store_structure_does}
 use Rattle.mc_meaning.specs.Stores.{Path, Store, on_places}
 use Rattle.mc_probe.specs.Flat.{Flat, flat, value_in}
 use Rattle.mc_simulation.specs.Laws.{begins, HasParts}
@@ -104,7 +104,7 @@ module _ (ms : Members) (rooms : ℕ) (image : Event → List ℕ) (P : ℕ → 
   store_structure_follows u p n k e f is l h =
       next ms rooms image P (At ms u) Done e f _ _ h (λ q j g. copy_follows ms rooms image P u q p j n k k is g l)
 
-  pub rest_follows : (u : ObjectType) (p : Path) (n i o offset k j l : ℕ) → HasParts u → begins u i ≤ cells u → offset ≡ begins u i → k ≡ cells u → At ms u p n → Goes Done (rest_does on_places p i j l) (rest_does flat n o offset k)
+  pub rest_follows : (u : ObjectType) (p : Path) (n i o offset k j l : ℕ) → HasParts u → begins u i ≤ cells u → offset ≡ begins u i → k ≡ cells u → At ms u p n → Goes Done (changes (on_places.zero_rest p i j l)) (changes (flat.zero_rest n o offset k))
   rest_follows u p n i o offset k j l parts fits at e g =
       changed ms rooms image P (on_places.zero_rest p i j l) (flat.zero_rest n o offset k) (λ m row r. (one m row r, λ x q. refl))
     where
@@ -168,7 +168,7 @@ module _ (ms : Members) (rooms : ℕ) (image : Event → List ℕ) (P : ℕ → 
     then_follows f i g j h k =
         next ms rooms image P (SameFlow ms r) (SameFlow ms r) f g _ _ h (λ x y e. completed_follows x y i j e k)
 
-    pub if_follows : (e : Acts Store Event ℤ) (x : Acts Flat ℕ ℤ) (f i : Body Store Event Path) (g j : Body Flat ℕ ℕ) → Goes SameTruth e x → Flows f g → Flows i j → Flows (if_does e f i) (if_does x g j)
+    pub if_follows : (e : Acts Store Event ℤ) (x : Acts Flat ℕ ℤ) (f i : Body Store Event Path) (g j : Body Flat ℕ ℕ) → Goes SameTruth e x → Flows f g → Flows i j → Flows (choice_does e f i) (choice_does x g j)
     if_follows e x f i g j h k l =
         next ms rooms image P SameTruth (SameFlow ms r) e x _ _ h (λ a b is.
         subst (λ (c : Bool). Flows (where_true (is_true a) f i) (where_true c g j)) (sym is)
@@ -193,7 +193,7 @@ module _ (ms : Members) (rooms : ℕ) (image : Event → List ℕ) (P : ℕ → 
         subst (λ (k : ℕ). Follows ms rooms image (λ a b n. Kept P t.memory n × SameFlow ms r a b) (turns (suc s.fuel) e f a s) (turns (suc k) x g b t)) (sym al.fuel)
         (turns_follow (suc s.fuel) e x f g a b h i l s t al)
 
-    pub test_follows : (e : Acts Store Event ℤ) (x : Acts Flat ℕ ℤ) → Goes SameTruth e x → Goes Equal (test_does e) (test_does x)
+    pub test_follows : (e : Acts Store Event ℤ) (x : Acts Flat ℕ ℤ) → Goes SameTruth e x → Goes Equal (as_does is_true e) (as_does is_true x)
     test_follows e x h = next ms rooms image P SameTruth Equal e x _ _ h (λ a b is. given ms rooms image P Equal (is_true a) (is_true b) is)
 
     pub do_follows : (f : Body Store Event Path) (g : Body Flat ℕ ℕ) (e : Acts Store Event Bool) (x : Acts Flat ℕ Bool) → Flows f g → Goes Equal e x → Flows (do_does f e) (do_does g x)

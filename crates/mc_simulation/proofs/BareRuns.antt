@@ -16,14 +16,16 @@ use Rattle.mc_steps.specs.Runs.{State, Out, Gave, Stopped, Run, gives, stops, li
 use Rattle.mc_steps.specs.Events.{Event, Entered, Exited}
 use Rattle.mc_steps.specs.Statements.{Given, Nothing, Number, Flow, Completed, Broke, Continued, Left, Running}
 use Rattle.mc_steps.specs.Statements as give
-use Rattle.mc_steps.specs.Calls.{Passed, PassedNumber, TestRun, lent_of, leaves, where_left, body_does, call_does, where_returned, calls_do, value_given, number_given}
+use Rattle.mc_steps.specs.Calls.{Passed, PassedNumber, lent_of, leaves, where_left, body_does, call_does, number_given}
+use Rattle.mc_steps.specs.Tests.{TestRun, where_returned, calls_do, value_given}
 use Rattle.mc_steps.specs.Points.{points_before}
 use Rattle.mc_roots.specs.Counts.{roots_before}
 use Rattle.mc_meaning.specs.Stores.{Path, Store, put, on_places, initial}
-use Rattle.mc_meaning.specs.Expressions as plain
-use Rattle.mc_meaning.specs.Expressions.{Within}
+use Rattle.mc_meaning.specs.Within as plain
+use Rattle.mc_meaning.specs.Within.{Within}
 use Rattle.mc_meaning.specs.Statements.{run_from}
-use Rattle.mc_meaning.specs.Calls.{Open, with_one, enter, points_at_end, call_in}
+use Rattle.mc_meaning.specs.Positions.{points_at_end}
+use Rattle.mc_meaning.specs.Calls.{Open, with_one, enter, call_in}
 use Rattle.mc_meaning.specs.Tests.{none_open, call_made, plain_run}
 use Rattle.mc_probe.specs.Flat.{Flat, Activation, flat, register, hits_some}
 use Rattle.mc_probe.specs.Flat as f

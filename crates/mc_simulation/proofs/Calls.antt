@@ -30,10 +30,11 @@ use Rattle.mc_steps.specs.Statements as give
 use Rattle.mc_steps.specs.Calls.{Passed, PassedNumber, PassedStructure, PassedArray, Target, lent_of, passed_to, leaves, with_room, where_left, body_does, call_does}
 use Rattle.mc_steps.specs.Points.{Points, no_points, ◌⊕◌, points_of_all, points_of_function, points_before, all_complete, some_breaks, where_completes}
 use Rattle.mc_meaning.specs.Stores.{Path, Store, put, on_places}
-use Rattle.mc_meaning.specs.Expressions as plain
-use Rattle.mc_meaning.specs.Expressions.{Within}
+use Rattle.mc_meaning.specs.Within as plain
+use Rattle.mc_meaning.specs.Within.{Within}
 use Rattle.mc_meaning.specs.Statements.{run_from}
-use Rattle.mc_meaning.specs.Calls.{Open, with_one, enter, points_at_end, call_in}
+use Rattle.mc_meaning.specs.Positions.{points_at_end}
+use Rattle.mc_meaning.specs.Calls.{Open, with_one, enter, call_in}
 use Rattle.mc_meaning.proofs.Runs.{IsGiven}
 use Rattle.mc_meaning.proofs.Numbered.{trees, trees_in, trees_length, StandsAt, stands_left, stands_right}
 use Rattle.mc_meaning.proofs.Decided.{decided_trees}

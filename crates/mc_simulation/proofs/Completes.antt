@@ -9,13 +9,16 @@ use Rattle.mc_roots.specs.declared.role.Role.TheVariants.{Test, Plain}
 use Rattle.mc_roots.specs.Nodes as n
 use Rattle.mc_steps.specs.Runs.{State, Out, Gave, Stopped, gives, lists, after, with_fuel}
 use Rattle.mc_steps.specs.Events.{Started}
-use Rattle.mc_steps.specs.Expressions.{is_true, where_true}
-use Rattle.mc_steps.specs.Statements.{Flow, Completed, Broke, Continued, Left, Seek, Running, For, has_label, sought, is_absent, at_label, is_running, effect_does, if_does, where_completed, where_loop_goes_on, turns, loop_does, do_does, test_does, label_does, where_switch_ends, switch_does}
+use Rattle.mc_steps.specs.Expressions.{is_true, where_true, as_does, choice_does}
+use Rattle.mc_steps.specs.Statements.{Flow, Completed, Broke, Continued, Left, Seek, Running, For, has_label, sought, is_absent, at_label, is_running, effect_does, where_completed, where_loop_goes_on, turns, loop_does, do_does, label_does, where_switch_ends, switch_does}
 use Rattle.mc_steps.specs.Points.{is_always, breaks, some_breaks, has_default, completes, all_complete, last_completes, initializes}
 use Rattle.mc_meaning.specs.Stores.{Path, Store}
-use Rattle.mc_meaning.specs.Expressions.{Does, Within, past, value, value_of}
-use Rattle.mc_meaning.specs.Statements as plain
-use Rattle.mc_meaning.specs.Statements.{effect, effects, declare, past_statement, into_statement, counted, where_initializes, choose, start, loop_test, returned, leave, past_start, past_test, past_step, run, run_from}
+use Rattle.mc_meaning.specs.Within.{Does, Within}
+use Rattle.mc_meaning.specs.Positions.{past, past_statement, into_statement, past_start, past_test, past_step}
+use Rattle.mc_meaning.specs.Decisions.{value, choose}
+use Rattle.mc_meaning.specs.Expressions.{value_of}
+use Rattle.mc_meaning.specs.Positions as plain
+use Rattle.mc_meaning.specs.Statements.{effect, effects, declare, counted, where_initializes, start, loop_test, returned, leave, run, run_from}
 use Rattle.mc_meaning.proofs.Runs.{IsGiven, Gives, given_then}
 use Rattle.mc_simulation.proofs.Marks.{final, sought_found}
 use Rattle.mc_simulation.proofs.Constants.{always_true}
@@ -65,7 +68,7 @@ where_gives : {A : Type 0} (P : A → Type 0) (b : Bool) (f g : Does A) → (b �
 where_gives P true f g h k s = h refl s
 where_gives P false f g h k s = k refl s
 
-if_gives : (P : Flow Path → Type 0) (e : Does ℤ) (f g : Does (Flow Path)) → Gives P f → Gives P g → Gives P (if_does e f g)
+if_gives : (P : Flow Path → Type 0) (e : Does ℤ) (f g : Does (Flow Path)) → Gives P f → Gives P g → Gives P (choice_does e f g)
 if_gives P e f g h k s =
     given_then (λ x. Unit {0}) P (e s) (λ x s. where_true (is_true x) f g s) (any_given (e s).out) (λ x s u. where_gives P (is_true x) f g (λ b. h) (λ b. k) s)
 
@@ -200,7 +203,7 @@ module _ (c : Scope) where
         counted_gives (Ends around true false) w (λ w. effect_does (effect x w)) (done_gives (Ends around true false) (effect x (into_statement w)) refl)
     statement_ends (t.If e x keyword span) around w k =
         let u : Within = into_statement w in
-        counted_gives (Ends around true (breaks x)) w (λ w. if_does (value (value_of e Test w)) (run x (past Test (n.expression e) w)) (gives Completed))
+        counted_gives (Ends around true (breaks x)) w (λ w. choice_does (value (value_of e Test w)) (run x (past Test (n.expression e) w)) (gives Completed))
         (if_gives (Ends around true (breaks x)) (value (value_of e Test u)) (run x (past Test (n.expression e) u)) (gives Completed)
         (λ s. more_given (Ends around (completes x) (breaks x)) (Ends around true (breaks x)) (run x (past Test (n.expression e) u) s).out
         (ends_more around (completes x) true (breaks x) (breaks x) (λ h. refl) (λ h. h)) (statement_ends x (inside around) (past Test (n.expression e) u) k.1 s))
@@ -210,7 +213,7 @@ module _ (c : Scope) where
         let q : Within = past Test (n.expression e) u in
         let can : Bool = completes x || completes y in
         let break' : Bool = breaks x || breaks y in
-        counted_gives (Ends around can break') w (λ w. if_does (value (value_of e Test w)) (run x (past Test (n.expression e) w)) (run y (past_statement x (past Test (n.expression e) w))))
+        counted_gives (Ends around can break') w (λ w. choice_does (value (value_of e Test w)) (run x (past Test (n.expression e) w)) (run y (past_statement x (past Test (n.expression e) w))))
         (if_gives (Ends around can break') (value (value_of e Test u)) (run x q) (run y (past_statement x q))
         (λ s. more_given (Ends around (completes x) (breaks x)) (Ends around can break') (run x q s).out
         (ends_more around (completes x) can (breaks x) break' (or_left (completes x) (completes y)) (or_left (breaks x) (breaks y))) (statement_ends x (inside around) q k.1 s))
@@ -238,7 +241,7 @@ module _ (c : Scope) where
     statement_ends (t.DoWhile x e keyword span) around w k =
         let u : Within = into_statement w in
         let can : Bool = not (is_always (Some e)) || breaks x in
-        counted_gives (Ends around can false) w (λ w. do_does (run x w) (test_does (value (value_of e Test (past_statement x w)))))
+        counted_gives (Ends around can false) w (λ w. do_does (run x w) (as_does is_true (value (value_of e Test (past_statement x w)))))
         (do_gives around can (is_always (Some e)) (completes x) (breaks x) refl (run x u) (loop_test (Some e) (past_statement x u))
         (always_true (Some e) (past_statement x u)) (statement_ends x in_loop u k.0))
     statement_ends (t.Break span) around w k = counted_gives (Ends around false true) w (λ w. gives Broke) (λ s. (refl, k))

@@ -12,12 +12,15 @@ use Rattle.mc_roots.specs.declared.role.Role.TheVariants.{Test, Plain}
 use Rattle.mc_roots.specs.Nodes as n
 use Rattle.mc_roots.specs.Roots.{is_root, operand_role}
 use Rattle.mc_steps.specs.Runs.{Out, Gave, Stopped, gives, after, with_result}
-use Rattle.mc_steps.specs.Expressions.{operated, is_true, where_true, goes_on, unary_does, convert_does, binary_does, logic_does, choice_does, as_does}
+use Rattle.mc_steps.specs.Expressions.{operated, is_true, where_true, goes_on, unary_does, binary_does, logic_does, choice_does, as_does}
 use Rattle.mc_steps.specs.Points.{is_constant, number, on_number, logic_value, choice_value, is_nonzero, is_always}
 use Rattle.mc_steps.specs.Points as c
 use Rattle.mc_meaning.specs.Stores.{Store}
 use Rattle.mc_steps.specs.Events.{Event}
-use Rattle.mc_meaning.specs.Expressions.{Does, Within, Judged, past, into, value, as_condition, negated, holds, first_alone, both, tells, where_root, condition, value_of}
+use Rattle.mc_meaning.specs.Within.{Does, Within}
+use Rattle.mc_meaning.specs.Positions.{past, into}
+use Rattle.mc_meaning.specs.Decisions.{Judged, value, as_condition, negated, holds, first_alone, both, tells, where_root, condition}
+use Rattle.mc_meaning.specs.Expressions.{value_of}
 use Rattle.mc_meaning.specs.Statements.{loop_test}
 use Rattle.mc_meaning.proofs.Runs.{IsGiven, Gives, given_then}
 
@@ -79,7 +82,7 @@ number_is (t.Unary operator a e span) role w k =
     (λ x s p. result_gives (IsNumber (t.Unary operator a e span)) (unary_of operator a x) (λ y r. ap (λ (o : Option ℤ). on_number o (λ x. number (unary_of operator a x))) p ∙ ap number r) s))
 number_is (t.Convert a written e span) role w k =
     let u : Within = into role (t.Convert a written e span) w in
-    condition_gives (IsNumber (t.Convert a written e span)) role (t.Convert a written e span) w (λ w. convert_does a (value (value_of e Plain w)))
+    condition_gives (IsNumber (t.Convert a written e span)) role (t.Convert a written e span) w (λ w. as_does (converted a) (value (value_of e Plain w)))
     (λ s. given_then (IsNumber e) (IsNumber (t.Convert a written e span)) (value (value_of e Plain u) s) (λ x s. gives (converted a x) s) (value_gives (IsNumber e) (value_of e Plain u) (number_is e Plain u k) s)
     (λ x s p. ap (λ (o : Option ℤ). on_number o (λ x. Some (converted a x))) p))
 number_is (t.Not e span) role w k =

@@ -26,8 +26,10 @@ use Rattle.mc_steps.specs.Runs.{State, Out, Gave, Stopped, Run, Acts, gives, aft
 use Rattle.mc_steps.specs.Events.{Event}
 use Rattle.mc_steps.specs.Expressions.{is_true, where_true, goes_on, logic_does, as_does}
 use Rattle.mc_meaning.specs.Stores.{Store}
-use Rattle.mc_meaning.specs.Expressions as plain
-use Rattle.mc_meaning.specs.Expressions.{Within, Judged, as_condition, negated, holds, first_alone, both, vector_of, tells, where_root, into, decides, condition}
+use Rattle.mc_meaning.specs.Within as plain
+use Rattle.mc_meaning.specs.Within.{Within}
+use Rattle.mc_meaning.specs.Positions.{into}
+use Rattle.mc_meaning.specs.Decisions.{Judged, as_condition, negated, holds, first_alone, both, vector_of, tells, where_root, decides, condition}
 use Rattle.mc_meaning.proofs.Runs.{IsGiven, Gives, given_then}
 use Rattle.mc_meaning.proofs.Vectors.{IsOf, condition_is}
 use Rattle.mc_probe.specs.Flat.{Flat, Activation, register, with_register, wrapped_sum}

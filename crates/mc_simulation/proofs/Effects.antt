@@ -19,8 +19,11 @@ use Rattle.mc_roots.specs.Counts.{roots}
 use Rattle.mc_steps.specs.Expressions.{drop_does, both_do}
 use Rattle.mc_steps.specs.Calls.{unset_does}
 use Rattle.mc_meaning.specs.Stores.{Path, on_places}
-use Rattle.mc_meaning.specs.Expressions as plain
-use Rattle.mc_meaning.specs.Expressions.{Within, local, past, value, place_of, value_of, structure_of, call_of}
+use Rattle.mc_meaning.specs.Within as plain
+use Rattle.mc_meaning.specs.Within.{Within, local}
+use Rattle.mc_meaning.specs.Positions.{past}
+use Rattle.mc_meaning.specs.Decisions.{value}
+use Rattle.mc_meaning.specs.Expressions.{place_of, value_of, structure_of, call_of}
 use Rattle.mc_meaning.specs.Statements.{effect, effects, initialize, initialize_from, initialize_where, declare}
 use Rattle.mc_meaning.proofs.Numbered.{trees, trees_in}
 use Rattle.mc_probe.specs.Flat.{Activation, flat}

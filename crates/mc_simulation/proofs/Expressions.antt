@@ -5,6 +5,7 @@ use Rattle.mc_value.specs.declared.int_type.IntType.{IntType}
 use Rattle.mc_value.specs.declared.operators.BinOp.{BinOp}
 use Rattle.mc_value.specs.declared.operators.BinOp.TheVariants as bin
 use Rattle.mc_value.specs.Arithmetic.{truth, binary_of}
+use Rattle.mc_value.specs.Conversions.{converted}
 use Rattle.mc_cond.specs.Tree.{Tree, Leaf}
 use Rattle.mc_paths.specs.Paths.{count_of}
 use Rattle.mc_typed.specs.declared.expressions.Slot.{Slot}
@@ -24,11 +25,15 @@ use Rattle.mc_roots.specs.Counts.{one_where, roots}
 use Rattle.mc_steps.specs.Runs.{gives, after, with_result}
 use Rattle.mc_steps.specs.Memories.{Lent}
 use Rattle.mc_steps.specs.Events.{Event}
-use Rattle.mc_steps.specs.Expressions.{operated, lent_item_does, read_does, unary_does, convert_does, binary_does, logic_does, choice_does, as_does, input_does}
+use Rattle.mc_steps.specs.Expressions.{operated, lent_item_does, read_does, unary_does, binary_does, logic_does, choice_does, as_does, input_does}
 use Rattle.mc_steps.specs.Calls.{number_given, structure_given, again_argument_does}
 use Rattle.mc_meaning.specs.Stores.{Path, Store, on_places}
-use Rattle.mc_meaning.specs.Expressions as plain
-use Rattle.mc_meaning.specs.Expressions.{Within, Judged, local, static, target, past, into, value, as_condition, negated, holds, first_alone, both, place_of, value_of, structure_of, call_of, argument_of, arguments_of}
+use Rattle.mc_meaning.specs.Within as plain
+use Rattle.mc_meaning.specs.Decisions as decided
+use Rattle.mc_meaning.specs.Within.{Within, local, static, target}
+use Rattle.mc_meaning.specs.Positions.{past, into}
+use Rattle.mc_meaning.specs.Decisions.{Judged, value, as_condition, negated, holds, first_alone, both}
+use Rattle.mc_meaning.specs.Expressions.{place_of, value_of, structure_of, call_of, argument_of, arguments_of}
 use Rattle.mc_meaning.proofs.Runs.{Gives, given_then}
 use Rattle.mc_meaning.proofs.Vectors.{not_gives, logic_gives, value_is}
 use Rattle.mc_meaning.proofs.Numbered.{own, trees, trees_in, trees_length, own_length, StandsAt, stands_left, stands_right}
@@ -240,7 +245,7 @@ module _ (ms : Members) (rooms : ℕ) (m : Map) (first count : ℕ) (v : Activat
         plain_as ms rooms (bit_of m) (λ j. j.value) (λ j y n. Kept (Spared ms rooms m first count v d) t.memory n × IsValue Test j.value y)
         (λ x y n. Kept (Spared ms rooms m first count v d) t.memory n × SameTruth x y) (g s) (h t) (λ a b n r. r) (k s t al)
 
-    one_condition : (st : Stand) (d : ℕ) (e : Expression) (w : Within) (ops : Within → plain.Does ℤ) (x : p.Expression) (ys : List Tree) → is_operator (n.expression e) ≡ false → ((k : ℕ) → tree_from k (n.expression e) ≡ Leaf k) → Stands st d → IsHere w.decisions d (own (is_root (role_of st) (n.expression e)) (n.expression e) ++ ys) → (is_boolean (n.expression e) ≡ true → Gives IsBit (ops (into (role_of st) e w))) → (IsHere (into (role_of st) e w).decisions (inner st d (n.expression e)) ys → Acted (inner st d (n.expression e)) Equal (ops (into (role_of st) e w)) (run.value_of v x)) → Seen st d 1 (plain.condition (role_of st) e w ops) (run.value_of v (round m first st d (n.expression e) x))
+    one_condition : (st : Stand) (d : ℕ) (e : Expression) (w : Within) (ops : Within → plain.Does ℤ) (x : p.Expression) (ys : List Tree) → is_operator (n.expression e) ≡ false → ((k : ℕ) → tree_from k (n.expression e) ≡ Leaf k) → Stands st d → IsHere w.decisions d (own (is_root (role_of st) (n.expression e)) (n.expression e) ++ ys) → (is_boolean (n.expression e) ≡ true → Gives IsBit (ops (into (role_of st) e w))) → (IsHere (into (role_of st) e w).decisions (inner st d (n.expression e)) ys → Acted (inner st d (n.expression e)) Equal (ops (into (role_of st) e w)) (run.value_of v x)) → Seen st d 1 (decided.condition (role_of st) e w ops) (run.value_of v (round m first st d (n.expression e) x))
     one_condition st d e w ops x ys op leaf ok h flag k =
         let inside = here_inside st w.decisions d (n.expression e) ys h in
         condition_wraps ms rooms m first count v room bits is.few st d e w ops x op leaf ok h.number
@@ -326,7 +331,7 @@ module _ (ms : Members) (rooms : ℕ) (m : Map) (first count : ℕ) (v : Activat
       value_tells (t.Convert a written e span) st w d g k ok h =
           let z : ℕ = inner st d (n.expression (t.Convert a written e span)) in
           let x : Within = into (role_of st) (t.Convert a written e span) w in
-          one_condition st d (t.Convert a written e span) w (λ w. convert_does a (value (value_of e Plain w))) (p.Convert a written (put m first (Loose Plain) z e) span) (trees Plain (n.expression e) ++ []) refl (λ k. refl) ok h (λ e. no_root e)
+          one_condition st d (t.Convert a written e span) w (λ w. as_does (converted a) (value (value_of e Plain w))) (p.Convert a written (put m first (Loose Plain) z e) span) (trees Plain (n.expression e) ++ []) refl (λ k. refl) ok h (λ e. no_root e)
           (λ h. convert_follows ms rooms (bit_of m) (Spared ms rooms m first count v z) a (value (value_of e Plain x)) (run.value_of v (put m first (Loose Plain) z e))
           (plain_number z (width (n.expression e)) (value_of e Plain x) (run.value_of v (put m first (Loose Plain) z e)) (value_tells e (Loose Plain) x z g k tt (here_left x.decisions z (trees Plain (n.expression e)) [] h))))
       value_tells (t.Not e span) st w d g k ok h =

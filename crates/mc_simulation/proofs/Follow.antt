@@ -17,14 +17,13 @@ use Rattle.mc_typed.proofs.Places.{here, begins, joined}
 use Rattle.mc_steps.specs.Runs.{State, Out, Gave, Stopped, Run, Acts, gives, stops, after, go_on, changes, with_some, with_result, with_fuel, spends}
 use Rattle.mc_steps.specs.Memories.{Lent}
 use Rattle.mc_steps.specs.Events.{Event}
-use Rattle.mc_steps.specs.Expressions.{operated, is_true, where_true, with_index, item_does, lent_item_does, member_does, read_does, unary_does, convert_does, binary_does, goes_on, logic_does, choice_does, as_does, with_input, input_does}
-use Rattle.mc_steps.specs.Calls.{Passed, PassedNumber, PassedStructure, PassedArray, Target, number_argument_does, structure_argument_does, array_argument_does, again_argument_does, arguments_do, number_given, structure_given}
-use Rattle.mc_typed.specs.Tree.{ParameterType, NumberParameter, StructureParameter, ArrayParameter}
+use Rattle.mc_steps.specs.Expressions.{operated, is_true, where_true, with_index, item_does, lent_item_does, read_does, unary_does, binary_does, goes_on, logic_does, choice_does, as_does, with_input, input_does}
+use Rattle.mc_steps.specs.Calls.{Passed, PassedNumber, PassedStructure, PassedArray, Target, structure_argument_does, again_argument_does, arguments_do, number_given, structure_given}
+use Rattle.mc_typed.specs.Tree.{ParameterType, NumberParameter, StructureParameter, ArrayParameter, ResultType}
 use Rattle.mc_meaning.specs.Stores.{Path, Store, on_places}
 use Rattle.mc_probe.specs.Flat.{Flat, flat, value_in}
 use Rattle.mc_simulation.specs.Related.{whole}
 use Rattle.mc_simulation.specs.Follows.{Kept, AreOne, Alike, Matches, Follows, Does}
-use Rattle.mc_typed.specs.Tree.{ResultType}
 use Rattle.mc_typed.specs.Sound.{structure_result}
 use Rattle.mc_steps.specs.Statements.{Given, Nothing, Number}
 use Rattle.mc_steps.specs.Statements as give
@@ -188,7 +187,7 @@ module _ (ms : Members) (rooms : ℕ) (image : Event → List ℕ) where
         subst (λ (k : ℕ). Goes (At ms u) (with_index v x.length (λ i. gives (x.place ++ i ∷ []))) (with_index v k (λ i. gives (y.place + i * stride)))) (sym l.length)
         (index_same (At ms u) v x.length _ _ (λ i lt. given (At ms u) _ _ (element u x.length stride i x.place y.place e lt l.place))))
 
-    pub member_follows : (k : ℕ) (us : Members) (u : ObjectType) (i offset : ℕ) (structure : Acts Store Event Path) (cell : Acts Flat ℕ ℕ) → member us i ≡ Some u → offset ≡ start us i → Goes (At ms (Structure k us)) structure cell → Goes (At ms u) (member_does on_places i offset structure) (member_does flat i offset cell)
+    pub member_follows : (k : ℕ) (us : Members) (u : ObjectType) (i offset : ℕ) (structure : Acts Store Event Path) (cell : Acts Flat ℕ ℕ) → member us i ≡ Some u → offset ≡ start us i → Goes (At ms (Structure k us)) structure cell → Goes (At ms u) (as_does (on_places.part i offset) structure) (as_does (flat.part i offset) cell)
     member_follows k us u i offset structure cell is e h =
         next (At ms (Structure k us)) (At ms u) structure cell _ _ h (λ p n l.
         given (At ms u) _ _ (
@@ -209,7 +208,7 @@ module _ (ms : Members) (rooms : ℕ) (image : Event → List ℕ) where
     unary_follows operator a e f h =
         next_same Equal e f _ _ h (λ x. result_same Equal (unary_of operator a x) gives gives (λ y. given Equal y y refl))
 
-    pub convert_follows : (a : IntType) (e : Acts Store Event ℤ) (f : Acts Flat ℕ ℤ) → Goes Equal e f → Goes Equal (convert_does a e) (convert_does a f)
+    pub convert_follows : (a : IntType) (e : Acts Store Event ℤ) (f : Acts Flat ℕ ℤ) → Goes Equal e f → Goes Equal (as_does (converted a) e) (as_does (converted a) f)
     convert_follows a e f h =
         next_same Equal e f _ _ h (λ x. given Equal (converted a x) (converted a x) refl)
 
@@ -237,7 +236,7 @@ module _ (ms : Members) (rooms : ℕ) (image : Event → List ℕ) where
 
     -- ---- arguments
 
-    pub number_argument_follows : (a : IntType) (e : Acts Store Event ℤ) (f : Acts Flat ℕ ℤ) → Goes Equal e f → Goes (IsPassed ms (NumberParameter a)) (number_argument_does e) (number_argument_does f)
+    pub number_argument_follows : (a : IntType) (e : Acts Store Event ℤ) (f : Acts Flat ℕ ℤ) → Goes Equal e f → Goes (IsPassed ms (NumberParameter a)) (as_does PassedNumber e) (as_does PassedNumber f)
     number_argument_follows a e f h =
         next_same (IsPassed ms (NumberParameter a)) e f _ _ h (λ x. given (IsPassed ms (NumberParameter a)) (PassedNumber x) (PassedNumber x) refl)
 
@@ -257,7 +256,7 @@ module _ (ms : Members) (rooms : ℕ) (image : Event → List ℕ) where
         (copy_follows u p x.place n y.place x.cells y.cells is g l) (λ a b q.
         given (IsPassed ms (StructureParameter u)) (PassedStructure x.place) (PassedStructure y.place) l))
 
-    pub array_argument_follows : (u : ObjectType) (k : ℕ) (e : Acts Store Event Path) (f : Acts Flat ℕ ℕ) → Goes (At ms (Array k u)) e f → Goes (IsPassed ms (ArrayParameter u)) (array_argument_does k e) (array_argument_does k f)
+    pub array_argument_follows : (u : ObjectType) (k : ℕ) (e : Acts Store Event Path) (f : Acts Flat ℕ ℕ) → Goes (At ms (Array k u)) e f → Goes (IsPassed ms (ArrayParameter u)) (as_does (λ p. PassedArray (record { place = p; length = k })) e) (as_does (λ p. PassedArray (record { place = p; length = k })) f)
     array_argument_follows u k e f h =
         next (At ms (Array k u)) (IsPassed ms (ArrayParameter u)) e f _ _ h (λ p n l.
         given (IsPassed ms (ArrayParameter u)) _ _ (record { length = refl; place = l }))

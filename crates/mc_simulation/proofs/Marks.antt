@@ -10,9 +10,9 @@ use Rattle.mc_typed.specs.declared.probes.Mark.{Mark}
 use Rattle.mc_typed.specs.Layout.{Members}
 use Rattle.mc_steps.specs.Runs.{State, lists}
 use Rattle.mc_steps.specs.Events.{Event}
-use Rattle.mc_steps.specs.Statements.{same_label, has_label, Seek, Running, For, sought, where_has, is_absent, at_label, where_same, is_running}
+use Rattle.mc_steps.specs.Statements.{same_label, has_label, Seek, Running, For, sought, is_absent, at_label, is_running}
 use Rattle.mc_meaning.specs.Stores.{Store}
-use Rattle.mc_meaning.specs.Statements.{choose}
+use Rattle.mc_meaning.specs.Decisions.{choose}
 use Rattle.mc_probe.specs.Flat.{Flat, Activation, register, with_register}
 use Rattle.mc_probe.specs.Flat as f
 use Rattle.mc_probe.specs.Probes.{mark_does, where_set}
@@ -53,7 +53,7 @@ pub runs_on : (ls : List (Option ℤ)) → final Running ls ≡ Running
 runs_on [] = refl
 runs_on (l ∷ ls) = runs_on ls
 
-found_where : (b : Bool) (k : Option ℤ) (ls : List (Option ℤ)) → is_running (final (For k) ls) ≡ has_label k ls → is_running (final (where_same b (For k)) ls) ≡ (b || has_label k ls)
+found_where : (b : Bool) (k : Option ℤ) (ls : List (Option ℤ)) → is_running (final (For k) ls) ≡ has_label k ls → is_running (final (if b then Running else For k) ls) ≡ (b || has_label k ls)
 found_where true k ls h = ap is_running (runs_on ls)
 found_where false k ls h = h
 
@@ -71,7 +71,7 @@ sought_found v ls = go (has_label (Some v) ls) refl
     twice true = refl
     twice false = refl
 
-    go : (b : Bool) → has_label (Some v) ls ≡ b → is_running (final (where_has b v) ls) ≡ not (not (b || has_label None ls))
+    go : (b : Bool) → has_label (Some v) ls ≡ b → is_running (final (if b then For (Some v) else For None) ls) ≡ not (not (b || has_label None ls))
     go true e = found (Some v) ls ∙ e
     go false e = found None ls ∙ twice (has_label None ls)
 

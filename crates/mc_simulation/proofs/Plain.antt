@@ -1,7 +1,7 @@
 -- Expressions without probes follow those of the program, and hit nothing.
 use Rattle.std.proofs.Common.{◌≡◌, ◌∙◌, refl, sym, ap, subst, ℕ, ◌+◌, ◌<◌, ℤ, Bool, true, false, List, [], ◌∷◌, length, flat_map, Option, Some, None}
 use Rattle.std.specs.Prelude.{slice_get, unwrap_or, option_map}
-use Rattle.mc_value.specs.Conversions.{is_zero}
+use Rattle.mc_value.specs.Conversions.{is_zero, converted}
 use Rattle.mc_value.specs.Arithmetic.{truth}
 use Rattle.mc_typed.specs.declared.expressions.Slot.{Slot}
 use Rattle.mc_typed.specs.Layout.{ObjectType, Scalar, Array, Structure, Members, cells}
@@ -15,11 +15,15 @@ use Rattle.mc_roots.specs.Roots.{is_root, operand_role}
 use Rattle.mc_steps.specs.Runs.{State, Out, Gave, Stopped, Run, Acts, gives, after, go_on}
 use Rattle.mc_steps.specs.Memories.{Lent}
 use Rattle.mc_steps.specs.Events.{Event}
-use Rattle.mc_steps.specs.Expressions.{is_true, item_does, lent_item_does, read_does, unary_does, convert_does, binary_does, logic_does, choice_does, as_does, input_does}
+use Rattle.mc_steps.specs.Expressions.{is_true, item_does, lent_item_does, read_does, unary_does, binary_does, logic_does, choice_does, as_does, input_does}
 use Rattle.mc_steps.specs.Calls.{Passed, number_given, structure_given, again_argument_does}
 use Rattle.mc_meaning.specs.Stores.{Path, Store, on_places}
-use Rattle.mc_meaning.specs.Expressions as plain
-use Rattle.mc_meaning.specs.Expressions.{Within, Judged, local, static, target, past, into, value, as_condition, negated, holds, first_alone, both, tells, where_root, place_of, value_of, structure_of, call_of, argument_of, arguments_of}
+use Rattle.mc_meaning.specs.Within as plain
+use Rattle.mc_meaning.specs.Decisions as decided
+use Rattle.mc_meaning.specs.Within.{Within, local, static, target}
+use Rattle.mc_meaning.specs.Positions.{past, into}
+use Rattle.mc_meaning.specs.Decisions.{Judged, value, as_condition, negated, holds, first_alone, both, tells, where_root}
+use Rattle.mc_meaning.specs.Expressions.{place_of, value_of, structure_of, call_of, argument_of, arguments_of}
 use Rattle.mc_probe.specs.Flat.{Flat, Activation, flat}
 use Rattle.mc_probe.specs.Flat as f
 use Rattle.mc_probe.specs.Tree as p
@@ -107,7 +111,7 @@ module _ (ms : Members) (rooms : ℕ) (v : Activation) (c : Scope) where
   pub truth_only : (g : plain.Does Judged) (h : f.Does ℤ) → Goes Valued g h → Goes SameTruth (value g) h
   truth_only g h k = other ms rooms nothing Each Equal SameTruth (value g) h (λ x y e. ap is_true e) (number_only g h k)
 
-  condition_bare : (role : Role) (e : Expression) (w : Within) (ops : Within → plain.Does ℤ) (x : f.Does ℤ) → Goes Equal (ops (into role e w)) x → Goes Valued (plain.condition role e w ops) x
+  condition_bare : (role : Role) (e : Expression) (w : Within) (ops : Within → plain.Does ℤ) (x : f.Does ℤ) → Goes Equal (ops (into role e w)) x → Goes Valued (decided.condition role e w ops) x
   condition_bare role e w ops x h =
       root_bare ms rooms (is_root role (n.expression e)) w.decisions (as_does as_condition (ops (into role e w))) x
       (λ s t al. plain_as ms rooms nothing as_condition (λ y z o. Kept Each t.memory o × Equal y z) (λ j z o. Kept Each t.memory o × Valued j z) (ops (into role e w) s) (x t) (λ a b z r. r) (h s t al))
@@ -165,7 +169,7 @@ module _ (ms : Members) (rooms : ℕ) (v : Activation) (c : Scope) where
         (unary_follows ms rooms nothing Each operator a (value (value_of e Plain x)) (run.value_of v (bare_expression e)) (number_only (value_of e Plain x) (run.value_of v (bare_expression e)) (value_bare e Plain x g k.2)))
     value_bare (t.Convert a written e span) role w g k =
         let x : Within = into role (t.Convert a written e span) w in
-        condition_bare role (t.Convert a written e span) w (λ w. convert_does a (value (value_of e Plain w))) (convert_does a (run.value_of v (bare_expression e)))
+        condition_bare role (t.Convert a written e span) w (λ w. as_does (converted a) (value (value_of e Plain w))) (as_does (converted a) (run.value_of v (bare_expression e)))
         (convert_follows ms rooms nothing Each a (value (value_of e Plain x)) (run.value_of v (bare_expression e)) (number_only (value_of e Plain x) (run.value_of v (bare_expression e)) (value_bare e Plain x g k)))
     value_bare (t.Not e span) role w g k =
         let r : Role = operand_role role (n.expression (t.Not e span)) in

@@ -15,14 +15,17 @@ use Rattle.mc_roots.specs.Nodes as n
 use Rattle.mc_roots.specs.Counts.{roots, roots_in}
 use Rattle.mc_steps.specs.Runs.{State, Out, Gave, Stopped, Run, Acts, gives, lists, after}
 use Rattle.mc_steps.specs.Events.{Event, Exited, Started}
-use Rattle.mc_steps.specs.Expressions.{where_true}
-use Rattle.mc_steps.specs.Statements.{Given, Number, Flow, Completed, Broke, Continued, Left, Body, Seek, Running, For, is_running, at_label, sought, where_has, has_label, is_absent, where_same, same_label, counted_does, effect_does, then_does, if_does, loop_does, do_does, where_completed, absent_test, test_does, label_does, item_runs, switch_does, where_switch_ends}
+use Rattle.mc_steps.specs.Expressions.{where_true, as_does, choice_does, is_true}
+use Rattle.mc_steps.specs.Statements.{Given, Number, Flow, Completed, Broke, Continued, Left, Body, Seek, Running, For, is_running, at_label, sought, has_label, is_absent, same_label, counted_does, effect_does, then_does, loop_does, do_does, where_completed, label_does, item_runs, switch_does, where_switch_ends}
 use Rattle.mc_steps.specs.Statements as give
 use Rattle.mc_steps.specs.Points.{Points, no_points, ◌⊕◌, a_statement, an_exit, a_label, initializes, has_default, where_absent, where_counted, points_of, points_of_all}
 use Rattle.mc_meaning.specs.Stores.{Path, Store}
-use Rattle.mc_meaning.specs.Expressions as plain
-use Rattle.mc_meaning.specs.Expressions.{Within, past, value, value_of, structure_of}
-use Rattle.mc_meaning.specs.Statements.{effect, effects, declare, past_statement, into_statement, counted, where_initializes, choose, start, loop_test, returned, leave, past_start, past_test, past_step, in_switch, run, run_from}
+use Rattle.mc_meaning.specs.Within as plain
+use Rattle.mc_meaning.specs.Within.{Within}
+use Rattle.mc_meaning.specs.Positions.{past, past_statement, into_statement, past_start, past_test, past_step, in_switch}
+use Rattle.mc_meaning.specs.Decisions.{value, choose}
+use Rattle.mc_meaning.specs.Expressions.{value_of, structure_of}
+use Rattle.mc_meaning.specs.Statements.{effect, effects, declare, counted, where_initializes, start, loop_test, returned, leave, run, run_from}
 use Rattle.mc_meaning.proofs.Numbered.{trees, trees_in}
 use Rattle.mc_probe.specs.Flat.{Flat, Activation, register, with_register}
 use Rattle.mc_probe.specs.Flat as f
@@ -270,7 +273,7 @@ module _ (ms : Members) (rooms : ℕ) (m : Map) (first count : ℕ) (v : Activat
   sought_seeks : (x : ℤ) (ls : List (Option ℤ)) → is_running (sought x ls) ≡ false
   sought_seeks x ls = go (has_label (Some x) ls)
     where
-      go : (b : Bool) → is_running (where_has b x) ≡ false
+      go : (b : Bool) → is_running (if b then For (Some x) else For None) ≡ false
       go true = refl
       go false = refl
 
@@ -376,7 +379,7 @@ module _ (ms : Members) (rooms : ℕ) (m : Map) (first count : ℕ) (v : Activat
           (λ i j s' t' al q. weaker ms rooms (bit_of m) (Found r Running ls t'.memory) (Found r Running ls t.memory) (next' Running s') (body Running t')
           (λ a b z o. ((λ x p. o.0 x p ∙ q.0 x (saved_before r x p)), o.1)) (h Running s' t' al q.1))
 
-      by_label : (b : Bool) (o : Option ℤ) → Held r false t.memory → Follows ms rooms (bit_of m) (Found r (where_same b (For o)) ls t.memory) (where_true (is_running (where_same b (For o))) (λ s. after (choose k true s) (λ _ s. next' (where_same b (For o)) s)) (λ s. next' (where_same b (For o)) s) s) (where_true (is_running (where_same b (For o))) (λ s. after (mark_does v (Some (record { register = r; bit = bit })) true s) (λ _ s. body (where_same b (For o)) s)) (λ s. body (where_same b (For o)) s) t)
+      by_label : (b : Bool) (o : Option ℤ) → Held r false t.memory → Follows ms rooms (bit_of m) (Found r (if b then Running else For o) ls t.memory) (where_true (is_running (if b then Running else For o)) (λ s. after (choose k true s) (λ _ s. next' (if b then Running else For o) s)) (λ s. next' (if b then Running else For o) s) s) (where_true (is_running (if b then Running else For o)) (λ s. after (mark_does v (Some (record { register = r; bit = bit })) true s) (λ _ s. body (if b then Running else For o) s)) (λ s. body (if b then Running else For o) s) t)
       by_label true o reg = marked true reg
       by_label false o reg = h (For o) s t a reg
 
@@ -453,7 +456,7 @@ module _ (ms : Members) (rooms : ℕ) (m : Map) (first count : ℕ) (v : Activat
         let z : At m first = decided m first (roots Test (n.expression e)) (table.within m first at) in
         let rest : List Tree = trees Plain (n.statement x) ++ [] in
         let i = into_counted w at (trees Test (n.expression e) ++ rest) (points_of x) (switches x) h in
-        counts w at (trees Test (n.expression e) ++ rest) (points_of x) (switches x) (λ w. if_does (value (value_of e Test w)) (run x (past Test (n.expression e) w)) (gives Completed)) (if_does (expr.value_of v (put m first (Loose Test) at.decision e)) (act.statement_of v (put_statement m first r z x)) (gives Completed)) h
+        counts w at (trees Test (n.expression e) ++ rest) (points_of x) (switches x) (λ w. choice_does (value (value_of e Test w)) (run x (past Test (n.expression e) w)) (gives Completed)) (choice_does (expr.value_of v (put m first (Loose Test) at.decision e)) (act.statement_of v (put_statement m first r z x)) (gives Completed)) h
         (if_follows ms rooms (bit_of m) (Saves at.switch) c.result (value (value_of e Test u)) (expr.value_of v (put m first (Loose Test) at.decision e)) (run x y) (gives Completed) (act.statement_of v (put_statement m first r z x)) (gives Completed)
         (truth_follows e u at.decision at.switch g k.0 (here_left ms rooms m first count v u.decisions at.decision (trees Test (n.expression e)) rest i.here))
         (statement_follows x (inside around) r y z g k.1 (left_trees y z (trees Plain (n.statement x)) [] (points_of x) (switches x) (decide_at u (table.within m first at) Test (n.expression e) rest (points_of x) (switches x) i)))
@@ -471,7 +474,7 @@ module _ (ms : Members) (rooms : ℕ) (m : Map) (first count : ℕ) (v : Activat
         let i = into_counted w at (trees Test (n.expression e) ++ rest) q sw h in
         let j = decide_at u (table.within m first at) Test (n.expression e) rest q sw i in
         let le : at.switch ≤ at.switch + switches x = omega arith in
-        counts w at (trees Test (n.expression e) ++ rest) q sw (λ w. if_does (value (value_of e Test w)) (run x (past Test (n.expression e) w)) (run o (past_statement x (past Test (n.expression e) w)))) (if_does (expr.value_of v (put m first (Loose Test) at.decision e)) (act.statement_of v (put_statement m first r z x)) (act.statement_of v (put_statement m first r z2 o))) h
+        counts w at (trees Test (n.expression e) ++ rest) q sw (λ w. choice_does (value (value_of e Test w)) (run x (past Test (n.expression e) w)) (run o (past_statement x (past Test (n.expression e) w)))) (choice_does (expr.value_of v (put m first (Loose Test) at.decision e)) (act.statement_of v (put_statement m first r z x)) (act.statement_of v (put_statement m first r z2 o))) h
         (if_follows ms rooms (bit_of m) (Saves at.switch) c.result (value (value_of e Test u)) (expr.value_of v (put m first (Loose Test) at.decision e)) (run x y) (run o y2) (act.statement_of v (put_statement m first r z x)) (act.statement_of v (put_statement m first r z2 o))
         (truth_follows e u at.decision at.switch g k.0 (here_left ms rooms m first count v u.decisions at.decision (trees Test (n.expression e)) rest i.here))
         (statement_follows x (inside around) r y z g k.1 (left_points y z (trees Plain (n.statement x)) (points_of x) (points_of o) (switches x) (switches o) (left_trees y z (trees Plain (n.statement x)) last q sw j)))
@@ -544,8 +547,8 @@ module _ (ms : Members) (rooms : ℕ) (m : Map) (first count : ℕ) (v : Activat
         let d : ℕ = at.decision + roots Plain (n.statement x) in
         let rest : List Tree = trees Test (n.expression e) ++ [] in
         let i = into_counted w at (trees Plain (n.statement x) ++ rest) (points_of x) (switches x) h in
-        counts w at (trees Plain (n.statement x) ++ rest) (points_of x) (switches x) (λ w. do_does (run x w) (test_does (value (value_of e Test (past_statement x w))))) (do_does (act.statement_of v (put_statement m first r z x)) (test_does (expr.value_of v (put m first (Loose Test) d e)))) h
-        (do_follows ms rooms (bit_of m) (Saves at.switch) c.result (run x u) (act.statement_of v (put_statement m first r z x)) (test_does (value (value_of e Test y))) (test_does (expr.value_of v (put m first (Loose Test) d e)))
+        counts w at (trees Plain (n.statement x) ++ rest) (points_of x) (switches x) (λ w. do_does (run x w) (as_does is_true (value (value_of e Test (past_statement x w))))) (do_does (act.statement_of v (put_statement m first r z x)) (as_does is_true (expr.value_of v (put m first (Loose Test) d e)))) h
+        (do_follows ms rooms (bit_of m) (Saves at.switch) c.result (run x u) (act.statement_of v (put_statement m first r z x)) (as_does is_true (value (value_of e Test y))) (as_does is_true (expr.value_of v (put m first (Loose Test) d e)))
         (statement_follows x in_loop r u z g k.0 (left_trees u z (trees Plain (n.statement x)) rest (points_of x) (switches x) i))
         (acts.test_follows ms rooms (bit_of m) (Saves at.switch) c.result (value (value_of e Test y)) (expr.value_of v (put m first (Loose Test) d e))
         (truth_follows e y d at.switch g k.1 (here_left ms rooms m first count v y.decisions d (trees Test (n.expression e)) [] (here_past ms rooms m first count v u.decisions at.decision Plain (n.statement x) rest i.here)))))

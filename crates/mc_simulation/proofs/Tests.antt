@@ -15,7 +15,8 @@ use Rattle.mc_typed.proofs.CellTypes.{have_types}
 use Rattle.mc_steps.specs.Runs.{State, Out, Gave, Stopped, after}
 use Rattle.mc_steps.specs.Events.{Event}
 use Rattle.mc_steps.specs.Statements.{Given}
-use Rattle.mc_steps.specs.Calls.{PassedNumber, TestRun, value_given, number_given, where_returned, calls_do}
+use Rattle.mc_steps.specs.Calls.{PassedNumber, number_given}
+use Rattle.mc_steps.specs.Tests.{TestRun, value_given, where_returned, calls_do}
 use Rattle.mc_meaning.specs.Stores.{Path, Store, scalar_at, scalar_in, initial_in, initial}
 use Rattle.mc_meaning.specs.Calls.{call_in}
 use Rattle.mc_meaning.specs.Tests.{none_open, call_made, plain_run}

@@ -12,15 +12,18 @@ use Rattle.mc_roots.specs.declared.role.Role.TheVariants.{Test, Plain}
 use Rattle.mc_roots.specs.Nodes as n
 use Rattle.mc_steps.specs.Runs.{State, gives, lists, after}
 use Rattle.mc_steps.specs.Events.{Event, Exited, Started, Chosen}
-use Rattle.mc_steps.specs.Expressions.{where_true, drop_does, both_do}
-use Rattle.mc_steps.specs.Statements.{Number, Flow, Completed, Broke, Continued, Left, Seek, Running, For, is_running, at_label, sought, is_absent, effect_does, if_does, loop_does, do_does, test_does, label_does, item_runs, switch_does, where_switch_ends}
+use Rattle.mc_steps.specs.Expressions.{where_true, drop_does, both_do, as_does, choice_does, is_true}
+use Rattle.mc_steps.specs.Statements.{Number, Flow, Completed, Broke, Continued, Left, Seek, Running, For, is_running, at_label, sought, is_absent, effect_does, loop_does, do_does, label_does, item_runs, switch_does, where_switch_ends}
 use Rattle.mc_steps.specs.Statements as give
 use Rattle.mc_steps.specs.Calls.{unset_does}
 use Rattle.mc_steps.specs.Points.{initializes}
 use Rattle.mc_meaning.specs.Stores.{Path, on_places}
-use Rattle.mc_meaning.specs.Expressions as plain
-use Rattle.mc_meaning.specs.Expressions.{Within, local, past, value, place_of, value_of, structure_of, call_of}
-use Rattle.mc_meaning.specs.Statements.{effect, effects, initialize, initialize_from, initialize_where, declare, past_statement, into_statement, counted, where_initializes, choose, start, loop_test, returned, leave, past_start, past_test, past_step, in_switch, run, run_from}
+use Rattle.mc_meaning.specs.Within as plain
+use Rattle.mc_meaning.specs.Within.{Within, local}
+use Rattle.mc_meaning.specs.Positions.{past, past_statement, into_statement, past_start, past_test, past_step, in_switch}
+use Rattle.mc_meaning.specs.Decisions.{value, choose}
+use Rattle.mc_meaning.specs.Expressions.{place_of, value_of, structure_of, call_of}
+use Rattle.mc_meaning.specs.Statements.{effect, effects, initialize, initialize_from, initialize_where, declare, counted, where_initializes, start, loop_test, returned, leave, run, run_from}
 use Rattle.mc_typed.specs.Layout as layout
 use Rattle.mc_probe.specs.Flat.{Activation, flat}
 use Rattle.mc_probe.specs.Flat as f
@@ -296,12 +299,12 @@ module _ (ms : Members) (rooms : ℕ) (v : Activation) (c : Scope) where
         counts_bare w (λ w. effect_does (effect x w)) (effect_does (act.effect_of v (bare_effect x))) (effect_follows ms rooms nothing Each c.result (effect x u) (act.effect_of v (bare_effect x)) (effect_bare x true u g k))
     statement_bare (t.If e x keyword span) around w g k =
         let u : Within = into_statement w in
-        counts_bare w (λ w. if_does (value (value_of e Test w)) (run x (past Test (n.expression e) w)) (gives Completed)) (if_does (expr.value_of v (bare_expression e)) (act.statement_of v (bare_statement x)) (gives Completed))
+        counts_bare w (λ w. choice_does (value (value_of e Test w)) (run x (past Test (n.expression e) w)) (gives Completed)) (choice_does (expr.value_of v (bare_expression e)) (act.statement_of v (bare_statement x)) (gives Completed))
         (if_follows ms rooms nothing Each c.result (value (value_of e Test u)) (expr.value_of v (bare_expression e)) (run x (past Test (n.expression e) u)) (gives Completed) (act.statement_of v (bare_statement x)) (gives Completed) (truth_is e u g k.0) (statement_bare x (inside around) (past Test (n.expression e) u) g k.1) (flow_bare Completed Completed tt))
     statement_bare (t.IfElse e x o keyword span) around w g k =
         let u : Within = into_statement w in
         let y : Within = past Test (n.expression e) u in
-        counts_bare w (λ w. if_does (value (value_of e Test w)) (run x (past Test (n.expression e) w)) (run o (past_statement x (past Test (n.expression e) w)))) (if_does (expr.value_of v (bare_expression e)) (act.statement_of v (bare_statement x)) (act.statement_of v (bare_statement o)))
+        counts_bare w (λ w. choice_does (value (value_of e Test w)) (run x (past Test (n.expression e) w)) (run o (past_statement x (past Test (n.expression e) w)))) (choice_does (expr.value_of v (bare_expression e)) (act.statement_of v (bare_statement x)) (act.statement_of v (bare_statement o)))
         (if_follows ms rooms nothing Each c.result (value (value_of e Test u)) (expr.value_of v (bare_expression e)) (run x y) (run o (past_statement x y)) (act.statement_of v (bare_statement x)) (act.statement_of v (bare_statement o)) (truth_is e u g k.0) (statement_bare x (inside around) y g k.1) (statement_bare o (inside around) (past_statement x y) g k.2))
     statement_bare (t.Switch e items keyword span) around w g k =
         let u : Within = into_statement w in
@@ -323,8 +326,8 @@ module _ (ms : Members) (rooms : ℕ) (v : Activation) (c : Scope) where
     statement_bare (t.DoWhile x e keyword span) around w g k =
         let u : Within = into_statement w in
         let y : Within = past_statement x u in
-        counts_bare w (λ w. do_does (run x w) (test_does (value (value_of e Test (past_statement x w))))) (do_does (act.statement_of v (bare_statement x)) (test_does (expr.value_of v (bare_expression e))))
-        (do_follows ms rooms nothing Each c.result (run x u) (act.statement_of v (bare_statement x)) (test_does (value (value_of e Test y))) (test_does (expr.value_of v (bare_expression e))) (statement_bare x in_loop u g k.0)
+        counts_bare w (λ w. do_does (run x w) (as_does is_true (value (value_of e Test (past_statement x w))))) (do_does (act.statement_of v (bare_statement x)) (as_does is_true (expr.value_of v (bare_expression e))))
+        (do_follows ms rooms nothing Each c.result (run x u) (act.statement_of v (bare_statement x)) (as_does is_true (value (value_of e Test y))) (as_does is_true (expr.value_of v (bare_expression e))) (statement_bare x in_loop u g k.0)
         (test_follows ms rooms nothing Each c.result (value (value_of e Test y)) (expr.value_of v (bare_expression e)) (truth_is e y g k.1)))
     statement_bare (t.Break span) around w g k = counts_bare w (λ w. gives Broke) (gives Broke) (flow_bare Broke Broke tt)
     statement_bare (t.Continue span) around w g k = counts_bare w (λ w. gives Continued) (gives Continued) (flow_bare Continued Continued tt)

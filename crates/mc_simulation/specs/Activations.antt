@@ -8,7 +8,7 @@ use Rattle.mc_steps.specs.Events.{Event}
 use Rattle.mc_steps.specs.Statements.{Given, Nothing, Number, Structure}
 use Rattle.mc_steps.specs.Calls.{Passed, PassedNumber, PassedStructure, PassedArray}
 use Rattle.mc_meaning.specs.Stores.{Path}
-use Rattle.mc_meaning.specs.Expressions.{Does}
+use Rattle.mc_meaning.specs.Within.{Does}
 use Rattle.mc_probe.specs.Flat.{Callee, Activation}
 use Rattle.mc_simulation.specs.Related.{whole}
 use Rattle.mc_simulation.specs.Follows as follows

@@ -8,8 +8,9 @@ use Rattle.mc_steps.specs.Runs.{State}
 use Rattle.mc_steps.specs.Events.{Event}
 use Rattle.mc_steps.specs.Expressions.{is_true}
 use Rattle.mc_meaning.specs.Stores.{Store}
-use Rattle.mc_meaning.specs.Expressions as plain
-use Rattle.mc_meaning.specs.Expressions.{Within, Judged}
+use Rattle.mc_meaning.specs.Within as plain
+use Rattle.mc_meaning.specs.Within.{Within}
+use Rattle.mc_meaning.specs.Decisions.{Judged}
 use Rattle.mc_probe.specs.Flat.{Flat, Activation, register}
 use Rattle.mc_probe.specs.Flat as flat
 use Rattle.mc_probe.specs.Maps.{Map, image}

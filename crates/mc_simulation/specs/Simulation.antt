@@ -4,7 +4,7 @@ use Rattle.mc_typed.specs.Tree.{Program}
 use Rattle.mc_typed.specs.Sound.{IsSound}
 use Rattle.mc_typed.specs.Plans.{Plan, Fits}
 use Rattle.mc_steps.specs.Events.{Event}
-use Rattle.mc_steps.specs.Calls.{TestRun}
+use Rattle.mc_steps.specs.Tests.{TestRun}
 use Rattle.mc_meaning.specs.Stores.{Store}
 use Rattle.mc_meaning.specs.Tests.{plain_run}
 use Rattle.mc_probe.specs.Flat.{Flat}

@@ -1,11 +1,9 @@
--- What objects that are declared, arguments and calls do (C17 6.5.2.2, 6.7.9, 6.9.1), and the calls
--- of a test.
-use Rattle.std.specs.Prelude.{ℕ, ℤ, pos, nat_le, List, [], ◌∷◌, ◌++◌, length, Option, Some, None}
+-- What objects that are declared, arguments and calls do (C17 6.5.2.2, 6.7.9, 6.9.1).
+use Rattle.std.specs.Prelude.{ℕ, ℤ, nat_le, List, [], ◌∷◌, Option, Some, None}
 use Rattle.mc_value.specs.declared.trap.Trap.TheVariants.{Index, NoReturn}
 use Rattle.mc_typed.specs.declared.plans.Ending.{Ending}
 use Rattle.mc_typed.specs.declared.plans.Ending.TheVariants as ending
-use Rattle.mc_typed.specs.Tree.{ResultType, NoResult, NumberResult, StructureResult}
-use Rattle.mc_steps.specs.Runs.{State, Out, Gave, Stopped, Acts, gives, stops, traps, after, changes, with_some, spends}
+use Rattle.mc_steps.specs.Runs.{Acts, gives, stops, traps, after, changes, with_some, spends}
 use Rattle.mc_steps.specs.Memories.{Lent, Memory}
 use Rattle.mc_steps.specs.Expressions.{where_true}
 use Rattle.mc_steps.specs.Statements.{Given, Nothing, Number, Structure, Flow, Left, Body}
@@ -24,9 +22,8 @@ pub record Target (P : Type 0) : Type 0 where
 -- the arrays that the array parameters name, in their order (C17 6.7.6.3p7)
 abbrev pub lent_of : {P : Type 0} → List (Passed P) → List (Lent P)
 lent_of [] = []
-lent_of (PassedNumber v ∷ passed) = lent_of passed
-lent_of (PassedStructure p ∷ passed) = lent_of passed
 lent_of (PassedArray l ∷ passed) = l ∷ lent_of passed
+lent_of (_ ∷ passed) = lent_of passed
 
 module _ {M P : Type 0} (m : Memory M P) where
   -- ---- objects that are declared
@@ -41,19 +38,10 @@ module _ {M P : Type 0} (m : Memory M P) where
   abbrev pub store_structure_does : {E : Type 0} → P → ℕ → Acts M E P → Acts M E (Unit {0})
   store_structure_does p n value s = after (value s) (λ q s. changes (m.copy q p n) s)
 
-  -- where a list ends the rest of its object becomes 0 (C17 6.7.9p21)
-  abbrev pub rest_does : {E : Type 0} → P → ℕ → ℕ → ℕ → Acts M E (Unit {0})
-  rest_does p i offset n s = changes (m.zero_rest p i offset n) s
-
-  -- the list `{0}`
-  abbrev pub zero_does : {E : Type 0} → P → ℕ → Acts M E (Unit {0})
-  zero_does p n s = changes (m.put p n (Some (pos 0))) s
-
   -- ---- arguments
 
   -- A structure is copied when its argument is evaluated.
-  abbrev pub structure_argument_does :
-      {E : Type 0} → Target P → Acts M E P → Acts M E (Passed P)
+  abbrev pub structure_argument_does : {E : Type 0} → Target P → Acts M E P → Acts M E (Passed P)
   structure_argument_does copy value s =
       after (value s) (λ q s. after (changes (m.copy q copy.place copy.cells) s) (λ _ s.
       gives (PassedStructure copy.place) s))
@@ -86,21 +74,13 @@ abbrev pub with_room : {M E A : Type 0} → ℕ → ℕ → Ending → Acts M E 
 with_room n limit e next s = where_true (nat_le n limit) next (λ s. stops e s) s
 
 module _ {M E P : Type 0} where
-  abbrev pub number_argument_does : Acts M E ℤ → Acts M E (Passed P)
-  number_argument_does e s = after (e s) (λ v s. gives (PassedNumber v) s)
-
-  abbrev pub array_argument_does : ℕ → Acts M E P → Acts M E (Passed P)
-  array_argument_does n array s =
-      after (array s) (λ p s. gives (PassedArray (record { place = p; length = n })) s)
-
   abbrev pub again_argument_does : Option (Lent P) → Acts M E (Passed P)
   again_argument_does lent s = with_some Index lent (λ l s. gives (PassedArray l) s) s
 
   -- the first argument, and then the others
   abbrev pub arguments_do :
       Acts M E (Passed P) → Acts M E (List (Passed P)) → Acts M E (List (Passed P))
-  arguments_do first others s =
-      after (first s) (λ x s. after (others s) (λ xs s. gives (x ∷ xs) s))
+  arguments_do first others s = after (first s) (λ x s. after (others s) (λ xs s. gives (x ∷ xs) s))
 
   -- ---- calls
 
@@ -131,40 +111,3 @@ module _ {M E P : Type 0} where
   abbrev pub structure_given : Given P → Acts M E P
   structure_given (Structure p n) s = gives p s
   structure_given _ s = traps NoReturn s
-
-  -- ---- the calls of a test
-
-  -- A test uses the value; a void function has none.
-  abbrev pub value_given : ResultType → Given P → Acts M E (Option ℤ)
-  value_given NoResult v s = gives None s
-  value_given (NumberResult a) v s = after (number_given v s) (λ x s. gives (Some x) s)
-  value_given (StructureResult u) v s = after (number_given v s) (λ x s. gives (Some x) s)
-
--- a call that returned: its value, and how many numbers stood in the output after it
-pub record CallDone : Type 0 where
-  pub value : Option ℤ
-  pub output_end : ℕ
-
--- the run of a test: how it ended, the calls that returned, the state at its end, what it listed
-pub record TestRun (M E : Type 0) : Type 0 where
-  pub ending : Ending
-  pub done : List CallDone
-  pub state : State M
-  pub events : List E
-
-module _ {M E : Type 0} where
-  abbrev pub before_test : CallDone → List E → TestRun M E → TestRun M E
-  before_test call events r = record r { done = call ∷ r.done; events = events ++ r.events }
-
-  abbrev pub where_returned :
-      Out M (Option ℤ) → List E → (State M → TestRun M E) → TestRun M E
-  where_returned (Gave v s) events next =
-      before_test (record { value = v; output_end = length s.output }) events (next s)
-  where_returned (Stopped e s) events next =
-      record { ending = e; done = []; state = s; events = events }
-
-  -- the calls in their order, up to the first that does not return
-  abbrev pub calls_do : List (Acts M E (Option ℤ)) → State M → TestRun M E
-  calls_do [] s = record { ending = ending.Returned; done = []; state = s; events = [] }
-  calls_do (call ∷ calls) s =
-      where_returned (call s).out (call s).events (λ s. calls_do calls s)

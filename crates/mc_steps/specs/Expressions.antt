@@ -52,9 +52,6 @@ module _ {M P : Type 0} (m : Memory M P) where
       after (index s) (λ x s. with_some Index lent (λ l s.
       with_index x l.length (λ i s. gives (m.part i (i * stride) l.place) s) s) s)
 
-  abbrev pub member_does : {E : Type 0} → ℕ → ℕ → Acts M E P → Acts M E P
-  member_does i offset structure s = after (structure s) (λ p s. gives (m.part i offset p) s)
-
   -- a scalar that is read has a value (C17 6.3.2.1p2)
   abbrev pub read_does : {E : Type 0} → Acts M E P → Acts M E ℤ
   read_does place s = after (place s) (λ p s. with_some Unset (m.read p s.memory) gives s)
@@ -68,8 +65,7 @@ module _ {M P : Type 0} (m : Memory M P) where
 
   -- The place comes first, then the right side, then the old value is read.
   abbrev pub update_does :
-      {E : Type 0} → IntType → Operator → IntType → Acts M E P → Acts M E ℤ →
-      Acts M E (Unit {0})
+      {E : Type 0} → IntType → Operator → IntType → Acts M E P → Acts M E ℤ → Acts M E (Unit {0})
   update_does a operator common target value s =
       after (target s) (λ p s. after (value s) (λ y s. with_some Unset (m.read p s.memory) (λ x s.
       with_result (operated operator common (converted common x) y) (λ v s.
@@ -93,10 +89,6 @@ module _ {M E : Type 0} where
   abbrev pub unary_does : UnOp → IntType → Acts M E ℤ → Acts M E ℤ
   unary_does operator a e s = after (e s) (λ x s. with_result (unary_of operator a x) gives s)
 
-  -- C17 6.3.1
-  abbrev pub convert_does : IntType → Acts M E ℤ → Acts M E ℤ
-  convert_does a e s = after (e s) (λ x s. gives (converted a x) s)
-
   abbrev pub binary_does : Operator → IntType → Acts M E ℤ → Acts M E ℤ → Acts M E ℤ
   binary_does operator a e f s =
       after (e s) (λ x s. after (f s) (λ y s. with_result (operated operator a x y) gives s))
@@ -109,7 +101,7 @@ module _ {M E : Type 0} where
       after (e s) (λ x s. where_true (goes_on operator (holds x))
       (λ s. after (f s) (λ y s. gives (both x y) s)) (gives (first x)) s)
 
-  -- one of two, by a test (C17 6.5.15p4)
+  -- one of two, by a test (C17 6.5.15p4, 6.8.4.1p2)
   abbrev pub choice_does : {A : Type 0} → Acts M E ℤ → Acts M E A → Acts M E A → Acts M E A
   choice_does test chosen other s = after (test s) (λ x s. where_true (is_true x) chosen other s)
 

@@ -4,4 +4,5 @@ pub mod Events
 pub mod Expressions
 pub mod Statements
 pub mod Calls
+pub mod Tests
 pub mod Points

@@ -1,9 +1,9 @@
 -- What the parts of a statement make it do (C17 6.8).
-use Rattle.std.specs.Prelude.{ℕ, zero, suc, ℤ, Bool, true, false, not, ◌||◌, List, [], ◌∷◌, Option, Some, None}
+use Rattle.std.specs.Prelude.{ℕ, zero, suc, ℤ, Bool, true, false, not, ◌||◌, if◌then◌else◌, List, [], ◌∷◌, Option, Some, None}
 use Rattle.mc_value.specs.Arithmetic.{are_equal}
 use Rattle.mc_typed.specs.declared.plans.Ending.TheVariants.{Fuel}
 use Rattle.mc_steps.specs.Runs.{Acts, gives, stops, after, spends}
-use Rattle.mc_steps.specs.Expressions.{is_true, where_true}
+use Rattle.mc_steps.specs.Expressions.{where_true}
 
 -- what a call gives: nothing, a number, or a structure of so many cells at a place
 pub data Given (P : Type 0) : Type 0 where
@@ -22,14 +22,6 @@ pub data Flow (P : Type 0) : Type 0 where
 abbrev pub Body : Type 0 → Type 0 → Type 0 → Type 0
 Body M E P = Acts M E (Flow P)
 
-module _ {M E : Type 0} where
-  -- a controlling expression that is absent counts as true (C17 6.8.5.3p2)
-  abbrev pub absent_test : Acts M E Bool
-  absent_test s = gives true s
-
-  abbrev pub test_does : Acts M E ℤ → Acts M E Bool
-  test_does e s = after (e s) (λ x s. gives (is_true x) s)
-
 module _ {M E P : Type 0} where
   -- ---- counted statements
 
@@ -43,19 +35,13 @@ module _ {M E P : Type 0} where
 
   -- ---- one after the other (C17 6.8p3, 6.8.2)
 
+  -- a jump passes over what follows
   abbrev pub where_completed : Flow P → Body M E P → Body M E P
   where_completed Completed next s = next s
-  where_completed Broke next s = gives Broke s
-  where_completed Continued next s = gives Continued s
-  where_completed (Left v) next s = gives (Left v) s
+  where_completed flow next s = gives flow s
 
   abbrev pub then_does : Body M E P → Body M E P → Body M E P
   then_does act next s = after (act s) (λ flow s. where_completed flow next s)
-
-  -- ---- selection (C17 6.8.4.1)
-
-  abbrev pub if_does : Acts M E ℤ → Body M E P → Body M E P → Body M E P
-  if_does test chosen other s = after (test s) (λ x s. where_true (is_true x) chosen other s)
 
   -- ---- loops (C17 6.8.5, 6.8.6.2, 6.8.6.3)
 
@@ -95,8 +81,7 @@ module _ {M E P : Type 0} where
 abbrev pub same_label : Option ℤ → Option ℤ → Bool
 same_label None None = true
 same_label (Some v) (Some w) = are_equal v w
-same_label None (Some w) = false
-same_label (Some v) None = false
+same_label l m = false
 
 abbrev pub has_label : Option ℤ → List (Option ℤ) → Bool
 has_label l [] = false
@@ -107,26 +92,18 @@ pub data Seek : Type 0 where
   Running : Seek
   For : Option ℤ → Seek
 
--- the label that a value leads to: its own, else `default`
-abbrev pub where_has : Bool → ℤ → Seek
-where_has true v = For (Some v)
-where_has false v = For None
-
+-- the label that a value leads to: its own, else `default` (C17 6.8.4.2p5)
 abbrev pub sought : ℤ → List (Option ℤ) → Seek
-sought v labels = where_has (has_label (Some v) labels) v
+sought v labels = if has_label (Some v) labels then For (Some v) else For None
 
 -- neither is there
 abbrev pub is_absent : ℤ → List (Option ℤ) → Bool
 is_absent v labels = not (has_label (Some v) labels || has_label None labels)
 
-abbrev pub where_same : Bool → Seek → Seek
-where_same true seek = Running
-where_same false seek = seek
-
 -- what comes of the search at a label
 abbrev pub at_label : Option ℤ → Seek → Seek
 at_label l Running = Running
-at_label l (For m) = where_same (same_label l m) (For m)
+at_label l (For m) = if same_label l m then Running else For m
 
 abbrev pub is_running : Seek → Bool
 is_running Running = true
@@ -136,8 +113,7 @@ module _ {M E P : Type 0} where
   -- Where the items run from a label on, or ran before it, `mark` is told which: whether the label
   -- was chosen.
   abbrev pub label_does :
-      (Bool → Acts M E (Unit {0})) → Option ℤ → Seek → (Seek → Body M E P) →
-      Body M E P
+      (Bool → Acts M E (Unit {0})) → Option ℤ → Seek → (Seek → Body M E P) → Body M E P
   label_does mark l seek next s =
       where_true (is_running (at_label l seek))
       (λ s. after (mark (not (is_running seek)) s) (λ _ s. next (at_label l seek) s))

@@ -15,7 +15,7 @@ use Rattle.mc_steps.specs.Expressions.{output_does}
 use Rattle.mc_steps.specs.Statements.{Given}
 use Rattle.mc_steps.specs.Calls.{call_does}
 use Rattle.mc_meaning.specs.Stores.{Path, Store}
-use Rattle.mc_meaning.specs.Expressions.{Does}
+use Rattle.mc_meaning.specs.Within.{Does}
 use Rattle.mc_steps.specs.Events.{Event, Entered, Exited, Started, Chosen}
 use Rattle.mc_meaning.specs.Tests.{plain_state}
 use Rattle.tests_meaning.specs.Words.{here, local, static, int, read, var, num, two, conj, disj, choice, does, set, add, take, gives, when, while, plain, with_number, declares, function, of_ints, program, block, select, case, default, stop}

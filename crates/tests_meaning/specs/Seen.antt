@@ -6,7 +6,7 @@ use Rattle.mc_typed.specs.declared.plans.Ending.{Ending}
 use Rattle.mc_typed.specs.declared.plans.Ending.TheVariants as ending
 use Rattle.mc_typed.specs.Tree.{Program}
 use Rattle.mc_typed.specs.Plans.{Plan}
-use Rattle.mc_steps.specs.Calls.{TestRun}
+use Rattle.mc_steps.specs.Tests.{TestRun}
 use Rattle.mc_meaning.specs.Stores.{Store}
 use Rattle.mc_steps.specs.Events.{Event, Evaluated}
 use Rattle.mc_meaning.specs.Tests.{plain_run}

@@ -5,7 +5,7 @@ use Rattle.mc_typed.specs.Tree.{Program}
 use Rattle.mc_typed.specs.Plans.{Plan}
 use Rattle.mc_roots.specs.Decisions.{Decision}
 use Rattle.mc_roots.specs.steps.Walk.{decided}
-use Rattle.mc_steps.specs.Calls.{TestRun}
+use Rattle.mc_steps.specs.Tests.{TestRun}
 use Rattle.mc_probe.specs.Obligations.{entries_of, exits_of, statements_of, labels_of}
 use Rattle.mc_probe.specs.Maps.{Mapped, Map, image}
 use Rattle.mc_probe.specs.Table.{instrumented}

@@ -2,7 +2,8 @@ use Rattle.std.proofs.Common.{◌+◌, map, drop, Some, None, option_map, sym, �
 use Rattle.mc_typed.specs.Sound.{type_of}
 use Rattle.mc_typed.specs.Views as plain
 use Rattle.mc_steps.specs.Runs.{gives}
-use Rattle.mc_steps.specs.Statements.{Completed, test_does}
+use Rattle.mc_steps.specs.Statements.{Completed}
+use Rattle.mc_steps.specs.Expressions.{as_does, is_true}
 use Rattle.mc_words.specs.Words.{number_of}
 use Rattle.mc_probe.specs.Expressions.{value_of}
 use Rattle.mc_probe.specs.Probes.{mark_does}
@@ -409,7 +410,7 @@ act-returns-in-Some-clause-did g t c =
     let W = activation_of c.args.frame.now in
     let k = rw c.deref-in-DoWhile.ensures at c.in_ok-ended-in-DoWhile.ensures.did in
     rw (c.in-DoWhile.is, view_do)
-    (did_do_out M N J (does.statement_of W (view.statement_of c.in-DoWhile.body.value)) (test_does (value_of W (view.expression_of c.in-DoWhile.test))) (state_of c.args.store.now)
+    (did_do_out M N J (does.statement_of W (view.statement_of c.in-DoWhile.body.value)) (as_does is_true (value_of W (view.expression_of c.in-DoWhile.test))) (state_of c.args.store.now)
     c.in_ok-ended-in-DoWhile.ended _ _ _ k c.in-Some.end (sym c.loop_end.ensures ∙ c.in-Some.is))
 
 pub act-returns-in-Some-clause-typed : goal.act-returns-in-Some-clause-typed
@@ -423,7 +424,7 @@ act-returns-in-None-clause-did g t c =
     let k = rw c.deref-in-DoWhile.ensures at c.in_ok-ended-in-DoWhile.ensures.did in
     let a = rw c.deref-in-None.ensures at c.repeat-in-None.ensures.did in
     rw (c.in-DoWhile.is, view_do)
-    (did_do M N J (does.statement_of W (view.statement_of c.in-DoWhile.body.value)) (test_does (value_of W (view.expression_of c.in-DoWhile.test))) (state_of c.args.store.now)
+    (did_do M N J (does.statement_of W (view.statement_of c.in-DoWhile.body.value)) (as_does is_true (value_of W (view.expression_of c.in-DoWhile.test))) (state_of c.args.store.now)
     c.in_ok-ended-in-DoWhile.ended _ _ _ k _ _ _ (sym c.loop_end.ensures ∙ c.in-None.is) a)
 
 pub act-returns-in-None-clause-kept : goal.act-returns-in-None-clause-kept

@@ -2,7 +2,7 @@ use Rattle.std.proofs.Common.{◌≡◌, ℕ, ℤ, Some, None, ap}
 use Rattle.mc_value.specs.declared.int_type.IntType.{IntType}
 use Rattle.mc_typed.specs.Tree as t
 use Rattle.mc_steps.specs.Calls.{number_given}
-use Rattle.mc_steps.specs.Calls as steps
+use Rattle.mc_steps.specs.Tests as steps
 use Rattle.mc_steps.specs.Runs.{Run, State, after, gives}
 use Rattle.mc_steps.specs.Statements.{Given}
 use Rattle.mc_probe.specs.Flat.{Flat}

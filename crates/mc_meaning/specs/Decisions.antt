@@ -1,0 +1,71 @@
+-- How decisions are evaluated, and their events (DO-178C, glossary); the event of a label.
+use Rattle.std.specs.Prelude.{ℕ, ℤ, Bool, true, false, List, [], ◌∷◌, ◌++◌, replicate, Some, None}
+use Rattle.mc_value.specs.Conversions.{is_zero}
+use Rattle.mc_value.specs.Arithmetic.{truth}
+use Rattle.mc_cond.specs.Order.{Answer}
+use Rattle.mc_cond.specs.Vectors.{Evaluation}
+use Rattle.mc_typed.specs.Tree.{Expression}
+use Rattle.mc_roots.specs.declared.role.Role.{Role}
+use Rattle.mc_roots.specs.Nodes as n
+use Rattle.mc_roots.specs.Roots.{is_root, operand_role}
+use Rattle.mc_roots.specs.Conditions.{width}
+use Rattle.mc_steps.specs.Runs.{gives, lists, after}
+use Rattle.mc_steps.specs.Events.{Chosen, Evaluated}
+use Rattle.mc_steps.specs.Expressions.{is_true, as_does}
+use Rattle.mc_meaning.specs.Within.{Does, Within}
+use Rattle.mc_meaning.specs.Positions.{into}
+
+-- what an expression gives: its value, and the answers of its conditions
+pub record Judged : Type 0 where
+  pub value : ℤ
+  pub answers : List Answer
+
+abbrev pub value : Does Judged → Does ℤ
+value e s = as_does (λ j. j.value) e s
+
+-- an expression with another top operator than `!`, `&&` and `||` is one condition
+abbrev pub as_condition : ℤ → Judged
+as_condition v = record { value = v; answers = Some (is_true v) ∷ [] }
+
+-- C17 6.5.3.3p5
+abbrev pub negated : Judged → Judged
+negated j = record { value = truth (is_zero j.value); answers = j.answers }
+
+abbrev pub holds : Judged → Bool
+holds j = is_true j.value
+
+-- the conditions of the second operand are not evaluated
+abbrev pub first_alone : Expression → Judged → Judged
+first_alone f j = record {
+  value = truth (holds j);
+  answers = j.answers ++ replicate (width (n.expression f)) None;
+}
+
+abbrev pub both : Judged → Judged → Judged
+both j k = record { value = truth (holds k); answers = j.answers ++ k.answers }
+
+abbrev pub vector_of : Judged → Evaluation
+vector_of j = record { answers = j.answers; outcome = holds j }
+
+-- the event of a decision, once its outcome is known
+abbrev pub tells : ℕ → Judged → Does Judged
+tells d j s = after (lists (Evaluated d (vector_of j) ∷ []) s) (λ _ s. gives j s)
+
+abbrev pub where_root : Bool → ℕ → Does Judged → Does Judged
+where_root true d e s = after (e s) (tells d)
+where_root false d e s = e s
+
+-- An expression that is a root is a decision. Its operands get the role in which those of `!`, `&&`
+-- and `||` stand in it.
+abbrev pub decides : Role → Expression → Within → (Role → Within → Does Judged) → Does Judged
+decides role e w operands s =
+    where_root (is_root role (n.expression e)) w.decisions
+    (operands (operand_role role (n.expression e)) (into role e w)) s
+
+abbrev pub condition : Role → Expression → Within → (Within → Does ℤ) → Does Judged
+condition role e w operands s = decides role e w (λ r w. as_does as_condition (operands w)) s
+
+-- the event of a label, where the `switch` chose it
+abbrev pub choose : ℕ → Bool → Does (Unit {0})
+choose label true s = lists (Chosen label ∷ []) s
+choose label false s = gives tt s
