@@ -13,7 +13,7 @@ ghost use Rattle.mc_interp.specs.Typed.{into_of, result_in, AreSomeArguments, Ar
 ghost use Rattle.mc_interp.specs.Frames.{activation_of, scope_in, IsReady, IsKept};
 ghost use Rattle.mc_interp.specs.Calls.{Invokes, IsResultOf};
 ghost use Rattle.mc_interp.specs.Truths as truths;
-ghost use Rattle.mc_steps.specs.Expressions.{as_does, is_true};
+ghost use Rattle.mc_steps.specs.Expressions as steps;
 
 use crate::frame::{Called, Frame};
 use crate::steps::goes_on;
@@ -113,7 +113,7 @@ pub(crate) fn truth<P: Probe, F: Fn(Called<'_, '_>, &mut Store, &mut P) -> Optio
     requires fits { Fits frame.now.function.now.registers (view.expression_of e.now) }
     requires ready { IsReady frame.now store.old (P.bits probe.old) }
     requires invokes { Invokes frame.now P.bits P.leads (F.pre invoke) (F.post invoke) }
-    ensures did { Did P.leads (as_does is_true (does.value_of (activation_of frame.now)
+    ensures did { Did P.leads (steps.as_does steps.is_true (does.value_of (activation_of frame.now)
         (view.expression_of e.now)) (state_of store.old)) result store.new probe.old probe.new }
     ensures kept { IfSome result (λ _. IsKept (scope_in frame.now) (activation_of frame.now)
         store.old store.new) }
