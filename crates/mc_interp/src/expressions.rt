@@ -72,6 +72,7 @@ fn comparison(operator: Operator) -> Option<BinOp>
 
 /// The value of an expression.
 #[cycle(expressions)]
+#[inline(always)]
 pub(crate) fn value<P: Probe, F: Fn(Called<'_, '_>, &mut Store, &mut P) -> Option<()> + Copy>(
     e: &Expression,
     frame: &Frame<'_, '_>,
@@ -195,6 +196,7 @@ pub(crate) fn truth<P: Probe, F: Fn(Called<'_, '_>, &mut Store, &mut P) -> Optio
 /// The value of an expression that gives no truth value by its form. Constants and scalars of the
 /// activation, which most operands are, are read without a further call.
 #[cycle(expressions)]
+#[inline(always)]
 fn other<P: Probe, F: Fn(Called<'_, '_>, &mut Store, &mut P) -> Option<()> + Copy>(
     e: &Expression,
     frame: &Frame<'_, '_>,

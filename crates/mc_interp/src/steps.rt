@@ -28,6 +28,7 @@ use mc_words::{convert, is_signed, operate};
 
 impl Store {
     /// The run stops in a trap.
+    #[cold]
     #[inline(never)]
     fn trap(&mut self, trap: Trap)
         ensures ending { self.new ≡ record self.old { ending = Ending.Trap trap } }
@@ -53,6 +54,7 @@ impl Store {
     }
 
     /// What an operator gave, or the run stops in its trap.
+    #[inline(always)]
     pub(crate) fn give(&mut self, outcome: Result<u64, Trap>) -> Option<u64>
         ensures ran { (t : IntType) → with_result (result_of t outcome) gives (state_of self.old)
             ≡ told (option_map (number_of t) result) self.new }
@@ -70,6 +72,7 @@ impl Store {
     }
 
     /// The word in a cell of this type, where it is set.
+    #[inline(always)]
     fn word_at(&self, at: u32, of: IntType) -> Option<u64>
         requires there { at < length self.now.cells.cells }
         requires typed { (v : ℤ) → slice_get self.now.cells.cells at ≡ Some (Some v) →
@@ -88,6 +91,7 @@ impl Store {
     }
 
     /// The value of a scalar of this type, which is set, or the run stops.
+    #[inline(always)]
     pub(crate) fn read(&mut self, at: u32, of: IntType) -> Option<u64>
         requires there { at < length self.old.cells.cells }
         requires typed { (v : ℤ) → slice_get self.old.cells.cells at ≡ Some (Some v) →
@@ -108,6 +112,7 @@ impl Store {
     }
 
     /// A cell gets a number of this type.
+    #[inline(always)]
     fn put(&mut self, at: u32, of: IntType, word: u64)
         requires { at < length self.old.cells.cells }
         ensures { self.new ≡ record self.old {
@@ -123,6 +128,7 @@ impl Store {
     }
 
     /// A scalar of this type gets a value.
+    #[inline(always)]
     pub(crate) fn write(&mut self, at: u32, of: IntType, word: u64)
         requires there { at < length self.old.cells.cells }
         requires fits { Holds of word }
@@ -136,6 +142,7 @@ impl Store {
     }
 
     /// A compound assignment to a scalar, whose right side has this value.
+    #[inline(always)]
     pub(crate) fn update(
         &mut self,
         at: u32,
