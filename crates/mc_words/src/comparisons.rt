@@ -8,7 +8,7 @@ use crate::words::is_signed;
 use mc_value::{BinOp, IntType};
 
 /// Whether a comparison of two values of a type holds.
-#[inline]
+#[inline(always)]
 pub fn compare(operator: BinOp, of: IntType, left: u64, right: u64) -> bool
     requires { compares operator ≡ true }
     ensures { binary_of operator of (number_of of left) (number_of of right) ≡ Ok (truth result) }

@@ -15,7 +15,7 @@ use mc_typed::Operator;
 use mc_value::{BinOp, IntType, Trap, UnOp};
 
 /// What an operator gives for two values of the promoted type `of`, or its trap.
-#[inline]
+#[inline(always)]
 pub fn binary(operator: BinOp, of: IntType, left: u64, right: u64) -> Result<u64, Trap>
     requires type_promoted { promoted of ≡ of }
     requires left { Holds of left }
@@ -40,7 +40,7 @@ pub fn binary(operator: BinOp, of: IntType, left: u64, right: u64) -> Result<u64
 }
 
 /// What an operator gives for a left operand of the promoted type `of`, or its trap.
-#[inline]
+#[inline(always)]
 pub fn operate(operator: Operator, of: IntType, left: u64, right: u64) -> Result<u64, Trap>
     requires type_promoted { promoted of ≡ of }
     requires left { Holds of left }
