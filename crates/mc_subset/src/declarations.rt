@@ -8,7 +8,7 @@ ghost use Rattle.mc_subset.specs.Forms.{first_outside};
 
 use crate::expressions::{declarator, expression, specifiers};
 use crate::rows::{declaration_form, has_extern, is_local, judge};
-use mc_forms::{Outside, Region, Role, Standing};
+use mc_forms::{Outside, Region, Role, Standing, first_of};
 use mc_tree::{Declaration, Expression, ForStart, InitDeclarator, Initializer};
 
 #[cycle(initializers)]
@@ -46,10 +46,8 @@ fn init_declarator(tree: &InitDeclarator<'_>, region: Region, external: bool) ->
             declarator: declared,
             value,
         } => {
-            if let Some(first) = declarator(declared, region, is_local(region), external) {
-                return Some(first);
-            }
-            initializer(value, region)
+            let first = declarator(declared, region, is_local(region), external);
+            first_of(first, initializer(value, region))
         }
     }
 }
@@ -75,13 +73,11 @@ pub(crate) fn declaration(
     ensures { let all = n.nodes_of_declaration region standing (declaration_of tree.now) in
         result ≡ first_outside all }
 {
-    if let Some(first) = judge(declaration_form(standing), tree.span) {
-        return Some(first);
-    }
-    if let Some(first) = specifiers(&tree.specifiers, region) {
-        return Some(first);
-    }
-    init_declarators(&tree.declarators, region, has_extern(&tree.specifiers))
+    let first = judge(declaration_form(standing), tree.span);
+    let second = specifiers(&tree.specifiers, region);
+    let external = has_extern(&tree.specifiers);
+    let third = init_declarators(&tree.declarators, region, external);
+    first_of(first, first_of(second, third))
 }
 
 pub(crate) fn optional(tree: &Option<Box<Expression<'_>>>, role: Role) -> Option<Outside>
@@ -115,11 +111,7 @@ pub(crate) fn for_parts(
         let third = option_of step.now in
         result ≡ first_outside (n.nodes_of_parts (start_of start.now) second third) }
 {
-    if let Some(first) = for_start(start) {
-        return Some(first);
-    }
-    if let Some(first) = optional(test, Role::Part) {
-        return Some(first);
-    }
-    optional(step, Role::ForPart)
+    let second = optional(test, Role::Part);
+    let third = optional(step, Role::ForPart);
+    first_of(for_start(start), first_of(second, third))
 }

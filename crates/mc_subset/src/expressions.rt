@@ -12,7 +12,7 @@ use crate::rows::{
     closing_of, expression_form, function_form, has_extern, judge, member_form, object_form,
     pointer_form, tag_form,
 };
-use mc_forms::{Form, Outside, Region, Role};
+use mc_forms::{Form, Outside, Region, Role, first_of};
 use mc_span::Span;
 use mc_tree::{ArrayLength, Declarator, Enumerator, Expression, Member, Parameter, Specifier};
 
@@ -21,10 +21,8 @@ use mc_tree::{ArrayLength, Declarator, Enumerator, Expression, Member, Parameter
 pub(crate) fn expression(tree: &Expression<'_>, region: Region, role: Role) -> Option<Outside>
     ensures { result ≡ first_outside (n.nodes_of_expression region role (expression_of tree.now)) }
 {
-    if let Some(first) = judge(expression_form(tree, role), tree.span()) {
-        return Some(first);
-    }
-    parts_of_expression(tree, region, role)
+    let first = judge(expression_form(tree, role), tree.span());
+    first_of(first, parts_of_expression(tree, region, role))
 }
 
 #[cycle(check)]
@@ -39,12 +37,10 @@ fn parts_of_expression(tree: &Expression<'_>, region: Region, role: Role) -> Opt
             None,
         Expression::Parenthesized { inner, .. } => expression(inner, region, role.in_parentheses()),
         Expression::Call { arguments, .. } => expressions(arguments, region, Role::Part),
-        Expression::Index { array, index, .. } => {
-            if let Some(first) = expression(array, region, Role::Part) {
-                return Some(first);
-            }
-            expression(index, region, Role::Part)
-        }
+        Expression::Index { array, index, .. } => first_of(
+            expression(array, region, Role::Part),
+            expression(index, region, Role::Part),
+        ),
         Expression::Member { object, .. } => expression(object, region, Role::Part),
         Expression::PostfixStep { operand, .. }
         | Expression::PrefixStep { operand, .. }
@@ -56,37 +52,30 @@ fn parts_of_expression(tree: &Expression<'_>, region: Region, role: Role) -> Opt
             operand,
             ..
         } => {
-            if let Some(first) = type_name(words, *stars, *type_span, region) {
-                return Some(first);
-            }
-            expression(operand, region, Role::Part)
+            let first = type_name(words, *stars, *type_span, region);
+            first_of(first, expression(operand, region, Role::Part))
         }
-        Expression::Binary { left, right, .. } => {
-            if let Some(first) = expression(left, region, Role::Part) {
-                return Some(first);
-            }
-            expression(right, region, Role::Part)
-        }
+        Expression::Binary { left, right, .. } => first_of(
+            expression(left, region, Role::Part),
+            expression(right, region, Role::Part),
+        ),
         Expression::Conditional {
             test,
             chosen,
             other,
             ..
         } => {
-            if let Some(first) = expression(test, region, Role::Part) {
-                return Some(first);
-            }
-            if let Some(first) = expression(chosen, region, Role::Part) {
-                return Some(first);
-            }
-            expression(other, region, Role::Part)
+            let first = expression(test, region, Role::Part);
+            let second = expression(chosen, region, Role::Part);
+            first_of(
+                first,
+                first_of(second, expression(other, region, Role::Part)),
+            )
         }
-        Expression::Assignment { target, value, .. } => {
-            if let Some(first) = expression(target, region, Role::Part) {
-                return Some(first);
-            }
-            expression(value, region, Role::Part)
-        }
+        Expression::Assignment { target, value, .. } => first_of(
+            expression(target, region, Role::Part),
+            expression(value, region, Role::Part),
+        ),
         Expression::Comma { operands, .. } => expressions(operands, region, role.of_operands()),
     }
 }
@@ -110,10 +99,7 @@ fn type_name(words: &[Specifier<'_>], stars: u32, span: Span, region: Region) ->
     ensures { let type = t.type_name (specifiers_from (map specifier_of words.now)) stars span in
         result ≡ first_outside (n.nodes_of_type region type) }
 {
-    if let Some(first) = judge(pointer_form(stars), span) {
-        return Some(first);
-    }
-    specifiers(words, region)
+    first_of(judge(pointer_form(stars), span), specifiers(words, region))
 }
 
 #[cycle(check)]
@@ -139,22 +125,12 @@ fn specifier(tree: &Specifier<'_>, region: Region) -> Option<Outside>
             members: list,
             span,
             ..
-        } => {
-            if let Some(first) = judge(tag_form(region), *span) {
-                return Some(first);
-            }
-            members(list, region)
-        }
+        } => first_of(judge(tag_form(region), *span), members(list, region)),
         Specifier::Enumeration {
             enumerators: list,
             span,
             ..
-        } => {
-            if let Some(first) = judge(tag_form(region), *span) {
-                return Some(first);
-            }
-            enumerators(list, region)
-        }
+        } => first_of(judge(tag_form(region), *span), enumerators(list, region)),
         Specifier::Word { .. }
         | Specifier::TypedefName { .. }
         | Specifier::StructureTag { .. }
@@ -180,13 +156,11 @@ fn members(trees: &[Member<'_>], region: Region) -> Option<Outside>
 fn member(tree: &Member<'_>, region: Region) -> Option<Outside>
     ensures { result ≡ first_outside (n.nodes_of_member region (member_of tree.now)) }
 {
-    if let Some(first) = judge(member_form(&tree.specifiers), tree.span) {
-        return Some(first);
-    }
-    if let Some(first) = specifiers(&tree.specifiers, region) {
-        return Some(first);
-    }
-    declarators(&tree.declarators, region, has_extern(&tree.specifiers))
+    let first = judge(member_form(&tree.specifiers), tree.span);
+    let second = specifiers(&tree.specifiers, region);
+    let external = has_extern(&tree.specifiers);
+    let third = declarators(&tree.declarators, region, external);
+    first_of(first, first_of(second, third))
 }
 
 #[cycle(check)]
@@ -243,10 +217,8 @@ pub(crate) fn declarator(
             span,
             ..
         } => {
-            if let Some(first) = judge(object_form(*stars, external), *span) {
-                return Some(first);
-            }
-            lengths(list, region)
+            let first = judge(object_form(*stars, external), *span);
+            first_of(first, lengths(list, region))
         }
         Declarator::EmptyFunction {
             stars,
@@ -254,10 +226,9 @@ pub(crate) fn declarator(
             span,
             ..
         } => {
-            if let Some(first) = judge(function_form(*stars, local), *span) {
-                return Some(first);
-            }
-            judge(Some(Form::EmptyParameters), closing_of(*list_span))
+            let first = judge(function_form(*stars, local), *span);
+            let second = judge(Some(Form::EmptyParameters), closing_of(*list_span));
+            first_of(first, second)
         }
         Declarator::VoidFunction { stars, span, .. } => judge(function_form(*stars, local), *span),
         Declarator::Function {
@@ -266,10 +237,8 @@ pub(crate) fn declarator(
             span,
             ..
         } => {
-            if let Some(first) = judge(function_form(*stars, local), *span) {
-                return Some(first);
-            }
-            parameters(list)
+            let first = judge(function_form(*stars, local), *span);
+            first_of(first, parameters(list))
         }
     }
 }
@@ -319,11 +288,8 @@ fn parameters(trees: &[Parameter<'_>]) -> Option<Outside>
 fn parameter(tree: &Parameter<'_>) -> Option<Outside>
     ensures { result ≡ first_outside (n.nodes_of_parameter (parameter_of tree.now)) }
 {
-    if let Some(first) = judge(pointer_form(tree.stars), tree.span) {
-        return Some(first);
-    }
-    if let Some(first) = specifiers(&tree.specifiers, Region::Function) {
-        return Some(first);
-    }
-    lengths(&tree.lengths, Region::Function)
+    let first = judge(pointer_form(tree.stars), tree.span);
+    let second = specifiers(&tree.specifiers, Region::Function);
+    let third = lengths(&tree.lengths, Region::Function);
+    first_of(first, first_of(second, third))
 }

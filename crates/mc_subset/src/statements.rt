@@ -11,7 +11,7 @@ ghost use Rattle.mc_subset.specs.Forms.{first_outside};
 use crate::declarations::{declaration, for_parts, optional};
 use crate::expressions::expression;
 use crate::rows::{judge, standing_from, statement_form};
-use mc_forms::{Outside, Region, Role, Standing};
+use mc_forms::{Outside, Region, Role, Standing, first_of};
 use mc_tree::{BlockItem, Statement};
 
 #[cycle(check)]
@@ -19,10 +19,8 @@ use mc_tree::{BlockItem, Statement};
 fn statement(tree: &Statement<'_>, standing: Standing) -> Option<Outside>
     ensures { result ≡ first_outside (n.nodes_of_statement standing (statement_of tree.now)) }
 {
-    if let Some(first) = judge(statement_form(tree, standing), tree.span()) {
-        return Some(first);
-    }
-    parts_of_statement(tree, standing)
+    let first = judge(statement_form(tree, standing), tree.span());
+    first_of(first, parts_of_statement(tree, standing))
 }
 
 #[cycle(check)]
@@ -38,62 +36,49 @@ fn parts_of_statement(tree: &Statement<'_>, standing: Standing) -> Option<Outsid
         | Statement::Break { .. }
         | Statement::Continue { .. } => None,
         Statement::Expression { value, .. } => expression(value, Region::Function, Role::Statement),
-        Statement::If { test, chosen, .. } => {
-            if let Some(first) = expression(test, Region::Function, Role::Part) {
-                return Some(first);
-            }
-            statement(chosen, Standing::Elsewhere)
-        }
+        Statement::If { test, chosen, .. } => first_of(
+            expression(test, Region::Function, Role::Part),
+            statement(chosen, Standing::Elsewhere),
+        ),
         Statement::IfElse {
             test,
             chosen,
             other,
             ..
         } => {
-            if let Some(first) = expression(test, Region::Function, Role::Part) {
-                return Some(first);
-            }
-            if let Some(first) = statement(chosen, Standing::Elsewhere) {
-                return Some(first);
-            }
-            statement(other, Standing::Elsewhere)
+            let first = expression(test, Region::Function, Role::Part);
+            let second = statement(chosen, Standing::Elsewhere);
+            first_of(
+                first,
+                first_of(second, statement(other, Standing::Elsewhere)),
+            )
         }
-        Statement::Switch { value, body, .. } => {
-            if let Some(first) = expression(value, Region::Function, Role::Part) {
-                return Some(first);
-            }
-            statement(body, Standing::Body)
-        }
-        Statement::While { test, body, .. } => {
-            if let Some(first) = expression(test, Region::Function, Role::Part) {
-                return Some(first);
-            }
-            statement(body, Standing::Elsewhere)
-        }
-        Statement::DoWhile { body, test, .. } => {
-            if let Some(first) = statement(body, Standing::Elsewhere) {
-                return Some(first);
-            }
-            expression(test, Region::Function, Role::Part)
-        }
+        Statement::Switch { value, body, .. } => first_of(
+            expression(value, Region::Function, Role::Part),
+            statement(body, Standing::Body),
+        ),
+        Statement::While { test, body, .. } => first_of(
+            expression(test, Region::Function, Role::Part),
+            statement(body, Standing::Elsewhere),
+        ),
+        Statement::DoWhile { body, test, .. } => first_of(
+            statement(body, Standing::Elsewhere),
+            expression(test, Region::Function, Role::Part),
+        ),
         Statement::For {
             start,
             test,
             step,
             body,
             ..
-        } => {
-            if let Some(first) = for_parts(start, test, step) {
-                return Some(first);
-            }
-            statement(body, Standing::Elsewhere)
-        }
-        Statement::Case { value, body, .. } => {
-            if let Some(first) = expression(value, Region::Function, Role::Part) {
-                return Some(first);
-            }
-            statement(body, standing)
-        }
+        } => first_of(
+            for_parts(start, test, step),
+            statement(body, Standing::Elsewhere),
+        ),
+        Statement::Case { value, body, .. } => first_of(
+            expression(value, Region::Function, Role::Part),
+            statement(body, standing),
+        ),
         Statement::Default { body, .. } => statement(body, standing),
         Statement::Label { body, .. } => statement(body, Standing::Elsewhere),
         Statement::Return { value, .. } => optional(value, Role::Part),

@@ -47,14 +47,10 @@ fn item(tree: &Item<'_>) -> Option<Outside>
             body,
             ..
         } => {
-            if let Some(first) = specifiers(words, Region::Function) {
-                return Some(first);
-            }
+            let first = specifiers(words, Region::Function);
             let external = has_extern(words);
-            if let Some(first) = declarator(declared, Region::Function, false, external) {
-                return Some(first);
-            }
-            block(body, Standing::Elsewhere)
+            let second = declarator(declared, Region::Function, false, external);
+            first_of(first, first_of(second, block(body, Standing::Elsewhere)))
         }
     }
 }
