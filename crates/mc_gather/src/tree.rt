@@ -1,6 +1,6 @@
 //! The tree of a decision, from its root.
 ghost use Rattle.std.specs.Prelude.{◌≡◌, ◌+◌, ◌++◌, ◌∷◌, ◌≤◌, [], length, IfOk};
-ghost use Rattle.mc_cond.specs.Tree.{tree_of, Leaf};
+ghost use Rattle.mc_cond.specs.Tree.{tree_of, Leaf, Not};
 ghost use Rattle.mc_typed.specs.Levels.{limited};
 ghost use Rattle.mc_typed.specs.Views.{expression_of};
 ghost use Rattle.mc_roots.specs.Nodes.{expression};
@@ -47,8 +47,8 @@ pub(crate) fn build(
 {
     match tree {
         Expression::Not { operand, .. } => {
-            let operand = Box::new(alloc, build(alloc, operand, before)?)?;
-            Ok(CondTree::Not(operand))
+            let operand = build(alloc, operand, before)?;
+            negate(alloc, operand)
         }
         Expression::Logic {
             operator,
@@ -58,8 +58,7 @@ pub(crate) fn build(
         } => {
             let left = build(alloc, left, before)?;
             let right = build(alloc, right, before)?;
-            let tree = join(alloc, *operator, left, right)?;
-            Ok(tree)
+            join(alloc, *operator, left, right)
         }
         Expression::Probe { operand, .. } => build(alloc, operand, before),
         Expression::Constant { .. }
@@ -71,6 +70,13 @@ pub(crate) fn build(
         | Expression::Call { .. }
         | Expression::Input { .. } => condition(tree.span(), before),
     }
+}
+
+fn negate(alloc: Global, operand: CondTree) -> Result<CondTree, AllocError>
+    ensures { IfOk result (λ t. tree_of t ≡ Not (tree_of operand)) }
+{
+    let operand = Box::new(alloc, operand)?;
+    Ok(CondTree::Not(operand))
 }
 
 fn join(
