@@ -1,10 +1,12 @@
 //! Statements on the heap, and of those an `if`.
+ghost use Rattle.std.specs.Prelude.{◌≡◌};
 ghost use Rattle.mc_tree.specs.Tree as t;
 ghost use Rattle.mc_tree.specs.Tree.{span_of_statement};
 ghost use Rattle.mc_tree.specs.Units.{statement_of, value_of};
 ghost use Rattle.mc_grammar.specs.Places as places;
 ghost use Rattle.mc_makers.specs.Made.{IsMade, body_of};
 
+use crate::values::on_heap;
 use mc_cursor::fault::Fault;
 use mc_cursor::to;
 use mc_span::Span;
@@ -16,7 +18,14 @@ use std::alloc::Global;
 pub fn boxed<'a>(alloc: Global, statement: Statement<'a>) -> Result<Box<Statement<'a>>, Fault>
     ensures { IsMade (statement_of statement.entry) result }
 {
-    Ok(Box::new(alloc, statement)?)
+    on_heap(alloc, statement)
+}
+
+/// Where a statement on the heap stands.
+pub fn place_of(statement: &Box<Statement<'_>>) -> Span
+    ensures { result ≡ span_of_statement (body_of statement.now) }
+{
+    statement.span()
 }
 
 #[inline(never)]
@@ -30,7 +39,7 @@ pub fn if_only<'a>(
         (t.If (value_of test.entry) (body_of chosen.entry)
         (places.to first (span_of_statement (body_of chosen.entry)))) result }
 {
-    let span = to(first, chosen.span());
+    let span = to(first, place_of(&chosen));
     boxed(alloc, Statement::If { test, chosen, span })
 }
 
@@ -45,7 +54,7 @@ pub fn if_else<'a>(
     ensures { IsMade (t.IfElse (value_of test.entry) (body_of chosen.entry) (body_of other.entry)
         (places.to first (span_of_statement (body_of other.entry)))) result }
 {
-    let span = to(first, other.span());
+    let span = to(first, place_of(&other));
     let statement = Statement::IfElse {
         test,
         chosen,

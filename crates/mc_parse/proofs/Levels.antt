@@ -8,7 +8,7 @@ use Rattle.mc_tree.specs.Units.{block_from}
 use Rattle.mc_grammar.specs.Words.{Lexeme, sees}
 use Rattle.mc_grammar.specs.Nonterminal as n
 use Rattle.mc_grammar.specs.Places.{to}
-use Rattle.mc_grammar.specs.steps.Parsers.{Parser, ◌>>=◌, and_then, expect, pure, take}
+use Rattle.mc_grammar.specs.steps.Parsers.{Parser, ◌>>=◌, and_then, expect, expect_keyword, pure, take}
 use Rattle.mc_reading.specs.Rooms.{reading}
 use Rattle.mc_reading.specs.Items.{body_of}
 use Rattle.mc_reading.specs.Statements as spec
@@ -22,6 +22,24 @@ after : {A B C : Type 0} (one : A → Parser B) (next : B → Parser C) (both : 
     → and_then read both ≡ and_then (and_then read one) next
 after one next both None e = refl
 after one next both (Some p) e = e p.0 p.1
+
+-- readers that agree after the same agree
+each : {A B : Type 0} (one other : A → Parser B) (read : Option (A × List Lexeme))
+    → ((a : A) (ts : List Lexeme) → one a ts ≡ other a ts) → and_then read one ≡ and_then read other
+each one other None e = refl
+each one other (Some p) e = e p.0 p.1
+
+-- a reader after another and its end, of which only the first is kept, is a reader after both
+after_both : {A B C D : Type 0} (one : A → Parser C) (next : C → Parser D) (both : A → Parser D) (read : Option (A × List Lexeme)) (closing : Parser B)
+    → ((a : A) (ts : List Lexeme) → both a ts ≡ and_then (one a ts) next)
+    → and_then read (λ a. closing >>= (λ b. both a)) ≡ and_then (and_then (and_then read (λ a. closing >>= (λ b. pure a))) one) next
+after_both one next both None closing e = refl
+after_both {B = B} one next both (Some p) closing e = by_closing (closing p.1)
+  where
+    by_closing : (last : Option (B × List Lexeme))
+        → and_then last (λ b. both p.0) ≡ and_then (and_then (and_then last (λ b. pure p.0)) one) next
+    by_closing None = refl
+    by_closing (Some q) = e p.0 q.1
 
 -- a whole statement has no rest
 alone : (room : ℕ) (statement : Parser t.Statement) (read : Option (t.Statement × List Lexeme))
@@ -46,11 +64,13 @@ split room statement spec.default_ ts = after _ _ _ (take ts) (λ x left. after 
 split room statement spec.if_ ts = after _ _ _ (take ts) (λ x left. after _ _ _ (test_of (reading room) left) (λ a l. refl))
 split room statement spec.switch ts = after _ _ _ (take ts) (λ x left. after _ _ _ (test_of (reading room) left) (λ a l. refl))
 split room statement spec.while ts = after _ _ _ (take ts) (λ x left. after _ _ _ (test_of (reading room) left) (λ a l. refl))
-split room statement spec.do_ ts = after _ _ _ (take ts) (λ x left. refl)
+split room statement spec.do_ ts = after _ _ _ (take ts) (λ x left. each _ _ (statement left) (λ s l.
+    after _ _ _ (expect_keyword (codes "while") l) (λ y a. after _ _ _ (test_of (reading room) a) (λ test b.
+    after _ _ _ (expect (codes ";") b) (λ z c. refl)))))
 split room statement spec.for_ ts =
     after _ _ _ (take ts) (λ x a. after _ _ _ (expect (codes "(") a) (λ y b. after _ _ _ (spec.for_start_of room b) (λ start c.
-    after _ _ _ (optional_of (codes ";") (reading room) c) (λ test d. after _ _ _ (expect (codes ";") d) (λ z e.
-    after _ _ _ (optional_of (codes ")") (reading room) e) (λ step g. after _ _ _ (expect (codes ")") g) (λ v h. refl)))))))
+    after_both _ _ _ (optional_of (codes ";") (reading room) c) (expect (codes ";")) (λ test e.
+    after_both _ _ _ (optional_of (codes ")") (reading room) e) (expect (codes ")")) (λ step h. refl)))))
 
 -- a statement, by its front
 by_front : (room : ℕ) (statement : Parser t.Statement) (ts : List Lexeme)

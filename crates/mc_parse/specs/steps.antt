@@ -2,4 +2,5 @@
 -- mc_grammar. A statement is read by its front, the statements that are its parts, and its end.
 pub mod Made
 pub mod Fronts
+pub mod Headed
 pub mod Wholes

@@ -7,6 +7,7 @@ ghost use Rattle.mc_grammar.specs.Places as places;
 ghost use Rattle.mc_reading.specs.Items as spec;
 ghost use Rattle.mc_cursor.specs.Cursors.{Gives, left_of};
 ghost use Rattle.mc_descent.specs.Heads.{words_of};
+ghost use Rattle.mc_parse.specs.steps.Headed.{head_item_of};
 ghost use Rattle.mc_parse.specs.steps.Made.{block_of};
 
 use crate::statements::blocks::{Block, compound};
@@ -63,6 +64,58 @@ fn defined<'a>(
     Ok(definition(head, declarator, block))
 }
 
+/// A declaration without a declarator, whose specifiers are read.
+#[inline(never)]
+fn undeclared_item<'a>(
+    alloc: Global,
+    head: Head<'a>,
+    tokens: &mut Cursor<'_, 'a>,
+) -> Result<Item<'a>, Fault>
+    ensures { Gives item_of (spec.undeclared_item_of head.entry.start (words_of head.entry)
+        (left_of tokens.old)) result (left_of tokens.new) }
+{
+    let declaration = undeclared(alloc, head, tokens)?;
+    Ok(Item::Declared { declaration })
+}
+
+/// A declaration whose first declarator is read.
+#[inline(never)]
+fn declared_item<'a>(
+    alloc: Global,
+    room: u32,
+    head: Head<'a>,
+    declarator: Declarator<'a>,
+    tokens: &mut Cursor<'_, 'a>,
+) -> Result<Item<'a>, Fault>
+    requires { room ≤ 1000 }
+    ensures { Gives item_of (spec.declaration_item_of room head.entry.start (words_of head.entry)
+        (declarator_of declarator.entry) (left_of tokens.old)) result (left_of tokens.new) }
+{
+    let typedef = is_typedef(&head.specifiers);
+    let declaration = declared(alloc, typedef, room, head, declarator, tokens)?;
+    Ok(Item::Declared { declaration })
+}
+
+/// An external declaration with a declarator, whose specifiers are read.
+#[inline(never)]
+fn after_head<'a>(
+    alloc: Global,
+    room: u32,
+    head: Head<'a>,
+    tokens: &mut Cursor<'_, 'a>,
+) -> Result<Item<'a>, Fault>
+    requires { room ≤ 1000 }
+    ensures { Gives item_of (head_item_of room head.entry.start (words_of head.entry)
+        (left_of tokens.old)) result (left_of tokens.new) }
+{
+    let declarator = declarator(alloc, tokens, room)?;
+    if tokens.sees(b"{") {
+        defined(alloc, room, head, declarator, tokens)
+    } else {
+        declared_item(alloc, room, head, declarator, tokens)
+    }
+}
+
 /// Reads an external declaration of fewer than `room` levels.
 #[inline(never)]
 #[tactic(auto, unfolding(mc_reading::specs::Items::item_of))]
@@ -72,18 +125,12 @@ fn item<'a>(alloc: Global, room: u32, tokens: &mut Cursor<'_, 'a>) -> Result<Ite
 {
     let start = tokens.first()?;
     let specifiers = specifiers(alloc, tokens, room, Allowed::Item)?;
-    let typedef = is_typedef(&specifiers);
     let head = Head { start, specifiers };
     if tokens.sees(b";") {
-        let declaration = undeclared(alloc, head, tokens)?;
-        return Ok(Item::Declared { declaration });
+        undeclared_item(alloc, head, tokens)
+    } else {
+        after_head(alloc, room, head, tokens)
     }
-    let declarator = declarator(alloc, tokens, room)?;
-    if tokens.sees(b"{") {
-        return defined(alloc, room, head, declarator, tokens);
-    }
-    let declaration = declared(alloc, typedef, room, head, declarator, tokens)?;
-    Ok(Item::Declared { declaration })
 }
 
 #[tactic(auto, using(mc_descent::proofs::Lists::map_push))]
@@ -91,7 +138,7 @@ fn push<'a>(all: &mut Vec<Item<'a>>, one: Item<'a>) -> Result<(), AllocError>
     ensures { IfOk result (λ _. items_of all.new.items ≡ items_of all.old.items ++ item_of one.entry
         ∷ []) }
 {
-    Ok(all.push(one)?)
+    mc_makers::values::push(all, one)
 }
 
 /// Reads external declarations of fewer than `room` levels, up to the end.

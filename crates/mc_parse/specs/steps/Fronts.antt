@@ -75,15 +75,20 @@ do_front = do
   x ← take
   pure (Part (Do (at x)))
 
+-- an expression that may be left out, and the punctuator after it
+abbrev pub ended_optional : List ℕ → ℕ → Parser (Option t.Expression)
+ended_optional stop room = do
+  a ← optional_of stop (reading room)
+  y ← expect stop
+  pure a
+
 abbrev pub for_front : ℕ → Parser Front
 for_front room = do
   x ← take
   y ← expect (codes "(")
   start ← spec.for_start_of room
-  a ← optional_of (codes ";") (reading room)
-  z ← expect (codes ";")
-  b ← optional_of (codes ")") (reading room)
-  v ← expect (codes ")")
+  a ← ended_optional (codes ";") room
+  b ← ended_optional (codes ")") room
   pure (Part (For (at x) start a b))
 
 -- the front, by what the next tokens begin
@@ -124,13 +129,19 @@ begins_front ts = if sees (codes ";") ts then spec.null
 unfoldable pub front_of : ℕ → Parser t.Statement → Parser Front
 front_of room statement = λ ts. front_by room statement (begins_front ts) ts
 
--- what ends a `do` after its statement
-abbrev pub do_rest : ℕ → Span → t.Statement → Parser t.Statement
-do_rest room first s = do
+-- the test of a `do`, and where it ends
+abbrev pub do_test : ℕ → Parser (t.Expression × Span)
+do_test room = do
   y ← expect_keyword (codes "while")
   a ← test_of (reading room)
   z ← expect (codes ";")
-  pure (t.DoWhile s a (to first (at z)))
+  pure (a, at z)
+
+-- what ends a `do` after its statement
+abbrev pub do_rest : ℕ → Span → t.Statement → Parser t.Statement
+do_rest room first s = do
+  p ← do_test room
+  pure (t.DoWhile s p.0 (to first p.1))
 
 -- the end of a statement after the one that is its part
 abbrev pub end_by : ℕ → Opening → t.Statement → Parser t.Statement

@@ -1,5 +1,6 @@
 -- What the functions that read statements return.
 use Rattle.std.specs.Prelude.{◌≡◌, map, Result, Ok, Err}
+use Rattle.mc_span.specs.declared.span.Span.{Span}
 use Rattle.mc_tree.specs.Tree as t
 use Rattle.mc_tree.specs.declared.statements.statement.Statement.{Statement}
 use Rattle.mc_tree.specs.Views.{name_of}
@@ -7,6 +8,7 @@ use Rattle.mc_tree.specs.Units.{block_item_of, option_of, start_of, value_of}
 use Rattle.mc_reading.specs.Statements as spec
 use Rattle.mc_cursor.specs.declared.fault.Fault.{Fault}
 use Rattle.mc_parse.specs.declared.statements.blocks.Block.{Block}
+use Rattle.mc_parse.specs.declared.statements.ends.Tested.{Tested}
 use Rattle.mc_parse.specs.declared.statements.front.Front as code
 use Rattle.mc_parse.specs.declared.statements.front.Front.TheVariants as front
 use Rattle.mc_parse.specs.declared.statements.front.Opening as code_opening
@@ -34,6 +36,9 @@ abbrev pub seen_front : code.Front → Front
 seen_front (front.Whole statement) = fronts.Whole (body_of statement)
 seen_front (front.If first test) = fronts.If first (value_of test)
 seen_front (front.Part opening) = fronts.Part (seen_opening opening.value)
+
+abbrev pub seen_test : Tested → t.Expression × Span
+seen_test tested = (value_of tested.test, tested.last)
 
 -- a whole statement that was made on the heap
 abbrev pub IsWhole : t.Statement → Result code.Front Fault → Type 0

@@ -2,7 +2,7 @@
 ghost use Rattle.std.specs.Prelude.{◌≤◌};
 ghost use Rattle.mc_cursor.specs.Cursors.{Gives, left_of};
 ghost use Rattle.mc_parse.specs.steps.Fronts as fronts;
-ghost use Rattle.mc_parse.specs.steps.Made.{seen_opening};
+ghost use Rattle.mc_parse.specs.steps.Made.{seen_opening, seen_test};
 ghost use Rattle.mc_makers.specs.Made.{body_of};
 
 use crate::statements::front::Opening;
@@ -12,8 +12,31 @@ use mc_cursor::cursor::{Cursor, place};
 use mc_cursor::fault::Fault;
 use mc_cursor::to;
 use mc_span::Span;
-use mc_tree::Statement;
+use mc_tree::{Expression, Statement};
 use std::alloc::Global;
+
+/// The test of a `do`, and where it ends.
+#[derive(Drop)]
+pub struct Tested<'a> {
+    pub test: Box<Expression<'a>>,
+    pub last: Span,
+}
+
+#[inline(never)]
+fn test_of_do<'a>(
+    alloc: Global,
+    tokens: &mut Cursor<'_, 'a>,
+    room: u32,
+) -> Result<Tested<'a>, Fault>
+    requires { room ≤ 1000 }
+    ensures { Gives seen_test (fronts.do_test room (left_of tokens.old)) result
+        (left_of tokens.new) }
+{
+    tokens.expect_keyword(b"while")?;
+    let test = test(alloc, tokens, room)?;
+    let last = place(tokens.expect(b";")?);
+    Ok(Tested { test, last })
+}
 
 /// The test of a `do`, after its statement.
 #[inline(never)]
@@ -28,9 +51,7 @@ fn end_of_do<'a>(
     ensures { Gives body_of (fronts.do_rest room first (body_of body.entry) (left_of tokens.old))
         result (left_of tokens.new) }
 {
-    tokens.expect_keyword(b"while")?;
-    let test = test(alloc, tokens, room)?;
-    let last = place(tokens.expect(b";")?);
+    let Tested { test, last } = test_of_do(alloc, tokens, room)?;
     do_loop(alloc, to(first, last), body, test)
 }
 

@@ -10,13 +10,14 @@ use crate::statements::jumps::{
     break_statement, continue_statement, expression_statement, goto, null, return_statement,
 };
 use crate::statements::makers::part;
-use crate::statements::parts::{optional, test, value};
+use crate::statements::parts::{ended, optional, test, value};
 use mc_cursor::cursor::{Cursor, identifier, place};
 use mc_cursor::fault::Fault;
 use mc_cursor::rule::Rule;
 use mc_cursor::to;
 use mc_descent::allowed::Allowed;
 use mc_descent::declarations::local;
+use mc_makers::values::on_heap;
 use mc_span::Span;
 use mc_tree::{Expression, ForStart, Identifier, Statement};
 use std::alloc::Global;
@@ -176,11 +177,9 @@ fn for_loop<'a>(alloc: Global, tokens: &mut Cursor<'_, 'a>, room: u32) -> Result
     let first = place(tokens.take()?);
     tokens.expect(b"(")?;
     let start = for_start(alloc, tokens, room)?;
-    let start = Box::new(alloc, start)?;
-    let test = optional(alloc, tokens, room, b";")?;
-    tokens.expect(b";")?;
-    let step = optional(alloc, tokens, room, b")")?;
-    tokens.expect(b")")?;
+    let start = on_heap(alloc, start)?;
+    let test = ended(alloc, tokens, room, b";")?;
+    let step = ended(alloc, tokens, room, b")")?;
     part(
         alloc,
         Opening::For {

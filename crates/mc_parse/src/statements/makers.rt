@@ -5,6 +5,7 @@ ghost use Rattle.mc_parse.specs.steps.Made.{IsPart, IsWhole, seen_opening};
 use crate::statements::front::{Front, Opening};
 use mc_cursor::fault::Fault;
 use mc_makers::statements::boxed;
+use mc_makers::values::on_heap;
 use mc_tree::Statement;
 use std::alloc::Global;
 
@@ -22,6 +23,6 @@ pub fn whole<'a>(alloc: Global, statement: Statement<'a>) -> Result<Front<'a>, F
 pub fn part<'a>(alloc: Global, opening: Opening<'a>) -> Result<Front<'a>, Fault>
     ensures { IsPart (seen_opening opening.entry) result }
 {
-    let opening = Box::new(alloc, opening)?;
+    let opening = on_heap(alloc, opening)?;
     Ok(Front::Part { opening })
 }

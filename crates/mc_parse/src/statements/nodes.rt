@@ -9,7 +9,7 @@ ghost use Rattle.mc_makers.specs.Made.{IsMade, body_of};
 
 use mc_cursor::fault::Fault;
 use mc_cursor::to;
-use mc_makers::statements::boxed;
+use mc_makers::statements::{boxed, place_of};
 use mc_span::Span;
 use mc_tree::{BlockItem, Expression, ForStart, Identifier, Statement};
 use std::alloc::Global;
@@ -36,7 +36,7 @@ pub fn switch<'a>(
         (t.Switch (value_of value.entry) (body_of body.entry)
         (places.to first (span_of_statement (body_of body.entry)))) result }
 {
-    let span = to(first, body.span());
+    let span = to(first, place_of(&body));
     boxed(alloc, Statement::Switch { value, body, span })
 }
 
@@ -51,7 +51,7 @@ pub fn while_loop<'a>(
         (t.While (value_of test.entry) (body_of body.entry)
         (places.to first (span_of_statement (body_of body.entry)))) result }
 {
-    let span = to(first, body.span());
+    let span = to(first, place_of(&body));
     boxed(alloc, Statement::While { test, body, span })
 }
 
@@ -80,7 +80,7 @@ pub fn for_loop<'a>(
         (option_of step.entry) (body_of body.entry)
         (places.to first (span_of_statement (body_of body.entry)))) result }
 {
-    let span = to(first, body.span());
+    let span = to(first, place_of(&body));
     let statement = Statement::For {
         start,
         test,
@@ -101,7 +101,7 @@ pub fn case<'a>(
     ensures { IsMade (t.Case (value_of value.entry) label (body_of body.entry)
         (places.to label (span_of_statement (body_of body.entry)))) result }
 {
-    let span = to(label, body.span());
+    let span = to(label, place_of(&body));
     let statement = Statement::Case {
         value,
         label,
@@ -121,7 +121,7 @@ pub fn default<'a>(
         (t.Default label (body_of body.entry)
         (places.to label (span_of_statement (body_of body.entry)))) result }
 {
-    let span = to(label, body.span());
+    let span = to(label, place_of(&body));
     boxed(alloc, Statement::Default { label, body, span })
 }
 
@@ -135,6 +135,6 @@ pub fn labeled<'a>(
         (t.Label (name_of name.entry) (body_of body.entry)
         (places.to name.entry.span (span_of_statement (body_of body.entry)))) result }
 {
-    let span = to(name.span, body.span());
+    let span = to(name.span, place_of(&body));
     boxed(alloc, Statement::Label { name, body, span })
 }

@@ -5,6 +5,7 @@ ghost use Rattle.mc_reading.specs.Statements as spec;
 ghost use Rattle.mc_cursor.specs.Cursors.{Gives, left_of};
 ghost use Rattle.mc_tree.specs.Units.{option_of, value_of};
 ghost use Rattle.mc_cursor.specs.Rules.{nonterminal_of};
+ghost use Rattle.mc_parse.specs.steps.Fronts.{ended_optional};
 
 use mc_cursor::cursor::Cursor;
 use mc_cursor::fault::Fault;
@@ -46,6 +47,23 @@ pub fn optional<'a>(
     }
     let value = value(alloc, tokens, room, Rule::Comma)?;
     Ok(Some(value))
+}
+
+/// Reads an expression that may be left out before this punctuator, and the punctuator.
+#[inline(never)]
+pub fn ended<'a>(
+    alloc: Global,
+    tokens: &mut Cursor<'_, 'a>,
+    room: u32,
+    stop: &[u8],
+) -> Result<Option<Box<Expression<'a>>>, Fault>
+    requires { room ≤ 1000 }
+    ensures { Gives option_of (ended_optional stop.now room (left_of tokens.old)) result
+        (left_of tokens.new) }
+{
+    let value = optional(alloc, tokens, room, stop)?;
+    tokens.expect(stop)?;
+    Ok(value)
 }
 
 /// Reads an expression between parentheses.

@@ -1,0 +1,24 @@
+//! Values on the heap and at the end of lists, by functions of any type: what is proved of a type
+//! of trees at such a step is dear.
+ghost use Rattle.std.specs.Prelude.{◌≡◌, ◌++◌, ◌∷◌, [], IfOk};
+ghost use Rattle.mc_makers.specs.Made.{IsOnHeap};
+
+use mc_cursor::fault::Fault;
+use std::alloc::{AllocError, Global};
+
+/// A value on the heap.
+#[inline(never)]
+pub fn on_heap<T: Drop>(alloc: Global, one: T) -> Result<Box<T>, Fault>
+    ensures { IsOnHeap one result }
+{
+    Ok(Box::new(alloc, one)?)
+}
+
+/// Puts a value at the end.
+#[inline(never)]
+pub fn push<T: Drop>(all: &mut Vec<T>, one: T) -> Result<(), AllocError>
+    ensures { IfOk result (λ _. all.new.items ≡ all.old.items ++ one ∷ []) }
+{
+    all.push(one)?;
+    Ok(())
+}
