@@ -2,6 +2,7 @@
 //! initializer and list of members or enumerators counts one level.
 
 use crate::reading::{Fail, Outcome, judged};
+use std::alloc::Global;
 
 /// Sources and the heights of their trees.
 static HEIGHTS: [(&[u8], u32); 55] = [
@@ -65,16 +66,28 @@ static HEIGHTS: [(&[u8], u32); 55] = [
     (b"int f(int T) { (T)-(1); }", 5),
 ];
 
-#[test]
-fn heights(rt: HostRuntime) -> Result<(), Fail> {
-    let mut row = 0u32;
+/// Whether the tree of this source has this height.
+fn has_height(alloc: Global, source: &[u8], wanted: u32) -> Result<bool, Fail> {
+    match judged(alloc, source, 200)? {
+        Outcome::Read { height, .. } => Ok(height == wanted),
+        _ => Ok(false),
+    }
+}
+
+/// The first row, counted from 0, whose tree has another height.
+fn odd_row(alloc: Global) -> Result<Option<usize>, Fail> {
+    let mut row = 0usize;
     for (source, height) in &HEIGHTS {
-        let found = match judged(rt.alloc(), *source, 200)? {
-            Outcome::Read { height, .. } => Some(height),
-            _ => None,
-        };
-        assert_eq!(rt; found, Some(*height), "row {row}");
+        if !has_height(alloc, *source, *height)? {
+            return Ok(Some(row));
+        }
         row = row.wrapping_add(1);
     }
+    Ok(None)
+}
+
+#[test]
+fn heights(rt: HostRuntime) -> Result<(), Fail> {
+    assert_eq!(rt; odd_row(rt.alloc())?, None);
     Ok(())
 }

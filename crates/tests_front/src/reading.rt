@@ -1,10 +1,10 @@
 //! What becomes of a source: its tokens, its tree, and the first outside form.
-ghost use Rattle.std.specs.Prelude.{◌≤◌};
+ghost use Rattle.std.specs.Prelude.{◌≤◌, ◌+◌, ◌<◌, ◌^◌, All, length};
 
-use mc_lex::{Dialect, LexFault, lex};
+use mc_lex::{Dialect, LexFault, Token, lex};
 use mc_parse::{ParseFault, parse_within};
 use mc_subset::{Outside, check};
-use mc_tree::height;
+use mc_tree::{Unit, height};
 use std::alloc::{AllocError, AllocFailed, Global};
 
 /// What becomes of a source; places are numbers of bytes.
@@ -38,6 +38,41 @@ impl<T: Drop> From<AllocFailed<T>> for Fail {
     }
 }
 
+/// What there is to say of a tree.
+fn read(unit: &Unit<'_>) -> Outcome {
+    Outcome::Read {
+        height: height(unit),
+        outside: check(unit).err(),
+    }
+}
+
+/// Where the token of this number stands; the end of the source where there is none.
+fn place(tokens: &[Token<'_>], at: u32, end: usize) -> usize {
+    match tokens.get(at as usize) {
+        Some(token) => token.start as usize,
+        None => end,
+    }
+}
+
+/// Reads the tokens of a source that ends at `end`.
+fn parsed(alloc: Global, tokens: &[Token<'_>], end: usize, limit: u32) -> Result<Outcome, Fail>
+    requires short { All (λ token. token.start + length token.text.now < 2 ^ 31) tokens.now }
+    requires few { length tokens.now < 2 ^ 31 }
+    requires limit { limit ≤ 800 }
+{
+    match parse_within(alloc, tokens, limit) {
+        Ok(unit) => {
+            let read = read(&unit);
+            drop(unit);
+            Ok(read)
+        }
+        Err(ParseFault::Syntax { at }) => Ok(Outcome::Syntax {
+            at: place(tokens, at, end),
+        }),
+        Err(ParseFault::OutOfMemory) => Err(Fail),
+    }
+}
+
 /// Reads a source whose tree has at most so many levels.
 #[tactic(auto, using(crate::proofs::Short::all_short))]
 pub fn judged(alloc: Global, source: &[u8], limit: u32) -> Result<Outcome, Fail>
@@ -46,23 +81,14 @@ pub fn judged(alloc: Global, source: &[u8], limit: u32) -> Result<Outcome, Fail>
     if source.len() >= 0x8000_0000 {
         return Ok(Outcome::NotTokens);
     }
-    let tokens = match lex(alloc, source, Dialect::Plain) {
-        Ok(tokens) => tokens,
-        Err(LexFault::OutOfMemory) => return Err(Fail),
-        Err(_) => return Ok(Outcome::NotTokens),
-    };
-    match parse_within(alloc, &tokens, limit) {
-        Ok(unit) => Ok(Outcome::Read {
-            height: height(&unit),
-            outside: check(&unit).err(),
-        }),
-        Err(ParseFault::Syntax { at }) => match tokens.get(at as usize) {
-            Some(token) => Ok(Outcome::Syntax {
-                at: token.start as usize,
-            }),
-            None => Ok(Outcome::Syntax { at: source.len() }),
-        },
-        Err(ParseFault::OutOfMemory) => Err(Fail),
+    match lex(alloc, source, Dialect::Plain) {
+        Ok(tokens) => {
+            let outcome = parsed(alloc, &tokens, source.len(), limit);
+            drop(tokens);
+            outcome
+        }
+        Err(LexFault::OutOfMemory) => Err(Fail),
+        Err(_) => Ok(Outcome::NotTokens),
     }
 }
 

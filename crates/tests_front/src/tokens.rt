@@ -1,7 +1,7 @@
 //! Sources and their tokens or faults. What follows from C17 was compared with gcc; what this
 //! project leaves out follows from docs/LANGUAGE.md.
 
-use mc_lex::{Dialect, LexFault, Place, TokenKind, lex, place_of, quote};
+use mc_lex::{Dialect, LexFault, Place, Token, TokenKind, lex, place_of, quote};
 use mc_span::Span;
 use std::alloc::Global;
 
@@ -172,15 +172,25 @@ fn fault_of(alloc: Global, source: &[u8]) -> Option<LexFault> {
     }
 }
 
+/// The kind of the one token, where that is the whole source.
+fn kind_alone(tokens: &[Token<'_>], source: &[u8]) -> Option<TokenKind> {
+    match tokens {
+        [one] if one.text == source => Some(one.kind),
+        _ => None,
+    }
+}
+
 /// The kind of the one token that is the whole source.
 fn kind_of(alloc: Global, source: &[u8]) -> Option<TokenKind> {
     if source.len() > 100 {
         return None;
     }
-    match lex(alloc, source, Dialect::Plain) {
-        Ok(tokens) if tokens.len() == 1 && tokens[0].text == source => Some(tokens[0].kind),
-        _ => None,
-    }
+    let Ok(tokens) = lex(alloc, source, Dialect::Plain) else {
+        return None;
+    };
+    let kind = kind_alone(&tokens, source);
+    drop(tokens);
+    kind
 }
 
 fn letter(kind: TokenKind) -> u8 {
@@ -193,17 +203,11 @@ fn letter(kind: TokenKind) -> u8 {
     }
 }
 
-/// Whether the source has these tokens, each followed by `|` in `texts`, of these kinds.
-fn is_list(alloc: Global, source: &[u8], texts: &[u8], kinds: &[u8]) -> bool {
-    if source.len() > 100 {
-        return false;
-    }
-    let Ok(tokens) = lex(alloc, source, Dialect::Plain) else {
-        return false;
-    };
+/// Whether these are the tokens, each followed by `|` in `texts`, and of these kinds.
+fn are_these(tokens: &[Token<'_>], texts: &[u8], kinds: &[u8]) -> bool {
     let mut texts_left = texts;
     let mut kinds_left = kinds;
-    for token in &tokens {
+    for token in tokens {
         let Some(after) = texts_left.strip_prefix(token.text) else {
             return false;
         };
@@ -220,6 +224,19 @@ fn is_list(alloc: Global, source: &[u8], texts: &[u8], kinds: &[u8]) -> bool {
         kinds_left = others;
     }
     texts_left.is_empty() && kinds_left.is_empty()
+}
+
+/// Whether the source has these tokens, each followed by `|` in `texts`, of these kinds.
+fn is_list(alloc: Global, source: &[u8], texts: &[u8], kinds: &[u8]) -> bool {
+    if source.len() > 100 {
+        return false;
+    }
+    let Ok(tokens) = lex(alloc, source, Dialect::Plain) else {
+        return false;
+    };
+    let same = are_these(&tokens, texts, kinds);
+    drop(tokens);
+    same
 }
 
 #[test]
