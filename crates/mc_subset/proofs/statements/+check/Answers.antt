@@ -1,6 +1,6 @@
 -- Statements with several parts: the first node outside of the one and of the rest.
 use Rattle.std.proofs.Common.{arith}
-use Rattle.mc_subset.proofs.Order.{first_of_statement}
+use Rattle.mc_subset.proofs.Order.{first_of_statement, lists}
 use Rattle.mc_subset.proofs.Trees.{statements, block_items}
 use Rattle.mc_subset.proofs.statements.+check.Goals as goal
 
@@ -33,3 +33,10 @@ block_item-returns-in-Local t c = grind (arith, block_items)
 
 pub block_item-returns-in-Statement : goal.block_item-returns-in-Statement
 block_item-returns-in-Statement t c = grind (arith, block_items)
+
+-- the loop
+pub block-loop-tree-preserved : goal.block-loop-tree-preserved
+block-loop-tree-preserved t c = grind (arith, lists)
+
+pub block-returns-in-Some : goal.block-returns-in-Some
+block-returns-in-Some t c = grind (arith, lists)
