@@ -5,25 +5,19 @@ mod declarators;
 pub mod lists;
 pub mod makers;
 mod members;
+pub mod parts;
 mod postfix;
 mod primary;
 mod rules;
 mod specifiers;
 mod unary;
 
-use crate::read::{Read, ReadSpecifiers};
-use mc_cursor::cursor::Cursor;
-use mc_cursor::fault::Fault;
-use mc_cursor::rule::Rule;
 use std::alloc::Global;
 
 /// The rules, over what reads parts of fewer than `room` levels.
 #[derive(Drop)]
-pub struct Grammar<F, G> {
+pub struct Grammar<P> {
     pub alloc: Global,
     pub room: u32,
-    /// Reads an expression.
-    pub inner: F,
-    /// Reads specifiers.
-    pub typed: G,
+    pub parts: P,
 }

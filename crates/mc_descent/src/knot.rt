@@ -11,6 +11,7 @@ ghost use Rattle.mc_descent.specs.Parts.{specifiers_in};
 
 use crate::allowed::Allowed;
 use crate::grammar::Grammar;
+use crate::grammar::parts::Readers;
 use crate::read::{Read, ReadSpecifiers};
 use mc_cursor::cursor::Cursor;
 use mc_cursor::fault::Fault;
@@ -38,8 +39,10 @@ pub fn expression<'a>(
     let grammar = Grammar {
         alloc,
         room: room - 1,
-        inner: expression,
-        typed: read_specifiers,
+        parts: Readers {
+            inner: expression,
+            typed: read_specifiers,
+        },
     };
     grammar.by_rule(tokens, rule)
 }
@@ -65,8 +68,10 @@ pub fn read_specifiers<'a>(
     let grammar = Grammar {
         alloc,
         room: room - 1,
-        inner: expression,
-        typed: read_specifiers,
+        parts: Readers {
+            inner: expression,
+            typed: read_specifiers,
+        },
     };
     grammar.specifiers(tokens, allowed)
 }
@@ -99,8 +104,10 @@ pub fn declarator<'a>(
     let grammar = Grammar {
         alloc,
         room,
-        inner: expression,
-        typed: read_specifiers,
+        parts: Readers {
+            inner: expression,
+            typed: read_specifiers,
+        },
     };
     let mut tallest = 0;
     let one = grammar.declarator(tokens, &mut tallest)?;

@@ -9,12 +9,12 @@ ghost use Rattle.mc_grammar.specs.steps.Parsers.{and_then};
 ghost use Rattle.mc_reading.specs.Rooms.{reading};
 ghost use Rattle.mc_cursor.specs.Cursors.{left_of};
 ghost use Rattle.mc_cursor.specs.Rules.{level_of, levels_of};
-ghost use Rattle.mc_descent.specs.Given.{GivesMade, GivesTree, IsHigh, Nests, NestsTypes, tree_of, trees_of};
+ghost use Rattle.mc_descent.specs.Given.{GivesMade, GivesTree, IsHigh, tree_of, trees_of};
 
-use crate::allowed::Allowed;
 use crate::grammar::Grammar;
 use crate::grammar::makers::{boxed, end_of_expressions};
-use crate::read::{Read, ReadAll, ReadSpecifiers};
+use crate::grammar::parts::PartReader;
+use crate::read::{Read, ReadAll};
 use mc_cursor::cursor::Cursor;
 use mc_cursor::fault::Fault;
 use mc_cursor::rule::{Level, Rule};
@@ -122,11 +122,7 @@ fn made_comma<'a>(alloc: Global, start: Span, all: ReadAll<'a>) -> Result<Read<'
     boxed(alloc, tree, all.height + 1)
 }
 
-impl<
-    'a,
-    F: Fn(Global, &mut Cursor<'_, 'a>, u32, Rule) -> Result<Read<'a>, Fault>,
-    G: Fn(Global, &mut Cursor<'_, 'a>, u32, Allowed) -> Result<ReadSpecifiers<'a>, Fault>,
-> Grammar<F, G> {
+impl<'a, P: PartReader<'a>> Grammar<P> {
     /// One operator and its right operand, after the left one.
     #[inline(never)]
     #[tactic(auto, unfolding(mc_reading::specs::Expressions::operation_of))]
@@ -138,7 +134,7 @@ impl<
         tokens: &mut Cursor<'_, 'a>,
     ) -> Result<Read<'a>, Fault>
         requires room { self.now.room ≤ 1000 }
-        requires nests { Nests self.now.room (F.pre self.now.inner) (F.post self.now.inner) }
+        requires nests { P.nests self.now.parts self.now.room }
         requires high { IsHigh left }
         ensures tree { GivesTree (spec.operation_of (reading self.now.room) self.now.room
             (level_of level) operator (tree_of left.entry) (left_of tokens.old)) result
@@ -163,7 +159,7 @@ impl<
         tokens: &mut Cursor<'_, 'a>,
     ) -> Result<Read<'a>, Fault>
         requires room { self.now.room ≤ 1000 }
-        requires nests { Nests self.now.room (F.pre self.now.inner) (F.post self.now.inner) }
+        requires nests { P.nests self.now.parts self.now.room }
         requires high { IsHigh first }
         requires low { first.height ≤ self.now.room }
         ensures tree { GivesTree (spec.operations_of (reading self.now.room) self.now.room
@@ -185,8 +181,7 @@ impl<
     #[tactic(auto, unfolding(mc_reading::specs::Expressions::climb))]
     pub fn climb(&self, levels: &[Level], tokens: &mut Cursor<'_, 'a>) -> Result<Read<'a>, Fault>
         requires room { (self.now.room ≤ 1000) × (1 ≤ self.now.room) }
-        requires nests { Nests self.now.room (F.pre self.now.inner) (F.post self.now.inner) }
-        requires types { NestsTypes self.now.room (G.pre self.now.typed) (G.post self.now.typed) }
+        requires nests { P.nests self.now.parts self.now.room }
         ensures tree { GivesTree
             (and_then (spec.cast_of (reading self.now.room) self.now.room (left_of tokens.old))
             (spec.climb (reading self.now.room) self.now.room (levels_of levels.now))) result
@@ -207,7 +202,7 @@ impl<
     #[tactic(auto, unfolding(mc_reading::specs::Expressions::conditional_of))]
     fn conditional(&self, test: Read<'a>, tokens: &mut Cursor<'_, 'a>) -> Result<Read<'a>, Fault>
         requires room { self.now.room ≤ 1000 }
-        requires nests { Nests self.now.room (F.pre self.now.inner) (F.post self.now.inner) }
+        requires nests { P.nests self.now.parts self.now.room }
         requires high { IsHigh test }
         ensures tree { GivesTree (spec.conditional_of (reading self.now.room) self.now.room
             (tree_of test.entry) (left_of tokens.old)) result (left_of tokens.new) }
@@ -226,8 +221,7 @@ impl<
     #[tactic(auto, unfolding(mc_reading::specs::Expressions::cond_of, mc_reading::specs::Expressions::level_of))]
     pub fn cond(&self, tokens: &mut Cursor<'_, 'a>) -> Result<Read<'a>, Fault>
         requires room { (self.now.room ≤ 1000) × (1 ≤ self.now.room) }
-        requires nests { Nests self.now.room (F.pre self.now.inner) (F.post self.now.inner) }
-        requires types { NestsTypes self.now.room (G.pre self.now.typed) (G.post self.now.typed) }
+        requires nests { P.nests self.now.parts self.now.room }
         ensures tree { GivesTree
             (spec.cond_of (reading self.now.room) self.now.room (left_of tokens.old)) result
             (left_of tokens.new) }
@@ -251,7 +245,7 @@ impl<
         tokens: &mut Cursor<'_, 'a>,
     ) -> Result<Read<'a>, Fault>
         requires room { self.now.room ≤ 1000 }
-        requires nests { Nests self.now.room (F.pre self.now.inner) (F.post self.now.inner) }
+        requires nests { P.nests self.now.parts self.now.room }
         requires high { IsHigh target }
         ensures tree { GivesTree (spec.assignment_of (reading self.now.room) self.now.room operator
             (tree_of target.entry) (left_of tokens.old)) result (left_of tokens.new) }
@@ -268,8 +262,7 @@ impl<
     #[tactic(auto, unfolding(mc_reading::specs::Expressions::assign_of))]
     pub fn assign(&self, tokens: &mut Cursor<'_, 'a>) -> Result<Read<'a>, Fault>
         requires room { (self.now.room ≤ 1000) × (1 ≤ self.now.room) }
-        requires nests { Nests self.now.room (F.pre self.now.inner) (F.post self.now.inner) }
-        requires types { NestsTypes self.now.room (G.pre self.now.typed) (G.post self.now.typed) }
+        requires nests { P.nests self.now.parts self.now.room }
         ensures tree { GivesTree
             (spec.assign_of (reading self.now.room) self.now.room (left_of tokens.old)) result
             (left_of tokens.new) }
@@ -287,7 +280,7 @@ impl<
     #[tactic(auto, unfolding(mc_reading::specs::Expressions::operands_of))]
     fn operands(&self, first: Read<'a>, tokens: &mut Cursor<'_, 'a>) -> Result<Read<'a>, Fault>
         requires room { self.now.room ≤ 1000 }
-        requires nests { Nests self.now.room (F.pre self.now.inner) (F.post self.now.inner) }
+        requires nests { P.nests self.now.parts self.now.room }
         requires high { IsHigh first }
         ensures tree { GivesTree
             (spec.operands_of (reading self.now.room) self.now.room (tree_of first.entry)
@@ -308,8 +301,7 @@ impl<
     #[tactic(auto, unfolding(mc_reading::specs::Expressions::comma_of))]
     pub fn comma(&self, tokens: &mut Cursor<'_, 'a>) -> Result<Read<'a>, Fault>
         requires room { (self.now.room ≤ 1000) × (1 ≤ self.now.room) }
-        requires nests { Nests self.now.room (F.pre self.now.inner) (F.post self.now.inner) }
-        requires types { NestsTypes self.now.room (G.pre self.now.typed) (G.post self.now.typed) }
+        requires nests { P.nests self.now.parts self.now.room }
         ensures tree { GivesTree
             (spec.comma_of (reading self.now.room) self.now.room (left_of tokens.old)) result
             (left_of tokens.new) }

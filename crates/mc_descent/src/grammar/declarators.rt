@@ -10,13 +10,13 @@ ghost use Rattle.mc_reading.specs.Specifiers as spec;
 ghost use Rattle.mc_reading.specs.Rooms.{reading};
 ghost use Rattle.mc_cursor.specs.Cursors.{Gives, left_of};
 ghost use Rattle.mc_cursor.specs.Short.{IsShort};
-ghost use Rattle.mc_descent.specs.Given.{GivesPart, Nests, NestsTypes, specifiers_of};
+ghost use Rattle.mc_descent.specs.Given.{GivesPart, specifiers_of};
 ghost use Rattle.mc_descent.specs.Parts as view;
 
-use crate::allowed::Allowed;
 use crate::grammar::Grammar;
 use crate::grammar::lists::{push, push_boxed};
 use crate::grammar::makers::{end_of_specifiers, on_heap};
+use crate::grammar::parts::PartReader;
 use crate::grammar::unary::stars;
 use crate::read::{Read, ReadLength, ReadLengths, ReadSpecifiers};
 use mc_cursor::cursor::{Cursor, identifier, place};
@@ -112,11 +112,7 @@ fn listed_function<'a>(
     )
 }
 
-impl<
-    'a,
-    F: Fn(Global, &mut Cursor<'_, 'a>, u32, Rule) -> Result<Read<'a>, Fault>,
-    G: Fn(Global, &mut Cursor<'_, 'a>, u32, Allowed) -> Result<ReadSpecifiers<'a>, Fault>,
-> Grammar<F, G> {
+impl<'a, P: PartReader<'a>> Grammar<P> {
     /// A pair of brackets, perhaps with a length.
     #[inline(never)]
     #[tactic(auto, unfolding(mc_reading::specs::Specifiers::length_of))]
@@ -126,7 +122,7 @@ impl<
         tallest: &mut u32,
     ) -> Result<ReadLength<'a>, Fault>
         requires room { self.now.room ≤ 1000 }
-        requires nests { Nests self.now.room (F.pre self.now.inner) (F.post self.now.inner) }
+        requires nests { P.nests self.now.parts self.now.room }
         requires low { tallest.now ≤ self.now.room - 1 }
         ensures length { GivesPart view.length_of view.high_length
             (spec.length_of (reading self.now.room) (left_of tokens.old)) result
@@ -163,7 +159,7 @@ impl<
         tallest: &mut u32,
     ) -> Result<ReadLengths<'a>, Fault>
         requires room { self.now.room ≤ 1000 }
-        requires nests { Nests self.now.room (F.pre self.now.inner) (F.post self.now.inner) }
+        requires nests { P.nests self.now.parts self.now.room }
         requires low { tallest.now ≤ self.now.room - 1 }
         ensures lengths { GivesPart view.all_lengths_of view.high_lengths
             (spec.lengths_of (reading self.now.room) before (left_of tokens.old)) result
@@ -196,7 +192,7 @@ impl<
         tallest: &mut u32,
     ) -> Result<Box<Parameter<'a>>, Fault>
         requires room { self.now.room ≤ 1000 }
-        requires nests { Nests self.now.room (F.pre self.now.inner) (F.post self.now.inner) }
+        requires nests { P.nests self.now.parts self.now.room }
         requires low { (tallest.now ≤ self.now.room - 1) × (read.height ≤ self.now.room - 1) }
         requires high { read.height ≡ height_specifiers (specifiers_of read) }
         ensures parameter { GivesPart view.boxed_parameter height_parameter
@@ -233,7 +229,7 @@ impl<
         tallest: &mut u32,
     ) -> Result<Box<Parameter<'a>>, Fault>
         requires room { self.now.room ≤ 1000 }
-        requires nests { Nests self.now.room (F.pre self.now.inner) (F.post self.now.inner) }
+        requires nests { P.nests self.now.parts self.now.room }
         requires low { (tallest.now ≤ self.now.room - 1) × (read.height ≤ self.now.room - 1) }
         requires high { read.height ≡ height_specifiers (specifiers_of read) }
         ensures parameter { GivesPart view.boxed_parameter height_parameter
@@ -265,8 +261,7 @@ impl<
         tallest: &mut u32,
     ) -> Result<Box<Parameter<'a>>, Fault>
         requires room { self.now.room ≤ 1000 }
-        requires nests { Nests self.now.room (F.pre self.now.inner) (F.post self.now.inner) }
-        requires types { NestsTypes self.now.room (G.pre self.now.typed) (G.post self.now.typed) }
+        requires nests { P.nests self.now.parts self.now.room }
         requires low { tallest.now ≤ self.now.room - 1 }
         ensures parameter { GivesPart view.boxed_parameter height_parameter
             (spec.parameter_of (reading self.now.room) (left_of tokens.old)) result
@@ -286,8 +281,7 @@ impl<
         tallest: &mut u32,
     ) -> Result<Vec<Parameter<'a>>, Fault>
         requires room { self.now.room ≤ 1000 }
-        requires nests { Nests self.now.room (F.pre self.now.inner) (F.post self.now.inner) }
-        requires types { NestsTypes self.now.room (G.pre self.now.typed) (G.post self.now.typed) }
+        requires nests { P.nests self.now.parts self.now.room }
         requires low { tallest.now ≤ self.now.room - 1 }
         ensures parameters { GivesPart view.parameters_of view.high_parameters
             (listed (λ turns. comma_list turns (spec.parameter_of (reading self.now.room)) [])
@@ -318,8 +312,7 @@ impl<
         tallest: &mut u32,
     ) -> Result<Box<Declarator<'a>>, Fault>
         requires room { self.now.room ≤ 1000 }
-        requires nests { Nests self.now.room (F.pre self.now.inner) (F.post self.now.inner) }
-        requires types { NestsTypes self.now.room (G.pre self.now.typed) (G.post self.now.typed) }
+        requires nests { P.nests self.now.parts self.now.room }
         requires low { tallest.now ≤ self.now.room - 1 }
         requires short { IsShort name.now }
         ensures declarator { GivesPart view.boxed_declarator height_declarator
@@ -350,7 +343,7 @@ impl<
         tallest: &mut u32,
     ) -> Result<Box<Declarator<'a>>, Fault>
         requires room { self.now.room ≤ 1000 }
-        requires nests { Nests self.now.room (F.pre self.now.inner) (F.post self.now.inner) }
+        requires nests { P.nests self.now.parts self.now.room }
         requires low { tallest.now ≤ self.now.room - 1 }
         requires short { IsShort name.now }
         ensures declarator { GivesPart view.boxed_declarator height_declarator
@@ -378,8 +371,7 @@ impl<
         tallest: &mut u32,
     ) -> Result<Box<Declarator<'a>>, Fault>
         requires room { self.now.room ≤ 1000 }
-        requires nests { Nests self.now.room (F.pre self.now.inner) (F.post self.now.inner) }
-        requires types { NestsTypes self.now.room (G.pre self.now.typed) (G.post self.now.typed) }
+        requires nests { P.nests self.now.parts self.now.room }
         requires low { tallest.now ≤ self.now.room - 1 }
         ensures declarator { GivesPart view.boxed_declarator height_declarator
             (spec.declarator_of (reading self.now.room) (left_of tokens.old)) result

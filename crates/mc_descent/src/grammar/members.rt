@@ -7,13 +7,13 @@ ghost use Rattle.mc_reading.specs.Lists.{braced_list, comma_list, listed, some_l
 ghost use Rattle.mc_reading.specs.Specifiers as spec;
 ghost use Rattle.mc_reading.specs.Rooms.{reading};
 ghost use Rattle.mc_cursor.specs.Cursors.{left_of};
-ghost use Rattle.mc_descent.specs.Given.{GivesPart, Nests, NestsTypes, specifiers_of};
+ghost use Rattle.mc_descent.specs.Given.{GivesPart, specifiers_of};
 ghost use Rattle.mc_descent.specs.Parts as view;
 
-use crate::allowed::Allowed;
 use crate::grammar::Grammar;
 use crate::grammar::lists::{push, push_boxed};
 use crate::grammar::makers::on_heap;
+use crate::grammar::parts::PartReader;
 use crate::read::{Read, ReadSpecifiers};
 use mc_cursor::cursor::{Cursor, identifier, place};
 use mc_cursor::fault::Fault;
@@ -53,11 +53,7 @@ fn member_end<'a>(
     on_heap(alloc, member)
 }
 
-impl<
-    'a,
-    F: Fn(Global, &mut Cursor<'_, 'a>, u32, Rule) -> Result<Read<'a>, Fault>,
-    G: Fn(Global, &mut Cursor<'_, 'a>, u32, Allowed) -> Result<ReadSpecifiers<'a>, Fault>,
-> Grammar<F, G> {
+impl<'a, P: PartReader<'a>> Grammar<P> {
     #[inline(never)]
     #[tactic(auto, using(crate::proofs::Parts::declarators_steps))]
     fn declarators(
@@ -66,8 +62,7 @@ impl<
         tallest: &mut u32,
     ) -> Result<Vec<Declarator<'a>>, Fault>
         requires room { self.now.room ≤ 1000 }
-        requires nests { Nests self.now.room (F.pre self.now.inner) (F.post self.now.inner) }
-        requires types { NestsTypes self.now.room (G.pre self.now.typed) (G.post self.now.typed) }
+        requires nests { P.nests self.now.parts self.now.room }
         requires low { tallest.now ≤ self.now.room - 1 }
         ensures declarators { GivesPart view.declarators_of view.high_declarators
             (listed (λ turns. comma_list turns (spec.declarator_of (reading self.now.room)) [])
@@ -94,8 +89,7 @@ impl<
         tallest: &mut u32,
     ) -> Result<Box<Member<'a>>, Fault>
         requires room { self.now.room ≤ 1000 }
-        requires nests { Nests self.now.room (F.pre self.now.inner) (F.post self.now.inner) }
-        requires types { NestsTypes self.now.room (G.pre self.now.typed) (G.post self.now.typed) }
+        requires nests { P.nests self.now.parts self.now.room }
         requires low { tallest.now ≤ self.now.room - 1 }
         ensures member { GivesPart view.boxed_member height_member
             (spec.struct_member_of (reading self.now.room) (left_of tokens.old)) result
@@ -116,8 +110,7 @@ impl<
         tallest: &mut u32,
     ) -> Result<Vec<Member<'a>>, Fault>
         requires room { self.now.room ≤ 1000 }
-        requires nests { Nests self.now.room (F.pre self.now.inner) (F.post self.now.inner) }
-        requires types { NestsTypes self.now.room (G.pre self.now.typed) (G.post self.now.typed) }
+        requires nests { P.nests self.now.parts self.now.room }
         requires low { tallest.now ≤ self.now.room - 1 }
         ensures members { GivesPart view.members_of view.high_members
             (listed (λ turns. some_list turns sees_specifiers
@@ -144,7 +137,7 @@ impl<
         tallest: &mut u32,
     ) -> Result<Enumerator<'a>, Fault>
         requires room { self.now.room ≤ 1000 }
-        requires nests { Nests self.now.room (F.pre self.now.inner) (F.post self.now.inner) }
+        requires nests { P.nests self.now.parts self.now.room }
         requires low { tallest.now ≤ self.now.room - 1 }
         ensures enumerator { GivesPart enumerator_of height_enumerator
             (spec.enumerator_of (reading self.now.room) (left_of tokens.old)) result
@@ -173,7 +166,7 @@ impl<
         tallest: &mut u32,
     ) -> Result<Vec<Enumerator<'a>>, Fault>
         requires room { self.now.room ≤ 1000 }
-        requires nests { Nests self.now.room (F.pre self.now.inner) (F.post self.now.inner) }
+        requires nests { P.nests self.now.parts self.now.room }
         requires low { tallest.now ≤ self.now.room - 1 }
         ensures enumerators { GivesPart view.enumerators_of view.high_enumerators
             (listed (λ turns. braced_list turns (spec.enumerator_of (reading self.now.room)) [])

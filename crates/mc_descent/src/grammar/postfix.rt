@@ -8,12 +8,12 @@ ghost use Rattle.mc_grammar.specs.Places as places;
 ghost use Rattle.mc_reading.specs.Expressions as spec;
 ghost use Rattle.mc_reading.specs.Rooms.{reading};
 ghost use Rattle.mc_cursor.specs.Cursors.{left_of};
-ghost use Rattle.mc_descent.specs.Given.{GivesMade, GivesTree, IsHigh, Nests, tree_of};
+ghost use Rattle.mc_descent.specs.Given.{GivesMade, GivesTree, IsHigh, tree_of};
 
-use crate::allowed::Allowed;
 use crate::grammar::Grammar;
 use crate::grammar::makers::boxed;
-use crate::read::{Read, ReadSpecifiers};
+use crate::grammar::parts::PartReader;
+use crate::read::Read;
 use mc_cursor::cursor::{Cursor, identifier, place};
 use mc_cursor::fault::Fault;
 use mc_cursor::rule::Rule;
@@ -99,16 +99,12 @@ fn postfix_step<'a>(
     boxed(alloc, tree, height)
 }
 
-impl<
-    'a,
-    F: Fn(Global, &mut Cursor<'_, 'a>, u32, Rule) -> Result<Read<'a>, Fault>,
-    G: Fn(Global, &mut Cursor<'_, 'a>, u32, Allowed) -> Result<ReadSpecifiers<'a>, Fault>,
-> Grammar<F, G> {
+impl<'a, P: PartReader<'a>> Grammar<P> {
     /// An index, after the array.
     #[inline(never)]
     fn index(&self, array: Read<'a>, tokens: &mut Cursor<'_, 'a>) -> Result<Read<'a>, Fault>
         requires room { (self.now.room ≤ 1000) × (array.height + 1 ≤ self.now.room) }
-        requires nests { Nests self.now.room (F.pre self.now.inner) (F.post self.now.inner) }
+        requires nests { P.nests self.now.parts self.now.room }
         requires high { IsHigh array }
         ensures tree { GivesTree (spec.index_of (reading self.now.room) (tree_of array.entry)
             (left_of tokens.old)) result (left_of tokens.new) }
@@ -125,7 +121,7 @@ impl<
     #[tactic(auto, unfolding(mc_reading::specs::Expressions::suffix_of))]
     fn suffix(&self, base: Read<'a>, tokens: &mut Cursor<'_, 'a>) -> Result<Read<'a>, Fault>
         requires room { self.now.room ≤ 1000 }
-        requires nests { Nests self.now.room (F.pre self.now.inner) (F.post self.now.inner) }
+        requires nests { P.nests self.now.parts self.now.room }
         requires high { IsHigh base }
         ensures tree { GivesTree
             (spec.suffix_of (reading self.now.room) self.now.room (tree_of base.entry)
@@ -151,7 +147,7 @@ impl<
     #[tactic(auto, using(crate::proofs::Turns::suffixes_steps), unfolding(mc_reading::specs::Expressions::postfix_of))]
     pub fn postfix(&self, tokens: &mut Cursor<'_, 'a>) -> Result<Read<'a>, Fault>
         requires room { (self.now.room ≤ 1000) × (1 ≤ self.now.room) }
-        requires nests { Nests self.now.room (F.pre self.now.inner) (F.post self.now.inner) }
+        requires nests { P.nests self.now.parts self.now.room }
         ensures tree { GivesTree
             (spec.postfix_of (reading self.now.room) self.now.room (left_of tokens.old)) result
             (left_of tokens.new) }

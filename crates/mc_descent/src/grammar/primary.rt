@@ -12,12 +12,12 @@ ghost use Rattle.mc_reading.specs.Rooms.{reading};
 ghost use Rattle.mc_cursor.specs.Cursors.{left_of};
 ghost use Rattle.mc_cursor.specs.Rules.{nonterminal_of};
 ghost use Rattle.mc_cursor.specs.Short.{IsShort};
-ghost use Rattle.mc_descent.specs.Given.{GivesMade, GivesMore, GivesTree, IsAllHigh, Nests, trees_of};
+ghost use Rattle.mc_descent.specs.Given.{GivesMade, GivesMore, GivesTree, IsAllHigh, trees_of};
 
-use crate::allowed::Allowed;
 use crate::grammar::Grammar;
 use crate::grammar::makers::boxed;
-use crate::read::{Read, ReadAll, ReadSpecifiers};
+use crate::grammar::parts::PartReader;
+use crate::read::{Read, ReadAll};
 use mc_cursor::cursor::{Cursor, identifier, place};
 use mc_cursor::fault::Fault;
 use mc_cursor::rule::Rule;
@@ -78,26 +78,23 @@ fn made_name<'a>(alloc: Global, name: &Token<'a>) -> Result<Read<'a>, Fault>
     boxed(alloc, Expression::Name { name }, 1)
 }
 
-impl<
-    'a,
-    F: Fn(Global, &mut Cursor<'_, 'a>, u32, Rule) -> Result<Read<'a>, Fault>,
-    G: Fn(Global, &mut Cursor<'_, 'a>, u32, Allowed) -> Result<ReadSpecifiers<'a>, Fault>,
-> Grammar<F, G> {
+impl<'a, P: PartReader<'a>> Grammar<P> {
     /// Reads an expression of fewer than `room` levels.
+    #[inline(always)]
     pub fn part(&self, rule: Rule, tokens: &mut Cursor<'_, 'a>) -> Result<Read<'a>, Fault>
-        requires nests { Nests self.now.room (F.pre self.now.inner) (F.post self.now.inner) }
+        requires nests { P.nests self.now.parts self.now.room }
         ensures tree { GivesTree ((reading self.now.room).expression (nonterminal_of rule)
             (left_of tokens.old)) result (left_of tokens.new) }
         ensures height { IfOk result (λ r. r.height + 1 ≤ self.now.room) }
     {
-        (self.inner)(self.alloc, tokens, self.room, rule)
+        self.parts.expression(self.alloc, tokens, self.room, rule)
     }
 
     #[inline(never)]
     #[tactic(auto, unfolding(mc_reading::specs::Expressions::parenthesized_of))]
     fn parenthesized(&self, tokens: &mut Cursor<'_, 'a>) -> Result<Read<'a>, Fault>
         requires room { self.now.room ≤ 1000 }
-        requires nests { Nests self.now.room (F.pre self.now.inner) (F.post self.now.inner) }
+        requires nests { P.nests self.now.parts self.now.room }
         ensures tree { GivesTree
             (spec.parenthesized_of (reading self.now.room) (left_of tokens.old)) result
             (left_of tokens.new) }
@@ -124,7 +121,7 @@ impl<
         tokens: &mut Cursor<'_, 'a>,
     ) -> Result<(), Fault>
         requires room { self.now.room ≤ 1000 }
-        requires nests { Nests self.now.room (F.pre self.now.inner) (F.post self.now.inner) }
+        requires nests { P.nests self.now.parts self.now.room }
         requires all_high { IsAllHigh all.now }
         requires low { all.now.height ≤ self.now.room - 1 }
         ensures all { GivesMore
@@ -147,7 +144,7 @@ impl<
     #[inline(never)]
     fn arguments(&self, name: &Token<'a>, tokens: &mut Cursor<'_, 'a>) -> Result<Read<'a>, Fault>
         requires room { (self.now.room ≤ 1000) × (1 ≤ self.now.room) }
-        requires nests { Nests self.now.room (F.pre self.now.inner) (F.post self.now.inner) }
+        requires nests { P.nests self.now.parts self.now.room }
         requires short { IsShort name.now }
         ensures tree { GivesTree
             (spec.arguments_of (reading self.now.room) (lexeme_of (tok_of name.now))
@@ -169,7 +166,7 @@ impl<
     #[tactic(auto, unfolding(mc_reading::specs::Expressions::named_of))]
     fn named(&self, tokens: &mut Cursor<'_, 'a>) -> Result<Read<'a>, Fault>
         requires room { (self.now.room ≤ 1000) × (1 ≤ self.now.room) }
-        requires nests { Nests self.now.room (F.pre self.now.inner) (F.post self.now.inner) }
+        requires nests { P.nests self.now.parts self.now.room }
         ensures tree { GivesTree (spec.named_of (reading self.now.room) (left_of tokens.old)) result
             (left_of tokens.new) }
         ensures height { IfOk result (λ r. r.height ≤ self.now.room) }
@@ -226,7 +223,7 @@ impl<
     #[tactic(auto, unfolding(mc_reading::specs::Expressions::primary_of))]
     pub fn primary(&self, tokens: &mut Cursor<'_, 'a>) -> Result<Read<'a>, Fault>
         requires room { (self.now.room ≤ 1000) × (1 ≤ self.now.room) }
-        requires nests { Nests self.now.room (F.pre self.now.inner) (F.post self.now.inner) }
+        requires nests { P.nests self.now.parts self.now.room }
         ensures tree { GivesTree (spec.primary_of (reading self.now.room) (left_of tokens.old))
             result (left_of tokens.new) }
         ensures height { IfOk result (λ r. r.height ≤ self.now.room) }

@@ -3,29 +3,23 @@ ghost use Rattle.std.specs.Prelude.{◌≤◌, IfOk};
 ghost use Rattle.mc_reading.specs.Expressions as spec;
 ghost use Rattle.mc_reading.specs.Rooms.{reading};
 ghost use Rattle.mc_cursor.specs.Cursors.{left_of};
-ghost use Rattle.mc_descent.specs.Given.{GivesTree, Nests, NestsTypes};
+ghost use Rattle.mc_descent.specs.Given.{GivesTree};
 ghost use Rattle.mc_cursor.specs.Rules.{nonterminal_of};
 
-use crate::allowed::Allowed;
 use crate::grammar::Grammar;
-use crate::read::{Read, ReadSpecifiers};
+use crate::grammar::parts::PartReader;
+use crate::read::Read;
 use mc_cursor::cursor::Cursor;
 use mc_cursor::fault::Fault;
 use mc_cursor::rule::Rule;
-use std::alloc::Global;
 
-impl<
-    'a,
-    F: Fn(Global, &mut Cursor<'_, 'a>, u32, Rule) -> Result<Read<'a>, Fault>,
-    G: Fn(Global, &mut Cursor<'_, 'a>, u32, Allowed) -> Result<ReadSpecifiers<'a>, Fault>,
-> Grammar<F, G> {
+impl<'a, P: PartReader<'a>> Grammar<P> {
     /// Reads an expression by this rule.
     #[inline(always)]
     #[tactic(auto, using(crate::proofs::Rooms::operand_at))]
     pub fn by_rule(&self, tokens: &mut Cursor<'_, 'a>, rule: Rule) -> Result<Read<'a>, Fault>
         requires room { (self.now.room ≤ 1000) × (1 ≤ self.now.room) }
-        requires nests { Nests self.now.room (F.pre self.now.inner) (F.post self.now.inner) }
-        requires types { NestsTypes self.now.room (G.pre self.now.typed) (G.post self.now.typed) }
+        requires nests { P.nests self.now.parts self.now.room }
         ensures tree { GivesTree (spec.expression_by (reading self.now.room) self.now.room
             (nonterminal_of rule) (left_of tokens.old)) result (left_of tokens.new) }
         ensures height { IfOk result (λ r. r.height ≤ self.now.room) }

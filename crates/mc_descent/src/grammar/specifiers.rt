@@ -12,7 +12,7 @@ ghost use Rattle.mc_reading.specs.Rooms.{reading};
 ghost use Rattle.mc_descent.specs.Counted.{test_of};
 ghost use Rattle.mc_cursor.specs.Cursors.{Gives, left_of};
 ghost use Rattle.mc_cursor.specs.Short.{IsShort};
-ghost use Rattle.mc_descent.specs.Given.{GivesPart, GivesSpecifiers, Nests, NestsTypes};
+ghost use Rattle.mc_descent.specs.Given.{GivesPart, GivesSpecifiers};
 ghost use Rattle.mc_descent.specs.Parts.{GivesList, all_specifiers_of};
 ghost use Rattle.mc_descent.specs.Parts as view;
 
@@ -20,10 +20,10 @@ use crate::allowed::Allowed;
 use crate::grammar::Grammar;
 use crate::grammar::lists::push_boxed;
 use crate::grammar::makers::on_heap;
-use crate::read::{Read, ReadSpecifiers};
+use crate::grammar::parts::PartReader;
+use crate::read::ReadSpecifiers;
 use mc_cursor::cursor::{Cursor, identifier, place};
 use mc_cursor::fault::Fault;
-use mc_cursor::rule::Rule;
 use mc_cursor::to;
 use mc_lex::Token;
 use mc_tree::{Enumerator, Identifier, Member, Specifier, SpecifierWord};
@@ -160,11 +160,7 @@ fn structure_tag<'a>(
     on_heap(alloc, Specifier::StructureTag { tag, span })
 }
 
-impl<
-    'a,
-    F: Fn(Global, &mut Cursor<'_, 'a>, u32, Rule) -> Result<Read<'a>, Fault>,
-    G: Fn(Global, &mut Cursor<'_, 'a>, u32, Allowed) -> Result<ReadSpecifiers<'a>, Fault>,
-> Grammar<F, G> {
+impl<'a, P: PartReader<'a>> Grammar<P> {
     /// The members of a structure, from their brace on.
     #[inline(always)]
     fn structure_list(
@@ -175,8 +171,7 @@ impl<
         tallest: &mut u32,
     ) -> Result<Box<Specifier<'a>>, Fault>
         requires room { self.now.room ≤ 1000 }
-        requires nests { Nests self.now.room (F.pre self.now.inner) (F.post self.now.inner) }
-        requires types { NestsTypes self.now.room (G.pre self.now.typed) (G.post self.now.typed) }
+        requires nests { P.nests self.now.parts self.now.room }
         requires low { tallest.now ≤ self.now.room }
         requires short { IsShort first.now }
         ensures specifier { GivesPart view.boxed_specifier height_specifier
@@ -202,8 +197,7 @@ impl<
         tallest: &mut u32,
     ) -> Result<Box<Specifier<'a>>, Fault>
         requires room { self.now.room ≤ 1000 }
-        requires nests { Nests self.now.room (F.pre self.now.inner) (F.post self.now.inner) }
-        requires types { NestsTypes self.now.room (G.pre self.now.typed) (G.post self.now.typed) }
+        requires nests { P.nests self.now.parts self.now.room }
         requires low { tallest.now ≤ self.now.room }
         ensures specifier { GivesPart view.boxed_specifier height_specifier
             (spec.structure_of (reading self.now.room) self.now.room (left_of tokens.old)) result
@@ -233,7 +227,7 @@ impl<
         tallest: &mut u32,
     ) -> Result<Box<Specifier<'a>>, Fault>
         requires room { self.now.room ≤ 1000 }
-        requires nests { Nests self.now.room (F.pre self.now.inner) (F.post self.now.inner) }
+        requires nests { P.nests self.now.parts self.now.room }
         requires low { tallest.now ≤ self.now.room }
         requires short { IsShort first.now }
         ensures specifier { GivesPart view.boxed_specifier height_specifier
@@ -259,7 +253,7 @@ impl<
         tallest: &mut u32,
     ) -> Result<Box<Specifier<'a>>, Fault>
         requires room { self.now.room ≤ 1000 }
-        requires nests { Nests self.now.room (F.pre self.now.inner) (F.post self.now.inner) }
+        requires nests { P.nests self.now.parts self.now.room }
         requires low { tallest.now ≤ self.now.room }
         ensures specifier { GivesPart view.boxed_specifier height_specifier
             (spec.enumeration_of (reading self.now.room) self.now.room (left_of tokens.old)) result
@@ -285,8 +279,7 @@ impl<
         tallest: &mut u32,
     ) -> Result<Box<Specifier<'a>>, Fault>
         requires room { self.now.room ≤ 1000 }
-        requires nests { Nests self.now.room (F.pre self.now.inner) (F.post self.now.inner) }
-        requires types { NestsTypes self.now.room (G.pre self.now.typed) (G.post self.now.typed) }
+        requires nests { P.nests self.now.parts self.now.room }
         requires low { tallest.now ≤ self.now.room }
         ensures specifier { GivesPart view.boxed_specifier height_specifier
             (spec.specifier_of (reading self.now.room) self.now.room (left_of tokens.old)) result
@@ -310,8 +303,7 @@ impl<
     #[tactic(auto, using(crate::proofs::Parts::specifiers_steps))]
     fn all_specifiers(&self, tokens: &mut Cursor<'_, 'a>) -> Result<ReadSpecifiers<'a>, Fault>
         requires room { self.now.room ≤ 1000 }
-        requires nests { Nests self.now.room (F.pre self.now.inner) (F.post self.now.inner) }
-        requires types { NestsTypes self.now.room (G.pre self.now.typed) (G.post self.now.typed) }
+        requires nests { P.nests self.now.parts self.now.room }
         ensures specifiers { GivesList (all_specifiers_of (reading self.now.room) self.now.room
             (left_of tokens.old)) result (left_of tokens.new) }
         ensures height { IfOk result (λ r. r.height ≤ self.now.room) }
@@ -339,8 +331,7 @@ impl<
         allowed: Allowed,
     ) -> Result<ReadSpecifiers<'a>, Fault>
         requires room { self.now.room ≤ 1000 }
-        requires nests { Nests self.now.room (F.pre self.now.inner) (F.post self.now.inner) }
-        requires types { NestsTypes self.now.room (G.pre self.now.typed) (G.post self.now.typed) }
+        requires nests { P.nests self.now.parts self.now.room }
         ensures specifiers { GivesSpecifiers
             (spec.specifiers_of (reading self.now.room) self.now.room (test_of allowed)
             (left_of tokens.old)) result (left_of tokens.new) }

@@ -7,11 +7,11 @@ ghost use Rattle.mc_grammar.specs.Counts.{for_type};
 ghost use Rattle.mc_reading.specs.Expressions as spec;
 ghost use Rattle.mc_reading.specs.Rooms.{reading};
 ghost use Rattle.mc_cursor.specs.Cursors.{Gives, left_of};
-ghost use Rattle.mc_descent.specs.Given.{GivesMade, GivesSpecifiers, GivesTree, GivesType, IsHigh, Nests, NestsTypes, stars_of, tree_of, type_of};
+ghost use Rattle.mc_descent.specs.Given.{GivesMade, GivesSpecifiers, GivesTree, GivesType, IsHigh, stars_of, tree_of, type_of};
 
-use crate::allowed::Allowed;
 use crate::grammar::Grammar;
 use crate::grammar::makers::{boxed, end_of_specifiers};
+use crate::grammar::parts::PartReader;
 use crate::read::{Read, ReadSpecifiers, ReadStars, ReadType};
 use mc_cursor::cursor::{Cursor, place};
 use mc_cursor::fault::Fault;
@@ -74,26 +74,23 @@ fn made_cast<'a>(
     boxed(alloc, tree, type_height.max(height) + 1)
 }
 
-impl<
-    'a,
-    F: Fn(Global, &mut Cursor<'_, 'a>, u32, Rule) -> Result<Read<'a>, Fault>,
-    G: Fn(Global, &mut Cursor<'_, 'a>, u32, Allowed) -> Result<ReadSpecifiers<'a>, Fault>,
-> Grammar<F, G> {
+impl<'a, P: PartReader<'a>> Grammar<P> {
     /// Reads the specifiers of a type, of fewer than `room` levels.
+    #[inline(always)]
     pub fn types(&self, tokens: &mut Cursor<'_, 'a>) -> Result<ReadSpecifiers<'a>, Fault>
-        requires types { NestsTypes self.now.room (G.pre self.now.typed) (G.post self.now.typed) }
+        requires nests { P.nests self.now.parts self.now.room }
         ensures specifiers { GivesSpecifiers
             ((reading self.now.room).specifiers for_type (left_of tokens.old)) result
             (left_of tokens.new) }
         ensures height { IfOk result (λ r. r.height + 1 ≤ self.now.room) }
     {
-        (self.typed)(self.alloc, tokens, self.room, Allowed::Type)
+        self.parts.types(self.alloc, tokens, self.room)
     }
 
     #[inline(never)]
     #[tactic(auto, unfolding(mc_reading::specs::Expressions::type_name_of))]
     fn type_name(&self, tokens: &mut Cursor<'_, 'a>) -> Result<ReadType<'a>, Fault>
-        requires types { NestsTypes self.now.room (G.pre self.now.typed) (G.post self.now.typed) }
+        requires nests { P.nests self.now.parts self.now.room }
         ensures name { GivesType (spec.type_name_of (reading self.now.room) (left_of tokens.old))
             result (left_of tokens.new) }
         ensures height { IfOk result (λ r. r.height + 1 ≤ self.now.room) }
@@ -115,8 +112,7 @@ impl<
     #[tactic(auto, unfolding(mc_reading::specs::Expressions::cast_to_of))]
     fn cast_to(&self, tokens: &mut Cursor<'_, 'a>) -> Result<Read<'a>, Fault>
         requires room { self.now.room ≤ 1000 }
-        requires nests { Nests self.now.room (F.pre self.now.inner) (F.post self.now.inner) }
-        requires types { NestsTypes self.now.room (G.pre self.now.typed) (G.post self.now.typed) }
+        requires nests { P.nests self.now.parts self.now.room }
         ensures tree { GivesTree (spec.cast_to_of (reading self.now.room) (left_of tokens.old))
             result (left_of tokens.new) }
         ensures height { IfOk result (λ r. r.height ≤ self.now.room) }
@@ -136,7 +132,7 @@ impl<
         tokens: &mut Cursor<'_, 'a>,
     ) -> Result<Read<'a>, Fault>
         requires room { self.now.room ≤ 1000 }
-        requires nests { Nests self.now.room (F.pre self.now.inner) (F.post self.now.inner) }
+        requires nests { P.nests self.now.parts self.now.room }
         ensures tree { GivesTree
             (spec.prefixed (reading self.now.room) self.now.room (Some operator)
             (left_of tokens.old)) result (left_of tokens.new) }
@@ -164,7 +160,7 @@ impl<
         tokens: &mut Cursor<'_, 'a>,
     ) -> Result<Read<'a>, Fault>
         requires room { self.now.room ≤ 1000 }
-        requires nests { Nests self.now.room (F.pre self.now.inner) (F.post self.now.inner) }
+        requires nests { P.nests self.now.parts self.now.room }
         ensures tree { GivesTree
             (spec.operated (reading self.now.room) self.now.room (Some operator)
             (left_of tokens.old)) result (left_of tokens.new) }
@@ -187,7 +183,7 @@ impl<
     #[tactic(auto, unfolding(mc_reading::specs::Expressions::unary_of))]
     pub fn unary(&self, tokens: &mut Cursor<'_, 'a>) -> Result<Read<'a>, Fault>
         requires room { (self.now.room ≤ 1000) × (1 ≤ self.now.room) }
-        requires nests { Nests self.now.room (F.pre self.now.inner) (F.post self.now.inner) }
+        requires nests { P.nests self.now.parts self.now.room }
         ensures tree { GivesTree
             (spec.unary_of (reading self.now.room) self.now.room (left_of tokens.old)) result
             (left_of tokens.new) }
@@ -205,8 +201,7 @@ impl<
     #[tactic(auto, unfolding(mc_reading::specs::Expressions::cast_of))]
     pub fn cast(&self, tokens: &mut Cursor<'_, 'a>) -> Result<Read<'a>, Fault>
         requires room { (self.now.room ≤ 1000) × (1 ≤ self.now.room) }
-        requires nests { Nests self.now.room (F.pre self.now.inner) (F.post self.now.inner) }
-        requires types { NestsTypes self.now.room (G.pre self.now.typed) (G.post self.now.typed) }
+        requires nests { P.nests self.now.parts self.now.room }
         ensures tree { GivesTree
             (spec.cast_of (reading self.now.room) self.now.room (left_of tokens.old)) result
             (left_of tokens.new) }
