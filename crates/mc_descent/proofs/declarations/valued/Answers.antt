@@ -1,0 +1,23 @@
+use Rattle.std.proofs.Common.{arith}
+use Rattle.mc_reading.specs.Declarations.{valued_of}
+use Rattle.mc_descent.proofs.declarations.valued.Goals as goal
+
+pub returns : goal.returns
+unfolding valued_of
+returns c = grind (arith)
+
+pub returns-in_err-declare : goal.returns-in_err-declare
+unfolding valued_of
+returns-in_err-declare c = grind (arith)
+
+pub returns-in_err-take : goal.returns-in_err-take
+unfolding valued_of
+returns-in_err-take c = grind (arith)
+
+pub returns-in_err-value : goal.returns-in_err-value
+unfolding valued_of
+returns-in_err-value c = grind (arith)
+
+pub returns-then-not-sees : goal.returns-then-not-sees
+unfolding valued_of
+returns-then-not-sees c = grind (arith)

@@ -1,0 +1,19 @@
+use Rattle.std.proofs.Common.{arith}
+use Rattle.mc_reading.specs.Expressions.{type_name_of}
+use Rattle.mc_descent.proofs.grammar.Grammar.type_name.Goals as goal
+
+pub returns-clause-name : goal.returns-clause-name
+unfolding type_name_of
+returns-clause-name g c = grind (arith)
+
+pub returns-in_err-all-clause-name : goal.returns-in_err-all-clause-name
+unfolding type_name_of
+returns-in_err-all-clause-name g c = grind (arith)
+
+pub returns-in_err-stars-clause-name : goal.returns-in_err-stars-clause-name
+unfolding type_name_of
+returns-in_err-stars-clause-name g c = grind (arith)
+
+pub returns-in_err-start-clause-name : goal.returns-in_err-start-clause-name
+unfolding type_name_of
+returns-in_err-start-clause-name g c = grind (arith)

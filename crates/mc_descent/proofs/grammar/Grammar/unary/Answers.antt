@@ -1,0 +1,15 @@
+use Rattle.std.proofs.Common.{arith}
+use Rattle.mc_reading.specs.Expressions.{unary_of}
+use Rattle.mc_descent.proofs.grammar.Grammar.unary.Goals as goal
+
+pub returns-in-None-clause-tree : goal.returns-in-None-clause-tree
+unfolding unary_of
+returns-in-None-clause-tree g c = grind (arith)
+
+pub returns-in-Some-clause-tree : goal.returns-in-Some-clause-tree
+unfolding unary_of
+returns-in-Some-clause-tree g c = grind (arith)
+
+pub returns-in-Some-unary-clause-tree : goal.returns-in-Some-unary-clause-tree
+unfolding unary_of
+returns-in-Some-unary-clause-tree g c = grind (arith)
