@@ -1,19 +1,20 @@
--- What sets and maps know after one more name or value.
-use Rattle.std.proofs.Common.{◌≡◌, ◌∙◌, ◌+◌, ℕ, ℤ, zero, suc, Bool, true, false, ◌||◌, List, [], ◌∷◌, ◌++◌, length, Option, Some, None, refl, sym, ap, subst, arith, if◌then◌else◌}
+-- What sets and tables know after one more name or value.
+use Rattle.std.proofs.Common.{◌≡◌, ◌∙◌, ◌+◌, ℕ, ℤ, zero, suc, Bool, true, false, ◌||◌, List, [], ◌∷◌, ◌++◌, length, map, Option, Some, None, refl, sym, ap, subst, arith, if◌then◌else◌}
 use Rattle.std.specs.Str.{bytes_eq}
-use Rattle.std.specs.BTreeMap.{BTreeMap}
 use Rattle.std.proofs.lemmas.Slice.Eq.{bytes_eq-Decides}
 use Rattle.std.specs.BTreeSet.{BTreeSet}
 use Rattle.std.specs.Ordering.{int_eq}
 use Rattle.std.proofs.Math.IntN.{◌+ℤ◌, ◌-ℤ◌, +ℤ_idl, +ℤ-neg_ℤ_cancel, -ℤ-+ℤ_cancel}
 use Rattle.std.specs.Prelude.{pos, negsuc}
 use Rattle.std.proofs.lemmas.Bool.Decides.{Decides-eqb, Decides-int_eq, same_from_decides}
-use denote.Ref.{Bor}
+use Rattle.std.proofs.lemmas.List.{map_push}
+use Rattle.mc_names.specs.Tables.{Named, last_of}
+use Rattle.mc_names.specs.Tables as names
 use Rattle.mc_value.specs.Conversions.{is_zero}
 use Rattle.mc_value.specs.Arithmetic.{are_equal}
 use Rattle.mc_typing.specs.Scopes.{place_from, later_or}
 use Rattle.mc_typing.specs.Statements.{has_value}
-use Rattle.mc_scopes.specs.Seen.{number_of, AreNumbered, is_in, AreSorted}
+use Rattle.mc_scopes.specs.Seen.{AreNumbered, is_in, AreSorted}
 
 -- one more name
 pub place_more : (k : ℕ) (q : List ℕ) (names : List (List ℕ)) (name : List ℕ)
@@ -31,15 +32,48 @@ place_more k q (other ∷ names) name =
     by_test true o e = refl
     by_test false o e = ap (λ n. later_or o (if bytes_eq name q then Some n else None)) e
 
-pub numbered_more : (names : List (List ℕ)) (name : List ℕ) (old new : BTreeMap (Bor (List ℕ)) ℕ)
-    → AreNumbered names old
-    → ((q : List ℕ) → number_of new q ≡ later_or (number_of old q) (if bytes_eq name q then Some (length names) else None))
-    → AreNumbered (names ++ (name ∷ [])) new
-numbered_more names name old new h step =
-    let e : length names ≡ 0 + length names = omega arith in
-    λ q. step q ∙ ap (λ o. later_or o (if bytes_eq name q then Some (length names) else None)) (h q)
-    ∙ ap (λ n. later_or (place_from 0 q names) (if bytes_eq name q then Some n else None)) e
-    ∙ sym (place_more 0 q names name)
+-- what the last entry of a name means after one more entry
+pub last_more : (q : List ℕ) (numbers : List (Named ℕ)) (e : Named ℕ)
+    → last_of q (numbers ++ (e ∷ [])) ≡ (if bytes_eq e.name q then Some e.meaning else last_of q numbers)
+last_more q [] e = refl
+last_more q (other ∷ numbers) e =
+    rw (last_more q numbers e) (by_test (bytes_eq e.name q) (last_of q numbers))
+  where
+    by_test : (b : Bool) (o : Option ℕ)
+        → names.later_or (if b then Some e.meaning else o) (if bytes_eq other.name q then Some other.meaning else None)
+        ≡ (if b then Some e.meaning else names.later_or o (if bytes_eq other.name q then Some other.meaning else None))
+    by_test true o = refl
+    by_test false o = refl
+
+abbrev pub names_in : List (Named ℕ) → List (List ℕ)
+names_in numbers = map (λ e. e.name) numbers
+
+-- one more name, with its first number
+pub numbered_more : (numbers : List (Named ℕ)) (name : List ℕ) (number : ℕ) → AreNumbered numbers
+    → Some number ≡ later_or (place_from 0 name (names_in numbers)) (Some (length (names_in numbers)))
+    → AreNumbered (numbers ++ (record { name = name; meaning = number } ∷ []))
+numbered_more numbers name number h first = λ q.
+    last_more q numbers (record { name = name; meaning = number })
+    ∙ by_name q (bytes_eq name q) refl
+    ∙ sym (ap (place_from 0 q) (map_push (λ e. e.name) numbers (record { name = name; meaning = number }))
+    ∙ place_more 0 q (names_in numbers) name)
+  where
+    count : length (names_in numbers) ≡ 0 + length (names_in numbers)
+    count = omega arith
+
+    none : (o : Option ℕ) → o ≡ later_or o None
+    none None = refl
+    none (Some k) = refl
+
+    by_name : (q : List ℕ) (b : Bool) → bytes_eq name q ≡ b
+        → (if b then Some number else last_of q numbers)
+        ≡ later_or (place_from 0 q (names_in numbers))
+        (if b then Some (0 + length (names_in numbers)) else None)
+    by_name q true is =
+        first ∙ ap (λ k. later_or (place_from 0 name (names_in numbers)) (Some k)) count
+        ∙ ap (λ p. later_or (place_from 0 p (names_in numbers)) (Some (0 + length (names_in numbers))))
+        ((bytes_eq-Decides name q).0 is)
+    by_name q false is = h q ∙ none (place_from 0 q (names_in numbers))
 
 -- one more value
 pub value_more : (q : ℤ) (vs : List ℤ) (v : ℤ) → has_value q (vs ++ (v ∷ [])) ≡ (has_value q vs || are_equal q v)
@@ -81,39 +115,3 @@ equal_is q v = same_from_decides (are_equal q v) (int_eq v q) (
   λ e. ap (λ z. is_zero (z -ℤ v)) e ∙ ap is_zero (ap (λ z. z -ℤ v) (sym (+ℤ_idl v)) ∙ +ℤ-neg_ℤ_cancel (pos 0) v),
 )
     (λ e. sym ((Decides-int_eq v q).0 e), λ e. (Decides-int_eq v q).1 (sym e))
-
--- ---- the first number of a name
-
-none_some : {X : Type 0} (k : ℕ) → None ≡ Some k → X
-none_some k e = absurd (subst IsNone' e tt)
-  where
-    IsNone' : Option ℕ → Type 0
-    IsNone' None = Unit {0}
-    IsNone' (Some n) = ⊥
-
--- a name that has a number keeps it
-pub kept_first : (m : BTreeMap (Bor (List ℕ)) ℕ) (name q : List ℕ) (k n : ℕ) → number_of m name ≡ Some k
-    → number_of m q ≡ later_or (number_of m q) (if bytes_eq name q then Some n else None)
-kept_first m name q k n has = go (bytes_eq name q) refl (number_of m q) refl
-  where
-    go : (b : Bool) → bytes_eq name q ≡ b → (o : Option ℕ) → number_of m q ≡ o
-        → o ≡ later_or o (if b then Some n else None)
-    go true is None none =
-        none_some k (sym none ∙ ap (number_of m) (sym ((bytes_eq-Decides name q).0 is)) ∙ has)
-    go true is (Some x) some = refl
-    go false is None none = refl
-    go false is (Some x) some = refl
-
--- a name that has none gets one
-pub put_first : (m : BTreeMap (Bor (List ℕ)) ℕ) (name q : List ℕ) (n : ℕ) → number_of m name ≡ None
-    → (if bytes_eq name q then Some n else number_of m q)
-    ≡ later_or (number_of m q) (if bytes_eq name q then Some n else None)
-put_first m name q n has = go (bytes_eq name q) refl (number_of m q) refl
-  where
-    go : (b : Bool) → bytes_eq name q ≡ b → (o : Option ℕ) → number_of m q ≡ o
-        → (if b then Some n else o) ≡ later_or o (if b then Some n else None)
-    go true is None none = refl
-    go true is (Some x) some =
-        none_some x (sym has ∙ ap (number_of m) ((bytes_eq-Decides name q).0 is) ∙ some)
-    go false is None none = refl
-    go false is (Some x) some = refl

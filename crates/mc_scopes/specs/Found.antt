@@ -8,6 +8,8 @@ use Rattle.mc_scopes.specs.declared.found.Found.{Found}
 use Rattle.mc_scopes.specs.declared.found.Judged.{Judged}
 use Rattle.mc_scopes.specs.declared.kind.Kind.{Kind}
 use Rattle.mc_scopes.specs.declared.kind.Kind.TheVariants as kind
+use Rattle.mc_scopes.specs.declared.parts.ValueParts.{ValueParts}
+use Rattle.mc_scopes.specs.declared.parts.ValueParts.TheVariants as parts
 use Rattle.mc_scopes.specs.declared.value.Value.{Value}
 use Rattle.mc_scopes.specs.declared.value.Value.TheVariants as value
 use Rattle.mc_faults.specs.Kept.{listed}
@@ -20,6 +22,15 @@ value_of (value.Returned c k) = v.Returned (call_of c) k
 value_of (value.Done effect) = v.Done (effect_of effect)
 value_of (value.Assigned effect) = v.Assigned (effect_of effect)
 value_of value.Designator = v.Designator
+
+abbrev pub parts_of : ValueParts → v.Value
+parts_of (parts.Number e) = v.Number (expression_of e)
+parts_of (parts.Stored place u) = v.Stored (place_of place) (type_of u)
+parts_of (parts.Borrowed array element span) = v.Borrowed array (type_of element) span
+parts_of (parts.Returned c k) = v.Returned (call_of c) k
+parts_of (parts.Done effect) = v.Done (effect_of effect)
+parts_of (parts.Assigned effect) = v.Assigned (effect_of effect)
+parts_of parts.Designator = v.Designator
 
 abbrev pub kind_of : Kind → v.Kind
 kind_of kind.Void = v.IsVoid

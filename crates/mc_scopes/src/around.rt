@@ -9,7 +9,7 @@ use crate::types::Base;
 /// What stands around a statement: what the function gives, where that could be made out, whether
 /// `break` and `continue` have something to end, and whether the statement is the body of a
 /// `switch`.
-#[derive(Clone, Copy, Debug, PartialEq, Eq)]
+#[derive(Clone, Copy)]
 pub struct Around {
     pub result: Option<Base>,
     pub breaks: bool,

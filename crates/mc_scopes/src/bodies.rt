@@ -1,18 +1,16 @@
 //! The functions of a unit that have a body.
-ghost use Rattle.std.specs.Prelude.{◌≡◌, ◌∷◌, ◌++◌, [], ℕ, List, Some, None, if◌then◌else◌, bytes_eq, OnOk, OnErr};
+ghost use Rattle.std.specs.Prelude.{◌≡◌, ◌∷◌, ◌++◌, [], ℕ, List, Some, length, OnOk, OnErr, IfOk};
 ghost use Rattle.mc_typing.specs.Scopes.{place_from, later_or};
-ghost use Rattle.mc_scopes.specs.Seen.{number_of};
 
+use mc_names::Table;
 use std::alloc::{AllocError, Global};
-use std::collections::BTreeMap;
 use std::marker::Model;
 
-/// The names of the functions that have a body, in the order of their definitions. The number of a
-/// function is found in logarithmic time.
+/// The names of the functions that have a body, in the order of their definitions, each with the
+/// number of the first function with this name. It is found in logarithmic time.
 #[derive(Drop)]
 pub struct Bodies<'a> {
-    names: Vec<&'a [u8]>,
-    numbers: BTreeMap<&'a [u8], u32>,
+    numbers: Table<'a, u32>,
 }
 
 impl<'a> Model for Bodies<'a> {
@@ -21,9 +19,9 @@ impl<'a> Model for Bodies<'a> {
 
     ghost Value = { List (List ℕ) };
 
-    ghost view = { λ b. map (λ n. n.now) b.names.items };
+    ghost view = { λ b. map (λ e. e.name) b.numbers };
 
-    ghost invariant = { λ b. AreNumbered (map (λ n. n.now) b.names.items) b.numbers };
+    ghost invariant = { λ b. AreNumbered b.numbers };
 }
 
 impl<'a> Bodies<'a> {
@@ -32,8 +30,7 @@ impl<'a> Bodies<'a> {
         ensures { result ≡ [] }
     {
         Bodies {
-            names: Vec::new(alloc),
-            numbers: BTreeMap::new(alloc),
+            numbers: Table::new(alloc),
         }
     }
 
@@ -42,6 +39,20 @@ impl<'a> Bodies<'a> {
         ensures { result ≡ place_from 0 name.now self.now }
     {
         self.numbers.get(name).copied()
+    }
+
+    // The number of a name once it is that of one more function.
+    fn number_with(&self, name: &[u8]) -> Result<u32, AllocError>
+        ensures { IfOk result (λ n. Some n
+            ≡ later_or (place_from 0 name.now self.now) (Some (length self.now))) }
+    {
+        match self.number(name) {
+            Some(number) => Ok(number),
+            None => match u32::try_from(self.numbers.len()) {
+                Ok(number) => Ok(number),
+                Err(_) => Err(AllocError),
+            },
+        }
     }
 
     /// One more function.
@@ -54,36 +65,8 @@ impl<'a> Bodies<'a> {
         ensures ok { OnOk result (self.new ≡ self.old ++ name.now ∷ []) }
         ensures err { OnErr result (self.new ≡ self.old) }
     {
-        let count = self.names.len();
-        if count > u32::MAX as usize {
-            return Err(AllocError);
-        }
-        self.names.push(name)?;
-        match keep_first(&mut self.numbers, name, count as u32) {
-            Ok(()) => Ok(()),
-            Err(error) => {
-                self.names.pop();
-                Err(error)
-            }
-        }
-    }
-}
-
-// Keeps the number of a name that has none.
-fn keep_first<'a>(
-    numbers: &mut BTreeMap<&'a [u8], u32>,
-    name: &'a [u8],
-    number: u32,
-) -> Result<(), AllocError>
-    ensures ok { OnOk result ((q : List ℕ) → number_of numbers.new q ≡ later_or
-        (number_of numbers.old q) (if bytes_eq name.now q then Some number else None)) }
-    ensures err { OnErr result ((q : List ℕ) → number_of numbers.new q ≡ number_of numbers.old q) }
-{
-    match numbers.get(name) {
-        Some(_) => Ok(()),
-        None => {
-            numbers.insert(name, number)?;
-            Ok(())
-        }
+        let number = self.number_with(name)?;
+        self.numbers.push(name, number)?;
+        Ok(())
     }
 }

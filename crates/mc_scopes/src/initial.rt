@@ -1,5 +1,5 @@
 //! Values of objects with static storage duration (C17 6.7.9p4, p10, p21).
-ghost use Rattle.std.specs.Prelude.{◌≡◌, ◌≤◌, ◌++◌, [], ℤ, List, pos, length, map, unwrap_or, IfOk, OnOk};
+ghost use Rattle.std.specs.Prelude.{◌≡◌, ◌≤◌, ◌∷◌, ◌++◌, [], ℤ, List, pos, length, map, unwrap_or, IfOk, OnOk};
 ghost use Rattle.mc_typed.specs.Views.{expression_of, initializer_of, initializers_from};
 ghost use Rattle.mc_typing.specs.Initializers as i;
 ghost use Rattle.mc_typing.specs.Constants as c;
@@ -40,16 +40,23 @@ fn add_zeros(values: &mut Vec<i128>, count: u32) -> Result<(), AllocError>
     values.resize(total, 0)
 }
 
+// The value of a number.
+fn add_number(values: &mut Vec<i128>, value: &Expression) -> Result<(), AllocError>
+    ensures { OnOk result (values.new.items
+        ≡ values.old.items ++ unwrap_or (c.constant_value (expression_of value.now)) (pos 0) ∷ []) }
+{
+    let number = number_or_zero(value)?;
+    values.push(number)?;
+    Ok(())
+}
+
 #[cycle(values)]
 fn add_values(values: &mut Vec<i128>, tree: &Initializer) -> Result<(), AllocError>
     ensures { OnOk result (values.new.items
         ≡ values.old.items ++ i.values_of (initializer_of tree.now)) }
 {
     match tree {
-        Initializer::Number { value } => {
-            values.push(number_or_zero(value)?)?;
-            Ok(())
-        }
+        Initializer::Number { value } => { add_number(values, value) }
         Initializer::Structure { .. } => Ok(()),
         Initializer::List { items, cells } => {
             let start = values.len();
@@ -76,8 +83,13 @@ pub fn values_of(alloc: Global, tree: &Initializer) -> Result<Vec<i128>, AllocEr
     ensures { IfOk result (λ r. r.items ≡ i.values_of (initializer_of tree.now)) }
 {
     let mut values = Vec::new(alloc);
-    add_values(&mut values, tree)?;
-    Ok(values)
+    match add_values(&mut values, tree) {
+        Ok(()) => Ok(values),
+        Err(error) => {
+            drop(values);
+            Err(error)
+        }
+    }
 }
 
 /// The values of so many cells without an initializer (C17 6.7.9p10).
@@ -85,6 +97,11 @@ pub fn zeros(alloc: Global, count: u32) -> Result<Vec<i128>, AllocError>
     ensures { IfOk result (λ r. r.items ≡ i.filled count []) }
 {
     let mut values = Vec::new(alloc);
-    add_zeros(&mut values, count)?;
-    Ok(values)
+    match add_zeros(&mut values, count) {
+        Ok(()) => Ok(values),
+        Err(error) => {
+            drop(values);
+            Err(error)
+        }
+    }
 }

@@ -52,13 +52,18 @@ impl Labels {
         ensures { IfOk result (λ r. r ≡ self.now) }
     {
         let values = self.values.clone()?;
-        let sorted = self.sorted.clone()?;
-        Ok(Labels {
-            value_type: self.value_type,
-            values,
-            sorted,
-            has_default: self.has_default,
-        })
+        match self.sorted.clone() {
+            Ok(sorted) => Ok(Labels {
+                value_type: self.value_type,
+                values,
+                sorted,
+                has_default: self.has_default,
+            }),
+            Err(error) => {
+                drop(values);
+                Err(error)
+            }
+        }
     }
 
     /// The promoted type of the controlling expression, where it has one. Takes no memory.

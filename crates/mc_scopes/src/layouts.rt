@@ -1,10 +1,12 @@
 //! Layouts of types (C17 6.2.5), and the limits of objects.
-ghost use Rattle.std.specs.Prelude.{◌≡◌, ◌+◌, ◌*◌, ◌<◌, ◌≤◌, ◌||◌, ◌^◌, nat_lt, min, [], map, slice_get, Some, IfOk, OnErr};
+ghost use Rattle.std.specs.Prelude.{◌≡◌, ◌+◌, ◌*◌, ◌<◌, ◌≤◌, ◌||◌, ◌^◌, ◌∷◌, ◌++◌, nat_lt, min, [], length, map, slice_get, Some, IfOk, OnOk, OnErr};
 ghost use Rattle.mc_typed.specs.Layout as layout;
 ghost use Rattle.mc_typed.specs.Layout.{object_type_of};
 ghost use Rattle.mc_typing.specs.Types as t;
 ghost use Rattle.mc_typing.specs.Limits as limit;
 ghost use Rattle.mc_typing.specs.Profile.{most_cells};
+ghost use Rattle.mc_typing.specs.Declarators.{cells_of_members};
+ghost use Rattle.mc_typing.specs.Expressions.{layouts_of};
 ghost use Rattle.mc_scopes.specs.Types.{base_of, type_of};
 ghost use Rattle.mc_scopes.specs.Views.{structure_of};
 ghost use Rattle.mc_scopes.specs.Counted.{most_counted, product};
@@ -20,37 +22,48 @@ const MOST_CELLS: u32 = 65536;
 
 const MOST_NESTING: u64 = 200;
 
-/// Whether an object can have a type with this base (C17 6.2.5p1).
+// Whether the structure type with this number has its members.
 #[tactic(auto, using(crate::proofs::Arrays::structure_at))]
+fn has_members(structures: &[Structure<'_>], number: u32) -> bool
+    ensures { result
+        ≡ t.is_complete_structure (slice_get (map structure_of structures.now) number) }
+{
+    match structures.get(number as usize) {
+        Some(structure) => structure.is_complete(),
+        None => false,
+    }
+}
+
+/// Whether an object can have a type with this base (C17 6.2.5p1).
 pub fn is_complete(structures: &[Structure<'_>], base: Base) -> bool
     ensures { result ≡ t.is_complete (map structure_of structures.now) (base_of base) }
 {
     match base {
         Base::Void => false,
         Base::Integer(_) => true,
-        Base::Tagged(number) => match structures.get(number as usize) {
-            Some(Structure::Complete(_)) => true,
-            Some(Structure::Incomplete { .. }) => false,
-            Some(Structure::Faulty) => false,
-            None => false,
-        },
+        Base::Tagged(number) => has_members(structures, number),
+    }
+}
+
+// Whether the structure type with this number has a fault in its list.
+#[tactic(auto, using(crate::proofs::Arrays::structure_at))]
+fn has_fault(structures: &[Structure<'_>], number: u32) -> bool
+    ensures { result ≡ t.is_faulty_structure (slice_get (map structure_of structures.now) number) }
+{
+    match structures.get(number as usize) {
+        Some(structure) => structure.is_faulty(),
+        None => false,
     }
 }
 
 /// Whether the base is a structure with a fault in its list.
-#[tactic(auto, using(crate::proofs::Arrays::structure_at))]
 pub fn is_faulty(structures: &[Structure<'_>], base: Base) -> bool
     ensures { result ≡ t.is_faulty (map structure_of structures.now) (base_of base) }
 {
     match base {
         Base::Void => false,
         Base::Integer(_) => false,
-        Base::Tagged(number) => match structures.get(number as usize) {
-            Some(Structure::Faulty) => true,
-            Some(Structure::Complete(_)) => false,
-            Some(Structure::Incomplete { .. }) => false,
-            None => false,
-        },
+        Base::Tagged(number) => has_fault(structures, number),
     }
 }
 
@@ -169,6 +182,43 @@ fn structure_type(
     Ok(ObjType::Struct { number, members })
 }
 
+// Adds a structure type, whose number is that of those before it.
+fn add_type(
+    alloc: Global,
+    types: &mut Vec<ObjType>,
+    structure: &Structure<'_>,
+) -> Result<(), AllocError>
+    ensures more { OnOk result (map object_type_of types.new.items
+        ≡ map object_type_of types.old.items
+        ++ t.structure_from (length types.old.items) (structure_of structure.now) ∷ []) }
+    ensures count { OnOk result (length types.new.items ≡ length types.old.items + 1) }
+{
+    match u32::try_from(types.len()) {
+        Ok(number) => {
+            let one = structure_type(alloc, number, structure)?;
+            types.push(one)?;
+            Ok(())
+        }
+        Err(_) => Err(AllocError),
+    }
+}
+
+// Adds structure types to none.
+fn add_types(
+    alloc: Global,
+    types: &mut Vec<ObjType>,
+    structures: &[Structure<'_>],
+) -> Result<(), AllocError>
+    requires { types.old.items ≡ [] }
+    ensures { OnOk result (map object_type_of types.new.items
+        ≡ t.structures_from 0 (map structure_of structures.now)) }
+{
+    for structure in structures {
+        add_type(alloc, types, structure)?;
+    }
+    Ok(())
+}
+
 /// The structure types of a program, by their numbers. One that stays incomplete has no members.
 ///
 /// # Errors
@@ -182,19 +232,30 @@ pub fn structure_types(
         ≡ t.structures_from 0 (map structure_of structures.now)) }
 {
     let mut types = Vec::new(alloc);
-    for structure in structures {
-        let Ok(number) = u32::try_from(types.len()) else {
-            return Err(AllocError);
-        };
-        types.push(structure_type(alloc, number, structure)?)?;
+    match add_types(alloc, &mut types, structures) {
+        Ok(()) => Ok(types),
+        Err(error) => {
+            drop(types);
+            Err(error)
+        }
     }
-    Ok(types)
 }
 
 // ---- cells
 
-// The cells of an object of a base.
+// The cells of an object whose type is the structure type with this number.
 #[tactic(auto, using(crate::proofs::Arrays::structure_at))]
+fn cells_at(structures: &[Structure<'_>], number: u32) -> u32
+    ensures { result ≡ cells_of_members
+        (t.members_of (slice_get (map structure_of structures.now) number)) }
+{
+    match structures.get(number as usize) {
+        Some(structure) => structure.cells(),
+        None => 0,
+    }
+}
+
+// The cells of an object of a base.
 fn cells_of_base(structures: &[Structure<'_>], base: Base) -> u32
     ensures { result
         ≡ layout.cells (t.layout_of_base (map structure_of structures.now) (base_of base)) }
@@ -202,12 +263,7 @@ fn cells_of_base(structures: &[Structure<'_>], base: Base) -> u32
     match base {
         Base::Void => 0,
         Base::Integer(_) => 1,
-        Base::Tagged(number) => match structures.get(number as usize) {
-            Some(Structure::Complete(complete)) => complete.cells(),
-            Some(Structure::Incomplete { .. }) => 0,
-            Some(Structure::Faulty) => 0,
-            None => 0,
-        },
+        Base::Tagged(number) => cells_at(structures, number),
     }
 }
 
@@ -265,8 +321,20 @@ pub fn cells(structures: &[Structure<'_>], of: &CType) -> Result<u32, AllocError
 
 // ---- limits
 
-// How many arrays and structures stand inside one another in a base.
+// How many arrays and structures stand inside one another in the members of the structure type with
+// this number.
 #[tactic(auto, using(crate::proofs::Arrays::structure_at))]
+fn nesting_at(structures: &[Structure<'_>], number: u32) -> u32
+    ensures { result ≡ layout.nesting_all
+        (layouts_of (t.members_of (slice_get (map structure_of structures.now) number))) }
+{
+    match structures.get(number as usize) {
+        Some(structure) => structure.nesting(),
+        None => 0,
+    }
+}
+
+// How many arrays and structures stand inside one another in a base.
 fn nesting_of_base(structures: &[Structure<'_>], base: Base) -> u64
     ensures exact { result
         ≡ layout.nesting (t.layout_of_base (map structure_of structures.now) (base_of base)) }
@@ -275,12 +343,7 @@ fn nesting_of_base(structures: &[Structure<'_>], base: Base) -> u64
     match base {
         Base::Void => 1,
         Base::Integer(_) => 0,
-        Base::Tagged(number) => match structures.get(number as usize) {
-            Some(Structure::Complete(complete)) => complete.nesting() as u64 + 1,
-            Some(Structure::Incomplete { .. }) => 1,
-            Some(Structure::Faulty) => 1,
-            None => 1,
-        },
+        Base::Tagged(number) => nesting_at(structures, number) as u64 + 1,
     }
 }
 

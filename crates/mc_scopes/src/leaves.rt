@@ -14,8 +14,14 @@ pub fn alone(alloc: Global, one: Statement) -> Result<Vec<Statement>, AllocError
     ensures { IfOk result (λ r. statements_of r ≡ w.alone (statement_of one)) }
 {
     let mut list = Vec::new(alloc);
-    list.push(one)?;
-    Ok(list)
+    match list.push(one) {
+        Ok(()) => Ok(list),
+        Err(failed) => {
+            drop(list);
+            drop(failed);
+            Err(AllocError)
+        }
+    }
 }
 
 /// A statement of its own, which has this fault.

@@ -7,7 +7,7 @@ ghost use Rattle.mc_typing.specs.Declarators.{has_member, cells_of_members};
 ghost use Rattle.mc_typing.specs.Expressions.{selected, layouts_of};
 ghost use Rattle.mc_scopes.specs.Types.{type_of};
 ghost use Rattle.mc_scopes.specs.Listed.{layout_of, listed_of, selected_of, found_member, member_at};
-ghost use Rattle.mc_scopes.specs.Views.{complete_in};
+ghost use Rattle.mc_scopes.specs.Views.{complete_in, structure_of};
 
 use crate::member::Member;
 use crate::types::CType;
@@ -208,15 +208,29 @@ impl<'a> Members<'a> {
         }
     }
 
+    // The layouts of the members, to be shared.
+    fn shared_parts(&self, alloc: Global) -> Result<Arc<Vec<ObjType>>, AllocError>
+        ensures { IfOk result (λ p. map object_type_of p.value.items
+            ≡ map (λ m. m.layout) (map listed_of self.now)) }
+    {
+        let parts = self.parts(alloc)?;
+        Ok(Arc::new(alloc, parts)?)
+    }
+
     /// The members of the structure that they complete (C17 6.7.2.1p8).
     pub fn complete(self, alloc: Global) -> Result<Complete<'a>, AllocError>
         ensures { IfOk result (λ c. c ≡ self.entry) }
     {
-        let parts = Arc::new(alloc, self.parts(alloc)?)?;
-        Ok(Complete {
-            members: self,
-            parts,
-        })
+        match self.shared_parts(alloc) {
+            Ok(parts) => Ok(Complete {
+                members: self,
+                parts,
+            }),
+            Err(error) => {
+                drop(self);
+                Err(error)
+            }
+        }
     }
 }
 
@@ -270,6 +284,51 @@ impl<'a> Complete<'a> {
 }
 
 impl<'a> Structure<'a> {
+    // Whether it has its members.
+    pub(crate) fn is_complete(&self) -> bool
+        ensures { result ≡ t.is_complete_structure (Some (structure_of self.now)) }
+    {
+        match self {
+            Structure::Complete(_) => true,
+            Structure::Incomplete { .. } => false,
+            Structure::Faulty => false,
+        }
+    }
+
+    // Whether there is a fault in its list.
+    pub(crate) fn is_faulty(&self) -> bool
+        ensures { result ≡ t.is_faulty_structure (Some (structure_of self.now)) }
+    {
+        match self {
+            Structure::Faulty => true,
+            Structure::Complete(_) => false,
+            Structure::Incomplete { .. } => false,
+        }
+    }
+
+    // How many cells its members have.
+    pub(crate) fn cells(&self) -> u32
+        ensures { result ≡ cells_of_members (t.members_of (Some (structure_of self.now))) }
+    {
+        match self {
+            Structure::Complete(complete) => complete.cells(),
+            Structure::Incomplete { .. } => 0,
+            Structure::Faulty => 0,
+        }
+    }
+
+    // How many arrays and structures stand inside one another in its members.
+    pub(crate) fn nesting(&self) -> u32
+        ensures { result
+            ≡ sizes.nesting_all (layouts_of (t.members_of (Some (structure_of self.now)))) }
+    {
+        match self {
+            Structure::Complete(complete) => complete.nesting(),
+            Structure::Incomplete { .. } => 0,
+            Structure::Faulty => 0,
+        }
+    }
+
     /// Its members, where it is complete. Takes no memory.
     pub fn complete(&self) -> Option<&Complete<'a>>
         ensures { option_copied result ≡ complete_in self.now }

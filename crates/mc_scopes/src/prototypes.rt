@@ -105,15 +105,22 @@ impl<'a> Scope<'a> {
             ≡ body_in (around_of block).names (name_of name.now) (meaning_of meaning)
             (scope_of self.old)) }
     {
-        let count = self.names.insert(alloc, block.names, name.text, meaning)?;
-        self.names_from = count;
-        Ok(Block {
-            names: count,
-            tags: block.tags,
-            names_from: block.names_from,
-            tags_from: block.tags_from,
-            is_file: block.is_file,
-            labels: block.labels,
-        })
+        match self.names.insert(alloc, block.names, name.text, meaning) {
+            Ok(count) => {
+                self.names_from = count;
+                Ok(Block {
+                    names: count,
+                    tags: block.tags,
+                    names_from: block.names_from,
+                    tags_from: block.tags_from,
+                    is_file: block.is_file,
+                    labels: block.labels,
+                })
+            }
+            Err(error) => {
+                drop(block);
+                Err(error)
+            }
+        }
     }
 }

@@ -132,8 +132,13 @@ impl<'a> Scope<'a> {
         ensures { IfOk result (λ _. scope_of self.new
             ≡ s.with_structure (structure_of structure.entry) (scope_of self.old)) }
     {
-        self.structures.push(structure)?;
-        Ok(())
+        match self.structures.push(structure) {
+            Ok(()) => Ok(()),
+            Err(failed) => {
+                drop(failed);
+                Err(AllocError)
+            }
+        }
     }
 
     /// The structure type with a number is this from now on.
@@ -152,6 +157,8 @@ impl<'a> Scope<'a> {
     {
         if (number as usize) < self.structures.len() {
             self.set_structure(number, structure);
+        } else {
+            drop(structure);
         }
     }
 
@@ -188,14 +195,21 @@ impl<'a> Scope<'a> {
             ≡ s.with_object (object_type_of object_type) (scope_of self.old)) }
     {
         let start = start_at(self.frame);
-        let frame = self.frame.checked_add(u64::from(count)).ok_or(AllocError)?;
-        self.objects.push(Object {
-            object_type,
-            cells: count,
-            start,
-        })?;
-        self.frame = frame;
-        Ok(())
+        match self.frame.checked_add(u64::from(count)) {
+            Some(frame) => {
+                self.objects.push(Object {
+                    object_type,
+                    cells: count,
+                    start,
+                })?;
+                self.frame = frame;
+                Ok(())
+            }
+            None => {
+                drop(object_type);
+                Err(AllocError)
+            }
+        }
     }
 
     /// So many cells of the frame count no more.
@@ -217,18 +231,23 @@ impl<'a> Scope<'a> {
             ≡ s.with_static (object_type_of object_type) initial.items (scope_of self.old)) }
     {
         let start = start_at(self.static_cells);
-        let cells = self
-            .static_cells
-            .checked_add(u64::from(count))
-            .ok_or(AllocError)?;
-        self.statics.push(StaticObject {
-            object_type,
-            cells: count,
-            start,
-            initial,
-        })?;
-        self.static_cells = cells;
-        Ok(())
+        match self.static_cells.checked_add(u64::from(count)) {
+            Some(cells) => {
+                self.statics.push(StaticObject {
+                    object_type,
+                    cells: count,
+                    start,
+                    initial,
+                })?;
+                self.static_cells = cells;
+                Ok(())
+            }
+            None => {
+                drop(object_type);
+                drop(initial);
+                Err(AllocError)
+            }
+        }
     }
 
     /// One more array parameter.

@@ -14,7 +14,7 @@ const MOST_LENGTH: u64 = 65536;
 const MOST_LENGTHS: usize = 202;
 
 /// A type that is no array: void, an integer type, or the structure type with this number.
-#[derive(Clone, Copy, Debug, PartialEq, Eq)]
+#[derive(Clone, Copy)]
 pub enum Base {
     Void,
     Integer(IntType),
@@ -23,11 +23,20 @@ pub enum Base {
 
 /// A type: so many elements of so many elements .. of its base, the outermost length first. `const`
 /// qualifies the base (C17 6.7.3p9).
-#[derive(Drop)]
 pub struct CType {
     pub base: Base,
     pub is_const: bool,
     pub lengths: Vec<u64>,
+}
+
+impl Drop for CType {
+    fn drop(self) {
+        let Self {
+            base: _,
+            is_const: _,
+            lengths: _,
+        } = self;
+    }
 }
 
 /// What a parameter takes (C17 6.7.6.3).
@@ -73,8 +82,8 @@ fn same_integer(a: IntType, b: IntType) -> bool
     order(a) == order(b)
 }
 
-// Whether two bases are one.
-fn same_base(a: Base, b: Base) -> bool
+/// Whether two bases are one. Takes no memory.
+pub fn same_base(a: Base, b: Base) -> bool
     ensures { result ≡ t.same_base (base_of a) (base_of b) }
 {
     match a {
@@ -96,8 +105,8 @@ fn same_base(a: Base, b: Base) -> bool
     }
 }
 
-// Whether two lists of lengths are one.
-fn same_lengths(a: &[u64], b: &[u64]) -> bool
+/// Whether two lists of lengths are one. Takes no memory.
+pub fn same_lengths(a: &[u64], b: &[u64]) -> bool
     ensures { result ≡ t.same_lengths a.now b.now }
 {
     let mut left = b;
@@ -178,10 +187,15 @@ impl CType {
     pub fn qualified(self, is_const: bool) -> CType
         ensures { type_of result ≡ t.qualified is_const (type_of self) }
     {
+        let Self {
+            base,
+            is_const: before,
+            lengths,
+        } = self;
         CType {
-            base: self.base,
-            is_const: self.is_const || is_const,
-            lengths: self.lengths,
+            base,
+            is_const: before || is_const,
+            lengths,
         }
     }
 
@@ -189,13 +203,17 @@ impl CType {
     pub fn element(self) -> CType
         ensures { type_of result ≡ record (type_of self) { lengths = drop 1 self.lengths.items } }
     {
-        let mut lengths = self.lengths;
+        let Self {
+            base,
+            is_const,
+            mut lengths,
+        } = self;
         if !lengths.is_empty() {
             lengths.remove(0);
         }
         CType {
-            base: self.base,
-            is_const: self.is_const,
+            base,
+            is_const,
             lengths,
         }
     }

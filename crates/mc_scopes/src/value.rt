@@ -4,14 +4,14 @@ ghost use Rattle.mc_typed.specs.Views.{expression_of, effect_of, structure_of, p
 ghost use Rattle.mc_typing.specs.Values as v;
 ghost use Rattle.mc_typing.specs.Expressions as e;
 ghost use Rattle.mc_scopes.specs.Types.{base_of, type_of};
-ghost use Rattle.mc_scopes.specs.Found.{kind_of, value_of};
+ghost use Rattle.mc_scopes.specs.Found.{kind_of, parts_of, value_of};
 
 use crate::kind::Kind;
+use crate::parts::ValueParts;
 use crate::types::{Base, CType};
 use mc_typed::{Effect, Expression, FunctionCall, Place, Span, Structure};
 
 /// An expression with a type.
-#[derive(Drop)]
 pub enum Value {
     /// An integer that is not stored in an object.
     Number(Expression),
@@ -33,7 +33,48 @@ pub enum Value {
     Designator,
 }
 
+impl Drop for Value {
+    fn drop(self) {
+        match self {
+            Value::Number(_)
+            | Value::Stored(_, _)
+            | Value::Borrowed {
+                array: _,
+                element: _,
+                span: _,
+            }
+            | Value::Returned(_, _)
+            | Value::Done(_)
+            | Value::Assigned(_)
+            | Value::Designator => {}
+        }
+    }
+}
+
 impl Value {
+    /// The same, to be taken apart.
+    pub fn into_parts(self) -> ValueParts
+        ensures { parts_of result ≡ value_of self }
+    {
+        match self {
+            Value::Number(number) => ValueParts::Number(number),
+            Value::Stored(place, of) => ValueParts::Stored(place, of),
+            Value::Borrowed {
+                array,
+                element,
+                span,
+            } => ValueParts::Borrowed {
+                array,
+                element,
+                span,
+            },
+            Value::Returned(call, number) => ValueParts::Returned(call, number),
+            Value::Done(effect) => ValueParts::Done(effect),
+            Value::Assigned(effect) => ValueParts::Assigned(effect),
+            Value::Designator => ValueParts::Designator,
+        }
+    }
+
     /// Whether it has an integer type.
     pub fn is_integer(&self) -> bool
         ensures { result ≡ v.is_integer (v.kind_of (value_of self.now)) }
@@ -49,22 +90,7 @@ impl Value {
     pub fn into_number(self) -> Option<Expression>
         ensures { option_map expression_of result ≡ v.number_in (value_of self) }
     {
-        match self {
-            Value::Number(number) => Some(number),
-            Value::Stored(place, of) => match of.base {
-                Base::Integer(integer) if of.lengths.is_empty() => {
-                    Some(Expression::Read { place, of: integer })
-                }
-                _ => {
-                    drop(place);
-                    None
-                }
-            },
-            other => {
-                drop(other);
-                None
-            }
-        }
+        self.into_parts().into_number()
     }
 
     /// Its kind.
@@ -91,15 +117,11 @@ impl Value {
         ensures { option_map structure_of result ≡ v.structure_in number (value_of self) }
     {
         match self {
-            Value::Stored(place, of) => match of.base {
-                Base::Tagged(other) if of.lengths.is_empty() && other == number => {
-                    Some(Structure::Stored { place })
-                }
-                _ => {
-                    drop(place);
-                    None
-                }
-            },
+            Value::Stored(place, of) => {
+                let structure = structure_stored(number, place, &of);
+                drop(of);
+                structure
+            }
             Value::Returned(call, other) => {
                 if other == number {
                     Some(Structure::Returned { call })
@@ -146,6 +168,22 @@ impl Value {
         match self {
             Value::Assigned(effect) => Some(effect),
             value => value.into_discarded(),
+        }
+    }
+}
+
+// The structure in an object of a type, where that is the structure type with this number.
+fn structure_stored(number: u32, place: Place, of: &CType) -> Option<Structure>
+    ensures { option_map structure_of result
+        ≡ v.structure_stored number (place_of place) (base_of of.now.base) of.now.lengths.items }
+{
+    match of.base {
+        Base::Tagged(other) if of.lengths.is_empty() && other == number => {
+            Some(Structure::Stored { place })
+        }
+        _ => {
+            drop(place);
+            None
         }
     }
 }

@@ -2,11 +2,11 @@ use Rattle.std.proofs.Common.{◌≡◌, ◌+◌, refl}
 use Rattle.mc_scopes.proofs.Mapped.{names_put}
 use Rattle.mc_scopes.proofs.scope.Scope.enter_body.Goals as goal
 
-pub returns-clause-body : goal.returns-clause-body
-returns-clause-body c =
-    let count : c.in_ok-count.count ≡ c.args.block.names + 1 = c.in_ok-count.ensures.later in
+pub returns-in-Ok-clause-body : goal.returns-in-Ok-clause-body
+returns-in-Ok-clause-body c =
+    let count : c.in-Ok.count ≡ c.args.block.names + 1 = c.in-Ok.ensures.later in
     rw (
       names_put c.args.block.names c.args.self.now.names c.insert.new.self
-          (record { name = c.args.name.now.text.now; meaning = c.args.meaning }) c.in_ok-count.ensures.inserted,
+          (record { name = c.args.name.now.text.now; meaning = c.args.meaning }) c.in-Ok.ensures.inserted,
       count,
     ) refl

@@ -2,7 +2,7 @@ use Rattle.std.proofs.Common.{◌≡◌, ◌++◌, map, length, drop}
 use Rattle.mc_typed.specs.Layout.{object_type_of}
 use Rattle.mc_typing.specs.Types.{structures_from}
 use Rattle.mc_scopes.specs.Views.{structure_of}
-use Rattle.mc_scopes.proofs.layouts.structure_types.Given as goal
+use Rattle.mc_scopes.proofs.layouts.add_types.Given as goal
 
 abbrev pub invariant-loop-structure : goal.invariant-loop-structure
 invariant-loop-structure l = record {
