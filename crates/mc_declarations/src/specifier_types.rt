@@ -149,11 +149,7 @@ fn qualified(is_const: bool, of: Option<CType>) -> Option<CType>
         ≡ option_map (t.qualified is_const) (option_map type_of of) }
 {
     match of {
-        Some(of) => Some(CType {
-            base: of.base,
-            is_const: of.is_const || is_const,
-            lengths: of.lengths,
-        }),
+        Some(of) => Some(of.qualified(is_const)),
         None => None,
     }
 }

@@ -1,3 +1,4 @@
 pub mod Callees
 pub mod Gathered
 pub mod Names
+pub mod Making

@@ -1,5 +1,5 @@
 //! Arguments of calls (C17 6.5.2.2).
-ghost use Rattle.std.specs.Prelude.{◌≡◌, IfOk, option_map, option_copied};
+ghost use Rattle.std.specs.Prelude.{◌≡◌, IfOk, map, option_map, option_copied};
 ghost use Rattle.mc_typed.specs.Layout as objects;
 ghost use Rattle.mc_typed.specs.Tree as t;
 ghost use Rattle.mc_typed.specs.Views.{argument_of, expression_of, place_of};
@@ -11,7 +11,7 @@ ghost use Rattle.mc_typing.specs.Expressions as e;
 ghost use Rattle.mc_typing.specs.Calls as c;
 ghost use Rattle.mc_scopes.specs.Types.{type_of};
 ghost use Rattle.mc_scopes.specs.Types as types;
-ghost use Rattle.mc_scopes.specs.Views.{scope_of};
+ghost use Rattle.mc_scopes.specs.Views.{scope_of, structure_of};
 ghost use Rattle.mc_scopes.specs.Given.{given_of};
 ghost use Rattle.mc_scopes.specs.Found.{found_of, kind_of, value_of};
 ghost use Rattle.mc_expressions.specs.steps.Gathered.{squeezed_given};
@@ -21,11 +21,12 @@ use mc_faults::{Fault, FaultKind, after, fault_where};
 use mc_scopes::conversions::convert_to;
 use mc_scopes::found::{Found, Given, kind_found};
 use mc_scopes::kind::Kind;
+use mc_scopes::parts::ValueParts;
 use mc_scopes::structures::structure_cells;
 use mc_scopes::value::Value;
-use mc_scopes::{Base, CType, ParameterKind, Scope, layout};
+use mc_scopes::{Base, CType, ParameterKind, Scope, Structure, layout};
 use mc_typed::{Argument, Expression, Place};
-use mc_value::IntType;
+use mc_value::{IntType, ObjType};
 use std::alloc::{AllocError, Global};
 
 fn value_fits(base: Base, kind: Kind<'_>) -> bool
@@ -104,8 +105,13 @@ fn structure_argument(
 {
     match value {
         Some(value) => {
-            let copy = scope.next_slot()?;
-            Ok(Some(Argument::Structure { value, copy }))
+            match scope.next_slot() {
+                Ok(copy) => Ok(Some(Argument::Structure { value, copy })),
+                Err(error) => {
+                    drop(value);
+                    Err(error)
+                }
+            }
         }
         None => Ok(None),
     }
@@ -119,15 +125,20 @@ fn stored_array(parameter: &CType, place: Place, of: &CType) -> Result<Option<Ar
     match of.lengths.as_slice() {
         [length, rest @ ..] => {
             let Ok(length) = u32::try_from(*length) else {
+                drop(place);
                 return Err(AllocError);
             };
             if array_fits(parameter, of.base, of.is_const, rest) {
                 Ok(Some(Argument::Array { place, length }))
             } else {
+                drop(place);
                 Ok(None)
             }
         }
-        _ => Ok(None),
+        _ => {
+            drop(place);
+            Ok(None)
+        }
     }
 }
 
@@ -135,21 +146,27 @@ fn array_argument(parameter: &CType, value: Value) -> Result<Option<Argument>, A
     ensures { IfOk result (λ r. option_map argument_of r
         ≡ c.array_argument (type_of parameter.now) (value_of value)) }
 {
-    match value {
-        Value::Stored(place, of) => stored_array(parameter, place, &of),
-        Value::Borrowed {
+    match value.into_parts() {
+        ValueParts::Stored(place, of) => {
+            let argument = stored_array(parameter, place, &of);
+            drop(of);
+            argument
+        }
+        ValueParts::Borrowed {
             array,
             element,
             span,
         } => {
-            if array_fits(parameter, element.base, element.is_const, &element.lengths) {
+            let fits = array_fits(parameter, element.base, element.is_const, &element.lengths);
+            drop(element);
+            if fits {
                 Ok(Some(Argument::Again { array, span }))
             } else {
                 Ok(None)
             }
         }
-        _ => {
-            drop(value);
+        other => {
+            drop(other);
             Ok(None)
         }
     }
@@ -223,6 +240,21 @@ fn copied_structure(parameter: Option<&ParameterKind>, value: &Option<Argument>)
     }
 }
 
+// The layout of an object of the structure type with this number.
+fn structure_layout(
+    alloc: Global,
+    structures: &[Structure<'_>],
+    number: u32,
+) -> Result<ObjType, AllocError>
+    ensures { IfOk result (λ r. objects.object_type_of r ≡ typing.layout_of
+        (map structure_of structures.now) (typing.plain (typing.Tagged number))) }
+{
+    let of = CType::plain(alloc, Base::Tagged(number));
+    let object = layout(alloc, structures, &of);
+    drop(of);
+    object
+}
+
 /// One more object of the function, of the structure type with this number; how many cells it has.
 pub fn add_temporary(alloc: Global, scope: &mut Scope<'_>, number: u32) -> Result<u32, AllocError>
     ensures cells { IfOk result (λ n. n
@@ -230,9 +262,8 @@ pub fn add_temporary(alloc: Global, scope: &mut Scope<'_>, number: u32) -> Resul
     ensures scope { IfOk result (λ _. scope_of scope.new
         ≡ s.with_object (c.layout_of_structure (scope_of scope.old) number) (scope_of scope.old)) }
 {
-    let of = CType::plain(alloc, Base::Tagged(number));
     let count = structure_cells(alloc, &scope.structures, number)?;
-    let object = layout(alloc, &scope.structures, &of)?;
+    let object = structure_layout(alloc, &scope.structures, number)?;
     scope.add_object(object, count)?;
     Ok(count)
 }

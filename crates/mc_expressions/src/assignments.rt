@@ -12,13 +12,14 @@ ghost use Rattle.mc_scopes.specs.Views.{scope_of, structure_of};
 ghost use Rattle.mc_scopes.specs.Found.{found_of, kind_of, value_of};
 ghost use Rattle.mc_scopes.specs.steps.Squeezed.{squeezed};
 
+use crate::making::{Making, made_value};
 use crate::update::update;
 use mc_faults::{FaultKind, two_or_fault};
 use mc_scopes::conversions::convert_to;
 use mc_scopes::found::{Found, kind_found};
 use mc_scopes::kind::{Kind, fails_assigned};
 use mc_scopes::structures::structure_cells;
-use mc_scopes::value::{Value, assigned, is_const};
+use mc_scopes::value::{Value, is_const};
 use mc_scopes::{Base, CType, Scope, Structure};
 use mc_tree::AssignmentOperator;
 use mc_typed::{Effect, Expression, Place, Span};
@@ -110,13 +111,19 @@ fn structure_effect(
 {
     match value {
         Some(value) => {
-            let cells = structure_cells(alloc, structures, number)?;
-            Ok(Some(Effect::Copy {
-                target,
-                value,
-                cells,
-                span,
-            }))
+            match structure_cells(alloc, structures, number) {
+                Ok(cells) => Ok(Some(Effect::Copy {
+                    target,
+                    value,
+                    cells,
+                    span,
+                })),
+                Err(error) => {
+                    drop(target);
+                    drop(value);
+                    Err(error)
+                }
+            }
         }
         None => {
             drop(target);
@@ -125,7 +132,8 @@ fn structure_effect(
     }
 }
 
-fn assign_effect(
+/// The effect of `=`.
+pub(crate) fn assign_effect(
     alloc: Global,
     structures: &[Structure<'_>],
     span: Span,
@@ -156,56 +164,6 @@ fn assign_effect(
     }
 }
 
-fn assign_to(
-    alloc: Global,
-    structures: &[Structure<'_>],
-    span: Span,
-    target: Value,
-    value: Value,
-) -> Result<Option<Value>, AllocError>
-    ensures { IfOk result (λ r. option_map value_of r
-        ≡ e.effect_on (e.assign_effect (map structure_of structures.now) span)
-        (value_of target) (value_of value)) }
-{
-    match target {
-        Value::Stored(place, of) => {
-            let effect = assign_effect(alloc, structures, span, value, place, &of)?;
-            Ok(assigned(effect))
-        }
-        _ => {
-            drop(target);
-            drop(value);
-            Ok(None)
-        }
-    }
-}
-
-fn assign_value(
-    alloc: Global,
-    structures: &[Structure<'_>],
-    span: Span,
-    target: Option<Value>,
-    value: Option<Value>,
-) -> Result<Option<Value>, AllocError>
-    ensures { IfOk result (λ r. option_map value_of r
-        ≡ e.assignment_value (e.assign_effect (map structure_of structures.now) span)
-        (option_map value_of target) (option_map value_of value)) }
-{
-    match target {
-        Some(target) => match value {
-            Some(value) => assign_to(alloc, structures, span, target, value),
-            None => {
-                drop(target);
-                Ok(None)
-            }
-        },
-        None => {
-            drop(value);
-            Ok(None)
-        }
-    }
-}
-
 // `=` on two operands.
 fn assign(
     alloc: Global,
@@ -226,7 +184,8 @@ fn assign(
         FaultKind::Mismatch,
         span.start,
     );
-    let value = assign_value(alloc, &scope.structures, span, target.value, value.value)?;
+    let making = Making::Assign(&scope.structures);
+    let value = made_value(alloc, making, span, target.value, value.value)?;
     Ok(Found {
         fault,
         value,

@@ -179,10 +179,11 @@ pub fn cast(
     let fault = after_two(of.fault, operand.fault, own);
     let integer = may_cast_to_integer(&of.value);
     let constant = operand.constant && integer;
-    let value = cast_value(alloc, span, &of.value, operand.value)?;
+    let value = cast_value(alloc, span, &of.value, operand.value);
+    drop(of.value);
     Ok(Found {
         fault,
-        value,
+        value: value?,
         place: false,
         constant,
     })

@@ -12,6 +12,7 @@ use crate::operands::{both_boxed, both_converted, boxed, boxed_effect};
 use mc_faults::{FaultKind, three_or_fault};
 use mc_scopes::found::{Found, fails_integer, kind_found, number_in};
 use mc_scopes::kind::{Kind, fails_arm};
+use mc_scopes::parts::ValueParts;
 use mc_scopes::value::Value;
 use mc_typed::{Effect, Expression, Span};
 use mc_value::{IntType, common};
@@ -163,10 +164,12 @@ fn arms_value(
     ensures { IfOk result (λ r. option_map value_of r
         ≡ e.arms_value span (expression_of test) (value_of chosen) (value_of other)) }
 {
-    match chosen {
-        Value::Done(chosen) => match other {
-            Value::Done(other) => Ok(Some(choice_of_effects(alloc, span, test, chosen, other)?)),
-            _ => {
+    match chosen.into_parts() {
+        ValueParts::Done(chosen) => match other.into_parts() {
+            ValueParts::Done(other) => {
+                Ok(Some(choice_of_effects(alloc, span, test, chosen, other)?))
+            }
+            other => {
                 drop(test);
                 drop(chosen);
                 drop(other);

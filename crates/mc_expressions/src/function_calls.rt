@@ -131,8 +131,11 @@ fn only(arguments: Vec<Argument>) -> Option<Argument>
 {
     let mut arguments = arguments;
     if arguments.len() == 1 {
-        arguments.pop()
+        let one = arguments.pop();
+        drop(arguments);
+        one
     } else {
+        drop(arguments);
         None
     }
 }
@@ -206,11 +209,19 @@ fn returned(
         }
         Base::Tagged(number) => {
             if !is_complete(&scope.structures, base) {
+                drop(arguments);
                 return Ok(None);
             }
-            let slot = scope.next_slot()?;
-            let call = function_call(function, arguments, Some(slot), span);
-            Ok(Some(Value::Returned(call, number)))
+            match scope.next_slot() {
+                Ok(slot) => {
+                    let call = function_call(function, arguments, Some(slot), span);
+                    Ok(Some(Value::Returned(call, number)))
+                }
+                Err(error) => {
+                    drop(arguments);
+                    Err(error)
+                }
+            }
         }
     }
 }
@@ -227,6 +238,7 @@ fn called(
         (arguments_of arguments)) }
 {
     if is_input(name) {
+        drop(arguments);
         return Ok(Some(Value::Number(Expression::Input { span })));
     }
     if is_output(name) {
@@ -234,7 +246,10 @@ fn called(
     }
     match function_number(scope, name) {
         Some(function) => returned(scope, function, arguments, span, base),
-        None => Ok(None),
+        None => {
+            drop(arguments);
+            Ok(None)
+        }
     }
 }
 
@@ -255,10 +270,15 @@ fn call_value(
                 Some(arguments) => called(scope, name, span, signature.result, arguments),
                 None => Ok(None),
             },
-            None => Ok(None),
+            None => {
+                drop(arguments);
+                Ok(None)
+            }
         },
-        Callee::Missing => Ok(None),
-        Callee::Other => Ok(None),
+        Callee::Missing | Callee::Other => {
+            drop(arguments);
+            Ok(None)
+        }
     }
 }
 

@@ -40,10 +40,19 @@ fn push_argument(
         Some(given) => match one {
             Some(one) => {
                 let mut given = given;
-                given.push(one)?;
-                Ok(Some(given))
+                match given.push(one) {
+                    Ok(()) => Ok(Some(given)),
+                    Err(failed) => {
+                        drop(given);
+                        drop(failed);
+                        Err(AllocError)
+                    }
+                }
             }
-            None => Ok(None),
+            None => {
+                drop(given);
+                Ok(None)
+            }
         },
         None => {
             drop(one);
@@ -61,6 +70,7 @@ pub fn gather(
         ≡ squeezed_given (extended (given_of items_of given s) (given_of argument_of one u))) }
 {
     let Some(copied) = given.copied.checked_add(one.copied) else {
+        drop(given);
         drop(one);
         return Err(AllocError);
     };
@@ -100,7 +110,14 @@ fn only_complete(given: Option<Vec<Argument>>, left: &[ParameterKind]) -> Option
 {
     let complete = none_left(left);
     match given {
-        Some(given) => if complete { Some(given) } else { None },
+        Some(given) => {
+            if complete {
+                Some(given)
+            } else {
+                drop(given);
+                None
+            }
+        }
         None => None,
     }
 }

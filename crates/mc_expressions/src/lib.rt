@@ -11,6 +11,7 @@ mod conditionals;
 mod constants;
 mod function_calls;
 mod gathering;
+mod making;
 mod names;
 mod operands;
 mod selections;

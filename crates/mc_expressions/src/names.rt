@@ -79,7 +79,13 @@ fn stored(place: Place, of: &Option<CType>) -> Result<Option<Value>, AllocError>
         ≡ option_map (v.Stored (place_of place)) (option_map type_of of.now)) }
 {
     match of {
-        Some(of) => Ok(Some(Value::Stored(place, of.try_clone()?))),
+        Some(of) => match of.try_clone() {
+            Ok(of) => Ok(Some(Value::Stored(place, of))),
+            Err(error) => {
+                drop(place);
+                Err(error)
+            }
+        },
         None => {
             drop(place);
             Ok(None)

@@ -5,12 +5,19 @@ ghost use Rattle.mc_typed.specs.Views.{expression_of};
 ghost use Rattle.mc_typing.specs.Expressions as e;
 
 use mc_scopes::conversions::{convert_to, promote};
-use mc_typed::{Effect, Expression};
+use mc_typed::{Effect, Expression, Place};
 use mc_value::IntType;
 use std::alloc::{AllocError, Global};
 
 /// An expression in a box.
 pub(crate) fn boxed(alloc: Global, one: Expression) -> Result<Box<Expression>, AllocError>
+    ensures { IfOk result (λ r. r.value ≡ one) }
+{
+    Ok(Box::new(alloc, one)?)
+}
+
+/// A place in a box.
+pub(crate) fn boxed_place(alloc: Global, one: Place) -> Result<Box<Place>, AllocError>
     ensures { IfOk result (λ r. r.value ≡ one) }
 {
     Ok(Box::new(alloc, one)?)

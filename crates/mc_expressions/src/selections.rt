@@ -2,9 +2,11 @@
 ghost use Rattle.std.specs.Prelude.{◌≡◌, ℕ, List, IfOk, IfSome, Some, map, slice_get, option_map, option_and_then};
 ghost use Rattle.mc_tree.specs.Views.{name_of};
 ghost use Rattle.mc_typed.specs.Layout as objects;
+ghost use Rattle.mc_typed.specs.Tree as t;
 ghost use Rattle.mc_typed.specs.Views.{place_of};
 ghost use Rattle.mc_faults.specs.Faults.{least_of};
 ghost use Rattle.mc_typing.specs.Types as types;
+ghost use Rattle.mc_typing.specs.Values as v;
 ghost use Rattle.mc_typing.specs.Expressions as e;
 ghost use Rattle.mc_scopes.specs.Listed.{selected_of};
 ghost use Rattle.mc_scopes.specs.Types.{base_of, type_of};
@@ -12,9 +14,11 @@ ghost use Rattle.mc_scopes.specs.Views.{scope_of, structure_of};
 ghost use Rattle.mc_scopes.specs.Found.{found_of, kind_of, value_of};
 ghost use Rattle.mc_scopes.specs.steps.Squeezed.{squeezed};
 
+use crate::operands::boxed_place;
 use mc_faults::{Fault, FaultKind, after, fault_where, or_fault};
 use mc_scopes::found::{Found, kind_found};
 use mc_scopes::kind::{Kind, fails_structure};
+use mc_scopes::parts::ValueParts;
 use mc_scopes::value::Value;
 use mc_scopes::{Base, CType, Member, Scope, Structure};
 use mc_tree::Identifier;
@@ -91,7 +95,36 @@ fn member_fault(
     or_fault(own, undeclared, FaultKind::Undeclared, name.span.start)
 }
 
-// A member of a place, by its number, where the member has a type.
+// A member of a place, by its number, its type and where it begins.
+fn typed_member(
+    alloc: Global,
+    place: Place,
+    of: CType,
+    span: Span,
+    number: u32,
+    offset: u32,
+) -> Result<Value, AllocError>
+    ensures { IfOk result (λ r. value_of r
+        ≡ v.Stored (t.Member (place_of place) number offset span) (type_of of)) }
+{
+    match boxed_place(alloc, place) {
+        Ok(structure) => {
+            let place = Place::Member {
+                structure,
+                member: number,
+                offset,
+                span,
+            };
+            Ok(Value::Stored(place, of))
+        }
+        Err(error) => {
+            drop(of);
+            Err(error)
+        }
+    }
+}
+
+// The same, where the member has a type.
 fn member_at(
     alloc: Global,
     place: Place,
@@ -106,15 +139,16 @@ fn member_at(
 {
     match &member.of {
         Some(of) => {
-            let of = of.try_clone()?.qualified(is_const);
-            let structure = Box::new(alloc, place)?;
-            let place = Place::Member {
-                structure,
-                member: number,
-                offset: member.offset,
-                span,
-            };
-            Ok(Some(Value::Stored(place, of)))
+            match of.try_clone() {
+                Ok(of) => {
+                    let of = of.qualified(is_const);
+                    Ok(Some(typed_member(alloc, place, of, span, number, member.offset)?))
+                }
+                Err(error) => {
+                    drop(place);
+                    Err(error)
+                }
+            }
         }
         None => {
             drop(place);
@@ -136,14 +170,20 @@ fn stored_member(
         (place_of place) (type_of of.now) of.now.lengths.items (base_of of.now.base)) }
 {
     if !of.lengths.is_empty() {
+        drop(place);
         return Ok(None);
     }
     match of.base {
-        Base::Void => Ok(None),
-        Base::Integer(_) => Ok(None),
+        Base::Void | Base::Integer(_) => {
+            drop(place);
+            Ok(None)
+        }
         Base::Tagged(base) => match selected(structures, base, name.text) {
             Some((number, member)) => member_at(alloc, place, of.is_const, span, number, member),
-            None => Ok(None),
+            None => {
+                drop(place);
+                Ok(None)
+            }
         },
     }
 }
@@ -160,10 +200,14 @@ fn member_of(
         (option_map value_of value)) }
 {
     match value {
-        Some(value) => match value {
-            Value::Stored(place, of) => stored_member(alloc, structures, name, span, place, &of),
-            _ => {
-                drop(value);
+        Some(value) => match value.into_parts() {
+            ValueParts::Stored(place, of) => {
+                let member = stored_member(alloc, structures, name, span, place, &of);
+                drop(of);
+                member
+            }
+            other => {
+                drop(other);
                 Ok(None)
             }
         },

@@ -11,9 +11,11 @@ ghost use Rattle.mc_scopes.specs.Views.{scope_of, structure_of};
 ghost use Rattle.mc_scopes.specs.Found.{found_of, value_of};
 ghost use Rattle.mc_scopes.specs.steps.Squeezed.{squeezed};
 
+use crate::operands::{boxed, boxed_place};
 use mc_faults::{FaultKind, two_or_fault};
 use mc_scopes::found::{Found, fails_integer, kind_found, number_in};
 use mc_scopes::kind::fails_array;
+use mc_scopes::parts::ValueParts;
 use mc_scopes::value::Value;
 use mc_scopes::{CType, Scope, Structure, cells};
 use mc_typed::{Expression, Place, Span};
@@ -24,12 +26,91 @@ fn element_type(alloc: Global, of: &CType, rest: &[u64]) -> Result<CType, AllocE
     ensures { IfOk result (λ r. type_of r ≡ record (type_of of.now) { lengths = rest.now }) }
 {
     let mut lengths = Vec::new(alloc);
-    lengths.extend_from_slice(rest)?;
-    Ok(CType {
-        base: of.base,
-        is_const: of.is_const,
-        lengths,
-    })
+    match lengths.extend_from_slice(rest) {
+        Ok(()) => Ok(CType {
+            base: of.base,
+            is_const: of.is_const,
+            lengths,
+        }),
+        Err(error) => {
+            drop(lengths);
+            Err(error)
+        }
+    }
+}
+
+// The place of an element of an array with so many elements.
+fn item(
+    alloc: Global,
+    array: Place,
+    length: u32,
+    stride: u32,
+    index: Expression,
+    span: Span,
+) -> Result<Place, AllocError>
+    ensures { IfOk result (λ r. place_of r
+        ≡ t.Item (place_of array) length stride (expression_of index) span) }
+{
+    match boxed_place(alloc, array) {
+        Ok(array) => match boxed(alloc, index) {
+            Ok(index) => Ok(Place::Item {
+                array,
+                length,
+                stride,
+                index,
+                span,
+            }),
+            Err(error) => {
+                drop(array);
+                Err(error)
+            }
+        },
+        Err(error) => {
+            drop(index);
+            Err(error)
+        }
+    }
+}
+
+// The same as an object of its type.
+fn item_of_type(
+    alloc: Global,
+    structures: &[Structure<'_>],
+    array: Place,
+    length: u32,
+    element: CType,
+    index: Expression,
+    span: Span,
+) -> Result<Value, AllocError>
+    ensures { IfOk result (λ r. value_of r ≡ v.Stored (t.Item (place_of array) length
+        (objects.cells (types.layout_of (map structure_of structures.now) (type_of element)))
+        (expression_of index) span) (type_of element)) }
+{
+    match cells(structures, &element) {
+        Ok(stride) => match item(alloc, array, length, stride, index, span) {
+            Ok(place) => Ok(Value::Stored(place, element)),
+            Err(error) => {
+                drop(element);
+                Err(error)
+            }
+        },
+        Err(error) => {
+            drop(array);
+            drop(element);
+            drop(index);
+            Err(error)
+        }
+    }
+}
+
+// A length of an array that 32 bits count, as each within the limits.
+fn counted(length: u64) -> Result<u32, AllocError>
+    ensures { IfOk result (λ n. n ≡ length) }
+{
+    match u32::try_from(length) {
+        Ok(count) => Ok(count),
+        Err(_) => Err(AllocError),
+    }
 }
 
 fn stored_element(
@@ -46,23 +127,32 @@ fn stored_element(
 {
     match of.lengths.as_slice() {
         [length, rest @ ..] => {
-            let Ok(length) = u32::try_from(*length) else {
-                return Err(AllocError);
-            };
-            let element = element_type(alloc, of, rest)?;
-            let stride = cells(structures, &element)?;
-            let array = Box::new(alloc, place)?;
-            let index = Box::new(alloc, index)?;
-            let place = Place::Item {
-                array,
-                length,
-                stride,
-                index,
-                span,
-            };
-            Ok(Some(Value::Stored(place, element)))
+            match counted(*length) {
+                Ok(length) => match element_type(alloc, of, rest) {
+                    Ok(element) => {
+                        let item = item_of_type(
+                            alloc, structures, place, length, element, index, span,
+                        )?;
+                        Ok(Some(item))
+                    }
+                    Err(error) => {
+                        drop(place);
+                        drop(index);
+                        Err(error)
+                    }
+                },
+                Err(error) => {
+                    drop(place);
+                    drop(index);
+                    Err(error)
+                }
+            }
         }
-        _ => Ok(None),
+        _ => {
+            drop(place);
+            drop(index);
+            Ok(None)
+        }
     }
 }
 
@@ -80,15 +170,28 @@ fn borrowed_element(
         (objects.cells (types.layout_of (map structure_of structures.now) (type_of element)))
         (expression_of index) span) (type_of element)) }
 {
-    let stride = cells(structures, &element)?;
-    let index = Box::new(alloc, index)?;
-    let place = Place::Parameter {
-        array,
-        stride,
-        index,
-        span,
-    };
-    Ok(Value::Stored(place, element))
+    match cells(structures, &element) {
+        Ok(stride) => match boxed(alloc, index) {
+            Ok(index) => {
+                let place = Place::Parameter {
+                    array,
+                    stride,
+                    index,
+                    span,
+                };
+                Ok(Value::Stored(place, element))
+            }
+            Err(error) => {
+                drop(element);
+                Err(error)
+            }
+        },
+        Err(error) => {
+            drop(element);
+            drop(index);
+            Err(error)
+        }
+    }
 }
 
 fn element_of(
@@ -102,14 +205,18 @@ fn element_of(
         ≡ e.element_of (map structure_of structures.now) span (value_of array)
         (expression_of index)) }
 {
-    match array {
-        Value::Stored(place, of) => stored_element(alloc, structures, place, &of, index, span),
-        Value::Borrowed { array, element, .. } => {
+    match array.into_parts() {
+        ValueParts::Stored(place, of) => {
+            let element = stored_element(alloc, structures, place, &of, index, span);
+            drop(of);
+            element
+        }
+        ValueParts::Borrowed { array, element, .. } => {
             let element = borrowed_element(alloc, structures, array, element, index, span)?;
             Ok(Some(element))
         }
-        _ => {
-            drop(array);
+        other => {
+            drop(other);
             drop(index);
             Ok(None)
         }

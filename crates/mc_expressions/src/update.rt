@@ -12,10 +12,11 @@ ghost use Rattle.mc_scopes.specs.Found.{found_of, value_of};
 ghost use Rattle.mc_scopes.specs.steps.Squeezed.{squeezed};
 
 use crate::constants::one;
+use crate::making::{Making, made_value};
 use mc_faults::{FaultKind, two_or_fault};
 use mc_scopes::conversions::{convert_to, promote};
 use mc_scopes::found::{Found, fails_integer};
-use mc_scopes::value::{Value, assigned, is_const};
+use mc_scopes::value::{Value, is_const};
 use mc_scopes::{Base, CType};
 use mc_tree::{AssignmentOperator, StepOperator};
 use mc_typed::{Effect, Expression, Operator, Place, Span};
@@ -141,7 +142,8 @@ fn number_effect(
     }
 }
 
-fn update_effect(
+/// The effect of a compound assignment.
+pub(crate) fn update_effect(
     alloc: Global,
     operator: AssignmentOperator,
     span: Span,
@@ -175,55 +177,6 @@ fn update_effect(
     }
 }
 
-fn update_to(
-    alloc: Global,
-    operator: AssignmentOperator,
-    span: Span,
-    target: Value,
-    value: Value,
-) -> Result<Option<Value>, AllocError>
-    ensures { IfOk result (λ r. option_map value_of r
-        ≡ e.effect_on (e.update_effect operator span) (value_of target) (value_of value)) }
-{
-    match target {
-        Value::Stored(place, of) => {
-            let effect = update_effect(alloc, operator, span, value, place, &of)?;
-            Ok(assigned(effect))
-        }
-        _ => {
-            drop(target);
-            drop(value);
-            Ok(None)
-        }
-    }
-}
-
-fn update_value(
-    alloc: Global,
-    operator: AssignmentOperator,
-    span: Span,
-    target: Option<Value>,
-    value: Option<Value>,
-) -> Result<Option<Value>, AllocError>
-    ensures { IfOk result (λ r. option_map value_of r
-        ≡ e.assignment_value (e.update_effect operator span) (option_map value_of target)
-        (option_map value_of value)) }
-{
-    match target {
-        Some(target) => match value {
-            Some(value) => update_to(alloc, operator, span, target, value),
-            None => {
-                drop(target);
-                Ok(None)
-            }
-        },
-        None => {
-            drop(value);
-            Ok(None)
-        }
-    }
-}
-
 /// A compound assignment on two operands.
 pub fn update(
     alloc: Global,
@@ -243,7 +196,8 @@ pub fn update(
         FaultKind::Mismatch,
         span.start,
     );
-    let value = update_value(alloc, operator, span, target.value, value.value)?;
+    let making = Making::Update(operator);
+    let value = made_value(alloc, making, span, target.value, value.value)?;
     Ok(Found {
         fault,
         value,
