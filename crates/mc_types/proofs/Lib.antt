@@ -5,6 +5,7 @@ pub mod Turns
 pub mod Parts
 pub mod Arms
 pub mod StatementArms
+pub mod Headings
 pub mod InitializerArms
 pub mod Declarators
 pub mod DeclarationArms

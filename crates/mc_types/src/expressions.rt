@@ -1,8 +1,8 @@
 //! Expressions, specifiers and the declarators in them: each function walks a tree of one kind, and
 //! gives what is found of it. The scope becomes that after the tree.
 //!
-//! Where a part fails after another was found, the found one is let go by a call of `drop`: written
-//! out at each exit, its drop would make the proof of the function several times as long.
+//! Where a part may fail after another was found, the found one is handed on with the part's result
+//! (`steps`): an exit that lets it go here would make the proof of the walk twice as long.
 ghost use Rattle.std.specs.Prelude.{◌≡◌, IfOk, Some, false, pos, map, option_copied, option_map};
 ghost use Rattle.mc_tree.specs.Views.{name_of, expression_of, expressions_from, specifier_of, specifiers_from, member_of, members_from, enumerator_of, enumerators_from, declarator_of, declarators_from, array_length_of, lengths_from, parameter_of, parameters_from};
 ghost use Rattle.mc_tree.specs.Tree as t;
@@ -20,6 +20,7 @@ ghost use Rattle.mc_expressions.specs.steps.Gathered.{squeezed_given};
 ghost use Rattle.mc_types.specs.Loops.{TakesArgument, TakesLength};
 
 use crate::leaves::{callee, character, named};
+use crate::steps::expressions as steps;
 use mc_declarations::Parameters;
 use mc_faults::Fault;
 use mc_scopes::found::{Found, Given, Judged};
@@ -58,13 +59,8 @@ pub(crate) fn expression<'a>(
         } => call(alloc, scope, name, given, *span),
         Expression::Index { array, index, span } => {
             let array = expression(alloc, scope, array)?;
-            match expression(alloc, scope, index) {
-                Ok(index) => mc_expressions::index(alloc, scope, *span, array, index),
-                Err(error) => {
-                    drop(array);
-                    Err(error)
-                }
-            }
+            let index = expression(alloc, scope, index);
+            steps::index(alloc, scope, *span, array, index)
         }
         Expression::Member { object, name, span } => {
             let object = expression(alloc, scope, object)?;
@@ -102,8 +98,8 @@ pub(crate) fn expression<'a>(
             ..
         } => {
             let of = typed(alloc, scope, type_span.start, false, words)?;
-            let found = expression(alloc, scope, operand)?;
-            mc_expressions::cast(alloc, *span, of, operand, found)
+            let found = expression(alloc, scope, operand);
+            steps::cast(alloc, *span, of, operand, found)
         }
         Expression::Binary {
             operator,
@@ -112,13 +108,8 @@ pub(crate) fn expression<'a>(
             span,
         } => {
             let left = expression(alloc, scope, left)?;
-            match expression(alloc, scope, right) {
-                Ok(right) => mc_expressions::binary(alloc, *operator, *span, left, right),
-                Err(error) => {
-                    drop(left);
-                    Err(error)
-                }
-            }
+            let right = expression(alloc, scope, right);
+            steps::binary(alloc, *operator, *span, left, right)
         }
         Expression::Conditional {
             test,
@@ -127,20 +118,10 @@ pub(crate) fn expression<'a>(
             span,
         } => {
             let test = expression(alloc, scope, test)?;
-            match expression(alloc, scope, chosen) {
-                Ok(chosen) => match expression(alloc, scope, other) {
-                    Ok(other) => { mc_expressions::conditional(alloc, *span, test, chosen, other) }
-                    Err(error) => {
-                        drop(chosen);
-                        drop(test);
-                        Err(error)
-                    }
-                },
-                Err(error) => {
-                    drop(test);
-                    Err(error)
-                }
-            }
+            let chosen = expression(alloc, scope, chosen);
+            let tested = steps::tested(test, chosen)?;
+            let other = expression(alloc, scope, other);
+            steps::conditional(alloc, *span, tested, other)
         }
         Expression::Assignment {
             operator,
@@ -149,15 +130,8 @@ pub(crate) fn expression<'a>(
             span,
         } => {
             let target = expression(alloc, scope, target)?;
-            match expression(alloc, scope, value) {
-                Ok(value) => {
-                    mc_expressions::assignment(alloc, scope, *operator, *span, target, value)
-                }
-                Err(error) => {
-                    drop(target);
-                    Err(error)
-                }
-            }
+            let value = expression(alloc, scope, value);
+            steps::assignment(alloc, scope, *operator, *span, target, value)
         }
         Expression::Comma { operands, span } => {
             let given = arguments(alloc, scope, operands, &[])?;

@@ -7,6 +7,7 @@ mod fault;
 mod initializers;
 mod leaves;
 mod statements;
+mod steps;
 mod units;
 
 pub use fault::TypeFault;

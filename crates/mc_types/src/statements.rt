@@ -1,7 +1,7 @@
 //! Statements (C17 6.8).
 //!
-//! Where a part fails after another was found, the found one is let go by a call of `drop`: written
-//! out at each exit, its drop would make the proof of the function several times as long.
+//! Where a part may fail after another was found, the found one is handed on with the part's result
+//! (`steps`): an exit that lets it go here would make the proof of the walk twice as long.
 ghost use Rattle.std.specs.Prelude.{◌≡◌, IfOk, map, option_copied, option_map};
 ghost use Rattle.mc_tree.specs.Units as units;
 ghost use Rattle.mc_tree.specs.Views.{expression_of, expressions_from};
@@ -9,15 +9,19 @@ ghost use Rattle.mc_typed.specs.Views.{effect_of, start_of};
 ghost use Rattle.mc_typing.specs.Scopes as s;
 ghost use Rattle.mc_typing.specs.Statements as w;
 ghost use Rattle.mc_typing.specs.Bodies as b;
+ghost use Rattle.mc_scopes.specs.Blocks as blocks;
 ghost use Rattle.mc_scopes.specs.Views.{scope_of};
 ghost use Rattle.mc_scopes.specs.Found.{judged_of};
 ghost use Rattle.mc_scopes.specs.Statements.{around_of, effects_of, statements_of, test_of};
 ghost use Rattle.mc_scopes.specs.steps.Squeezed.{squeezed_part};
 ghost use Rattle.mc_types.specs.Loops.{TakesItem};
 ghost use Rattle.mc_types.specs.Operands.{operands_in};
+ghost use Rattle.mc_types.specs.Headings.{ArePartsOf};
 
 use crate::declarations::declaration;
 use crate::expressions::expression;
+use crate::steps::statements as steps;
+use crate::steps::statements::{ForBegun, ForHead};
 use mc_scopes::Scope;
 use mc_scopes::around::Around;
 use mc_scopes::found::Judged;
@@ -41,9 +45,9 @@ pub(crate) fn statement<'a>(
     match tree {
         Statement::Compound { items, span } => {
             let outer = mc_statements::enter_compound(scope, around)?;
-            let found = block(alloc, scope, around.inside(), items)?;
+            let found = block(alloc, scope, around.inside(), items);
             scope.leave(outer);
-            mc_statements::compound_statement(alloc, *span, found)
+            steps::compound(alloc, *span, found)
         }
         Statement::Null { span } => mc_statements::null_statement(alloc, *span),
         Statement::Expression { value, span } => {
@@ -52,13 +56,8 @@ pub(crate) fn statement<'a>(
         }
         Statement::If { test, chosen, span } => {
             let test = expression(alloc, scope, test)?;
-            match inner(alloc, scope, around.inside(), chosen) {
-                Ok(chosen) => mc_statements::if_statement(alloc, *span, test, chosen),
-                Err(error) => {
-                    drop(test);
-                    Err(error)
-                }
-            }
+            let chosen = inner(alloc, scope, around.inside(), chosen);
+            steps::if_then(alloc, *span, test, chosen)
         }
         Statement::IfElse {
             test,
@@ -67,48 +66,27 @@ pub(crate) fn statement<'a>(
             span,
         } => {
             let test = expression(alloc, scope, test)?;
-            match inner(alloc, scope, around.inside(), chosen) {
-                Ok(chosen) => match inner(alloc, scope, around.inside(), other) {
-                    Ok(other) => {
-                        mc_statements::if_else_statement(alloc, *span, test, chosen, other)
-                    }
-                    Err(error) => {
-                        drop(test);
-                        Err(error)
-                    }
-                },
-                Err(error) => {
-                    drop(test);
-                    Err(error)
-                }
-            }
+            let chosen = inner(alloc, scope, around.inside(), chosen);
+            let tested = steps::tested(test, chosen)?;
+            let other = inner(alloc, scope, around.inside(), other);
+            steps::if_else(alloc, *span, tested, other)
         }
         Statement::Switch { value, body, span } => {
             let value = expression(alloc, scope, value)?;
             let outer = mc_statements::enter_switch(alloc, scope, &value);
-            match statement(alloc, scope, around.in_switch(), body) {
-                Ok(found) => {
-                    scope.leave(outer);
-                    mc_statements::switch_statement(alloc, *span, body, value, found)
-                }
-                Err(error) => {
-                    drop(value);
-                    Err(error)
-                }
-            }
+            let found = statement(alloc, scope, around.in_switch(), body);
+            scope.leave(outer);
+            steps::switch_on(alloc, *span, body, value, found)
         }
         Statement::While { test, body, span } => {
-            let found = expression(alloc, scope, test)?;
-            let test = mc_statements::loop_test(span.start, found);
-            let body = inner(alloc, scope, around.in_loop(), body)?;
-            let start = mc_statements::no_start(alloc);
-            let step = mc_statements::no_clauses(alloc);
-            mc_statements::loop_statement(alloc, 5, *span, start, test, step, body)
+            let test = expression(alloc, scope, test)?;
+            let body = inner(alloc, scope, around.in_loop(), body);
+            steps::while_loop(alloc, *span, test, body)
         }
         Statement::DoWhile { body, test, span } => {
             let body = inner(alloc, scope, around.in_loop(), body)?;
-            let test = expression(alloc, scope, test)?;
-            mc_statements::do_statement(alloc, *span, body, test)
+            let test = expression(alloc, scope, test);
+            steps::do_loop(alloc, *span, body, test)
         }
         Statement::For {
             start,
@@ -117,13 +95,9 @@ pub(crate) fn statement<'a>(
             body,
             span,
         } => {
-            let outer = scope.enter(None);
-            let start = for_start(alloc, scope, start)?;
-            let test = optional_test(alloc, scope, span.start, test)?;
-            let step = optional_part(alloc, scope, step)?;
-            let body = inner(alloc, scope, around.in_loop(), body)?;
-            scope.leave(outer);
-            mc_statements::loop_statement(alloc, 3, *span, start, test, step, body)
+            let heading = for_heading(alloc, scope, span.start, start, test, step)?;
+            let body = inner(alloc, scope, around.in_loop(), body);
+            steps::for_loop(alloc, scope, *span, heading, body)
         }
         Statement::Case {
             value,
@@ -133,13 +107,13 @@ pub(crate) fn statement<'a>(
         } => {
             let found = expression(alloc, scope, value)?;
             let first = mc_jumps::case_label(alloc, scope, *label, value.span().start, found)?;
-            let rest = statement(alloc, scope, around.inside(), body)?;
-            mc_statements::followed(first, rest)
+            let rest = statement(alloc, scope, around.inside(), body);
+            steps::followed(first, rest)
         }
         Statement::Default { label, body, .. } => {
             let first = mc_jumps::default_label(alloc, scope, *label)?;
-            let rest = statement(alloc, scope, around.inside(), body)?;
-            mc_statements::followed(first, rest)
+            let rest = statement(alloc, scope, around.inside(), body);
+            steps::followed(first, rest)
         }
         Statement::Label { body, span, .. } => {
             let found = statement(alloc, scope, around.inside(), body)?;
@@ -171,9 +145,9 @@ fn inner<'a>(
         (units.statement_of tree.now) (s.block (scope_of scope.old))))) }
 {
     let outer = scope.enter(None);
-    let found = statement(alloc, scope, around, tree)?;
+    let found = statement(alloc, scope, around, tree);
     scope.leave(outer);
-    Ok(found)
+    found
 }
 
 /// The items of a block (C17 6.8.2).
@@ -342,5 +316,49 @@ fn optional_test<'a>(
             Ok(mc_statements::loop_test(at, found))
         }
         None => Ok(mc_statements::no_test()),
+    }
+}
+
+/// The parts of a `for` that starts at `at`, before its body.
+fn for_parts<'a>(
+    alloc: Global,
+    scope: &mut Scope<'a>,
+    at: u32,
+    start: &ForStart<'a>,
+    test: &Option<Box<Expression<'a>>>,
+    step: &Option<Box<Expression<'a>>>,
+) -> Result<ForHead, AllocError>
+    ensures { IfOk result (λ r. ArePartsOf at (units.start_of start.now)
+        (units.option_of test.now) (units.option_of step.now) r (scope_of scope.old)
+        (scope_of scope.new)) }
+{
+    let start = for_start(alloc, scope, start)?;
+    let test = optional_test(alloc, scope, at, test)?;
+    let step = optional_part(alloc, scope, step)?;
+    Ok(ForHead { start, test, step })
+}
+
+/// The parts of a `for` that starts at `at`, before its body, in a block of their own.
+fn for_heading<'a>(
+    alloc: Global,
+    scope: &mut Scope<'a>,
+    at: u32,
+    start: &ForStart<'a>,
+    test: &Option<Box<Expression<'a>>>,
+    step: &Option<Box<Expression<'a>>>,
+) -> Result<ForBegun, AllocError>
+    ensures outer { IfOk result (λ r. blocks.around_of r.outer ≡ blocks.around
+        (scope_of scope.old)) }
+    ensures parts { IfOk result (λ r. ArePartsOf at (units.start_of start.now)
+        (units.option_of test.now) (units.option_of step.now) r.parts
+        (s.block (scope_of scope.old)) (scope_of scope.new)) }
+{
+    let outer = scope.enter(None);
+    match for_parts(alloc, scope, at, start, test, step) {
+        Ok(parts) => Ok(ForBegun { outer, parts }),
+        Err(error) => {
+            drop(outer);
+            Err(error)
+        }
     }
 }

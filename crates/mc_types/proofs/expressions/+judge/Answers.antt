@@ -27,9 +27,9 @@ use Rattle.mc_faults.specs.Kept.{listed}
 use Rattle.mc_scopes.specs.steps.Squeezed.{squeezed_part}
 use Rattle.mc_declarations.proofs.DeclarationNodes.{lengths_end, parameters_end, specifiers_end}
 use Rattle.mc_declarations.proofs.Growth.{prototype_left}
-use Rattle.mc_types.proofs.Exits.{found_as, found_each, found_with}
+use Rattle.mc_types.proofs.Exits.{at_ok, found_as, found_each, found_with}
 use Rattle.mc_types.proofs.Trees.{array_length_of-Given, declarator_of-EmptyFunction, declarator_of-Function, declarator_of-VoidFunction, declarator_of-Object, enumerator_of-Valued, expression_of-Assignment, expression_of-Binary, expression_of-Cast, expression_of-Character, expression_of-Constant, expression_of-Comma, expression_of-Conditional, expression_of-Index, expression_of-Member, expression_of-PostfixStep, expression_of-PrefixStep, expression_of-Unary, member_of-parts, parameter_of-parts, specifier_of-Enumeration, specifier_of-EnumerationTag, specifier_of-Structure, specifier_of-Word}
-use Rattle.mc_types.proofs.Arms.{argument_turn, count_listed, none_before, in_assignment, in_binary, in_call, in_cast, in_comma, in_conditional, in_index, in_member, in_postfix, in_prefix, in_unary}
+use Rattle.mc_types.proofs.Arms.{argument_turn, count_listed, none_before, in_call, in_comma, in_member, in_postfix, in_prefix, in_unary}
 use Rattle.mc_types.proofs.Declarators.{in_enumeration, in_function_member, in_object_member, in_parameter, in_structure, in_typed, in_valued}
 use Rattle.mc_types.proofs.Turns.{last_turn, next_turn}
 use Rattle.mc_types.proofs.Parts.{joined_first, judged_last, judged_turn, lengths_turn, listed_after, listed_turn, lists_first, parameters_turn, specifiers_first, specifiers_turn, squeezed_judged, squeezed_last, squeezed_parameters}
@@ -71,56 +71,36 @@ expression-returns-in_ok-operand-in-Unary t c =
     (found_with c.unary.result found_of u _ _ c.unary.ensures
     (in_unary w.operator w.span (expression_of w.operand.value) s (found_of c.in_ok-operand-in-Unary.operand u) (rw c.deref-in-Unary.ensures at c.in_ok-operand-in-Unary.ensures)))
 
-pub expression-returns-in-Ok : goal.expression-returns-in-Ok
-expression-returns-in-Ok t c =
+pub expression-returns-in_ok-array-in-Index : goal.expression-returns-in_ok-array-in-Index
+expression-returns-in_ok-array-in-Index t c =
     let w = c.in-Index in
-    let s = scope_of c.args.scope.now in
-    let r = scope_of c.expression-in-Index.new.scope in
-    let u = scope_of c.expression-in-Index-2.new.scope in
     rw (w.is, expression_of-Index w.array w.index w.span)
-    (found_as c.index.result (λ z. found_of z u) _ _ c.index.ensures
-    (in_index w.span (expression_of w.array.value) (expression_of w.index.value) s (found_of c.in_ok-array-in-Index.array r) (found_of c.in-Ok.index u) (rw c.deref-in-Index.ensures at c.in_ok-array-in-Index.ensures) (rw c.deref-in-Index-2.ensures at c.in-Ok.ensures)))
+    (c.index.ensures (expression_of w.array.value) (expression_of w.index.value) (scope_of c.args.scope.now) (scope_of c.expression-in-Index.new.scope) (rw c.deref-in-Index.ensures at c.in_ok-array-in-Index.ensures) (rw c.deref-in-Index-2.ensures at c.expression-index.ensures))
 
-pub expression-returns-in-Ok-expression : goal.expression-returns-in-Ok-expression
-expression-returns-in-Ok-expression t c =
+pub expression-returns-in_ok-left-in-Binary : goal.expression-returns-in_ok-left-in-Binary
+expression-returns-in_ok-left-in-Binary t c =
     let w = c.in-Binary in
-    let s = scope_of c.args.scope.now in
-    let r = scope_of c.expression-in-Binary.new.scope in
-    let u = scope_of c.expression-in-Binary-2.new.scope in
     rw (w.is, expression_of-Binary w.operator w.left w.right w.span)
-    (found_with c.binary.result found_of u _ _ c.binary.ensures
-    (in_binary w.operator w.span (expression_of w.left.value) (expression_of w.right.value) s (found_of c.in_ok-left-in-Binary.left r) (found_of c.in-Ok-expression.right u) (rw c.deref-in-Binary.ensures at c.in_ok-left-in-Binary.ensures) (rw c.deref-in-Binary-2.ensures at c.in-Ok-expression.ensures)))
+    (c.binary.ensures (expression_of w.left.value) (expression_of w.right.value) (scope_of c.args.scope.now) (scope_of c.expression-in-Binary.new.scope) (scope_of c.expression-right.new.scope) (rw c.deref-in-Binary.ensures at c.in_ok-left-in-Binary.ensures) (rw c.deref-in-Binary-2.ensures at c.expression-right.ensures))
 
-pub expression-returns-in-Ok-expression-4 : goal.expression-returns-in-Ok-expression-4
-expression-returns-in-Ok-expression-4 t c =
+pub expression-returns-in_ok-target-in-Assignment : goal.expression-returns-in_ok-target-in-Assignment
+expression-returns-in_ok-target-in-Assignment t c =
     let w = c.in-Assignment in
-    let s = scope_of c.args.scope.now in
-    let r = scope_of c.expression-in-Assignment.new.scope in
-    let u = scope_of c.expression-in-Assignment-2.new.scope in
     rw (w.is, expression_of-Assignment w.operator w.target w.value w.span)
-    (found_as c.assignment.result (λ z. found_of z u) _ _ c.assignment.ensures
-    (in_assignment w.operator w.span (expression_of w.target.value) (expression_of w.value.value) s (found_of c.in_ok-target-in-Assignment.target r) (found_of c.in-Ok-expression-4.value u) (rw c.deref-in-Assignment.ensures at c.in_ok-target-in-Assignment.ensures) (rw c.deref-in-Assignment-2.ensures at c.in-Ok-expression-4.ensures)))
+    (c.assignment.ensures (expression_of w.target.value) (expression_of w.value.value) (scope_of c.args.scope.now) (scope_of c.expression-in-Assignment.new.scope) (rw c.deref-in-Assignment.ensures at c.in_ok-target-in-Assignment.ensures) (rw c.deref-in-Assignment-2.ensures at c.expression-value.ensures))
 
-pub expression-returns-in-Ok-expression-3 : goal.expression-returns-in-Ok-expression-3
-expression-returns-in-Ok-expression-3 t c =
+pub expression-returns-in_ok-tested-in-Conditional : goal.expression-returns-in_ok-tested-in-Conditional
+expression-returns-in_ok-tested-in-Conditional t c =
     let w = c.in-Conditional in
-    let s = scope_of c.args.scope.now in
-    let q = scope_of c.expression-in-Conditional.new.scope in
-    let r = scope_of c.expression-in-Conditional-2.new.scope in
-    let u = scope_of c.expression-in-Ok-expression-2.new.scope in
+    let o = c.in_ok-tested-in-Conditional in
     rw (w.is, expression_of-Conditional w.test w.chosen w.other w.span)
-    (found_with c.conditional.result found_of u _ _ c.conditional.ensures
-    (in_conditional w.span (expression_of w.test.value) (expression_of w.chosen.value) (expression_of w.other.value) s (found_of c.in_ok-test-in-Conditional.test q) (found_of c.in-Ok-expression-2.chosen r) (found_of c.in-Ok-expression-3.other u) (rw c.deref-in-Conditional.ensures at c.in_ok-test-in-Conditional.ensures) (rw c.deref-in-Conditional-2.ensures at c.in-Ok-expression-2.ensures) (rw c.deref-in-Ok-expression-2.ensures at c.in-Ok-expression-3.ensures)))
+    (c.conditional.ensures (expression_of w.test.value) (expression_of w.chosen.value) (expression_of w.other.value) (scope_of c.args.scope.now) (scope_of c.expression-in-Conditional.new.scope) (scope_of c.expression-chosen.new.scope) (scope_of c.expression-other.new.scope) (rw o.ensures.test (rw c.deref-in-Conditional.ensures at c.in_ok-test-in-Conditional.ensures)) (rw c.deref-in-Conditional-2.ensures at (at_ok c.expression-chosen.result o.tested.chosen _ o.ensures.chosen c.expression-chosen.ensures)) (rw c.deref-in-Conditional-3.ensures at c.expression-other.ensures))
 
-pub expression-returns-in_ok-found-in-Cast : goal.expression-returns-in_ok-found-in-Cast
-expression-returns-in_ok-found-in-Cast t c =
+pub expression-returns-in_ok-of-in-Cast : goal.expression-returns-in_ok-of-in-Cast
+expression-returns-in_ok-of-in-Cast t c =
     let w = c.in-Cast in
-    let s = scope_of c.args.scope.now in
-    let r = scope_of c.typed.new.scope in
-    let u = scope_of c.expression-in-Cast.new.scope in
     rw (w.is, expression_of-Cast w.words w.stars w.type_span w.operand w.span)
-    (found_with c.cast.result found_of u _ _ c.cast.ensures
-    (rw c.deref-in-Cast-3.ensures (in_cast w.span (specifiers_from (map specifier_of w.words.items)) w.stars w.type_span (expression_of w.operand.value) s (judged_of type_of c.in_ok-of-in-Cast.of r) (found_of c.in_ok-found-in-Cast.found u) (rw c.deref-in-Cast.ensures.value at c.in_ok-of-in-Cast.ensures) (rw c.deref-in-Cast-2.ensures at c.in_ok-found-in-Cast.ensures))))
+    (rw c.deref-in-Cast-3.ensures at (c.cast.ensures (specifiers_from (map specifier_of w.words.items)) w.stars w.type_span (scope_of c.args.scope.now) (scope_of c.typed.new.scope) (scope_of c.expression-found.new.scope) (rw c.deref-in-Cast.ensures.value at c.in_ok-of-in-Cast.ensures) (rw (c.deref-in-Cast-2.ensures, ← c.deref-in-Cast-3.ensures) at c.expression-found.ensures)))
 
 pub expression-returns-in-Constant : goal.expression-returns-in-Constant
 expression-returns-in-Constant t c =

@@ -15,22 +15,23 @@ use Rattle.mc_scopes.specs.Found.{found_of, judged_of}
 use Rattle.mc_scopes.specs.Statements.{around_of, declarators_of, effects_of, statements_of, test_of}
 use Rattle.mc_scopes.specs.steps.Squeezed.{squeezed_part}
 use Rattle.std.proofs.lemmas.Result.{IfOk-weaker}
-use Rattle.mc_types.proofs.Exits.{found_as, found_with}
+use Rattle.mc_types.proofs.Exits.{at_ok, found_as, found_with}
 use Rattle.mc_types.proofs.Bodies.{block_item_of-Local, block_item_of-Statement, statement_of-Break, statement_of-Case, statement_of-Compound, statement_of-Continue, statement_of-Default, statement_of-DoWhile, statement_of-Expression, statement_of-For, statement_of-Goto, statement_of-If, statement_of-IfElse, statement_of-Label, statement_of-Null, statement_of-Return, statement_of-Switch, statement_of-While}
-use Rattle.mc_types.proofs.StatementArms.{closes, in_case, in_compound, in_default, in_do, in_effect_statement, in_for, in_if, in_if_else, in_item, in_label, in_local, in_return, in_switch_statement, in_while}
+use Rattle.mc_types.proofs.StatementArms.{closes, in_case, in_default, in_effect_statement, in_item, in_label, in_local, in_return}
 use Rattle.mc_types.proofs.Turns.{last_turn, next_turn}
 use Rattle.mc_types.proofs.Parts.{followed_first, followed_item, followed_last, squeezed_judged}
 use Rattle.mc_types.proofs.statements.+statements.Goals as goal
 
-pub statement-returns-in_ok-found-in-Compound : goal.statement-returns-in_ok-found-in-Compound
-statement-returns-in_ok-found-in-Compound t c =
+pub statement-returns-in_ok-outer-in-Compound : goal.statement-returns-in_ok-outer-in-Compound
+statement-returns-in_ok-outer-in-Compound t c =
     let w = c.in-Compound in
+    let a = around_of c.args.around in
     let s = scope_of c.args.scope.now in
-    let r = scope_of c.block.new.scope in
+    let r = scope_of c.block-found.new.scope in
     let u = scope_of c.leave.new.self in
+    let items = block_from (map block_item_of w.items.items) in
     rw (w.is, statement_of-Compound w.items w.span)
-    (found_with c.compound_statement.result (λ z v. judged_of statements_of z v) u _ _ c.compound_statement.ensures
-    (in_compound (around_of c.args.around) (block_from (map block_item_of w.items.items)) w.span s (judged_of statements_of c.in_ok-found-in-Compound.found u) (closes s u (judged_of statements_of c.in_ok-found-in-Compound.found r) (judge_block (inside (around_of c.args.around)) (block_from (map block_item_of w.items.items)) (compound_scope (around_of c.args.around) s)) (rw (c.deref.ensures.value, c.inside.ensures, c.in_ok-outer-in-Compound.ensures.entered) at c.in_ok-found-in-Compound.ensures) (c.leave.ensures ∙ ap (λ (b : Around). left_by b r) c.in_ok-outer-in-Compound.ensures.block))))
+    (c.compound.ensures a items s u (IfOk-weaker c.block-found.result _ _ (λ z h. closes s u (judged_of statements_of z r) (judge_block (inside a) items (compound_scope a s)) (rw (c.deref.ensures.value, c.inside.ensures, c.in_ok-outer-in-Compound.ensures.entered) at h) (c.leave.ensures ∙ ap (λ (b : Around). left_by b r) c.in_ok-outer-in-Compound.ensures.block)) c.block-found.ensures))
 
 pub statement-returns-in_ok-found-in-Expression : goal.statement-returns-in_ok-found-in-Expression
 statement-returns-in_ok-found-in-Expression t c =
@@ -41,96 +42,77 @@ statement-returns-in_ok-found-in-Expression t c =
     (found_with c.effect_statement.result (λ z v. judged_of statements_of z v) u _ _ c.effect_statement.ensures
     (in_effect_statement (around_of c.args.around) (expression_of w.value.value) w.span s (judged_of effect_of c.in_ok-found-in-Expression.found u) (rw c.deref-in-Expression.ensures at c.in_ok-found-in-Expression.ensures)))
 
-pub statement-returns-in-Ok : goal.statement-returns-in-Ok
-statement-returns-in-Ok t c =
+pub statement-returns-in_ok-test-in-If : goal.statement-returns-in_ok-test-in-If
+statement-returns-in_ok-test-in-If t c =
     let w = c.in-If in
-    let s = scope_of c.args.scope.now in
-    let r = scope_of c.expression.new.scope in
-    let u = scope_of c.inner.new.scope in
     rw (w.is, statement_of-If w.test w.chosen w.span)
-    (found_with c.if_statement.result (λ z v. judged_of statements_of z v) u _ _ c.if_statement.ensures
-    (in_if (around_of c.args.around) (expression_of w.test.value) (statement_of w.chosen.value) w.span s (found_of c.in_ok-test-in-If.test r) (judged_of statements_of c.in-Ok.chosen u) (rw c.deref-in-If.ensures at c.in_ok-test-in-If.ensures) (rw (c.deref-in-If-2.ensures, c.inside-in-If.ensures) at c.in-Ok.ensures)))
+    (c.if_then.ensures (around_of c.args.around) (expression_of w.test.value) (statement_of w.chosen.value) (scope_of c.args.scope.now) (scope_of c.expression.new.scope) (scope_of c.inner-chosen.new.scope) (rw c.deref-in-If.ensures at c.in_ok-test-in-If.ensures) (rw (c.deref-in-If-2.ensures, c.inside-in-If.ensures) at c.inner-chosen.ensures))
 
-pub statement-returns-in-Ok-inner-2 : goal.statement-returns-in-Ok-inner-2
-statement-returns-in-Ok-inner-2 t c =
+pub statement-returns-in_ok-tested-in-IfElse : goal.statement-returns-in_ok-tested-in-IfElse
+statement-returns-in_ok-tested-in-IfElse t c =
     let w = c.in-IfElse in
-    let s = scope_of c.args.scope.now in
-    let q = scope_of c.expression-in-IfElse.new.scope in
-    let r = scope_of c.inner-in-IfElse.new.scope in
-    let u = scope_of c.inner-in-Ok-inner.new.scope in
+    let o = c.in_ok-tested-in-IfElse in
     rw (w.is, statement_of-IfElse w.test w.chosen w.other w.span)
-    (found_with c.if_else_statement.result (λ z v. judged_of statements_of z v) u _ _ c.if_else_statement.ensures
-    (in_if_else (around_of c.args.around) (expression_of w.test.value) (statement_of w.chosen.value) (statement_of w.other.value) w.span s (found_of c.in_ok-test-in-IfElse.test q) (judged_of statements_of c.in-Ok-inner.chosen r) (judged_of statements_of c.in-Ok-inner-2.other u) (rw c.deref-in-IfElse.ensures at c.in_ok-test-in-IfElse.ensures) (rw (c.deref-in-IfElse-2.ensures, c.inside-in-IfElse.ensures) at c.in-Ok-inner.ensures) (rw (c.deref-in-Ok-inner.ensures, c.inside-in-Ok-inner.ensures) at c.in-Ok-inner-2.ensures)))
+    (c.if_else.ensures (around_of c.args.around) (expression_of w.test.value) (statement_of w.chosen.value) (statement_of w.other.value) (scope_of c.args.scope.now) (scope_of c.expression-in-IfElse.new.scope) (scope_of c.inner-chosen-in-IfElse.new.scope) (scope_of c.inner-other.new.scope) (rw o.ensures.test (rw c.deref-in-IfElse.ensures at c.in_ok-test-in-IfElse.ensures)) (rw (c.deref-in-IfElse-2.ensures, c.inside-in-IfElse.ensures) at (at_ok c.inner-chosen-in-IfElse.result o.tested.chosen _ o.ensures.chosen c.inner-chosen-in-IfElse.ensures)) (rw (c.deref-in-IfElse-3.ensures, c.inside-in-IfElse-2.ensures) at c.inner-other.ensures))
 
-pub statement-returns-in-Ok-statement : goal.statement-returns-in-Ok-statement
-statement-returns-in-Ok-statement t c =
+pub statement-returns-in_ok-value-in-Switch : goal.statement-returns-in_ok-value-in-Switch
+statement-returns-in_ok-value-in-Switch t c =
     let w = c.in-Switch in
-    let s = scope_of c.args.scope.now in
+    let a = around_of c.args.around in
     let q = scope_of c.expression-in-Switch.new.scope in
-    let r = scope_of c.statement.new.scope in
-    let u = scope_of c.leave-in-Ok-statement.new.self in
+    let r = scope_of c.statement-found.new.scope in
+    let u = scope_of c.leave-in-Switch.new.self in
     rw (w.is, statement_of-Switch w.value w.body w.span)
-    (found_with c.switch_statement.result (λ z v. judged_of statements_of z v) u _ _ c.switch_statement.ensures
-    (rw c.deref-in-Ok-statement.ensures (in_switch_statement (around_of c.args.around) (expression_of w.value.value) (statement_of w.body.value) w.span s (found_of c.in_ok-value-in-Switch.value q) (judged_of statements_of c.in-Ok-statement.found u) (rw c.deref-in-Switch.ensures at c.in_ok-value-in-Switch.ensures) (closes q u (judged_of statements_of c.in-Ok-statement.found r) (judge_statement (in_switch (around_of c.args.around)) (statement_of w.body.value) (switch_scope (found_of c.in_ok-value-in-Switch.value q))) (rw (c.deref-in-Switch-2.ensures, c.in_switch.ensures, c.enter_switch-outer.ensures.entered) at c.in-Ok-statement.ensures) (c.leave-in-Ok-statement.ensures ∙ ap (λ (b : Around). left_by b r) c.enter_switch-outer.ensures.block)))))
+    (rw c.deref-in-Switch-3.ensures at (c.switch_on.ensures a (expression_of w.value.value) (scope_of c.args.scope.now) q u (rw c.deref-in-Switch.ensures at c.in_ok-value-in-Switch.ensures) (rw c.deref-in-Switch-3.ensures (IfOk-weaker c.statement-found.result _ _ (λ z h. closes q u (judged_of statements_of z r) (judge_statement (in_switch a) (statement_of w.body.value) (switch_scope (found_of c.in_ok-value-in-Switch.value q))) (rw (c.deref-in-Switch-2.ensures, c.in_switch.ensures, c.enter_switch-outer.ensures.entered) at h) (c.leave-in-Switch.ensures ∙ ap (λ (b : Around). left_by b r) c.enter_switch-outer.ensures.block)) c.statement-found.ensures))))
 
-pub statement-returns-in_ok-body-in-While : goal.statement-returns-in_ok-body-in-While
-statement-returns-in_ok-body-in-While t c =
+pub statement-returns-in_ok-test-in-While : goal.statement-returns-in_ok-test-in-While
+statement-returns-in_ok-test-in-While t c =
     let w = c.in-While in
-    let s = scope_of c.args.scope.now in
-    let r = scope_of c.expression-in-While.new.scope in
-    let u = scope_of c.inner-in-While.new.scope in
     rw (w.is, statement_of-While w.test w.body w.span)
-    (found_with c.loop_statement.result (λ z v. judged_of statements_of z v) u _ _ c.loop_statement.ensures
-    (in_while (around_of c.args.around) (expression_of w.test.value) (statement_of w.body.value) w.span s u (found_of c.in_ok-found-in-While.found r) (judged_of typed.start_of c.no_start-start.result u) (judged_of test_of c.loop_test-test.result r) (judged_of effects_of c.no_clauses-step.result u) (judged_of statements_of c.in_ok-body-in-While.body u) (rw c.deref-in-While.ensures at c.in_ok-found-in-While.ensures) (c.no_start-start.ensures u) (c.loop_test-test.ensures r) (c.no_clauses-step.ensures u) (rw (c.deref-in-While-2.ensures, c.in_loop.ensures) at c.in_ok-body-in-While.ensures)))
+    (c.while_loop.ensures (around_of c.args.around) (expression_of w.test.value) (statement_of w.body.value) (scope_of c.args.scope.now) (scope_of c.expression-in-While.new.scope) (scope_of c.inner-body.new.scope) (rw c.deref-in-While.ensures at c.in_ok-test-in-While.ensures) (rw (c.deref-in-While-2.ensures, c.in_loop.ensures) at c.inner-body.ensures))
 
-pub statement-returns-in_ok-test-in-DoWhile : goal.statement-returns-in_ok-test-in-DoWhile
-statement-returns-in_ok-test-in-DoWhile t c =
+pub statement-returns-in_ok-body-in-DoWhile : goal.statement-returns-in_ok-body-in-DoWhile
+statement-returns-in_ok-body-in-DoWhile t c =
     let w = c.in-DoWhile in
-    let s = scope_of c.args.scope.now in
-    let r = scope_of c.inner-in-DoWhile.new.scope in
-    let u = scope_of c.expression-in-DoWhile.new.scope in
     rw (w.is, statement_of-DoWhile w.body w.test w.span)
-    (found_with c.do_statement.result (λ z v. judged_of statements_of z v) u _ _ c.do_statement.ensures
-    (in_do (around_of c.args.around) (statement_of w.body.value) (expression_of w.test.value) w.span s (judged_of statements_of c.in_ok-body-in-DoWhile.body r) (found_of c.in_ok-test-in-DoWhile.test u) (rw (c.deref-in-DoWhile.ensures, c.in_loop-in-DoWhile.ensures) at c.in_ok-body-in-DoWhile.ensures) (rw c.deref-in-DoWhile-2.ensures at c.in_ok-test-in-DoWhile.ensures)))
+    (c.do_loop.ensures (around_of c.args.around) (expression_of w.test.value) (statement_of w.body.value) (scope_of c.args.scope.now) (scope_of c.inner.new.scope) (scope_of c.expression-test.new.scope) (rw (c.deref-in-DoWhile.ensures, c.in_loop-in-DoWhile.ensures) at c.in_ok-body-in-DoWhile.ensures) (rw c.deref-in-DoWhile-2.ensures at c.expression-test.ensures))
 
-pub statement-returns-in_ok-body-in-For : goal.statement-returns-in_ok-body-in-For
-statement-returns-in_ok-body-in-For t c =
+pub statement-returns-in_ok-heading-in-For : goal.statement-returns-in_ok-heading-in-For
+statement-returns-in_ok-heading-in-For t c =
     let w = c.in-For in
-    let s = scope_of c.args.scope.now in
-    let p = scope_of c.for_start.new.scope in
-    let q = scope_of c.optional_test.new.scope in
-    let o = scope_of c.optional_part.new.scope in
-    let r = scope_of c.inner-in-For.new.scope in
-    let u = scope_of c.leave-in-For.new.self in
+    let o = c.in_ok-heading-in-For in
     rw (w.is, statement_of-For w.start w.test w.step w.body w.span)
-    (found_with c.loop_statement-in-For.result (λ z v. judged_of statements_of z v) u _ _ c.loop_statement-in-For.ensures
-    (in_for (around_of c.args.around) (start_of w.start.value) (option_of w.test) (option_of w.step) (statement_of w.body.value) w.span s u (judged_of typed.start_of c.in_ok-start-in-For.start p) (judged_of test_of c.in_ok-test-in-For.test q) (judged_of effects_of c.in_ok-step-in-For.step o) (judged_of statements_of c.in_ok-body-in-For.body r) (rw (c.deref-in-For.ensures, c.enter-outer.ensures.entered) at c.in_ok-start-in-For.ensures) c.in_ok-test-in-For.ensures c.in_ok-step-in-For.ensures (rw (c.deref-in-For-2.ensures, c.in_loop-in-For.ensures) at c.in_ok-body-in-For.ensures) (c.leave-in-For.ensures ∙ ap (λ (b : Around). left_by b r) c.enter-outer.ensures.block)))
+    (c.for_loop.ensures (around_of c.args.around) (start_of w.start.value) (option_of w.test) (option_of w.step) (statement_of w.body.value) (scope_of c.args.scope.now) (scope_of c.for_heading.new.scope) o.ensures.outer (rw c.deref-in-For.ensures at o.ensures.parts) (rw (c.deref-in-For-2.ensures, c.in_loop-in-For.ensures) at c.inner-body-in-For.ensures))
 
-pub statement-returns-in_ok-rest-in-Case : goal.statement-returns-in_ok-rest-in-Case
-statement-returns-in_ok-rest-in-Case t c =
+pub statement-returns-in_ok-first-in-Case : goal.statement-returns-in_ok-first-in-Case
+statement-returns-in_ok-first-in-Case t c =
     let w = c.in-Case in
+    let a = around_of c.args.around in
     let s = scope_of c.args.scope.now in
     let q = scope_of c.expression-in-Case.new.scope in
     let r = scope_of c.case_label.new.scope in
-    let u = scope_of c.statement-in-Case.new.scope in
+    let u = scope_of c.statement-rest.new.scope in
+    let rest = squeezed_part (judge_statement (inside a) (statement_of w.body.value) r) in
     rw (w.is, statement_of-Case w.value w.label w.body w.span)
-    (found_with c.followed.result (λ z v. judged_of statements_of z v) u _ _ c.followed.ensures
-    (in_case (around_of c.args.around) (expression_of w.value.value) w.label (statement_of w.body.value) w.span s (found_of c.in_ok-found-in-Case.found q) (judged_of statements_of c.in_ok-first-in-Case.first r) (judged_of statements_of c.in_ok-rest-in-Case.rest u) (rw c.deref-in-Case.ensures at c.in_ok-found-in-Case.ensures) (rw (c.span.ensures, c.deref-in-Case-2.ensures) at c.in_ok-first-in-Case.ensures) (rw (c.deref-in-Case-3.ensures, c.inside-in-Case.ensures) at c.in_ok-rest-in-Case.ensures)))
+    (found_as c.followed.result (λ z. judged_of statements_of z u) _ _ (c.followed.ensures rest u (rw (c.deref-in-Case-3.ensures, c.inside-in-Case.ensures) at c.statement-rest.ensures))
+    (in_case a (expression_of w.value.value) w.label (statement_of w.body.value) w.span s (found_of c.in_ok-found-in-Case.found q) (judged_of statements_of c.in_ok-first-in-Case.first r) rest (rw c.deref-in-Case.ensures at c.in_ok-found-in-Case.ensures) (rw (c.span.ensures, c.deref-in-Case-2.ensures) at c.in_ok-first-in-Case.ensures) refl))
 
-pub statement-returns-in_ok-rest-in-Default : goal.statement-returns-in_ok-rest-in-Default
-statement-returns-in_ok-rest-in-Default t c =
+pub statement-returns-in_ok-first-in-Default : goal.statement-returns-in_ok-first-in-Default
+statement-returns-in_ok-first-in-Default t c =
     let w = c.in-Default in
+    let a = around_of c.args.around in
     let s = scope_of c.args.scope.now in
     let r = scope_of c.default_label.new.scope in
-    let u = scope_of c.statement-in-Default.new.scope in
+    let u = scope_of c.statement-rest-in-Default.new.scope in
+    let rest = squeezed_part (judge_statement (inside a) (statement_of w.body.value) r) in
     rw (w.is, statement_of-Default w.label w.body w.span)
-    (found_with c.followed-in-Default.result (λ z v. judged_of statements_of z v) u _ _ c.followed-in-Default.ensures
-    (in_default (around_of c.args.around) w.label (statement_of w.body.value) w.span s (judged_of statements_of c.in_ok-first-in-Default.first r) (judged_of statements_of c.in_ok-rest-in-Default.rest u) c.in_ok-first-in-Default.ensures (rw (c.deref-in-Default.ensures, c.inside-in-Default.ensures) at c.in_ok-rest-in-Default.ensures)))
+    (found_as c.followed-in-Default.result (λ z. judged_of statements_of z u) _ _ (c.followed-in-Default.ensures rest u (rw (c.deref-in-Default.ensures, c.inside-in-Default.ensures) at c.statement-rest-in-Default.ensures))
+    (in_default a w.label (statement_of w.body.value) w.span s (judged_of statements_of c.in_ok-first-in-Default.first r) rest c.in_ok-first-in-Default.ensures refl))
 
 pub statement-returns-in_ok-found-in-Label : goal.statement-returns-in_ok-found-in-Label
 statement-returns-in_ok-found-in-Label t c =
     let w = c.in-Label in
-    let u = scope_of c.statement-in-Label.new.scope in
+    let u = scope_of c.statement.new.scope in
     rw (w.is, statement_of-Label w.name w.body w.span)
     (c.named_label.ensures u ∙ in_label (around_of c.args.around) (name_of w.name) (statement_of w.body.value) w.span (scope_of c.args.scope.now) (judged_of statements_of c.in_ok-found-in-Label.found u) (rw (c.deref-in-Label.ensures, c.inside-in-Label.ensures) at c.in_ok-found-in-Label.ensures))
 
@@ -174,8 +156,10 @@ statement-returns-in-None t c =
 
 pub inner-returns : goal.inner-returns
 inner-returns t c =
-    let r = scope_of c.statement.new.scope in
-    closes (scope_of c.args.scope.now) (scope_of c.leave.new.self) (judged_of statements_of c.in_ok-found.found r) (judge_statement (around_of c.args.around) (statement_of c.args.tree.now) (block (scope_of c.args.scope.now))) (rw c.enter-outer.ensures.entered at c.in_ok-found.ensures) (c.leave.ensures ∙ ap (λ (b : Around). left_by b r) c.enter-outer.ensures.block)
+    let s = scope_of c.args.scope.now in
+    let r = scope_of c.statement-found.new.scope in
+    let u = scope_of c.leave.new.self in
+    IfOk-weaker c.statement-found.result _ _ (λ z h. closes s u (judged_of statements_of z r) (judge_statement (around_of c.args.around) (statement_of c.args.tree.now) (block s)) (rw c.enter-outer.ensures.entered at h) (c.leave.ensures ∙ ap (λ (b : Around). left_by b r) c.enter-outer.ensures.block)) c.statement-found.ensures
 
 pub block-loop-tree-init : goal.block-loop-tree-init
 block-loop-tree-init t c =

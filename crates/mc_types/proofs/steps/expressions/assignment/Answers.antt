@@ -1,0 +1,12 @@
+use Rattle.mc_scopes.specs.Views.{scope_of}
+use Rattle.mc_scopes.specs.Found.{found_of}
+use Rattle.mc_types.proofs.Exits.{at_ok, found_as}
+use Rattle.mc_types.proofs.Arms.{in_assignment}
+use Rattle.mc_types.proofs.steps.expressions.assignment.Goals as goal
+
+pub returns-in-Ok : goal.returns-in-Ok
+returns-in-Ok c =
+    λ a b p q h k.
+    let u = scope_of c.args.scope.now in
+    found_as c.assignment.result (λ z. found_of z u) _ _ c.assignment.ensures
+    (in_assignment c.args.operator c.args.span a b p (found_of c.args.target q) (found_of c.in-Ok.value u) h (at_ok c.args.value c.in-Ok.value _ c.in-Ok.is k))

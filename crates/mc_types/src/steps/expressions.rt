@@ -1,0 +1,155 @@
+//! Expressions of several operands (C17 6.5).
+ghost use Rattle.std.specs.Prelude.{◌≡◌, ℕ, IfOk, Ok, false};
+ghost use Rattle.mc_tree.specs.Tree as t;
+ghost use Rattle.mc_tree.specs.Views.{expression_of};
+ghost use Rattle.mc_typing.specs.Scopes as s;
+ghost use Rattle.mc_typing.specs.Judgement as j;
+ghost use Rattle.mc_scopes.specs.Types.{type_of};
+ghost use Rattle.mc_scopes.specs.Views.{scope_of};
+ghost use Rattle.mc_scopes.specs.Found.{found_of, judged_of};
+ghost use Rattle.mc_scopes.specs.steps.Squeezed.{squeezed, squeezed_part};
+
+use mc_scopes::found::{Found, Judged};
+use mc_scopes::{CType, Scope};
+use mc_tree::{AssignmentOperator, BinaryOperator, Expression};
+use mc_typed::Span;
+use std::alloc::{AllocError, Global};
+
+/// An element of an array (C17 6.5.2.1).
+pub(crate) fn index(
+    alloc: Global,
+    scope: &Scope<'_>,
+    span: Span,
+    array: Found,
+    found: Result<Found, AllocError>,
+) -> Result<Found, AllocError>
+    ensures { (a b : t.Expression) (first next : s.Scope)
+        → found_of array next ≡ squeezed (j.judge a first)
+        → IfOk found (λ y. found_of y (scope_of scope.now) ≡ squeezed (j.judge b next))
+        → IfOk result (λ r. found_of r (scope_of scope.now)
+        ≡ squeezed (j.judge (t.Index a b span) first)) }
+{
+    match found {
+        Ok(index) => mc_expressions::index(alloc, scope, span, array, index),
+        Err(error) => {
+            drop(array);
+            Err(error)
+        }
+    }
+}
+
+/// A cast (C17 6.5.4).
+pub(crate) fn cast(
+    alloc: Global,
+    span: Span,
+    of: Judged<CType>,
+    operand: &Expression<'_>,
+    found: Result<Found, AllocError>,
+) -> Result<Found, AllocError>
+    ensures { (all : t.Specifiers) (stars : ℕ) (at : Span) (first next last : s.Scope)
+        → judged_of type_of of next
+        ≡ squeezed_part (j.typed_by at.start all (j.judge_specifiers false all first))
+        → IfOk found (λ y. found_of y last
+        ≡ squeezed (j.judge (expression_of operand.now) next))
+        → IfOk result (λ r. found_of r last ≡ squeezed (j.judge
+        (t.Cast (t.type_name all stars at) (expression_of operand.now) span) first)) }
+{
+    match found {
+        Ok(found) => mc_expressions::cast(alloc, span, of, operand, found),
+        Err(error) => {
+            drop(of);
+            Err(error)
+        }
+    }
+}
+
+/// An operator with two operands (C17 6.5.5 to 6.5.14).
+pub(crate) fn binary(
+    alloc: Global,
+    operator: BinaryOperator,
+    span: Span,
+    left: Found,
+    right: Result<Found, AllocError>,
+) -> Result<Found, AllocError>
+    ensures { (a b : t.Expression) (first next last : s.Scope)
+        → found_of left next ≡ squeezed (j.judge a first)
+        → IfOk right (λ y. found_of y last ≡ squeezed (j.judge b next))
+        → IfOk result (λ r. found_of r last
+        ≡ squeezed (j.judge (t.Binary operator a b span) first)) }
+{
+    match right {
+        Ok(right) => mc_expressions::binary(alloc, operator, span, left, right),
+        Err(error) => {
+            drop(left);
+            Err(error)
+        }
+    }
+}
+
+/// What is found of the first two operands of `?:`.
+#[derive(Drop)]
+pub(crate) struct Branch {
+    pub(crate) test: Found,
+    pub(crate) chosen: Found,
+}
+
+/// The first two operands of `?:` together.
+pub(crate) fn tested(test: Found, chosen: Result<Found, AllocError>) -> Result<Branch, AllocError>
+    ensures test { IfOk result (λ r. r.test ≡ test) }
+    ensures chosen { IfOk result (λ r. chosen ≡ Ok r.chosen) }
+{
+    match chosen {
+        Ok(chosen) => Ok(Branch { test, chosen }),
+        Err(error) => {
+            drop(test);
+            Err(error)
+        }
+    }
+}
+
+/// `?:` (C17 6.5.15).
+pub(crate) fn conditional(
+    alloc: Global,
+    span: Span,
+    tested: Branch,
+    other: Result<Found, AllocError>,
+) -> Result<Found, AllocError>
+    ensures { (a b c : t.Expression) (first next last end : s.Scope)
+        → found_of tested.test next ≡ squeezed (j.judge a first)
+        → found_of tested.chosen last ≡ squeezed (j.judge b next)
+        → IfOk other (λ y. found_of y end ≡ squeezed (j.judge c last))
+        → IfOk result (λ r. found_of r end
+        ≡ squeezed (j.judge (t.Conditional a b c span) first)) }
+{
+    match other {
+        Ok(other) => { mc_expressions::conditional(alloc, span, tested.test, tested.chosen, other) }
+        Err(error) => {
+            drop(tested);
+            Err(error)
+        }
+    }
+}
+
+/// An assignment (C17 6.5.16).
+pub(crate) fn assignment(
+    alloc: Global,
+    scope: &Scope<'_>,
+    operator: AssignmentOperator,
+    span: Span,
+    target: Found,
+    value: Result<Found, AllocError>,
+) -> Result<Found, AllocError>
+    ensures { (a b : t.Expression) (first next : s.Scope)
+        → found_of target next ≡ squeezed (j.judge a first)
+        → IfOk value (λ y. found_of y (scope_of scope.now) ≡ squeezed (j.judge b next))
+        → IfOk result (λ r. found_of r (scope_of scope.now)
+        ≡ squeezed (j.judge (t.Assignment operator a b span) first)) }
+{
+    match value {
+        Ok(value) => mc_expressions::assignment(alloc, scope, operator, span, target, value),
+        Err(error) => {
+            drop(target);
+            Err(error)
+        }
+    }
+}

@@ -1,0 +1,255 @@
+//! Statements of several parts (C17 6.8).
+ghost use Rattle.std.specs.Prelude.{◌≡◌, IfOk, Ok, Option};
+ghost use Rattle.mc_tree.specs.Tree as t;
+ghost use Rattle.mc_tree.specs.Units.{statement_of};
+ghost use Rattle.mc_typed.specs.Tree.{Statements};
+ghost use Rattle.mc_typing.specs.Scopes as s;
+ghost use Rattle.mc_typing.specs.Values as v;
+ghost use Rattle.mc_typing.specs.Judgement as j;
+ghost use Rattle.mc_typing.specs.Statements as w;
+ghost use Rattle.mc_typing.specs.Bodies as b;
+ghost use Rattle.mc_scopes.specs.Blocks as blocks;
+ghost use Rattle.mc_scopes.specs.Views.{scope_of};
+ghost use Rattle.mc_scopes.specs.Found.{found_of, judged_of};
+ghost use Rattle.mc_scopes.specs.Statements.{statements_of};
+ghost use Rattle.mc_scopes.specs.steps.Squeezed.{squeezed, squeezed_part};
+ghost use Rattle.mc_types.specs.Headings.{ArePartsOf};
+
+use mc_scopes::found::{Found, Judged};
+use mc_scopes::{Block, Scope};
+use mc_tree as tree;
+use mc_typed::{Effect, Expression, ForStart, Span, Statement};
+use std::alloc::{AllocError, Global};
+
+/// A compound statement (C17 6.8.2).
+pub(crate) fn compound(
+    alloc: Global,
+    span: Span,
+    found: Result<Judged<Vec<Statement>>, AllocError>,
+) -> Result<Judged<Vec<Statement>>, AllocError>
+    ensures { (a : w.Around) (items : t.BlockItems) (first last : s.Scope)
+        → IfOk found (λ y. judged_of statements_of y last ≡ squeezed_part (w.closed first
+        (b.judge_block (w.inside a) items (w.compound_scope a first))))
+        → IfOk result (λ r. judged_of statements_of r last
+        ≡ squeezed_part (b.judge_statement a (t.Compound items span) first)) }
+{
+    match found {
+        Ok(found) => mc_statements::compound_statement(alloc, span, found),
+        Err(error) => Err(error),
+    }
+}
+
+/// `if` without `else` (C17 6.8.4.1).
+pub(crate) fn if_then(
+    alloc: Global,
+    span: Span,
+    test: Found,
+    chosen: Result<Judged<Vec<Statement>>, AllocError>,
+) -> Result<Judged<Vec<Statement>>, AllocError>
+    ensures { (a : w.Around) (e : t.Expression) (one : t.Statement) (first next last : s.Scope)
+        → found_of test next ≡ squeezed (j.judge e first)
+        → IfOk chosen (λ y. judged_of statements_of y last ≡ squeezed_part (w.closed next
+        (b.judge_statement (w.inside a) one (s.block next))))
+        → IfOk result (λ r. judged_of statements_of r last
+        ≡ squeezed_part (b.judge_statement a (t.If e one span) first)) }
+{
+    match chosen {
+        Ok(chosen) => mc_statements::if_statement(alloc, span, test, chosen),
+        Err(error) => {
+            drop(test);
+            Err(error)
+        }
+    }
+}
+
+/// What is found of the parts of an `if` before `else`.
+#[derive(Drop)]
+pub(crate) struct Branch {
+    pub(crate) test: Found,
+    pub(crate) chosen: Judged<Vec<Statement>>,
+}
+
+/// The parts of an `if` before `else` together.
+pub(crate) fn tested(
+    test: Found,
+    chosen: Result<Judged<Vec<Statement>>, AllocError>,
+) -> Result<Branch, AllocError>
+    ensures test { IfOk result (λ r. r.test ≡ test) }
+    ensures chosen { IfOk result (λ r. chosen ≡ Ok r.chosen) }
+{
+    match chosen {
+        Ok(chosen) => Ok(Branch { test, chosen }),
+        Err(error) => {
+            drop(test);
+            Err(error)
+        }
+    }
+}
+
+/// `if` with `else` (C17 6.8.4.1).
+pub(crate) fn if_else(
+    alloc: Global,
+    span: Span,
+    tested: Branch,
+    other: Result<Judged<Vec<Statement>>, AllocError>,
+) -> Result<Judged<Vec<Statement>>, AllocError>
+    ensures { (a : w.Around) (e : t.Expression) (one two : t.Statement)
+        (first next last end : s.Scope)
+        → found_of tested.test next ≡ squeezed (j.judge e first)
+        → judged_of statements_of tested.chosen last ≡ squeezed_part (w.closed next
+        (b.judge_statement (w.inside a) one (s.block next)))
+        → IfOk other (λ y. judged_of statements_of y end ≡ squeezed_part (w.closed last
+        (b.judge_statement (w.inside a) two (s.block last))))
+        → IfOk result (λ r. judged_of statements_of r end
+        ≡ squeezed_part (b.judge_statement a (t.IfElse e one two span) first)) }
+{
+    match other {
+        Ok(other) => {
+            mc_statements::if_else_statement(alloc, span, tested.test, tested.chosen, other)
+        }
+        Err(error) => {
+            drop(tested);
+            Err(error)
+        }
+    }
+}
+
+/// `switch` (C17 6.8.4.2).
+pub(crate) fn switch_on(
+    alloc: Global,
+    span: Span,
+    body: &tree::Statement<'_>,
+    value: Found,
+    found: Result<Judged<Vec<Statement>>, AllocError>,
+) -> Result<Judged<Vec<Statement>>, AllocError>
+    ensures { (a : w.Around) (e : t.Expression) (first next last : s.Scope)
+        → found_of value next ≡ squeezed (j.judge e first)
+        → IfOk found (λ y. judged_of statements_of y last ≡ squeezed_part (w.closed next
+        (b.judge_statement (w.in_switch a) (statement_of body.now)
+        (w.switch_scope (found_of value next)))))
+        → IfOk result (λ r. judged_of statements_of r last
+        ≡ squeezed_part (b.judge_statement a (t.Switch e (statement_of body.now) span) first)) }
+{
+    match found {
+        Ok(found) => mc_statements::switch_statement(alloc, span, body, value, found),
+        Err(error) => {
+            drop(value);
+            Err(error)
+        }
+    }
+}
+
+/// `while` (C17 6.8.5.1).
+pub(crate) fn while_loop(
+    alloc: Global,
+    span: Span,
+    test: Found,
+    body: Result<Judged<Vec<Statement>>, AllocError>,
+) -> Result<Judged<Vec<Statement>>, AllocError>
+    ensures { (a : w.Around) (e : t.Expression) (one : t.Statement) (first next last : s.Scope)
+        → found_of test next ≡ squeezed (j.judge e first)
+        → IfOk body (λ y. judged_of statements_of y last ≡ squeezed_part (w.closed next
+        (b.judge_statement (w.in_loop a) one (s.block next))))
+        → IfOk result (λ r. judged_of statements_of r last
+        ≡ squeezed_part (b.judge_statement a (t.While e one span) first)) }
+{
+    match body {
+        Ok(body) => {
+            let test = mc_statements::loop_test(span.start, test);
+            let start = mc_statements::no_start(alloc);
+            let step = mc_statements::no_clauses(alloc);
+            mc_statements::loop_statement(alloc, 5, span, start, test, step, body)
+        }
+        Err(error) => {
+            drop(test);
+            Err(error)
+        }
+    }
+}
+
+/// `do` (C17 6.8.5.2).
+pub(crate) fn do_loop(
+    alloc: Global,
+    span: Span,
+    body: Judged<Vec<Statement>>,
+    test: Result<Found, AllocError>,
+) -> Result<Judged<Vec<Statement>>, AllocError>
+    ensures { (a : w.Around) (e : t.Expression) (one : t.Statement) (first next last : s.Scope)
+        → judged_of statements_of body next ≡ squeezed_part (w.closed first
+        (b.judge_statement (w.in_loop a) one (s.block first)))
+        → IfOk test (λ y. found_of y last ≡ squeezed (j.judge e next))
+        → IfOk result (λ r. judged_of statements_of r last
+        ≡ squeezed_part (b.judge_statement a (t.DoWhile one e span) first)) }
+{
+    match test {
+        Ok(test) => mc_statements::do_statement(alloc, span, body, test),
+        Err(error) => {
+            drop(body);
+            Err(error)
+        }
+    }
+}
+
+/// What is found of the parts of a `for` before its body.
+#[derive(Drop)]
+pub(crate) struct ForHead {
+    pub(crate) start: Judged<ForStart>,
+    pub(crate) test: Judged<Option<Expression>>,
+    pub(crate) step: Judged<Vec<Effect>>,
+}
+
+/// These, and what stands again after the loop.
+#[derive(Drop)]
+pub(crate) struct ForBegun {
+    pub(crate) outer: Block,
+    pub(crate) parts: ForHead,
+}
+
+/// `for` (C17 6.8.5.3).
+pub(crate) fn for_loop(
+    alloc: Global,
+    scope: &mut Scope<'_>,
+    span: Span,
+    heading: ForBegun,
+    body: Result<Judged<Vec<Statement>>, AllocError>,
+) -> Result<Judged<Vec<Statement>>, AllocError>
+    ensures { (a : w.Around) (start : t.ForStart) (test step : Option t.Expression)
+        (one : t.Statement) (first next : s.Scope)
+        → blocks.around_of heading.outer ≡ blocks.around first
+        → ArePartsOf span.start start test step heading.parts (s.block first) next
+        → IfOk body (λ y. judged_of statements_of y (scope_of scope.old) ≡ squeezed_part
+        (w.closed next (b.judge_statement (w.in_loop a) one (s.block next))))
+        → IfOk result (λ r. judged_of statements_of r (scope_of scope.new)
+        ≡ squeezed_part (b.judge_statement a (t.For start test step one span) first)) }
+{
+    match body {
+        Ok(body) => {
+            let parts = heading.parts;
+            scope.leave(heading.outer);
+            mc_statements::loop_statement(alloc, 3, span, parts.start, parts.test, parts.step, body)
+        }
+        Err(error) => {
+            drop(heading);
+            Err(error)
+        }
+    }
+}
+
+/// Statements, and those after them.
+pub(crate) fn followed(
+    list: Judged<Vec<Statement>>,
+    rest: Result<Judged<Vec<Statement>>, AllocError>,
+) -> Result<Judged<Vec<Statement>>, AllocError>
+    ensures { (x : v.Judged Statements) (last : s.Scope)
+        → IfOk rest (λ y. judged_of statements_of y last ≡ x)
+        → IfOk result (λ r. judged_of statements_of r last
+        ≡ squeezed_part (w.followed_judged (judged_of statements_of list last) x)) }
+{
+    match rest {
+        Ok(rest) => mc_statements::followed(list, rest),
+        Err(error) => {
+            drop(list);
+            Err(error)
+        }
+    }
+}
