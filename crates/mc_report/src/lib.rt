@@ -21,6 +21,7 @@ mod words;
 
 pub use fault::ReportFault;
 pub use laws::{evaluated_are_present, vector_is_of_path, verdicts_are_reported};
+pub use output::put_lines;
 pub use report::Report;
 pub use settled::{all_passed, status};
 pub use text::{report_lines, write_text};

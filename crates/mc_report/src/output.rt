@@ -6,8 +6,8 @@ ghost use Rattle.mc_report.specs.Seen.{bytes_of};
 
 use mc_port::{PutFault, Sink};
 
-/// Puts one line after the other, up to the first that cannot be put.
-pub(crate) fn put_lines<K: Sink>(lines: &[Vec<u8>], out: &mut K) -> Result<(), PutFault>
+/// Puts one line after the other, each as one piece, up to the first that cannot be put.
+pub fn put_lines<K: Sink>(lines: &[Vec<u8>], out: &mut K) -> Result<(), PutFault>
     ensures bytes { Puts (K.written out.old) (K.written out.new)
         (K.faults out.old) (K.faults out.new) (concat (bytes_of lines.now)) result }
     ensures later { K.faults out.old ≤ K.faults out.new }

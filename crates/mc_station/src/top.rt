@@ -1,7 +1,5 @@
 //! The top call.
 ghost use Rattle.std.specs.Prelude.{◌≡◌, ◌≢◌, ◌⊎◌, ◌≤◌, OnErr, OnOk};
-ghost use Rattle.std.specs.List.{concat};
-ghost use Rattle.mc_report.specs.Seen.{bytes_of};
 ghost use Rattle.mc_port.specs.Causes.{Rose};
 ghost use Rattle.mc_port.specs.Sink.{Puts};
 ghost use Rattle.mc_station.specs.Calls.{CallsFor, IsKnown, call_of};
@@ -15,23 +13,8 @@ use crate::run::run;
 use crate::stage::first_stage;
 use crate::status::Status;
 use mc_port::{Gate, PutFault, Sink, Store, Words};
+use mc_report::put_lines;
 use std::alloc::Global;
-
-// Puts one line after the other, up to the first that cannot be put.
-fn put_lines<K: Sink>(lines: &[Vec<u8>], out: &mut K) -> Result<(), PutFault>
-    ensures bytes { Puts (K.written out.old) (K.written out.new)
-        (K.faults out.old) (K.faults out.new) (concat (bytes_of lines.now)) result }
-    ensures later { K.faults out.old ≤ K.faults out.new }
-{
-    let mut left = lines;
-    while let [line, later @ ..] = left {
-        match out.put(line) {
-            Ok(()) => left = later,
-            Err(fault) => return Err(fault),
-        }
-    }
-    Ok(())
-}
 
 // Puts the texts of a reply, up to the first piece that cannot be put.
 fn put<K: Sink, E: Sink>(reply: &Reply, out: &mut K, diag: &mut E) -> Result<(), PutFault>
