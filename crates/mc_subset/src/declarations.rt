@@ -6,7 +6,7 @@ ghost use Rattle.mc_tree.specs.Units.{declaration_of, init_declarator_of, initia
 ghost use Rattle.mc_subset.specs.Nodes as n;
 ghost use Rattle.mc_subset.specs.Forms.{first_outside};
 
-use crate::expressions::{declarator, expression, specifiers};
+use crate::expressions::{declarator, expression, part, specifiers};
 use crate::rows::{declaration_form, has_extern, is_local, judge};
 use mc_forms::{Outside, Region, Role, Standing, first_of};
 use mc_tree::{Declaration, Expression, ForStart, InitDeclarator, Initializer};
@@ -16,7 +16,7 @@ fn initializer(tree: &Initializer<'_>, region: Region) -> Option<Outside>
     ensures { result ≡ first_outside (n.nodes_of_initializer region (initializer_of tree.now)) }
 {
     match tree {
-        Initializer::Single { value } => expression(value, region, Role::Part),
+        Initializer::Single { value } => part(value, region),
         Initializer::Braced { items, .. } => initializers(items, region),
     }
 }

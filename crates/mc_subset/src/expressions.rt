@@ -5,6 +5,7 @@ ghost use Rattle.std.specs.Prelude.{◌≡◌, map};
 ghost use Rattle.mc_tree.specs.Views.{array_length_of, declarator_of, declarators_from, enumerator_of, enumerators_from, expression_of, expressions_from, lengths_from, member_of, members_from, parameter_of, parameters_from, specifier_of, specifiers_from};
 ghost use Rattle.mc_tree.specs.Tree as t;
 ghost use Rattle.mc_subset.specs.Nodes as n;
+ghost use Rattle.mc_forms.specs.declared.context.Role.TheVariants.{Part};
 ghost use Rattle.mc_forms.specs.Order.{or_else};
 ghost use Rattle.mc_subset.specs.Forms.{first_outside};
 
@@ -25,6 +26,15 @@ pub(crate) fn expression(tree: &Expression<'_>, region: Region, role: Role) -> O
     first_of(first, parts_of_expression(tree, region, role))
 }
 
+/// An expression that is a part of something else.
+#[cycle(check)]
+pub(crate) fn part(tree: &Box<Expression<'_>>, region: Region) -> Option<Outside>
+    ensures { let all = n.nodes_of_expression region Part (expression_of tree.now.value) in
+        result ≡ first_outside all }
+{
+    expression(tree, region, Role::Part)
+}
+
 #[cycle(check)]
 #[tactic(auto, using(crate::proofs::Trees::expressions))]
 fn parts_of_expression(tree: &Expression<'_>, region: Region, role: Role) -> Option<Outside>
@@ -38,13 +48,13 @@ fn parts_of_expression(tree: &Expression<'_>, region: Region, role: Role) -> Opt
         Expression::Parenthesized { inner, .. } => expression(inner, region, role.in_parentheses()),
         Expression::Call { arguments, .. } => expressions(arguments, region, Role::Part),
         Expression::Index { array, index, .. } => first_of(
-            expression(array, region, Role::Part),
-            expression(index, region, Role::Part),
+            part(array, region),
+            part(index, region),
         ),
-        Expression::Member { object, .. } => expression(object, region, Role::Part),
+        Expression::Member { object, .. } => part(object, region),
         Expression::PostfixStep { operand, .. }
         | Expression::PrefixStep { operand, .. }
-        | Expression::Unary { operand, .. } => expression(operand, region, Role::Part),
+        | Expression::Unary { operand, .. } => part(operand, region),
         Expression::Cast {
             specifiers: words,
             stars,
@@ -53,29 +63,22 @@ fn parts_of_expression(tree: &Expression<'_>, region: Region, role: Role) -> Opt
             ..
         } => {
             let first = type_name(words, *stars, *type_span, region);
-            first_of(first, expression(operand, region, Role::Part))
+            first_of(first, part(operand, region))
         }
-        Expression::Binary { left, right, .. } => first_of(
-            expression(left, region, Role::Part),
-            expression(right, region, Role::Part),
-        ),
+        Expression::Binary { left, right, .. } => first_of(part(left, region), part(right, region)),
         Expression::Conditional {
             test,
             chosen,
             other,
             ..
         } => {
-            let first = expression(test, region, Role::Part);
-            let second = expression(chosen, region, Role::Part);
-            first_of(
-                first,
-                first_of(second, expression(other, region, Role::Part)),
-            )
+            let first = part(test, region);
+            let second = part(chosen, region);
+            first_of(first, first_of(second, part(other, region)))
         }
-        Expression::Assignment { target, value, .. } => first_of(
-            expression(target, region, Role::Part),
-            expression(value, region, Role::Part),
-        ),
+        Expression::Assignment { target, value, .. } => {
+            first_of(part(target, region), part(value, region))
+        }
         Expression::Comma { operands, .. } => expressions(operands, region, role.of_operands()),
     }
 }
@@ -194,7 +197,7 @@ fn enumerator(tree: &Enumerator<'_>, region: Region) -> Option<Outside>
     ensures { result ≡ first_outside (n.nodes_of_enumerator region (enumerator_of tree.now)) }
 {
     match tree {
-        Enumerator::Valued { value, .. } => expression(value, region, Role::Part),
+        Enumerator::Valued { value, .. } => part(value, region),
         Enumerator::Bare { .. } => None,
     }
 }
@@ -265,7 +268,7 @@ fn length(tree: &ArrayLength<'_>, region: Region) -> Option<Outside>
         ≡ or_else result (first_outside (n.nodes_of_lengths region rest)) }
 {
     match tree {
-        ArrayLength::Given { value } => expression(value, region, Role::Part),
+        ArrayLength::Given { value } => part(value, region),
         ArrayLength::Absent => None,
     }
 }

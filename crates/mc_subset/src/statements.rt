@@ -9,7 +9,7 @@ ghost use Rattle.mc_forms.specs.Order.{or_else};
 ghost use Rattle.mc_subset.specs.Forms.{first_outside};
 
 use crate::declarations::{declaration, for_parts, optional};
-use crate::expressions::expression;
+use crate::expressions::{expression, part};
 use crate::rows::{judge, standing_from, statement_form};
 use mc_forms::{Outside, Region, Role, Standing, first_of};
 use mc_tree::{BlockItem, Statement};
@@ -21,6 +21,15 @@ fn statement(tree: &Statement<'_>, standing: Standing) -> Option<Outside>
 {
     let first = judge(statement_form(tree, standing), tree.span());
     first_of(first, parts_of_statement(tree, standing))
+}
+
+/// A statement that is a part of another.
+#[cycle(check)]
+fn inner(tree: &Box<Statement<'_>>, standing: Standing) -> Option<Outside>
+    ensures { let all = n.nodes_of_statement standing (statement_of tree.now.value) in
+        result ≡ first_outside all }
+{
+    statement(tree, standing)
 }
 
 #[cycle(check)]
@@ -37,8 +46,8 @@ fn parts_of_statement(tree: &Statement<'_>, standing: Standing) -> Option<Outsid
         | Statement::Continue { .. } => None,
         Statement::Expression { value, .. } => expression(value, Region::Function, Role::Statement),
         Statement::If { test, chosen, .. } => first_of(
-            expression(test, Region::Function, Role::Part),
-            statement(chosen, Standing::Elsewhere),
+            part(test, Region::Function),
+            inner(chosen, Standing::Elsewhere),
         ),
         Statement::IfElse {
             test,
@@ -46,24 +55,20 @@ fn parts_of_statement(tree: &Statement<'_>, standing: Standing) -> Option<Outsid
             other,
             ..
         } => {
-            let first = expression(test, Region::Function, Role::Part);
-            let second = statement(chosen, Standing::Elsewhere);
-            first_of(
-                first,
-                first_of(second, statement(other, Standing::Elsewhere)),
-            )
+            let first = part(test, Region::Function);
+            let second = inner(chosen, Standing::Elsewhere);
+            first_of(first, first_of(second, inner(other, Standing::Elsewhere)))
         }
-        Statement::Switch { value, body, .. } => first_of(
-            expression(value, Region::Function, Role::Part),
-            statement(body, Standing::Body),
-        ),
+        Statement::Switch { value, body, .. } => {
+            first_of(part(value, Region::Function), inner(body, Standing::Body))
+        }
         Statement::While { test, body, .. } => first_of(
-            expression(test, Region::Function, Role::Part),
-            statement(body, Standing::Elsewhere),
+            part(test, Region::Function),
+            inner(body, Standing::Elsewhere),
         ),
         Statement::DoWhile { body, test, .. } => first_of(
-            statement(body, Standing::Elsewhere),
-            expression(test, Region::Function, Role::Part),
+            inner(body, Standing::Elsewhere),
+            part(test, Region::Function),
         ),
         Statement::For {
             start,
@@ -73,14 +78,13 @@ fn parts_of_statement(tree: &Statement<'_>, standing: Standing) -> Option<Outsid
             ..
         } => first_of(
             for_parts(start, test, step),
-            statement(body, Standing::Elsewhere),
+            inner(body, Standing::Elsewhere),
         ),
-        Statement::Case { value, body, .. } => first_of(
-            expression(value, Region::Function, Role::Part),
-            statement(body, standing),
-        ),
-        Statement::Default { body, .. } => statement(body, standing),
-        Statement::Label { body, .. } => statement(body, Standing::Elsewhere),
+        Statement::Case { value, body, .. } => {
+            first_of(part(value, Region::Function), inner(body, standing))
+        }
+        Statement::Default { body, .. } => inner(body, standing),
+        Statement::Label { body, .. } => inner(body, Standing::Elsewhere),
         Statement::Return { value, .. } => optional(value, Role::Part),
     }
 }

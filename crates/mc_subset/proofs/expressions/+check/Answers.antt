@@ -1,5 +1,6 @@
 -- Expressions with several parts: the first node outside of the one and of the rest.
 use Rattle.std.proofs.Common.{arith, rules}
+use Rattle.mc_subset.specs.Forms.{form_of}
 use Rattle.mc_subset.proofs.Order.{first_of_both, first_of_expression, lists}
 use Rattle.mc_subset.proofs.Trees.{expression_of-Cast, expressions, declarations, lengths}
 use Rattle.mc_subset.proofs.expressions.+check.Goals as goal
@@ -67,3 +68,19 @@ parameters-returns-in-Some t c = grind (arith, lists)
 
 pub specifiers-returns-in-Some : goal.specifiers-returns-in-Some
 specifiers-returns-in-Some t c = grind (arith, lists)
+
+-- other nodes: the form of the node, and the first node outside in its parts
+pub type_name-returns : goal.type_name-returns
+unfolding form_of
+type_name-returns t c = grind (arith, first_of_both)
+
+pub member-returns : goal.member-returns
+unfolding form_of
+member-returns t c = grind (arith, declarations)
+
+pub parameter-returns : goal.parameter-returns
+unfolding form_of
+parameter-returns t c = grind (arith, declarations)
+
+pub length-returns-in-Given : goal.length-returns-in-Given
+length-returns-in-Given t c = grind (arith, lengths)
