@@ -26,7 +26,8 @@ pub(crate) fn expression(tree: &Expression<'_>, region: Region, role: Role) -> O
     first_of(first, parts_of_expression(tree, region, role))
 }
 
-/// An expression that is a part of something else.
+/// An expression that is a part of something else, in its box, so that no arm of the walk opens
+/// one.
 #[cycle(check)]
 pub(crate) fn part(tree: &Box<Expression<'_>>, region: Region) -> Option<Outside>
     ensures { let all = n.nodes_of_expression region Part (expression_of tree.now.value) in

@@ -23,7 +23,7 @@ fn statement(tree: &Statement<'_>, standing: Standing) -> Option<Outside>
     first_of(first, parts_of_statement(tree, standing))
 }
 
-/// A statement that is a part of another.
+/// A statement that is a part of another, in its box.
 #[cycle(check)]
 fn inner(tree: &Box<Statement<'_>>, standing: Standing) -> Option<Outside>
     ensures { let all = n.nodes_of_statement standing (statement_of tree.now.value) in
