@@ -1,5 +1,5 @@
 -- What is done at one expression.
-use Rattle.std.proofs.Common.{◌≡◌, ◌∙◌, refl, sym, ap, ℕ, ◌<◌, ◌≤◌, Bool, nat_lt, lt-ltb, le-ltb}
+use Rattle.std.proofs.Common.{◌≡◌, ◌∙◌, refl, sym, ap, ℕ, ◌<◌, ◌≤◌, Bool, nat_lt, lt-ltb, le-ltb, Result, Ok, Err, IfOk}
 use Rattle.mc_typed.specs.Levels.{limited}
 use Rattle.mc_roots.specs.declared.role.Role.{Role}
 use Rattle.mc_roots.specs.declared.role.Role.TheVariants.{Test, Inner, Plain}
@@ -23,6 +23,10 @@ stops a old new at count e0 e1 lt e =
     ∙ (ap (λ (k : ℕ). stopped (n.span_of a).start k old) e1
     ∙ ap (λ (b : Bool). sized b a old) (sym (lt-ltb 64 (width a) (over (width a) count e1 lt)))))
 
-pub grows : (a : Node) (old new : Gathered) (count : ℕ) → count ≡ limited (width a) → count ≤ 64 → new ≡ grown a old → new ≡ sized (nat_lt 64 (width a)) a old
+grows : (a : Node) (old new : Gathered) (count : ℕ) → count ≡ limited (width a) → count ≤ 64 → new ≡ grown a old → new ≡ sized (nat_lt 64 (width a)) a old
 grows a old new count e0 le e =
     e ∙ ap (λ (b : Bool). sized b a old) (sym (le-ltb 64 (width a) (not_over (width a) count e0 le)))
+
+pub grows_if : {A E : Type 0} (r : Result A E) (a : Node) (old new : Gathered) (count : ℕ) → count ≡ limited (width a) → count ≤ 64 → IfOk r (λ _. new ≡ grown a old) → IfOk r (λ _. new ≡ sized (nat_lt 64 (width a)) a old)
+grows_if (Ok x) a old new count e0 le h = grows a old new count e0 le h
+grows_if (Err f) a old new count e0 le h = tt

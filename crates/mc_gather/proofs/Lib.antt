@@ -1,1 +1,4 @@
 pub mod Grows
+pub mod Shapes
+mod Leaves
+mod Builds

@@ -17,9 +17,10 @@ pub fn enter(found: &mut Gathered, role: Role, tree: &Expression) -> Result<(), 
         ≡ entered role (expression (expression_of tree.now)) (gathered_of found.old)) }
 {
     if is_candidate(role, tree) {
-        add(found, tree)?;
+        add(found, tree)
+    } else {
+        Ok(())
     }
-    Ok(())
 }
 
 fn is_candidate(role: Role, tree: &Expression) -> bool

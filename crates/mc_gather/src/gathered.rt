@@ -102,8 +102,7 @@ fn add_first(found: &mut Gathered, root: &Expression) -> Result<(), AllocError>
         stop(found, span_of(root).start, count);
         Ok(())
     } else {
-        add_small(found, root)?;
-        Ok(())
+        add_small(found, root)
     }
 }
 
@@ -120,8 +119,7 @@ fn add_small(found: &mut Gathered, root: &Expression) -> Result<(), AllocError>
         ≡ grown (n.expression (expression_of root.now)) (gathered_of found.old)) }
 {
     let decision = decide(found.alloc, found.function, root)?;
-    put(&mut found.decisions, decision)?;
-    Ok(())
+    put(&mut found.decisions, decision)
 }
 
 fn put(decisions: &mut Vec<Decision>, decision: Decision) -> Result<(), AllocError>

@@ -4,7 +4,7 @@ use Rattle.mc_typed.specs.Views.{expression_of}
 use Rattle.mc_roots.specs.Nodes as n
 use Rattle.mc_roots.specs.Conditions.{width}
 use Rattle.mc_gather.specs.steps.Gathering.{gathered_of}
-use Rattle.mc_gather.proofs.Grows.{stops, grows}
+use Rattle.mc_gather.proofs.Grows.{stops, grows_if}
 use Rattle.mc_roots.proofs.Trees.{not_over}
 use Rattle.mc_gather.proofs.gathered.add_first.Goals as goal
 
@@ -19,7 +19,7 @@ returns-then-count-gt-MOST c =
     c.span_of.result.start c.conditions-count.result (ap (λ (s : Span). s.start) c.span_of.ensures)
     c.conditions-count.ensures c.if-count-gt-MOST.true c.stop.ensures
 
-pub returns-in_ok-add_small : goal.returns-in_ok-add_small
-returns-in_ok-add_small c =
-    grows (n.expression (expression_of c.args.root.now)) (gathered_of c.args.found.now) (gathered_of c.add_small.new.found)
-    c.conditions-count.result c.conditions-count.ensures c.if-count-gt-MOST.false c.in_ok-add_small.ensures
+pub returns-else-count-gt-MOST : goal.returns-else-count-gt-MOST
+returns-else-count-gt-MOST c =
+    grows_if c.add_small.result (n.expression (expression_of c.args.root.now)) (gathered_of c.args.found.now) (gathered_of c.add_small.new.found)
+    c.conditions-count.result c.conditions-count.ensures c.if-count-gt-MOST.false c.add_small.ensures
