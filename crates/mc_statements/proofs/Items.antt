@@ -1,10 +1,11 @@
 -- Items of a list.
-use Rattle.std.proofs.Common.{◌≡◌, List, [], ◌∷◌, ◌++◌, map, length, None, refl, ap}
+use Rattle.std.proofs.Common.{◌≡◌, List, [], ◌∷◌, ◌++◌, map, option_map, refl, ap}
 use Rattle.mc_typed.specs.declared.initializers.Initializer.{Initializer}
 use Rattle.mc_typed.specs.Views.{initializer_of, initializers_from}
 use Rattle.mc_typed.specs.Tree as t
 use Rattle.mc_typing.specs.Initializers.{only_item}
 use Rattle.mc_statements.specs.Items.{then_item}
+use Rattle.mc_statements.specs.Lists.{only_of}
 
 pub last_item : (items : List Initializer) (one : Initializer)
     → initializers_from (map initializer_of (items ++ one ∷ []))
@@ -12,9 +13,8 @@ pub last_item : (items : List Initializer) (one : Initializer)
 last_item [] one = refl
 last_item (first ∷ rest) one = ap (t.initializers (initializer_of first)) (last_item rest one)
 
--- no other number of items is one
-pub only_item_none : (all : List Initializer) → (length all ≡ 1 → ⊥)
-    → None ≡ only_item (initializers_from (map initializer_of all))
-only_item_none [] other = refl
-only_item_none (i ∷ []) other = absurd (other refl)
-only_item_none (i ∷ j ∷ all) other = refl
+pub only_initializer : (all : List Initializer)
+    → option_map initializer_of (only_of all) ≡ only_item (initializers_from (map initializer_of all))
+only_initializer [] = refl
+only_initializer (i ∷ []) = refl
+only_initializer (i ∷ j ∷ all) = refl

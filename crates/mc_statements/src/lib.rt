@@ -3,6 +3,8 @@
 
 mod initializers;
 mod statements;
+mod unused;
+mod values;
 
 pub use initializers::items::{more_items, no_items};
 pub use initializers::lists::{braced_expression, list_initializer};

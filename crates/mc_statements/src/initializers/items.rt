@@ -10,6 +10,8 @@ ghost use Rattle.mc_statements.specs.Items.{items_of, then_item, item_then};
 ghost use Rattle.mc_scopes.specs.steps.Squeezed.{squeezed_part};
 
 use crate::statements::joined;
+use crate::unused;
+use crate::values::with_last;
 use mc_scopes::found::Judged;
 use mc_typed::Initializer;
 use std::alloc::{AllocError, Global};
@@ -25,14 +27,6 @@ pub fn no_items(alloc: Global) -> Judged<Vec<Initializer>>
 }
 
 #[tactic(auto, using(crate::proofs::Items::last_item))]
-fn all_items(list: Vec<Initializer>, one: Initializer) -> Result<Vec<Initializer>, AllocError>
-    ensures { IfOk result (λ r. items_of r ≡ then_item (items_of list) (initializer_of one)) }
-{
-    let mut list = list;
-    list.push(one)?;
-    Ok(list)
-}
-
 fn items_with(
     list: Option<Vec<Initializer>>,
     one: Option<Initializer>,
@@ -42,14 +36,17 @@ fn items_with(
 {
     match list {
         Some(list) => match one {
-            Some(one) => Ok(Some(all_items(list, one)?)),
+            Some(one) => match with_last(list, one) {
+                Ok(list) => Ok(Some(list)),
+                Err(error) => Err(error),
+            },
             None => {
                 drop(list);
                 Ok(None)
             }
         },
         None => {
-            drop(one);
+            unused::initializer(one);
             Ok(None)
         }
     }
@@ -64,6 +61,8 @@ pub fn more_items(
         ≡ squeezed_part (item_then (judged_of items_of list s) (judged_of initializer_of one s))) }
 {
     let fault = joined::of_two(list.fault, one.fault);
-    let value = items_with(list.value, one.value)?;
-    Ok(Judged { fault, value })
+    match items_with(list.value, one.value) {
+        Ok(value) => Ok(Judged { fault, value }),
+        Err(error) => Err(error),
+    }
 }

@@ -8,25 +8,20 @@ ghost use Rattle.mc_scopes.specs.Types.{type_of};
 ghost use Rattle.mc_scopes.specs.Views.{scope_of};
 ghost use Rattle.mc_scopes.specs.Found.{found_of, judged_of};
 ghost use Rattle.mc_statements.specs.Initializers.{target_of};
-ghost use Rattle.mc_statements.specs.Items.{items_of};
+ghost use Rattle.mc_statements.specs.Items.{item_then, items_of};
 ghost use Rattle.mc_scopes.specs.steps.Squeezed.{squeezed_part};
 
 use crate::initializers::items::{more_items, no_items};
 use crate::initializers::singles::single_initializer;
 use crate::initializers::target::{Target, fails_count, target_for};
+use crate::unused;
+use crate::values::only;
 use mc_faults::{FaultKind, or_fault};
 use mc_scopes::found::{Found, Judged, number_in};
 use mc_scopes::values::is_zero_found;
 use mc_scopes::{CType, Scope, cells};
 use mc_typed::{Expression, Initializer};
 use std::alloc::{AllocError, Global};
-
-fn only_item(items: Vec<Initializer>) -> Option<Initializer>
-    ensures { option_map initializer_of result ≡ i.only_item (items_of items) }
-{
-    let mut items = items;
-    if items.len() == 1 { items.pop() } else { None }
-}
 
 fn list_of(
     scope: &Scope<'_>,
@@ -37,10 +32,16 @@ fn list_of(
         ≡ Some (t.ListInitializer (items_of items)
         (i.cells_of (scope_of scope.now).structures (type_of of.now)))) }
 {
-    let cells = cells(&scope.structures, of)?;
-    Ok(Some(Initializer::List { items, cells }))
+    match cells(&scope.structures, of) {
+        Ok(cells) => Ok(Some(Initializer::List { items, cells })),
+        Err(error) => {
+            drop(items);
+            Err(error)
+        }
+    }
 }
 
+#[tactic(auto, using(crate::proofs::Items::only_initializer))]
 fn list_for(
     scope: &Scope<'_>,
     of: &CType,
@@ -52,7 +53,7 @@ fn list_for(
         (target_of target.entry) (items_of items)) }
 {
     match target {
-        Target::Scalar(_) => Ok(only_item(items)),
+        Target::Scalar(_) => Ok(only(items)),
         Target::Array { .. } => list_of(scope, of, items),
         Target::Structure { .. } => list_of(scope, of, items),
         Target::Missing => {
@@ -100,19 +101,30 @@ pub fn list_initializer(
     let target = target_for(scope, of);
     let wrong = fails_count(target, count);
     let fault = or_fault(items.fault, wrong, FaultKind::Mismatch, at);
-    let value = list_value(scope, of, target, items.value)?;
-    Ok(Judged { fault, value })
+    match list_value(scope, of, target, items.value) {
+        Ok(value) => Ok(Judged { fault, value }),
+        Err(error) => Err(error),
+    }
 }
 
 // ---- `{0}`
 
-fn zero_of(scope: &Scope<'_>, of: &CType, value: Expression) -> Result<Initializer, AllocError>
-    ensures { IfOk result (λ r. initializer_of r
-        ≡ t.ZeroInitializer (expression_of value)
-        (i.cells_of (scope_of scope.now).structures (type_of of.now))) }
+fn zero_of(
+    scope: &Scope<'_>,
+    of: &CType,
+    value: Expression,
+) -> Result<Option<Initializer>, AllocError>
+    ensures { IfOk result (λ r. option_map initializer_of r
+        ≡ Some (t.ZeroInitializer (expression_of value)
+        (i.cells_of (scope_of scope.now).structures (type_of of.now)))) }
 {
-    let cells = cells(&scope.structures, of)?;
-    Ok(Initializer::Zero { value, cells })
+    match cells(&scope.structures, of) {
+        Ok(cells) => Ok(Some(Initializer::Zero { value, cells })),
+        Err(error) => {
+            drop(value);
+            Err(error)
+        }
+    }
 }
 
 fn zero_value(
@@ -126,11 +138,11 @@ fn zero_value(
 {
     match of {
         Some(of) => match value {
-            Some(value) => Ok(Some(zero_of(scope, of, value)?)),
+            Some(value) => zero_of(scope, of, value),
             None => Ok(None),
         },
         None => {
-            drop(value);
+            unused::expression(value);
             Ok(None)
         }
     }
@@ -148,11 +160,32 @@ fn zero_initializer(
         (Some (found_of only (scope_of scope.now))) (scope_of scope.now))) }
 {
     let fault = only.fault;
-    let value = zero_value(scope, of, number_in(only.value))?;
-    Ok(Judged { fault, value })
+    match zero_value(scope, of, number_in(only.value)) {
+        Ok(value) => Ok(Judged { fault, value }),
+        Err(error) => Err(error),
+    }
 }
 
 // ---- a list of one expression
+
+// A list of this item.
+fn list_of_one(
+    alloc: Global,
+    scope: &Scope<'_>,
+    of: Option<&CType>,
+    at: u32,
+    one: Judged<Initializer>,
+) -> Result<Judged<Initializer>, AllocError>
+    ensures { IfOk result (λ r. judged_of initializer_of r (scope_of scope.now)
+        ≡ squeezed_part (i.list_judged (option_map type_of (option_copied of.entry)) at 1
+        (squeezed_part (item_then (judged [] (Some t.no_initializers) (scope_of scope.now))
+        (judged_of initializer_of one (scope_of scope.now)))))) }
+{
+    match more_items(no_items(alloc), one) {
+        Ok(items) => list_initializer(scope, of, at, 1, items),
+        Err(error) => Err(error),
+    }
+}
 
 // As a list with an item of this type, whatever the value of the expression.
 fn list_of_expression(
@@ -171,9 +204,10 @@ fn list_of_expression(
         start (found_of found (scope_of scope.now)))
         (judged [] (Some t.no_initializers) (scope_of scope.now))))) }
 {
-    let one = single_initializer(alloc, is_static, scope, item, start, found)?;
-    let items = more_items(no_items(alloc), one)?;
-    list_initializer(scope, of, at, 1, items)
+    match single_initializer(alloc, is_static, scope, item, start, found) {
+        Ok(one) => list_of_one(alloc, scope, of, at, one),
+        Err(error) => Err(error),
+    }
 }
 
 /// A list that starts here with one expression, which starts at `start`, for an object of this
@@ -204,7 +238,7 @@ pub fn braced_expression(
             }
         }
         Err(error) => {
-            drop(found);
+            unused::value(found.value);
             Err(error)
         }
     }

@@ -1,5 +1,5 @@
 //! What the items of a list are for.
-ghost use Rattle.std.specs.Prelude.{◌≡◌, ◌+◌, ◌<◌, ℕ, IfOk, OnOk, map, take, option_copied, option_map};
+ghost use Rattle.std.specs.Prelude.{◌≡◌, ◌+◌, ◌<◌, [], ℕ, IfOk, OnOk, map, take, option_copied, option_map};
 ghost use Rattle.mc_typing.specs.Initializers as i;
 ghost use Rattle.mc_scopes.specs.Listed.{listed_of};
 ghost use Rattle.mc_scopes.specs.Types.{base_of, type_of};
@@ -7,6 +7,7 @@ ghost use Rattle.mc_scopes.specs.Views.{scope_of};
 ghost use Rattle.mc_statements.specs.Initializers.{optional_type, type_at, part_at, parts_from, target_of, members_in};
 
 use crate::initializers::target::{Target, target_for};
+use crate::values::push;
 use mc_scopes::{Base, CType, Complete, Scope};
 use std::alloc::{AllocError, Global};
 
@@ -51,7 +52,10 @@ fn same_type(of: &Option<CType>) -> Result<Option<CType>, AllocError>
     ensures { IfOk result (λ r. optional_type r ≡ optional_type of.now) }
 {
     match of {
-        Some(of) => Ok(Some(of.try_clone()?)),
+        Some(of) => match of.try_clone() {
+            Ok(of) => Ok(Some(of)),
+            Err(error) => Err(error),
+        },
         None => Ok(None),
     }
 }
@@ -69,13 +73,28 @@ fn add_type(
         ≡ take (place + 1) (map (λ m. m.member_type) (map listed_of members.now))) }
 {
     match members.at(place) {
-        Some(member) => {
-            let of = same_type(&member.of)?;
-            types.push(of)?;
-            Ok(())
-        }
+        Some(member) => match same_type(&member.of) {
+            Ok(of) => push(types, of),
+            Err(error) => Err(error),
+        },
         None => Ok(()),
     }
+}
+
+// Adds the types of the first so many members to none.
+fn add_types(
+    types: &mut Vec<Option<CType>>,
+    members: &Complete<'_>,
+    count: usize,
+) -> Result<(), AllocError>
+    requires { types.old.items ≡ [] }
+    ensures { OnOk result (map optional_type types.new.items
+        ≡ take count (map (λ m. m.member_type) (map listed_of members.now))) }
+{
+    for place in 0..count {
+        add_type(types, members, place)?;
+    }
+    Ok(())
 }
 
 // The types of the first so many members.
@@ -88,10 +107,13 @@ fn member_types(
         ≡ take count (map (λ m. m.member_type) (map listed_of members.now))) }
 {
     let mut types = Vec::new(alloc);
-    for place in 0..count {
-        add_type(&mut types, members, place)?;
+    match add_types(&mut types, members, count) {
+        Ok(()) => Ok(types),
+        Err(error) => {
+            drop(types);
+            Err(error)
+        }
     }
-    Ok(types)
 }
 
 // The same, where the members are known.
@@ -113,12 +135,14 @@ fn elements(alloc: Global, base: Base, is_const: bool, lengths: &[u64]) -> Resul
     ensures { IfOk result (λ r. type_of r
         ≡ record { base = base_of base; is_const = is_const; lengths = lengths.now }) }
 {
-    let lengths = Vec::from_slice(alloc, lengths)?;
-    Ok(CType {
-        base,
-        is_const,
-        lengths,
-    })
+    match Vec::from_slice(alloc, lengths) {
+        Ok(lengths) => Ok(CType {
+            base,
+            is_const,
+            lengths,
+        }),
+        Err(error) => Err(error),
+    }
 }
 
 // What the first so many items of a list for this target are for.
@@ -129,16 +153,23 @@ fn parts_of(alloc: Global, target: Target<'_, '_>, count: usize) -> Result<PartT
 {
     match target {
         Target::Missing => Ok(PartTypes::Missing),
-        Target::Scalar(of) => Ok(PartTypes::Elements(of.try_clone()?)),
+        Target::Scalar(of) => match of.try_clone() {
+            Ok(of) => Ok(PartTypes::Elements(of)),
+            Err(error) => Err(error),
+        },
         Target::Array {
             base,
             is_const,
             lengths,
             ..
-        } => Ok(PartTypes::Elements(elements(alloc, base, is_const, lengths)?)),
-        Target::Structure { members, .. } => Ok(PartTypes::Members(types_of(
-            alloc, members, count,
-        )?)),
+        } => match elements(alloc, base, is_const, lengths) {
+            Ok(of) => Ok(PartTypes::Elements(of)),
+            Err(error) => Err(error),
+        },
+        Target::Structure { members, .. } => match types_of(alloc, members, count) {
+            Ok(types) => Ok(PartTypes::Members(types)),
+            Err(error) => Err(error),
+        },
     }
 }
 

@@ -14,6 +14,7 @@ ghost use Rattle.mc_statements.specs.Initializers.{target_of};
 ghost use Rattle.mc_scopes.specs.steps.Squeezed.{squeezed_part};
 
 use crate::initializers::target::{Target, target_for};
+use crate::unused;
 use mc_faults::{Fault, FaultKind, after, fault_where, lesser};
 use mc_scopes::conversions::convert_to;
 use mc_scopes::found::{Found, Judged, kind_found};
@@ -70,8 +71,10 @@ fn number_value(
 {
     match number {
         Some(number) => {
-            let value = convert_to(alloc, to, number)?;
-            Ok(Some(Initializer::Number { value }))
+            match convert_to(alloc, to, number) {
+                Ok(value) => Ok(Some(Initializer::Number { value })),
+                Err(error) => Err(error),
+            }
         }
         None => Ok(None),
     }
@@ -107,8 +110,13 @@ fn structure_value(
 {
     match value {
         Some(value) => {
-            let cells = cells(&scope.structures, of)?;
-            Ok(Some(Initializer::Structure { value, cells }))
+            match cells(&scope.structures, of) {
+                Ok(cells) => Ok(Some(Initializer::Structure { value, cells })),
+                Err(error) => {
+                    drop(value);
+                    Err(error)
+                }
+            }
         }
         None => Ok(None),
     }
@@ -171,8 +179,7 @@ fn static_fault(is_static: bool, at: u32, found: &Found) -> Result<Option<Fault>
         found.now.constant (v.number_found (found_of found.now s)))) }
 {
     if is_static {
-        let fault = fault_of_constant(at, found)?;
-        Ok(fault)
+        fault_of_constant(at, found)
     } else {
         Ok(None)
     }
@@ -191,8 +198,10 @@ fn own_fault(
         (v.number_found (found_of found.now s)))) }
 {
     let item = item_fault(is_static, target, at, kind_found(&found.value));
-    let constant = static_fault(is_static, at, found)?;
-    Ok(lesser(item, constant))
+    match static_fault(is_static, at, found) {
+        Ok(constant) => Ok(lesser(item, constant)),
+        Err(error) => Err(error),
+    }
 }
 
 /// An expression that starts here, for an object of this type.
@@ -212,11 +221,13 @@ pub fn single_initializer(
     match own_fault(is_static, target, at, &found) {
         Ok(own) => {
             let fault = after(found.fault, own);
-            let value = item_value(alloc, scope, of, target, found.value)?;
-            Ok(Judged { fault, value })
+            match item_value(alloc, scope, of, target, found.value) {
+                Ok(value) => Ok(Judged { fault, value }),
+                Err(error) => Err(error),
+            }
         }
         Err(error) => {
-            drop(found);
+            unused::value(found.value);
             Err(error)
         }
     }

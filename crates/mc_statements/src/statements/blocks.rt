@@ -13,9 +13,11 @@ ghost use Rattle.mc_faults.specs.Kept.{listed};
 ghost use Rattle.mc_scopes.specs.steps.Squeezed.{squeezed_part};
 
 use crate::statements::joined;
+use crate::statements::lists::listed;
+use crate::unused;
 use mc_faults::{Fault, FaultKind, lesser};
 use mc_scopes::found::Judged;
-use mc_scopes::leaves::{alone, leaf};
+use mc_scopes::leaves::leaf;
 use mc_typed::{Declarator, Effect, Span, Statement};
 use std::alloc::{AllocError, Global};
 
@@ -29,7 +31,7 @@ fn compound_of(
         (option_map statements_of items)) }
 {
     match items {
-        Some(items) => Ok(Some(alone(alloc, Statement::Compound { items, span })?)),
+        Some(items) => listed(alloc, Statement::Compound { items, span }),
         None => Ok(None),
     }
 }
@@ -44,8 +46,10 @@ pub fn compound_statement(
         ≡ squeezed_part (w.compound_judged span (judged_of statements_of items s))) }
 {
     let fault = joined::of_one(items.fault);
-    let value = compound_of(alloc, span, items.value)?;
-    Ok(Judged { fault, value })
+    match compound_of(alloc, span, items.value) {
+        Ok(value) => Ok(Judged { fault, value }),
+        Err(error) => Err(error),
+    }
 }
 
 fn declaration_of(
@@ -58,14 +62,14 @@ fn declaration_of(
         (option_map declarators_of declarators)) }
 {
     match declarators {
-        Some(declarators) => Ok(Some(alone(
+        Some(declarators) => listed(
             alloc,
             Statement::Declaration {
                 declarators,
                 span,
                 bit: None,
             },
-        )?)),
+        ),
         None => Ok(None),
     }
 }
@@ -80,8 +84,10 @@ pub fn declaration_statement(
         ≡ squeezed_part (w.declaration_judged span (judged_of declarators_of declarators s))) }
 {
     let fault = joined::of_one(declarators.fault);
-    let value = declaration_of(alloc, span, declarators.value)?;
-    Ok(Judged { fault, value })
+    match declaration_of(alloc, span, declarators.value) {
+        Ok(value) => Ok(Judged { fault, value }),
+        Err(error) => Err(error),
+    }
 }
 
 fn effect_statement_of(
@@ -94,14 +100,14 @@ fn effect_statement_of(
         (option_map effect_of effect)) }
 {
     match effect {
-        Some(effect) => Ok(Some(alone(
+        Some(effect) => listed(
             alloc,
             Statement::Effect {
                 effect,
                 span,
                 bit: None,
             },
-        )?)),
+        ),
         None => Ok(None),
     }
 }
@@ -116,8 +122,10 @@ pub fn effect_statement(
         ≡ squeezed_part (w.effect_statement_judged span (judged_of effect_of effect s))) }
 {
     let fault = joined::of_one(effect.fault);
-    let value = effect_statement_of(alloc, span, effect.value)?;
-    Ok(Judged { fault, value })
+    match effect_statement_of(alloc, span, effect.value) {
+        Ok(value) => Ok(Judged { fault, value }),
+        Err(error) => Err(error),
+    }
 }
 
 /// A null statement.
@@ -159,8 +167,10 @@ pub fn named_label(span: Span, body: Judged<Vec<Statement>>) -> Judged<Vec<State
         kind: FaultKind::Mismatch,
         at: span.start,
     };
+    let first = first_of(fault, body.fault);
+    unused::statements(body.value);
     Judged {
-        fault: first_of(fault, body.fault),
+        fault: first,
         value: None,
     }
 }

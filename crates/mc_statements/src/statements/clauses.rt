@@ -3,14 +3,14 @@ ghost use Rattle.std.specs.Prelude.{◌≡◌, [], ◌∷◌, None, Some, IfOk, 
 ghost use Rattle.mc_typed.specs.Tree as t;
 ghost use Rattle.mc_typed.specs.Views.{effect_of, start_of};
 ghost use Rattle.mc_typing.specs.Scopes as s;
-ghost use Rattle.mc_typing.specs.Values.{judged, lift2};
-ghost use Rattle.mc_typing.specs.Declarations.{append, both_lists};
+ghost use Rattle.mc_typing.specs.Values.{judged};
+ghost use Rattle.mc_typing.specs.Declarations.{both_lists};
 ghost use Rattle.mc_typing.specs.Bodies as b;
 ghost use Rattle.mc_scopes.specs.Found.{judged_of};
 ghost use Rattle.mc_scopes.specs.Statements.{declarators_of, effects_of, test_of};
 ghost use Rattle.mc_scopes.specs.steps.Squeezed.{squeezed_part};
 
-use crate::statements::joined;
+use crate::values::{joined_lists, with_last};
 use mc_scopes::found::Judged;
 use mc_typed::{Declarator, Effect, Expression, ForStart};
 use std::alloc::{AllocError, Global};
@@ -56,11 +56,10 @@ fn clause_of(alloc: Global, effect: Option<Effect>) -> Result<Option<Vec<Effect>
         ≡ option_map (λ effect. effect ∷ []) (option_map effect_of effect)) }
 {
     match effect {
-        Some(effect) => {
-            let mut list = Vec::new(alloc);
-            list.push(effect)?;
-            Ok(Some(list))
-        }
+        Some(effect) => match with_last(Vec::new(alloc), effect) {
+            Ok(list) => Ok(Some(list)),
+            Err(error) => Err(error),
+        },
         None => Ok(None),
     }
 }
@@ -70,42 +69,12 @@ pub fn clause(alloc: Global, effect: Judged<Effect>) -> Result<Judged<Vec<Effect
     ensures { IfOk result (λ r. (s : s.Scope) → judged_of effects_of r s
         ≡ b.listed (judged_of effect_of effect s)) }
 {
-    let value = clause_of(alloc, effect.value)?;
-    Ok(Judged {
-        fault: effect.fault,
-        value,
-    })
-}
-
-#[tactic(auto, using(crate::proofs::Lists::mapped_joined))]
-fn all_clauses(list: Vec<Effect>, more: Vec<Effect>) -> Result<Vec<Effect>, AllocError>
-    ensures { IfOk result (λ r. effects_of r ≡ append (effects_of list) (effects_of more)) }
-{
-    let mut list = list;
-    let mut more = more;
-    list.append(&mut more)?;
-    Ok(list)
-}
-
-fn clauses_of(
-    list: Option<Vec<Effect>>,
-    more: Option<Vec<Effect>>,
-) -> Result<Option<Vec<Effect>>, AllocError>
-    ensures { IfOk result (λ r. option_map effects_of r
-        ≡ lift2 append (option_map effects_of list) (option_map effects_of more)) }
-{
-    match list {
-        Some(list) => match more {
-            Some(more) => Ok(Some(all_clauses(list, more)?)),
-            None => {
-                drop(list);
-                Ok(None)
-            }
-        },
-        None => {
-            drop(more);
-            Ok(None)
-        }
+    match clause_of(alloc, effect.value) {
+        Ok(value) => Ok(Judged {
+            fault: effect.fault,
+            value,
+        }),
+        Err(error) => Err(error),
     }
 }
 
@@ -118,9 +87,7 @@ pub fn more_clauses(
         ≡ squeezed_part (both_lists
         (judged_of effects_of list s) (judged_of effects_of more s))) }
 {
-    let fault = joined::of_two(list.fault, more.fault);
-    let value = clauses_of(list.value, more.value)?;
-    Ok(Judged { fault, value })
+    joined_lists(list, more)
 }
 
 // ---- declarators
@@ -135,42 +102,6 @@ pub fn no_declarators(alloc: Global) -> Judged<Vec<Declarator>>
     }
 }
 
-#[tactic(auto, using(crate::proofs::Lists::mapped_joined))]
-fn all_declarators(
-    list: Vec<Declarator>,
-    more: Vec<Declarator>,
-) -> Result<Vec<Declarator>, AllocError>
-    ensures { IfOk result (λ r.
-        declarators_of r ≡ append (declarators_of list) (declarators_of more)) }
-{
-    let mut list = list;
-    let mut more = more;
-    list.append(&mut more)?;
-    Ok(list)
-}
-
-fn declarators_with(
-    list: Option<Vec<Declarator>>,
-    more: Option<Vec<Declarator>>,
-) -> Result<Option<Vec<Declarator>>, AllocError>
-    ensures { IfOk result (λ r. option_map declarators_of r
-        ≡ lift2 append (option_map declarators_of list) (option_map declarators_of more)) }
-{
-    match list {
-        Some(list) => match more {
-            Some(more) => Ok(Some(all_declarators(list, more)?)),
-            None => {
-                drop(list);
-                Ok(None)
-            }
-        },
-        None => {
-            drop(more);
-            Ok(None)
-        }
-    }
-}
-
 /// Declarators, and more after them.
 pub fn more_declarators(
     list: Judged<Vec<Declarator>>,
@@ -180,7 +111,5 @@ pub fn more_declarators(
         ≡ squeezed_part (both_lists
         (judged_of declarators_of list s) (judged_of declarators_of more s))) }
 {
-    let fault = joined::of_two(list.fault, more.fault);
-    let value = declarators_with(list.value, more.value)?;
-    Ok(Judged { fault, value })
+    joined_lists(list, more)
 }

@@ -17,7 +17,10 @@ fn same_labels(labels: &Option<Labels>) -> Result<Option<Labels>, AllocError>
     ensures { IfOk result (λ r. r ≡ labels.now) }
 {
     match labels {
-        Some(labels) => Ok(Some(labels.try_clone()?)),
+        Some(labels) => match labels.try_clone() {
+            Ok(labels) => Ok(Some(labels)),
+            Err(error) => Err(error),
+        },
         None => Ok(None),
     }
 }
@@ -40,8 +43,10 @@ pub fn enter_compound(scope: &mut Scope<'_>, around: Around) -> Result<Block, Al
     ensures entered { IfOk result (λ _. scope_of scope.new
         ≡ w.compound_scope (around_of around) (scope_of scope.old)) }
 {
-    let labels = labels_inside(scope, around)?;
-    Ok(scope.enter(labels))
+    match labels_inside(scope, around) {
+        Ok(labels) => Ok(scope.enter(labels)),
+        Err(error) => Err(error),
+    }
 }
 
 /// The body of a `switch` on this expression. Takes no memory.

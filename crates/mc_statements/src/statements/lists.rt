@@ -1,27 +1,20 @@
 //! Lists of typed statements.
-ghost use Rattle.std.specs.Prelude.{◌≡◌, IfOk, option_map, option_and_then};
+ghost use Rattle.std.specs.Prelude.{◌≡◌, Some, IfOk, option_map, option_and_then};
 ghost use Rattle.mc_typed.specs.Views.{statement_of};
 ghost use Rattle.mc_typing.specs.Scopes as s;
-ghost use Rattle.mc_typing.specs.Values.{lift2};
 ghost use Rattle.mc_typing.specs.Statements as w;
 ghost use Rattle.mc_scopes.specs.Found.{judged_of};
 ghost use Rattle.mc_scopes.specs.Statements.{statements_of};
 ghost use Rattle.mc_scopes.specs.steps.Squeezed.{squeezed_part};
 
-use crate::statements::joined;
+use crate::values::{joined_lists, on_heap, only};
 use mc_scopes::found::Judged;
+use mc_scopes::leaves::alone;
 use mc_typed::{Span, Statement};
 use std::alloc::{AllocError, Global};
 
-/// The statement of a list of one.
-fn only(list: Vec<Statement>) -> Option<Statement>
-    ensures { option_map statement_of result ≡ w.only (statements_of list) }
-{
-    let mut list = list;
-    if list.len() == 1 { list.pop() } else { None }
-}
-
 /// The statement that stands alone, where there is one.
+#[tactic(auto, using(crate::proofs::Lists::only_statement))]
 pub(crate) fn only_in(list: Option<Vec<Statement>>) -> Option<Statement>
     ensures { option_map statement_of result
         ≡ option_and_then w.only (option_map statements_of list) }
@@ -29,39 +22,6 @@ pub(crate) fn only_in(list: Option<Vec<Statement>>) -> Option<Statement>
     match list {
         Some(list) => only(list),
         None => None,
-    }
-}
-
-#[tactic(auto, using(crate::proofs::Lists::followed_joined))]
-fn followed_by(list: Vec<Statement>, more: Vec<Statement>) -> Result<Vec<Statement>, AllocError>
-    ensures { IfOk result (λ r.
-        statements_of r ≡ w.followed (statements_of list) (statements_of more)) }
-{
-    let mut list = list;
-    let mut more = more;
-    list.append(&mut more)?;
-    Ok(list)
-}
-
-fn followed_of(
-    list: Option<Vec<Statement>>,
-    more: Option<Vec<Statement>>,
-) -> Result<Option<Vec<Statement>>, AllocError>
-    ensures { IfOk result (λ r. option_map statements_of r
-        ≡ lift2 w.followed (option_map statements_of list) (option_map statements_of more)) }
-{
-    match list {
-        Some(list) => match more {
-            Some(more) => Ok(Some(followed_by(list, more)?)),
-            None => {
-                drop(list);
-                Ok(None)
-            }
-        },
-        None => {
-            drop(more);
-            Ok(None)
-        }
     }
 }
 
@@ -74,16 +34,18 @@ pub fn followed(
         ≡ squeezed_part (w.followed_judged
         (judged_of statements_of list s) (judged_of statements_of more s))) }
 {
-    let fault = joined::of_two(list.fault, more.fault);
-    let value = followed_of(list.value, more.value)?;
-    Ok(Judged { fault, value })
+    joined_lists(list, more)
 }
 
-/// A statement in a box.
-pub(crate) fn boxed(alloc: Global, one: Statement) -> Result<Box<Statement>, AllocError>
-    ensures { IfOk result (λ r. r.value ≡ one) }
+/// A list of one statement, which is known.
+pub(crate) fn listed(alloc: Global, one: Statement) -> Result<Option<Vec<Statement>>, AllocError>
+    ensures { IfOk result (λ r. option_map statements_of r
+        ≡ Some (w.alone (statement_of one))) }
 {
-    Ok(Box::new(alloc, one)?)
+    match alone(alloc, one) {
+        Ok(list) => Ok(Some(list)),
+        Err(error) => Err(error),
+    }
 }
 
 /// The word of so many bytes with which a statement begins, and a statement in it, in a box.
@@ -98,8 +60,10 @@ pub(crate) fn begun(
 {
     match keyword(size, span) {
         Ok(keyword) => {
-            let inner = boxed(alloc, inner)?;
-            Ok((keyword, inner))
+            match on_heap(alloc, inner) {
+                Ok(inner) => Ok((keyword, inner)),
+                Err(error) => Err(error),
+            }
         }
         Err(error) => {
             drop(inner);

@@ -10,10 +10,10 @@ ghost use Rattle.mc_scopes.specs.Statements.{statements_of, effects_of, declarat
 ghost use Rattle.mc_scopes.specs.steps.Squeezed.{squeezed_part};
 
 use crate::statements::joined;
-use crate::statements::lists::{begun, only_in};
+use crate::statements::lists::{begun, listed, only_in};
+use crate::unused;
 use mc_faults::{FaultKind, or_fault, two_or_fault};
 use mc_scopes::found::{Found, Judged, fails_integer, number_in};
-use mc_scopes::leaves::alone;
 use mc_typed::{Declarator, Effect, Expression, ForStart, Span, Statement};
 use std::alloc::{AllocError, Global};
 
@@ -42,12 +42,12 @@ fn do_alone(
     span: Span,
     body: Statement,
     test: Expression,
-) -> Result<Vec<Statement>, AllocError>
-    ensures { IfOk result (λ r. statements_of r ≡ w.alone
-        (t.DoWhile (statement_of body) (expression_of test) (w.keyword 2 span) span)) }
+) -> Result<Option<Vec<Statement>>, AllocError>
+    ensures { IfOk result (λ r. option_map statements_of r ≡ Some (w.alone
+        (t.DoWhile (statement_of body) (expression_of test) (w.keyword 2 span) span))) }
 {
     match begun(alloc, 2, span, body) {
-        Ok((keyword, body)) => alone(
+        Ok((keyword, body)) => listed(
             alloc,
             Statement::DoWhile {
                 body,
@@ -76,14 +76,14 @@ fn do_of(
 {
     match body {
         Some(body) => match test {
-            Some(test) => Ok(Some(do_alone(alloc, span, body, test)?)),
+            Some(test) => do_alone(alloc, span, body, test),
             None => {
                 drop(body);
                 Ok(None)
             }
         },
         None => {
-            drop(test);
+            unused::expression(test);
             Ok(None)
         }
     }
@@ -109,8 +109,10 @@ pub fn do_statement(
     );
     let body = only_in(body.value);
     let number = number_in(test.value);
-    let value = do_of(alloc, span, body, number)?;
-    Ok(Judged { fault, value })
+    match do_of(alloc, span, body, number) {
+        Ok(value) => Ok(Judged { fault, value }),
+        Err(error) => Err(error),
+    }
 }
 
 fn start_with_effects(effects: Option<Vec<Effect>>) -> Option<ForStart>
@@ -167,12 +169,12 @@ fn loop_alone(
     span: Span,
     head: Head,
     body: Statement,
-) -> Result<Vec<Statement>, AllocError>
-    ensures { IfOk result (λ r. statements_of r ≡ w.loop size span
-        (start_of head.start) (test_of head.test) (effects_of head.step) (statement_of body)) }
+) -> Result<Option<Vec<Statement>>, AllocError>
+    ensures { IfOk result (λ r. option_map statements_of r ≡ Some (w.loop size span
+        (start_of head.start) (test_of head.test) (effects_of head.step) (statement_of body))) }
 {
     match begun(alloc, size, span, body) {
-        Ok((keyword, body)) => alone(
+        Ok((keyword, body)) => listed(
             alloc,
             Statement::For {
                 start: head.start,
@@ -210,33 +212,33 @@ fn loop_of(
                 Some(step) => match body {
                     Some(body) => {
                         let head = Head { start, test, step };
-                        Ok(Some(loop_alone(alloc, size, span, head, body)?))
+                        loop_alone(alloc, size, span, head, body)
                     }
                     None => {
                         drop(start);
-                        drop(test);
+                        unused::expression(test);
                         drop(step);
                         Ok(None)
                     }
                 },
                 None => {
                     drop(start);
-                    drop(test);
-                    drop(body);
+                    unused::expression(test);
+                    unused::statement(body);
                     Ok(None)
                 }
             },
             None => {
                 drop(start);
-                drop(step);
-                drop(body);
+                unused::effects(step);
+                unused::statement(body);
                 Ok(None)
             }
         },
         None => {
-            drop(test);
-            drop(step);
-            drop(body);
+            unused::test(test);
+            unused::effects(step);
+            unused::statement(body);
             Ok(None)
         }
     }
@@ -259,6 +261,8 @@ pub fn loop_statement(
 {
     let fault = joined::of_four(start.fault, test.fault, step.fault, body.fault);
     let body = only_in(body.value);
-    let value = loop_of(alloc, size, span, start.value, test.value, step.value, body)?;
-    Ok(Judged { fault, value })
+    match loop_of(alloc, size, span, start.value, test.value, step.value, body) {
+        Ok(value) => Ok(Judged { fault, value }),
+        Err(error) => Err(error),
+    }
 }

@@ -1,5 +1,5 @@
 //! Selection statements (C17 6.8.4).
-ghost use Rattle.std.specs.Prelude.{◌≡◌, IfOk, option_map, option_and_then};
+ghost use Rattle.std.specs.Prelude.{◌≡◌, Some, IfOk, option_map, option_and_then};
 ghost use Rattle.mc_value.specs.Conversions.{promoted};
 ghost use Rattle.mc_typed.specs.Sound.{type_of};
 ghost use Rattle.mc_typed.specs.Tree as t;
@@ -10,16 +10,18 @@ ghost use Rattle.mc_typing.specs.Values as v;
 ghost use Rattle.mc_typing.specs.Values.{lift2, lift3};
 ghost use Rattle.mc_typing.specs.Expressions.{promote};
 ghost use Rattle.mc_typing.specs.Statements as w;
+ghost use Rattle.mc_scopes.specs.Types.{base_of};
 ghost use Rattle.mc_scopes.specs.Found.{found_of, judged_of, value_of};
 ghost use Rattle.mc_scopes.specs.Statements.{statements_of};
 ghost use Rattle.mc_scopes.specs.steps.Squeezed.{squeezed_part};
 
-use crate::statements::lists::{begun, boxed, keyword, only_in};
+use crate::statements::lists::{begun, keyword, listed, only_in};
+use crate::unused;
+use crate::values::on_heap;
 use mc_faults::{FaultKind, three_or_fault, two_or_fault};
 use mc_scopes::found::{Found, Judged, fails_integer, number_in};
-use mc_scopes::leaves::alone;
 use mc_scopes::value::Value;
-use mc_scopes::{Base, conversions};
+use mc_scopes::{Base, CType, conversions};
 use mc_tree::Statement as Tree;
 use mc_typed::{Expression, Span, Statement};
 use mc_value::IntType;
@@ -30,12 +32,12 @@ fn if_alone(
     span: Span,
     test: Expression,
     chosen: Statement,
-) -> Result<Vec<Statement>, AllocError>
-    ensures { IfOk result (λ r. statements_of r ≡ w.alone
-        (t.If (expression_of test) (statement_of chosen) (w.keyword 2 span) span)) }
+) -> Result<Option<Vec<Statement>>, AllocError>
+    ensures { IfOk result (λ r. option_map statements_of r ≡ Some (w.alone
+        (t.If (expression_of test) (statement_of chosen) (w.keyword 2 span) span))) }
 {
     match begun(alloc, 2, span, chosen) {
-        Ok((keyword, chosen)) => alone(
+        Ok((keyword, chosen)) => listed(
             alloc,
             Statement::If {
                 test,
@@ -64,14 +66,14 @@ fn if_of(
 {
     match test {
         Some(test) => match chosen {
-            Some(chosen) => Ok(Some(if_alone(alloc, span, test, chosen)?)),
+            Some(chosen) => if_alone(alloc, span, test, chosen),
             None => {
                 drop(test);
                 Ok(None)
             }
         },
         None => {
-            drop(chosen);
+            unused::statement(chosen);
             Ok(None)
         }
     }
@@ -97,8 +99,10 @@ pub fn if_statement(
     );
     let number = number_in(test.value);
     let chosen = only_in(chosen.value);
-    let value = if_of(alloc, span, number, chosen)?;
-    Ok(Judged { fault, value })
+    match if_of(alloc, span, number, chosen) {
+        Ok(value) => Ok(Judged { fault, value }),
+        Err(error) => Err(error),
+    }
 }
 
 // The same where the first statement is in a box.
@@ -109,13 +113,13 @@ fn if_else_with(
     test: Expression,
     chosen: Box<Statement>,
     other: Statement,
-) -> Result<Vec<Statement>, AllocError>
-    ensures { IfOk result (λ r. statements_of r ≡ w.alone
+) -> Result<Option<Vec<Statement>>, AllocError>
+    ensures { IfOk result (λ r. option_map statements_of r ≡ Some (w.alone
         (t.IfElse (expression_of test) (statement_of chosen.value) (statement_of other)
-        keyword span)) }
+        keyword span))) }
 {
-    match boxed(alloc, other) {
-        Ok(other) => alone(
+    match on_heap(alloc, other) {
+        Ok(other) => listed(
             alloc,
             Statement::IfElse {
                 test,
@@ -140,10 +144,10 @@ fn if_else_alone(
     test: Expression,
     chosen: Statement,
     other: Statement,
-) -> Result<Vec<Statement>, AllocError>
-    ensures { IfOk result (λ r. statements_of r ≡ w.alone
+) -> Result<Option<Vec<Statement>>, AllocError>
+    ensures { IfOk result (λ r. option_map statements_of r ≡ Some (w.alone
         (t.IfElse (expression_of test) (statement_of chosen) (statement_of other)
-        (w.keyword 2 span) span)) }
+        (w.keyword 2 span) span))) }
 {
     match begun(alloc, 2, span, chosen) {
         Ok((keyword, chosen)) => if_else_with(alloc, span, keyword, test, chosen, other),
@@ -170,7 +174,7 @@ fn if_else_of(
     match test {
         Some(test) => match chosen {
             Some(chosen) => match other {
-                Some(other) => Ok(Some(if_else_alone(alloc, span, test, chosen, other)?)),
+                Some(other) => if_else_alone(alloc, span, test, chosen, other),
                 None => {
                     drop(test);
                     drop(chosen);
@@ -179,13 +183,13 @@ fn if_else_of(
             },
             None => {
                 drop(test);
-                drop(other);
+                unused::statement(other);
                 Ok(None)
             }
         },
         None => {
-            drop(chosen);
-            drop(other);
+            unused::statement(chosen);
+            unused::statement(other);
             Ok(None)
         }
     }
@@ -215,11 +219,29 @@ pub fn if_else_statement(
     let number = number_in(test.value);
     let chosen = only_in(chosen.value);
     let other = only_in(other.value);
-    let value = if_else_of(alloc, span, number, chosen, other)?;
-    Ok(Judged { fault, value })
+    match if_else_of(alloc, span, number, chosen, other) {
+        Ok(value) => Ok(Judged { fault, value }),
+        Err(error) => Err(error),
+    }
 }
 
 // ---- `switch` (C17 6.8.4.2)
+
+// The promoted type of an integer in an object of this type.
+fn promoted_in(of: &CType) -> Option<IntType>
+    ensures { (place : t.Place) → result ≡ option_map (λ e. promoted (type_of e))
+        (v.number_stored place (base_of of.now.base) of.now.lengths.items) }
+{
+    match of.base {
+        Base::Integer(integer) => if of.lengths.is_empty() {
+            Some(mc_value::promote(integer))
+        } else {
+            None
+        },
+        Base::Void => None,
+        Base::Tagged(_) => None,
+    }
+}
 
 /// The promoted type of an integer.
 fn promoted_type(value: &Value) -> Option<IntType>
@@ -227,11 +249,12 @@ fn promoted_type(value: &Value) -> Option<IntType>
 {
     match value {
         Value::Number(number) => Some(mc_value::promote(number.integer_type())),
-        Value::Stored(_, of) => match of.base {
-            Base::Integer(integer) if of.lengths.is_empty() => Some(mc_value::promote(integer)),
-            _ => None,
-        },
-        _ => None,
+        Value::Stored(_, of) => promoted_in(of),
+        Value::Borrowed { .. } => None,
+        Value::Returned(..) => None,
+        Value::Done(_) => None,
+        Value::Assigned(_) => None,
+        Value::Designator => None,
     }
 }
 
@@ -293,12 +316,12 @@ fn switch_with(
     keyword: Span,
     value: Expression,
     items: Vec<Statement>,
-) -> Result<Vec<Statement>, AllocError>
-    ensures { IfOk result (λ r. statements_of r ≡ w.alone
-        (t.Switch (promote (expression_of value)) (statements_of items) keyword span)) }
+) -> Result<Option<Vec<Statement>>, AllocError>
+    ensures { IfOk result (λ r. option_map statements_of r ≡ Some (w.alone
+        (t.Switch (promote (expression_of value)) (statements_of items) keyword span))) }
 {
     match conversions::promote(alloc, value) {
-        Ok(value) => alone(
+        Ok(value) => listed(
             alloc,
             Statement::Switch {
                 value,
@@ -321,10 +344,10 @@ fn switch_alone(
     span: Span,
     value: Expression,
     items: Vec<Statement>,
-) -> Result<Vec<Statement>, AllocError>
-    ensures { IfOk result (λ r. statements_of r ≡ w.alone
+) -> Result<Option<Vec<Statement>>, AllocError>
+    ensures { IfOk result (λ r. option_map statements_of r ≡ Some (w.alone
         (t.Switch (promote (expression_of value)) (statements_of items)
-        (w.keyword 6 span) span)) }
+        (w.keyword 6 span) span))) }
 {
     match keyword(6, span) {
         Ok(keyword) => switch_with(alloc, span, keyword, value, items),
@@ -348,14 +371,14 @@ fn switch_of(
 {
     match value {
         Some(value) => match items {
-            Some(items) => Ok(Some(switch_alone(alloc, span, value, items)?)),
+            Some(items) => switch_alone(alloc, span, value, items),
             None => {
                 drop(value);
                 Ok(None)
             }
         },
         None => {
-            drop(items);
+            unused::statements(items);
             Ok(None)
         }
     }
@@ -383,6 +406,8 @@ pub fn switch_statement(
     );
     let number = number_in(value.value);
     let items = items_in(alloc, only_in(body.value));
-    let value = switch_of(alloc, span, number, items)?;
-    Ok(Judged { fault, value })
+    match switch_of(alloc, span, number, items) {
+        Ok(value) => Ok(Judged { fault, value }),
+        Err(error) => Err(error),
+    }
 }

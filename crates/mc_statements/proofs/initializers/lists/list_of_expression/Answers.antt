@@ -12,19 +12,16 @@ use Rattle.mc_statements.specs.Items.{item_then}
 use Rattle.mc_statements.proofs.InitializerNodes.{list_of_one}
 use Rattle.mc_statements.proofs.initializers.lists.list_of_expression.Goals as goal
 
-pub returns : goal.returns
-returns c =
+pub returns-in-Ok : goal.returns-in-Ok
+returns-in-Ok c =
     let s = scope_of c.args.scope.now in
     let u = option_map type_of (option_copied c.args.of) in
     let one = single_judged c.args.is_static (option_map type_of (option_copied c.args.item))
     c.args.start (found_of c.args.found s) in
     let none : Judged t.Initializers = judged [] (Some no_initializers) s in
-    let found = c.in_ok-items.ensures s
-    ∙ ap (λ (x : Judged t.Initializers). squeezed_part (item_then x
-    (judged_of initializer_of c.in_ok-one.one s))) (c.no_items.ensures s)
-    ∙ ap (λ (x : Judged t.Initializer). squeezed_part (item_then none x)) c.in_ok-one.ensures in
     subst (λ (j : Judged t.Initializer).
-    IfOk c.list_initializer.result (λ r. judged_of initializer_of r s ≡ j))
-    (ap (λ (x : Judged t.Initializers). squeezed_part (list_judged u c.args.at 1 x)) found
+    IfOk c.list_of_one.result (λ r. judged_of initializer_of r s ≡ j))
+    (ap (λ (x : Judged t.Initializer). squeezed_part (list_judged u c.args.at 1
+    (squeezed_part (item_then none x)))) c.in-Ok.ensures
     ∙ list_of_one u c.args.at one s)
-    c.list_initializer.ensures
+    c.list_of_one.ensures

@@ -1,7 +1,7 @@
 use Rattle.std.proofs.Common.{◌≡◌, map, take}
 use Rattle.mc_scopes.specs.Listed.{listed_of}
 use Rattle.mc_statements.specs.Initializers.{optional_type}
-use Rattle.mc_statements.proofs.initializers.parts.member_types.Given as goal
+use Rattle.mc_statements.proofs.initializers.parts.add_types.Given as goal
 
 abbrev pub invariant-loop-place : goal.invariant-loop-place
 invariant-loop-place l =

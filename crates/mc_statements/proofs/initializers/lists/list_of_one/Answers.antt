@@ -1,0 +1,23 @@
+use Rattle.std.proofs.Common.{◌≡◌, ◌∙◌, IfOk, ap, subst, option_copied, option_map}
+use Rattle.mc_typed.specs.Tree as t
+use Rattle.mc_typed.specs.Views.{initializer_of}
+use Rattle.mc_typing.specs.Values.{Judged}
+use Rattle.mc_typing.specs.Initializers.{list_judged}
+use Rattle.mc_scopes.specs.Types.{type_of}
+use Rattle.mc_scopes.specs.Views.{scope_of}
+use Rattle.mc_scopes.specs.Found.{judged_of}
+use Rattle.mc_scopes.specs.steps.Squeezed.{squeezed_part}
+use Rattle.mc_statements.specs.Items.{item_then}
+use Rattle.mc_statements.proofs.initializers.lists.list_of_one.Goals as goal
+
+pub returns-in-Ok : goal.returns-in-Ok
+returns-in-Ok c =
+    let s = scope_of c.args.scope.now in
+    let u = option_map type_of (option_copied c.args.of) in
+    let items = c.in-Ok.ensures s
+    ∙ ap (λ (x : Judged t.Initializers). squeezed_part (item_then x
+    (judged_of initializer_of c.args.one s))) (c.no_items.ensures s) in
+    subst (λ (j : Judged t.Initializer).
+    IfOk c.list_initializer.result (λ r. judged_of initializer_of r s ≡ j))
+    (ap (λ (x : Judged t.Initializers). squeezed_part (list_judged u c.args.at 1 x)) items)
+    c.list_initializer.ensures

@@ -1,0 +1,7 @@
+use Rattle.mc_statements.proofs.Lists.{both_ok, statements_joined}
+use Rattle.mc_statements.proofs.statements.lists.followed.Goals as goal
+
+pub returns : goal.returns
+returns c =
+    both_ok (λ r fault value s. statements_joined r c.args.list c.args.more s fault value)
+    c.joined_lists.result c.joined_lists.ensures.fault c.joined_lists.ensures.value
