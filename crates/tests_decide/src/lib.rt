@@ -1,7 +1,8 @@
 //! Tests of the decisions of a program: sources, from their text on, and laws of worked texts.
 #![tactic(auto)]
 
-pub mod laws;
+#[cfg(test)]
+mod laws;
 #[cfg(test)]
 mod reading;
 #[cfg(test)]

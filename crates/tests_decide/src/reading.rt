@@ -10,8 +10,7 @@ use mc_subset::check;
 use mc_tree::Unit;
 use mc_typed::Program;
 use mc_types::type_unit;
-use std::alloc::Global;
-use std::test::Fail;
+use std::alloc::{AllocError, Global};
 
 /// What is shown of decisions.
 #[derive(Clone, Copy)]
@@ -20,13 +19,45 @@ pub enum Shown {
     Vectors,
 }
 
+/// What a source is read as: its tree, and then its typed program.
+trait Stage {
+    /// Adds the decisions as text, or why there are none.
+    fn tell(
+        &self,
+        alloc: Global,
+        shown: Shown,
+        text: &mut String,
+        source: &str,
+    ) -> Result<(), AllocError>;
+}
+
+/// Tells of what was read and lets it go, or says why it was not read. For any type: a match that
+/// takes a whole tree or program out of its result makes a long proof.
+fn tell_of<T: Stage + Drop, E: Drop>(
+    alloc: Global,
+    shown: Shown,
+    text: &mut String,
+    source: &str,
+    read: Result<T, E>,
+    fault: &str,
+) -> Result<(), AllocError> {
+    match read {
+        Ok(it) => {
+            let told = it.tell(alloc, shown, text, source);
+            drop(it);
+            told
+        }
+        Err(_) => text.push_str(fault),
+    }
+}
+
 fn show(
     alloc: Global,
     shown: Shown,
     text: &mut String,
     source: &str,
     decisions: &[Decision],
-) -> Result<(), Fail>
+) -> Result<(), AllocError>
     requires { All (λ d. IsNumbered (tree_of d.tree)) decisions.now }
 {
     match shown {
@@ -35,44 +66,47 @@ fn show(
     }
 }
 
-fn of_program(
-    alloc: Global,
-    shown: Shown,
-    text: &mut String,
-    source: &str,
-    program: &Program<'_>,
-) -> Result<(), Fail> {
-    match decisions(alloc, program) {
-        Ok(found) => {
-            let told = show(alloc, shown, text, source, &found);
-            drop(found);
-            told
+impl Stage for Program<'_> {
+    fn tell(
+        &self,
+        alloc: Global,
+        shown: Shown,
+        text: &mut String,
+        source: &str,
+    ) -> Result<(), AllocError> {
+        match decisions(alloc, self) {
+            Ok(found) => {
+                let told = show(alloc, shown, text, source, &found);
+                drop(found);
+                told
+            }
+            Err(DecideFault::TooManyConditions { at, count }) => {
+                write!(text, "{at}: too many conditions {count}")
+            }
+            Err(DecideFault::OutOfMemory) => text.push_str("out of memory"),
         }
-        Err(DecideFault::TooManyConditions { at, count }) => {
-            write!(text, "{at}: too many conditions {count}")?;
-            Ok(())
-        }
-        Err(DecideFault::OutOfMemory) => Err(Fail::new("out of memory")),
     }
 }
 
-fn of_unit(
-    alloc: Global,
-    shown: Shown,
-    text: &mut String,
-    source: &str,
-    unit: &Unit<'_>,
-) -> Result<(), Fail> {
-    if check(unit).is_err() {
-        return Err(Fail::new("outside form"));
-    }
-    match type_unit(alloc, unit) {
-        Ok(program) => {
-            let told = of_program(alloc, shown, text, source, &program);
-            drop(program);
-            told
+impl Stage for Unit<'_> {
+    fn tell(
+        &self,
+        alloc: Global,
+        shown: Shown,
+        text: &mut String,
+        source: &str,
+    ) -> Result<(), AllocError> {
+        if check(self).is_err() {
+            return text.push_str("outside form");
         }
-        Err(_) => Err(Fail::new("names or types")),
+        tell_of(
+            alloc,
+            shown,
+            text,
+            source,
+            type_unit(alloc, self),
+            "names or types",
+        )
     }
 }
 
@@ -82,26 +116,25 @@ fn of_tokens(
     text: &mut String,
     source: &str,
     tokens: &[Token<'_>],
-) -> Result<(), Fail>
+) -> Result<(), AllocError>
     requires short { All (λ token. token.start + length token.text.now < 2 ^ 31) tokens.now }
     requires few { length tokens.now < 2 ^ 31 }
 {
-    match parse(alloc, tokens, Dialect::Plain) {
-        Ok(unit) => {
-            let told = of_unit(alloc, shown, text, source, &unit);
-            drop(unit);
-            told
-        }
-        Err(_) => Err(Fail::new("syntax")),
-    }
+    let read = parse(alloc, tokens, Dialect::Plain);
+    tell_of(alloc, shown, text, source, read, "syntax")
 }
 
-/// Adds the decisions of a source as text, or says why there are none.
+/// Adds the decisions of a source as text, or why there are none.
 #[tactic(auto, using(crate::proofs::Short::all_short))]
-pub fn tell(alloc: Global, shown: Shown, text: &mut String, source: &str) -> Result<(), Fail> {
+pub fn tell(
+    alloc: Global,
+    shown: Shown,
+    text: &mut String,
+    source: &str,
+) -> Result<(), AllocError> {
     let bytes = source.as_bytes();
     if bytes.len() >= 0x8000_0000 {
-        return Err(Fail::new("too long"));
+        return text.push_str("too long");
     }
     match lex(alloc, bytes, Dialect::Plain) {
         Ok(tokens) => {
@@ -109,6 +142,6 @@ pub fn tell(alloc: Global, shown: Shown, text: &mut String, source: &str) -> Res
             drop(tokens);
             told
         }
-        Err(_) => Err(Fail::new("tokens")),
+        Err(_) => text.push_str("tokens"),
     }
 }

@@ -2,7 +2,7 @@
 //! and text of its root, its tree, and the start and text of each condition.
 
 /// A row is a source, `@` and its decisions. A line without `@` tells what follows.
-pub const ROWS: &str = "\
+pub static ROWS: &str = "\
 # operators of a value that is returned
 int f(int a,int b,int c){return !(a&&b)||c;}@0@32:!(a&&b)||c (!(0&1)|2) 34:a 37:b 41:c;
 int f(int a,int b,int c){return (a&&b)||(a&&c);}@0@32:(a&&b)||(a&&c) ((0&1)|(2&3)) 33:a 36:b 41:a 44:c;
@@ -70,7 +70,7 @@ int f(int a){static int n=1;return n<2?a:n<3;}@0@35:n<2 0 35:n<2;0@41:n<3 0 41:n
 ";
 
 /// A flap controller.
-pub const FLAPS: &str = "\
+pub static FLAPS: &str = "\
 # 1 \"flap.c\"
 typedef enum { UP, TAKEOFF, LANDING } Lever;
 typedef struct { int speed; _Bool ground; } Air;
@@ -98,7 +98,7 @@ int cycle(int lever) {
 }
 ";
 
-pub const FLAPS_DECISIONS: &str = "\
+pub static FLAPS_DECISIONS: &str = "\
 1@450:want > 15 && (air.speed > 160 || air.ground) (0&(1|2)) 450:want > 15 464:air.speed > 160 483:air.ground;\
 1@513:angle < want 0 513:angle < want;\
 1@550:angle > want 0 550:angle > want;";
@@ -149,7 +149,7 @@ pub static LARGE: [LargeRow; 7] = [
 ];
 
 /// Sources and the vectors of their decisions, in the order of their numbers, after `@`.
-pub const VECTORS: &str = "\
+pub static VECTORS: &str = "\
 int f(int a,int b,int c){return !(a&&b)||c;}@TTT=T;TTF=F;TF-=T;F--=T;
 int f(int a,int b,int c){return (a&&b)||(a&&c);}@TT--=T;TFTT=T;TFTF=F;TFF-=F;F-TT=T;F-TF=F;F-F-=F;
 ";

@@ -2,10 +2,8 @@
 use crate::reading::{Shown, tell};
 use crate::rows::{FLAPS, FLAPS_DECISIONS, LARGE, LargeRow, ROWS, VECTORS};
 use std::alloc::{AllocError, Global};
-use std::process::Abort;
-use std::test::Fail;
 
-fn is_told(alloc: Global, shown: Shown, source: &str, want: &str) -> Result<bool, Fail> {
+fn is_told(alloc: Global, shown: Shown, source: &str, want: &str) -> Result<bool, AllocError> {
     let mut text = String::new(alloc);
     let told = tell(alloc, shown, &mut text, source);
     let same = text.as_str() == want;
@@ -14,7 +12,7 @@ fn is_told(alloc: Global, shown: Shown, source: &str, want: &str) -> Result<bool
     Ok(same)
 }
 
-fn is_right(alloc: Global, shown: Shown, row: &str) -> Result<bool, Fail> {
+fn is_right(alloc: Global, shown: Shown, row: &str) -> Result<bool, AllocError> {
     match row.split_once('@') {
         Some((source, want)) => is_told(alloc, shown, source, want),
         None => Ok(row.starts_with('#')),
@@ -36,44 +34,55 @@ fn repeat(
     source.push_str(back)
 }
 
-fn is_told_in(alloc: Global, source: &mut String, row: &LargeRow) -> Result<bool, Fail> {
+fn is_told_in(alloc: Global, source: &mut String, row: &LargeRow) -> Result<bool, AllocError> {
     let (front, piece, count, back, want) = *row;
     repeat(source, front, piece, count, back)?;
     is_told(alloc, Shown::Vectors, source.as_str(), want)
 }
 
-fn is_large_told(alloc: Global, row: &LargeRow) -> Result<bool, Fail> {
+fn is_large_told(alloc: Global, row: &LargeRow) -> Result<bool, AllocError> {
     let mut source = String::new(alloc);
     let same = is_told_in(alloc, &mut source, row);
     drop(source);
     same
 }
 
-fn check_rows(rt: &impl Abort, alloc: Global, shown: Shown, rows: &str) -> Result<(), Fail> {
+/// The first of these rows that is not right.
+fn wrong_row<'x>(
+    alloc: Global,
+    shown: Shown,
+    rows: &'x str,
+) -> Result<Option<&'x str>, AllocError> {
     for row in rows.lines() {
-        assert!(rt; is_right(alloc, shown, row)?, "{row}");
+        if !is_right(alloc, shown, row)? {
+            return Ok(Some(row));
+        }
     }
-    Ok(())
+    Ok(None)
 }
 
-fn check_large(rt: &impl Abort, alloc: Global) -> Result<(), Fail> {
+/// What is wanted of the first large decision of which something else is told.
+fn wrong_large(alloc: Global) -> Result<Option<&'static str>, AllocError> {
     for row in &LARGE {
-        assert!(rt; is_large_told(alloc, row)?, "{}", row.4);
+        if !is_large_told(alloc, row)? {
+            return Ok(Some(row.4));
+        }
     }
-    Ok(())
+    Ok(None)
 }
 
 #[test]
-fn decisions_of_sources(rt: HostRuntime) -> Result<(), Fail> {
+fn decisions_of_sources(rt: HostRuntime) -> Result<(), AllocError> {
     let alloc = rt.alloc();
-    check_rows(&rt, alloc, Shown::Decisions, ROWS)?;
+    assert_eq!(rt; wrong_row(alloc, Shown::Decisions, ROWS)?, None);
     assert!(rt; is_told(alloc, Shown::Decisions, FLAPS, FLAPS_DECISIONS)?);
     Ok(())
 }
 
 #[test]
-fn vectors_of_sources(rt: HostRuntime) -> Result<(), Fail> {
+fn vectors_of_sources(rt: HostRuntime) -> Result<(), AllocError> {
     let alloc = rt.alloc();
-    check_rows(&rt, alloc, Shown::Vectors, VECTORS)?;
-    check_large(&rt, alloc)
+    assert_eq!(rt; wrong_row(alloc, Shown::Vectors, VECTORS)?, None);
+    assert_eq!(rt; wrong_large(alloc)?, None);
+    Ok(())
 }
