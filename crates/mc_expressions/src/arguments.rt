@@ -1,12 +1,14 @@
 //! Arguments of calls (C17 6.5.2.2).
-ghost use Rattle.std.specs.Prelude.{◌≡◌, IfOk, map, option_map, option_copied};
+ghost use Rattle.std.specs.Prelude.{◌≡◌, ◌++◌, IfOk, Ok, map, option_map, option_copied};
 ghost use Rattle.mc_typed.specs.Layout as objects;
 ghost use Rattle.mc_typed.specs.Tree as t;
 ghost use Rattle.mc_typed.specs.Views.{argument_of, expression_of, place_of};
 ghost use Rattle.mc_typed.specs.Views as typed;
 ghost use Rattle.mc_faults.specs.Faults.{least_of};
+ghost use Rattle.mc_faults.specs.Kept.{listed};
 ghost use Rattle.mc_typing.specs.Types as typing;
 ghost use Rattle.mc_typing.specs.Scopes as s;
+ghost use Rattle.mc_typing.specs.Values as v;
 ghost use Rattle.mc_typing.specs.Expressions as e;
 ghost use Rattle.mc_typing.specs.Calls as c;
 ghost use Rattle.mc_scopes.specs.Types.{type_of};
@@ -87,10 +89,10 @@ fn number_argument(
         ≡ option_map (λ f. t.NumberArgument (e.convert_to to f)) (option_map expression_of value)) }
 {
     match value {
-        Some(value) => {
-            let value = convert_to(alloc, to, value)?;
-            Ok(Some(Argument::Number { value }))
-        }
+        Some(value) => match convert_to(alloc, to, value) {
+            Ok(value) => Ok(Some(Argument::Number { value })),
+            Err(error) => Err(error),
+        },
         None => Ok(None),
     }
 }
@@ -300,6 +302,50 @@ fn add_copy(
     add_counted(alloc, scope, number)
 }
 
+// The first fault of an argument for a parameter.
+fn judged(at: u32, parameter: Option<&ParameterKind>, found: &Found) -> Option<Fault>
+    ensures { result ≡ least_of (listed found.now.fault ++ c.argument_faults at
+        (option_map types.kind_of (option_copied parameter.entry))
+        (option_map v.kind_of (option_map value_of found.now.value))) }
+{
+    let own = argument_fault(at, parameter, kind_found(&found.value));
+    after(found.fault, own)
+}
+
+// An argument, and the object of its copy.
+fn with_copy(
+    alloc: Global,
+    scope: &mut Scope<'_>,
+    parameter: Option<&ParameterKind>,
+    fault: Option<Fault>,
+    value: Result<Option<Argument>, AllocError>,
+) -> Result<Given<Argument>, AllocError>
+    ensures fault { IfOk result (λ r. r.fault ≡ fault) }
+    ensures value { IfOk result (λ r. value ≡ Ok r.value) }
+    ensures copied { IfOk result (λ r. r.copied ≡ s.cells_counted (c.copy_of (scope_of scope.old)
+        (option_map types.kind_of (option_copied parameter.entry))
+        (option_map argument_of r.value))) }
+    ensures scope { IfOk result (λ r. scope_of scope.new
+        ≡ s.with_counted (c.copy_of (scope_of scope.old)
+        (option_map types.kind_of (option_copied parameter.entry))
+        (option_map argument_of r.value)) (scope_of scope.old)) }
+{
+    match value {
+        Ok(value) => match add_copy(alloc, scope, parameter, &value) {
+            Ok(copied) => Ok(Given {
+                fault,
+                value,
+                copied: copied as u64,
+            }),
+            Err(error) => {
+                drop(value);
+                Err(error)
+            }
+        },
+        Err(error) => Err(error),
+    }
+}
+
 /// An argument that starts here, for its parameter where there is one. The copy of a structure is
 /// an object of the function.
 pub fn argument(
@@ -314,18 +360,7 @@ pub fn argument(
         (option_map types.kind_of (option_copied parameter.entry))
         (found_of found (scope_of scope.old)))) }
 {
-    let own = argument_fault(at, parameter, kind_found(&found.value));
-    let fault = after(found.fault, own);
-    let value = argument_value(alloc, scope, parameter, found.value)?;
-    match add_copy(alloc, scope, parameter, &value) {
-        Ok(copied) => Ok(Given {
-            fault,
-            value,
-            copied: copied as u64,
-        }),
-        Err(error) => {
-            drop(value);
-            Err(error)
-        }
-    }
+    let fault = judged(at, parameter, &found);
+    let value = argument_value(alloc, scope, parameter, found.value);
+    with_copy(alloc, scope, parameter, fault, value)
 }

@@ -1,21 +1,60 @@
 //! Binary operators (C17 6.5.5 to 6.5.14).
-ghost use Rattle.std.specs.Prelude.{◌≡◌, IfOk, option_map};
+ghost use Rattle.std.specs.Prelude.{◌≡◌, ◌++◌, ◌&&◌, IfOk, Some, option_map};
 ghost use Rattle.mc_typed.specs.declared.operators.Operator.TheVariants as operators;
 ghost use Rattle.mc_typed.specs.Tree as t;
 ghost use Rattle.mc_typed.specs.Views.{expression_of};
+ghost use Rattle.mc_faults.specs.Faults.{least_of};
+ghost use Rattle.mc_faults.specs.Kept.{listed};
 ghost use Rattle.mc_typing.specs.Scopes as s;
 ghost use Rattle.mc_typing.specs.Values as v;
 ghost use Rattle.mc_typing.specs.Expressions as e;
-ghost use Rattle.mc_scopes.specs.Found.{found_of};
+ghost use Rattle.mc_scopes.specs.Found.{found_of, value_of};
 ghost use Rattle.mc_scopes.specs.steps.Squeezed.{squeezed};
+ghost use Rattle.mc_expressions.specs.steps.Operations.{operating};
 
-use crate::operands::{both_boxed, both_converted, both_promoted};
-use mc_faults::{FaultKind, two_or_fault};
-use mc_scopes::found::{Found, fails_integer, number_found, number_in};
+use crate::operands::{both_boxed, found, operands};
+use mc_faults::{Fault, FaultKind, two_or_fault};
+use mc_scopes::found::{Found, fails_integer, number_in};
+use mc_scopes::value::Value;
 use mc_tree::BinaryOperator;
 use mc_typed::{Expression, LogicOperator, Operator, Span};
-use mc_value::{BinOp, ShiftOp, common};
+use mc_value::{BinOp, ShiftOp, common, promote};
 use std::alloc::{AllocError, Global};
+
+/// What a binary operator does with its operands.
+enum Operation {
+    /// An operator on both, converted to their common type.
+    Common(BinOp),
+    /// A shift, of which each operand is promoted.
+    Shift(ShiftOp),
+    Logic(LogicOperator),
+}
+
+fn operation_of(operator: BinaryOperator) -> Operation
+    ensures { (span : Span) (l r : t.Expression)
+        → e.binary_of operator span l r ≡ operating result span l r }
+{
+    match operator {
+        BinaryOperator::Multiply => Operation::Common(BinOp::Mul),
+        BinaryOperator::Divide => Operation::Common(BinOp::Div),
+        BinaryOperator::Remainder => Operation::Common(BinOp::Rem),
+        BinaryOperator::Add => Operation::Common(BinOp::Add),
+        BinaryOperator::Subtract => Operation::Common(BinOp::Sub),
+        BinaryOperator::ShiftLeft => Operation::Shift(ShiftOp::Left),
+        BinaryOperator::ShiftRight => Operation::Shift(ShiftOp::Right),
+        BinaryOperator::Less => Operation::Common(BinOp::Lt),
+        BinaryOperator::Greater => Operation::Common(BinOp::Gt),
+        BinaryOperator::LessOrEqual => Operation::Common(BinOp::Le),
+        BinaryOperator::GreaterOrEqual => Operation::Common(BinOp::Ge),
+        BinaryOperator::Equal => Operation::Common(BinOp::Eq),
+        BinaryOperator::Unequal => Operation::Common(BinOp::Ne),
+        BinaryOperator::BitAnd => Operation::Common(BinOp::And),
+        BinaryOperator::BitXor => Operation::Common(BinOp::Xor),
+        BinaryOperator::BitOr => Operation::Common(BinOp::Or),
+        BinaryOperator::And => Operation::Logic(LogicOperator::And),
+        BinaryOperator::Or => Operation::Logic(LogicOperator::Or),
+    }
+}
 
 fn in_common_type(
     alloc: Global,
@@ -23,20 +62,21 @@ fn in_common_type(
     span: Span,
     left: Expression,
     right: Expression,
-) -> Result<Expression, AllocError>
-    ensures { IfOk result (λ r. expression_of r
-        ≡ e.in_common_type operator span (expression_of left) (expression_of right)) }
+) -> Result<Option<Value>, AllocError>
+    ensures { IfOk result (λ r. option_map value_of r ≡ Some (v.Number
+        (e.in_common_type operator span (expression_of left) (expression_of right)))) }
 {
     let of = common(left.integer_type(), right.integer_type());
-    let (left, right) = both_converted(alloc, of, left, right)?;
-    let (left, right) = both_boxed(alloc, left, right)?;
-    Ok(Expression::Binary {
-        operator: Operator::Binary(operator),
-        of,
-        left,
-        right,
-        span,
-    })
+    match operands(alloc, of, left, of, right) {
+        Ok((left, right)) => Ok(Some(Value::Number(Expression::Binary {
+            operator: Operator::Binary(operator),
+            of,
+            left,
+            right,
+            span,
+        }))),
+        Err(error) => Err(error),
+    }
 }
 
 fn shifting(
@@ -45,20 +85,26 @@ fn shifting(
     span: Span,
     left: Expression,
     right: Expression,
-) -> Result<Expression, AllocError>
-    ensures { IfOk result (λ r. expression_of r
-        ≡ e.shifting (operators.Shift operator) span (expression_of left) (expression_of right)) }
+) -> Result<Option<Value>, AllocError>
+    ensures { IfOk result (λ r. option_map value_of r ≡ Some (v.Number
+        (e.shifting (operators.Shift operator) span (expression_of left)
+        (expression_of right)))) }
 {
-    let (left, right) = both_promoted(alloc, left, right)?;
-    let of = left.integer_type();
-    let (left, right) = both_boxed(alloc, left, right)?;
-    Ok(Expression::Binary {
-        operator: Operator::Shift(operator),
-        of,
-        left,
-        right,
-        span,
-    })
+    let left_to = promote(left.integer_type());
+    let right_to = promote(right.integer_type());
+    match operands(alloc, left_to, left, right_to, right) {
+        Ok((left, right)) => {
+            let of = left.integer_type();
+            Ok(Some(Value::Number(Expression::Binary {
+                operator: Operator::Shift(operator),
+                of,
+                left,
+                right,
+                span,
+            })))
+        }
+        Err(error) => Err(error),
+    }
 }
 
 fn logic(
@@ -67,17 +113,19 @@ fn logic(
     span: Span,
     left: Expression,
     right: Expression,
-) -> Result<Expression, AllocError>
-    ensures { IfOk result (λ r. expression_of r
-        ≡ t.Logic operator (expression_of left) (expression_of right) span) }
+) -> Result<Option<Value>, AllocError>
+    ensures { IfOk result (λ r. option_map value_of r
+        ≡ Some (v.Number (t.Logic operator (expression_of left) (expression_of right) span))) }
 {
-    let (left, right) = both_boxed(alloc, left, right)?;
-    Ok(Expression::Logic {
-        operator,
-        left,
-        right,
-        span,
-    })
+    match both_boxed(alloc, left, right) {
+        Ok((left, right)) => Ok(Some(Value::Number(Expression::Logic {
+            operator,
+            left,
+            right,
+            span,
+        }))),
+        Err(error) => Err(error),
+    }
 }
 
 fn binary_of(
@@ -86,29 +134,14 @@ fn binary_of(
     span: Span,
     left: Expression,
     right: Expression,
-) -> Result<Expression, AllocError>
-    ensures { IfOk result (λ r. expression_of r
-        ≡ e.binary_of operator span (expression_of left) (expression_of right)) }
+) -> Result<Option<Value>, AllocError>
+    ensures { IfOk result (λ r. option_map value_of r ≡ Some (v.Number
+        (e.binary_of operator span (expression_of left) (expression_of right)))) }
 {
-    match operator {
-        BinaryOperator::Multiply => in_common_type(alloc, BinOp::Mul, span, left, right),
-        BinaryOperator::Divide => in_common_type(alloc, BinOp::Div, span, left, right),
-        BinaryOperator::Remainder => in_common_type(alloc, BinOp::Rem, span, left, right),
-        BinaryOperator::Add => in_common_type(alloc, BinOp::Add, span, left, right),
-        BinaryOperator::Subtract => in_common_type(alloc, BinOp::Sub, span, left, right),
-        BinaryOperator::ShiftLeft => shifting(alloc, ShiftOp::Left, span, left, right),
-        BinaryOperator::ShiftRight => shifting(alloc, ShiftOp::Right, span, left, right),
-        BinaryOperator::Less => in_common_type(alloc, BinOp::Lt, span, left, right),
-        BinaryOperator::Greater => in_common_type(alloc, BinOp::Gt, span, left, right),
-        BinaryOperator::LessOrEqual => in_common_type(alloc, BinOp::Le, span, left, right),
-        BinaryOperator::GreaterOrEqual => in_common_type(alloc, BinOp::Ge, span, left, right),
-        BinaryOperator::Equal => in_common_type(alloc, BinOp::Eq, span, left, right),
-        BinaryOperator::Unequal => in_common_type(alloc, BinOp::Ne, span, left, right),
-        BinaryOperator::BitAnd => in_common_type(alloc, BinOp::And, span, left, right),
-        BinaryOperator::BitXor => in_common_type(alloc, BinOp::Xor, span, left, right),
-        BinaryOperator::BitOr => in_common_type(alloc, BinOp::Or, span, left, right),
-        BinaryOperator::And => logic(alloc, LogicOperator::And, span, left, right),
-        BinaryOperator::Or => logic(alloc, LogicOperator::Or, span, left, right),
+    match operation_of(operator) {
+        Operation::Common(operator) => in_common_type(alloc, operator, span, left, right),
+        Operation::Shift(operator) => shifting(alloc, operator, span, left, right),
+        Operation::Logic(operator) => logic(alloc, operator, span, left, right),
     }
 }
 
@@ -118,14 +151,14 @@ fn binary_value(
     span: Span,
     left: Option<Expression>,
     right: Option<Expression>,
-) -> Result<Option<Expression>, AllocError>
-    ensures { IfOk result (λ r. option_map expression_of r
-        ≡ v.lift2 (e.binary_of operator span) (option_map expression_of left)
-        (option_map expression_of right)) }
+) -> Result<Option<Value>, AllocError>
+    ensures { IfOk result (λ r. option_map value_of r
+        ≡ option_map v.Number (v.lift2 (e.binary_of operator span)
+        (option_map expression_of left) (option_map expression_of right))) }
 {
     match left {
         Some(left) => match right {
-            Some(right) => Ok(Some(binary_of(alloc, operator, span, left, right)?)),
+            Some(right) => binary_of(alloc, operator, span, left, right),
             None => {
                 drop(left);
                 Ok(None)
@@ -136,6 +169,20 @@ fn binary_value(
             Ok(None)
         }
     }
+}
+
+// The first fault of an operator on these operands, and whether it is built as a constant.
+fn judged(at: u32, left: &Found, right: &Found) -> (Option<Fault>, bool)
+    ensures fault { result.0 ≡ least_of (listed left.now.fault ++ (listed right.now.fault
+        ++ e.operands_faults at (option_map v.kind_of (option_map value_of left.now.value))
+        (option_map v.kind_of (option_map value_of right.now.value)))) }
+    ensures constant { result.1 ≡ (left.now.constant && right.now.constant) }
+{
+    let left_wrong = fails_integer(&left.value);
+    let right_wrong = fails_integer(&right.value);
+    let wrong = left_wrong || right_wrong;
+    let fault = two_or_fault(left.fault, right.fault, wrong, FaultKind::Mismatch, at);
+    (fault, left.constant && right.constant)
 }
 
 /// A binary operator on two operands.
@@ -149,19 +196,9 @@ pub fn binary(
     ensures { IfOk result (λ r. (s : s.Scope) → found_of r s
         ≡ squeezed (e.binary_found operator span (found_of left s) (found_of right s))) }
 {
-    let left_wrong = fails_integer(&left.value);
-    let right_wrong = fails_integer(&right.value);
-    let wrong = left_wrong || right_wrong;
-    let fault = two_or_fault(
-        left.fault,
-        right.fault,
-        wrong,
-        FaultKind::Mismatch,
-        span.start,
-    );
-    let constant = left.constant && right.constant;
+    let (fault, constant) = judged(span.start, &left, &right);
     let left = number_in(left.value);
     let right = number_in(right.value);
-    let value = binary_value(alloc, operator, span, left, right)?;
-    Ok(number_found(fault, value, constant))
+    let value = binary_value(alloc, operator, span, left, right);
+    found(fault, value, false, constant)
 }

@@ -1,9 +1,10 @@
 //! Casts (C17 6.5.4).
-ghost use Rattle.std.specs.Prelude.{◌≡◌, IfOk, true, option_map};
+ghost use Rattle.std.specs.Prelude.{◌≡◌, ◌++◌, ◌&&◌, IfOk, true, option_map};
 ghost use Rattle.mc_tree.specs.Views as syntax;
 ghost use Rattle.mc_typed.specs.Tree as t;
 ghost use Rattle.mc_typed.specs.Views.{effect_of, expression_of};
 ghost use Rattle.mc_faults.specs.Faults.{least_of};
+ghost use Rattle.mc_faults.specs.Kept.{listed};
 ghost use Rattle.mc_typing.specs.Scopes as s;
 ghost use Rattle.mc_typing.specs.Values as v;
 ghost use Rattle.mc_typing.specs.Expressions as e;
@@ -11,6 +12,7 @@ ghost use Rattle.mc_scopes.specs.Types.{base_of, type_of};
 ghost use Rattle.mc_scopes.specs.Found.{found_of, judged_of, kind_of, value_of};
 ghost use Rattle.mc_scopes.specs.steps.Squeezed.{squeezed};
 
+use crate::operands::{boxed, found};
 use mc_faults::{Fault, FaultKind, after_two, fault_where};
 use mc_scopes::bare::discarded_fault;
 use mc_scopes::found::{Found, Judged, kind_found};
@@ -81,10 +83,10 @@ fn discarding(
         ≡ option_map (λ a. v.Done (t.Discard a span)) (option_map effect_of operand)) }
 {
     match operand {
-        Some(operand) => {
-            let operand = Box::new(alloc, operand)?;
-            Ok(Some(Value::Done(Effect::Discard { operand, span })))
-        }
+        Some(operand) => match boxed(alloc, operand) {
+            Ok(operand) => Ok(Some(Value::Done(Effect::Discard { operand, span }))),
+            Err(error) => Err(error),
+        },
         None => Ok(None),
     }
 }
@@ -100,15 +102,15 @@ fn converting(
         (option_map expression_of operand)) }
 {
     match operand {
-        Some(operand) => {
-            let operand = Box::new(alloc, operand)?;
-            Ok(Some(Value::Number(typed::Expression::Convert {
+        Some(operand) => match boxed(alloc, operand) {
+            Ok(operand) => Ok(Some(Value::Number(typed::Expression::Convert {
                 to,
                 written: true,
                 operand,
                 span,
-            })))
-        }
+            }))),
+            Err(error) => Err(error),
+        },
         None => Ok(None),
     }
 }
@@ -163,6 +165,26 @@ fn may_cast_to_integer(of: &Option<CType>) -> bool
     }
 }
 
+// The first fault of a cast, and whether it is built as a constant.
+fn judged(
+    at: u32,
+    of: &Judged<CType>,
+    tree: &Expression<'_>,
+    operand: &Found,
+) -> (Option<Fault>, bool)
+    ensures fault { result.0 ≡ least_of (listed of.now.fault ++ (listed operand.now.fault
+        ++ e.cast_faults at (syntax.expression_of tree.now)
+        (option_map v.kind_of (option_map value_of operand.now.value))
+        (option_map type_of of.now.value))) }
+    ensures constant { result.1 ≡ (operand.now.constant
+        && e.may_cast_to_integer (option_map type_of of.now.value)) }
+{
+    let own = cast_fault(at, tree, kind_found(&operand.value), &of.value);
+    let integer = may_cast_to_integer(&of.value);
+    let fault = after_two(of.fault, operand.fault, own);
+    (fault, operand.constant && integer)
+}
+
 /// A cast to a type, of an operand that is written so.
 pub fn cast(
     alloc: Global,
@@ -175,16 +197,8 @@ pub fn cast(
         ≡ squeezed (e.cast_found span (judged_of type_of of s) (syntax.expression_of tree.now)
         (found_of operand s))) }
 {
-    let own = cast_fault(span.start, tree, kind_found(&operand.value), &of.value);
-    let fault = after_two(of.fault, operand.fault, own);
-    let integer = may_cast_to_integer(&of.value);
-    let constant = operand.constant && integer;
+    let (fault, constant) = judged(span.start, &of, tree, &operand);
     let value = cast_value(alloc, span, &of.value, operand.value);
     drop(of.value);
-    Ok(Found {
-        fault,
-        value: value?,
-        place: false,
-        constant,
-    })
+    found(fault, value, false, constant)
 }

@@ -1,21 +1,23 @@
 //! The conditional operator (C17 6.5.15).
-ghost use Rattle.std.specs.Prelude.{◌≡◌, ◌||◌, IfOk, option_map};
+ghost use Rattle.std.specs.Prelude.{◌≡◌, ◌++◌, ◌&&◌, IfOk, Some, option_map};
 ghost use Rattle.mc_typed.specs.Tree as t;
 ghost use Rattle.mc_typed.specs.Views.{expression_of, effect_of};
+ghost use Rattle.mc_faults.specs.Faults.{least_of};
+ghost use Rattle.mc_faults.specs.Kept.{listed};
 ghost use Rattle.mc_typing.specs.Scopes as s;
 ghost use Rattle.mc_typing.specs.Values as v;
 ghost use Rattle.mc_typing.specs.Expressions as e;
 ghost use Rattle.mc_scopes.specs.Found.{found_of, kind_of, value_of};
 ghost use Rattle.mc_scopes.specs.steps.Squeezed.{squeezed};
 
-use crate::operands::{both_boxed, both_converted, boxed, boxed_effect};
-use mc_faults::{FaultKind, three_or_fault};
+use crate::operands::{boxed, found, operands};
+use mc_faults::{Fault, FaultKind, three_or_fault};
 use mc_scopes::found::{Found, fails_integer, kind_found, number_in};
 use mc_scopes::kind::{Kind, fails_arm};
 use mc_scopes::parts::ValueParts;
 use mc_scopes::value::Value;
 use mc_typed::{Effect, Expression, Span};
-use mc_value::{IntType, common};
+use mc_value::common;
 use std::alloc::{AllocError, Global};
 
 fn are_arms(one: Kind<'_>, other: Kind<'_>) -> bool
@@ -40,27 +42,27 @@ fn arms_fail(one: Option<Kind<'_>>, other: Option<Kind<'_>>) -> bool
     }
 }
 
-// The same where both are of one type.
-fn choice_with(
+fn choice_of(
     alloc: Global,
-    of: IntType,
     span: Span,
     test: Expression,
     chosen: Expression,
     other: Expression,
-) -> Result<Value, AllocError>
-    ensures { IfOk result (λ r. value_of r ≡ v.Number (t.Choice (expression_of test)
-        (expression_of chosen) (expression_of other) of span)) }
+) -> Result<Option<Value>, AllocError>
+    ensures { IfOk result (λ r. option_map value_of r
+        ≡ Some (e.choice_of span (expression_of test) (expression_of chosen)
+        (expression_of other))) }
 {
-    match both_boxed(alloc, chosen, other) {
+    let of = common(chosen.integer_type(), other.integer_type());
+    match operands(alloc, of, chosen, of, other) {
         Ok((chosen, other)) => match boxed(alloc, test) {
-            Ok(test) => Ok(Value::Number(Expression::Choice {
+            Ok(test) => Ok(Some(Value::Number(Expression::Choice {
                 test,
                 chosen,
                 other,
                 of,
                 span,
-            })),
+            }))),
             Err(error) => {
                 drop(chosen);
                 drop(other);
@@ -74,44 +76,25 @@ fn choice_with(
     }
 }
 
-fn choice_of(
-    alloc: Global,
-    span: Span,
-    test: Expression,
-    chosen: Expression,
-    other: Expression,
-) -> Result<Value, AllocError>
-    ensures { IfOk result (λ r. value_of r
-        ≡ e.choice_of span (expression_of test) (expression_of chosen) (expression_of other)) }
-{
-    let of = common(chosen.integer_type(), other.integer_type());
-    match both_converted(alloc, of, chosen, other) {
-        Ok((chosen, other)) => choice_with(alloc, of, span, test, chosen, other),
-        Err(error) => {
-            drop(test);
-            Err(error)
-        }
-    }
-}
-
 fn choice_of_effects(
     alloc: Global,
     span: Span,
     test: Expression,
     chosen: Effect,
     other: Effect,
-) -> Result<Value, AllocError>
-    ensures { IfOk result (λ r. value_of r
-        ≡ e.choice_of_effects span (expression_of test) (effect_of chosen) (effect_of other)) }
+) -> Result<Option<Value>, AllocError>
+    ensures { IfOk result (λ r. option_map value_of r
+        ≡ Some (e.choice_of_effects span (expression_of test) (effect_of chosen)
+        (effect_of other))) }
 {
-    match boxed_effect(alloc, chosen) {
-        Ok(chosen) => match boxed_effect(alloc, other) {
-            Ok(other) => Ok(Value::Done(Effect::Choice {
+    match boxed(alloc, chosen) {
+        Ok(chosen) => match boxed(alloc, other) {
+            Ok(other) => Ok(Some(Value::Done(Effect::Choice {
                 test,
                 chosen,
                 other,
                 span,
-            })),
+            }))),
             Err(error) => {
                 drop(test);
                 drop(chosen);
@@ -139,7 +122,7 @@ fn number_arms(
 {
     match chosen {
         Some(chosen) => match other {
-            Some(other) => Ok(Some(choice_of(alloc, span, test, chosen, other)?)),
+            Some(other) => choice_of(alloc, span, test, chosen, other),
             None => {
                 drop(test);
                 drop(chosen);
@@ -148,6 +131,28 @@ fn number_arms(
         },
         None => {
             drop(test);
+            drop(other);
+            Ok(None)
+        }
+    }
+}
+
+// The choice where the first arm is a void expression.
+fn effect_arms(
+    alloc: Global,
+    span: Span,
+    test: Expression,
+    chosen: Effect,
+    other: Value,
+) -> Result<Option<Value>, AllocError>
+    ensures { IfOk result (λ r. option_map value_of r ≡ e.arms_value span (expression_of test)
+        (v.Done (effect_of chosen)) (value_of other)) }
+{
+    match other.into_parts() {
+        ValueParts::Done(other) => choice_of_effects(alloc, span, test, chosen, other),
+        other => {
+            drop(test);
+            drop(chosen);
             drop(other);
             Ok(None)
         }
@@ -165,21 +170,10 @@ fn arms_value(
         ≡ e.arms_value span (expression_of test) (value_of chosen) (value_of other)) }
 {
     match chosen.into_parts() {
-        ValueParts::Done(chosen) => match other.into_parts() {
-            ValueParts::Done(other) => {
-                Ok(Some(choice_of_effects(alloc, span, test, chosen, other)?))
-            }
-            other => {
-                drop(test);
-                drop(chosen);
-                drop(other);
-                Ok(None)
-            }
-        },
+        ValueParts::Done(chosen) => effect_arms(alloc, span, test, chosen, other),
         chosen => {
             let chosen = chosen.into_number();
-            let other = other.into_number();
-            number_arms(alloc, span, test, chosen, other)
+            number_arms(alloc, span, test, chosen, other.into_number())
         }
     }
 }
@@ -213,6 +207,30 @@ fn conditional_value(
     arms_value(alloc, span, test, chosen, other)
 }
 
+// The first fault of `?:` on these operands, and whether it is built as a constant.
+fn judged(at: u32, test: &Found, chosen: &Found, other: &Found) -> (Option<Fault>, bool)
+    ensures fault { result.0 ≡ least_of (listed test.now.fault ++ (listed chosen.now.fault
+        ++ (listed other.now.fault
+        ++ e.conditional_faults at (option_map v.kind_of (option_map value_of test.now.value))
+        (option_map v.kind_of (option_map value_of chosen.now.value))
+        (option_map v.kind_of (option_map value_of other.now.value))))) }
+    ensures constant { result.1
+        ≡ (test.now.constant && chosen.now.constant && other.now.constant) }
+{
+    let test_wrong = fails_integer(&test.value);
+    let arms_wrong = arms_fail(kind_found(&chosen.value), kind_found(&other.value));
+    let wrong = test_wrong || arms_wrong;
+    let fault = three_or_fault(
+        test.fault,
+        chosen.fault,
+        other.fault,
+        wrong,
+        FaultKind::Mismatch,
+        at,
+    );
+    (fault, test.constant && chosen.constant && other.constant)
+}
+
 /// `?:` on three operands.
 pub fn conditional(
     alloc: Global,
@@ -225,24 +243,8 @@ pub fn conditional(
         ≡ squeezed (e.conditional_found span (found_of test s) (found_of chosen s)
         (found_of other s))) }
 {
-    let test_wrong = fails_integer(&test.value);
-    let arms_wrong = arms_fail(kind_found(&chosen.value), kind_found(&other.value));
-    let wrong = test_wrong || arms_wrong;
-    let fault = three_or_fault(
-        test.fault,
-        chosen.fault,
-        other.fault,
-        wrong,
-        FaultKind::Mismatch,
-        span.start,
-    );
-    let constant = test.constant && chosen.constant && other.constant;
+    let (fault, constant) = judged(span.start, &test, &chosen, &other);
     let test = number_in(test.value);
-    let value = conditional_value(alloc, span, test, chosen.value, other.value)?;
-    Ok(Found {
-        fault,
-        value,
-        place: false,
-        constant,
-    })
+    let value = conditional_value(alloc, span, test, chosen.value, other.value);
+    found(fault, value, false, constant)
 }

@@ -1,5 +1,5 @@
 //! Calls (C17 6.5.2.2).
-ghost use Rattle.std.specs.Prelude.{◌≡◌, IfOk, map, not, ◌&&◌, is_none, option_map};
+ghost use Rattle.std.specs.Prelude.{◌≡◌, IfOk, Ok, map, not, ◌&&◌, is_none, option_map};
 ghost use Rattle.mc_tree.specs.Views.{name_of};
 ghost use Rattle.mc_typed.specs.Tree as t;
 ghost use Rattle.mc_typed.specs.Views.{argument_of, call_of, expression_of};
@@ -16,6 +16,7 @@ ghost use Rattle.mc_expressions.specs.steps.Callees.{given_number, meaning_of_ca
 
 use crate::arguments::add_temporary;
 use crate::callee::Callee;
+use crate::operands::found;
 use mc_faults::{Fault, FaultKind, after, fault_where, or_fault};
 use mc_scopes::found::{Found, Given};
 use mc_scopes::value::Value;
@@ -308,6 +309,29 @@ fn after_call(
     }
 }
 
+// The value of a call, and the object that it has.
+fn with_object(
+    alloc: Global,
+    scope: &mut Scope<'_>,
+    value: Result<Option<Value>, AllocError>,
+    copied: u64,
+) -> Result<Option<Value>, AllocError>
+    ensures value { IfOk result (λ r. value ≡ Ok r) }
+    ensures scope { IfOk result (λ r. scope_of scope.new
+        ≡ c.after_call (option_map value_of r) copied (scope_of scope.old)) }
+{
+    match value {
+        Ok(value) => match after_call(alloc, scope, &value, copied) {
+            Ok(()) => Ok(value),
+            Err(error) => {
+                drop(value);
+                Err(error)
+            }
+        },
+        Err(error) => Err(error),
+    }
+}
+
 /// A call with so many arguments.
 pub fn call(
     alloc: Global,
@@ -324,19 +348,9 @@ pub fn call(
 {
     let own = callee_fault(scope, name, span.start, count, callee);
     let fault = after(given.fault, own);
-    let value = call_value(scope, name, span, callee, given.value)?;
-    match after_call(alloc, scope, &value, given.copied) {
-        Ok(()) => Ok(Found {
-            fault,
-            value,
-            place: false,
-            constant: false,
-        }),
-        Err(error) => {
-            drop(value);
-            Err(error)
-        }
-    }
+    let value = call_value(scope, name, span, callee, given.value);
+    let value = with_object(alloc, scope, value, given.copied);
+    found(fault, value, false, false)
 }
 
 /// A comma operator, which elsewhere than between the clauses of a `for` is an outside form.

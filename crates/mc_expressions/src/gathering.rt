@@ -1,5 +1,5 @@
 //! Arguments, gathered one after another.
-ghost use Rattle.std.specs.Prelude.{◌≡◌, ◌++◌, [], map, Some, None, IsTrue, IsFalse, IfOk, option_map, option_copied};
+ghost use Rattle.std.specs.Prelude.{◌≡◌, ◌++◌, [], map, Some, None, IsTrue, IsFalse, IfOk, Ok, option_map, option_copied};
 ghost use Rattle.mc_typed.specs.Tree.{no_arguments};
 ghost use Rattle.mc_typed.specs.Views.{argument_of};
 ghost use Rattle.mc_typing.specs.Calls.{judged_given};
@@ -61,6 +61,32 @@ fn push_argument(
     }
 }
 
+// Arguments, where they could be made and their cells counted.
+fn with_cells(
+    fault: Option<Fault>,
+    value: Result<Option<Vec<Argument>>, AllocError>,
+    copied: Option<u64>,
+) -> Result<Given<Vec<Argument>>, AllocError>
+    ensures fault { IfOk result (λ r. r.fault ≡ fault) }
+    ensures value { IfOk result (λ r. value ≡ Ok r.value) }
+    ensures copied { IfOk result (λ r. copied ≡ Some r.copied) }
+{
+    match value {
+        Ok(value) => match copied {
+            Some(copied) => Ok(Given {
+                fault,
+                value,
+                copied,
+            }),
+            None => {
+                drop(value);
+                Err(AllocError)
+            }
+        },
+        Err(error) => Err(error),
+    }
+}
+
 /// One more argument after those so far.
 pub fn gather(
     given: Given<Vec<Argument>>,
@@ -69,18 +95,10 @@ pub fn gather(
     ensures { IfOk result (λ r. (s u : s.Scope) → given_of items_of r u
         ≡ squeezed_given (extended (given_of items_of given s) (given_of argument_of one u))) }
 {
-    let Some(copied) = given.copied.checked_add(one.copied) else {
-        drop(given);
-        drop(one);
-        return Err(AllocError);
-    };
     let fault = join(given.fault, one.fault);
-    let value = push_argument(given.value, one.value)?;
-    Ok(Given {
-        fault,
-        value,
-        copied,
-    })
+    let copied = given.copied.checked_add(one.copied);
+    let value = push_argument(given.value, one.value);
+    with_cells(fault, value, copied)
 }
 
 // The first fault of two lists.

@@ -1,5 +1,5 @@
 //! Names (C17 6.5.1).
-ghost use Rattle.std.specs.Prelude.{◌≡◌, IfOk, option_copied, option_map, option_and_then};
+ghost use Rattle.std.specs.Prelude.{◌≡◌, IfOk, Some, option_copied, option_map, option_and_then};
 ghost use Rattle.mc_value.specs.declared.int_type.IntType.TheVariants as IntType;
 ghost use Rattle.mc_typed.specs.Tree as t;
 ghost use Rattle.mc_typed.specs.Views.{place_of};
@@ -13,6 +13,7 @@ ghost use Rattle.mc_scopes.specs.Found.{found_of, value_of};
 ghost use Rattle.mc_scopes.specs.steps.Squeezed.{squeezed};
 ghost use Rattle.mc_expressions.specs.steps.Names.{named_found};
 
+use crate::operands::found;
 use mc_faults::{Fault, FaultKind};
 use mc_scopes::found::Found;
 use mc_scopes::value::Value;
@@ -93,6 +94,21 @@ fn stored(place: Place, of: &Option<CType>) -> Result<Option<Value>, AllocError>
     }
 }
 
+// The array that an array parameter names.
+fn borrowed(array: u32, element: &CType, span: Span) -> Result<Option<Value>, AllocError>
+    ensures { IfOk result (λ r. option_map value_of r
+        ≡ Some (v.Borrowed array (type_of element.now) span)) }
+{
+    match element.try_clone() {
+        Ok(element) => Ok(Some(Value::Borrowed {
+            array,
+            element,
+            span,
+        })),
+        Err(error) => Err(error),
+    }
+}
+
 // An enumeration constant, where its value is known.
 fn enumerator(value: Option<i128>, span: Span) -> Option<Value>
     ensures { option_map value_of result
@@ -115,14 +131,7 @@ fn value_of_name(span: Span, meaning: &Meaning) -> Result<Option<Value>, AllocEr
     match meaning {
         Meaning::Automatic { slot, of } => stored(Place::Local { slot: *slot, span }, of),
         Meaning::Static { slot, of } => stored(Place::Static { slot: *slot, span }, of),
-        Meaning::Borrowed { array, element } => {
-            let element = element.try_clone()?;
-            Ok(Some(Value::Borrowed {
-                array: *array,
-                element,
-                span,
-            }))
-        }
+        Meaning::Borrowed { array, element } => borrowed(*array, element, span),
         Meaning::Constant { value } => Ok(enumerator(*value, span)),
         Meaning::Function { .. } => Ok(Some(Value::Designator)),
         Meaning::Typedef { .. } => Ok(None),
@@ -146,11 +155,7 @@ pub fn name(span: Span, meaning: Option<&Meaning>) -> Result<Found, AllocError>
         ≡ squeezed (named_found span
         (option_map scopes.meaning_of (option_copied meaning.entry)) s)) }
 {
-    let value = value_named(span, meaning)?;
-    Ok(Found {
-        fault: name_fault(meaning, span.start),
-        value,
-        place: is_object(meaning),
-        constant: is_enumerator(meaning),
-    })
+    let fault = name_fault(meaning, span.start);
+    let value = value_named(span, meaning);
+    found(fault, value, is_object(meaning), is_enumerator(meaning))
 }

@@ -1,30 +1,19 @@
-//! Operands of one operator. Where one cannot be made, the others are let go by calls of `drop`:
-//! written out at each exit, their drops would make each proof several times as long.
-ghost use Rattle.std.specs.Prelude.{◌≡◌, IfOk};
+//! What operators are made of. Where one part cannot be made, the others are let go by calls of
+//! `drop`: written out at each exit, their drops would make each proof several times as long.
+ghost use Rattle.std.specs.Prelude.{◌≡◌, IfOk, Ok};
 ghost use Rattle.mc_typed.specs.Views.{expression_of};
 ghost use Rattle.mc_typing.specs.Expressions as e;
 
-use mc_scopes::conversions::{convert_to, promote};
-use mc_typed::{Effect, Expression, Place};
+use mc_faults::Fault;
+use mc_scopes::conversions::convert_to;
+use mc_scopes::found::Found;
+use mc_scopes::value::Value;
+use mc_typed::Expression;
 use mc_value::IntType;
 use std::alloc::{AllocError, Global};
 
-/// An expression in a box.
-pub(crate) fn boxed(alloc: Global, one: Expression) -> Result<Box<Expression>, AllocError>
-    ensures { IfOk result (λ r. r.value ≡ one) }
-{
-    Ok(Box::new(alloc, one)?)
-}
-
-/// A place in a box.
-pub(crate) fn boxed_place(alloc: Global, one: Place) -> Result<Box<Place>, AllocError>
-    ensures { IfOk result (λ r. r.value ≡ one) }
-{
-    Ok(Box::new(alloc, one)?)
-}
-
-/// An effect in a box.
-pub(crate) fn boxed_effect(alloc: Global, one: Effect) -> Result<Box<Effect>, AllocError>
+/// A value in a box.
+pub(crate) fn boxed<T: Drop>(alloc: Global, one: T) -> Result<Box<T>, AllocError>
     ensures { IfOk result (λ r. r.value ≡ one) }
 {
     Ok(Box::new(alloc, one)?)
@@ -54,18 +43,35 @@ pub(crate) fn both_boxed(
     }
 }
 
-/// Both, converted to a type.
-pub(crate) fn both_converted(
+/// An operand, converted to a type, in a box.
+pub(crate) fn operand(
     alloc: Global,
     to: IntType,
-    left: Expression,
-    right: Expression,
-) -> Result<(Expression, Expression), AllocError>
-    ensures left { IfOk result (λ r. expression_of r.0 ≡ e.convert_to to (expression_of left)) }
-    ensures right { IfOk result (λ r. expression_of r.1 ≡ e.convert_to to (expression_of right)) }
+    one: Expression,
+) -> Result<Box<Expression>, AllocError>
+    ensures { IfOk result (λ r. expression_of r.value ≡ e.convert_to to (expression_of one)) }
 {
-    match convert_to(alloc, to, left) {
-        Ok(left) => match convert_to(alloc, to, right) {
+    match convert_to(alloc, to, one) {
+        Ok(one) => boxed(alloc, one),
+        Err(error) => Err(error),
+    }
+}
+
+/// Two operands, each converted to its type.
+pub(crate) fn operands(
+    alloc: Global,
+    left_to: IntType,
+    left: Expression,
+    right_to: IntType,
+    right: Expression,
+) -> Result<(Box<Expression>, Box<Expression>), AllocError>
+    ensures left { IfOk result (λ r. expression_of r.0.value
+        ≡ e.convert_to left_to (expression_of left)) }
+    ensures right { IfOk result (λ r. expression_of r.1.value
+        ≡ e.convert_to right_to (expression_of right)) }
+{
+    match operand(alloc, left_to, left) {
+        Ok(left) => match operand(alloc, right_to, right) {
             Ok(right) => Ok((left, right)),
             Err(error) => {
                 drop(left);
@@ -79,26 +85,25 @@ pub(crate) fn both_converted(
     }
 }
 
-/// Both, promoted.
-pub(crate) fn both_promoted(
-    alloc: Global,
-    left: Expression,
-    right: Expression,
-) -> Result<(Expression, Expression), AllocError>
-    ensures left { IfOk result (λ r. expression_of r.0 ≡ e.promote (expression_of left)) }
-    ensures right { IfOk result (λ r. expression_of r.1 ≡ e.promote (expression_of right)) }
+/// What is found of a node, where its value could be made.
+pub(crate) fn found(
+    fault: Option<Fault>,
+    value: Result<Option<Value>, AllocError>,
+    place: bool,
+    constant: bool,
+) -> Result<Found, AllocError>
+    ensures fault { IfOk result (λ r. r.fault ≡ fault) }
+    ensures value { IfOk result (λ r. value ≡ Ok r.value) }
+    ensures place { IfOk result (λ r. r.place ≡ place) }
+    ensures constant { IfOk result (λ r. r.constant ≡ constant) }
 {
-    match promote(alloc, left) {
-        Ok(left) => match promote(alloc, right) {
-            Ok(right) => Ok((left, right)),
-            Err(error) => {
-                drop(left);
-                Err(error)
-            }
-        },
-        Err(error) => {
-            drop(right);
-            Err(error)
-        }
+    match value {
+        Ok(value) => Ok(Found {
+            fault,
+            value,
+            place,
+            constant,
+        }),
+        Err(error) => Err(error),
     }
 }

@@ -1,10 +1,11 @@
 //! Members of structures (C17 6.5.2.3).
-ghost use Rattle.std.specs.Prelude.{◌≡◌, ℕ, List, IfOk, IfSome, Some, map, slice_get, option_map, option_and_then};
+ghost use Rattle.std.specs.Prelude.{◌≡◌, ◌++◌, ℕ, List, IfOk, IfSome, Some, map, slice_get, option_map, option_and_then};
 ghost use Rattle.mc_tree.specs.Views.{name_of};
 ghost use Rattle.mc_typed.specs.Layout as objects;
 ghost use Rattle.mc_typed.specs.Tree as t;
 ghost use Rattle.mc_typed.specs.Views.{place_of};
 ghost use Rattle.mc_faults.specs.Faults.{least_of};
+ghost use Rattle.mc_faults.specs.Kept.{listed};
 ghost use Rattle.mc_typing.specs.Types as types;
 ghost use Rattle.mc_typing.specs.Values as v;
 ghost use Rattle.mc_typing.specs.Expressions as e;
@@ -14,7 +15,7 @@ ghost use Rattle.mc_scopes.specs.Views.{scope_of, structure_of};
 ghost use Rattle.mc_scopes.specs.Found.{found_of, kind_of, value_of};
 ghost use Rattle.mc_scopes.specs.steps.Squeezed.{squeezed};
 
-use crate::operands::boxed_place;
+use crate::operands::{boxed, found};
 use mc_faults::{Fault, FaultKind, after, fault_where, or_fault};
 use mc_scopes::found::{Found, kind_found};
 use mc_scopes::kind::{Kind, fails_structure};
@@ -95,6 +96,22 @@ fn member_fault(
     or_fault(own, undeclared, FaultKind::Undeclared, name.span.start)
 }
 
+// The first fault of `.` on an operand.
+fn selection_fault(
+    at: u32,
+    name: &Identifier<'_>,
+    structures: &[Structure<'_>],
+    operand: &Found,
+) -> Option<Fault>
+    ensures { result ≡ least_of (listed operand.now.fault ++ e.member_faults at (name_of name.now)
+        (map structure_of structures.now) operand.now.place
+        (option_map v.kind_of (option_map value_of operand.now.value))) }
+{
+    let kind = kind_found(&operand.value);
+    let own = member_fault(at, name, structures, operand.place, kind);
+    after(operand.fault, own)
+}
+
 // A member of a place, by its number, its type and where it begins.
 fn typed_member(
     alloc: Global,
@@ -103,11 +120,11 @@ fn typed_member(
     span: Span,
     number: u32,
     offset: u32,
-) -> Result<Value, AllocError>
-    ensures { IfOk result (λ r. value_of r
-        ≡ v.Stored (t.Member (place_of place) number offset span) (type_of of)) }
+) -> Result<Option<Value>, AllocError>
+    ensures { IfOk result (λ r. option_map value_of r
+        ≡ Some (v.Stored (t.Member (place_of place) number offset span) (type_of of))) }
 {
-    match boxed_place(alloc, place) {
+    match boxed(alloc, place) {
         Ok(structure) => {
             let place = Place::Member {
                 structure,
@@ -115,7 +132,7 @@ fn typed_member(
                 offset,
                 span,
             };
-            Ok(Value::Stored(place, of))
+            Ok(Some(Value::Stored(place, of)))
         }
         Err(error) => {
             drop(of);
@@ -142,7 +159,7 @@ fn member_at(
             match of.try_clone() {
                 Ok(of) => {
                     let of = of.qualified(is_const);
-                    Ok(Some(typed_member(alloc, place, of, span, number, member.offset)?))
+                    typed_member(alloc, place, of, span, number, member.offset)
                 }
                 Err(error) => {
                     drop(place);
@@ -188,6 +205,30 @@ fn stored_member(
     }
 }
 
+fn member_in(
+    alloc: Global,
+    structures: &[Structure<'_>],
+    name: &Identifier<'_>,
+    span: Span,
+    value: Value,
+) -> Result<Option<Value>, AllocError>
+    ensures { IfOk result (λ r. option_map value_of r
+        ≡ e.member_of (map structure_of structures.now) (name_of name.now) span
+        (value_of value)) }
+{
+    match value.into_parts() {
+        ValueParts::Stored(place, of) => {
+            let member = stored_member(alloc, structures, name, span, place, &of);
+            drop(of);
+            member
+        }
+        other => {
+            drop(other);
+            Ok(None)
+        }
+    }
+}
+
 fn member_of(
     alloc: Global,
     structures: &[Structure<'_>],
@@ -200,17 +241,7 @@ fn member_of(
         (option_map value_of value)) }
 {
     match value {
-        Some(value) => match value.into_parts() {
-            ValueParts::Stored(place, of) => {
-                let member = stored_member(alloc, structures, name, span, place, &of);
-                drop(of);
-                member
-            }
-            other => {
-                drop(other);
-                Ok(None)
-            }
-        },
+        Some(value) => member_in(alloc, structures, name, span, value),
         None => Ok(None),
     }
 }
@@ -227,15 +258,7 @@ pub fn member(
         ≡ squeezed (e.member_found (name_of name.now) span
         (found_of operand (scope_of scope.now)))) }
 {
-    let kind = kind_found(&operand.value);
-    let own = member_fault(span.start, name, &scope.structures, operand.place, kind);
-    let fault = after(operand.fault, own);
-    let place = operand.place;
-    let value = member_of(alloc, &scope.structures, name, span, operand.value)?;
-    Ok(Found {
-        fault,
-        value,
-        place,
-        constant: false,
-    })
+    let fault = selection_fault(span.start, name, &scope.structures, &operand);
+    let value = member_of(alloc, &scope.structures, name, span, operand.value);
+    found(fault, value, operand.place, false)
 }

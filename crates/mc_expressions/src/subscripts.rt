@@ -1,8 +1,10 @@
 //! Elements of arrays (C17 6.5.2.1).
-ghost use Rattle.std.specs.Prelude.{◌≡◌, IfOk, map, option_map};
+ghost use Rattle.std.specs.Prelude.{◌≡◌, ◌++◌, IfOk, Some, map, option_map};
 ghost use Rattle.mc_typed.specs.Layout as objects;
 ghost use Rattle.mc_typed.specs.Tree as t;
 ghost use Rattle.mc_typed.specs.Views.{expression_of, place_of};
+ghost use Rattle.mc_faults.specs.Faults.{least_of};
+ghost use Rattle.mc_faults.specs.Kept.{listed};
 ghost use Rattle.mc_typing.specs.Types as types;
 ghost use Rattle.mc_typing.specs.Values as v;
 ghost use Rattle.mc_typing.specs.Expressions as e;
@@ -11,8 +13,8 @@ ghost use Rattle.mc_scopes.specs.Views.{scope_of, structure_of};
 ghost use Rattle.mc_scopes.specs.Found.{found_of, value_of};
 ghost use Rattle.mc_scopes.specs.steps.Squeezed.{squeezed};
 
-use crate::operands::{boxed, boxed_place};
-use mc_faults::{FaultKind, two_or_fault};
+use crate::operands::{boxed, found};
+use mc_faults::{Fault, FaultKind, two_or_fault};
 use mc_scopes::found::{Found, fails_integer, kind_found, number_in};
 use mc_scopes::kind::fails_array;
 use mc_scopes::parts::ValueParts;
@@ -21,17 +23,31 @@ use mc_scopes::{CType, Scope, Structure, cells};
 use mc_typed::{Expression, Place, Span};
 use std::alloc::{AllocError, Global};
 
-// The type of an element, whose lengths are these.
-fn element_type(alloc: Global, of: &CType, rest: &[u64]) -> Result<CType, AllocError>
-    ensures { IfOk result (λ r. type_of r ≡ record (type_of of.now) { lengths = rest.now }) }
+// The length of an array, which 32 bits count within the limits, and the type of its elements,
+// whose lengths are these.
+fn elements(
+    alloc: Global,
+    of: &CType,
+    length: u64,
+    rest: &[u64],
+) -> Result<(u32, CType), AllocError>
+    ensures length { IfOk result (λ r. r.0 ≡ length) }
+    ensures element { IfOk result (λ r. type_of r.1
+        ≡ record (type_of of.now) { lengths = rest.now }) }
 {
+    let Ok(length) = u32::try_from(length) else {
+        return Err(AllocError);
+    };
     let mut lengths = Vec::new(alloc);
     match lengths.extend_from_slice(rest) {
-        Ok(()) => Ok(CType {
-            base: of.base,
-            is_const: of.is_const,
-            lengths,
-        }),
+        Ok(()) => {
+            let element = CType {
+                base: of.base,
+                is_const: of.is_const,
+                lengths,
+            };
+            Ok((length, element))
+        }
         Err(error) => {
             drop(lengths);
             Err(error)
@@ -51,7 +67,7 @@ fn item(
     ensures { IfOk result (λ r. place_of r
         ≡ t.Item (place_of array) length stride (expression_of index) span) }
 {
-    match boxed_place(alloc, array) {
+    match boxed(alloc, array) {
         Ok(array) => match boxed(alloc, index) {
             Ok(index) => Ok(Place::Item {
                 array,
@@ -81,14 +97,15 @@ fn item_of_type(
     element: CType,
     index: Expression,
     span: Span,
-) -> Result<Value, AllocError>
-    ensures { IfOk result (λ r. value_of r ≡ v.Stored (t.Item (place_of array) length
+) -> Result<Option<Value>, AllocError>
+    ensures { IfOk result (λ r. option_map value_of r
+        ≡ Some (v.Stored (t.Item (place_of array) length
         (objects.cells (types.layout_of (map structure_of structures.now) (type_of element)))
-        (expression_of index) span) (type_of element)) }
+        (expression_of index) span) (type_of element))) }
 {
     match cells(structures, &element) {
         Ok(stride) => match item(alloc, array, length, stride, index, span) {
-            Ok(place) => Ok(Value::Stored(place, element)),
+            Ok(place) => Ok(Some(Value::Stored(place, element))),
             Err(error) => {
                 drop(element);
                 Err(error)
@@ -100,16 +117,6 @@ fn item_of_type(
             drop(index);
             Err(error)
         }
-    }
-}
-
-// A length of an array that 32 bits count, as each within the limits.
-fn counted(length: u64) -> Result<u32, AllocError>
-    ensures { IfOk result (λ n. n ≡ length) }
-{
-    match u32::try_from(length) {
-        Ok(count) => Ok(count),
-        Err(_) => Err(AllocError),
     }
 }
 
@@ -126,28 +133,16 @@ fn stored_element(
         of.now.lengths.items (expression_of index) span) }
 {
     match of.lengths.as_slice() {
-        [length, rest @ ..] => {
-            match counted(*length) {
-                Ok(length) => match element_type(alloc, of, rest) {
-                    Ok(element) => {
-                        let item = item_of_type(
-                            alloc, structures, place, length, element, index, span,
-                        )?;
-                        Ok(Some(item))
-                    }
-                    Err(error) => {
-                        drop(place);
-                        drop(index);
-                        Err(error)
-                    }
-                },
-                Err(error) => {
-                    drop(place);
-                    drop(index);
-                    Err(error)
-                }
+        [length, rest @ ..] => match elements(alloc, of, *length, rest) {
+            Ok((length, element)) => {
+                item_of_type(alloc, structures, place, length, element, index, span)
             }
-        }
+            Err(error) => {
+                drop(place);
+                drop(index);
+                Err(error)
+            }
+        },
         _ => {
             drop(place);
             drop(index);
@@ -164,11 +159,11 @@ fn borrowed_element(
     element: CType,
     index: Expression,
     span: Span,
-) -> Result<Value, AllocError>
-    ensures { IfOk result (λ r. value_of r
-        ≡ v.Stored (t.Parameter array
+) -> Result<Option<Value>, AllocError>
+    ensures { IfOk result (λ r. option_map value_of r
+        ≡ Some (v.Stored (t.Parameter array
         (objects.cells (types.layout_of (map structure_of structures.now) (type_of element)))
-        (expression_of index) span) (type_of element)) }
+        (expression_of index) span) (type_of element))) }
 {
     match cells(structures, &element) {
         Ok(stride) => match boxed(alloc, index) {
@@ -179,7 +174,7 @@ fn borrowed_element(
                     index,
                     span,
                 };
-                Ok(Value::Stored(place, element))
+                Ok(Some(Value::Stored(place, element)))
             }
             Err(error) => {
                 drop(element);
@@ -212,8 +207,7 @@ fn element_of(
             element
         }
         ValueParts::Borrowed { array, element, .. } => {
-            let element = borrowed_element(alloc, structures, array, element, index, span)?;
-            Ok(Some(element))
+            borrowed_element(alloc, structures, array, element, index, span)
         }
         other => {
             drop(other);
@@ -249,6 +243,18 @@ fn index_value(
     }
 }
 
+fn index_fault(at: u32, array: &Found, index: &Found) -> Option<Fault>
+    ensures { result ≡ least_of (listed array.now.fault ++ (listed index.now.fault
+        ++ e.index_faults at array.now.place
+        (option_map v.kind_of (option_map value_of array.now.value))
+        (option_map v.kind_of (option_map value_of index.now.value)))) }
+{
+    let no_array = fails_array(kind_found(&array.value));
+    let no_integer = fails_integer(&index.value);
+    let wrong = !array.place || no_array || no_integer;
+    two_or_fault(array.fault, index.fault, wrong, FaultKind::Mismatch, at)
+}
+
 /// `[ ]` on an array and an index.
 pub fn index(
     alloc: Global,
@@ -261,23 +267,8 @@ pub fn index(
         ≡ squeezed (e.index_found span (found_of array (scope_of scope.now))
         (found_of index (scope_of scope.now)))) }
 {
-    let no_array = fails_array(kind_found(&array.value));
-    let no_integer = fails_integer(&index.value);
-    let wrong = !array.place || no_array || no_integer;
-    let fault = two_or_fault(
-        array.fault,
-        index.fault,
-        wrong,
-        FaultKind::Mismatch,
-        span.start,
-    );
-    let place = array.place;
+    let fault = index_fault(span.start, &array, &index);
     let index = number_in(index.value);
-    let value = index_value(alloc, &scope.structures, span, array.value, index)?;
-    Ok(Found {
-        fault,
-        value,
-        place,
-        constant: false,
-    })
+    let value = index_value(alloc, &scope.structures, span, array.value, index);
+    found(fault, value, array.place, false)
 }

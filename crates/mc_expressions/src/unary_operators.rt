@@ -1,17 +1,22 @@
 //! Unary operators (C17 6.5.3.3).
-ghost use Rattle.std.specs.Prelude.{◌≡◌, IfOk, option_map};
+ghost use Rattle.std.specs.Prelude.{◌≡◌, ◌++◌, ◌&&◌, IfOk, Some, option_map, option_and_then};
+ghost use Rattle.mc_typed.specs.Tree as t;
 ghost use Rattle.mc_typed.specs.Views.{expression_of};
+ghost use Rattle.mc_faults.specs.Faults.{least_of};
+ghost use Rattle.mc_faults.specs.Kept.{listed};
 ghost use Rattle.mc_typing.specs.Scopes as s;
+ghost use Rattle.mc_typing.specs.Values as v;
 ghost use Rattle.mc_typing.specs.Expressions as e;
-ghost use Rattle.mc_scopes.specs.Found.{found_of};
+ghost use Rattle.mc_scopes.specs.Found.{found_of, value_of};
 ghost use Rattle.mc_scopes.specs.steps.Squeezed.{squeezed};
 
-use mc_faults::{FaultKind, or_fault};
-use mc_scopes::conversions::promote;
-use mc_scopes::found::{Found, fails_integer, number_found, number_in};
+use crate::operands::{boxed, found, operand};
+use mc_faults::{Fault, FaultKind, or_fault};
+use mc_scopes::found::{Found, fails_integer, number_in};
+use mc_scopes::value::Value;
 use mc_tree::UnaryOperator;
 use mc_typed::{Expression, Span};
-use mc_value::UnOp;
+use mc_value::{UnOp, promote};
 use std::alloc::{AllocError, Global};
 
 fn is_arithmetic(operator: UnaryOperator) -> bool
@@ -27,44 +32,70 @@ fn promoting(
     alloc: Global,
     operator: UnOp,
     span: Span,
-    operand: Expression,
-) -> Result<Expression, AllocError>
-    ensures { IfOk result (λ r.
-        expression_of r ≡ e.promoting operator span (expression_of operand)) }
+    one: Expression,
+) -> Result<Option<Value>, AllocError>
+    ensures { IfOk result (λ r. option_map value_of r
+        ≡ Some (v.Number (e.promoting operator span (expression_of one)))) }
 {
-    let operand = promote(alloc, operand)?;
-    let of = operand.integer_type();
-    let operand = Box::new(alloc, operand)?;
-    Ok(Expression::Unary {
-        operator,
-        of,
-        operand,
-        span,
-    })
+    let to = promote(one.integer_type());
+    match operand(alloc, to, one) {
+        Ok(operand) => {
+            let of = operand.integer_type();
+            Ok(Some(Value::Number(Expression::Unary {
+                operator,
+                of,
+                operand,
+                span,
+            })))
+        }
+        Err(error) => Err(error),
+    }
 }
 
-fn unary_of(
+fn negating(alloc: Global, span: Span, one: Expression) -> Result<Option<Value>, AllocError>
+    ensures { IfOk result (λ r. option_map value_of r
+        ≡ Some (v.Number (t.Not (expression_of one) span))) }
+{
+    match boxed(alloc, one) {
+        Ok(operand) => Ok(Some(Value::Number(Expression::Not { operand, span }))),
+        Err(error) => Err(error),
+    }
+}
+
+fn unary_value(
     alloc: Global,
     operator: UnaryOperator,
     span: Span,
-    operand: Expression,
-) -> Result<Option<Expression>, AllocError>
-    ensures { IfOk result (λ r.
-        option_map expression_of r ≡ e.unary_of operator span (expression_of operand)) }
+    one: Option<Expression>,
+) -> Result<Option<Value>, AllocError>
+    ensures { IfOk result (λ r. option_map value_of r ≡ option_map v.Number
+        (option_and_then (e.unary_of operator span) (option_map expression_of one))) }
 {
+    let Some(one) = one else {
+        return Ok(None);
+    };
     match operator {
-        UnaryOperator::Plus => Ok(Some(promoting(alloc, UnOp::Plus, span, operand)?)),
-        UnaryOperator::Minus => Ok(Some(promoting(alloc, UnOp::Minus, span, operand)?)),
-        UnaryOperator::Complement => Ok(Some(promoting(alloc, UnOp::Flip, span, operand)?)),
-        UnaryOperator::Not => {
-            let operand = Box::new(alloc, operand)?;
-            Ok(Some(Expression::Not { operand, span }))
-        }
+        UnaryOperator::Plus => promoting(alloc, UnOp::Plus, span, one),
+        UnaryOperator::Minus => promoting(alloc, UnOp::Minus, span, one),
+        UnaryOperator::Complement => promoting(alloc, UnOp::Flip, span, one),
+        UnaryOperator::Not => negating(alloc, span, one),
         UnaryOperator::Dereference | UnaryOperator::Address => {
-            drop(operand);
+            drop(one);
             Ok(None)
         }
     }
+}
+
+// The first fault of an operator on this operand, and whether it is built as a constant.
+fn judged(at: u32, operator: UnaryOperator, operand: &Found) -> (Option<Fault>, bool)
+    ensures fault { result.0 ≡ least_of (listed operand.now.fault ++ e.unary_faults operator at
+        (option_map v.kind_of (option_map value_of operand.now.value))) }
+    ensures constant { result.1 ≡ (e.is_arithmetic operator && operand.now.constant) }
+{
+    let arithmetic = is_arithmetic(operator);
+    let wrong = !arithmetic || fails_integer(&operand.value);
+    let fault = or_fault(operand.fault, wrong, FaultKind::Mismatch, at);
+    (fault, arithmetic && operand.constant)
 }
 
 /// A unary operator on an operand.
@@ -77,13 +108,7 @@ pub fn unary(
     ensures { IfOk result (λ r. (s : s.Scope) → found_of r s
         ≡ squeezed (e.unary_found operator span (found_of operand s))) }
 {
-    let arithmetic = is_arithmetic(operator);
-    let wrong = !arithmetic || fails_integer(&operand.value);
-    let fault = or_fault(operand.fault, wrong, FaultKind::Mismatch, span.start);
-    let constant = arithmetic && operand.constant;
-    let value = match number_in(operand.value) {
-        Some(number) => unary_of(alloc, operator, span, number)?,
-        None => None,
-    };
-    Ok(number_found(fault, value, constant))
+    let (fault, constant) = judged(span.start, operator, &operand);
+    let value = unary_value(alloc, operator, span, number_in(operand.value));
+    found(fault, value, false, constant)
 }

@@ -10,9 +10,9 @@ use Rattle.mc_expressions.proofs.update.step.Goals as goal
 
 pub returns : goal.returns
 returns c =
-    IfOk-weaker c.update.result _ _ (λ r is s.
+    IfOk-weaker c.made.result _ _ (λ r is s.
     is s
     ∙ ap (λ (o : AssignmentOperator). squeezed (e.update_found o c.args.span (found_of c.args.operand s) (found_of c.one.result s))) c.step_operator.ensures
     ∙ ap (λ (y : v.Found). squeezed (e.update_found (e.step_operator c.args.operator) c.args.span (found_of c.args.operand s) y))
     (one_found c.one.result c.args.at s c.one.ensures.fault c.one.ensures.value c.one.ensures.place c.one.ensures.constant))
-    c.update.ensures
+    c.made.ensures
