@@ -1,6 +1,7 @@
 -- What is found of specifiers, members, enumerators and parameters, from what is found of their
 -- parts: of the faults of each the least alone is kept.
-use Rattle.std.proofs.Common.{◌≡◌, ◌∙◌, ℕ, ℤ, pos, Bool, false, List, [], Option, Some, ap}
+use Rattle.std.proofs.Common.{◌≡◌, ◌∙◌, ℕ, ℤ, pos, Bool, false, List, [], Option, Some, Result, IfOk, ap}
+use Rattle.std.proofs.lemmas.Result.{IfOk-weaker}
 use Rattle.mc_span.specs.declared.span.Span.{Span}
 use Rattle.mc_tree.specs.Tree.{span_of}
 use Rattle.mc_tree.specs.Tree as t
@@ -9,12 +10,13 @@ use Rattle.mc_typing.specs.Types.{CType, Member, ParameterKind}
 use Rattle.mc_typing.specs.Scopes.{Scope, prototype, with_objects_of}
 use Rattle.mc_typing.specs.Values.{Judged, Found}
 use Rattle.mc_typing.specs.Declarators.{Listed, Opened, opened, structure_judged, enumeration_faults, enumeration_scope, enumeration_judged, valued_enumerator_judged, member_listed, function_member_listed, name_start, parameter_listed}
-use Rattle.mc_typing.specs.Judgement.{judge, judge_specifier, judge_specifiers, judge_members, judge_enumerator, judge_enumerators, judge_declarator, judge_lengths, judge_parameter, judge_parameters, typed_by, uncalled}
-use Rattle.mc_scopes.specs.Prototypes.{counted, cut_to}
-use Rattle.mc_declarations.specs.Declarations.{squeezed_listed}
+use Rattle.mc_typing.specs.Judgement.{judge, judge_specifier, judge_specifiers, judge_members, judge_enumerator, judge_enumerators, judge_declarator, judge_lengths, judge_parameter, judge_parameter_list, judge_parameters, typed_by, uncalled}
+use Rattle.mc_scopes.specs.Prototypes.{AroundPrototype, around_prototype, counted, cut_to, prototype_left_by}
+use Rattle.mc_declarations.specs.declared.parameters.Parameters.{Parameters}
+use Rattle.mc_declarations.specs.Declarations.{listed_parameters, squeezed_listed}
 use Rattle.mc_scopes.specs.steps.Squeezed.{squeezed, squeezed_part}
 use Rattle.mc_declarations.proofs.DeclarationNodes.{typed_node, structure_node, enumeration_node, valued_enumerator_node, member_node, function_member_node, parameter_node}
-use Rattle.mc_declarations.proofs.Growth.{uncalled_cut}
+use Rattle.mc_declarations.proofs.Growth.{prototype_left, uncalled_cut}
 use Rattle.mc_types.proofs.Arms.{one_arm}
 
 pub in_typed : (at : ℕ) (alone : Bool) (all : t.Specifiers) (s : Scope) (x : Judged CType)
@@ -105,3 +107,34 @@ in_parameter all stars name lengths span s u x y z e f g h =
     ∙ ap (λ (v : Scope). squeezed_listed (parameter_listed name at lengths p.value
     (squeezed_part p).faults (record (squeezed_part q) { scope = v }))) cut
     ∙ parameter_node name at lengths p.value p.faults (uncalled s q)
+
+-- of a function that is no definition
+pub in_prototype : {E : Type 0} (r : Result Parameters E) (all : t.ParameterList) (p q s : Scope)
+    → IfOk r (λ z. listed_parameters z q ≡ squeezed_listed (judge_parameter_list all p))
+    → p ≡ prototype s
+    → IfOk r (λ z. (u : Scope) → listed_parameters z u
+    ≡ squeezed_listed (record (judge_parameter_list all (prototype s)) { scope = u }))
+in_prototype r all p q s h e =
+    IfOk-weaker r (λ z. listed_parameters z q ≡ squeezed_listed (judge_parameter_list all p))
+    (λ z. (u : Scope) → listed_parameters z u
+    ≡ squeezed_listed (record (judge_parameter_list all (prototype s)) { scope = u }))
+    (λ z k u.
+    ap (λ (l : Listed (Option ParameterKind)).
+    let v : Listed (Option ParameterKind) = record l { scope = u } in v)
+    (k ∙ ap (λ (v : Scope). squeezed_listed (judge_parameter_list all v)) e)) h
+
+-- nothing of them stays in scope
+pub prototype_ends : {E : Type 0} (r : Result Parameters E) (all : t.ParameterList)
+    (p q s u : Scope) (o : AroundPrototype)
+    → IfOk r (λ z. listed_parameters z q ≡ squeezed_listed (judge_parameter_list all p))
+    → p ≡ prototype s → u ≡ prototype_left_by o q → o ≡ around_prototype s
+    → IfOk r (λ z. u ≡ s)
+prototype_ends r all p q s u o h e f g =
+    IfOk-weaker r (λ z. listed_parameters z q ≡ squeezed_listed (judge_parameter_list all p))
+    (λ z. u ≡ s)
+    (λ z k.
+    f ∙ ap (λ (v : Scope). prototype_left_by o v) (ap (λ (l : Listed (Option ParameterKind)). l.scope)
+    (k ∙ ap (λ (v : Scope). squeezed_listed (judge_parameter_list all v)) e))
+    ∙ ap (λ (v : AroundPrototype).
+    prototype_left_by v (judge_parameter_list all (prototype s)).scope) g
+    ∙ prototype_left (t.Listed all (record { start = 0; end = 0 })) s) h

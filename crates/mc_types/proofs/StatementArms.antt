@@ -169,21 +169,24 @@ in_loop_parts size span x test step body p y z v q r u hx hy hz hv =
 
 -- ---- labels
 
-pub in_case : (w : Around) (e : t.Expression) (label : Span) (one : t.Statement) (span : Span)
-    (s : Scope) (x : Found) (y z : Judged Statements)
+pub in_case_label : (e : t.Expression) (label : Span) (s : Scope) (x : Found)
     → x ≡ squeezed (judge e s)
-    → y ≡ squeezed_part (case_judged label (span_of e).start x)
+    → squeezed_part (case_judged label (span_of e).start x)
+    ≡ squeezed_part (case_judged label (span_of e).start (judge e s))
+in_case_label e label s x h =
+    one_arm squeezed squeezed_part (case_judged label (span_of e).start)
+    (λ v. case_node label (span_of e).start v) (judge e s) x h
+
+pub in_case : (w : Around) (e : t.Expression) (label : Span) (one : t.Statement) (span : Span)
+    (s : Scope) (y z : Judged Statements)
+    → y ≡ squeezed_part (case_judged label (span_of e).start (judge e s))
     → z ≡ squeezed_part (judge_statement (inside w) one y.scope)
     → squeezed_part (followed_judged (record y { scope = z.scope }) z)
     ≡ squeezed_part (judge_statement w (t.Case e label one span) s)
-in_case w e label one span s x y z hx hy hz =
-    let p : Judged Statements = case_judged label (span_of e).start (judge e s) in
-    let same : y ≡ squeezed_part p =
-    hy ∙ ap (λ (v : Found). squeezed_part (case_judged label (span_of e).start v)) hx
-    ∙ case_node label (span_of e).start (judge e s) in
+in_case w e label one span s y z hy hz =
     two_arm squeezed_part squeezed_part squeezed_part after_part moved_part followed_judged
-    (λ v r u. followed_node v r u) p (λ (u : Scope). judge_statement (inside w) one u) y z z.scope
-    same hz refl
+    (λ v r u. followed_node v r u) (case_judged label (span_of e).start (judge e s))
+    (λ (u : Scope). judge_statement (inside w) one u) y z z.scope hy hz refl
 
 pub in_default : (w : Around) (label : Span) (one : t.Statement) (span : Span) (s : Scope)
     (y z : Judged Statements)

@@ -5,19 +5,25 @@ use Rattle.std.specs.declared.alloc.Global.{Global}
 use Rattle.mc_tree.specs.Tree as t
 use Rattle.mc_typed.specs.declared.expressions.Argument.{Argument}
 use Rattle.mc_typed.specs.declared.statements.Statement.{Statement}
+use Rattle.mc_typing.specs.Types as types
 use Rattle.mc_typing.specs.Types.{ParameterKind}
 use Rattle.mc_typing.specs.Scopes.{Scope}
+use Rattle.mc_typing.specs.Values as v
 use Rattle.mc_typing.specs.Calls.{first_of, rest_of}
+use Rattle.mc_typing.specs.Declarators.{Listed, joined}
 use Rattle.mc_typing.specs.Declarations.{both_lists}
 use Rattle.mc_typing.specs.Statements as w
 use Rattle.mc_typing.specs.Statements.{followed_judged}
 use Rattle.mc_typing.specs.Bodies.{judge_block}
-use Rattle.mc_typing.specs.Judgement.{judge_arguments, judge_lengths}
+use Rattle.mc_typing.specs.Judgement.{judge_arguments, judge_lengths, specifiers_judged}
 use Rattle.mc_scopes.specs.declared.found.Given.{Given}
 use Rattle.mc_scopes.specs.declared.found.Judged.{Judged}
 use Rattle.mc_scopes.specs.Found.{judged_of}
 use Rattle.mc_scopes.specs.Given.{given_of, items_of}
-use Rattle.mc_declarations.specs.Declarations.{lengths_in}
+use Rattle.mc_scopes.specs.declared.types.CType.{CType}
+use Rattle.mc_scopes.specs.Types.{type_of}
+use Rattle.mc_declarations.specs.declared.parameters.Parameters.{Parameters}
+use Rattle.mc_declarations.specs.Declarations.{lengths_in, listed_parameters, squeezed_listed}
 use Rattle.mc_scopes.specs.Statements.{statements_of}
 use Rattle.mc_scopes.specs.steps.Squeezed.{squeezed_part}
 use Rattle.mc_expressions.specs.steps.Gathered.{gathered, squeezed_given}
@@ -46,3 +52,28 @@ TakesItem a f s y u =
     (rest : t.BlockItems)
     → squeezed_part (followed_judged (judged_of statements_of y u) (judge_block a rest u))
     ≡ squeezed_part (judge_block a (f rest) s)
+
+-- the same, with those before it: x in s becomes y in u
+abbrev pub FollowsItem : w.Around → (t.BlockItems → t.BlockItems) → Judged (Vec Statement Global)
+    → Scope → Judged (Vec Statement Global) → Scope → Type 0
+FollowsItem a f x s y u =
+    (rest : t.BlockItems)
+    → squeezed_part (followed_judged (judged_of statements_of y u) (judge_block a rest u))
+    ≡ squeezed_part (followed_judged (judged_of statements_of x s) (judge_block a (f rest) s))
+
+-- a specifier of which p is found, after those before it
+abbrev pub TakesSpecifier : v.Judged types.CType → Judged CType → Scope → Judged CType → Scope
+    → Type 0
+TakesSpecifier p x s y u =
+    (rest : Scope → v.Judged types.CType)
+    → squeezed_part (specifiers_judged (judged_of type_of y u) (rest u))
+    ≡ squeezed_part (specifiers_judged (judged_of type_of x s)
+    (specifiers_judged p (rest p.scope)))
+
+-- a parameter of which p is found, after those before it
+abbrev pub TakesParameter : Listed (Option ParameterKind) → Parameters → Scope → Parameters → Scope
+    → Type 0
+TakesParameter p x s y u =
+    (rest : Scope → Listed (Option ParameterKind))
+    → squeezed_listed (joined (listed_parameters y u) (rest u))
+    ≡ squeezed_listed (joined (listed_parameters x s) (joined p (rest p.scope)))

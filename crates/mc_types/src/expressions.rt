@@ -3,11 +3,10 @@
 //!
 //! Where a part may fail after another was found, the found one is handed on with the part's result
 //! (`steps`): an exit that lets it go here would make the proof of the walk twice as long.
-ghost use Rattle.std.specs.Prelude.{◌≡◌, IfOk, Some, false, pos, map, option_copied, option_map};
+ghost use Rattle.std.specs.Prelude.{◌≡◌, IfOk, Some, false, pos, map, option_map};
 ghost use Rattle.mc_tree.specs.Views.{name_of, expression_of, expressions_from, specifier_of, specifiers_from, member_of, members_from, enumerator_of, enumerators_from, declarator_of, declarators_from, array_length_of, lengths_from, parameter_of, parameters_from};
 ghost use Rattle.mc_tree.specs.Tree as t;
 ghost use Rattle.mc_typing.specs.Scopes as s;
-ghost use Rattle.mc_typing.specs.Declarators as d;
 ghost use Rattle.mc_typing.specs.Judgement as j;
 ghost use Rattle.mc_scopes.specs.Types.{type_of, kind_of};
 ghost use Rattle.mc_scopes.specs.Listed.{listed_of};
@@ -17,10 +16,10 @@ ghost use Rattle.mc_scopes.specs.Given.{arguments_of, given_of};
 ghost use Rattle.mc_declarations.specs.Declarations.{lengths_in, listed_members, listed_parameters, number_judged, squeezed_listed};
 ghost use Rattle.mc_scopes.specs.steps.Squeezed.{squeezed, squeezed_part};
 ghost use Rattle.mc_expressions.specs.steps.Gathered.{squeezed_given};
-ghost use Rattle.mc_types.specs.Loops.{TakesArgument, TakesLength};
+ghost use Rattle.mc_types.specs.Loops.{TakesLength};
 
 use crate::leaves::{callee, character, named};
-use crate::steps::expressions as steps;
+use crate::steps::{declarators as declared, expressions as steps};
 use mc_declarations::Parameters;
 use mc_faults::Fault;
 use mc_scopes::found::{Found, Given, Judged};
@@ -154,8 +153,8 @@ fn call<'a>(
         (expressions_from (map expression_of trees.now)) span) (scope_of scope.old))) }
 {
     let callee = callee(scope, name)?;
-    let given = arguments(alloc, scope, trees, callee.parameters())?;
-    mc_expressions::call(alloc, scope, name, trees.len(), span, &callee, given)
+    let given = arguments(alloc, scope, trees, callee.parameters());
+    steps::call(alloc, scope, name, trees.len(), span, callee, given)
 }
 
 /// Arguments, for these parameters.
@@ -173,28 +172,18 @@ fn arguments<'a>(
     let mut given = mc_expressions::none_given(alloc);
     let mut left = parameters;
     for tree in trees {
-        given = more_arguments(alloc, scope, given, mc_expressions::first_of(left), tree)?;
+        let found = expression(alloc, scope, tree);
+        given = steps::argument(
+            alloc,
+            scope,
+            given,
+            mc_expressions::first_of(left),
+            tree,
+            found,
+        )?;
         left = mc_expressions::rest_of(left);
     }
     Ok(mc_expressions::given_for(given, left))
-}
-
-/// Arguments so far, and one more for its parameter where there is one.
-#[cycle(judge)]
-fn more_arguments<'a>(
-    alloc: Global,
-    scope: &mut Scope<'a>,
-    given: Given<Vec<Argument>>,
-    parameter: Option<&ParameterKind>,
-    tree: &Expression<'a>,
-) -> Result<Given<Vec<Argument>>, AllocError>
-    ensures { IfOk result (λ r. TakesArgument
-        (option_map kind_of (option_copied parameter.entry)) (expression_of tree.now) given
-        (scope_of scope.old) r (scope_of scope.new)) }
-{
-    let found = expression(alloc, scope, tree)?;
-    let one = mc_expressions::argument(alloc, scope, tree.span().start, parameter, found)?;
-    mc_expressions::gather(given, one)
 }
 
 /// The type of specifiers that stand at `at` (C17 6.7, 6.7.7).
@@ -228,8 +217,8 @@ fn specifiers<'a>(
 {
     let mut found = mc_declarations::no_specifier();
     for tree in trees {
-        let one = specifier(alloc, scope, alone, tree)?;
-        found = mc_declarations::specifiers(found, one);
+        let one = specifier(alloc, scope, alone, tree);
+        found = declared::specifiers(found, one)?;
     }
     Ok(found)
 }
@@ -258,8 +247,8 @@ fn specifier<'a>(
         } => {
             let opened = mc_declarations::open_structure(scope, tag)?;
             let mut parts = Members::new(alloc);
-            let fault = members(alloc, scope, list, &mut parts)?;
-            mc_declarations::close_structure(alloc, scope, opened, fault, parts)
+            let fault = members(alloc, scope, list, &mut parts);
+            declared::structure(alloc, scope, opened, fault, parts)
         }
         Specifier::EnumerationTag { tag, span } => {
             Ok(mc_declarations::enumeration_tag(alloc, scope, tag, *span))
@@ -309,8 +298,8 @@ fn member<'a>(
         (scope_of scope.old))) }
 {
     let of = typed(alloc, scope, tree.span.start, false, &tree.specifiers)?;
-    let fault = declarators(alloc, scope, &of.value, &tree.declarators, parts)?;
-    Ok(mc_declarations::first_fault(of.fault, fault))
+    let fault = declarators(alloc, scope, &of.value, &tree.declarators, parts);
+    declared::member(of, fault)
 }
 
 /// Declarators of members of this type.
@@ -358,21 +347,16 @@ fn declarator<'a>(
             mc_declarations::structure_member(alloc, scope, base, name, list, given, parts)
         }
         Declarator::EmptyFunction { name, .. } | Declarator::VoidFunction { name, .. } => {
-            mc_declarations::function_member(
-                alloc,
-                scope,
-                name,
-                &mc_declarations::no_parameters(alloc),
-                parts,
-            )
+            let none = mc_declarations::no_parameters(alloc);
+            declared::function_member(alloc, scope, name, Ok(none), parts)
         }
         Declarator::Function {
             name,
             parameters: list,
             ..
         } => {
-            let found = prototype(alloc, scope, list)?;
-            mc_declarations::function_member(alloc, scope, name, &found, parts)
+            let found = prototype(alloc, scope, list);
+            declared::function_member(alloc, scope, name, found, parts)
         }
     }
 }
@@ -391,9 +375,9 @@ pub(crate) fn prototype<'a>(
     ensures scope { IfOk result (λ _. scope_of scope.new ≡ scope_of scope.old) }
 {
     let prototype = scope.enter_declarator(alloc);
-    let found = parameters(alloc, scope, trees)?;
+    let found = parameters(alloc, scope, trees);
     scope.leave_declarator(prototype);
-    Ok(found)
+    found
 }
 
 /// Enumerators, counted from 0 (C17 6.7.2.2).
@@ -432,10 +416,8 @@ fn enumerator<'a>(
     match tree {
         Enumerator::Bare { name } => mc_declarations::enumerator(scope, name, value),
         Enumerator::Valued { name, value: given } => {
-            let found = expression(alloc, scope, given)?;
-            let next = mc_declarations::valued_enumerator(scope, name, given.span().start, &found);
-            drop(found);
-            next
+            let found = expression(alloc, scope, given);
+            declared::valued_enumerator(scope, name, given, found)
         }
     }
 }
@@ -472,10 +454,8 @@ fn more_lengths<'a>(
     match tree {
         ArrayLength::Absent => Ok(list),
         ArrayLength::Given { value } => {
-            let found = expression(alloc, scope, value)?;
-            let more = mc_declarations::more_lengths(list, value.span().start, &found);
-            drop(found);
-            more
+            let found = expression(alloc, scope, value);
+            declared::more_lengths(list, value, found)
         }
     }
 }
@@ -493,8 +473,8 @@ pub(crate) fn parameters<'a>(
 {
     let mut list = mc_declarations::no_parameters(alloc);
     for tree in trees {
-        let one = parameter(alloc, scope, tree)?;
-        list = mc_declarations::join_parameters(list, one)?;
+        let one = parameter(alloc, scope, tree);
+        list = declared::parameters(list, one)?;
     }
     Ok(list)
 }
@@ -511,17 +491,6 @@ fn parameter<'a>(
 {
     let before = scope.objects_so_far();
     let of = typed(alloc, scope, tree.span.start, false, &tree.specifiers)?;
-    let given = lengths(alloc, scope, &tree.lengths)?;
-    let at = mc_declarations::name_start(&tree.name, tree.span);
-    mc_declarations::parameter(
-        alloc,
-        scope,
-        before,
-        &tree.name,
-        at,
-        &tree.lengths,
-        of.fault,
-        &of.value,
-        given,
-    )
+    let given = lengths(alloc, scope, &tree.lengths);
+    declared::parameter(alloc, scope, before, tree, of, given)
 }

@@ -3,10 +3,12 @@
 //! Where a part may fail after another was found, the found one is handed on with the part's result
 //! (`steps`): an exit that lets it go here would make the proof of the walk twice as long.
 ghost use Rattle.std.specs.Prelude.{◌≡◌, IfOk, map, option_copied, option_map};
+ghost use Rattle.mc_tree.specs.Tree as t;
 ghost use Rattle.mc_tree.specs.Units as units;
 ghost use Rattle.mc_tree.specs.Views.{expression_of, expressions_from};
 ghost use Rattle.mc_typed.specs.Views.{effect_of, start_of};
 ghost use Rattle.mc_typing.specs.Scopes as s;
+ghost use Rattle.mc_typing.specs.Judgement as j;
 ghost use Rattle.mc_typing.specs.Statements as w;
 ghost use Rattle.mc_typing.specs.Bodies as b;
 ghost use Rattle.mc_scopes.specs.Blocks as blocks;
@@ -50,10 +52,7 @@ pub(crate) fn statement<'a>(
             steps::compound(alloc, *span, found)
         }
         Statement::Null { span } => mc_statements::null_statement(alloc, *span),
-        Statement::Expression { value, span } => {
-            let found = effect(alloc, scope, value)?;
-            mc_statements::effect_statement(alloc, *span, found)
-        }
+        Statement::Expression { value, span } => expression_statement(alloc, scope, value, *span),
         Statement::If { test, chosen, span } => {
             let test = expression(alloc, scope, test)?;
             let chosen = inner(alloc, scope, around.inside(), chosen);
@@ -105,8 +104,7 @@ pub(crate) fn statement<'a>(
             body,
             ..
         } => {
-            let found = expression(alloc, scope, value)?;
-            let first = mc_jumps::case_label(alloc, scope, *label, value.span().start, found)?;
+            let first = case_label(alloc, scope, value, *label)?;
             let rest = statement(alloc, scope, around.inside(), body);
             steps::followed(first, rest)
         }
@@ -122,13 +120,7 @@ pub(crate) fn statement<'a>(
         Statement::Goto { span, .. } => Ok(mc_statements::goto_statement(*span)),
         Statement::Break { span } => mc_jumps::break_statement(alloc, around, *span),
         Statement::Continue { span } => mc_jumps::continue_statement(alloc, around, *span),
-        Statement::Return { value, span } => match value {
-            Some(value) => {
-                let found = expression(alloc, scope, value)?;
-                mc_jumps::return_statement(alloc, scope, around.result, *span, found)
-            }
-            None => mc_jumps::return_nothing(alloc, around.result, *span),
-        },
+        Statement::Return { value, span } => return_statement(alloc, scope, around, value, *span),
     }
 }
 
@@ -164,8 +156,8 @@ pub(crate) fn block<'a>(
 {
     let mut list = mc_statements::no_statements(alloc);
     for tree in trees {
-        let one = block_item(alloc, scope, around, tree)?;
-        list = mc_statements::followed(list, one)?;
+        let one = block_item(alloc, scope, around, tree);
+        list = steps::with_item(list, one)?;
     }
     Ok(list)
 }
@@ -187,6 +179,59 @@ fn block_item<'a>(
             mc_statements::declaration_statement(alloc, local.span, found)
         }
         BlockItem::Statement { statement: one } => statement(alloc, scope, around, one),
+    }
+}
+
+// ---- statements without statements in them, and labels
+
+/// An expression statement (C17 6.8.3).
+fn expression_statement<'a>(
+    alloc: Global,
+    scope: &mut Scope<'a>,
+    tree: &Expression<'a>,
+    span: Span,
+) -> Result<Judged<Vec<typed::Statement>>, AllocError>
+    ensures { (a : w.Around) → IfOk result (λ r. judged_of statements_of r (scope_of scope.new)
+        ≡ squeezed_part (b.judge_statement a
+        (t.ExpressionStatement (expression_of tree.now) span) (scope_of scope.old))) }
+{
+    let found = effect(alloc, scope, tree)?;
+    mc_statements::effect_statement(alloc, span, found)
+}
+
+/// The label of a `case` with this value (C17 6.8.1).
+fn case_label<'a>(
+    alloc: Global,
+    scope: &mut Scope<'a>,
+    tree: &Expression<'a>,
+    label: Span,
+) -> Result<Judged<Vec<typed::Statement>>, AllocError>
+    ensures { let e = expression_of tree.now in
+        IfOk result (λ r. judged_of statements_of r (scope_of scope.new) ≡ squeezed_part
+        (w.case_judged label (t.span_of e).start (j.judge e (scope_of scope.old)))) }
+{
+    let found = expression(alloc, scope, tree)?;
+    mc_jumps::case_label(alloc, scope, label, tree.span().start, found)
+}
+
+/// A `return` statement (C17 6.8.6.4).
+fn return_statement<'a>(
+    alloc: Global,
+    scope: &mut Scope<'a>,
+    around: Around,
+    value: &Option<Box<Expression<'a>>>,
+    span: Span,
+) -> Result<Judged<Vec<typed::Statement>>, AllocError>
+    ensures { IfOk result (λ r. judged_of statements_of r (scope_of scope.new)
+        ≡ squeezed_part (b.judge_statement (around_of around)
+        (t.Return (units.option_of value.now) span) (scope_of scope.old))) }
+{
+    match value {
+        Some(tree) => {
+            let found = expression(alloc, scope, tree)?;
+            mc_jumps::return_statement(alloc, scope, around.result, span, found)
+        }
+        None => mc_jumps::return_nothing(alloc, around.result, span),
     }
 }
 

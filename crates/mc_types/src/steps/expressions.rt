@@ -1,19 +1,93 @@
 //! Expressions of several operands (C17 6.5).
-ghost use Rattle.std.specs.Prelude.{◌≡◌, ℕ, IfOk, Ok, false};
+ghost use Rattle.std.specs.Prelude.{◌≡◌, ℕ, IfOk, Ok, false, option_copied, option_map};
 ghost use Rattle.mc_tree.specs.Tree as t;
-ghost use Rattle.mc_tree.specs.Views.{expression_of};
+ghost use Rattle.mc_tree.specs.Views.{expression_of, name_of};
+ghost use Rattle.mc_typed.specs.Tree.{Arguments};
 ghost use Rattle.mc_typing.specs.Scopes as s;
+ghost use Rattle.mc_typing.specs.Calls as c;
 ghost use Rattle.mc_typing.specs.Judgement as j;
-ghost use Rattle.mc_scopes.specs.Types.{type_of};
+ghost use Rattle.mc_scopes.specs.Given.{arguments_of, given_of};
+ghost use Rattle.mc_scopes.specs.Types.{kind_of, type_of};
 ghost use Rattle.mc_scopes.specs.Views.{scope_of};
 ghost use Rattle.mc_scopes.specs.Found.{found_of, judged_of};
 ghost use Rattle.mc_scopes.specs.steps.Squeezed.{squeezed, squeezed_part};
+ghost use Rattle.mc_expressions.specs.steps.Callees.{meaning_of_callee};
+ghost use Rattle.mc_expressions.specs.steps.Gathered.{squeezed_given};
+ghost use Rattle.mc_types.specs.Loops.{TakesArgument};
 
-use mc_scopes::found::{Found, Judged};
-use mc_scopes::{CType, Scope};
-use mc_tree::{AssignmentOperator, BinaryOperator, Expression};
-use mc_typed::Span;
+use mc_expressions::Callee;
+use mc_scopes::found::{Found, Given, Judged};
+use mc_scopes::{CType, ParameterKind, Scope};
+use mc_tree::{AssignmentOperator, BinaryOperator, Expression, Identifier};
+use mc_typed::{Argument, Span};
 use std::alloc::{AllocError, Global};
+
+/// Arguments so far, and one more for its parameter where there is one.
+pub(crate) fn argument(
+    alloc: Global,
+    scope: &mut Scope<'_>,
+    given: Given<Vec<Argument>>,
+    parameter: Option<&ParameterKind>,
+    tree: &Expression<'_>,
+    found: Result<Found, AllocError>,
+) -> Result<Given<Vec<Argument>>, AllocError>
+    ensures { (first : s.Scope)
+        → IfOk found (λ y. found_of y (scope_of scope.old)
+        ≡ squeezed (j.judge (expression_of tree.now) first))
+        → IfOk result (λ r. TakesArgument (option_map kind_of (option_copied parameter.entry))
+        (expression_of tree.now) given first r (scope_of scope.new)) }
+{
+    match found {
+        Ok(found) => {
+            match mc_expressions::argument(alloc, scope, tree.span().start, parameter, found) {
+                Ok(one) => mc_expressions::gather(given, one),
+                Err(error) => {
+                    drop(given);
+                    Err(error)
+                }
+            }
+        }
+        Err(error) => {
+            drop(given);
+            Err(error)
+        }
+    }
+}
+
+/// A call with so many arguments (C17 6.5.2.2).
+pub(crate) fn call(
+    alloc: Global,
+    scope: &mut Scope<'_>,
+    name: &Identifier<'_>,
+    count: usize,
+    span: Span,
+    callee: Callee,
+    given: Result<Given<Vec<Argument>>, AllocError>,
+) -> Result<Found, AllocError>
+    ensures { (all : t.Expressions) (first : s.Scope)
+        → count ≡ c.count_of all
+        → c.parameters_of (meaning_of_callee callee)
+        ≡ c.parameters_of (s.meaning_of (name_of name.now) first)
+        → ((n : t.Name) (k : ℕ) (at : Span) (x : c.Given Arguments)
+        → c.call_found n k at (meaning_of_callee callee) x
+        ≡ c.call_found n k at (s.meaning_of (name_of name.now) first) x)
+        → IfOk given (λ y. given_of arguments_of y (scope_of scope.old) ≡ squeezed_given
+        (j.judge_arguments all (c.parameters_of (meaning_of_callee callee)) first))
+        → IfOk result (λ r. found_of r (scope_of scope.new)
+        ≡ squeezed (j.judge (t.Call (name_of name.now) all span) first)) }
+{
+    match given {
+        Ok(given) => {
+            let found = mc_expressions::call(alloc, scope, name, count, span, &callee, given);
+            drop(callee);
+            found
+        }
+        Err(error) => {
+            drop(callee);
+            Err(error)
+        }
+    }
+}
 
 /// An element of an array (C17 6.5.2.1).
 pub(crate) fn index(

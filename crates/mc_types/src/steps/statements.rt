@@ -14,6 +14,7 @@ ghost use Rattle.mc_scopes.specs.Found.{found_of, judged_of};
 ghost use Rattle.mc_scopes.specs.Statements.{statements_of};
 ghost use Rattle.mc_scopes.specs.steps.Squeezed.{squeezed, squeezed_part};
 ghost use Rattle.mc_types.specs.Headings.{ArePartsOf};
+ghost use Rattle.mc_types.specs.Loops.{FollowsItem, TakesItem};
 
 use mc_scopes::found::{Found, Judged};
 use mc_scopes::{Block, Scope};
@@ -247,6 +248,24 @@ pub(crate) fn followed(
 {
     match rest {
         Ok(rest) => mc_statements::followed(list, rest),
+        Err(error) => {
+            drop(list);
+            Err(error)
+        }
+    }
+}
+
+/// Statements of a block, and those of the next item.
+pub(crate) fn with_item(
+    list: Judged<Vec<Statement>>,
+    one: Result<Judged<Vec<Statement>>, AllocError>,
+) -> Result<Judged<Vec<Statement>>, AllocError>
+    ensures { (a : w.Around) (f : t.BlockItems → t.BlockItems) (first last : s.Scope)
+        → IfOk one (λ y. TakesItem a f first y last)
+        → IfOk result (λ r. FollowsItem a f list first r last) }
+{
+    match one {
+        Ok(one) => mc_statements::followed(list, one),
         Err(error) => {
             drop(list);
             Err(error)

@@ -1,38 +1,33 @@
 -- Each exit of a node, and each turn of a loop over parts.
-use Rattle.std.proofs.Common.{◌∙◌, ◌+◌, false, drop, map, option_map, length, List, ℕ, Option, refl, sym, ap, rules, inl, inr}
+use Rattle.std.proofs.Common.{◌∙◌, ◌+◌, drop, map, option_map, List, ℕ, Option, refl, sym, ap, rules, inl, inr}
 use Rattle.std.proofs.lemmas.Result.{IfOk-weaker}
-use Rattle.mc_tree.specs.Tree.{span_of}
 use Rattle.mc_tree.specs.Tree as tree
 use Rattle.mc_tree.specs.Views.{name_of, tag_of, array_length_of, declarator_of, declarators_from, enumerator_of, enumerators_from, expression_of, expressions_from, lengths_from, member_of, members_from, parameter_of, parameters_from, specifier_of, specifiers_from}
-use Rattle.mc_typed.specs.Views.{argument_of}
 use Rattle.mc_typed.specs.Tree.{Argument}
 use Rattle.mc_typing.specs.Values.{Judged}
-use Rattle.mc_typing.specs.Declarators.{Listed, function_member_listed}
-use Rattle.mc_typing.specs.Scopes.{Scope, prototype}
+use Rattle.mc_typing.specs.Declarators.{Listed}
 use Rattle.mc_typing.specs.Types.{CType, ParameterKind}
 use Rattle.mc_typing.specs.Calls.{Given}
 use Rattle.mc_typing.specs.Declarators.{after_faults, joined}
 use Rattle.mc_typing.specs.Declarations.{both_lists}
-use Rattle.mc_typing.specs.Judgement.{after, judge, judge_arguments, judge_declarator, judge_declarators, judge_enumerator, judge_enumerators, judge_lengths, judge_member, judge_members, judge_parameter, judge_parameter_list, judge_specifier, judge_specifiers, specifiers_judged, typed_by}
+use Rattle.mc_typing.specs.Judgement.{after, judge_arguments, judge_declarator, judge_declarators, judge_enumerator, judge_enumerators, judge_lengths, judge_member, judge_members, judge_parameter, judge_parameter_list, judge_specifier, judge_specifiers, specifiers_judged, typed_by}
 use Rattle.mc_scopes.specs.Types.{kind_of, type_of}
 use Rattle.mc_scopes.specs.Listed.{listed_of}
-use Rattle.mc_scopes.specs.Prototypes.{counted_of, cut_to, prototype_left_by, prototype_of}
+use Rattle.mc_scopes.specs.Prototypes.{prototype_of}
 use Rattle.mc_scopes.specs.Views.{scope_of}
 use Rattle.mc_scopes.specs.Found.{found_of, judged_of}
 use Rattle.mc_scopes.specs.Given.{arguments_of, given_of, items_of}
-use Rattle.mc_declarations.specs.Declarations.{lengths_in, listed_members, listed_parameters, number_judged, opened_of, squeezed_listed}
-use Rattle.mc_expressions.specs.steps.Callees.{meaning_of_callee}
+use Rattle.mc_declarations.specs.Declarations.{lengths_in, listed_members, listed_parameters, number_judged, squeezed_listed}
 use Rattle.mc_expressions.specs.steps.Gathered.{gathered, squeezed_given}
 use Rattle.mc_faults.specs.Kept.{listed}
 use Rattle.mc_scopes.specs.steps.Squeezed.{squeezed_part}
 use Rattle.mc_declarations.proofs.DeclarationNodes.{lengths_end, parameters_end, specifiers_end}
-use Rattle.mc_declarations.proofs.Growth.{prototype_left}
-use Rattle.mc_types.proofs.Exits.{at_ok, found_as, found_each, found_with}
-use Rattle.mc_types.proofs.Trees.{array_length_of-Given, declarator_of-EmptyFunction, declarator_of-Function, declarator_of-VoidFunction, declarator_of-Object, enumerator_of-Valued, expression_of-Assignment, expression_of-Binary, expression_of-Cast, expression_of-Character, expression_of-Constant, expression_of-Comma, expression_of-Conditional, expression_of-Index, expression_of-Member, expression_of-PostfixStep, expression_of-PrefixStep, expression_of-Unary, member_of-parts, parameter_of-parts, specifier_of-Enumeration, specifier_of-EnumerationTag, specifier_of-Structure, specifier_of-Word}
-use Rattle.mc_types.proofs.Arms.{argument_turn, count_listed, none_before, in_call, in_comma, in_member, in_postfix, in_prefix, in_unary}
-use Rattle.mc_types.proofs.Declarators.{in_enumeration, in_function_member, in_object_member, in_parameter, in_structure, in_typed, in_valued}
+use Rattle.mc_types.proofs.Exits.{at_ok, found_as, found_with}
+use Rattle.mc_types.proofs.Trees.{array_length_of-Absent, array_length_of-Given, declarator_of-EmptyFunction, declarator_of-Function, declarator_of-VoidFunction, declarator_of-Object, enumerator_of-Bare, enumerator_of-Valued, expression_of-Assignment, expression_of-Binary, expression_of-Call, expression_of-Cast, expression_of-Character, expression_of-Constant, expression_of-Comma, expression_of-Conditional, expression_of-Index, expression_of-Member, expression_of-Name, expression_of-Parenthesized, expression_of-PostfixStep, expression_of-PrefixStep, expression_of-Unary, member_of-parts, specifier_of-Enumeration, specifier_of-EnumerationTag, specifier_of-Structure, specifier_of-StructureTag, specifier_of-TypedefName, specifier_of-Word}
+use Rattle.mc_types.proofs.Arms.{count_listed, none_before, in_comma, in_member, in_postfix, in_prefix, in_unary}
+use Rattle.mc_types.proofs.Declarators.{in_prototype, prototype_ends, in_enumeration, in_object_member, in_typed}
 use Rattle.mc_types.proofs.Turns.{last_turn, next_turn}
-use Rattle.mc_types.proofs.Parts.{joined_first, judged_last, judged_turn, lengths_turn, listed_after, listed_turn, lists_first, parameters_turn, specifiers_first, specifiers_turn, squeezed_judged, squeezed_last, squeezed_parameters}
+use Rattle.mc_types.proofs.Parts.{joined_first, judged_last, judged_turn, listed_turn, lists_first, specifiers_first, squeezed_judged, squeezed_last, squeezed_parameters}
 use Rattle.mc_types.proofs.expressions.+judge.Goals as goal
 
 pub expression-returns-in_ok-object-in-Member : goal.expression-returns-in_ok-object-in-Member
@@ -121,13 +116,23 @@ expression-returns-in_ok-given-in-Comma t c =
     rw (w.is, expression_of-Comma w.operands w.span)
     (c.comma.ensures u ∙ in_comma w.span (expressions_from (map expression_of w.operands.items)) (scope_of c.args.scope.now) (given_of arguments_of c.in_ok-given-in-Comma.given u) (rw c.deref-in-Comma.ensures.value at c.in_ok-given-in-Comma.ensures))
 
+pub expression-returns-in-Name : goal.expression-returns-in-Name
+expression-returns-in-Name t c =
+    rw (c.in-Name.is, expression_of-Name c.in-Name.name) c.named.ensures
+
+pub expression-returns-in-Parenthesized : goal.expression-returns-in-Parenthesized
+expression-returns-in-Parenthesized t c =
+    let w = c.in-Parenthesized in
+    rw (w.is, expression_of-Parenthesized w.inner w.span) (rw c.deref.ensures at c.expression.ensures)
+
+pub expression-returns-in-Call : goal.expression-returns-in-Call
+expression-returns-in-Call t c =
+    let w = c.in-Call in
+    rw (w.is, expression_of-Call w.name w.given w.span) (rw c.deref-in-Call.ensures.value at c.call.ensures)
+
 pub call-returns : goal.call-returns
 call-returns t c =
-    let s = scope_of c.args.scope.now in
-    let u = scope_of c.arguments.new.scope in
-    let all = expressions_from (map expression_of c.args.trees.now) in
-    found_as c.call.result (λ z. found_of z (scope_of c.call.new.scope)) _ _ c.call.ensures
-    (in_call (name_of c.args.name.now) (length c.args.trees.now) c.args.span all s (meaning_of_callee c.in_ok-callee.callee) (map kind_of c.parameters.result.now) (given_of arguments_of c.in_ok-given.given u) (count_listed c.args.trees.now) c.parameters.ensures c.in_ok-callee.ensures.parameters c.in_ok-callee.ensures.found c.in_ok-given.ensures)
+    c.call.ensures (expressions_from (map expression_of c.args.trees.now)) (scope_of c.args.scope.now) (count_listed c.args.trees.now) c.in_ok-callee.ensures.parameters c.in_ok-callee.ensures.found (rw c.parameters.ensures at c.arguments-given.ensures)
 
 pub arguments-loop-tree-init : goal.arguments-loop-tree-init
 arguments-loop-tree-init t c =
@@ -138,21 +143,15 @@ arguments-loop-tree-init t c =
 
 pub arguments-loop-tree-preserved : goal.arguments-loop-tree-preserved
 arguments-loop-tree-preserved t c =
+    let s = scope_of c.loop-tree.scope in
     let ps = map kind_of c.loop-tree.left.now in
     let later = expressions_from (map expression_of (drop (c.loop-tree.tree-index + 1) c.args.trees.now)) in
     next_turn c.args.trees.now c.loop-tree.tree-index c.tree-item.result (λ ts. squeezed_given (gathered (given_of items_of c.loop-tree.given (scope_of c.loop-tree.scope)) (judge_arguments (expressions_from (map expression_of ts)) (map kind_of c.loop-tree.left.now) (scope_of c.loop-tree.scope)))) _ _ (search rules) c.tree-item.is
-    (rw c.rest_of-left.ensures (c.in_ok-given.ensures ps later (sym c.first_of.ensures))) c.loop-tree.invariant
+    (rw c.rest_of-left.ensures (c.in_ok-given.ensures s c.expression-found.ensures ps later (sym c.first_of.ensures))) c.loop-tree.invariant
 
 pub arguments-returns : goal.arguments-returns
 arguments-returns t c =
     c.given_for.ensures (scope_of c.loop-tree.scope) ∙ last_turn c.args.trees.now c.loop-tree.tree-index (λ ts. squeezed_given (gathered (given_of items_of c.loop-tree.given (scope_of c.loop-tree.scope)) (judge_arguments (expressions_from (map expression_of ts)) (map kind_of c.loop-tree.left.now) (scope_of c.loop-tree.scope)))) _ (search rules) c.loop-tree.invariant
-
-pub more_arguments-returns : goal.more_arguments-returns
-more_arguments-returns t c =
-    let s = scope_of c.args.scope.now in
-    let r = scope_of c.expression.new.scope in
-    let u = scope_of c.argument.new.scope in
-    IfOk-weaker c.gather.result _ _ (λ z h ps later first. argument_turn _ (expression_of c.args.tree.now) s u (found_of c.in_ok-found.found r) (given_of items_of c.args.given s) (given_of items_of z u) (given_of argument_of c.in_ok-one.one u) ps later c.in_ok-found.ensures (rw c.span.ensures at c.in_ok-one.ensures) (h u u) first) c.gather.ensures
 
 pub typed-returns : goal.typed-returns
 typed-returns t c =
@@ -168,8 +167,9 @@ specifiers-loop-tree-init t c =
 
 pub specifiers-loop-tree-preserved : goal.specifiers-loop-tree-preserved
 specifiers-loop-tree-preserved t c =
+    let s = scope_of c.loop-tree.scope in
     next_turn c.args.trees.now c.loop-tree.tree-index c.tree-item.result (λ ts. squeezed_part (specifiers_judged (judged_of type_of c.loop-tree.found (scope_of c.loop-tree.scope)) (judge_specifiers c.args.alone (specifiers_from (map specifier_of ts)) (scope_of c.loop-tree.scope)))) _ _ (search rules) c.tree-item.is
-    (specifiers_turn (judged_of type_of c.loop-tree.found (scope_of c.loop-tree.scope)) (judged_of type_of c.specifiers-found.result (scope_of c.specifier.new.scope)) (judged_of type_of c.in_ok-one.one (scope_of c.specifier.new.scope)) (judge_specifier c.args.alone (specifier_of c.tree-item.result) (scope_of c.loop-tree.scope)) (λ v. judge_specifiers c.args.alone (specifiers_from (map specifier_of (drop (c.loop-tree.tree-index + 1) c.args.trees.now))) v) c.in_ok-one.ensures (c.specifiers-found.ensures (scope_of c.specifier.new.scope))) c.loop-tree.invariant
+    (c.in_ok-found.ensures (judge_specifier c.args.alone (specifier_of c.tree-item.result) s) s (scope_of c.specifier-one.new.scope) c.specifier-one.ensures (λ v. judge_specifiers c.args.alone (specifiers_from (map specifier_of (drop (c.loop-tree.tree-index + 1) c.args.trees.now))) v)) c.loop-tree.invariant
 
 pub specifiers-returns : goal.specifiers-returns
 specifiers-returns t c =
@@ -179,21 +179,31 @@ pub specifier-returns-in-Word : goal.specifier-returns-in-Word
 specifier-returns-in-Word t c =
     rw (c.in-Word.is, specifier_of-Word c.in-Word.word c.in-Word.span) (c.no_specifier.ensures (scope_of c.args.scope.now))
 
+pub specifier-returns-in-TypedefName : goal.specifier-returns-in-TypedefName
+specifier-returns-in-TypedefName t c =
+    let w = c.in-TypedefName in
+    let s = scope_of c.args.scope.now in
+    rw (w.is, specifier_of-TypedefName w.name)
+    (IfOk-weaker c.typedef_name.result _ _ (λ z h. sym (squeezed_judged type_of z s) ∙ ap squeezed_part h) c.typedef_name.ensures)
+
+pub specifier-returns-in-StructureTag : goal.specifier-returns-in-StructureTag
+specifier-returns-in-StructureTag t c =
+    let w = c.in-StructureTag in
+    let u = scope_of c.structure_tag.new.scope in
+    rw (w.is, specifier_of-StructureTag w.tag w.span)
+    (IfOk-weaker c.structure_tag.result _ _ (λ z h. sym (squeezed_judged type_of z u) ∙ ap squeezed_part h) c.structure_tag.ensures)
+
 pub specifier-returns-in-EnumerationTag : goal.specifier-returns-in-EnumerationTag
 specifier-returns-in-EnumerationTag t c =
     let w = c.in-EnumerationTag in
     rw (w.is, specifier_of-EnumerationTag w.tag w.span)
     (sym (squeezed_judged type_of c.enumeration_tag.result (scope_of c.args.scope.now)) ∙ ap squeezed_part c.enumeration_tag.ensures)
 
-pub specifier-returns-in_ok-fault-in-Structure : goal.specifier-returns-in_ok-fault-in-Structure
-specifier-returns-in_ok-fault-in-Structure t c =
+pub specifier-returns-in_ok-opened-in-Structure : goal.specifier-returns-in_ok-opened-in-Structure
+specifier-returns-in_ok-opened-in-Structure t c =
     let w = c.in-Structure in
-    let s = scope_of c.args.scope.now in
-    let r = scope_of c.open_structure.new.scope in
-    let u = scope_of c.members.new.scope in
     rw (w.is, specifier_of-Structure w.tag w.list w.span)
-    (found_each c.close_structure.result (λ z. judged_of type_of z (scope_of c.close_structure.new.scope)) u _ _ c.close_structure.ensures
-    (in_structure c.args.alone (tag_of w.tag) (members_from (map member_of w.list.items)) w.span s u (opened_of c.in_ok-opened-in-Structure.opened r) (listed_members c.in_ok-fault-in-Structure.fault c.members.new.parts u) c.in_ok-opened-in-Structure.ensures (rw (c.deref.ensures.value, c.new-parts.ensures) at c.in_ok-fault-in-Structure.ensures)))
+    (c.structure.ensures c.args.alone (tag_of w.tag) (members_from (map member_of w.list.items)) w.span (scope_of c.args.scope.now) (scope_of c.open_structure.new.scope) c.in_ok-opened-in-Structure.ensures (rw (c.deref.ensures.value, c.new-parts.ensures) at c.members-fault.ensures))
 
 pub specifier-returns-in_ok-found-in-Enumeration : goal.specifier-returns-in_ok-found-in-Enumeration
 specifier-returns-in_ok-found-in-Enumeration t c =
@@ -219,10 +229,8 @@ members-returns t c =
 pub member-returns : goal.member-returns
 member-returns t c =
     let m = c.args.tree.now in
-    let r = scope_of c.typed.new.scope in
-    let u = scope_of c.declarators.new.scope in
     rw (member_of-parts m)
-    (listed_after (typed_by m.span.start (specifiers_from (map specifier_of m.specifiers.items)) (judge_specifiers false (specifiers_from (map specifier_of m.specifiers.items)) (scope_of c.args.scope.now))) (judged_of type_of c.in_ok-of.of r) (λ v w. judge_declarators v (declarators_from (map declarator_of m.declarators.items)) (map listed_of c.args.parts.now) w) (listed_members c.in_ok-fault.fault c.declarators.new.parts u) _ (rw c.deref.ensures.value at c.in_ok-of.ensures) (rw c.deref-2.ensures.value at c.in_ok-fault.ensures) c.first_fault.ensures)
+    (c.member.ensures (specifiers_from (map specifier_of m.specifiers.items)) (declarators_from (map declarator_of m.declarators.items)) m.span (map listed_of c.args.parts.now) c.declarators-fault.new.parts (scope_of c.args.scope.now) (scope_of c.typed.new.scope) (scope_of c.declarators-fault.new.scope) (rw c.deref.ensures.value at c.in_ok-of.ensures) (rw c.deref-2.ensures.value at c.declarators-fault.ensures))
 
 pub declarators-loop-tree-init : goal.declarators-loop-tree-init
 declarators-loop-tree-init t c =
@@ -246,35 +254,34 @@ declarator-returns-in_ok-given-in-Object t c =
     (found_as c.member.result (λ z. listed_members z c.member.new.members r) _ _ c.member.ensures
     (rw c.deref-in-Object.ensures.value (in_object_member (option_map type_of c.args.base.now) w.stars (name_of w.name) (lengths_from (map array_length_of w.list.items)) w.span (map listed_of c.args.parts.now) s (judged_of lengths_in c.in_ok-given-in-Object.given r) (rw c.deref.ensures.value at c.in_ok-given-in-Object.ensures))))
 
-pub declarator-returns-in_ok-found-in-Function : goal.declarator-returns-in_ok-found-in-Function
-declarator-returns-in_ok-found-in-Function t c =
+pub declarator-returns-in-Function : goal.declarator-returns-in-Function
+declarator-returns-in-Function t c =
     let w = c.in-Function in
-    let s = scope_of c.args.scope.now in
+    let e = c.prototype-found.ensures in
     rw (w.is, declarator_of-Function w.stars w.name w.list w.list_span w.span)
-    (found_each c.function_member.result (λ z. listed_members z c.function_member.new.members (scope_of c.prototype.new.scope)) s _ _ c.function_member.ensures
-    (ap (λ (v : Scope). squeezed_listed (function_member_listed (name_of w.name) (map listed_of c.args.parts.now) (listed_parameters c.in_ok-found-in-Function.found s) v)) c.in_ok-found-in-Function.ensures.scope
-    ∙ in_function_member (option_map type_of c.args.base.now) w.stars (name_of w.name) (tree.Listed (parameters_from (map parameter_of w.list.items)) w.list_span) w.span (map listed_of c.args.parts.now) s s (listed_parameters c.in_ok-found-in-Function.found s) (rw c.deref-in-Function.ensures.value at c.in_ok-found-in-Function.ensures.found s)))
+    (c.function_member.ensures (option_map type_of c.args.base.now) w.stars (tree.Listed (parameters_from (map parameter_of w.list.items)) w.list_span) w.span (scope_of c.args.scope.now) (rw c.deref-in-Function.ensures.value at e.found) e.scope)
 
 pub declarator-returns-in-EmptyFunction : goal.declarator-returns-in-EmptyFunction
 declarator-returns-in-EmptyFunction t c =
     let w = c.in-EmptyFunction in
     let s = scope_of c.args.scope.now in
+    let base = option_map type_of c.args.base.now in
     elim w.is [
       | inl x ↦ rw (x.3, declarator_of-EmptyFunction x.0 w.name x.1 x.2)
-          (found_each c.function_member-in-EmptyFunction.result (λ z. listed_members z c.function_member-in-EmptyFunction.new.members s) s _ _ c.function_member-in-EmptyFunction.ensures
-          (in_function_member (option_map type_of c.args.base.now) x.0 (name_of w.name) (tree.Empty x.1) x.2 (map listed_of c.args.parts.now) s s (listed_parameters c.no_parameters.result s) (c.no_parameters.ensures s)))
+          (c.function_member-in-EmptyFunction.ensures base x.0 (tree.Empty x.1) x.2 s c.no_parameters-none.ensures refl)
       | inr x ↦ rw (x.3, declarator_of-VoidFunction x.0 w.name x.1 x.2)
-          (found_each c.function_member-in-EmptyFunction.result (λ z. listed_members z c.function_member-in-EmptyFunction.new.members s) s _ _ c.function_member-in-EmptyFunction.ensures
-          (in_function_member (option_map type_of c.args.base.now) x.0 (name_of w.name) (tree.Void x.1) x.2 (map listed_of c.args.parts.now) s s (listed_parameters c.no_parameters.result s) (c.no_parameters.ensures s)))
+          (c.function_member-in-EmptyFunction.ensures base x.0 (tree.Void x.1) x.2 s c.no_parameters-none.ensures refl)
     ]
 
-pub enumerator-returns-in_ok-found-in-Valued : goal.enumerator-returns-in_ok-found-in-Valued
-enumerator-returns-in_ok-found-in-Valued t c =
+pub enumerator-returns-in-Bare : goal.enumerator-returns-in-Bare
+enumerator-returns-in-Bare t c =
+    rw (c.in-Bare.is, enumerator_of-Bare c.in-Bare.name) c.enumerator.ensures
+
+pub enumerator-returns-in-Valued : goal.enumerator-returns-in-Valued
+enumerator-returns-in-Valued t c =
     let w = c.in-Valued in
-    let r = scope_of c.expression.new.scope in
     rw (w.is, enumerator_of-Valued w.name w.given)
-    (found_as c.valued_enumerator-next.result (λ z. number_judged z (scope_of c.valued_enumerator-next.new.scope)) _ _ (rw (c.span.ensures, c.deref-in-Valued.ensures) at c.valued_enumerator-next.ensures)
-    (in_valued (name_of w.name) (expression_of w.given.value) c.args.value (scope_of c.args.scope.now) (found_of c.in_ok-found-in-Valued.found r) (rw c.deref.ensures at c.in_ok-found-in-Valued.ensures)))
+    (rw c.deref-in-Valued.ensures at (c.valued_enumerator.ensures c.args.value (scope_of c.args.scope.now) (rw (c.deref.ensures, ← c.deref-in-Valued.ensures) at c.expression-found.ensures)))
 
 pub enumerators-loop-tree-init : goal.enumerators-loop-tree-init
 enumerators-loop-tree-init t c =
@@ -305,13 +312,15 @@ pub lengths-returns : goal.lengths-returns
 lengths-returns t c =
     sym (squeezed_judged lengths_in c.loop-tree.list (scope_of c.loop-tree.scope)) ∙ sym (lengths_end (judged_of lengths_in c.loop-tree.list (scope_of c.loop-tree.scope))) ∙ last_turn c.args.trees.now c.loop-tree.tree-index (λ ts. squeezed_part (both_lists (judged_of lengths_in c.loop-tree.list (scope_of c.loop-tree.scope)) (judge_lengths (lengths_from (map array_length_of ts)) (scope_of c.loop-tree.scope)))) _ (search rules) c.loop-tree.invariant
 
-pub more_lengths-returns-in_ok-found-in-Given : goal.more_lengths-returns-in_ok-found-in-Given
-more_lengths-returns-in_ok-found-in-Given t c =
+pub more_lengths-returns-in-Absent : goal.more_lengths-returns-in-Absent
+more_lengths-returns-in-Absent t c =
+    rw (c.in-Absent.is, array_length_of-Absent) (λ rest. refl)
+
+pub more_lengths-returns-in-Given : goal.more_lengths-returns-in-Given
+more_lengths-returns-in-Given t c =
     let w = c.in-Given in
-    let r = scope_of c.expression.new.scope in
-    let s = scope_of c.args.scope.now in
     rw (w.is, array_length_of-Given w.value)
-    (IfOk-weaker c.more_lengths-more.result _ _ (λ z h rest. lengths_turn (span_of (expression_of w.value.value)).start (judged_of lengths_in c.args.list s) (judged_of lengths_in z r) (found_of c.in_ok-found-in-Given.found r) (judge (expression_of w.value.value) s) (λ v. judge_lengths rest v) (rw c.deref.ensures at c.in_ok-found-in-Given.ensures) (rw (c.span.ensures, c.deref-in-Given.ensures) at h s r)) c.more_lengths-more.ensures)
+    (rw c.deref-in-Given.ensures at (c.more_lengths.ensures (scope_of c.args.scope.now) (scope_of c.expression-found.new.scope) (rw (c.deref.ensures, ← c.deref-in-Given.ensures) at c.expression-found.ensures)))
 
 pub parameters-loop-tree-init : goal.parameters-loop-tree-init
 parameters-loop-tree-init t c =
@@ -322,8 +331,9 @@ parameters-loop-tree-init t c =
 
 pub parameters-loop-tree-preserved : goal.parameters-loop-tree-preserved
 parameters-loop-tree-preserved t c =
+    let s = scope_of c.loop-tree.scope in
     next_turn c.args.trees.now c.loop-tree.tree-index c.tree-item.result (λ ts. squeezed_listed (joined (listed_parameters c.loop-tree.list (scope_of c.loop-tree.scope)) (judge_parameter_list (parameters_from (map parameter_of ts)) (scope_of c.loop-tree.scope)))) _ _ (search rules) c.tree-item.is
-    (parameters_turn (listed_parameters c.loop-tree.list (scope_of c.loop-tree.scope)) (listed_parameters c.in_ok-list.list (scope_of c.parameter.new.scope)) (listed_parameters c.in_ok-one.one (scope_of c.parameter.new.scope)) (judge_parameter (parameter_of c.tree-item.result) (scope_of c.loop-tree.scope)) (λ v. judge_parameter_list (parameters_from (map parameter_of (drop (c.loop-tree.tree-index + 1) c.args.trees.now))) v) c.in_ok-one.ensures (c.in_ok-list.ensures (scope_of c.parameter.new.scope) (scope_of c.parameter.new.scope))) c.loop-tree.invariant
+    (c.in_ok-list.ensures (judge_parameter (parameter_of c.tree-item.result) s) s (scope_of c.parameter-one.new.scope) c.parameter-one.ensures (λ v. judge_parameter_list (parameters_from (map parameter_of (drop (c.loop-tree.tree-index + 1) c.args.trees.now))) v)) c.loop-tree.invariant
 
 pub parameters-returns : goal.parameters-returns
 parameters-returns t c =
@@ -331,26 +341,13 @@ parameters-returns t c =
 
 pub parameter-returns : goal.parameter-returns
 parameter-returns t c =
-    let p = c.args.tree.now in
-    let s = scope_of c.args.scope.now in
-    let r = scope_of c.typed.new.scope in
-    let u = scope_of c.lengths.new.scope in
-    rw (parameter_of-parts p)
-    (IfOk-weaker c.parameter.result _ _ (λ z h. in_parameter (specifiers_from (map specifier_of p.specifiers.items)) p.stars (tag_of p.name) (lengths_from (map array_length_of p.lengths.items)) p.span s (cut_to (counted_of c.objects_so_far-before.result) u) (judged_of type_of c.in_ok-of.of r) (judged_of lengths_in c.in_ok-given.given u) (listed_parameters z (scope_of c.parameter.new.scope)) (rw c.deref.ensures.value at c.in_ok-of.ensures) (rw c.deref-2.ensures.value at c.in_ok-given.ensures) (ap (λ k. cut_to k u) c.objects_so_far-before.ensures) (rw (c.name_start-at.ensures, c.deref-3.ensures.value) at h)) c.parameter.ensures)
+    c.parameter.ensures (scope_of c.args.scope.now) (scope_of c.typed.new.scope) c.objects_so_far-before.ensures (rw c.deref.ensures.value at c.in_ok-of.ensures) (rw c.deref-2.ensures.value at c.lengths-given.ensures)
 
 pub prototype-returns-clause-found : goal.prototype-returns-clause-found
 prototype-returns-clause-found t c =
-    λ u.
-    let all = parameters_from (map parameter_of c.args.trees.now) in
-    ap (λ (l : Listed (Option ParameterKind)). let v : Listed (Option ParameterKind) = record l { scope = u } in v)
-    (c.in_ok-found.ensures ∙ ap (λ (v : Scope). squeezed_listed (judge_parameter_list all v)) c.enter_declarator-prototype.ensures.entered)
+    in_prototype c.parameters-found.result (parameters_from (map parameter_of c.args.trees.now)) (scope_of c.enter_declarator-prototype.new.self) (scope_of c.parameters-found.new.scope) (scope_of c.args.scope.now) c.parameters-found.ensures c.enter_declarator-prototype.ensures.entered
 
 pub prototype-returns-clause-scope : goal.prototype-returns-clause-scope
 prototype-returns-clause-scope t c =
-    let s = scope_of c.args.scope.now in
-    let all = parameters_from (map parameter_of c.args.trees.now) in
-    c.leave_declarator.ensures
-    ∙ ap (λ (p : Scope). prototype_left_by (prototype_of c.enter_declarator-prototype.result) p)
-    (ap (λ (l : Listed (Option ParameterKind)). l.scope) (c.in_ok-found.ensures ∙ ap (λ (v : Scope). squeezed_listed (judge_parameter_list all v)) c.enter_declarator-prototype.ensures.entered))
-    ∙ ap (λ p. prototype_left_by p (judge_parameter_list all (prototype s)).scope) c.enter_declarator-prototype.ensures.around
-    ∙ prototype_left (tree.Listed all (record { start = 0; end = 0 })) s
+    let e = c.enter_declarator-prototype.ensures in
+    prototype_ends c.parameters-found.result (parameters_from (map parameter_of c.args.trees.now)) (scope_of c.enter_declarator-prototype.new.self) (scope_of c.parameters-found.new.scope) (scope_of c.args.scope.now) (scope_of c.leave_declarator.new.self) (prototype_of c.enter_declarator-prototype.result) c.parameters-found.ensures e.entered c.leave_declarator.ensures e.around

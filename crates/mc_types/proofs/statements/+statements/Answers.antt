@@ -3,8 +3,6 @@ use Rattle.std.proofs.Common.{◌∙◌, ◌+◌, drop, map, refl, sym, ap, rule
 use Rattle.mc_tree.specs.Units.{block_from, block_item_of, declaration_of, option_of, start_of, statement_of}
 use Rattle.mc_tree.specs.Views.{expression_of, name_of}
 use Rattle.mc_typed.specs.Tree.{Statements}
-use Rattle.mc_typed.specs.Views.{effect_of}
-use Rattle.mc_typed.specs.Views as typed
 use Rattle.mc_typing.specs.Scopes.{block}
 use Rattle.mc_typing.specs.Values.{Judged}
 use Rattle.mc_typing.specs.Statements.{compound_scope, followed_judged, in_switch, inside, switch_scope}
@@ -12,14 +10,14 @@ use Rattle.mc_typing.specs.Bodies.{judge_block, judge_statement}
 use Rattle.mc_scopes.specs.Blocks.{Around, left_by}
 use Rattle.mc_scopes.specs.Views.{scope_of}
 use Rattle.mc_scopes.specs.Found.{found_of, judged_of}
-use Rattle.mc_scopes.specs.Statements.{around_of, declarators_of, effects_of, statements_of, test_of}
+use Rattle.mc_scopes.specs.Statements.{around_of, declarators_of, statements_of}
 use Rattle.mc_scopes.specs.steps.Squeezed.{squeezed_part}
 use Rattle.std.proofs.lemmas.Result.{IfOk-weaker}
 use Rattle.mc_types.proofs.Exits.{at_ok, found_as, found_with}
 use Rattle.mc_types.proofs.Bodies.{block_item_of-Local, block_item_of-Statement, statement_of-Break, statement_of-Case, statement_of-Compound, statement_of-Continue, statement_of-Default, statement_of-DoWhile, statement_of-Expression, statement_of-For, statement_of-Goto, statement_of-If, statement_of-IfElse, statement_of-Label, statement_of-Null, statement_of-Return, statement_of-Switch, statement_of-While}
-use Rattle.mc_types.proofs.StatementArms.{closes, in_case, in_default, in_effect_statement, in_item, in_label, in_local, in_return}
+use Rattle.mc_types.proofs.StatementArms.{closes, in_case, in_default, in_item, in_label, in_local}
 use Rattle.mc_types.proofs.Turns.{last_turn, next_turn}
-use Rattle.mc_types.proofs.Parts.{followed_first, followed_item, followed_last, squeezed_judged}
+use Rattle.mc_types.proofs.Parts.{followed_first, followed_last, squeezed_judged}
 use Rattle.mc_types.proofs.statements.+statements.Goals as goal
 
 pub statement-returns-in_ok-outer-in-Compound : goal.statement-returns-in_ok-outer-in-Compound
@@ -33,14 +31,11 @@ statement-returns-in_ok-outer-in-Compound t c =
     rw (w.is, statement_of-Compound w.items w.span)
     (c.compound.ensures a items s u (IfOk-weaker c.block-found.result _ _ (λ z h. closes s u (judged_of statements_of z r) (judge_block (inside a) items (compound_scope a s)) (rw (c.deref.ensures.value, c.inside.ensures, c.in_ok-outer-in-Compound.ensures.entered) at h) (c.leave.ensures ∙ ap (λ (b : Around). left_by b r) c.in_ok-outer-in-Compound.ensures.block)) c.block-found.ensures))
 
-pub statement-returns-in_ok-found-in-Expression : goal.statement-returns-in_ok-found-in-Expression
-statement-returns-in_ok-found-in-Expression t c =
+pub statement-returns-in-Expression : goal.statement-returns-in-Expression
+statement-returns-in-Expression t c =
     let w = c.in-Expression in
-    let s = scope_of c.args.scope.now in
-    let u = scope_of c.effect.new.scope in
     rw (w.is, statement_of-Expression w.value w.span)
-    (found_with c.effect_statement.result (λ z v. judged_of statements_of z v) u _ _ c.effect_statement.ensures
-    (in_effect_statement (around_of c.args.around) (expression_of w.value.value) w.span s (judged_of effect_of c.in_ok-found-in-Expression.found u) (rw c.deref-in-Expression.ensures at c.in_ok-found-in-Expression.ensures)))
+    (rw c.deref-in-Expression.ensures at (c.expression_statement.ensures (around_of c.args.around)))
 
 pub statement-returns-in_ok-test-in-If : goal.statement-returns-in_ok-test-in-If
 statement-returns-in_ok-test-in-If t c =
@@ -88,14 +83,12 @@ pub statement-returns-in_ok-first-in-Case : goal.statement-returns-in_ok-first-i
 statement-returns-in_ok-first-in-Case t c =
     let w = c.in-Case in
     let a = around_of c.args.around in
-    let s = scope_of c.args.scope.now in
-    let q = scope_of c.expression-in-Case.new.scope in
     let r = scope_of c.case_label.new.scope in
     let u = scope_of c.statement-rest.new.scope in
     let rest = squeezed_part (judge_statement (inside a) (statement_of w.body.value) r) in
     rw (w.is, statement_of-Case w.value w.label w.body w.span)
-    (found_as c.followed.result (λ z. judged_of statements_of z u) _ _ (c.followed.ensures rest u (rw (c.deref-in-Case-3.ensures, c.inside-in-Case.ensures) at c.statement-rest.ensures))
-    (in_case a (expression_of w.value.value) w.label (statement_of w.body.value) w.span s (found_of c.in_ok-found-in-Case.found q) (judged_of statements_of c.in_ok-first-in-Case.first r) rest (rw c.deref-in-Case.ensures at c.in_ok-found-in-Case.ensures) (rw (c.span.ensures, c.deref-in-Case-2.ensures) at c.in_ok-first-in-Case.ensures) refl))
+    (found_as c.followed.result (λ z. judged_of statements_of z u) _ _ (c.followed.ensures rest u (rw (c.deref-in-Case-2.ensures, c.inside-in-Case.ensures) at c.statement-rest.ensures))
+    (in_case a (expression_of w.value.value) w.label (statement_of w.body.value) w.span (scope_of c.args.scope.now) (judged_of statements_of c.in_ok-first-in-Case.first r) rest (rw c.deref-in-Case.ensures at c.in_ok-first-in-Case.ensures) refl))
 
 pub statement-returns-in_ok-first-in-Default : goal.statement-returns-in_ok-first-in-Default
 statement-returns-in_ok-first-in-Default t c =
@@ -139,20 +132,10 @@ statement-returns-in-Continue t c =
     rw (w.is, statement_of-Continue w.span)
     (found_with c.continue_statement.result (λ z v. judged_of statements_of z v) (scope_of c.args.scope.now) _ _ c.continue_statement.ensures refl)
 
-pub statement-returns-in_ok-found-in-Some : goal.statement-returns-in_ok-found-in-Some
-statement-returns-in_ok-found-in-Some t c =
+pub statement-returns-in-Return : goal.statement-returns-in-Return
+statement-returns-in-Return t c =
     let w = c.in-Return in
-    let s = scope_of c.args.scope.now in
-    let u = scope_of c.expression-in-Some.new.scope in
-    rw (w.is, statement_of-Return w.value w.span, c.in-Some.is)
-    (found_as c.return_statement.result (λ z. judged_of statements_of z u) _ _ c.return_statement.ensures
-    (in_return (around_of c.args.around) (expression_of c.in-Some.value.value) w.span s (found_of c.in_ok-found-in-Some.found u) (rw c.deref-in-Some.ensures at c.in_ok-found-in-Some.ensures)))
-
-pub statement-returns-in-None : goal.statement-returns-in-None
-statement-returns-in-None t c =
-    let w = c.in-Return in
-    rw (w.is, statement_of-Return w.value w.span, c.in-None.is)
-    (found_with c.return_nothing.result (λ z v. judged_of statements_of z v) (scope_of c.args.scope.now) _ _ c.return_nothing.ensures refl)
+    rw (w.is, statement_of-Return w.value w.span) c.return_statement.ensures
 
 pub inner-returns : goal.inner-returns
 inner-returns t c =
@@ -171,10 +154,10 @@ block-loop-tree-init t c =
 pub block-loop-tree-preserved : goal.block-loop-tree-preserved
 block-loop-tree-preserved t c =
     let s = scope_of c.loop-tree.scope in
-    let u = scope_of c.block_item.new.scope in
-    let later = block_from (map block_item_of (drop (c.loop-tree.tree-index + 1) c.args.trees.now)) in
+    let u = scope_of c.block_item-one.new.scope in
+    let a = around_of c.args.around in
     next_turn c.args.trees.now c.loop-tree.tree-index c.tree-item.result (λ ts. squeezed_part (followed_judged (judged_of statements_of c.loop-tree.list (scope_of c.loop-tree.scope)) (judge_block (around_of c.args.around) (block_from (map block_item_of ts)) (scope_of c.loop-tree.scope)))) _ _ (search rules) c.tree-item.is
-    (followed_item (judged_of statements_of c.loop-tree.list (scope_of c.loop-tree.scope)) (judged_of statements_of c.in_ok-list.list u) (judged_of statements_of c.in_ok-one.one u) (judge_block (around_of c.args.around) later u) (judge_block (around_of c.args.around) (block_item_of c.tree-item.result later) s) u (c.in_ok-one.ensures later) (c.in_ok-list.ensures u)) c.loop-tree.invariant
+    (c.in_ok-list.ensures a (block_item_of c.tree-item.result) s u c.block_item-one.ensures (block_from (map block_item_of (drop (c.loop-tree.tree-index + 1) c.args.trees.now)))) c.loop-tree.invariant
 
 pub block-returns : goal.block-returns
 block-returns t c =
