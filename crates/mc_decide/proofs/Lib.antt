@@ -1,1 +1,3 @@
 pub mod Gathers
+mod Operands
+mod Steps

@@ -51,14 +51,12 @@ fn operands(found: &mut Gathered, tree: &Expression) -> Result<bool, AllocError>
         }
         Expression::Not { operand, .. } => expression(found, Role::Inner, operand),
         Expression::Binary { left, right, .. } => {
-            let first = expression(found, Role::Plain, left)?;
-            let second = expression(found, Role::Plain, right)?;
-            Ok(first && second)
+            let constant = expression(found, Role::Plain, left)?;
+            further(found, constant, Role::Plain, right)
         }
         Expression::Logic { left, right, .. } => {
-            let first = expression(found, Role::Inner, left)?;
-            let second = expression(found, Role::Inner, right)?;
-            Ok(first && second)
+            let constant = expression(found, Role::Inner, left)?;
+            further(found, constant, Role::Inner, right)
         }
         Expression::Choice {
             test,
@@ -66,10 +64,9 @@ fn operands(found: &mut Gathered, tree: &Expression) -> Result<bool, AllocError>
             other,
             ..
         } => {
-            let first = expression(found, Role::Test, test)?;
-            let second = expression(found, Role::Plain, chosen)?;
-            let third = expression(found, Role::Plain, other)?;
-            Ok(first && second && third)
+            let constant = expression(found, Role::Test, test)?;
+            let constant = further(found, constant, Role::Plain, chosen)?;
+            further(found, constant, Role::Plain, other)
         }
         Expression::Call { call: made, .. } => {
             call(found, made)?;
@@ -77,6 +74,23 @@ fn operands(found: &mut Gathered, tree: &Expression) -> Result<bool, AllocError>
         }
         Expression::Probe { operand, .. } => operands(found, operand),
     }
+}
+
+/// The same of a further operand, and says whether it and those before it are constant.
+#[cycle(walk)]
+fn further(
+    found: &mut Gathered,
+    before: bool,
+    role: Role,
+    tree: &Expression,
+) -> Result<bool, AllocError>
+    ensures found { IfOk result (λ _. gathered_of found.new
+        ≡ visited role (n.expression (expression_of tree.now)) (gathered_of found.old)) }
+    ensures constant { IfOk result (λ constant.
+        constant ≡ (before && is_constant (n.expression (expression_of tree.now)))) }
+{
+    let constant = expression(found, role, tree)?;
+    Ok(before && constant)
 }
 
 /// Adds the roots in an expression.
