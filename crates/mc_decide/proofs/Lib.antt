@@ -1,3 +1,5 @@
 pub mod Gathers
 mod Operands
+mod Places
+mod Statements
 mod Steps

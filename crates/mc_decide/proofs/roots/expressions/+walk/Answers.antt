@@ -1,4 +1,6 @@
 use Rattle.std.proofs.Common.{◌≡◌, ◌∙◌, ap, sym, subst, IfOk}
+use Rattle.mc_typed.specs.declared.expressions.Expression.{Expression}
+use Rattle.mc_typed.specs.declared.expressions.Place.{Place}
 use Rattle.mc_typed.specs.Views.{expression_of}
 use Rattle.mc_roots.specs.declared.role.Role.TheVariants.{Test, Inner, Plain}
 use Rattle.mc_roots.specs.Nodes as n
@@ -8,6 +10,7 @@ use Rattle.mc_gather.proofs.Shapes.{node, constant_node, input_node, read_node, 
 use Rattle.mc_decide.proofs.Gathers.{settles}
 use Rattle.mc_decide.proofs.Steps.{if_as, then_found, one_constant, both_constant, two_constant, three_constant}
 use Rattle.mc_decide.proofs.Operands.{is_not, is_binary, is_logic, is_choice, is_probe, carried_found, carried_constant}
+use Rattle.mc_decide.proofs.Places.{place, structure, argument, parameter_place, item_place, member_place, stored_structure, returned_structure, number_argument, structure_argument, array_argument, again_argument}
 use Rattle.mc_decide.proofs.roots.expressions.+walk.Goals as goal
 
 pub expression-returns-clause-found : goal.expression-returns-clause-found
@@ -133,3 +136,60 @@ operands-returns-in-Input-clause-found t c =
 pub operands-returns-in-Input-clause-constant : goal.operands-returns-in-Input-clause-constant
 operands-returns-in-Input-clause-constant t c =
     sym (ap is_constant (ap node c.in-Input.is ∙ input_node c.in-Input.span))
+
+pub place-returns-in-Parameter : goal.place-returns-in-Parameter
+place-returns-in-Parameter t c =
+    let e = ap place c.in-Parameter.is ∙ (parameter_place c.in-Parameter.array c.in-Parameter.stride c.in-Parameter.index c.in-Parameter.span
+    ∙ ap (λ (f : Expression). n.Expression n.Other (n.part (node f) n.no_parts) c.in-Parameter.span) (sym c.deref.ensures)) in
+    subst (λ (a : n.Node). IfOk c.value.result (λ _. gathered_of c.value.new.found ≡ visited Plain a (gathered_of c.args.found.now))) (sym e)
+    (c.value.ensures)
+
+pub place-returns-in_ok-place-in-Item : goal.place-returns-in_ok-place-in-Item
+place-returns-in_ok-place-in-Item t c =
+    let e = ap place c.in-Item.is ∙ (item_place c.in-Item.array c.in-Item.length c.in-Item.stride c.in-Item.index c.in-Item.span
+    ∙ (ap (λ (p : Place). n.Expression n.Other (n.part (place p) (n.part (node c.in-Item.index.value) n.no_parts)) c.in-Item.span) (sym c.deref-in-Item.ensures)
+    ∙ ap (λ (f : Expression). n.Expression n.Other (n.part (place c.deref-in-Item.result.now) (n.part (node f) n.no_parts)) c.in-Item.span) (sym c.deref-in-Item-2.ensures))) in
+    subst (λ (a : n.Node). IfOk c.value-in-Item.result (λ _. gathered_of c.value-in-Item.new.found ≡ visited Plain a (gathered_of c.args.found.now))) (sym e)
+    (then_found c.value-in-Item.result Plain (node c.deref-in-Item-2.result.now) (gathered_of c.place.new.found) (gathered_of c.value-in-Item.new.found)
+    (visited Plain (place c.deref-in-Item.result.now) (gathered_of c.args.found.now)) c.in_ok-place-in-Item.ensures c.value-in-Item.ensures)
+
+pub place-returns-in-Member : goal.place-returns-in-Member
+place-returns-in-Member t c =
+    let e = ap place c.in-Member.is ∙ (member_place c.in-Member.whole c.in-Member.member c.in-Member.offset c.in-Member.span
+    ∙ ap (λ (p : Place). n.Expression n.Other (n.part (place p) n.no_parts) c.in-Member.span) (sym c.deref-in-Member.ensures)) in
+    subst (λ (a : n.Node). IfOk c.place-in-Member.result (λ _. gathered_of c.place-in-Member.new.found ≡ visited Plain a (gathered_of c.args.found.now))) (sym e)
+    (c.place-in-Member.ensures)
+
+pub structure-returns-in-Stored : goal.structure-returns-in-Stored
+structure-returns-in-Stored t c =
+    let e = ap structure c.in-Stored.is ∙ stored_structure c.in-Stored.object in
+    subst (λ (a : n.Node). IfOk c.place.result (λ _. gathered_of c.place.new.found ≡ visited Plain a (gathered_of c.args.found.now))) (sym e)
+    (c.place.ensures)
+
+pub structure-returns-in-Returned : goal.structure-returns-in-Returned
+structure-returns-in-Returned t c =
+    let e = ap structure c.in-Returned.is ∙ returned_structure c.in-Returned.made in
+    subst (λ (a : n.Node). IfOk c.call.result (λ _. gathered_of c.call.new.found ≡ visited Plain a (gathered_of c.args.found.now))) (sym e)
+    (c.call.ensures)
+
+pub argument-returns-in-Number : goal.argument-returns-in-Number
+argument-returns-in-Number t c =
+    let e = ap argument c.in-Number.is ∙ number_argument c.in-Number.number in
+    subst (λ (a : n.Node). IfOk c.value.result (λ _. gathered_of c.value.new.found ≡ visited Plain a (gathered_of c.args.found.now))) (sym e)
+    (c.value.ensures)
+
+pub argument-returns-in-Structure : goal.argument-returns-in-Structure
+argument-returns-in-Structure t c =
+    let e = ap argument c.in-Structure.is ∙ structure_argument c.in-Structure.value c.in-Structure.copy in
+    subst (λ (a : n.Node). IfOk c.structure.result (λ _. gathered_of c.structure.new.found ≡ visited Plain a (gathered_of c.args.found.now))) (sym e)
+    (c.structure.ensures)
+
+pub argument-returns-in-Array : goal.argument-returns-in-Array
+argument-returns-in-Array t c =
+    let e = ap argument c.in-Array.is ∙ array_argument c.in-Array.object c.in-Array.length in
+    subst (λ (a : n.Node). IfOk c.place.result (λ _. gathered_of c.place.new.found ≡ visited Plain a (gathered_of c.args.found.now))) (sym e)
+    (c.place.ensures)
+
+pub argument-returns-in-Again : goal.argument-returns-in-Again
+argument-returns-in-Again t c =
+    sym (ap (λ (a : n.Node). visited Plain a (gathered_of c.args.found.now)) (ap argument c.in-Again.is ∙ again_argument c.in-Again.array c.in-Again.span))
