@@ -1,6 +1,5 @@
 use Rattle.std.proofs.Common.{◌≡◌, ◌∙◌, ap, sym, subst, IfOk}
 use Rattle.mc_typed.specs.declared.statements.Statement.{Statement}
-use Rattle.mc_typed.specs.Views.{effect_of, return_value_of}
 use Rattle.mc_roots.specs.declared.role.Role.TheVariants.{Test, Plain}
 use Rattle.mc_roots.specs.Nodes as n
 use Rattle.mc_gather.specs.steps.Gathering.{gathered_of, visited}
