@@ -5,7 +5,7 @@ use std::alloc::{AllocError, AllocFailed};
 
 /// Why a function of the descent gives no tree. Where it is the syntax, the next token of the
 /// cursor is the first at which no reading goes on.
-#[derive(Debug, Drop)]
+#[derive(Drop)]
 pub enum Fault {
     Syntax,
     OutOfMemory,

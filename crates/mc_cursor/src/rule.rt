@@ -5,7 +5,7 @@ ghost use Rattle.mc_cursor.specs.Rules.{below, level_of, levels_of};
 
 /// The levels of operators between two operands, that which binds closest first (C17 6.5.5 to
 /// 6.5.14).
-#[derive(Clone, Copy, Debug, PartialEq, Eq)]
+#[derive(Clone, Copy)]
 pub enum Level {
     Product,
     Sum,
@@ -20,7 +20,7 @@ pub enum Level {
 }
 
 /// A nonterminal that stands as a part.
-#[derive(Clone, Copy, Debug, PartialEq, Eq)]
+#[derive(Clone, Copy)]
 pub enum Rule {
     Comma,
     Assign,

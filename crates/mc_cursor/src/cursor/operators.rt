@@ -3,7 +3,7 @@ ghost use Rattle.std.specs.Prelude.{◌≡◌};
 ghost use Rattle.mc_lex.specs.Tokens.{tok_of};
 ghost use Rattle.mc_grammar.specs.Words.{lexeme_of, next_is};
 ghost use Rattle.mc_grammar.specs.Operators as spec;
-ghost use Rattle.mc_grammar.specs.steps.Next.{assignment_next, step_next, unary_next, word_at, word_next};
+ghost use Rattle.mc_grammar.specs.steps.Next.{assignment_next, step_next, unary_at, unary_next, word_at, word_next};
 ghost use Rattle.mc_cursor.specs.Cursors.{left_of};
 ghost use Rattle.mc_cursor.specs.Rules.{level_of};
 
@@ -66,6 +66,27 @@ fn assignment_at(token: &Token<'_>) -> Option<AssignmentOperator>
         Some(AssignmentOperator::BitXor)
     } else if is_punctuator(token, b"|=") {
         Some(AssignmentOperator::BitOr)
+    } else {
+        None
+    }
+}
+
+/// The operator before one operand that the token is (C17 6.5.3).
+fn unary_at(token: &Token<'_>) -> Option<UnaryOperator>
+    ensures { result ≡ unary_at (lexeme_of (tok_of token.now)) }
+{
+    if is_punctuator(token, b"+") {
+        Some(UnaryOperator::Plus)
+    } else if is_punctuator(token, b"-") {
+        Some(UnaryOperator::Minus)
+    } else if is_punctuator(token, b"~") {
+        Some(UnaryOperator::Complement)
+    } else if is_punctuator(token, b"!") {
+        Some(UnaryOperator::Not)
+    } else if is_punctuator(token, b"*") {
+        Some(UnaryOperator::Dereference)
+    } else if is_punctuator(token, b"&") {
+        Some(UnaryOperator::Address)
     } else {
         None
     }
@@ -145,13 +166,8 @@ impl<'t, 'a> Cursor<'t, 'a> {
         ensures { result ≡ unary_next (left_of self.now) }
     {
         match self.rest {
-            [first, ..] if is_punctuator(first, b"+") => Some(UnaryOperator::Plus),
-            [first, ..] if is_punctuator(first, b"-") => Some(UnaryOperator::Minus),
-            [first, ..] if is_punctuator(first, b"~") => Some(UnaryOperator::Complement),
-            [first, ..] if is_punctuator(first, b"!") => Some(UnaryOperator::Not),
-            [first, ..] if is_punctuator(first, b"*") => Some(UnaryOperator::Dereference),
-            [first, ..] if is_punctuator(first, b"&") => Some(UnaryOperator::Address),
-            _ => None,
+            [] => None,
+            [first, ..] => unary_at(first),
         }
     }
 
