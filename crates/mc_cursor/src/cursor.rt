@@ -4,9 +4,9 @@ ghost use Rattle.mc_cursor.specs.Short.{IsShort};
 
 mod asks;
 mod names;
-mod operators;
 mod takes;
 
+pub use asks::{is_keyword, is_punctuator};
 use mc_lex::Token;
 use std::collections::BTreeSet;
 pub use takes::{identifier, place};

@@ -1,5 +1,5 @@
 -- What the functions for declarators and specifiers return, as the readers of mc_reading give it.
-use Rattle.std.specs.Prelude.{◌≡◌, ℕ, false, List, [], codes, map, Option, Some, Result, Ok, Err, Box, Vec}
+use Rattle.std.specs.Prelude.{◌≡◌, ℕ, ℤ, Bool, false, List, [], codes, map, Option, Some, Result, Ok, Err, Box, Vec}
 use Rattle.std.specs.declared.alloc.Global.{Global}
 use Rattle.mc_span.specs.declared.span.Span.{Span}
 use Rattle.mc_tree.specs.declared.declarations.specifier_word.SpecifierWord.{SpecifierWord}
@@ -8,9 +8,9 @@ use Rattle.mc_tree.specs.declared.declarations.member.Member as code_member
 use Rattle.mc_tree.specs.declared.declarations.enumerator.Enumerator as code_enumerator
 use Rattle.mc_tree.specs.declared.declarations.declarator.Declarator as code_declarator
 use Rattle.mc_tree.specs.declared.declarations.parameter.Parameter as code_parameter
-use Rattle.mc_tree.specs.Tree.{ArrayLengths, Declarator, Enumerator, Name, Parameter, Specifier, Specifiers, StructMember, span_of_parameters}
+use Rattle.mc_tree.specs.Tree.{ArrayLengths, Declarator, Enumerator, Expression, Name, Parameter, Specifier, Specifiers, StructMember, TypeName, span_of, span_of_parameters}
 use Rattle.mc_tree.specs.Tree as t
-use Rattle.mc_tree.specs.Views.{array_length_of, declarator_of, declarators_from, enumerator_of, enumerators_from, lengths_from, member_of, members_from, parameter_of, parameters_from, specifier_of, specifiers_from}
+use Rattle.mc_tree.specs.Views.{array_length_of, declarator_of, declarators_from, enumerator_of, enumerators_from, expressions_from, lengths_from, member_of, members_from, parameter_of, parameters_from, specifier_of, specifiers_from}
 use Rattle.mc_tree.specs.Height.{height_declarators, height_enumerators, height_lengths, height_members, height_parameter_list, height_specifiers}
 use Rattle.mc_grammar.specs.Places.{at, end_of_specifiers, name_at, to}
 use Rattle.mc_grammar.specs.Words.{Lexeme}
@@ -79,8 +79,55 @@ boxed_declarator one = declarator_of one.value
 abbrev pub boxed_member : Box code_member.Member Global → StructMember
 boxed_member one = member_of one.value
 
+abbrev pub boxed_enumerator : Box code_enumerator.Enumerator Global → Enumerator
+boxed_enumerator one = enumerator_of one.value
+
 abbrev pub boxed_parameter : Box code_parameter.Parameter Global → Parameter
 boxed_parameter one = parameter_of one.value
+
+-- an expression that is one token
+abbrev pub constant_of : ℕ → Bool → Bool → ℕ → Parser Expression
+constant_of value decimal unsigned longs = do
+  x ← take
+  pure (t.Constant value decimal unsigned longs (at x))
+
+abbrev pub character_of : ℤ → Parser Expression
+character_of value = do
+  x ← take
+  pure (t.Character value (at x))
+
+-- an expression, after its last part
+abbrev pub parenthesized_end : Span → Expression → Parser Expression
+parenthesized_end start a = do
+  y ← expect (codes ")")
+  pure (t.Parenthesized a (to start (at y)))
+
+abbrev pub call_end : Lexeme → List Expression → Parser Expression
+call_end x all = do
+  z ← expect (codes ")")
+  pure (t.Call (name_at x) (expressions_from all) (to (at x) (at z)))
+
+abbrev pub index_end : Expression → Expression → Parser Expression
+index_end a b = do
+  y ← expect (codes "]")
+  pure (t.Index a b (to (span_of a) (at y)))
+
+-- a type name, after its specifiers
+abbrev pub type_end : Span → Specifiers → Parser TypeName
+type_end start s = do
+  stars ← stars_of (end_of_specifiers start s)
+  pure (t.type_name s stars.count (to start stars.end))
+
+-- a length, after its bracket and after its value
+abbrev pub no_length : Parser Length
+no_length = do
+  y ← take
+  pure (record { one = t.absent_length; end = at y })
+
+abbrev pub length_end : Expression → Parser Length
+length_end a = do
+  y ← expect (codes "]")
+  pure (record { one = t.given_length a; end = at y })
 
 -- a specifier that is one token
 abbrev pub word_of : SpecifierWord → Parser Specifier
@@ -123,6 +170,11 @@ abbrev pub object_of : Parts → Span → ℕ → Name → Parser Declarator
 object_of parts start stars name = do
   lengths ← lengths_of parts name.span
   pure (t.object stars name (lengths_from lengths.all) (to start lengths.end))
+
+-- a part that was made on the heap: nothing else can go wrong than memory
+abbrev pub IsMade : {X Y : Type 0} → (X → Y) → Y → Result X Fault → Type 0
+IsMade view tree (Ok one) = view one ≡ tree
+IsMade view tree (Err fault) = NotMade fault
 
 -- a specifier that was made on the heap: nothing else can go wrong than memory
 abbrev pub IsMadeSpecifier : Specifier → Result (Box code_specifier.Specifier Global) Fault → Type 0

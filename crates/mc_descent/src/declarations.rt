@@ -71,22 +71,21 @@ fn declarators<'a>(
     alloc: Global,
     typedef: bool,
     room: u32,
-    before: Vec<InitDeclarator<'a>>,
+    all: &mut Vec<InitDeclarator<'a>>,
     tokens: &mut Cursor<'_, 'a>,
-) -> Result<Vec<InitDeclarator<'a>>, Fault>
+) -> Result<(), Fault>
     requires { room ≤ 1000 }
-    ensures { Gives (λ all. map init_declarator_of all.items)
+    ensures { Gives (λ _. map init_declarator_of all.new.items)
         (listed (λ turns. comma_list turns (spec.init_declarator_of typedef room)
-        (map init_declarator_of before.entry.items)) (left_of tokens.old)) result
+        (map init_declarator_of all.old.items)) (left_of tokens.old)) result
         (left_of tokens.new) }
 {
-    let mut all = before;
     for _turn in 0..tokens.turns() {
         let one = declarator(alloc, tokens, room)?;
         let one = valued(alloc, typedef, room, one, tokens)?;
-        push(&mut all, one)?;
+        push(all, one)?;
         if !tokens.sees(b",") {
-            return Ok(all);
+            return Ok(());
         }
         tokens.take()?;
     }
@@ -113,7 +112,8 @@ fn more_declarators<'a>(
         return Ok(all);
     }
     tokens.take()?;
-    declarators(alloc, typedef, room, all, tokens)
+    declarators(alloc, typedef, room, &mut all, tokens)?;
+    Ok(all)
 }
 
 /// The rest of a declaration, whose first declarator is read.

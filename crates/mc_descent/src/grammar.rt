@@ -5,6 +5,7 @@ mod declarators;
 pub mod lists;
 pub mod makers;
 mod members;
+mod operators;
 pub mod parts;
 mod postfix;
 mod primary;

@@ -12,6 +12,7 @@ ghost use Rattle.mc_descent.specs.Parts.{specifiers_in};
 use crate::allowed::Allowed;
 use crate::grammar::Grammar;
 use crate::grammar::parts::Readers;
+use crate::known::Known;
 use crate::read::{Read, ReadSpecifiers};
 use mc_cursor::cursor::Cursor;
 use mc_cursor::fault::Fault;
@@ -104,10 +105,7 @@ pub fn declarator<'a>(
     let grammar = Grammar {
         alloc,
         room,
-        parts: Readers {
-            inner: expression,
-            typed: read_specifiers,
-        },
+        parts: Known,
     };
     let mut tallest = 0;
     let one = grammar.declarator(tokens, &mut tallest)?;

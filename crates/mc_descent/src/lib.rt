@@ -9,4 +9,5 @@ pub mod declarations;
 mod grammar;
 mod initializers;
 pub mod knot;
+mod known;
 pub mod read;

@@ -1,8 +1,6 @@
 //! What was read: parts of a tree, with their heights.
 ghost use Rattle.std.specs.Prelude.{◌≡◌, ◌∷◌, ◌++◌, [], IfOk, max, nat_le};
-ghost use Rattle.mc_tree.specs.Height as h;
-ghost use Rattle.mc_tree.specs.Views.{expression_of};
-ghost use Rattle.mc_descent.specs.Given.{IsAllHigh, trees_of};
+ghost use Rattle.mc_descent.specs.Given.{IsAllHigh, IsHigh, tree_of, trees_of};
 
 use crate::grammar::lists::push_boxed;
 use mc_cursor::is_too_high;
@@ -45,17 +43,18 @@ impl<'a> ReadAll<'a> {
         }
     }
 
-    /// Puts an expression of this height at the end.
+    /// Puts an expression at the end.
     #[inline(never)]
     #[tactic(auto, using(crate::proofs::Lists::push_steps))]
-    pub fn push(&mut self, tree: Box<Expression<'a>>, height: u32) -> Result<(), AllocError>
-        requires high { height ≡ h.height (expression_of tree.value) }
+    pub fn push(&mut self, one: Read<'a>) -> Result<(), AllocError>
+        requires high { IsHigh one }
         requires all_high { IsAllHigh self.now }
         ensures trees { IfOk result (λ _. trees_of self.new ≡ trees_of self.old
-            ++ expression_of tree.entry.value ∷ []) }
+            ++ tree_of one.entry ∷ []) }
         ensures all_high { IfOk result (λ _. IsAllHigh self.new) }
-        ensures height { IfOk result (λ _. self.new.height ≡ max self.old.height height) }
+        ensures height { IfOk result (λ _. self.new.height ≡ max self.old.height one.entry.height) }
     {
+        let Read { tree, height } = one;
         push_boxed(&mut self.trees, tree)?;
         self.height = self.height.max(height);
         Ok(())

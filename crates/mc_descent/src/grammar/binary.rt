@@ -13,6 +13,7 @@ ghost use Rattle.mc_descent.specs.Given.{GivesMade, GivesTree, IsHigh, tree_of, 
 
 use crate::grammar::Grammar;
 use crate::grammar::makers::{boxed, end_of_expressions};
+use crate::grammar::operators::{assignment_operator, binary_operator};
 use crate::grammar::parts::PartReader;
 use crate::read::{Read, ReadAll};
 use mc_cursor::cursor::Cursor;
@@ -169,7 +170,7 @@ impl<'a, P: PartReader<'a>> Grammar<P> {
     {
         let mut left = first;
         for _turn in 0..tokens.turns() {
-            match tokens.operator(level) {
+            match binary_operator(level, tokens) {
                 None => return Ok(left),
                 Some(operator) => left = self.operation(level, operator, left, tokens)?,
             }
@@ -269,7 +270,7 @@ impl<'a, P: PartReader<'a>> Grammar<P> {
         ensures height { IfOk result (λ r. r.height ≤ self.now.room) }
     {
         let target = self.cond(tokens)?;
-        match tokens.assignment() {
+        match assignment_operator(tokens) {
             Some(operator) if is_unary(&target.tree) => self.assignment(operator, target, tokens),
             _ => Ok(target),
         }
@@ -293,7 +294,7 @@ impl<'a, P: PartReader<'a>> Grammar<P> {
         tokens.take()?;
         let start = first.tree.span();
         let mut all = ReadAll::new(self.alloc);
-        all.push(first.tree, first.height)?;
+        all.push(first)?;
         self.expressions(&mut all, tokens)?;
         made_comma(self.alloc, start, all)
     }

@@ -10,7 +10,7 @@ ghost use Rattle.mc_reading.specs.Specifiers as spec;
 ghost use Rattle.mc_reading.specs.Rooms.{reading};
 ghost use Rattle.mc_cursor.specs.Cursors.{Gives, left_of};
 ghost use Rattle.mc_cursor.specs.Short.{IsShort};
-ghost use Rattle.mc_descent.specs.Given.{GivesPart, specifiers_of};
+ghost use Rattle.mc_descent.specs.Given.{GivesPart, IsHigh, specifiers_of, tree_of};
 ghost use Rattle.mc_descent.specs.Parts as view;
 
 use crate::grammar::Grammar;
@@ -27,6 +27,41 @@ use mc_lex::Token;
 use mc_span::Span;
 use mc_tree::{ArrayLength, Declarator, Identifier, Parameter};
 use std::alloc::Global;
+
+/// A pair of brackets without a length, after the first bracket.
+#[inline(never)]
+fn no_length<'a>(tokens: &mut Cursor<'_, 'a>) -> Result<ReadLength<'a>, Fault>
+    ensures { Gives view.length_of (view.no_length (left_of tokens.old)) result
+        (left_of tokens.new) }
+{
+    let end = place(tokens.take()?);
+    let one = ArrayLength::Absent;
+    Ok(ReadLength { one, end })
+}
+
+/// The end of a pair of brackets, after the length.
+#[inline(never)]
+fn length_end<'a>(
+    value: Read<'a>,
+    tokens: &mut Cursor<'_, 'a>,
+    tallest: &mut u32,
+) -> Result<ReadLength<'a>, Fault>
+    requires high { IsHigh value }
+    ensures length { GivesPart view.length_of (λ _. value.entry.height)
+        (view.length_end (tree_of value.entry) (left_of tokens.old)) result (left_of tokens.new)
+        tallest.old tallest.new }
+{
+    let close = tokens.expect(b"]")?;
+    let Read {
+        tree: value,
+        height,
+    } = value;
+    *tallest = (*tallest).max(height);
+    Ok(ReadLength {
+        one: ArrayLength::Given { value },
+        end: place(close),
+    })
+}
 
 /// A declarator of a function without parameters, from the parenthesis that closes its list on.
 #[inline(never)]
@@ -131,22 +166,10 @@ impl<'a, P: PartReader<'a>> Grammar<P> {
     {
         tokens.take()?;
         if tokens.sees(b"]") {
-            let close = tokens.take()?;
-            return Ok(ReadLength {
-                one: ArrayLength::Absent,
-                end: place(close),
-            });
+            return no_length(tokens);
         }
-        let Read {
-            tree: value,
-            height,
-        } = self.part(Rule::Cond, tokens)?;
-        let close = tokens.expect(b"]")?;
-        *tallest = (*tallest).max(height);
-        Ok(ReadLength {
-            one: ArrayLength::Given { value },
-            end: place(close),
-        })
+        let value = self.part(Rule::Cond, tokens)?;
+        length_end(value, tokens, tallest)
     }
 
     /// The brackets after a token at this place.

@@ -1,17 +1,20 @@
 //! Members of structures and constants of enumerations (C17 6.7.2.1, 6.7.2.2).
-ghost use Rattle.std.specs.Prelude.{◌≡◌, ◌≤◌, ◌+◌, ◌-◌, IfOk, [], map};
-ghost use Rattle.mc_tree.specs.Views.{enumerator_of};
+ghost use Rattle.std.specs.Prelude.{◌≡◌, ◌≤◌, ◌+◌, ◌-◌, IfOk, [], map, max};
+ghost use Rattle.mc_lex.specs.Tokens.{tok_of};
+ghost use Rattle.mc_tree.specs.Tree as t;
 ghost use Rattle.mc_tree.specs.Height.{height_enumerator, height_member};
-ghost use Rattle.mc_grammar.specs.Words.{sees_specifiers};
+ghost use Rattle.mc_grammar.specs.Words.{lexeme_of, sees_specifiers};
+ghost use Rattle.mc_grammar.specs.Places.{name_at};
 ghost use Rattle.mc_reading.specs.Lists.{braced_list, comma_list, listed, some_list};
 ghost use Rattle.mc_reading.specs.Specifiers as spec;
 ghost use Rattle.mc_reading.specs.Rooms.{reading};
 ghost use Rattle.mc_cursor.specs.Cursors.{left_of};
-ghost use Rattle.mc_descent.specs.Given.{GivesPart, specifiers_of};
+ghost use Rattle.mc_cursor.specs.Short.{IsShort};
+ghost use Rattle.mc_descent.specs.Given.{GivesPart, specifiers_of, tree_of};
 ghost use Rattle.mc_descent.specs.Parts as view;
 
 use crate::grammar::Grammar;
-use crate::grammar::lists::{push, push_boxed};
+use crate::grammar::lists::push_boxed;
 use crate::grammar::makers::on_heap;
 use crate::grammar::parts::PartReader;
 use crate::read::{Read, ReadSpecifiers};
@@ -19,6 +22,7 @@ use mc_cursor::cursor::{Cursor, identifier, place};
 use mc_cursor::fault::Fault;
 use mc_cursor::rule::Rule;
 use mc_cursor::to;
+use mc_lex::Token;
 use mc_span::Span;
 use mc_tree::{Declarator, Enumerator, Member};
 use std::alloc::Global;
@@ -51,6 +55,40 @@ fn member_end<'a>(
         span: to(start, place(close)),
     };
     on_heap(alloc, member)
+}
+
+/// A constant of an enumeration without a value.
+#[inline(never)]
+fn bare_enumerator<'a>(alloc: Global, name: &Token<'a>) -> Result<Box<Enumerator<'a>>, Fault>
+    requires short { IsShort name.now }
+    ensures { view.IsMade view.boxed_enumerator
+        (t.enumerator (name_at (lexeme_of (tok_of name.now)))) result }
+{
+    let name = identifier(name);
+    on_heap(alloc, Enumerator::Bare { name })
+}
+
+/// A constant of an enumeration with its value.
+#[inline(never)]
+fn valued_enumerator<'a>(
+    alloc: Global,
+    name: &Token<'a>,
+    value: Read<'a>,
+    tallest: &mut u32,
+) -> Result<Box<Enumerator<'a>>, Fault>
+    requires short { IsShort name.now }
+    ensures enumerator { view.IsMade view.boxed_enumerator
+        (t.valued_enumerator (name_at (lexeme_of (tok_of name.now))) (tree_of value.entry))
+        result }
+    ensures tallest { tallest.new ≡ max tallest.old value.entry.height }
+{
+    let name = identifier(name);
+    let Read {
+        tree: value,
+        height,
+    } = value;
+    *tallest = (*tallest).max(height);
+    on_heap(alloc, Enumerator::Valued { name, value })
 }
 
 impl<'a, P: PartReader<'a>> Grammar<P> {
@@ -135,26 +173,22 @@ impl<'a, P: PartReader<'a>> Grammar<P> {
         &self,
         tokens: &mut Cursor<'_, 'a>,
         tallest: &mut u32,
-    ) -> Result<Enumerator<'a>, Fault>
+    ) -> Result<Box<Enumerator<'a>>, Fault>
         requires room { self.now.room ≤ 1000 }
         requires nests { P.nests self.now.parts self.now.room }
         requires low { tallest.now ≤ self.now.room - 1 }
-        ensures enumerator { GivesPart enumerator_of height_enumerator
+        ensures enumerator { GivesPart view.boxed_enumerator height_enumerator
             (spec.enumerator_of (reading self.now.room) (left_of tokens.old)) result
             (left_of tokens.new) tallest.old tallest.new }
         ensures low { IfOk result (λ _. tallest.new ≤ self.now.room - 1) }
     {
-        let name = identifier(tokens.expect_name()?);
+        let name = tokens.expect_name()?;
         if !tokens.sees(b"=") {
-            return Ok(Enumerator::Bare { name });
+            return bare_enumerator(self.alloc, name);
         }
         tokens.take()?;
-        let Read {
-            tree: value,
-            height,
-        } = self.part(Rule::Cond, tokens)?;
-        *tallest = (*tallest).max(height);
-        Ok(Enumerator::Valued { name, value })
+        let value = self.part(Rule::Cond, tokens)?;
+        valued_enumerator(self.alloc, name, value, tallest)
     }
 
     /// The constants of an enumeration; a comma may stand after the last.
@@ -176,7 +210,7 @@ impl<'a, P: PartReader<'a>> Grammar<P> {
         let mut all = Vec::new(self.alloc);
         for _turn in 0..tokens.turns() {
             let one = self.enumerator(tokens, tallest)?;
-            push(&mut all, one)?;
+            push_boxed(&mut all, one)?;
             if !tokens.sees(b",") {
                 return Ok(all);
             }

@@ -1,40 +1,41 @@
 //! Suffixes of postfix expressions (C17 6.5.2).
 ghost use Rattle.std.specs.Prelude.{◌≡◌, ◌≤◌, ◌+◌, IfOk, max};
-ghost use Rattle.mc_tree.specs.Tree as t;
-ghost use Rattle.mc_tree.specs.Tree.{span_of};
 ghost use Rattle.mc_tree.specs.Views.{expression_of};
 ghost use Rattle.mc_tree.specs.Height.{height};
-ghost use Rattle.mc_grammar.specs.Places as places;
 ghost use Rattle.mc_reading.specs.Expressions as spec;
 ghost use Rattle.mc_reading.specs.Rooms.{reading};
 ghost use Rattle.mc_cursor.specs.Cursors.{left_of};
-ghost use Rattle.mc_descent.specs.Given.{GivesMade, GivesTree, IsHigh, tree_of};
+ghost use Rattle.mc_descent.specs.Given.{GivesTree, IsHigh, tree_of};
+ghost use Rattle.mc_descent.specs.Parts as view;
 
 use crate::grammar::Grammar;
 use crate::grammar::makers::boxed;
+use crate::grammar::operators::{sees_suffix, step_operator};
 use crate::grammar::parts::PartReader;
 use crate::read::Read;
 use mc_cursor::cursor::{Cursor, identifier, place};
 use mc_cursor::fault::Fault;
 use mc_cursor::rule::Rule;
 use mc_cursor::to;
-use mc_span::Span;
 use mc_tree::{Expression, StepOperator};
 use std::alloc::Global;
 
+/// The end of an index, after its value.
 #[inline(never)]
-fn made_index<'a>(
+fn index_end<'a>(
     alloc: Global,
     array: Read<'a>,
     index: Read<'a>,
-    close: Span,
+    tokens: &mut Cursor<'_, 'a>,
 ) -> Result<Read<'a>, Fault>
     requires small { (array.height ≤ 1000) × (index.height ≤ 1000) }
-    ensures { GivesMade
-        (t.Index (tree_of array.entry) (tree_of index.entry)
-        (places.to (span_of (tree_of array.entry)) close))
-        (max array.entry.height index.entry.height + 1) result }
+    requires high { IsHigh array × IsHigh index }
+    ensures tree { GivesTree (view.index_end (tree_of array.entry) (tree_of index.entry)
+        (left_of tokens.old)) result (left_of tokens.new) }
+    ensures height { IfOk result (λ r. r.height
+        ≡ max array.entry.height index.entry.height + 1) }
 {
+    let close = tokens.expect(b"]")?;
     let Read {
         tree: array,
         height: array_height,
@@ -43,7 +44,7 @@ fn made_index<'a>(
         tree: index,
         height,
     } = index;
-    let span = to(array.span(), close);
+    let span = to(array.span(), place(close));
     let tree = Expression::Index { array, index, span };
     boxed(alloc, tree, array_height.max(height) + 1)
 }
@@ -112,8 +113,7 @@ impl<'a, P: PartReader<'a>> Grammar<P> {
     {
         tokens.take()?;
         let index = self.part(Rule::Comma, tokens)?;
-        let close = tokens.expect(b"]")?;
-        made_index(self.alloc, array, index, place(close))
+        index_end(self.alloc, array, index, tokens)
     }
 
     /// One suffix, after its expression.
@@ -137,7 +137,7 @@ impl<'a, P: PartReader<'a>> Grammar<P> {
         if tokens.sees(b".") {
             return member(self.alloc, base, tokens);
         }
-        match tokens.step() {
+        match step_operator(tokens) {
             Some(operator) => postfix_step(self.alloc, base, operator, tokens),
             None => Err(Fault::Syntax),
         }
@@ -155,7 +155,7 @@ impl<'a, P: PartReader<'a>> Grammar<P> {
     {
         let mut base = self.primary(tokens)?;
         for _turn in 0..tokens.turns() {
-            if !tokens.sees_suffix() {
+            if !sees_suffix(tokens) {
                 return Ok(base);
             }
             base = self.suffix(base, tokens)?;

@@ -12,7 +12,8 @@ ghost use Rattle.mc_reading.specs.Rooms.{reading};
 ghost use Rattle.mc_cursor.specs.Cursors.{left_of};
 ghost use Rattle.mc_cursor.specs.Rules.{nonterminal_of};
 ghost use Rattle.mc_cursor.specs.Short.{IsShort};
-ghost use Rattle.mc_descent.specs.Given.{GivesMade, GivesMore, GivesTree, IsAllHigh, trees_of};
+ghost use Rattle.mc_descent.specs.Given.{GivesMade, GivesMore, GivesTree, IsAllHigh, IsHigh, tree_of, trees_of};
+ghost use Rattle.mc_descent.specs.Parts as view;
 
 use crate::grammar::Grammar;
 use crate::grammar::makers::boxed;
@@ -27,36 +28,47 @@ use mc_span::Span;
 use mc_tree::Expression;
 use std::alloc::Global;
 
+/// The end of a parenthesized expression, after what stands between the parentheses.
 #[inline(never)]
-fn made_parenthesized<'a>(
+fn parenthesized_end<'a>(
     alloc: Global,
-    inner: Box<Expression<'a>>,
-    height: u32,
-    span: Span,
+    start: Span,
+    inner: Read<'a>,
+    tokens: &mut Cursor<'_, 'a>,
 ) -> Result<Read<'a>, Fault>
-    requires small { height ≤ 1000 }
-    ensures { GivesMade (t.Parenthesized (expression_of inner.entry.value) span) (height + 1)
-        result }
+    requires small { inner.height ≤ 1000 }
+    requires high { IsHigh inner }
+    ensures tree { GivesTree (view.parenthesized_end start (tree_of inner.entry)
+        (left_of tokens.old)) result (left_of tokens.new) }
+    ensures height { IfOk result (λ r. r.height ≡ inner.entry.height + 1) }
 {
+    let close = tokens.expect(b")")?;
+    let Read {
+        tree: inner,
+        height,
+    } = inner;
+    let span = to(start, place(close));
     boxed(alloc, Expression::Parenthesized { inner, span }, height + 1)
 }
 
+/// The end of a call, after its arguments.
 #[inline(never)]
-fn call<'a>(
+fn call_end<'a>(
     alloc: Global,
     name: &Token<'a>,
     all: ReadAll<'a>,
-    close: Span,
+    tokens: &mut Cursor<'_, 'a>,
 ) -> Result<Read<'a>, Fault>
     requires short { IsShort name.now }
     requires small { all.height ≤ 1000 }
-    ensures { GivesMade
-        (t.Call (name_at (lexeme_of (tok_of name.now)))
-        (expressions_from (trees_of all.entry))
-        (places.to (at (lexeme_of (tok_of name.now))) close)) (all.entry.height + 1) result }
+    requires all_high { IsAllHigh all }
+    ensures tree { GivesTree (view.call_end (lexeme_of (tok_of name.now)) (trees_of all.entry)
+        (left_of tokens.old)) result (left_of tokens.new) }
+    ensures height { IfOk result (λ r. r.height ≡ all.entry.height + 1) }
 {
+    let close = tokens.expect(b")")?;
     let name = identifier(name);
-    let span = to(name.span, close);
+    let span = to(name.span, place(close));
     let ReadAll {
         trees: arguments,
         height,
@@ -76,6 +88,43 @@ fn made_name<'a>(alloc: Global, name: &Token<'a>) -> Result<Read<'a>, Fault>
 {
     let name = identifier(name);
     boxed(alloc, Expression::Name { name }, 1)
+}
+
+/// A constant, which is the next token.
+#[inline(never)]
+fn constant<'a>(
+    alloc: Global,
+    value: u64,
+    decimal: bool,
+    unsigned: bool,
+    longs: u32,
+    tokens: &mut Cursor<'_, 'a>,
+) -> Result<Read<'a>, Fault>
+    ensures tree { GivesTree
+        (view.constant_of value decimal unsigned longs (left_of tokens.old)) result
+        (left_of tokens.new) }
+    ensures height { IfOk result (λ r. r.height ≡ 1) }
+{
+    let span = place(tokens.take()?);
+    let tree = Expression::Constant {
+        value,
+        decimal,
+        unsigned,
+        longs,
+        span,
+    };
+    boxed(alloc, tree, 1)
+}
+
+/// A character constant, which is the next token.
+#[inline(never)]
+fn character<'a>(alloc: Global, value: i32, tokens: &mut Cursor<'_, 'a>) -> Result<Read<'a>, Fault>
+    ensures tree { GivesTree (view.character_of value (left_of tokens.old)) result
+        (left_of tokens.new) }
+    ensures height { IfOk result (λ r. r.height ≡ 1) }
+{
+    let span = place(tokens.take()?);
+    boxed(alloc, Expression::Character { value, span }, 1)
 }
 
 impl<'a, P: PartReader<'a>> Grammar<P> {
@@ -104,12 +153,8 @@ impl<'a, P: PartReader<'a>> Grammar<P> {
         if tokens.sees_specifiers() {
             return Err(Fault::Syntax);
         }
-        let Read {
-            tree: inner,
-            height,
-        } = self.part(Rule::Comma, tokens)?;
-        let close = tokens.expect(b")")?;
-        made_parenthesized(self.alloc, inner, height, to(place(open), place(close)))
+        let inner = self.part(Rule::Comma, tokens)?;
+        parenthesized_end(self.alloc, place(open), inner, tokens)
     }
 
     /// Reads the expressions of a list with commas between them, and puts them after these.
@@ -130,8 +175,8 @@ impl<'a, P: PartReader<'a>> Grammar<P> {
         ensures height { IfOk result (λ _. all.new.height + 1 ≤ self.now.room) }
     {
         for _turn in 0..tokens.turns() {
-            let Read { tree, height } = self.part(Rule::Assign, tokens)?;
-            all.push(tree, height)?;
+            let one = self.part(Rule::Assign, tokens)?;
+            all.push(one)?;
             if !tokens.sees(b",") {
                 return Ok(());
             }
@@ -142,6 +187,7 @@ impl<'a, P: PartReader<'a>> Grammar<P> {
 
     /// The arguments of a call and the parenthesis after them.
     #[inline(never)]
+    #[tactic(auto, unfolding(mc_grammar::specs::steps::Parsers::accept))]
     fn arguments(&self, name: &Token<'a>, tokens: &mut Cursor<'_, 'a>) -> Result<Read<'a>, Fault>
         requires room { (self.now.room ≤ 1000) × (1 ≤ self.now.room) }
         requires nests { P.nests self.now.parts self.now.room }
@@ -151,14 +197,11 @@ impl<'a, P: PartReader<'a>> Grammar<P> {
             (left_of tokens.old)) result (left_of tokens.new) }
         ensures height { IfOk result (λ r. r.height ≤ self.now.room) }
     {
-        if tokens.sees(b")") {
-            let close = tokens.take()?;
-            return call(self.alloc, name, ReadAll::new(self.alloc), place(close));
-        }
         let mut all = ReadAll::new(self.alloc);
-        self.expressions(&mut all, tokens)?;
-        let close = tokens.expect(b")")?;
-        call(self.alloc, name, all, place(close))
+        if !tokens.sees(b")") {
+            self.expressions(&mut all, tokens)?;
+        }
+        call_end(self.alloc, name, all, tokens)
     }
 
     /// A name, or a call.
@@ -180,44 +223,6 @@ impl<'a, P: PartReader<'a>> Grammar<P> {
         }
     }
 
-    /// A constant, which is the next token.
-    #[inline(never)]
-    fn constant(
-        &self,
-        value: u64,
-        decimal: bool,
-        unsigned: bool,
-        longs: u32,
-        tokens: &mut Cursor<'_, 'a>,
-    ) -> Result<Read<'a>, Fault>
-        ensures tree { GivesTree
-            (spec.primary_by (reading self.now.room) (kind.Constant value decimal unsigned longs)
-            (left_of tokens.old)) result (left_of tokens.new) }
-        ensures height { IfOk result (λ r. r.height ≡ 1) }
-    {
-        let span = place(tokens.take()?);
-        let tree = Expression::Constant {
-            value,
-            decimal,
-            unsigned,
-            longs,
-            span,
-        };
-        boxed(self.alloc, tree, 1)
-    }
-
-    /// A character constant, which is the next token.
-    #[inline(never)]
-    fn character(&self, value: i32, tokens: &mut Cursor<'_, 'a>) -> Result<Read<'a>, Fault>
-        ensures tree { GivesTree
-            (spec.primary_by (reading self.now.room) (kind.Character value) (left_of tokens.old))
-            result (left_of tokens.new) }
-        ensures height { IfOk result (λ r. r.height ≡ 1) }
-    {
-        let span = place(tokens.take()?);
-        boxed(self.alloc, Expression::Character { value, span }, 1)
-    }
-
     /// A primary expression, by the kind of the next token.
     #[inline(never)]
     #[tactic(auto, unfolding(mc_reading::specs::Expressions::primary_of))]
@@ -237,8 +242,8 @@ impl<'a, P: PartReader<'a>> Grammar<P> {
                     unsigned,
                     longs,
                 },
-            ) => self.constant(value, decimal, unsigned, longs, tokens),
-            Some(TokenKind::Character { value }) => self.character(value, tokens),
+            ) => constant(self.alloc, value, decimal, unsigned, longs, tokens),
+            Some(TokenKind::Character { value }) => character(self.alloc, value, tokens),
             Some(TokenKind::Punctuator) if tokens.sees(b"(") => self.parenthesized(tokens),
             _ => Err(Fault::Syntax),
         }

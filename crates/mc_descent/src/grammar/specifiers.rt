@@ -20,6 +20,7 @@ use crate::allowed::Allowed;
 use crate::grammar::Grammar;
 use crate::grammar::lists::push_boxed;
 use crate::grammar::makers::on_heap;
+use crate::grammar::operators::specifier_word;
 use crate::grammar::parts::PartReader;
 use crate::read::ReadSpecifiers;
 use mc_cursor::cursor::{Cursor, identifier, place};
@@ -286,7 +287,7 @@ impl<'a, P: PartReader<'a>> Grammar<P> {
             (left_of tokens.new) tallest.old tallest.new }
         ensures low { IfOk result (λ _. tallest.new ≤ self.now.room) }
     {
-        if let Some(word) = tokens.specifier_word() {
+        if let Some(word) = specifier_word(tokens) {
             return keyword(self.alloc, word, tokens);
         }
         if tokens.sees_keyword(b"struct") {

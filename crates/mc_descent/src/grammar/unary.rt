@@ -2,15 +2,18 @@
 ghost use Rattle.std.specs.Prelude.{◌≡◌, ◌≤◌, ◌+◌, IfOk, max, map, Some};
 ghost use Rattle.mc_tree.specs.Tree as t;
 ghost use Rattle.mc_tree.specs.Tree.{span_of};
+ghost use Rattle.mc_tree.specs.Height.{height_specifiers};
 ghost use Rattle.mc_grammar.specs.Places as places;
 ghost use Rattle.mc_grammar.specs.Counts.{for_type};
 ghost use Rattle.mc_reading.specs.Expressions as spec;
 ghost use Rattle.mc_reading.specs.Rooms.{reading};
 ghost use Rattle.mc_cursor.specs.Cursors.{Gives, left_of};
-ghost use Rattle.mc_descent.specs.Given.{GivesMade, GivesSpecifiers, GivesTree, GivesType, IsHigh, stars_of, tree_of, type_of};
+ghost use Rattle.mc_descent.specs.Given.{GivesMade, GivesSpecifiers, GivesTree, GivesType, specifiers_of, stars_of, tree_of, type_of};
+ghost use Rattle.mc_descent.specs.Parts as view;
 
 use crate::grammar::Grammar;
 use crate::grammar::makers::{boxed, end_of_specifiers};
+use crate::grammar::operators::{step_operator, unary_operator};
 use crate::grammar::parts::PartReader;
 use crate::read::{Read, ReadSpecifiers, ReadStars, ReadType};
 use mc_cursor::cursor::{Cursor, place};
@@ -38,6 +41,29 @@ pub fn stars(before: Span, tokens: &mut Cursor<'_, '_>) -> Result<ReadStars, Fau
         count += 1;
     }
     Err(Fault::Syntax)
+}
+
+/// A type name, after its specifiers.
+#[inline(never)]
+fn type_end<'a>(
+    start: Span,
+    read: ReadSpecifiers<'a>,
+    tokens: &mut Cursor<'_, 'a>,
+) -> Result<ReadType<'a>, Fault>
+    requires high { read.height ≡ height_specifiers (specifiers_of read) }
+    ensures name { GivesType (view.type_end start (specifiers_of read.entry) (left_of tokens.old))
+        result (left_of tokens.new) }
+    ensures height { IfOk result (λ r. r.height ≡ read.entry.height) }
+{
+    let stars = stars(end_of_specifiers(start, &read.all), tokens)?;
+    let ReadSpecifiers { all, height } = read;
+    let span = to(start, stars.end);
+    Ok(ReadType {
+        all,
+        stars: stars.count,
+        span,
+        height,
+    })
 }
 
 #[inline(never)]
@@ -74,6 +100,56 @@ fn made_cast<'a>(
     boxed(alloc, tree, type_height.max(height) + 1)
 }
 
+#[inline(never)]
+fn made_prefix_step<'a>(
+    alloc: Global,
+    operator: StepOperator,
+    first: Span,
+    operand: Read<'a>,
+) -> Result<Read<'a>, Fault>
+    requires small { operand.height ≤ 1000 }
+    ensures { GivesMade
+        (t.PrefixStep operator (tree_of operand.entry)
+        (places.to first (span_of (tree_of operand.entry)))) (operand.entry.height + 1) result }
+{
+    let Read {
+        tree: operand,
+        height,
+    } = operand;
+    let span = to(first, operand.span());
+    let tree = Expression::PrefixStep {
+        operator,
+        operand,
+        span,
+    };
+    boxed(alloc, tree, height + 1)
+}
+
+#[inline(never)]
+fn made_unary<'a>(
+    alloc: Global,
+    operator: UnaryOperator,
+    first: Span,
+    operand: Read<'a>,
+) -> Result<Read<'a>, Fault>
+    requires small { operand.height ≤ 1000 }
+    ensures { GivesMade
+        (t.Unary operator (tree_of operand.entry)
+        (places.to first (span_of (tree_of operand.entry)))) (operand.entry.height + 1) result }
+{
+    let Read {
+        tree: operand,
+        height,
+    } = operand;
+    let span = to(first, operand.span());
+    let tree = Expression::Unary {
+        operator,
+        operand,
+        span,
+    };
+    boxed(alloc, tree, height + 1)
+}
+
 impl<'a, P: PartReader<'a>> Grammar<P> {
     /// Reads the specifiers of a type, of fewer than `room` levels.
     #[inline(always)]
@@ -96,15 +172,8 @@ impl<'a, P: PartReader<'a>> Grammar<P> {
         ensures height { IfOk result (λ r. r.height + 1 ≤ self.now.room) }
     {
         let start = tokens.first()?;
-        let ReadSpecifiers { all, height } = self.types(tokens)?;
-        let stars = stars(end_of_specifiers(start, &all), tokens)?;
-        let span = to(start, stars.end);
-        Ok(ReadType {
-            all,
-            stars: stars.count,
-            span,
-            height,
-        })
+        let read = self.types(tokens)?;
+        type_end(start, read, tokens)
     }
 
     /// A cast, from its parenthesis on.
@@ -139,17 +208,8 @@ impl<'a, P: PartReader<'a>> Grammar<P> {
         ensures height { IfOk result (λ r. r.height ≤ self.now.room) }
     {
         let first = tokens.take()?;
-        let Read {
-            tree: operand,
-            height,
-        } = self.part(Rule::Unary, tokens)?;
-        let span = to(place(first), operand.span());
-        let tree = Expression::PrefixStep {
-            operator,
-            operand,
-            span,
-        };
-        boxed(self.alloc, tree, height + 1)
+        let operand = self.part(Rule::Unary, tokens)?;
+        made_prefix_step(self.alloc, operator, place(first), operand)
     }
 
     /// An operator before its operand.
@@ -167,17 +227,8 @@ impl<'a, P: PartReader<'a>> Grammar<P> {
         ensures height { IfOk result (λ r. r.height ≤ self.now.room) }
     {
         let first = tokens.take()?;
-        let Read {
-            tree: operand,
-            height,
-        } = self.part(Rule::Cast, tokens)?;
-        let span = to(place(first), operand.span());
-        let tree = Expression::Unary {
-            operator,
-            operand,
-            span,
-        };
-        boxed(self.alloc, tree, height + 1)
+        let operand = self.part(Rule::Cast, tokens)?;
+        made_unary(self.alloc, operator, place(first), operand)
     }
 
     #[tactic(auto, unfolding(mc_reading::specs::Expressions::unary_of))]
@@ -189,10 +240,10 @@ impl<'a, P: PartReader<'a>> Grammar<P> {
             (left_of tokens.new) }
         ensures height { IfOk result (λ r. r.height ≤ self.now.room) }
     {
-        if let Some(operator) = tokens.step() {
+        if let Some(operator) = step_operator(tokens) {
             return self.prefix_step(operator, tokens);
         }
-        match tokens.unary() {
+        match unary_operator(tokens) {
             Some(operator) => self.operated(operator, tokens),
             None => self.postfix(tokens),
         }

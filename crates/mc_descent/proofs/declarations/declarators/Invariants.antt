@@ -7,5 +7,5 @@ use Rattle.mc_descent.proofs.declarations.declarators.Given as goal
 
 abbrev pub invariant-loop-turn : goal.invariant-loop-turn
 invariant-loop-turn l =
-    listed (λ turns. comma_list turns (spec.init_declarator_of l.typedef l.room) (map init_declarator_of l.fn.before.items)) (left_of l.fn.tokens)
+    listed (λ turns. comma_list turns (spec.init_declarator_of l.typedef l.room) (map init_declarator_of l.fn.all.items)) (left_of l.fn.tokens)
     ≡ comma_list (l._turn-end - l._turn) (spec.init_declarator_of l.typedef l.room) (map init_declarator_of l.all.items) (left_of l.tokens)

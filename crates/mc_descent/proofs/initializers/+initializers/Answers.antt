@@ -1,4 +1,5 @@
 use Rattle.std.proofs.Common.{arith}
+use Rattle.mc_descent.proofs.Levels.{initializer_steps}
 use Rattle.mc_descent.proofs.Lists.{braced_steps}
 use Rattle.mc_descent.proofs.initializers.+initializers.Goals as goal
 
@@ -19,3 +20,18 @@ initializers-loop-turn-preserved t c = grind (arith, braced_steps)
 
 pub initializers-returns : goal.initializers-returns
 initializers-returns t c = grind (arith, braced_steps)
+
+pub initializer-returns : goal.initializer-returns
+initializer-returns t c = grind (arith, initializer_steps)
+
+pub initializer-returns-in_err-first : goal.initializer-returns-in_err-first
+initializer-returns-in_err-first t c = grind (arith, initializer_steps)
+
+pub initializer-returns-in_err-items : goal.initializer-returns-in_err-items
+initializer-returns-in_err-items t c = grind (arith, initializer_steps)
+
+pub initializer-returns-in_err-last : goal.initializer-returns-in_err-last
+initializer-returns-in_err-last t c = grind (arith, initializer_steps)
+
+pub initializer-returns-then-not-sees : goal.initializer-returns-then-not-sees
+initializer-returns-then-not-sees t c = grind (arith, initializer_steps)

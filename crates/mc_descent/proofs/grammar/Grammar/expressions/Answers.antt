@@ -2,8 +2,8 @@ use Rattle.std.proofs.Common.{arith}
 use Rattle.mc_descent.proofs.Lists.{expressions_steps}
 use Rattle.mc_descent.proofs.grammar.Grammar.expressions.Goals as goal
 
-pub returns-in_err-tree-clause-all : goal.returns-in_err-tree-clause-all
-returns-in_err-tree-clause-all g c = grind (arith, expressions_steps)
+pub returns-in_err-one-clause-all : goal.returns-in_err-one-clause-all
+returns-in_err-one-clause-all g c = grind (arith, expressions_steps)
 
 pub returns-then-not-sees-clause-all : goal.returns-then-not-sees-clause-all
 returns-then-not-sees-clause-all g c = grind (arith, expressions_steps)

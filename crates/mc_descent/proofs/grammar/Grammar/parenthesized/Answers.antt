@@ -6,10 +6,6 @@ pub returns-clause-tree : goal.returns-clause-tree
 unfolding parenthesized_of
 returns-clause-tree g c = grind (arith)
 
-pub returns-in_err-close-clause-tree : goal.returns-in_err-close-clause-tree
-unfolding parenthesized_of
-returns-in_err-close-clause-tree g c = grind (arith)
-
 pub returns-in_err-inner-clause-tree : goal.returns-in_err-inner-clause-tree
 unfolding parenthesized_of
 returns-in_err-inner-clause-tree g c = grind (arith)

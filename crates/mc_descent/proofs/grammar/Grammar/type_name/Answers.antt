@@ -6,13 +6,9 @@ pub returns-clause-name : goal.returns-clause-name
 unfolding type_name_of
 returns-clause-name g c = grind (arith)
 
-pub returns-in_err-all-clause-name : goal.returns-in_err-all-clause-name
+pub returns-in_err-read-clause-name : goal.returns-in_err-read-clause-name
 unfolding type_name_of
-returns-in_err-all-clause-name g c = grind (arith)
-
-pub returns-in_err-stars-clause-name : goal.returns-in_err-stars-clause-name
-unfolding type_name_of
-returns-in_err-stars-clause-name g c = grind (arith)
+returns-in_err-read-clause-name g c = grind (arith)
 
 pub returns-in_err-start-clause-name : goal.returns-in_err-start-clause-name
 unfolding type_name_of

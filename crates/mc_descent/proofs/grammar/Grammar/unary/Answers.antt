@@ -10,6 +10,6 @@ pub returns-in-Some-clause-tree : goal.returns-in-Some-clause-tree
 unfolding unary_of
 returns-in-Some-clause-tree g c = grind (arith)
 
-pub returns-in-Some-unary-clause-tree : goal.returns-in-Some-unary-clause-tree
+pub returns-in-Some-unary_operator-clause-tree : goal.returns-in-Some-unary_operator-clause-tree
 unfolding unary_of
-returns-in-Some-unary-clause-tree g c = grind (arith)
+returns-in-Some-unary_operator-clause-tree g c = grind (arith)

@@ -1,4 +1,5 @@
-//! Which operator or specifier word the next token is.
+//! Which operator or specifier word the next token is. Each answer is a call of its own, so that
+//! what tells the words apart takes no room where expressions nest.
 ghost use Rattle.std.specs.Prelude.{◌≡◌};
 ghost use Rattle.mc_lex.specs.Tokens.{tok_of};
 ghost use Rattle.mc_grammar.specs.Words.{lexeme_of, next_is};
@@ -7,9 +8,8 @@ ghost use Rattle.mc_grammar.specs.steps.Next.{assignment_next, step_next, unary_
 ghost use Rattle.mc_cursor.specs.Cursors.{left_of};
 ghost use Rattle.mc_cursor.specs.Rules.{level_of};
 
-use crate::cursor::Cursor;
-use crate::cursor::asks::{is_keyword, is_punctuator};
-use crate::rule::Level;
+use mc_cursor::cursor::{Cursor, is_keyword, is_punctuator};
+use mc_cursor::rule::Level;
 use mc_lex::Token;
 use mc_tree::{AssignmentOperator, BinaryOperator, SpecifierWord, StepOperator, UnaryOperator};
 
@@ -125,67 +125,71 @@ fn word_at(token: &Token<'_>) -> Option<SpecifierWord>
     }
 }
 
-impl<'t, 'a> Cursor<'t, 'a> {
-    /// The operator between two operands that is next, at this level.
-    #[tactic(auto, unfolding(crate::specs::Cursors::marked_all))]
-    pub fn operator(&self, level: Level) -> Option<BinaryOperator>
-        ensures { result ≡ spec.operator_next (level_of level) (left_of self.now) }
-    {
-        match self.rest {
-            [] => None,
-            [first, ..] => operator_at(level, first),
-        }
+/// The operator between two operands that is next, at this level.
+#[inline(never)]
+#[tactic(auto, unfolding(mc_cursor::specs::Cursors::marked_all))]
+pub fn binary_operator(level: Level, tokens: &Cursor<'_, '_>) -> Option<BinaryOperator>
+    ensures { result ≡ spec.operator_next (level_of level) (left_of tokens.now) }
+{
+    match tokens.rest {
+        [] => None,
+        [first, ..] => operator_at(level, first),
     }
+}
 
-    /// The operator that assigns which is next.
-    #[tactic(auto, unfolding(crate::specs::Cursors::marked_all))]
-    pub fn assignment(&self) -> Option<AssignmentOperator>
-        ensures { result ≡ assignment_next (left_of self.now) }
-    {
-        match self.rest {
-            [] => None,
-            [first, ..] => assignment_at(first),
-        }
+/// The operator that assigns which is next.
+#[inline(never)]
+#[tactic(auto, unfolding(mc_cursor::specs::Cursors::marked_all))]
+pub fn assignment_operator(tokens: &Cursor<'_, '_>) -> Option<AssignmentOperator>
+    ensures { result ≡ assignment_next (left_of tokens.now) }
+{
+    match tokens.rest {
+        [] => None,
+        [first, ..] => assignment_at(first),
     }
+}
 
-    /// Which of `++` and `--` is next.
-    #[tactic(auto, unfolding(crate::specs::Cursors::marked_all))]
-    pub fn step(&self) -> Option<StepOperator>
-        ensures { result ≡ step_next (left_of self.now) }
-    {
-        match self.rest {
-            [first, ..] if is_punctuator(first, b"++") => Some(StepOperator::Increment),
-            [first, ..] if is_punctuator(first, b"--") => Some(StepOperator::Decrement),
-            _ => None,
-        }
+/// Which of `++` and `--` is next.
+#[inline(never)]
+#[tactic(auto, unfolding(mc_cursor::specs::Cursors::marked_all))]
+pub fn step_operator(tokens: &Cursor<'_, '_>) -> Option<StepOperator>
+    ensures { result ≡ step_next (left_of tokens.now) }
+{
+    match tokens.rest {
+        [first, ..] if is_punctuator(first, b"++") => Some(StepOperator::Increment),
+        [first, ..] if is_punctuator(first, b"--") => Some(StepOperator::Decrement),
+        _ => None,
     }
+}
 
-    /// The operator before one operand that is next.
-    #[tactic(auto, unfolding(crate::specs::Cursors::marked_all))]
-    pub fn unary(&self) -> Option<UnaryOperator>
-        ensures { result ≡ unary_next (left_of self.now) }
-    {
-        match self.rest {
-            [] => None,
-            [first, ..] => unary_at(first),
-        }
+/// The operator before one operand that is next.
+#[inline(never)]
+#[tactic(auto, unfolding(mc_cursor::specs::Cursors::marked_all))]
+pub fn unary_operator(tokens: &Cursor<'_, '_>) -> Option<UnaryOperator>
+    ensures { result ≡ unary_next (left_of tokens.now) }
+{
+    match tokens.rest {
+        [] => None,
+        [first, ..] => unary_at(first),
     }
+}
 
-    /// Whether a suffix is next: `[`, `.`, `++` or `--` (C17 6.5.2).
-    pub fn sees_suffix(&self) -> bool
-        ensures { result ≡ next_is spec.is_suffix (left_of self.now) }
-    {
-        self.sees(b"[") || self.sees(b".") || self.sees(b"++") || self.sees(b"--")
-    }
+/// Whether a suffix is next: `[`, `.`, `++` or `--` (C17 6.5.2).
+#[inline(never)]
+pub fn sees_suffix(tokens: &Cursor<'_, '_>) -> bool
+    ensures { result ≡ next_is spec.is_suffix (left_of tokens.now) }
+{
+    tokens.sees(b"[") || tokens.sees(b".") || tokens.sees(b"++") || tokens.sees(b"--")
+}
 
-    /// The keyword that alone is a specifier, where one is next.
-    #[tactic(auto, unfolding(crate::specs::Cursors::marked_all))]
-    pub fn specifier_word(&self) -> Option<SpecifierWord>
-        ensures { result ≡ word_next (left_of self.now) }
-    {
-        match self.rest {
-            [] => None,
-            [first, ..] => word_at(first),
-        }
+/// The keyword that alone is a specifier, where one is next.
+#[inline(never)]
+#[tactic(auto, unfolding(mc_cursor::specs::Cursors::marked_all))]
+pub fn specifier_word(tokens: &Cursor<'_, '_>) -> Option<SpecifierWord>
+    ensures { result ≡ word_next (left_of tokens.now) }
+{
+    match tokens.rest {
+        [] => None,
+        [first, ..] => word_at(first),
     }
 }

@@ -1,0 +1,23 @@
+use Rattle.std.proofs.Common.{arith}
+use Rattle.mc_reading.specs.Specifiers.{enumerator_of}
+use Rattle.mc_descent.proofs.grammar.Grammar.enumerator.Goals as goal
+
+pub returns-clause-enumerator : goal.returns-clause-enumerator
+unfolding enumerator_of
+returns-clause-enumerator g c = grind (arith)
+
+pub returns-in_err-name-clause-enumerator : goal.returns-in_err-name-clause-enumerator
+unfolding enumerator_of
+returns-in_err-name-clause-enumerator g c = grind (arith)
+
+pub returns-in_err-take-clause-enumerator : goal.returns-in_err-take-clause-enumerator
+unfolding enumerator_of
+returns-in_err-take-clause-enumerator g c = grind (arith)
+
+pub returns-in_err-value-clause-enumerator : goal.returns-in_err-value-clause-enumerator
+unfolding enumerator_of
+returns-in_err-value-clause-enumerator g c = grind (arith)
+
+pub returns-then-not-sees-clause-enumerator : goal.returns-then-not-sees-clause-enumerator
+unfolding enumerator_of
+returns-then-not-sees-clause-enumerator g c = grind (arith)
