@@ -7,3 +7,4 @@ pub mod Growth
 pub mod Numbered
 pub mod Lists
 pub mod Alone
+pub mod Absent

@@ -2,3 +2,4 @@ pub mod Declarations
 pub mod Halves
 pub mod Bodies
 pub mod Laws
+pub mod Lists

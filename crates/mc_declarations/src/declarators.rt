@@ -1,9 +1,10 @@
 //! Names that are declared (C17 6.7p3), and the types of declarators (6.7.6).
-ghost use Rattle.std.specs.Prelude.{◌≡◌, ◌||◌, ◌&&◌, map, is_some, IfOk, option_map};
+ghost use Rattle.std.specs.Prelude.{◌≡◌, ◌||◌, ◌&&◌, List, map, is_some, IfOk, option_map};
 ghost use Rattle.mc_tree.specs.Tree as tree;
 ghost use Rattle.mc_tree.specs.Views.{array_length_of, name_of};
 ghost use Rattle.mc_typing.specs.Declarators as d;
-ghost use Rattle.mc_faults.specs.Faults.{least_of};
+ghost use Rattle.mc_faults.specs.declared.fault.Fault.{Fault};
+ghost use Rattle.mc_faults.specs.Faults.{least_of, unless_faulty};
 ghost use Rattle.mc_typing.specs.Limits as limit;
 ghost use Rattle.mc_typing.specs.Scopes as s;
 ghost use Rattle.mc_typing.specs.Types as t;
@@ -66,8 +67,7 @@ fn is_first_absent(lengths: &[ArrayLength<'_>]) -> bool
 }
 
 fn is_absent(length: &ArrayLength<'_>) -> bool
-    ensures { (rest : tree.ArrayLengths) → d.has_absent (array_length_of length.now rest)
-        ≡ (result || d.has_absent rest) }
+    ensures { result ≡ d.is_first_absent (array_length_of length.now tree.no_lengths) }
 {
     match length {
         ArrayLength::Absent => true,
@@ -75,6 +75,7 @@ fn is_absent(length: &ArrayLength<'_>) -> bool
     }
 }
 
+#[tactic(auto, using(crate::proofs::Absent::absent_more))]
 fn has_absent(lengths: &[ArrayLength<'_>]) -> bool
     ensures { result ≡ d.has_absent (written lengths.now) }
 {
@@ -90,14 +91,12 @@ fn has_absent(lengths: &[ArrayLength<'_>]) -> bool
 }
 
 /// Whether a length after the first one is absent. Takes no memory.
+#[tactic(auto, using(crate::proofs::Absent::later_absent))]
 pub(crate) fn is_later_absent(lengths: &[ArrayLength<'_>]) -> bool
     ensures { result ≡ d.is_later_absent (written lengths.now) }
 {
     match lengths {
-        [first, later @ ..] => match first {
-            ArrayLength::Absent => has_absent(later),
-            ArrayLength::Given { .. } => has_absent(later),
-        },
+        [_, later @ ..] => has_absent(later),
         [] => false,
     }
 }
@@ -144,10 +143,10 @@ fn array_of(
     match front {
         Some(front) => match given {
             Some(given) => match base {
-                Some(base) => {
-                    let of = CType::array_of(alloc, front, given, base)?;
-                    Ok(Some(of))
-                }
+                Some(base) => match CType::array_of(alloc, front, given, base) {
+                    Ok(of) => Ok(Some(of)),
+                    Err(error) => Err(error),
+                },
                 None => Ok(None),
             },
             None => Ok(None),
@@ -220,12 +219,30 @@ pub(crate) fn object_limit_fault(
     }
 }
 
+/// The same type, where there is one and no fault.
+#[tactic(auto, using(crate::proofs::DeclarationFaults::unless_by_least))]
+pub(crate) fn copy_unless(
+    fault: Option<Fault>,
+    of: &Option<CType>,
+) -> Result<Option<CType>, AllocError>
+    ensures { IfOk result (λ r. (fs : List Fault) → fault ≡ least_of fs
+        → option_map type_of r ≡ unless_faulty fs (option_map type_of of.now)) }
+{
+    match fault {
+        Some(_) => Ok(None),
+        None => copy_of(of),
+    }
+}
+
 /// The same type, where there is one.
 pub(crate) fn copy_of(of: &Option<CType>) -> Result<Option<CType>, AllocError>
     ensures { IfOk result (λ r. option_map type_of r ≡ option_map type_of of.now) }
 {
     match of {
-        Some(of) => Ok(Some(of.try_clone()?)),
+        Some(of) => match of.try_clone() {
+            Ok(of) => Ok(Some(of)),
+            Err(error) => Err(error),
+        },
         None => Ok(None),
     }
 }

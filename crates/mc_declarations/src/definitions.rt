@@ -1,5 +1,5 @@
 //! Function definitions (C17 6.9.1).
-ghost use Rattle.std.specs.Prelude.{◌≡◌, [], ◌∷◌, ◌++◌, IfOk, List, Option, length, take, map, option_map};
+ghost use Rattle.std.specs.Prelude.{◌≡◌, [], ◌∷◌, ◌++◌, IfOk, OnOk, true, List, Option, length, take, map, option_map};
 ghost use Rattle.mc_tree.specs.Tree as tree;
 ghost use Rattle.mc_tree.specs.Views.{name_of, parameter_of, parameters_from};
 ghost use Rattle.mc_typed.specs.Tree as typed;
@@ -12,6 +12,7 @@ ghost use Rattle.mc_typing.specs.Scopes as s;
 ghost use Rattle.mc_typing.specs.Types as t;
 ghost use Rattle.mc_typing.specs.Typing as ty;
 ghost use Rattle.mc_scopes.specs.Blocks.{Around, around, around_of, function_left_by};
+ghost use Rattle.mc_scopes.specs.Prototypes.{body_in, with_one_name};
 ghost use Rattle.mc_scopes.specs.Types.{base_of, kind_of, type_of};
 ghost use Rattle.mc_scopes.specs.Types as types;
 ghost use Rattle.mc_scopes.specs.Views.{scope_of, structure_of};
@@ -28,6 +29,8 @@ use crate::faults::first_fault;
 use crate::parameters::Parameters;
 use crate::signatures::{function_fault, repeated_fault, result_of, signature};
 use crate::tags::plain;
+use crate::unused;
+use crate::values::with_last;
 use mc_faults::{Fault, FaultKind, after_two, fault_where, lesser};
 use mc_scopes::found::Judged;
 use mc_scopes::{
@@ -75,9 +78,11 @@ pub fn heading_of(
     ensures { IfOk result (λ r. IsHeading r (name_of name.now) (option_map type_of gives.now)
         (scope_of scope.now)) }
 {
-    let before = declared_before(scope.meaning_here(name))?;
     let incomplete = is_incomplete(&scope.structures, result_of(gives));
-    Ok(Heading { before, incomplete })
+    match declared_before(scope.meaning_here(name)) {
+        Ok(before) => Ok(Heading { before, incomplete }),
+        Err(error) => Err(error),
+    }
 }
 
 // ---- after the parameters
@@ -145,29 +150,55 @@ pub struct Body {
 // The fault of a definition before its body; `of` is its type.
 #[tactic(auto, using(mc_scopes::proofs::Squeezed::joined_listed, mc_scopes::proofs::Squeezed::joined_leasts))]
 fn head_fault(
-    alloc: Global,
     heading: &Heading,
     name: &Identifier<'_>,
     typed: &Judged<CType>,
     unnamed: Option<Fault>,
     parameters: &Parameters,
     of: &Option<Arc<Signature>>,
-) -> Result<Option<Fault>, AllocError>
-    ensures { IfOk result (λ r. (o u : s.Scope) (ps : tree.Parameters)
+) -> Option<Fault>
+    ensures { (o u : s.Scope) (ps : tree.Parameters)
         → IsHeading heading.now (name_of name.now) (option_map type_of typed.now.value) o
         → unnamed ≡ least_of (ty.names_faults ps)
         → signature_in of.now ≡ w.signature_listed (option_map type_of typed.now.value)
         (listed_parameters parameters.now u)
-        → r ≡ least_of (definition_begun (name_of name.now) ps (judged_of type_of typed.now o)
-        (listed_parameters parameters.now u)).faults) }
+        → result ≡ least_of (definition_begun (name_of name.now) ps (judged_of type_of typed.now o)
+        (listed_parameters parameters.now u)).faults }
 {
     let at = name.span.start;
     let count = parameters.kinds.len();
     let own = definition_fault(heading, name);
-    let function = function_fault(alloc, name, &typed.value, count, of)?;
+    let function = function_fault(name, &typed.value, count, of);
     let repeated = repeated_fault(&heading.before, of, at);
     let own = lesser(unnamed, lesser(repeated, lesser(function, own)));
-    Ok(lesser(typed.fault, lesser(parameters.fault, own)))
+    lesser(typed.fault, lesser(parameters.fault, own))
+}
+
+// The block of the body of a function with this type.
+fn enter_definition<'a>(
+    alloc: Global,
+    scope: &mut Scope<'a>,
+    block: Block,
+    name: &Identifier<'a>,
+    of: &Option<Arc<Signature>>,
+) -> Result<Block, AllocError>
+    ensures around { IfOk result (λ b. around_of b ≡ with_one_name (around_of block)) }
+    ensures body { IfOk result (λ b. scope_of scope.new ≡ body_in (around_of block).names
+        (name_of name.now) (s.Function (signature_in of.now) true) (scope_of scope.old)) }
+{
+    match share_signature(of) {
+        Ok(signature) => {
+            let meaning = Meaning::Function {
+                signature,
+                has_body: true,
+            };
+            scope.enter_body(alloc, block, name, meaning)
+        }
+        Err(error) => {
+            drop(block);
+            Err(error)
+        }
+    }
 }
 
 /// The parameters of a definition are known, and its body begins. `unnamed` is the first fault of
@@ -192,18 +223,26 @@ pub fn begin_definition<'a>(
         → around_of r.block ≡ around (ty.with_function (name_of name.now)
         (signature_in r.signature) o)) }
 {
-    let of = signature(alloc, &typed.value, &parameters.kinds)?;
-    let fault = head_fault(alloc, heading, name, typed, unnamed, parameters, &of)?;
-    let meaning = Meaning::Function {
-        signature: share_signature(&of)?,
-        has_body: true,
-    };
-    let block = scope.enter_body(alloc, block, name, meaning)?;
-    Ok(Body {
-        fault,
-        signature: of,
-        block,
-    })
+    match signature(alloc, &typed.value, &parameters.kinds) {
+        Ok(of) => {
+            let fault = head_fault(heading, name, typed, unnamed, parameters, &of);
+            match enter_definition(alloc, scope, block, name, &of) {
+                Ok(block) => Ok(Body {
+                    fault,
+                    signature: of,
+                    block,
+                }),
+                Err(error) => {
+                    unused::signature(of);
+                    Err(error)
+                }
+            }
+        }
+        Err(error) => {
+            drop(block);
+            Err(error)
+        }
+    }
 }
 
 // ---- after the body
@@ -222,10 +261,10 @@ fn parameter_type(
             Base::Void => structure_parameter(alloc, structures, Base::Void),
             Base::Tagged(number) => structure_parameter(alloc, structures, Base::Tagged(number)),
         },
-        ParameterKind::Array(element) => {
-            let element = layout(alloc, structures, element)?;
-            Ok(ParameterType::Array(element))
-        }
+        ParameterKind::Array(element) => match layout(alloc, structures, element) {
+            Ok(element) => Ok(ParameterType::Array(element)),
+            Err(error) => Err(error),
+        },
     }
 }
 
@@ -238,8 +277,29 @@ fn structure_parameter(
         (t.layout_of (map structure_of structures.now) (t.plain (base_of base)))) }
 {
     let of = plain(alloc, base);
-    let layout = layout(alloc, structures, &of)?;
-    Ok(ParameterType::Structure(layout))
+    let layout = layout(alloc, structures, &of);
+    drop(of);
+    match layout {
+        Ok(layout) => Ok(ParameterType::Structure(layout)),
+        Err(error) => Err(error),
+    }
+}
+
+// Adds the types of parameters to none.
+fn add_parameter_types(
+    alloc: Global,
+    structures: &[Structure<'_>],
+    types: &mut Vec<ParameterType>,
+    kinds: &[ParameterKind],
+) -> Result<(), AllocError>
+    requires { types.old.items ≡ [] }
+    ensures { OnOk result (map views.parameter_of types.new.items ≡ map
+        (ty.parameter_type (map structure_of structures.now)) (map kind_of kinds.now)) }
+{
+    for kind in kinds {
+        types.push(parameter_type(alloc, structures, kind)?)?;
+    }
+    Ok(())
 }
 
 fn parameter_types(
@@ -251,10 +311,13 @@ fn parameter_types(
         (ty.parameter_type (map structure_of structures.now)) (map kind_of kinds.now)) }
 {
     let mut types = Vec::new(alloc);
-    for kind in kinds {
-        types.push(parameter_type(alloc, structures, kind)?)?;
+    match add_parameter_types(alloc, structures, &mut types, kinds) {
+        Ok(()) => Ok(types),
+        Err(error) => {
+            drop(types);
+            Err(error)
+        }
     }
-    Ok(types)
 }
 
 fn result_type(
@@ -270,9 +333,36 @@ fn result_type(
         Base::Integer(of) => Ok(ResultType::Int(of)),
         Base::Tagged(number) => {
             let of = plain(alloc, Base::Tagged(number));
-            let layout = layout(alloc, structures, &of)?;
-            Ok(ResultType::Structure(layout))
+            let layout = layout(alloc, structures, &of);
+            drop(of);
+            match layout {
+                Ok(layout) => Ok(ResultType::Structure(layout)),
+                Err(error) => Err(error),
+            }
         }
+    }
+}
+
+// The types of a function's parameters and of its result.
+fn function_types(
+    alloc: Global,
+    structures: &[Structure<'_>],
+    of: &Signature,
+) -> Result<(Vec<ParameterType>, ResultType), AllocError>
+    ensures parameters { IfOk result (λ r. map views.parameter_of r.0.items ≡ map
+        (ty.parameter_type (map structure_of structures.now)) (map kind_of of.now.parameters.items)) }
+    ensures result { IfOk result (λ r. views.result_of r.1
+        ≡ ty.result_type (map structure_of structures.now) (base_of of.now.result)) }
+{
+    match parameter_types(alloc, structures, &of.parameters) {
+        Ok(parameters) => match result_type(alloc, structures, of.result) {
+            Ok(result) => Ok((parameters, result)),
+            Err(error) => {
+                drop(parameters);
+                Err(error)
+            }
+        },
+        Err(error) => Err(error),
     }
 }
 
@@ -300,26 +390,34 @@ fn function_from<'a>(
         → views.function_of r ≡ ty.function_from (name_of name.now) span s
         (types.signature_of of.now) (statements_of body)) }
 {
-    Ok(Function {
-        name: name.text,
-        name_span: name.span,
-        parameters: parameter_types(alloc, structures, &of.parameters)?,
-        result: result_type(alloc, structures, of.result)?,
-        objects,
-        body,
-        closing: closing(span),
-        registers: 0,
-        entry: None,
-        exit: None,
-    })
+    match function_types(alloc, structures, of) {
+        Ok((parameters, result)) => Ok(Function {
+            name: name.text,
+            name_span: name.span,
+            parameters,
+            result,
+            objects,
+            body,
+            closing: closing(span),
+            registers: 0,
+            entry: None,
+            exit: None,
+        }),
+        Err(error) => {
+            drop(objects);
+            drop(body);
+            Err(error)
+        }
+    }
 }
 
 fn one_function<'a>(alloc: Global, function: Function<'a>) -> Result<Vec<Function<'a>>, AllocError>
     ensures { IfOk result (λ r. functions_of r ≡ views.function_of function.entry ∷ []) }
 {
-    let mut list = Vec::new(alloc);
-    list.push(function)?;
-    Ok(list)
+    match with_last(Vec::new(alloc), function) {
+        Ok(list) => Ok(list),
+        Err(error) => Err(error),
+    }
 }
 
 // The function with this type and this body, alone; its objects leave the scope.
@@ -360,12 +458,17 @@ fn function_listed<'a>(
     match of {
         Some(of) => match body {
             Some(body) => {
-                let list = function_alone(alloc, scope, name, span, of, body)?;
-                Ok(Some(list))
+                match function_alone(alloc, scope, name, span, of, body) {
+                    Ok(list) => Ok(Some(list)),
+                    Err(error) => Err(error),
+                }
             }
             None => Ok(None),
         },
-        None => Ok(None),
+        None => {
+            unused::statements(body);
+            Ok(None)
+        }
     }
 }
 

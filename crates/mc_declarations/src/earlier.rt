@@ -28,7 +28,10 @@ pub(crate) fn share_signature(
     ensures { IfOk result (λ r. signature_in r ≡ signature_in signature.now) }
 {
     match signature {
-        Some(signature) => Ok(Some(Arc::try_clone(signature)?)),
+        Some(signature) => match Arc::try_clone(signature) {
+            Ok(signature) => Ok(Some(signature)),
+            Err(error) => Err(error),
+        },
         None => Ok(None),
     }
 }
@@ -44,13 +47,13 @@ fn by_meaning(meaning: &Meaning) -> Result<Earlier, AllocError>
         Meaning::Function {
             signature,
             has_body,
-        } => {
-            let signature = share_signature(signature)?;
-            Ok(Earlier::Function {
+        } => match share_signature(signature) {
+            Ok(signature) => Ok(Earlier::Function {
                 signature,
                 has_body: *has_body,
-            })
-        }
+            }),
+            Err(error) => Err(error),
+        },
         Meaning::Automatic { .. } => Ok(Earlier::Other),
         Meaning::Static { .. } => Ok(Earlier::Other),
         Meaning::Borrowed { .. } => Ok(Earlier::Other),

@@ -56,8 +56,10 @@ pub fn enter_enumeration<'a>(
     match tag {
         Some(tag) => {
             let fault = enumeration_fault(scope, tag);
-            scope.declare_tag(tag, TagMeaning::Enumeration)?;
-            Ok(fault)
+            match scope.declare_tag(tag, TagMeaning::Enumeration) {
+                Ok(()) => Ok(fault),
+                Err(error) => Err(error),
+            }
         }
         None => Ok(None),
     }
@@ -144,8 +146,10 @@ fn declare_enumerator<'a>(
         ≡ s.with_name (name_of name.now) (s.Constant (d.in_int value)) (scope_of scope.old)) }
 {
     let value = in_int(value);
-    scope.declare(name, Meaning::Constant { value })?;
-    next_value(value)
+    match scope.declare(name, Meaning::Constant { value }) {
+        Ok(()) => next_value(value),
+        Err(error) => Err(error),
+    }
 }
 
 /// An enumerator of this value; the value of the next one.
@@ -158,8 +162,10 @@ pub fn enumerator<'a>(
         ≡ squeezed_part (d.enumerator_judged (name_of name.now) value (scope_of scope.old))) }
 {
     let fault = enumerator_fault(scope, name, value);
-    let value = declare_enumerator(scope, name, value)?;
-    Ok(Judged { fault, value })
+    match declare_enumerator(scope, name, value) {
+        Ok(value) => Ok(Judged { fault, value }),
+        Err(error) => Err(error),
+    }
 }
 
 // The fault of the expression and of the enumerator, in their order.

@@ -5,6 +5,7 @@ ghost use Rattle.mc_faults.specs.Faults.{least_of, unless_faulty};
 ghost use Rattle.mc_scopes.specs.Types.{type_of};
 ghost use Rattle.mc_faults.specs.Kept.{listed};
 
+use crate::values::unless_fault;
 use mc_faults::{Fault, lesser};
 use mc_scopes::CType;
 
@@ -25,13 +26,9 @@ pub(crate) fn two_parts(one: Option<Fault>, other: Option<Fault>) -> Option<Faul
 }
 
 /// The type, unless there is a fault.
-#[tactic(auto, using(crate::proofs::DeclarationFaults::unless_by_least))]
 pub(crate) fn unless(fault: Option<Fault>, of: Option<CType>) -> Option<CType>
     ensures { (fs : List Fault) → fault ≡ least_of fs
         → option_map type_of result ≡ unless_faulty fs (option_map type_of of) }
 {
-    match fault {
-        Some(_) => None,
-        None => of,
-    }
+    unless_fault(fault, of)
 }

@@ -17,6 +17,8 @@ use crate::earlier::{Earlier, declared_before};
 use crate::parameters::Parameters;
 use crate::signatures::{function_fault, repeated_fault, signature};
 use crate::storage::{Storage, has_initializer};
+use crate::unused;
+use crate::values::unless_fault;
 use mc_faults::{Fault, FaultKind, after, fault_where, lesser};
 use mc_scopes::{CType, Meaning, Scope, Signature};
 use mc_tree::{Identifier, Initializer};
@@ -62,7 +64,6 @@ fn again_fault(
 // The fault of the declarator itself; `of` is its type.
 #[tactic(auto, using(mc_scopes::proofs::Squeezed::joined_listed, mc_scopes::proofs::Squeezed::joined_leasts))]
 fn declarator_fault(
-    alloc: Global,
     scope: &Scope<'_>,
     storage: Storage,
     name: &Identifier<'_>,
@@ -71,33 +72,29 @@ fn declarator_fault(
     before: &Earlier,
     of: &Option<Arc<Signature>>,
     value: Option<&Initializer<'_>>,
-) -> Result<Option<Fault>, AllocError>
+) -> Option<Fault>
     requires { (f : Option t.Signature) (at : ℕ)
         → w.repeated_faults (meaning_of_earlier before.now) f at
         ≡ w.repeated_faults (s.meaning_here (name_of name.now) (scope_of scope.now)) f at }
-    ensures { IfOk result (λ r. r ≡ least_of (
+    ensures { result ≡ least_of (
         w.again_faults (storage_from storage) (name_of name.now) (signature_in of.now)
         (scope_of scope.now)
         ++ (w.function_faults (name_of name.now) (option_map type_of gives.now) count
         (signature_in of.now)
         ++ w.function_form_faults (storage_from storage)
-        (option_map units.initializer_of (option_copied value.entry)) name.now.span.start))) }
+        (option_map units.initializer_of (option_copied value.entry)) name.now.span.start)) }
 {
     let again = again_fault(scope, storage, name, before, of);
-    let function = function_fault(alloc, name, gives, count, of)?;
+    let function = function_fault(name, gives, count, of);
     let form = form_fault(storage, value, name.span.start);
-    Ok(lesser(again, lesser(function, form)))
+    lesser(again, lesser(function, form))
 }
 
-#[tactic(auto, using(crate::proofs::DeclarationFaults::unless_by_least))]
 fn unless(fault: Option<Fault>, signature: Option<Arc<Signature>>) -> Option<Arc<Signature>>
     ensures { (fs : List Fault) → fault ≡ least_of fs
         → signature_in result ≡ unless_faulty fs (signature_in signature) }
 {
-    match fault {
-        Some(_) => None,
-        None => signature,
-    }
+    unless_fault(fault, signature)
 }
 
 fn function_meaning(
@@ -109,7 +106,10 @@ fn function_meaning(
         (signature_in signature) (meaning_of_earlier before.now) }
 {
     match storage {
-        Storage::Typedef => Meaning::Typedef { of: None },
+        Storage::Typedef => {
+            unused::signature(signature);
+            Meaning::Typedef { of: None }
+        }
         Storage::Static => Meaning::Function {
             signature,
             has_body: before.has_body(),
@@ -137,13 +137,23 @@ pub fn begin_function<'a>(
         (listed_parameters parameters.now u)
         (option_map units.initializer_of (option_copied value.entry)) (scope_of scope.old))) }
 {
-    let of = signature(alloc, gives, &parameters.kinds)?;
-    let before = declared_before(scope.meaning_here(name))?;
     let count = parameters.kinds.len();
-    let own = declarator_fault(
-        alloc, scope, storage, name, gives, count, &before, &of, value,
-    )?;
-    let typed = unless(own, of);
-    scope.declare(name, function_meaning(storage, typed, &before))?;
-    Ok(after(parameters.fault, own))
+    let Ok(of) = signature(alloc, gives, &parameters.kinds) else {
+        return Err(AllocError);
+    };
+    match declared_before(scope.meaning_here(name)) {
+        Ok(before) => {
+            let own = declarator_fault(scope, storage, name, gives, count, &before, &of, value);
+            let meaning = function_meaning(storage, unless(own, of), &before);
+            drop(before);
+            match scope.declare(name, meaning) {
+                Ok(()) => Ok(after(parameters.fault, own)),
+                Err(error) => Err(error),
+            }
+        }
+        Err(error) => {
+            unused::signature(of);
+            Err(error)
+        }
+    }
 }

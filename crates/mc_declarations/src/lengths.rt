@@ -10,6 +10,7 @@ ghost use Rattle.mc_declarations.specs.Declarations.{lengths_in, length_then, wi
 ghost use Rattle.mc_scopes.specs.Found.{found_of, judged_of};
 ghost use Rattle.mc_scopes.specs.steps.Squeezed.{squeezed_part};
 
+use crate::values::with_last;
 use mc_faults::{Fault, FaultKind, after_two, fault_where, lesser};
 use mc_scopes::found::{Found, Judged};
 use mc_scopes::values::{constant_found, fault_of_constant};
@@ -56,10 +57,10 @@ fn is_no_length(value: Option<i128>) -> Result<bool, AllocError>
     ensures { IfOk result (λ r. r ≡ d.is_no_length value) }
 {
     match value {
-        Some(value) => {
-            let length = length_of(value)?;
-            Ok(length.is_none())
-        }
+        Some(value) => match length_of(value) {
+            Ok(length) => Ok(length.is_none()),
+            Err(error) => Err(error),
+        },
         None => Ok(false),
     }
 }
@@ -77,22 +78,20 @@ fn length_fault(at: u32, found: &Found) -> Result<Option<Fault>, AllocError>
     Ok(lesser(constant, own))
 }
 
-fn push_length(list: Vec<u64>, one: u64) -> Result<Vec<u64>, AllocError>
-    ensures { IfOk result (λ r. lengths_in r ≡ with_length (lengths_in list) one) }
-{
-    let mut list = list;
-    list.push(one)?;
-    Ok(list)
-}
-
 fn lengths_with(list: Option<Vec<u64>>, one: Option<u64>) -> Result<Option<Vec<u64>>, AllocError>
     ensures { IfOk result (λ r. option_map lengths_in r
         ≡ v.lift2 with_length (option_map lengths_in list) one) }
 {
     match list {
         Some(list) => match one {
-            Some(one) => Ok(Some(push_length(list, one)?)),
-            None => Ok(None),
+            Some(one) => match with_last(list, one) {
+                Ok(list) => Ok(Some(list)),
+                Err(error) => Err(error),
+            },
+            None => {
+                drop(list);
+                Ok(None)
+            }
         },
         None => Ok(None),
     }

@@ -22,6 +22,8 @@ mod structures;
 mod tags;
 mod typedefs;
 mod units;
+mod unused;
+mod values;
 
 pub use declarators::declared_type;
 pub use definitions::{Body, Heading, begin_definition, end_definition, heading_of, names_fault};

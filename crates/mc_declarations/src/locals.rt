@@ -13,10 +13,12 @@ ghost use Rattle.mc_scopes.specs.Found.{judged_of};
 ghost use Rattle.mc_faults.specs.Kept.{listed};
 ghost use Rattle.mc_scopes.specs.steps.Squeezed.{squeezed_part};
 
-use crate::declarators::copy_of;
-use crate::faults::{first_fault, unless};
+use crate::declarators::copy_unless;
+use crate::faults::first_fault;
 use crate::objects::{declare_untyped, object_fault};
 use crate::parameters::add_object_of;
+use crate::unused;
+use crate::values::with_last;
 use mc_faults::{Fault, after};
 use mc_scopes::found::Judged;
 use mc_scopes::{CType, Meaning, Scope};
@@ -47,10 +49,10 @@ fn add_typed(
         (scope_of scope.old)) }
 {
     match of {
-        Some(of) => {
-            let count = add_object_of(alloc, scope, of)?;
-            Ok(Some(count))
-        }
+        Some(of) => match add_object_of(alloc, scope, of) {
+            Ok(count) => Ok(Some(count)),
+            Err(error) => Err(error),
+        },
         None => Ok(None),
     }
 }
@@ -93,7 +95,7 @@ pub fn begin_local<'a>(
     let own = object_fault(scope, name, lengths, count, base, of);
     let fault = after(faults, own);
     let slot = scope.next_slot()?;
-    let typed = unless(fault, copy_of(of)?);
+    let typed = copy_unless(fault, of)?;
     scope.declare(name, Meaning::Automatic { slot, of: typed })?;
     let cells = add_counted(alloc, scope, own, of)?;
     Ok(Local {
@@ -131,13 +133,14 @@ fn one_declarator(
     slot: Slot,
     cells: u32,
     value: Option<Initializer>,
-) -> Result<Vec<Declarator>, AllocError>
-    ensures { IfOk result (λ r. Some (declarators_of r)
+) -> Result<Option<Vec<Declarator>>, AllocError>
+    ensures { IfOk result (λ r. option_map declarators_of r
         ≡ counted_value slot (Some cells) (Some (optional_of value))) }
 {
-    let mut list = Vec::new(alloc);
-    list.push(Declarator { slot, cells, value })?;
-    Ok(list)
+    match with_last(Vec::new(alloc), Declarator { slot, cells, value }) {
+        Ok(list) => Ok(Some(list)),
+        Err(error) => Err(error),
+    }
 }
 
 fn local_value(
@@ -151,11 +154,11 @@ fn local_value(
 {
     match cells {
         Some(cells) => match value {
-            Some(value) => Ok(Some(one_declarator(alloc, slot, cells, value)?)),
+            Some(value) => one_declarator(alloc, slot, cells, value),
             None => Ok(None),
         },
         None => {
-            drop(value);
+            unused::initializer(value);
             Ok(None)
         }
     }
@@ -178,13 +181,14 @@ pub fn end_local<'a>(
     match declare_untyped(scope, inner, name, Meaning::Automatic { slot, of: None }) {
         Ok(()) => {
             uncount_after(scope, inner, local.cells);
-            Ok(Judged {
-                fault: first_fault(local.fault, inner),
-                value: local_value(alloc, slot, local.cells, value.value)?,
-            })
+            let fault = first_fault(local.fault, inner);
+            match local_value(alloc, slot, local.cells, value.value) {
+                Ok(value) => Ok(Judged { fault, value }),
+                Err(error) => Err(error),
+            }
         }
         Err(error) => {
-            drop(value);
+            unused::initializer(value.value);
             Err(error)
         }
     }

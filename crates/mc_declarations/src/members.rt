@@ -117,7 +117,9 @@ pub fn member<'a>(
         (written lengths.now) (map listed_of members.old)
         (judged_of lengths_in given (scope_of scope.now)))) }
 {
-    let of = declared_type(alloc, lengths, &given.value, None, base)?;
+    let Ok(of) = declared_type(alloc, lengths, &given.value, None, base) else {
+        return Err(AllocError);
+    };
     let fault = member_fault(
         &scope.structures,
         given.fault,
@@ -127,8 +129,10 @@ pub fn member<'a>(
         &of,
         members,
     );
-    push_member(alloc, &scope.structures, name, unless(fault, of), members)?;
-    Ok(fault)
+    match push_member(alloc, &scope.structures, name, unless(fault, of), members) {
+        Ok(()) => Ok(fault),
+        Err(error) => Err(error),
+    }
 }
 
 /// A function among the members, where none may be.
@@ -147,6 +151,8 @@ pub fn function_member<'a>(
         kind: FaultKind::Mismatch,
         at: name.span.start,
     };
-    push_member(alloc, &scope.structures, name, None, members)?;
-    Ok(first_fault(parameters.fault, Some(own)))
+    match push_member(alloc, &scope.structures, name, None, members) {
+        Ok(()) => Ok(first_fault(parameters.fault, Some(own))),
+        Err(error) => Err(error),
+    }
 }

@@ -86,6 +86,9 @@ pub(crate) fn declare_untyped<'a>(
 {
     match fault {
         Some(_) => scope.declare(name, untyped),
-        None => Ok(()),
+        None => {
+            drop(untyped);
+            Ok(())
+        }
     }
 }

@@ -18,6 +18,7 @@ use crate::declarators::{
     copy_of, declared_type, incomplete_fault, is_later_absent, is_over_limit, redeclared_fault,
 };
 use crate::faults::{first_fault, unless};
+use crate::values::{joined, unless_fault, with_last};
 use mc_faults::{Fault, FaultKind, fault_where, lesser};
 use mc_scopes::found::Judged;
 use mc_scopes::{
@@ -78,8 +79,10 @@ fn parameter_kind(
     match of {
         Some(of) => {
             if is_complete(structures, of.base) {
-                let of = of.try_clone()?;
-                Ok(Some(adjusted(of)))
+                match of.try_clone() {
+                    Ok(of) => Ok(Some(adjusted(of))),
+                    Err(error) => Err(error),
+                }
             } else {
                 Ok(None)
             }
@@ -164,13 +167,13 @@ fn parameter_meaning(
 {
     match kind {
         Some(kind) => match kind {
-            ParameterKind::Array(element) => {
-                let element = element.try_clone()?;
-                Ok(Meaning::Borrowed {
+            ParameterKind::Array(element) => match element.try_clone() {
+                Ok(element) => Ok(Meaning::Borrowed {
                     array: scope.arrays,
                     element,
-                })
-            }
+                }),
+                Err(error) => Err(error),
+            },
             ParameterKind::Value(_) => automatic_meaning(scope, of),
         },
         None => automatic_meaning(scope, of),
@@ -181,9 +184,13 @@ fn automatic_meaning(scope: &Scope<'_>, of: &Option<CType>) -> Result<Meaning, A
     ensures { IfOk result (λ r. meaning_of r
         ≡ s.Automatic (s.next_slot (scope_of scope.now)) (option_map type_of of.now)) }
 {
-    let slot = scope.next_slot()?;
-    let of = copy_of(of)?;
-    Ok(Meaning::Automatic { slot, of })
+    let Ok(slot) = scope.next_slot() else {
+        return Err(AllocError);
+    };
+    match copy_of(of) {
+        Ok(of) => Ok(Meaning::Automatic { slot, of }),
+        Err(error) => Err(error),
+    }
 }
 
 fn declare_parameter_name<'a>(
@@ -196,7 +203,10 @@ fn declare_parameter_name<'a>(
 {
     match name {
         Some(name) => scope.declare(name, meaning),
-        None => Ok(()),
+        None => {
+            drop(meaning);
+            Ok(())
+        }
     }
 }
 
@@ -211,10 +221,16 @@ pub(crate) fn add_object_of(
     ensures scope { IfOk result (λ _. scope_of scope.new ≡ s.with_object
         (t.layout_of (scope_of scope.old).structures (type_of of.now)) (scope_of scope.old)) }
 {
-    let count = cells(&scope.structures, of)?;
-    let object = layout(alloc, &scope.structures, of)?;
-    scope.add_object(object, count)?;
-    Ok(count)
+    let Ok(count) = cells(&scope.structures, of) else {
+        return Err(AllocError);
+    };
+    let Ok(object) = layout(alloc, &scope.structures, of) else {
+        return Err(AllocError);
+    };
+    match scope.add_object(object, count) {
+        Ok(()) => Ok(count),
+        Err(error) => Err(error),
+    }
 }
 
 fn add_value(alloc: Global, scope: &mut Scope<'_>, of: &Option<CType>) -> Result<(), AllocError>
@@ -222,10 +238,10 @@ fn add_value(alloc: Global, scope: &mut Scope<'_>, of: &Option<CType>) -> Result
         (option_map type_of of.now) (Some (t.ByValue b)) (scope_of scope.old)) }
 {
     match of {
-        Some(of) => {
-            add_object_of(alloc, scope, of)?;
-            Ok(())
-        }
+        Some(of) => match add_object_of(alloc, scope, of) {
+            Ok(_) => Ok(()),
+            Err(error) => Err(error),
+        },
         None => Ok(()),
     }
 }
@@ -259,9 +275,13 @@ fn declare_parameter<'a>(
     ensures { OnOk result (scope_of scope.new ≡ d.declared_parameter (tag_of name.now)
         (option_map type_of of.now) (option_map kind_of kind.now) (scope_of scope.old)) }
 {
-    let meaning = parameter_meaning(scope, of, kind)?;
-    declare_parameter_name(scope, name, meaning)?;
-    add_parameter(alloc, scope, of, kind)
+    let Ok(meaning) = parameter_meaning(scope, of, kind) else {
+        return Err(AllocError);
+    };
+    match declare_parameter_name(scope, name, meaning) {
+        Ok(()) => add_parameter(alloc, scope, of, kind),
+        Err(error) => Err(error),
+    }
 }
 
 // ---- parameters
@@ -272,18 +292,17 @@ fn one_kind(
 ) -> Result<Vec<Option<ParameterKind>>, AllocError>
     ensures { IfOk result (λ r. map kind_found r.items ≡ kind_found kind ∷ []) }
 {
-    let mut kinds = Vec::new(alloc);
-    kinds.push(kind)?;
-    Ok(kinds)
+    match with_last(Vec::new(alloc), kind) {
+        Ok(kinds) => Ok(kinds),
+        Err(error) => Err(error),
+    }
 }
 
+#[tactic(auto, using(crate::proofs::Lists::unless_mapped))]
 fn kind_unless(fault: Option<Fault>, kind: Option<ParameterKind>) -> Option<ParameterKind>
     ensures { option_map kind_of result ≡ unless_faulty (listed fault) (option_map kind_of kind) }
 {
-    match fault {
-        Some(_) => None,
-        None => kind,
-    }
+    unless_fault(fault, kind)
 }
 
 /// A parameter of a type by its specifiers, whose fault this is; `given` are its lengths. The
@@ -327,27 +346,15 @@ pub fn parameter<'a>(
     })
 }
 
-#[tactic(auto, using(crate::proofs::Lists::mapped_joined))]
-fn append_kinds(
-    list: Vec<Option<ParameterKind>>,
-    more: Vec<Option<ParameterKind>>,
-) -> Result<Vec<Option<ParameterKind>>, AllocError>
-    ensures { IfOk result (λ r. map kind_found r.items
-        ≡ map kind_found list.items ++ map kind_found more.items) }
-{
-    let mut list = list;
-    let mut more = more;
-    list.append(&mut more)?;
-    Ok(list)
-}
-
 /// Parameters, and more after them.
+#[tactic(auto, using(crate::proofs::Lists::mapped_joined))]
 pub fn join_parameters(list: Parameters, more: Parameters) -> Result<Parameters, AllocError>
     ensures { IfOk result (λ r. (s u : s.Scope) → listed_parameters r u
         ≡ squeezed_listed (d.joined (listed_parameters list s) (listed_parameters more u))) }
 {
-    Ok(Parameters {
-        fault: first_fault(list.fault, more.fault),
-        kinds: append_kinds(list.kinds, more.kinds)?,
-    })
+    let fault = first_fault(list.fault, more.fault);
+    match joined(list.kinds, more.kinds) {
+        Ok(kinds) => Ok(Parameters { fault, kinds }),
+        Err(error) => Err(error),
+    }
 }

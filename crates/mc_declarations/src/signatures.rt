@@ -4,14 +4,16 @@ ghost use Rattle.mc_tree.specs.Views.{name_of};
 ghost use Rattle.mc_typing.specs.Declarations as w;
 ghost use Rattle.mc_faults.specs.Faults.{least_of};
 ghost use Rattle.mc_typing.specs.Scopes as s;
-ghost use Rattle.mc_scopes.specs.Types.{base_of, type_of};
+ghost use Rattle.mc_typing.specs.Types as t;
+ghost use Rattle.mc_value.specs.declared.int_type.IntType.TheVariants as int;
+ghost use Rattle.mc_scopes.specs.Types.{base_of, kind_of, type_of};
 ghost use Rattle.mc_scopes.specs.Types as types;
 ghost use Rattle.mc_declarations.specs.Declarations.{kind_found, kinds_of, meaning_of_earlier, signature_in};
 
 use crate::earlier::Earlier;
 use crate::external::{is_input, is_output};
 use mc_faults::{Fault, FaultKind, fault_where, lesser};
-use mc_scopes::{Base, CType, ParameterKind, Signature};
+use mc_scopes::{Base, CType, ParameterKind, Signature, same_base};
 use mc_tree::Identifier;
 use mc_value::IntType;
 use std::alloc::{AllocError, Global};
@@ -64,6 +66,18 @@ fn all_of(
     Ok(Some(all))
 }
 
+fn shared(alloc: Global, of: Signature) -> Result<Option<Arc<Signature>>, AllocError>
+    ensures { IfOk result (λ r. signature_in r ≡ Some (types.signature_of of)) }
+{
+    match Arc::new(alloc, of) {
+        Ok(of) => Ok(Some(of)),
+        Err(failed) => {
+            drop(failed);
+            Err(AllocError)
+        }
+    }
+}
+
 fn signature_of(
     alloc: Global,
     gives: Option<Base>,
@@ -74,16 +88,19 @@ fn signature_of(
 {
     match gives {
         Some(gives) => match parameters {
-            Some(parameters) => Ok(Some(Arc::new(
+            Some(parameters) => shared(
                 alloc,
                 Signature {
                     result: gives,
                     parameters,
                 },
-            )?)),
+            ),
             None => Ok(None),
         },
-        None => Ok(None),
+        None => {
+            drop(parameters);
+            Ok(None)
+        }
     }
 }
 
@@ -98,8 +115,10 @@ pub(crate) fn signature(
         ≡ w.signature_of (w.result_of (option_map type_of gives.now))
         (w.all_of (map kind_found kinds.now))) }
 {
-    let parameters = all_of(alloc, kinds)?;
-    signature_of(alloc, result_of(gives), parameters)
+    match all_of(alloc, kinds) {
+        Ok(parameters) => signature_of(alloc, result_of(gives), parameters),
+        Err(error) => Err(error),
+    }
 }
 
 // ---- faults
@@ -144,80 +163,104 @@ pub(crate) fn repeated_fault(
     }
 }
 
-// int mcdc_in(void);
-fn differs_from_input(alloc: Global, signature: &Option<Arc<Signature>>) -> bool
-    ensures { result ≡ w.differs (Some w.input_signature) (signature_in signature.now) }
+// ---- int mcdc_in(void); void mcdc_out(int);
+
+fn takes_int(kind: &ParameterKind) -> bool
+    ensures { result ≡ t.same_parameter (t.ByValue (t.Integer int.Int)) (kind_of kind.now) }
 {
-    let input = Signature {
-        result: Base::Integer(IntType::Int),
-        parameters: Vec::new(alloc),
-    };
-    differs(&input, signature)
+    match kind {
+        ParameterKind::Value(base) => same_base(Base::Integer(IntType::Int), *base),
+        ParameterKind::Array(_) => false,
+    }
 }
 
-// void mcdc_out(int);
-fn differs_from_output(
-    alloc: Global,
-    signature: &Option<Arc<Signature>>,
-) -> Result<bool, AllocError>
-    ensures { IfOk result (λ r.
-        r ≡ w.differs (Some w.output_signature) (signature_in signature.now)) }
+fn take_one_int(parameters: &[ParameterKind]) -> bool
+    ensures { result
+        ≡ t.same_parameters w.output_signature.parameters (map kind_of parameters.now) }
 {
-    let mut parameters = Vec::new(alloc);
-    parameters.push(ParameterKind::Value(Base::Integer(IntType::Int)))?;
-    let output = Signature {
-        result: Base::Void,
-        parameters,
-    };
-    Ok(differs(&output, signature))
+    match parameters {
+        [one, later @ ..] => {
+            let int = takes_int(one);
+            let only = later.is_empty();
+            int && only
+        }
+        [] => false,
+    }
+}
+
+fn is_of_input(of: &Signature) -> bool
+    ensures { result ≡ t.same_signature w.input_signature (types.signature_of of.now) }
+{
+    let gives = same_base(Base::Integer(IntType::Int), of.result);
+    let takes = of.parameters.is_empty();
+    gives && takes
+}
+
+fn is_of_output(of: &Signature) -> bool
+    ensures { result ≡ t.same_signature w.output_signature (types.signature_of of.now) }
+{
+    let gives = same_base(Base::Void, of.result);
+    let takes = take_one_int(&of.parameters);
+    gives && takes
+}
+
+fn differs_from_input(signature: &Option<Arc<Signature>>) -> bool
+    ensures { result ≡ w.differs (Some w.input_signature) (signature_in signature.now) }
+{
+    match signature {
+        Some(of) => !is_of_input(of),
+        None => false,
+    }
+}
+
+fn differs_from_output(signature: &Option<Arc<Signature>>) -> bool
+    ensures { result ≡ w.differs (Some w.output_signature) (signature_in signature.now) }
+{
+    match signature {
+        Some(of) => !is_of_output(of),
+        None => false,
+    }
 }
 
 // Whether an external function has another type than its own.
-fn is_mistyped(
-    alloc: Global,
-    name: &Identifier<'_>,
-    signature: &Option<Arc<Signature>>,
-) -> Result<bool, AllocError>
-    ensures { IfOk result (λ r. r
-        ≡ ((s.is_input (name_of name.now)
+fn is_mistyped(name: &Identifier<'_>, signature: &Option<Arc<Signature>>) -> bool
+    ensures { result ≡ ((s.is_input (name_of name.now)
         && w.differs (Some w.input_signature) (signature_in signature.now))
         || (s.is_output (name_of name.now)
-        && w.differs (Some w.output_signature) (signature_in signature.now)))) }
+        && w.differs (Some w.output_signature) (signature_in signature.now))) }
 {
     let input = is_input(name);
-    let other_input = differs_from_input(alloc, signature);
+    let other_input = differs_from_input(signature);
     let output = is_output(name);
-    let other_output = differs_from_output(alloc, signature)?;
-    Ok((input && other_input) || (output && other_output))
+    let other_output = differs_from_output(signature);
+    (input && other_input) || (output && other_output)
 }
 
-fn external_fault(
-    alloc: Global,
-    name: &Identifier<'_>,
-    signature: &Option<Arc<Signature>>,
-) -> Result<Option<Fault>, AllocError>
-    ensures { IfOk result (λ r.
-        r ≡ least_of (w.external_faults (name_of name.now) (signature_in signature.now))) }
+fn external_fault(name: &Identifier<'_>, signature: &Option<Arc<Signature>>) -> Option<Fault>
+    ensures { result
+        ≡ least_of (w.external_faults (name_of name.now) (signature_in signature.now)) }
 {
-    let mistyped = is_mistyped(alloc, name, signature)?;
-    Ok(fault_where(mistyped, FaultKind::Mismatch, name.span.start))
+    fault_where(
+        is_mistyped(name, signature),
+        FaultKind::Mismatch,
+        name.span.start,
+    )
 }
 
 /// The fault of a function's declarator, which has so many parameters.
 #[tactic(auto, using(mc_scopes::proofs::Squeezed::joined_listed, mc_scopes::proofs::Squeezed::joined_leasts))]
 pub(crate) fn function_fault(
-    alloc: Global,
     name: &Identifier<'_>,
     gives: &Option<CType>,
     count: usize,
     signature: &Option<Arc<Signature>>,
-) -> Result<Option<Fault>, AllocError>
-    ensures { IfOk result (λ r. r ≡ least_of (w.function_faults (name_of name.now)
-        (option_map type_of gives.now) count (signature_in signature.now))) }
+) -> Option<Fault>
+    ensures { result ≡ least_of (w.function_faults (name_of name.now)
+        (option_map type_of gives.now) count (signature_in signature.now)) }
 {
     let at = name.span.start;
     let many = fault_where(count > MOST_PARAMETERS, FaultKind::Limit, at);
     let array = fault_where(is_array_type(gives), FaultKind::Mismatch, at);
-    let external = external_fault(alloc, name, signature)?;
-    Ok(lesser(external, lesser(array, many)))
+    let external = external_fault(name, signature);
+    lesser(external, lesser(array, many))
 }

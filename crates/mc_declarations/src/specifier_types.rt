@@ -136,11 +136,14 @@ fn type_of_words_or(alloc: Global, other: Option<CType>, base: Option<Base>) -> 
 {
     match base {
         None => other,
-        Some(base) => Some(CType {
-            base,
-            is_const: false,
-            lengths: Vec::new(alloc),
-        }),
+        Some(base) => {
+            drop(other);
+            Some(CType {
+                base,
+                is_const: false,
+                lengths: Vec::new(alloc),
+            })
+        }
     }
 }
 
@@ -186,7 +189,10 @@ fn one_of(one: Option<CType>, other: Option<CType>) -> Option<CType>
         ≡ j.one_of (option_map type_of one) (option_map type_of other) }
 {
     match one {
-        Some(of) => Some(of),
+        Some(of) => {
+            drop(other);
+            Some(of)
+        }
         None => other,
     }
 }

@@ -18,9 +18,10 @@ ghost use Rattle.mc_scopes.specs.Found.{judged_of};
 ghost use Rattle.mc_faults.specs.Kept.{listed};
 ghost use Rattle.mc_scopes.specs.steps.Squeezed.{squeezed_part};
 
-use crate::declarators::copy_of;
-use crate::faults::{first_fault, unless};
+use crate::declarators::copy_unless;
+use crate::faults::first_fault;
 use crate::objects::{declare_untyped, object_fault};
+use crate::unused;
 use mc_faults::{Fault, FaultKind, after, fault_where};
 use mc_scopes::found::Judged;
 use mc_scopes::initial::{values_of, zeros};
@@ -55,10 +56,16 @@ pub fn begin_static<'a>(
 {
     let own = object_fault(scope, name, lengths, count, base, of);
     let fault = after(faults, own);
-    let slot = scope.next_static()?;
-    let typed = unless(fault, copy_of(of)?);
-    scope.declare(name, Meaning::Static { slot, of: typed })?;
-    Ok(Stored { fault, own, slot })
+    let Ok(slot) = scope.next_static() else {
+        return Err(AllocError);
+    };
+    let Ok(of) = copy_unless(fault, of) else {
+        return Err(AllocError);
+    };
+    match scope.declare(name, Meaning::Static { slot, of }) {
+        Ok(()) => Ok(Stored { fault, own, slot }),
+        Err(error) => Err(error),
+    }
 }
 
 // ---- after the initializer
@@ -92,9 +99,16 @@ fn add_static(
         (w.initial_values (t.layout_of (scope_of scope.old).structures (type_of of.now))
         (optional_of value.now)) (scope_of scope.old)) }
 {
-    let initial = initial_values(alloc, count, value)?;
-    let object = layout(alloc, &scope.structures, of)?;
-    scope.add_static(object, count, initial)
+    let Ok(initial) = initial_values(alloc, count, value) else {
+        return Err(AllocError);
+    };
+    match layout(alloc, &scope.structures, of) {
+        Ok(object) => scope.add_static(object, count, initial),
+        Err(error) => {
+            drop(initial);
+            Err(error)
+        }
+    }
 }
 
 // The fault of an object with so many cells that passes the limit of all of them.
@@ -125,11 +139,17 @@ fn add_faultless<'a>(
         (w.after_initializer (listed r) (name_of name.now) (s.Stored slot None)
         (scope_of scope.old))) }
 {
-    let count = cells(&scope.structures, of)?;
+    let Ok(count) = cells(&scope.structures, of) else {
+        return Err(AllocError);
+    };
     let sum = sum_fault(scope, name.span.start, count);
-    declare_untyped(scope, sum, name, Meaning::Static { slot, of: None })?;
-    add_static(alloc, scope, of, count, value)?;
-    Ok(sum)
+    let Ok(()) = declare_untyped(scope, sum, name, Meaning::Static { slot, of: None }) else {
+        return Err(AllocError);
+    };
+    match add_static(alloc, scope, of, count, value) {
+        Ok(()) => Ok(sum),
+        Err(error) => Err(error),
+    }
 }
 
 // After an initializer with this fault an object is not added.
@@ -145,11 +165,13 @@ fn end_uncounted<'a>(
         (scope_of scope.old)))) }
 {
     let slot = stored.slot;
-    declare_untyped(scope, inner, name, Meaning::Static { slot, of: None })?;
-    Ok(Judged {
-        fault: first_fault(stored.fault, inner),
-        value: None,
-    })
+    match declare_untyped(scope, inner, name, Meaning::Static { slot, of: None }) {
+        Ok(()) => Ok(Judged {
+            fault: first_fault(stored.fault, inner),
+            value: None,
+        }),
+        Err(error) => Err(error),
+    }
 }
 
 // An object whose declarator and initializer have no fault is added.
@@ -167,11 +189,13 @@ fn end_counted<'a>(
         (Some (type_of of.now))
         (v.judged [] (Some (optional_of value.now)) (scope_of scope.old)))) }
 {
-    let sum = add_faultless(alloc, scope, name, stored.slot, of, value)?;
-    Ok(Judged {
-        fault: first_fault(stored.fault, sum),
-        value: Some(Vec::new(alloc)),
-    })
+    match add_faultless(alloc, scope, name, stored.slot, of, value) {
+        Ok(sum) => Ok(Judged {
+            fault: first_fault(stored.fault, sum),
+            value: Some(Vec::new(alloc)),
+        }),
+        Err(error) => Err(error),
+    }
 }
 
 // The object after an initializer without a fault.
@@ -238,6 +262,6 @@ pub fn end_static<'a>(
         (option_map type_of of.now) (judged_of optional_of value (scope_of scope.old)))) }
 {
     let ended = end_stored(alloc, scope, name, of, stored, value.fault, &value.value);
-    drop(value);
+    unused::initializer(value.value);
     ended
 }

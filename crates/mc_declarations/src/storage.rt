@@ -23,7 +23,7 @@ use mc_tree::{InitDeclarator, Specifier, SpecifierWord};
 use mc_typed::{Declarator, Initializer};
 
 /// What a declaration declares names to be.
-#[derive(Clone, Copy, Debug, PartialEq, Eq)]
+#[derive(Clone, Copy)]
 pub enum Storage {
     Typedef,
     Static,

@@ -34,9 +34,13 @@ fn open_anew<'a>(scope: &mut Scope<'a>, fault: Option<Fault>) -> Result<Opened, 
     ensures { IfOk result (λ r. opened_of r (scope_of scope.new)
         ≡ d.opened_anew (listed fault) (scope_of scope.old)) }
 {
-    let number = next_structure(scope)?;
-    scope.add_structure(Structure::Incomplete { begun: true })?;
-    Ok(Opened { fault, number })
+    let Ok(number) = next_structure(scope) else {
+        return Err(AllocError);
+    };
+    match scope.add_structure(Structure::Incomplete { begun: true }) {
+        Ok(()) => Ok(Opened { fault, number }),
+        Err(error) => Err(error),
+    }
 }
 
 fn open_with_tag<'a>(
@@ -47,9 +51,13 @@ fn open_with_tag<'a>(
     ensures { IfOk result (λ r. opened_of r (scope_of scope.new)
         ≡ d.opened_with_tag (listed fault) (name_of tag.now) (scope_of scope.old)) }
 {
-    let number = next_structure(scope)?;
-    scope.declare_tag(tag, TagMeaning::Structure(number))?;
-    open_anew(scope, fault)
+    let Ok(number) = next_structure(scope) else {
+        return Err(AllocError);
+    };
+    match scope.declare_tag(tag, TagMeaning::Structure(number)) {
+        Ok(()) => open_anew(scope, fault),
+        Err(error) => Err(error),
+    }
 }
 
 /// The fault of a tag that is declared already.
@@ -95,8 +103,10 @@ fn open_again<'a>(
             number,
         })
     } else {
-        let opened = open_with_tag(scope, declared_already(tag), tag)?;
-        Ok(opened)
+        match open_with_tag(scope, declared_already(tag), tag) {
+            Ok(opened) => Ok(opened),
+            Err(error) => Err(error),
+        }
     }
 }
 
@@ -135,8 +145,14 @@ fn completed<'a>(
         ≡ d.completed (listed fault) (map listed_of members.entry)) }
 {
     match fault {
-        Some(_) => Ok(Structure::Faulty),
-        None => Ok(Structure::Complete(members.complete(alloc)?)),
+        Some(_) => {
+            drop(members);
+            Ok(Structure::Faulty)
+        }
+        None => match members.complete(alloc) {
+            Ok(members) => Ok(Structure::Complete(members)),
+            Err(error) => Err(error),
+        },
     }
 }
 
@@ -166,7 +182,9 @@ pub fn close_structure<'a>(
 {
     let number = opened.number;
     let fault = first_fault(opened.fault, fault);
-    let structure = completed(alloc, fault, members)?;
+    let Ok(structure) = completed(alloc, fault, members) else {
+        return Err(AllocError);
+    };
     scope.put_structure(number, structure);
     Ok(Judged {
         fault,

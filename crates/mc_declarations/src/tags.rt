@@ -1,5 +1,5 @@
 //! Tags without a list (C17 6.7.2.3).
-ghost use Rattle.std.specs.Prelude.{◌≡◌, IfOk, Some, None, true, false, length, slice_get, option_map};
+ghost use Rattle.std.specs.Prelude.{◌≡◌, IfOk, Some, None, true, false, length, option_map};
 ghost use Rattle.mc_tree.specs.Views.{name_of};
 ghost use Rattle.mc_typing.specs.Declarators as d;
 ghost use Rattle.mc_typing.specs.Scopes as s;
@@ -10,7 +10,7 @@ ghost use Rattle.mc_scopes.specs.Found.{judged_of};
 
 use mc_faults::{Fault, FaultKind};
 use mc_scopes::found::Judged;
-use mc_scopes::{Base, CType, Scope, Structure, TagMeaning};
+use mc_scopes::{Base, CType, Scope, Structure, TagMeaning, is_faulty};
 use mc_tree::Identifier;
 use mc_typed::Span;
 use mc_value::IntType;
@@ -46,22 +46,11 @@ pub(crate) fn faultless<A>(value: Option<A>) -> Judged<A>
     Judged { fault: None, value }
 }
 
-#[tactic(auto, using(crate::proofs::Numbered::structure_at))]
-fn is_faulty(scope: &Scope<'_>, number: u32) -> bool
-    ensures { result
-        ≡ t.is_faulty_structure (slice_get (scope_of scope.now).structures number) }
-{
-    matches!(
-        scope.structures.get(number as usize),
-        Some(Structure::Faulty)
-    )
-}
-
 /// The structure type with this number, where its list has no fault.
 fn structure_type(alloc: Global, scope: &Scope<'_>, number: u32) -> Option<CType>
     ensures { option_map type_of result ≡ d.structure_type number (scope_of scope.now) }
 {
-    if is_faulty(scope, number) {
+    if is_faulty(&scope.structures, Base::Tagged(number)) {
         None
     } else {
         Some(plain(alloc, Base::Tagged(number)))
@@ -86,10 +75,16 @@ fn declare_structure<'a>(
     ensures { IfOk result (λ r. judged_of type_of r (scope_of scope.new)
         ≡ d.declared_tag (name_of tag.now) (scope_of scope.old) None) }
 {
-    let number = next_structure(scope)?;
-    scope.add_structure(Structure::Incomplete { begun: false })?;
-    scope.declare_tag(tag, TagMeaning::Structure(number))?;
-    Ok(faultless(Some(plain(alloc, Base::Tagged(number)))))
+    let Ok(number) = next_structure(scope) else {
+        return Err(AllocError);
+    };
+    let Ok(()) = scope.add_structure(Structure::Incomplete { begun: false }) else {
+        return Err(AllocError);
+    };
+    match scope.declare_tag(tag, TagMeaning::Structure(number)) {
+        Ok(()) => Ok(faultless(Some(plain(alloc, Base::Tagged(number))))),
+        Err(error) => Err(error),
+    }
 }
 
 /// A structure's tag that is a whole declaration.

@@ -14,10 +14,11 @@ ghost use Rattle.mc_scopes.specs.Found.{judged_of};
 ghost use Rattle.mc_faults.specs.Kept.{listed};
 ghost use Rattle.mc_scopes.specs.steps.Squeezed.{squeezed_part};
 
-use crate::declarators::copy_of;
-use crate::faults::{first_fault, unless};
+use crate::declarators::copy_unless;
+use crate::faults::first_fault;
 use crate::objects::typedef_fault;
 use crate::tags::{faultless, faulty};
+use crate::unused;
 use mc_faults::{Fault, FaultKind, after};
 use mc_scopes::found::Judged;
 use mc_scopes::{CType, Meaning, Scope, is_faulty};
@@ -33,7 +34,10 @@ fn used_type(scope: &Scope<'_>, of: &CType) -> Result<Option<CType>, AllocError>
     if is_faulty(&scope.structures, of.base) {
         Ok(None)
     } else {
-        Ok(Some(of.try_clone()?))
+        match of.try_clone() {
+            Ok(of) => Ok(Some(of)),
+            Err(error) => Err(error),
+        }
     }
 }
 
@@ -53,7 +57,10 @@ fn type_named(scope: &Scope<'_>, meaning: &Meaning, at: u32) -> Result<Judged<CT
         ≡ d.typedef_type name (scope_of scope.now) (Some (meaning_of meaning.now))) }
 {
     match meaning {
-        Meaning::Typedef { of } => Ok(faultless(type_used(scope, of)?)),
+        Meaning::Typedef { of } => match type_used(scope, of) {
+            Ok(of) => Ok(faultless(of)),
+            Err(error) => Err(error),
+        },
         Meaning::Automatic { .. } => Ok(faulty(FaultKind::Undeclared, at)),
         Meaning::Static { .. } => Ok(faulty(FaultKind::Undeclared, at)),
         Meaning::Borrowed { .. } => Ok(faulty(FaultKind::Undeclared, at)),
@@ -91,9 +98,13 @@ pub fn begin_typedef<'a>(
 {
     let own = typedef_fault(scope, name, lengths, value);
     let fault = after(faults, own);
-    let typed = unless(fault, copy_of(of)?);
-    scope.declare(name, Meaning::Typedef { of: typed })?;
-    Ok(fault)
+    let Ok(of) = copy_unless(fault, of) else {
+        return Err(AllocError);
+    };
+    match scope.declare(name, Meaning::Typedef { of }) {
+        Ok(()) => Ok(fault),
+        Err(error) => Err(error),
+    }
 }
 
 /// A typedef name or a function, after its initializer: it declares no object.
@@ -106,7 +117,7 @@ pub fn end_declared(
         ≡ squeezed_part (declared_ended (listed fault) (judged_of optional_of value s)) }
 {
     let first = first_fault(fault, value.fault);
-    drop(value);
+    unused::initializer(value.value);
     Judged {
         fault: first,
         value: Some(Vec::new(alloc)),

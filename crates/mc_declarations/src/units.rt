@@ -4,17 +4,17 @@ ghost use Rattle.mc_tree.specs.Units.{item_of, items_of};
 ghost use Rattle.mc_tree.specs.Tree as tree;
 ghost use Rattle.mc_tree.specs.Views.{declarator_of, name_of};
 ghost use Rattle.mc_faults.specs.declared.fault.FaultKind.TheVariants.{Mismatch};
-ghost use Rattle.mc_typing.specs.Declarations.{append, both_lists};
+ghost use Rattle.mc_typing.specs.Declarations.{both_lists};
 ghost use Rattle.mc_faults.specs.Faults.{fault};
 ghost use Rattle.mc_typing.specs.Scopes as s;
 ghost use Rattle.mc_typing.specs.Typing as ty;
-ghost use Rattle.mc_typing.specs.Values.{judged, lift2};
+ghost use Rattle.mc_typing.specs.Values.{judged};
 ghost use Rattle.mc_declarations.specs.Declarations.{functions_of};
 ghost use Rattle.mc_scopes.specs.Statements.{declarators_of};
 ghost use Rattle.mc_scopes.specs.Found.{judged_of};
 ghost use Rattle.mc_scopes.specs.steps.Squeezed.{squeezed_part};
 
-use crate::faults::two_parts;
+use crate::values::joined_lists;
 use mc_faults::{Fault, FaultKind};
 use mc_scopes::Bodies;
 use mc_scopes::found::Judged;
@@ -30,7 +30,10 @@ fn no_function_in<'a>(
         ≡ option_map (λ ds. []) (option_map declarators_of declarators) }
 {
     match declarators {
-        Some(_) => Some(Vec::new(alloc)),
+        Some(declarators) => {
+            drop(declarators);
+            Some(Vec::new(alloc))
+        }
         None => None,
     }
 }
@@ -73,36 +76,6 @@ pub fn no_functions<'a>(alloc: Global) -> Judged<Vec<Function<'a>>>
     }
 }
 
-#[tactic(auto, using(crate::proofs::Lists::mapped_joined))]
-fn all_functions<'a>(
-    list: Vec<Function<'a>>,
-    more: Vec<Function<'a>>,
-) -> Result<Vec<Function<'a>>, AllocError>
-    ensures { IfOk result (λ r. functions_of r
-        ≡ append (functions_of list.entry) (functions_of more.entry)) }
-{
-    let mut list = list;
-    let mut more = more;
-    list.append(&mut more)?;
-    Ok(list)
-}
-
-fn functions_with<'a>(
-    list: Option<Vec<Function<'a>>>,
-    more: Option<Vec<Function<'a>>>,
-) -> Result<Option<Vec<Function<'a>>>, AllocError>
-    ensures { IfOk result (λ r. option_map functions_of r
-        ≡ lift2 append (option_map functions_of list.entry) (option_map functions_of more.entry)) }
-{
-    match list {
-        Some(list) => match more {
-            Some(more) => Ok(Some(all_functions(list, more)?)),
-            None => Ok(None),
-        },
-        None => Ok(None),
-    }
-}
-
 /// Functions, and more after them.
 pub fn more_functions<'a>(
     list: Judged<Vec<Function<'a>>>,
@@ -111,10 +84,7 @@ pub fn more_functions<'a>(
     ensures { IfOk result (λ r. (s : s.Scope) → judged_of functions_of r s ≡ squeezed_part
         (both_lists (judged_of functions_of list.entry s) (judged_of functions_of more.entry s))) }
 {
-    Ok(Judged {
-        fault: two_parts(list.fault, more.fault),
-        value: functions_with(list.value, more.value)?,
-    })
+    joined_lists(list, more)
 }
 
 // ---- functions with a body
@@ -142,15 +112,28 @@ fn add_body<'a>(bodies: &mut Bodies<'a>, item: &Item<'a>) -> Result<(), AllocErr
     }
 }
 
+// The functions of items that have a body, after those so far.
+fn add_bodies<'a>(bodies: &mut Bodies<'a>, items: &[Item<'a>]) -> Result<(), AllocError>
+    ensures { OnOk result (bodies.new ≡ bodies.old ++ ty.bodies_of (items_of items.now)) }
+{
+    let mut left = items;
+    while let [item, later @ ..] = left {
+        add_body(bodies, item)?;
+        left = later;
+    }
+    Ok(())
+}
+
 /// The functions of a unit that have a body.
 pub fn bodies_of<'a>(alloc: Global, items: &[Item<'a>]) -> Result<Bodies<'a>, AllocError>
     ensures { IfOk result (λ r. r ≡ ty.bodies_of (items_of items.now)) }
 {
     let mut bodies = Bodies::new(alloc);
-    let mut left = items;
-    while let [item, later @ ..] = left {
-        add_body(&mut bodies, item)?;
-        left = later;
+    match add_bodies(&mut bodies, items) {
+        Ok(()) => Ok(bodies),
+        Err(error) => {
+            drop(bodies);
+            Err(error)
+        }
     }
-    Ok(bodies)
 }

@@ -22,16 +22,16 @@ body_same : (fs gs : List Fault) (f g : Option t.Signature) (s t : s.Scope) → 
     → body_by fs f s ≡ body_by gs g t
 body_same fs gs f g s t a b c = cc
 
-pub returns-clause-body : goal.returns-clause-body
-returns-clause-body c = λ o ps hd un around before.
+pub returns-in-Ok-enter_definition-clause-body : goal.returns-in-Ok-enter_definition-clause-body
+returns-in-Ok-enter_definition-clause-body c = λ o ps hd un around before.
     let name = name_of c.args.name.now in
     let gives = option_map type_of c.args.typed.now.value in
     let inner = scope_of c.args.scope.now in
     let f = w.signature_listed gives (listed_parameters c.args.parameters.now inner) in
-    let sg = c.in_ok-of.ensures
+    let sg = c.in-Ok.ensures
     ∙ ap (λ (ks : List (Option ParameterKind)). w.signature_of (w.result_of gives) (w.all_of (map kind_found ks))) c.deref.ensures.value in
-    let placed = c.in_ok-block.ensures.body
+    let placed = c.in-Ok-enter_definition.ensures.body
     ∙ ap (λ (g : Option t.Signature). body_in (around_of c.args.block).names name (s.Function g true) inner)
-    (c.in_ok-share_signature.ensures ∙ sg)
+    sg
     ∙ body_placed name f o inner (around_of c.args.block).names (ap (λ (a : Around). a.names) around) before in
-    body_same _ _ _ _ _ _ (ap listed (c.in_ok-fault.ensures o inner ps hd un sg)) sg placed
+    body_same _ _ _ _ _ _ (ap listed (c.head_fault-fault.ensures o inner ps hd un sg)) sg placed

@@ -20,13 +20,13 @@ returns c = λ o u ps hd un sg.
     let counted : c.len-count.result ≡ length kinds = search rules in
     let count : c.len-count.result ≡ length (map kind_found kinds) = counted ∙ sym (length-map kinds kind_found) in
     let before = s.meaning_here name o in
-    let function = c.in_ok-function.ensures
+    let function = c.function_fault-function.ensures
     ∙ ap (λ (g : Option t.Signature). least_of (w.function_faults name gives c.len-count.result g)) sg
     ∙ ap (λ (n : ℕ). least_of (w.function_faults name gives n f)) count in
     let repeated = c.repeated_fault-repeated.ensures
     ∙ ap least_of (hd.repeated (signature_in c.args.of.now) name.span.start)
     ∙ ap (λ (g : Option t.Signature). least_of (w.repeated_faults before g name.span.start)) sg in
-    head_joined c.args.typed.now.fault c.args.parameters.now.fault c.definition_fault-own.result c.in_ok-function.function
+    head_joined c.args.typed.now.fault c.args.parameters.now.fault c.definition_fault-own.result c.function_fault-function.result
     c.repeated_fault-repeated.result c.args.unnamed c.lesser.result c.lesser-2.result c.lesser-own.result c.lesser-3.result
     c.lesser-4.result (ty.names_faults ps) (w.repeated_faults before f name.span.start)
     (w.function_faults name gives (length (map kind_found kinds)) f) (ty.definition_faults name (w.result_of gives) o)

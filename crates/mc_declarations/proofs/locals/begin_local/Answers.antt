@@ -1,4 +1,4 @@
-use Rattle.std.proofs.Common.{◌++◌, option_map}
+use Rattle.std.proofs.Common.{◌++◌, option_map, refl}
 use Rattle.mc_tree.specs.Views.{name_of}
 use Rattle.mc_typing.specs.Declarations.{object_faults}
 use Rattle.mc_scopes.specs.Types.{type_of}
@@ -18,7 +18,7 @@ returns c =
     let fs = object_faults name lengths c.args.count base u s in
     let first = c.after-fault.ensures fs c.object_fault-own.ensures in
     begun_local c.args.faults name lengths c.args.count base u s c.object_fault-own.result c.after-fault.result
-    c.in_ok-slot.slot c.in_ok-cells.cells (option_map type_of c.in_ok-copy_of.field-0) (option_map type_of c.unless-typed.result)
+    c.in_ok-slot.slot c.in_ok-cells.cells u (option_map type_of c.in_ok-typed.typed)
     (scope_of c.declare.new.self) (scope_of c.add_counted.new.scope) c.object_fault-own.ensures first c.in_ok-slot.ensures
-    c.in_ok-copy_of.ensures (c.unless-typed.ensures (listed c.args.faults ++ fs) first) c.in_ok-declare.ensures
+    refl (c.in_ok-typed.ensures (listed c.args.faults ++ fs) first) c.in_ok-declare.ensures
     c.in_ok-cells.ensures.cells c.in_ok-cells.ensures.scope

@@ -3,7 +3,7 @@ use Rattle.mc_typed.specs.Views as views
 use Rattle.mc_typing.specs.Typing as ty
 use Rattle.mc_scopes.specs.Types.{kind_of}
 use Rattle.mc_scopes.specs.Views.{structure_of}
-use Rattle.mc_declarations.proofs.definitions.parameter_types.Given as goal
+use Rattle.mc_declarations.proofs.definitions.add_parameter_types.Given as goal
 
 abbrev pub invariant-loop-kind : goal.invariant-loop-kind
 invariant-loop-kind l =
