@@ -349,8 +349,9 @@ fn function_types(
     structures: &[Structure<'_>],
     of: &Signature,
 ) -> Result<(Vec<ParameterType>, ResultType), AllocError>
-    ensures parameters { IfOk result (λ r. map views.parameter_of r.0.items ≡ map
-        (ty.parameter_type (map structure_of structures.now)) (map kind_of of.now.parameters.items)) }
+    ensures parameters { IfOk result (λ r. map views.parameter_of r.0.items
+        ≡ map (ty.parameter_type (map structure_of structures.now))
+        (map kind_of of.now.parameters.items)) }
     ensures result { IfOk result (λ r. views.result_of r.1
         ≡ ty.result_type (map structure_of structures.now) (base_of of.now.result)) }
 {

@@ -1,5 +1,5 @@
-//! Values that are not used. To let an optional value of a type of trees go is dear to prove, so it is
-//! proved once for each type.
+//! Values that are not used. To let an optional value of a type of trees go is dear to prove, so it
+//! is proved once for each type.
 use mc_scopes::Signature;
 use mc_typed::{Initializer, Statement};
 use std::sync::Arc;
