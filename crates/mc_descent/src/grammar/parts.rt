@@ -47,7 +47,8 @@ pub trait PartReader<'a> {
         ensures height { IfOk result (λ r. r.height + 1 ≤ room) };
 }
 
-/// The two functions that read parts.
+/// The two functions that read parts. They are copied for each call, so that no more is known of
+/// them than of one call: of an `Fn` all is proved for three kinds of calls.
 #[derive(Drop)]
 pub struct Readers<F, G> {
     /// Reads an expression.
@@ -58,8 +59,9 @@ pub struct Readers<F, G> {
 
 impl<
     'a,
-    F: Fn(Global, &mut Cursor<'_, 'a>, u32, Rule) -> Result<Read<'a>, Fault>,
-    G: Fn(Global, &mut Cursor<'_, 'a>, u32, Allowed) -> Result<ReadSpecifiers<'a>, Fault>,
+    F: FnOnce(Global, &mut Cursor<'_, 'a>, u32, Rule) -> Result<Read<'a>, Fault> + Copy,
+    G: FnOnce(Global, &mut Cursor<'_, 'a>, u32, Allowed) -> Result<ReadSpecifiers<'a>, Fault>
+        + Copy,
 > PartReader<'a> for Readers<F, G> {
     ghost nests = { λ readers room. Nests room (F.pre readers.inner) (F.post readers.inner)
         × NestsTypes room (G.pre readers.typed) (G.post readers.typed) };

@@ -1,6 +1,5 @@
 //! Suffixes of postfix expressions (C17 6.5.2).
 ghost use Rattle.std.specs.Prelude.{◌≡◌, ◌≤◌, ◌+◌, IfOk, max};
-ghost use Rattle.mc_tree.specs.Views.{expression_of};
 ghost use Rattle.mc_tree.specs.Height.{height};
 ghost use Rattle.mc_reading.specs.Expressions as spec;
 ghost use Rattle.mc_reading.specs.Rooms.{reading};

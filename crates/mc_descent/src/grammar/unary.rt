@@ -8,7 +8,16 @@ ghost use Rattle.mc_grammar.specs.Counts.{for_type};
 ghost use Rattle.mc_reading.specs.Expressions as spec;
 ghost use Rattle.mc_reading.specs.Rooms.{reading};
 ghost use Rattle.mc_cursor.specs.Cursors.{Gives, left_of};
-ghost use Rattle.mc_descent.specs.Given.{GivesMade, GivesSpecifiers, GivesTree, GivesType, specifiers_of, stars_of, tree_of, type_of};
+ghost use Rattle.mc_descent.specs.Given.{
+  GivesMade,
+  GivesSpecifiers,
+  GivesTree,
+  GivesType,
+  specifiers_of,
+  stars_of,
+  tree_of,
+  type_of,
+};
 ghost use Rattle.mc_descent.specs.Parts as view;
 
 use crate::grammar::Grammar;
