@@ -74,12 +74,6 @@ listed_same fs gs xs ys s t a b c = cc
 
 -- ---- joined lists
 
-pub two_listed : (one other : Option Fault) → least_of (listed one ++ (listed other ++ [])) ≡ lesser one other
-two_listed None None = refl
-two_listed None (Some g) = refl
-two_listed (Some f) None = refl
-two_listed (Some f) (Some g) = refl
-
 pub joined_three : (a b c : Option Fault)
     → least_of (listed (least_of (listed a ++ listed b)) ++ listed c) ≡ least_of ((listed a ++ listed b) ++ listed c)
 joined_three a b c =

@@ -2,4 +2,3 @@ pub mod Declarations
 pub mod Halves
 pub mod Bodies
 pub mod Laws
-pub mod Lists

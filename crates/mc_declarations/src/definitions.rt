@@ -29,10 +29,9 @@ use crate::faults::first_fault;
 use crate::parameters::Parameters;
 use crate::signatures::{function_fault, repeated_fault, result_of, signature};
 use crate::tags::plain;
-use crate::unused;
-use crate::values::with_last;
 use mc_faults::{Fault, FaultKind, after_two, fault_where, lesser};
 use mc_scopes::found::Judged;
+use mc_scopes::lists::{unused, with_last};
 use mc_scopes::{
     Base, Block, CType, Meaning, ParameterKind, Scope, Signature, Structure, is_complete, layout,
 };
@@ -233,7 +232,7 @@ pub fn begin_definition<'a>(
                     block,
                 }),
                 Err(error) => {
-                    unused::signature(of);
+                    unused(of);
                     Err(error)
                 }
             }
@@ -467,7 +466,7 @@ fn function_listed<'a>(
             None => Ok(None),
         },
         None => {
-            unused::statements(body);
+            unused(body);
             Ok(None)
         }
     }

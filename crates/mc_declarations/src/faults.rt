@@ -17,14 +17,6 @@ pub fn first_fault(one: Option<Fault>, more: Option<Fault>) -> Option<Fault>
     lesser(one, more)
 }
 
-/// The first fault of two parts whose node has none of its own.
-#[tactic(auto, using(crate::proofs::DeclarationFaults::two_listed))]
-pub(crate) fn two_parts(one: Option<Fault>, other: Option<Fault>) -> Option<Fault>
-    ensures { result ≡ least_of (listed one ++ (listed other ++ [])) }
-{
-    lesser(one, other)
-}
-
 /// The type, unless there is a fault.
 pub(crate) fn unless(fault: Option<Fault>, of: Option<CType>) -> Option<CType>
     ensures { (fs : List Fault) → fault ≡ least_of fs

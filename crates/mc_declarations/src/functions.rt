@@ -17,9 +17,9 @@ use crate::earlier::{Earlier, declared_before};
 use crate::parameters::Parameters;
 use crate::signatures::{function_fault, repeated_fault, signature};
 use crate::storage::{Storage, has_initializer};
-use crate::unused;
 use crate::values::unless_fault;
 use mc_faults::{Fault, FaultKind, after, fault_where, lesser};
+use mc_scopes::lists::unused;
 use mc_scopes::{CType, Meaning, Scope, Signature};
 use mc_tree::{Identifier, Initializer};
 use std::alloc::{AllocError, Global};
@@ -107,7 +107,7 @@ fn function_meaning(
 {
     match storage {
         Storage::Typedef => {
-            unused::signature(signature);
+            unused(signature);
             Meaning::Typedef { of: None }
         }
         Storage::Static => Meaning::Function {
@@ -152,7 +152,7 @@ pub fn begin_function<'a>(
             }
         }
         Err(error) => {
-            unused::signature(of);
+            unused(of);
             Err(error)
         }
     }

@@ -10,9 +10,9 @@ ghost use Rattle.mc_declarations.specs.Declarations.{lengths_in, length_then, wi
 ghost use Rattle.mc_scopes.specs.Found.{found_of, judged_of};
 ghost use Rattle.mc_scopes.specs.steps.Squeezed.{squeezed_part};
 
-use crate::values::with_last;
 use mc_faults::{Fault, FaultKind, after_two, fault_where, lesser};
 use mc_scopes::found::{Found, Judged};
+use mc_scopes::lists::with_last;
 use mc_scopes::values::{constant_found, fault_of_constant};
 use std::alloc::{AllocError, Global};
 

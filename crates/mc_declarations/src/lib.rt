@@ -22,7 +22,6 @@ mod structures;
 mod tags;
 mod typedefs;
 mod units;
-mod unused;
 mod values;
 
 pub use declarators::declared_type;

@@ -17,10 +17,9 @@ use crate::declarators::copy_unless;
 use crate::faults::first_fault;
 use crate::objects::{declare_untyped, object_fault};
 use crate::parameters::add_object_of;
-use crate::unused;
-use crate::values::with_last;
 use mc_faults::{Fault, after};
 use mc_scopes::found::Judged;
+use mc_scopes::lists::{unused_inner, with_last};
 use mc_scopes::{CType, Meaning, Scope};
 use mc_tree::{ArrayLength, Identifier};
 use mc_typed::{Declarator, Initializer, Slot};
@@ -158,7 +157,7 @@ fn local_value(
             None => Ok(None),
         },
         None => {
-            unused::initializer(value);
+            unused_inner(value);
             Ok(None)
         }
     }
@@ -188,7 +187,7 @@ pub fn end_local<'a>(
             }
         }
         Err(error) => {
-            unused::initializer(value.value);
+            unused_inner(value.value);
             Err(error)
         }
     }

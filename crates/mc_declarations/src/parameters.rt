@@ -18,9 +18,10 @@ use crate::declarators::{
     copy_of, declared_type, incomplete_fault, is_later_absent, is_over_limit, redeclared_fault,
 };
 use crate::faults::{first_fault, unless};
-use crate::values::{joined, unless_fault, with_last};
+use crate::values::unless_fault;
 use mc_faults::{Fault, FaultKind, fault_where, lesser};
 use mc_scopes::found::Judged;
+use mc_scopes::lists::{joined, with_last};
 use mc_scopes::{
     CType, Meaning, Objects, ParameterKind, Scope, Structure, cells, is_complete, layout,
 };

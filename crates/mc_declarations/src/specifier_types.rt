@@ -9,9 +9,9 @@ ghost use Rattle.mc_scopes.specs.Types.{base_of, type_of};
 ghost use Rattle.mc_scopes.specs.Found.{judged_of};
 ghost use Rattle.mc_scopes.specs.steps.Squeezed.{squeezed_part};
 
-use crate::faults::two_parts;
 use mc_faults::{FaultKind, or_fault};
 use mc_scopes::found::Judged;
+use mc_scopes::joined::of_two;
 use mc_scopes::{Base, CType};
 use mc_tree::{Specifier, SpecifierWord};
 use mc_value::IntType;
@@ -203,7 +203,7 @@ pub fn specifiers(one: Judged<CType>, more: Judged<CType>) -> Judged<CType>
         (j.specifiers_judged (judged_of type_of one s) (judged_of type_of more s)) }
 {
     Judged {
-        fault: two_parts(one.fault, more.fault),
+        fault: of_two(one.fault, more.fault),
         value: one_of(one.value, more.value),
     }
 }

@@ -21,10 +21,10 @@ ghost use Rattle.mc_scopes.specs.steps.Squeezed.{squeezed_part};
 use crate::declarators::copy_unless;
 use crate::faults::first_fault;
 use crate::objects::{declare_untyped, object_fault};
-use crate::unused;
 use mc_faults::{Fault, FaultKind, after, fault_where};
 use mc_scopes::found::Judged;
 use mc_scopes::initial::{values_of, zeros};
+use mc_scopes::lists::unused_inner;
 use mc_scopes::{CType, Meaning, Scope, cells, is_passed_with, layout};
 use mc_tree::{ArrayLength, Identifier};
 use mc_typed::{Declarator, Initializer, Slot};
@@ -262,6 +262,6 @@ pub fn end_static<'a>(
         (option_map type_of of.now) (judged_of optional_of value (scope_of scope.old)))) }
 {
     let ended = end_stored(alloc, scope, name, of, stored, value.fault, &value.value);
-    unused::initializer(value.value);
+    unused_inner(value.value);
     ended
 }

@@ -18,9 +18,9 @@ use crate::declarators::copy_unless;
 use crate::faults::first_fault;
 use crate::objects::typedef_fault;
 use crate::tags::{faultless, faulty};
-use crate::unused;
 use mc_faults::{Fault, FaultKind, after};
 use mc_scopes::found::Judged;
+use mc_scopes::lists::unused_inner;
 use mc_scopes::{CType, Meaning, Scope, is_faulty};
 use mc_tree::{ArrayLength, Identifier};
 use mc_typed::{Declarator, Initializer};
@@ -117,7 +117,7 @@ pub fn end_declared(
         ≡ squeezed_part (declared_ended (listed fault) (judged_of optional_of value s)) }
 {
     let first = first_fault(fault, value.fault);
-    unused::initializer(value.value);
+    unused_inner(value.value);
     Judged {
         fault: first,
         value: Some(Vec::new(alloc)),

@@ -14,10 +14,10 @@ ghost use Rattle.mc_scopes.specs.Statements.{declarators_of};
 ghost use Rattle.mc_scopes.specs.Found.{judged_of};
 ghost use Rattle.mc_scopes.specs.steps.Squeezed.{squeezed_part};
 
-use crate::values::joined_lists;
 use mc_faults::{Fault, FaultKind};
 use mc_scopes::Bodies;
 use mc_scopes::found::Judged;
+use mc_scopes::lists::joined_lists;
 use mc_tree::{Declarator, Identifier, Item};
 use mc_typed::{Function, Span};
 use std::alloc::{AllocError, Global};

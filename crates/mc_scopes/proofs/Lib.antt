@@ -9,3 +9,4 @@ pub mod Constants
 pub mod Filled
 pub mod Counts
 pub mod Leasts
+pub mod Items

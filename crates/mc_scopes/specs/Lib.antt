@@ -9,3 +9,4 @@ pub mod Found
 pub mod steps
 pub mod Given
 pub mod Statements
+pub mod Lists

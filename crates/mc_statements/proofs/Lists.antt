@@ -1,29 +1,22 @@
 -- Lists of the program as those of the definitions.
-use Rattle.std.proofs.Common.{◌≡◌, ◌∙◌, List, [], ◌∷◌, ◌++◌, map, length, Option, Some, None, option_map, Vec, Result, Ok, Err, IfOk, refl, ap}
-use Rattle.std.proofs.lemmas.List.{map-append}
+use Rattle.std.proofs.Common.{◌≡◌, List, [], ◌∷◌, ◌++◌, map, length, None, option_map, Vec, refl, ap}
 use Rattle.std.specs.declared.alloc.Global.{Global}
 use Rattle.mc_typed.specs.declared.statements.Statement.{Statement}
 use Rattle.mc_typed.specs.Views.{statement_of, statements_from}
 use Rattle.mc_typed.specs.Tree as t
-use Rattle.mc_faults.specs.declared.fault.Fault.{Fault}
 use Rattle.mc_faults.specs.Faults.{least_of}
 use Rattle.mc_faults.specs.Kept.{listed}
 use Rattle.mc_typing.specs.Scopes.{Scope}
-use Rattle.mc_typing.specs.Values as values
-use Rattle.mc_typing.specs.Values.{judged_two, lift2}
-use Rattle.mc_typing.specs.Declarations.{append, both_lists}
+use Rattle.mc_typing.specs.Values.{lift2}
+use Rattle.mc_typing.specs.Declarations.{append}
 use Rattle.mc_typing.specs.Statements.{only, followed, followed_judged}
 use Rattle.mc_scopes.specs.declared.found.Judged.{Judged}
 use Rattle.mc_scopes.specs.Found.{judged_of}
+use Rattle.mc_scopes.specs.Lists.{items_in}
 use Rattle.mc_scopes.specs.Statements.{statements_of}
 use Rattle.mc_scopes.specs.steps.Squeezed.{squeezed_part}
-use Rattle.mc_statements.specs.Lists.{items_in, only_of}
-
--- what two clauses say of a result, together
-pub both_ok : {R E : Type 0} {P Q S : R → Type 0} → ((r : R) → P r → Q r → S r)
-    → (x : Result R E) → IfOk x P → IfOk x Q → IfOk x S
-both_ok f (Ok r) p q = f r p q
-both_ok f (Err e) p q = tt
+use Rattle.mc_scopes.proofs.Items.{lists_joined_by}
+use Rattle.mc_statements.specs.Lists.{only_of}
 
 -- no other number of elements is one
 pub only_none : {A : Type 0} (all : List A) → (length all ≡ 1 → ⊥) → None ≡ only_of all
@@ -37,58 +30,6 @@ only_statement [] = refl
 only_statement (s ∷ []) = refl
 only_statement (s ∷ r ∷ all) = refl
 
--- ---- one list after the other
-
--- what a list of the program stands for
-abbrev seen : {A B : Type 0} → (List A → B) → Vec A Global → B
-seen view v = view v.items
-
-seen_items : {A B : Type 0} (view : List A → B) (o : Option (Vec A Global))
-    → option_map (seen view) o ≡ option_map view (option_map items_in o)
-seen_items view None = refl
-seen_items view (Some v) = refl
-
-both_seen : {A B : Type 0} (view : List A → B) (join : B → B → B)
-    → ((xs ys : List A) → view (xs ++ ys) ≡ join (view xs) (view ys))
-    → (x y : Option (Vec A Global))
-    → option_map view (lift2 append (option_map items_in x) (option_map items_in y))
-    ≡ lift2 join (option_map (seen view) x) (option_map (seen view) y)
-both_seen view join same (Some x) (Some y) = ap Some (same x.items y.items)
-both_seen view join same (Some x) None = refl
-both_seen view join same None y = refl
-
-joined : {A B : Type 0} (view : List A → B) (join : B → B → B)
-    → ((xs ys : List A) → view (xs ++ ys) ≡ join (view xs) (view ys))
-    → (r x y : Judged (Vec A Global)) (s : Scope)
-    → r.fault ≡ least_of (listed x.fault ++ (listed y.fault ++ []))
-    → option_map items_in r.value
-    ≡ lift2 append (option_map items_in x.value) (option_map items_in y.value)
-    → judged_of (seen view) r s
-    ≡ squeezed_part (judged_two []
-    (lift2 join (option_map (seen view) x.value) (option_map (seen view) y.value))
-    (judged_of (seen view) x s) (judged_of (seen view) y s))
-joined {B = B} view join same r x y s fault value =
-    ap (λ (o : Option Fault). let j : values.Judged B = record {
-      faults = listed o;
-      value = option_map (seen view) r.value;
-      scope = s;
-    } in j) fault
-    ∙ ap (λ (w : Option B). let j : values.Judged B = record {
-      faults = listed (least_of (listed x.fault ++ (listed y.fault ++ [])));
-      value = w;
-      scope = s;
-    } in j)
-    (seen_items view r.value ∙ ap (option_map view) value ∙ both_seen view join same x.value y.value)
-
-pub lists_joined : {A B : Type 0} (f : A → B) (r x y : Judged (Vec A Global)) (s : Scope)
-    → r.fault ≡ least_of (listed x.fault ++ (listed y.fault ++ []))
-    → option_map items_in r.value
-    ≡ lift2 append (option_map items_in x.value) (option_map items_in y.value)
-    → judged_of (λ v. map f v.items) r s
-    ≡ squeezed_part (both_lists
-    (judged_of (λ v. map f v.items) x s) (judged_of (λ v. map f v.items) y s))
-lists_joined f = joined (map f) append (map-append f)
-
 followed_joined : (xs ys : List Statement)
     → statements_from (map statement_of (xs ++ ys))
     ≡ followed (statements_from (map statement_of xs)) (statements_from (map statement_of ys))
@@ -101,4 +42,4 @@ pub statements_joined : (r x y : Judged (Vec Statement Global)) (s : Scope)
     ≡ lift2 append (option_map items_in x.value) (option_map items_in y.value)
     → judged_of statements_of r s
     ≡ squeezed_part (followed_judged (judged_of statements_of x s) (judged_of statements_of y s))
-statements_joined = joined (λ all. statements_from (map statement_of all)) followed followed_joined
+statements_joined = lists_joined_by (λ all. statements_from (map statement_of all)) followed followed_joined

@@ -3,7 +3,6 @@
 
 mod initializers;
 mod statements;
-mod unused;
 mod values;
 
 pub use initializers::items::{more_items, no_items};

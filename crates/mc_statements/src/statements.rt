@@ -3,7 +3,6 @@ pub(crate) mod blocks;
 pub(crate) mod clauses;
 pub(crate) mod effects;
 pub(crate) mod entered;
-pub(crate) mod joined;
 pub(crate) mod lists;
 pub(crate) mod loops;
 pub(crate) mod selections;

@@ -1,39 +1,6 @@
-//! Values on the heap and in lists, by functions of any type: what is proved of a type of trees at
-//! such a step is dear.
-ghost use Rattle.std.specs.Prelude.{◌≡◌, ◌++◌, ◌∷◌, [], IfOk, OnOk, option_map};
-ghost use Rattle.mc_faults.specs.Faults.{least_of};
-ghost use Rattle.mc_faults.specs.Kept.{listed};
-ghost use Rattle.mc_typing.specs.Values.{lift2};
-ghost use Rattle.mc_typing.specs.Declarations.{append};
-ghost use Rattle.mc_statements.specs.Lists.{items_in, only_of};
-
-use crate::statements::joined::of_two;
-use mc_scopes::found::Judged;
-use std::alloc::{AllocError, Global};
-
-/// A value on the heap.
-pub(crate) fn on_heap<T: Drop>(alloc: Global, one: T) -> Result<Box<T>, AllocError>
-    ensures { IfOk result (λ r. r.value ≡ one) }
-{
-    Ok(Box::new(alloc, one)?)
-}
-
-/// Puts a value at the end.
-pub(crate) fn push<T: Drop>(all: &mut Vec<T>, one: T) -> Result<(), AllocError>
-    ensures { OnOk result (all.new.items ≡ all.old.items ++ one ∷ []) }
-{
-    all.push(one)?;
-    Ok(())
-}
-
-/// A list, and a value after it.
-pub(crate) fn with_last<T: Drop>(list: Vec<T>, one: T) -> Result<Vec<T>, AllocError>
-    ensures { IfOk result (λ r. r.items ≡ list.items ++ one ∷ []) }
-{
-    let mut list = list;
-    list.push(one)?;
-    Ok(list)
-}
+//! Lists of the program, whatever is in them.
+ghost use Rattle.std.specs.Prelude.{◌≡◌};
+ghost use Rattle.mc_statements.specs.Lists.{only_of};
 
 /// The value of a list of one.
 pub(crate) fn only<T: Drop>(list: Vec<T>) -> Option<T>
@@ -41,49 +8,4 @@ pub(crate) fn only<T: Drop>(list: Vec<T>) -> Option<T>
 {
     let mut list = list;
     if list.len() == 1 { list.pop() } else { None }
-}
-
-fn joined<T: Drop>(list: Vec<T>, more: Vec<T>) -> Result<Vec<T>, AllocError>
-    ensures { IfOk result (λ r. r.items ≡ list.items ++ more.items) }
-{
-    let mut list = list;
-    let mut more = more;
-    list.append(&mut more)?;
-    Ok(list)
-}
-
-fn joined_values<T: Drop>(
-    list: Option<Vec<T>>,
-    more: Option<Vec<T>>,
-) -> Result<Option<Vec<T>>, AllocError>
-    ensures { IfOk result (λ r. option_map items_in r
-        ≡ lift2 append (option_map items_in list) (option_map items_in more)) }
-{
-    match list {
-        Some(list) => match more {
-            Some(more) => match joined(list, more) {
-                Ok(list) => Ok(Some(list)),
-                Err(error) => Err(error),
-            },
-            None => Ok(None),
-        },
-        None => Ok(None),
-    }
-}
-
-/// The one list after the other, and the first of their faults.
-pub(crate) fn joined_lists<T: Drop>(
-    list: Judged<Vec<T>>,
-    more: Judged<Vec<T>>,
-) -> Result<Judged<Vec<T>>, AllocError>
-    ensures fault { IfOk result (λ r.
-        r.fault ≡ least_of (listed list.fault ++ (listed more.fault ++ []))) }
-    ensures value { IfOk result (λ r. option_map items_in r.value
-        ≡ lift2 append (option_map items_in list.value) (option_map items_in more.value)) }
-{
-    let fault = of_two(list.fault, more.fault);
-    match joined_values(list.value, more.value) {
-        Ok(value) => Ok(Judged { fault, value }),
-        Err(error) => Err(error),
-    }
 }

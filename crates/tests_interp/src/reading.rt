@@ -1,10 +1,10 @@
 //! From a source and the records of tests to their runs.
-ghost use Rattle.std.specs.Prelude.{◌≤◌};
+ghost use Rattle.std.specs.Prelude.{◌<◌, ◌+◌, ◌^◌, length, All};
 
 use crate::fail::Fail;
 use crate::row::{Row, row_of};
 use crate::runs::are_right;
-use mc_lex::{Dialect, lex};
+use mc_lex::{Dialect, Token, lex};
 use mc_parse::parse;
 use mc_subset::check;
 use mc_tests::read_tests;
@@ -41,18 +41,49 @@ fn tested(alloc: Global, program: &Program<'_>, row: &Row<'_>) -> Result<bool, F
     }
 }
 
-fn typed(alloc: Global, unit: &Unit<'_>, row: &Row<'_>) -> Result<bool, Fail> {
-    if check(unit).is_err() {
-        return Err(Fail);
-    }
-    match type_unit(alloc, unit) {
-        Ok(program) => {
-            let right = tested(alloc, &program, row);
-            drop(program);
+/// What a source is read as: its tree, and then its typed program.
+trait Stage {
+    /// Whether the tests of a row come to what it says.
+    fn holds(&self, alloc: Global, row: &Row<'_>) -> Result<bool, Fail>;
+}
+
+/// The same of what was read, which is let go. For any type: a match that takes a whole tree or
+/// program out of its result makes a long proof.
+fn holds_of<T: Stage + Drop, E: Drop>(
+    alloc: Global,
+    row: &Row<'_>,
+    read: Result<T, E>,
+) -> Result<bool, Fail> {
+    match read {
+        Ok(it) => {
+            let right = it.holds(alloc, row);
+            drop(it);
             right
         }
         Err(_) => Err(Fail),
     }
+}
+
+impl Stage for Program<'_> {
+    fn holds(&self, alloc: Global, row: &Row<'_>) -> Result<bool, Fail> {
+        tested(alloc, self, row)
+    }
+}
+
+impl Stage for Unit<'_> {
+    fn holds(&self, alloc: Global, row: &Row<'_>) -> Result<bool, Fail> {
+        if check(self).is_err() {
+            return Err(Fail);
+        }
+        holds_of(alloc, row, type_unit(alloc, self))
+    }
+}
+
+fn of_tokens(alloc: Global, row: &Row<'_>, tokens: &[Token<'_>]) -> Result<bool, Fail>
+    requires short { All (λ token. token.start + length token.text.now < 2 ^ 31) tokens.now }
+    requires few { length tokens.now < 2 ^ 31 }
+{
+    holds_of(alloc, row, parse(alloc, tokens, Dialect::Plain))
 }
 
 /// Whether the tests of a row come to what it says.
@@ -62,14 +93,10 @@ fn holds(alloc: Global, row: &Row<'_>) -> Result<bool, Fail> {
     if source.len() >= 0x8000_0000 {
         return Err(Fail);
     }
-    let tokens = match lex(alloc, source, Dialect::Plain) {
-        Ok(tokens) => tokens,
-        Err(_) => return Err(Fail),
-    };
-    match parse(alloc, &tokens, Dialect::Plain) {
-        Ok(unit) => {
-            let right = typed(alloc, &unit, row);
-            drop(unit);
+    match lex(alloc, source, Dialect::Plain) {
+        Ok(tokens) => {
+            let right = of_tokens(alloc, row, &tokens);
+            drop(tokens);
             right
         }
         Err(_) => Err(Fail),

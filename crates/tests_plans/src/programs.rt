@@ -27,22 +27,43 @@ int p(struct S a){return a.a;}
 struct S s(void){struct S a={1};return a;}
 ";
 
-fn check_program(rt: &impl Abort, alloc: Global, program: &Program<'_>) -> Result<(), Fail> {
-    assert!(rt; are_read(alloc, program));
-    check_faults(rt, alloc, program)
+/// What a source is read as: its tree, and then its typed program.
+trait Stage {
+    /// Checks the tests files of the program.
+    fn check_files(&self, rt: &impl Abort, alloc: Global) -> Result<(), Fail>;
 }
 
-fn check_unit(rt: &impl Abort, alloc: Global, unit: &Unit<'_>) -> Result<(), Fail> {
-    if check(unit).is_err() {
-        return Err(Fail::new("outside form"));
-    }
-    match type_unit(alloc, unit) {
-        Ok(program) => {
-            let checked = check_program(rt, alloc, &program);
-            drop(program);
+/// The same of what was read, which is let go. For any type: a match that takes a whole tree or
+/// program out of its result makes a long proof.
+fn check_read<T: Stage + Drop, E: Drop>(
+    rt: &impl Abort,
+    alloc: Global,
+    read: Result<T, E>,
+    fault: &'static str,
+) -> Result<(), Fail> {
+    match read {
+        Ok(it) => {
+            let checked = it.check_files(rt, alloc);
+            drop(it);
             checked
         }
-        Err(_) => Err(Fail::new("names or types")),
+        Err(_) => Err(Fail::new(fault)),
+    }
+}
+
+impl Stage for Program<'_> {
+    fn check_files(&self, rt: &impl Abort, alloc: Global) -> Result<(), Fail> {
+        assert!(rt; are_read(alloc, self));
+        check_faults(rt, alloc, self)
+    }
+}
+
+impl Stage for Unit<'_> {
+    fn check_files(&self, rt: &impl Abort, alloc: Global) -> Result<(), Fail> {
+        if check(self).is_err() {
+            return Err(Fail::new("outside form"));
+        }
+        check_read(rt, alloc, type_unit(alloc, self), "names or types")
     }
 }
 
@@ -50,14 +71,7 @@ fn check_tokens(rt: &impl Abort, alloc: Global, tokens: &[Token<'_>]) -> Result<
     requires short { All (λ token. token.start + length token.text.now < 2 ^ 31) tokens.now }
     requires few { length tokens.now < 2 ^ 31 }
 {
-    match parse(alloc, tokens, Dialect::Plain) {
-        Ok(unit) => {
-            let checked = check_unit(rt, alloc, &unit);
-            drop(unit);
-            checked
-        }
-        Err(_) => Err(Fail::new("syntax")),
-    }
+    check_read(rt, alloc, parse(alloc, tokens, Dialect::Plain), "syntax")
 }
 
 /// Checks the tests files of the program.

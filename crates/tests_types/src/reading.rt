@@ -1,12 +1,12 @@
 //! What becomes of a source: its first fault of names and types, where it has a tree.
-ghost use Rattle.std.specs.Prelude.{◌≤◌};
+ghost use Rattle.std.specs.Prelude.{◌<◌, ◌+◌, ◌^◌, length, All};
 
-use mc_lex::{Dialect, LexFault, lex};
+use mc_lex::{Dialect, LexFault, Token, lex};
 use mc_parse::{ParseFault, parse};
 use mc_subset::check;
 use mc_tree::Unit;
 use mc_typed::{Program, frame, levels};
-use mc_types::type_unit;
+use mc_types::{TypeFault, type_unit};
 use std::alloc::{AllocError, AllocFailed, Global};
 
 /// What becomes of a source; places are numbers of bytes.
@@ -51,24 +51,70 @@ fn last_size(program: &Program<'_>) -> Option<Size> {
     })
 }
 
-fn typed(alloc: Global, unit: &Unit<'_>) -> Result<Outcome, Fail> {
-    if check(unit).is_err() {
-        return Ok(Outcome::NotAccepted);
+/// What a source is read as, its tree and then its typed program, or why it is not.
+trait Stage {
+    fn outcome(&self, alloc: Global) -> Result<Outcome, Fail>;
+}
+
+impl Stage for Program<'_> {
+    fn outcome(&self, _alloc: Global) -> Result<Outcome, Fail> {
+        Ok(Outcome::Typed {
+            last: last_size(self),
+        })
     }
-    match type_unit(alloc, unit) {
-        Ok(program) => {
-            let last = last_size(&program);
-            drop(program);
-            Ok(Outcome::Typed { last })
-        }
-        Err(fault) => match fault.at() {
+}
+
+impl Stage for TypeFault {
+    fn outcome(&self, _alloc: Global) -> Result<Outcome, Fail> {
+        match self.at() {
             Some(at) => Ok(Outcome::Refused {
-                words: fault.words(),
+                words: self.words(),
                 at: at as usize,
             }),
             None => Err(Fail),
-        },
+        }
     }
+}
+
+/// What becomes of what was read. For any type: a match that takes a whole tree or program out of
+/// its result makes a long proof.
+fn outcome_of<T: Stage + Drop, E: Stage + Drop>(
+    alloc: Global,
+    read: Result<T, E>,
+) -> Result<Outcome, Fail> {
+    match read {
+        Ok(it) => {
+            let outcome = it.outcome(alloc);
+            drop(it);
+            outcome
+        }
+        Err(fault) => fault.outcome(alloc),
+    }
+}
+
+impl Stage for Unit<'_> {
+    fn outcome(&self, alloc: Global) -> Result<Outcome, Fail> {
+        if check(self).is_err() {
+            return Ok(Outcome::NotAccepted);
+        }
+        outcome_of(alloc, type_unit(alloc, self))
+    }
+}
+
+impl Stage for ParseFault {
+    fn outcome(&self, _alloc: Global) -> Result<Outcome, Fail> {
+        match self {
+            ParseFault::Syntax { .. } => Ok(Outcome::NotAccepted),
+            ParseFault::OutOfMemory => Err(Fail),
+        }
+    }
+}
+
+fn of_tokens(alloc: Global, tokens: &[Token<'_>]) -> Result<Outcome, Fail>
+    requires short { All (λ token. token.start + length token.text.now < 2 ^ 31) tokens.now }
+    requires few { length tokens.now < 2 ^ 31 }
+{
+    outcome_of(alloc, parse(alloc, tokens, Dialect::Plain))
 }
 
 /// Reads a source, and judges its names and types.
@@ -77,15 +123,14 @@ pub fn judged(alloc: Global, source: &[u8]) -> Result<Outcome, Fail> {
     if source.len() >= 0x8000_0000 {
         return Ok(Outcome::NotAccepted);
     }
-    let tokens = match lex(alloc, source, Dialect::Plain) {
-        Ok(tokens) => tokens,
-        Err(LexFault::OutOfMemory) => return Err(Fail),
-        Err(_) => return Ok(Outcome::NotAccepted),
-    };
-    match parse(alloc, &tokens, Dialect::Plain) {
-        Ok(unit) => typed(alloc, &unit),
-        Err(ParseFault::Syntax { .. }) => Ok(Outcome::NotAccepted),
-        Err(ParseFault::OutOfMemory) => Err(Fail),
+    match lex(alloc, source, Dialect::Plain) {
+        Ok(tokens) => {
+            let outcome = of_tokens(alloc, &tokens);
+            drop(tokens);
+            outcome
+        }
+        Err(LexFault::OutOfMemory) => Err(Fail),
+        Err(_) => Ok(Outcome::NotAccepted),
     }
 }
 

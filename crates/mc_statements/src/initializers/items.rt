@@ -9,10 +9,9 @@ ghost use Rattle.mc_scopes.specs.Found.{judged_of};
 ghost use Rattle.mc_statements.specs.Items.{items_of, then_item, item_then};
 ghost use Rattle.mc_scopes.specs.steps.Squeezed.{squeezed_part};
 
-use crate::statements::joined;
-use crate::unused;
-use crate::values::with_last;
 use mc_scopes::found::Judged;
+use mc_scopes::joined;
+use mc_scopes::lists::{unused, with_last};
 use mc_typed::Initializer;
 use std::alloc::{AllocError, Global};
 
@@ -46,7 +45,7 @@ fn items_with(
             }
         },
         None => {
-            unused::initializer(one);
+            unused(one);
             Ok(None)
         }
     }

@@ -14,10 +14,10 @@ ghost use Rattle.mc_scopes.specs.steps.Squeezed.{squeezed_part};
 use crate::initializers::items::{more_items, no_items};
 use crate::initializers::singles::single_initializer;
 use crate::initializers::target::{Target, fails_count, target_for};
-use crate::unused;
 use crate::values::only;
 use mc_faults::{FaultKind, or_fault};
 use mc_scopes::found::{Found, Judged, number_in};
+use mc_scopes::lists::unused;
 use mc_scopes::values::is_zero_found;
 use mc_scopes::{CType, Scope, cells};
 use mc_typed::{Expression, Initializer};
@@ -142,7 +142,7 @@ fn zero_value(
             None => Ok(None),
         },
         None => {
-            unused::expression(value);
+            unused(value);
             Ok(None)
         }
     }
@@ -238,7 +238,7 @@ pub fn braced_expression(
             }
         }
         Err(error) => {
-            unused::value(found.value);
+            unused(found.value);
             Err(error)
         }
     }

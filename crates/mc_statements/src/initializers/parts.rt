@@ -7,7 +7,7 @@ ghost use Rattle.mc_scopes.specs.Views.{scope_of};
 ghost use Rattle.mc_statements.specs.Initializers.{optional_type, type_at, part_at, parts_from, target_of, members_in};
 
 use crate::initializers::target::{Target, target_for};
-use crate::values::push;
+use mc_scopes::lists::push;
 use mc_scopes::{Base, CType, Complete, Scope};
 use std::alloc::{AllocError, Global};
 

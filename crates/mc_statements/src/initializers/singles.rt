@@ -14,11 +14,11 @@ ghost use Rattle.mc_statements.specs.Initializers.{target_of};
 ghost use Rattle.mc_scopes.specs.steps.Squeezed.{squeezed_part};
 
 use crate::initializers::target::{Target, target_for};
-use crate::unused;
 use mc_faults::{Fault, FaultKind, after, fault_where, lesser};
 use mc_scopes::conversions::convert_to;
 use mc_scopes::found::{Found, Judged, kind_found};
 use mc_scopes::kind::{Kind, fails_integer, is_kind};
+use mc_scopes::lists::unused;
 use mc_scopes::value::Value;
 use mc_scopes::values::fault_of_constant;
 use mc_scopes::{Base, CType, Scope, cells};
@@ -227,7 +227,7 @@ pub fn single_initializer(
             }
         }
         Err(error) => {
-            unused::value(found.value);
+            unused(found.value);
             Err(error)
         }
     }

@@ -12,12 +12,12 @@ ghost use Rattle.mc_scopes.specs.Statements.{statements_of, declarators_of};
 ghost use Rattle.mc_faults.specs.Kept.{listed};
 ghost use Rattle.mc_scopes.specs.steps.Squeezed.{squeezed_part};
 
-use crate::statements::joined;
 use crate::statements::lists::listed;
-use crate::unused;
 use mc_faults::{Fault, FaultKind, lesser};
 use mc_scopes::found::Judged;
+use mc_scopes::joined;
 use mc_scopes::leaves::leaf;
+use mc_scopes::lists::unused;
 use mc_typed::{Declarator, Effect, Span, Statement};
 use std::alloc::{AllocError, Global};
 
@@ -168,7 +168,7 @@ pub fn named_label(span: Span, body: Judged<Vec<Statement>>) -> Judged<Vec<State
         at: span.start,
     };
     let first = first_of(fault, body.fault);
-    unused::statements(body.value);
+    unused(body.value);
     Judged {
         fault: first,
         value: None,

@@ -10,8 +10,8 @@ ghost use Rattle.mc_scopes.specs.Found.{judged_of};
 ghost use Rattle.mc_scopes.specs.Statements.{declarators_of, effects_of, test_of};
 ghost use Rattle.mc_scopes.specs.steps.Squeezed.{squeezed_part};
 
-use crate::values::{joined_lists, with_last};
 use mc_scopes::found::Judged;
+use mc_scopes::lists::{joined_lists, with_last};
 use mc_typed::{Declarator, Effect, Expression, ForStart};
 use std::alloc::{AllocError, Global};
 

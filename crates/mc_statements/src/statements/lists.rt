@@ -7,9 +7,10 @@ ghost use Rattle.mc_scopes.specs.Found.{judged_of};
 ghost use Rattle.mc_scopes.specs.Statements.{statements_of};
 ghost use Rattle.mc_scopes.specs.steps.Squeezed.{squeezed_part};
 
-use crate::values::{joined_lists, on_heap, only};
+use crate::values::only;
 use mc_scopes::found::Judged;
 use mc_scopes::leaves::alone;
+use mc_scopes::lists::{joined_lists, on_heap};
 use mc_typed::{Span, Statement};
 use std::alloc::{AllocError, Global};
 

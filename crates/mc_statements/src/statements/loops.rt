@@ -9,11 +9,11 @@ ghost use Rattle.mc_scopes.specs.Found.{found_of, judged_of};
 ghost use Rattle.mc_scopes.specs.Statements.{statements_of, effects_of, declarators_of, test_of};
 ghost use Rattle.mc_scopes.specs.steps.Squeezed.{squeezed_part};
 
-use crate::statements::joined;
 use crate::statements::lists::{begun, listed, only_in};
-use crate::unused;
 use mc_faults::{FaultKind, or_fault, two_or_fault};
 use mc_scopes::found::{Found, Judged, fails_integer, number_in};
+use mc_scopes::joined;
+use mc_scopes::lists::{unused, unused_inner};
 use mc_typed::{Declarator, Effect, Expression, ForStart, Span, Statement};
 use std::alloc::{AllocError, Global};
 
@@ -83,7 +83,7 @@ fn do_of(
             }
         },
         None => {
-            unused::expression(test);
+            unused(test);
             Ok(None)
         }
     }
@@ -216,29 +216,29 @@ fn loop_of(
                     }
                     None => {
                         drop(start);
-                        unused::expression(test);
+                        unused(test);
                         drop(step);
                         Ok(None)
                     }
                 },
                 None => {
                     drop(start);
-                    unused::expression(test);
-                    unused::statement(body);
+                    unused(test);
+                    unused(body);
                     Ok(None)
                 }
             },
             None => {
                 drop(start);
-                unused::effects(step);
-                unused::statement(body);
+                unused(step);
+                unused(body);
                 Ok(None)
             }
         },
         None => {
-            unused::test(test);
-            unused::effects(step);
-            unused::statement(body);
+            unused_inner(test);
+            unused(step);
+            unused(body);
             Ok(None)
         }
     }

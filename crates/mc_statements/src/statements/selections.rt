@@ -16,10 +16,9 @@ ghost use Rattle.mc_scopes.specs.Statements.{statements_of};
 ghost use Rattle.mc_scopes.specs.steps.Squeezed.{squeezed_part};
 
 use crate::statements::lists::{begun, keyword, listed, only_in};
-use crate::unused;
-use crate::values::on_heap;
 use mc_faults::{FaultKind, three_or_fault, two_or_fault};
 use mc_scopes::found::{Found, Judged, fails_integer, number_in};
+use mc_scopes::lists::{on_heap, unused};
 use mc_scopes::value::Value;
 use mc_scopes::{Base, CType, conversions};
 use mc_tree::Statement as Tree;
@@ -73,7 +72,7 @@ fn if_of(
             }
         },
         None => {
-            unused::statement(chosen);
+            unused(chosen);
             Ok(None)
         }
     }
@@ -183,13 +182,13 @@ fn if_else_of(
             },
             None => {
                 drop(test);
-                unused::statement(other);
+                unused(other);
                 Ok(None)
             }
         },
         None => {
-            unused::statement(chosen);
-            unused::statement(other);
+            unused(chosen);
+            unused(other);
             Ok(None)
         }
     }
@@ -378,7 +377,7 @@ fn switch_of(
             }
         },
         None => {
-            unused::statements(items);
+            unused(items);
             Ok(None)
         }
     }

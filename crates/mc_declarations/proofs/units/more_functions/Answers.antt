@@ -1,5 +1,5 @@
 use Rattle.mc_typed.specs.Views.{function_of}
-use Rattle.mc_declarations.proofs.Lists.{both_ok, lists_joined}
+use Rattle.mc_scopes.proofs.Items.{both_ok, lists_joined}
 use Rattle.mc_declarations.proofs.units.more_functions.Goals as goal
 
 pub returns : goal.returns

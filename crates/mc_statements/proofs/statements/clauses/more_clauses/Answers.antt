@@ -1,5 +1,5 @@
 use Rattle.mc_typed.specs.Views.{effect_of}
-use Rattle.mc_statements.proofs.Lists.{both_ok, lists_joined}
+use Rattle.mc_scopes.proofs.Items.{both_ok, lists_joined}
 use Rattle.mc_statements.proofs.statements.clauses.more_clauses.Goals as goal
 
 pub returns : goal.returns

@@ -1,4 +1,5 @@
-use Rattle.mc_statements.proofs.Lists.{both_ok, statements_joined}
+use Rattle.mc_scopes.proofs.Items.{both_ok}
+use Rattle.mc_statements.proofs.Lists.{statements_joined}
 use Rattle.mc_statements.proofs.statements.lists.followed.Goals as goal
 
 pub returns : goal.returns

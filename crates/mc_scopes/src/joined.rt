@@ -6,7 +6,7 @@ ghost use Rattle.mc_faults.specs.Kept.{listed};
 use mc_faults::{Fault, lesser};
 
 /// Of one part.
-pub(crate) fn of_one(one: Option<Fault>) -> Option<Fault>
+pub fn of_one(one: Option<Fault>) -> Option<Fault>
     ensures { result ≡ least_of (listed one ++ []) }
 {
     match one {
@@ -16,7 +16,7 @@ pub(crate) fn of_one(one: Option<Fault>) -> Option<Fault>
 }
 
 /// Of two parts.
-pub(crate) fn of_two(one: Option<Fault>, other: Option<Fault>) -> Option<Fault>
+pub fn of_two(one: Option<Fault>, other: Option<Fault>) -> Option<Fault>
     ensures { result ≡ least_of (listed one ++ (listed other ++ [])) }
 {
     let rest = of_one(other);
@@ -27,11 +27,7 @@ pub(crate) fn of_two(one: Option<Fault>, other: Option<Fault>) -> Option<Fault>
 }
 
 /// Of three parts.
-pub(crate) fn of_three(
-    one: Option<Fault>,
-    two: Option<Fault>,
-    three: Option<Fault>,
-) -> Option<Fault>
+pub fn of_three(one: Option<Fault>, two: Option<Fault>, three: Option<Fault>) -> Option<Fault>
     ensures { result ≡ least_of (listed one ++ (listed two ++ (listed three ++ []))) }
 {
     let rest = of_two(two, three);
@@ -42,7 +38,7 @@ pub(crate) fn of_three(
 }
 
 /// Of four parts.
-pub(crate) fn of_four(
+pub fn of_four(
     one: Option<Fault>,
     two: Option<Fault>,
     three: Option<Fault>,

@@ -1,0 +1,93 @@
+//! Values on the heap, in lists, or none, by functions of any type: what is proved of a type of trees
+//! at such a step is dear.
+ghost use Rattle.std.specs.Prelude.{◌≡◌, ◌++◌, ◌∷◌, [], IfOk, OnOk, option_map};
+ghost use Rattle.mc_faults.specs.Faults.{least_of};
+ghost use Rattle.mc_faults.specs.Kept.{listed};
+ghost use Rattle.mc_typing.specs.Values.{lift2};
+ghost use Rattle.mc_typing.specs.Declarations.{append};
+ghost use Rattle.mc_scopes.specs.Lists.{items_in};
+
+use crate::found::Judged;
+use crate::joined::of_two;
+use std::alloc::{AllocError, Global};
+
+/// A value on the heap.
+pub fn on_heap<T: Drop>(alloc: Global, one: T) -> Result<Box<T>, AllocError>
+    ensures { IfOk result (λ r. r.value ≡ one) }
+{
+    Ok(Box::new(alloc, one)?)
+}
+
+/// Puts a value at the end.
+pub fn push<T: Drop>(all: &mut Vec<T>, one: T) -> Result<(), AllocError>
+    ensures { OnOk result (all.new.items ≡ all.old.items ++ one ∷ []) }
+{
+    all.push(one)?;
+    Ok(())
+}
+
+/// A list, and a value after it.
+pub fn with_last<T: Drop>(list: Vec<T>, one: T) -> Result<Vec<T>, AllocError>
+    ensures { IfOk result (λ r. r.items ≡ list.items ++ one ∷ []) }
+{
+    let mut list = list;
+    list.push(one)?;
+    Ok(list)
+}
+
+/// The one list after the other.
+pub fn joined<T: Drop>(list: Vec<T>, more: Vec<T>) -> Result<Vec<T>, AllocError>
+    ensures { IfOk result (λ r. r.items ≡ list.items ++ more.items) }
+{
+    let mut list = list;
+    let mut more = more;
+    list.append(&mut more)?;
+    Ok(list)
+}
+
+fn joined_values<T: Drop>(
+    list: Option<Vec<T>>,
+    more: Option<Vec<T>>,
+) -> Result<Option<Vec<T>>, AllocError>
+    ensures { IfOk result (λ r. option_map items_in r
+        ≡ lift2 append (option_map items_in list) (option_map items_in more)) }
+{
+    match list {
+        Some(list) => match more {
+            Some(more) => Ok(Some(joined(list, more)?)),
+            None => Ok(None),
+        },
+        None => Ok(None),
+    }
+}
+
+/// The one list after the other, and the first of their faults.
+pub fn joined_lists<T: Drop>(
+    list: Judged<Vec<T>>,
+    more: Judged<Vec<T>>,
+) -> Result<Judged<Vec<T>>, AllocError>
+    ensures fault { IfOk result (λ r.
+        r.fault ≡ least_of (listed list.fault ++ (listed more.fault ++ []))) }
+    ensures value { IfOk result (λ r. option_map items_in r.value
+        ≡ lift2 append (option_map items_in list.value) (option_map items_in more.value)) }
+{
+    let fault = of_two(list.fault, more.fault);
+    let value = joined_values(list.value, more.value)?;
+    Ok(Judged { fault, value })
+}
+
+/// Lets a value go that may be there and is not used.
+pub fn unused<T: Drop>(one: Option<T>) {
+    match one {
+        Some(one) => drop(one),
+        None => {}
+    }
+}
+
+/// The same of a value that may be there twice over.
+pub fn unused_inner<T: Drop>(one: Option<Option<T>>) {
+    match one {
+        Some(one) => unused(one),
+        None => {}
+    }
+}
