@@ -1,3 +1,4 @@
 pub mod Short
 pub mod Cursors
+pub mod Made
 pub mod Rules

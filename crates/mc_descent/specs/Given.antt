@@ -1,5 +1,5 @@
 -- What the functions of the descent return is what the readers of mc_reading give.
-use Rattle.std.specs.Prelude.{◌≡◌, ◌≤◌, ◌+◌, max, ℕ, IfOk, List, map, Option, Some, Result, Ok, Err, Box}
+use Rattle.std.specs.Prelude.{◌≡◌, ◌≤◌, ◌+◌, max, ℕ, IfOk, List, map, Option, Some, Result, Ok, Err}
 use Rattle.std.specs.declared.alloc.Global.{Global}
 use denote.Ref.{MutBor}
 use Rattle.mc_tree.specs.Tree as t
@@ -69,11 +69,6 @@ abbrev pub GivesType : Option (t.TypeName × List Lexeme) → Result ReadType Fa
 GivesType read (Ok r) rest =
     (read ≡ Some (type_of r, rest)) × (r.height ≡ h.height_type (type_of r))
 GivesType read (Err fault) rest = Refuses read fault
-
--- a value that was put on the heap: nothing else can go wrong than memory
-abbrev pub IsOnHeap : {X : Type 0} → X → Result (Box X Global) Fault → Type 0
-IsOnHeap x (Ok one) = one.value ≡ x
-IsOnHeap x (Err fault) = NotMade fault
 
 -- a node that was made on the heap
 abbrev pub GivesMade : t.Expression → ℕ → Result Read Fault → Type 0

@@ -11,13 +11,12 @@ ghost use Rattle.mc_cursor.specs.Cursors.{Gives, left_of};
 ghost use Rattle.mc_descent.specs.Heads.{words_of};
 
 use crate::allowed::Allowed;
-use crate::grammar::lists;
-use crate::grammar::makers::on_heap;
 use crate::initializers::initializer;
 use crate::knot::{declarator, specifiers};
 use mc_cursor::cursor::{Cursor, place};
 use mc_cursor::fault::Fault;
 use mc_cursor::to;
+use mc_cursor::values::{on_heap, push_boxed};
 use mc_span::Span;
 use mc_tree::{Declaration, Declarator, InitDeclarator, Specifier};
 use std::alloc::{AllocError, Global};
@@ -61,7 +60,7 @@ fn push<'a>(
     ensures { IfOk result (λ _. map init_declarator_of all.new.items
         ≡ map init_declarator_of all.old.items ++ init_declarator_of one.entry.value ∷ []) }
 {
-    lists::push_boxed(all, one)
+    push_boxed(all, one)
 }
 
 /// The declarators of a list with commas between them, after these.

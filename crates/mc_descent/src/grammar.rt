@@ -2,7 +2,6 @@
 
 mod binary;
 mod declarators;
-pub mod lists;
 pub mod makers;
 mod members;
 mod operators;

@@ -7,13 +7,12 @@ ghost use Rattle.mc_reading.specs.Lists.{braced_list, listed};
 ghost use Rattle.mc_reading.specs.Rooms.{reading};
 ghost use Rattle.mc_cursor.specs.Cursors.{Gives, left_of};
 
-use crate::grammar::lists;
 use crate::knot::expression;
 use crate::read::Read;
 use mc_cursor::cursor::{Cursor, place};
 use mc_cursor::fault::Fault;
 use mc_cursor::rule::Rule;
-use mc_cursor::to;
+use mc_cursor::{to, values};
 use mc_span::Span;
 use mc_tree::Initializer;
 use std::alloc::{AllocError, Global};
@@ -95,5 +94,5 @@ fn push<'a>(all: &mut Vec<Initializer<'a>>, one: Initializer<'a>) -> Result<(), 
     ensures { IfOk result (λ _. map initializer_of all.new.items ≡ map initializer_of all.old.items
         ++ initializer_of one.entry ∷ []) }
 {
-    lists::push(all, one)
+    values::push(all, one)
 }

@@ -2,8 +2,8 @@
 ghost use Rattle.std.specs.Prelude.{◌≡◌, ◌∷◌, ◌++◌, [], IfOk, max, nat_le};
 ghost use Rattle.mc_descent.specs.Given.{IsAllHigh, IsHigh, tree_of, trees_of};
 
-use crate::grammar::lists::push_boxed;
 use mc_cursor::is_too_high;
+use mc_cursor::values::push_boxed;
 use mc_span::Span;
 use mc_tree::{ArrayLength, Expression, Specifier};
 use std::alloc::{AllocError, Global};

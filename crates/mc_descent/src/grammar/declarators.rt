@@ -14,8 +14,7 @@ ghost use Rattle.mc_descent.specs.Given.{GivesPart, IsHigh, specifiers_of, tree_
 ghost use Rattle.mc_descent.specs.Parts as view;
 
 use crate::grammar::Grammar;
-use crate::grammar::lists::{push, push_boxed};
-use crate::grammar::makers::{end_of_specifiers, on_heap};
+use crate::grammar::makers::end_of_specifiers;
 use crate::grammar::parts::PartReader;
 use crate::grammar::unary::stars;
 use crate::read::{Read, ReadLength, ReadLengths, ReadSpecifiers};
@@ -23,6 +22,7 @@ use mc_cursor::cursor::{Cursor, identifier, place};
 use mc_cursor::fault::Fault;
 use mc_cursor::rule::Rule;
 use mc_cursor::to;
+use mc_cursor::values::{on_heap, push, push_boxed};
 use mc_lex::Token;
 use mc_span::Span;
 use mc_tree::{ArrayLength, Declarator, Identifier, Parameter};

@@ -2,21 +2,14 @@
 ghost use Rattle.std.specs.Prelude.{◌≡◌, map};
 ghost use Rattle.mc_tree.specs.Views.{expression_of, expressions_from, specifier_of, specifiers_from};
 ghost use Rattle.mc_grammar.specs.Places as places;
-ghost use Rattle.mc_descent.specs.Given.{GivesMade, IsOnHeap};
+ghost use Rattle.mc_descent.specs.Given.{GivesMade};
 
 use crate::read::Read;
 use mc_cursor::fault::Fault;
+use mc_cursor::values::on_heap;
 use mc_span::Span;
 use mc_tree::{Expression, Specifier};
 use std::alloc::Global;
-
-/// A value on the heap.
-#[inline(never)]
-pub fn on_heap<T: Drop>(alloc: Global, one: T) -> Result<Box<T>, Fault>
-    ensures { IsOnHeap one result }
-{
-    Ok(Box::new(alloc, one)?)
-}
 
 /// A tree on the heap.
 #[inline(never)]

@@ -14,14 +14,13 @@ ghost use Rattle.mc_descent.specs.Given.{GivesPart, specifiers_of, tree_of};
 ghost use Rattle.mc_descent.specs.Parts as view;
 
 use crate::grammar::Grammar;
-use crate::grammar::lists::push_boxed;
-use crate::grammar::makers::on_heap;
 use crate::grammar::parts::PartReader;
 use crate::read::{Read, ReadSpecifiers};
 use mc_cursor::cursor::{Cursor, identifier, place};
 use mc_cursor::fault::Fault;
 use mc_cursor::rule::Rule;
 use mc_cursor::to;
+use mc_cursor::values::{on_heap, push_boxed};
 use mc_lex::Token;
 use mc_span::Span;
 use mc_tree::{Declarator, Enumerator, Member};

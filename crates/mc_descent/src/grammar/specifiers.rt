@@ -18,14 +18,13 @@ ghost use Rattle.mc_descent.specs.Parts as view;
 
 use crate::allowed::Allowed;
 use crate::grammar::Grammar;
-use crate::grammar::lists::push_boxed;
-use crate::grammar::makers::on_heap;
 use crate::grammar::operators::specifier_word;
 use crate::grammar::parts::PartReader;
 use crate::read::ReadSpecifiers;
 use mc_cursor::cursor::{Cursor, identifier, place};
 use mc_cursor::fault::Fault;
 use mc_cursor::to;
+use mc_cursor::values::{on_heap, push_boxed};
 use mc_lex::Token;
 use mc_tree::{Enumerator, Identifier, Member, Specifier, SpecifierWord};
 use std::alloc::Global;

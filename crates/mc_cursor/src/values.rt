@@ -1,9 +1,20 @@
-//! Lists of parts.
+//! Values on the heap and at the end of lists, by functions of any type: what is proved of a type
+//! of trees at such a step is dear.
 ghost use Rattle.std.specs.Prelude.{◌≡◌, ◌++◌, ◌∷◌, [], IfOk};
+ghost use Rattle.mc_cursor.specs.Made.{IsOnHeap};
 
-use std::alloc::AllocError;
+use crate::fault::Fault;
+use std::alloc::{AllocError, Global};
 
-/// Puts a part at the end.
+/// A value on the heap.
+#[inline(never)]
+pub fn on_heap<T: Drop>(alloc: Global, one: T) -> Result<Box<T>, Fault>
+    ensures { IsOnHeap one result }
+{
+    Ok(Box::new(alloc, one)?)
+}
+
+/// Puts a value at the end.
 #[inline(never)]
 pub fn push<T: Drop>(all: &mut Vec<T>, one: T) -> Result<(), AllocError>
     ensures { IfOk result (λ _. all.new.items ≡ all.old.items ++ one ∷ []) }
@@ -12,7 +23,7 @@ pub fn push<T: Drop>(all: &mut Vec<T>, one: T) -> Result<(), AllocError>
     Ok(())
 }
 
-/// Puts a part that is on the heap at the end.
+/// Puts a value that is on the heap at the end.
 #[inline(never)]
 pub fn push_boxed<T: Drop>(all: &mut Vec<T>, one: Box<T>) -> Result<(), AllocError>
     ensures { IfOk result (λ _. all.new.items ≡ all.old.items ++ one.value ∷ []) }
