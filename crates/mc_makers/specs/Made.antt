@@ -15,8 +15,3 @@ body_of s = statement_of s.value
 abbrev pub IsMade : t.Statement → Result (Box Statement Global) Fault → Type 0
 IsMade tree (Ok s) = body_of s ≡ tree
 IsMade tree (Err fault) = NotMade fault
-
--- a value that was made on the heap
-abbrev pub IsOnHeap : {X : Type 0} → X → Result (Box X Global) Fault → Type 0
-IsOnHeap x (Ok one) = one.value ≡ x
-IsOnHeap x (Err fault) = NotMade fault

@@ -1,4 +1,5 @@
-//! Statements on the heap, and of those an `if`.
+//! Statements with `if` on the heap. The values are made in functions of their own: a statement is
+//! dear to prove where it is handed on in the function that makes it.
 ghost use Rattle.std.specs.Prelude.{◌≡◌};
 ghost use Rattle.mc_tree.specs.Tree as t;
 ghost use Rattle.mc_tree.specs.Tree.{span_of_statement};
@@ -6,26 +7,48 @@ ghost use Rattle.mc_tree.specs.Units.{statement_of, value_of};
 ghost use Rattle.mc_grammar.specs.Places as places;
 ghost use Rattle.mc_makers.specs.Made.{IsMade, body_of};
 
-use crate::values::on_heap;
 use mc_cursor::fault::Fault;
 use mc_cursor::to;
+use mc_cursor::values::on_heap;
 use mc_span::Span;
 use mc_tree::{Expression, Statement};
 use std::alloc::Global;
-
-/// A statement on the heap.
-#[inline(never)]
-pub fn boxed<'a>(alloc: Global, statement: Statement<'a>) -> Result<Box<Statement<'a>>, Fault>
-    ensures { IsMade (statement_of statement.entry) result }
-{
-    on_heap(alloc, statement)
-}
 
 /// Where a statement on the heap stands.
 pub fn place_of(statement: &Box<Statement<'_>>) -> Span
     ensures { result ≡ span_of_statement (body_of statement.now) }
 {
     statement.span()
+}
+
+fn without_else<'a>(
+    first: Span,
+    test: Box<Expression<'a>>,
+    chosen: Box<Statement<'a>>,
+) -> Statement<'a>
+    ensures { statement_of result ≡ t.If (value_of test.entry) (body_of chosen.entry)
+        (places.to first (span_of_statement (body_of chosen.entry))) }
+{
+    let span = to(first, place_of(&chosen));
+    Statement::If { test, chosen, span }
+}
+
+fn with_else<'a>(
+    first: Span,
+    test: Box<Expression<'a>>,
+    chosen: Box<Statement<'a>>,
+    other: Box<Statement<'a>>,
+) -> Statement<'a>
+    ensures { statement_of result ≡ t.IfElse (value_of test.entry) (body_of chosen.entry)
+        (body_of other.entry) (places.to first (span_of_statement (body_of other.entry))) }
+{
+    let span = to(first, place_of(&other));
+    Statement::IfElse {
+        test,
+        chosen,
+        other,
+        span,
+    }
 }
 
 #[inline(never)]
@@ -39,8 +62,7 @@ pub fn if_only<'a>(
         (t.If (value_of test.entry) (body_of chosen.entry)
         (places.to first (span_of_statement (body_of chosen.entry)))) result }
 {
-    let span = to(first, place_of(&chosen));
-    boxed(alloc, Statement::If { test, chosen, span })
+    on_heap(alloc, without_else(first, test, chosen))
 }
 
 #[inline(never)]
@@ -54,12 +76,5 @@ pub fn if_else<'a>(
     ensures { IsMade (t.IfElse (value_of test.entry) (body_of chosen.entry) (body_of other.entry)
         (places.to first (span_of_statement (body_of other.entry)))) result }
 {
-    let span = to(first, place_of(&other));
-    let statement = Statement::IfElse {
-        test,
-        chosen,
-        other,
-        span,
-    };
-    boxed(alloc, statement)
+    on_heap(alloc, with_else(first, test, chosen, other))
 }

@@ -8,12 +8,13 @@ ghost use Rattle.mc_reading.specs.Items as spec;
 ghost use Rattle.mc_cursor.specs.Cursors.{Gives, left_of};
 ghost use Rattle.mc_descent.specs.Heads.{words_of};
 ghost use Rattle.mc_parse.specs.steps.Headed.{head_item_of};
-ghost use Rattle.mc_parse.specs.steps.Made.{block_of};
+ghost use Rattle.mc_parse.specs.steps.Made.{block_of, heap_item_of};
 
 use crate::statements::blocks::{Block, compound};
 use mc_cursor::cursor::Cursor;
 use mc_cursor::fault::Fault;
 use mc_cursor::to;
+use mc_cursor::values::{on_heap, push_boxed};
 use mc_descent::allowed::{Allowed, is_typedef};
 use mc_descent::declarations::{Head, declared, undeclared};
 use mc_descent::knot::{declarator, specifiers};
@@ -49,19 +50,16 @@ fn defined<'a>(
     head: Head<'a>,
     declarator: Declarator<'a>,
     tokens: &mut Cursor<'_, 'a>,
-) -> Result<Item<'a>, Fault>
+) -> Result<Box<Item<'a>>, Fault>
     requires { room ≤ 1000 }
-    ensures { Gives item_of (spec.defined_of room head.entry.start (words_of head.entry)
+    ensures { Gives heap_item_of (spec.defined_of room head.entry.start (words_of head.entry)
         (declarator_of declarator.entry) (left_of tokens.old)) result (left_of tokens.new) }
 {
-    if room < 2 {
-        return Err(Fault::Syntax);
-    }
-    if !is_function(&declarator) || !Allowed::Function.allows(&head.specifiers) {
+    if room < 2 || !is_function(&declarator) || !Allowed::Function.allows(&head.specifiers) {
         return Err(Fault::Syntax);
     }
     let block = compound(alloc, tokens, room - 1)?;
-    Ok(definition(head, declarator, block))
+    on_heap(alloc, definition(head, declarator, block))
 }
 
 /// A declaration without a declarator, whose specifiers are read.
@@ -70,12 +68,12 @@ fn undeclared_item<'a>(
     alloc: Global,
     head: Head<'a>,
     tokens: &mut Cursor<'_, 'a>,
-) -> Result<Item<'a>, Fault>
-    ensures { Gives item_of (spec.undeclared_item_of head.entry.start (words_of head.entry)
+) -> Result<Box<Item<'a>>, Fault>
+    ensures { Gives heap_item_of (spec.undeclared_item_of head.entry.start (words_of head.entry)
         (left_of tokens.old)) result (left_of tokens.new) }
 {
     let declaration = undeclared(alloc, head, tokens)?;
-    Ok(Item::Declared { declaration })
+    on_heap(alloc, Item::Declared { declaration })
 }
 
 /// A declaration whose first declarator is read.
@@ -86,14 +84,15 @@ fn declared_item<'a>(
     head: Head<'a>,
     declarator: Declarator<'a>,
     tokens: &mut Cursor<'_, 'a>,
-) -> Result<Item<'a>, Fault>
+) -> Result<Box<Item<'a>>, Fault>
     requires { room ≤ 1000 }
-    ensures { Gives item_of (spec.declaration_item_of room head.entry.start (words_of head.entry)
+    ensures { Gives heap_item_of
+        (spec.declaration_item_of room head.entry.start (words_of head.entry)
         (declarator_of declarator.entry) (left_of tokens.old)) result (left_of tokens.new) }
 {
     let typedef = is_typedef(&head.specifiers);
     let declaration = declared(alloc, typedef, room, head, declarator, tokens)?;
-    Ok(Item::Declared { declaration })
+    on_heap(alloc, Item::Declared { declaration })
 }
 
 /// An external declaration with a declarator, whose specifiers are read.
@@ -103,9 +102,9 @@ fn after_head<'a>(
     room: u32,
     head: Head<'a>,
     tokens: &mut Cursor<'_, 'a>,
-) -> Result<Item<'a>, Fault>
+) -> Result<Box<Item<'a>>, Fault>
     requires { room ≤ 1000 }
-    ensures { Gives item_of (head_item_of room head.entry.start (words_of head.entry)
+    ensures { Gives heap_item_of (head_item_of room head.entry.start (words_of head.entry)
         (left_of tokens.old)) result (left_of tokens.new) }
 {
     let declarator = declarator(alloc, tokens, room)?;
@@ -119,9 +118,10 @@ fn after_head<'a>(
 /// Reads an external declaration of fewer than `room` levels.
 #[inline(never)]
 #[tactic(auto, unfolding(mc_reading::specs::Items::item_of))]
-fn item<'a>(alloc: Global, room: u32, tokens: &mut Cursor<'_, 'a>) -> Result<Item<'a>, Fault>
+fn item<'a>(alloc: Global, room: u32, tokens: &mut Cursor<'_, 'a>) -> Result<Box<Item<'a>>, Fault>
     requires { room ≤ 1000 }
-    ensures { Gives item_of (spec.item_of room (left_of tokens.old)) result (left_of tokens.new) }
+    ensures { Gives heap_item_of (spec.item_of room (left_of tokens.old)) result
+        (left_of tokens.new) }
 {
     let start = tokens.first()?;
     let specifiers = specifiers(alloc, tokens, room, Allowed::Item)?;
@@ -134,11 +134,11 @@ fn item<'a>(alloc: Global, room: u32, tokens: &mut Cursor<'_, 'a>) -> Result<Ite
 }
 
 #[tactic(auto, using(mc_descent::proofs::Lists::map_push))]
-fn push<'a>(all: &mut Vec<Item<'a>>, one: Item<'a>) -> Result<(), AllocError>
-    ensures { IfOk result (λ _. items_of all.new.items ≡ items_of all.old.items ++ item_of one.entry
-        ∷ []) }
+fn push<'a>(all: &mut Vec<Item<'a>>, one: Box<Item<'a>>) -> Result<(), AllocError>
+    ensures { IfOk result (λ _. items_of all.new.items ≡ items_of all.old.items
+        ++ heap_item_of one.entry ∷ []) }
 {
-    mc_makers::values::push(all, one)
+    push_boxed(all, one)
 }
 
 /// Reads external declarations of fewer than `room` levels, up to the end.

@@ -7,18 +7,21 @@ ghost use Rattle.mc_parse.specs.steps.Fronts as fronts;
 ghost use Rattle.mc_makers.specs.Made.{body_of};
 ghost use Rattle.mc_tree.specs.Units.{value_of};
 
+mod beginnings;
 pub mod blocks;
 mod ends;
-mod front;
-mod jumps;
-mod makers;
 mod nodes;
+mod openings;
 mod parts;
+mod wholes;
 
+use crate::statements::beginnings::{Beginning, next_begins};
 use crate::statements::blocks::{Block, compound};
-use crate::statements::ends::end;
-use crate::statements::front::{Front, read_front};
-use mc_cursor::cursor::Cursor;
+use crate::statements::ends::{end, end_of_do};
+use crate::statements::openings::read_opening;
+use crate::statements::parts::{Headed, keyword_and_test};
+use crate::statements::wholes::whole;
+use mc_cursor::cursor::{Cursor, place};
 use mc_cursor::fault::Fault;
 use mc_makers::statements::{if_else, if_only};
 use mc_span::Span;
@@ -60,12 +63,17 @@ fn other_than_block<'a>(
     ensures { Gives body_of (fronts.other_of room (spec.statement_of room) (left_of tokens.old))
         result (left_of tokens.new) }
 {
-    match read_front(alloc, tokens, room)? {
-        Front::Whole { statement: whole } => Ok(whole),
-        Front::If { first, test } => choice(alloc, tokens, room, first, test),
-        Front::Part { opening } => {
+    match next_begins(tokens) {
+        Beginning::Whole { kind } => whole(alloc, tokens, room, kind),
+        Beginning::If => {
+            let Headed { first, test } = keyword_and_test(alloc, tokens, room)?;
+            choice(alloc, tokens, room, first, test)
+        }
+        Beginning::Do => do_loop(alloc, tokens, room),
+        Beginning::Part { opener } => {
+            let opening = read_opening(alloc, tokens, room, opener)?;
             let body = statement(alloc, tokens, room)?;
-            end(alloc, tokens, room, opening, body)
+            end(alloc, opening, body)
         }
     }
 }
@@ -92,4 +100,21 @@ fn choice<'a>(
     tokens.take()?;
     let other = statement(alloc, tokens, room)?;
     if_else(alloc, first, test, chosen, other)
+}
+
+/// A `do`: its statement stands before its test.
+#[cycle(statements)]
+#[inline(never)]
+fn do_loop<'a>(
+    alloc: Global,
+    tokens: &mut Cursor<'_, 'a>,
+    room: u32,
+) -> Result<Box<Statement<'a>>, Fault>
+    requires { room ≤ 1000 }
+    ensures { Gives body_of (fronts.do_by room (spec.statement_of room) (left_of tokens.old))
+        result (left_of tokens.new) }
+{
+    let first = place(tokens.take()?);
+    let body = statement(alloc, tokens, room)?;
+    end_of_do(alloc, tokens, room, first, body)
 }

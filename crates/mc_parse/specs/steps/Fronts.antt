@@ -1,15 +1,22 @@
--- A statement in two steps: its front, up to the statement that is a part of it, and the rest.
+-- A statement in two steps: what stands before the statement that is a part of it, and the rest.
 use Rattle.std.specs.Prelude.{ℕ, if◌then◌else◌, List, Option, codes}
 use Rattle.mc_span.specs.declared.span.Span.{Span}
 use Rattle.mc_tree.specs.Tree.{span_of_statement}
 use Rattle.mc_tree.specs.Tree as t
-use Rattle.mc_grammar.specs.Words.{Lexeme, sees, sees_keyword, sees_label}
+use Rattle.mc_grammar.specs.Words.{sees, sees_keyword}
 use Rattle.mc_grammar.specs.Places.{at, name_at, to}
 use Rattle.mc_grammar.specs.Nonterminal as n
 use Rattle.mc_grammar.specs.steps.Parsers.{Parser, ◌>>=◌, pure, ask, take, expect, expect_keyword}
 use Rattle.mc_reading.specs.Rooms.{reading}
 use Rattle.mc_reading.specs.Statements as spec
-use Rattle.mc_reading.specs.Statements.{Beginning, keyword_begins, optional_of, test_of}
+use Rattle.mc_reading.specs.Statements.{optional_of, test_of}
+use Rattle.mc_parse.specs.declared.statements.beginnings.Beginning.{Beginning}
+use Rattle.mc_parse.specs.declared.statements.beginnings.Beginning.TheVariants as beginning
+use Rattle.mc_parse.specs.declared.statements.beginnings.Opener.{Opener}
+use Rattle.mc_parse.specs.declared.statements.beginnings.Opener.TheVariants as opener
+use Rattle.mc_parse.specs.declared.statements.beginnings.Whole.{Whole}
+use Rattle.mc_parse.specs.declared.statements.beginnings.Whole.TheVariants as whole
+use Rattle.mc_parse.specs.steps.Beginnings.{begins}
 
 -- what stands before the one statement that is a part of another
 pub data Opening : Type 0 where
@@ -18,62 +25,52 @@ pub data Opening : Type 0 where
   Default : Span → Opening
   Switch : Span → t.Expression → Opening
   While : Span → t.Expression → Opening
-  Do : Span → Opening
   For : Span → t.ForStart → Option t.Expression → Option t.Expression → Opening
 
--- the front of a statement: the whole, where it has no statement as a part; an `if` may have two
-pub data Front : Type 0 where
-  Whole : t.Statement → Front
-  If : Span → t.Expression → Front
-  Part : Opening → Front
+-- a statement that has no statement as a part
+abbrev pub whole_by : ℕ → Whole → Parser t.Statement
+whole_by room whole.Null = spec.null_of
+whole_by room whole.Goto = spec.goto_of
+whole_by room whole.Continue = spec.continue_of
+whole_by room whole.Break = spec.break_of
+whole_by room whole.Return = spec.return_of (reading room)
+whole_by room whole.Expression = spec.expression_statement_of (reading room)
 
--- a front without a part
-abbrev pub whole_by : Parser t.Statement → Parser Front
-whole_by reader = do
-  s ← reader
-  pure (Whole s)
+-- a keyword and the expression between parentheses after it
+abbrev pub tested : ℕ → Parser (Span × t.Expression)
+tested room = do
+  x ← take
+  a ← test_of (reading room)
+  pure (at x, a)
 
-abbrev pub label_front : Parser Front
-label_front = do
+abbrev pub label_opening : Parser Opening
+label_opening = do
   x ← take
   y ← take
-  pure (Part (Label (name_at x)))
+  pure (Label (name_at x))
 
-abbrev pub case_front : ℕ → Parser Front
-case_front room = do
+abbrev pub case_opening : ℕ → Parser Opening
+case_opening room = do
   x ← take
   a ← (reading room).expression n.cond
   y ← expect (codes ":")
-  pure (Part (Case (to (at x) (at y)) a))
+  pure (Case (to (at x) (at y)) a)
 
-abbrev pub default_front : Parser Front
-default_front = do
+abbrev pub default_opening : Parser Opening
+default_opening = do
   x ← take
   y ← expect (codes ":")
-  pure (Part (Default (to (at x) (at y))))
+  pure (Default (to (at x) (at y)))
 
-abbrev pub if_front : ℕ → Parser Front
-if_front room = do
-  x ← take
-  a ← test_of (reading room)
-  pure (If (at x) a)
+abbrev pub switch_opening : ℕ → Parser Opening
+switch_opening room = do
+  p ← tested room
+  pure (Switch p.0 p.1)
 
-abbrev pub switch_front : ℕ → Parser Front
-switch_front room = do
-  x ← take
-  a ← test_of (reading room)
-  pure (Part (Switch (at x) a))
-
-abbrev pub while_front : ℕ → Parser Front
-while_front room = do
-  x ← take
-  a ← test_of (reading room)
-  pure (Part (While (at x) a))
-
-abbrev pub do_front : Parser Front
-do_front = do
-  x ← take
-  pure (Part (Do (at x)))
+abbrev pub while_opening : ℕ → Parser Opening
+while_opening room = do
+  p ← tested room
+  pure (While p.0 p.1)
 
 -- an expression that may be left out, and the punctuator after it
 abbrev pub ended_optional : List ℕ → ℕ → Parser (Option t.Expression)
@@ -82,52 +79,22 @@ ended_optional stop room = do
   y ← expect stop
   pure a
 
-abbrev pub for_front : ℕ → Parser Front
-for_front room = do
+abbrev pub for_opening : ℕ → Parser Opening
+for_opening room = do
   x ← take
   y ← expect (codes "(")
   start ← spec.for_start_of room
   a ← ended_optional (codes ";") room
   b ← ended_optional (codes ")") room
-  pure (Part (For (at x) start a b))
+  pure (For (at x) start a b)
 
--- the front, by what the next tokens begin
-abbrev pub front_by : ℕ → Parser t.Statement → Beginning → Parser Front
-front_by room statement spec.label = label_front
-front_by room statement spec.case_ = case_front room
-front_by room statement spec.default_ = default_front
-front_by room statement spec.if_ = if_front room
-front_by room statement spec.switch = switch_front room
-front_by room statement spec.while = while_front room
-front_by room statement spec.do_ = do_front
-front_by room statement spec.for_ = for_front room
-front_by room statement spec.block = whole_by (spec.block_statement_of room statement)
-front_by room statement spec.null = whole_by spec.null_of
-front_by room statement spec.goto_ = whole_by spec.goto_of
-front_by room statement spec.continue_ = whole_by spec.continue_of
-front_by room statement spec.break_ = whole_by spec.break_of
-front_by room statement spec.return_ = whole_by (spec.return_of (reading room))
-front_by room statement spec.expression = whole_by (spec.expression_statement_of (reading room))
-
--- what the next tokens begin where it is none of the keywords before `goto`
-abbrev pub jump_begins : List Lexeme → Beginning
-jump_begins ts = if sees_keyword (codes "goto") ts then spec.goto_
-    else (if sees_keyword (codes "continue") ts then spec.continue_
-    else (if sees_keyword (codes "break") ts then spec.break_
-    else (if sees_keyword (codes "return") ts then spec.return_ else spec.expression)))
-
--- what they begin where it is none of the keywords before `case`
-abbrev pub mark_begins : List Lexeme → Beginning
-mark_begins ts = if sees_keyword (codes "case") ts then spec.case_
-    else (if sees_keyword (codes "default") ts then spec.default_ else jump_begins ts)
-
--- what the next tokens begin where it is not a block
-abbrev pub begins_front : List Lexeme → Beginning
-begins_front ts = if sees (codes ";") ts then spec.null
-    else (if sees_label ts then spec.label else keyword_begins ts)
-
-unfoldable pub front_of : ℕ → Parser t.Statement → Parser Front
-front_of room statement = λ ts. front_by room statement (begins_front ts) ts
+abbrev pub opening_by : ℕ → Opener → Parser Opening
+opening_by room opener.Label = label_opening
+opening_by room opener.Case = case_opening room
+opening_by room opener.Default = default_opening
+opening_by room opener.Switch = switch_opening room
+opening_by room opener.While = while_opening room
+opening_by room opener.For = for_opening room
 
 -- the test of a `do`, and where it ends
 abbrev pub do_test : ℕ → Parser (t.Expression × Span)
@@ -143,15 +110,20 @@ do_rest room first s = do
   p ← do_test room
   pure (t.DoWhile s p.0 (to first p.1))
 
--- the end of a statement after the one that is its part
-abbrev pub end_by : ℕ → Opening → t.Statement → Parser t.Statement
-end_by room (Label name) s = pure (t.Label name s (to name.span (span_of_statement s)))
-end_by room (Case label a) s = pure (t.Case a label s (to label (span_of_statement s)))
-end_by room (Default label) s = pure (t.Default label s (to label (span_of_statement s)))
-end_by room (Switch first a) s = pure (t.Switch a s (to first (span_of_statement s)))
-end_by room (While first a) s = pure (t.While a s (to first (span_of_statement s)))
-end_by room (Do first) s = do_rest room first s
-end_by room (For first start a b) s = pure (t.For start a b s (to first (span_of_statement s)))
+-- a statement of its opening and the statement that is its part
+abbrev pub closed : Opening → t.Statement → t.Statement
+closed (Label name) s = t.Label name s (to name.span (span_of_statement s))
+closed (Case label a) s = t.Case a label s (to label (span_of_statement s))
+closed (Default label) s = t.Default label s (to label (span_of_statement s))
+closed (Switch first a) s = t.Switch a s (to first (span_of_statement s))
+closed (While first a) s = t.While a s (to first (span_of_statement s))
+closed (For first start a b) s = t.For start a b s (to first (span_of_statement s))
+
+-- a statement after its opening
+abbrev pub part_by : Parser t.Statement → Opening → Parser t.Statement
+part_by statement opening = do
+  s ← statement
+  pure (closed opening s)
 
 -- what an `if` chooses between
 unfoldable pub choice_of : Parser t.Statement → Span → t.Expression → Parser t.Statement
@@ -164,17 +136,25 @@ choice_of statement first a = do
     pure (t.IfElse a s u (to first (span_of_statement u)))) else
       pure (t.If a s (to first (span_of_statement s)))
 
--- the rest of a statement after its front
-abbrev pub rest_by : ℕ → Parser t.Statement → Front → Parser t.Statement
-rest_by room statement (Whole whole) = pure whole
-rest_by room statement (If first a) = choice_of statement first a
-rest_by room statement (Part opening) = do
+abbrev pub do_by : ℕ → Parser t.Statement → Parser t.Statement
+do_by room statement = do
+  x ← take
   s ← statement
-  end_by room opening s
+  do_rest room (at x) s
 
--- a statement that is not a block
+-- a statement that is not a block, by what begins it
+abbrev pub other_by : ℕ → Parser t.Statement → Beginning → Parser t.Statement
+other_by room statement (beginning.Whole kind) = whole_by room kind
+other_by room statement beginning.If = do
+  p ← tested room
+  choice_of statement p.0 p.1
+other_by room statement beginning.Do = do_by room statement
+other_by room statement (beginning.Part opener) = do
+  opening ← opening_by room opener
+  part_by statement opening
+
 abbrev pub other_of : ℕ → Parser t.Statement → Parser t.Statement
-other_of room statement = front_of room statement >>= rest_by room statement
+other_of room statement = λ ts. other_by room statement (begins ts) ts
 
 -- a statement, by its front
 abbrev pub statement_turn : ℕ → Parser t.Statement → Parser t.Statement

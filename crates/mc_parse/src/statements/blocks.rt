@@ -30,7 +30,7 @@ fn push<'a>(all: &mut Vec<BlockItem<'a>>, one: BlockItem<'a>) -> Result<(), Allo
     ensures { IfOk result (λ _. map block_item_of all.new.items ≡ map block_item_of all.old.items
         ++ block_item_of one.entry ∷ []) }
 {
-    mc_makers::values::push(all, one)
+    mc_cursor::values::push(all, one)
 }
 
 /// A declaration or a statement.

@@ -1,16 +1,18 @@
 //! The end of a statement, after the statement that is a part of it.
-ghost use Rattle.std.specs.Prelude.{◌≤◌};
+ghost use Rattle.std.specs.Prelude.{◌≡◌, ◌≤◌};
+ghost use Rattle.mc_tree.specs.Units.{statement_of};
 ghost use Rattle.mc_cursor.specs.Cursors.{Gives, left_of};
 ghost use Rattle.mc_parse.specs.steps.Fronts as fronts;
-ghost use Rattle.mc_parse.specs.steps.Made.{seen_opening, seen_test};
-ghost use Rattle.mc_makers.specs.Made.{body_of};
+ghost use Rattle.mc_parse.specs.steps.Made.{opening_of, seen_opening, seen_test};
+ghost use Rattle.mc_makers.specs.Made.{IsMade, body_of};
 
-use crate::statements::front::Opening;
-use crate::statements::nodes::{case, default, do_loop, for_loop, labeled, switch, while_loop};
+use crate::statements::nodes::{case, default, do_while, for_loop, labeled, switch, while_loop};
+use crate::statements::openings::Opening;
 use crate::statements::parts::test;
 use mc_cursor::cursor::{Cursor, place};
 use mc_cursor::fault::Fault;
 use mc_cursor::to;
+use mc_cursor::values::on_heap;
 use mc_span::Span;
 use mc_tree::{Expression, Statement};
 use std::alloc::Global;
@@ -40,7 +42,7 @@ fn test_of_do<'a>(
 
 /// The test of a `do`, after its statement.
 #[inline(never)]
-fn end_of_do<'a>(
+pub fn end_of_do<'a>(
     alloc: Global,
     tokens: &mut Cursor<'_, 'a>,
     room: u32,
@@ -52,34 +54,37 @@ fn end_of_do<'a>(
         result (left_of tokens.new) }
 {
     let Tested { test, last } = test_of_do(alloc, tokens, room)?;
-    do_loop(alloc, to(first, last), body, test)
+    on_heap(alloc, do_while(to(first, last), body, test))
 }
 
-/// The statement that was opened, with the statement that is a part of it.
-#[inline(never)]
-pub fn end<'a>(
-    alloc: Global,
-    tokens: &mut Cursor<'_, 'a>,
-    room: u32,
-    opening: Box<Opening<'a>>,
-    body: Box<Statement<'a>>,
-) -> Result<Box<Statement<'a>>, Fault>
-    requires { room ≤ 1000 }
-    ensures { Gives body_of (fronts.end_by room (seen_opening opening.entry.value)
-        (body_of body.entry) (left_of tokens.old)) result (left_of tokens.new) }
+/// A statement of its opening and the statement that is its part.
+fn closed<'a>(opening: Box<Opening<'a>>, body: Box<Statement<'a>>) -> Statement<'a>
+    ensures { statement_of result
+        ≡ fronts.closed (seen_opening opening.entry.value) (body_of body.entry) }
 {
     match Box::into_inner(opening) {
-        Opening::Label { name } => labeled(alloc, name, body),
-        Opening::Case { label, value } => case(alloc, label, value, body),
-        Opening::Default { label } => default(alloc, label, body),
-        Opening::Switch { first, value } => switch(alloc, first, value, body),
-        Opening::While { first, test } => while_loop(alloc, first, test, body),
-        Opening::Do { first } => end_of_do(alloc, tokens, room, first, body),
+        Opening::Label { name } => labeled(name, body),
+        Opening::Case { label, value } => case(label, value, body),
+        Opening::Default { label } => default(label, body),
+        Opening::Switch { first, value } => switch(first, value, body),
+        Opening::While { first, test } => while_loop(first, test, body),
         Opening::For {
             first,
             start,
             test,
             step,
-        } => for_loop(alloc, first, start, test, step, body),
+        } => for_loop(first, start, test, step, body),
     }
+}
+
+/// The statement that was opened, with the statement that is its part.
+#[inline(never)]
+pub fn end<'a>(
+    alloc: Global,
+    opening: Box<Opening<'a>>,
+    body: Box<Statement<'a>>,
+) -> Result<Box<Statement<'a>>, Fault>
+    ensures { IsMade (fronts.closed (opening_of opening.entry) (body_of body.entry)) result }
+{
+    on_heap(alloc, closed(opening, body))
 }

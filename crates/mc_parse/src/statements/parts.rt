@@ -5,15 +5,24 @@ ghost use Rattle.mc_reading.specs.Statements as spec;
 ghost use Rattle.mc_cursor.specs.Cursors.{Gives, left_of};
 ghost use Rattle.mc_tree.specs.Units.{option_of, value_of};
 ghost use Rattle.mc_cursor.specs.Rules.{nonterminal_of};
-ghost use Rattle.mc_parse.specs.steps.Fronts.{ended_optional};
+ghost use Rattle.mc_parse.specs.steps.Fronts.{ended_optional, tested};
+ghost use Rattle.mc_parse.specs.steps.Made.{seen_head};
 
-use mc_cursor::cursor::Cursor;
+use mc_cursor::cursor::{Cursor, place};
 use mc_cursor::fault::Fault;
 use mc_cursor::rule::Rule;
 use mc_descent::knot::expression;
 use mc_descent::read::Read;
+use mc_span::Span;
 use mc_tree::Expression;
 use std::alloc::Global;
+
+/// A keyword and the expression between parentheses after it.
+#[derive(Drop)]
+pub struct Headed<'a> {
+    pub first: Span,
+    pub test: Box<Expression<'a>>,
+}
 
 /// Reads an expression of fewer than `room` levels.
 pub fn value<'a>(
@@ -81,4 +90,20 @@ pub fn test<'a>(
     let value = value(alloc, tokens, room, Rule::Comma)?;
     tokens.expect(b")")?;
     Ok(value)
+}
+
+/// Reads a keyword and the expression between parentheses after it.
+#[inline(never)]
+pub fn keyword_and_test<'a>(
+    alloc: Global,
+    tokens: &mut Cursor<'_, 'a>,
+    room: u32,
+) -> Result<Headed<'a>, Fault>
+    requires { room ≤ 1000 }
+    ensures { Gives seen_head (tested room (left_of tokens.old)) result
+        (left_of tokens.new) }
+{
+    let first = place(tokens.take()?);
+    let test = test(alloc, tokens, room)?;
+    Ok(Headed { first, test })
 }

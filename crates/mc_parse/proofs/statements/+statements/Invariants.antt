@@ -13,6 +13,9 @@ decreases-statement l = 4 * l.room
 abbrev pub decreases-choice : goal.decreases-choice
 decreases-choice l = 4 * l.room + 1
 
+abbrev pub decreases-do_loop : goal.decreases-do_loop
+decreases-do_loop l = 4 * l.room + 1
+
 abbrev pub decreases-other_than_block : goal.decreases-other_than_block
 decreases-other_than_block l = 4 * l.room + 2
 
