@@ -9,6 +9,7 @@ mod leaves;
 mod statements;
 mod steps;
 mod units;
+mod unused;
 
 pub use fault::TypeFault;
 pub use units::type_unit;

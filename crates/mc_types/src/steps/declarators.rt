@@ -19,6 +19,7 @@ ghost use Rattle.mc_declarations.specs.Declarations.{lengths_in, listed_members,
 ghost use Rattle.mc_scopes.specs.steps.Squeezed.{squeezed, squeezed_part};
 ghost use Rattle.mc_types.specs.Loops.{TakesLength, TakesParameter, TakesSpecifier};
 
+use crate::unused;
 use mc_declarations::{Opened, Parameters};
 use mc_faults::Fault;
 use mc_scopes::found::{Found, Judged};
@@ -136,7 +137,7 @@ pub(crate) fn valued_enumerator<'a>(
         Ok(found) => {
             let at = tree.span().start;
             let next = mc_declarations::valued_enumerator(scope, name, at, &found);
-            drop(found);
+            unused::found(found);
             next
         }
         Err(error) => Err(error),
@@ -157,7 +158,7 @@ pub(crate) fn more_lengths(
     match found {
         Ok(found) => {
             let list = mc_declarations::more_lengths(list, tree.span().start, &found);
-            drop(found);
+            unused::found(found);
             list
         }
         Err(error) => {

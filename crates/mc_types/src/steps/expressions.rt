@@ -15,6 +15,7 @@ ghost use Rattle.mc_expressions.specs.steps.Callees.{meaning_of_callee};
 ghost use Rattle.mc_expressions.specs.steps.Gathered.{squeezed_given};
 ghost use Rattle.mc_types.specs.Loops.{TakesArgument};
 
+use crate::unused;
 use mc_expressions::Callee;
 use mc_scopes::found::{Found, Given, Judged};
 use mc_scopes::{CType, ParameterKind, Scope};
@@ -42,13 +43,13 @@ pub(crate) fn argument(
             match mc_expressions::argument(alloc, scope, tree.span().start, parameter, found) {
                 Ok(one) => mc_expressions::gather(given, one),
                 Err(error) => {
-                    drop(given);
+                    unused::given(given);
                     Err(error)
                 }
             }
         }
         Err(error) => {
-            drop(given);
+            unused::given(given);
             Err(error)
         }
     }
@@ -106,7 +107,7 @@ pub(crate) fn index(
     match found {
         Ok(index) => mc_expressions::index(alloc, scope, span, array, index),
         Err(error) => {
-            drop(array);
+            unused::found(array);
             Err(error)
         }
     }
@@ -154,7 +155,7 @@ pub(crate) fn binary(
     match right {
         Ok(right) => mc_expressions::binary(alloc, operator, span, left, right),
         Err(error) => {
-            drop(left);
+            unused::found(left);
             Err(error)
         }
     }
@@ -175,7 +176,7 @@ pub(crate) fn tested(test: Found, chosen: Result<Found, AllocError>) -> Result<B
     match chosen {
         Ok(chosen) => Ok(Branch { test, chosen }),
         Err(error) => {
-            drop(test);
+            unused::found(test);
             Err(error)
         }
     }
@@ -198,7 +199,8 @@ pub(crate) fn conditional(
     match other {
         Ok(other) => { mc_expressions::conditional(alloc, span, tested.test, tested.chosen, other) }
         Err(error) => {
-            drop(tested);
+            unused::found(tested.test);
+            unused::found(tested.chosen);
             Err(error)
         }
     }
@@ -222,7 +224,7 @@ pub(crate) fn assignment(
     match value {
         Ok(value) => mc_expressions::assignment(alloc, scope, operator, span, target, value),
         Err(error) => {
-            drop(target);
+            unused::found(target);
             Err(error)
         }
     }

@@ -16,6 +16,7 @@ ghost use Rattle.mc_scopes.specs.steps.Squeezed.{squeezed, squeezed_part};
 ghost use Rattle.mc_types.specs.Headings.{ArePartsOf};
 ghost use Rattle.mc_types.specs.Loops.{FollowsItem, TakesItem};
 
+use crate::unused;
 use mc_scopes::found::{Found, Judged};
 use mc_scopes::{Block, Scope};
 use mc_tree as tree;
@@ -57,7 +58,7 @@ pub(crate) fn if_then(
     match chosen {
         Ok(chosen) => mc_statements::if_statement(alloc, span, test, chosen),
         Err(error) => {
-            drop(test);
+            unused::found(test);
             Err(error)
         }
     }
@@ -81,7 +82,7 @@ pub(crate) fn tested(
     match chosen {
         Ok(chosen) => Ok(Branch { test, chosen }),
         Err(error) => {
-            drop(test);
+            unused::found(test);
             Err(error)
         }
     }
@@ -109,7 +110,8 @@ pub(crate) fn if_else(
             mc_statements::if_else_statement(alloc, span, tested.test, tested.chosen, other)
         }
         Err(error) => {
-            drop(tested);
+            unused::found(tested.test);
+            unused::statements(tested.chosen);
             Err(error)
         }
     }
@@ -134,7 +136,7 @@ pub(crate) fn switch_on(
     match found {
         Ok(found) => mc_statements::switch_statement(alloc, span, body, value, found),
         Err(error) => {
-            drop(value);
+            unused::found(value);
             Err(error)
         }
     }
@@ -162,7 +164,7 @@ pub(crate) fn while_loop(
             mc_statements::loop_statement(alloc, 5, span, start, test, step, body)
         }
         Err(error) => {
-            drop(test);
+            unused::found(test);
             Err(error)
         }
     }
@@ -185,7 +187,7 @@ pub(crate) fn do_loop(
     match test {
         Ok(test) => mc_statements::do_statement(alloc, span, body, test),
         Err(error) => {
-            drop(body);
+            unused::statements(body);
             Err(error)
         }
     }
@@ -249,7 +251,7 @@ pub(crate) fn followed(
     match rest {
         Ok(rest) => mc_statements::followed(list, rest),
         Err(error) => {
-            drop(list);
+            unused::statements(list);
             Err(error)
         }
     }
@@ -267,7 +269,7 @@ pub(crate) fn with_item(
     match one {
         Ok(one) => mc_statements::followed(list, one),
         Err(error) => {
-            drop(list);
+            unused::statements(list);
             Err(error)
         }
     }
