@@ -6,6 +6,7 @@ ghost use Rattle.mc_tree.specs.Units as units;
 ghost use Rattle.mc_tree.specs.Views.{name_of, parameter_of, parameters_from, specifier_of, specifiers_from};
 ghost use Rattle.mc_typed.specs.Views.{program_of};
 ghost use Rattle.mc_soundness.specs.Laws.{IsAccepted};
+ghost use Rattle.mc_typing.specs.Scopes as s;
 ghost use Rattle.mc_typing.specs.Typing as y;
 ghost use Rattle.mc_scopes.specs.Views.{scope_of};
 ghost use Rattle.mc_scopes.specs.Found.{judged_of};
@@ -113,25 +114,59 @@ fn are_few(functions: &[Function<'_>], statics: &[StaticObject], structures: &[O
     functions.len() < 1 << 31 && statics.len() < 1 << 31 && structures.len() < 1 << 31
 }
 
-/// The program of these functions, in the scope at the end of their unit.
+/// The program of these functions, in the scope at the end of their unit, whose objects with static
+/// storage duration it takes.
 fn program<'a>(
     alloc: Global,
     unit: &Unit<'a>,
-    scope: Scope<'a>,
+    scope: &mut Scope<'a>,
     functions: Vec<Function<'a>>,
 ) -> Result<Program<'a>, AllocError>
     requires accepted { IsAccepted (units.items_of unit.now.items.items) }
     requires typed { y.IsTypingOf (units.items_of unit.now.items.items)
-        (y.program_from (scope_of scope) (functions_of functions)) }
+        (y.program_from (scope_of scope.old) (functions_of functions)) }
     ensures { IfOk result (λ p.
         y.IsTypingOf (units.items_of unit.now.items.items) (program_of p)) }
 {
-    let structures = structure_types(alloc, &scope.structures)?;
-    let statics = scope.statics;
-    if !are_few(&functions, &statics, &structures) {
-        return Err(AllocError);
+    match structure_types(alloc, &scope.structures) {
+        Ok(structures) => {
+            let statics = std::mem::replace(&mut scope.statics, Vec::new(alloc));
+            if are_few(&functions, &statics, &structures) {
+                return Ok(Program::new(functions, statics, structures));
+            }
+            drop(structures);
+            drop(statics);
+            drop(functions);
+            Err(AllocError)
+        }
+        Err(error) => {
+            drop(functions);
+            Err(error)
+        }
     }
-    Ok(Program::new(functions, statics, structures))
+}
+
+/// The typed program of a unit, or its first fault, in the scope in which the unit begins.
+fn program_in<'a>(
+    alloc: Global,
+    scope: &mut Scope<'a>,
+    unit: &Unit<'a>,
+) -> Result<Program<'a>, TypeFault>
+    requires accepted { IsAccepted (units.items_of unit.now.items.items) }
+    requires begins { let items = units.items_of unit.now.items.items in
+        scope_of scope.old ≡ s.file_scope (y.bodies_of items) }
+    ensures typing { IfOk result (λ p.
+        y.IsTypingOf (units.items_of unit.now.items.items) (program_of p)) }
+    ensures refused { IfErr result (IsRefused (units.items_of unit.now.items.items)) }
+{
+    let found = items(alloc, scope, &unit.items)?;
+    if let Some(fault) = found.fault {
+        return Err(TypeFault::first(fault));
+    }
+    let Some(functions) = found.value else {
+        unreachable!()
+    };
+    Ok(program(alloc, unit, scope, functions)?)
 }
 
 /// The typed program of a unit without outside forms, or its first fault. It takes time in
@@ -150,12 +185,7 @@ pub fn type_unit<'a>(alloc: Global, unit: &Unit<'a>) -> Result<Program<'a>, Type
 {
     let bodies = mc_declarations::bodies_of(alloc, &unit.items)?;
     let mut scope = Scope::of_file(alloc, bodies);
-    let found = items(alloc, &mut scope, &unit.items)?;
-    if let Some(fault) = found.fault {
-        return Err(TypeFault::first(fault));
-    }
-    let Some(functions) = found.value else {
-        unreachable!()
-    };
-    Ok(program(alloc, unit, scope, functions)?)
+    let typed = program_in(alloc, &mut scope, unit);
+    drop(scope);
+    typed
 }
