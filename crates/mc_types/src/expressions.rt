@@ -3,7 +3,7 @@
 //!
 //! Where a part may fail after another was found, the found one is handed on with the part's result
 //! (`steps`): an exit that lets it go here would make the proof of the walk twice as long.
-ghost use Rattle.std.specs.Prelude.{◌≡◌, IfOk, Some, false, pos, map, option_map};
+ghost use Rattle.std.specs.Prelude.{◌≡◌, ℕ, IfOk, Some, false, pos, map, option_map};
 ghost use Rattle.mc_tree.specs.Views.{name_of, expression_of, expressions_from, specifier_of, specifiers_from, member_of, members_from, enumerator_of, enumerators_from, declarator_of, declarators_from, array_length_of, lengths_from, parameter_of, parameters_from};
 ghost use Rattle.mc_tree.specs.Tree as t;
 ghost use Rattle.mc_typing.specs.Scopes as s;
@@ -17,8 +17,10 @@ ghost use Rattle.mc_declarations.specs.Declarations.{lengths_in, listed_members,
 ghost use Rattle.mc_scopes.specs.steps.Squeezed.{squeezed, squeezed_part};
 ghost use Rattle.mc_expressions.specs.steps.Gathered.{squeezed_given};
 ghost use Rattle.mc_types.specs.Loops.{TakesLength};
+ghost use Rattle.mc_types.specs.Operands.{AreJudged};
 
 use crate::leaves::{callee, character, named};
+use crate::steps::expressions::Operands;
 use crate::steps::{declarators as declared, expressions as steps};
 use mc_declarations::Parameters;
 use mc_faults::Fault;
@@ -57,37 +59,37 @@ pub(crate) fn expression<'a>(
             span,
         } => call(alloc, scope, name, given, *span),
         Expression::Index { array, index, span } => {
-            let array = expression(alloc, scope, array)?;
-            let index = expression(alloc, scope, index);
-            steps::index(alloc, scope, *span, array, index)
+            let array = expression(alloc, scope, array);
+            let found = second(alloc, scope, index, array);
+            steps::index(alloc, scope, *span, found)
         }
         Expression::Member { object, name, span } => {
-            let object = expression(alloc, scope, object)?;
-            mc_expressions::member(alloc, scope, name, *span, object)
+            let found = expression(alloc, scope, object);
+            steps::member(alloc, scope, name, *span, found)
         }
         Expression::PostfixStep {
             operator,
             operand,
             span,
         } => {
-            let operand = expression(alloc, scope, operand)?;
-            mc_expressions::postfix_step(alloc, *operator, *span, operand)
+            let found = expression(alloc, scope, operand);
+            steps::postfix_step(alloc, *operator, *span, found)
         }
         Expression::PrefixStep {
             operator,
             operand,
             span,
         } => {
-            let operand = expression(alloc, scope, operand)?;
-            mc_expressions::prefix_step(alloc, *operator, *span, operand)
+            let found = expression(alloc, scope, operand);
+            steps::prefix_step(alloc, *operator, *span, found)
         }
         Expression::Unary {
             operator,
             operand,
             span,
         } => {
-            let operand = expression(alloc, scope, operand)?;
-            mc_expressions::unary(alloc, *operator, *span, operand)
+            let found = expression(alloc, scope, operand);
+            steps::unary(alloc, *operator, *span, found)
         }
         Expression::Cast {
             specifiers: words,
@@ -96,9 +98,8 @@ pub(crate) fn expression<'a>(
             span,
             ..
         } => {
-            let of = typed(alloc, scope, type_span.start, false, words)?;
-            let found = expression(alloc, scope, operand);
-            steps::cast(alloc, *span, of, operand, found)
+            let of = typed(alloc, scope, type_span.start, false, words);
+            cast(alloc, scope, operand, of, *span)
         }
         Expression::Binary {
             operator,
@@ -106,9 +107,9 @@ pub(crate) fn expression<'a>(
             right,
             span,
         } => {
-            let left = expression(alloc, scope, left)?;
-            let right = expression(alloc, scope, right);
-            steps::binary(alloc, *operator, *span, left, right)
+            let left = expression(alloc, scope, left);
+            let found = second(alloc, scope, right, left);
+            steps::binary(alloc, *operator, *span, found)
         }
         Expression::Conditional {
             test,
@@ -116,11 +117,9 @@ pub(crate) fn expression<'a>(
             other,
             span,
         } => {
-            let test = expression(alloc, scope, test)?;
-            let chosen = expression(alloc, scope, chosen);
-            let tested = steps::tested(test, chosen)?;
-            let other = expression(alloc, scope, other);
-            steps::conditional(alloc, *span, tested, other)
+            let test = expression(alloc, scope, test);
+            let tested = second(alloc, scope, chosen, test);
+            conditional(alloc, scope, other, tested, *span)
         }
         Expression::Assignment {
             operator,
@@ -128,14 +127,82 @@ pub(crate) fn expression<'a>(
             value,
             span,
         } => {
-            let target = expression(alloc, scope, target)?;
-            let value = expression(alloc, scope, value);
-            steps::assignment(alloc, scope, *operator, *span, target, value)
+            let target = expression(alloc, scope, target);
+            let found = second(alloc, scope, value, target);
+            steps::assignment(alloc, scope, *operator, *span, found)
         }
         Expression::Comma { operands, span } => {
-            let given = arguments(alloc, scope, operands, &[])?;
-            Ok(mc_expressions::comma(span.start, given))
+            let given = arguments(alloc, scope, operands, &[]);
+            steps::comma(*span, given)
         }
+    }
+}
+
+/// An operand after a first one.
+#[cycle(judge)]
+fn second<'a>(
+    alloc: Global,
+    scope: &mut Scope<'a>,
+    tree: &Expression<'a>,
+    first: Result<Found, AllocError>,
+) -> Result<Operands, AllocError>
+    ensures { (a : t.Expression) (start : s.Scope)
+        → IfOk first (λ y. found_of y (scope_of scope.old) ≡ squeezed (j.judge a start))
+        → IfOk result (λ r. AreJudged a (expression_of tree.now) r start (scope_of scope.new)) }
+{
+    match first {
+        Ok(first) => {
+            let found = expression(alloc, scope, tree);
+            steps::paired(first, found)
+        }
+        Err(error) => Err(error),
+    }
+}
+
+/// The operand of a cast to this type (C17 6.5.4).
+#[cycle(judge)]
+fn cast<'a>(
+    alloc: Global,
+    scope: &mut Scope<'a>,
+    tree: &Expression<'a>,
+    of: Result<Judged<CType>, AllocError>,
+    span: Span,
+) -> Result<Found, AllocError>
+    ensures { (all : t.Specifiers) (stars : ℕ) (name : Span) (start : s.Scope)
+        → IfOk of (λ y. judged_of type_of y (scope_of scope.old) ≡ squeezed_part
+        (j.typed_by name.start all (j.judge_specifiers false all start)))
+        → IfOk result (λ r. found_of r (scope_of scope.new) ≡ squeezed (j.judge
+        (t.Cast (t.type_name all stars name) (expression_of tree.now) span) start)) }
+{
+    match of {
+        Ok(of) => {
+            let found = expression(alloc, scope, tree);
+            steps::cast(alloc, span, of, tree, found)
+        }
+        Err(error) => Err(error),
+    }
+}
+
+/// The last operand of `?:`, after the first two (C17 6.5.15).
+#[cycle(judge)]
+fn conditional<'a>(
+    alloc: Global,
+    scope: &mut Scope<'a>,
+    tree: &Expression<'a>,
+    tested: Result<Operands, AllocError>,
+    span: Span,
+) -> Result<Found, AllocError>
+    ensures { (a b : t.Expression) (start : s.Scope)
+        → IfOk tested (λ y. AreJudged a b y start (scope_of scope.old))
+        → IfOk result (λ r. found_of r (scope_of scope.new)
+        ≡ squeezed (j.judge (t.Conditional a b (expression_of tree.now) span) start)) }
+{
+    match tested {
+        Ok(tested) => {
+            let other = expression(alloc, scope, tree);
+            steps::conditional(alloc, span, tested, other)
+        }
+        Err(error) => Err(error),
     }
 }
 

@@ -1,5 +1,5 @@
-//! Expressions of several operands (C17 6.5).
-ghost use Rattle.std.specs.Prelude.{◌≡◌, ℕ, IfOk, Ok, false, option_copied, option_map};
+//! Expressions, from what is found of their operands (C17 6.5).
+ghost use Rattle.std.specs.Prelude.{◌≡◌, ℕ, IfOk, [], false, option_copied, option_map};
 ghost use Rattle.mc_tree.specs.Tree as t;
 ghost use Rattle.mc_tree.specs.Views.{expression_of, name_of};
 ghost use Rattle.mc_typed.specs.Tree.{Arguments};
@@ -14,12 +14,15 @@ ghost use Rattle.mc_scopes.specs.steps.Squeezed.{squeezed, squeezed_part};
 ghost use Rattle.mc_expressions.specs.steps.Callees.{meaning_of_callee};
 ghost use Rattle.mc_expressions.specs.steps.Gathered.{squeezed_given};
 ghost use Rattle.mc_types.specs.Loops.{TakesArgument};
+ghost use Rattle.mc_types.specs.Operands.{AreJudged};
 
 use crate::unused;
 use mc_expressions::Callee;
 use mc_scopes::found::{Found, Given, Judged};
 use mc_scopes::{CType, ParameterKind, Scope};
-use mc_tree::{AssignmentOperator, BinaryOperator, Expression, Identifier};
+use mc_tree::{
+    AssignmentOperator, BinaryOperator, Expression, Identifier, StepOperator, UnaryOperator,
+};
 use mc_typed::{Argument, Span};
 use std::alloc::{AllocError, Global};
 
@@ -90,26 +93,136 @@ pub(crate) fn call(
     }
 }
 
+/// What is found of two operands.
+#[derive(Drop)]
+pub(crate) struct Operands {
+    pub(crate) first: Found,
+    pub(crate) second: Found,
+}
+
+/// Two operands together.
+pub(crate) fn paired(
+    first: Found,
+    second: Result<Found, AllocError>,
+) -> Result<Operands, AllocError>
+    ensures { (a b : t.Expression) (start next last : s.Scope)
+        → found_of first next ≡ squeezed (j.judge a start)
+        → IfOk second (λ y. found_of y last ≡ squeezed (j.judge b next))
+        → IfOk result (λ r. AreJudged a b r start last) }
+{
+    match second {
+        Ok(second) => Ok(Operands { first, second }),
+        Err(error) => {
+            unused::found(first);
+            Err(error)
+        }
+    }
+}
+
 /// An element of an array (C17 6.5.2.1).
 pub(crate) fn index(
     alloc: Global,
     scope: &Scope<'_>,
     span: Span,
-    array: Found,
-    found: Result<Found, AllocError>,
+    found: Result<Operands, AllocError>,
 ) -> Result<Found, AllocError>
-    ensures { (a b : t.Expression) (first next : s.Scope)
-        → found_of array next ≡ squeezed (j.judge a first)
-        → IfOk found (λ y. found_of y (scope_of scope.now) ≡ squeezed (j.judge b next))
+    ensures { (a b : t.Expression) (first : s.Scope)
+        → IfOk found (λ y. AreJudged a b y first (scope_of scope.now))
         → IfOk result (λ r. found_of r (scope_of scope.now)
         ≡ squeezed (j.judge (t.Index a b span) first)) }
 {
     match found {
-        Ok(index) => mc_expressions::index(alloc, scope, span, array, index),
-        Err(error) => {
-            unused::found(array);
-            Err(error)
-        }
+        Ok(all) => mc_expressions::index(alloc, scope, span, all.first, all.second),
+        Err(error) => Err(error),
+    }
+}
+
+/// A member of a structure (C17 6.5.2.3).
+pub(crate) fn member(
+    alloc: Global,
+    scope: &Scope<'_>,
+    name: &Identifier<'_>,
+    span: Span,
+    found: Result<Found, AllocError>,
+) -> Result<Found, AllocError>
+    ensures { (a : t.Expression) (first : s.Scope)
+        → IfOk found (λ y. found_of y (scope_of scope.now) ≡ squeezed (j.judge a first))
+        → IfOk result (λ r. found_of r (scope_of scope.now)
+        ≡ squeezed (j.judge (t.Member a (name_of name.now) span) first)) }
+{
+    match found {
+        Ok(object) => mc_expressions::member(alloc, scope, name, span, object),
+        Err(error) => Err(error),
+    }
+}
+
+/// `++` or `--` after its operand (C17 6.5.2.4).
+pub(crate) fn postfix_step(
+    alloc: Global,
+    operator: StepOperator,
+    span: Span,
+    found: Result<Found, AllocError>,
+) -> Result<Found, AllocError>
+    ensures { (a : t.Expression) (first last : s.Scope)
+        → IfOk found (λ y. found_of y last ≡ squeezed (j.judge a first))
+        → IfOk result (λ r. found_of r last
+        ≡ squeezed (j.judge (t.PostfixStep operator a span) first)) }
+{
+    match found {
+        Ok(operand) => mc_expressions::postfix_step(alloc, operator, span, operand),
+        Err(error) => Err(error),
+    }
+}
+
+/// `++` or `--` before its operand (C17 6.5.3.1).
+pub(crate) fn prefix_step(
+    alloc: Global,
+    operator: StepOperator,
+    span: Span,
+    found: Result<Found, AllocError>,
+) -> Result<Found, AllocError>
+    ensures { (a : t.Expression) (first last : s.Scope)
+        → IfOk found (λ y. found_of y last ≡ squeezed (j.judge a first))
+        → IfOk result (λ r. found_of r last
+        ≡ squeezed (j.judge (t.PrefixStep operator a span) first)) }
+{
+    match found {
+        Ok(operand) => mc_expressions::prefix_step(alloc, operator, span, operand),
+        Err(error) => Err(error),
+    }
+}
+
+/// An operator before its operand (C17 6.5.3.3).
+pub(crate) fn unary(
+    alloc: Global,
+    operator: UnaryOperator,
+    span: Span,
+    found: Result<Found, AllocError>,
+) -> Result<Found, AllocError>
+    ensures { (a : t.Expression) (first last : s.Scope)
+        → IfOk found (λ y. found_of y last ≡ squeezed (j.judge a first))
+        → IfOk result (λ r. found_of r last
+        ≡ squeezed (j.judge (t.Unary operator a span) first)) }
+{
+    match found {
+        Ok(operand) => mc_expressions::unary(alloc, operator, span, operand),
+        Err(error) => Err(error),
+    }
+}
+
+/// The comma operator, between its operands (C17 6.5.17).
+pub(crate) fn comma(
+    span: Span,
+    given: Result<Given<Vec<Argument>>, AllocError>,
+) -> Result<Found, AllocError>
+    ensures { (all : t.Expressions) (first last : s.Scope)
+        → IfOk given (λ y. given_of arguments_of y last
+        ≡ squeezed_given (j.judge_arguments all [] first))
+        → IfOk result (λ r. found_of r last ≡ squeezed (j.judge (t.Comma all span) first)) }
+{
+    match given {
+        Ok(given) => Ok(mc_expressions::comma(span.start, given)),
+        Err(error) => Err(error),
     }
 }
 
@@ -143,64 +256,39 @@ pub(crate) fn binary(
     alloc: Global,
     operator: BinaryOperator,
     span: Span,
-    left: Found,
-    right: Result<Found, AllocError>,
+    found: Result<Operands, AllocError>,
 ) -> Result<Found, AllocError>
-    ensures { (a b : t.Expression) (first next last : s.Scope)
-        → found_of left next ≡ squeezed (j.judge a first)
-        → IfOk right (λ y. found_of y last ≡ squeezed (j.judge b next))
+    ensures { (a b : t.Expression) (first last : s.Scope)
+        → IfOk found (λ y. AreJudged a b y first last)
         → IfOk result (λ r. found_of r last
         ≡ squeezed (j.judge (t.Binary operator a b span) first)) }
 {
-    match right {
-        Ok(right) => mc_expressions::binary(alloc, operator, span, left, right),
-        Err(error) => {
-            unused::found(left);
-            Err(error)
-        }
+    match found {
+        Ok(all) => mc_expressions::binary(alloc, operator, span, all.first, all.second),
+        Err(error) => Err(error),
     }
 }
 
-/// What is found of the first two operands of `?:`.
-#[derive(Drop)]
-pub(crate) struct Branch {
-    pub(crate) test: Found,
-    pub(crate) chosen: Found,
-}
-
-/// The first two operands of `?:` together.
-pub(crate) fn tested(test: Found, chosen: Result<Found, AllocError>) -> Result<Branch, AllocError>
-    ensures test { IfOk result (λ r. r.test ≡ test) }
-    ensures chosen { IfOk result (λ r. chosen ≡ Ok r.chosen) }
-{
-    match chosen {
-        Ok(chosen) => Ok(Branch { test, chosen }),
-        Err(error) => {
-            unused::found(test);
-            Err(error)
-        }
-    }
-}
-
-/// `?:` (C17 6.5.15).
+/// `?:`, whose first two operands are these (C17 6.5.15).
 pub(crate) fn conditional(
     alloc: Global,
     span: Span,
-    tested: Branch,
+    tested: Operands,
     other: Result<Found, AllocError>,
 ) -> Result<Found, AllocError>
-    ensures { (a b c : t.Expression) (first next last end : s.Scope)
-        → found_of tested.test next ≡ squeezed (j.judge a first)
-        → found_of tested.chosen last ≡ squeezed (j.judge b next)
+    ensures { (a b c : t.Expression) (first last end : s.Scope)
+        → AreJudged a b tested first last
         → IfOk other (λ y. found_of y end ≡ squeezed (j.judge c last))
         → IfOk result (λ r. found_of r end
         ≡ squeezed (j.judge (t.Conditional a b c span) first)) }
 {
     match other {
-        Ok(other) => { mc_expressions::conditional(alloc, span, tested.test, tested.chosen, other) }
+        Ok(other) => {
+            mc_expressions::conditional(alloc, span, tested.first, tested.second, other)
+        }
         Err(error) => {
-            unused::found(tested.test);
-            unused::found(tested.chosen);
+            unused::found(tested.first);
+            unused::found(tested.second);
             Err(error)
         }
     }
@@ -212,20 +300,17 @@ pub(crate) fn assignment(
     scope: &Scope<'_>,
     operator: AssignmentOperator,
     span: Span,
-    target: Found,
-    value: Result<Found, AllocError>,
+    found: Result<Operands, AllocError>,
 ) -> Result<Found, AllocError>
-    ensures { (a b : t.Expression) (first next : s.Scope)
-        → found_of target next ≡ squeezed (j.judge a first)
-        → IfOk value (λ y. found_of y (scope_of scope.now) ≡ squeezed (j.judge b next))
+    ensures { (a b : t.Expression) (first : s.Scope)
+        → IfOk found (λ y. AreJudged a b y first (scope_of scope.now))
         → IfOk result (λ r. found_of r (scope_of scope.now)
         ≡ squeezed (j.judge (t.Assignment operator a b span) first)) }
 {
-    match value {
-        Ok(value) => mc_expressions::assignment(alloc, scope, operator, span, target, value),
-        Err(error) => {
-            unused::found(target);
-            Err(error)
+    match found {
+        Ok(all) => {
+            mc_expressions::assignment(alloc, scope, operator, span, all.first, all.second)
         }
+        Err(error) => Err(error),
     }
 }

@@ -22,80 +22,82 @@ use Rattle.mc_expressions.specs.steps.Gathered.{gathered, squeezed_given}
 use Rattle.mc_faults.specs.Kept.{listed}
 use Rattle.mc_scopes.specs.steps.Squeezed.{squeezed_part}
 use Rattle.mc_declarations.proofs.DeclarationNodes.{lengths_end, parameters_end, specifiers_end}
-use Rattle.mc_types.proofs.Exits.{at_ok, found_as, found_with}
+use Rattle.mc_types.proofs.Exits.{at_ok, found_as}
 use Rattle.mc_types.proofs.Trees.{array_length_of-Absent, array_length_of-Given, declarator_of-EmptyFunction, declarator_of-Function, declarator_of-VoidFunction, declarator_of-Object, enumerator_of-Bare, enumerator_of-Valued, expression_of-Assignment, expression_of-Binary, expression_of-Call, expression_of-Cast, expression_of-Character, expression_of-Constant, expression_of-Comma, expression_of-Conditional, expression_of-Index, expression_of-Member, expression_of-Name, expression_of-Parenthesized, expression_of-PostfixStep, expression_of-PrefixStep, expression_of-Unary, member_of-parts, specifier_of-Enumeration, specifier_of-EnumerationTag, specifier_of-Structure, specifier_of-StructureTag, specifier_of-TypedefName, specifier_of-Word}
-use Rattle.mc_types.proofs.Arms.{count_listed, none_before, in_comma, in_member, in_postfix, in_prefix, in_unary}
+use Rattle.mc_types.proofs.Arms.{count_listed, none_before}
 use Rattle.mc_types.proofs.Declarators.{in_prototype, prototype_ends, in_enumeration, in_object_member, in_typed}
 use Rattle.mc_types.proofs.Turns.{last_turn, next_turn}
 use Rattle.mc_types.proofs.Parts.{joined_first, judged_last, judged_turn, listed_turn, lists_first, specifiers_first, squeezed_judged, squeezed_last, squeezed_parameters}
 use Rattle.mc_types.proofs.expressions.+judge.Goals as goal
 
-pub expression-returns-in_ok-object-in-Member : goal.expression-returns-in_ok-object-in-Member
-expression-returns-in_ok-object-in-Member t c =
+pub expression-returns-in-Member : goal.expression-returns-in-Member
+expression-returns-in-Member t c =
     let w = c.in-Member in
-    let s = scope_of c.args.scope.now in
-    let u = scope_of c.expression-in-Member.new.scope in
     rw (w.is, expression_of-Member w.object w.name w.span)
-    (found_as c.member.result (λ z. found_of z u) _ _ c.member.ensures
-    (in_member (name_of w.name) w.span (expression_of w.object.value) s (found_of c.in_ok-object-in-Member.object u) (rw c.deref-in-Member.ensures at c.in_ok-object-in-Member.ensures)))
+    (c.member.ensures (expression_of w.object.value) (scope_of c.args.scope.now) (rw c.deref-in-Member.ensures at c.expression-found.ensures))
 
-pub expression-returns-in_ok-operand-in-PostfixStep : goal.expression-returns-in_ok-operand-in-PostfixStep
-expression-returns-in_ok-operand-in-PostfixStep t c =
+pub expression-returns-in-PostfixStep : goal.expression-returns-in-PostfixStep
+expression-returns-in-PostfixStep t c =
     let w = c.in-PostfixStep in
-    let s = scope_of c.args.scope.now in
-    let u = scope_of c.expression-in-PostfixStep.new.scope in
     rw (w.is, expression_of-PostfixStep w.operator w.operand w.span)
-    (found_with c.postfix_step.result found_of u _ _ c.postfix_step.ensures
-    (in_postfix w.operator w.span (expression_of w.operand.value) s (found_of c.in_ok-operand-in-PostfixStep.operand u) (rw c.deref-in-PostfixStep.ensures at c.in_ok-operand-in-PostfixStep.ensures)))
+    (c.postfix_step.ensures (expression_of w.operand.value) (scope_of c.args.scope.now) (scope_of c.expression-found-in-PostfixStep.new.scope) (rw c.deref-in-PostfixStep.ensures at c.expression-found-in-PostfixStep.ensures))
 
-pub expression-returns-in_ok-operand-in-PrefixStep : goal.expression-returns-in_ok-operand-in-PrefixStep
-expression-returns-in_ok-operand-in-PrefixStep t c =
+pub expression-returns-in-PrefixStep : goal.expression-returns-in-PrefixStep
+expression-returns-in-PrefixStep t c =
     let w = c.in-PrefixStep in
-    let s = scope_of c.args.scope.now in
-    let u = scope_of c.expression-in-PrefixStep.new.scope in
     rw (w.is, expression_of-PrefixStep w.operator w.operand w.span)
-    (found_with c.prefix_step.result found_of u _ _ c.prefix_step.ensures
-    (in_prefix w.operator w.span (expression_of w.operand.value) s (found_of c.in_ok-operand-in-PrefixStep.operand u) (rw c.deref-in-PrefixStep.ensures at c.in_ok-operand-in-PrefixStep.ensures)))
+    (c.prefix_step.ensures (expression_of w.operand.value) (scope_of c.args.scope.now) (scope_of c.expression-found-in-PrefixStep.new.scope) (rw c.deref-in-PrefixStep.ensures at c.expression-found-in-PrefixStep.ensures))
 
-pub expression-returns-in_ok-operand-in-Unary : goal.expression-returns-in_ok-operand-in-Unary
-expression-returns-in_ok-operand-in-Unary t c =
+pub expression-returns-in-Unary : goal.expression-returns-in-Unary
+expression-returns-in-Unary t c =
     let w = c.in-Unary in
-    let s = scope_of c.args.scope.now in
-    let u = scope_of c.expression-in-Unary.new.scope in
     rw (w.is, expression_of-Unary w.operator w.operand w.span)
-    (found_with c.unary.result found_of u _ _ c.unary.ensures
-    (in_unary w.operator w.span (expression_of w.operand.value) s (found_of c.in_ok-operand-in-Unary.operand u) (rw c.deref-in-Unary.ensures at c.in_ok-operand-in-Unary.ensures)))
+    (c.unary.ensures (expression_of w.operand.value) (scope_of c.args.scope.now) (scope_of c.expression-found-in-Unary.new.scope) (rw c.deref-in-Unary.ensures at c.expression-found-in-Unary.ensures))
 
-pub expression-returns-in_ok-array-in-Index : goal.expression-returns-in_ok-array-in-Index
-expression-returns-in_ok-array-in-Index t c =
+pub expression-returns-in-Index : goal.expression-returns-in-Index
+expression-returns-in-Index t c =
     let w = c.in-Index in
+    let a = expression_of w.array.value in
+    let s = scope_of c.args.scope.now in
     rw (w.is, expression_of-Index w.array w.index w.span)
-    (c.index.ensures (expression_of w.array.value) (expression_of w.index.value) (scope_of c.args.scope.now) (scope_of c.expression-in-Index.new.scope) (rw c.deref-in-Index.ensures at c.in_ok-array-in-Index.ensures) (rw c.deref-in-Index-2.ensures at c.expression-index.ensures))
+    (c.index.ensures a (expression_of w.index.value) s (rw c.deref-in-Index-2.ensures at (c.second-found.ensures a s (rw c.deref-in-Index.ensures at c.expression-array.ensures))))
 
-pub expression-returns-in_ok-left-in-Binary : goal.expression-returns-in_ok-left-in-Binary
-expression-returns-in_ok-left-in-Binary t c =
+pub expression-returns-in-Binary : goal.expression-returns-in-Binary
+expression-returns-in-Binary t c =
     let w = c.in-Binary in
+    let a = expression_of w.left.value in
+    let s = scope_of c.args.scope.now in
     rw (w.is, expression_of-Binary w.operator w.left w.right w.span)
-    (c.binary.ensures (expression_of w.left.value) (expression_of w.right.value) (scope_of c.args.scope.now) (scope_of c.expression-in-Binary.new.scope) (scope_of c.expression-right.new.scope) (rw c.deref-in-Binary.ensures at c.in_ok-left-in-Binary.ensures) (rw c.deref-in-Binary-2.ensures at c.expression-right.ensures))
+    (c.binary.ensures a (expression_of w.right.value) s (scope_of c.second-found-in-Binary.new.scope) (rw c.deref-in-Binary-2.ensures at (c.second-found-in-Binary.ensures a s (rw c.deref-in-Binary.ensures at c.expression-left.ensures))))
 
-pub expression-returns-in_ok-target-in-Assignment : goal.expression-returns-in_ok-target-in-Assignment
-expression-returns-in_ok-target-in-Assignment t c =
+pub expression-returns-in-Assignment : goal.expression-returns-in-Assignment
+expression-returns-in-Assignment t c =
     let w = c.in-Assignment in
+    let a = expression_of w.target.value in
+    let s = scope_of c.args.scope.now in
     rw (w.is, expression_of-Assignment w.operator w.target w.value w.span)
-    (c.assignment.ensures (expression_of w.target.value) (expression_of w.value.value) (scope_of c.args.scope.now) (scope_of c.expression-in-Assignment.new.scope) (rw c.deref-in-Assignment.ensures at c.in_ok-target-in-Assignment.ensures) (rw c.deref-in-Assignment-2.ensures at c.expression-value.ensures))
+    (c.assignment.ensures a (expression_of w.value.value) s (rw c.deref-in-Assignment-2.ensures at (c.second-found-in-Assignment.ensures a s (rw c.deref-in-Assignment.ensures at c.expression-target.ensures))))
 
-pub expression-returns-in_ok-tested-in-Conditional : goal.expression-returns-in_ok-tested-in-Conditional
-expression-returns-in_ok-tested-in-Conditional t c =
+pub expression-returns-in-Conditional : goal.expression-returns-in-Conditional
+expression-returns-in-Conditional t c =
     let w = c.in-Conditional in
-    let o = c.in_ok-tested-in-Conditional in
+    let a = expression_of w.test.value in
+    let b = expression_of w.chosen.value in
+    let s = scope_of c.args.scope.now in
     rw (w.is, expression_of-Conditional w.test w.chosen w.other w.span)
-    (c.conditional.ensures (expression_of w.test.value) (expression_of w.chosen.value) (expression_of w.other.value) (scope_of c.args.scope.now) (scope_of c.expression-in-Conditional.new.scope) (scope_of c.expression-chosen.new.scope) (scope_of c.expression-other.new.scope) (rw o.ensures.test (rw c.deref-in-Conditional.ensures at c.in_ok-test-in-Conditional.ensures)) (rw c.deref-in-Conditional-2.ensures at (at_ok c.expression-chosen.result o.tested.chosen _ o.ensures.chosen c.expression-chosen.ensures)) (rw c.deref-in-Conditional-3.ensures at c.expression-other.ensures))
+    (rw c.deref-in-Conditional-3.ensures at (c.conditional.ensures a b s (rw c.deref-in-Conditional-2.ensures at (c.second-tested.ensures a s (rw c.deref-in-Conditional.ensures at c.expression-test.ensures)))))
 
-pub expression-returns-in_ok-of-in-Cast : goal.expression-returns-in_ok-of-in-Cast
-expression-returns-in_ok-of-in-Cast t c =
+pub expression-returns-in-Cast : goal.expression-returns-in-Cast
+expression-returns-in-Cast t c =
     let w = c.in-Cast in
     rw (w.is, expression_of-Cast w.words w.stars w.type_span w.operand w.span)
-    (rw c.deref-in-Cast-3.ensures at (c.cast.ensures (specifiers_from (map specifier_of w.words.items)) w.stars w.type_span (scope_of c.args.scope.now) (scope_of c.typed.new.scope) (scope_of c.expression-found.new.scope) (rw c.deref-in-Cast.ensures.value at c.in_ok-of-in-Cast.ensures) (rw (c.deref-in-Cast-2.ensures, ← c.deref-in-Cast-3.ensures) at c.expression-found.ensures)))
+    (rw c.deref-in-Cast-2.ensures at (c.cast.ensures (specifiers_from (map specifier_of w.words.items)) w.stars w.type_span (scope_of c.args.scope.now) (rw c.deref-in-Cast.ensures.value at c.typed-of.ensures)))
+
+pub expression-returns-in-Comma : goal.expression-returns-in-Comma
+expression-returns-in-Comma t c =
+    let w = c.in-Comma in
+    rw (w.is, expression_of-Comma w.operands w.span)
+    (c.comma.ensures (expressions_from (map expression_of w.operands.items)) (scope_of c.args.scope.now) (scope_of c.arguments-given.new.scope) (rw c.deref-in-Comma.ensures.value at c.arguments-given.ensures))
 
 pub expression-returns-in-Constant : goal.expression-returns-in-Constant
 expression-returns-in-Constant t c =
@@ -108,13 +110,6 @@ expression-returns-in-Character t c =
     let w = c.in-Character in
     rw (w.is, expression_of-Character w.value w.span)
     (c.character.ensures (scope_of c.args.scope.now))
-
-pub expression-returns-in_ok-given-in-Comma : goal.expression-returns-in_ok-given-in-Comma
-expression-returns-in_ok-given-in-Comma t c =
-    let w = c.in-Comma in
-    let u = scope_of c.arguments.new.scope in
-    rw (w.is, expression_of-Comma w.operands w.span)
-    (c.comma.ensures u ∙ in_comma w.span (expressions_from (map expression_of w.operands.items)) (scope_of c.args.scope.now) (given_of arguments_of c.in_ok-given-in-Comma.given u) (rw c.deref-in-Comma.ensures.value at c.in_ok-given-in-Comma.ensures))
 
 pub expression-returns-in-Name : goal.expression-returns-in-Name
 expression-returns-in-Name t c =
@@ -129,6 +124,21 @@ pub expression-returns-in-Call : goal.expression-returns-in-Call
 expression-returns-in-Call t c =
     let w = c.in-Call in
     rw (w.is, expression_of-Call w.name w.given w.span) (rw c.deref-in-Call.ensures.value at c.call.ensures)
+
+pub second-returns-in-Ok : goal.second-returns-in-Ok
+second-returns-in-Ok t c =
+    λ a p h.
+    c.paired.ensures a (expression_of c.args.tree.now) p (scope_of c.args.scope.now) (scope_of c.expression-found.new.scope) (at_ok c.args.first c.in-Ok.first _ c.in-Ok.is h) c.expression-found.ensures
+
+pub cast-returns-in-Ok : goal.cast-returns-in-Ok
+cast-returns-in-Ok t c =
+    λ all stars name p h.
+    c.cast.ensures all stars name p (scope_of c.args.scope.now) (scope_of c.expression-found.new.scope) (at_ok c.args.of c.in-Ok.of _ c.in-Ok.is h) c.expression-found.ensures
+
+pub conditional-returns-in-Ok : goal.conditional-returns-in-Ok
+conditional-returns-in-Ok t c =
+    λ a b p h.
+    c.conditional.ensures a b (expression_of c.args.tree.now) p (scope_of c.args.scope.now) (scope_of c.expression-other.new.scope) (at_ok c.args.tested c.in-Ok.tested _ c.in-Ok.is h) c.expression-other.ensures
 
 pub call-returns : goal.call-returns
 call-returns t c =

@@ -1,0 +1,10 @@
+use Rattle.mc_scopes.specs.Found.{found_of}
+use Rattle.mc_types.proofs.Exits.{at_ok, found_with}
+use Rattle.mc_types.proofs.Arms.{in_prefix}
+use Rattle.mc_types.proofs.steps.expressions.prefix_step.Goals as goal
+
+pub returns-in-Ok : goal.returns-in-Ok
+returns-in-Ok c =
+    λ a p u k.
+    found_with c.prefix_step.result found_of u _ _ c.prefix_step.ensures
+    (in_prefix c.args.operator c.args.span a p (found_of c.in-Ok.operand u) (at_ok c.args.found c.in-Ok.operand _ c.in-Ok.is k))
