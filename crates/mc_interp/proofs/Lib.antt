@@ -11,6 +11,7 @@ pub mod Called
 pub mod Stopped
 pub mod Passing
 pub mod Shapes
+pub mod Rests
 pub mod Doings
 pub mod Initial
 pub mod Sequences

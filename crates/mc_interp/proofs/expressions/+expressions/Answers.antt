@@ -7,12 +7,13 @@ use Rattle.mc_probe.specs.Expressions as does
 use Rattle.mc_interp.specs.Stores.{lent_of, state_of}
 use Rattle.mc_interp.specs.Frames.{activation_of, scope_in}
 use Rattle.mc_interp.proofs.Runs.{did_then, did_end}
+use Rattle.mc_interp.proofs.Rests.{if_none}
 use Rattle.mc_interp.proofs.Truths.{only_logical, did_word}
 use Rattle.mc_interp.proofs.Shapes.{plain_again_argument, plain_binary, plain_choice, plain_item, plain_local, plain_made, plain_member, plain_parameter, plain_read, plain_structure_argument, view_again_argument, view_binary, view_choice, view_item, view_logic, view_made, view_not, view_parameter, view_probe}
 use Rattle.mc_interp.proofs.Arguments.{few_arguments, passing_all, passing_done, passing_end, passing_next, passing_step, passing_typed, slot_there, some_arguments}
 use Rattle.mc_interp.proofs.Passing.{source_there, copy_there, copy_keeps, again_there, again_is, again_typed, did_again}
 use Rattle.mc_interp.proofs.Called.{if_call_kept, into_small, is_called, made}
-use Rattle.mc_interp.proofs.Kept.{kept_then, if_any, if_kept, ready_kept, register_there, registers_few}
+use Rattle.mc_interp.proofs.Kept.{kept_same, kept_then, if_any, if_kept, ready_kept, register_there, registers_few}
 use Rattle.mc_interp.proofs.Placed as placed
 use Rattle.mc_interp.proofs.Nodes.{has_promoted, is_left, is_right, did_operated, did_chosen, did_other, did_choice_end, did_item, did_lent, did_compared, did_compared_right, did_not, did_not_end, did_logic, did_logic_short, did_logic_end, did_decided, did_condition, did_condition_end}
 use Rattle.mc_typed.specs.declared.expressions.FunctionCall.{the_lemmas as call_lemmas}
@@ -449,3 +450,530 @@ other-read-requires-clause-typed g t c =
 pub other-returns-in-Local-clause-kept : goal.other-returns-in-Local-clause-kept
 other-returns-in-Local-clause-kept g t c =
     if_any c.read.result (c.read.ensures.kept _ _)
+
+-- ---- what is the same at each end
+
+pub value-returns-in_err-holds-clause-typed : goal.value-returns-in_err-holds-clause-typed
+value-returns-in_err-holds-clause-typed g t c = if_none _ _ c.from_residual.ensures
+
+pub value-returns-in_err-holds-clause-kept : goal.value-returns-in_err-holds-clause-kept
+value-returns-in_err-holds-clause-kept g t c = if_none _ _ c.from_residual.ensures
+
+pub value-returns-in_err-holds-clause-bits : goal.value-returns-in_err-holds-clause-bits
+value-returns-in_err-holds-clause-bits g t c = c.in_err-holds.ensures.bits
+
+pub value-returns-in_err-holds-clause-limits : goal.value-returns-in_err-holds-clause-limits
+value-returns-in_err-holds-clause-limits g t c = c.in_err-holds.ensures.limits
+
+pub value-returns-in_ok-holds-clause-kept : goal.value-returns-in_ok-holds-clause-kept
+value-returns-in_ok-holds-clause-kept g t c = c.in_ok-holds.ensures.kept
+
+pub value-returns-in_ok-holds-clause-bits : goal.value-returns-in_ok-holds-clause-bits
+value-returns-in_ok-holds-clause-bits g t c = c.in_ok-holds.ensures.bits
+
+pub value-returns-in_ok-holds-clause-limits : goal.value-returns-in_ok-holds-clause-limits
+value-returns-in_ok-holds-clause-limits g t c = c.in_ok-holds.ensures.limits
+
+pub value-returns-else-is_logical-clause-typed : goal.value-returns-else-is_logical-clause-typed
+value-returns-else-is_logical-clause-typed g t c = c.other.ensures.typed
+
+pub value-returns-else-is_logical-clause-kept : goal.value-returns-else-is_logical-clause-kept
+value-returns-else-is_logical-clause-kept g t c = c.other.ensures.kept
+
+pub value-returns-else-is_logical-clause-bits : goal.value-returns-else-is_logical-clause-bits
+value-returns-else-is_logical-clause-bits g t c = c.other.ensures.bits
+
+pub value-returns-else-is_logical-clause-limits : goal.value-returns-else-is_logical-clause-limits
+value-returns-else-is_logical-clause-limits g t c = c.other.ensures.limits
+
+pub value-returns-else-is_logical-clause-did : goal.value-returns-else-is_logical-clause-did
+value-returns-else-is_logical-clause-did g t c = c.other.ensures.did
+
+pub truth-returns-in_err-holds-in-Not-clause-kept : goal.truth-returns-in_err-holds-in-Not-clause-kept
+truth-returns-in_err-holds-in-Not-clause-kept g t c = if_none _ _ c.from_residual.ensures
+
+pub truth-returns-in_err-holds-in-Not-clause-bits : goal.truth-returns-in_err-holds-in-Not-clause-bits
+truth-returns-in_err-holds-in-Not-clause-bits g t c = c.in_err-holds-in-Not.ensures.bits
+
+pub truth-returns-in_err-holds-in-Not-clause-limits : goal.truth-returns-in_err-holds-in-Not-clause-limits
+truth-returns-in_err-holds-in-Not-clause-limits g t c = c.in_err-holds-in-Not.ensures.limits
+
+pub truth-returns-in_ok-holds-in-Not-clause-kept : goal.truth-returns-in_ok-holds-in-Not-clause-kept
+truth-returns-in_ok-holds-in-Not-clause-kept g t c = c.in_ok-holds-in-Not.ensures.kept
+
+pub truth-returns-in_ok-holds-in-Not-clause-bits : goal.truth-returns-in_ok-holds-in-Not-clause-bits
+truth-returns-in_ok-holds-in-Not-clause-bits g t c = c.in_ok-holds-in-Not.ensures.bits
+
+pub truth-returns-in_ok-holds-in-Not-clause-limits : goal.truth-returns-in_ok-holds-in-Not-clause-limits
+truth-returns-in_ok-holds-in-Not-clause-limits g t c = c.in_ok-holds-in-Not.ensures.limits
+
+pub truth-returns-in_err-holds-in-Logic-clause-kept : goal.truth-returns-in_err-holds-in-Logic-clause-kept
+truth-returns-in_err-holds-in-Logic-clause-kept g t c = if_none _ _ c.from_residual-in_err-holds-in-Logic.ensures
+
+pub truth-returns-in_err-holds-in-Logic-clause-bits : goal.truth-returns-in_err-holds-in-Logic-clause-bits
+truth-returns-in_err-holds-in-Logic-clause-bits g t c = c.in_err-holds-in-Logic.ensures.bits
+
+pub truth-returns-in_err-holds-in-Logic-clause-limits : goal.truth-returns-in_err-holds-in-Logic-clause-limits
+truth-returns-in_err-holds-in-Logic-clause-limits g t c = c.in_err-holds-in-Logic.ensures.limits
+
+pub truth-returns-then-goes_on-clause-kept : goal.truth-returns-then-goes_on-clause-kept
+truth-returns-then-goes_on-clause-kept g t c = if_kept _ _ _ _ _ c.truth-then-goes_on.result c.in_ok-holds-in-Logic.ensures.kept c.truth-then-goes_on.ensures.kept
+
+pub truth-returns-then-goes_on-clause-bits : goal.truth-returns-then-goes_on-clause-bits
+truth-returns-then-goes_on-clause-bits g t c = c.truth-then-goes_on.ensures.bits ∙ c.in_ok-holds-in-Logic.ensures.bits
+
+pub truth-returns-then-goes_on-clause-limits : goal.truth-returns-then-goes_on-clause-limits
+truth-returns-then-goes_on-clause-limits g t c = c.truth-then-goes_on.ensures.limits ∙ c.in_ok-holds-in-Logic.ensures.limits
+
+pub truth-returns-else-goes_on-clause-kept : goal.truth-returns-else-goes_on-clause-kept
+truth-returns-else-goes_on-clause-kept g t c = c.in_ok-holds-in-Logic.ensures.kept
+
+pub truth-returns-else-goes_on-clause-bits : goal.truth-returns-else-goes_on-clause-bits
+truth-returns-else-goes_on-clause-bits g t c = c.in_ok-holds-in-Logic.ensures.bits
+
+pub truth-returns-else-goes_on-clause-limits : goal.truth-returns-else-goes_on-clause-limits
+truth-returns-else-goes_on-clause-limits g t c = c.in_ok-holds-in-Logic.ensures.limits
+
+pub truth-returns-in-Decision-clause-bits : goal.truth-returns-in-Decision-clause-bits
+truth-returns-in-Decision-clause-bits g t c = c.decide.ensures.bits ∙ c.truth-outcome.ensures.bits
+
+pub truth-returns-in-Decision-clause-limits : goal.truth-returns-in-Decision-clause-limits
+truth-returns-in-Decision-clause-limits g t c = c.truth-outcome.ensures.limits ∙ c.begin.ensures.limits
+
+pub truth-returns-in_err-holds-in-Condition-clause-kept : goal.truth-returns-in_err-holds-in-Condition-clause-kept
+truth-returns-in_err-holds-in-Condition-clause-kept g t c = if_none _ _ c.from_residual-in_err-holds-in-Condition.ensures
+
+pub truth-returns-in_err-holds-in-Condition-clause-bits : goal.truth-returns-in_err-holds-in-Condition-clause-bits
+truth-returns-in_err-holds-in-Condition-clause-bits g t c = c.in_err-holds-in-Condition.ensures.bits
+
+pub truth-returns-in_err-holds-in-Condition-clause-limits : goal.truth-returns-in_err-holds-in-Condition-clause-limits
+truth-returns-in_err-holds-in-Condition-clause-limits g t c = c.in_err-holds-in-Condition.ensures.limits
+
+pub truth-returns-in_ok-holds-in-Condition-clause-bits : goal.truth-returns-in_ok-holds-in-Condition-clause-bits
+truth-returns-in_ok-holds-in-Condition-clause-bits g t c = c.in_ok-holds-in-Condition.ensures.bits
+
+pub truth-returns-in_ok-holds-in-Condition-clause-limits : goal.truth-returns-in_ok-holds-in-Condition-clause-limits
+truth-returns-in_ok-holds-in-Condition-clause-limits g t c = c.note.ensures.limits ∙ c.in_ok-holds-in-Condition.ensures.limits
+
+pub truth-returns-in_err-number-in-Switch-clause-kept : goal.truth-returns-in_err-number-in-Switch-clause-kept
+truth-returns-in_err-number-in-Switch-clause-kept g t c = if_none _ _ c.from_residual-in_err-number-in-Switch.ensures
+
+pub truth-returns-in_err-number-in-Switch-clause-bits : goal.truth-returns-in_err-number-in-Switch-clause-bits
+truth-returns-in_err-number-in-Switch-clause-bits g t c = c.in_err-number-in-Switch.ensures.bits
+
+pub truth-returns-in_err-number-in-Switch-clause-limits : goal.truth-returns-in_err-number-in-Switch-clause-limits
+truth-returns-in_err-number-in-Switch-clause-limits g t c = c.in_err-number-in-Switch.ensures.limits
+
+pub truth-returns-in_ok-number-in-Switch-clause-kept : goal.truth-returns-in_ok-number-in-Switch-clause-kept
+truth-returns-in_ok-number-in-Switch-clause-kept g t c = c.in_ok-number-in-Switch.ensures.kept
+
+pub truth-returns-in_ok-number-in-Switch-clause-bits : goal.truth-returns-in_ok-number-in-Switch-clause-bits
+truth-returns-in_ok-number-in-Switch-clause-bits g t c = c.in_ok-number-in-Switch.ensures.bits
+
+pub truth-returns-in_ok-number-in-Switch-clause-limits : goal.truth-returns-in_ok-number-in-Switch-clause-limits
+truth-returns-in_ok-number-in-Switch-clause-limits g t c = c.in_ok-number-in-Switch.ensures.limits
+
+pub truth-returns-in_err-first-in-Some-clause-kept : goal.truth-returns-in_err-first-in-Some-clause-kept
+truth-returns-in_err-first-in-Some-clause-kept g t c = if_none _ _ c.from_residual-in_err-first-in-Some.ensures
+
+pub truth-returns-in_err-first-in-Some-clause-bits : goal.truth-returns-in_err-first-in-Some-clause-bits
+truth-returns-in_err-first-in-Some-clause-bits g t c = c.in_err-first-in-Some.ensures.bits
+
+pub truth-returns-in_err-first-in-Some-clause-limits : goal.truth-returns-in_err-first-in-Some-clause-limits
+truth-returns-in_err-first-in-Some-clause-limits g t c = c.in_err-first-in-Some.ensures.limits
+
+pub truth-returns-in_err-second-in-Some-clause-kept : goal.truth-returns-in_err-second-in-Some-clause-kept
+truth-returns-in_err-second-in-Some-clause-kept g t c = if_none _ _ c.from_residual-in_err-second-in-Some.ensures
+
+pub truth-returns-in_err-second-in-Some-clause-bits : goal.truth-returns-in_err-second-in-Some-clause-bits
+truth-returns-in_err-second-in-Some-clause-bits g t c = c.in_err-second-in-Some.ensures.bits ∙ c.in_ok-first-in-Some.ensures.bits
+
+pub truth-returns-in_err-second-in-Some-clause-limits : goal.truth-returns-in_err-second-in-Some-clause-limits
+truth-returns-in_err-second-in-Some-clause-limits g t c = c.in_err-second-in-Some.ensures.limits ∙ c.in_ok-first-in-Some.ensures.limits
+
+pub truth-returns-in_ok-second-in-Some-clause-kept : goal.truth-returns-in_ok-second-in-Some-clause-kept
+truth-returns-in_ok-second-in-Some-clause-kept g t c = kept_then _ _ _ _ _ c.in_ok-first-in-Some.ensures.kept c.in_ok-second-in-Some.ensures.kept
+
+pub truth-returns-in_ok-second-in-Some-clause-bits : goal.truth-returns-in_ok-second-in-Some-clause-bits
+truth-returns-in_ok-second-in-Some-clause-bits g t c = c.in_ok-second-in-Some.ensures.bits ∙ c.in_ok-first-in-Some.ensures.bits
+
+pub truth-returns-in_ok-second-in-Some-clause-limits : goal.truth-returns-in_ok-second-in-Some-clause-limits
+truth-returns-in_ok-second-in-Some-clause-limits g t c = c.in_ok-second-in-Some.ensures.limits ∙ c.in_ok-first-in-Some.ensures.limits
+
+pub truth-returns-in_err-number-in-None-clause-kept : goal.truth-returns-in_err-number-in-None-clause-kept
+truth-returns-in_err-number-in-None-clause-kept g t c = if_none _ _ c.from_residual-in_err-number-in-None.ensures
+
+pub truth-returns-in_err-number-in-None-clause-bits : goal.truth-returns-in_err-number-in-None-clause-bits
+truth-returns-in_err-number-in-None-clause-bits g t c = c.in_err-number-in-None.ensures.bits
+
+pub truth-returns-in_err-number-in-None-clause-limits : goal.truth-returns-in_err-number-in-None-clause-limits
+truth-returns-in_err-number-in-None-clause-limits g t c = c.in_err-number-in-None.ensures.limits
+
+pub truth-returns-in_ok-number-in-None-clause-kept : goal.truth-returns-in_ok-number-in-None-clause-kept
+truth-returns-in_ok-number-in-None-clause-kept g t c = c.in_ok-number-in-None.ensures.kept
+
+pub truth-returns-in_ok-number-in-None-clause-bits : goal.truth-returns-in_ok-number-in-None-clause-bits
+truth-returns-in_ok-number-in-None-clause-bits g t c = c.in_ok-number-in-None.ensures.bits
+
+pub truth-returns-in_ok-number-in-None-clause-limits : goal.truth-returns-in_ok-number-in-None-clause-limits
+truth-returns-in_ok-number-in-None-clause-limits g t c = c.in_ok-number-in-None.ensures.limits
+
+pub inner-returns-in_err-number-in-Unary-clause-typed : goal.inner-returns-in_err-number-in-Unary-clause-typed
+inner-returns-in_err-number-in-Unary-clause-typed g t c = if_none _ _ c.from_residual.ensures
+
+pub inner-returns-in_err-number-in-Unary-clause-kept : goal.inner-returns-in_err-number-in-Unary-clause-kept
+inner-returns-in_err-number-in-Unary-clause-kept g t c = if_none _ _ c.from_residual.ensures
+
+pub inner-returns-in_err-number-in-Unary-clause-bits : goal.inner-returns-in_err-number-in-Unary-clause-bits
+inner-returns-in_err-number-in-Unary-clause-bits g t c = c.in_err-number-in-Unary.ensures.bits
+
+pub inner-returns-in_err-number-in-Unary-clause-limits : goal.inner-returns-in_err-number-in-Unary-clause-limits
+inner-returns-in_err-number-in-Unary-clause-limits g t c = c.in_err-number-in-Unary.ensures.limits
+
+pub inner-returns-in_ok-number-in-Unary-clause-bits : goal.inner-returns-in_ok-number-in-Unary-clause-bits
+inner-returns-in_ok-number-in-Unary-clause-bits g t c = c.in_ok-number-in-Unary.ensures.bits
+
+pub inner-returns-in_ok-number-in-Unary-clause-limits : goal.inner-returns-in_ok-number-in-Unary-clause-limits
+inner-returns-in_ok-number-in-Unary-clause-limits g t c = c.give.ensures.limits ∙ c.in_ok-number-in-Unary.ensures.limits
+
+pub inner-returns-in_err-number-in-Convert-clause-typed : goal.inner-returns-in_err-number-in-Convert-clause-typed
+inner-returns-in_err-number-in-Convert-clause-typed g t c = if_none _ _ c.from_residual-in_err-number-in-Convert.ensures
+
+pub inner-returns-in_err-number-in-Convert-clause-kept : goal.inner-returns-in_err-number-in-Convert-clause-kept
+inner-returns-in_err-number-in-Convert-clause-kept g t c = if_none _ _ c.from_residual-in_err-number-in-Convert.ensures
+
+pub inner-returns-in_err-number-in-Convert-clause-bits : goal.inner-returns-in_err-number-in-Convert-clause-bits
+inner-returns-in_err-number-in-Convert-clause-bits g t c = c.in_err-number-in-Convert.ensures.bits
+
+pub inner-returns-in_err-number-in-Convert-clause-limits : goal.inner-returns-in_err-number-in-Convert-clause-limits
+inner-returns-in_err-number-in-Convert-clause-limits g t c = c.in_err-number-in-Convert.ensures.limits
+
+pub inner-returns-in_ok-number-in-Convert-clause-kept : goal.inner-returns-in_ok-number-in-Convert-clause-kept
+inner-returns-in_ok-number-in-Convert-clause-kept g t c = c.in_ok-number-in-Convert.ensures.kept
+
+pub inner-returns-in_ok-number-in-Convert-clause-bits : goal.inner-returns-in_ok-number-in-Convert-clause-bits
+inner-returns-in_ok-number-in-Convert-clause-bits g t c = c.in_ok-number-in-Convert.ensures.bits
+
+pub inner-returns-in_ok-number-in-Convert-clause-limits : goal.inner-returns-in_ok-number-in-Convert-clause-limits
+inner-returns-in_ok-number-in-Convert-clause-limits g t c = c.in_ok-number-in-Convert.ensures.limits
+
+pub inner-returns-in_err-first-in-Binary-clause-typed : goal.inner-returns-in_err-first-in-Binary-clause-typed
+inner-returns-in_err-first-in-Binary-clause-typed g t c = if_none _ _ c.from_residual-in_err-first-in-Binary.ensures
+
+pub inner-returns-in_err-first-in-Binary-clause-kept : goal.inner-returns-in_err-first-in-Binary-clause-kept
+inner-returns-in_err-first-in-Binary-clause-kept g t c = if_none _ _ c.from_residual-in_err-first-in-Binary.ensures
+
+pub inner-returns-in_err-first-in-Binary-clause-bits : goal.inner-returns-in_err-first-in-Binary-clause-bits
+inner-returns-in_err-first-in-Binary-clause-bits g t c = c.in_err-first-in-Binary.ensures.bits
+
+pub inner-returns-in_err-first-in-Binary-clause-limits : goal.inner-returns-in_err-first-in-Binary-clause-limits
+inner-returns-in_err-first-in-Binary-clause-limits g t c = c.in_err-first-in-Binary.ensures.limits
+
+pub inner-returns-in_err-second-in-Binary-clause-typed : goal.inner-returns-in_err-second-in-Binary-clause-typed
+inner-returns-in_err-second-in-Binary-clause-typed g t c = if_none _ _ c.from_residual-in_err-second-in-Binary.ensures
+
+pub inner-returns-in_err-second-in-Binary-clause-kept : goal.inner-returns-in_err-second-in-Binary-clause-kept
+inner-returns-in_err-second-in-Binary-clause-kept g t c = if_none _ _ c.from_residual-in_err-second-in-Binary.ensures
+
+pub inner-returns-in_err-second-in-Binary-clause-bits : goal.inner-returns-in_err-second-in-Binary-clause-bits
+inner-returns-in_err-second-in-Binary-clause-bits g t c = c.in_err-second-in-Binary.ensures.bits ∙ c.in_ok-first-in-Binary.ensures.bits
+
+pub inner-returns-in_err-second-in-Binary-clause-limits : goal.inner-returns-in_err-second-in-Binary-clause-limits
+inner-returns-in_err-second-in-Binary-clause-limits g t c = c.in_err-second-in-Binary.ensures.limits ∙ c.in_ok-first-in-Binary.ensures.limits
+
+pub inner-returns-in_ok-second-in-Binary-clause-bits : goal.inner-returns-in_ok-second-in-Binary-clause-bits
+inner-returns-in_ok-second-in-Binary-clause-bits g t c = c.in_ok-second-in-Binary.ensures.bits ∙ c.in_ok-first-in-Binary.ensures.bits
+
+pub inner-returns-in_ok-second-in-Binary-clause-limits : goal.inner-returns-in_ok-second-in-Binary-clause-limits
+inner-returns-in_ok-second-in-Binary-clause-limits g t c = c.give-in-Binary.ensures.limits ∙ c.in_ok-second-in-Binary.ensures.limits ∙ c.in_ok-first-in-Binary.ensures.limits
+
+pub inner-returns-in_err-holds-in-Choice-clause-typed : goal.inner-returns-in_err-holds-in-Choice-clause-typed
+inner-returns-in_err-holds-in-Choice-clause-typed g t c = if_none _ _ c.from_residual-in_err-holds-in-Choice.ensures
+
+pub inner-returns-in_err-holds-in-Choice-clause-kept : goal.inner-returns-in_err-holds-in-Choice-clause-kept
+inner-returns-in_err-holds-in-Choice-clause-kept g t c = if_none _ _ c.from_residual-in_err-holds-in-Choice.ensures
+
+pub inner-returns-in_err-holds-in-Choice-clause-bits : goal.inner-returns-in_err-holds-in-Choice-clause-bits
+inner-returns-in_err-holds-in-Choice-clause-bits g t c = c.in_err-holds-in-Choice.ensures.bits
+
+pub inner-returns-in_err-holds-in-Choice-clause-limits : goal.inner-returns-in_err-holds-in-Choice-clause-limits
+inner-returns-in_err-holds-in-Choice-clause-limits g t c = c.in_err-holds-in-Choice.ensures.limits
+
+pub inner-returns-then-holds-clause-kept : goal.inner-returns-then-holds-clause-kept
+inner-returns-then-holds-clause-kept g t c = if_kept _ _ _ _ _ c.value-then-holds.result c.in_ok-holds-in-Choice.ensures.kept c.value-then-holds.ensures.kept
+
+pub inner-returns-then-holds-clause-bits : goal.inner-returns-then-holds-clause-bits
+inner-returns-then-holds-clause-bits g t c = c.value-then-holds.ensures.bits ∙ c.in_ok-holds-in-Choice.ensures.bits
+
+pub inner-returns-then-holds-clause-limits : goal.inner-returns-then-holds-clause-limits
+inner-returns-then-holds-clause-limits g t c = c.value-then-holds.ensures.limits ∙ c.in_ok-holds-in-Choice.ensures.limits
+
+pub inner-returns-else-holds-clause-kept : goal.inner-returns-else-holds-clause-kept
+inner-returns-else-holds-clause-kept g t c = if_kept _ _ _ _ _ c.value-else-holds.result c.in_ok-holds-in-Choice.ensures.kept c.value-else-holds.ensures.kept
+
+pub inner-returns-else-holds-clause-bits : goal.inner-returns-else-holds-clause-bits
+inner-returns-else-holds-clause-bits g t c = c.value-else-holds.ensures.bits ∙ c.in_ok-holds-in-Choice.ensures.bits
+
+pub inner-returns-else-holds-clause-limits : goal.inner-returns-else-holds-clause-limits
+inner-returns-else-holds-clause-limits g t c = c.value-else-holds.ensures.limits ∙ c.in_ok-holds-in-Choice.ensures.limits
+
+pub inner-returns-in-Input-clause-bits : goal.inner-returns-in-Input-clause-bits
+inner-returns-in-Input-clause-bits g t c = refl
+
+pub inner-returns-in-Input-clause-limits : goal.inner-returns-in-Input-clause-limits
+inner-returns-in-Input-clause-limits g t c = c.input.ensures.limits
+
+pub inner-returns-in_err-at-in-Read-clause-typed : goal.inner-returns-in_err-at-in-Read-clause-typed
+inner-returns-in_err-at-in-Read-clause-typed g t c = if_none _ _ c.from_residual-in_err-at-in-Read.ensures
+
+pub inner-returns-in_err-at-in-Read-clause-kept : goal.inner-returns-in_err-at-in-Read-clause-kept
+inner-returns-in_err-at-in-Read-clause-kept g t c = if_none _ _ c.from_residual-in_err-at-in-Read.ensures
+
+pub inner-returns-in_err-at-in-Read-clause-bits : goal.inner-returns-in_err-at-in-Read-clause-bits
+inner-returns-in_err-at-in-Read-clause-bits g t c = c.in_err-at-in-Read.ensures.bits
+
+pub inner-returns-in_err-at-in-Read-clause-limits : goal.inner-returns-in_err-at-in-Read-clause-limits
+inner-returns-in_err-at-in-Read-clause-limits g t c = c.in_err-at-in-Read.ensures.limits
+
+pub inner-returns-in_ok-at-in-Read-clause-bits : goal.inner-returns-in_ok-at-in-Read-clause-bits
+inner-returns-in_ok-at-in-Read-clause-bits g t c = c.in_ok-at-in-Read.ensures.bits
+
+pub inner-returns-in_ok-at-in-Read-clause-limits : goal.inner-returns-in_ok-at-in-Read-clause-limits
+inner-returns-in_ok-at-in-Read-clause-limits g t c = c.read.ensures.limits ∙ c.in_ok-at-in-Read.ensures.limits
+
+pub inner-returns-in_err-call-in-Call-clause-typed : goal.inner-returns-in_err-call-in-Call-clause-typed
+inner-returns-in_err-call-in-Call-clause-typed g t c = if_none _ _ c.from_residual-in_err-call-in-Call.ensures
+
+pub inner-returns-in_err-call-in-Call-clause-kept : goal.inner-returns-in_err-call-in-Call-clause-kept
+inner-returns-in_err-call-in-Call-clause-kept g t c = if_none _ _ c.from_residual-in_err-call-in-Call.ensures
+
+pub inner-returns-in_err-call-in-Call-clause-bits : goal.inner-returns-in_err-call-in-Call-clause-bits
+inner-returns-in_err-call-in-Call-clause-bits g t c = c.in_err-call-in-Call.ensures.bits
+
+pub inner-returns-in_err-call-in-Call-clause-limits : goal.inner-returns-in_err-call-in-Call-clause-limits
+inner-returns-in_err-call-in-Call-clause-limits g t c = c.in_err-call-in-Call.ensures.limits
+
+pub inner-returns-in_ok-call-in-Call-clause-bits : goal.inner-returns-in_ok-call-in-Call-clause-bits
+inner-returns-in_ok-call-in-Call-clause-bits g t c = c.in_ok-call-in-Call.ensures.bits
+
+pub inner-returns-in_ok-call-in-Call-clause-limits : goal.inner-returns-in_ok-call-in-Call-clause-limits
+inner-returns-in_ok-call-in-Call-clause-limits g t c = c.number_given.ensures.limits ∙ c.in_ok-call-in-Call.ensures.limits
+
+pub inner-returns-in_err-number-in-Switch-clause-typed : goal.inner-returns-in_err-number-in-Switch-clause-typed
+inner-returns-in_err-number-in-Switch-clause-typed g t c = if_none _ _ c.from_residual-in_err-number-in-Switch.ensures
+
+pub inner-returns-in_err-number-in-Switch-clause-kept : goal.inner-returns-in_err-number-in-Switch-clause-kept
+inner-returns-in_err-number-in-Switch-clause-kept g t c = if_none _ _ c.from_residual-in_err-number-in-Switch.ensures
+
+pub inner-returns-in_err-number-in-Switch-clause-bits : goal.inner-returns-in_err-number-in-Switch-clause-bits
+inner-returns-in_err-number-in-Switch-clause-bits g t c = c.in_err-number-in-Switch.ensures.bits
+
+pub inner-returns-in_err-number-in-Switch-clause-limits : goal.inner-returns-in_err-number-in-Switch-clause-limits
+inner-returns-in_err-number-in-Switch-clause-limits g t c = c.in_err-number-in-Switch.ensures.limits
+
+pub inner-returns-in_ok-number-in-Switch-clause-bits : goal.inner-returns-in_ok-number-in-Switch-clause-bits
+inner-returns-in_ok-number-in-Switch-clause-bits g t c = c.in_ok-number-in-Switch.ensures.bits
+
+pub inner-returns-in_ok-number-in-Switch-clause-limits : goal.inner-returns-in_ok-number-in-Switch-clause-limits
+inner-returns-in_ok-number-in-Switch-clause-limits g t c = c.mark.ensures.limits ∙ c.in_ok-number-in-Switch.ensures.limits
+
+pub place-returns-in_err-number-in-Parameter-clause-placed : goal.place-returns-in_err-number-in-Parameter-clause-placed
+place-returns-in_err-number-in-Parameter-clause-placed g t c = if_none _ _ c.from_residual.ensures
+
+pub place-returns-in_err-number-in-Parameter-clause-kept : goal.place-returns-in_err-number-in-Parameter-clause-kept
+place-returns-in_err-number-in-Parameter-clause-kept g t c = if_none _ _ c.from_residual.ensures
+
+pub place-returns-in_err-number-in-Parameter-clause-bits : goal.place-returns-in_err-number-in-Parameter-clause-bits
+place-returns-in_err-number-in-Parameter-clause-bits g t c = c.in_err-number-in-Parameter.ensures.bits
+
+pub place-returns-in_err-number-in-Parameter-clause-limits : goal.place-returns-in_err-number-in-Parameter-clause-limits
+place-returns-in_err-number-in-Parameter-clause-limits g t c = c.in_err-number-in-Parameter.ensures.limits
+
+pub place-returns-in_ok-number-in-Parameter-clause-bits : goal.place-returns-in_ok-number-in-Parameter-clause-bits
+place-returns-in_ok-number-in-Parameter-clause-bits g t c = c.in_ok-number-in-Parameter.ensures.bits
+
+pub place-returns-in_ok-number-in-Parameter-clause-limits : goal.place-returns-in_ok-number-in-Parameter-clause-limits
+place-returns-in_ok-number-in-Parameter-clause-limits g t c = c.lent_item.ensures.limits ∙ c.in_ok-number-in-Parameter.ensures.limits
+
+pub place-returns-in_err-base-in-Item-clause-placed : goal.place-returns-in_err-base-in-Item-clause-placed
+place-returns-in_err-base-in-Item-clause-placed g t c = if_none _ _ c.from_residual-in_err-base-in-Item.ensures
+
+pub place-returns-in_err-base-in-Item-clause-kept : goal.place-returns-in_err-base-in-Item-clause-kept
+place-returns-in_err-base-in-Item-clause-kept g t c = if_none _ _ c.from_residual-in_err-base-in-Item.ensures
+
+pub place-returns-in_err-base-in-Item-clause-bits : goal.place-returns-in_err-base-in-Item-clause-bits
+place-returns-in_err-base-in-Item-clause-bits g t c = c.in_err-base-in-Item.ensures.bits
+
+pub place-returns-in_err-base-in-Item-clause-limits : goal.place-returns-in_err-base-in-Item-clause-limits
+place-returns-in_err-base-in-Item-clause-limits g t c = c.in_err-base-in-Item.ensures.limits
+
+pub place-returns-in_err-number-in-Item-clause-placed : goal.place-returns-in_err-number-in-Item-clause-placed
+place-returns-in_err-number-in-Item-clause-placed g t c = if_none _ _ c.from_residual-in_err-number-in-Item.ensures
+
+pub place-returns-in_err-number-in-Item-clause-kept : goal.place-returns-in_err-number-in-Item-clause-kept
+place-returns-in_err-number-in-Item-clause-kept g t c = if_none _ _ c.from_residual-in_err-number-in-Item.ensures
+
+pub place-returns-in_err-number-in-Item-clause-bits : goal.place-returns-in_err-number-in-Item-clause-bits
+place-returns-in_err-number-in-Item-clause-bits g t c = c.in_err-number-in-Item.ensures.bits ∙ c.in_ok-base-in-Item.ensures.bits
+
+pub place-returns-in_err-number-in-Item-clause-limits : goal.place-returns-in_err-number-in-Item-clause-limits
+place-returns-in_err-number-in-Item-clause-limits g t c = c.in_err-number-in-Item.ensures.limits ∙ c.in_ok-base-in-Item.ensures.limits
+
+pub place-returns-in_ok-number-in-Item-clause-bits : goal.place-returns-in_ok-number-in-Item-clause-bits
+place-returns-in_ok-number-in-Item-clause-bits g t c = c.in_ok-number-in-Item.ensures.bits ∙ c.in_ok-base-in-Item.ensures.bits
+
+pub place-returns-in_ok-number-in-Item-clause-limits : goal.place-returns-in_ok-number-in-Item-clause-limits
+place-returns-in_ok-number-in-Item-clause-limits g t c = c.item.ensures.limits ∙ c.in_ok-number-in-Item.ensures.limits ∙ c.in_ok-base-in-Item.ensures.limits
+
+pub place-returns-in_err-base-in-Member-clause-placed : goal.place-returns-in_err-base-in-Member-clause-placed
+place-returns-in_err-base-in-Member-clause-placed g t c = if_none _ _ c.from_residual-in_err-base-in-Member.ensures
+
+pub place-returns-in_err-base-in-Member-clause-kept : goal.place-returns-in_err-base-in-Member-clause-kept
+place-returns-in_err-base-in-Member-clause-kept g t c = if_none _ _ c.from_residual-in_err-base-in-Member.ensures
+
+pub place-returns-in_err-base-in-Member-clause-bits : goal.place-returns-in_err-base-in-Member-clause-bits
+place-returns-in_err-base-in-Member-clause-bits g t c = c.in_err-base-in-Member.ensures.bits
+
+pub place-returns-in_err-base-in-Member-clause-limits : goal.place-returns-in_err-base-in-Member-clause-limits
+place-returns-in_err-base-in-Member-clause-limits g t c = c.in_err-base-in-Member.ensures.limits
+
+pub place-returns-in_ok-base-in-Member-clause-kept : goal.place-returns-in_ok-base-in-Member-clause-kept
+place-returns-in_ok-base-in-Member-clause-kept g t c = c.in_ok-base-in-Member.ensures.kept
+
+pub place-returns-in_ok-base-in-Member-clause-bits : goal.place-returns-in_ok-base-in-Member-clause-bits
+place-returns-in_ok-base-in-Member-clause-bits g t c = c.in_ok-base-in-Member.ensures.bits
+
+pub place-returns-in_ok-base-in-Member-clause-limits : goal.place-returns-in_ok-base-in-Member-clause-limits
+place-returns-in_ok-base-in-Member-clause-limits g t c = c.in_ok-base-in-Member.ensures.limits
+
+pub place-returns-in-Local-clause-kept : goal.place-returns-in-Local-clause-kept
+place-returns-in-Local-clause-kept g t c = kept_same (scope_in c.args.frame.now) (activation_of c.args.frame.now) c.args.store.now
+
+pub place-returns-in-Local-clause-bits : goal.place-returns-in-Local-clause-bits
+place-returns-in-Local-clause-bits g t c = refl
+
+pub place-returns-in-Local-clause-limits : goal.place-returns-in-Local-clause-limits
+place-returns-in-Local-clause-limits g t c = refl
+
+pub place-returns-in-Static-clause-kept : goal.place-returns-in-Static-clause-kept
+place-returns-in-Static-clause-kept g t c = kept_same (scope_in c.args.frame.now) (activation_of c.args.frame.now) c.args.store.now
+
+pub place-returns-in-Static-clause-bits : goal.place-returns-in-Static-clause-bits
+place-returns-in-Static-clause-bits g t c = refl
+
+pub place-returns-in-Static-clause-limits : goal.place-returns-in-Static-clause-limits
+place-returns-in-Static-clause-limits g t c = refl
+
+pub structure-returns-in-Stored-clause-kept : goal.structure-returns-in-Stored-clause-kept
+structure-returns-in-Stored-clause-kept g t c = c.place.ensures.kept
+
+pub structure-returns-in-Stored-clause-bits : goal.structure-returns-in-Stored-clause-bits
+structure-returns-in-Stored-clause-bits g t c = c.place.ensures.bits
+
+pub structure-returns-in-Stored-clause-limits : goal.structure-returns-in-Stored-clause-limits
+structure-returns-in-Stored-clause-limits g t c = c.place.ensures.limits
+
+pub structure-returns-in_err-call-in-Returned-clause-placed : goal.structure-returns-in_err-call-in-Returned-clause-placed
+structure-returns-in_err-call-in-Returned-clause-placed g t c = if_none _ _ c.from_residual.ensures
+
+pub structure-returns-in_err-call-in-Returned-clause-kept : goal.structure-returns-in_err-call-in-Returned-clause-kept
+structure-returns-in_err-call-in-Returned-clause-kept g t c = if_none _ _ c.from_residual.ensures
+
+pub structure-returns-in_err-call-in-Returned-clause-bits : goal.structure-returns-in_err-call-in-Returned-clause-bits
+structure-returns-in_err-call-in-Returned-clause-bits g t c = c.in_err-call-in-Returned.ensures.bits
+
+pub structure-returns-in_err-call-in-Returned-clause-limits : goal.structure-returns-in_err-call-in-Returned-clause-limits
+structure-returns-in_err-call-in-Returned-clause-limits g t c = c.in_err-call-in-Returned.ensures.limits
+
+pub structure-returns-in_ok-call-in-Returned-clause-bits : goal.structure-returns-in_ok-call-in-Returned-clause-bits
+structure-returns-in_ok-call-in-Returned-clause-bits g t c = c.in_ok-call-in-Returned.ensures.bits
+
+pub structure-returns-in_ok-call-in-Returned-clause-limits : goal.structure-returns-in_ok-call-in-Returned-clause-limits
+structure-returns-in_ok-call-in-Returned-clause-limits g t c = c.structure_given.ensures.limits ∙ c.in_ok-call-in-Returned.ensures.limits
+
+pub call-returns-in_err-arguments-clause-given : goal.call-returns-in_err-arguments-clause-given
+call-returns-in_err-arguments-clause-given g t c = if_none _ _ c.from_residual.ensures
+
+pub call-returns-in_err-arguments-clause-kept : goal.call-returns-in_err-arguments-clause-kept
+call-returns-in_err-arguments-clause-kept g t c = if_none _ _ c.from_residual.ensures
+
+pub call-returns-in_err-arguments-clause-bits : goal.call-returns-in_err-arguments-clause-bits
+call-returns-in_err-arguments-clause-bits g t c = c.in_err-arguments.ensures.bits
+
+pub call-returns-in_err-arguments-clause-limits : goal.call-returns-in_err-arguments-clause-limits
+call-returns-in_err-arguments-clause-limits g t c = c.in_err-arguments.ensures.limits
+
+pub argument-returns-in_err-word-in-Number-clause-typed : goal.argument-returns-in_err-word-in-Number-clause-typed
+argument-returns-in_err-word-in-Number-clause-typed g t c = if_none _ _ c.from_residual.ensures
+
+pub argument-returns-in_err-word-in-Number-clause-kept : goal.argument-returns-in_err-word-in-Number-clause-kept
+argument-returns-in_err-word-in-Number-clause-kept g t c = if_none _ _ c.from_residual.ensures
+
+pub argument-returns-in_err-word-in-Number-clause-bits : goal.argument-returns-in_err-word-in-Number-clause-bits
+argument-returns-in_err-word-in-Number-clause-bits g t c = c.in_err-word-in-Number.ensures.bits
+
+pub argument-returns-in_err-word-in-Number-clause-limits : goal.argument-returns-in_err-word-in-Number-clause-limits
+argument-returns-in_err-word-in-Number-clause-limits g t c = c.in_err-word-in-Number.ensures.limits
+
+pub argument-returns-in_ok-word-in-Number-clause-kept : goal.argument-returns-in_ok-word-in-Number-clause-kept
+argument-returns-in_ok-word-in-Number-clause-kept g t c = c.in_ok-word-in-Number.ensures.kept
+
+pub argument-returns-in_ok-word-in-Number-clause-bits : goal.argument-returns-in_ok-word-in-Number-clause-bits
+argument-returns-in_ok-word-in-Number-clause-bits g t c = c.in_ok-word-in-Number.ensures.bits
+
+pub argument-returns-in_ok-word-in-Number-clause-limits : goal.argument-returns-in_ok-word-in-Number-clause-limits
+argument-returns-in_ok-word-in-Number-clause-limits g t c = c.in_ok-word-in-Number.ensures.limits
+
+pub argument-returns-in_err-from-in-Structure-clause-typed : goal.argument-returns-in_err-from-in-Structure-clause-typed
+argument-returns-in_err-from-in-Structure-clause-typed g t c = if_none _ _ c.from_residual-in_err-from-in-Structure.ensures
+
+pub argument-returns-in_err-from-in-Structure-clause-kept : goal.argument-returns-in_err-from-in-Structure-clause-kept
+argument-returns-in_err-from-in-Structure-clause-kept g t c = if_none _ _ c.from_residual-in_err-from-in-Structure.ensures
+
+pub argument-returns-in_err-from-in-Structure-clause-bits : goal.argument-returns-in_err-from-in-Structure-clause-bits
+argument-returns-in_err-from-in-Structure-clause-bits g t c = c.in_err-from-in-Structure.ensures.bits
+
+pub argument-returns-in_err-from-in-Structure-clause-limits : goal.argument-returns-in_err-from-in-Structure-clause-limits
+argument-returns-in_err-from-in-Structure-clause-limits g t c = c.in_err-from-in-Structure.ensures.limits
+
+pub argument-returns-in_ok-from-in-Structure-clause-bits : goal.argument-returns-in_ok-from-in-Structure-clause-bits
+argument-returns-in_ok-from-in-Structure-clause-bits g t c = c.in_ok-from-in-Structure.ensures.bits
+
+pub argument-returns-in_ok-from-in-Structure-clause-limits : goal.argument-returns-in_ok-from-in-Structure-clause-limits
+argument-returns-in_ok-from-in-Structure-clause-limits g t c = c.copied-at.ensures.limits ∙ c.in_ok-from-in-Structure.ensures.limits
+
+pub argument-returns-in_err-base-in-Array-clause-typed : goal.argument-returns-in_err-base-in-Array-clause-typed
+argument-returns-in_err-base-in-Array-clause-typed g t c = if_none _ _ c.from_residual-in_err-base-in-Array.ensures
+
+pub argument-returns-in_err-base-in-Array-clause-kept : goal.argument-returns-in_err-base-in-Array-clause-kept
+argument-returns-in_err-base-in-Array-clause-kept g t c = if_none _ _ c.from_residual-in_err-base-in-Array.ensures
+
+pub argument-returns-in_err-base-in-Array-clause-bits : goal.argument-returns-in_err-base-in-Array-clause-bits
+argument-returns-in_err-base-in-Array-clause-bits g t c = c.in_err-base-in-Array.ensures.bits
+
+pub argument-returns-in_err-base-in-Array-clause-limits : goal.argument-returns-in_err-base-in-Array-clause-limits
+argument-returns-in_err-base-in-Array-clause-limits g t c = c.in_err-base-in-Array.ensures.limits
+
+pub argument-returns-in_ok-base-in-Array-clause-kept : goal.argument-returns-in_ok-base-in-Array-clause-kept
+argument-returns-in_ok-base-in-Array-clause-kept g t c = c.in_ok-base-in-Array.ensures.kept
+
+pub argument-returns-in_ok-base-in-Array-clause-bits : goal.argument-returns-in_ok-base-in-Array-clause-bits
+argument-returns-in_ok-base-in-Array-clause-bits g t c = c.in_ok-base-in-Array.ensures.bits
+
+pub argument-returns-in_ok-base-in-Array-clause-limits : goal.argument-returns-in_ok-base-in-Array-clause-limits
+argument-returns-in_ok-base-in-Array-clause-limits g t c = c.in_ok-base-in-Array.ensures.limits
+
+pub argument-returns-in-Again-clause-kept : goal.argument-returns-in-Again-clause-kept
+argument-returns-in-Again-clause-kept g t c = kept_same (scope_in c.args.frame.now) (activation_of c.args.frame.now) c.args.store.now
+
+pub argument-returns-in-Again-clause-bits : goal.argument-returns-in-Again-clause-bits
+argument-returns-in-Again-clause-bits g t c = refl
+
+pub argument-returns-in-Again-clause-limits : goal.argument-returns-in-Again-clause-limits
+argument-returns-in-Again-clause-limits g t c = refl
+
+pub arguments-returns-in_err-given-clause-typed : goal.arguments-returns-in_err-given-clause-typed
+arguments-returns-in_err-given-clause-typed g t c = if_none _ _ c.from_residual.ensures
+
+pub arguments-returns-in_err-given-clause-kept : goal.arguments-returns-in_err-given-clause-kept
+arguments-returns-in_err-given-clause-kept g t c = if_none _ _ c.from_residual.ensures

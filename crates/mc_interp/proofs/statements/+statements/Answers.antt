@@ -1,4 +1,4 @@
-use Rattle.std.proofs.Common.{◌+◌, map, drop, Some, None, option_map, sym, ◌∙◌, arith, rules}
+use Rattle.std.proofs.Common.{◌+◌, map, drop, Some, None, option_map, refl, sym, ◌∙◌, arith, rules}
 use Rattle.mc_typed.specs.Sound.{type_of}
 use Rattle.mc_typed.specs.Views as plain
 use Rattle.mc_steps.specs.Runs.{gives}
@@ -13,6 +13,7 @@ use Rattle.mc_interp.specs.Bodies.{flow_of, labels_in, seek_of}
 use Rattle.mc_interp.specs.Stores.{state_of}
 use Rattle.mc_interp.specs.Frames.{activation_of, scope_in}
 use Rattle.mc_interp.proofs.Runs.{did_then, did_gives}
+use Rattle.mc_interp.proofs.Rests.{if_none}
 use Rattle.mc_interp.proofs.Kept.{kept_same, kept_then, if_kept, ready_kept}
 use Rattle.mc_interp.proofs.BodyShapes.{view_do, view_for, view_if, view_if_else, view_switch}
 use Rattle.mc_interp.proofs.Equations.{absent_fits, end_typed, label_fits, next_is, next_typed}
@@ -429,3 +430,365 @@ act-returns-in-None-clause-did g t c =
 
 pub act-returns-in-None-clause-kept : goal.act-returns-in-None-clause-kept
 act-returns-in-None-clause-kept g t c = if_kept _ _ _ _ _ c.repeat-in-None.result c.in_ok-ended-in-DoWhile.ensures.kept c.repeat-in-None.ensures.kept
+
+-- ---- what is the same at each end
+
+pub repeat-returns-in_err-turned-clause-typed : goal.repeat-returns-in_err-turned-clause-typed
+repeat-returns-in_err-turned-clause-typed g t c = if_none _ _ c.from_residual.ensures
+
+pub repeat-returns-in_err-turned-clause-kept : goal.repeat-returns-in_err-turned-clause-kept
+repeat-returns-in_err-turned-clause-kept g t c = if_none _ _ c.from_residual.ensures
+
+pub turn-returns-in_err-goes_on-clause-typed : goal.turn-returns-in_err-goes_on-clause-typed
+turn-returns-in_err-goes_on-clause-typed g t c = if_none _ _ c.from_residual.ensures
+
+pub turn-returns-in_err-goes_on-clause-less : goal.turn-returns-in_err-goes_on-clause-less
+turn-returns-in_err-goes_on-clause-less g t c = if_none _ _ c.from_residual.ensures
+
+pub turn-returns-in_err-goes_on-clause-kept : goal.turn-returns-in_err-goes_on-clause-kept
+turn-returns-in_err-goes_on-clause-kept g t c = if_none _ _ c.from_residual.ensures
+
+pub turn-returns-in_err-goes_on-clause-bits : goal.turn-returns-in_err-goes_on-clause-bits
+turn-returns-in_err-goes_on-clause-bits g t c = c.in_err-goes_on.ensures.bits
+
+pub turn-returns-in_err-goes_on-clause-limits : goal.turn-returns-in_err-goes_on-clause-limits
+turn-returns-in_err-goes_on-clause-limits g t c = c.in_err-goes_on.ensures.limits
+
+pub turn-returns-then-not-goes_on-clause-less : goal.turn-returns-then-not-goes_on-clause-less
+turn-returns-then-not-goes_on-clause-less g t c = c.in_ok-goes_on.ensures.less
+
+pub turn-returns-then-not-goes_on-clause-kept : goal.turn-returns-then-not-goes_on-clause-kept
+turn-returns-then-not-goes_on-clause-kept g t c = c.in_ok-goes_on.ensures.kept
+
+pub turn-returns-then-not-goes_on-clause-bits : goal.turn-returns-then-not-goes_on-clause-bits
+turn-returns-then-not-goes_on-clause-bits g t c = c.in_ok-goes_on.ensures.bits
+
+pub turn-returns-then-not-goes_on-clause-limits : goal.turn-returns-then-not-goes_on-clause-limits
+turn-returns-then-not-goes_on-clause-limits g t c = c.in_ok-goes_on.ensures.limits
+
+pub turn-returns-in_err-flow-clause-typed : goal.turn-returns-in_err-flow-clause-typed
+turn-returns-in_err-flow-clause-typed g t c = if_none _ _ c.from_residual-in_err-flow.ensures
+
+pub turn-returns-in_err-flow-clause-less : goal.turn-returns-in_err-flow-clause-less
+turn-returns-in_err-flow-clause-less g t c = if_none _ _ c.from_residual-in_err-flow.ensures
+
+pub turn-returns-in_err-flow-clause-kept : goal.turn-returns-in_err-flow-clause-kept
+turn-returns-in_err-flow-clause-kept g t c = if_none _ _ c.from_residual-in_err-flow.ensures
+
+pub turn-returns-in_err-flow-clause-bits : goal.turn-returns-in_err-flow-clause-bits
+turn-returns-in_err-flow-clause-bits g t c = c.in_err-flow.ensures.bits ∙ c.in_ok-goes_on.ensures.bits
+
+pub turn-returns-in_err-flow-clause-limits : goal.turn-returns-in_err-flow-clause-limits
+turn-returns-in_err-flow-clause-limits g t c = c.in_err-flow.ensures.limits ∙ c.in_ok-goes_on.ensures.limits
+
+pub turn-returns-in-Some-clause-bits : goal.turn-returns-in-Some-clause-bits
+turn-returns-in-Some-clause-bits g t c = c.in_ok-flow.ensures.bits ∙ c.in_ok-goes_on.ensures.bits
+
+pub turn-returns-in-Some-clause-limits : goal.turn-returns-in-Some-clause-limits
+turn-returns-in-Some-clause-limits g t c = c.in_ok-flow.ensures.limits ∙ c.in_ok-goes_on.ensures.limits
+
+pub turn-returns-in_err-effects-clause-typed : goal.turn-returns-in_err-effects-clause-typed
+turn-returns-in_err-effects-clause-typed g t c = if_none _ _ c.from_residual-in_err-effects.ensures
+
+pub turn-returns-in_err-effects-clause-less : goal.turn-returns-in_err-effects-clause-less
+turn-returns-in_err-effects-clause-less g t c = if_none _ _ c.from_residual-in_err-effects.ensures
+
+pub turn-returns-in_err-effects-clause-kept : goal.turn-returns-in_err-effects-clause-kept
+turn-returns-in_err-effects-clause-kept g t c = if_none _ _ c.from_residual-in_err-effects.ensures
+
+pub turn-returns-in_err-effects-clause-bits : goal.turn-returns-in_err-effects-clause-bits
+turn-returns-in_err-effects-clause-bits g t c = c.in_err-effects.ensures.bits ∙ c.in_ok-flow.ensures.bits ∙ c.in_ok-goes_on.ensures.bits
+
+pub turn-returns-in_err-effects-clause-limits : goal.turn-returns-in_err-effects-clause-limits
+turn-returns-in_err-effects-clause-limits g t c = c.in_err-effects.ensures.limits ∙ c.in_ok-flow.ensures.limits ∙ c.in_ok-goes_on.ensures.limits
+
+pub turn-returns-clause-bits : goal.turn-returns-clause-bits
+turn-returns-clause-bits g t c = c.in_ok-effects.ensures.bits ∙ c.in_ok-flow.ensures.bits ∙ c.in_ok-goes_on.ensures.bits
+
+pub turn-returns-clause-limits : goal.turn-returns-clause-limits
+turn-returns-clause-limits g t c = c.in_ok-effects.ensures.limits ∙ c.in_ok-flow.ensures.limits ∙ c.in_ok-goes_on.ensures.limits
+
+pub statement-returns-in_err-counted-clause-typed : goal.statement-returns-in_err-counted-clause-typed
+statement-returns-in_err-counted-clause-typed g t c = if_none _ _ c.from_residual.ensures
+
+pub statement-returns-in_err-counted-clause-kept : goal.statement-returns-in_err-counted-clause-kept
+statement-returns-in_err-counted-clause-kept g t c = if_none _ _ c.from_residual.ensures
+
+pub statement-returns-in_err-counted-clause-bits : goal.statement-returns-in_err-counted-clause-bits
+statement-returns-in_err-counted-clause-bits g t c = c.in_err-counted.ensures.bits
+
+pub statement-returns-in_err-counted-clause-limits : goal.statement-returns-in_err-counted-clause-limits
+statement-returns-in_err-counted-clause-limits g t c = c.in_err-counted.ensures.limits
+
+pub statement-returns-clause-typed : goal.statement-returns-clause-typed
+statement-returns-clause-typed g t c = c.act.ensures.typed
+
+pub statement-returns-clause-bits : goal.statement-returns-clause-bits
+statement-returns-clause-bits g t c = c.act.ensures.bits ∙ c.in_ok-counted.ensures.bits
+
+pub statement-returns-clause-limits : goal.statement-returns-clause-limits
+statement-returns-clause-limits g t c = c.act.ensures.limits ∙ c.in_ok-counted.ensures.limits
+
+pub item-returns-in_err-flow-clause-typed : goal.item-returns-in_err-flow-clause-typed
+item-returns-in_err-flow-clause-typed g t c = if_none _ _ c.from_residual.ensures
+
+pub item-returns-in_err-flow-clause-kept : goal.item-returns-in_err-flow-clause-kept
+item-returns-in_err-flow-clause-kept g t c = if_none _ _ c.from_residual.ensures
+
+pub item-returns-in_err-flow-clause-bits : goal.item-returns-in_err-flow-clause-bits
+item-returns-in_err-flow-clause-bits g t c = c.in_err-flow.ensures.bits
+
+pub item-returns-in_err-flow-clause-limits : goal.item-returns-in_err-flow-clause-limits
+item-returns-in_err-flow-clause-limits g t c = c.in_err-flow.ensures.limits
+
+pub item-returns-in-Some-clause-bits : goal.item-returns-in-Some-clause-bits
+item-returns-in-Some-clause-bits g t c = c.at_label.ensures.bits
+
+pub item-returns-in-Some-clause-limits : goal.item-returns-in-Some-clause-limits
+item-returns-in-Some-clause-limits g t c = c.at_label.ensures.limits
+
+pub item-returns-then-not-is_running-clause-bits : goal.item-returns-then-not-is_running-clause-bits
+item-returns-then-not-is_running-clause-bits g t c = refl
+
+pub item-returns-then-not-is_running-clause-limits : goal.item-returns-then-not-is_running-clause-limits
+item-returns-then-not-is_running-clause-limits g t c = refl
+
+pub item-returns-clause-kept : goal.item-returns-clause-kept
+item-returns-clause-kept g t c = c.in_ok-flow.ensures.kept
+
+pub item-returns-clause-bits : goal.item-returns-clause-bits
+item-returns-clause-bits g t c = c.in_ok-flow.ensures.bits
+
+pub item-returns-clause-limits : goal.item-returns-clause-limits
+item-returns-clause-limits g t c = c.in_ok-flow.ensures.limits
+
+pub statements-returns-in_err-next-clause-typed : goal.statements-returns-in_err-next-clause-typed
+statements-returns-in_err-next-clause-typed g t c = if_none _ _ c.from_residual.ensures
+
+pub statements-returns-in_err-next-clause-kept : goal.statements-returns-in_err-next-clause-kept
+statements-returns-in_err-next-clause-kept g t c = if_none _ _ c.from_residual.ensures
+
+pub act-returns-in_err-holds-in-If-clause-typed : goal.act-returns-in_err-holds-in-If-clause-typed
+act-returns-in_err-holds-in-If-clause-typed g t c = if_none _ _ c.from_residual.ensures
+
+pub act-returns-in_err-holds-in-If-clause-kept : goal.act-returns-in_err-holds-in-If-clause-kept
+act-returns-in_err-holds-in-If-clause-kept g t c = if_none _ _ c.from_residual.ensures
+
+pub act-returns-in_err-holds-in-If-clause-bits : goal.act-returns-in_err-holds-in-If-clause-bits
+act-returns-in_err-holds-in-If-clause-bits g t c = c.in_err-holds-in-If.ensures.bits
+
+pub act-returns-in_err-holds-in-If-clause-limits : goal.act-returns-in_err-holds-in-If-clause-limits
+act-returns-in_err-holds-in-If-clause-limits g t c = c.in_err-holds-in-If.ensures.limits
+
+pub act-returns-then-holds-clause-typed : goal.act-returns-then-holds-clause-typed
+act-returns-then-holds-clause-typed g t c = c.statement.ensures.typed
+
+pub act-returns-then-holds-clause-bits : goal.act-returns-then-holds-clause-bits
+act-returns-then-holds-clause-bits g t c = c.statement.ensures.bits ∙ c.in_ok-holds-in-If.ensures.bits
+
+pub act-returns-then-holds-clause-limits : goal.act-returns-then-holds-clause-limits
+act-returns-then-holds-clause-limits g t c = c.statement.ensures.limits ∙ c.in_ok-holds-in-If.ensures.limits
+
+pub act-returns-else-holds-clause-kept : goal.act-returns-else-holds-clause-kept
+act-returns-else-holds-clause-kept g t c = c.in_ok-holds-in-If.ensures.kept
+
+pub act-returns-else-holds-clause-bits : goal.act-returns-else-holds-clause-bits
+act-returns-else-holds-clause-bits g t c = c.in_ok-holds-in-If.ensures.bits
+
+pub act-returns-else-holds-clause-limits : goal.act-returns-else-holds-clause-limits
+act-returns-else-holds-clause-limits g t c = c.in_ok-holds-in-If.ensures.limits
+
+pub act-returns-in_err-is_true-in-IfElse-clause-typed : goal.act-returns-in_err-is_true-in-IfElse-clause-typed
+act-returns-in_err-is_true-in-IfElse-clause-typed g t c = if_none _ _ c.from_residual-in_err-is_true-in-IfElse.ensures
+
+pub act-returns-in_err-is_true-in-IfElse-clause-kept : goal.act-returns-in_err-is_true-in-IfElse-clause-kept
+act-returns-in_err-is_true-in-IfElse-clause-kept g t c = if_none _ _ c.from_residual-in_err-is_true-in-IfElse.ensures
+
+pub act-returns-in_err-is_true-in-IfElse-clause-bits : goal.act-returns-in_err-is_true-in-IfElse-clause-bits
+act-returns-in_err-is_true-in-IfElse-clause-bits g t c = c.in_err-is_true-in-IfElse.ensures.bits
+
+pub act-returns-in_err-is_true-in-IfElse-clause-limits : goal.act-returns-in_err-is_true-in-IfElse-clause-limits
+act-returns-in_err-is_true-in-IfElse-clause-limits g t c = c.in_err-is_true-in-IfElse.ensures.limits
+
+pub act-returns-then-is_true-clause-typed : goal.act-returns-then-is_true-clause-typed
+act-returns-then-is_true-clause-typed g t c = c.statement-then-is_true.ensures.typed
+
+pub act-returns-then-is_true-clause-bits : goal.act-returns-then-is_true-clause-bits
+act-returns-then-is_true-clause-bits g t c = c.statement-then-is_true.ensures.bits ∙ c.in_ok-is_true-in-IfElse.ensures.bits
+
+pub act-returns-then-is_true-clause-limits : goal.act-returns-then-is_true-clause-limits
+act-returns-then-is_true-clause-limits g t c = c.statement-then-is_true.ensures.limits ∙ c.in_ok-is_true-in-IfElse.ensures.limits
+
+pub act-returns-else-is_true-clause-typed : goal.act-returns-else-is_true-clause-typed
+act-returns-else-is_true-clause-typed g t c = c.statement-else-is_true.ensures.typed
+
+pub act-returns-else-is_true-clause-bits : goal.act-returns-else-is_true-clause-bits
+act-returns-else-is_true-clause-bits g t c = c.statement-else-is_true.ensures.bits ∙ c.in_ok-is_true-in-IfElse.ensures.bits
+
+pub act-returns-else-is_true-clause-limits : goal.act-returns-else-is_true-clause-limits
+act-returns-else-is_true-clause-limits g t c = c.statement-else-is_true.ensures.limits ∙ c.in_ok-is_true-in-IfElse.ensures.limits
+
+pub act-returns-in_err-word-in-Switch-clause-typed : goal.act-returns-in_err-word-in-Switch-clause-typed
+act-returns-in_err-word-in-Switch-clause-typed g t c = if_none _ _ c.from_residual-in_err-word-in-Switch.ensures
+
+pub act-returns-in_err-word-in-Switch-clause-kept : goal.act-returns-in_err-word-in-Switch-clause-kept
+act-returns-in_err-word-in-Switch-clause-kept g t c = if_none _ _ c.from_residual-in_err-word-in-Switch.ensures
+
+pub act-returns-in_err-word-in-Switch-clause-bits : goal.act-returns-in_err-word-in-Switch-clause-bits
+act-returns-in_err-word-in-Switch-clause-bits g t c = c.in_err-word-in-Switch.ensures.bits
+
+pub act-returns-in_err-word-in-Switch-clause-limits : goal.act-returns-in_err-word-in-Switch-clause-limits
+act-returns-in_err-word-in-Switch-clause-limits g t c = c.in_err-word-in-Switch.ensures.limits
+
+pub act-returns-in_err-flow-in-Switch-clause-typed : goal.act-returns-in_err-flow-in-Switch-clause-typed
+act-returns-in_err-flow-in-Switch-clause-typed g t c = if_none _ _ c.from_residual-in_err-flow-in-Switch.ensures
+
+pub act-returns-in_err-flow-in-Switch-clause-kept : goal.act-returns-in_err-flow-in-Switch-clause-kept
+act-returns-in_err-flow-in-Switch-clause-kept g t c = if_none _ _ c.from_residual-in_err-flow-in-Switch.ensures
+
+pub act-returns-in_err-flow-in-Switch-clause-bits : goal.act-returns-in_err-flow-in-Switch-clause-bits
+act-returns-in_err-flow-in-Switch-clause-bits g t c = c.in_err-flow-in-Switch.ensures.bits ∙ c.in_ok-word-in-Switch.ensures.bits
+
+pub act-returns-in_err-flow-in-Switch-clause-limits : goal.act-returns-in_err-flow-in-Switch-clause-limits
+act-returns-in_err-flow-in-Switch-clause-limits g t c = c.in_err-flow-in-Switch.ensures.limits ∙ c.in_ok-word-in-Switch.ensures.limits
+
+pub act-returns-in_ok-flow-in-Switch-clause-bits : goal.act-returns-in_ok-flow-in-Switch-clause-bits
+act-returns-in_ok-flow-in-Switch-clause-bits g t c = c.switch_ends.ensures.bits ∙ c.in_ok-flow-in-Switch.ensures.bits ∙ c.in_ok-word-in-Switch.ensures.bits
+
+pub act-returns-in_ok-flow-in-Switch-clause-limits : goal.act-returns-in_ok-flow-in-Switch-clause-limits
+act-returns-in_ok-flow-in-Switch-clause-limits g t c = c.switch_ends.ensures.limits ∙ c.in_ok-flow-in-Switch.ensures.limits ∙ c.in_ok-word-in-Switch.ensures.limits
+
+pub act-returns-in_err-for_start-in-For-clause-typed : goal.act-returns-in_err-for_start-in-For-clause-typed
+act-returns-in_err-for_start-in-For-clause-typed g t c = if_none _ _ c.from_residual-in_err-for_start-in-For.ensures
+
+pub act-returns-in_err-for_start-in-For-clause-kept : goal.act-returns-in_err-for_start-in-For-clause-kept
+act-returns-in_err-for_start-in-For-clause-kept g t c = if_none _ _ c.from_residual-in_err-for_start-in-For.ensures
+
+pub act-returns-in_err-for_start-in-For-clause-bits : goal.act-returns-in_err-for_start-in-For-clause-bits
+act-returns-in_err-for_start-in-For-clause-bits g t c = c.in_err-for_start-in-For.ensures.bits
+
+pub act-returns-in_err-for_start-in-For-clause-limits : goal.act-returns-in_err-for_start-in-For-clause-limits
+act-returns-in_err-for_start-in-For-clause-limits g t c = c.in_err-for_start-in-For.ensures.limits
+
+pub act-returns-in_ok-for_start-in-For-clause-typed : goal.act-returns-in_ok-for_start-in-For-clause-typed
+act-returns-in_ok-for_start-in-For-clause-typed g t c = c.repeat.ensures.typed
+
+pub act-returns-in_ok-for_start-in-For-clause-bits : goal.act-returns-in_ok-for_start-in-For-clause-bits
+act-returns-in_ok-for_start-in-For-clause-bits g t c = c.repeat.ensures.bits ∙ c.in_ok-for_start-in-For.ensures.bits
+
+pub act-returns-in_ok-for_start-in-For-clause-limits : goal.act-returns-in_ok-for_start-in-For-clause-limits
+act-returns-in_ok-for_start-in-For-clause-limits g t c = c.repeat.ensures.limits ∙ c.in_ok-for_start-in-For.ensures.limits
+
+pub act-returns-in_err-ended-in-DoWhile-clause-typed : goal.act-returns-in_err-ended-in-DoWhile-clause-typed
+act-returns-in_err-ended-in-DoWhile-clause-typed g t c = if_none _ _ c.from_residual-in_err-ended-in-DoWhile.ensures
+
+pub act-returns-in_err-ended-in-DoWhile-clause-kept : goal.act-returns-in_err-ended-in-DoWhile-clause-kept
+act-returns-in_err-ended-in-DoWhile-clause-kept g t c = if_none _ _ c.from_residual-in_err-ended-in-DoWhile.ensures
+
+pub act-returns-in_err-ended-in-DoWhile-clause-bits : goal.act-returns-in_err-ended-in-DoWhile-clause-bits
+act-returns-in_err-ended-in-DoWhile-clause-bits g t c = c.in_err-ended-in-DoWhile.ensures.bits
+
+pub act-returns-in_err-ended-in-DoWhile-clause-limits : goal.act-returns-in_err-ended-in-DoWhile-clause-limits
+act-returns-in_err-ended-in-DoWhile-clause-limits g t c = c.in_err-ended-in-DoWhile.ensures.limits
+
+pub act-returns-in-Some-clause-kept : goal.act-returns-in-Some-clause-kept
+act-returns-in-Some-clause-kept g t c = c.in_ok-ended-in-DoWhile.ensures.kept
+
+pub act-returns-in-Some-clause-bits : goal.act-returns-in-Some-clause-bits
+act-returns-in-Some-clause-bits g t c = c.in_ok-ended-in-DoWhile.ensures.bits
+
+pub act-returns-in-Some-clause-limits : goal.act-returns-in-Some-clause-limits
+act-returns-in-Some-clause-limits g t c = c.in_ok-ended-in-DoWhile.ensures.limits
+
+pub act-returns-in-None-clause-typed : goal.act-returns-in-None-clause-typed
+act-returns-in-None-clause-typed g t c = c.repeat-in-None.ensures.typed
+
+pub act-returns-in-None-clause-bits : goal.act-returns-in-None-clause-bits
+act-returns-in-None-clause-bits g t c = c.repeat-in-None.ensures.bits ∙ c.in_ok-ended-in-DoWhile.ensures.bits
+
+pub act-returns-in-None-clause-limits : goal.act-returns-in-None-clause-limits
+act-returns-in-None-clause-limits g t c = c.repeat-in-None.ensures.limits ∙ c.in_ok-ended-in-DoWhile.ensures.limits
+
+pub act-returns-in-Label-clause-kept : goal.act-returns-in-Label-clause-kept
+act-returns-in-Label-clause-kept g t c = kept_same (scope_in c.args.frame.now) (activation_of c.args.frame.now) c.args.store.now
+
+pub act-returns-in-Label-clause-bits : goal.act-returns-in-Label-clause-bits
+act-returns-in-Label-clause-bits g t c = refl
+
+pub act-returns-in-Label-clause-limits : goal.act-returns-in-Label-clause-limits
+act-returns-in-Label-clause-limits g t c = refl
+
+pub act-returns-in-Null-clause-kept : goal.act-returns-in-Null-clause-kept
+act-returns-in-Null-clause-kept g t c = kept_same (scope_in c.args.frame.now) (activation_of c.args.frame.now) c.args.store.now
+
+pub act-returns-in-Null-clause-bits : goal.act-returns-in-Null-clause-bits
+act-returns-in-Null-clause-bits g t c = refl
+
+pub act-returns-in-Null-clause-limits : goal.act-returns-in-Null-clause-limits
+act-returns-in-Null-clause-limits g t c = refl
+
+pub act-returns-in-Break-clause-kept : goal.act-returns-in-Break-clause-kept
+act-returns-in-Break-clause-kept g t c = kept_same (scope_in c.args.frame.now) (activation_of c.args.frame.now) c.args.store.now
+
+pub act-returns-in-Break-clause-bits : goal.act-returns-in-Break-clause-bits
+act-returns-in-Break-clause-bits g t c = refl
+
+pub act-returns-in-Break-clause-limits : goal.act-returns-in-Break-clause-limits
+act-returns-in-Break-clause-limits g t c = refl
+
+pub act-returns-in-Continue-clause-kept : goal.act-returns-in-Continue-clause-kept
+act-returns-in-Continue-clause-kept g t c = kept_same (scope_in c.args.frame.now) (activation_of c.args.frame.now) c.args.store.now
+
+pub act-returns-in-Continue-clause-bits : goal.act-returns-in-Continue-clause-bits
+act-returns-in-Continue-clause-bits g t c = refl
+
+pub act-returns-in-Continue-clause-limits : goal.act-returns-in-Continue-clause-limits
+act-returns-in-Continue-clause-limits g t c = refl
+
+pub act-returns-in-Compound-clause-typed : goal.act-returns-in-Compound-clause-typed
+act-returns-in-Compound-clause-typed g t c = c.statements.ensures.typed
+
+pub act-returns-in-Compound-clause-kept : goal.act-returns-in-Compound-clause-kept
+act-returns-in-Compound-clause-kept g t c = c.statements.ensures.kept
+
+pub act-returns-in-Compound-clause-bits : goal.act-returns-in-Compound-clause-bits
+act-returns-in-Compound-clause-bits g t c = c.statements.ensures.bits
+
+pub act-returns-in-Compound-clause-limits : goal.act-returns-in-Compound-clause-limits
+act-returns-in-Compound-clause-limits g t c = c.statements.ensures.limits
+
+pub act-returns-in-Declaration-clause-typed : goal.act-returns-in-Declaration-clause-typed
+act-returns-in-Declaration-clause-typed g t c = c.declaration.ensures.typed
+
+pub act-returns-in-Declaration-clause-kept : goal.act-returns-in-Declaration-clause-kept
+act-returns-in-Declaration-clause-kept g t c = c.declaration.ensures.kept
+
+pub act-returns-in-Declaration-clause-bits : goal.act-returns-in-Declaration-clause-bits
+act-returns-in-Declaration-clause-bits g t c = c.declaration.ensures.bits
+
+pub act-returns-in-Declaration-clause-limits : goal.act-returns-in-Declaration-clause-limits
+act-returns-in-Declaration-clause-limits g t c = c.declaration.ensures.limits
+
+pub act-returns-in-Effect-clause-typed : goal.act-returns-in-Effect-clause-typed
+act-returns-in-Effect-clause-typed g t c = c.effect_statement.ensures.typed
+
+pub act-returns-in-Effect-clause-kept : goal.act-returns-in-Effect-clause-kept
+act-returns-in-Effect-clause-kept g t c = c.effect_statement.ensures.kept
+
+pub act-returns-in-Effect-clause-bits : goal.act-returns-in-Effect-clause-bits
+act-returns-in-Effect-clause-bits g t c = c.effect_statement.ensures.bits
+
+pub act-returns-in-Effect-clause-limits : goal.act-returns-in-Effect-clause-limits
+act-returns-in-Effect-clause-limits g t c = c.effect_statement.ensures.limits
+
+pub act-returns-in-Return-clause-typed : goal.act-returns-in-Return-clause-typed
+act-returns-in-Return-clause-typed g t c = c.return_statement.ensures.typed
+
+pub act-returns-in-Return-clause-kept : goal.act-returns-in-Return-clause-kept
+act-returns-in-Return-clause-kept g t c = c.return_statement.ensures.kept
+
+pub act-returns-in-Return-clause-bits : goal.act-returns-in-Return-clause-bits
+act-returns-in-Return-clause-bits g t c = c.return_statement.ensures.bits
+
+pub act-returns-in-Return-clause-limits : goal.act-returns-in-Return-clause-limits
+act-returns-in-Return-clause-limits g t c = c.return_statement.ensures.limits
