@@ -1,3 +1,4 @@
+pub mod Accepts
 pub mod Given
 pub mod Heads
 pub mod Parts

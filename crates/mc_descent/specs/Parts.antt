@@ -13,9 +13,10 @@ use Rattle.mc_tree.specs.Tree as t
 use Rattle.mc_tree.specs.Views.{array_length_of, declarator_of, declarators_from, enumerator_of, enumerators_from, expressions_from, lengths_from, member_of, members_from, parameter_of, parameters_from, specifier_of, specifiers_from}
 use Rattle.mc_tree.specs.Height.{height_declarators, height_enumerators, height_lengths, height_members, height_parameter_list, height_specifiers}
 use Rattle.mc_grammar.specs.Places.{at, end_of_specifiers, name_at, to}
-use Rattle.mc_grammar.specs.Words.{Lexeme}
+use Rattle.mc_grammar.specs.Words.{Lexeme, is_name}
+use Rattle.mc_grammar.specs.Nonterminal as n
 use Rattle.mc_reading.specs.Lists.{listed}
-use Rattle.mc_grammar.specs.steps.Parsers.{Parser, ◌>>=◌, ask, expect, pure, take}
+use Rattle.mc_grammar.specs.steps.Parsers.{Parser, ◌>>=◌, accept, ask, expect, pure, take}
 use Rattle.mc_reading.specs.Expressions.{Parts, stars_of}
 use Rattle.mc_reading.specs.Specifiers.{Length, Lengths, lengths_of, name_next, parameter_by}
 use Rattle.mc_reading.specs.Specifiers as spec
@@ -112,6 +113,17 @@ index_end a b = do
   y ← expect (codes "]")
   pure (t.Index a b (to (span_of a) (at y)))
 
+-- a suffix, after its first token
+abbrev pub index_after : Parts → Expression → Parser Expression
+index_after parts a = do
+  b ← parts.expression n.comma
+  index_end a b
+
+abbrev pub member_after : Expression → Parser Expression
+member_after a = do
+  y ← accept is_name
+  pure (t.Member a (name_at y) (to (span_of a) (at y)))
+
 -- a type name, after its specifiers
 abbrev pub type_end : Span → Specifiers → Parser TypeName
 type_end start s = do
@@ -188,11 +200,6 @@ parameter_after parts start s stars name end = do
   pure (t.parameter s stars name (lengths_from lengths.all) (to start lengths.end))
 
 -- a declarator of a function, after the parenthesis that opens its list
-abbrev pub empty_function : Span → ℕ → Name → Span → Parser Declarator
-empty_function start stars name list_start = do
-  y ← take
-  pure (t.function stars name (t.Empty (to list_start (at y))) (to start (to list_start (at y))))
-
 abbrev pub void_function : Span → ℕ → Name → Span → Parser Declarator
 void_function start stars name list_start = do
   y ← take

@@ -10,6 +10,7 @@ ghost use Rattle.mc_descent.specs.Counted.{test_of};
 ghost use Rattle.mc_cursor.specs.Cursors.{Gives, left_of};
 ghost use Rattle.mc_descent.specs.Heads.{words_of};
 
+use crate::accept::accept;
 use crate::allowed::Allowed;
 use crate::initializers::initializer;
 use crate::knot::{declarator, specifiers};
@@ -44,10 +45,9 @@ fn valued<'a>(
         (left_of tokens.new) }
 {
     tokens.declare(typedef, &declarator)?;
-    if !tokens.sees(b"=") {
+    let Some(_) = accept(tokens, b"=") else {
         return on_heap(alloc, InitDeclarator::Bare { declarator });
-    }
-    tokens.take()?;
+    };
     let value = initializer(alloc, tokens, room)?;
     on_heap(alloc, InitDeclarator::Initialized { declarator, value })
 }
@@ -83,10 +83,9 @@ fn declarators<'a>(
         let one = declarator(alloc, tokens, room)?;
         let one = valued(alloc, typedef, room, one, tokens)?;
         push(all, one)?;
-        if !tokens.sees(b",") {
+        let Some(_) = accept(tokens, b",") else {
             return Ok(());
-        }
-        tokens.take()?;
+        };
     }
     Err(Fault::Syntax)
 }
@@ -107,10 +106,9 @@ fn more_declarators<'a>(
 {
     let mut all = Vec::new(alloc);
     push(&mut all, first)?;
-    if !tokens.sees(b",") {
+    let Some(_) = accept(tokens, b",") else {
         return Ok(all);
-    }
-    tokens.take()?;
+    };
     declarators(alloc, typedef, room, &mut all, tokens)?;
     Ok(all)
 }

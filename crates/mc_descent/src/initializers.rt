@@ -7,6 +7,7 @@ ghost use Rattle.mc_reading.specs.Lists.{braced_list, listed};
 ghost use Rattle.mc_reading.specs.Rooms.{reading};
 ghost use Rattle.mc_cursor.specs.Cursors.{Gives, left_of};
 
+use crate::accept::accept;
 use crate::knot::expression;
 use crate::read::Read;
 use mc_cursor::cursor::{Cursor, place};
@@ -52,10 +53,9 @@ pub fn initializer<'a>(
     if room == 0 {
         return Err(Fault::Syntax);
     }
-    if !tokens.sees(b"{") {
+    let Some(first) = accept(tokens, b"{") else {
         return single(alloc, tokens, room - 1);
-    }
-    let first = tokens.take()?;
+    };
     let items = initializers(alloc, tokens, room - 1)?;
     let last = tokens.expect(b"}")?;
     Ok(braced(items, to(place(first), place(last))))
@@ -78,10 +78,9 @@ fn initializers<'a>(
     for _turn in 0..tokens.turns() {
         let one = initializer(alloc, tokens, room)?;
         push(&mut all, one)?;
-        if !tokens.sees(b",") {
+        let Some(_) = accept(tokens, b",") else {
             return Ok(all);
-        }
-        tokens.take()?;
+        };
         if tokens.sees(b"}") {
             return Ok(all);
         }

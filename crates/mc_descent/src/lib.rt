@@ -4,6 +4,7 @@
 //! this one.
 #![tactic(auto)]
 
+mod accept;
 pub mod allowed;
 pub mod declarations;
 mod grammar;

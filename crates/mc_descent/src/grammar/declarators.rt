@@ -1,9 +1,11 @@
 //! Declarators and their parts (C17 6.7.6).
 ghost use Rattle.std.specs.Prelude.{◌≡◌, ◌≤◌, ◌+◌, ◌-◌, IfOk, [], map};
 ghost use Rattle.mc_lex.specs.Tokens.{tok_of};
+ghost use Rattle.mc_tree.specs.Tree as t;
 ghost use Rattle.mc_tree.specs.Views.{tag_of};
 ghost use Rattle.mc_tree.specs.Height.{height_declarator, height_parameter, height_specifiers};
 ghost use Rattle.mc_grammar.specs.Words.{lexeme_of};
+ghost use Rattle.mc_grammar.specs.Places as places;
 ghost use Rattle.mc_grammar.specs.Places.{name_at};
 ghost use Rattle.mc_reading.specs.Lists.{comma_list, listed};
 ghost use Rattle.mc_reading.specs.Specifiers as spec;
@@ -13,6 +15,7 @@ ghost use Rattle.mc_cursor.specs.Short.{IsShort};
 ghost use Rattle.mc_descent.specs.Given.{GivesPart, IsHigh, specifiers_of, tree_of};
 ghost use Rattle.mc_descent.specs.Parts as view;
 
+use crate::accept::{accept, accept_name};
 use crate::grammar::Grammar;
 use crate::grammar::makers::end_of_specifiers;
 use crate::grammar::parts::PartReader;
@@ -63,22 +66,20 @@ fn length_end<'a>(
     })
 }
 
-/// A declarator of a function without parameters, from the parenthesis that closes its list on.
+/// A declarator of a function whose parentheses, at this place, have nothing between them.
 #[inline(never)]
 fn empty_function<'a>(
     alloc: Global,
     start: Span,
     stars: u32,
     name: &Token<'a>,
-    list_start: Span,
-    tokens: &mut Cursor<'_, 'a>,
+    list_span: Span,
 ) -> Result<Box<Declarator<'a>>, Fault>
     requires short { IsShort name.now }
-    ensures { Gives view.boxed_declarator
-        (view.empty_function start stars (name_at (lexeme_of (tok_of name.now))) list_start
-        (left_of tokens.old)) result (left_of tokens.new) }
+    ensures { view.IsMade view.boxed_declarator
+        (t.function stars (name_at (lexeme_of (tok_of name.now))) (t.Empty list_span)
+        (places.to start list_span)) result }
 {
-    let list_span = to(list_start, place(tokens.take()?));
     on_heap(
         alloc,
         Declarator::EmptyFunction {
@@ -261,10 +262,10 @@ impl<'a, P: PartReader<'a>> Grammar<P> {
         ensures low { IfOk result (λ _. tallest.new ≤ self.now.room - 1) }
     {
         let stars = stars(end_of_specifiers(start, &read.all), tokens)?;
-        if !tokens.sees_name() {
+        let Some(name) = accept_name(tokens) else {
             return self.parameter_after(start, read, stars.count, None, stars.end, tokens, tallest);
-        }
-        let name = identifier(tokens.take()?);
+        };
+        let name = identifier(name);
         self.parameter_after(
             start,
             read,
@@ -315,10 +316,9 @@ impl<'a, P: PartReader<'a>> Grammar<P> {
         for _turn in 0..tokens.turns() {
             let one = self.parameter(tokens, tallest)?;
             push_boxed(&mut all, one)?;
-            if !tokens.sees(b",") {
+            let Some(_) = accept(tokens, b",") else {
                 return Ok(all);
-            }
-            tokens.take()?;
+            };
         }
         Err(Fault::Syntax)
     }
@@ -345,8 +345,8 @@ impl<'a, P: PartReader<'a>> Grammar<P> {
         ensures low { IfOk result (λ _. tallest.new ≤ self.now.room - 1) }
     {
         let open = place(tokens.expect(b"(")?);
-        if tokens.sees(b")") {
-            return empty_function(self.alloc, start, stars, name, open, tokens);
+        if let Some(close) = accept(tokens, b")") {
+            return empty_function(self.alloc, start, stars, name, to(open, place(close)));
         }
         if tokens.sees_void_alone() {
             return void_function(self.alloc, start, stars, name, open, tokens);

@@ -13,6 +13,7 @@ ghost use Rattle.mc_cursor.specs.Short.{IsShort};
 ghost use Rattle.mc_descent.specs.Given.{GivesPart, specifiers_of, tree_of};
 ghost use Rattle.mc_descent.specs.Parts as view;
 
+use crate::accept::accept;
 use crate::grammar::Grammar;
 use crate::grammar::parts::PartReader;
 use crate::read::{Read, ReadSpecifiers};
@@ -110,10 +111,9 @@ impl<'a, P: PartReader<'a>> Grammar<P> {
         for _turn in 0..tokens.turns() {
             let one = self.declarator(tokens, tallest)?;
             push_boxed(&mut all, one)?;
-            if !tokens.sees(b",") {
+            let Some(_) = accept(tokens, b",") else {
                 return Ok(all);
-            }
-            tokens.take()?;
+            };
         }
         Err(Fault::Syntax)
     }
@@ -182,10 +182,9 @@ impl<'a, P: PartReader<'a>> Grammar<P> {
         ensures low { IfOk result (λ _. tallest.new ≤ self.now.room - 1) }
     {
         let name = tokens.expect_name()?;
-        if !tokens.sees(b"=") {
+        let Some(_) = accept(tokens, b"=") else {
             return bare_enumerator(self.alloc, name);
-        }
-        tokens.take()?;
+        };
         let value = self.part(Rule::Cond, tokens)?;
         valued_enumerator(self.alloc, name, value, tallest)
     }
@@ -210,10 +209,9 @@ impl<'a, P: PartReader<'a>> Grammar<P> {
         for _turn in 0..tokens.turns() {
             let one = self.enumerator(tokens, tallest)?;
             push_boxed(&mut all, one)?;
-            if !tokens.sees(b",") {
+            let Some(_) = accept(tokens, b",") else {
                 return Ok(all);
-            }
-            tokens.take()?;
+            };
             if tokens.sees(b"}") {
                 return Ok(all);
             }

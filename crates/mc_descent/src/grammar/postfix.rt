@@ -7,6 +7,7 @@ ghost use Rattle.mc_cursor.specs.Cursors.{left_of};
 ghost use Rattle.mc_descent.specs.Given.{GivesTree, IsHigh, tree_of};
 ghost use Rattle.mc_descent.specs.Parts as view;
 
+use crate::accept::accept;
 use crate::grammar::Grammar;
 use crate::grammar::makers::boxed;
 use crate::grammar::operators::{sees_suffix, step_operator};
@@ -48,7 +49,7 @@ fn index_end<'a>(
     boxed(alloc, tree, array_height.max(height) + 1)
 }
 
-/// A member's name, after its object.
+/// A member's name, after its object and the point.
 #[inline(never)]
 fn member<'a>(
     alloc: Global,
@@ -57,11 +58,10 @@ fn member<'a>(
 ) -> Result<Read<'a>, Fault>
     requires small { object.height ≤ 1000 }
     requires high { IsHigh object }
-    ensures tree { GivesTree (spec.member_of (tree_of object.entry) (left_of tokens.old)) result
+    ensures tree { GivesTree (view.member_after (tree_of object.entry) (left_of tokens.old)) result
         (left_of tokens.new) }
     ensures height { IfOk result (λ r. r.height ≡ object.entry.height + 1) }
 {
-    tokens.take()?;
     let name = identifier(tokens.expect_name()?);
     let span = to(object.tree.span(), name.span);
     let height = object.height + 1;
@@ -100,17 +100,16 @@ fn postfix_step<'a>(
 }
 
 impl<'a, P: PartReader<'a>> Grammar<P> {
-    /// An index, after the array.
+    /// An index, after the array and the first bracket.
     #[inline(never)]
     fn index(&self, array: Read<'a>, tokens: &mut Cursor<'_, 'a>) -> Result<Read<'a>, Fault>
         requires room { (self.now.room ≤ 1000) × (array.height + 1 ≤ self.now.room) }
         requires nests { P.nests self.now.parts self.now.room }
         requires high { IsHigh array }
-        ensures tree { GivesTree (spec.index_of (reading self.now.room) (tree_of array.entry)
+        ensures tree { GivesTree (view.index_after (reading self.now.room) (tree_of array.entry)
             (left_of tokens.old)) result (left_of tokens.new) }
         ensures height { IfOk result (λ r. r.height ≤ self.now.room) }
     {
-        tokens.take()?;
         let index = self.part(Rule::Comma, tokens)?;
         index_end(self.alloc, array, index, tokens)
     }
@@ -130,10 +129,10 @@ impl<'a, P: PartReader<'a>> Grammar<P> {
         if base.is_too_high(self.room) {
             return Err(Fault::Syntax);
         }
-        if tokens.sees(b"[") {
+        if let Some(_) = accept(tokens, b"[") {
             return self.index(base, tokens);
         }
-        if tokens.sees(b".") {
+        if let Some(_) = accept(tokens, b".") {
             return member(self.alloc, base, tokens);
         }
         match step_operator(tokens) {

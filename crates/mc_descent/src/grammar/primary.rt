@@ -13,6 +13,7 @@ ghost use Rattle.mc_cursor.specs.Short.{IsShort};
 ghost use Rattle.mc_descent.specs.Given.{GivesMade, GivesMore, GivesTree, IsAllHigh, IsHigh, tree_of, trees_of};
 ghost use Rattle.mc_descent.specs.Parts as view;
 
+use crate::accept::accept;
 use crate::grammar::Grammar;
 use crate::grammar::makers::boxed;
 use crate::grammar::parts::PartReader;
@@ -175,10 +176,9 @@ impl<'a, P: PartReader<'a>> Grammar<P> {
         for _turn in 0..tokens.turns() {
             let one = self.part(Rule::Assign, tokens)?;
             all.push(one)?;
-            if !tokens.sees(b",") {
+            let Some(_) = accept(tokens, b",") else {
                 return Ok(());
-            }
-            tokens.take()?;
+            };
         }
         Err(Fault::Syntax)
     }
@@ -213,11 +213,9 @@ impl<'a, P: PartReader<'a>> Grammar<P> {
         ensures height { IfOk result (λ r. r.height ≤ self.now.room) }
     {
         let name = tokens.take()?;
-        if tokens.sees(b"(") {
-            tokens.take()?;
-            self.arguments(name, tokens)
-        } else {
-            made_name(self.alloc, name)
+        match accept(tokens, b"(") {
+            Some(_) => self.arguments(name, tokens),
+            None => made_name(self.alloc, name),
         }
     }
 

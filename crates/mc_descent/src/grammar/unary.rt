@@ -20,6 +20,7 @@ ghost use Rattle.mc_descent.specs.Given.{
 };
 ghost use Rattle.mc_descent.specs.Parts as view;
 
+use crate::accept::accept;
 use crate::grammar::Grammar;
 use crate::grammar::makers::{boxed, end_of_specifiers};
 use crate::grammar::operators::{step_operator, unary_operator};
@@ -43,10 +44,10 @@ pub fn stars(before: Span, tokens: &mut Cursor<'_, '_>) -> Result<ReadStars, Fau
     let mut count = 0u32;
     let mut end = before;
     for _turn in 0..tokens.turns() {
-        if !tokens.sees(b"*") {
+        let Some(star) = accept(tokens, b"*") else {
             return Ok(ReadStars { count, end });
-        }
-        end = place(tokens.take()?);
+        };
+        end = place(star);
         count += 1;
     }
     Err(Fault::Syntax)

@@ -11,14 +11,6 @@ pub returns-in_err-one-2 : goal.returns-in_err-one-2
 unfolding init_declarator_of
 returns-in_err-one-2 c = grind (arith, expressions_steps)
 
-pub returns-then-not-sees : goal.returns-then-not-sees
-unfolding init_declarator_of
-returns-then-not-sees c = grind (arith, expressions_steps)
-
-pub returns-in_err-take : goal.returns-in_err-take
-unfolding init_declarator_of
-returns-in_err-take c = grind (arith, expressions_steps)
-
 pub loop-turn-preserved : goal.loop-turn-preserved
 unfolding init_declarator_of
 loop-turn-preserved c = grind (arith, expressions_steps)

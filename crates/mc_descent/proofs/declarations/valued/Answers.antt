@@ -10,14 +10,6 @@ pub returns-in_err-declare : goal.returns-in_err-declare
 unfolding valued_of
 returns-in_err-declare c = grind (arith)
 
-pub returns-in_err-take : goal.returns-in_err-take
-unfolding valued_of
-returns-in_err-take c = grind (arith)
-
 pub returns-in_err-value : goal.returns-in_err-value
 unfolding valued_of
 returns-in_err-value c = grind (arith)
-
-pub returns-then-not-sees : goal.returns-then-not-sees
-unfolding valued_of
-returns-then-not-sees c = grind (arith)

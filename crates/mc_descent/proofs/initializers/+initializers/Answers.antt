@@ -6,12 +6,6 @@ use Rattle.mc_descent.proofs.initializers.+initializers.Goals as goal
 pub initializers-returns-in_err-one : goal.initializers-returns-in_err-one
 initializers-returns-in_err-one t c = grind (arith, braced_steps)
 
-pub initializers-returns-then-not-sees : goal.initializers-returns-then-not-sees
-initializers-returns-then-not-sees t c = grind (arith, braced_steps)
-
-pub initializers-returns-in_err-take : goal.initializers-returns-in_err-take
-initializers-returns-in_err-take t c = grind (arith, braced_steps)
-
 pub initializers-returns-then-sees : goal.initializers-returns-then-sees
 initializers-returns-then-sees t c = grind (arith, braced_steps)
 
@@ -24,14 +18,8 @@ initializers-returns t c = grind (arith, braced_steps)
 pub initializer-returns : goal.initializer-returns
 initializer-returns t c = grind (arith, initializer_steps)
 
-pub initializer-returns-in_err-first : goal.initializer-returns-in_err-first
-initializer-returns-in_err-first t c = grind (arith, initializer_steps)
-
 pub initializer-returns-in_err-items : goal.initializer-returns-in_err-items
 initializer-returns-in_err-items t c = grind (arith, initializer_steps)
 
 pub initializer-returns-in_err-last : goal.initializer-returns-in_err-last
 initializer-returns-in_err-last t c = grind (arith, initializer_steps)
-
-pub initializer-returns-then-not-sees : goal.initializer-returns-then-not-sees
-initializer-returns-then-not-sees t c = grind (arith, initializer_steps)

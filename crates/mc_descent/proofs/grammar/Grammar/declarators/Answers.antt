@@ -5,12 +5,6 @@ use Rattle.mc_descent.proofs.grammar.Grammar.declarators.Goals as goal
 pub returns-in_err-one-clause-declarators : goal.returns-in_err-one-clause-declarators
 returns-in_err-one-clause-declarators g c = grind (arith, declarators_steps)
 
-pub returns-then-not-sees-clause-declarators : goal.returns-then-not-sees-clause-declarators
-returns-then-not-sees-clause-declarators g c = grind (arith, declarators_steps)
-
-pub returns-in_err-take-clause-declarators : goal.returns-in_err-take-clause-declarators
-returns-in_err-take-clause-declarators g c = grind (arith, declarators_steps)
-
 pub loop-turn-preserved : goal.loop-turn-preserved
 loop-turn-preserved g c = grind (arith, declarators_steps)
 

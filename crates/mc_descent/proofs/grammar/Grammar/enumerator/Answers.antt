@@ -10,14 +10,6 @@ pub returns-in_err-name-clause-enumerator : goal.returns-in_err-name-clause-enum
 unfolding enumerator_of
 returns-in_err-name-clause-enumerator g c = grind (arith)
 
-pub returns-in_err-take-clause-enumerator : goal.returns-in_err-take-clause-enumerator
-unfolding enumerator_of
-returns-in_err-take-clause-enumerator g c = grind (arith)
-
 pub returns-in_err-value-clause-enumerator : goal.returns-in_err-value-clause-enumerator
 unfolding enumerator_of
 returns-in_err-value-clause-enumerator g c = grind (arith)
-
-pub returns-then-not-sees-clause-enumerator : goal.returns-then-not-sees-clause-enumerator
-unfolding enumerator_of
-returns-then-not-sees-clause-enumerator g c = grind (arith)

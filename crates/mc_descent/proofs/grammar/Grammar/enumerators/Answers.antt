@@ -5,12 +5,6 @@ use Rattle.mc_descent.proofs.grammar.Grammar.enumerators.Goals as goal
 pub returns-in_err-one-clause-enumerators : goal.returns-in_err-one-clause-enumerators
 returns-in_err-one-clause-enumerators g c = grind (arith, enumerators_steps)
 
-pub returns-then-not-sees-clause-enumerators : goal.returns-then-not-sees-clause-enumerators
-returns-then-not-sees-clause-enumerators g c = grind (arith, enumerators_steps)
-
-pub returns-in_err-take-clause-enumerators : goal.returns-in_err-take-clause-enumerators
-returns-in_err-take-clause-enumerators g c = grind (arith, enumerators_steps)
-
 pub returns-then-sees-clause-enumerators : goal.returns-then-sees-clause-enumerators
 returns-then-sees-clause-enumerators g c = grind (arith, enumerators_steps)
 

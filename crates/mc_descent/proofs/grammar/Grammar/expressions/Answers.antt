@@ -5,12 +5,6 @@ use Rattle.mc_descent.proofs.grammar.Grammar.expressions.Goals as goal
 pub returns-in_err-one-clause-all : goal.returns-in_err-one-clause-all
 returns-in_err-one-clause-all g c = grind (arith, expressions_steps)
 
-pub returns-then-not-sees-clause-all : goal.returns-then-not-sees-clause-all
-returns-then-not-sees-clause-all g c = grind (arith, expressions_steps)
-
-pub returns-in_err-take-clause-all : goal.returns-in_err-take-clause-all
-returns-in_err-take-clause-all g c = grind (arith, expressions_steps)
-
 pub loop-turn-preserved : goal.loop-turn-preserved
 loop-turn-preserved g c = grind (arith, expressions_steps)
 

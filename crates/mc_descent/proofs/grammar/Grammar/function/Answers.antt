@@ -14,9 +14,9 @@ pub returns-in_err-parameters-clause-declarator : goal.returns-in_err-parameters
 unfolding parameters_of
 returns-in_err-parameters-clause-declarator g c = grind (arith)
 
-pub returns-then-sees-clause-declarator : goal.returns-then-sees-clause-declarator
+pub returns-in-Some-clause-declarator : goal.returns-in-Some-clause-declarator
 unfolding parameters_of
-returns-then-sees-clause-declarator g c = grind (arith)
+returns-in-Some-clause-declarator g c = grind (arith)
 
 pub returns-then-sees_void_alone-clause-declarator : goal.returns-then-sees_void_alone-clause-declarator
 unfolding parameters_of

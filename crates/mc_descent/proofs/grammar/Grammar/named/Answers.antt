@@ -2,18 +2,14 @@ use Rattle.std.proofs.Common.{arith}
 use Rattle.mc_reading.specs.Expressions.{named_of}
 use Rattle.mc_descent.proofs.grammar.Grammar.named.Goals as goal
 
-pub returns-else-sees-clause-tree : goal.returns-else-sees-clause-tree
+pub returns-in-None-clause-tree : goal.returns-in-None-clause-tree
 unfolding named_of
-returns-else-sees-clause-tree g c = grind (arith)
+returns-in-None-clause-tree g c = grind (arith)
 
 pub returns-in_err-name-clause-tree : goal.returns-in_err-name-clause-tree
 unfolding named_of
 returns-in_err-name-clause-tree g c = grind (arith)
 
-pub returns-in_err-take-clause-tree : goal.returns-in_err-take-clause-tree
+pub returns-in-Some-clause-tree : goal.returns-in-Some-clause-tree
 unfolding named_of
-returns-in_err-take-clause-tree g c = grind (arith)
-
-pub returns-in_ok-take-clause-tree : goal.returns-in_ok-take-clause-tree
-unfolding named_of
-returns-in_ok-take-clause-tree g c = grind (arith)
+returns-in-Some-clause-tree g c = grind (arith)

@@ -5,12 +5,6 @@ use Rattle.mc_descent.proofs.grammar.Grammar.parameters.Goals as goal
 pub returns-in_err-one-clause-parameters : goal.returns-in_err-one-clause-parameters
 returns-in_err-one-clause-parameters g c = grind (arith, parameters_steps)
 
-pub returns-then-not-sees-clause-parameters : goal.returns-then-not-sees-clause-parameters
-returns-then-not-sees-clause-parameters g c = grind (arith, parameters_steps)
-
-pub returns-in_err-take-clause-parameters : goal.returns-in_err-take-clause-parameters
-returns-in_err-take-clause-parameters g c = grind (arith, parameters_steps)
-
 pub loop-turn-preserved : goal.loop-turn-preserved
 loop-turn-preserved g c = grind (arith, parameters_steps)
 

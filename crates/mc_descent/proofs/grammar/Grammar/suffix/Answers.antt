@@ -6,18 +6,10 @@ pub returns-clause-tree : goal.returns-clause-tree
 unfolding suffix_of
 returns-clause-tree g c = grind (arith)
 
-pub returns-in-Some-clause-tree : goal.returns-in-Some-clause-tree
-unfolding suffix_of
-returns-in-Some-clause-tree g c = grind (arith)
-
 pub returns-then-is_too_high-clause-tree : goal.returns-then-is_too_high-clause-tree
 unfolding suffix_of
 returns-then-is_too_high-clause-tree g c = grind (arith)
 
-pub returns-then-sees-2-clause-tree : goal.returns-then-sees-2-clause-tree
+pub returns-in-Some-clause-tree : goal.returns-in-Some-clause-tree
 unfolding suffix_of
-returns-then-sees-2-clause-tree g c = grind (arith)
-
-pub returns-then-sees-clause-tree : goal.returns-then-sees-clause-tree
-unfolding suffix_of
-returns-then-sees-clause-tree g c = grind (arith)
+returns-in-Some-clause-tree g c = grind (arith)
