@@ -388,13 +388,18 @@ fn odd_row<'x>(
     Ok(None)
 }
 
+/// Each table, and the texts between which its rows stand.
+static TABLES: [(&str, &str, &str); 4] = [
+    (EXPRESSIONS, "int f(int a){", ";}"),
+    (STATEMENTS, "int f(int a){", "}"),
+    (SOURCES, "", ""),
+    (SPECIFIERS, "", ""),
+];
+
 #[test]
 fn productions(rt: HostRuntime) -> Result<(), Fail> {
-    let alloc = rt.alloc();
-    let before = "int f(int a){";
-    assert_eq!(rt; odd_row(alloc, EXPRESSIONS, before, ";}")?, None);
-    assert_eq!(rt; odd_row(alloc, STATEMENTS, before, "}")?, None);
-    assert_eq!(rt; odd_row(alloc, SOURCES, "", "")?, None);
-    assert_eq!(rt; odd_row(alloc, SPECIFIERS, "", "")?, None);
+    for (table, before, after) in &TABLES {
+        assert_eq!(rt; odd_row(rt.alloc(), *table, *before, *after)?, None);
+    }
     Ok(())
 }

@@ -239,15 +239,19 @@ fn is_list(alloc: Global, source: &[u8], texts: &[u8], kinds: &[u8]) -> bool {
     same
 }
 
+/// Whether the source is refused with these words at this byte.
+fn is_refused(alloc: Global, source: &[u8], at: u32, words: &str) -> bool {
+    match fault_of(alloc, source) {
+        Some(fault) => fault.at() == Some(at) && fault.words() == words,
+        None => false,
+    }
+}
+
 #[test]
 fn refuses(rt: HostRuntime) {
     let mut row = 0u32;
     for (source, at, words) in &REFUSED {
-        let fault = fault_of(rt.alloc(), *source);
-        assert!(rt;
-            fault.is_some_and(|fault| fault.at() == Some(*at) && fault.words() == *words),
-            "row {row}"
-        );
+        assert!(rt; is_refused(rt.alloc(), *source, *at, *words), "row {row}");
         row = row.wrapping_add(1);
     }
 }
