@@ -15,8 +15,10 @@ pub mod Rests
 pub mod Doings
 pub mod Initial
 pub mod Sequences
+pub mod Performing
 pub mod Equations
 pub mod Bodies
+pub mod Fronts
 pub mod Runnings
 pub mod Turnings
 pub mod Spent
@@ -27,9 +29,11 @@ pub mod Opened
 pub mod Entering
 pub mod Callings
 pub mod BodyShapes
+pub mod Erasings
 pub mod Endings
 pub mod Exits
 pub mod Finishing
 pub mod Starting
 pub mod Passes
 pub mod Machines
+pub mod Asking

@@ -27,7 +27,7 @@ use Rattle.mc_probe.proofs.ErasedPrograms.{programs_erase}
 use Rattle.mc_interp.specs.declared.call_done.CallDone as code
 use Rattle.mc_interp.specs.declared.store.Store.{Store}
 use Rattle.mc_interp.specs.declared.values.Shape.{Shape}
-use Rattle.mc_interp.specs.Frames.{most_registers, shape_of}
+use Rattle.mc_interp.specs.Frames.{most_registers, shape_of, taken_of}
 use Rattle.mc_interp.specs.Machines.{initial_of, ran_of, state_at, AreFramed, AreReady, HasRoom, Machine, RanTo}
 use Rattle.mc_interp.specs.Stores.{limits_of, state_of}
 use Rattle.mc_interp.specs.Typed.{HasTypes}
@@ -66,10 +66,10 @@ calls_fit i calls h = subst (CallsFit calls) (programs_erase i.program) h
 
 -- the room of a new machine
 pub new_room : (i : Instrumented) (fs : List code_function.Function) (all : List Shape) (m : Store) (calls : Room code.CallDone) (most : ℕ) →
-    fs ≡ i.program.functions → all ≡ map shape_of (map plain.function_of fs) → most ≡ most_registers (map view.function_of fs) → most < 2 ^ 32 →
+    fs ≡ i.program.functions → map taken_of all ≡ map shape_of fs → most ≡ most_registers (map view.function_of fs) → most < 2 ^ 32 →
     m.cells.limit ≡ 65536 → m.registers.limit ≡ 512 * most → m.inputs.limit ≡ 4096 → m.output.limit ≡ 4096 → calls.limit ≡ 1024 → HasRoom i all m calls
 new_room i fs all m calls most e a is small x r y z d = record {
-  shapes = a ∙ ap (λ (l : List code_function.Function). map shape_of (map plain.function_of l)) e;
+  shapes = a ∙ ap (λ (l : List code_function.Function). map shape_of l) e;
   cells = x;
   registers = omega (arith, r, is, ap (λ (l : List code_function.Function). most_registers (map view.function_of l)) e);
   registers_small = omega (arith, r, small);

@@ -10,10 +10,12 @@ use Rattle.mc_typed.specs.declared.functions.Function as code_function
 use Rattle.mc_typed.specs.Tree.{ParameterType, ResultType}
 use Rattle.mc_typed.specs.Tree as t
 use Rattle.mc_typed.specs.Frames.{frame_of}
-use Rattle.mc_typed.specs.Sound.{IsFunction, parameters_at, result_at, values_of}
+use Rattle.mc_typed.specs.Sound.{Around, AreStatements, IsFunction, Scope, parameters_at, result_at, values_of}
 use Rattle.mc_typed.specs.Views as plain
 use Rattle.mc_cells.specs.Rows.{Row}
 use Rattle.mc_steps.specs.Calls as steps
+use Rattle.mc_probe.proofs.ErasedPrograms.{function_erases}
+use Rattle.mc_probe.specs.Erase.{erase_statements}
 use Rattle.mc_probe.specs.Trees.{Instrumented}
 use Rattle.mc_probe.specs.Views as view
 use Rattle.mc_probe.specs.WellFormed.{FitFunctions, FitStatements}
@@ -23,13 +25,17 @@ use Rattle.mc_interp.specs.declared.frame.Called.{Called}
 use Rattle.mc_interp.specs.declared.values.Given.{Given}
 use Rattle.mc_interp.specs.declared.values.Passed.{Passed}
 use Rattle.mc_interp.specs.declared.values.Shape.{Shape}
+use Rattle.mc_interp.specs.declared.prepared.statements.Prepared.{Prepared}
+use Rattle.mc_interp.specs.Bodies.{AreAnyStatements}
 use Rattle.mc_interp.specs.Stores.{lent_of, limits_of, passed_of}
 use Rattle.mc_interp.specs.Typed.{AreTyped, HasTypes, IsLent, Stands}
-use Rattle.mc_interp.specs.Frames.{activation_of, most_in, most_registers, scope_in, shape_of, shapes_of, IsReady}
+use Rattle.mc_interp.specs.Frames.{activation_of, most_in, most_registers, scope_in, shape_of, shapes_of, taken_of, IsReady, Taken}
 use Rattle.mc_interp.specs.Calls.{callee_of, ArePassed, AreGiven, CallKeeps, IsCalled, IsInto, IsResultOf}
+use Rattle.mc_interp.specs.Views as prepared
 use Rattle.mc_interp.specs.Entries.{HasEntered, HasLeft, IntoRoom, IsPassing, StandAll}
 use Rattle.mc_interp.proofs.Placed.{none_some, some_eq}
 use Rattle.mc_interp.proofs.Arguments.{few_parameters}
+use Rattle.mc_interp.proofs.Equations.{any_statements}
 use Rattle.mc_interp.proofs.Entered.{unset, frame_types, length_frame, stands_before, all_passed_before, into_before, typed_grown, objects_stand, parameters_stand, frame_from, arrays_lent}
 
 -- ---- limits
@@ -74,13 +80,23 @@ fit_at [] k f e h = none_some f e
 fit_at (g ∷ fs) zero f e h = subst (λ (f : code_function.Function). FitStatements f.registers (view.function_of f).body) (some_eq g f e) h.0
 fit_at (g ∷ fs) (suc k) f e h = fit_at fs k f e h.1
 
-pub shape_is : (i : Instrumented) (all : List Shape) (k : ℕ) (f : code_function.Function) (x : Shape) → all ≡ shapes_of i →
-    slice_get i.program.functions k ≡ Some f → slice_get all k ≡ Some x → x ≡ shape_of (plain.function_of f)
+pub shape_is : (i : Instrumented) (all : List Shape) (k : ℕ) (f : code_function.Function) (x : Shape) → map taken_of all ≡ shapes_of i →
+    slice_get i.program.functions k ≡ Some f → slice_get all k ≡ Some x → taken_of x ≡ shape_of f
 shape_is i all k f x e there at =
-    sym (some_eq (shape_of (plain.function_of f)) x
-    (sym (slice_get-map shape_of (map plain.function_of i.program.functions) k
-    ∙ ap (option_map shape_of) (slice_get-map plain.function_of i.program.functions k ∙ ap (option_map plain.function_of) there))
-    ∙ ap (λ (l : List Shape). slice_get l k) (sym e) ∙ at))
+    some_eq (taken_of x) (shape_of f)
+    (sym (slice_get-map taken_of all k ∙ ap (option_map taken_of) at) ∙ ap (λ (l : List Taken). slice_get l k) e
+    ∙ slice_get-map shape_of i.program.functions k ∙ ap (option_map shape_of) there)
+
+-- the body that is run is the function's
+pub body_is : (i : Instrumented) (all : List Shape) (k : ℕ) (f : code_function.Function) (x : Shape) → map taken_of all ≡ shapes_of i →
+    slice_get i.program.functions k ≡ Some f → slice_get all k ≡ Some x → view.statements_from (map prepared.statement_of x.body.items) ≡ (view.function_of f).body
+body_is i all k f x e there at = ap (λ (t : Taken). t.body) (shape_is i all k f x e there at)
+
+pub body_sound : (f : code_function.Function) (items : List Prepared) (c : Scope) (w : Around) → view.statements_from (map prepared.statement_of items) ≡ (view.function_of f).body →
+    AreStatements (plain.function_of f).body c w → AreAnyStatements (erase_statements (view.statements_from (map prepared.statement_of items))) c
+body_sound f items c w e h =
+    subst (λ (b : t.Statements). AreAnyStatements b c) (sym (ap erase_statements e ∙ ap (λ (g : t.Function). g.body) (function_erases f)))
+    (any_statements (plain.function_of f).body c w h)
 
 -- the registers of an activation have room
 pub registers_room : (k : Called) (m : Store) (room : ℕ) (f : code_function.Function) → IsCalled k m room → 1 ≤ k.depth →

@@ -1,15 +1,16 @@
 -- Parts that follow each other: what was done, and what is still to come.
 use Rattle.std.proofs.Common.{◌≡◌, ℕ, ◌+◌, ◌-◌, ◌<◌, ◌≤◌, length, drop, get_or, pos, List, [], ◌∷◌, ◌++◌, map, refl, sym, ap, subst, ◌∙◌, arith, append_assoc, Option, Some, None}
 use Rattle.std.proofs.lemmas.List.{drop_more}
-use Rattle.mc_typed.specs.declared.effects.Effect.{Effect}
 use Rattle.mc_typed.specs.declared.initializers.Initializer.{Initializer}
 use Rattle.mc_typed.specs.declared.statements.Declarator.{Declarator}
 use Rattle.mc_typed.specs.Sound.{Scope, AreDeclarators}
+use Rattle.mc_typed.specs.Tree as t
 use Rattle.mc_typed.specs.Views as plain
 use Rattle.mc_steps.specs.Runs.{Run, Out, Gave, Stopped, Acts, changes, gives, after, stops, preceded, go_on}
 use Rattle.mc_steps.specs.Calls.{unset_does}
 use Rattle.mc_probe.specs.Flat.{Flat, Does, Activation, flat}
 use Rattle.mc_probe.specs.Statements as does
+use Rattle.mc_probe.specs.Tree as p
 use Rattle.mc_probe.specs.Views as view
 use Rattle.mc_probe.specs.WellFormed.{FitEffects, FitInitializers, FitDeclarators}
 use Rattle.mc_interp.specs.declared.store.Store.{Store}
@@ -99,41 +100,44 @@ module _ {P : Type 0} (bits : P → ℕ) (leads : List ℕ → P → P → Type 
 
 -- ---- effects
 
-pub record AreDoing {P : Type 0} (bits : P → ℕ) (leads : List ℕ → P → P → Type 0) (f : Frame) (all later : List Effect)
-    (old m : Store) (o q : P) : Type 0 where
-  pub on : IsOn bits leads f (does.effects_of (activation_of f) (map view.effect_of all) (state_of old))
-      (does.effects_of (activation_of f) (map view.effect_of later) (state_of m)) old m o q
-  pub sound : AreAnyEffects (map plain.effect_of later) (scope_in f)
-  pub fits : FitEffects f.function.now.registers (map view.effect_of later)
+-- `plainly` is what is left without its probes
+pub record AreDoing {P : Type 0} (bits : P → ℕ) (leads : List ℕ → P → P → Type 0) (f : Frame) (all : List p.Effect) (plainly : List t.Effect)
+    (later : List p.Effect) (old m : Store) (o q : P) : Type 0 where
+  pub on : IsOn bits leads f (does.effects_of (activation_of f) all (state_of old)) (does.effects_of (activation_of f) later (state_of m)) old m o q
+  pub sound : AreAnyEffects plainly (scope_in f)
+  pub fits : FitEffects f.function.now.registers later
 
 module _ {P : Type 0} (bits : P → ℕ) (leads : List ℕ → P → P → Type 0) (stays : (p : P) → leads [] p p)
-    (joins : (xs ys : List ℕ) (p q r : P) → leads xs p q → leads ys q r → leads (xs ++ ys) p r) (f : Frame) (all : List Effect) where
-  abbrev effects_run : List Effect → Does (Unit {0})
-  effects_run later s = does.effects_of (activation_of f) (map view.effect_of later) s
+    (joins : (xs ys : List ℕ) (p q r : P) → leads xs p q → leads ys q r → leads (xs ++ ys) p r) (f : Frame) (all : List p.Effect) where
+  abbrev effects_run : List p.Effect → Does (Unit {0})
+  effects_run later s = does.effects_of (activation_of f) later s
 
-  abbrev effect_run : Effect → Does (Unit {0})
-  effect_run e s = does.effect_of (activation_of f) (view.effect_of e) s
+  abbrev effect_run : p.Effect → Does (Unit {0})
+  effect_run e s = does.effect_of (activation_of f) e s
 
-  pub doing_start : (m : Store) (o : P) → IsReady f m (bits o) → AreAnyEffects (map plain.effect_of all) (scope_in f) →
-      FitEffects f.function.now.registers (map view.effect_of all) → AreDoing bits leads f all all m m o o
-  doing_start m o r s h = record { on = starts bits leads stays f (effects_run all (state_of m)) m o r; sound = s; fits = h }
+  pub doing_start : (plainly : List t.Effect) (m : Store) (o : P) → IsReady f m (bits o) → AreAnyEffects plainly (scope_in f) →
+      FitEffects f.function.now.registers all → AreDoing bits leads f all plainly all m m o o
+  doing_start plainly m o r s h = record { on = starts bits leads stays f (effects_run all (state_of m)) m o r; sound = s; fits = h }
 
-  pub doing_step : (later : List Effect) (e : Effect) (old m n : Store) (o q r : P) → AreDoing bits leads f all (e ∷ later) old m o q →
+  pub doing_step : (a : t.Effect) (plainly : List t.Effect) (e : p.Effect) (later : List p.Effect) (old m n : Store) (o q r : P) →
+      AreDoing bits leads f all (a ∷ plainly) (e ∷ later) old m o q →
       Did leads (effect_run e (state_of m)) (Some tt) n q r → IsKept (scope_in f) (activation_of f) m n → bits r ≡ bits q →
-      limits_of n ≡ limits_of m → AreDoing bits leads f all later old n o r
-  doing_step later e old m n o q r h d k b l = record {
+      limits_of n ≡ limits_of m → AreDoing bits leads f all plainly later old n o r
+  doing_step a plainly e later old m n o q r h d k b l = record {
     on = goes_on bits leads stays joins f (effects_run all (state_of old)) (effect_run e) (effects_run later) old m n o q r h.on d k b l;
     sound = h.sound.1;
     fits = h.fits.1;
   }
 
-  pub doing_end : (later : List Effect) (e : Effect) (old m n : Store) (o q r : P) → AreDoing bits leads f all (e ∷ later) old m o q →
+  pub doing_end : (a : t.Effect) (plainly : List t.Effect) (e : p.Effect) (later : List p.Effect) (old m n : Store) (o q r : P) →
+      AreDoing bits leads f all (a ∷ plainly) (e ∷ later) old m o q →
       Did leads (effect_run e (state_of m)) None n q r → Did leads (effects_run all (state_of old)) None n o r
-  doing_end later e old m n o q r h d =
+  doing_end a plainly e later old m n o q r h d =
       ends bits leads stays joins f (effects_run all (state_of old)) (effect_run e) (effects_run later) old m n o q r h.on d
 
-  pub doing_done : (old m : Store) (o q : P) → AreDoing bits leads f all [] old m o q → Did leads (effects_run all (state_of old)) (Some tt) m o q
-  doing_done old m o q h = done bits leads stays f (effects_run all (state_of old)) old m o q h.on
+  pub doing_done : (plainly : List t.Effect) (old m : Store) (o q : P) → AreDoing bits leads f all plainly [] old m o q →
+      Did leads (effects_run all (state_of old)) (Some tt) m o q
+  doing_done plainly old m o q h = done bits leads stays f (effects_run all (state_of old)) old m o q h.on
 
 -- ---- items
 

@@ -1,17 +1,18 @@
 -- The loops of the code: what is still to come of them.
 use Rattle.std.proofs.Common.{◌≡◌, ℕ, zero, suc, ◌+◌, ◌≤◌, ◌<◌, Bool, List, [], ◌∷◌, ◌++◌, length, get_or, drop, map, refl, sym, ap, subst, ◌∙◌, arith, Option, Some, None}
 use Rattle.std.proofs.lemmas.List.{at_drop_more, at_drop_all}
-use Rattle.mc_typed.specs.declared.statements.Statement.{Statement}
-use Rattle.mc_typed.specs.Views as plain
 use Rattle.mc_steps.specs.Statements.{Flow, Completed, Seek, loop_does, turns}
+use Rattle.mc_probe.specs.Erase.{erase_statements}
 use Rattle.mc_probe.specs.Flat.{Does, Runs}
 use Rattle.mc_probe.specs.Statements.{statements_of}
 use Rattle.mc_probe.specs.Tree as p
 use Rattle.mc_probe.specs.Views as view
 use Rattle.mc_probe.specs.WellFormed.{FitStatements}
 use Rattle.mc_interp.specs.declared.flow.Seek as code_seek
+use Rattle.mc_interp.specs.declared.prepared.statements.Prepared.{Prepared}
 use Rattle.mc_interp.specs.declared.store.Store.{Store}
 use Rattle.mc_interp.specs.declared.frame.Frame.{Frame}
+use Rattle.mc_interp.specs.Views as prepared
 use Rattle.mc_interp.specs.Stores.{limits_of, state_of, Did}
 use Rattle.mc_interp.specs.Frames.{activation_of, scope_in, IsReady, IsKept}
 use Rattle.mc_interp.specs.Bodies.{Next, Item, End, item_of, seek_of, turn_of, AreAnyStatements}
@@ -71,10 +72,10 @@ module _ {P : Type 0} (bits : P → ℕ) (leads : List ℕ → P → P → Type 
         Did leads (turn_of T B S (state_of m)) None n q r → Did leads (loop_does T B S (state_of old)) None n o r
     turning_end old m n o q r h d = h.rest None n r (did_turns_end leads stays joins T B S (state_of m) h.units n q r d)
 
-  module _ (all : List Statement) (first : code_seek.Seek) where
+  module _ (all : List Prepared) (first : code_seek.Seek) where
     pub running_start : (m : Store) (o : P) → IsReady f m (bits o) →
-        AreAnyStatements (plain.statements_from (map plain.statement_of all)) (scope_in f) →
-        FitStatements f.function.now.registers (view.statements_from (map view.statement_of all)) → AreRunning bits leads f all all first first m m o o
+        AreAnyStatements (erase_statements (view.statements_from (map prepared.statement_of all))) (scope_in f) →
+        FitStatements f.function.now.registers (view.statements_from (map prepared.statement_of all)) → AreRunning bits leads f all all first first m m o o
     running_start m o r s h = record {
       ready = r;
       kept = kept_same (scope_in f) (activation_of f) m;
@@ -85,13 +86,13 @@ module _ {P : Type 0} (bits : P → ℕ) (leads : List ℕ → P → P → Type 
       rest = λ result new r d. d;
     }
 
-    module _ (later : List Statement) (u : Statement) (now : code_seek.Seek) (old m n : Store) (o q r : P)
+    module _ (later : List Prepared) (u : Prepared) (now : code_seek.Seek) (old m n : Store) (o q r : P)
         (h : AreRunning bits leads f all (u ∷ later) first now old m o q) where
       abbrev one : Seek → Does Next
-      one k s = item_of (activation_of f) (view.statement_of u) k s
+      one k s = item_of (activation_of f) (prepared.statement_of u) k s
 
       abbrev others : p.Statements
-      others = view.statements_from (map view.statement_of later)
+      others = view.statements_from (map prepared.statement_of later)
 
       pub running_step : (next : code_seek.Seek) → Did leads (one (seek_of now) (state_of m)) (Some (Item (seek_of next))) n q r →
           IsKept (scope_in f) (activation_of f) m n → bits r ≡ bits q → limits_of n ≡ limits_of m → AreRunning bits leads f all later first next old n o r
@@ -103,28 +104,28 @@ module _ {P : Type 0} (bits : P → ℕ) (leads : List ℕ → P → P → Type 
         sound = h.sound.1;
         fits = h.fits.1;
         rest = λ result new t g. h.rest result new t
-            (did_items leads stays joins (activation_of f) (view.statement_of u) others (seek_of now) (state_of m) (seek_of next) n new result q r t d g);
+            (did_items leads stays joins (activation_of f) (prepared.statement_of u) others (seek_of now) (state_of m) (seek_of next) n new result q r t d g);
       }
 
       pub running_out : (flow : Flow ℕ) → Did leads (one (seek_of now) (state_of m)) (Some (End flow)) n q r →
-          Did leads (statements_of (activation_of f) (view.statements_from (map view.statement_of all)) (seek_of first) (state_of old)) (Some flow) n o r
+          Did leads (statements_of (activation_of f) (view.statements_from (map prepared.statement_of all)) (seek_of first) (state_of old)) (Some flow) n o r
       running_out flow d = h.rest (Some flow) n r
-          (did_items_out leads stays joins (activation_of f) (view.statement_of u) others (seek_of now) (state_of m) flow n q r d)
+          (did_items_out leads stays joins (activation_of f) (prepared.statement_of u) others (seek_of now) (state_of m) flow n q r d)
 
       pub running_end : Did leads (one (seek_of now) (state_of m)) None n q r →
-          Did leads (statements_of (activation_of f) (view.statements_from (map view.statement_of all)) (seek_of first) (state_of old)) None n o r
+          Did leads (statements_of (activation_of f) (view.statements_from (map prepared.statement_of all)) (seek_of first) (state_of old)) None n o r
       running_end d = h.rest None n r
-          (did_items_end leads stays joins (activation_of f) (view.statement_of u) others (seek_of now) (state_of m) n q r d)
+          (did_items_end leads stays joins (activation_of f) (prepared.statement_of u) others (seek_of now) (state_of m) n q r d)
 
     -- the item of this turn, and the end
-    pub running_here : (i : ℕ) (u : Statement) (now : code_seek.Seek) (old m : Store) (o q : P) → i < length all → u ≡ get_or all i u →
+    pub running_here : (i : ℕ) (u : Prepared) (now : code_seek.Seek) (old m : Store) (o q : P) → i < length all → u ≡ get_or all i u →
         AreRunning bits leads f all (drop i all) first now old m o q → AreRunning bits leads f all (u ∷ drop (i + 1) all) first now old m o q
-    running_here i u now old m o q less is h = subst (λ (l : List Statement). AreRunning bits leads f all l first now old m o q) (drop_here all i u less is) h
+    running_here i u now old m o q less is h = subst (λ (l : List Prepared). AreRunning bits leads f all l first now old m o q) (drop_here all i u less is) h
 
     pub running_last : (i : ℕ) (now : code_seek.Seek) (old m : Store) (o q : P) → length all ≤ i →
         AreRunning bits leads f all (drop i all) first now old m o q → AreRunning bits leads f all [] first now old m o q
-    running_last i now old m o q more h = subst (λ (l : List Statement). AreRunning bits leads f all l first now old m o q) (drop_end all i more) h
+    running_last i now old m o q more h = subst (λ (l : List Prepared). AreRunning bits leads f all l first now old m o q) (drop_end all i more) h
 
     pub running_done : (now : code_seek.Seek) (old m : Store) (o q : P) → AreRunning bits leads f all [] first now old m o q →
-        Did leads (statements_of (activation_of f) (view.statements_from (map view.statement_of all)) (seek_of first) (state_of old)) (Some Completed) m o q
+        Did leads (statements_of (activation_of f) (view.statements_from (map prepared.statement_of all)) (seek_of first) (state_of old)) (Some Completed) m o q
     running_done now old m o q h = h.rest (Some Completed) m q (did_gives leads stays joins Completed m q)

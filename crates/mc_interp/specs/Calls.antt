@@ -3,7 +3,7 @@ use Rattle.std.specs.Prelude.{◌≡◌, ℕ, ◌+◌, ◌*◌, ◌≤◌, ◌<�
 use denote.Ref.{MutBor}
 use Rattle.mc_value.specs.declared.int_type.IntType.{IntType}
 use Rattle.mc_typed.specs.Layout.{Array, cells}
-use Rattle.mc_typed.specs.Tree.{ParameterType, ResultType, Function, Program}
+use Rattle.mc_typed.specs.Tree.{ParameterType, ResultType, Function}
 use Rattle.mc_typed.specs.Tree as t
 use Rattle.mc_typed.specs.Sound.{parameters_at, result_at, IsSound}
 use Rattle.mc_typed.specs.Views as plain
@@ -19,7 +19,7 @@ use Rattle.mc_interp.specs.declared.values.Given.{Given}
 use Rattle.mc_interp.specs.declared.values.Given.TheVariants as given
 use Rattle.mc_interp.specs.Stores.{limits_of, state_of, given_of, passed_of, Did}
 use Rattle.mc_interp.specs.Typed.{HasTypes, Stands}
-use Rattle.mc_interp.specs.Frames.{most_in, shapes_of}
+use Rattle.mc_interp.specs.Frames.{most_in, shapes_of, taken_of}
 
 -- an argument is one of its parameter's type
 abbrev pub IsPassed : List IntType → Passed → ParameterType → Type 0
@@ -63,7 +63,7 @@ pub record AreGiven (k : Called) (types : List IntType) : Type 0 where
 
 pub record IsCalled (k : Called) (m : Store) (room : ℕ) : Type 0 where
   pub sound : IsSound (plain.program_of k.program.now.program)
-  pub shapes : k.shapes.now ≡ shapes_of k.program.now
+  pub shapes : map taken_of k.shapes.now ≡ shapes_of k.program.now
   pub there : k.function < length k.program.now.program.functions
   pub limit : m.cells.limit ≡ 65536
   pub small : length m.cells.cells ≤ 65536

@@ -1,7 +1,6 @@
 -- An activation as it is kept, and what a part of its run asks for and keeps.
 use Rattle.std.specs.Prelude.{◌≡◌, ℕ, ◌+◌, ◌*◌, ◌≤◌, ◌^◌, max, List, [], ◌∷◌, length, map}
 use Rattle.mc_value.specs.declared.int_type.IntType.{IntType}
-use Rattle.mc_typed.specs.Tree as t
 use Rattle.mc_typed.specs.Frames.{frame_of}
 use Rattle.mc_typed.specs.Levels.{levels_of, limited}
 use Rattle.mc_typed.specs.Sound.{Scope, scope_of, IsFunction, IsSound}
@@ -13,6 +12,9 @@ use Rattle.mc_probe.specs.Tree as p
 use Rattle.mc_interp.specs.declared.store.Store.{Store}
 use Rattle.mc_interp.specs.declared.frame.Frame.{Frame}
 use Rattle.mc_interp.specs.declared.values.Shape.{Shape}
+use Rattle.mc_typed.specs.declared.functions.Function as code
+use Rattle.mc_interp.specs.Views as prepared
+use Rattle.mc_probe.specs.Views as view
 use Rattle.mc_interp.specs.Stores.{lent_of}
 use Rattle.mc_interp.specs.Typed.{HasTypes, AreTyped}
 
@@ -37,12 +39,28 @@ most_registers (f ∷ functions) = max f.registers (most_registers functions)
 abbrev pub most_in : Instrumented → ℕ
 most_in i = most_registers (tree_of i).program.functions
 
--- what an activation of a function takes
-abbrev pub shape_of : t.Function → Shape
-shape_of f = record { levels = limited (levels_of f); cells = frame_of f }
+-- what an activation of a function takes, and the body that it runs
+pub record Taken : Type 0 where
+  pub levels : ℕ
+  pub cells : ℕ
+  pub body : p.Statements
 
-abbrev pub shapes_of : Instrumented → List Shape
-shapes_of i = map shape_of (plain.program_of i.program).functions
+abbrev pub taken_of : Shape → Taken
+taken_of s = record {
+  levels = s.levels;
+  cells = s.cells;
+  body = view.statements_from (map prepared.statement_of s.body.items);
+}
+
+abbrev pub shape_of : code.Function → Taken
+shape_of f = record {
+  levels = limited (levels_of (plain.function_of f));
+  cells = frame_of (plain.function_of f);
+  body = (view.function_of f).body;
+}
+
+abbrev pub shapes_of : Instrumented → List Taken
+shapes_of i = map shape_of i.program.functions
 
 -- The program is sound and has the function. The rows have their limits, the activation's
 -- registers are there, those of as many activations as can still begin have room, and each cell
@@ -51,7 +69,7 @@ pub record IsReady (f : Frame) (m : Store) (room : ℕ) : Type 0 where
   pub sound : IsSound (plain.program_of f.program.now.program)
   pub whole : IsFunction (plain.program_of f.program.now.program)
       (plain.function_of f.function.now)
-  pub shapes : f.shapes.now ≡ shapes_of f.program.now
+  pub shapes : map taken_of f.shapes.now ≡ shapes_of f.program.now
   pub limit : m.cells.limit ≡ 65536
   pub small : length m.cells.cells ≤ 65536
   pub registers : f.first + f.function.now.registers ≤ length m.registers.items

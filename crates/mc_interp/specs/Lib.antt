@@ -1,3 +1,4 @@
+pub mod Views
 pub mod Stores
 pub mod Frames
 pub mod Typed

@@ -16,7 +16,7 @@ use Rattle.mc_interp.specs.declared.store.Store.{Store}
 use Rattle.mc_interp.specs.declared.values.Shape.{Shape}
 use Rattle.mc_interp.specs.Stores.{state_of}
 use Rattle.mc_interp.specs.Typed.{HasTypes, Stands}
-use Rattle.mc_interp.specs.Frames.{most_in, shapes_of}
+use Rattle.mc_interp.specs.Frames.{most_in, shapes_of, taken_of}
 use Rattle.mc_interp.specs.Calls.{statics_of}
 
 -- the program, and what the last run left: the calls that returned, the output and the fuel
@@ -47,7 +47,7 @@ ran_of program r = record {
 -- calls, and the registers of as many activations as 512 levels allow.
 pub record HasRoom (program : Instrumented) (all : List Shape) (m : Store)
     (calls : Room code.CallDone) : Type 0 where
-  pub shapes : all ≡ shapes_of program
+  pub shapes : map taken_of all ≡ shapes_of program
   pub cells : m.cells.limit ≡ 65536
   pub registers : 512 * most_in program ≤ m.registers.limit
   pub registers_small : m.registers.limit ≤ 2 ^ 42
@@ -79,7 +79,7 @@ GivesNumber _ = Unit {0}
 pub record AreReady (program : Instrumented) (all : List Shape) (m : Store)
     (room : ℕ) : Type 0 where
   pub sound : IsSound (plain.program_of program.program)
-  pub shapes : all ≡ shapes_of program
+  pub shapes : map taken_of all ≡ shapes_of program
   pub limit : m.cells.limit ≡ 65536
   pub small : length m.cells.cells ≤ 65536
   pub registers_fit : length m.registers.items + 512 * most_in program ≤ m.registers.limit

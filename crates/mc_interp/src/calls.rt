@@ -14,11 +14,13 @@ ghost use Rattle.mc_interp.specs.Calls.{callee_of, CallDid, CallKeeps, Invokes, 
 ghost use Rattle.mc_interp.specs.Entries.{inside_of, HasLeft, IntoRoom, IsOpened};
 ghost use Rattle.mc_interp.specs.Frames.{activation_of, scope_in, IsKept, IsReady};
 ghost use Rattle.mc_interp.specs.Stores.{given_of, lent_of, limits_of, passed_of, state_of, told, Did};
+ghost use Rattle.mc_interp.specs.Views as prepared;
 
 use crate::entries::{lend, levels_with, pass};
 use crate::flow::{Seek, has_left};
 use crate::frame::{Called, Frame};
 use crate::parts::hit_some;
+use crate::prepared::Prepared;
 use crate::statements::statements;
 use crate::store::Store;
 use crate::values::{Given, Lent, Shape};
@@ -27,7 +29,7 @@ use mc_course::{Flow, hit_after};
 use mc_hits::Probe;
 
 /// A body that completes gives nothing, and its closing brace is an exit.
-fn close<P: Probe>(flow: Flow, frame: &Frame<'_, '_>, store: &mut Store, probe: &mut P)
+fn close<P: Probe>(flow: Flow, frame: &Frame<'_, '_, '_>, store: &mut Store, probe: &mut P)
     requires bits { frame.now.program.now.bits ≤ P.bits probe.old }
     ensures did { Did P.leads (where_left (flow_of flow store.old)
         (hits_some (activation_of frame.now) frame.now.function.now.exit) (state_of store.old))
@@ -45,13 +47,16 @@ fn close<P: Probe>(flow: Flow, frame: &Frame<'_, '_>, store: &mut Store, probe: 
 }
 
 /// The body of a function in its activation, after its entry, up to the end of the call.
-fn body<P: Probe, F: Fn(Called<'_, '_>, &mut Store, &mut P) -> Option<()> + Copy>(
-    frame: &Frame<'_, '_>,
+fn body<P: Probe, F: Fn(Called<'_, '_, '_>, &mut Store, &mut P) -> Option<()> + Copy>(
+    items: &[Prepared<'_>],
+    frame: &Frame<'_, '_, '_>,
     into: Option<u32>,
     invoke: F,
     store: &mut Store,
     probe: &mut P,
 ) -> Option<()>
+    requires same { view.statements_from (map prepared.statement_of items.now)
+        ≡ (view.function_of frame.now.function.now).body }
     requires fits { FitStatements frame.now.function.now.registers
         (view.function_of frame.now.function.now).body }
     requires into { IntoRoom (length store.old.cells.cells) into (scope_in frame.now).result }
@@ -67,33 +72,26 @@ fn body<P: Probe, F: Fn(Called<'_, '_>, &mut Store, &mut P) -> Option<()> + Copy
     ensures bits { P.bits probe.new ≡ P.bits probe.old }
     ensures limits { limits_of store.new ≡ limits_of store.old }
 {
-    let flow = statements(
-        &frame.function.body,
-        Seek::Running,
-        frame,
-        invoke,
-        store,
-        probe,
-    )?;
+    let flow = statements(items, Seek::Running, frame, invoke, store, probe)?;
     close(flow, frame, store, probe);
     store.finish(into, frame.base, frame.first);
     Some(())
 }
 
 /// What an activation of a function takes.
-fn shape_at(shapes: &[Shape], function: u32) -> Shape
+fn shape_at<'f, 'p>(shapes: &'f [Shape<'p>], function: u32) -> &'f Shape<'p>
     requires { function < length shapes.now }
-    ensures { slice_get shapes.now function ≡ Some result }
+    ensures { slice_get shapes.now function ≡ Some result.now }
 {
-    shapes[function as usize]
+    &shapes[function as usize]
 }
 
 /// A call begins: the activation is there, and the parameters have their values, or the run stops.
-fn begin<'f, 'a>(
-    called: Called<'f, 'a>,
+fn begin<'f, 'a, 'p>(
+    called: Called<'f, 'a, 'p>,
     arrays: &'f [Lent],
     store: &mut Store,
-) -> Option<Frame<'f, 'a>>
+) -> Option<Frame<'f, 'a, 'p>>
     requires ready { IsCalled called store.old called.program.now.bits }
     requires some { 1 ≤ called.depth }
     requires arrays { map lent_of arrays.now ≡ steps.lent_of (map passed_of called.passed.now) }
@@ -123,7 +121,7 @@ fn begin<'f, 'a>(
 }
 
 /// The bit of the entry of the function that is called, where it has one.
-fn entry_of(called: Called<'_, '_>) -> Option<u32>
+fn entry_of(called: Called<'_, '_, '_>) -> Option<u32>
     requires { called.function < length called.program.now.program.functions }
     ensures { (f : Function) → slice_get called.entry.program.now.program.functions
         called.entry.function ≡ Some f → result ≡ f.entry }
@@ -134,7 +132,7 @@ fn entry_of(called: Called<'_, '_>) -> Option<u32>
 /// A call of a function of the program: its entry is hit where it begins. What it gives is kept in
 /// the store.
 pub(crate) fn invoke<P: Probe>(
-    called: Called<'_, '_>,
+    called: Called<'_, '_, '_>,
     store: &mut Store,
     probe: &mut P,
 ) -> Option<()>
@@ -155,7 +153,10 @@ pub(crate) fn invoke<P: Probe>(
     let bits = called.program.bits();
     hit_after(opened.is_some(), bits, entry_of(called), probe);
     match opened {
-        Some(frame) => body(&frame, called.into, invoke::<P>, store, probe),
+        Some(frame) => {
+            let shape = shape_at(called.shapes, called.function);
+            body(&shape.body, &frame, called.into, invoke::<P>, store, probe)
+        }
         None => None,
     }
 }

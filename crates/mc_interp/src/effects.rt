@@ -27,11 +27,11 @@ use mc_typed::{Effect, Ending, Expression, FunctionCall, Operator, Place, Struct
 use mc_value::IntType;
 
 /// A scalar gets a value (C17 6.5.16.1).
-fn assign<P: Probe, F: Fn(Called<'_, '_>, &mut Store, &mut P) -> Option<()> + Copy>(
+fn assign<P: Probe, F: Fn(Called<'_, '_, '_>, &mut Store, &mut P) -> Option<()> + Copy>(
     target: &Place,
     of: IntType,
     right: &Expression,
-    frame: &Frame<'_, '_>,
+    frame: &Frame<'_, '_, '_>,
     invoke: F,
     store: &mut Store,
     probe: &mut P,
@@ -61,13 +61,13 @@ fn assign<P: Probe, F: Fn(Called<'_, '_>, &mut Store, &mut P) -> Option<()> + Co
 }
 
 /// A compound assignment: the old value is read last (C17 6.5.16.2).
-fn update<P: Probe, F: Fn(Called<'_, '_>, &mut Store, &mut P) -> Option<()> + Copy>(
+fn update<P: Probe, F: Fn(Called<'_, '_, '_>, &mut Store, &mut P) -> Option<()> + Copy>(
     target: &Place,
     of: IntType,
     operator: Operator,
     common: IntType,
     right: &Expression,
-    frame: &Frame<'_, '_>,
+    frame: &Frame<'_, '_, '_>,
     invoke: F,
     store: &mut Store,
     probe: &mut P,
@@ -97,11 +97,11 @@ fn update<P: Probe, F: Fn(Called<'_, '_>, &mut Store, &mut P) -> Option<()> + Co
 }
 
 /// A structure is copied (C17 6.5.16.1).
-fn copy<P: Probe, F: Fn(Called<'_, '_>, &mut Store, &mut P) -> Option<()> + Copy>(
+fn copy<P: Probe, F: Fn(Called<'_, '_, '_>, &mut Store, &mut P) -> Option<()> + Copy>(
     target: &Place,
     right: &Structure,
     cells: u32,
-    frame: &Frame<'_, '_>,
+    frame: &Frame<'_, '_, '_>,
     invoke: F,
     store: &mut Store,
     probe: &mut P,
@@ -133,9 +133,9 @@ fn copy<P: Probe, F: Fn(Called<'_, '_>, &mut Store, &mut P) -> Option<()> + Copy
 }
 
 /// The value of an integer is dropped.
-fn drop_value<P: Probe, F: Fn(Called<'_, '_>, &mut Store, &mut P) -> Option<()> + Copy>(
+fn drop_value<P: Probe, F: Fn(Called<'_, '_, '_>, &mut Store, &mut P) -> Option<()> + Copy>(
     e: &Expression,
-    frame: &Frame<'_, '_>,
+    frame: &Frame<'_, '_, '_>,
     invoke: F,
     store: &mut Store,
     probe: &mut P,
@@ -157,9 +157,9 @@ fn drop_value<P: Probe, F: Fn(Called<'_, '_>, &mut Store, &mut P) -> Option<()> 
 }
 
 /// A structure is evaluated, and dropped.
-fn drop_structure<P: Probe, F: Fn(Called<'_, '_>, &mut Store, &mut P) -> Option<()> + Copy>(
+fn drop_structure<P: Probe, F: Fn(Called<'_, '_, '_>, &mut Store, &mut P) -> Option<()> + Copy>(
     source: &Structure,
-    frame: &Frame<'_, '_>,
+    frame: &Frame<'_, '_, '_>,
     invoke: F,
     store: &mut Store,
     probe: &mut P,
@@ -182,9 +182,9 @@ fn drop_structure<P: Probe, F: Fn(Called<'_, '_>, &mut Store, &mut P) -> Option<
 }
 
 /// A call is made, and what it gives is not used; it may give nothing.
-fn drop_call<P: Probe, F: Fn(Called<'_, '_>, &mut Store, &mut P) -> Option<()> + Copy>(
+fn drop_call<P: Probe, F: Fn(Called<'_, '_, '_>, &mut Store, &mut P) -> Option<()> + Copy>(
     made: &FunctionCall,
-    frame: &Frame<'_, '_>,
+    frame: &Frame<'_, '_, '_>,
     invoke: F,
     store: &mut Store,
     probe: &mut P,
@@ -205,10 +205,10 @@ fn drop_call<P: Probe, F: Fn(Called<'_, '_>, &mut Store, &mut P) -> Option<()> +
 }
 
 /// An integer that is evaluated for what it does. The value of a whole call is not used.
-fn number_effect<P: Probe, F: Fn(Called<'_, '_>, &mut Store, &mut P) -> Option<()> + Copy>(
+fn number_effect<P: Probe, F: Fn(Called<'_, '_, '_>, &mut Store, &mut P) -> Option<()> + Copy>(
     e: &Expression,
     whole: bool,
-    frame: &Frame<'_, '_>,
+    frame: &Frame<'_, '_, '_>,
     invoke: F,
     store: &mut Store,
     probe: &mut P,
@@ -244,10 +244,10 @@ fn number_effect<P: Probe, F: Fn(Called<'_, '_>, &mut Store, &mut P) -> Option<(
 }
 
 /// The same of a structure.
-fn structure_effect<P: Probe, F: Fn(Called<'_, '_>, &mut Store, &mut P) -> Option<()> + Copy>(
+fn structure_effect<P: Probe, F: Fn(Called<'_, '_, '_>, &mut Store, &mut P) -> Option<()> + Copy>(
     source: &Structure,
     whole: bool,
-    frame: &Frame<'_, '_>,
+    frame: &Frame<'_, '_, '_>,
     invoke: F,
     store: &mut Store,
     probe: &mut P,
@@ -311,9 +311,9 @@ impl Store {
 }
 
 /// The outside function that puts a number.
-fn output<P: Probe, F: Fn(Called<'_, '_>, &mut Store, &mut P) -> Option<()> + Copy>(
+fn output<P: Probe, F: Fn(Called<'_, '_, '_>, &mut Store, &mut P) -> Option<()> + Copy>(
     e: &Expression,
-    frame: &Frame<'_, '_>,
+    frame: &Frame<'_, '_, '_>,
     invoke: F,
     store: &mut Store,
     probe: &mut P,
@@ -336,9 +336,9 @@ fn output<P: Probe, F: Fn(Called<'_, '_>, &mut Store, &mut P) -> Option<()> + Co
 }
 
 /// What an effect does.
-pub(crate) fn effect<P: Probe, F: Fn(Called<'_, '_>, &mut Store, &mut P) -> Option<()> + Copy>(
+pub(crate) fn effect<P: Probe, F: Fn(Called<'_, '_, '_>, &mut Store, &mut P) -> Option<()> + Copy>(
     whole: &Effect,
-    frame: &Frame<'_, '_>,
+    frame: &Frame<'_, '_, '_>,
     invoke: F,
     store: &mut Store,
     probe: &mut P,
@@ -402,9 +402,9 @@ pub(crate) fn effect<P: Probe, F: Fn(Called<'_, '_>, &mut Store, &mut P) -> Opti
 }
 
 /// What effects that follow each other do.
-pub(crate) fn effects<P: Probe, F: Fn(Called<'_, '_>, &mut Store, &mut P) -> Option<()> + Copy>(
+pub(crate) fn effects<P: Probe, F: Fn(Called<'_, '_, '_>, &mut Store, &mut P) -> Option<()> + Copy>(
     all: &[Effect],
-    frame: &Frame<'_, '_>,
+    frame: &Frame<'_, '_, '_>,
     invoke: F,
     store: &mut Store,
     probe: &mut P,

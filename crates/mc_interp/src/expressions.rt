@@ -20,7 +20,7 @@ use crate::steps::goes_on;
 use crate::store::Store;
 use crate::values::{Lent, Passed};
 use arrayvec::ArrayVec;
-use mc_course::is_true;
+use mc_course::{in_order, is_true};
 use mc_hits::Probe;
 use mc_typed::{Argument, Expression, FunctionCall, Operator, Place, Probe as Mark, Structure};
 use mc_value::BinOp;
@@ -73,9 +73,9 @@ fn comparison(operator: Operator) -> Option<BinOp>
 /// The value of an expression.
 #[cycle(expressions)]
 #[inline(always)]
-pub(crate) fn value<P: Probe, F: Fn(Called<'_, '_>, &mut Store, &mut P) -> Option<()> + Copy>(
+pub(crate) fn value<P: Probe, F: Fn(Called<'_, '_, '_>, &mut Store, &mut P) -> Option<()> + Copy>(
     e: &Expression,
-    frame: &Frame<'_, '_>,
+    frame: &Frame<'_, '_, '_>,
     invoke: F,
     store: &mut Store,
     probe: &mut P,
@@ -103,9 +103,9 @@ pub(crate) fn value<P: Probe, F: Fn(Called<'_, '_>, &mut Store, &mut P) -> Optio
 
 /// Whether an expression differs from 0.
 #[cycle(expressions)]
-pub(crate) fn truth<P: Probe, F: Fn(Called<'_, '_>, &mut Store, &mut P) -> Option<()> + Copy>(
+pub(crate) fn truth<P: Probe, F: Fn(Called<'_, '_, '_>, &mut Store, &mut P) -> Option<()> + Copy>(
     e: &Expression,
-    frame: &Frame<'_, '_>,
+    frame: &Frame<'_, '_, '_>,
     invoke: F,
     store: &mut Store,
     probe: &mut P,
@@ -171,8 +171,9 @@ pub(crate) fn truth<P: Probe, F: Fn(Called<'_, '_>, &mut Store, &mut P) -> Optio
             ..
         } => match comparison(*operator) {
             Some(compared) => {
-                let first = value(left, frame, invoke, store, probe)?;
-                let second = value(right, frame, invoke, store, probe)?;
+                let operands = in_order(left, right);
+                let first = value(operands.0, frame, invoke, store, probe)?;
+                let second = value(operands.1, frame, invoke, store, probe)?;
                 Some(compare(compared, *of, first, second))
             }
             None => {
@@ -197,9 +198,9 @@ pub(crate) fn truth<P: Probe, F: Fn(Called<'_, '_>, &mut Store, &mut P) -> Optio
 /// activation, which most operands are, are read without a further call.
 #[cycle(expressions)]
 #[inline(always)]
-fn other<P: Probe, F: Fn(Called<'_, '_>, &mut Store, &mut P) -> Option<()> + Copy>(
+fn other<P: Probe, F: Fn(Called<'_, '_, '_>, &mut Store, &mut P) -> Option<()> + Copy>(
     e: &Expression,
-    frame: &Frame<'_, '_>,
+    frame: &Frame<'_, '_, '_>,
     invoke: F,
     store: &mut Store,
     probe: &mut P,
@@ -243,9 +244,9 @@ fn other<P: Probe, F: Fn(Called<'_, '_>, &mut Store, &mut P) -> Option<()> + Cop
 /// large frame.
 #[cycle(expressions)]
 #[inline(never)]
-fn inner<P: Probe, F: Fn(Called<'_, '_>, &mut Store, &mut P) -> Option<()> + Copy>(
+fn inner<P: Probe, F: Fn(Called<'_, '_, '_>, &mut Store, &mut P) -> Option<()> + Copy>(
     e: &Expression,
-    frame: &Frame<'_, '_>,
+    frame: &Frame<'_, '_, '_>,
     invoke: F,
     store: &mut Store,
     probe: &mut P,
@@ -286,8 +287,9 @@ fn inner<P: Probe, F: Fn(Called<'_, '_>, &mut Store, &mut P) -> Option<()> + Cop
             right,
             ..
         } => {
-            let first = value(left, frame, invoke, store, probe)?;
-            let second = value(right, frame, invoke, store, probe)?;
+            let operands = in_order(left, right);
+            let first = value(operands.0, frame, invoke, store, probe)?;
+            let second = value(operands.1, frame, invoke, store, probe)?;
             store.give(operate(*operator, *of, first, second))
         }
         Expression::Choice {
@@ -331,9 +333,9 @@ fn inner<P: Probe, F: Fn(Called<'_, '_>, &mut Store, &mut P) -> Option<()> + Cop
 
 /// The first cell of a place.
 #[cycle(expressions)]
-pub(crate) fn place<P: Probe, F: Fn(Called<'_, '_>, &mut Store, &mut P) -> Option<()> + Copy>(
+pub(crate) fn place<P: Probe, F: Fn(Called<'_, '_, '_>, &mut Store, &mut P) -> Option<()> + Copy>(
     object: &Place,
-    frame: &Frame<'_, '_>,
+    frame: &Frame<'_, '_, '_>,
     invoke: F,
     store: &mut Store,
     probe: &mut P,
@@ -387,9 +389,12 @@ pub(crate) fn place<P: Probe, F: Fn(Called<'_, '_>, &mut Store, &mut P) -> Optio
 
 /// The place of a structure.
 #[cycle(expressions)]
-pub(crate) fn structure<P: Probe, F: Fn(Called<'_, '_>, &mut Store, &mut P) -> Option<()> + Copy>(
+pub(crate) fn structure<
+    P: Probe,
+    F: Fn(Called<'_, '_, '_>, &mut Store, &mut P) -> Option<()> + Copy,
+>(
     source: &Structure,
-    frame: &Frame<'_, '_>,
+    frame: &Frame<'_, '_, '_>,
     invoke: F,
     store: &mut Store,
     probe: &mut P,
@@ -420,9 +425,9 @@ pub(crate) fn structure<P: Probe, F: Fn(Called<'_, '_>, &mut Store, &mut P) -> O
 
 /// A call, whose value is kept.
 #[cycle(expressions)]
-pub(crate) fn call<P: Probe, F: Fn(Called<'_, '_>, &mut Store, &mut P) -> Option<()> + Copy>(
+pub(crate) fn call<P: Probe, F: Fn(Called<'_, '_, '_>, &mut Store, &mut P) -> Option<()> + Copy>(
     made: &FunctionCall,
-    frame: &Frame<'_, '_>,
+    frame: &Frame<'_, '_, '_>,
     invoke: F,
     store: &mut Store,
     probe: &mut P,
@@ -458,9 +463,9 @@ pub(crate) fn call<P: Probe, F: Fn(Called<'_, '_>, &mut Store, &mut P) -> Option
 
 /// The arguments of a call, from left to right.
 #[cycle(expressions)]
-fn arguments<P: Probe, F: Fn(Called<'_, '_>, &mut Store, &mut P) -> Option<()> + Copy>(
+fn arguments<P: Probe, F: Fn(Called<'_, '_, '_>, &mut Store, &mut P) -> Option<()> + Copy>(
     trees: &[Argument],
-    frame: &Frame<'_, '_>,
+    frame: &Frame<'_, '_, '_>,
     invoke: F,
     passed: &mut ArrayVec<Passed, 16>,
     store: &mut Store,
@@ -496,9 +501,9 @@ fn arguments<P: Probe, F: Fn(Called<'_, '_>, &mut Store, &mut P) -> Option<()> +
 
 /// An argument.
 #[cycle(expressions)]
-fn argument<P: Probe, F: Fn(Called<'_, '_>, &mut Store, &mut P) -> Option<()> + Copy>(
+fn argument<P: Probe, F: Fn(Called<'_, '_, '_>, &mut Store, &mut P) -> Option<()> + Copy>(
     tree: &Argument,
-    frame: &Frame<'_, '_>,
+    frame: &Frame<'_, '_, '_>,
     invoke: F,
     store: &mut Store,
     probe: &mut P,

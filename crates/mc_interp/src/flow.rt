@@ -1,11 +1,12 @@
 //! How the parts of a body end.
 ghost use Rattle.std.specs.Prelude.{◌≡◌};
-ghost use Rattle.mc_probe.specs.Views as view;
 ghost use Rattle.mc_interp.specs.Bodies as bodies;
+ghost use Rattle.mc_interp.specs.Views as prepared;
 ghost use Rattle.mc_steps.specs.Statements as steps;
 
+use crate::prepared::Prepared;
 use mc_course::Flow;
-use mc_typed::{Mark, Statement};
+use mc_typed::Mark;
 use mc_value::IntType;
 
 /// Whether the items of a body run, or are passed over up to the label of a value, or to `default`.
@@ -31,26 +32,26 @@ pub(crate) struct Label {
 }
 
 /// The label that an item is, if it is one.
-pub(crate) fn label_of(tree: &Statement) -> Option<Label>
-    ensures { result ≡ bodies.label_of (view.statement_of tree.now) }
+pub(crate) fn label_of(tree: &Prepared<'_>) -> Option<Label>
+    ensures { result ≡ bodies.label_of (prepared.statement_of tree.now) }
 {
     match tree {
-        Statement::Label { value, mark, .. } => Some(Label {
+        Prepared::Label { value, mark, .. } => Some(Label {
             value: *value,
             mark: *mark,
         }),
-        Statement::Compound { .. }
-        | Statement::Declaration { .. }
-        | Statement::Null { .. }
-        | Statement::Effect { .. }
-        | Statement::If { .. }
-        | Statement::IfElse { .. }
-        | Statement::Switch { .. }
-        | Statement::For { .. }
-        | Statement::DoWhile { .. }
-        | Statement::Break { .. }
-        | Statement::Continue { .. }
-        | Statement::Return { .. } => None,
+        Prepared::Compound { .. }
+        | Prepared::Declaration { .. }
+        | Prepared::Null { .. }
+        | Prepared::Effect { .. }
+        | Prepared::If { .. }
+        | Prepared::IfElse { .. }
+        | Prepared::Switch { .. }
+        | Prepared::For { .. }
+        | Prepared::DoWhile { .. }
+        | Prepared::Break { .. }
+        | Prepared::Continue { .. }
+        | Prepared::Return { .. } => None,
     }
 }
 

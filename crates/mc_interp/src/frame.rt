@@ -26,9 +26,9 @@ use mc_value::{IntType, Trap};
 /// parameters name, its first cell and register, how many more activations may be open, and how
 /// many levels the open ones have.
 #[derive(Clone, Copy)]
-pub(crate) struct Frame<'f, 'a> {
+pub(crate) struct Frame<'f, 'a, 'p> {
     pub program: &'f Instrumented<'a>,
-    pub shapes: &'f [Shape],
+    pub shapes: &'f [Shape<'p>],
     pub function: &'f Function<'a>,
     pub arrays: &'f [Lent],
     pub base: u32,
@@ -40,9 +40,9 @@ pub(crate) struct Frame<'f, 'a> {
 /// A call: the function, the place for the structure that it returns, and the arguments, with what
 /// an activation has of the caller.
 #[derive(Clone, Copy)]
-pub(crate) struct Called<'f, 'a> {
+pub(crate) struct Called<'f, 'a, 'p> {
     pub program: &'f Instrumented<'a>,
-    pub shapes: &'f [Shape],
+    pub shapes: &'f [Shape<'p>],
     pub depth: u32,
     pub levels: u32,
     pub function: u32,
@@ -50,7 +50,7 @@ pub(crate) struct Called<'f, 'a> {
     pub passed: &'f [Passed],
 }
 
-impl<'f, 'a> Frame<'f, 'a> {
+impl<'f, 'a, 'p> Frame<'f, 'a, 'p> {
     /// A decision begins: its register is 0.
     pub(crate) fn begin(&self, register: u32, store: &mut Store)
         requires there { self.now.first + register < length store.old.registers.items }

@@ -36,10 +36,10 @@ fn width(tree: &Initializer) -> u32
 }
 
 /// A scalar gets its initial value.
-fn store_value<P: Probe, F: Fn(Called<'_, '_>, &mut Store, &mut P) -> Option<()> + Copy>(
+fn store_value<P: Probe, F: Fn(Called<'_, '_, '_>, &mut Store, &mut P) -> Option<()> + Copy>(
     e: &Expression,
     at: u32,
-    frame: &Frame<'_, '_>,
+    frame: &Frame<'_, '_, '_>,
     invoke: F,
     store: &mut Store,
     probe: &mut P,
@@ -64,11 +64,11 @@ fn store_value<P: Probe, F: Fn(Called<'_, '_>, &mut Store, &mut P) -> Option<()>
 }
 
 /// A structure gets its initial value.
-fn store_structure<P: Probe, F: Fn(Called<'_, '_>, &mut Store, &mut P) -> Option<()> + Copy>(
+fn store_structure<P: Probe, F: Fn(Called<'_, '_, '_>, &mut Store, &mut P) -> Option<()> + Copy>(
     source: &Structure,
     cells: u32,
     at: u32,
-    frame: &Frame<'_, '_>,
+    frame: &Frame<'_, '_, '_>,
     invoke: F,
     store: &mut Store,
     probe: &mut P,
@@ -97,10 +97,10 @@ fn store_structure<P: Probe, F: Fn(Called<'_, '_>, &mut Store, &mut P) -> Option
 
 /// What stands at a place is initialized.
 #[cycle(initializer)]
-fn initializer<P: Probe, F: Fn(Called<'_, '_>, &mut Store, &mut P) -> Option<()> + Copy>(
+fn initializer<P: Probe, F: Fn(Called<'_, '_, '_>, &mut Store, &mut P) -> Option<()> + Copy>(
     tree: &Initializer,
     at: u32,
-    frame: &Frame<'_, '_>,
+    frame: &Frame<'_, '_, '_>,
     invoke: F,
     store: &mut Store,
     probe: &mut P,
@@ -137,11 +137,11 @@ fn initializer<P: Probe, F: Fn(Called<'_, '_>, &mut Store, &mut P) -> Option<()>
 
 /// The first parts of what stands at a place are initialized, and the rest becomes 0.
 #[cycle(initializer)]
-fn items<P: Probe, F: Fn(Called<'_, '_>, &mut Store, &mut P) -> Option<()> + Copy>(
+fn items<P: Probe, F: Fn(Called<'_, '_, '_>, &mut Store, &mut P) -> Option<()> + Copy>(
     trees: &[Initializer],
     cells: u32,
     at: u32,
-    frame: &Frame<'_, '_>,
+    frame: &Frame<'_, '_, '_>,
     invoke: F,
     store: &mut Store,
     probe: &mut P,
@@ -171,10 +171,10 @@ fn items<P: Probe, F: Fn(Called<'_, '_>, &mut Store, &mut P) -> Option<()> + Cop
 }
 
 /// The initial value of an object, where it has one.
-fn initial<P: Probe, F: Fn(Called<'_, '_>, &mut Store, &mut P) -> Option<()> + Copy>(
+fn initial<P: Probe, F: Fn(Called<'_, '_, '_>, &mut Store, &mut P) -> Option<()> + Copy>(
     tree: &Option<Initializer>,
     at: u32,
-    frame: &Frame<'_, '_>,
+    frame: &Frame<'_, '_, '_>,
     invoke: F,
     store: &mut Store,
     probe: &mut P,
@@ -200,9 +200,9 @@ fn initial<P: Probe, F: Fn(Called<'_, '_>, &mut Store, &mut P) -> Option<()> + C
 }
 
 /// An object becomes unset, and then gets its initial value (C17 6.2.4p6).
-fn declarator<P: Probe, F: Fn(Called<'_, '_>, &mut Store, &mut P) -> Option<()> + Copy>(
+fn declarator<P: Probe, F: Fn(Called<'_, '_, '_>, &mut Store, &mut P) -> Option<()> + Copy>(
     tree: &Declarator,
-    frame: &Frame<'_, '_>,
+    frame: &Frame<'_, '_, '_>,
     invoke: F,
     store: &mut Store,
     probe: &mut P,
@@ -226,9 +226,12 @@ fn declarator<P: Probe, F: Fn(Called<'_, '_>, &mut Store, &mut P) -> Option<()> 
 }
 
 /// The objects of a declaration, in their order.
-pub(crate) fn declarators<P: Probe, F: Fn(Called<'_, '_>, &mut Store, &mut P) -> Option<()> + Copy>(
+pub(crate) fn declarators<
+    P: Probe,
+    F: Fn(Called<'_, '_, '_>, &mut Store, &mut P) -> Option<()> + Copy,
+>(
     trees: &[Declarator],
-    frame: &Frame<'_, '_>,
+    frame: &Frame<'_, '_, '_>,
     invoke: F,
     store: &mut Store,
     probe: &mut P,

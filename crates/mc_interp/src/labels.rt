@@ -11,13 +11,15 @@ ghost use Rattle.mc_interp.specs.Bodies.{flow_of, labels_in, label_runs, seek_of
 ghost use Rattle.mc_interp.specs.Bodies as bodies;
 ghost use Rattle.mc_interp.specs.Stores.{limits_of, state_of, Did};
 ghost use Rattle.mc_interp.specs.Frames.{activation_of, scope_in, IsKept, IsReady};
+ghost use Rattle.mc_interp.specs.Views as prepared;
 
 use crate::flow::{Label, Seek, ends_switch, is_running, label_of};
 use crate::frame::Frame;
+use crate::prepared::Prepared;
 use crate::store::Store;
 use mc_course::{Flow, hit, take};
 use mc_hits::Probe;
-use mc_typed::{Mark, Statement};
+use mc_typed::Mark;
 use mc_value::IntType;
 use mc_words::number;
 
@@ -32,9 +34,9 @@ fn is_case(label: Option<i128>, of: IntType, word: u64) -> bool
 }
 
 /// Whether an item is the `case` of a value.
-fn is_case_item(tree: &Statement, of: IntType, word: u64) -> bool
+fn is_case_item(tree: &Prepared<'_>, of: IntType, word: u64) -> bool
     ensures { result ≡ bodies.is_case (Some (number_of of word))
-        (bodies.label_of (view.statement_of tree.now)) }
+        (bodies.label_of (prepared.statement_of tree.now)) }
 {
     match label_of(tree) {
         Some(label) => is_case(label.value, of, word),
@@ -43,9 +45,9 @@ fn is_case_item(tree: &Statement, of: IntType, word: u64) -> bool
 }
 
 /// Whether a body has the `case` of a value.
-fn has_case(items: &[Statement], of: IntType, word: u64) -> bool
+fn has_case(items: &[Prepared<'_>], of: IntType, word: u64) -> bool
     ensures { result ≡ steps.has_label (Some (number_of of word))
-        (labels_in (view.statements_from (map view.statement_of items.now))) }
+        (labels_in (view.statements_from (map prepared.statement_of items.now))) }
 {
     for tree in items {
         if is_case_item(tree, of, word) {
@@ -56,9 +58,9 @@ fn has_case(items: &[Statement], of: IntType, word: u64) -> bool
 }
 
 /// The label that a value leads to: its own, else `default`.
-pub(crate) fn sought(items: &[Statement], of: IntType, word: u64) -> Seek
+pub(crate) fn sought(items: &[Prepared<'_>], of: IntType, word: u64) -> Seek
     ensures { seek_of result ≡ steps.sought (number_of of word)
-        (labels_in (view.statements_from (map view.statement_of items.now))) }
+        (labels_in (view.statements_from (map prepared.statement_of items.now))) }
 {
     if has_case(items, of, word) {
         Seek::Case { of, word }
@@ -91,7 +93,7 @@ fn seek_at(label: Option<i128>, seek: Seek) -> Seek
 #[tactic(auto, unfolding(crate::specs::Stores::limits_of))]
 pub(crate) fn mark<P: Probe>(
     mark: Option<Mark>,
-    frame: &Frame<'_, '_>,
+    frame: &Frame<'_, '_, '_>,
     store: &mut Store,
     probe: &mut P,
 )
@@ -114,7 +116,7 @@ pub(crate) fn mark<P: Probe>(
 pub(crate) fn at_label<P: Probe>(
     label: Label,
     seek: Seek,
-    frame: &Frame<'_, '_>,
+    frame: &Frame<'_, '_, '_>,
     store: &mut Store,
     probe: &mut P,
 ) -> Seek
@@ -137,7 +139,7 @@ pub(crate) fn at_label<P: Probe>(
 pub(crate) fn switch_ends<P: Probe>(
     flow: Flow,
     absent: Option<Mark>,
-    frame: &Frame<'_, '_>,
+    frame: &Frame<'_, '_, '_>,
     store: &mut Store,
     probe: &mut P,
 ) -> Flow

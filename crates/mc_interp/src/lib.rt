@@ -1,6 +1,7 @@
 //! The interpreter of instrumented programs.
 #![tactic(auto)]
 
+mod asked;
 mod call_done;
 mod calls;
 mod effects;
@@ -12,6 +13,8 @@ mod initializers;
 mod labels;
 mod machine;
 mod parts;
+mod performed;
+mod prepared;
 mod starts;
 mod statements;
 mod steps;

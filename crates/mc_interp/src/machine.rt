@@ -6,10 +6,11 @@ ghost use Rattle.mc_probe.specs.Tests.{run_of};
 ghost use Rattle.mc_probe.specs.Trees.{tree_of};
 ghost use Rattle.mc_probe.specs.Views as view;
 ghost use Rattle.mc_typed.specs.Views as plain;
-ghost use Rattle.mc_interp.specs.Frames.{most_registers, shape_of};
+ghost use Rattle.mc_interp.specs.Frames.{most_registers, shape_of, taken_of};
 ghost use Rattle.mc_interp.specs.Machines.{done_of, fresh, ran_of, AreFramed};
 
 use crate::call_done::CallDone;
+use crate::prepared::prepare_all;
 use crate::store::Store;
 use crate::tests::test_calls;
 use crate::values::{Given, Shape};
@@ -22,16 +23,17 @@ use std::alloc::{AllocError, Global};
 use std::cmp::max;
 use std::marker::Model;
 
-/// What an activation of each function takes.
-fn shapes_of(alloc: Global, functions: &[Function<'_>]) -> Result<Vec<Shape>, AllocError>
+/// What an activation of each function takes, and its body as it runs.
+fn shapes_of<'p>(alloc: Global, functions: &'p [Function<'_>]) -> Result<Vec<Shape<'p>>, AllocError>
     requires { AreFramed (map plain.function_of functions.now) }
-    ensures { IfOk result (λ v. v.items ≡ map shape_of (map plain.function_of functions.now)) }
+    ensures { IfOk result (λ v. map taken_of v.items ≡ map shape_of functions.now) }
 {
     let mut shapes = Vec::with_capacity(alloc, functions.len())?;
     for function in functions {
         shapes.push(Shape {
             levels: levels_of_body(&function.body),
             cells: frame_cells(function),
+            body: prepare_all(alloc, &function.body)?,
         })?;
     }
     Ok(shapes)
@@ -53,7 +55,7 @@ fn most_registers(functions: &[Function<'_>]) -> u32
 #[derive(Drop)]
 pub struct Machine<'p, 'a> {
     program: &'p Instrumented<'a>,
-    shapes: Vec<Shape>,
+    shapes: Vec<Shape<'p>>,
     store: Store,
     done: Stack<CallDone>,
 }

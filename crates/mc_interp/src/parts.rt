@@ -5,7 +5,7 @@ ghost use Rattle.mc_typed.specs.Views as plain;
 ghost use Rattle.mc_steps.specs.Points.{initializes};
 ghost use Rattle.mc_steps.specs.Runs.{spends};
 ghost use Rattle.mc_steps.specs.Statements as steps;
-ghost use Rattle.mc_probe.specs.Erase.{erase_declarator};
+ghost use Rattle.mc_probe.specs.Erase.{erase_declarator, erase_effect, erase_expression};
 ghost use Rattle.mc_probe.specs.Flat.{Activation, hits_some};
 ghost use Rattle.mc_probe.specs.Statements as does;
 ghost use Rattle.mc_probe.specs.Views as view;
@@ -16,16 +16,20 @@ ghost use Rattle.mc_interp.specs.Effects.{IsAnyEffect};
 ghost use Rattle.mc_interp.specs.Stores.{given_of, limits_of, state_of, Did};
 ghost use Rattle.mc_interp.specs.Frames.{activation_of, scope_in, IsKept, IsReady};
 ghost use Rattle.mc_interp.specs.Calls.{Invokes};
+ghost use Rattle.mc_interp.specs.Views as prepared;
 
-use crate::effects::{effect, effects};
-use crate::expressions::{structure, truth, value};
+use crate::asked::tested;
+use crate::effects::effects;
+use crate::expressions::{structure, value};
 use crate::frame::{Called, Frame};
 use crate::initializers::declarators;
+use crate::performed::perform;
+use crate::prepared::{Prepared, Step, Test};
 use crate::store::Store;
 use crate::values::Given;
 use mc_course::{Flow, hit, hit_after, spend_for};
 use mc_hits::Probe;
-use mc_typed::{Declarator, Effect, Ending, Expression, ForStart, ReturnValue, Statement};
+use mc_typed::{Declarator, Ending, ForStart, ReturnValue};
 
 /// Whether a declaration has an initializer.
 fn initializes(declarators: &[Declarator]) -> bool
@@ -41,12 +45,12 @@ fn initializes(declarators: &[Declarator]) -> bool
 }
 
 /// The bit of a counted statement, where it has one.
-pub(crate) fn count_of(tree: &Statement) -> Option<Option<u32>>
-    ensures { result ≡ bodies.count_of (view.statement_of tree.now) }
+pub(crate) fn count_of(tree: &Prepared<'_>) -> Option<Option<u32>>
+    ensures { result ≡ bodies.count_of (prepared.statement_of tree.now) }
 {
     match tree {
-        Statement::Compound { .. } | Statement::Label { .. } => None,
-        Statement::Declaration {
+        Prepared::Compound { .. } | Prepared::Label { .. } => None,
+        Prepared::Declaration {
             declarators,
             bit,
             ..
@@ -57,23 +61,23 @@ pub(crate) fn count_of(tree: &Statement) -> Option<Option<u32>>
                 None
             }
         }
-        Statement::Null { bit, .. }
-        | Statement::Effect { bit, .. }
-        | Statement::If { bit, .. }
-        | Statement::IfElse { bit, .. }
-        | Statement::Switch { bit, .. }
-        | Statement::For { bit, .. }
-        | Statement::DoWhile { bit, .. }
-        | Statement::Break { bit, .. }
-        | Statement::Continue { bit, .. }
-        | Statement::Return { bit, .. } => Some(*bit),
+        Prepared::Null { bit, .. }
+        | Prepared::Effect { bit, .. }
+        | Prepared::If { bit, .. }
+        | Prepared::IfElse { bit, .. }
+        | Prepared::Switch { bit, .. }
+        | Prepared::For { bit, .. }
+        | Prepared::DoWhile { bit, .. }
+        | Prepared::Break { bit, .. }
+        | Prepared::Continue { bit, .. }
+        | Prepared::Return { bit, .. } => Some(*bit),
     }
 }
 
 /// A bit is hit where there is one.
 pub(crate) fn hit_some<P: Probe>(
     bit: Option<u32>,
-    frame: &Frame<'_, '_>,
+    frame: &Frame<'_, '_, '_>,
     store: &Store,
     probe: &mut P,
 )
@@ -90,9 +94,10 @@ pub(crate) fn hit_some<P: Probe>(
 
 /// A unit is spent for a counted statement, and its bit is hit.
 #[tactic(auto, unfolding(crate::specs::Stores::limits_of))]
+#[inline(always)]
 pub(crate) fn counted<P: Probe>(
     count: Option<Option<u32>>,
-    frame: &Frame<'_, '_>,
+    frame: &Frame<'_, '_, '_>,
     store: &mut Store,
     probe: &mut P,
 ) -> Option<()>
@@ -117,9 +122,12 @@ pub(crate) fn counted<P: Probe>(
 }
 
 /// A declaration.
-pub(crate) fn declaration<P: Probe, F: Fn(Called<'_, '_>, &mut Store, &mut P) -> Option<()> + Copy>(
+pub(crate) fn declaration<
+    P: Probe,
+    F: Fn(Called<'_, '_, '_>, &mut Store, &mut P) -> Option<()> + Copy,
+>(
     trees: &[Declarator],
-    frame: &Frame<'_, '_>,
+    frame: &Frame<'_, '_, '_>,
     invoke: F,
     store: &mut Store,
     probe: &mut P,
@@ -144,22 +152,23 @@ pub(crate) fn declaration<P: Probe, F: Fn(Called<'_, '_>, &mut Store, &mut P) ->
 }
 
 /// An expression statement.
+#[inline(always)]
 pub(crate) fn effect_statement<
     P: Probe,
-    F: Fn(Called<'_, '_>, &mut Store, &mut P) -> Option<()> + Copy,
+    F: Fn(Called<'_, '_, '_>, &mut Store, &mut P) -> Option<()> + Copy,
 >(
-    whole: &Effect,
-    frame: &Frame<'_, '_>,
+    step: &Step<'_>,
+    frame: &Frame<'_, '_, '_>,
     invoke: F,
     store: &mut Store,
     probe: &mut P,
 ) -> Option<Flow>
-    requires sound { IsAnyEffect (plain.effect_of whole.now) (scope_in frame.now) }
-    requires fits { FitsEffect frame.now.function.now.registers (view.effect_of whole.now) }
+    requires sound { IsAnyEffect (erase_effect (prepared.effect_of step.now)) (scope_in frame.now) }
+    requires fits { FitsEffect frame.now.function.now.registers (prepared.effect_of step.now) }
     requires ready { IsReady frame.now store.old (P.bits probe.old) }
     requires invokes { Invokes frame.now P.bits P.leads (F.pre invoke) (F.post invoke) }
     ensures did { Did P.leads (steps.effect_does (does.effect_of (activation_of frame.now)
-        (view.effect_of whole.now)) (state_of store.old))
+        (prepared.effect_of step.now)) (state_of store.old))
         (option_map (λ flow. flow_of flow store.new) result) store.new probe.old probe.new }
     ensures typed { IfSome result (λ flow. IsReturned (scope_in frame.now)
         (activation_of frame.now) flow store.new.given) }
@@ -168,14 +177,17 @@ pub(crate) fn effect_statement<
     ensures bits { P.bits probe.new ≡ P.bits probe.old }
     ensures limits { limits_of store.new ≡ limits_of store.old }
 {
-    effect(whole, frame, invoke, store, probe)?;
+    perform(step, frame, invoke, store, probe)?;
     Some(Flow::Completed)
 }
 
 /// The first part of a `for`.
-pub(crate) fn for_start<P: Probe, F: Fn(Called<'_, '_>, &mut Store, &mut P) -> Option<()> + Copy>(
+pub(crate) fn for_start<
+    P: Probe,
+    F: Fn(Called<'_, '_, '_>, &mut Store, &mut P) -> Option<()> + Copy,
+>(
     tree: &ForStart,
-    frame: &Frame<'_, '_>,
+    frame: &Frame<'_, '_, '_>,
     invoke: F,
     store: &mut Store,
     probe: &mut P,
@@ -199,35 +211,33 @@ pub(crate) fn for_start<P: Probe, F: Fn(Called<'_, '_>, &mut Store, &mut P) -> O
     }
 }
 
-/// The test of a `for`, if it has one.
-pub(crate) fn lent_test(test: &Option<Expression>) -> Option<&Expression>
-    ensures run { option_map (λ e. view.expression_of e.now) result
-        ≡ option_map view.expression_of test.now }
-    ensures typed { option_map (λ e. plain.expression_of e.now) result
-        ≡ option_map plain.expression_of test.now }
+/// The test of a loop, where it has one.
+pub(crate) fn lent_test<'s, 'p>(test: &'s Option<Test<'p>>) -> Option<&'s Test<'p>>
+    ensures { option_map (λ e. prepared.test_of e.now) result
+        ≡ option_map prepared.test_of test.now }
 {
     match test {
-        Some(e) => Some(e),
+        Some(asked) => Some(asked),
         None => None,
     }
 }
 
 /// The test of a loop, which is true where it is absent.
-fn test_of<P: Probe, F: Fn(Called<'_, '_>, &mut Store, &mut P) -> Option<()> + Copy>(
-    test: Option<&Expression>,
-    frame: &Frame<'_, '_>,
+fn test_of<P: Probe, F: Fn(Called<'_, '_, '_>, &mut Store, &mut P) -> Option<()> + Copy>(
+    test: Option<&Test<'_>>,
+    frame: &Frame<'_, '_, '_>,
     invoke: F,
     store: &mut Store,
     probe: &mut P,
 ) -> Option<bool>
-    requires sound { IsTest (option_map (λ e. plain.expression_of e.now) test)
-        (scope_in frame.now) }
+    requires sound { IsTest (option_map erase_expression (option_map (λ e. prepared.test_of e.now)
+        test)) (scope_in frame.now) }
     requires fits { FitsTest frame.now.function.now.registers
-        (option_map (λ e. view.expression_of e.now) test) }
+        (option_map (λ e. prepared.test_of e.now) test) }
     requires ready { IsReady frame.now store.old (P.bits probe.old) }
     requires invokes { Invokes frame.now P.bits P.leads (F.pre invoke) (F.post invoke) }
     ensures did { Did P.leads (does.test_of (activation_of frame.now)
-        (option_map (λ e. view.expression_of e.now) test.entry) (state_of store.old)) result
+        (option_map (λ e. prepared.test_of e.now) test.entry) (state_of store.old)) result
         store.new probe.old probe.new }
     ensures kept { IfSome result (λ _. IsKept (scope_in frame.now) (activation_of frame.now)
         store.old store.new) }
@@ -235,27 +245,30 @@ fn test_of<P: Probe, F: Fn(Called<'_, '_>, &mut Store, &mut P) -> Option<()> + C
     ensures limits { limits_of store.new ≡ limits_of store.old }
 {
     match test {
-        Some(e) => truth(e, frame, invoke, store, probe),
+        Some(asked) => tested(asked, frame, invoke, store, probe),
         None => Some(true),
     }
 }
 
 /// A turn of a loop begins: a unit is spent, and then the test is evaluated.
-pub(crate) fn turn_begins<P: Probe, F: Fn(Called<'_, '_>, &mut Store, &mut P) -> Option<()> + Copy>(
-    test: Option<&Expression>,
-    frame: &Frame<'_, '_>,
+pub(crate) fn turn_begins<
+    P: Probe,
+    F: Fn(Called<'_, '_, '_>, &mut Store, &mut P) -> Option<()> + Copy,
+>(
+    test: Option<&Test<'_>>,
+    frame: &Frame<'_, '_, '_>,
     invoke: F,
     store: &mut Store,
     probe: &mut P,
 ) -> Option<bool>
-    requires sound { IsTest (option_map (λ e. plain.expression_of e.now) test)
-        (scope_in frame.now) }
+    requires sound { IsTest (option_map erase_expression (option_map (λ e. prepared.test_of e.now)
+        test)) (scope_in frame.now) }
     requires fits { FitsTest frame.now.function.now.registers
-        (option_map (λ e. view.expression_of e.now) test) }
+        (option_map (λ e. prepared.test_of e.now) test) }
     requires ready { IsReady frame.now store.old (P.bits probe.old) }
     requires invokes { Invokes frame.now P.bits P.leads (F.pre invoke) (F.post invoke) }
     ensures did { Did P.leads (spends (does.test_of (activation_of frame.now)
-        (option_map (λ e. view.expression_of e.now) test.entry)) (state_of store.old)) result
+        (option_map (λ e. prepared.test_of e.now) test.entry)) (state_of store.old)) result
         store.new probe.old probe.new }
     ensures less { IfSome result (λ _. store.new.fuel + 1 ≤ store.old.fuel) }
     ensures kept { IfSome result (λ _. IsKept (scope_in frame.now) (activation_of frame.now)
@@ -268,9 +281,9 @@ pub(crate) fn turn_begins<P: Probe, F: Fn(Called<'_, '_>, &mut Store, &mut P) ->
 }
 
 /// The value of a `return`, which is kept.
-fn return_value<P: Probe, F: Fn(Called<'_, '_>, &mut Store, &mut P) -> Option<()> + Copy>(
+fn return_value<P: Probe, F: Fn(Called<'_, '_, '_>, &mut Store, &mut P) -> Option<()> + Copy>(
     tree: &ReturnValue,
-    frame: &Frame<'_, '_>,
+    frame: &Frame<'_, '_, '_>,
     invoke: F,
     store: &mut Store,
     probe: &mut P,
@@ -317,11 +330,11 @@ fn return_value<P: Probe, F: Fn(Called<'_, '_>, &mut Store, &mut P) -> Option<()
 /// A `return`: its value, and then its exit.
 pub(crate) fn return_statement<
     P: Probe,
-    F: Fn(Called<'_, '_>, &mut Store, &mut P) -> Option<()> + Copy,
+    F: Fn(Called<'_, '_, '_>, &mut Store, &mut P) -> Option<()> + Copy,
 >(
     tree: &ReturnValue,
     exit: Option<u32>,
-    frame: &Frame<'_, '_>,
+    frame: &Frame<'_, '_, '_>,
     invoke: F,
     store: &mut Store,
     probe: &mut P,

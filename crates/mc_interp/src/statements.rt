@@ -1,8 +1,8 @@
 //! Statements (C17 6.8).
 ghost use Rattle.std.specs.Prelude.{◌≡◌, ◌+◌, ◌≤◌, map, option_map, IfSome};
 ghost use Rattle.mc_typed.specs.Sound.{IsTest};
-ghost use Rattle.mc_typed.specs.Views as plain;
 ghost use Rattle.mc_steps.specs.Statements.{loop_does};
+ghost use Rattle.mc_probe.specs.Erase.{erase_effect, erase_expression, erase_statement, erase_statements};
 ghost use Rattle.mc_probe.specs.Statements as does;
 ghost use Rattle.mc_probe.specs.Views as view;
 ghost use Rattle.mc_probe.specs.WellFormed.{FitEffects, FitStatements, FitsStatement, FitsTest};
@@ -11,9 +11,10 @@ ghost use Rattle.mc_interp.specs.Effects.{AreAnyEffects};
 ghost use Rattle.mc_interp.specs.Stores.{limits_of, state_of, Did};
 ghost use Rattle.mc_interp.specs.Frames.{activation_of, scope_in, IsKept, IsReady};
 ghost use Rattle.mc_interp.specs.Calls.{Invokes};
+ghost use Rattle.mc_interp.specs.Views as prepared;
 
-use crate::effects::effects;
-use crate::expressions::{truth, value};
+use crate::asked::tested;
+use crate::expressions::value;
 use crate::flow::{Next, Seek, is_running, label_of, next_after};
 use crate::frame::{Called, Frame};
 use crate::labels::{at_label, sought, switch_ends};
@@ -21,38 +22,41 @@ use crate::parts::{
     count_of, counted, declaration, effect_statement, for_start, lent_test, return_statement,
     turn_begins,
 };
+use crate::performed::perform_all;
+use crate::prepared::{Prepared, Step, Test};
 use crate::store::Store;
 use mc_course::{Flow, loop_end};
 use mc_hits::Probe;
-use mc_typed::{Effect, Expression, Statement};
 
 /// The turns of a loop, from the next one on.
 #[cycle(statements)]
-fn repeat<P: Probe, F: Fn(Called<'_, '_>, &mut Store, &mut P) -> Option<()> + Copy>(
-    body: &Statement,
-    test: Option<&Expression>,
-    step: &[Effect],
-    frame: &Frame<'_, '_>,
+fn repeat<P: Probe, F: Fn(Called<'_, '_, '_>, &mut Store, &mut P) -> Option<()> + Copy>(
+    body: &Prepared<'_>,
+    test: Option<&Test<'_>>,
+    step: &[Step<'_>],
+    frame: &Frame<'_, '_, '_>,
     invoke: F,
     store: &mut Store,
     probe: &mut P,
 ) -> Option<Flow>
-    requires body { IsAnyStatement (plain.statement_of body.now) (scope_in frame.now) }
-    requires test { IsTest (option_map (λ e. plain.expression_of e.now) test)
+    requires body { IsAnyStatement (erase_statement (prepared.statement_of body.now))
         (scope_in frame.now) }
-    requires step { AreAnyEffects (map plain.effect_of step.now) (scope_in frame.now) }
+    requires test { IsTest (option_map erase_expression (option_map (λ e. prepared.test_of e.now)
+        test)) (scope_in frame.now) }
+    requires step { AreAnyEffects (map erase_effect (map prepared.effect_of step.now))
+        (scope_in frame.now) }
     requires body_fits { FitsStatement frame.now.function.now.registers
-        (view.statement_of body.now) }
+        (prepared.statement_of body.now) }
     requires test_fits { FitsTest frame.now.function.now.registers
-        (option_map (λ e. view.expression_of e.now) test) }
+        (option_map (λ e. prepared.test_of e.now) test) }
     requires step_fits { FitEffects frame.now.function.now.registers
-        (map view.effect_of step.now) }
+        (map prepared.effect_of step.now) }
     requires ready { IsReady frame.now store.old (P.bits probe.old) }
     requires invokes { Invokes frame.now P.bits P.leads (F.pre invoke) (F.post invoke) }
     ensures did { Did P.leads (loop_does (does.test_of (activation_of frame.now)
-        (option_map (λ e. view.expression_of e.now) test.entry))
-        (does.statement_of (activation_of frame.now) (view.statement_of body.now))
-        (does.effects_of (activation_of frame.now) (map view.effect_of step.now))
+        (option_map (λ e. prepared.test_of e.now) test.entry))
+        (does.statement_of (activation_of frame.now) (prepared.statement_of body.now))
+        (does.effects_of (activation_of frame.now) (map prepared.effect_of step.now))
         (state_of store.old))
         (option_map (λ flow. flow_of flow store.new) result) store.new probe.old probe.new }
     ensures typed { IfSome result (λ flow. IsReturned (scope_in frame.now)
@@ -72,31 +76,34 @@ fn repeat<P: Probe, F: Fn(Called<'_, '_>, &mut Store, &mut P) -> Option<()> + Co
 
 /// A turn of a loop. It gives nothing where another one follows, else how the loop ends.
 #[cycle(statements)]
-fn turn<P: Probe, F: Fn(Called<'_, '_>, &mut Store, &mut P) -> Option<()> + Copy>(
-    body: &Statement,
-    test: Option<&Expression>,
-    step: &[Effect],
-    frame: &Frame<'_, '_>,
+#[inline(always)]
+fn turn<P: Probe, F: Fn(Called<'_, '_, '_>, &mut Store, &mut P) -> Option<()> + Copy>(
+    body: &Prepared<'_>,
+    test: Option<&Test<'_>>,
+    step: &[Step<'_>],
+    frame: &Frame<'_, '_, '_>,
     invoke: F,
     store: &mut Store,
     probe: &mut P,
 ) -> Option<Option<Flow>>
-    requires body { IsAnyStatement (plain.statement_of body.now) (scope_in frame.now) }
-    requires test { IsTest (option_map (λ e. plain.expression_of e.now) test)
+    requires body { IsAnyStatement (erase_statement (prepared.statement_of body.now))
         (scope_in frame.now) }
-    requires step { AreAnyEffects (map plain.effect_of step.now) (scope_in frame.now) }
+    requires test { IsTest (option_map erase_expression (option_map (λ e. prepared.test_of e.now)
+        test)) (scope_in frame.now) }
+    requires step { AreAnyEffects (map erase_effect (map prepared.effect_of step.now))
+        (scope_in frame.now) }
     requires body_fits { FitsStatement frame.now.function.now.registers
-        (view.statement_of body.now) }
+        (prepared.statement_of body.now) }
     requires test_fits { FitsTest frame.now.function.now.registers
-        (option_map (λ e. view.expression_of e.now) test) }
+        (option_map (λ e. prepared.test_of e.now) test) }
     requires step_fits { FitEffects frame.now.function.now.registers
-        (map view.effect_of step.now) }
+        (map prepared.effect_of step.now) }
     requires ready { IsReady frame.now store.old (P.bits probe.old) }
     requires invokes { Invokes frame.now P.bits P.leads (F.pre invoke) (F.post invoke) }
     ensures did { Did P.leads (turn_of (does.test_of (activation_of frame.now)
-        (option_map (λ e. view.expression_of e.now) test.entry))
-        (does.statement_of (activation_of frame.now) (view.statement_of body.now))
-        (does.effects_of (activation_of frame.now) (map view.effect_of step.now))
+        (option_map (λ e. prepared.test_of e.now) test.entry))
+        (does.statement_of (activation_of frame.now) (prepared.statement_of body.now))
+        (does.effects_of (activation_of frame.now) (map prepared.effect_of step.now))
         (state_of store.old))
         (option_map (λ end. end_of end store.new) result) store.new probe.old probe.new }
     ensures typed { IfSome result (λ end. IsEnd (scope_in frame.now) (activation_of frame.now) end
@@ -115,25 +122,66 @@ fn turn<P: Probe, F: Fn(Called<'_, '_>, &mut Store, &mut P) -> Option<()> + Copy
     if let Some(end) = loop_end(flow) {
         return Some(Some(end));
     }
-    effects(step, frame, invoke, store, probe)?;
+    perform_all(step, frame, invoke, store, probe)?;
     Some(None)
 }
 
-/// What a statement does.
+/// What a statement does. Expression statements and compound ones, which most are, run without a
+/// further call.
 #[cycle(statements)]
-fn statement<P: Probe, F: Fn(Called<'_, '_>, &mut Store, &mut P) -> Option<()> + Copy>(
-    tree: &Statement,
-    frame: &Frame<'_, '_>,
+#[inline(always)]
+fn statement<P: Probe, F: Fn(Called<'_, '_, '_>, &mut Store, &mut P) -> Option<()> + Copy>(
+    tree: &Prepared<'_>,
+    frame: &Frame<'_, '_, '_>,
     invoke: F,
     store: &mut Store,
     probe: &mut P,
 ) -> Option<Flow>
-    requires sound { IsAnyStatement (plain.statement_of tree.now) (scope_in frame.now) }
-    requires fits { FitsStatement frame.now.function.now.registers (view.statement_of tree.now) }
+    requires sound { IsAnyStatement (erase_statement (prepared.statement_of tree.now))
+        (scope_in frame.now) }
+    requires fits { FitsStatement frame.now.function.now.registers (prepared.statement_of tree.now) }
     requires ready { IsReady frame.now store.old (P.bits probe.old) }
     requires invokes { Invokes frame.now P.bits P.leads (F.pre invoke) (F.post invoke) }
     ensures did { Did P.leads (does.statement_of (activation_of frame.now)
-        (view.statement_of tree.now) (state_of store.old))
+        (prepared.statement_of tree.now) (state_of store.old))
+        (option_map (λ flow. flow_of flow store.new) result) store.new probe.old probe.new }
+    ensures typed { IfSome result (λ flow. IsReturned (scope_in frame.now)
+        (activation_of frame.now) flow store.new.given) }
+    ensures kept { IfSome result (λ _. IsKept (scope_in frame.now) (activation_of frame.now)
+        store.old store.new) }
+    ensures bits { P.bits probe.new ≡ P.bits probe.old }
+    ensures limits { limits_of store.new ≡ limits_of store.old }
+{
+    match tree {
+        Prepared::Effect { step, bit, .. } => {
+            counted(Some(*bit), frame, store, probe)?;
+            effect_statement(step, frame, invoke, store, probe)
+        }
+        Prepared::Compound { items, .. } => {
+            statements(items, Seek::Running, frame, invoke, store, probe)
+        }
+        _ => other(tree, frame, invoke, store, probe),
+    }
+}
+
+/// The same, for every statement. It stays a function of its own, so that a statement that holds no
+/// other costs no large frame.
+#[cycle(statements)]
+#[inline(never)]
+fn other<P: Probe, F: Fn(Called<'_, '_, '_>, &mut Store, &mut P) -> Option<()> + Copy>(
+    tree: &Prepared<'_>,
+    frame: &Frame<'_, '_, '_>,
+    invoke: F,
+    store: &mut Store,
+    probe: &mut P,
+) -> Option<Flow>
+    requires sound { IsAnyStatement (erase_statement (prepared.statement_of tree.now))
+        (scope_in frame.now) }
+    requires fits { FitsStatement frame.now.function.now.registers (prepared.statement_of tree.now) }
+    requires ready { IsReady frame.now store.old (P.bits probe.old) }
+    requires invokes { Invokes frame.now P.bits P.leads (F.pre invoke) (F.post invoke) }
+    ensures did { Did P.leads (does.statement_of (activation_of frame.now)
+        (prepared.statement_of tree.now) (state_of store.old))
         (option_map (λ flow. flow_of flow store.new) result) store.new probe.old probe.new }
     ensures typed { IfSome result (λ flow. IsReturned (scope_in frame.now)
         (activation_of frame.now) flow store.new.given) }
@@ -148,18 +196,19 @@ fn statement<P: Probe, F: Fn(Called<'_, '_>, &mut Store, &mut P) -> Option<()> +
 
 /// What a statement does after its unit and its bit.
 #[cycle(statements)]
-fn act<P: Probe, F: Fn(Called<'_, '_>, &mut Store, &mut P) -> Option<()> + Copy>(
-    tree: &Statement,
-    frame: &Frame<'_, '_>,
+fn act<P: Probe, F: Fn(Called<'_, '_, '_>, &mut Store, &mut P) -> Option<()> + Copy>(
+    tree: &Prepared<'_>,
+    frame: &Frame<'_, '_, '_>,
     invoke: F,
     store: &mut Store,
     probe: &mut P,
 ) -> Option<Flow>
-    requires sound { IsAnyStatement (plain.statement_of tree.now) (scope_in frame.now) }
-    requires fits { FitsStatement frame.now.function.now.registers (view.statement_of tree.now) }
+    requires sound { IsAnyStatement (erase_statement (prepared.statement_of tree.now))
+        (scope_in frame.now) }
+    requires fits { FitsStatement frame.now.function.now.registers (prepared.statement_of tree.now) }
     requires ready { IsReady frame.now store.old (P.bits probe.old) }
     requires invokes { Invokes frame.now P.bits P.leads (F.pre invoke) (F.post invoke) }
-    ensures did { Did P.leads (act_of (activation_of frame.now) (view.statement_of tree.now)
+    ensures did { Did P.leads (act_of (activation_of frame.now) (prepared.statement_of tree.now)
         (state_of store.old))
         (option_map (λ flow. flow_of flow store.new) result) store.new probe.old probe.new }
     ensures typed { IfSome result (λ flow. IsReturned (scope_in frame.now)
@@ -170,39 +219,37 @@ fn act<P: Probe, F: Fn(Called<'_, '_>, &mut Store, &mut P) -> Option<()> + Copy>
     ensures limits { limits_of store.new ≡ limits_of store.old }
 {
     match tree {
-        Statement::Compound { items, .. } => {
+        Prepared::Compound { items, .. } => {
             statements(items, Seek::Running, frame, invoke, store, probe)
         }
-        Statement::Label { .. } => Some(Flow::Completed),
-        Statement::Declaration { declarators, .. } => {
+        Prepared::Label { .. } => Some(Flow::Completed),
+        Prepared::Declaration { declarators, .. } => {
             declaration(declarators, frame, invoke, store, probe)
         }
-        Statement::Null { .. } => Some(Flow::Completed),
-        Statement::Effect { effect, .. } => {
-            effect_statement(effect, frame, invoke, store, probe)
-        }
-        Statement::If { test, chosen, .. } => {
-            let holds = truth(test, frame, invoke, store, probe)?;
+        Prepared::Null { .. } => Some(Flow::Completed),
+        Prepared::Effect { step, .. } => { effect_statement(step, frame, invoke, store, probe) }
+        Prepared::If { test, chosen, .. } => {
+            let holds = tested(test, frame, invoke, store, probe)?;
             if holds {
                 statement(chosen, frame, invoke, store, probe)
             } else {
                 Some(Flow::Completed)
             }
         }
-        Statement::IfElse {
+        Prepared::IfElse {
             test,
             chosen,
             other,
             ..
         } => {
-            let is_true = truth(test, frame, invoke, store, probe)?;
+            let is_true = tested(test, frame, invoke, store, probe)?;
             if is_true {
                 statement(chosen, frame, invoke, store, probe)
             } else {
                 statement(other, frame, invoke, store, probe)
             }
         }
-        Statement::Switch {
+        Prepared::Switch {
             value: controlling,
             items,
             absent,
@@ -213,7 +260,7 @@ fn act<P: Probe, F: Fn(Called<'_, '_>, &mut Store, &mut P) -> Option<()> + Copy>
             let flow = statements(items, seek, frame, invoke, store, probe)?;
             Some(switch_ends(flow, *absent, frame, store, probe))
         }
-        Statement::For {
+        Prepared::For {
             start,
             test,
             step,
@@ -223,16 +270,16 @@ fn act<P: Probe, F: Fn(Called<'_, '_>, &mut Store, &mut P) -> Option<()> + Copy>
             for_start(start, frame, invoke, store, probe)?;
             repeat(body, lent_test(test), step, frame, invoke, store, probe)
         }
-        Statement::DoWhile { body, test, .. } => {
+        Prepared::DoWhile { body, test, .. } => {
             let ended = statement(body, frame, invoke, store, probe)?;
             match loop_end(ended) {
                 Some(end) => Some(end),
                 None => repeat(body, Some(test), &[], frame, invoke, store, probe),
             }
         }
-        Statement::Break { .. } => Some(Flow::Broke),
-        Statement::Continue { .. } => Some(Flow::Continued),
-        Statement::Return { value, exit, .. } => {
+        Prepared::Break { .. } => Some(Flow::Broke),
+        Prepared::Continue { .. } => Some(Flow::Continued),
+        Prepared::Return { value, exit, .. } => {
             return_statement(value, *exit, frame, invoke, store, probe)
         }
     }
@@ -240,22 +287,25 @@ fn act<P: Probe, F: Fn(Called<'_, '_>, &mut Store, &mut P) -> Option<()> + Copy>
 
 /// The items of a body, of which those before a label that is sought are passed over.
 #[cycle(statements)]
-pub(crate) fn statements<P: Probe, F: Fn(Called<'_, '_>, &mut Store, &mut P) -> Option<()> + Copy>(
-    trees: &[Statement],
+pub(crate) fn statements<
+    P: Probe,
+    F: Fn(Called<'_, '_, '_>, &mut Store, &mut P) -> Option<()> + Copy,
+>(
+    trees: &[Prepared<'_>],
     seek: Seek,
-    frame: &Frame<'_, '_>,
+    frame: &Frame<'_, '_, '_>,
     invoke: F,
     store: &mut Store,
     probe: &mut P,
 ) -> Option<Flow>
-    requires sound { AreAnyStatements (plain.statements_from (map plain.statement_of trees.now))
-        (scope_in frame.now) }
+    requires sound { AreAnyStatements (erase_statements (view.statements_from
+        (map prepared.statement_of trees.now))) (scope_in frame.now) }
     requires fits { FitStatements frame.now.function.now.registers
-        (view.statements_from (map view.statement_of trees.now)) }
+        (view.statements_from (map prepared.statement_of trees.now)) }
     requires ready { IsReady frame.now store.old (P.bits probe.old) }
     requires invokes { Invokes frame.now P.bits P.leads (F.pre invoke) (F.post invoke) }
     ensures did { Did P.leads (does.statements_of (activation_of frame.now)
-        (view.statements_from (map view.statement_of trees.now)) (seek_of seek)
+        (view.statements_from (map prepared.statement_of trees.now)) (seek_of seek)
         (state_of store.old))
         (option_map (λ flow. flow_of flow store.new) result) store.new probe.old probe.new }
     ensures typed { IfSome result (λ flow. IsReturned (scope_in frame.now)
@@ -278,19 +328,20 @@ pub(crate) fn statements<P: Probe, F: Fn(Called<'_, '_>, &mut Store, &mut P) -> 
 
 /// An item of a body, and what follows it.
 #[cycle(statements)]
-fn item<P: Probe, F: Fn(Called<'_, '_>, &mut Store, &mut P) -> Option<()> + Copy>(
-    tree: &Statement,
+fn item<P: Probe, F: Fn(Called<'_, '_, '_>, &mut Store, &mut P) -> Option<()> + Copy>(
+    tree: &Prepared<'_>,
     seek: Seek,
-    frame: &Frame<'_, '_>,
+    frame: &Frame<'_, '_, '_>,
     invoke: F,
     store: &mut Store,
     probe: &mut P,
 ) -> Option<Next>
-    requires sound { IsAnyStatement (plain.statement_of tree.now) (scope_in frame.now) }
-    requires fits { FitsStatement frame.now.function.now.registers (view.statement_of tree.now) }
+    requires sound { IsAnyStatement (erase_statement (prepared.statement_of tree.now))
+        (scope_in frame.now) }
+    requires fits { FitsStatement frame.now.function.now.registers (prepared.statement_of tree.now) }
     requires ready { IsReady frame.now store.old (P.bits probe.old) }
     requires invokes { Invokes frame.now P.bits P.leads (F.pre invoke) (F.post invoke) }
-    ensures did { Did P.leads (item_of (activation_of frame.now) (view.statement_of tree.now)
+    ensures did { Did P.leads (item_of (activation_of frame.now) (prepared.statement_of tree.now)
         (seek_of seek) (state_of store.old))
         (option_map (λ next. next_of next store.new) result) store.new probe.old probe.new }
     ensures typed { IfSome result (λ next. IsNext (scope_in frame.now) (activation_of frame.now)

@@ -81,13 +81,12 @@ impl Store {
             ≡ value_in (slice_get self.now.cells.cells at) }
         ensures typed { IfSome result (Holds of) }
     {
-        if is_signed(of) {
-            self.cells
-                .get_signed(at)
-                .map(|number| number.cast_unsigned())
+        let word = if is_signed(of) {
+            self.cells.get_signed(at)?.cast_unsigned()
         } else {
-            self.cells.get_unsigned(at)
-        }
+            self.cells.get_unsigned(at)?
+        };
+        Some(word)
     }
 
     /// The value of a scalar of this type, which is set, or the run stops.

@@ -81,7 +81,7 @@ fn value_given(kind: &ResultType, store: &mut Store) -> Option<Option<i128>>
 fn test_call<P: Probe>(
     call: &Call,
     program: &Instrumented<'_>,
-    shapes: &[Shape],
+    shapes: &[Shape<'_>],
     store: &mut Store,
     probe: &mut P,
 ) -> Option<Option<i128>>
@@ -115,7 +115,7 @@ fn test_call<P: Probe>(
 pub(crate) fn test_calls<P: Probe>(
     calls: &[Call],
     program: &Instrumented<'_>,
-    shapes: &[Shape],
+    shapes: &[Shape<'_>],
     store: &mut Store,
     done: &mut Stack<CallDone>,
     probe: &mut P,

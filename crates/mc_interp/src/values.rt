@@ -1,4 +1,5 @@
 //! What calls take and give.
+use crate::prepared::Prepared;
 use mc_value::IntType;
 
 /// An array that an array parameter names: its first cell, and its length.
@@ -32,9 +33,10 @@ impl Default for Passed {
 }
 
 /// What an activation of a function takes: its levels, where they are fewer than 2^32, and its
-/// cells.
-#[derive(Clone, Copy)]
-pub(crate) struct Shape {
+/// cells; and the body that it runs.
+#[derive(Drop)]
+pub(crate) struct Shape<'p> {
     pub levels: u32,
     pub cells: u32,
+    pub body: Vec<Prepared<'p>>,
 }

@@ -61,6 +61,25 @@ returned 100 -@t,f,1,,0,@int f(int n){int t[30000];t[0]=n;return n?f(n-1):0;}
 cells 100 -@t,f,2,,,@int f(int n){int t[30000];t[0]=n;return n?f(n-1):0;}
 returned 100 -@t,f,,,5,@int s[65535];int f(void){int a=5;return a;}
 cells 100 -@t,f,,,,@int s[65535];int f(void){int a=5;int b=6;return a;}
+# decisions and assignments of local objects and constants
+trap-unset 100 -@t,f,1,,,@int f(int b){int a;if(a<b)return 1;return 0;}
+trap-unset 100 -@t,f,1,,,@int f(int a){int b;if(a<b)return 1;return 0;}
+returned 100 -@t,f,-1 0,,1,$t,f,0 0,,0,$t,f,-1 1,,0,@int f(int a,int b){if(a<0&&b<1)return 1;return 0;}
+returned 100 -@t,f,0 0,,1,$t,f,0 5,,0,$t,f,5 5,,1,@int f(int a,int b){if(a||!b)return 1;return 0;}
+trap-unset 100 -@t,f,,,,@void f(void){int s;s+=1;}
+trap-unset 100 -@t,f,2,,,@int f(int a){int b;a+=b;return a;}
+trap-unset 100 -@t,f,,,,@void f(void){int a;int b;a=b;}
+trap-overflow 100 -@t,f,2147483647,,,@int f(int a){a+=1;return a;}
+trap-overflow 100 -@t,f,-2147483648 -1,,,@int f(int a,int b){a+=b;return a;}
+returned 100 -@t,f,4294967295 1,,0,@int f(unsigned a,unsigned b){if(a<b)return 1;return 0;}
+returned 100 -@t,f,-1 1,,1,@int f(int a,int b){if(a<b)return 1;return 0;}
+returned 100 -@t,f,18446744073709551615 1,,1,@int f(unsigned long a,unsigned long b){if(a>b)return 1;return 0;}
+returned 100 -@t,f,4294967296,,1,$t,f,0,,0,@int f(long a){if(a)return 1;return 0;}
+returned 100 -@t,f,3,,6,@int f(int n){int s=0;while(n!=0){s+=n;n-=1;}return s;}
+returned 100 -@t,f,0,,1,$t,f,3,,3,@int f(int n){int s=0;do{s++;}while(s<n);return s;}
+returned 100 -@t,f,2 2,,7,$t,f,2 3,,8,@int f(int a,int b){int r;if(a==b)r=7;else r=8;return r;}
+returned 100 -@t,f,4294967295,,0,@unsigned f(unsigned u){u+=1u;return u;}
+returned 9 1@t,f,2 -1,,0,@int f(int n,int m){while(n>0){n+=m;}return n;}
 # activations
 returned 100 -@t,f,3,,0,@int f(int n){return n>0&&f(n-1);}
 returned 100 -@t,f,3,,123,@int f(int n){int x=n;int r=0;if(n)r=f(n-1);return r+(x==3?100:x==2?20:x==1?3:0);}

@@ -1,4 +1,4 @@
-use Rattle.std.proofs.Common.{ℕ, sym, ap, subst, ◌∙◌, Option, None, option_map}
+use Rattle.std.proofs.Common.{ℕ, sym, ap, subst, ◌∙◌, None, option_map}
 use Rattle.mc_steps.specs.Runs.{Run}
 use Rattle.mc_steps.specs.Statements.{Given}
 use Rattle.mc_probe.specs.Flat.{Flat}
@@ -7,7 +7,7 @@ use Rattle.mc_probe.specs.Views as view
 use Rattle.mc_interp.specs.Frames.{activation_of}
 use Rattle.mc_interp.specs.Stores.{given_of, Did}
 use Rattle.mc_interp.proofs.Exits.{did_entered, none_hit}
-use Rattle.mc_interp.proofs.Opened.{few_called, if_then}
+use Rattle.mc_interp.proofs.Opened.{body_is, few_called, if_then}
 use Rattle.mc_interp.proofs.Runs.{did_no_more, did_told}
 use Rattle.mc_interp.proofs.calls.+invoke.Goals as goal
 
@@ -45,3 +45,10 @@ returns-in-Some-clause-keeps g t c =
 
 pub lend-requires-clause-few : goal.lend-requires-clause-few
 lend-requires-clause-few g t c = few_called c.args.called c.args.store.now _ c.requires.ready
+
+pub body-requires-clause-same : goal.body-requires-clause-same
+body-requires-clause-same g t c =
+    let k = c.args.called in
+    let o = rw c.in-Some.is at c.begin-opened.ensures.opened in
+    rw c.deref.ensures.value
+    (body_is k.program.now k.shapes.now k.function c.in-Some.frame.function.now c.shape_at-shape.result.now c.requires.ready.shapes o.function c.shape_at-shape.ensures)

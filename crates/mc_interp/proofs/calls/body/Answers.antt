@@ -3,19 +3,22 @@ use Rattle.mc_probe.specs.Views as view
 use Rattle.mc_interp.specs.Bodies.{flow_of}
 use Rattle.mc_interp.specs.Stores.{given_of, state_of}
 use Rattle.mc_interp.specs.Frames.{activation_of, scope_in}
-use Rattle.mc_interp.proofs.Equations.{any_statements}
 use Rattle.mc_interp.proofs.Kept.{kept_then, ready_kept}
 use Rattle.mc_interp.proofs.Endings.{did_inside, did_inside_end}
 use Rattle.mc_interp.proofs.Finishing.{can_hand_on, is_handed_on, result_of_call}
+use Rattle.mc_interp.proofs.Opened.{body_sound}
 use Rattle.mc_interp.proofs.calls.body.Goals as goal
 
 pub statements-requires-clause-sound : goal.statements-requires-clause-sound
 statements-requires-clause-sound g c =
-    rw c.deref.ensures.value (any_statements _ (scope_in c.args.frame.now) _ c.requires.ready.whole.body)
+    body_sound c.args.frame.now.function.now c.args.items.now (scope_in c.args.frame.now) _ c.requires.same c.requires.ready.whole.body
+
+pub statements-requires-clause-fits : goal.statements-requires-clause-fits
+statements-requires-clause-fits g c = rw c.requires.same c.requires.fits
 
 pub returns-in_err-flow-clause-did : goal.returns-in_err-flow-clause-did
 returns-in_err-flow-clause-did g c =
-    let k = rw c.deref.ensures.value at c.in_err-flow.ensures.did in
+    let k = rw c.requires.same at c.in_err-flow.ensures.did in
     rw c.from_residual.ensures
     (did_inside_end g.P.Probe.leads g.met.P.Probe.stays g.met.P.Probe.joins (activation_of c.args.frame.now) (view.function_of c.args.frame.now.function.now) c.args.into (state_of c.args.store.now)
     c.statements.new.store c.args.probe.now c.statements.new.probe k)
@@ -30,7 +33,7 @@ finish-requires-clause-copy g c =
 
 pub returns-clause-did : goal.returns-clause-did
 returns-clause-did g c =
-    let k = rw c.deref.ensures.value at c.in_ok-flow.ensures.did in
+    let k = rw c.requires.same at c.in_ok-flow.ensures.did in
     did_inside g.P.Probe.leads g.met.P.Probe.stays g.met.P.Probe.joins (activation_of c.args.frame.now) (view.function_of c.args.frame.now.function.now) c.args.into (state_of c.args.store.now)
     c.statements.new.store c.close.new.store c.finish.new.self (flow_of c.in_ok-flow.flow c.statements.new.store) (given_of c.close.new.store.given) (given_of c.finish.new.self.given)
     c.args.probe.now c.statements.new.probe c.close.new.probe k c.close.ensures.did c.finish.ensures.ran

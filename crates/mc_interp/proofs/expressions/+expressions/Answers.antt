@@ -22,19 +22,21 @@ use Rattle.mc_interp.proofs.expressions.+expressions.Goals as goal
 pub inner-returns-in_err-second-in-Binary-clause-did : goal.inner-returns-in_err-second-in-Binary-clause-did
 inner-returns-in_err-second-in-Binary-clause-did g t c =
     let M = g.P.Probe.leads in let N = g.met.P.Probe.stays in let J = g.met.P.Probe.joins in
-    rw (c.from_residual-in_err-second-in-Binary.ensures, c.in-Binary.is, view_binary, ← c.deref-in-Binary.ensures, ← c.deref-in-Binary-2.ensures)
-    (did_then M N J _ _ _ _ _ _ _ _ _ c.in_ok-first-in-Binary.ensures.did (did_end M N J _ _ _ _ _ c.in_err-second-in-Binary.ensures.did))
+    let d = rw (c.deref-in-Binary.ensures, c.in_order-operands.ensures.first) at c.in_ok-first-in-Binary.ensures.did in
+    let e = rw (c.deref-in-Binary-2.ensures, c.in_order-operands.ensures.second) at c.in_err-second-in-Binary.ensures.did in
+    rw (c.from_residual-in_err-second-in-Binary.ensures, c.in-Binary.is, view_binary)
+    (did_then M N J _ _ _ _ _ _ _ _ _ d (did_end M N J _ _ _ _ _ e))
 
 pub inner-operate-requires-clause-left : goal.inner-operate-requires-clause-left
 inner-operate-requires-clause-left g t c =
     let s = rw (c.in-Binary.is, plain_binary) at c.requires.sound in
-    let h = rw c.deref-in-Binary.ensures at c.in_ok-first-in-Binary.ensures.typed in
+    let h = rw (c.deref-in-Binary.ensures, c.in_order-operands.ensures.first) at c.in_ok-first-in-Binary.ensures.typed in
     is_left c.in-Binary.operator c.in-Binary.of _ _ c.in_ok-first-in-Binary.first s.2 h
 
 pub inner-operate-requires-clause-right : goal.inner-operate-requires-clause-right
 inner-operate-requires-clause-right g t c =
     let s = rw (c.in-Binary.is, plain_binary) at c.requires.sound in
-    let h = rw c.deref-in-Binary-2.ensures at c.in_ok-second-in-Binary.ensures.typed in
+    let h = rw (c.deref-in-Binary-2.ensures, c.in_order-operands.ensures.second) at c.in_ok-second-in-Binary.ensures.typed in
     is_right c.in-Binary.operator c.in-Binary.of _ _ c.in_ok-second-in-Binary.second s.2 h
 
 pub inner-returns-in_ok-second-in-Binary-clause-did : goal.inner-returns-in_ok-second-in-Binary-clause-did
@@ -42,8 +44,8 @@ inner-returns-in_ok-second-in-Binary-clause-did g t c =
     let M = g.P.Probe.leads in let N = g.met.P.Probe.stays in let J = g.met.P.Probe.joins in
     let W = activation_of c.args.frame.now in let S = state_of c.args.store.now in
     let s = rw (c.in-Binary.is, plain_binary) at c.requires.sound in
-    let d = rw c.deref-in-Binary.ensures at c.in_ok-first-in-Binary.ensures.did in
-    let e = rw c.deref-in-Binary-2.ensures at c.in_ok-second-in-Binary.ensures.did in
+    let d = rw (c.deref-in-Binary.ensures, c.in_order-operands.ensures.first) at c.in_ok-first-in-Binary.ensures.did in
+    let e = rw (c.deref-in-Binary-2.ensures, c.in_order-operands.ensures.second) at c.in_ok-second-in-Binary.ensures.did in
     rw (c.in-Binary.is, view_binary, plain_binary)
     (did_operated M N J c.in-Binary.operator c.in-Binary.of _ _ (does.value_of W (view.expression_of c.in-Binary.left.value)) (does.value_of W (view.expression_of c.in-Binary.right.value)) S c.in_ok-first-in-Binary.first c.in_ok-second-in-Binary.second _ _ _ _ _ _ _ _
     s.2 d e c.operate.ensures.value c.give-in-Binary.ensures.ran)
@@ -226,8 +228,8 @@ truth-returns-in_err-second-in-Some-clause-did g t c =
     let M = g.P.Probe.leads in let N = g.met.P.Probe.stays in let J = g.met.P.Probe.joins in
     let W = activation_of c.args.frame.now in let S = state_of c.args.store.now in
     let r = rw c.in-Some.is at c.comparison.ensures in
-    let d = rw c.deref-in-Some.ensures at c.in_ok-first-in-Some.ensures.did in
-    let e = rw c.deref-in-Some-2.ensures at c.in_err-second-in-Some.ensures.did in
+    let d = rw (c.deref-in-Some.ensures, c.in_order-operands.ensures.first) at c.in_ok-first-in-Some.ensures.did in
+    let e = rw (c.deref-in-Some-2.ensures, c.in_order-operands.ensures.second) at c.in_err-second-in-Some.ensures.did in
     rw (c.from_residual-in_err-second-in-Some.ensures, c.in-Binary.is, view_binary, r.0)
     (did_compared_right M N J c.in-Some.compared c.in-Binary.of (does.value_of W (view.expression_of c.in-Binary.left.value)) (does.value_of W (view.expression_of c.in-Binary.right.value)) S _ _ _ _ _ _ d e)
 
@@ -238,8 +240,8 @@ truth-returns-in_ok-second-in-Some-clause-did g t c =
     let r = rw c.in-Some.is at c.comparison.ensures in
     let s = rw (c.in-Binary.is, plain_binary) at c.requires.sound in
     let h = rw r.0 at s.2 in
-    let d = rw c.deref-in-Some.ensures at c.in_ok-first-in-Some.ensures.did in
-    let e = rw c.deref-in-Some-2.ensures at c.in_ok-second-in-Some.ensures.did in
+    let d = rw (c.deref-in-Some.ensures, c.in_order-operands.ensures.first) at c.in_ok-first-in-Some.ensures.did in
+    let e = rw (c.deref-in-Some-2.ensures, c.in_order-operands.ensures.second) at c.in_ok-second-in-Some.ensures.did in
     rw (c.in-Binary.is, view_binary, r.0)
     (did_compared M N J c.in-Some.compared c.in-Binary.of (does.value_of W (view.expression_of c.in-Binary.left.value)) (does.value_of W (view.expression_of c.in-Binary.right.value)) S _ _ c.in_ok-first-in-Some.first c.in_ok-second-in-Some.second c.compare.result _ _ _ _ _ h d e c.compare.ensures)
 

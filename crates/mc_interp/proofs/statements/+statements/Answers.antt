@@ -1,5 +1,5 @@
-use Rattle.std.proofs.Common.{◌+◌, map, drop, Some, None, option_map, refl, sym, ◌∙◌, arith, rules}
-use Rattle.mc_typed.specs.Sound.{type_of}
+use Rattle.std.proofs.Common.{◌+◌, map, drop, Some, None, option_map, refl, sym, subst, ◌∙◌, arith, rules}
+use Rattle.mc_typed.specs.Sound.{type_of, AreDeclarators, IsExpression, IsReturn}
 use Rattle.mc_typed.specs.Views as plain
 use Rattle.mc_steps.specs.Runs.{gives}
 use Rattle.mc_steps.specs.Statements.{Completed}
@@ -9,13 +9,17 @@ use Rattle.mc_probe.specs.Expressions.{value_of}
 use Rattle.mc_probe.specs.Probes.{mark_does}
 use Rattle.mc_probe.specs.Statements as does
 use Rattle.mc_probe.specs.Views as view
-use Rattle.mc_interp.specs.Bodies.{flow_of, labels_in, seek_of}
+use Rattle.mc_probe.proofs.Erased.{expression_erases}
+use Rattle.mc_interp.specs.Bodies.{flow_of, labels_in, seek_of, IsAnyStart}
 use Rattle.mc_interp.specs.Stores.{state_of}
+use Rattle.mc_interp.specs.Views as prepared
 use Rattle.mc_interp.specs.Frames.{activation_of, scope_in}
 use Rattle.mc_interp.proofs.Runs.{did_then, did_gives}
 use Rattle.mc_interp.proofs.Rests.{if_none}
 use Rattle.mc_interp.proofs.Kept.{kept_same, kept_then, if_kept, ready_kept}
-use Rattle.mc_interp.proofs.BodyShapes.{view_do, view_for, view_if, view_if_else, view_switch}
+use Rattle.mc_interp.proofs.BodyShapes.{view_declaration, view_do, view_for, view_if, view_if_else, view_return, view_switch}
+use Rattle.mc_interp.proofs.Erasings.{declarators_erase, return_erases, start_erases}
+use Rattle.mc_interp.proofs.Fronts.{did_effect, did_effect_end}
 use Rattle.mc_interp.proofs.Equations.{absent_fits, end_typed, label_fits, next_is, next_typed}
 use Rattle.mc_interp.proofs.Bodies.{did_if_else, did_if_end, did_if_then, did_do, did_do_out, did_item, did_label, did_passed, did_statement, did_statement_end, did_switch, did_switch_end, did_switch_stop, did_turn_body_end, did_turn_end, did_turn_on, did_turn_out, did_turn_over, did_turn_step_end}
 use Rattle.mc_interp.proofs.Turnings.{running_done, running_end, running_here, running_last, running_out, running_start, running_step, turning_end, turning_out, turning_start, turning_step}
@@ -25,12 +29,12 @@ use Rattle.mc_interp.proofs.statements.+statements.Goals as goal
 
 pub item-at_label-requires-clause-fits : goal.item-at_label-requires-clause-fits
 item-at_label-requires-clause-fits g t c =
-    label_fits c.args.frame.now.function.now.registers (view.statement_of c.args.tree.now) c.in-Some.label c.requires.fits (sym c.label_of.ensures ∙ c.in-Some.is)
+    label_fits c.args.frame.now.function.now.registers (prepared.statement_of c.args.tree.now) c.in-Some.label c.requires.fits (sym c.label_of.ensures ∙ c.in-Some.is)
 
 pub item-returns-in-Some-clause-did : goal.item-returns-in-Some-clause-did
 item-returns-in-Some-clause-did g t c =
     let M = g.P.Probe.leads in let N = g.met.P.Probe.stays in let J = g.met.P.Probe.joins in
-    did_label M N J (activation_of c.args.frame.now) (view.statement_of c.args.tree.now) (state_of c.args.store.now) (seek_of c.args.seek) c.in-Some.label
+    did_label M N J (activation_of c.args.frame.now) (prepared.statement_of c.args.tree.now) (state_of c.args.store.now) (seek_of c.args.seek) c.in-Some.label
     (seek_of c.at_label.result) c.at_label.new.store c.args.probe.now c.at_label.new.probe (sym c.label_of.ensures ∙ c.in-Some.is) c.at_label.ensures.did
 
 pub item-returns-in-Some-clause-kept : goal.item-returns-in-Some-clause-kept
@@ -39,7 +43,7 @@ item-returns-in-Some-clause-kept g t c = c.at_label.ensures.kept
 pub item-returns-then-not-is_running-clause-did : goal.item-returns-then-not-is_running-clause-did
 item-returns-then-not-is_running-clause-did g t c =
     let M = g.P.Probe.leads in let N = g.met.P.Probe.stays in let J = g.met.P.Probe.joins in
-    did_passed M N J (activation_of c.args.frame.now) (view.statement_of c.args.tree.now) (seek_of c.args.seek) c.args.store.now c.args.probe.now
+    did_passed M N J (activation_of c.args.frame.now) (prepared.statement_of c.args.tree.now) (seek_of c.args.seek) c.args.store.now c.args.probe.now
     (sym c.label_of.ensures ∙ c.in_default.is) (sym c.is_running.ensures ∙ c.if-not-is_running.true)
 
 pub item-returns-then-not-is_running-clause-kept : goal.item-returns-then-not-is_running-clause-kept
@@ -49,7 +53,7 @@ pub item-returns-in_err-flow-clause-did : goal.item-returns-in_err-flow-clause-d
 item-returns-in_err-flow-clause-did g t c =
     let M = g.P.Probe.leads in let N = g.met.P.Probe.stays in let J = g.met.P.Probe.joins in
     rw c.from_residual.ensures
-    (did_item M N J (activation_of c.args.frame.now) (view.statement_of c.args.tree.now) (state_of c.args.store.now) (seek_of c.args.seek) None
+    (did_item M N J (activation_of c.args.frame.now) (prepared.statement_of c.args.tree.now) (state_of c.args.store.now) (seek_of c.args.seek) None
     c.statement.new.store c.args.probe.now c.statement.new.probe (sym c.label_of.ensures ∙ c.in_default.is) (sym c.is_running.ensures ∙ c.if-not-is_running.false)
     c.in_err-flow.ensures.did)
 
@@ -57,7 +61,7 @@ pub item-returns-clause-did : goal.item-returns-clause-did
 item-returns-clause-did g t c =
     let M = g.P.Probe.leads in let N = g.met.P.Probe.stays in let J = g.met.P.Probe.joins in
     rw (c.next_after.ensures, next_is c.in_ok-flow.flow c.statement.new.store)
-    (did_item M N J (activation_of c.args.frame.now) (view.statement_of c.args.tree.now) (state_of c.args.store.now) (seek_of c.args.seek)
+    (did_item M N J (activation_of c.args.frame.now) (prepared.statement_of c.args.tree.now) (state_of c.args.store.now) (seek_of c.args.seek)
     (Some (flow_of c.in_ok-flow.flow c.statement.new.store)) c.statement.new.store c.args.probe.now c.statement.new.probe
     (sym c.label_of.ensures ∙ c.in_default.is) (sym c.is_running.ensures ∙ c.if-not-is_running.false) c.in_ok-flow.ensures.did)
 
@@ -67,29 +71,95 @@ item-returns-clause-typed g t c =
 
 -- ---- statements
 
-pub statement-returns-in_err-counted-clause-did : goal.statement-returns-in_err-counted-clause-did
-statement-returns-in_err-counted-clause-did g t c =
+pub other-returns-in_err-counted-clause-did : goal.other-returns-in_err-counted-clause-did
+other-returns-in_err-counted-clause-did g t c =
     let M = g.P.Probe.leads in let N = g.met.P.Probe.stays in let J = g.met.P.Probe.joins in
     let h = rw c.count_of.ensures at c.in_err-counted.ensures.did in
     rw c.from_residual.ensures
-    (did_statement_end M N J (activation_of c.args.frame.now) (view.statement_of c.args.tree.now) (state_of c.args.store.now) c.counted.new.store c.args.probe.now c.counted.new.probe h)
+    (did_statement_end M N J (activation_of c.args.frame.now) (prepared.statement_of c.args.tree.now) (state_of c.args.store.now) c.counted.new.store c.args.probe.now c.counted.new.probe h)
 
-pub statement-act-requires : goal.statement-act-requires
-statement-act-requires g t c κs h =
+pub other-act-requires : goal.other-act-requires
+other-act-requires g t c κs h =
     let k = c.counted.ensures.kept (scope_in c.args.frame.now) (activation_of c.args.frame.now) in
     let r = ready_kept c.args.frame.now c.args.store.now c.counted.new.store _ _ c.requires.ready k c.counted.ensures.bits in
     (search rules, (search rules, (search rules, (c.requires.sound, (c.requires.fits, (r, c.requires.invokes))))))
 
-pub statement-returns-clause-did : goal.statement-returns-clause-did
-statement-returns-clause-did g t c =
+pub other-returns-clause-did : goal.other-returns-clause-did
+other-returns-clause-did g t c =
     let M = g.P.Probe.leads in let N = g.met.P.Probe.stays in let J = g.met.P.Probe.joins in
     let h = rw c.count_of.ensures at c.in_ok-counted.ensures.did in
-    did_statement M N J (activation_of c.args.frame.now) (view.statement_of c.args.tree.now) (state_of c.args.store.now) c.counted.new.store _ _ c.args.probe.now c.counted.new.probe _ h
+    did_statement M N J (activation_of c.args.frame.now) (prepared.statement_of c.args.tree.now) (state_of c.args.store.now) c.counted.new.store _ _ c.args.probe.now c.counted.new.probe _ h
     c.act.ensures.did
 
-pub statement-returns-clause-kept : goal.statement-returns-clause-kept
-statement-returns-clause-kept g t c =
+pub other-returns-clause-kept : goal.other-returns-clause-kept
+other-returns-clause-kept g t c =
     if_kept _ _ _ _ _ c.act.result (c.counted.ensures.kept (scope_in c.args.frame.now) (activation_of c.args.frame.now)) c.act.ensures.kept
+
+-- ---- statements that run without a further call
+
+pub statement-returns-in_err-counted-in-Effect-clause-did : goal.statement-returns-in_err-counted-in-Effect-clause-did
+statement-returns-in_err-counted-in-Effect-clause-did g t c =
+    let M = g.P.Probe.leads in let N = g.met.P.Probe.stays in let J = g.met.P.Probe.joins in
+    rw c.from_residual.ensures
+    (did_effect_end M N J (activation_of c.args.frame.now) c.args.tree.now c.in-Effect.is (state_of c.args.store.now) c.counted.new.store c.args.probe.now c.counted.new.probe
+    c.in_err-counted-in-Effect.ensures.did)
+
+pub statement-effect_statement-requires-clause-ready : goal.statement-effect_statement-requires-clause-ready
+statement-effect_statement-requires-clause-ready g t c =
+    ready_kept c.args.frame.now c.args.store.now c.counted.new.store _ _ c.requires.ready (c.counted.ensures.kept (scope_in c.args.frame.now) (activation_of c.args.frame.now)) c.counted.ensures.bits
+
+pub statement-returns-in_ok-counted-in-Effect-clause-did : goal.statement-returns-in_ok-counted-in-Effect-clause-did
+statement-returns-in_ok-counted-in-Effect-clause-did g t c =
+    let M = g.P.Probe.leads in let N = g.met.P.Probe.stays in let J = g.met.P.Probe.joins in
+    did_effect M N J (activation_of c.args.frame.now) c.args.tree.now c.in-Effect.is (state_of c.args.store.now) c.counted.new.store _ _ c.args.probe.now c.counted.new.probe _
+    c.in_ok-counted-in-Effect.ensures.did c.effect_statement.ensures.did
+
+pub statement-returns-in_ok-counted-in-Effect-clause-kept : goal.statement-returns-in_ok-counted-in-Effect-clause-kept
+statement-returns-in_ok-counted-in-Effect-clause-kept g t c =
+    if_kept _ _ _ _ _ c.effect_statement.result (c.counted.ensures.kept (scope_in c.args.frame.now) (activation_of c.args.frame.now)) c.effect_statement.ensures.kept
+
+pub statement-returns-in_err-counted-in-Effect-clause-typed : goal.statement-returns-in_err-counted-in-Effect-clause-typed
+statement-returns-in_err-counted-in-Effect-clause-typed g t c = if_none _ _ c.from_residual.ensures
+
+pub statement-returns-in_err-counted-in-Effect-clause-kept : goal.statement-returns-in_err-counted-in-Effect-clause-kept
+statement-returns-in_err-counted-in-Effect-clause-kept g t c = if_none _ _ c.from_residual.ensures
+
+pub statement-returns-in_err-counted-in-Effect-clause-bits : goal.statement-returns-in_err-counted-in-Effect-clause-bits
+statement-returns-in_err-counted-in-Effect-clause-bits g t c = c.in_err-counted-in-Effect.ensures.bits
+
+pub statement-returns-in_err-counted-in-Effect-clause-limits : goal.statement-returns-in_err-counted-in-Effect-clause-limits
+statement-returns-in_err-counted-in-Effect-clause-limits g t c = c.in_err-counted-in-Effect.ensures.limits
+
+pub statement-returns-in_ok-counted-in-Effect-clause-typed : goal.statement-returns-in_ok-counted-in-Effect-clause-typed
+statement-returns-in_ok-counted-in-Effect-clause-typed g t c = c.effect_statement.ensures.typed
+
+pub statement-returns-in_ok-counted-in-Effect-clause-bits : goal.statement-returns-in_ok-counted-in-Effect-clause-bits
+statement-returns-in_ok-counted-in-Effect-clause-bits g t c = c.effect_statement.ensures.bits ∙ c.in_ok-counted-in-Effect.ensures.bits
+
+pub statement-returns-in_ok-counted-in-Effect-clause-limits : goal.statement-returns-in_ok-counted-in-Effect-clause-limits
+statement-returns-in_ok-counted-in-Effect-clause-limits g t c = c.effect_statement.ensures.limits ∙ c.in_ok-counted-in-Effect.ensures.limits
+
+-- ---- what the program's own parts need
+
+pub act-value-requires-clause-sound : goal.act-value-requires-clause-sound
+act-value-requires-clause-sound g t c =
+    let h = rw (c.in-Switch.is, view_switch) at c.requires.sound in
+    subst (λ e. IsExpression e (scope_in c.args.frame.now)) (expression_erases c.in-Switch.controlling.now) h.0
+
+pub act-declaration-requires-clause-sound : goal.act-declaration-requires-clause-sound
+act-declaration-requires-clause-sound g t c =
+    let h = rw (c.in-Declaration.is, view_declaration) at c.requires.sound in
+    subst (λ l. AreDeclarators l (scope_in c.args.frame.now)) (declarators_erase c.in-Declaration.declarators.now) h
+
+pub act-for_start-requires-clause-sound : goal.act-for_start-requires-clause-sound
+act-for_start-requires-clause-sound g t c =
+    let h = rw (c.in-For.is, view_for) at c.requires.sound in
+    subst (λ s. IsAnyStart s (scope_in c.args.frame.now)) (start_erases c.in-For.start.now) h.0
+
+pub act-return_statement-requires-clause-sound : goal.act-return_statement-requires-clause-sound
+act-return_statement-requires-clause-sound g t c =
+    let h = rw (c.in-Return.is, view_return) at c.requires.sound in
+    subst (λ r. IsReturn r (scope_in c.args.frame.now).result (scope_in c.args.frame.now)) (return_erases c.in-Return.value.now) h
 
 -- ---- the items of a body
 
@@ -163,7 +233,7 @@ pub repeat-loop-turned-init : goal.repeat-loop-turned-init
 repeat-loop-turned-init g t c =
     let W = activation_of c.args.frame.now in
     turning_start g.P.Probe.bits g.P.Probe.leads g.met.P.Probe.stays g.met.P.Probe.joins c.args.frame.now
-    (does.test_of W (option_map (λ e. view.expression_of e.now) c.args.test)) (does.statement_of W (view.statement_of c.args.body.now)) (does.effects_of W (map view.effect_of c.args.step.now))
+    (does.test_of W (option_map (λ e. prepared.test_of e.now) c.args.test)) (does.statement_of W (prepared.statement_of c.args.body.now)) (does.effects_of W (map prepared.effect_of c.args.step.now))
     c.args.store.now c.args.probe.now c.requires.ready
 
 pub repeat-returns-in_err-turned-clause-did : goal.repeat-returns-in_err-turned-clause-did
@@ -171,7 +241,7 @@ repeat-returns-in_err-turned-clause-did g t c =
     let W = activation_of c.args.frame.now in
     rw c.from_residual.ensures
     (turning_end g.P.Probe.bits g.P.Probe.leads g.met.P.Probe.stays g.met.P.Probe.joins c.args.frame.now
-    (does.test_of W (option_map (λ e. view.expression_of e.now) c.args.test)) (does.statement_of W (view.statement_of c.args.body.now)) (does.effects_of W (map view.effect_of c.args.step.now))
+    (does.test_of W (option_map (λ e. prepared.test_of e.now) c.args.test)) (does.statement_of W (prepared.statement_of c.args.body.now)) (does.effects_of W (map prepared.effect_of c.args.step.now))
     c.args.store.now c.loop-turned.store c.turn.new.store c.args.probe.now c.loop-turned.probe c.turn.new.probe c.loop-turned.invariant c.in_err-turned.ensures.did)
 
 pub repeat-returns-in_err-turned-clause-bits : goal.repeat-returns-in_err-turned-clause-bits
@@ -185,7 +255,7 @@ repeat-returns-in-Some-clause-did g t c =
     let W = activation_of c.args.frame.now in
     let d = rw c.in-Some.is at c.in_ok-turned.ensures.did in
     turning_out g.P.Probe.bits g.P.Probe.leads g.met.P.Probe.stays g.met.P.Probe.joins c.args.frame.now
-    (does.test_of W (option_map (λ e. view.expression_of e.now) c.args.test)) (does.statement_of W (view.statement_of c.args.body.now)) (does.effects_of W (map view.effect_of c.args.step.now))
+    (does.test_of W (option_map (λ e. prepared.test_of e.now) c.args.test)) (does.statement_of W (prepared.statement_of c.args.body.now)) (does.effects_of W (map prepared.effect_of c.args.step.now))
     c.args.store.now c.loop-turned.store c.turn.new.store c.args.probe.now c.loop-turned.probe c.turn.new.probe (flow_of c.in-Some.flow c.turn.new.store) c.loop-turned.invariant d
 
 pub repeat-returns-in-Some-clause-typed : goal.repeat-returns-in-Some-clause-typed
@@ -205,7 +275,7 @@ repeat-loop-turned-preserved g t c =
     let W = activation_of c.args.frame.now in
     let d = rw c.in_default.is at c.in_ok-turned.ensures.did in
     turning_step g.P.Probe.bits g.P.Probe.leads g.met.P.Probe.stays g.met.P.Probe.joins c.args.frame.now
-    (does.test_of W (option_map (λ e. view.expression_of e.now) c.args.test)) (does.statement_of W (view.statement_of c.args.body.now)) (does.effects_of W (map view.effect_of c.args.step.now))
+    (does.test_of W (option_map (λ e. prepared.test_of e.now) c.args.test)) (does.statement_of W (prepared.statement_of c.args.body.now)) (does.effects_of W (map prepared.effect_of c.args.step.now))
     c.args.store.now c.loop-turned.store c.turn.new.store c.args.probe.now c.loop-turned.probe c.turn.new.probe c.loop-turned.invariant d
     c.in_ok-turned.ensures.kept c.in_ok-turned.ensures.less c.in_ok-turned.ensures.bits c.in_ok-turned.ensures.limits
 
@@ -216,14 +286,14 @@ turn-returns-in_err-goes_on-clause-did g t c =
     let M = g.P.Probe.leads in let N = g.met.P.Probe.stays in let J = g.met.P.Probe.joins in
     let W = activation_of c.args.frame.now in
     rw c.from_residual.ensures
-    (did_turn_end M N J (does.test_of W (option_map (λ e. view.expression_of e.now) c.args.test)) (does.statement_of W (view.statement_of c.args.body.now)) (does.effects_of W (map view.effect_of c.args.step.now))
+    (did_turn_end M N J (does.test_of W (option_map (λ e. prepared.test_of e.now) c.args.test)) (does.statement_of W (prepared.statement_of c.args.body.now)) (does.effects_of W (map prepared.effect_of c.args.step.now))
     (state_of c.args.store.now) c.turn_begins.new.store c.args.probe.now c.turn_begins.new.probe c.in_err-goes_on.ensures.did)
 
 pub turn-returns-then-not-goes_on-clause-did : goal.turn-returns-then-not-goes_on-clause-did
 turn-returns-then-not-goes_on-clause-did g t c =
     let M = g.P.Probe.leads in let N = g.met.P.Probe.stays in let J = g.met.P.Probe.joins in
     let W = activation_of c.args.frame.now in
-    did_turn_over M N J (does.test_of W (option_map (λ e. view.expression_of e.now) c.args.test)) (does.statement_of W (view.statement_of c.args.body.now)) (does.effects_of W (map view.effect_of c.args.step.now))
+    did_turn_over M N J (does.test_of W (option_map (λ e. prepared.test_of e.now) c.args.test)) (does.statement_of W (prepared.statement_of c.args.body.now)) (does.effects_of W (map prepared.effect_of c.args.step.now))
     (state_of c.args.store.now) c.in_ok-goes_on.goes_on c.turn_begins.new.store c.args.probe.now c.turn_begins.new.probe c.in_ok-goes_on.ensures.did c.if-not-goes_on.true
 
 pub turn-returns-in_err-flow-clause-did : goal.turn-returns-in_err-flow-clause-did
@@ -231,7 +301,7 @@ turn-returns-in_err-flow-clause-did g t c =
     let M = g.P.Probe.leads in let N = g.met.P.Probe.stays in let J = g.met.P.Probe.joins in
     let W = activation_of c.args.frame.now in
     rw c.from_residual-in_err-flow.ensures
-    (did_turn_body_end M N J (does.test_of W (option_map (λ e. view.expression_of e.now) c.args.test)) (does.statement_of W (view.statement_of c.args.body.now)) (does.effects_of W (map view.effect_of c.args.step.now))
+    (did_turn_body_end M N J (does.test_of W (option_map (λ e. prepared.test_of e.now) c.args.test)) (does.statement_of W (prepared.statement_of c.args.body.now)) (does.effects_of W (map prepared.effect_of c.args.step.now))
     (state_of c.args.store.now) c.in_ok-goes_on.goes_on c.turn_begins.new.store c.statement.new.store c.args.probe.now c.turn_begins.new.probe c.statement.new.probe c.in_ok-goes_on.ensures.did c.if-not-goes_on.false
     c.in_err-flow.ensures.did)
 
@@ -239,7 +309,7 @@ pub turn-returns-in-Some-clause-did : goal.turn-returns-in-Some-clause-did
 turn-returns-in-Some-clause-did g t c =
     let M = g.P.Probe.leads in let N = g.met.P.Probe.stays in let J = g.met.P.Probe.joins in
     let W = activation_of c.args.frame.now in
-    did_turn_out M N J (does.test_of W (option_map (λ e. view.expression_of e.now) c.args.test)) (does.statement_of W (view.statement_of c.args.body.now)) (does.effects_of W (map view.effect_of c.args.step.now))
+    did_turn_out M N J (does.test_of W (option_map (λ e. prepared.test_of e.now) c.args.test)) (does.statement_of W (prepared.statement_of c.args.body.now)) (does.effects_of W (map prepared.effect_of c.args.step.now))
     (state_of c.args.store.now) c.in_ok-goes_on.goes_on c.turn_begins.new.store c.statement.new.store c.args.probe.now c.turn_begins.new.probe c.statement.new.probe c.in_ok-goes_on.ensures.did c.if-not-goes_on.false
     c.in_ok-flow.flow c.in_ok-flow.ensures.did c.in-Some.end (sym c.loop_end.ensures ∙ c.in-Some.is)
 
@@ -253,32 +323,32 @@ turn-returns-in-Some-clause-kept g t c = kept_then _ _ _ _ _ c.in_ok-goes_on.ens
 pub turn-returns-in-Some-clause-less : goal.turn-returns-in-Some-clause-less
 turn-returns-in-Some-clause-less g t c = omega (arith, c.in_ok-goes_on.ensures.less, c.in_ok-flow.ensures.kept.fuel)
 
-pub turn-effects-requires-clause-ready : goal.turn-effects-requires-clause-ready
-turn-effects-requires-clause-ready g t c =
+pub turn-perform_all-requires-clause-ready : goal.turn-perform_all-requires-clause-ready
+turn-perform_all-requires-clause-ready g t c =
     ready_kept c.args.frame.now c.args.store.now c.statement.new.store _ _ c.requires.ready (kept_then _ _ _ _ _ c.in_ok-goes_on.ensures.kept c.in_ok-flow.ensures.kept) (c.in_ok-flow.ensures.bits ∙ c.in_ok-goes_on.ensures.bits)
 
-pub turn-returns-in_err-effects-clause-did : goal.turn-returns-in_err-effects-clause-did
-turn-returns-in_err-effects-clause-did g t c =
+pub turn-returns-in_err-perform_all-clause-did : goal.turn-returns-in_err-perform_all-clause-did
+turn-returns-in_err-perform_all-clause-did g t c =
     let M = g.P.Probe.leads in let N = g.met.P.Probe.stays in let J = g.met.P.Probe.joins in
     let W = activation_of c.args.frame.now in
-    rw c.from_residual-in_err-effects.ensures
-    (did_turn_step_end M N J (does.test_of W (option_map (λ e. view.expression_of e.now) c.args.test)) (does.statement_of W (view.statement_of c.args.body.now)) (does.effects_of W (map view.effect_of c.args.step.now))
+    rw c.from_residual-in_err-perform_all.ensures
+    (did_turn_step_end M N J (does.test_of W (option_map (λ e. prepared.test_of e.now) c.args.test)) (does.statement_of W (prepared.statement_of c.args.body.now)) (does.effects_of W (map prepared.effect_of c.args.step.now))
     (state_of c.args.store.now) c.in_ok-goes_on.goes_on c.turn_begins.new.store c.statement.new.store c.args.probe.now c.turn_begins.new.probe c.statement.new.probe c.in_ok-goes_on.ensures.did c.if-not-goes_on.false
-    c.in_ok-flow.flow c.in_ok-flow.ensures.did c.effects.new.store c.effects.new.probe (sym c.loop_end.ensures ∙ c.in_default.is) c.in_err-effects.ensures.did)
+    c.in_ok-flow.flow c.in_ok-flow.ensures.did c.perform_all.new.store c.perform_all.new.probe (sym c.loop_end.ensures ∙ c.in_default.is) c.in_err-perform_all.ensures.did)
 
 pub turn-returns-clause-did : goal.turn-returns-clause-did
 turn-returns-clause-did g t c =
     let M = g.P.Probe.leads in let N = g.met.P.Probe.stays in let J = g.met.P.Probe.joins in
     let W = activation_of c.args.frame.now in
-    did_turn_on M N J (does.test_of W (option_map (λ e. view.expression_of e.now) c.args.test)) (does.statement_of W (view.statement_of c.args.body.now)) (does.effects_of W (map view.effect_of c.args.step.now))
+    did_turn_on M N J (does.test_of W (option_map (λ e. prepared.test_of e.now) c.args.test)) (does.statement_of W (prepared.statement_of c.args.body.now)) (does.effects_of W (map prepared.effect_of c.args.step.now))
     (state_of c.args.store.now) c.in_ok-goes_on.goes_on c.turn_begins.new.store c.statement.new.store c.args.probe.now c.turn_begins.new.probe c.statement.new.probe c.in_ok-goes_on.ensures.did c.if-not-goes_on.false
-    c.in_ok-flow.flow c.in_ok-flow.ensures.did c.effects.new.store c.effects.new.probe (sym c.loop_end.ensures ∙ c.in_default.is) c.in_ok-effects.ensures.did
+    c.in_ok-flow.flow c.in_ok-flow.ensures.did c.perform_all.new.store c.perform_all.new.probe (sym c.loop_end.ensures ∙ c.in_default.is) c.in_ok-perform_all.ensures.did
 
 pub turn-returns-clause-kept : goal.turn-returns-clause-kept
-turn-returns-clause-kept g t c = kept_then _ _ _ _ _ (kept_then _ _ _ _ _ c.in_ok-goes_on.ensures.kept c.in_ok-flow.ensures.kept) c.in_ok-effects.ensures.kept
+turn-returns-clause-kept g t c = kept_then _ _ _ _ _ (kept_then _ _ _ _ _ c.in_ok-goes_on.ensures.kept c.in_ok-flow.ensures.kept) c.in_ok-perform_all.ensures.kept
 
 pub turn-returns-clause-less : goal.turn-returns-clause-less
-turn-returns-clause-less g t c = omega (arith, c.in_ok-goes_on.ensures.less, c.in_ok-flow.ensures.kept.fuel, c.in_ok-effects.ensures.kept.fuel)
+turn-returns-clause-less g t c = omega (arith, c.in_ok-goes_on.ensures.less, c.in_ok-flow.ensures.kept.fuel, c.in_ok-perform_all.ensures.kept.fuel)
 
 -- ---- what a statement does after its unit
 
@@ -287,7 +357,7 @@ act-returns-in_err-holds-in-If-clause-did g t c =
     let M = g.P.Probe.leads in let N = g.met.P.Probe.stays in let J = g.met.P.Probe.joins in
     let W = activation_of c.args.frame.now in
     rw (c.from_residual.ensures, c.in-If.is, view_if)
-    (did_if_end M N J (value_of W (view.expression_of c.in-If.test)) (does.statement_of W (view.statement_of c.in-If.chosen.value)) (gives Completed) (state_of c.args.store.now)
+    (did_if_end M N J (value_of W (prepared.test_of c.in-If.test)) (does.statement_of W (prepared.statement_of c.in-If.chosen.value)) (gives Completed) (state_of c.args.store.now)
     _ _ _ c.in_err-holds-in-If.ensures.did)
 
 pub act-returns-then-holds-clause-did : goal.act-returns-then-holds-clause-did
@@ -296,7 +366,7 @@ act-returns-then-holds-clause-did g t c =
     let W = activation_of c.args.frame.now in
     let k = rw c.deref-then-holds.ensures at c.statement.ensures.did in
     rw (c.in-If.is, view_if)
-    (did_if_then M N J (value_of W (view.expression_of c.in-If.test)) (does.statement_of W (view.statement_of c.in-If.chosen.value)) (gives Completed) (state_of c.args.store.now)
+    (did_if_then M N J (value_of W (prepared.test_of c.in-If.test)) (does.statement_of W (prepared.statement_of c.in-If.chosen.value)) (gives Completed) (state_of c.args.store.now)
     c.in_ok-holds-in-If.holds _ _ _ c.in_ok-holds-in-If.ensures.did _ _ _ c.if-holds.true k)
 
 pub act-returns-else-holds-clause-did : goal.act-returns-else-holds-clause-did
@@ -304,8 +374,8 @@ act-returns-else-holds-clause-did g t c =
     let M = g.P.Probe.leads in let N = g.met.P.Probe.stays in let J = g.met.P.Probe.joins in
     let W = activation_of c.args.frame.now in
     rw (c.in-If.is, view_if)
-    (did_if_else M N J (value_of W (view.expression_of c.in-If.test)) (does.statement_of W (view.statement_of c.in-If.chosen.value)) (gives Completed) (state_of c.args.store.now)
-    c.in_ok-holds-in-If.holds _ _ _ c.in_ok-holds-in-If.ensures.did (Some Completed) c.truth.new.store c.truth.new.probe c.if-holds.false (did_gives M N J Completed c.truth.new.store c.truth.new.probe))
+    (did_if_else M N J (value_of W (prepared.test_of c.in-If.test)) (does.statement_of W (prepared.statement_of c.in-If.chosen.value)) (gives Completed) (state_of c.args.store.now)
+    c.in_ok-holds-in-If.holds _ _ _ c.in_ok-holds-in-If.ensures.did (Some Completed) c.tested.new.store c.tested.new.probe c.if-holds.false (did_gives M N J Completed c.tested.new.store c.tested.new.probe))
 
 pub act-returns-then-holds-clause-kept : goal.act-returns-then-holds-clause-kept
 act-returns-then-holds-clause-kept g t c = if_kept _ _ _ _ _ c.statement.result c.in_ok-holds-in-If.ensures.kept c.statement.ensures.kept
@@ -315,7 +385,7 @@ act-returns-in_err-is_true-in-IfElse-clause-did g t c =
     let M = g.P.Probe.leads in let N = g.met.P.Probe.stays in let J = g.met.P.Probe.joins in
     let W = activation_of c.args.frame.now in
     rw (c.from_residual-in_err-is_true-in-IfElse.ensures, c.in-IfElse.is, view_if_else)
-    (did_if_end M N J (value_of W (view.expression_of c.in-IfElse.test)) (does.statement_of W (view.statement_of c.in-IfElse.chosen.value)) (does.statement_of W (view.statement_of c.in-IfElse.other.value)) (state_of c.args.store.now)
+    (did_if_end M N J (value_of W (prepared.test_of c.in-IfElse.test)) (does.statement_of W (prepared.statement_of c.in-IfElse.chosen.value)) (does.statement_of W (prepared.statement_of c.in-IfElse.other.value)) (state_of c.args.store.now)
     _ _ _ c.in_err-is_true-in-IfElse.ensures.did)
 
 pub act-returns-then-is_true-clause-did : goal.act-returns-then-is_true-clause-did
@@ -324,7 +394,7 @@ act-returns-then-is_true-clause-did g t c =
     let W = activation_of c.args.frame.now in
     let k = rw c.deref-then-is_true.ensures at c.statement-then-is_true.ensures.did in
     rw (c.in-IfElse.is, view_if_else)
-    (did_if_then M N J (value_of W (view.expression_of c.in-IfElse.test)) (does.statement_of W (view.statement_of c.in-IfElse.chosen.value)) (does.statement_of W (view.statement_of c.in-IfElse.other.value)) (state_of c.args.store.now)
+    (did_if_then M N J (value_of W (prepared.test_of c.in-IfElse.test)) (does.statement_of W (prepared.statement_of c.in-IfElse.chosen.value)) (does.statement_of W (prepared.statement_of c.in-IfElse.other.value)) (state_of c.args.store.now)
     c.in_ok-is_true-in-IfElse.is_true _ _ _ c.in_ok-is_true-in-IfElse.ensures.did _ _ _ c.if-is_true.true k)
 
 pub act-returns-else-is_true-clause-did : goal.act-returns-else-is_true-clause-did
@@ -333,7 +403,7 @@ act-returns-else-is_true-clause-did g t c =
     let W = activation_of c.args.frame.now in
     let k = rw c.deref-else-is_true.ensures at c.statement-else-is_true.ensures.did in
     rw (c.in-IfElse.is, view_if_else)
-    (did_if_else M N J (value_of W (view.expression_of c.in-IfElse.test)) (does.statement_of W (view.statement_of c.in-IfElse.chosen.value)) (does.statement_of W (view.statement_of c.in-IfElse.other.value)) (state_of c.args.store.now)
+    (did_if_else M N J (value_of W (prepared.test_of c.in-IfElse.test)) (does.statement_of W (prepared.statement_of c.in-IfElse.chosen.value)) (does.statement_of W (prepared.statement_of c.in-IfElse.other.value)) (state_of c.args.store.now)
     c.in_ok-is_true-in-IfElse.is_true _ _ _ c.in_ok-is_true-in-IfElse.ensures.did _ _ _ c.if-is_true.false k)
 
 pub act-returns-then-is_true-clause-kept : goal.act-returns-then-is_true-clause-kept
@@ -346,22 +416,22 @@ pub act-returns-in_err-word-in-Switch-clause-did : goal.act-returns-in_err-word-
 act-returns-in_err-word-in-Switch-clause-did g t c =
     let M = g.P.Probe.leads in let N = g.met.P.Probe.stays in let J = g.met.P.Probe.joins in
     let W = activation_of c.args.frame.now in
-    let items = view.statements_from (map view.statement_of c.in-Switch.items.items) in
+    let items = view.statements_from (map prepared.statement_of c.in-Switch.items.items) in
     rw (c.from_residual-in_err-word-in-Switch.ensures, c.in-Switch.is, view_switch)
-    (did_switch_stop M N J (value_of W (view.expression_of c.in-Switch.controlling)) (labels_in items) (does.statements_of W items) (mark_does W c.in-Switch.absent) (state_of c.args.store.now)
+    (did_switch_stop M N J (value_of W (view.expression_of c.in-Switch.controlling.now)) (labels_in items) (does.statements_of W items) (mark_does W c.in-Switch.absent) (state_of c.args.store.now)
     _ _ _ c.in_err-word-in-Switch.ensures.did)
 
 pub act-returns-in_err-flow-in-Switch-clause-did : goal.act-returns-in_err-flow-in-Switch-clause-did
 act-returns-in_err-flow-in-Switch-clause-did g t c =
     let M = g.P.Probe.leads in let N = g.met.P.Probe.stays in let J = g.met.P.Probe.joins in
     let W = activation_of c.args.frame.now in
-    let items = view.statements_from (map view.statement_of c.in-Switch.items.items) in
+    let items = view.statements_from (map prepared.statement_of c.in-Switch.items.items) in
     let of = rw c.integer_type.ensures at c.sought-seek.ensures in
     let looked = rw c.deref-in-Switch.ensures.value at of in
     let k = rw c.deref-in-Switch-2.ensures.value at c.in_err-flow-in-Switch.ensures.did in
     rw (c.from_residual-in_err-flow-in-Switch.ensures, c.in-Switch.is, view_switch)
-    (did_switch_end M N J (value_of W (view.expression_of c.in-Switch.controlling)) (labels_in items) (does.statements_of W items) (mark_does W c.in-Switch.absent) (state_of c.args.store.now)
-    (number_of (type_of (plain.expression_of c.in-Switch.controlling)) c.in_ok-word-in-Switch.word) (seek_of c.sought-seek.result) _ _ _ _ _ c.in_ok-word-in-Switch.ensures.did looked k)
+    (did_switch_end M N J (value_of W (view.expression_of c.in-Switch.controlling.now)) (labels_in items) (does.statements_of W items) (mark_does W c.in-Switch.absent) (state_of c.args.store.now)
+    (number_of (type_of (plain.expression_of c.in-Switch.controlling.now)) c.in_ok-word-in-Switch.word) (seek_of c.sought-seek.result) _ _ _ _ _ c.in_ok-word-in-Switch.ensures.did looked k)
 
 pub act-switch_ends-requires-clause-fits : goal.act-switch_ends-requires-clause-fits
 act-switch_ends-requires-clause-fits g t c =
@@ -377,13 +447,13 @@ pub act-returns-in_ok-flow-in-Switch-clause-did : goal.act-returns-in_ok-flow-in
 act-returns-in_ok-flow-in-Switch-clause-did g t c =
     let M = g.P.Probe.leads in let N = g.met.P.Probe.stays in let J = g.met.P.Probe.joins in
     let W = activation_of c.args.frame.now in
-    let items = view.statements_from (map view.statement_of c.in-Switch.items.items) in
+    let items = view.statements_from (map prepared.statement_of c.in-Switch.items.items) in
     let of = rw c.integer_type.ensures at c.sought-seek.ensures in
     let looked = rw c.deref-in-Switch.ensures.value at of in
     let k = rw c.deref-in-Switch-2.ensures.value at c.in_ok-flow-in-Switch.ensures.did in
     rw (c.in-Switch.is, view_switch)
-    (did_switch M N J (value_of W (view.expression_of c.in-Switch.controlling)) (labels_in items) (does.statements_of W items) (mark_does W c.in-Switch.absent) (state_of c.args.store.now)
-    (number_of (type_of (plain.expression_of c.in-Switch.controlling)) c.in_ok-word-in-Switch.word) (seek_of c.sought-seek.result) (flow_of c.in_ok-flow-in-Switch.flow c.statements-in-Switch.new.store) _ _ _ _ _ _ _ _
+    (did_switch M N J (value_of W (view.expression_of c.in-Switch.controlling.now)) (labels_in items) (does.statements_of W items) (mark_does W c.in-Switch.absent) (state_of c.args.store.now)
+    (number_of (type_of (plain.expression_of c.in-Switch.controlling.now)) c.in_ok-word-in-Switch.word) (seek_of c.sought-seek.result) (flow_of c.in_ok-flow-in-Switch.flow c.statements-in-Switch.new.store) _ _ _ _ _ _ _ _
     c.in_ok-word-in-Switch.ensures.did looked k c.switch_ends.ensures.did)
 
 pub act-returns-in_ok-flow-in-Switch-clause-typed : goal.act-returns-in_ok-flow-in-Switch-clause-typed
@@ -397,10 +467,10 @@ pub act-returns-in_ok-for_start-in-For-clause-did : goal.act-returns-in_ok-for_s
 act-returns-in_ok-for_start-in-For-clause-did g t c =
     let M = g.P.Probe.leads in let N = g.met.P.Probe.stays in let J = g.met.P.Probe.joins in
     let W = activation_of c.args.frame.now in
-    let a = rw c.lent_test.ensures.run at c.repeat.ensures.did in
+    let a = rw c.lent_test.ensures at c.repeat.ensures.did in
     let b = rw (c.deref-in-For.ensures, c.deref-in-For-2.ensures.value) at a in
     rw (c.in-For.is, view_for)
-    (did_then M N J (does.start_of W (view.start_of c.in-For.start) (state_of c.args.store.now)) _ tt _ _ _ _ _ _ c.in_ok-for_start-in-For.ensures.did b)
+    (did_then M N J (does.start_of W (view.start_of c.in-For.start.now) (state_of c.args.store.now)) _ tt _ _ _ _ _ _ c.in_ok-for_start-in-For.ensures.did b)
 
 pub act-returns-in_ok-for_start-in-For-clause-kept : goal.act-returns-in_ok-for_start-in-For-clause-kept
 act-returns-in_ok-for_start-in-For-clause-kept g t c = if_kept _ _ _ _ _ c.repeat.result c.in_ok-for_start-in-For.ensures.kept c.repeat.ensures.kept
@@ -411,7 +481,7 @@ act-returns-in-Some-clause-did g t c =
     let W = activation_of c.args.frame.now in
     let k = rw c.deref-in-DoWhile.ensures at c.in_ok-ended-in-DoWhile.ensures.did in
     rw (c.in-DoWhile.is, view_do)
-    (did_do_out M N J (does.statement_of W (view.statement_of c.in-DoWhile.body.value)) (as_does is_true (value_of W (view.expression_of c.in-DoWhile.test))) (state_of c.args.store.now)
+    (did_do_out M N J (does.statement_of W (prepared.statement_of c.in-DoWhile.body.value)) (as_does is_true (value_of W (prepared.test_of c.in-DoWhile.test))) (state_of c.args.store.now)
     c.in_ok-ended-in-DoWhile.ended _ _ _ k c.in-Some.end (sym c.loop_end.ensures ∙ c.in-Some.is))
 
 pub act-returns-in-Some-clause-typed : goal.act-returns-in-Some-clause-typed
@@ -425,7 +495,7 @@ act-returns-in-None-clause-did g t c =
     let k = rw c.deref-in-DoWhile.ensures at c.in_ok-ended-in-DoWhile.ensures.did in
     let a = rw c.deref-in-None.ensures at c.repeat-in-None.ensures.did in
     rw (c.in-DoWhile.is, view_do)
-    (did_do M N J (does.statement_of W (view.statement_of c.in-DoWhile.body.value)) (as_does is_true (value_of W (view.expression_of c.in-DoWhile.test))) (state_of c.args.store.now)
+    (did_do M N J (does.statement_of W (prepared.statement_of c.in-DoWhile.body.value)) (as_does is_true (value_of W (prepared.test_of c.in-DoWhile.test))) (state_of c.args.store.now)
     c.in_ok-ended-in-DoWhile.ended _ _ _ k _ _ _ (sym c.loop_end.ensures ∙ c.in-None.is) a)
 
 pub act-returns-in-None-clause-kept : goal.act-returns-in-None-clause-kept
@@ -487,47 +557,47 @@ turn-returns-in-Some-clause-bits g t c = c.in_ok-flow.ensures.bits ∙ c.in_ok-g
 pub turn-returns-in-Some-clause-limits : goal.turn-returns-in-Some-clause-limits
 turn-returns-in-Some-clause-limits g t c = c.in_ok-flow.ensures.limits ∙ c.in_ok-goes_on.ensures.limits
 
-pub turn-returns-in_err-effects-clause-typed : goal.turn-returns-in_err-effects-clause-typed
-turn-returns-in_err-effects-clause-typed g t c = if_none _ _ c.from_residual-in_err-effects.ensures
+pub turn-returns-in_err-perform_all-clause-typed : goal.turn-returns-in_err-perform_all-clause-typed
+turn-returns-in_err-perform_all-clause-typed g t c = if_none _ _ c.from_residual-in_err-perform_all.ensures
 
-pub turn-returns-in_err-effects-clause-less : goal.turn-returns-in_err-effects-clause-less
-turn-returns-in_err-effects-clause-less g t c = if_none _ _ c.from_residual-in_err-effects.ensures
+pub turn-returns-in_err-perform_all-clause-less : goal.turn-returns-in_err-perform_all-clause-less
+turn-returns-in_err-perform_all-clause-less g t c = if_none _ _ c.from_residual-in_err-perform_all.ensures
 
-pub turn-returns-in_err-effects-clause-kept : goal.turn-returns-in_err-effects-clause-kept
-turn-returns-in_err-effects-clause-kept g t c = if_none _ _ c.from_residual-in_err-effects.ensures
+pub turn-returns-in_err-perform_all-clause-kept : goal.turn-returns-in_err-perform_all-clause-kept
+turn-returns-in_err-perform_all-clause-kept g t c = if_none _ _ c.from_residual-in_err-perform_all.ensures
 
-pub turn-returns-in_err-effects-clause-bits : goal.turn-returns-in_err-effects-clause-bits
-turn-returns-in_err-effects-clause-bits g t c = c.in_err-effects.ensures.bits ∙ c.in_ok-flow.ensures.bits ∙ c.in_ok-goes_on.ensures.bits
+pub turn-returns-in_err-perform_all-clause-bits : goal.turn-returns-in_err-perform_all-clause-bits
+turn-returns-in_err-perform_all-clause-bits g t c = c.in_err-perform_all.ensures.bits ∙ c.in_ok-flow.ensures.bits ∙ c.in_ok-goes_on.ensures.bits
 
-pub turn-returns-in_err-effects-clause-limits : goal.turn-returns-in_err-effects-clause-limits
-turn-returns-in_err-effects-clause-limits g t c = c.in_err-effects.ensures.limits ∙ c.in_ok-flow.ensures.limits ∙ c.in_ok-goes_on.ensures.limits
+pub turn-returns-in_err-perform_all-clause-limits : goal.turn-returns-in_err-perform_all-clause-limits
+turn-returns-in_err-perform_all-clause-limits g t c = c.in_err-perform_all.ensures.limits ∙ c.in_ok-flow.ensures.limits ∙ c.in_ok-goes_on.ensures.limits
 
 pub turn-returns-clause-bits : goal.turn-returns-clause-bits
-turn-returns-clause-bits g t c = c.in_ok-effects.ensures.bits ∙ c.in_ok-flow.ensures.bits ∙ c.in_ok-goes_on.ensures.bits
+turn-returns-clause-bits g t c = c.in_ok-perform_all.ensures.bits ∙ c.in_ok-flow.ensures.bits ∙ c.in_ok-goes_on.ensures.bits
 
 pub turn-returns-clause-limits : goal.turn-returns-clause-limits
-turn-returns-clause-limits g t c = c.in_ok-effects.ensures.limits ∙ c.in_ok-flow.ensures.limits ∙ c.in_ok-goes_on.ensures.limits
+turn-returns-clause-limits g t c = c.in_ok-perform_all.ensures.limits ∙ c.in_ok-flow.ensures.limits ∙ c.in_ok-goes_on.ensures.limits
 
-pub statement-returns-in_err-counted-clause-typed : goal.statement-returns-in_err-counted-clause-typed
-statement-returns-in_err-counted-clause-typed g t c = if_none _ _ c.from_residual.ensures
+pub other-returns-in_err-counted-clause-typed : goal.other-returns-in_err-counted-clause-typed
+other-returns-in_err-counted-clause-typed g t c = if_none _ _ c.from_residual.ensures
 
-pub statement-returns-in_err-counted-clause-kept : goal.statement-returns-in_err-counted-clause-kept
-statement-returns-in_err-counted-clause-kept g t c = if_none _ _ c.from_residual.ensures
+pub other-returns-in_err-counted-clause-kept : goal.other-returns-in_err-counted-clause-kept
+other-returns-in_err-counted-clause-kept g t c = if_none _ _ c.from_residual.ensures
 
-pub statement-returns-in_err-counted-clause-bits : goal.statement-returns-in_err-counted-clause-bits
-statement-returns-in_err-counted-clause-bits g t c = c.in_err-counted.ensures.bits
+pub other-returns-in_err-counted-clause-bits : goal.other-returns-in_err-counted-clause-bits
+other-returns-in_err-counted-clause-bits g t c = c.in_err-counted.ensures.bits
 
-pub statement-returns-in_err-counted-clause-limits : goal.statement-returns-in_err-counted-clause-limits
-statement-returns-in_err-counted-clause-limits g t c = c.in_err-counted.ensures.limits
+pub other-returns-in_err-counted-clause-limits : goal.other-returns-in_err-counted-clause-limits
+other-returns-in_err-counted-clause-limits g t c = c.in_err-counted.ensures.limits
 
-pub statement-returns-clause-typed : goal.statement-returns-clause-typed
-statement-returns-clause-typed g t c = c.act.ensures.typed
+pub other-returns-clause-typed : goal.other-returns-clause-typed
+other-returns-clause-typed g t c = c.act.ensures.typed
 
-pub statement-returns-clause-bits : goal.statement-returns-clause-bits
-statement-returns-clause-bits g t c = c.act.ensures.bits ∙ c.in_ok-counted.ensures.bits
+pub other-returns-clause-bits : goal.other-returns-clause-bits
+other-returns-clause-bits g t c = c.act.ensures.bits ∙ c.in_ok-counted.ensures.bits
 
-pub statement-returns-clause-limits : goal.statement-returns-clause-limits
-statement-returns-clause-limits g t c = c.act.ensures.limits ∙ c.in_ok-counted.ensures.limits
+pub other-returns-clause-limits : goal.other-returns-clause-limits
+other-returns-clause-limits g t c = c.act.ensures.limits ∙ c.in_ok-counted.ensures.limits
 
 pub item-returns-in_err-flow-clause-typed : goal.item-returns-in_err-flow-clause-typed
 item-returns-in_err-flow-clause-typed g t c = if_none _ _ c.from_residual.ensures
