@@ -8,7 +8,7 @@ use Rattle.mc_typed.specs.declared.expressions.Slot.{Slot}
 use Rattle.mc_typed.specs.declared.objects.Object as code_object
 use Rattle.mc_typed.specs.declared.expressions.Argument.{Argument}
 use Rattle.mc_typed.specs.Layout.{ObjectType, Array, cells}
-use Rattle.mc_typed.specs.Tree.{Object, ParameterType, ResultType}
+use Rattle.mc_typed.specs.Tree.{Object, ParameterType}
 use Rattle.mc_typed.specs.Tree as t
 use Rattle.mc_typed.specs.Views as plain
 use Rattle.mc_typed.specs.Sound.{Scope, AreArguments, AreFunctions, AreLaidOut, IsArgument, IsSlot, IsSlotOf, parameters_at, cells_at, object_type_at}
@@ -175,25 +175,6 @@ pub record ArePassing {P : Type 0} (bits : P → ℕ) (leads : List ℕ → P �
 
 module _ {P : Type 0} (bits : P → ℕ) (leads : List ℕ → P → P → Type 0) (stays : (p : P) → leads [] p p)
     (joins : (xs ys : List ℕ) (p q r : P) → leads xs p q → leads ys q r → leads (xs ++ ys) p r) (f : Frame) where
-  none_before : (result : Option (List (steps.Passed ℕ))) → result ≡ option_map (λ xs. [] ++ xs) result
-  none_before None = refl
-  none_before (Some xs) = refl
-
-  pub passing_start : (trees : List Argument) (m : Store) (o : P) → IsReady f m (bits o) →
-      IsKept (scope_in f) (activation_of f) m m → AreSomeArguments (trees_of trees) (scope_in f) →
-      FitArguments f.function.now.registers (views_of trees) → ArePassing bits leads f trees trees [] m m o o
-  passing_start trees m o r k s h = record {
-    ready = r;
-    kept = k;
-    bits_same = refl;
-    limits = refl;
-    room = omega arith;
-    sound = s;
-    fits = h;
-    typed = λ types ok ys h. h;
-    rest = λ result new r d. subst (λ x. Did leads (does.arguments_of (activation_of f) (views_of trees) (state_of m)) x new o r) (none_before result) d;
-  }
-
   more_before : (xs : List Passed) (x : Passed) (result : Option (List (steps.Passed ℕ))) →
       option_map (λ ys. map passed_of xs ++ ys) (option_map (λ ys. passed_of x ∷ ys) result)
       ≡ option_map (λ ys. map passed_of (xs ++ x ∷ []) ++ ys) result

@@ -1,17 +1,15 @@
 -- What a decision asks, which hits nothing.
-use Rattle.std.proofs.Common.{◌≡◌, ℕ, ◌+◌, ◌*◌, ◌<◌, max, ℤ, Bool, true, false, not, List, [], ◌++◌, Option, Some, None, Ok, refl, sym, ap, ◌∙◌, Box, if◌then◌else◌, arith}
+use Rattle.std.proofs.Common.{◌≡◌, ℕ, ◌+◌, ◌*◌, ◌<◌, max, ℤ, Bool, true, false, not, List, [], ◌++◌, Option, Some, None, refl, sym, ap, ◌∙◌, Box, if◌then◌else◌, arith}
 use Rattle.std.specs.Prelude.{◌==◌}
 use Rattle.std.specs.Global.{Global}
 use Rattle.mc_span.specs.declared.span.Span.{Span}
 use Rattle.mc_value.specs.declared.int_type.IntType.{IntType}
-use Rattle.mc_value.specs.declared.operators.BinOp.{BinOp}
 use Rattle.mc_value.specs.Conversions.{is_zero}
-use Rattle.mc_value.specs.Arithmetic.{binary_of, truth}
+use Rattle.mc_value.specs.Arithmetic.{truth}
 use Rattle.mc_typed.specs.declared.operators.Operator.TheVariants.{Binary}
 use Rattle.mc_typed.specs.declared.operators.LogicOperator.{LogicOperator}
-use Rattle.mc_typed.specs.Sound.{HasOperands, compares}
 use Rattle.mc_steps.specs.Runs.{State, Run, gives, after}
-use Rattle.mc_steps.specs.Expressions.{as_does, binary_does, goes_on, is_true, logic_does}
+use Rattle.mc_steps.specs.Expressions.{as_does, goes_on, is_true, logic_does}
 use Rattle.mc_words.specs.Words.{number_of}
 use Rattle.mc_words.proofs.Numbers.{zero_words}
 use Rattle.mc_probe.specs.Flat.{Flat, Does, Activation, adds}
@@ -21,7 +19,6 @@ use Rattle.mc_interp.specs.declared.store.Store.{Store}
 use Rattle.mc_interp.specs.declared.frame.Frame.{Frame}
 use Rattle.mc_interp.specs.declared.prepared.leaves.Leaf.{Leaf}
 use Rattle.mc_interp.specs.declared.prepared.questions.Relation.{Relation}
-use Rattle.mc_interp.specs.declared.prepared.questions.Relation.TheVariants as relations
 use Rattle.mc_interp.specs.declared.prepared.questions.Note.{Note}
 use Rattle.mc_interp.specs.declared.prepared.questions.Question.{Question, size-Question}
 use Rattle.mc_interp.specs.declared.prepared.questions.Question.TheViews.{sized-Not, sized-Logic}
@@ -32,7 +29,7 @@ use Rattle.mc_interp.specs.Stores.{out_of, state_of, told, Did}
 use Rattle.mc_interp.specs.Frames.{IsReady}
 use Rattle.mc_interp.specs.Views.{condition_of, leaf_of, node_question, operator_of, question_of}
 use Rattle.mc_interp.proofs.Runs.{did_told}
-use Rattle.mc_interp.proofs.Nodes.{did_compared, did_compared_left, did_compared_right, did_not, did_not_end, did_logic, did_logic_short, did_logic_end, did_condition, did_condition_end}
+use Rattle.mc_interp.proofs.Nodes.{did_not, did_not_end, did_logic, did_logic_short, did_logic_end, did_condition, did_condition_end}
 
 -- ---- what a question asks
 
@@ -60,14 +57,6 @@ asks_logic operator left right span =
     ap question_of (sym (question.rolls-Logic operator left right span))
     ∙ fold-roll-Question p.Expression node_question (Question-F.Logic operator left right span)
 
-pub compares_relation : (relation : Relation) → compares (operator_of relation) ≡ true
-compares_relation relations.Less = refl
-compares_relation relations.Greater = refl
-compares_relation relations.LessOrEqual = refl
-compares_relation relations.GreaterOrEqual = refl
-compares_relation relations.Equal = refl
-compares_relation relations.NotEqual = refl
-
 -- ---- parts that hit nothing
 
 abbrev Quiet : List ℕ → Unit {0} → Unit {0} → Type 0
@@ -88,26 +77,6 @@ did_quiet r result m e = did_told Quiet quiet_stays quiet_joins r result m tt e
 told_quiet : {A : Type 0} (r : Run Flat ℕ A) (result : Option A) (m : Store) → Told r result m → r ≡ told result m
 told_quiet {A = A} r result m d =
     ap (λ o. record { out = o; events = r.events }) d.ran ∙ ap (λ (xs : List ℕ). record { out = out_of result m; events = xs }) d.led
-
-module _ (operator : BinOp) (a : IntType) (E F : Does ℤ) (s : State Flat) where
-  pub told_compared : (l r : IntType) (x y : ℕ) (b : Bool) (m n : Store) → HasOperands (Binary operator) a l r →
-      E s ≡ told (Some (number_of l x)) m → F (state_of m) ≡ told (Some (number_of r y)) n →
-      binary_of operator a (number_of a x) (number_of a y) ≡ Ok (truth b) →
-      as_does is_true (binary_does (Binary operator) a E F) s ≡ told (Some b) n
-  told_compared l r x y b m n h d e value =
-      told_quiet _ _ _ (did_compared Quiet quiet_stays quiet_joins operator a E F s l r x y b m n tt tt tt h
-      (did_quiet _ _ _ d) (did_quiet _ _ _ e) value)
-
-  pub told_compared_left : (m : Store) → E s ≡ told None m →
-      as_does is_true (binary_does (Binary operator) a E F) s ≡ told None m
-  told_compared_left m d =
-      told_quiet _ _ _ (did_compared_left Quiet quiet_stays quiet_joins operator a E F s m tt tt (did_quiet _ _ _ d))
-
-  pub told_compared_right : (x : ℤ) (m n : Store) → E s ≡ told (Some x) m → F (state_of m) ≡ told None n →
-      as_does is_true (binary_does (Binary operator) a E F) s ≡ told None n
-  told_compared_right x m n d e =
-      told_quiet _ _ _ (did_compared_right Quiet quiet_stays quiet_joins operator a E F s x m n tt tt tt
-      (did_quiet _ _ _ d) (did_quiet _ _ _ e))
 
 module _ (E : Does ℤ) (s : State Flat) where
   -- a word that was given

@@ -9,8 +9,8 @@ use Rattle.mc_typed.specs.declared.operators.Operator.TheVariants.{Binary, Shift
 use Rattle.mc_typed.specs.Layout.{ObjectType, cells}
 use Rattle.mc_typed.specs.Tree as t
 use Rattle.mc_typed.specs.Sound.{Scope, HasOperands, IsEffect, AreClauses}
-use Rattle.mc_steps.specs.Runs.{State, gives, after, changes, with_some, with_result}
-use Rattle.mc_steps.specs.Expressions.{operated, assign_does, update_does, choice_does, copy_does, drop_does, is_true, where_true, as_does}
+use Rattle.mc_steps.specs.Runs.{State, after, changes, with_some, with_result}
+use Rattle.mc_steps.specs.Expressions.{operated, assign_does, update_does, choice_does, copy_does, is_true, where_true, as_does}
 use Rattle.mc_probe.specs.Flat.{Flat, Does, flat}
 use Rattle.mc_probe.specs.Tree as p
 use Rattle.mc_probe.specs.Views as view
@@ -27,7 +27,7 @@ use Rattle.mc_interp.specs.Frames.{activation_of, scope_in, IsReady}
 use Rattle.mc_interp.specs.Typed.{IsPlaced}
 use Rattle.mc_interp.specs.Stores.{state_of, told, Did}
 use Rattle.mc_interp.specs.Effects.{IsAnyEffect, AreAnyEffects}
-use Rattle.mc_interp.proofs.Runs.{did_by_truth, did_told, did_gives, did_then, did_end}
+use Rattle.mc_interp.proofs.Runs.{did_by_truth, did_told, did_then, did_end}
 use Rattle.mc_interp.proofs.Called.{any_call}
 use Rattle.mc_interp.proofs.Placed.{none_some, some_eq}
 
@@ -149,17 +149,6 @@ module _ {P : Type 0} (leads : List ℕ → P → P → Type 0) (stays : (p : P)
         did_then leads stays joins (A s) copying k m o (Some tt) p q r d
         (did_then leads stays joins (B (state_of m)) (copy_into k) from n o (Some tt) q r r e
         (did_told leads stays joins (copy_into k from (state_of n)) (Some tt) o r put))
-
-  -- ---- values that are dropped
-
-  pub did_drop : {A : Type 0} (E : Does A) (s : State Flat) (x : A) (m : Store) (p q : P) → Did leads (E s) (Some x) m p q →
-      Did leads (drop_does E s) (Some tt) m p q
-  did_drop E s x m p q d =
-      did_then leads stays joins (E s) (λ x s. gives tt s) x m m (Some tt) p q q d (did_gives leads stays joins tt m q)
-
-  pub did_drop_end : {A : Type 0} (E : Does A) (s : State Flat) (m : Store) (p q : P) → Did leads (E s) None m p q →
-      Did leads (drop_does E s) None m p q
-  did_drop_end E s m p q d = did_end leads stays joins (E s) (λ x s. gives tt s) m p q d
 
   -- ---- choices
 

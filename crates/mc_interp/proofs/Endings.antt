@@ -88,6 +88,3 @@ left_typed c w ends.Completed v e h = absurd (false≢true e)
 left_typed c w ends.Broke v e h = absurd (false≢true e)
 left_typed c w ends.Continued v e h = absurd (false≢true e)
 left_typed c w ends.Left v e h = h
-
-pub over_typed : (c : Scope) (w : Activation) (f : code_flow.Flow) (v : code_given.Given) → IsReturned c w f v → IsReturned c w f v
-over_typed c w f v h = h

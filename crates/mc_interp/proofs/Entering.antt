@@ -1,14 +1,13 @@
 -- The steps of the entry of a call and of its end.
-use Rattle.std.proofs.Common.{◌≡◌, ℕ, zero, suc, ◌+◌, ◌-◌, ◌<◌, ◌≤◌, ◌^◌, ◌⊎◌, min, Bool, true, false, List, [], ◌∷◌, ◌++◌, length, replicate, refl, sym, ap, subst, ◌∙◌, arith, inl, inr, Option, Some, None, cond}
+use Rattle.std.proofs.Common.{◌≡◌, ℕ, zero, suc, ◌+◌, ◌-◌, ◌<◌, ◌≤◌, ◌^◌, ◌⊎◌, min, Bool, List, [], ◌∷◌, length, refl, sym, ap, subst, ◌∙◌, arith, inl, inr, Option, Some, None}
 use Rattle.std.specs.Prelude.{nat_le, slice_get}
-use Rattle.std.proofs.lemmas.Bool.{cases_lt, leb-true, le-leb, lt-leb}
+use Rattle.std.proofs.lemmas.Bool.{cases_lt, le-leb, lt-leb}
 use Rattle.mc_value.specs.declared.int_type.IntType.{IntType}
 use Rattle.mc_typed.specs.declared.plans.Ending.TheVariants as ending
 use Rattle.mc_typed.specs.Layout.{ObjectType, cells}
 use Rattle.mc_typed.specs.Levels.{limited}
 use Rattle.mc_typed.specs.Sound.{Scope}
 use Rattle.mc_typed.specs.Tree as t
-use Rattle.mc_cells.specs.Rows.{Row, base_of, entered, fits, with_cells}
 use Rattle.mc_steps.specs.Runs.{State, Run, changes, gives, spends, stops, after}
 use Rattle.mc_steps.specs.Expressions.{where_true}
 use Rattle.mc_steps.specs.Statements as steps
@@ -18,7 +17,7 @@ use Rattle.mc_interp.specs.declared.store.Store.{Store}
 use Rattle.mc_interp.specs.Stores.{state_of, told}
 use Rattle.mc_interp.specs.Typed.{AreTyped, HasTypes, IsPlaced, Stands}
 use Rattle.mc_interp.specs.Frames.{IsKept}
-use Rattle.mc_interp.specs.Entries.{enters, grown, handed, HasEntered}
+use Rattle.mc_interp.specs.Entries.{enters, grown, handed}
 use Rattle.mc_interp.proofs.Placed.{none_some, some_eq}
 use Rattle.mc_interp.proofs.Fills.{length_moved}
 use Rattle.mc_interp.proofs.Inputs.{state_or}
@@ -57,58 +56,6 @@ module _ (levels n : ℕ) (s : State Flat) (m : Store) (spent : spends {E = ℕ}
       unit_then
       ∙ ap (λ b. where_true {E = ℕ} b (λ s. with_room (length s.memory.cells + n) 65536 ending.Cells (λ s. gives (length s.memory.cells) (grown n s)) s) (λ s. stops ending.Levels s) (state_of m))
       (lt-leb levels 512 l)
-
-  abbrev by_cells : Bool → Run Flat ℕ ℕ
-  by_cells b = where_true b (λ s. gives (length s.memory.cells) (grown n s)) (λ s. stops ending.Cells s) (state_of m)
-
-  levels_then : levels ≤ 512 → enters levels n s ≡ by_cells (nat_le (length m.cells.cells + n) 65536)
-  levels_then l =
-      unit_then
-      ∙ ap (λ b. where_true {E = ℕ} b (λ s. with_room (length s.memory.cells + n) 65536 ending.Cells (λ s. gives (length s.memory.cells) (grown n s)) s) (λ s. stops ending.Levels s) (state_of m))
-      (le-leb levels 512 l)
-
-  -- whether the cells have room decides
-  module _ (row : Row) (base : Option ℕ) (within : levels ≤ 512) (limit : m.cells.limit ≡ 65536) (based : base ≡ base_of m.cells n) (row_is : row ≡ entered m.cells n) where
-    same_test : nat_le (length m.cells.cells + n) 65536 ≡ fits m.cells n
-    same_test = ap (λ k. nat_le (length m.cells.cells + n) k) (sym limit)
-
-    gave_by : (b : Bool) → fits m.cells n ≡ b → (k : ℕ) → base ≡ Some k →
-        (by_cells b ≡ told (Some k) (record m { cells = row })) × (k ≡ length m.cells.cells) × (row ≡ with_cells m.cells (m.cells.cells ++ replicate n None)) × (b ≡ true)
-    gave_by true e k h =
-        let r : row ≡ with_cells m.cells (m.cells.cells ++ replicate n None) =
-        row_is ∙ ap (λ b. cond b (with_cells m.cells (m.cells.cells ++ replicate n None)) m.cells) e in
-        let o : Some (length m.cells.cells) ≡ Some k = sym (ap (λ b. cond b (Some (length m.cells.cells)) None) e) ∙ sym based ∙ h in
-        let x : length m.cells.cells ≡ k = some_eq (length m.cells.cells) k o in
-        (ap (λ (c : Row). told (Some (length m.cells.cells)) (record m { cells = c })) (sym r) ∙ ap (λ k. told (Some k) (record m { cells = row })) x, sym x, r, refl)
-    gave_by false e k h = none_some k (sym (ap (λ b. cond b (Some (length m.cells.cells)) None) e) ∙ sym based ∙ h)
-
-    refused_by : (b : Bool) → fits m.cells n ≡ b → base ≡ None → by_cells b ≡ told None (record m { cells = row; ending = ending.Cells })
-    refused_by true e h = none_some (length m.cells.cells) (sym h ∙ based ∙ ap (λ b. cond b (Some (length m.cells.cells)) None) e)
-    refused_by false e h =
-        let r : row ≡ m.cells = row_is ∙ ap (λ b. cond b (with_cells m.cells (m.cells.cells ++ replicate n None)) m.cells) e in
-        ap (λ (c : Row). told None (record m { cells = c; ending = ending.Cells })) (sym r)
-
-    pub enters_gave : (k : ℕ) → base ≡ Some k → enters levels n s ≡ told (Some k) (record m { cells = row })
-    enters_gave k h = levels_then within ∙ ap by_cells same_test ∙ (gave_by (fits m.cells n) refl k h).0
-
-    pub enters_cells : base ≡ None → enters levels n s ≡ told None (record m { cells = row; ending = ending.Cells })
-    enters_cells h = levels_then within ∙ ap by_cells same_test ∙ refused_by (fits m.cells n) refl h
-
-    room_by : (b : Bool) → nat_le (length m.cells.cells + n) 65536 ≡ b → b ≡ true → length m.cells.cells + n ≤ 65536
-    room_by b e h = leb-true (length m.cells.cells + n) 65536 (e ∙ h)
-
-    pub has_entered : (old : Store) → m.cells ≡ old.cells → m.registers ≡ old.registers → m.output ≡ old.output → m.fuel ≤ old.fuel →
-        (k : ℕ) → base ≡ Some k → HasEntered k n old (record m { cells = row })
-    has_entered old c r o f k h =
-        let x = gave_by (fits m.cells n) refl k h in
-        record {
-          base = x.1 ∙ ap (λ (row : Row). length row.cells) c;
-          cells = x.2 ∙ ap (λ (row : Row). with_cells row (row.cells ++ replicate n None)) c;
-          room = subst (λ (row : Row). length row.cells + n ≤ 65536) c (room_by (fits m.cells n) same_test x.3);
-          registers = r;
-          output = o;
-          fuel = f;
-        }
 
 -- ---- objects that stand somewhere, for a step that asks for an activation
 

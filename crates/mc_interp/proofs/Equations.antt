@@ -1,11 +1,11 @@
 -- Statements by their parts: equations, and what is sound.
-use Rattle.std.proofs.Common.{◌≡◌, ℕ, zero, suc, ℤ, Bool, true, false, not, ◌||◌, List, [], ◌∷◌, ◌++◌, map, refl, sym, ap, subst, ◌∙◌, append_assoc, Option, Some, None}
+use Rattle.std.proofs.Common.{◌≡◌, ℕ, zero, suc, Bool, true, false, not, List, [], ◌∷◌, map, refl, sym, subst, ◌∙◌, Option, Some, None}
 use Rattle.mc_typed.specs.declared.probes.Mark.{Mark}
 use Rattle.mc_typed.specs.Tree as t
 use Rattle.mc_typed.specs.Sound.{Scope, Around, inside, in_loop, in_switch, type_of, AreClauses, AreStatements, IsEffect, IsStart, IsStatement}
-use Rattle.mc_steps.specs.Runs.{State, Run, Out, Gave, Stopped, Acts, gives, after, stops, with_fuel, preceded, go_on}
+use Rattle.mc_steps.specs.Runs.{State, Run, Acts, gives, after, with_fuel}
 use Rattle.mc_steps.specs.Expressions.{where_true}
-use Rattle.mc_steps.specs.Statements.{Flow, Completed, Broke, Continued, Left, Seek, Running, For, at_label, counted_does, has_label, is_running, item_runs, label_does, turn, where_completed, where_loop_goes_on}
+use Rattle.mc_steps.specs.Statements.{Flow, Completed, Broke, Continued, Left, Seek, Running, For, at_label, counted_does, is_running, item_runs, label_does, turn, where_completed, where_loop_goes_on}
 use Rattle.mc_steps.specs.Points.{initializes}
 use Rattle.mc_probe.specs.Erase.{erase_declarator}
 use Rattle.mc_probe.specs.Flat.{Flat, Does, Runs, Activation, hits_some}
@@ -20,23 +20,12 @@ use Rattle.mc_interp.specs.declared.flow.Label.{Label}
 use Rattle.mc_interp.specs.declared.store.Store.{Store}
 use Rattle.mc_interp.specs.declared.values.Given.{Given}
 use Rattle.mc_interp.specs.Effects.{AreAnyEffects, IsAnyEffect}
-use Rattle.mc_interp.specs.Bodies.{Next, Item, End, act_of, code_next_after, count_of, counts_of, end_of, flow_of, is_case, item_of, where_again, where_ended, label_of, label_runs, labels_in, next_after, next_of, turn_of, turned, where_initializes, where_label, where_turned, AreAnyStatements, IsAnyStart, IsAnyStatement, IsReturned, IsNext}
+use Rattle.mc_interp.specs.Bodies.{Next, Item, End, act_of, code_next_after, count_of, counts_of, end_of, flow_of, item_of, where_again, where_ended, label_of, label_runs, next_after, next_of, turn_of, turned, where_initializes, where_label, where_turned, AreAnyStatements, IsAnyStart, IsAnyStatement, IsReturned, IsNext}
+use Rattle.mc_interp.proofs.Runs.{after_after}
 use Rattle.mc_interp.proofs.Placed.{none_some, some_eq}
 use Rattle.mc_interp.proofs.Called.{any_call}
 
--- ---- three parts
-
-pub preceded_twice : {A : Type 0} (xs ys : List ℕ) (r : Run Flat ℕ A) → preceded (xs ++ ys) r ≡ preceded xs (preceded ys r)
-preceded_twice {A} xs ys r = ap (λ (l : List ℕ). record { out = r.out; events = l }) (append_assoc xs ys r.events)
-
-pub after_after : {A B C : Type 0} (r : Run Flat ℕ A) (f : A → Acts Flat ℕ B) (g : B → Acts Flat ℕ C) →
-    after (after r f) g ≡ after r (λ a s. after (f a s) g)
-after_after {A} {B} {C} r f g = go r.out r.events
-  where
-    go : (o : Out Flat A) (es : List ℕ) →
-        preceded (es ++ (go_on o f).events) (go_on (go_on o f).out g) ≡ preceded es (go_on o (λ a s. after (f a s) g))
-    go (Gave a s) es = preceded_twice es (f a s).events (go_on (f a s).out g)
-    go (Stopped e s) es = preceded_twice es [] (stops e s)
+-- ---- one part, and what follows
 
 -- the same where what follows is the same
 after_same : {A B : Type 0} (r : Run Flat ℕ A) (f g : A → Acts Flat ℕ B) → ((a : A) (s : State Flat) → f a s ≡ g a s) →
@@ -138,24 +127,6 @@ next_typed c w ends.Completed m h = tt
 next_typed c w ends.Broke m h = tt
 next_typed c w ends.Continued m h = tt
 next_typed c w ends.Left m h = h
-
--- ---- the labels of a body
-
-pub has_case_here : (l : Option ℤ) (u : p.Statement) (rest : p.Statements) →
-    has_label l (labels_in (p.statements u rest)) ≡ (is_case l (label_of u) || has_label l (labels_in rest))
-has_case_here l (p.Compound items span) rest = refl
-has_case_here l (p.Label v span mark) rest = refl
-has_case_here l (p.Declaration declarators span bit) rest = refl
-has_case_here l (p.Null span bit) rest = refl
-has_case_here l (p.EffectStatement effect span bit) rest = refl
-has_case_here l (p.If e u keyword span bit) rest = refl
-has_case_here l (p.IfElse e u v keyword span bit) rest = refl
-has_case_here l (p.Switch e items keyword span bit absent) rest = refl
-has_case_here l (p.For start test step u keyword span bit) rest = refl
-has_case_here l (p.DoWhile u e keyword span bit) rest = refl
-has_case_here l (p.Break span bit) rest = refl
-has_case_here l (p.Continue span bit) rest = refl
-has_case_here l (p.Return value span bit exit) rest = refl
 
 -- ---- turns
 

@@ -97,14 +97,6 @@ module _ (c : Scope) (w : Activation) where
 
 -- ---- room
 
-pub block_room : (f : Frame) (m : Store) (room at n : ℕ) → IsReady f m room → IsBlock (scope_in f) (activation_of f) at n →
-    at + n ≤ length m.cells.cells
-block_room f m room at n r h = let b = h r.types r.typed in omega (arith, b, r.has.room)
-
-pub block_small : (f : Frame) (m : Store) (room at n : ℕ) → IsReady f m room → IsBlock (scope_in f) (activation_of f) at n →
-    at + n ≤ 65536
-block_small f m room at n r h = let b = block_room f m room at n r h in omega (arith, b, r.small)
-
 -- the cells of an object are those of its type
 cells_known : (all : List ObjectType) (n : ℕ) (objects : List Object) (k c : ℕ) → AreLaidOut all n objects → cells_at objects k ≡ Some c →
     option_map cells (object_type_at objects k) ≡ Some c

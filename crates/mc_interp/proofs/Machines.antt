@@ -1,9 +1,8 @@
 -- A machine: its room, and the run of a test.
-use Rattle.std.proofs.Common.{◌≡◌, ℕ, ◌+◌, ◌*◌, ◌<◌, ◌≤◌, ◌^◌, ℤ, List, [], ◌∷◌, length, map, refl, sym, ap, subst, ◌∙◌, arith, length-append, Some}
+use Rattle.std.proofs.Common.{◌≡◌, ℕ, ◌+◌, ◌≤◌, ℤ, List, [], ◌∷◌, length, map, refl, sym, ap, subst, ◌∙◌, arith, length-append, Some}
 use Rattle.std.specs.Prelude.{sum}
 use Rattle.std.proofs.lemmas.List.{length-map}
 use Rattle.std.proofs.lemmas.List.Sums.{sum_by-cons}
-use Rattle.mc_typed.specs.declared.functions.Function as code_function
 use Rattle.mc_typed.specs.declared.objects.StaticObject as code_static
 use Rattle.mc_typed.specs.declared.plans.Call as code_call
 use Rattle.mc_typed.specs.declared.plans.Ending.{Ending}
@@ -22,12 +21,10 @@ use Rattle.mc_probe.specs.Erase.{erase}
 use Rattle.mc_probe.specs.Flat.{Flat}
 use Rattle.mc_probe.specs.Tests.{run_of, test_call}
 use Rattle.mc_probe.specs.Trees.{Instrumented, tree_of}
-use Rattle.mc_probe.specs.Views as view
 use Rattle.mc_probe.proofs.ErasedPrograms.{programs_erase}
 use Rattle.mc_interp.specs.declared.call_done.CallDone as code
 use Rattle.mc_interp.specs.declared.store.Store.{Store}
 use Rattle.mc_interp.specs.declared.values.Shape.{Shape}
-use Rattle.mc_interp.specs.Frames.{most_registers, shape_of, taken_of}
 use Rattle.mc_interp.specs.Machines.{initial_of, ran_of, state_at, AreFramed, AreReady, HasRoom, Machine, RanTo}
 use Rattle.mc_interp.specs.Stores.{limits_of, state_of}
 use Rattle.mc_interp.specs.Typed.{HasTypes}
@@ -63,20 +60,6 @@ pub calls_fit : (i : Instrumented) (calls : List plans.Call) → CallsFit calls 
 calls_fit i calls h = subst (CallsFit calls) (programs_erase i.program) h
 
 -- ---- the room
-
--- the room of a new machine
-pub new_room : (i : Instrumented) (fs : List code_function.Function) (all : List Shape) (m : Store) (calls : Room code.CallDone) (most : ℕ) →
-    fs ≡ i.program.functions → map taken_of all ≡ map shape_of fs → most ≡ most_registers (map view.function_of fs) → most < 2 ^ 32 →
-    m.cells.limit ≡ 65536 → m.registers.limit ≡ 512 * most → m.inputs.limit ≡ 4096 → m.output.limit ≡ 4096 → calls.limit ≡ 1024 → HasRoom i all m calls
-new_room i fs all m calls most e a is small x r y z d = record {
-  shapes = a ∙ ap (λ (l : List code_function.Function). map shape_of l) e;
-  cells = x;
-  registers = omega (arith, r, is, ap (λ (l : List code_function.Function). most_registers (map view.function_of l)) e);
-  registers_small = omega (arith, r, small);
-  inputs = y;
-  output = z;
-  done = d;
-}
 
 module _ (i : Instrumented) (all : List Shape) (m : Store) (calls : Room code.CallDone) (h : HasRoom i all m calls) where
   pub room_kept : (n : Store) (later : Room code.CallDone) → limits_of n ≡ limits_of m → later.limit ≡ calls.limit → HasRoom i all n later

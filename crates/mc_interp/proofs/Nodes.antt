@@ -154,9 +154,6 @@ module _ {P : Type 0} (leads : List ℕ → P → P → Type 0) (stays : (p : P)
         (did_told leads stays joins (with_result (binary_of operator a X Y) gives (state_of n)) (Some (truth b)) n o
         (ap (λ z. with_result z gives (state_of n)) value))))
 
-    pub did_compared_left : (m : Store) (p q : P) → Did leads (E s) None m p q → Did leads (as_does is_true compared s) None m p q
-    did_compared_left m p q h = did_test_end (compared s) m p q (did_end leads stays joins (E s) with_left m p q h)
-
     pub did_compared_right : (x : ℤ) (m n : Store) (p q o : P) → Did leads (E s) (Some x) m p q →
         Did leads (F (state_of m)) None n q o → Did leads (as_does is_true compared s) None n p o
     did_compared_right x m n p q o d e =

@@ -8,22 +8,19 @@ use Rattle.mc_typed.specs.Layout.{ObjectType}
 use Rattle.mc_typed.specs.Layout.{cells as size_of}
 use Rattle.mc_typed.specs.Tree as t
 use Rattle.mc_typed.specs.Sound.{Scope, IsStructure, IsStructureType, structure_result, structure_type, result_at}
-use Rattle.mc_steps.specs.Runs.{State, gives, after, changes}
 use Rattle.mc_steps.specs.Memories as memory
-use Rattle.mc_steps.specs.Calls as steps
-use Rattle.mc_steps.specs.Calls.{Target, PassedStructure, PassedArray, structure_argument_does, again_argument_does}
-use Rattle.mc_probe.specs.Flat.{Flat, Does, Activation, flat}
+use Rattle.mc_steps.specs.Calls.{PassedArray, again_argument_does}
+use Rattle.mc_probe.specs.Flat.{Activation}
 use Rattle.mc_probe.specs.Expressions as does
 use Rattle.mc_interp.specs.declared.store.Store.{Store}
 use Rattle.mc_interp.specs.declared.frame.Frame.{Frame}
 use Rattle.mc_interp.specs.declared.values.Lent as code
-use Rattle.mc_interp.specs.declared.values.Passed.TheVariants as passed
-use Rattle.mc_interp.specs.Stores.{state_of, lent_of, told, Did}
-use Rattle.mc_interp.specs.Typed.{StandsSome, StandsArray, IsLent, AreTyped, IsPlaced, IsSomeArgument, IsPassedFor}
+use Rattle.mc_interp.specs.Stores.{state_of, lent_of, Did}
+use Rattle.mc_interp.specs.Typed.{StandsSome, StandsArray, IsLent, AreTyped, IsPlaced, IsSomeArgument}
 use Rattle.mc_interp.specs.Frames.{activation_of, scope_in, IsReady, IsKept}
-use Rattle.mc_interp.proofs.Placed.{place_small, lent_there}
+use Rattle.mc_interp.proofs.Placed.{lent_there}
 use Rattle.mc_interp.proofs.Arguments.{slot_cells, slot_placed}
-use Rattle.mc_interp.proofs.Runs.{did_told, did_gives, did_then, did_end}
+use Rattle.mc_interp.proofs.Runs.{did_gives}
 
 -- ---- structures
 
@@ -68,19 +65,10 @@ module _ (f : Frame) (m : Store) (room : ℕ) (ready : IsReady f m room) (value 
       let e = copy_cells in
       omega (arith, s.within, ready.has.room, e)
 
-  pub copy_small : f.base + copy.start ≤ 65536
-  copy_small = place_small f m room (f.base + copy.start) (Some its_type.0) ready copy_placed
-
   pub copy_keeps : (n : Store) → ((c : Scope) (w : Activation) (u : ObjectType) → (does.target (activation_of f) copy).cells ≡ size_of u →
       IsPlaced c w from (Some u) → IsPlaced c w (f.base + copy.start) (Some u) → IsKept c w m n) →
       IsKept (scope_in f) (activation_of f) m n
   copy_keeps n k = k (scope_in f) (activation_of f) its_type.0 copy_cells from_placed copy_placed
-
-  pub copy_typed : (at : ℕ) → at ≡ f.base + copy.start → (types : List IntType) → AreTyped (scope_in f) (activation_of f) types →
-      IsPassedFor (scope_in f) types (passed.Structure at) (t.StructureArgument value copy)
-  copy_typed at e types ok =
-      subst (λ k. StandsSome types k (structure_type (scope_in f) value)) (sym e)
-      (subst (StandsSome types (f.base + copy.start)) (sym is_type) (copy_placed types ok))
 
 -- ---- arrays that are handed on
 
@@ -110,32 +98,8 @@ again_typed f array l h e types ok =
 
 module _ {P : Type 0} (leads : List ℕ → P → P → Type 0) (stays : (p : P) → leads [] p p)
     (joins : (xs ys : List ℕ) (p q r : P) → leads xs p q → leads ys q r → leads (xs ++ ys) p r) where
-  pub did_as : {A B : Type 0} (E : Does A) (h : A → B) (s : State Flat) (x : A) (m : Store) (p q : P) →
-      Did leads (E s) (Some x) m p q → Did leads (after (E s) (λ v s. gives (h v) s)) (Some (h x)) m p q
-  did_as E h s x m p q d =
-      did_then leads stays joins (E s) (λ v s. gives (h v) s) x m m (Some (h x)) p q q d (did_gives leads stays joins (h x) m q)
-
   pub did_again : (lent : Option (memory.Lent ℕ)) (l : memory.Lent ℕ) (m : Store) (p : P) → lent ≡ Some l →
       Did leads (again_argument_does lent (state_of m)) (Some (PassedArray l)) m p p
   did_again lent l m p e =
       subst (λ (o : Option (memory.Lent ℕ)). Did leads (again_argument_does o (state_of m)) (Some (PassedArray l)) m p p) (sym e)
       (did_gives leads stays joins (PassedArray l) m p)
-
-  module _ (copy : Target ℕ) (V : Does ℕ) (s : State Flat) where
-    abbrev copying : ℕ → Does (steps.Passed ℕ)
-    copying from s =
-        after (changes (flat.copy from copy.place copy.cells) s) (λ _ s. gives (PassedStructure copy.place) s)
-
-    pub did_structure : (from : ℕ) (m n : Store) (p q : P) → Did leads (V s) (Some from) m p q →
-        changes (flat.copy from copy.place copy.cells) (state_of m) ≡ told (Some tt) n →
-        Did leads (structure_argument_does flat copy V s) (Some (PassedStructure copy.place)) n p q
-    did_structure from m n p q d e =
-        did_then leads stays joins (V s) copying from m n (Some (PassedStructure copy.place)) p q q d
-        (did_then leads stays joins (changes (flat.copy from copy.place copy.cells) (state_of m)) (λ _ s. gives (PassedStructure copy.place) s)
-        tt n n (Some (PassedStructure copy.place)) q q q
-        (did_told leads stays joins (changes (flat.copy from copy.place copy.cells) (state_of m)) (Some tt) n q e)
-        (did_gives leads stays joins (PassedStructure copy.place) n q))
-
-    pub did_structure_end : (m : Store) (p q : P) → Did leads (V s) None m p q →
-        Did leads (structure_argument_does flat copy V s) None m p q
-    did_structure_end m p q d = did_end leads stays joins (V s) copying m p q d

@@ -42,23 +42,10 @@ object_stands types base at objects k None all e h = none_some at h
 object_stands types base at objects k (Some o) all e h =
     subst (λ n. Stands types (base + n) o.object_type) (some_eq o.start at h) (all k o e)
 
-static_stands : (types : List IntType) (at : ℕ) (objects : List Object) (k : ℕ) (o : Option Object) →
-    ((k : ℕ) (o : Object) → slice_get objects k ≡ Some o → Stands types o.start o.object_type) →
-    slice_get objects k ≡ o → option_map (λ (o : Object). o.start) o ≡ Some at →
-    StandsSome types at (option_map (λ (o : Object). o.object_type) o)
-static_stands types at objects k None all e h = none_some at h
-static_stands types at objects k (Some o) all e h =
-    subst (λ n. Stands types n o.object_type) (some_eq o.start at h) (all k o e)
-
 pub placed_local : (c : Scope) (w : Activation) (slot : Slot) → IsSlot c.objects slot →
     IsPlaced c w (w.base + slot.start) (object_type_at c.objects slot.object)
 placed_local c w slot h types t =
     object_stands types w.base slot.start c.objects slot.object (slice_get c.objects slot.object) t.objects refl h
-
-pub placed_static : (c : Scope) (w : Activation) (slot : Slot) → IsSlot c.statics slot →
-    IsPlaced c w slot.start (object_type_at c.statics slot.object)
-placed_static c w slot h types t =
-    static_stands types slot.start c.statics slot.object (slice_get c.statics slot.object) t.statics refl h
 
 -- ---- elements
 

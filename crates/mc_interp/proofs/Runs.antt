@@ -1,11 +1,27 @@
 -- How the parts of a run join.
-use Rattle.std.proofs.Common.{◌≡◌, ℕ, ℤ, Bool, List, [], ◌++◌, Option, Some, None, refl, sym, ap, subst, ◌∙◌}
+use Rattle.std.proofs.Common.{◌≡◌, ℕ, ℤ, Bool, List, [], ◌++◌, Option, Some, None, refl, sym, ap, subst, ◌∙◌, append_assoc}
 use Rattle.std.proofs.lemmas.List.{append-nil}
 use Rattle.mc_steps.specs.Runs.{State, Out, Gave, Stopped, Run, Acts, gives, stops, go_on, preceded, after}
 use Rattle.mc_steps.specs.Expressions.{is_true}
 use Rattle.mc_probe.specs.Flat.{Flat}
 use Rattle.mc_interp.specs.declared.store.Store.{Store}
 use Rattle.mc_interp.specs.Stores.{state_of, told, Did}
+
+-- ---- three parts
+
+preceded_twice : {A : Type 0} (xs ys : List ℕ) (r : Run Flat ℕ A) → preceded (xs ++ ys) r ≡ preceded xs (preceded ys r)
+preceded_twice {A} xs ys r = ap (λ (l : List ℕ). record { out = r.out; events = l }) (append_assoc xs ys r.events)
+
+pub after_after : {A B C : Type 0} (r : Run Flat ℕ A) (f : A → Acts Flat ℕ B) (g : B → Acts Flat ℕ C) →
+    after (after r f) g ≡ after r (λ a s. after (f a s) g)
+after_after {A} {B} {C} r f g = go r.out r.events
+  where
+    go : (o : Out Flat A) (es : List ℕ) →
+        preceded (es ++ (go_on o f).events) (go_on (go_on o f).out g) ≡ preceded es (go_on o (λ a s. after (f a s) g))
+    go (Gave a s) es = preceded_twice es (f a s).events (go_on (f a s).out g)
+    go (Stopped e s) es = preceded_twice es [] (stops e s)
+
+-- ---- what a part gave
 
 -- what is asked of a value and goes on by its truth alone
 module _ {B : Type 0} (f : ℤ → Acts Flat ℕ B) (next : Bool → Acts Flat ℕ B)

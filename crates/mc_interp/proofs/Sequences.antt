@@ -1,14 +1,14 @@
 -- Parts that follow each other: what was done, and what is still to come.
-use Rattle.std.proofs.Common.{◌≡◌, ℕ, ◌+◌, ◌-◌, ◌<◌, ◌≤◌, length, drop, get_or, pos, List, [], ◌∷◌, ◌++◌, map, refl, sym, ap, subst, ◌∙◌, arith, append_assoc, Option, Some, None}
+use Rattle.std.proofs.Common.{◌≡◌, ℕ, ◌+◌, ◌-◌, ◌<◌, length, drop, get_or, pos, List, [], ◌∷◌, ◌++◌, map, refl, sym, ap, subst, ◌∙◌, Option, Some, None}
 use Rattle.std.proofs.lemmas.List.{drop_more}
 use Rattle.mc_typed.specs.declared.initializers.Initializer.{Initializer}
 use Rattle.mc_typed.specs.declared.statements.Declarator.{Declarator}
-use Rattle.mc_typed.specs.Sound.{Scope, AreDeclarators}
+use Rattle.mc_typed.specs.Sound.{AreDeclarators}
 use Rattle.mc_typed.specs.Tree as t
 use Rattle.mc_typed.specs.Views as plain
-use Rattle.mc_steps.specs.Runs.{Run, Out, Gave, Stopped, Acts, changes, gives, after, stops, preceded, go_on}
+use Rattle.mc_steps.specs.Runs.{Run, changes, gives, after}
 use Rattle.mc_steps.specs.Calls.{unset_does}
-use Rattle.mc_probe.specs.Flat.{Flat, Does, Activation, flat}
+use Rattle.mc_probe.specs.Flat.{Flat, Does, flat}
 use Rattle.mc_probe.specs.Statements as does
 use Rattle.mc_probe.specs.Tree as p
 use Rattle.mc_probe.specs.Views as view
@@ -18,23 +18,8 @@ use Rattle.mc_interp.specs.declared.frame.Frame.{Frame}
 use Rattle.mc_interp.specs.Stores.{limits_of, state_of, told, Did}
 use Rattle.mc_interp.specs.Effects.{declarator_does, width, AreAnyEffects, InitializeAll}
 use Rattle.mc_interp.specs.Frames.{activation_of, scope_in, IsReady, IsKept}
-use Rattle.mc_interp.proofs.Runs.{did_told, did_then, did_end}
-use Rattle.mc_interp.proofs.Initial.{offset_within}
+use Rattle.mc_interp.proofs.Runs.{after_after, did_told, did_then, did_end}
 use Rattle.mc_interp.proofs.Kept.{kept_then, ready_kept}
-
--- ---- three parts
-
-preceded_twice : {A : Type 0} (xs ys : List ℕ) (r : Run Flat ℕ A) → preceded (xs ++ ys) r ≡ preceded xs (preceded ys r)
-preceded_twice {A} xs ys r = ap (λ (l : List ℕ). record { out = r.out; events = l }) (append_assoc xs ys r.events)
-
-pub after_after : {A B C : Type 0} (r : Run Flat ℕ A) (f : A → Acts Flat ℕ B) (g : B → Acts Flat ℕ C) →
-    after (after r f) g ≡ after r (λ a s. after (f a s) g)
-after_after {A} {B} {C} r f g = go r.out r.events
-  where
-    go : (o : Out Flat A) (es : List ℕ) →
-        preceded (es ++ (go_on o f).events) (go_on (go_on o f).out g) ≡ preceded es (go_on o (λ a s. after (f a s) g))
-    go (Gave a s) es = preceded_twice es (f a s).events (go_on (f a s).out g)
-    go (Stopped e s) es = preceded_twice es [] (stops e s)
 
 -- the first of the parts that are left
 pub drop_is : {A : Type 0} (xs : List A) (i : ℕ) (x : A) → i < length xs → x ≡ get_or xs i x → drop i xs ≡ x ∷ drop (i + 1) xs
@@ -71,29 +56,9 @@ module _ {P : Type 0} (bits : P → ℕ) (leads : List ℕ → P → P → Type 
   pub ends : IsOn bits leads f whole both old m o q → Did leads (first (state_of m)) None n q r → Did leads whole None n o r
   ends h d = h.rest None n r (did_end leads stays joins (first (state_of m)) (λ _ s. later s) n q r d)
 
--- ---- the start and the end
-
-pub kept_same : (c : Scope) (w : Activation) (m : Store) → IsKept c w m m
-kept_same c w m = record {
-  cells = refl;
-  limit = refl;
-  registers = refl;
-  registers_limit = refl;
-  output = refl;
-  fuel = omega arith;
-  typed = λ types t has. has;
-}
+-- ---- the end
 
 module _ {P : Type 0} (bits : P → ℕ) (leads : List ℕ → P → P → Type 0) (stays : (p : P) → leads [] p p) (f : Frame) where
-  pub starts : (whole : Run Flat ℕ (Unit {0})) (m : Store) (o : P) → IsReady f m (bits o) → IsOn bits leads f whole whole m m o o
-  starts whole m o r = record {
-    ready = r;
-    kept = kept_same (scope_in f) (activation_of f) m;
-    bits_same = refl;
-    limits_same = refl;
-    rest = λ result new r d. d;
-  }
-
   pub done : (whole : Run Flat ℕ (Unit {0})) (old m : Store) (o q : P) → IsOn bits leads f whole (gives tt (state_of m)) old m o q →
       Did leads whole (Some tt) m o q
   done whole old m o q h = h.rest (Some tt) m q (record { ran = refl; led = stays q })
@@ -114,10 +79,6 @@ module _ {P : Type 0} (bits : P → ℕ) (leads : List ℕ → P → P → Type 
 
   abbrev effect_run : p.Effect → Does (Unit {0})
   effect_run e s = does.effect_of (activation_of f) e s
-
-  pub doing_start : (plainly : List t.Effect) (m : Store) (o : P) → IsReady f m (bits o) → AreAnyEffects plainly (scope_in f) →
-      FitEffects f.function.now.registers all → AreDoing bits leads f all plainly all m m o o
-  doing_start plainly m o r s h = record { on = starts bits leads stays f (effects_run all (state_of m)) m o r; sound = s; fits = h }
 
   pub doing_step : (a : t.Effect) (plainly : List t.Effect) (e : p.Effect) (later : List p.Effect) (old m n : Store) (o q r : P) →
       AreDoing bits leads f all (a ∷ plainly) (e ∷ later) old m o q →
@@ -160,12 +121,6 @@ module _ {P : Type 0} (bits : P → ℕ) (leads : List ℕ → P → P → Type 
   abbrev item_run : Initializer → ℕ → Does (Unit {0})
   item_run x offset s = does.initializer_of (activation_of f) (view.initializer_of x) (at + offset) s
 
-  pub setting_start : (m : Store) (o : P) → IsReady f m (bits o) →
-      InitializeAll (scope_in f) (activation_of f) (plain.initializers_from (map plain.initializer_of all)) at 0 cells →
-      FitInitializers f.function.now.registers (view.initializers_from (map view.initializer_of all)) →
-      AreSetting bits leads f all all at 0 0 cells m m o o
-  setting_start m o r s h = record { on = starts bits leads stays f (items_run all 0 0 (state_of m)) m o r; sound = s; fits = h }
-
   pub setting_step : (later : List Initializer) (x : Initializer) (i offset k : ℕ) (old m n : Store) (o q r : P) →
       AreSetting bits leads f all (x ∷ later) at i offset cells old m o q →
       Did leads (item_run x offset (state_of m)) (Some tt) n q r → IsKept (scope_in f) (activation_of f) m n → bits r ≡ bits q →
@@ -193,11 +148,6 @@ module _ {P : Type 0} (bits : P → ℕ) (leads : List ℕ → P → P → Type 
   setting_done i offset old m n o q h e =
       h.on.rest (Some tt) n q (did_told leads stays joins (items_run [] i offset (state_of m)) (Some tt) n q e)
 
-  pub setting_within : (later : List Initializer) (i offset : ℕ) (old m : Store) (o q : P) →
-      AreSetting bits leads f all later at i offset cells old m o q → offset ≤ cells
-  setting_within later i offset old m o q h =
-      offset_within (scope_in f) (activation_of f) (plain.initializers_from (map plain.initializer_of later)) at offset cells h.sound
-
 -- ---- declarators
 
 pub record AreDeclaring {P : Type 0} (bits : P → ℕ) (leads : List ℕ → P → P → Type 0) (f : Frame) (all later : List Declarator)
@@ -214,10 +164,6 @@ module _ {P : Type 0} (bits : P → ℕ) (leads : List ℕ → P → P → Type 
 
   abbrev declarator_run : Declarator → Does (Unit {0})
   declarator_run d s = declarator_does (activation_of f) (view.declarator_of d) s
-
-  pub declaring_start : (m : Store) (o : P) → IsReady f m (bits o) → AreDeclarators (map plain.declarator_of all) (scope_in f) →
-      FitDeclarators f.function.now.registers (map view.declarator_of all) → AreDeclaring bits leads f all all m m o o
-  declaring_start m o r s h = record { on = starts bits leads stays f (declarators_run all (state_of m)) m o r; sound = s; fits = h }
 
   -- the parts of the first one joined
   first_is : (later : List Declarator) (d : Declarator) (m : Store) →

@@ -1,9 +1,8 @@
 -- The nodes of a tree, seen as those of the definitions.
-use Rattle.std.proofs.Common.{◌≡◌, ℕ, ℤ, Bool, map, sym, ap, ◌∙◌, Box}
+use Rattle.std.proofs.Common.{◌≡◌, ℕ, map, sym, ap, ◌∙◌, Box}
 use Rattle.std.specs.Global.{Global}
 use Rattle.mc_span.specs.declared.span.Span.{Span}
 use Rattle.mc_value.specs.declared.int_type.IntType.{IntType}
-use Rattle.mc_value.specs.declared.operators.UnOp.{UnOp}
 use Rattle.mc_typed.specs.declared.operators.Operator.{Operator}
 use Rattle.mc_typed.specs.declared.operators.LogicOperator.{LogicOperator}
 use Rattle.mc_typed.specs.declared.probes.Probe as code
@@ -13,11 +12,10 @@ use Rattle.mc_typed.specs.declared.expressions.Expression.TheVariants as express
 use Rattle.mc_typed.specs.declared.expressions.Place.{Place}
 use Rattle.mc_typed.specs.declared.expressions.Place.TheVariants as place
 use Rattle.mc_typed.specs.declared.expressions.Structure.{Structure}
-use Rattle.mc_typed.specs.declared.expressions.Structure.TheVariants as structure
 use Rattle.mc_typed.specs.declared.expressions.Argument.TheVariants as argument
-use Rattle.mc_typed.specs.declared.expressions.Argument.TheOpen.{Expression-F, Place-F, Structure-F, Argument-F}
+use Rattle.mc_typed.specs.declared.expressions.Argument.TheOpen.{Expression-F, Place-F, Argument-F}
 use Rattle.mc_typed.specs.declared.expressions.FunctionCall.{FunctionCall, out-FunctionCall}
-use Rattle.mc_typed.specs.declared.expressions.Argument.TheFolds.{fold-roll-Expression, fold-roll-Place, fold-roll-Structure, fold-roll-Argument, fold_out-FunctionCall}
+use Rattle.mc_typed.specs.declared.expressions.Argument.TheFolds.{fold-roll-Expression, fold-roll-Place, fold-roll-Argument, fold_out-FunctionCall}
 use Rattle.mc_typed.specs.Views as plain
 use Rattle.mc_typed.specs.Tree as t
 use Rattle.mc_probe.specs.Views as view
@@ -25,35 +23,11 @@ use Rattle.mc_probe.specs.Tree as p
 
 -- ---- without the probes
 
-pub plain_constant : (v : ℤ) (a : IntType) (span : Span) →
-    plain.expression_of (expression.Constant v a span) ≡ t.Constant v a span
-plain_constant v a span =
-    ap plain.expression_of (sym (expression.rolls-Constant v a span))
-    ∙ fold-roll-Expression t.Argument t.Expression t.Place t.StructureValue t.FunctionCall plain.node_argument plain.node_expression plain.node_place plain.node_structure plain.node_call (Expression-F.Constant v a span)
-
 pub plain_read : (object : Place) (a : IntType) →
     plain.expression_of (expression.Read object a) ≡ t.Read (plain.place_of object) a
 plain_read object a =
     ap plain.expression_of (sym (expression.rolls-Read object a))
     ∙ fold-roll-Expression t.Argument t.Expression t.Place t.StructureValue t.FunctionCall plain.node_argument plain.node_expression plain.node_place plain.node_structure plain.node_call (Expression-F.Read object a)
-
-pub plain_unary : (operator : UnOp) (a : IntType) (e : Box Expression Global) (span : Span) →
-    plain.expression_of (expression.Unary operator a e span) ≡ t.Unary operator a (plain.expression_of e.value) span
-plain_unary operator a e span =
-    ap plain.expression_of (sym (expression.rolls-Unary operator a e span))
-    ∙ fold-roll-Expression t.Argument t.Expression t.Place t.StructureValue t.FunctionCall plain.node_argument plain.node_expression plain.node_place plain.node_structure plain.node_call (Expression-F.Unary operator a e span)
-
-pub plain_convert : (a : IntType) (written : Bool) (e : Box Expression Global) (span : Span) →
-    plain.expression_of (expression.Convert a written e span) ≡ t.Convert a written (plain.expression_of e.value) span
-plain_convert a written e span =
-    ap plain.expression_of (sym (expression.rolls-Convert a written e span))
-    ∙ fold-roll-Expression t.Argument t.Expression t.Place t.StructureValue t.FunctionCall plain.node_argument plain.node_expression plain.node_place plain.node_structure plain.node_call (Expression-F.Convert a written e span)
-
-pub plain_not : (e : Box Expression Global) (span : Span) →
-    plain.expression_of (expression.Not e span) ≡ t.Not (plain.expression_of e.value) span
-plain_not e span =
-    ap plain.expression_of (sym (expression.rolls-Not e span))
-    ∙ fold-roll-Expression t.Argument t.Expression t.Place t.StructureValue t.FunctionCall plain.node_argument plain.node_expression plain.node_place plain.node_structure plain.node_call (Expression-F.Not e span)
 
 pub plain_binary : (operator : Operator) (a : IntType) (e : Box Expression Global) (f : Box Expression Global) (span : Span) →
     plain.expression_of (expression.Binary operator a e f span) ≡ t.Binary operator a (plain.expression_of e.value) (plain.expression_of f.value) span
@@ -61,47 +35,17 @@ plain_binary operator a e f span =
     ap plain.expression_of (sym (expression.rolls-Binary operator a e f span))
     ∙ fold-roll-Expression t.Argument t.Expression t.Place t.StructureValue t.FunctionCall plain.node_argument plain.node_expression plain.node_place plain.node_structure plain.node_call (Expression-F.Binary operator a e f span)
 
-pub plain_logic : (operator : LogicOperator) (e : Box Expression Global) (f : Box Expression Global) (span : Span) →
-    plain.expression_of (expression.Logic operator e f span) ≡ t.Logic operator (plain.expression_of e.value) (plain.expression_of f.value) span
-plain_logic operator e f span =
-    ap plain.expression_of (sym (expression.rolls-Logic operator e f span))
-    ∙ fold-roll-Expression t.Argument t.Expression t.Place t.StructureValue t.FunctionCall plain.node_argument plain.node_expression plain.node_place plain.node_structure plain.node_call (Expression-F.Logic operator e f span)
-
 pub plain_choice : (e : Box Expression Global) (f : Box Expression Global) (g : Box Expression Global) (a : IntType) (span : Span) →
     plain.expression_of (expression.Choice e f g a span) ≡ t.Choice (plain.expression_of e.value) (plain.expression_of f.value) (plain.expression_of g.value) a span
 plain_choice e f g a span =
     ap plain.expression_of (sym (expression.rolls-Choice e f g a span))
     ∙ fold-roll-Expression t.Argument t.Expression t.Place t.StructureValue t.FunctionCall plain.node_argument plain.node_expression plain.node_place plain.node_structure plain.node_call (Expression-F.Choice e f g a span)
 
-pub plain_call : (k : FunctionCall) (a : IntType) →
-    plain.expression_of (expression.Call k a) ≡ t.Call (plain.call_of k) a
-plain_call k a =
-    ap plain.expression_of (sym (expression.rolls-Call k a))
-    ∙ fold-roll-Expression t.Argument t.Expression t.Place t.StructureValue t.FunctionCall plain.node_argument plain.node_expression plain.node_place plain.node_structure plain.node_call (Expression-F.Call k a)
-
-pub plain_input : (span : Span) →
-    plain.expression_of (expression.Input span) ≡ t.Input span
-plain_input span =
-    ap plain.expression_of (sym (expression.rolls-Input span))
-    ∙ fold-roll-Expression t.Argument t.Expression t.Place t.StructureValue t.FunctionCall plain.node_argument plain.node_expression plain.node_place plain.node_structure plain.node_call (Expression-F.Input span)
-
-pub plain_probe : (q : code.Probe) (e : Box Expression Global) →
-    plain.expression_of (expression.Probe q e) ≡ plain.expression_of e.value
-plain_probe q e =
-    ap plain.expression_of (sym (expression.rolls-Probe q e))
-    ∙ fold-roll-Expression t.Argument t.Expression t.Place t.StructureValue t.FunctionCall plain.node_argument plain.node_expression plain.node_place plain.node_structure plain.node_call (Expression-F.Probe q e)
-
 pub plain_local : (slot : Slot) (span : Span) →
     plain.place_of (place.Local slot span) ≡ t.Local slot span
 plain_local slot span =
     ap plain.place_of (sym (place.rolls-Local slot span))
     ∙ fold-roll-Place t.Argument t.Expression t.Place t.StructureValue t.FunctionCall plain.node_argument plain.node_expression plain.node_place plain.node_structure plain.node_call (Place-F.Local slot span)
-
-pub plain_static : (slot : Slot) (span : Span) →
-    plain.place_of (place.Static slot span) ≡ t.Static slot span
-plain_static slot span =
-    ap plain.place_of (sym (place.rolls-Static slot span))
-    ∙ fold-roll-Place t.Argument t.Expression t.Place t.StructureValue t.FunctionCall plain.node_argument plain.node_expression plain.node_place plain.node_structure plain.node_call (Place-F.Static slot span)
 
 pub plain_parameter : (array : ℕ) (stride : ℕ) (e : Box Expression Global) (span : Span) →
     plain.place_of (place.Parameter array stride e span) ≡ t.Parameter array stride (plain.expression_of e.value) span
@@ -121,35 +65,11 @@ plain_member object i offset span =
     ap plain.place_of (sym (place.rolls-Member object i offset span))
     ∙ fold-roll-Place t.Argument t.Expression t.Place t.StructureValue t.FunctionCall plain.node_argument plain.node_expression plain.node_place plain.node_structure plain.node_call (Place-F.Member object i offset span)
 
-pub plain_stored : (object : Place) →
-    plain.structure_of (structure.Stored object) ≡ t.Stored (plain.place_of object)
-plain_stored object =
-    ap plain.structure_of (sym (structure.rolls-Stored object))
-    ∙ fold-roll-Structure t.Argument t.Expression t.Place t.StructureValue t.FunctionCall plain.node_argument plain.node_expression plain.node_place plain.node_structure plain.node_call (Structure-F.Stored object)
-
-pub plain_returned : (k : FunctionCall) →
-    plain.structure_of (structure.Returned k) ≡ t.Returned (plain.call_of k)
-plain_returned k =
-    ap plain.structure_of (sym (structure.rolls-Returned k))
-    ∙ fold-roll-Structure t.Argument t.Expression t.Place t.StructureValue t.FunctionCall plain.node_argument plain.node_expression plain.node_place plain.node_structure plain.node_call (Structure-F.Returned k)
-
-pub plain_number_argument : (e : Expression) →
-    plain.argument_of (argument.Number e) ≡ t.NumberArgument (plain.expression_of e)
-plain_number_argument e =
-    ap plain.argument_of (sym (argument.rolls-Number e))
-    ∙ fold-roll-Argument t.Argument t.Expression t.Place t.StructureValue t.FunctionCall plain.node_argument plain.node_expression plain.node_place plain.node_structure plain.node_call (Argument-F.Number e)
-
 pub plain_structure_argument : (source : Structure) (copy : Slot) →
     plain.argument_of (argument.Structure source copy) ≡ t.StructureArgument (plain.structure_of source) copy
 plain_structure_argument source copy =
     ap plain.argument_of (sym (argument.rolls-Structure source copy))
     ∙ fold-roll-Argument t.Argument t.Expression t.Place t.StructureValue t.FunctionCall plain.node_argument plain.node_expression plain.node_place plain.node_structure plain.node_call (Argument-F.Structure source copy)
-
-pub plain_array_argument : (object : Place) (n : ℕ) →
-    plain.argument_of (argument.Array object n) ≡ t.ArrayArgument (plain.place_of object) n
-plain_array_argument object n =
-    ap plain.argument_of (sym (argument.rolls-Array object n))
-    ∙ fold-roll-Argument t.Argument t.Expression t.Place t.StructureValue t.FunctionCall plain.node_argument plain.node_expression plain.node_place plain.node_structure plain.node_call (Argument-F.Array object n)
 
 pub plain_again_argument : (array : ℕ) (span : Span) →
     plain.argument_of (argument.Again array span) ≡ t.AgainArgument array span
@@ -163,30 +83,6 @@ plain_made k =
     fold_out-FunctionCall t.Argument t.Expression t.Place t.StructureValue t.FunctionCall plain.node_argument plain.node_expression plain.node_place plain.node_structure plain.node_call k
 
 -- ---- with the probes
-
-pub view_constant : (v : ℤ) (a : IntType) (span : Span) →
-    view.expression_of (expression.Constant v a span) ≡ p.Constant v a span
-view_constant v a span =
-    ap view.expression_of (sym (expression.rolls-Constant v a span))
-    ∙ fold-roll-Expression p.Argument p.Expression p.Place p.StructureValue p.FunctionCall view.node_argument view.node_expression view.node_place view.node_structure view.node_call (Expression-F.Constant v a span)
-
-pub view_read : (object : Place) (a : IntType) →
-    view.expression_of (expression.Read object a) ≡ p.Read (view.place_of object) a
-view_read object a =
-    ap view.expression_of (sym (expression.rolls-Read object a))
-    ∙ fold-roll-Expression p.Argument p.Expression p.Place p.StructureValue p.FunctionCall view.node_argument view.node_expression view.node_place view.node_structure view.node_call (Expression-F.Read object a)
-
-pub view_unary : (operator : UnOp) (a : IntType) (e : Box Expression Global) (span : Span) →
-    view.expression_of (expression.Unary operator a e span) ≡ p.Unary operator a (view.expression_of e.value) span
-view_unary operator a e span =
-    ap view.expression_of (sym (expression.rolls-Unary operator a e span))
-    ∙ fold-roll-Expression p.Argument p.Expression p.Place p.StructureValue p.FunctionCall view.node_argument view.node_expression view.node_place view.node_structure view.node_call (Expression-F.Unary operator a e span)
-
-pub view_convert : (a : IntType) (written : Bool) (e : Box Expression Global) (span : Span) →
-    view.expression_of (expression.Convert a written e span) ≡ p.Convert a written (view.expression_of e.value) span
-view_convert a written e span =
-    ap view.expression_of (sym (expression.rolls-Convert a written e span))
-    ∙ fold-roll-Expression p.Argument p.Expression p.Place p.StructureValue p.FunctionCall view.node_argument view.node_expression view.node_place view.node_structure view.node_call (Expression-F.Convert a written e span)
 
 pub view_not : (e : Box Expression Global) (span : Span) →
     view.expression_of (expression.Not e span) ≡ p.Not (view.expression_of e.value) span
@@ -212,35 +108,11 @@ view_choice e f g a span =
     ap view.expression_of (sym (expression.rolls-Choice e f g a span))
     ∙ fold-roll-Expression p.Argument p.Expression p.Place p.StructureValue p.FunctionCall view.node_argument view.node_expression view.node_place view.node_structure view.node_call (Expression-F.Choice e f g a span)
 
-pub view_call : (k : FunctionCall) (a : IntType) →
-    view.expression_of (expression.Call k a) ≡ p.Call (view.call_of k) a
-view_call k a =
-    ap view.expression_of (sym (expression.rolls-Call k a))
-    ∙ fold-roll-Expression p.Argument p.Expression p.Place p.StructureValue p.FunctionCall view.node_argument view.node_expression view.node_place view.node_structure view.node_call (Expression-F.Call k a)
-
-pub view_input : (span : Span) →
-    view.expression_of (expression.Input span) ≡ p.Input span
-view_input span =
-    ap view.expression_of (sym (expression.rolls-Input span))
-    ∙ fold-roll-Expression p.Argument p.Expression p.Place p.StructureValue p.FunctionCall view.node_argument view.node_expression view.node_place view.node_structure view.node_call (Expression-F.Input span)
-
 pub view_probe : (q : code.Probe) (e : Box Expression Global) →
     view.expression_of (expression.Probe q e) ≡ p.Probe q (view.expression_of e.value)
 view_probe q e =
     ap view.expression_of (sym (expression.rolls-Probe q e))
     ∙ fold-roll-Expression p.Argument p.Expression p.Place p.StructureValue p.FunctionCall view.node_argument view.node_expression view.node_place view.node_structure view.node_call (Expression-F.Probe q e)
-
-pub view_local : (slot : Slot) (span : Span) →
-    view.place_of (place.Local slot span) ≡ p.Local slot span
-view_local slot span =
-    ap view.place_of (sym (place.rolls-Local slot span))
-    ∙ fold-roll-Place p.Argument p.Expression p.Place p.StructureValue p.FunctionCall view.node_argument view.node_expression view.node_place view.node_structure view.node_call (Place-F.Local slot span)
-
-pub view_static : (slot : Slot) (span : Span) →
-    view.place_of (place.Static slot span) ≡ p.Static slot span
-view_static slot span =
-    ap view.place_of (sym (place.rolls-Static slot span))
-    ∙ fold-roll-Place p.Argument p.Expression p.Place p.StructureValue p.FunctionCall view.node_argument view.node_expression view.node_place view.node_structure view.node_call (Place-F.Static slot span)
 
 pub view_parameter : (array : ℕ) (stride : ℕ) (e : Box Expression Global) (span : Span) →
     view.place_of (place.Parameter array stride e span) ≡ p.Parameter array stride (view.expression_of e.value) span
@@ -253,42 +125,6 @@ pub view_item : (object : Box Place Global) (n : ℕ) (stride : ℕ) (e : Box Ex
 view_item object n stride e span =
     ap view.place_of (sym (place.rolls-Item object n stride e span))
     ∙ fold-roll-Place p.Argument p.Expression p.Place p.StructureValue p.FunctionCall view.node_argument view.node_expression view.node_place view.node_structure view.node_call (Place-F.Item object n stride e span)
-
-pub view_member : (object : Box Place Global) (i : ℕ) (offset : ℕ) (span : Span) →
-    view.place_of (place.Member object i offset span) ≡ p.Member (view.place_of object.value) i offset span
-view_member object i offset span =
-    ap view.place_of (sym (place.rolls-Member object i offset span))
-    ∙ fold-roll-Place p.Argument p.Expression p.Place p.StructureValue p.FunctionCall view.node_argument view.node_expression view.node_place view.node_structure view.node_call (Place-F.Member object i offset span)
-
-pub view_stored : (object : Place) →
-    view.structure_of (structure.Stored object) ≡ p.Stored (view.place_of object)
-view_stored object =
-    ap view.structure_of (sym (structure.rolls-Stored object))
-    ∙ fold-roll-Structure p.Argument p.Expression p.Place p.StructureValue p.FunctionCall view.node_argument view.node_expression view.node_place view.node_structure view.node_call (Structure-F.Stored object)
-
-pub view_returned : (k : FunctionCall) →
-    view.structure_of (structure.Returned k) ≡ p.Returned (view.call_of k)
-view_returned k =
-    ap view.structure_of (sym (structure.rolls-Returned k))
-    ∙ fold-roll-Structure p.Argument p.Expression p.Place p.StructureValue p.FunctionCall view.node_argument view.node_expression view.node_place view.node_structure view.node_call (Structure-F.Returned k)
-
-pub view_number_argument : (e : Expression) →
-    view.argument_of (argument.Number e) ≡ p.NumberArgument (view.expression_of e)
-view_number_argument e =
-    ap view.argument_of (sym (argument.rolls-Number e))
-    ∙ fold-roll-Argument p.Argument p.Expression p.Place p.StructureValue p.FunctionCall view.node_argument view.node_expression view.node_place view.node_structure view.node_call (Argument-F.Number e)
-
-pub view_structure_argument : (source : Structure) (copy : Slot) →
-    view.argument_of (argument.Structure source copy) ≡ p.StructureArgument (view.structure_of source) copy
-view_structure_argument source copy =
-    ap view.argument_of (sym (argument.rolls-Structure source copy))
-    ∙ fold-roll-Argument p.Argument p.Expression p.Place p.StructureValue p.FunctionCall view.node_argument view.node_expression view.node_place view.node_structure view.node_call (Argument-F.Structure source copy)
-
-pub view_array_argument : (object : Place) (n : ℕ) →
-    view.argument_of (argument.Array object n) ≡ p.ArrayArgument (view.place_of object) n
-view_array_argument object n =
-    ap view.argument_of (sym (argument.rolls-Array object n))
-    ∙ fold-roll-Argument p.Argument p.Expression p.Place p.StructureValue p.FunctionCall view.node_argument view.node_expression view.node_place view.node_structure view.node_call (Argument-F.Array object n)
 
 pub view_again_argument : (array : ℕ) (span : Span) →
     view.argument_of (argument.Again array span) ≡ p.AgainArgument array span

@@ -1,19 +1,16 @@
 -- Units of fuel that were spent, and what follows them.
-use Rattle.std.proofs.Common.{◌≡◌, ℕ, zero, suc, ◌+◌, ◌≤◌, ◌==◌, arith, Bool, true, false, List, [], ◌++◌, refl, sym, ap, subst, ◌∙◌, Option, Some, None}
-use Rattle.std.proofs.Math.Dec.{eqb-suc-zero}
-use Rattle.std.specs.Prelude.{slice_get, unwrap_or, IfSome}
+use Rattle.std.proofs.Common.{◌≡◌, ℕ, zero, suc, ◌+◌, ◌≤◌, arith, List, [], ◌++◌, sym, ap, subst, ◌∙◌, Option, Some, None}
+use Rattle.std.specs.Prelude.{IfSome}
 use Rattle.mc_typed.specs.declared.plans.Ending.{Ending}
 use Rattle.mc_typed.specs.declared.plans.Ending.TheVariants as ending
 use Rattle.mc_value.specs.declared.int_type.IntType.{IntType}
-use Rattle.mc_typed.specs.declared.probes.Mark.{Mark}
 use Rattle.mc_typed.specs.Sound.{Scope, structure_type, type_of, IsExpression, IsReturn, IsStructure}
 use Rattle.mc_typed.specs.Tree as t
 use Rattle.mc_words.specs.Words.{Holds}
 use Rattle.mc_steps.specs.Runs.{State, Run, Out, Gave, Stopped, Acts, gives, stops, after, spends, with_fuel}
 use Rattle.mc_steps.specs.Expressions.{as_does}
 use Rattle.mc_steps.specs.Statements.{Completed, Left, Given, effect_does}
-use Rattle.mc_probe.specs.Flat.{Flat, Does, Activation, hits, hits_some, register, sets}
-use Rattle.mc_probe.specs.Probes.{mark_does, where_set}
+use Rattle.mc_probe.specs.Flat.{Flat, Does, Activation, hits_some}
 use Rattle.mc_probe.specs.Statements.{exit_does}
 use Rattle.mc_interp.specs.declared.store.Store.{Store}
 use Rattle.mc_interp.specs.declared.values.Given.TheVariants as given
@@ -104,31 +101,6 @@ module _ {P : Type 0} (leads : List ℕ → P → P → Type 0) (stays : (p : P)
     pub did_exit_end : (bit : Option ℕ) (act : Does (Given ℕ)) (s : State Flat) (m : Store) (p q : P) → Did leads (act s) None m p q →
         Did leads (exit_does w bit act s) None m p q
     did_exit_end bit act s m p q h = did_end leads stays joins (act s) (λ v s. after (hits_some w bit s) (λ _ s. gives (Left v) s)) m p q h
-
-    -- a label's probe
-    mark_by : (mark : Mark) (chosen b : Bool) (m n : Store) (p q : P) → (register (w.first + mark.register) (state_of m).memory == 0) ≡ b →
-        Did leads (where_set w b mark (state_of m)) (Some tt) n p q → Did leads (mark_does w (Some mark) chosen (state_of m)) (Some tt) n p q
-    mark_by mark chosen b m n p q e h = subst (λ (b : Bool). Did leads (where_set w b mark (state_of m)) (Some tt) n p q) (sym e) h
-
-    is_none : (o : Option ℕ) (v : ℕ) → o ≡ Some v → v ≡ 0 → (unwrap_or o 0 == 0) ≡ true
-    is_none o v e z = ap (λ (o : Option ℕ). unwrap_or o 0 == 0) e ∙ ap (λ (v : ℕ). v == 0) z
-
-    is_some : (o : Option ℕ) (v : ℕ) → o ≡ Some (suc v) → (unwrap_or o 0 == 0) ≡ false
-    is_some o v e = ap (λ (o : Option ℕ). unwrap_or o 0 == 0) e ∙ eqb-suc-zero v
-
-    pub did_mark_not : (mark : Mark) (chosen : Bool) (v : ℕ) (m : Store) (p : P) → slice_get m.registers.items (w.first + mark.register) ≡ Some v →
-        v ≡ 0 → Did leads (mark_does w (Some mark) chosen (state_of m)) (Some tt) m p p
-    did_mark_not mark chosen v m p e z =
-        mark_by mark chosen true m m p p (is_none (slice_get m.registers.items (w.first + mark.register)) v e z) (did_gives leads stays joins tt m p)
-
-    pub did_mark : (mark : Mark) (chosen : Bool) (v : ℕ) (m n : Store) (p q : P) → slice_get m.registers.items (w.first + mark.register) ≡ Some v →
-        (v ≡ 0 → ⊥) → Did leads (hits w mark.bit (state_of m)) (Some tt) m p q → sets w mark.register 0 (state_of m) ≡ told (Some tt) n →
-        Did leads (mark_does w (Some mark) chosen (state_of m)) (Some tt) n p q
-    did_mark mark chosen zero m n p q e z h g = absurd (z refl)
-    did_mark mark chosen (suc v) m n p q e z h g =
-        mark_by mark chosen false m n p q (is_some (slice_get m.registers.items (w.first + mark.register)) v e)
-        (did_then leads stays joins (hits w mark.bit (state_of m)) (λ _ s. sets w mark.register 0 s) tt m n (Some tt) p q q h
-        (did_told leads stays joins (sets w mark.register 0 (state_of m)) (Some tt) n q g))
 
 -- fuel that was spent before a part
 pub if_less : {A : Type 0} (c : Scope) (w : Activation) (o m n : Store) (r : Option A) → m.fuel + 1 ≡ o.fuel → IfSome r (λ _. IsKept c w m n) →

@@ -23,6 +23,7 @@ use Rattle.mc_interp.specs.declared.prepared.statements.Prepared.{Prepared}
 use Rattle.mc_interp.specs.declared.prepared.statements.Prepared.TheOpen.{Prepared-F}
 use Rattle.mc_interp.specs.declared.prepared.statements.Prepared.TheFolds.{fold-Prepared}
 
+-- an object of the activation, which is read (C17 6.3.2.1p2), or a constant (C17 6.4.4)
 abbrev pub leaf_of : Leaf → p.Expression
 leaf_of (leaves.Local slot span of) = p.Read (p.Local slot span) of
 leaf_of (leaves.Constant value of span) = p.Constant value of span
@@ -40,6 +41,7 @@ operator_of relations.NotEqual = binary.Ne
 abbrev pub condition_of : Note → p.Expression → p.Expression
 condition_of n e = p.Probe (probe.Condition n.register n.on_true n.on_false) e
 
+-- conditions, joined by `!`, `&&` and `||` (C17 6.5.3.3, 6.5.13, 6.5.14)
 abbrev pub node_question : Question-F p.Expression → p.Expression
 node_question (Question-F.Compared note relation of left right span) =
     condition_of note
@@ -52,11 +54,13 @@ node_question (Question-F.Logic operator left right span) =
 abbrev pub question_of : Question → p.Expression
 question_of = fold-Question p.Expression node_question
 
+-- the controlling expression of an `if` or a loop (C17 6.8.4.1, 6.8.5)
 abbrev pub test_of : Test → p.Expression
 test_of (tests.Asked register base question) =
     p.Probe (probe.Decision register base) (question_of question.value)
 test_of (tests.Walked tree) = view.expression_of tree.now
 
+-- assignments (C17 6.5.16), and effects that are walked
 abbrev pub effect_of : Step → p.Effect
 effect_of (steps.Add slot place right span) =
     p.Update (p.Local slot place) Int (Binary binary.Add) Int (leaf_of right) span
@@ -66,6 +70,7 @@ effect_of (steps.Update slot place of operator common right span) =
     p.Update (p.Local slot place) of operator common (leaf_of right) span
 effect_of (steps.Walked tree) = view.effect_of tree.now
 
+-- statements (C17 6.8)
 abbrev pub node_statement : Prepared-F p.Statement → p.Statement
 node_statement (Prepared-F.Compound items span) =
     p.Compound (view.statements_from items.items) span

@@ -1,5 +1,5 @@
-//! Tests of selections and loops, of which the decisions that ask about objects of the activation
-//! and constants alone need no walk of the tree.
+//! Tests of `if` statements and loops. Decisions that ask about objects of the activation and
+//! constants alone need no walk of the tree.
 ghost use Rattle.std.specs.Prelude.{◌≡◌, option_map, IfSome};
 ghost use Rattle.mc_span.specs.declared.span.Span.{Span};
 ghost use Rattle.mc_typed.specs.declared.operators.Operator.TheVariants.{Binary};
@@ -46,7 +46,7 @@ pub(crate) fn leaf(one: &Leaf, frame: &Frame<'_, '_, '_>, store: &mut Store) -> 
     }
 }
 
-/// Whether two leaves compare so, of which the left one is evaluated first.
+/// Whether a relation holds between two leaves, of which the left one is evaluated first.
 #[inline(always)]
 fn related(
     relation: Relation,
@@ -77,7 +77,8 @@ fn related(
     Some(compare(relation.operator(), of, first, second))
 }
 
-/// Whether what a decision asks holds.
+/// Whether what a decision asks holds. It is inlined, so that a condition costs no call; `negated`
+/// and `joined`, through which it calls itself, are not.
 #[cycle(answers)]
 #[inline(always)]
 fn answer(question: &Question, frame: &Frame<'_, '_, '_>, store: &mut Store) -> Option<bool>

@@ -1,4 +1,4 @@
-//! Expression statements and third parts of `for` (C17 6.8.3, 6.8.5.3), of which assignments to an
+//! Expression statements and third parts of `for` (C17 6.8.3, 6.8.5.3). Assignments of a leaf to an
 //! object of the activation need no walk of the tree.
 ghost use Rattle.std.specs.Prelude.{◌≡◌, map, IfSome};
 ghost use Rattle.mc_probe.specs.Erase.{erase_effect};

@@ -1,6 +1,7 @@
-//! Bodies as the interpreter runs them, made once from the tree. Conditions on objects of the
-//! activation and constants, and assignments to an object of the activation, stand in a form that
-//! needs no walk; all else is lent from the tree. `Views` says which tree each of them is.
+//! Bodies as the interpreter runs them, made once from the tree. Two kinds of parts stand in a form
+//! that needs no walk of the tree: decisions on objects of the activation and constants, and
+//! assignments of such an object or a constant to an object of the activation. All else is lent
+//! from the tree. `Views` says which tree each prepared part is.
 mod controls;
 mod leaves;
 mod questions;

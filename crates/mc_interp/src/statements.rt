@@ -139,7 +139,8 @@ fn statement<P: Probe, F: Fn(Called<'_, '_, '_>, &mut Store, &mut P) -> Option<(
 ) -> Option<Flow>
     requires sound { IsAnyStatement (erase_statement (prepared.statement_of tree.now))
         (scope_in frame.now) }
-    requires fits { FitsStatement frame.now.function.now.registers (prepared.statement_of tree.now) }
+    requires fits { FitsStatement frame.now.function.now.registers
+        (prepared.statement_of tree.now) }
     requires ready { IsReady frame.now store.old (P.bits probe.old) }
     requires invokes { Invokes frame.now P.bits P.leads (F.pre invoke) (F.post invoke) }
     ensures did { Did P.leads (does.statement_of (activation_of frame.now)
@@ -177,7 +178,8 @@ fn other<P: Probe, F: Fn(Called<'_, '_, '_>, &mut Store, &mut P) -> Option<()> +
 ) -> Option<Flow>
     requires sound { IsAnyStatement (erase_statement (prepared.statement_of tree.now))
         (scope_in frame.now) }
-    requires fits { FitsStatement frame.now.function.now.registers (prepared.statement_of tree.now) }
+    requires fits { FitsStatement frame.now.function.now.registers
+        (prepared.statement_of tree.now) }
     requires ready { IsReady frame.now store.old (P.bits probe.old) }
     requires invokes { Invokes frame.now P.bits P.leads (F.pre invoke) (F.post invoke) }
     ensures did { Did P.leads (does.statement_of (activation_of frame.now)
@@ -205,7 +207,8 @@ fn act<P: Probe, F: Fn(Called<'_, '_, '_>, &mut Store, &mut P) -> Option<()> + C
 ) -> Option<Flow>
     requires sound { IsAnyStatement (erase_statement (prepared.statement_of tree.now))
         (scope_in frame.now) }
-    requires fits { FitsStatement frame.now.function.now.registers (prepared.statement_of tree.now) }
+    requires fits { FitsStatement frame.now.function.now.registers
+        (prepared.statement_of tree.now) }
     requires ready { IsReady frame.now store.old (P.bits probe.old) }
     requires invokes { Invokes frame.now P.bits P.leads (F.pre invoke) (F.post invoke) }
     ensures did { Did P.leads (act_of (activation_of frame.now) (prepared.statement_of tree.now)
@@ -338,7 +341,8 @@ fn item<P: Probe, F: Fn(Called<'_, '_, '_>, &mut Store, &mut P) -> Option<()> + 
 ) -> Option<Next>
     requires sound { IsAnyStatement (erase_statement (prepared.statement_of tree.now))
         (scope_in frame.now) }
-    requires fits { FitsStatement frame.now.function.now.registers (prepared.statement_of tree.now) }
+    requires fits { FitsStatement frame.now.function.now.registers
+        (prepared.statement_of tree.now) }
     requires ready { IsReady frame.now store.old (P.bits probe.old) }
     requires invokes { Invokes frame.now P.bits P.leads (F.pre invoke) (F.post invoke) }
     ensures did { Did P.leads (item_of (activation_of frame.now) (prepared.statement_of tree.now)

@@ -1,4 +1,4 @@
-//! The controlling expressions of selections and loops (C17 6.8.4, 6.8.5).
+//! The controlling expressions of `if` statements and loops (C17 6.8.4.1, 6.8.5).
 ghost use Rattle.std.specs.Prelude.{◌≡◌, IfOk, option_map};
 ghost use Rattle.mc_probe.specs.Views.{expression_of};
 ghost use Rattle.mc_interp.specs.Views.{test_of};
@@ -8,7 +8,7 @@ use mc_typed::{Expression, Probe};
 use std::alloc::{AllocError, Global};
 
 /// A controlling expression: a decision with its register, the bit of its first path and what it
-/// asks, or any expression, which is walked.
+/// asks, or any other expression, which is walked.
 pub(crate) enum Test<'p> {
     Asked {
         register: u32,
@@ -54,7 +54,7 @@ pub(crate) fn test_from<'p>(alloc: Global, tree: &'p Expression) -> Result<Test<
     }
 }
 
-/// The same of the test of a loop, where it has one.
+/// The test of a `for`, where it has one.
 pub(crate) fn test_if_any<'p>(
     alloc: Global,
     tree: &'p Option<Expression>,

@@ -121,7 +121,7 @@ fn relation_of(operator: Operator) -> Option<Relation>
     }
 }
 
-/// The condition of this probe that compares two leaves, if an expression does.
+/// The condition with this probe, if the expression compares two leaves.
 fn compared(note: Note, e: &Expression) -> Option<Question>
     ensures { IfSome result (λ made. question_of made ≡ condition_of note (expression_of e.now)) }
 {
@@ -144,7 +144,7 @@ fn compared(note: Note, e: &Expression) -> Option<Question>
     }
 }
 
-/// The condition of this probe, if it is a leaf or compares two leaves.
+/// The condition with this probe, if the expression is a leaf or compares two leaves.
 fn condition(note: Note, e: &Expression) -> Option<Question>
     ensures { IfSome result (λ made. question_of made ≡ condition_of note (expression_of e.now)) }
 {
@@ -161,7 +161,7 @@ fn on_heap(alloc: Global, one: Question) -> Result<Box<Question>, AllocError>
     Ok(Box::new(alloc, one)?)
 }
 
-/// Two questions on the heap, where both are there.
+/// Two questions on the heap, if both are there.
 fn both(
     alloc: Global,
     left: Option<Question>,
@@ -178,7 +178,8 @@ fn both(
     }
 }
 
-/// The question that an expression asks, if each of its conditions is a leaf or compares leaves.
+/// The question that an expression asks, if each of its conditions is a leaf or compares two
+/// leaves.
 pub(crate) fn question_from(alloc: Global, e: &Expression) -> Result<Option<Question>, AllocError>
     ensures { IfOk result (λ found. IfSome found (λ made.
         question_of made ≡ expression_of e.now)) }

@@ -9,7 +9,7 @@ use mc_span::Span;
 use mc_typed::{Declarator, Expression, ForStart, Mark, ReturnValue, Statement};
 use std::alloc::{AllocError, Global};
 
-/// A statement with its parts as they run: the names are those of the tree.
+/// A statement with its parts as they run. The names are those of the tree.
 pub(crate) enum Prepared<'p> {
     Compound {
         items: Vec<Prepared<'p>>,
@@ -168,7 +168,7 @@ fn on_heap<'p>(alloc: Global, one: Prepared<'p>) -> Result<Box<Prepared<'p>>, Al
     Ok(Box::new(alloc, one)?)
 }
 
-/// The statement that a tree is.
+/// The prepared statement that a tree is.
 #[cycle(statements)]
 fn prepare<'p>(alloc: Global, tree: &'p Statement) -> Result<Prepared<'p>, AllocError>
     ensures { IfOk result (λ made. statement_of made ≡ view.statement_of tree.now) }

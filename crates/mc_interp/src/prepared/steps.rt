@@ -13,10 +13,10 @@ use mc_typed::{Effect, Operator, Place, Slot};
 use mc_value::{BinOp, IntType};
 use std::alloc::{AllocError, Global};
 
-/// An effect. The first three have an object of the activation as their target and a leaf on the
-/// right; `place` is where the target stands.
+/// An effect. The first three assign a leaf to an object of the activation; `place` is where that
+/// object stands in the source.
 pub(crate) enum Step<'p> {
-    /// `+=` of two `int`s, and `++`.
+    /// `+=` in `int` to an `int`, as in `++`.
     Add {
         slot: Slot,
         place: Span,
@@ -99,7 +99,7 @@ fn adds_ints(of: IntType, operator: Operator, common: IntType) -> bool
     }
 }
 
-/// A compound assignment of a leaf to an object of the activation.
+/// The step for a compound assignment of a leaf to an object of the activation.
 fn updated<'p>(
     slot: Slot,
     place: Span,
@@ -132,7 +132,7 @@ fn updated<'p>(
     }
 }
 
-/// The step that needs no walk, if an effect is one.
+/// The step that an effect is, if it needs no walk.
 fn short<'p>(tree: &Effect) -> Option<Step<'p>>
     ensures { IfSome result (λ made. effect_of made ≡ view.effect_of tree.now) }
 {

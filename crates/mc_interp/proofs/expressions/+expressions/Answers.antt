@@ -2,6 +2,7 @@ use Rattle.std.proofs.Common.{◌+◌, drop, refl, sym, ◌∙◌, arith, rules}
 use Rattle.std.specs.Prelude.{slice_get}
 use Rattle.mc_typed.specs.Sound.{type_of}
 use Rattle.mc_typed.specs.Views as plain
+use Rattle.mc_steps.specs.Expressions.{goes_on}
 use Rattle.mc_probe.specs.Views as view
 use Rattle.mc_probe.specs.Expressions as does
 use Rattle.mc_interp.specs.Stores.{lent_of, state_of}
@@ -221,7 +222,7 @@ truth-returns-else-goes_on-clause-did g t c =
     let W = activation_of c.args.frame.now in let S = state_of c.args.store.now in
     let h = rw c.deref-in-Logic.ensures at c.in_ok-holds-in-Logic.ensures.did in
     rw (c.in-Logic.is, view_logic)
-    (did_logic_short M N J c.in-Logic.operator (does.value_of W (view.expression_of c.in-Logic.left.value)) (does.value_of W (view.expression_of c.in-Logic.right.value)) S c.in_ok-holds-in-Logic.holds _ _ _ h (sym c.goes_on.ensures ∙ c.if-goes_on.false))
+    (did_logic_short M N J c.in-Logic.operator (does.value_of W (view.expression_of c.in-Logic.left.value)) (does.value_of W (view.expression_of c.in-Logic.right.value)) S c.in_ok-holds-in-Logic.holds _ _ _ h (◌∙◌ {a = goes_on c.in-Logic.operator c.in_ok-holds-in-Logic.holds} (sym c.goes_on.ensures) c.if-goes_on.false))
 
 pub truth-returns-in_err-second-in-Some-clause-did : goal.truth-returns-in_err-second-in-Some-clause-did
 truth-returns-in_err-second-in-Some-clause-did g t c =
