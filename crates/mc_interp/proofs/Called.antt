@@ -1,5 +1,5 @@
 -- What a call is given, and what it keeps.
-use Rattle.std.proofs.Common.{◌≡◌, ℕ, ◌+◌, ◌<◌, ◌≤◌, List, map, sym, subst, arith, Option, Some, None, option_map}
+use Rattle.std.proofs.Common.{◌≡◌, ℕ, ◌+◌, ◌<◌, ◌≤◌, List, sym, subst, arith, Option, Some, None, option_map}
 use Rattle.std.specs.Prelude.{slice_get, IfSome}
 use Rattle.std.proofs.lemmas.List.{length-map}
 use Rattle.mc_value.specs.declared.int_type.IntType.{IntType}
@@ -11,7 +11,6 @@ use Rattle.mc_typed.specs.Tree as t
 use Rattle.mc_typed.specs.Views as plain
 use Rattle.mc_typed.specs.Sound.{Scope, IsCall, Takes, result_at, parameters_at}
 use Rattle.mc_probe.specs.Flat.{Activation}
-use Rattle.mc_probe.specs.Calls.{calls}
 use Rattle.mc_interp.specs.declared.store.Store.{Store}
 use Rattle.mc_interp.specs.declared.frame.Frame.{Frame}
 use Rattle.mc_interp.specs.declared.frame.Called.{Called}
