@@ -1,4 +1,4 @@
-use Rattle.std.proofs.Common.{◌∙◌, ◌++◌, List, Option, ap, option_map}
+use Rattle.std.proofs.Common.{◌∙◌, ◌++◌, Option, ap, option_map}
 use Rattle.mc_faults.specs.declared.fault.Fault.{Fault}
 use Rattle.mc_faults.specs.Faults.{least_of}
 use Rattle.mc_faults.specs.Kept.{listed}
