@@ -31,7 +31,7 @@ use crate::signatures::{function_fault, repeated_fault, result_of, signature};
 use crate::tags::plain;
 use mc_faults::{Fault, FaultKind, after_two, fault_where, lesser};
 use mc_scopes::found::Judged;
-use mc_scopes::lists::{unused, with_last};
+use mc_scopes::lists::{list_of, push, unused, where_done};
 use mc_scopes::{
     Base, Block, CType, Meaning, ParameterKind, Scope, Signature, Structure, is_complete, layout,
 };
@@ -296,7 +296,7 @@ fn add_parameter_types(
         (ty.parameter_type (map structure_of structures.now)) (map kind_of kinds.now)) }
 {
     for kind in kinds {
-        types.push(parameter_type(alloc, structures, kind)?)?;
+        push(types, parameter_type(alloc, structures, kind)?)?;
     }
     Ok(())
 }
@@ -310,13 +310,8 @@ fn parameter_types(
         (ty.parameter_type (map structure_of structures.now)) (map kind_of kinds.now)) }
 {
     let mut types = Vec::new(alloc);
-    match add_parameter_types(alloc, structures, &mut types, kinds) {
-        Ok(()) => Ok(types),
-        Err(error) => {
-            drop(types);
-            Err(error)
-        }
-    }
+    let done = add_parameter_types(alloc, structures, &mut types, kinds);
+    where_done(done, types)
 }
 
 fn result_type(
@@ -414,10 +409,7 @@ fn function_from<'a>(
 fn one_function<'a>(alloc: Global, function: Function<'a>) -> Result<Vec<Function<'a>>, AllocError>
     ensures { IfOk result (λ r. functions_of r ≡ views.function_of function.entry ∷ []) }
 {
-    match with_last(Vec::new(alloc), function) {
-        Ok(list) => Ok(list),
-        Err(error) => Err(error),
-    }
+    list_of(alloc, function)
 }
 
 // The function with this type and this body, alone; its objects leave the scope.
@@ -435,9 +427,10 @@ fn function_alone<'a>(
         → function_left_by a (scope_of scope.new) ≡ function_left_by a (scope_of scope.old)) }
 {
     let objects = scope.take_objects(alloc);
-    let function = function_from(alloc, &scope.structures, name, span, of, objects, body)?;
-    let list = one_function(alloc, function)?;
-    Ok(list)
+    match function_from(alloc, &scope.structures, name, span, of, objects, body) {
+        Ok(function) => one_function(alloc, function),
+        Err(error) => Err(error),
+    }
 }
 
 // The function, where its type is known and its body has no fault; its objects leave the scope.
@@ -487,7 +480,11 @@ pub fn end_definition<'a>(
 {
     let frame = fault_where(scope.frame > MOST_CELLS, FaultKind::Limit, name.span.start);
     let fault = after_two(body.fault, statements.fault, frame);
-    let value = function_listed(alloc, scope, name, span, &body.signature, statements.value)?;
+    let value = function_listed(alloc, scope, name, span, &body.signature, statements.value);
     scope.leave_function(alloc, body.block);
-    Ok(Judged { fault, value })
+    unused(body.signature);
+    match value {
+        Ok(value) => Ok(Judged { fault, value }),
+        Err(error) => Err(error),
+    }
 }

@@ -1,7 +1,9 @@
 //! Objects with automatic storage duration (C17 6.2.4p5).
-ghost use Rattle.std.specs.Prelude.{◌≡◌, [], IfOk, Some, option_map};
+ghost use Rattle.std.specs.Prelude.{◌≡◌, [], IfOk, List, Some, option_map};
 ghost use Rattle.mc_tree.specs.Views.{name_of};
 ghost use Rattle.mc_typed.specs.Layout as sizes;
+ghost use Rattle.mc_faults.specs.declared.fault.Fault.{Fault};
+ghost use Rattle.mc_faults.specs.Faults.{least_of, unless_faulty};
 ghost use Rattle.mc_typing.specs.Declarations as w;
 ghost use Rattle.mc_typing.specs.Scopes as s;
 ghost use Rattle.mc_scopes.specs.Types.{type_of};
@@ -19,7 +21,7 @@ use crate::objects::{declare_untyped, object_fault};
 use crate::parameters::add_object_of;
 use mc_faults::{Fault, after};
 use mc_scopes::found::Judged;
-use mc_scopes::lists::{unused_inner, with_last};
+use mc_scopes::lists::{list_of, unused_inner};
 use mc_scopes::{CType, Meaning, Scope};
 use mc_tree::{ArrayLength, Identifier};
 use mc_typed::{Declarator, Initializer, Slot};
@@ -75,6 +77,30 @@ fn add_counted(
     }
 }
 
+// Declares the name of the next object of the function, with this type unless there is a fault.
+fn declare_automatic<'a>(
+    scope: &mut Scope<'a>,
+    fault: Option<Fault>,
+    name: &Identifier<'a>,
+    of: &Option<CType>,
+) -> Result<Slot, AllocError>
+    ensures slot { IfOk result (λ r. r ≡ s.next_slot (scope_of scope.old)) }
+    ensures scope { IfOk result (λ r. (fs : List Fault) → fault ≡ least_of fs
+        → scope_of scope.new ≡ s.with_name (name_of name.now)
+        (s.Automatic r (unless_faulty fs (option_map type_of of.now))) (scope_of scope.old)) }
+{
+    let Ok(slot) = scope.next_slot() else {
+        return Err(AllocError);
+    };
+    let Ok(of) = copy_unless(fault, of) else {
+        return Err(AllocError);
+    };
+    match scope.declare(name, Meaning::Automatic { slot, of }) {
+        Ok(()) => Ok(slot),
+        Err(error) => Err(error),
+    }
+}
+
 /// Declares an object with automatic storage duration, before its initializer; `faults` is the
 /// first fault of its lengths, and `base` the type of its specifiers.
 pub fn begin_local<'a>(
@@ -93,16 +119,18 @@ pub fn begin_local<'a>(
 {
     let own = object_fault(scope, name, lengths, count, base, of);
     let fault = after(faults, own);
-    let slot = scope.next_slot()?;
-    let typed = copy_unless(fault, of)?;
-    scope.declare(name, Meaning::Automatic { slot, of: typed })?;
-    let cells = add_counted(alloc, scope, own, of)?;
-    Ok(Local {
-        fault,
-        own,
-        slot,
-        cells,
-    })
+    let Ok(slot) = declare_automatic(scope, fault, name, of) else {
+        return Err(AllocError);
+    };
+    match add_counted(alloc, scope, own, of) {
+        Ok(cells) => Ok(Local {
+            fault,
+            own,
+            slot,
+            cells,
+        }),
+        Err(error) => Err(error),
+    }
 }
 
 // ---- after the initializer
@@ -136,7 +164,7 @@ fn one_declarator(
     ensures { IfOk result (λ r. option_map declarators_of r
         ≡ counted_value slot (Some cells) (Some (optional_of value))) }
 {
-    match with_last(Vec::new(alloc), Declarator { slot, cells, value }) {
+    match list_of(alloc, Declarator { slot, cells, value }) {
         Ok(list) => Ok(Some(list)),
         Err(error) => Err(error),
     }

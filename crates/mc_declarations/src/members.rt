@@ -17,6 +17,7 @@ use crate::faults::{first_fault, unless};
 use crate::parameters::Parameters;
 use mc_faults::{Fault, FaultKind, fault_where, lesser};
 use mc_scopes::found::Judged;
+use mc_scopes::lists::unused;
 use mc_scopes::{
     CType, Members, Scope, Structure, cells, counted_nesting, is_large_member, layout,
 };
@@ -117,7 +118,9 @@ pub fn member<'a>(
         (written lengths.now) (map listed_of members.old)
         (judged_of lengths_in given (scope_of scope.now)))) }
 {
-    let Ok(of) = declared_type(alloc, lengths, &given.value, None, base) else {
+    let of = declared_type(alloc, lengths, &given.value, None, base);
+    unused(given.value);
+    let Ok(of) = of else {
         return Err(AllocError);
     };
     let fault = member_fault(

@@ -21,7 +21,7 @@ use crate::faults::{first_fault, unless};
 use crate::values::unless_fault;
 use mc_faults::{Fault, FaultKind, fault_where, lesser};
 use mc_scopes::found::Judged;
-use mc_scopes::lists::{joined, with_last};
+use mc_scopes::lists::{joined, list_of, unused, where_done};
 use mc_scopes::{
     CType, Meaning, Objects, ParameterKind, Scope, Structure, cells, is_complete, layout,
 };
@@ -293,10 +293,7 @@ fn one_kind(
 ) -> Result<Vec<Option<ParameterKind>>, AllocError>
     ensures { IfOk result (λ r. map kind_found r.items ≡ kind_found kind ∷ []) }
 {
-    match with_last(Vec::new(alloc), kind) {
-        Ok(kinds) => Ok(kinds),
-        Err(error) => Err(error),
-    }
+    list_of(alloc, kind)
 }
 
 #[tactic(auto, using(crate::proofs::Lists::unless_mapped))]
@@ -325,8 +322,15 @@ pub fn parameter<'a>(
         (judged_of lengths_in given (cut_to (counted_of before) (scope_of scope.old))))) }
 {
     scope.cut_objects(before);
-    let of = declared_type(alloc, lengths, &given.value, Some(1), base)?;
-    let kind = parameter_kind(&scope.structures, &of)?;
+    let of = declared_type(alloc, lengths, &given.value, Some(1), base);
+    unused(given.value);
+    let Ok(of) = of else {
+        return Err(AllocError);
+    };
+    let Ok(kind) = parameter_kind(&scope.structures, &of) else {
+        unused(of);
+        return Err(AllocError);
+    };
     let fault = parameter_fault(
         scope,
         fault,
@@ -340,11 +344,15 @@ pub fn parameter<'a>(
     );
     let of = unless(fault, of);
     let kind = kind_unless(fault, kind);
-    declare_parameter(alloc, scope, name, &of, &kind)?;
-    Ok(Parameters {
-        fault,
-        kinds: one_kind(alloc, kind)?,
-    })
+    let declared = declare_parameter(alloc, scope, name, &of, &kind);
+    unused(of);
+    let Ok(kind) = where_done(declared, kind) else {
+        return Err(AllocError);
+    };
+    match one_kind(alloc, kind) {
+        Ok(kinds) => Ok(Parameters { fault, kinds }),
+        Err(error) => Err(error),
+    }
 }
 
 /// Parameters, and more after them.

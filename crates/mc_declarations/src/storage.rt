@@ -186,7 +186,6 @@ pub fn empty_fault(
 }
 
 /// A declaration, from the fault of its specifiers and its own.
-#[tactic(auto, using(crate::proofs::DeclarationFaults::joined_three))]
 pub fn declaration(
     typed: Option<Fault>,
     empty: Option<Fault>,

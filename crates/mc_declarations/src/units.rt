@@ -17,7 +17,7 @@ ghost use Rattle.mc_scopes.specs.steps.Squeezed.{squeezed_part};
 use mc_faults::{Fault, FaultKind};
 use mc_scopes::Bodies;
 use mc_scopes::found::Judged;
-use mc_scopes::lists::joined_lists;
+use mc_scopes::lists::{joined_lists, where_done};
 use mc_tree::{Declarator, Identifier, Item};
 use mc_typed::{Function, Span};
 use std::alloc::{AllocError, Global};
@@ -129,11 +129,6 @@ pub fn bodies_of<'a>(alloc: Global, items: &[Item<'a>]) -> Result<Bodies<'a>, Al
     ensures { IfOk result (λ r. r ≡ ty.bodies_of (items_of items.now)) }
 {
     let mut bodies = Bodies::new(alloc);
-    match add_bodies(&mut bodies, items) {
-        Ok(()) => Ok(bodies),
-        Err(error) => {
-            drop(bodies);
-            Err(error)
-        }
-    }
+    let done = add_bodies(&mut bodies, items);
+    where_done(done, bodies)
 }

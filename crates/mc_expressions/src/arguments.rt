@@ -174,28 +174,6 @@ fn array_argument(parameter: &CType, value: Value) -> Result<Option<Argument>, A
     }
 }
 
-fn argument_for(
-    alloc: Global,
-    scope: &Scope<'_>,
-    parameter: &ParameterKind,
-    value: Value,
-) -> Result<Option<Argument>, AllocError>
-    ensures { IfOk result (λ r. option_map argument_of r
-        ≡ c.argument_of (scope_of scope.now) (types.kind_of parameter.now) (value_of value)) }
-{
-    match parameter {
-        ParameterKind::Value(base) => match *base {
-            Base::Void => {
-                drop(value);
-                Ok(None)
-            }
-            Base::Integer(to) => number_argument(alloc, to, value.into_number()),
-            Base::Tagged(number) => structure_argument(scope, value.into_structure(number)),
-        },
-        ParameterKind::Array(of) => array_argument(of, value),
-    }
-}
-
 fn argument_value(
     alloc: Global,
     scope: &Scope<'_>,
@@ -208,7 +186,19 @@ fn argument_value(
 {
     match parameter {
         Some(parameter) => match value {
-            Some(value) => argument_for(alloc, scope, parameter, value),
+            Some(value) => match parameter {
+                ParameterKind::Value(base) => match *base {
+                    Base::Void => {
+                        drop(value);
+                        Ok(None)
+                    }
+                    Base::Integer(to) => number_argument(alloc, to, value.into_number()),
+                    Base::Tagged(number) => {
+                        structure_argument(scope, value.into_structure(number))
+                    }
+                },
+                ParameterKind::Array(of) => array_argument(of, value),
+            },
             None => Ok(None),
         },
         None => {

@@ -18,7 +18,7 @@ use mc_scopes::found::{Found, fails_integer, number_in};
 use mc_scopes::value::Value;
 use mc_tree::BinaryOperator;
 use mc_typed::{Expression, LogicOperator, Operator, Span};
-use mc_value::{BinOp, ShiftOp, common, promote};
+use mc_value::{BinOp, IntType, ShiftOp, common, promote};
 use std::alloc::{AllocError, Global};
 
 /// What a binary operator does with its operands.
@@ -56,6 +56,26 @@ fn operation_of(operator: BinaryOperator) -> Operation
     }
 }
 
+// An operator on operands of these types, which are in boxes.
+fn applied(
+    operator: Operator,
+    of: IntType,
+    left: Box<Expression>,
+    right: Box<Expression>,
+    span: Span,
+) -> Value
+    ensures { value_of result ≡ v.Number (t.Binary operator of (expression_of left.value)
+        (expression_of right.value) span) }
+{
+    Value::Number(Expression::Binary {
+        operator,
+        of,
+        left,
+        right,
+        span,
+    })
+}
+
 fn in_common_type(
     alloc: Global,
     operator: BinOp,
@@ -68,13 +88,10 @@ fn in_common_type(
 {
     let of = common(left.integer_type(), right.integer_type());
     match operands(alloc, of, left, of, right) {
-        Ok((left, right)) => Ok(Some(Value::Number(Expression::Binary {
-            operator: Operator::Binary(operator),
-            of,
-            left,
-            right,
-            span,
-        }))),
+        Ok((left, right)) => {
+            let operator = Operator::Binary(operator);
+            Ok(Some(applied(operator, of, left, right, span)))
+        }
         Err(error) => Err(error),
     }
 }
@@ -95,13 +112,8 @@ fn shifting(
     match operands(alloc, left_to, left, right_to, right) {
         Ok((left, right)) => {
             let of = left.integer_type();
-            Ok(Some(Value::Number(Expression::Binary {
-                operator: Operator::Shift(operator),
-                of,
-                left,
-                right,
-                span,
-            })))
+            let operator = Operator::Shift(operator);
+            Ok(Some(applied(operator, of, left, right, span)))
         }
         Err(error) => Err(error),
     }
@@ -128,23 +140,6 @@ fn logic(
     }
 }
 
-fn binary_of(
-    alloc: Global,
-    operator: BinaryOperator,
-    span: Span,
-    left: Expression,
-    right: Expression,
-) -> Result<Option<Value>, AllocError>
-    ensures { IfOk result (λ r. option_map value_of r ≡ Some (v.Number
-        (e.binary_of operator span (expression_of left) (expression_of right)))) }
-{
-    match operation_of(operator) {
-        Operation::Common(operator) => in_common_type(alloc, operator, span, left, right),
-        Operation::Shift(operator) => shifting(alloc, operator, span, left, right),
-        Operation::Logic(operator) => logic(alloc, operator, span, left, right),
-    }
-}
-
 fn binary_value(
     alloc: Global,
     operator: BinaryOperator,
@@ -158,7 +153,11 @@ fn binary_value(
 {
     match left {
         Some(left) => match right {
-            Some(right) => binary_of(alloc, operator, span, left, right),
+            Some(right) => match operation_of(operator) {
+                Operation::Common(operator) => in_common_type(alloc, operator, span, left, right),
+                Operation::Shift(operator) => shifting(alloc, operator, span, left, right),
+                Operation::Logic(operator) => logic(alloc, operator, span, left, right),
+            },
             None => {
                 drop(left);
                 Ok(None)

@@ -115,25 +115,6 @@ fn converting(
     }
 }
 
-fn value_to(
-    alloc: Global,
-    span: Span,
-    operand: Value,
-    base: Option<Base>,
-) -> Result<Option<Value>, AllocError>
-    ensures { IfOk result (λ r. option_map value_of r
-        ≡ e.cast_value_to span (value_of operand) (option_map base_of base)) }
-{
-    match base {
-        Some(Base::Void) => discarding(alloc, span, operand.into_discarded()),
-        Some(Base::Integer(to)) => converting(alloc, to, span, operand.into_number()),
-        Some(Base::Tagged(_)) | None => {
-            drop(operand);
-            Ok(None)
-        }
-    }
-}
-
 fn cast_value(
     alloc: Global,
     span: Span,
@@ -145,7 +126,14 @@ fn cast_value(
 {
     match of {
         Some(of) => match operand {
-            Some(operand) => value_to(alloc, span, operand, cast_base(of)),
+            Some(operand) => match cast_base(of) {
+                Some(Base::Void) => discarding(alloc, span, operand.into_discarded()),
+                Some(Base::Integer(to)) => converting(alloc, to, span, operand.into_number()),
+                Some(Base::Tagged(_)) | None => {
+                    drop(operand);
+                    Ok(None)
+                }
+            },
             None => Ok(None),
         },
         None => {

@@ -17,7 +17,7 @@ use mc_scopes::kind::{Kind, fails_arm};
 use mc_scopes::parts::ValueParts;
 use mc_scopes::value::Value;
 use mc_typed::{Effect, Expression, Span};
-use mc_value::common;
+use mc_value::{IntType, common};
 use std::alloc::{AllocError, Global};
 
 fn are_arms(one: Kind<'_>, other: Kind<'_>) -> bool
@@ -42,6 +42,26 @@ fn arms_fail(one: Option<Kind<'_>>, other: Option<Kind<'_>>) -> bool
     }
 }
 
+// A choice between operands of this type, which are in boxes.
+fn choice(
+    test: Box<Expression>,
+    chosen: Box<Expression>,
+    other: Box<Expression>,
+    of: IntType,
+    span: Span,
+) -> Value
+    ensures { value_of result ≡ v.Number (t.Choice (expression_of test.value)
+        (expression_of chosen.value) (expression_of other.value) of span) }
+{
+    Value::Number(Expression::Choice {
+        test,
+        chosen,
+        other,
+        of,
+        span,
+    })
+}
+
 fn choice_of(
     alloc: Global,
     span: Span,
@@ -56,13 +76,7 @@ fn choice_of(
     let of = common(chosen.integer_type(), other.integer_type());
     match operands(alloc, of, chosen, of, other) {
         Ok((chosen, other)) => match boxed(alloc, test) {
-            Ok(test) => Ok(Some(Value::Number(Expression::Choice {
-                test,
-                chosen,
-                other,
-                of,
-                span,
-            }))),
+            Ok(test) => Ok(Some(choice(test, chosen, other, of, span))),
             Err(error) => {
                 drop(chosen);
                 drop(other);
@@ -159,25 +173,6 @@ fn effect_arms(
     }
 }
 
-fn arms_value(
-    alloc: Global,
-    span: Span,
-    test: Expression,
-    chosen: Value,
-    other: Value,
-) -> Result<Option<Value>, AllocError>
-    ensures { IfOk result (λ r. option_map value_of r
-        ≡ e.arms_value span (expression_of test) (value_of chosen) (value_of other)) }
-{
-    match chosen.into_parts() {
-        ValueParts::Done(chosen) => effect_arms(alloc, span, test, chosen, other),
-        chosen => {
-            let chosen = chosen.into_number();
-            number_arms(alloc, span, test, chosen, other.into_number())
-        }
-    }
-}
-
 fn conditional_value(
     alloc: Global,
     span: Span,
@@ -204,7 +199,13 @@ fn conditional_value(
         drop(chosen);
         return Ok(None);
     };
-    arms_value(alloc, span, test, chosen, other)
+    match chosen.into_parts() {
+        ValueParts::Done(chosen) => effect_arms(alloc, span, test, chosen, other),
+        chosen => {
+            let chosen = chosen.into_number();
+            number_arms(alloc, span, test, chosen, other.into_number())
+        }
+    }
 }
 
 // The first fault of `?:` on these operands, and whether it is built as a constant.

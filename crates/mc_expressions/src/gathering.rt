@@ -15,6 +15,7 @@ ghost use Rattle.mc_expressions.specs.steps.Gathered.{before, extended, gathered
 use mc_faults::{Fault, lesser};
 use mc_scopes::ParameterKind;
 use mc_scopes::found::Given;
+use mc_scopes::lists::{unused, with_last};
 use mc_typed::Argument;
 use std::alloc::{AllocError, Global};
 
@@ -38,24 +39,17 @@ fn push_argument(
 {
     match given {
         Some(given) => match one {
-            Some(one) => {
-                let mut given = given;
-                match given.push(one) {
-                    Ok(()) => Ok(Some(given)),
-                    Err(failed) => {
-                        drop(given);
-                        drop(failed);
-                        Err(AllocError)
-                    }
-                }
-            }
+            Some(one) => match with_last(given, one) {
+                Ok(given) => Ok(Some(given)),
+                Err(error) => Err(error),
+            },
             None => {
                 drop(given);
                 Ok(None)
             }
         },
         None => {
-            drop(one);
+            unused(one);
             Ok(None)
         }
     }

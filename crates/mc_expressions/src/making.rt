@@ -23,6 +23,7 @@ use crate::update::update_fails;
 use mc_faults::{Fault, FaultKind, two_or_fault};
 use mc_scopes::conversions::convert_to;
 use mc_scopes::found::Found;
+use mc_scopes::lists::unused;
 use mc_scopes::parts::ValueParts;
 use mc_scopes::structures::structure_cells;
 use mc_scopes::value::Value;
@@ -237,30 +238,6 @@ fn made_in(
     }
 }
 
-fn made_on(
-    alloc: Global,
-    making: Making<'_, '_>,
-    span: Span,
-    target: Value,
-    value: Value,
-) -> Result<Option<Value>, AllocError>
-    ensures { IfOk result (λ r. option_map value_of r
-        ≡ e.effect_on (made_by making.entry span) (value_of target) (value_of value)) }
-{
-    match target.into_parts() {
-        ValueParts::Stored(place, of) => {
-            let made = made_in(alloc, making, span, value, place, &of);
-            drop(of);
-            made
-        }
-        other => {
-            drop(other);
-            drop(value);
-            Ok(None)
-        }
-    }
-}
-
 // The value of an assignment of the second value to the first.
 fn made_value(
     alloc: Global,
@@ -273,15 +250,22 @@ fn made_value(
         ≡ e.assignment_value (made_by making.entry span) (option_map value_of target)
         (option_map value_of value)) }
 {
-    match target {
-        Some(target) => match value {
-            Some(value) => made_on(alloc, making, span, target, value),
-            None => {
-                drop(target);
-                Ok(None)
-            }
-        },
-        None => {
+    let Some(target) = target else {
+        unused(value);
+        return Ok(None);
+    };
+    let Some(value) = value else {
+        drop(target);
+        return Ok(None);
+    };
+    match target.into_parts() {
+        ValueParts::Stored(place, of) => {
+            let made = made_in(alloc, making, span, value, place, &of);
+            drop(of);
+            made
+        }
+        other => {
+            drop(other);
             drop(value);
             Ok(None)
         }

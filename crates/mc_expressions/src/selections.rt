@@ -205,30 +205,6 @@ fn stored_member(
     }
 }
 
-fn member_in(
-    alloc: Global,
-    structures: &[Structure<'_>],
-    name: &Identifier<'_>,
-    span: Span,
-    value: Value,
-) -> Result<Option<Value>, AllocError>
-    ensures { IfOk result (λ r. option_map value_of r
-        ≡ e.member_of (map structure_of structures.now) (name_of name.now) span
-        (value_of value)) }
-{
-    match value.into_parts() {
-        ValueParts::Stored(place, of) => {
-            let member = stored_member(alloc, structures, name, span, place, &of);
-            drop(of);
-            member
-        }
-        other => {
-            drop(other);
-            Ok(None)
-        }
-    }
-}
-
 fn member_of(
     alloc: Global,
     structures: &[Structure<'_>],
@@ -240,9 +216,19 @@ fn member_of(
         ≡ option_and_then (e.member_of (map structure_of structures.now) (name_of name.now) span)
         (option_map value_of value)) }
 {
-    match value {
-        Some(value) => member_in(alloc, structures, name, span, value),
-        None => Ok(None),
+    let Some(value) = value else {
+        return Ok(None);
+    };
+    match value.into_parts() {
+        ValueParts::Stored(place, of) => {
+            let member = stored_member(alloc, structures, name, span, place, &of);
+            drop(of);
+            member
+        }
+        other => {
+            drop(other);
+            Ok(None)
+        }
     }
 }
 

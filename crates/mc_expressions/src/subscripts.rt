@@ -17,6 +17,7 @@ use crate::operands::{boxed, found};
 use mc_faults::{Fault, FaultKind, two_or_fault};
 use mc_scopes::found::{Found, fails_integer, kind_found, number_in};
 use mc_scopes::kind::fails_array;
+use mc_scopes::lists::unused;
 use mc_scopes::parts::ValueParts;
 use mc_scopes::value::Value;
 use mc_scopes::{CType, Scope, Structure, cells};
@@ -189,34 +190,6 @@ fn borrowed_element(
     }
 }
 
-fn element_of(
-    alloc: Global,
-    structures: &[Structure<'_>],
-    span: Span,
-    array: Value,
-    index: Expression,
-) -> Result<Option<Value>, AllocError>
-    ensures { IfOk result (λ r. option_map value_of r
-        ≡ e.element_of (map structure_of structures.now) span (value_of array)
-        (expression_of index)) }
-{
-    match array.into_parts() {
-        ValueParts::Stored(place, of) => {
-            let element = stored_element(alloc, structures, place, &of, index, span);
-            drop(of);
-            element
-        }
-        ValueParts::Borrowed { array, element, .. } => {
-            borrowed_element(alloc, structures, array, element, index, span)
-        }
-        other => {
-            drop(other);
-            drop(index);
-            Ok(None)
-        }
-    }
-}
-
 fn index_value(
     alloc: Global,
     structures: &[Structure<'_>],
@@ -228,15 +201,25 @@ fn index_value(
         ≡ e.index_value (map structure_of structures.now) span (option_map value_of array)
         (option_map expression_of index)) }
 {
-    match array {
-        Some(array) => match index {
-            Some(index) => element_of(alloc, structures, span, array, index),
-            None => {
-                drop(array);
-                Ok(None)
-            }
-        },
-        None => {
+    let Some(array) = array else {
+        unused(index);
+        return Ok(None);
+    };
+    let Some(index) = index else {
+        drop(array);
+        return Ok(None);
+    };
+    match array.into_parts() {
+        ValueParts::Stored(place, of) => {
+            let element = stored_element(alloc, structures, place, &of, index, span);
+            drop(of);
+            element
+        }
+        ValueParts::Borrowed { array, element, .. } => {
+            borrowed_element(alloc, structures, array, element, index, span)
+        }
+        other => {
+            drop(other);
             drop(index);
             Ok(None)
         }

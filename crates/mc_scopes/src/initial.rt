@@ -4,6 +4,7 @@ ghost use Rattle.mc_typed.specs.Views.{expression_of, initializer_of, initialize
 ghost use Rattle.mc_typing.specs.Initializers as i;
 ghost use Rattle.mc_typing.specs.Constants as c;
 
+use crate::lists::{push, where_done};
 use crate::values::constant_value;
 use mc_typed::{Expression, Initializer};
 use std::alloc::{AllocError, Global};
@@ -46,8 +47,7 @@ fn add_number(values: &mut Vec<i128>, value: &Expression) -> Result<(), AllocErr
         ≡ values.old.items ++ unwrap_or (c.constant_value (expression_of value.now)) (pos 0) ∷ []) }
 {
     let number = number_or_zero(value)?;
-    values.push(number)?;
-    Ok(())
+    push(values, number)
 }
 
 #[cycle(values)]
@@ -83,13 +83,8 @@ pub fn values_of(alloc: Global, tree: &Initializer) -> Result<Vec<i128>, AllocEr
     ensures { IfOk result (λ r. r.items ≡ i.values_of (initializer_of tree.now)) }
 {
     let mut values = Vec::new(alloc);
-    match add_values(&mut values, tree) {
-        Ok(()) => Ok(values),
-        Err(error) => {
-            drop(values);
-            Err(error)
-        }
-    }
+    let done = add_values(&mut values, tree);
+    where_done(done, values)
 }
 
 /// The values of so many cells without an initializer (C17 6.7.9p10).
@@ -97,11 +92,6 @@ pub fn zeros(alloc: Global, count: u32) -> Result<Vec<i128>, AllocError>
     ensures { IfOk result (λ r. r.items ≡ i.filled count []) }
 {
     let mut values = Vec::new(alloc);
-    match add_zeros(&mut values, count) {
-        Ok(()) => Ok(values),
-        Err(error) => {
-            drop(values);
-            Err(error)
-        }
-    }
+    let done = add_zeros(&mut values, count);
+    where_done(done, values)
 }

@@ -11,6 +11,7 @@ ghost use Rattle.mc_scopes.specs.Types.{base_of, type_of};
 ghost use Rattle.mc_scopes.specs.Views.{structure_of};
 ghost use Rattle.mc_scopes.specs.Counted.{most_counted, product};
 
+use crate::lists::{push, shared, where_done};
 use crate::members::Structure;
 use crate::types::{Base, CType};
 use mc_value::ObjType;
@@ -73,7 +74,7 @@ pub fn is_faulty(structures: &[Structure<'_>], base: Base) -> bool
 fn no_parts(alloc: Global) -> Result<Arc<Vec<ObjType>>, AllocError>
     ensures { IfOk result (λ p. map object_type_of p.value.items ≡ []) }
 {
-    Ok(Arc::new(alloc, Vec::new(alloc))?)
+    shared(alloc, Vec::new(alloc))
 }
 
 // The layouts of the members of a structure, where it is complete.
@@ -133,7 +134,7 @@ fn array(alloc: Global, length: u64, element: ObjType) -> Result<ObjType, AllocE
     let Ok(length) = u32::try_from(length) else {
         return Err(AllocError);
     };
-    let element = Arc::new(alloc, element)?;
+    let element = shared(alloc, element)?;
     Ok(ObjType::Array { element, length })
 }
 
@@ -196,8 +197,7 @@ fn add_type(
     match u32::try_from(types.len()) {
         Ok(number) => {
             let one = structure_type(alloc, number, structure)?;
-            types.push(one)?;
-            Ok(())
+            push(types, one)
         }
         Err(_) => Err(AllocError),
     }
@@ -232,13 +232,8 @@ pub fn structure_types(
         ≡ t.structures_from 0 (map structure_of structures.now)) }
 {
     let mut types = Vec::new(alloc);
-    match add_types(alloc, &mut types, structures) {
-        Ok(()) => Ok(types),
-        Err(error) => {
-            drop(types);
-            Err(error)
-        }
-    }
+    let done = add_types(alloc, &mut types, structures);
+    where_done(done, types)
 }
 
 // ---- cells

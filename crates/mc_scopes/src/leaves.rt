@@ -5,6 +5,7 @@ ghost use Rattle.mc_typing.specs.Statements as w;
 ghost use Rattle.mc_scopes.specs.Statements.{statements_of};
 
 use crate::found::Judged;
+use crate::lists::list_of;
 use mc_faults::Fault;
 use mc_typed::Statement;
 use std::alloc::{AllocError, Global};
@@ -13,15 +14,7 @@ use std::alloc::{AllocError, Global};
 pub fn alone(alloc: Global, one: Statement) -> Result<Vec<Statement>, AllocError>
     ensures { IfOk result (λ r. statements_of r ≡ w.alone (statement_of one)) }
 {
-    let mut list = Vec::new(alloc);
-    match list.push(one) {
-        Ok(()) => Ok(list),
-        Err(failed) => {
-            drop(list);
-            drop(failed);
-            Err(AllocError)
-        }
-    }
+    list_of(alloc, one)
 }
 
 /// A statement of its own, which has this fault.

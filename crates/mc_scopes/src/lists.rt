@@ -1,6 +1,6 @@
 //! Values on the heap, in lists, or none, by functions of any type: what is proved of a type of trees
 //! at such a step is dear.
-ghost use Rattle.std.specs.Prelude.{◌≡◌, ◌++◌, ◌∷◌, [], IfOk, OnOk, option_map};
+ghost use Rattle.std.specs.Prelude.{◌≡◌, ◌++◌, ◌∷◌, [], IfOk, OnOk, IsOk, option_map};
 ghost use Rattle.mc_faults.specs.Faults.{least_of};
 ghost use Rattle.mc_faults.specs.Kept.{listed};
 ghost use Rattle.mc_typing.specs.Values.{lift2};
@@ -10,12 +10,34 @@ ghost use Rattle.mc_scopes.specs.Lists.{items_in};
 use crate::found::Judged;
 use crate::joined::of_two;
 use std::alloc::{AllocError, Global};
+use std::sync::Arc;
 
 /// A value on the heap.
 pub fn on_heap<T: Drop>(alloc: Global, one: T) -> Result<Box<T>, AllocError>
     ensures { IfOk result (λ r. r.value ≡ one) }
 {
     Ok(Box::new(alloc, one)?)
+}
+
+/// A value on the heap that can be shared.
+pub fn shared<T: Drop>(alloc: Global, one: T) -> Result<Arc<T>, AllocError>
+    ensures { IfOk result (λ r. r.value ≡ one) }
+{
+    Ok(Arc::new(alloc, one)?)
+}
+
+/// A value, where what was done with it went well.
+pub fn where_done<T: Drop>(done: Result<(), AllocError>, one: T) -> Result<T, AllocError>
+    ensures done { OnOk result (IsOk done) }
+    ensures same { IfOk result (λ r. r ≡ one) }
+{
+    match done {
+        Ok(()) => Ok(one),
+        Err(error) => {
+            drop(one);
+            Err(error)
+        }
+    }
 }
 
 /// Puts a value at the end.
@@ -33,6 +55,13 @@ pub fn with_last<T: Drop>(list: Vec<T>, one: T) -> Result<Vec<T>, AllocError>
     let mut list = list;
     list.push(one)?;
     Ok(list)
+}
+
+/// A list of one value.
+pub fn list_of<T: Drop>(alloc: Global, one: T) -> Result<Vec<T>, AllocError>
+    ensures { IfOk result (λ r. r.items ≡ one ∷ []) }
+{
+    with_last(Vec::new(alloc), one)
 }
 
 /// The one list after the other.

@@ -3,11 +3,11 @@ ghost use Rattle.std.specs.Prelude.{◌≡◌, IfOk};
 ghost use Rattle.mc_typed.specs.Layout.{object_type_of};
 ghost use Rattle.mc_scopes.specs.Listed.{layout_of};
 
+use crate::lists::shared;
 use crate::types::CType;
 use mc_typed::share;
 use mc_value::ObjType;
 use std::alloc::{AllocError, Global};
-use std::sync::Arc;
 
 /// A member: its type where it has one, how it is laid out, and after how many cells of its
 /// structure it begins. Without a type it has no layout and no cells.
@@ -26,7 +26,7 @@ impl Member {
         match &self.layout {
             Some(layout) => share(layout),
             None => {
-                let members = Arc::new(alloc, Vec::new(alloc))?;
+                let members = shared(alloc, Vec::new(alloc))?;
                 Ok(ObjType::Struct { number: 0, members })
             }
         }

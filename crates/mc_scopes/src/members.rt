@@ -1,5 +1,5 @@
 //! Members of structures (C17 6.7.2.1).
-ghost use Rattle.std.specs.Prelude.{◌≡◌, ◌+◌, ◌<◌, ◌∷◌, ◌++◌, [], List, map, length, slice_get, Some, option_map, option_copied, IfSome, IfOk, OnOk, OnErr};
+ghost use Rattle.std.specs.Prelude.{◌≡◌, ◌+◌, ◌<◌, ◌^◌, ◌∷◌, ◌++◌, [], List, map, length, slice_get, Some, option_map, option_copied, IfSome, IfOk, OnOk, OnErr};
 ghost use Rattle.mc_typed.specs.Layout as sizes;
 ghost use Rattle.mc_typed.specs.Layout.{object_type_of};
 ghost use Rattle.mc_typing.specs.Types as t;
@@ -9,6 +9,7 @@ ghost use Rattle.mc_scopes.specs.Types.{type_of};
 ghost use Rattle.mc_scopes.specs.Listed.{layout_of, listed_of, selected_of, found_member, member_at};
 ghost use Rattle.mc_scopes.specs.Views.{complete_in, structure_of};
 
+use crate::lists::{push, shared, where_done};
 use crate::member::Member;
 use crate::types::CType;
 use mc_names::Table;
@@ -76,6 +77,17 @@ impl<'a> Model for Complete<'a> {
 
     ghost invariant = { λ c. map object_type_of c.parts.value.items
         ≡ map (λ m. m.layout) (map listed_of c.members) };
+}
+
+// The cells with one more member, where 32 bits count the members and their cells.
+fn cells_with(count: usize, cells: u32, more: u32) -> Option<u32>
+    ensures total { IfSome result (λ n. n ≡ cells + more) }
+    ensures few { IfSome result (λ _. count + 1 < 2 ^ 32) }
+{
+    if count >= u32::MAX as usize {
+        return None;
+    }
+    cells.checked_add(more)
 }
 
 impl<'a> Members<'a> {
@@ -155,16 +167,34 @@ impl<'a> Members<'a> {
             } ∷ []) }
         ensures err { OnErr result (self.new ≡ self.old) }
     {
-        if self.table.len() >= u32::MAX as usize {
-            return Err(AllocError);
-        }
-        let Some(total) = self.cells.checked_add(cells) else {
-            return Err(AllocError);
-        };
         let offset = self.cells;
-        self.table.push(name, Member { of, layout, offset })?;
-        self.cells = total;
-        self.nesting = self.nesting.max(nesting);
+        let member = Member { of, layout, offset };
+        match cells_with(self.table.len(), self.cells, cells) {
+            Some(total) => {
+                self.table.push(name, member)?;
+                self.cells = total;
+                self.nesting = self.nesting.max(nesting);
+                Ok(())
+            }
+            None => {
+                drop(member);
+                Err(AllocError)
+            }
+        }
+    }
+
+    // Adds the layouts of the members to none.
+    fn add_parts(&self, alloc: Global, parts: &mut Vec<ObjType>) -> Result<(), AllocError>
+        requires { parts.old.items ≡ [] }
+        ensures { OnOk result (map object_type_of parts.new.items
+            ≡ map (λ m. m.layout) (map listed_of self.now)) }
+    {
+        for place in 0..self.table.len() {
+            let Some(member) = self.table.at(place) else {
+                unreachable!()
+            };
+            push(parts, member.layout(alloc)?)?;
+        }
         Ok(())
     }
 
@@ -174,13 +204,8 @@ impl<'a> Members<'a> {
             ≡ map (λ m. m.layout) (map listed_of self.now)) }
     {
         let mut parts = Vec::new(alloc);
-        for place in 0..self.table.len() {
-            let Some(member) = self.table.at(place) else {
-                unreachable!()
-            };
-            parts.push(member.layout(alloc)?)?;
-        }
-        Ok(parts)
+        let done = self.add_parts(alloc, &mut parts);
+        where_done(done, parts)
     }
 
     // The member at a place, and its number.
@@ -213,8 +238,7 @@ impl<'a> Members<'a> {
         ensures { IfOk result (λ p. map object_type_of p.value.items
             ≡ map (λ m. m.layout) (map listed_of self.now)) }
     {
-        let parts = self.parts(alloc)?;
-        Ok(Arc::new(alloc, parts)?)
+        shared(alloc, self.parts(alloc)?)
     }
 
     /// The members of the structure that they complete (C17 6.7.2.1p8).

@@ -8,6 +8,7 @@ ghost use Rattle.mc_scopes.specs.Views.{meaning_of, scope_of, structure_of, tag_
 
 use crate::bodies::Bodies;
 use crate::labels::Labels;
+use crate::lists::push;
 use crate::meanings::{Meaning, TagMeaning};
 use crate::members::Structure;
 use mc_names::Table;
@@ -132,13 +133,7 @@ impl<'a> Scope<'a> {
         ensures { IfOk result (λ _. scope_of self.new
             ≡ s.with_structure (structure_of structure.entry) (scope_of self.old)) }
     {
-        match self.structures.push(structure) {
-            Ok(()) => Ok(()),
-            Err(failed) => {
-                drop(failed);
-                Err(AllocError)
-            }
-        }
+        push(&mut self.structures, structure)
     }
 
     /// The structure type with a number is this from now on.
@@ -197,11 +192,12 @@ impl<'a> Scope<'a> {
         let start = start_at(self.frame);
         match self.frame.checked_add(u64::from(count)) {
             Some(frame) => {
-                self.objects.push(Object {
+                let object = Object {
                     object_type,
                     cells: count,
                     start,
-                })?;
+                };
+                push(&mut self.objects, object)?;
                 self.frame = frame;
                 Ok(())
             }
@@ -233,12 +229,13 @@ impl<'a> Scope<'a> {
         let start = start_at(self.static_cells);
         match self.static_cells.checked_add(u64::from(count)) {
             Some(cells) => {
-                self.statics.push(StaticObject {
+                let object = StaticObject {
                     object_type,
                     cells: count,
                     start,
                     initial,
-                })?;
+                };
+                push(&mut self.statics, object)?;
                 self.static_cells = cells;
                 Ok(())
             }

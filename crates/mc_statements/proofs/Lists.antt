@@ -1,5 +1,6 @@
 -- Lists of the program as those of the definitions.
-use Rattle.std.proofs.Common.{◌≡◌, List, [], ◌∷◌, ◌++◌, map, length, None, option_map, Vec, refl, ap}
+use Rattle.std.proofs.Common.{◌≡◌, ◌∙◌, List, [], ◌∷◌, ◌++◌, map, length, Option, Some, None, option_map, Vec, refl, ap}
+use Rattle.std.specs.Prelude.{Box, box_value}
 use Rattle.std.specs.declared.alloc.Global.{Global}
 use Rattle.mc_typed.specs.declared.statements.Statement.{Statement}
 use Rattle.mc_typed.specs.Views.{statement_of, statements_from}
@@ -16,7 +17,7 @@ use Rattle.mc_scopes.specs.Lists.{items_in}
 use Rattle.mc_scopes.specs.Statements.{statements_of}
 use Rattle.mc_scopes.specs.steps.Squeezed.{squeezed_part}
 use Rattle.mc_scopes.proofs.Items.{lists_joined_by}
-use Rattle.mc_statements.specs.Lists.{only_of}
+use Rattle.mc_statements.specs.Lists.{boxed_of, only_of}
 
 -- no other number of elements is one
 pub only_none : {A : Type 0} (all : List A) → (length all ≡ 1 → ⊥) → None ≡ only_of all
@@ -29,6 +30,14 @@ pub only_statement : (all : List Statement)
 only_statement [] = refl
 only_statement (s ∷ []) = refl
 only_statement (s ∷ r ∷ all) = refl
+
+boxed_values : (r : Option (Box Statement Global)) → option_map boxed_of r ≡ option_map statement_of (option_map box_value r)
+boxed_values None = refl
+boxed_values (Some b) = refl
+
+pub only_boxed : (all : List Statement) (r : Option (Box Statement Global)) → option_map box_value r ≡ only_of all
+    → option_map boxed_of r ≡ only (statements_from (map statement_of all))
+only_boxed all r h = boxed_values r ∙ ap (option_map statement_of) h ∙ only_statement all
 
 followed_joined : (xs ys : List Statement)
     → statements_from (map statement_of (xs ++ ys))

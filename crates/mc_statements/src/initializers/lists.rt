@@ -42,27 +42,6 @@ fn list_of(
 }
 
 #[tactic(auto, using(crate::proofs::Items::only_initializer))]
-fn list_for(
-    scope: &Scope<'_>,
-    of: &CType,
-    target: Target<'_, '_>,
-    items: Vec<Initializer>,
-) -> Result<Option<Initializer>, AllocError>
-    ensures { IfOk result (λ r. option_map initializer_of r
-        ≡ i.list_value (scope_of scope.now).structures (Some (type_of of.now))
-        (target_of target.entry) (items_of items)) }
-{
-    match target {
-        Target::Scalar(_) => Ok(only(items)),
-        Target::Array { .. } => list_of(scope, of, items),
-        Target::Structure { .. } => list_of(scope, of, items),
-        Target::Missing => {
-            drop(items);
-            Ok(None)
-        }
-    }
-}
-
 fn list_value(
     scope: &Scope<'_>,
     of: Option<&CType>,
@@ -76,7 +55,15 @@ fn list_value(
 {
     match items {
         Some(items) => match of {
-            Some(of) => list_for(scope, of, target, items),
+            Some(of) => match target {
+                Target::Scalar(_) => Ok(only(items)),
+                Target::Array { .. } => list_of(scope, of, items),
+                Target::Structure { .. } => list_of(scope, of, items),
+                Target::Missing => {
+                    drop(items);
+                    Ok(None)
+                }
+            },
             None => {
                 drop(items);
                 Ok(None)

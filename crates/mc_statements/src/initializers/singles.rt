@@ -122,33 +122,6 @@ fn structure_value(
     }
 }
 
-fn value_for(
-    alloc: Global,
-    scope: &Scope<'_>,
-    of: &CType,
-    target: Target<'_, '_>,
-    value: Value,
-) -> Result<Option<Initializer>, AllocError>
-    ensures { IfOk result (λ r. option_map initializer_of r
-        ≡ i.item_value (scope_of scope.now).structures (Some (type_of of.now))
-        (target_of target.entry) (value_of value)) }
-{
-    match target {
-        Target::Scalar(scalar) => scalar_value(alloc, scalar, value),
-        Target::Structure { number, .. } => {
-            structure_value(scope, of, value.into_structure(number))
-        }
-        Target::Missing => {
-            drop(value);
-            Ok(None)
-        }
-        Target::Array { .. } => {
-            drop(value);
-            Ok(None)
-        }
-    }
-}
-
 fn item_value(
     alloc: Global,
     scope: &Scope<'_>,
@@ -163,7 +136,20 @@ fn item_value(
 {
     match value {
         Some(value) => match of {
-            Some(of) => value_for(alloc, scope, of, target, value),
+            Some(of) => match target {
+                Target::Scalar(scalar) => scalar_value(alloc, scalar, value),
+                Target::Structure { number, .. } => {
+                    structure_value(scope, of, value.into_structure(number))
+                }
+                Target::Missing => {
+                    drop(value);
+                    Ok(None)
+                }
+                Target::Array { .. } => {
+                    drop(value);
+                    Ok(None)
+                }
+            },
             None => {
                 drop(value);
                 Ok(None)

@@ -11,7 +11,7 @@ ghost use Rattle.mc_scopes.specs.Statements.{declarators_of, effects_of, test_of
 ghost use Rattle.mc_scopes.specs.steps.Squeezed.{squeezed_part};
 
 use mc_scopes::found::Judged;
-use mc_scopes::lists::{joined_lists, with_last};
+use mc_scopes::lists::{joined_lists, list_of};
 use mc_typed::{Declarator, Effect, Expression, ForStart};
 use std::alloc::{AllocError, Global};
 
@@ -56,7 +56,7 @@ fn clause_of(alloc: Global, effect: Option<Effect>) -> Result<Option<Vec<Effect>
         ≡ option_map (λ effect. effect ∷ []) (option_map effect_of effect)) }
 {
     match effect {
-        Some(effect) => match with_last(Vec::new(alloc), effect) {
+        Some(effect) => match list_of(alloc, effect) {
             Ok(list) => Ok(Some(list)),
             Err(error) => Err(error),
         },

@@ -6,11 +6,13 @@ ghost use Rattle.mc_typing.specs.Statements as w;
 ghost use Rattle.mc_scopes.specs.Found.{judged_of};
 ghost use Rattle.mc_scopes.specs.Statements.{statements_of};
 ghost use Rattle.mc_scopes.specs.steps.Squeezed.{squeezed_part};
+ghost use Rattle.mc_statements.specs.Lists.{boxed_of};
 
+use crate::values;
 use crate::values::only;
 use mc_scopes::found::Judged;
 use mc_scopes::leaves::alone;
-use mc_scopes::lists::{joined_lists, on_heap};
+use mc_scopes::lists::joined_lists;
 use mc_typed::{Span, Statement};
 use std::alloc::{AllocError, Global};
 
@@ -23,6 +25,20 @@ pub(crate) fn only_in(list: Option<Vec<Statement>>) -> Option<Statement>
     match list {
         Some(list) => only(list),
         None => None,
+    }
+}
+
+/// The same, in a box.
+pub(crate) fn only_boxed(
+    alloc: Global,
+    list: Option<Vec<Statement>>,
+) -> Result<Option<Box<Statement>>, AllocError>
+    ensures { IfOk result (λ r. option_map boxed_of r
+        ≡ option_and_then w.only (option_map statements_of list)) }
+{
+    match list {
+        Some(list) => values::only_boxed(alloc, list),
+        None => Ok(None),
     }
 }
 
@@ -46,30 +62,6 @@ pub(crate) fn listed(alloc: Global, one: Statement) -> Result<Option<Vec<Stateme
     match alone(alloc, one) {
         Ok(list) => Ok(Some(list)),
         Err(error) => Err(error),
-    }
-}
-
-/// The word of so many bytes with which a statement begins, and a statement in it, in a box.
-pub(crate) fn begun(
-    alloc: Global,
-    size: u32,
-    span: Span,
-    inner: Statement,
-) -> Result<(Span, Box<Statement>), AllocError>
-    ensures word { IfOk result (λ r. r.0 ≡ w.keyword size span) }
-    ensures inner { IfOk result (λ r. r.1.value ≡ inner) }
-{
-    match keyword(size, span) {
-        Ok(keyword) => {
-            match on_heap(alloc, inner) {
-                Ok(inner) => Ok((keyword, inner)),
-                Err(error) => Err(error),
-            }
-        }
-        Err(error) => {
-            drop(inner);
-            Err(error)
-        }
     }
 }
 

@@ -1,15 +1,16 @@
 //! Iteration statements (C17 6.8.5).
 ghost use Rattle.std.specs.Prelude.{◌≡◌, Some, IfOk, option_map};
 ghost use Rattle.mc_typed.specs.Tree as t;
-ghost use Rattle.mc_typed.specs.Views.{expression_of, start_of, statement_of};
+ghost use Rattle.mc_typed.specs.Views.{expression_of, start_of};
 ghost use Rattle.mc_typing.specs.Scopes as s;
 ghost use Rattle.mc_typing.specs.Values.{lift2};
 ghost use Rattle.mc_typing.specs.Statements as w;
 ghost use Rattle.mc_scopes.specs.Found.{found_of, judged_of};
 ghost use Rattle.mc_scopes.specs.Statements.{statements_of, effects_of, declarators_of, test_of};
 ghost use Rattle.mc_scopes.specs.steps.Squeezed.{squeezed_part};
+ghost use Rattle.mc_statements.specs.Lists.{boxed_of};
 
-use crate::statements::lists::{begun, listed, only_in};
+use crate::statements::lists::{keyword, listed, only_boxed};
 use mc_faults::{FaultKind, or_fault, two_or_fault};
 use mc_scopes::found::{Found, Judged, fails_integer, number_in};
 use mc_scopes::joined;
@@ -40,14 +41,14 @@ pub fn loop_test(at: u32, test: Found) -> Judged<Option<Expression>>
 fn do_alone(
     alloc: Global,
     span: Span,
-    body: Statement,
+    body: Box<Statement>,
     test: Expression,
 ) -> Result<Option<Vec<Statement>>, AllocError>
     ensures { IfOk result (λ r. option_map statements_of r ≡ Some (w.alone
-        (t.DoWhile (statement_of body) (expression_of test) (w.keyword 2 span) span))) }
+        (t.DoWhile (boxed_of body) (expression_of test) (w.keyword 2 span) span))) }
 {
-    match begun(alloc, 2, span, body) {
-        Ok((keyword, body)) => listed(
+    match keyword(2, span) {
+        Ok(keyword) => listed(
             alloc,
             Statement::DoWhile {
                 body,
@@ -58,6 +59,7 @@ fn do_alone(
             },
         ),
         Err(error) => {
+            drop(body);
             drop(test);
             Err(error)
         }
@@ -67,12 +69,12 @@ fn do_alone(
 fn do_of(
     alloc: Global,
     span: Span,
-    body: Option<Statement>,
+    body: Option<Box<Statement>>,
     test: Option<Expression>,
 ) -> Result<Option<Vec<Statement>>, AllocError>
     ensures { IfOk result (λ r. option_map statements_of r
         ≡ lift2 (λ one e. w.alone (t.DoWhile one e (w.keyword 2 span) span))
-        (option_map statement_of body) (option_map expression_of test)) }
+        (option_map boxed_of body) (option_map expression_of test)) }
 {
     match body {
         Some(body) => match test {
@@ -107,8 +109,11 @@ pub fn do_statement(
         FaultKind::Mismatch,
         span.start,
     );
-    let body = only_in(body.value);
     let number = number_in(test.value);
+    let Ok(body) = only_boxed(alloc, body.value) else {
+        unused(number);
+        return Err(AllocError);
+    };
     match do_of(alloc, span, body, number) {
         Ok(value) => Ok(Judged { fault, value }),
         Err(error) => Err(error),
@@ -168,13 +173,13 @@ fn loop_alone(
     size: u32,
     span: Span,
     head: Head,
-    body: Statement,
+    body: Box<Statement>,
 ) -> Result<Option<Vec<Statement>>, AllocError>
     ensures { IfOk result (λ r. option_map statements_of r ≡ Some (w.loop size span
-        (start_of head.start) (test_of head.test) (effects_of head.step) (statement_of body))) }
+        (start_of head.start) (test_of head.test) (effects_of head.step) (boxed_of body))) }
 {
-    match begun(alloc, size, span, body) {
-        Ok((keyword, body)) => listed(
+    match keyword(size, span) {
+        Ok(keyword) => listed(
             alloc,
             Statement::For {
                 start: head.start,
@@ -188,6 +193,7 @@ fn loop_alone(
         ),
         Err(error) => {
             drop(head);
+            drop(body);
             Err(error)
         }
     }
@@ -200,11 +206,11 @@ fn loop_of(
     start: Option<ForStart>,
     test: Option<Option<Expression>>,
     step: Option<Vec<Effect>>,
-    body: Option<Statement>,
+    body: Option<Box<Statement>>,
 ) -> Result<Option<Vec<Statement>>, AllocError>
     ensures { IfOk result (λ r. option_map statements_of r ≡ w.lift4 (w.loop size span)
         (option_map start_of start) (option_map test_of test) (option_map effects_of step)
-        (option_map statement_of body)) }
+        (option_map boxed_of body)) }
 {
     match start {
         Some(start) => match test {
@@ -260,7 +266,12 @@ pub fn loop_statement(
         (judged_of statements_of body s))) }
 {
     let fault = joined::of_four(start.fault, test.fault, step.fault, body.fault);
-    let body = only_in(body.value);
+    let Ok(body) = only_boxed(alloc, body.value) else {
+        unused(start.value);
+        unused_inner(test.value);
+        unused(step.value);
+        return Err(AllocError);
+    };
     match loop_of(alloc, size, span, start.value, test.value, step.value, body) {
         Ok(value) => Ok(Judged { fault, value }),
         Err(error) => Err(error),

@@ -14,11 +14,12 @@ ghost use Rattle.mc_scopes.specs.Types.{base_of};
 ghost use Rattle.mc_scopes.specs.Found.{found_of, judged_of, value_of};
 ghost use Rattle.mc_scopes.specs.Statements.{statements_of};
 ghost use Rattle.mc_scopes.specs.steps.Squeezed.{squeezed_part};
+ghost use Rattle.mc_statements.specs.Lists.{boxed_of};
 
-use crate::statements::lists::{begun, keyword, listed, only_in};
+use crate::statements::lists::{keyword, listed, only_boxed, only_in};
 use mc_faults::{FaultKind, three_or_fault, two_or_fault};
 use mc_scopes::found::{Found, Judged, fails_integer, number_in};
-use mc_scopes::lists::{on_heap, unused};
+use mc_scopes::lists::unused;
 use mc_scopes::value::Value;
 use mc_scopes::{Base, CType, conversions};
 use mc_tree::Statement as Tree;
@@ -30,13 +31,13 @@ fn if_alone(
     alloc: Global,
     span: Span,
     test: Expression,
-    chosen: Statement,
+    chosen: Box<Statement>,
 ) -> Result<Option<Vec<Statement>>, AllocError>
     ensures { IfOk result (λ r. option_map statements_of r ≡ Some (w.alone
-        (t.If (expression_of test) (statement_of chosen) (w.keyword 2 span) span))) }
+        (t.If (expression_of test) (boxed_of chosen) (w.keyword 2 span) span))) }
 {
-    match begun(alloc, 2, span, chosen) {
-        Ok((keyword, chosen)) => listed(
+    match keyword(2, span) {
+        Ok(keyword) => listed(
             alloc,
             Statement::If {
                 test,
@@ -48,6 +49,7 @@ fn if_alone(
         ),
         Err(error) => {
             drop(test);
+            drop(chosen);
             Err(error)
         }
     }
@@ -57,11 +59,11 @@ fn if_of(
     alloc: Global,
     span: Span,
     test: Option<Expression>,
-    chosen: Option<Statement>,
+    chosen: Option<Box<Statement>>,
 ) -> Result<Option<Vec<Statement>>, AllocError>
     ensures { IfOk result (λ r. option_map statements_of r
         ≡ lift2 (λ e one. w.alone (t.If e one (w.keyword 2 span) span))
-        (option_map expression_of test) (option_map statement_of chosen)) }
+        (option_map expression_of test) (option_map boxed_of chosen)) }
 {
     match test {
         Some(test) => match chosen {
@@ -97,28 +99,29 @@ pub fn if_statement(
         span.start,
     );
     let number = number_in(test.value);
-    let chosen = only_in(chosen.value);
+    let Ok(chosen) = only_boxed(alloc, chosen.value) else {
+        unused(number);
+        return Err(AllocError);
+    };
     match if_of(alloc, span, number, chosen) {
         Ok(value) => Ok(Judged { fault, value }),
         Err(error) => Err(error),
     }
 }
 
-// The same where the first statement is in a box.
-fn if_else_with(
+fn if_else_alone(
     alloc: Global,
     span: Span,
-    keyword: Span,
     test: Expression,
     chosen: Box<Statement>,
-    other: Statement,
+    other: Box<Statement>,
 ) -> Result<Option<Vec<Statement>>, AllocError>
     ensures { IfOk result (λ r. option_map statements_of r ≡ Some (w.alone
-        (t.IfElse (expression_of test) (statement_of chosen.value) (statement_of other)
-        keyword span))) }
+        (t.IfElse (expression_of test) (boxed_of chosen) (boxed_of other)
+        (w.keyword 2 span) span))) }
 {
-    match on_heap(alloc, other) {
-        Ok(other) => listed(
+    match keyword(2, span) {
+        Ok(keyword) => listed(
             alloc,
             Statement::IfElse {
                 test,
@@ -132,26 +135,6 @@ fn if_else_with(
         Err(error) => {
             drop(test);
             drop(chosen);
-            Err(error)
-        }
-    }
-}
-
-fn if_else_alone(
-    alloc: Global,
-    span: Span,
-    test: Expression,
-    chosen: Statement,
-    other: Statement,
-) -> Result<Option<Vec<Statement>>, AllocError>
-    ensures { IfOk result (λ r. option_map statements_of r ≡ Some (w.alone
-        (t.IfElse (expression_of test) (statement_of chosen) (statement_of other)
-        (w.keyword 2 span) span))) }
-{
-    match begun(alloc, 2, span, chosen) {
-        Ok((keyword, chosen)) => if_else_with(alloc, span, keyword, test, chosen, other),
-        Err(error) => {
-            drop(test);
             drop(other);
             Err(error)
         }
@@ -162,13 +145,13 @@ fn if_else_of(
     alloc: Global,
     span: Span,
     test: Option<Expression>,
-    chosen: Option<Statement>,
-    other: Option<Statement>,
+    chosen: Option<Box<Statement>>,
+    other: Option<Box<Statement>>,
 ) -> Result<Option<Vec<Statement>>, AllocError>
     ensures { IfOk result (λ r. option_map statements_of r
         ≡ lift3 (λ e one other. w.alone (t.IfElse e one other (w.keyword 2 span) span))
-        (option_map expression_of test) (option_map statement_of chosen)
-        (option_map statement_of other)) }
+        (option_map expression_of test) (option_map boxed_of chosen)
+        (option_map boxed_of other)) }
 {
     match test {
         Some(test) => match chosen {
@@ -216,8 +199,16 @@ pub fn if_else_statement(
         span.start,
     );
     let number = number_in(test.value);
-    let chosen = only_in(chosen.value);
-    let other = only_in(other.value);
+    let Ok(chosen) = only_boxed(alloc, chosen.value) else {
+        unused(number);
+        unused(other.value);
+        return Err(AllocError);
+    };
+    let Ok(other) = only_boxed(alloc, other.value) else {
+        unused(number);
+        unused(chosen);
+        return Err(AllocError);
+    };
     match if_else_of(alloc, span, number, chosen, other) {
         Ok(value) => Ok(Judged { fault, value }),
         Err(error) => Err(error),

@@ -4,7 +4,7 @@ use Rattle.mc_faults.specs.Kept.{listed}
 use Rattle.mc_declarations.proofs.DeclarationFaults.{judged_same}
 use Rattle.mc_declarations.proofs.definitions.end_definition.Goals as goal
 
-pub returns : goal.returns
-returns c = λ u.
+pub returns-in-Ok : goal.returns-in-Ok
+returns-in-Ok c = λ u.
     judged_same _ _ _ _ _ _ (ap listed (c.after_two-fault.ensures _ c.fault_where-frame.ensures.least))
-    c.in_ok-value.ensures.value (c.leave_function.ensures ∙ c.in_ok-value.ensures.scope (around_of c.args.body.block))
+    c.in-Ok.ensures.value (c.leave_function.ensures ∙ c.in-Ok.ensures.scope (around_of c.args.body.block))

@@ -5,11 +5,12 @@ use Rattle.mc_scopes.specs.Types.{type_of}
 use Rattle.mc_scopes.specs.Views.{scope_of}
 use Rattle.mc_declarations.specs.Declarations.{written}
 use Rattle.mc_faults.specs.Kept.{listed}
+use Rattle.mc_faults.specs.Faults.{unless_faulty}
 use Rattle.mc_declarations.proofs.Begun.{begun_local}
 use Rattle.mc_declarations.proofs.locals.begin_local.Goals as goal
 
-pub returns : goal.returns
-returns c =
+pub returns-in-Ok-add_counted : goal.returns-in-Ok-add_counted
+returns-in-Ok-add_counted c =
     let name = name_of c.args.name.now in
     let lengths = written c.args.lengths.now in
     let base = option_map type_of c.args.base.now in
@@ -18,7 +19,7 @@ returns c =
     let fs = object_faults name lengths c.args.count base u s in
     let first = c.after-fault.ensures fs c.object_fault-own.ensures in
     begun_local c.args.faults name lengths c.args.count base u s c.object_fault-own.result c.after-fault.result
-    c.in_ok-slot.slot c.in_ok-cells.cells u (option_map type_of c.in_ok-typed.typed)
-    (scope_of c.declare.new.self) (scope_of c.add_counted.new.scope) c.object_fault-own.ensures first c.in_ok-slot.ensures
-    refl (c.in_ok-typed.ensures (listed c.args.faults ++ fs) first) c.in_ok-declare.ensures
-    c.in_ok-cells.ensures.cells c.in_ok-cells.ensures.scope
+    c.in-Ok.slot c.in-Ok-add_counted.cells u (unless_faulty (listed c.args.faults ++ fs) u)
+    (scope_of c.declare_automatic.new.scope) (scope_of c.add_counted.new.scope) c.object_fault-own.ensures first c.in-Ok.ensures.slot
+    refl refl (c.in-Ok.ensures.scope (listed c.args.faults ++ fs) first)
+    c.in-Ok-add_counted.ensures.cells c.in-Ok-add_counted.ensures.scope
