@@ -1,6 +1,6 @@
 -- What is found at a node, from what is found of its parts one after another: of the faults of each
 -- the least alone is kept.
-use Rattle.std.proofs.Common.{◌≡◌, ◌∙◌, ℕ, ◌+◌, false, List, [], ◌∷◌, length, map, Option, Some, None, refl, sym, ap, subst, arith}
+use Rattle.std.proofs.Common.{◌≡◌, ◌∙◌, ℕ, ◌+◌, false, List, [], ◌∷◌, length, map, Option, Some, None, refl, sym, ap, arith}
 use Rattle.mc_span.specs.declared.span.Span.{Span}
 use Rattle.mc_tree.specs.declared.expressions.unary_operator.UnaryOperator.{UnaryOperator}
 use Rattle.mc_tree.specs.declared.expressions.step_operator.StepOperator.{StepOperator}
@@ -19,10 +19,7 @@ use Rattle.mc_typing.specs.Calls.{Given, judged_given, argument_judged, first_of
 use Rattle.mc_typing.specs.Expressions.{operator_after, operator_before, index_found, member_found, step_found, unary_found, cast_found, binary_found, conditional_found, assignment_found}
 use Rattle.mc_typing.specs.Judgement.{judge, judge_arguments, judge_specifiers, typed_by}
 use Rattle.mc_faults.specs.Kept.{listed, least}
-use Rattle.mc_scopes.specs.Found.{found_of}
 use Rattle.mc_scopes.specs.steps.Squeezed.{squeezed, squeezed_part}
-use Rattle.mc_types.specs.declared.steps.expressions.Operands.{Operands}
-use Rattle.mc_types.specs.Operands.{AreJudged}
 use Rattle.mc_expressions.specs.steps.Gathered.{squeezed_given, before, gathered, with_last, extended}
 use Rattle.mc_expressions.proofs.Nodes.{index_node, member_node, step_node, unary_node, cast_node, binary_node, conditional_node, assignment_node, argument_node, call_node, comma_node}
 use Rattle.mc_scopes.proofs.Squeezed.{least_back, least_least}
@@ -181,17 +178,6 @@ pub in_comma : (span : Span) (given : t.Expressions) (s : Scope) (x : Given Argu
 in_comma span given s x e =
     one_arm squeezed_given squeezed (comma_found span.start) (λ v. comma_node span.start v)
     (judge_arguments given [] s) x e
-
--- what is found of two operands, from what is found of each
-pub operands_found : (a b : t.Expression) (x : Operands) (s r u : Scope)
-    → found_of x.first r ≡ squeezed (judge a s) → found_of x.second u ≡ squeezed (judge b r)
-    → AreJudged a b x s u
-operands_found a b x s r u h k =
-    let e : r ≡ (judge a s).scope = ap (λ (v : Found). v.scope) h in
-    record {
-      first = subst (λ v. found_of x.first v ≡ squeezed (judge a s)) e h;
-      second = subst (λ v. found_of x.second u ≡ squeezed (judge b v)) e k;
-    }
 
 -- ---- arguments
 

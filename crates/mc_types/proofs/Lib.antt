@@ -10,3 +10,4 @@ pub mod InitializerArms
 pub mod Declarators
 pub mod DeclarationArms
 pub mod UnitArms
+pub mod Falls

@@ -40,10 +40,10 @@ fn optional_initializer<'a>(
         (option_map units.initializer_of (option_copied tree.entry)) (scope_of scope.old))) }
 {
     match tree {
-        Some(tree) => {
-            let found = initializer(alloc, scope, is_static, of, tree)?;
-            Ok(mc_declarations::optional_initializer(found))
-        }
+        Some(tree) => match initializer(alloc, scope, is_static, of, tree) {
+            Ok(found) => Ok(mc_declarations::optional_initializer(found)),
+            Err(error) => Err(error),
+        },
         None => Ok(mc_declarations::no_initializer()),
     }
 }
@@ -68,8 +68,10 @@ fn local<'a>(
     let count = mc_declarations::count_listed(value);
     let begun = mc_declarations::begin_local(alloc, scope, fault, name, all, count, base, of)?;
     let fit = mc_declarations::type_to_fit(begun.own, of);
-    let value = optional_initializer(alloc, scope, false, fit, value)?;
-    mc_declarations::end_local(alloc, scope, name, begun, value)
+    match optional_initializer(alloc, scope, false, fit, value) {
+        Ok(value) => mc_declarations::end_local(alloc, scope, name, begun, value),
+        Err(error) => Err(error),
+    }
 }
 
 /// An object with static storage duration.
@@ -91,8 +93,10 @@ fn stored<'a>(
     let count = mc_declarations::count_listed(value);
     let begun = mc_declarations::begin_static(scope, fault, name, all, count, base, of)?;
     let fit = mc_declarations::type_to_fit(begun.own, of);
-    let value = optional_initializer(alloc, scope, true, fit, value)?;
-    mc_declarations::end_static(alloc, scope, name, of, begun, value)
+    match optional_initializer(alloc, scope, true, fit, value) {
+        Ok(value) => mc_declarations::end_static(alloc, scope, name, of, begun, value),
+        Err(error) => Err(error),
+    }
 }
 
 /// A typedef name (C17 6.7.8).
@@ -112,8 +116,10 @@ fn typedef<'a>(
         (option_map units.initializer_of (option_copied value.entry)) (scope_of scope.old))) }
 {
     let begun = mc_declarations::begin_typedef(scope, fault, name, all, value, of)?;
-    let value = optional_initializer(alloc, scope, true, None, value)?;
-    Ok(mc_declarations::end_declared(alloc, begun, value))
+    match optional_initializer(alloc, scope, true, None, value) {
+        Ok(value) => Ok(mc_declarations::end_declared(alloc, begun, value)),
+        Err(error) => Err(error),
+    }
 }
 
 /// A declarator that is no function's (C17 6.7.6.2).
@@ -160,8 +166,10 @@ fn function<'a>(
     let begun = mc_declarations::begin_function(
         alloc, scope, storage, name, base, parameters, value,
     )?;
-    let value = optional_initializer(alloc, scope, true, None, value)?;
-    Ok(mc_declarations::end_declared(alloc, begun, value))
+    match optional_initializer(alloc, scope, true, None, value) {
+        Ok(value) => Ok(mc_declarations::end_declared(alloc, begun, value)),
+        Err(error) => Err(error),
+    }
 }
 
 /// A declarator, perhaps with an initializer.
@@ -192,10 +200,10 @@ fn declarator<'a>(
             name,
             parameters: list,
             ..
-        } => {
-            let found = prototype(alloc, scope, list)?;
-            function(alloc, scope, storage, base, name, &found, value)
-        }
+        } => match prototype(alloc, scope, list) {
+            Ok(found) => function(alloc, scope, storage, base, name, &found, value),
+            Err(error) => Err(error),
+        },
     }
 }
 

@@ -17,11 +17,10 @@ ghost use Rattle.mc_declarations.specs.Declarations.{lengths_in, listed_members,
 ghost use Rattle.mc_scopes.specs.steps.Squeezed.{squeezed, squeezed_part};
 ghost use Rattle.mc_expressions.specs.steps.Gathered.{squeezed_given};
 ghost use Rattle.mc_types.specs.Loops.{TakesLength};
-ghost use Rattle.mc_types.specs.Operands.{AreJudged};
 
 use crate::leaves::{callee, character, named};
-use crate::steps::expressions::Operands;
 use crate::steps::{declarators as declared, expressions as steps};
+use crate::unused;
 use mc_declarations::Parameters;
 use mc_faults::Fault;
 use mc_scopes::found::{Found, Given, Judged};
@@ -59,9 +58,9 @@ pub(crate) fn expression<'a>(
             span,
         } => call(alloc, scope, name, given, *span),
         Expression::Index { array, index, span } => {
-            let array = expression(alloc, scope, array);
-            let found = second(alloc, scope, index, array);
-            steps::index(alloc, scope, *span, found)
+            let array = expression(alloc, scope, array)?;
+            let index = expression(alloc, scope, index);
+            steps::index(alloc, scope, *span, array, index)
         }
         Expression::Member { object, name, span } => {
             let found = expression(alloc, scope, object);
@@ -107,9 +106,9 @@ pub(crate) fn expression<'a>(
             right,
             span,
         } => {
-            let left = expression(alloc, scope, left);
-            let found = second(alloc, scope, right, left);
-            steps::binary(alloc, *operator, *span, found)
+            let left = expression(alloc, scope, left)?;
+            let right = expression(alloc, scope, right);
+            steps::binary(alloc, *operator, *span, left, right)
         }
         Expression::Conditional {
             test,
@@ -117,9 +116,9 @@ pub(crate) fn expression<'a>(
             other,
             span,
         } => {
-            let test = expression(alloc, scope, test);
-            let tested = second(alloc, scope, chosen, test);
-            conditional(alloc, scope, other, tested, *span)
+            let test = expression(alloc, scope, test)?;
+            let chosen = expression(alloc, scope, chosen);
+            conditional(alloc, scope, other, test, chosen, *span)
         }
         Expression::Assignment {
             operator,
@@ -127,35 +126,14 @@ pub(crate) fn expression<'a>(
             value,
             span,
         } => {
-            let target = expression(alloc, scope, target);
-            let found = second(alloc, scope, value, target);
-            steps::assignment(alloc, scope, *operator, *span, found)
+            let target = expression(alloc, scope, target)?;
+            let value = expression(alloc, scope, value);
+            steps::assignment(alloc, scope, *operator, *span, target, value)
         }
         Expression::Comma { operands, span } => {
             let given = arguments(alloc, scope, operands, &[]);
             steps::comma(*span, given)
         }
-    }
-}
-
-/// An operand after a first one.
-#[cycle(judge)]
-fn second<'a>(
-    alloc: Global,
-    scope: &mut Scope<'a>,
-    tree: &Expression<'a>,
-    first: Result<Found, AllocError>,
-) -> Result<Operands, AllocError>
-    ensures { (a : t.Expression) (start : s.Scope)
-        → IfOk first (λ y. found_of y (scope_of scope.old) ≡ squeezed (j.judge a start))
-        → IfOk result (λ r. AreJudged a (expression_of tree.now) r start (scope_of scope.new)) }
-{
-    match first {
-        Ok(first) => {
-            let found = expression(alloc, scope, tree);
-            steps::paired(first, found)
-        }
-        Err(error) => Err(error),
     }
 }
 
@@ -189,20 +167,25 @@ fn conditional<'a>(
     alloc: Global,
     scope: &mut Scope<'a>,
     tree: &Expression<'a>,
-    tested: Result<Operands, AllocError>,
+    test: Found,
+    chosen: Result<Found, AllocError>,
     span: Span,
 ) -> Result<Found, AllocError>
-    ensures { (a b : t.Expression) (start : s.Scope)
-        → IfOk tested (λ y. AreJudged a b y start (scope_of scope.old))
+    ensures { (a b : t.Expression) (start next : s.Scope)
+        → found_of test next ≡ squeezed (j.judge a start)
+        → IfOk chosen (λ y. found_of y (scope_of scope.old) ≡ squeezed (j.judge b next))
         → IfOk result (λ r. found_of r (scope_of scope.new)
         ≡ squeezed (j.judge (t.Conditional a b (expression_of tree.now) span) start)) }
 {
-    match tested {
-        Ok(tested) => {
+    match chosen {
+        Ok(chosen) => {
             let other = expression(alloc, scope, tree);
-            steps::conditional(alloc, span, tested, other)
+            steps::conditional(alloc, span, test, chosen, other)
         }
-        Err(error) => Err(error),
+        Err(error) => {
+            unused::found(test);
+            Err(error)
+        }
     }
 }
 

@@ -6,7 +6,7 @@ use thiserror::Error;
 
 /// The first fault of the names and types of a unit, or that memory ran out. `at` is the byte at
 /// which the fault stands.
-#[derive(Clone, Copy, Debug, PartialEq, Eq, Error)]
+#[derive(Clone, Copy, Debug, Error)]
 pub enum TypeFault {
     /// A name, tag or member has no declaration in scope.
     #[error("undeclared")]

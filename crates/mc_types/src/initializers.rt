@@ -36,17 +36,17 @@ pub(crate) fn initializer<'a>(
         (units.initializer_of tree.now) (scope_of scope.old))) }
 {
     match tree {
-        Initializer::Single { value } => {
-            let found = expression(alloc, scope, value)?;
-            mc_statements::single_initializer(
+        Initializer::Single { value } => match expression(alloc, scope, value) {
+            Ok(found) => mc_statements::single_initializer(
                 alloc,
                 is_static,
                 scope,
                 of,
                 value.span().start,
                 found,
-            )
-        }
+            ),
+            Err(error) => Err(error),
+        },
         Initializer::Braced { items: trees, span } => match only(trees) {
             Some(value) => only_expression(alloc, scope, is_static, of, *span, value),
             None => list(alloc, scope, is_static, of, *span, trees),
@@ -92,18 +92,20 @@ fn only_expression<'a>(
         (scope_of scope.old))) }
 {
     let parts = mc_statements::parts(alloc, scope, of, 1)?;
-    let found = expression(alloc, scope, tree)?;
     let start = tree.span().start;
-    mc_statements::braced_expression(
-        alloc,
-        is_static,
-        scope,
-        of,
-        parts.get(0),
-        span.start,
-        start,
-        found,
-    )
+    match expression(alloc, scope, tree) {
+        Ok(found) => mc_statements::braced_expression(
+            alloc,
+            is_static,
+            scope,
+            of,
+            parts.get(0),
+            span.start,
+            start,
+            found,
+        ),
+        Err(error) => Err(error),
+    }
 }
 
 /// A list as initializer that is not of an expression alone.

@@ -114,8 +114,10 @@ pub(crate) fn statement<'a>(
             steps::followed(first, rest)
         }
         Statement::Label { body, span, .. } => {
-            let found = statement(alloc, scope, around.inside(), body)?;
-            Ok(mc_statements::named_label(*span, found))
+            match statement(alloc, scope, around.inside(), body) {
+                Ok(found) => Ok(mc_statements::named_label(*span, found)),
+                Err(error) => Err(error),
+            }
         }
         Statement::Goto { span, .. } => Ok(mc_statements::goto_statement(*span)),
         Statement::Break { span } => mc_jumps::break_statement(alloc, around, *span),
@@ -174,10 +176,10 @@ fn block_item<'a>(
         (scope_of scope.old) r (scope_of scope.new)) }
 {
     match tree {
-        BlockItem::Local { declaration: local } => {
-            let found = declaration(alloc, scope, local)?;
-            mc_statements::declaration_statement(alloc, local.span, found)
-        }
+        BlockItem::Local { declaration: local } => match declaration(alloc, scope, local) {
+            Ok(found) => mc_statements::declaration_statement(alloc, local.span, found),
+            Err(error) => Err(error),
+        },
         BlockItem::Statement { statement: one } => statement(alloc, scope, around, one),
     }
 }
@@ -195,8 +197,10 @@ fn expression_statement<'a>(
         ≡ squeezed_part (b.judge_statement a
         (t.ExpressionStatement (expression_of tree.now) span) (scope_of scope.old))) }
 {
-    let found = effect(alloc, scope, tree)?;
-    mc_statements::effect_statement(alloc, span, found)
+    match effect(alloc, scope, tree) {
+        Ok(found) => mc_statements::effect_statement(alloc, span, found),
+        Err(error) => Err(error),
+    }
 }
 
 /// The label of a `case` with this value (C17 6.8.1).
@@ -210,8 +214,10 @@ fn case_label<'a>(
         IfOk result (λ r. judged_of statements_of r (scope_of scope.new) ≡ squeezed_part
         (w.case_judged label (t.span_of e).start (j.judge e (scope_of scope.old)))) }
 {
-    let found = expression(alloc, scope, tree)?;
-    mc_jumps::case_label(alloc, scope, label, tree.span().start, found)
+    match expression(alloc, scope, tree) {
+        Ok(found) => mc_jumps::case_label(alloc, scope, label, tree.span().start, found),
+        Err(error) => Err(error),
+    }
 }
 
 /// A `return` statement (C17 6.8.6.4).
@@ -227,10 +233,10 @@ fn return_statement<'a>(
         (t.Return (units.option_of value.now) span) (scope_of scope.old))) }
 {
     match value {
-        Some(tree) => {
-            let found = expression(alloc, scope, tree)?;
-            mc_jumps::return_statement(alloc, scope, around.result, span, found)
-        }
+        Some(tree) => match expression(alloc, scope, tree) {
+            Ok(found) => mc_jumps::return_statement(alloc, scope, around.result, span, found),
+            Err(error) => Err(error),
+        },
         None => mc_jumps::return_nothing(alloc, around.result, span),
     }
 }
@@ -246,8 +252,10 @@ fn effect<'a>(
     ensures { IfOk result (λ r. judged_of effect_of r (scope_of scope.new)
         ≡ squeezed_part (b.judge_effect (expression_of tree.now) (scope_of scope.old))) }
 {
-    let found = expression(alloc, scope, tree)?;
-    Ok(mc_statements::effect(tree, found))
+    match expression(alloc, scope, tree) {
+        Ok(found) => Ok(mc_statements::effect(tree, found)),
+        Err(error) => Err(error),
+    }
 }
 
 /// The clauses of a `for`.
@@ -304,10 +312,10 @@ fn part<'a>(
 {
     match operands(tree) {
         Some(all) => clauses(alloc, scope, all),
-        None => {
-            let found = effect(alloc, scope, tree)?;
-            mc_statements::clause(alloc, found)
-        }
+        None => match effect(alloc, scope, tree) {
+            Ok(found) => mc_statements::clause(alloc, found),
+            Err(error) => Err(error),
+        },
     }
 }
 
@@ -334,14 +342,14 @@ fn for_start<'a>(
         ≡ squeezed_part (b.judge_start (units.start_of tree.now) (scope_of scope.old))) }
 {
     match tree {
-        ForStart::Local { declaration: local } => {
-            let found = declaration(alloc, scope, local)?;
-            Ok(mc_statements::declaration_start(found))
-        }
-        ForStart::Expression { value } => {
-            let found = optional_part(alloc, scope, value)?;
-            Ok(mc_statements::effects_start(found))
-        }
+        ForStart::Local { declaration: local } => match declaration(alloc, scope, local) {
+            Ok(found) => Ok(mc_statements::declaration_start(found)),
+            Err(error) => Err(error),
+        },
+        ForStart::Expression { value } => match optional_part(alloc, scope, value) {
+            Ok(found) => Ok(mc_statements::effects_start(found)),
+            Err(error) => Err(error),
+        },
     }
 }
 
@@ -356,10 +364,10 @@ fn optional_test<'a>(
         ≡ squeezed_part (b.judge_test at (units.option_of tree.now) (scope_of scope.old))) }
 {
     match tree {
-        Some(tree) => {
-            let found = expression(alloc, scope, tree)?;
-            Ok(mc_statements::loop_test(at, found))
-        }
+        Some(tree) => match expression(alloc, scope, tree) {
+            Ok(found) => Ok(mc_statements::loop_test(at, found)),
+            Err(error) => Err(error),
+        },
         None => Ok(mc_statements::no_test()),
     }
 }

@@ -14,7 +14,6 @@ ghost use Rattle.mc_scopes.specs.steps.Squeezed.{squeezed, squeezed_part};
 ghost use Rattle.mc_expressions.specs.steps.Callees.{meaning_of_callee};
 ghost use Rattle.mc_expressions.specs.steps.Gathered.{squeezed_given};
 ghost use Rattle.mc_types.specs.Loops.{TakesArgument};
-ghost use Rattle.mc_types.specs.Operands.{AreJudged};
 
 use crate::unused;
 use mc_expressions::Callee;
@@ -93,47 +92,26 @@ pub(crate) fn call(
     }
 }
 
-/// What is found of two operands.
-#[derive(Drop)]
-pub(crate) struct Operands {
-    pub(crate) first: Found,
-    pub(crate) second: Found,
-}
-
-/// Two operands together.
-pub(crate) fn paired(
-    first: Found,
-    second: Result<Found, AllocError>,
-) -> Result<Operands, AllocError>
-    ensures { (a b : t.Expression) (start next last : s.Scope)
-        → found_of first next ≡ squeezed (j.judge a start)
-        → IfOk second (λ y. found_of y last ≡ squeezed (j.judge b next))
-        → IfOk result (λ r. AreJudged a b r start last) }
-{
-    match second {
-        Ok(second) => Ok(Operands { first, second }),
-        Err(error) => {
-            unused::found(first);
-            Err(error)
-        }
-    }
-}
-
 /// An element of an array (C17 6.5.2.1).
 pub(crate) fn index(
     alloc: Global,
     scope: &Scope<'_>,
     span: Span,
-    found: Result<Operands, AllocError>,
+    first: Found,
+    second: Result<Found, AllocError>,
 ) -> Result<Found, AllocError>
-    ensures { (a b : t.Expression) (first : s.Scope)
-        → IfOk found (λ y. AreJudged a b y first (scope_of scope.now))
+    ensures { (a b : t.Expression) (start next : s.Scope)
+        → found_of first next ≡ squeezed (j.judge a start)
+        → IfOk second (λ y. found_of y (scope_of scope.now) ≡ squeezed (j.judge b next))
         → IfOk result (λ r. found_of r (scope_of scope.now)
-        ≡ squeezed (j.judge (t.Index a b span) first)) }
+        ≡ squeezed (j.judge (t.Index a b span) start)) }
 {
-    match found {
-        Ok(all) => mc_expressions::index(alloc, scope, span, all.first, all.second),
-        Err(error) => Err(error),
+    match second {
+        Ok(second) => mc_expressions::index(alloc, scope, span, first, second),
+        Err(error) => {
+            unused::found(first);
+            Err(error)
+        }
     }
 }
 
@@ -256,16 +234,21 @@ pub(crate) fn binary(
     alloc: Global,
     operator: BinaryOperator,
     span: Span,
-    found: Result<Operands, AllocError>,
+    first: Found,
+    second: Result<Found, AllocError>,
 ) -> Result<Found, AllocError>
-    ensures { (a b : t.Expression) (first last : s.Scope)
-        → IfOk found (λ y. AreJudged a b y first last)
+    ensures { (a b : t.Expression) (start next last : s.Scope)
+        → found_of first next ≡ squeezed (j.judge a start)
+        → IfOk second (λ y. found_of y last ≡ squeezed (j.judge b next))
         → IfOk result (λ r. found_of r last
-        ≡ squeezed (j.judge (t.Binary operator a b span) first)) }
+        ≡ squeezed (j.judge (t.Binary operator a b span) start)) }
 {
-    match found {
-        Ok(all) => mc_expressions::binary(alloc, operator, span, all.first, all.second),
-        Err(error) => Err(error),
+    match second {
+        Ok(second) => mc_expressions::binary(alloc, operator, span, first, second),
+        Err(error) => {
+            unused::found(first);
+            Err(error)
+        }
     }
 }
 
@@ -273,22 +256,22 @@ pub(crate) fn binary(
 pub(crate) fn conditional(
     alloc: Global,
     span: Span,
-    tested: Operands,
+    test: Found,
+    chosen: Found,
     other: Result<Found, AllocError>,
 ) -> Result<Found, AllocError>
-    ensures { (a b c : t.Expression) (first last end : s.Scope)
-        → AreJudged a b tested first last
+    ensures { (a b c : t.Expression) (start next last end : s.Scope)
+        → found_of test next ≡ squeezed (j.judge a start)
+        → found_of chosen last ≡ squeezed (j.judge b next)
         → IfOk other (λ y. found_of y end ≡ squeezed (j.judge c last))
         → IfOk result (λ r. found_of r end
-        ≡ squeezed (j.judge (t.Conditional a b c span) first)) }
+        ≡ squeezed (j.judge (t.Conditional a b c span) start)) }
 {
     match other {
-        Ok(other) => {
-            mc_expressions::conditional(alloc, span, tested.first, tested.second, other)
-        }
+        Ok(other) => mc_expressions::conditional(alloc, span, test, chosen, other),
         Err(error) => {
-            unused::found(tested.first);
-            unused::found(tested.second);
+            unused::found(test);
+            unused::found(chosen);
             Err(error)
         }
     }
@@ -300,17 +283,20 @@ pub(crate) fn assignment(
     scope: &Scope<'_>,
     operator: AssignmentOperator,
     span: Span,
-    found: Result<Operands, AllocError>,
+    first: Found,
+    second: Result<Found, AllocError>,
 ) -> Result<Found, AllocError>
-    ensures { (a b : t.Expression) (first : s.Scope)
-        → IfOk found (λ y. AreJudged a b y first (scope_of scope.now))
+    ensures { (a b : t.Expression) (start next : s.Scope)
+        → found_of first next ≡ squeezed (j.judge a start)
+        → IfOk second (λ y. found_of y (scope_of scope.now) ≡ squeezed (j.judge b next))
         → IfOk result (λ r. found_of r (scope_of scope.now)
-        ≡ squeezed (j.judge (t.Assignment operator a b span) first)) }
+        ≡ squeezed (j.judge (t.Assignment operator a b span) start)) }
 {
-    match found {
-        Ok(all) => {
-            mc_expressions::assignment(alloc, scope, operator, span, all.first, all.second)
+    match second {
+        Ok(second) => mc_expressions::assignment(alloc, scope, operator, span, first, second),
+        Err(error) => {
+            unused::found(first);
+            Err(error)
         }
-        Err(error) => Err(error),
     }
 }

@@ -36,15 +36,15 @@ returns-in-EmptyFunction c =
           (ap (λ (l : Listed (Option ParameterKind)). squeezed_part (function_judged (storage_from c.args.storage) (name_of w.name) (option_map type_of c.args.base.now) l (option_map units.initializer_of (option_copied c.args.value)) s)) (c.no_parameters-none.ensures s)))
     ]
 
-pub returns-in_ok-found-in-Function : goal.returns-in_ok-found-in-Function
-returns-in_ok-found-in-Function c =
+pub returns-in-Ok : goal.returns-in-Ok
+returns-in-Ok c =
     let w = c.in-Function in
     let s = scope_of c.args.scope.now in
     let all = parameters_from (map parameter_of w.list.items) in
-    let found = listed_parameters c.in_ok-found-in-Function.found s in
+    let found = listed_parameters c.in-Ok.found s in
     let whole : Listed (Option ParameterKind) = record (judge_parameter_list all (prototype s)) { scope = s } in
     rw (w.is, declarator_of-Function w.stars w.name w.list w.list_span w.span)
     (found_as c.function.result (λ z. judged_of declarators_of z (scope_of c.function.new.scope)) _ _ (c.function.ensures s)
-    (ap (λ (v : Scope). squeezed_part (function_judged (storage_from c.args.storage) (name_of w.name) (option_map type_of c.args.base.now) found (option_map units.initializer_of (option_copied c.args.value)) v)) c.in_ok-found-in-Function.ensures.scope
-    ∙ ap (λ (l : Listed (Option ParameterKind)). squeezed_part (function_judged (storage_from c.args.storage) (name_of w.name) (option_map type_of c.args.base.now) l (option_map units.initializer_of (option_copied c.args.value)) s)) (rw c.deref-in-Function.ensures.value at (c.in_ok-found-in-Function.ensures.found s))
+    (ap (λ (v : Scope). squeezed_part (function_judged (storage_from c.args.storage) (name_of w.name) (option_map type_of c.args.base.now) found (option_map units.initializer_of (option_copied c.args.value)) v)) c.in-Ok.ensures.scope
+    ∙ ap (λ (l : Listed (Option ParameterKind)). squeezed_part (function_judged (storage_from c.args.storage) (name_of w.name) (option_map type_of c.args.base.now) l (option_map units.initializer_of (option_copied c.args.value)) s)) (rw c.deref-in-Function.ensures.value at (c.in-Ok.ensures.found s))
     ∙ function_of_least (storage_from c.args.storage) (name_of w.name) (option_map type_of c.args.base.now) whole (option_map units.initializer_of (option_copied c.args.value)) s))

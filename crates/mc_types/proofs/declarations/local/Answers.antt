@@ -12,9 +12,9 @@ use Rattle.mc_types.proofs.Exits.{found_each}
 use Rattle.mc_types.proofs.DeclarationArms.{in_automatic}
 use Rattle.mc_types.proofs.declarations.local.Goals as goal
 
-pub returns : goal.returns
-returns c =
+pub returns-in-Ok : goal.returns-in-Ok
+returns-in-Ok c =
     let r = scope_of c.begin_local.new.scope in
     let u = scope_of c.optional_initializer.new.scope in
     found_each c.end_local.result (λ z. judged_of declarators_of z (scope_of c.end_local.new.scope)) u _ _ c.end_local.ensures
-    (in_automatic (listed c.args.fault) (name_of c.args.name.now) (written c.args.all.now) (option_map type_of c.args.base.now) (option_map type_of c.args.of.now) (option_map units.initializer_of (option_copied c.args.value)) (scope_of c.args.scope.now) u c.count_listed-count.result (local_of c.in_ok-begun.begun r) (judged_of optional_of c.in_ok-value.value u) c.count_listed-count.ensures c.in_ok-begun.ensures (rw c.type_to_fit-fit.ensures at c.in_ok-value.ensures))
+    (in_automatic (listed c.args.fault) (name_of c.args.name.now) (written c.args.all.now) (option_map type_of c.args.base.now) (option_map type_of c.args.of.now) (option_map units.initializer_of (option_copied c.args.value)) (scope_of c.args.scope.now) u c.count_listed-count.result (local_of c.in_ok-begun.begun r) (judged_of optional_of c.in-Ok.value u) c.count_listed-count.ensures c.in_ok-begun.ensures (rw c.type_to_fit-fit.ensures at c.in-Ok.ensures))

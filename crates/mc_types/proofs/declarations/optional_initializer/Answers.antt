@@ -8,11 +8,11 @@ use Rattle.mc_scopes.specs.Found.{judged_of}
 use Rattle.mc_types.proofs.DeclarationArms.{in_optional}
 use Rattle.mc_types.proofs.declarations.optional_initializer.Goals as goal
 
-pub returns-in_ok-found-in-Some : goal.returns-in_ok-found-in-Some
-returns-in_ok-found-in-Some c =
+pub returns-in-Ok : goal.returns-in-Ok
+returns-in-Ok c =
     let u = scope_of c.initializer.new.scope in
     rw c.in-Some.is
-    (c.optional_initializer.ensures u ∙ in_optional c.args.is_static (option_map type_of (option_copied c.args.of)) (units.initializer_of c.in-Some.tree.now) (scope_of c.args.scope.now) (judged_of initializer_of c.in_ok-found-in-Some.found u) c.in_ok-found-in-Some.ensures)
+    (c.optional_initializer.ensures u ∙ in_optional c.args.is_static (option_map type_of (option_copied c.args.of)) (units.initializer_of c.in-Some.tree.now) (scope_of c.args.scope.now) (judged_of initializer_of c.in-Ok.found u) c.in-Ok.ensures)
 
 pub returns-in-None : goal.returns-in-None
 returns-in-None c = rw c.in-None.is (c.no_initializer.ensures (scope_of c.args.scope.now))

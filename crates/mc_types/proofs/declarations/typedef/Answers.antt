@@ -10,8 +10,8 @@ use Rattle.mc_declarations.specs.Halves.{begun}
 use Rattle.mc_types.proofs.DeclarationArms.{in_typedef}
 use Rattle.mc_types.proofs.declarations.typedef.Goals as goal
 
-pub returns : goal.returns
-returns c =
+pub returns-in-Ok : goal.returns-in-Ok
+returns-in-Ok c =
     let r = scope_of c.begin_typedef.new.scope in
     let u = scope_of c.optional_initializer.new.scope in
-    c.end_declared.ensures u ∙ in_typedef (listed c.args.fault) (name_of c.args.name.now) (written c.args.all.now) (option_map type_of c.args.base.now) (option_map type_of c.args.of.now) (option_map units.initializer_of (option_copied c.args.value)) (scope_of c.args.scope.now) (begun c.in_ok-begun.begun r) (judged_of optional_of c.in_ok-value.value u) c.in_ok-begun.ensures c.in_ok-value.ensures
+    c.end_declared.ensures u ∙ in_typedef (listed c.args.fault) (name_of c.args.name.now) (written c.args.all.now) (option_map type_of c.args.base.now) (option_map type_of c.args.of.now) (option_map units.initializer_of (option_copied c.args.value)) (scope_of c.args.scope.now) (begun c.in_ok-begun.begun r) (judged_of optional_of c.in-Ok.value u) c.in_ok-begun.ensures c.in-Ok.ensures

@@ -24,6 +24,7 @@ use Rattle.mc_scopes.specs.steps.Squeezed.{squeezed_part}
 use Rattle.mc_declarations.proofs.DeclarationNodes.{lengths_end, parameters_end, specifiers_end}
 use Rattle.mc_types.proofs.Exits.{at_ok, found_as}
 use Rattle.mc_types.proofs.Trees.{array_length_of-Absent, array_length_of-Given, declarator_of-EmptyFunction, declarator_of-Function, declarator_of-VoidFunction, declarator_of-Object, enumerator_of-Bare, enumerator_of-Valued, expression_of-Assignment, expression_of-Binary, expression_of-Call, expression_of-Cast, expression_of-Character, expression_of-Constant, expression_of-Comma, expression_of-Conditional, expression_of-Index, expression_of-Member, expression_of-Name, expression_of-Parenthesized, expression_of-PostfixStep, expression_of-PrefixStep, expression_of-Unary, member_of-parts, specifier_of-Enumeration, specifier_of-EnumerationTag, specifier_of-Structure, specifier_of-StructureTag, specifier_of-TypedefName, specifier_of-Word}
+use Rattle.mc_types.proofs.Falls.{assignment_target, assignment_value, binary_left, binary_right, conditional_chosen, conditional_other, conditional_test, from_later, index_array, index_index, member_object, parenthesized_inner, postfix_operand, prefix_operand, to_later, to_operand, unary_operand}
 use Rattle.mc_types.proofs.Arms.{count_listed, none_before}
 use Rattle.mc_types.proofs.Declarators.{in_prototype, prototype_ends, in_enumeration, in_object_member, in_typed}
 use Rattle.mc_types.proofs.Turns.{last_turn, next_turn}
@@ -54,38 +55,29 @@ expression-returns-in-Unary t c =
     rw (w.is, expression_of-Unary w.operator w.operand w.span)
     (c.unary.ensures (expression_of w.operand.value) (scope_of c.args.scope.now) (scope_of c.expression-found-in-Unary.new.scope) (rw c.deref-in-Unary.ensures at c.expression-found-in-Unary.ensures))
 
-pub expression-returns-in-Index : goal.expression-returns-in-Index
-expression-returns-in-Index t c =
+pub expression-returns-in_ok-array-in-Index : goal.expression-returns-in_ok-array-in-Index
+expression-returns-in_ok-array-in-Index t c =
     let w = c.in-Index in
-    let a = expression_of w.array.value in
-    let s = scope_of c.args.scope.now in
     rw (w.is, expression_of-Index w.array w.index w.span)
-    (c.index.ensures a (expression_of w.index.value) s (rw c.deref-in-Index-2.ensures at (c.second-found.ensures a s (rw c.deref-in-Index.ensures at c.expression-array.ensures))))
+    (c.index.ensures (expression_of w.array.value) (expression_of w.index.value) (scope_of c.args.scope.now) (scope_of c.expression-in-Index.new.scope) (rw c.deref-in-Index.ensures at c.in_ok-array-in-Index.ensures) (rw c.deref-in-Index-2.ensures at c.expression-index.ensures))
 
-pub expression-returns-in-Binary : goal.expression-returns-in-Binary
-expression-returns-in-Binary t c =
+pub expression-returns-in_ok-left-in-Binary : goal.expression-returns-in_ok-left-in-Binary
+expression-returns-in_ok-left-in-Binary t c =
     let w = c.in-Binary in
-    let a = expression_of w.left.value in
-    let s = scope_of c.args.scope.now in
     rw (w.is, expression_of-Binary w.operator w.left w.right w.span)
-    (c.binary.ensures a (expression_of w.right.value) s (scope_of c.second-found-in-Binary.new.scope) (rw c.deref-in-Binary-2.ensures at (c.second-found-in-Binary.ensures a s (rw c.deref-in-Binary.ensures at c.expression-left.ensures))))
+    (c.binary.ensures (expression_of w.left.value) (expression_of w.right.value) (scope_of c.args.scope.now) (scope_of c.expression-in-Binary.new.scope) (scope_of c.expression-right.new.scope) (rw c.deref-in-Binary.ensures at c.in_ok-left-in-Binary.ensures) (rw c.deref-in-Binary-2.ensures at c.expression-right.ensures))
 
-pub expression-returns-in-Assignment : goal.expression-returns-in-Assignment
-expression-returns-in-Assignment t c =
+pub expression-returns-in_ok-target-in-Assignment : goal.expression-returns-in_ok-target-in-Assignment
+expression-returns-in_ok-target-in-Assignment t c =
     let w = c.in-Assignment in
-    let a = expression_of w.target.value in
-    let s = scope_of c.args.scope.now in
     rw (w.is, expression_of-Assignment w.operator w.target w.value w.span)
-    (c.assignment.ensures a (expression_of w.value.value) s (rw c.deref-in-Assignment-2.ensures at (c.second-found-in-Assignment.ensures a s (rw c.deref-in-Assignment.ensures at c.expression-target.ensures))))
+    (c.assignment.ensures (expression_of w.target.value) (expression_of w.value.value) (scope_of c.args.scope.now) (scope_of c.expression-in-Assignment.new.scope) (rw c.deref-in-Assignment.ensures at c.in_ok-target-in-Assignment.ensures) (rw c.deref-in-Assignment-2.ensures at c.expression-value.ensures))
 
-pub expression-returns-in-Conditional : goal.expression-returns-in-Conditional
-expression-returns-in-Conditional t c =
+pub expression-returns-in_ok-test-in-Conditional : goal.expression-returns-in_ok-test-in-Conditional
+expression-returns-in_ok-test-in-Conditional t c =
     let w = c.in-Conditional in
-    let a = expression_of w.test.value in
-    let b = expression_of w.chosen.value in
-    let s = scope_of c.args.scope.now in
     rw (w.is, expression_of-Conditional w.test w.chosen w.other w.span)
-    (rw c.deref-in-Conditional-3.ensures at (c.conditional.ensures a b s (rw c.deref-in-Conditional-2.ensures at (c.second-tested.ensures a s (rw c.deref-in-Conditional.ensures at c.expression-test.ensures)))))
+    (rw c.deref-in-Conditional-3.ensures at (c.conditional.ensures (expression_of w.test.value) (expression_of w.chosen.value) (scope_of c.args.scope.now) (scope_of c.expression-in-Conditional.new.scope) (rw c.deref-in-Conditional.ensures at c.in_ok-test-in-Conditional.ensures) (rw c.deref-in-Conditional-2.ensures at c.expression-chosen.ensures)))
 
 pub expression-returns-in-Cast : goal.expression-returns-in-Cast
 expression-returns-in-Cast t c =
@@ -125,11 +117,6 @@ expression-returns-in-Call t c =
     let w = c.in-Call in
     rw (w.is, expression_of-Call w.name w.given w.span) (rw c.deref-in-Call.ensures.value at c.call.ensures)
 
-pub second-returns-in-Ok : goal.second-returns-in-Ok
-second-returns-in-Ok t c =
-    λ a p h.
-    c.paired.ensures a (expression_of c.args.tree.now) p (scope_of c.args.scope.now) (scope_of c.expression-found.new.scope) (at_ok c.args.first c.in-Ok.first _ c.in-Ok.is h) c.expression-found.ensures
-
 pub cast-returns-in-Ok : goal.cast-returns-in-Ok
 cast-returns-in-Ok t c =
     λ all stars name p h.
@@ -137,8 +124,8 @@ cast-returns-in-Ok t c =
 
 pub conditional-returns-in-Ok : goal.conditional-returns-in-Ok
 conditional-returns-in-Ok t c =
-    λ a b p h.
-    c.conditional.ensures a b (expression_of c.args.tree.now) p (scope_of c.args.scope.now) (scope_of c.expression-other.new.scope) (at_ok c.args.tested c.in-Ok.tested _ c.in-Ok.is h) c.expression-other.ensures
+    λ a b p q h k.
+    c.conditional.ensures a b (expression_of c.args.tree.now) p q (scope_of c.args.scope.now) (scope_of c.expression-other.new.scope) h (at_ok c.args.chosen c.in-Ok.chosen _ c.in-Ok.is k) c.expression-other.ensures
 
 pub call-returns : goal.call-returns
 call-returns t c =
@@ -361,3 +348,81 @@ pub prototype-returns-clause-scope : goal.prototype-returns-clause-scope
 prototype-returns-clause-scope t c =
     let e = c.enter_declarator-prototype.ensures in
     prototype_ends c.parameters-found.result (parameters_from (map parameter_of c.args.trees.now)) (scope_of c.enter_declarator-prototype.new.self) (scope_of c.parameters-found.new.scope) (scope_of c.args.scope.now) (scope_of c.leave_declarator.new.self) (prototype_of c.enter_declarator-prototype.result) c.parameters-found.ensures e.entered c.leave_declarator.ensures e.around
+
+-- ---- each part is smaller
+
+pub expression-expression-requires : goal.expression-expression-requires
+expression-expression-requires t c =
+    let w = c.in-Parenthesized in
+    (to_operand _ _ _ _ t c.deref.ensures w.is (parenthesized_inner w.inner w.span) c.decreases, tt)
+
+pub expression-expression-requires-in-Index : goal.expression-expression-requires-in-Index
+expression-expression-requires-in-Index t c =
+    let w = c.in-Index in
+    (to_operand _ _ _ _ t c.deref-in-Index.ensures w.is (index_array w.array w.index w.span) c.decreases, tt)
+
+pub expression-expression-index-requires : goal.expression-expression-index-requires
+expression-expression-index-requires t c =
+    let w = c.in-Index in
+    (to_operand _ _ _ _ t c.deref-in-Index-2.ensures w.is (index_index w.array w.index w.span) c.decreases, tt)
+
+pub expression-expression-found-requires : goal.expression-expression-found-requires
+expression-expression-found-requires t c =
+    let w = c.in-Member in
+    (to_operand _ _ _ _ t c.deref-in-Member.ensures w.is (member_object w.object w.name w.span) c.decreases, tt)
+
+pub expression-expression-found-requires-in-PostfixStep : goal.expression-expression-found-requires-in-PostfixStep
+expression-expression-found-requires-in-PostfixStep t c =
+    let w = c.in-PostfixStep in
+    (to_operand _ _ _ _ t c.deref-in-PostfixStep.ensures w.is (postfix_operand w.operator w.operand w.span) c.decreases, tt)
+
+pub expression-expression-found-requires-in-PrefixStep : goal.expression-expression-found-requires-in-PrefixStep
+expression-expression-found-requires-in-PrefixStep t c =
+    let w = c.in-PrefixStep in
+    (to_operand _ _ _ _ t c.deref-in-PrefixStep.ensures w.is (prefix_operand w.operator w.operand w.span) c.decreases, tt)
+
+pub expression-expression-found-requires-in-Unary : goal.expression-expression-found-requires-in-Unary
+expression-expression-found-requires-in-Unary t c =
+    let w = c.in-Unary in
+    (to_operand _ _ _ _ t c.deref-in-Unary.ensures w.is (unary_operand w.operator w.operand w.span) c.decreases, tt)
+
+pub expression-expression-requires-in-Binary : goal.expression-expression-requires-in-Binary
+expression-expression-requires-in-Binary t c =
+    let w = c.in-Binary in
+    (to_operand _ _ _ _ t c.deref-in-Binary.ensures w.is (binary_left w.operator w.left w.right w.span) c.decreases, tt)
+
+pub expression-expression-right-requires : goal.expression-expression-right-requires
+expression-expression-right-requires t c =
+    let w = c.in-Binary in
+    (to_operand _ _ _ _ t c.deref-in-Binary-2.ensures w.is (binary_right w.operator w.left w.right w.span) c.decreases, tt)
+
+pub expression-expression-requires-in-Conditional : goal.expression-expression-requires-in-Conditional
+expression-expression-requires-in-Conditional t c =
+    let w = c.in-Conditional in
+    (to_operand _ _ _ _ t c.deref-in-Conditional.ensures w.is (conditional_test w.test w.chosen w.other w.span) c.decreases, tt)
+
+pub expression-expression-chosen-requires : goal.expression-expression-chosen-requires
+expression-expression-chosen-requires t c =
+    let w = c.in-Conditional in
+    (to_operand _ _ _ _ t c.deref-in-Conditional-2.ensures w.is (conditional_chosen w.test w.chosen w.other w.span) c.decreases, tt)
+
+pub expression-conditional-requires : goal.expression-conditional-requires
+expression-conditional-requires t c =
+    let w = c.in-Conditional in
+    (to_later _ _ _ _ t c.deref-in-Conditional-3.ensures w.is (conditional_other w.test w.chosen w.other w.span) c.decreases, tt)
+
+pub expression-expression-requires-in-Assignment : goal.expression-expression-requires-in-Assignment
+expression-expression-requires-in-Assignment t c =
+    let w = c.in-Assignment in
+    (to_operand _ _ _ _ t c.deref-in-Assignment.ensures w.is (assignment_target w.operator w.target w.value w.span) c.decreases, tt)
+
+pub expression-expression-value-requires : goal.expression-expression-value-requires
+expression-expression-value-requires t c =
+    let w = c.in-Assignment in
+    (to_operand _ _ _ _ t c.deref-in-Assignment-2.ensures w.is (assignment_value w.operator w.target w.value w.span) c.decreases, tt)
+
+pub cast-expression-found-requires : goal.cast-expression-found-requires
+cast-expression-found-requires t c = (from_later c.args.tree.now t c.decreases, tt)
+
+pub conditional-expression-other-requires : goal.conditional-expression-other-requires
+conditional-expression-other-requires t c = (from_later c.args.tree.now t c.decreases, tt)

@@ -22,14 +22,14 @@ use Rattle.mc_types.proofs.Turns.{last_turn, next_turn}
 use Rattle.mc_types.proofs.Parts.{items_first, items_last, items_turn, squeezed_judged}
 use Rattle.mc_types.proofs.initializers.+initializers.Goals as goal
 
-pub initializer-returns-in_ok-found-in-Single : goal.initializer-returns-in_ok-found-in-Single
-initializer-returns-in_ok-found-in-Single t c =
+pub initializer-returns-in-Ok : goal.initializer-returns-in-Ok
+initializer-returns-in-Ok t c =
     let w = c.in-Single in
     let s = scope_of c.args.scope.now in
     let u = scope_of c.expression.new.scope in
     rw (w.is, initializer_of-Single w.value)
     (found_as c.single_initializer.result (λ z. judged_of typed.initializer_of z u) _ _ (rw (c.span.ensures, c.deref-in-Single.ensures) at c.single_initializer.ensures)
-    (in_single c.args.is_static (option_map type_of (option_copied c.args.of)) (expression_of w.value.value) s (found_of c.in_ok-found-in-Single.found u) (rw c.deref.ensures at c.in_ok-found-in-Single.ensures)))
+    (in_single c.args.is_static (option_map type_of (option_copied c.args.of)) (expression_of w.value.value) s (found_of c.in-Ok.found u) (rw c.deref.ensures at c.in-Ok.ensures)))
 
 pub initializer-returns-in-Some : goal.initializer-returns-in-Some
 initializer-returns-in-Some t c =

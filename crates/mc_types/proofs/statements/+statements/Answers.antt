@@ -15,6 +15,7 @@ use Rattle.mc_scopes.specs.steps.Squeezed.{squeezed_part}
 use Rattle.std.proofs.lemmas.Result.{IfOk-weaker}
 use Rattle.mc_types.proofs.Exits.{at_ok, found_as, found_with}
 use Rattle.mc_types.proofs.Bodies.{block_item_of-Local, block_item_of-Statement, statement_of-Break, statement_of-Case, statement_of-Compound, statement_of-Continue, statement_of-Default, statement_of-DoWhile, statement_of-Expression, statement_of-For, statement_of-Goto, statement_of-If, statement_of-IfElse, statement_of-Label, statement_of-Null, statement_of-Return, statement_of-Switch, statement_of-While}
+use Rattle.mc_types.proofs.Falls.{case_body, default_body, do_body, for_body, if_chosen, if_else_chosen, if_else_other, label_body, switch_body, to_inner, to_same, to_statement, while_body}
 use Rattle.mc_types.proofs.StatementArms.{closes, in_case, in_default, in_item, in_label, in_local}
 use Rattle.mc_types.proofs.Turns.{last_turn, next_turn}
 use Rattle.mc_types.proofs.Parts.{followed_first, followed_last, squeezed_judged}
@@ -102,12 +103,12 @@ statement-returns-in_ok-first-in-Default t c =
     (found_as c.followed-in-Default.result (λ z. judged_of statements_of z u) _ _ (c.followed-in-Default.ensures rest u (rw (c.deref-in-Default.ensures, c.inside-in-Default.ensures) at c.statement-rest-in-Default.ensures))
     (in_default a w.label (statement_of w.body.value) w.span s (judged_of statements_of c.in_ok-first-in-Default.first r) rest c.in_ok-first-in-Default.ensures refl))
 
-pub statement-returns-in_ok-found-in-Label : goal.statement-returns-in_ok-found-in-Label
-statement-returns-in_ok-found-in-Label t c =
+pub statement-returns-in-Ok : goal.statement-returns-in-Ok
+statement-returns-in-Ok t c =
     let w = c.in-Label in
     let u = scope_of c.statement.new.scope in
     rw (w.is, statement_of-Label w.name w.body w.span)
-    (c.named_label.ensures u ∙ in_label (around_of c.args.around) (name_of w.name) (statement_of w.body.value) w.span (scope_of c.args.scope.now) (judged_of statements_of c.in_ok-found-in-Label.found u) (rw (c.deref-in-Label.ensures, c.inside-in-Label.ensures) at c.in_ok-found-in-Label.ensures))
+    (c.named_label.ensures u ∙ in_label (around_of c.args.around) (name_of w.name) (statement_of w.body.value) w.span (scope_of c.args.scope.now) (judged_of statements_of c.in-Ok.found u) (rw (c.deref-in-Label.ensures, c.inside-in-Label.ensures) at c.in-Ok.ensures))
 
 pub statement-returns-in-Goto : goal.statement-returns-in-Goto
 statement-returns-in-Goto t c =
@@ -164,13 +165,13 @@ block-returns t c =
     sym (squeezed_judged statements_of c.loop-tree.list (scope_of c.loop-tree.scope))
     ∙ sym (followed_last (judged_of statements_of c.loop-tree.list (scope_of c.loop-tree.scope))) ∙ last_turn c.args.trees.now c.loop-tree.tree-index (λ ts. squeezed_part (followed_judged (judged_of statements_of c.loop-tree.list (scope_of c.loop-tree.scope)) (judge_block (around_of c.args.around) (block_from (map block_item_of ts)) (scope_of c.loop-tree.scope)))) _ (search rules) c.loop-tree.invariant
 
-pub block_item-returns-in_ok-found-in-Local : goal.block_item-returns-in_ok-found-in-Local
-block_item-returns-in_ok-found-in-Local t c =
+pub block_item-returns-in-Ok : goal.block_item-returns-in-Ok
+block_item-returns-in-Ok t c =
     let w = c.in-Local in
     let s = scope_of c.args.scope.now in
     let u = scope_of c.declaration.new.scope in
     rw (w.is, block_item_of-Local w.local)
-    (IfOk-weaker c.declaration_statement.result _ _ (λ z h. in_local (around_of c.args.around) (declaration_of w.local) s (judged_of declarators_of c.in_ok-found-in-Local.found u) (judged_of statements_of z u) c.in_ok-found-in-Local.ensures (h u)) c.declaration_statement.ensures)
+    (IfOk-weaker c.declaration_statement.result _ _ (λ z h. in_local (around_of c.args.around) (declaration_of w.local) s (judged_of declarators_of c.in-Ok.found u) (judged_of statements_of z u) c.in-Ok.ensures (h u)) c.declaration_statement.ensures)
 
 pub block_item-returns-in-Statement : goal.block_item-returns-in-Statement
 block_item-returns-in-Statement t c =
@@ -179,3 +180,58 @@ block_item-returns-in-Statement t c =
     let u = scope_of c.statement.new.scope in
     rw (w.is, block_item_of-Statement w.one)
     (IfOk-weaker c.statement.result _ _ (λ z h. in_item (around_of c.args.around) (statement_of w.one.value) s (judged_of statements_of z u) (rw c.deref.ensures at h)) c.statement.ensures)
+
+-- ---- each part is smaller
+
+pub statement-inner-chosen-requires : goal.statement-inner-chosen-requires
+statement-inner-chosen-requires t c =
+    let w = c.in-If in
+    (to_inner _ _ _ _ t c.deref-in-If-2.ensures w.is (if_chosen w.test w.chosen w.span) c.decreases, tt)
+
+pub statement-inner-chosen-requires-in-IfElse : goal.statement-inner-chosen-requires-in-IfElse
+statement-inner-chosen-requires-in-IfElse t c =
+    let w = c.in-IfElse in
+    (to_inner _ _ _ _ t c.deref-in-IfElse-2.ensures w.is (if_else_chosen w.test w.chosen w.other w.span) c.decreases, tt)
+
+pub statement-inner-other-requires : goal.statement-inner-other-requires
+statement-inner-other-requires t c =
+    let w = c.in-IfElse in
+    (to_inner _ _ _ _ t c.deref-in-IfElse-3.ensures w.is (if_else_other w.test w.chosen w.other w.span) c.decreases, tt)
+
+pub statement-statement-found-requires : goal.statement-statement-found-requires
+statement-statement-found-requires t c =
+    let w = c.in-Switch in
+    (to_statement _ _ _ _ t c.deref-in-Switch-2.ensures w.is (switch_body w.value w.body w.span) c.decreases, tt)
+
+pub statement-inner-body-requires : goal.statement-inner-body-requires
+statement-inner-body-requires t c =
+    let w = c.in-While in
+    (to_inner _ _ _ _ t c.deref-in-While-2.ensures w.is (while_body w.test w.body w.span) c.decreases, tt)
+
+pub statement-inner-requires : goal.statement-inner-requires
+statement-inner-requires t c =
+    let w = c.in-DoWhile in
+    (to_inner _ _ _ _ t c.deref-in-DoWhile.ensures w.is (do_body w.body w.test w.span) c.decreases, tt)
+
+pub statement-inner-body-requires-in-For : goal.statement-inner-body-requires-in-For
+statement-inner-body-requires-in-For t c =
+    let w = c.in-For in
+    (to_inner _ _ _ _ t c.deref-in-For-2.ensures w.is (for_body w.start w.test w.step w.body w.span) c.decreases, tt)
+
+pub statement-statement-rest-requires : goal.statement-statement-rest-requires
+statement-statement-rest-requires t c =
+    let w = c.in-Case in
+    (to_statement _ _ _ _ t c.deref-in-Case-2.ensures w.is (case_body w.value w.label w.body w.span) c.decreases, tt)
+
+pub statement-statement-rest-requires-in-Default : goal.statement-statement-rest-requires-in-Default
+statement-statement-rest-requires-in-Default t c =
+    let w = c.in-Default in
+    (to_statement _ _ _ _ t c.deref-in-Default.ensures w.is (default_body w.label w.body w.span) c.decreases, tt)
+
+pub statement-statement-requires : goal.statement-statement-requires
+statement-statement-requires t c =
+    let w = c.in-Label in
+    (to_statement _ _ _ _ t c.deref-in-Label.ensures w.is (label_body w.name w.body w.span) c.decreases, tt)
+
+pub inner-statement-found-requires : goal.inner-statement-found-requires
+inner-statement-found-requires t c = (to_same c.args.tree.now t c.decreases, tt)

@@ -5,8 +5,8 @@ use Rattle.mc_scopes.specs.Found.{found_of}
 use Rattle.mc_types.proofs.StatementArms.{in_effect}
 use Rattle.mc_types.proofs.statements.effect.Goals as goal
 
-pub returns : goal.returns
-returns c =
+pub returns-in-Ok : goal.returns-in-Ok
+returns-in-Ok c =
     let u = scope_of c.expression.new.scope in
     c.effect.ensures u
-    ∙ in_effect (expression_of c.args.tree.now) (scope_of c.args.scope.now) (found_of c.in_ok-found.found u) c.in_ok-found.ensures
+    ∙ in_effect (expression_of c.args.tree.now) (scope_of c.args.scope.now) (found_of c.in-Ok.found u) c.in-Ok.ensures

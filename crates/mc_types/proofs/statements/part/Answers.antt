@@ -17,10 +17,10 @@ returns-in-Some c =
     found_as c.clauses.result (λ z. judged_of effects_of z (scope_of c.clauses.new.scope)) _ _ c.clauses.ensures
     (ap squeezed_part (part_of_operands (expression_of c.args.tree.now) (expressions_from (map expression_of c.in-Some.all.now)) s c.in-Some.ensures))
 
-pub returns-in_ok-found-in-None : goal.returns-in_ok-found-in-None
-returns-in_ok-found-in-None c =
+pub returns-in-Ok : goal.returns-in-Ok
+returns-in-Ok c =
     let s = scope_of c.args.scope.now in
     let u = scope_of c.effect.new.scope in
     found_with c.clause.result (λ z v. judged_of effects_of z v) u _ _ c.clause.ensures
-    (ap (λ (x : Judged Effect). b.listed x) c.in_ok-found-in-None.ensures
+    (ap (λ (x : Judged Effect). b.listed x) c.in-Ok.ensures
     ∙ ap squeezed_part (part_of_other (expression_of c.args.tree.now) s c.in-None.ensures))

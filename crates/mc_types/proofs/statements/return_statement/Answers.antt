@@ -7,12 +7,12 @@ use Rattle.mc_types.proofs.Exits.{found_as, found_with}
 use Rattle.mc_types.proofs.StatementArms.{in_return}
 use Rattle.mc_types.proofs.statements.return_statement.Goals as goal
 
-pub returns-in_ok-found-in-Some : goal.returns-in_ok-found-in-Some
-returns-in_ok-found-in-Some c =
+pub returns-in-Ok : goal.returns-in-Ok
+returns-in-Ok c =
     let u = scope_of c.expression.new.scope in
     rw c.in-Some.is
     (found_as c.return_statement.result (λ z. judged_of statements_of z u) _ _ c.return_statement.ensures
-    (in_return (around_of c.args.around) (expression_of c.in-Some.tree.value) c.args.span (scope_of c.args.scope.now) (found_of c.in_ok-found-in-Some.found u) (rw c.deref.ensures at c.in_ok-found-in-Some.ensures)))
+    (in_return (around_of c.args.around) (expression_of c.in-Some.tree.value) c.args.span (scope_of c.args.scope.now) (found_of c.in-Ok.found u) (rw c.deref.ensures at c.in-Ok.ensures)))
 
 pub returns-in-None : goal.returns-in-None
 returns-in-None c =
