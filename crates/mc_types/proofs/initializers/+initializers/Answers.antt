@@ -28,7 +28,7 @@ initializer-returns-in-Ok t c =
     let s = scope_of c.args.scope.now in
     let u = scope_of c.expression.new.scope in
     rw (w.is, initializer_of-Single w.value)
-    (found_as c.single_initializer.result (λ z. judged_of typed.initializer_of z u) _ _ (rw (c.span.ensures, c.deref-in-Single.ensures) at c.single_initializer.ensures)
+    (found_as c.single_initializer.result (λ z. judged_of typed.initializer_of z u) _ _ (rw (c.span.ensures, c.deref-in-Ok.ensures) at c.single_initializer.ensures)
     (in_single c.args.is_static (option_map type_of (option_copied c.args.of)) (expression_of w.value.value) s (found_of c.in-Ok.found u) (rw c.deref.ensures at c.in-Ok.ensures)))
 
 pub initializer-returns-in-Some : goal.initializer-returns-in-Some
