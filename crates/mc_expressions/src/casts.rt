@@ -17,7 +17,7 @@ use mc_faults::{Fault, FaultKind, after_two, fault_where};
 use mc_scopes::bare::discarded_fault;
 use mc_scopes::found::{Found, Judged, kind_found};
 use mc_scopes::kind::{Kind, fails_integer};
-use mc_scopes::value::Value;
+use mc_scopes::value::{Value, done};
 use mc_scopes::{Base, CType};
 use mc_tree::Expression;
 use mc_typed::{self as typed, Effect, Span};
@@ -84,7 +84,7 @@ fn discarding(
 {
     match operand {
         Some(operand) => match boxed(alloc, operand) {
-            Ok(operand) => Ok(Some(Value::Done(Effect::Discard { operand, span }))),
+            Ok(operand) => done(alloc, Effect::Discard { operand, span }),
             Err(error) => Err(error),
         },
         None => Ok(None),

@@ -15,7 +15,7 @@ use mc_faults::{Fault, FaultKind, three_or_fault};
 use mc_scopes::found::{Found, fails_integer, kind_found, number_in};
 use mc_scopes::kind::{Kind, fails_arm};
 use mc_scopes::parts::ValueParts;
-use mc_scopes::value::Value;
+use mc_scopes::value::{Value, done};
 use mc_typed::{Effect, Expression, Span};
 use mc_value::{IntType, common};
 use std::alloc::{AllocError, Global};
@@ -94,33 +94,22 @@ fn choice_of_effects(
     alloc: Global,
     span: Span,
     test: Expression,
-    chosen: Effect,
-    other: Effect,
+    chosen: Box<Effect>,
+    other: Box<Effect>,
 ) -> Result<Option<Value>, AllocError>
     ensures { IfOk result (λ r. option_map value_of r
-        ≡ Some (e.choice_of_effects span (expression_of test) (effect_of chosen)
-        (effect_of other))) }
+        ≡ Some (e.choice_of_effects span (expression_of test) (effect_of chosen.value)
+        (effect_of other.value))) }
 {
-    match boxed(alloc, chosen) {
-        Ok(chosen) => match boxed(alloc, other) {
-            Ok(other) => Ok(Some(Value::Done(Effect::Choice {
-                test,
-                chosen,
-                other,
-                span,
-            }))),
-            Err(error) => {
-                drop(test);
-                drop(chosen);
-                Err(error)
-            }
+    done(
+        alloc,
+        Effect::Choice {
+            test,
+            chosen,
+            other,
+            span,
         },
-        Err(error) => {
-            drop(test);
-            drop(other);
-            Err(error)
-        }
-    }
+    )
 }
 
 fn number_arms(
@@ -156,11 +145,11 @@ fn effect_arms(
     alloc: Global,
     span: Span,
     test: Expression,
-    chosen: Effect,
+    chosen: Box<Effect>,
     other: Value,
 ) -> Result<Option<Value>, AllocError>
     ensures { IfOk result (λ r. option_map value_of r ≡ e.arms_value span (expression_of test)
-        (v.Done (effect_of chosen)) (value_of other)) }
+        (v.Done (effect_of chosen.value)) (value_of other)) }
 {
     match other.into_parts() {
         ValueParts::Done(other) => choice_of_effects(alloc, span, test, chosen, other),

@@ -19,7 +19,7 @@ use crate::callee::Callee;
 use crate::operands::found;
 use mc_faults::{Fault, FaultKind, after, fault_where, or_fault};
 use mc_scopes::found::{Found, Given};
-use mc_scopes::value::Value;
+use mc_scopes::value::{Value, done};
 use mc_scopes::{Base, Scope, Signature, Structure, is_complete};
 use mc_tree::Identifier;
 use mc_typed::{Argument, Effect, Expression, FunctionCall, Slot, Span};
@@ -151,25 +151,30 @@ fn number_of(argument: &mut Argument, span: Span) -> Option<Expression>
     }
 }
 
-fn output_with(span: Span, argument: Argument) -> Option<Value>
-    ensures { option_map value_of result ≡ output_with span (argument_of argument) }
+fn output_with(alloc: Global, span: Span, argument: Argument) -> Result<Option<Value>, AllocError>
+    ensures { IfOk result (λ r. option_map value_of r ≡ output_with span (argument_of argument)) }
 {
     let mut argument = argument;
     let number = number_of(&mut argument, span);
     drop(argument);
     match number {
-        Some(value) => Some(Value::Done(Effect::Output { value, span })),
-        None => None,
+        Some(value) => done(alloc, Effect::Output { value, span }),
+        None => Ok(None),
     }
 }
 
 #[tactic(auto, using(crate::proofs::Calls::output_of_only))]
-fn output_of(span: Span, arguments: Vec<Argument>) -> Option<Value>
-    ensures { option_map value_of result ≡ c.output_of span (arguments_of arguments) }
+fn output_of(
+    alloc: Global,
+    span: Span,
+    arguments: Vec<Argument>,
+) -> Result<Option<Value>, AllocError>
+    ensures { IfOk result (λ r. option_map value_of r
+        ≡ c.output_of span (arguments_of arguments)) }
 {
     match only(arguments) {
-        Some(argument) => output_with(span, argument),
-        None => None,
+        Some(argument) => output_with(alloc, span, argument),
+        None => Ok(None),
     }
 }
 
@@ -190,6 +195,7 @@ fn function_call(
 }
 
 fn returned(
+    alloc: Global,
     scope: &Scope<'_>,
     function: u32,
     arguments: Vec<Argument>,
@@ -202,7 +208,7 @@ fn returned(
     match base {
         Base::Void => {
             let call = function_call(function, arguments, None, span);
-            Ok(Some(Value::Done(Effect::Call { call })))
+            done(alloc, Effect::Call { call })
         }
         Base::Integer(of) => {
             let call = function_call(function, arguments, None, span);
@@ -228,6 +234,7 @@ fn returned(
 }
 
 fn called(
+    alloc: Global,
     scope: &Scope<'_>,
     name: &Identifier<'_>,
     span: Span,
@@ -243,10 +250,10 @@ fn called(
         return Ok(Some(Value::Number(Expression::Input { span })));
     }
     if is_output(name) {
-        return Ok(output_of(span, arguments));
+        return output_of(alloc, span, arguments);
     }
     match function_number(scope, name) {
-        Some(function) => returned(scope, function, arguments, span, base),
+        Some(function) => returned(alloc, scope, function, arguments, span, base),
         None => {
             drop(arguments);
             Ok(None)
@@ -255,6 +262,7 @@ fn called(
 }
 
 fn call_value(
+    alloc: Global,
     scope: &Scope<'_>,
     name: &Identifier<'_>,
     span: Span,
@@ -268,7 +276,7 @@ fn call_value(
     match callee {
         Callee::Function(signature) => match signature {
             Some(signature) => match arguments {
-                Some(arguments) => called(scope, name, span, signature.result, arguments),
+                Some(arguments) => called(alloc, scope, name, span, signature.result, arguments),
                 None => Ok(None),
             },
             None => {
@@ -348,7 +356,7 @@ pub fn call(
 {
     let own = callee_fault(scope, name, span.start, count, callee);
     let fault = after(given.fault, own);
-    let value = call_value(scope, name, span, callee, given.value);
+    let value = call_value(alloc, scope, name, span, callee, given.value);
     let value = with_object(alloc, scope, value, given.copied);
     found(fault, value, false, false)
 }

@@ -26,7 +26,7 @@ use mc_scopes::found::Found;
 use mc_scopes::lists::unused;
 use mc_scopes::parts::ValueParts;
 use mc_scopes::structures::structure_cells;
-use mc_scopes::value::Value;
+use mc_scopes::value::{Value, assigned};
 use mc_scopes::{Base, CType, Structure};
 use mc_tree::AssignmentOperator;
 use mc_typed::{Effect, Expression, Operator, Place, Span};
@@ -92,14 +92,17 @@ fn updating(
 {
     let (common, to) = types_for(operator, of, value.integer_type());
     match convert_to(alloc, to, value) {
-        Ok(value) => Ok(Some(Value::Assigned(Effect::Update {
-            target,
-            of,
-            operator,
-            common,
-            value,
-            span,
-        }))),
+        Ok(value) => assigned(
+            alloc,
+            Effect::Update {
+                target,
+                of,
+                operator,
+                common,
+                value,
+                span,
+            },
+        ),
         Err(error) => {
             drop(target);
             Err(error)
@@ -118,12 +121,15 @@ fn storing(
         (t.Assign (place_of target) of (e.convert_to of (expression_of value)) span))) }
 {
     match convert_to(alloc, of, value) {
-        Ok(value) => Ok(Some(Value::Assigned(Effect::Assign {
-            target,
-            of,
-            value,
-            span,
-        }))),
+        Ok(value) => assigned(
+            alloc,
+            Effect::Assign {
+                target,
+                of,
+                value,
+                span,
+            },
+        ),
         Err(error) => {
             drop(target);
             Err(error)
@@ -177,12 +183,15 @@ fn structure_effect(
     match value {
         Some(value) => {
             match structure_cells(alloc, structures, number) {
-                Ok(cells) => Ok(Some(Value::Assigned(Effect::Copy {
-                    target,
-                    value,
-                    cells,
-                    span,
-                }))),
+                Ok(cells) => assigned(
+                    alloc,
+                    Effect::Copy {
+                        target,
+                        value,
+                        cells,
+                        span,
+                    },
+                ),
                 Err(error) => {
                     drop(target);
                     drop(value);

@@ -19,8 +19,8 @@ value_of (value.Number e) = v.Number (expression_of e)
 value_of (value.Stored place u) = v.Stored (place_of place) (type_of u)
 value_of (value.Borrowed array element span) = v.Borrowed array (type_of element) span
 value_of (value.Returned c k) = v.Returned (call_of c) k
-value_of (value.Done effect) = v.Done (effect_of effect)
-value_of (value.Assigned effect) = v.Assigned (effect_of effect)
+value_of (value.Done effect) = v.Done (effect_of effect.value)
+value_of (value.Assigned effect) = v.Assigned (effect_of effect.value)
 value_of value.Designator = v.Designator
 
 abbrev pub parts_of : ValueParts → v.Value
@@ -28,8 +28,8 @@ parts_of (parts.Number e) = v.Number (expression_of e)
 parts_of (parts.Stored place u) = v.Stored (place_of place) (type_of u)
 parts_of (parts.Borrowed array element span) = v.Borrowed array (type_of element) span
 parts_of (parts.Returned c k) = v.Returned (call_of c) k
-parts_of (parts.Done effect) = v.Done (effect_of effect)
-parts_of (parts.Assigned effect) = v.Assigned (effect_of effect)
+parts_of (parts.Done effect) = v.Done (effect_of effect.value)
+parts_of (parts.Assigned effect) = v.Assigned (effect_of effect.value)
 parts_of parts.Designator = v.Designator
 
 abbrev pub kind_of : Kind → v.Kind

@@ -20,8 +20,8 @@ pub enum ValueParts {
         span: Span,
     },
     Returned(FunctionCall, u32),
-    Done(Effect),
-    Assigned(Effect),
+    Done(Box<Effect>),
+    Assigned(Box<Effect>),
     Designator,
 }
 

@@ -1,5 +1,5 @@
 //! Expressions that have a type.
-ghost use Rattle.std.specs.Prelude.{◌≡◌, option_map};
+ghost use Rattle.std.specs.Prelude.{◌≡◌, IfOk, Some, option_map};
 ghost use Rattle.mc_typed.specs.Views.{expression_of, effect_of, structure_of, place_of};
 ghost use Rattle.mc_typing.specs.Values as v;
 ghost use Rattle.mc_typing.specs.Expressions as e;
@@ -7,11 +7,14 @@ ghost use Rattle.mc_scopes.specs.Types.{base_of, type_of};
 ghost use Rattle.mc_scopes.specs.Found.{kind_of, parts_of, value_of};
 
 use crate::kind::Kind;
+use crate::lists::on_heap;
 use crate::parts::ValueParts;
 use crate::types::{Base, CType};
 use mc_typed::{Effect, Expression, FunctionCall, Place, Span, Structure};
+use std::alloc::{AllocError, Global};
 
-/// An expression with a type.
+/// An expression with a type. Effects are on the heap, since they are wider than all else together:
+/// what is found of an expression is handed on by value, again and again.
 pub enum Value {
     /// An integer that is not stored in an object.
     Number(Expression),
@@ -26,9 +29,9 @@ pub enum Value {
     /// A structure that a call returns, and the number of its type.
     Returned(FunctionCall, u32),
     /// A void expression.
-    Done(Effect),
+    Done(Box<Effect>),
     /// An assignment or a step.
-    Assigned(Effect),
+    Assigned(Box<Effect>),
     /// The name of a function.
     Designator,
 }
@@ -152,7 +155,7 @@ impl Value {
                 value: Structure::Returned { call },
                 whole: false,
             }),
-            Value::Done(effect) => Some(effect),
+            Value::Done(effect) => Some(Box::into_inner(effect)),
             Value::Assigned(effect) => {
                 drop(effect);
                 None
@@ -166,7 +169,7 @@ impl Value {
         ensures { option_map effect_of result ≡ v.effect_in (value_of self) }
     {
         match self {
-            Value::Assigned(effect) => Some(effect),
+            Value::Assigned(effect) => Some(Box::into_inner(effect)),
             value => value.into_discarded(),
         }
     }
@@ -256,12 +259,22 @@ pub fn is_const(value: &Option<Value>) -> bool
     }
 }
 
-/// An assignment, where it has an effect.
-pub fn assigned(effect: Option<Effect>) -> Option<Value>
-    ensures { option_map value_of result ≡ option_map v.Assigned (option_map effect_of effect) }
+/// A void expression that has this effect.
+pub fn done(alloc: Global, effect: Effect) -> Result<Option<Value>, AllocError>
+    ensures { IfOk result (λ r. option_map value_of r ≡ Some (v.Done (effect_of effect))) }
 {
-    match effect {
-        Some(effect) => Some(Value::Assigned(effect)),
-        None => None,
+    match on_heap(alloc, effect) {
+        Ok(effect) => Ok(Some(Value::Done(effect))),
+        Err(error) => Err(error),
+    }
+}
+
+/// An assignment or a step that has this effect.
+pub fn assigned(alloc: Global, effect: Effect) -> Result<Option<Value>, AllocError>
+    ensures { IfOk result (λ r. option_map value_of r ≡ Some (v.Assigned (effect_of effect))) }
+{
+    match on_heap(alloc, effect) {
+        Ok(effect) => Ok(Some(Value::Assigned(effect))),
+        Err(error) => Err(error),
     }
 }
