@@ -4,12 +4,12 @@ use Rattle.std.proofs.Common.{◌≡◌, ◌∙◌, ℕ, ℤ, List, [], ◌∷�
 use Rattle.mc_tree.specs.Tree.{Name, Specifiers, ArrayLengths}
 use Rattle.mc_faults.specs.declared.fault.Fault.{Fault}
 use Rattle.mc_faults.specs.declared.fault.FaultKind.TheVariants.{Mismatch}
-use Rattle.mc_faults.specs.Faults.{fault, fault_if, unless_faulty}
+use Rattle.mc_faults.specs.Faults.{fault_if, unless_faulty}
 use Rattle.mc_typing.specs.Types.{CType, Member, Structure, ParameterKind, plain, int, Tagged, has_type, type_of_specifiers}
 use Rattle.mc_typing.specs.Scopes.{Scope, with_structure_at}
 use Rattle.mc_typing.specs.Values.{Judged, judged, Found, number_found, lift2}
 use Rattle.mc_typing.specs.Constants.{constant_found, constant_faults}
-use Rattle.mc_typing.specs.Declarators.{Listed, after_faults, Opened, completed, structure_judged, enumeration_judged, enumerator_judged, valued_enumerator_judged, length_of, length_faults, lengths_judged, declared_type, declared_member_faults, with_member, member_listed, function_member_listed, parameter_kind, parameter_faults, declared_parameter, parameter_listed, joined, listed_none}
+use Rattle.mc_typing.specs.Declarators.{Listed, after_faults, Opened, completed, structure_judged, enumeration_judged, enumerator_judged, valued_enumerator_judged, length_of, length_faults, lengths_judged, declared_type, declared_member_faults, with_member, member_listed, function_member_faults, function_member_listed, parameter_kind, parameter_faults, declared_parameter, parameter_listed, joined, listed_none}
 use Rattle.mc_typing.specs.Declarations.{append, both_lists}
 use Rattle.mc_typing.specs.Judgement.{typed_by, one_of, specifiers_judged, after}
 use Rattle.mc_declarations.specs.Declarations.{with_length, length_then, squeezed_listed}
@@ -172,7 +172,7 @@ pub function_member_node : {A : Type 0} (name : Name) (members : List Member) (x
     → squeezed_listed (function_member_listed name members (squeezed_listed x) s)
     ≡ squeezed_listed (function_member_listed name members x s)
 function_member_node name members x s =
-    ap (list_with (function_member_listed name members x s)) (least_front x.faults (fault Mismatch name.span.start))
+    ap (list_with (function_member_listed name members x s)) (least_front x.faults (function_member_faults name members))
 
 -- ---- parameters
 

@@ -138,6 +138,22 @@ pub fn member<'a>(
     }
 }
 
+// The fault of a function among the members, after those before it.
+fn function_member_fault(name: &Identifier<'_>, members: &Members<'_>) -> Option<Fault>
+    ensures { result ≡ least_of (d.function_member_faults (name_of name.now)
+        (map listed_of members.now)) }
+{
+    let at = name.span.start;
+    let own = Fault {
+        kind: FaultKind::Mismatch,
+        at,
+    };
+    first_fault(
+        fault_where(members.has(name.text), FaultKind::Redeclared, at),
+        Some(own),
+    )
+}
+
 /// A function among the members, where none may be.
 pub fn function_member<'a>(
     alloc: Global,
@@ -150,12 +166,9 @@ pub fn function_member<'a>(
         ≡ squeezed_listed (d.function_member_listed (name_of name.now) (map listed_of members.old)
         (listed_parameters parameters.now u) (scope_of scope.now))) }
 {
-    let own = Fault {
-        kind: FaultKind::Mismatch,
-        at: name.span.start,
-    };
+    let own = function_member_fault(name, members);
     match push_member(alloc, &scope.structures, name, None, members) {
-        Ok(()) => Ok(first_fault(parameters.fault, Some(own))),
+        Ok(()) => Ok(first_fault(parameters.fault, own)),
         Err(error) => Err(error),
     }
 }

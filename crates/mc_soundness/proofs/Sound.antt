@@ -8,7 +8,8 @@ use Rattle.mc_value.specs.declared.int_type.IntType.TheVariants as the
 use Rattle.mc_value.specs.IntTypes.{InRange, in_range}
 use Rattle.mc_typed.specs.Tree as t
 use Rattle.mc_faults.specs.declared.fault.Fault.{Fault}
-use Rattle.mc_faults.specs.Faults.{unless_faulty}
+use Rattle.mc_faults.specs.declared.fault.FaultKind.TheVariants.{Redeclared}
+use Rattle.mc_faults.specs.Faults.{fault_if, unless_faulty}
 use Rattle.mc_typing.specs.Types.{CType, int, Member, Structure, Incomplete, ParameterKind, Signature, any_is_no_word, is_no_word}
 use Rattle.mc_typing.specs.Scopes.{Meaning, Automatic, Constant, Function, Typedef, Scope, meaning_of, tag_of, prototype, with_structure_at}
 use Rattle.mc_typing.specs.Scopes as scope
@@ -16,7 +17,7 @@ use Rattle.mc_typing.specs.Values.{Judged}
 use Rattle.mc_typing.specs.Constants.{types_of_constant, constant_found}
 use Rattle.mc_typing.specs.Expressions.{operator_after, operator_before}
 use Rattle.mc_typing.specs.Calls.{Given, argument_judged, arguments_judged, parameters_of, count_of, callee_faults, call_found}
-use Rattle.mc_typing.specs.Declarators.{opened, enumeration_scope, enumeration_faults, enumeration_judged, enumerator_judged}
+use Rattle.mc_typing.specs.Declarators.{has_member, opened, enumeration_scope, enumeration_faults, enumeration_judged, enumerator_judged}
 use Rattle.mc_typing.specs.Judgement.{typed_by, judge, judge_arguments, judge_type, judge_specifier, judge_specifiers, judge_member, judge_members, judge_enumerator, judge_enumerators, judge_declarator, judge_declarators, judge_lengths, judge_parameters}
 use Rattle.mc_soundness.specs.Growth.{Grown}
 use Rattle.mc_soundness.specs.Fits.{World, Completes, ArePositive, ListFits, SignatureFits, Fits, Ends, IsWell, IsTyped, AreTyped, AreCounted, AreLengths, AreListed, AreWell}
@@ -348,7 +349,8 @@ mutual
       (kept_of s y.scope (lengths_grow lengths s)) (ends_completes w y.scope ends)
       (lengths_well w lengths s fit ends (nil_left y.faults _ h)) h
   declarator_well w base u (tree.function stars name all span) members s is p fit ends h list =
-      let own = nil_right (judge_parameters all (prototype s)).faults _ h in absurd (cc)
+      let own = nil_right (judge_parameters all (prototype s)).faults _ h in
+      absurd (cc (nil_right (fault_if (has_member name.text members) Redeclared name.span.start) _ own))
 
   pub declarators_well : (w : World) (base : Option CType) (u : CType) (ds : Declarators)
       (members : List Member) (s : Scope) → base ≡ Some u → ArePositive u.lengths → Fits w s

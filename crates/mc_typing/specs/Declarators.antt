@@ -277,11 +277,16 @@ member_listed base name lengths members y =
       scope = y.scope;
     }
 
--- a function is no member
+-- a function is no member, but declares its name like one
+abbrev pub function_member_faults : Name → List Member → List Fault
+function_member_faults name members =
+    fault_if (has_member name.text members) Redeclared name.span.start
+    ++ fault Mismatch name.span.start
+
 abbrev pub function_member_listed : {A : Type 0} → Name → List Member → Listed A → Scope
     → Listed Member
 function_member_listed name members x s = record {
-  faults = x.faults ++ fault Mismatch name.span.start;
+  faults = x.faults ++ function_member_faults name members;
   items = with_member name None members s.structures;
   scope = s;
 }

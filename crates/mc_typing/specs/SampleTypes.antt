@@ -3,7 +3,7 @@ use Rattle.std.specs.Prelude.{true, false, List, [], ◌∷◌, codes, Some, Non
 use Rattle.mc_tree.specs.declared.expressions.binary_operator.BinaryOperator.TheVariants as binary
 use Rattle.mc_tree.specs.declared.declarations.specifier_word.SpecifierWord.TheVariants as word
 use Rattle.mc_tree.specs.Tree as tree
-use Rattle.mc_faults.specs.declared.fault.FaultKind.TheVariants.{Undeclared, Mismatch, NotConstant}
+use Rattle.mc_faults.specs.declared.fault.FaultKind.TheVariants.{Undeclared, Redeclared, Mismatch, NotConstant}
 use Rattle.mc_typing.specs.Sampled.{Row, row, accepted, refused, name, span, int, void, the, digit, zero_at, object}
 
 -- int n=1;int t[n];
@@ -696,6 +696,27 @@ types_43 = row
     (span 0 21))) ∷ [])
     (refused Mismatch 14)
 
+-- struct S{int a;int a(void);};
+abbrev pub types_44 : Row
+types_44 = row
+    ((tree.Declared
+    (tree.declaration
+    (tree.specifiers
+    (tree.Structure (Some (name (codes "S") 7))
+    (tree.members
+    (tree.member (int 9)
+    (tree.declarators (object (name (codes "a") 13)) tree.no_declarators)
+    (span 9 15))
+    (tree.members
+    (tree.member (int 15)
+    (tree.declarators
+    (tree.function 0 (name (codes "a") 19) (tree.Void (span 20 26))
+    (span 19 26)) tree.no_declarators)
+    (span 15 27)) tree.no_members))
+    (span 0 28)) tree.no_specifiers) []
+    (span 0 29))) ∷ [])
+    (refused Redeclared 19)
+
 abbrev pub all : List Row
 all =
     types_1 ∷ types_2 ∷ types_3 ∷ types_4 ∷ types_5 ∷ types_6 ∷ types_7 ∷ types_8 ∷ types_9 ∷
@@ -703,4 +724,4 @@ all =
     types_18 ∷ types_19 ∷ types_20 ∷ types_21 ∷ types_22 ∷ types_23 ∷ types_24 ∷ types_25 ∷
     types_26 ∷ types_27 ∷ types_28 ∷ types_29 ∷ types_30 ∷ types_31 ∷ types_32 ∷ types_33 ∷
     types_34 ∷ types_35 ∷ types_36 ∷ types_37 ∷ types_38 ∷ types_39 ∷ types_40 ∷ types_41 ∷
-    types_42 ∷ types_43 ∷ []
+    types_42 ∷ types_43 ∷ types_44 ∷ []

@@ -44,6 +44,36 @@ mismatch@int @mcdc_in(int a);
 @struct S{int a;}s;int f(int s){return s+1;}
 mismatch@int a;void f(void){int a[2];@1+a;}
 @struct S{int a;};void f(void){struct S s={1};{int s=2;s=3;}s.a=4;}
+redeclared@struct S{int a;int @a(void);};
+redeclared@struct S{int a;int @a(void);int b;};
+mismatch@struct S{int @a(void);int a;};
+mismatch@struct S{int @a(void);int b(void);};
+mismatch@struct S{int @a(int b,int b);};
+redeclared@struct S{int a;int @a(struct U b);};
+redeclared@int f(void);int @f;
+redeclared@int T;typedef int @T;
+redeclared@int A;enum{@A};
+redeclared@enum{f};int @f(void);
+redeclared@void f(void){int a;int @a;}
+redeclared@void f(void){for(int a=1,@a=2;a;);}
+redeclared@struct S{int a;};enum @S{A};
+redeclared@enum E{A};enum @E{B};
+redeclared@enum E{A};struct @E{int a;};
+redeclared@struct S{struct @S{int a;}s;};
+mismatch@struct S{int a;};@enum S e;
+redeclared@void @mcdc_out(int a){}
+redeclared@int f(int a){return a;}long @f(int a){return a;}
+@int f(int a);int f(int b);
+@int f(int f){return f;}
+@int f(int n){return n?f(n-1):0;}
+@struct S{int a;struct T{int a;}t;};
+@void f(void){int x=x;}
+@enum{A=1,B=A+1};
+undeclared@enum{A=@A};
+undeclared@void f(void){for(int i=0;i;);@i;}
+undeclared@void f(int a){if(a){int b=1;}@b;}
+undeclared@int f(int a);enum{A=@a};
+undeclared@void f(void){@g(1);}
 # types
 not constant@int n=1;int t[@n];
 not constant@int n;int t[@(n)];
@@ -88,6 +118,48 @@ mismatch@void @x[u];
 mismatch@struct S;struct S @x[u];
 mismatch@int f(@void[u]);
 mismatch@struct S{void @a[u];};
+not constant@void f(int a){static int t[@a];}
+not constant@int t[@(void)1];
+not constant@const int c=1;int t[@c+1];
+not constant@int a[2];int t[@a[0]];
+not constant@int t[@1<<32];
+not constant@int t[@2147483647+1];
+not constant@enum{A=@1/0};
+not constant@struct S{int a;}s;enum{A=@s};
+@enum{N=3};int t[N];int u['a'];int v[(long)3];int w[-1+2];int x[N?2:1/0];
+@int t[(0&&1/0)+1];int u[0?1/0:3];int v[!0];
+mismatch@int t[@-1];
+mismatch@int t[@0&&1/0];
+mismatch@typedef int @T[];
+mismatch@struct S{int @a[];};
+mismatch@int f(int @a[2][]);
+mismatch@int @t[]=1;
+@int t[]={1,2};int f(int a[]);
+mismatch@int f(void @a);
+mismatch@void f(void){void @x;}
+mismatch@void f(void){void @t[2];}
+mismatch@struct S;struct T{struct S @s[2];};
+mismatch@struct S;int f(struct S @s[]);
+mismatch@@const int;
+mismatch@@typedef int;
+@enum E{A};struct S{int a;};struct T;
+@enum{A=-2147483647-1,B=2147483647};
+mismatch@enum{@A=-2147483649};
+mismatch@int f(void);long @f(void);
+mismatch@int f(int a);int @f(int a,int b);
+mismatch@int f(char a);int @f(signed char a);
+mismatch@int f(long a);int @f(long long a);
+mismatch@int f(int a[]);int @f(int a);
+mismatch@struct S{int a;};struct T{int a;};int f(struct S a);int @f(struct T a);
+mismatch@int f(int a[][2]);int @f(int a[][3]);
+@int f(int a[]);int f(int a[5]);enum E{A};int g(enum E e);int g(int a);
+mismatch@int f(int a);int @f(long a){return 1;}
+mismatch@int @mcdc_out(int a);
+mismatch@void @mcdc_out(long a);
+mismatch@long @mcdc_in(void);
+@int mcdc_in(void);int mcdc_in(void);
+mismatch@typedef int @T(int a);
+mismatch@int f(int a,@int){return a;}
 # values
 mismatch@int f(int a){return @f(a,a);}
 mismatch@struct S{int a;}s;int g(int a){return a;}int f(void){return g(@s);}
@@ -114,6 +186,42 @@ undeclared@int f(void){return @g();}
 mismatch@struct S{int a;}s;int g(int a){return a;}int f(void){return g(@(s));}
 mismatch@struct S{int a;}s;int f(void){return (@s+1);}
 mismatch@void f(void){int a[2];@if(a);}
+mismatch@struct S{int a;}s;int f(void){return @s*1;}
+mismatch@struct S{int a;}s;int f(void){return @1/s;}
+mismatch@struct S{int a;}s;int f(void){return @s%2;}
+mismatch@struct S{int a;}s;int f(void){return @1-s;}
+mismatch@struct S{int a;}s;int f(void){return @s<<1;}
+mismatch@struct S{int a;}s;int f(void){return @1>>s;}
+mismatch@struct S{int a;}s;int f(void){return @1>s;}
+mismatch@struct S{int a;}s;int f(void){return @s<=1;}
+mismatch@struct S{int a;}s;int f(void){return @s>=1;}
+mismatch@struct S{int a;}s;int f(void){return @s==s;}
+mismatch@struct S{int a;}s;int f(void){return @1!=s;}
+mismatch@struct S{int a;}s;int f(void){return @s&1;}
+mismatch@struct S{int a;}s;int f(void){return @1^s;}
+mismatch@struct S{int a;}s;int f(void){return @s|1;}
+mismatch@struct S{int a;}s;int f(void){return @1&&s;}
+mismatch@struct S{int a;}s;int f(void){return @s||1;}
+mismatch@struct S{int a;}s;int f(void){return @~s;}
+mismatch@struct S{int a;}s;int f(void){return @+s;}
+mismatch@void f(void){int a[2];@a==a;}
+mismatch@void f(void){int a[2];@!a;}
+mismatch@void g(void){}int f(void){return @g()+1;}
+mismatch@int f(void){return @!f;}
+mismatch@int f(void){@return f;}
+mismatch@struct S{int a;}s;int f(void){return @s?1:2;}
+mismatch@struct S{int a;}s;void f(int c){@c?s:1;}
+mismatch@void f(int c){int a[2];@c?a:a;}
+@void g(void){}void f(int c){c?g():(void)c;c?1:2L;}
+mismatch@void g(void){}int f(void){return @(int)g();}
+mismatch@int f(void){int a[2];return @(int)a;}
+mismatch@struct S{int a;}s;int f(int c){return @(struct S)c;}
+@enum E{A};int f(int a){return (enum E)a+(_Bool)a;}
+mismatch@int f(int a){return @f();}
+mismatch@struct S{int a;};int g(struct S s){return s.a;}int f(int x){return g(@x);}
+mismatch@void h(void){}int g(int a){return a;}int f(void){return g(@h());}
+@struct S{int a;}s;struct S h(void){return s;}int g(struct S p){return p.a;}int f(void){return g(h());}
+@void g(long a){}void f(char c){g(c);g(1);}
 # bodies
 duplicate label@void f(int a){switch(a){case 1:break;@case 1:break;}}
 duplicate label@void f(char a){switch(a){case 1:;@case 4294967297:;}}
@@ -137,6 +245,25 @@ mismatch@struct S{int a;}s;void f(void){@for(;s;);}
 mismatch@struct S{int a;}s;void f(void){@do;while(s);}
 undeclared@void f(void){@x;y;}
 mismatch@void f(int a){int t[2];for(a=1,@t;;a++);}
+duplicate label@void f(unsigned a){switch(a){case -1:;@case 4294967295u:;}}
+duplicate label@void f(int a){switch(a){case 1:case 2:@case 1:;}}
+@enum{A,B};void f(int a){switch(a){case A:;case B:;case 'a':;default:;}}
+not constant@void f(int a){switch(a){case @1/0:;}}
+not constant@void g(void){}void f(int a){switch(a){case 1:;case @g():;}}
+mismatch@void f(void){int a[2];@switch(a){default:;}}
+mismatch@void f(void){@switch(f()){default:;}}
+mismatch@struct S{int a;}s;void f(void){@if(s);else;}
+mismatch@struct S{int a;}s;void f(void){@while(s);}
+mismatch@void f(int a){if(a)@break;}
+mismatch@void f(void){@continue;}
+@void f(int a){for(;a;)if(a)break;else continue;}
+@void f(int a){switch(a){case 1:if(a)break;default:while(a)continue;}}
+mismatch@void f(int a){while(a);@continue;}
+mismatch@struct S{int a;}s;int f(void){@return s;}
+mismatch@struct S{int a;};struct S f(void){@return 1;}
+mismatch@void g(void){}void f(void){@return g();}
+mismatch@void g(void){}int f(void){@return g();}
+@struct S{int a;}s;struct S f(int a){return s;}long g(char c){return c;}void h(void){return;}
 # limits
 type limit@int a[40000];void f(void){static int @b[40000];}
 type limit@struct S{int a[40000];}s;void g(struct S s){}void @f(void){g(s);g(s);}
@@ -159,6 +286,19 @@ not constant@struct S{int a[40000];}s;int g(struct S p){return 1;}int f(struct S
 type limit@int @t[9223372036854775807][9223372036854775807];
 type limit@int f(int @a[][9223372036854775807]);
 type limit@struct S{int @a[9223372036854775807];};
+@void f(int a,int b,int c,int d,int e,int g,int h,int i,int j,int k,int l,int m,int n,int o,int p,int q){}
+mismatch@struct S{int @a(int b[][65537]);};
+type limit@struct S{int @a[65537];};
+@struct S{int a[65535];int b;};
+type limit@struct S{int a[65535];int b;int @c;int d;};
+@int a[65535];int b;
+type limit@int a[65535];int b;int @c;int d;
+type limit@void f(void){static int a[65536];static int @b;}
+@void f(int a){int t[65535];}
+type limit@void @f(int a,int b){int t[65535];}
+type limit@struct S{int a[32768];};void g(struct S s){}void @f(struct S a){int b;g(a);}
+@struct S{int a[32768];};void g(struct S s){}void f(struct S a){g(a);}
+type limit@struct S{int a[65536];};int f(struct S @a[][2]);
 # lists
 mismatch@struct S{int a;}s;int f(void){int x=@(s);return x;}
 mismatch@int t[2]=@{1,2,3};
@@ -172,6 +312,27 @@ mismatch@int f(void){int t[2]=@1+x;return 1;}
 mismatch@struct S{int a;}s;struct S u=@s;
 @struct S{int a;}s;int f(void){struct S u=s;struct S v={u.a};return v.a;}
 mismatch@struct S{int a[2];};const struct S s={{1}};void f(void){@s.a[0]=2;}
+mismatch@struct S{int a;}s=@{1,2};
+mismatch@struct S{int a;};void f(void){struct S s=@{1,2};}
+mismatch@int t[2][2]={@1};
+mismatch@int t[2][2]={{1},@{1,2,3}};
+mismatch@struct S{int a[2];int b;}s={@1,2};
+@struct S{int a[2];int b;}s={{1,2},3};struct S t[2]={{{1}},{{0},2}};
+@struct S{int a[2];int b;}s={0};int t[2][2]={1-1};int x={0};
+@void f(int a){int t[2]={a};int x={a};int u[2][2]={0};}
+mismatch@struct S{int a;};struct T{int a;}t;void f(void){struct S s=@t;}
+mismatch@struct S{int a;};void f(void){struct S s=@1;}
+mismatch@void f(void){int a[2];int x=@a;}
+mismatch@void f(void){int a[2];int b[2]=@a;}
+mismatch@void f(void){int t[2]={@(void)1};}
+@struct S{int a;};struct T{struct S s;int b;};void f(struct S p){struct T t={p,1};}
+not constant@void f(int a){static int b=@a;}
+not constant@int a;struct S{int b;}s={@a};
+not constant@int x=@1%0;
+not constant@int x=@1<<-1;
+not constant@int g(void);int x=@g();
+@enum{A};static int x=A+(int)(char)300;long y=1?2:1/0;int z=0&&1/0;int w=1||1/0;
+mismatch@int x=@(void)1;
 # places
 mismatch@int g(int a[]){return a[0];}const int t[2]={1,2};int f(void){return g(@t);}
 @int g(const int a[]){return a[0];}int t[2]={1,2};int f(void){return g(t);}
@@ -195,6 +356,33 @@ mismatch@void f(const int t[]){@t[0]=2;}
 mismatch@struct S{int a;}s;struct T{int a;}t;void f(void){@s=t;}
 mismatch@int g(long a[]){return a[0]>1;}int t[2];int f(void){return g(@t);}
 @int g(int a[][2]){return a[0][1];}int t[2][2];int h(int a[]){return a[1];}int f(void){return g(t)+h(t[1]);}
+@struct S{int a[2];}t[2];int f(int i){return t[i].a[1]+(t[0]).a[(i)];}
+mismatch@struct S{int a;}t[2];int f(void){return @t.a;}
+mismatch@struct S{int a;}s;int f(void){return @s[0];}
+mismatch@void f(void){@1[0];}
+mismatch@int f(void){int t[2];return @t[t];}
+mismatch@void f(void){int a[2];int b[2];@a=b;}
+mismatch@void f(int a){@1=a;}
+mismatch@enum{A};void f(void){@A=1;}
+mismatch@void f(int a){@-a=1;}
+mismatch@struct S{int a;};void f(const struct S s,struct S t){@s=t;}
+mismatch@struct S{int a;};void f(const struct S s){@s.a=1;}
+mismatch@const int t[2]={1,2};void f(void){@t[0]+=1;}
+mismatch@struct S{int a;}s;void f(int a){@a=s;}
+mismatch@struct S{int a;}s;void f(int a){@s=a;}
+mismatch@void g(void){}void f(int a){@a=g();}
+mismatch@void f(int a){int t[2];@a+=t;}
+mismatch@struct S{int a;}s;void f(int a){@a<<=s;}
+mismatch@struct S{int a;}s;void f(void){@s++;}
+mismatch@void f(void){int a[2];@++a;}
+mismatch@void f(void){@1++;}
+@struct S{int a;};void f(const struct S s,int a){struct S t;t=s;t.a=2;a=1L;a+=2L;a<<=1;a++;--a;}
+mismatch@int g(int a[]){return a[0];}int f(int x){return g(@x);}
+mismatch@struct S{int a;}s;int g(int a[]){return a[0];}int f(void){return g(@s);}
+mismatch@int g(int a[]){return a[0];}int f(const int a[]){return g(@a);}
+mismatch@int g(int a[]){return a[0];}int t[2][2];int f(void){return g(@t);}
+@int g(const int a[]){return a[0];}const int t[2]={1,2};int f(const int a[]){return g(t)+g(a);}
+@struct S{int a[2];}s;int g(int a[]){return a[0];}int f(int a[]){return g(s.a)+g(a);}
 # what a fault inside silences
 mismatch@void f(void){for(void @v;v;);}
 type limit@void f(void){for(int @t[70000];t;);}
