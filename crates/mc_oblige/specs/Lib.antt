@@ -1,4 +1,6 @@
 pub mod Obligations
+pub mod Ids
+pub mod Texts
 pub mod Shown
 pub mod Evidence
 pub mod Evaluated

@@ -5,6 +5,7 @@ mod conditions;
 mod decisions;
 mod evaluated;
 mod evidence;
+mod id;
 mod judging;
 mod justification;
 mod laws;
@@ -18,6 +19,7 @@ mod table;
 mod verdict;
 
 pub use evaluated::{EvaluatedPath, evaluated_paths};
+pub use id::id_text;
 pub use judging::judge;
 pub use justification::{Justification, Reason};
 pub use laws::{evaluated_paths_are_one, verdicts_are_one};

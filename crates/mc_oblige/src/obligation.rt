@@ -1,4 +1,6 @@
 //! Obligations: what coverage asks for.
+ghost use Rattle.std.specs.Prelude.{◌≡◌};
+ghost use Rattle.mc_oblige.specs.Texts.{text_at};
 
 use mc_span::Span;
 
@@ -26,4 +28,17 @@ pub enum ObligationId {
 pub struct Obligation {
     pub id: ObligationId,
     pub span: Span,
+}
+
+impl Obligation {
+    /// What stands in the source where the obligation does. What passes the source's end is cut
+    /// there. Takes no memory.
+    pub fn text<'a>(&self, source: &'a [u8]) -> &'a [u8]
+        ensures { result.now ≡ text_at self.now.span source.now }
+    {
+        let end = (self.span.end as usize).min(source.len());
+        let front = &source[..end];
+        let start = (self.span.start as usize).min(front.len());
+        &front[start..]
+    }
 }

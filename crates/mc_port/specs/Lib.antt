@@ -1,5 +1,6 @@
 pub mod Causes
 pub mod HostStore
+pub mod Lines
 pub mod MemorySink
 pub mod MemoryStore
 pub mod Sink

@@ -5,6 +5,7 @@
 mod gate;
 mod host_sink;
 mod host_store;
+mod lines;
 mod memory_sink;
 mod memory_store;
 mod sink;
@@ -14,6 +15,7 @@ mod words;
 pub use gate::{Gate, OpenGate};
 pub use host_sink::HostSink;
 pub use host_store::HostStore;
+pub use lines::put_lines;
 pub use memory_sink::MemorySink;
 pub use memory_store::MemoryStore;
 pub use sink::{PutFault, Sink};

@@ -1,0 +1,4 @@
+pub mod Words
+pub mod Hexadecimal
+pub mod Named
+pub mod Laws
