@@ -1,2 +1,2 @@
-mod Places
-mod Numbers
+pub mod Lines
+pub mod Numbers

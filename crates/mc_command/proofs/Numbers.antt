@@ -8,7 +8,7 @@ use Rattle.std.specs.Char.{is_ascii_digit}
 use Rattle.std.specs.List.{list_all}
 use Rattle.std.specs.Str.{all_ascii_digits}
 use Rattle.std.specs.Str.Parse.{ParsesUnsigned, digits_value}
-use Rattle.mc_command.specs.Command.{fuel_written, is_fuel, is_numeral}
+use Rattle.mc_command.specs.Values.{is_numeral, is_within, number_within}
 
 own : IsNumeralModel (λ ds. all_ascii_digits ds ≡ true) (digits_value 10)
 own = numerals_by_value (λ ds. all_ascii_digits ds ≡ true) tells_all_ascii_digits
@@ -41,13 +41,13 @@ not_parsed {E} ds e (Err f) is h p = elim (cases_lt (digits_value 10 ds) (2 ^ 32
   | inr not ↦ not
 ]
 
-above : (n : ℕ) → 2 ^ 32 ≤ n → is_fuel n ≡ false
-above n h = grind (arith, nat_tests)
+above : (least most n : ℕ) → most < 2 ^ 32 → 2 ^ 32 ≤ n → is_within least most n ≡ false
+above least most n k h = grind (arith, nat_tests)
 
 none : (b c : Bool) {A : Type 0} (x : Option A) → c ≡ false → (if b && c then x else None) ≡ None
 none true c x h = ap (λ d. if d then x else None) h
 none false c x h = refl
 
 -- a number that is too large for the type is too large
-pub too_large : (ds : List ℕ) → 2 ^ 32 ≤ digits_value 10 ds → fuel_written ds ≡ None
-too_large ds h = none (is_numeral ds) (is_fuel (digits_value 10 ds)) (Some (digits_value 10 ds)) (above (digits_value 10 ds) h)
+pub too_large : (least most : ℕ) (ds : List ℕ) → most < 2 ^ 32 → 2 ^ 32 ≤ digits_value 10 ds → number_within least most ds ≡ None
+too_large least most ds k h = none (is_numeral ds) (is_within least most (digits_value 10 ds)) (Some (digits_value 10 ds)) (above least most (digits_value 10 ds) k h)

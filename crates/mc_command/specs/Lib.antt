@@ -1,3 +1,5 @@
 pub mod Command
+pub mod Line
 pub mod Seen
-pub mod Worked
+pub mod Usage
+pub mod Values

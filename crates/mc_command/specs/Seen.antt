@@ -1,24 +1,40 @@
 -- What clauses see of commands.
-use Rattle.std.specs.Prelude.{ℕ, List, ◌≤◌}
-use Rattle.std.specs.Borrow.{Bor}
-use Rattle.mc_command.specs.Command.{Command, Report, Vectors, Files, Settings, fuel_of}
+use Rattle.std.specs.Prelude.{◌≤◌, option_map}
+use Rattle.mc_command.specs.Command.{Action, Command, Report, Run, Task, on_source, report, run, vectors}
+use Rattle.mc_command.specs.declared.action.Action.{Action as ActionGiven}
+use Rattle.mc_command.specs.declared.action.Action.TheVariants as action
 use Rattle.mc_command.specs.declared.command.Command.{Command as Given}
-use Rattle.mc_command.specs.declared.command.Command.TheVariants as code
-use Rattle.mc_command.specs.declared.settings.Settings.{Settings as SettingsGiven}
+use Rattle.mc_command.specs.declared.command.Command.TheVariants as command
+use Rattle.mc_command.specs.declared.report.Report.{Report as ReportGiven}
+use Rattle.mc_command.specs.declared.run.Run.{Run as RunGiven}
+use Rattle.mc_command.specs.declared.task.Task.{Task as TaskGiven}
+use Rattle.mc_command.specs.declared.task.Task.TheVariants as task
+
+abbrev pub seen_report : ReportGiven → Report
+seen_report r =
+    record { mode = r.mode; form = r.form; justify = option_map (λ name. name.now) r.justify }
+
+abbrev pub seen_task : TaskGiven → Task
+seen_task (task.Report r) = report (seen_report r)
+seen_task task.Vectors = vectors
+
+abbrev pub seen_run : RunGiven → Run
+seen_run r = record { tests = r.tests.now; fuel = r.fuel; task = seen_task r.task }
+
+abbrev pub seen_action : ActionGiven → Action
+seen_action (action.Run r) = run (seen_run r)
 
 -- what a command of the program stands for
 abbrev pub seen_command : Given → Command
-seen_command (code.Report source tests mode fuel) = Report source.now tests.now mode fuel
-seen_command (code.Vectors source tests fuel) = Vectors source.now tests.now fuel
+seen_command (command.OnSource source given) = on_source source.now (seen_action given)
 
--- what settings of the program stand for
-abbrev pub seen_settings : SettingsGiven → Settings
-seen_settings settings = record { mode = settings.mode; fuel = settings.fuel }
+-- the fuel of each test is in range
+abbrev pub RunHasFuel : RunGiven → Type 0
+RunHasFuel r = (1 ≤ r.fuel) × (r.fuel ≤ 100000000)
 
-abbrev pub seen_files : Bor (List ℕ) × Bor (List ℕ) → Files
-seen_files both = record { source = both.0.now; tests = both.1.now }
+-- its runs have their fuel in range
+abbrev pub ActionHasFuel : ActionGiven → Type 0
+ActionHasFuel (action.Run r) = RunHasFuel r
 
--- its fuel is in range
 abbrev pub HasFuel : Given → Type 0
-HasFuel command =
-    (1 ≤ fuel_of (seen_command command)) × (fuel_of (seen_command command) ≤ 100000000)
+HasFuel (command.OnSource source given) = ActionHasFuel given

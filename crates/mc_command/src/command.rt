@@ -1,105 +1,56 @@
-//! The commands, and the reading of one from words.
-ghost use Rattle.std.specs.Prelude.{◌≡◌, IfSome, option_map};
-ghost use Rattle.mc_command.specs.Command.{command_of, fuel_of, report_of, source_of, tests_of, vectors_of};
+//! The commands, and the reading of one from a line.
+ghost use Rattle.std.specs.Prelude.{◌≡◌, IfOk, IfSome, option_map};
+ghost use Rattle.clap.specs.Words.{found_of, rows_of};
+ghost use Rattle.mc_command.specs.Command.{command_in, command_of};
+ghost use Rattle.mc_command.specs.Line.{words_of};
 ghost use Rattle.mc_command.specs.Seen.{HasFuel, seen_command};
 
-use crate::files::read_files;
-use crate::independence::Independence;
-use crate::settings::{read_fuel_from, read_settings};
-use mc_port::Words;
+use crate::action::{Action, read_action};
+use crate::line::matches_in;
+use crate::values::text_at;
+use clap::ArgMatches;
+use std::alloc::{AllocError, Global};
 
-/// What the words of a command line ask for: the names of its files, how independence is to be
-/// shown, and the fuel of each test.
+/// What a command line asks for, with the names of its files as they stand there.
 #[derive(Clone, Copy)]
 pub enum Command<'w> {
-    /// `report SOURCE TESTS [--mode unique|masking] [--fuel N]`
-    Report {
+    /// Something is done with a source.
+    OnSource {
+        /// The name of the source.
         source: &'w str,
-        tests: &'w str,
-        mode: Independence,
-        fuel: u32,
-    },
-    /// `vectors SOURCE TESTS [--fuel N]`
-    Vectors {
-        source: &'w str,
-        tests: &'w str,
-        fuel: u32,
+        /// What is done with it.
+        action: Action<'w>,
     },
 }
 
-impl<'w> Command<'w> {
-    /// The name of the source.
-    pub fn source(self) -> &'w str
-        ensures { result.now ≡ source_of (seen_command self.entry) }
-    {
-        match self {
-            Command::Report { source, .. } => source,
-            Command::Vectors { source, .. } => source,
-        }
-    }
-
-    /// The name of the tests file.
-    pub fn tests(self) -> &'w str
-        ensures { result.now ≡ tests_of (seen_command self.entry) }
-    {
-        match self {
-            Command::Report { tests, .. } => tests,
-            Command::Vectors { tests, .. } => tests,
-        }
-    }
-
-    /// The fuel of each test.
-    pub fn fuel(self) -> u32
-        ensures { result ≡ fuel_of (seen_command self.entry) }
-    {
-        match self {
-            Command::Report { fuel, .. } => fuel,
-            Command::Vectors { fuel, .. } => fuel,
-        }
-    }
-}
-
-fn report(words: &Words) -> Option<Command<'_>>
-    ensures value { option_map seen_command result ≡ report_of words.now }
+// The command with this name and these values. Its fuel is in range.
+fn command_in<'w>(name: &str, values: &ArgMatches<'w>) -> Option<Command<'w>>
+    ensures value { option_map seen_command result
+        ≡ command_in (name.now, rows_of (found_of values.now)) }
     ensures fuel { IfSome result HasFuel }
 {
-    let (source, tests) = read_files(words)?;
-    let settings = read_settings(words)?;
-    Some(Command::Report {
-        source,
-        tests,
-        mode: settings.mode,
-        fuel: settings.fuel,
-    })
+    let source = text_at(values, "source")?;
+    let action = read_action(name, values)?;
+    Some(Command::OnSource { source, action })
 }
 
-fn vectors(words: &Words) -> Option<Command<'_>>
-    ensures value { option_map seen_command result ≡ vectors_of words.now }
-    ensures fuel { IfSome result HasFuel }
+/// The command that the line asks for, or `None` exactly where its words are not a command: where
+/// `clap` states no matches for them, or a value is not in its set. The fuel of the command is in
+/// range. The first word of the line stands for the program's own name, whatever it is.
+#[tactic(auto, unfolding(crate::specs::Command::command_of))]
+pub fn read_command<'w>(
+    alloc: Global,
+    line: &'w [&'w str],
+) -> Result<Option<Command<'w>>, AllocError>
+    ensures value { IfOk result (λ o.
+        option_map seen_command o ≡ command_of (words_of line.entry.now)) }
+    ensures fuel { IfOk result (λ o. IfSome o HasFuel) }
 {
-    let (source, tests) = read_files(words)?;
-    let fuel = read_fuel_from(words, 3)?;
-    Some(Command::Vectors {
-        source,
-        tests,
-        fuel,
-    })
-}
-
-/// The command that the words are, or `None` exactly where they are not one. Its fuel is in range.
-pub fn read_command(words: &Words) -> Option<Command<'_>>
-    ensures value { option_map seen_command result ≡ command_of words.now }
-    ensures fuel { IfSome result HasFuel }
-{
-    if words.count() == 0 {
-        return None;
-    }
-    let name = words.get(0);
-    if name == "report" {
-        report(words)
-    } else if name == "vectors" {
-        vectors(words)
-    } else {
-        None
-    }
+    let Some(matches) = matches_in(alloc, line)? else {
+        return Ok(None);
+    };
+    let Some((name, values)) = matches.subcommand() else {
+        return Ok(None);
+    };
+    Ok(command_in(name, values))
 }

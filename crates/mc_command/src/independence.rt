@@ -1,6 +1,10 @@
 //! How the independence of conditions is shown.
 ghost use Rattle.std.specs.Prelude.{◌≡◌};
-ghost use Rattle.mc_command.specs.Command.{mode_named};
+ghost use Rattle.clap.specs.Words.{found_of, rows_of};
+ghost use Rattle.mc_command.specs.Values.{mode_in};
+
+use crate::values::text_at;
+use clap::ArgMatches;
 
 /// What shows that a condition independently affects its decision's outcome.
 #[derive(Clone, Copy)]
@@ -11,15 +15,14 @@ pub enum Independence {
     Masking,
 }
 
-/// What the value of `--mode` names.
-pub fn read_mode(value: &str) -> Option<Independence>
-    ensures { result ≡ mode_named value.now }
+/// What `--mode` names; unique cause where it is not given.
+pub fn read_mode(values: &ArgMatches<'_>) -> Option<Independence>
+    ensures { result ≡ mode_in (rows_of (found_of values.now)) }
 {
-    if value == "unique" {
-        Some(Independence::UniqueCause)
-    } else if value == "masking" {
-        Some(Independence::Masking)
-    } else {
-        None
+    match text_at(values, "mode") {
+        None => Some(Independence::UniqueCause),
+        Some("unique") => Some(Independence::UniqueCause),
+        Some("masking") => Some(Independence::Masking),
+        Some(_) => None,
     }
 }

@@ -1,12 +1,23 @@
 //! The words of a command line, and the commands that they are.
 #![tactic(auto)]
 
+mod action;
 mod command;
-mod files;
+mod form;
 mod independence;
+mod line;
 mod number;
-mod settings;
-pub mod worked;
+mod report;
+mod run;
+mod task;
+mod usage;
+mod values;
 
+pub use action::Action;
 pub use command::{Command, read_command};
+pub use form::Form;
 pub use independence::Independence;
+pub use line::line_of;
+pub use report::Report;
+pub use run::Run;
+pub use task::Task;

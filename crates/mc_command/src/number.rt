@@ -3,10 +3,7 @@ ghost use Rattle.std.specs.Prelude.{◌≡◌, ◌≤◌, ◌^◌, IfSome, Match
 ghost use Rattle.std.specs.Char.{is_ascii_digit};
 ghost use Rattle.std.specs.List.{list_all};
 ghost use Rattle.std.specs.Str.Parse.{digits_value};
-ghost use Rattle.mc_command.specs.Command.{fuel_written, is_fuel, is_numeral};
-
-/// The most fuel that a test may have.
-const MOST_FUEL: u32 = 100_000_000;
+ghost use Rattle.mc_command.specs.Values.{is_numeral, is_within, number_within};
 
 fn has_only_digits(text: &[u8]) -> bool
     ensures { result ≡ list_all is_ascii_digit text.now }
@@ -24,10 +21,10 @@ fn is_numeral(text: &[u8]) -> bool
     }
 }
 
-fn is_fuel(number: u32) -> bool
-    ensures { result ≡ is_fuel number }
+fn is_within(least: u32, most: u32, number: u32) -> bool
+    ensures { result ≡ is_within least most number }
 {
-    number >= 1 && number <= MOST_FUEL
+    least <= number && number <= most
 }
 
 // The number that a numeral is, where it is below 2^32.
@@ -42,15 +39,20 @@ fn number_of(numeral: &str) -> Option<u32>
     }
 }
 
-/// The number that the value of `--fuel` is, from 1 to 100,000,000.
+/// The number that the text is, where it is one from `least` to `most`: decimal digits without
+/// sign or leading zero.
 #[tactic(auto, using(crate::proofs::Numbers::too_large))]
-pub fn read_fuel(value: &str) -> Option<u32>
-    ensures value { result ≡ fuel_written value.now }
-    ensures in_range { IfSome result (λ fuel. (1 ≤ fuel) × (fuel ≤ 100000000)) }
+pub fn read_number(text: &str, least: u32, most: u32) -> Option<u32>
+    ensures value { result ≡ number_within least most text.now }
+    ensures in_range { IfSome result (λ number. (least ≤ number) × (number ≤ most)) }
 {
-    if !is_numeral(value.as_bytes()) {
+    if !is_numeral(text.as_bytes()) {
         return None;
     }
-    let number = number_of(value)?;
-    if is_fuel(number) { Some(number) } else { None }
+    let number = number_of(text)?;
+    if is_within(least, most, number) {
+        Some(number)
+    } else {
+        None
+    }
 }

@@ -1,0 +1,56 @@
+-- What the values of options stand for.
+use Rattle.std.specs.Prelude.{ℕ, Bool, false, not, List, [], ◌∷◌, Option, Some, None, if◌then◌else◌, ◌==◌, ◌&&◌, nat_le, codes}
+use Rattle.std.specs.Char.{is_ascii_digit}
+use Rattle.std.specs.List.{list_all}
+use Rattle.std.specs.Str.{bytes_eq}
+use Rattle.std.specs.Str.Parse.{digits_value}
+use Rattle.clap.specs.Walk.{Row, Text, first_of}
+use Rattle.mc_command.specs.declared.form.Form.{Form}
+use Rattle.mc_command.specs.declared.form.Form.TheVariants as form
+use Rattle.mc_command.specs.declared.independence.Independence.{Independence}
+use Rattle.mc_command.specs.declared.independence.Independence.TheVariants.{UniqueCause, Masking}
+
+-- what an option stands for: what its value is read as, or this where the option is not given
+abbrev pub or_default : {A : Type 0} → A → (Text → Option A) → Option Text → Option A
+or_default default read None = Some default
+or_default default read (Some value) = read value
+
+abbrev pub mode_named : Text → Option Independence
+mode_named value =
+    if bytes_eq value (codes "unique") then Some UniqueCause
+    else if bytes_eq value (codes "masking") then Some Masking
+    else None
+
+-- `[--mode unique|masking]`: without it, unique cause
+abbrev pub mode_in : List Row → Option Independence
+mode_in values = or_default UniqueCause mode_named (first_of (codes "mode") values)
+
+abbrev pub form_named : Text → Option Form
+form_named value =
+    if bytes_eq value (codes "text") then Some form.Text
+    else if bytes_eq value (codes "csv") then Some form.Csv
+    else if bytes_eq value (codes "json") then Some form.Json
+    else None
+
+-- `[--format text|csv|json]`: without it, text
+abbrev pub form_in : List Row → Option Form
+form_in values = or_default form.Text form_named (first_of (codes "format") values)
+
+-- decimal digits, of which the first is not `0`, which is 48
+abbrev pub is_numeral : Text → Bool
+is_numeral [] = false
+is_numeral (d ∷ ds) = not (d == 48) && list_all is_ascii_digit (d ∷ ds)
+
+abbrev pub is_within : (least most : ℕ) → ℕ → Bool
+is_within least most n = nat_le least n && nat_le n most
+
+-- the number that a numeral is, from `least` to `most`
+abbrev pub number_within : (least most : ℕ) → Text → Option ℕ
+number_within least most value =
+    if is_numeral value && is_within least most (digits_value 10 value)
+    then Some (digits_value 10 value) else None
+
+-- `[--fuel N]`, from 1 to 100,000,000: without it, 1,000,000
+abbrev pub fuel_in : List Row → Option ℕ
+fuel_in values =
+    or_default 1000000 (number_within 1 100000000) (first_of (codes "fuel") values)

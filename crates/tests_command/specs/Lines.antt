@@ -1,0 +1,55 @@
+-- Worked lines of words, and the commands that they are.
+use Rattle.std.specs.Prelude.{◌≡◌, ℕ, List, [], ◌∷◌, Option, Some, None, if◌then◌else◌, ◌==◌, ⊤, codes}
+use Rattle.mc_command.specs.Command.{Command, Task, command_of, on_source, report, run, vectors}
+use Rattle.mc_command.specs.declared.form.Form.{Form}
+use Rattle.mc_command.specs.declared.form.Form.TheVariants.{Text}
+use Rattle.mc_command.specs.declared.independence.Independence.{Independence}
+use Rattle.mc_command.specs.declared.independence.Independence.TheVariants.{UniqueCause}
+
+-- this byte before the words of a text; 32 is a blank
+abbrev pub byte_before : ℕ → List (List ℕ) → List (List ℕ)
+byte_before b [] = []
+byte_before b (word ∷ words) =
+    if b == 32 then [] ∷ word ∷ words else (b ∷ word) ∷ words
+
+-- the words of a text: what stands between its blanks
+abbrev pub words_in : List ℕ → List (List ℕ)
+words_in [] = [] ∷ []
+words_in (b ∷ bs) = byte_before b (words_in bs)
+
+abbrev pub Is : List ℕ → Command → Type 0
+Is line command = command_of (words_in line) ≡ Some command
+
+-- each of these lines is this command
+abbrev pub AreAll : Command → List (List ℕ) → Type 0
+AreAll command [] = ⊤
+AreAll command (line ∷ lines) = Is line command × AreAll command lines
+
+-- none of these lines is a command
+abbrev pub AreNone : List (List ℕ) → Type 0
+AreNone [] = ⊤
+AreNone (line ∷ lines) = (command_of (words_in line) ≡ None) × AreNone lines
+
+-- a run of the tests that `a.csv` lists
+abbrev pub run_of : List ℕ → List ℕ → ℕ → Task → Command
+run_of source tests fuel task =
+    on_source source (run (record { tests = tests; fuel = fuel; task = task }))
+
+abbrev pub report_by : Independence → Form → Option (List ℕ) → ℕ → Command
+report_by mode form justify fuel = run_of (codes "a.c") (codes "a.csv") fuel
+    (report (record { mode = mode; form = form; justify = justify }))
+
+-- a report in text without justifications
+abbrev pub plain_report : Independence → ℕ → Command
+plain_report mode fuel = report_by mode Text None fuel
+
+-- a report with the justifications of a file
+abbrev pub justified_by : List ℕ → Command
+justified_by name = report_by UniqueCause Text (Some name) 1000000
+
+abbrev pub vectors_by : ℕ → Command
+vectors_by fuel = run_of (codes "a.c") (codes "a.csv") fuel vectors
+
+-- the vectors of these files
+abbrev pub vectors_of : List ℕ → List ℕ → Command
+vectors_of source tests = run_of source tests 1000000 vectors

@@ -1,0 +1,105 @@
+//! Lines that the program reads.
+
+use crate::show::push_command;
+use mc_command::{line_of, read_command};
+use mc_port::Words;
+use std::alloc::{AllocError, Global};
+use std::test::Fail;
+
+/// A row is a line, `@` and the parts of its command: the source, the tests, the fuel and the task.
+/// Where nothing follows, the line is not a command.
+static ROWS: &str = "\
+report a.c a.csv@a.c|a.csv|1000000|report|unique|text
+report a.c --fuel=8 a.csv --mode masking@a.c|a.csv|8|report|masking|text
+report --format json --justify j.json -- -a.c --fuel@-a.c|--fuel|1000000|report|unique|json|j.json
+report a.c a.csv --justify= --format=csv@a.c|a.csv|1000000|report|unique|csv|
+vectors a.c a.csv@a.c|a.csv|1000000|vectors
+vectors --fuel 100000000 - a.csv@-|a.csv|100000000|vectors
+vectors \u{e9}.c \u{4e2d}.csv@\u{e9}.c|\u{4e2d}.csv|1000000|vectors
+@
+--help@
+help report@
+report a.c@
+report a.c a.csv b.csv@
+report a.c a.csv --mode both@
+vectors a.c a.csv --fuel 0@
+vectors a.c a.csv --fuel +5@
+vectors a.c a.csv --fuel 05@
+vectors a.c a.csv --fuel 100000001@
+vectors a.c a.csv --fuel 5 --fuel 5@
+vectors a.c a.csv --fuel@
+vectors a.c a.csv --workers 4@
+";
+
+fn push_words(words: &mut Words, line: &str) -> Result<(), AllocError> {
+    for word in line.split(' ') {
+        if words.count() < 100 {
+            words.push(word)?;
+        }
+    }
+    Ok(())
+}
+
+fn push_read(alloc: Global, text: &mut String, line: &[&str]) -> Result<(), AllocError> {
+    match read_command(alloc, line)? {
+        Some(command) => push_command(alloc, text, command),
+        None => Ok(()),
+    }
+}
+
+fn push_told(alloc: Global, text: &mut String, words: &Words) -> Result<(), AllocError> {
+    let line = line_of(alloc, words)?;
+    let told = push_read(alloc, text, &line);
+    drop(line);
+    told
+}
+
+fn push_line(alloc: Global, text: &mut String, line: &str) -> Result<(), AllocError> {
+    let mut words = Words::new(alloc);
+    let pushed = push_words(&mut words, line);
+    let told = match pushed {
+        Ok(()) => push_told(alloc, text, &words),
+        Err(error) => Err(error),
+    };
+    drop(words);
+    told
+}
+
+fn is_right(alloc: Global, row: &str) -> Result<bool, AllocError> {
+    let Some((line, want)) = row.split_once('@') else {
+        return Ok(false);
+    };
+    let mut text = String::new(alloc);
+    let told = push_line(alloc, &mut text, line);
+    let same = text.as_str() == want;
+    drop(text);
+    told?;
+    Ok(same)
+}
+
+// The first of the rows that is not right.
+fn wrong_row<'x>(alloc: Global, rows: &'x str) -> Result<Option<&'x str>, AllocError> {
+    for row in rows.lines() {
+        if !is_right(alloc, row)? {
+            return Ok(Some(row));
+        }
+    }
+    Ok(None)
+}
+
+#[test]
+fn lines_are_read(rt: HostRuntime) -> Result<(), Fail> {
+    let wrong = wrong_row(rt.alloc(), ROWS)?;
+    assert!(rt; wrong.is_none(), "{}", wrong.unwrap_or(""));
+    Ok(())
+}
+
+#[test]
+fn no_words_are_read(rt: HostRuntime) -> Result<(), Fail> {
+    let alloc = rt.alloc();
+    let words = Words::new(alloc);
+    let mut text = String::new(alloc);
+    let told = push_told(alloc, &mut text, &words);
+    assert!(rt; told.is_ok() && text.as_str() == "");
+    Ok(())
+}

@@ -1,0 +1,74 @@
+//! Lines that are not commands, by the definition. The functions do nothing: each has a law as its
+//! contract.
+#![tactic(auto, unfolding(mc_command::specs::Command::command_of, clap::proofs::OnLiterals::clap_on_literals))]
+
+ghost use Rattle.std.specs.Prelude.{◌≡◌, ◌∷◌, [], None, codes};
+ghost use Rattle.mc_command.specs.Command.{command_of};
+ghost use Rattle.tests_command.specs.Lines.{AreNone};
+
+/// A line begins with the name of a command, as it stands.
+pub fn other_names()
+    ensures no_words { command_of [] ≡ None }
+    ensures unknown { AreNone (codes "run a.c a.csv" ∷ codes "Report a.c a.csv"
+        ∷ codes "rep a.c a.csv" ∷ codes " a.c a.csv" ∷ codes "a.c a.csv report" ∷ []) }
+    ensures options { AreNone (codes "--fuel 8 vectors a.c a.csv"
+        ∷ codes "-- vectors a.c a.csv" ∷ codes "--" ∷ codes "-" ∷ []) }
+{}
+
+/// A wish for help or for a version is not a command.
+pub fn wishes_for_help()
+    ensures alone { AreNone (codes "--help" ∷ codes "-h" ∷ codes "help" ∷ codes "--version"
+        ∷ codes "-V" ∷ codes "help report" ∷ codes "help none" ∷ []) }
+    ensures after { AreNone (codes "report --help" ∷ codes "vectors a.c a.csv -h"
+        ∷ codes "report a.c a.csv --help" ∷ codes "report a.c a.csv --version" ∷ []) }
+{}
+
+/// There are two files.
+pub fn two_files()
+    ensures fewer { AreNone (codes "report" ∷ codes "vectors a.c" ∷ codes "vectors --"
+        ∷ codes "vectors a.c --" ∷ []) }
+    ensures more { AreNone (codes "vectors a.c a.csv b.csv" ∷ codes "vectors a.c a.csv "
+        ∷ codes "vectors a.c a.csv -" ∷ codes "vectors a.c a.csv -- --fuel 8" ∷ []) }
+    ensures dash { AreNone (codes "vectors -a.c a.csv" ∷ codes "vectors a.c -a.csv" ∷ []) }
+{}
+
+/// An option stands once, with a value, under its whole name, and with the commands that have it.
+pub fn options_that_are_none()
+    ensures again { AreNone (codes "vectors a.c a.csv --fuel 5 --fuel 5"
+        ∷ codes "vectors --fuel=5 a.c a.csv --fuel=5"
+        ∷ codes "report a.c a.csv --mode unique --mode unique"
+        ∷ codes "report a.c a.csv --justify a --justify a"
+        ∷ codes "report a.c a.csv --format text --format text" ∷ []) }
+    ensures no_value { AreNone (codes "vectors a.c a.csv --fuel"
+        ∷ codes "report a.c a.csv --fuel --mode unique" ∷ codes "report a.c a.csv --mode"
+        ∷ codes "report a.c a.csv --justify" ∷ codes "report a.c a.csv --format --" ∷ []) }
+    ensures other { AreNone (codes "vectors a.c a.csv --mode unique"
+        ∷ codes "vectors a.c a.csv --justify j.json" ∷ codes "vectors a.c a.csv --format text"
+        ∷ codes "vectors a.c a.csv --workers 4" ∷ codes "report a.c a.csv --json" ∷ []) }
+    ensures shortened { AreNone (codes "report a.c a.csv --mo unique"
+        ∷ codes "report a.c a.csv --f 8" ∷ codes "report a.c a.csv -m unique"
+        ∷ codes "report a.c a.csv -fuel 8" ∷ codes "report a.c a.csv ---fuel 8" ∷ []) }
+{}
+
+/// A mode, and a form, is one of those that exist.
+pub fn other_values()
+    ensures mode { AreNone (codes "report a.c a.csv --mode both"
+        ∷ codes "report a.c a.csv --mode Unique" ∷ codes "report a.c a.csv --mode="
+        ∷ codes "report a.c a.csv --mode=unique=masking" ∷ []) }
+    ensures format { AreNone (codes "report a.c a.csv --format xml"
+        ∷ codes "report a.c a.csv --format CSV" ∷ codes "report a.c a.csv --format=" ∷ []) }
+{}
+
+/// A number is decimal digits without sign or leading zero, from 1 to 100,000,000.
+pub fn other_numbers()
+    ensures small { AreNone (codes "vectors a.c a.csv --fuel 0"
+        ∷ codes "vectors a.c a.csv --fuel 05" ∷ codes "vectors a.c a.csv --fuel=" ∷ []) }
+    ensures sign { AreNone (codes "vectors a.c a.csv --fuel +5"
+        ∷ codes "vectors a.c a.csv --fuel=-5" ∷ codes "vectors a.c a.csv --fuel -5" ∷ []) }
+    ensures large { AreNone (codes "vectors a.c a.csv --fuel 100000001"
+        ∷ codes "vectors a.c a.csv --fuel 4294967297"
+        ∷ codes "vectors a.c a.csv --fuel 99999999999999999999" ∷ []) }
+    ensures bytes { AreNone (codes "vectors a.c a.csv --fuel 8x"
+        ∷ codes "vectors a.c a.csv --fuel 0x8" ∷ codes "vectors a.c a.csv --fuel 1_000"
+        ∷ codes "vectors a.c a.csv --fuel=8=9" ∷ codes "vectors a.c a.csv --fuel= 8" ∷ []) }
+{}

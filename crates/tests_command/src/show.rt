@@ -1,0 +1,72 @@
+//! What a command is, as text.
+
+use mc_command::{Action, Command, Form, Independence, Report, Run, Task};
+use std::alloc::{AllocError, Global};
+
+fn mode_word(mode: Independence) -> &'static str {
+    match mode {
+        Independence::UniqueCause => "unique",
+        Independence::Masking => "masking",
+    }
+}
+
+fn form_word(form: Form) -> &'static str {
+    match form {
+        Form::Text => "text",
+        Form::Csv => "csv",
+        Form::Json => "json",
+    }
+}
+
+fn push_report(text: &mut String, report: Report<'_>) -> Result<(), AllocError> {
+    text.push_str("report|")?;
+    text.push_str(mode_word(report.mode))?;
+    text.push_str("|")?;
+    text.push_str(form_word(report.form))?;
+    match report.justify {
+        Some(name) => {
+            text.push_str("|")?;
+            text.push_str(name)
+        }
+        None => Ok(()),
+    }
+}
+
+fn push_task(text: &mut String, task: Task<'_>) -> Result<(), AllocError> {
+    match task {
+        Task::Report(report) => push_report(text, report),
+        Task::Vectors => text.push_str("vectors"),
+    }
+}
+
+fn push_number(alloc: Global, text: &mut String, number: u32) -> Result<(), AllocError> {
+    let digits = format!(in alloc; "{number}")?;
+    let pushed = text.push_str(digits.as_str());
+    drop(digits);
+    pushed
+}
+
+fn push_run(alloc: Global, text: &mut String, run: Run<'_>) -> Result<(), AllocError> {
+    text.push_str(run.tests)?;
+    text.push_str("|")?;
+    push_number(alloc, text, run.fuel)?;
+    text.push_str("|")?;
+    push_task(text, run.task)
+}
+
+/// Adds the parts of the command, with `|` between them.
+pub fn push_command(
+    alloc: Global,
+    text: &mut String,
+    command: Command<'_>,
+) -> Result<(), AllocError> {
+    match command {
+        Command::OnSource { source, action } => {
+            text.push_str(source)?;
+            text.push_str("|")?;
+            match action {
+                Action::Run(run) => push_run(alloc, text, run),
+            }
+        }
+    }
+}
