@@ -1,0 +1,5 @@
+pub mod Faults
+pub mod Entries
+pub mod Justifications
+pub mod Returned
+pub mod Seen
