@@ -2,7 +2,7 @@
 use Rattle.std.proofs.Common.{◌≡◌, ◌<◌, ℕ, suc, List, [], ◌∷◌, Some, None, Option, true, false, refl, sym, subst, arith}
 use Rattle.std.specs.Prelude.{All, IsUtf8, slice_get, ◌==◌, if◌then◌else◌}
 use Rattle.mc_cond.specs.Tree.{Tree}
-use Rattle.mc_paths.specs.Paths.{count_of, IsPath}
+use Rattle.mc_paths.specs.Paths.{count_of}
 use Rattle.mc_paths.proofs.Numbers.{vector_below}
 use Rattle.mc_steps.specs.Events.{Event}
 use Rattle.mc_probe.specs.Maps.{Map, Mapped}
@@ -14,7 +14,7 @@ use Rattle.mc_oblige.specs.declared.justification.Justification.{Justification}
 use Rattle.mc_oblige.specs.declared.verdict.Evidence.{Evidence}
 use Rattle.mc_oblige.specs.declared.verdict.Evidence.TheVariants.{Absent, One, Pair}
 use Rattle.mc_oblige.specs.declared.verdict.Verdict.{Verdict}
-use Rattle.mc_oblige.specs.Evidence.{IsShown, IsEvaluated, IsPair, IsConditionEvidence, IsTestEvidence, IsEvidence}
+use Rattle.mc_oblige.specs.Evidence.{IsEvaluated, IsConditionEvidence, IsEvidence}
 use Rattle.mc_oblige.specs.Obligations.{obligations_of}
 use Rattle.mc_oblige.specs.Shown.{HasEvent}
 use Rattle.mc_oblige.specs.Verdicts.{IsVerdict, AreVerdictsFrom, reason_for}

@@ -1,7 +1,9 @@
-pub mod Parts
 pub mod Halving
 pub mod Paths
 pub mod Judging
 pub mod Turns
 pub mod Answered
 pub mod Present
+pub mod Texts
+pub mod Members
+pub mod Floats

@@ -12,7 +12,7 @@ use Rattle.mc_probe.specs.Maps.{Mapped}
 use Rattle.mc_probe.proofs.Kept.{equal_trees}
 use Rattle.mc_report.specs.Vectors.{vector_at}
 use Rattle.mc_report.specs.Report.{HasPath}
-use Rattle.mc_report.specs.Lines.{path_text}
+use Rattle.mc_report.specs.Lines.{path_text, path_vector}
 use Rattle.mc_report.specs.Words.{vector_text}
 
 pub vector_has_path : (t : Tree) (path : ℕ) → IsNumbered t → path < count_of t → IsPath t path (vector_at t path)
@@ -51,13 +51,22 @@ path_numbered ds d path m is h =
     let Q : Tree → Type 0 = λ t. path < count_of t in
     subst P is (subst Q (sym (same_tree m)) (path_in ds d path m is h))
 
--- what is written for a path is the vector that its decision's numbering gives
-pub path_written : (ds : List MappedDecision) (d path : ℕ) (m : MappedDecision) (v : Evaluation) → m ≡ get_or ds d m → HasPath (slice_get (map mapped_of ds) d) path → IsPath (tree_of (get_or ds d m).numbering) path v → path_text (slice_get (map mapped_of ds) d) path ≡ 32 ∷ vector_text v
-path_written ds d path m v is h gives =
-    let at = decision_there ds d m (is_there ds d path h) is in
+-- the vector that a decision's numbering gives for a path is the one with its number
+pub path_is : (ds : List MappedDecision) (d path : ℕ) (m : MappedDecision) (v : Evaluation) → m ≡ get_or ds d m → HasPath (slice_get (map mapped_of ds) d) path → IsPath (tree_of (get_or ds d m).numbering) path v → v ≡ vector_at (tree_of m.decision.tree) path
+path_is ds d path m v is h gives =
     let P : MappedDecision → Type 0 = λ x. IsPath (tree_of x.numbering) path v in
     let Q : Tree → Type 0 = λ t. IsPath t path v in
     let own = subst Q (same_tree m) (subst P (sym is) gives) in
-    let same = vector_is (tree_of m.decision.tree) path v m.placed.numbered (path_in ds d path m is h) own in
-    ap (λ (o : Option Mapped). path_text o path) at
+    vector_is (tree_of m.decision.tree) path v m.placed.numbered (path_in ds d path m is h) own
+
+pub vector_written : (ds : List MappedDecision) (d path : ℕ) (m : MappedDecision) (v : Evaluation) → m ≡ get_or ds d m → HasPath (slice_get (map mapped_of ds) d) path → IsPath (tree_of (get_or ds d m).numbering) path v → path_vector (slice_get (map mapped_of ds) d) path ≡ vector_text v
+vector_written ds d path m v is h gives =
+    ap (λ (o : Option Mapped). path_vector o path) (decision_there ds d m (is_there ds d path h) is)
+    ∙ ap vector_text (sym (path_is ds d path m v is h gives))
+
+-- what is written for a path is the vector that its decision's numbering gives
+pub path_written : (ds : List MappedDecision) (d path : ℕ) (m : MappedDecision) (v : Evaluation) → m ≡ get_or ds d m → HasPath (slice_get (map mapped_of ds) d) path → IsPath (tree_of (get_or ds d m).numbering) path v → path_text (slice_get (map mapped_of ds) d) path ≡ 32 ∷ vector_text v
+path_written ds d path m v is h gives =
+    let same = path_is ds d path m v is h gives in
+    ap (λ (o : Option Mapped). path_text o path) (decision_there ds d m (is_there ds d path h) is)
     ∙ ap (λ (l : List ℕ). 32 ∷ l) (append-nil (vector_text (vector_at (tree_of m.decision.tree) path)) ∙ ap vector_text (sym same))

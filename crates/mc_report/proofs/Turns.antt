@@ -1,14 +1,9 @@
 -- Lines, one part after the other.
-use Rattle.std.proofs.Common.{◌≡◌, ◌∙◌, ◌+◌, ◌-◌, ◌++◌, ℕ, List, [], ◌∷◌, length, refl, ap, arith, append_assoc}
-use Rattle.mc_typed.specs.declared.plans.TestState.{TestState}
-use Rattle.mc_meaning.specs.Seen.{Told}
-use Rattle.mc_meaning.specs.declared.result.TestResult.{TestResult}
+use Rattle.std.proofs.Common.{◌≡◌, ◌∙◌, ◌++◌, ℕ, List, [], ◌∷◌, length, refl, ap, arith, append_assoc}
 use Rattle.mc_probe.specs.Maps.{Mapped}
 use Rattle.mc_oblige.specs.declared.obligation.Obligation.{Obligation}
 use Rattle.mc_oblige.specs.declared.verdict.Verdict.{Verdict}
-use Rattle.mc_oblige.specs.declared.verdict.VerdictState.{VerdictState}
-use Rattle.mc_report.specs.declared.kind.Kind.{Kind}
-use Rattle.mc_report.specs.Report.{Report, IsJudged, AreJudged}
+use Rattle.mc_report.specs.Report.{AreJudged}
 
 -- as many verdicts as obligations
 pub judged_length : (tests : ℕ) (ds : List Mapped) (os : List Obligation) (vs : List Verdict) → AreJudged tests ds os vs → length vs ≡ length os

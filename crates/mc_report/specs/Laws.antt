@@ -1,5 +1,6 @@
 -- What follows from the definitions of a report.
-use Rattle.std.specs.Prelude.{ℕ, ◌<◌, List, All, IsUtf8}
+use Rattle.std.specs.Prelude.{◌≡◌, ℕ, ◌<◌, false, List, All, IsUtf8}
+use Rattle.serde_json.specs.Written.{has_float}
 use Rattle.mc_cond.specs.Tree.{Tree, IsNumbered}
 use Rattle.mc_paths.specs.Paths.{count_of, IsPath}
 use Rattle.mc_core.specs.Matrix.{MatrixView}
@@ -13,7 +14,8 @@ use Rattle.mc_oblige.specs.Shown.{HasEvent}
 use Rattle.mc_oblige.specs.Verdicts.{AreVerdicts}
 use Rattle.mc_oblige.specs.Evaluated.{AreEvaluated}
 use Rattle.mc_report.specs.Vectors.{vector_at}
-use Rattle.mc_report.specs.Report.{AreJudged}
+use Rattle.mc_report.specs.Json.{json_data}
+use Rattle.mc_report.specs.Report.{AreJudged, Report}
 use Rattle.mc_report.specs.VectorsText.{IsPresent}
 
 -- the vector that is written for a path is the one with its number
@@ -36,3 +38,8 @@ EvaluatedArePresent =
     (m : Map) (x : MatrixView) (paths : List EvaluatedPath) →
     AreEvaluated (HasEvent m x) m paths →
     All (IsPresent x.shape.tests m.decisions) paths
+
+-- A report as JSON has no number with a fraction or an exponent, so that its text is exactly what
+-- `serde_json` writes of it.
+abbrev pub ReportsHaveNoFloat : Type 0
+ReportsHaveNoFloat = (r : Report) → has_float (json_data r) ≡ false

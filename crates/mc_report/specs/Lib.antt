@@ -5,6 +5,9 @@ pub mod Status
 pub mod Lines
 pub mod Counts
 pub mod Text
+pub mod Csv
+pub mod Json
+pub mod Forms
 pub mod VectorsText
 pub mod Seen
 pub mod Written

@@ -53,12 +53,20 @@ test_lines names states None = kept_lines names states
 
 -- ---- obligations
 
+abbrev pub name_of : List (List ℕ) → ℕ → List ℕ
+name_of names test = slice_index_or names test []
+
 abbrev pub name_text : List (List ℕ) → ℕ → List ℕ
-name_text names test = concat (codes " by " ∷ slice_index_or names test [] ∷ [])
+name_text names test = concat (codes " by " ∷ name_of names test ∷ [])
+
+-- the vector of a path of the decision
+abbrev pub path_vector : Option Mapped → ℕ → List ℕ
+path_vector None path = []
+path_vector (Some m) path = vector_text (vector_at m.decision.tree path)
 
 abbrev pub path_text : Option Mapped → ℕ → List ℕ
 path_text None path = []
-path_text (Some m) path = concat (codes " " ∷ vector_text (vector_at m.decision.tree path) ∷ [])
+path_text (Some m) path = concat (codes " " ∷ path_vector (Some m) path ∷ [])
 
 -- the decision of a condition
 abbrev pub decision_in : List Mapped → ObligationId → Option Mapped

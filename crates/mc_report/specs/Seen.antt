@@ -1,6 +1,6 @@
 -- What the program's reports and lines stand for.
-use Rattle.std.specs.Prelude.{ℕ, List, map, option_map, Vec}
-use Rattle.std.specs.declared.alloc.Global.{Global}
+use Rattle.std.specs.Prelude.{map, option_map}
+pub use Rattle.mc_port.specs.Lines.{bytes_of}
 use Rattle.mc_meaning.specs.Seen.{told_of}
 use Rattle.mc_probe.specs.Mapped.{mapped_of}
 use Rattle.mc_report.specs.declared.report.Report as code
@@ -18,7 +18,3 @@ report_of r = record {
   obligations = r.obligations.items;
   verdicts = r.verdicts.items;
 }
-
--- the bytes of each line
-abbrev pub bytes_of : List (Vec ℕ Global) → List (List ℕ)
-bytes_of lines = map (λ line. line.items) lines

@@ -1,3 +1,5 @@
 -- What the proofs need between the definitions and the code. No public clause rests on it.
 pub mod Starts
 pub mod Kinds
+pub mod Members
+pub mod Texts

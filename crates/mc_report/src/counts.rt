@@ -21,7 +21,7 @@ fn is_verdict(one: VerdictState, other: VerdictState) -> bool
 }
 
 /// How many obligations of the kind have this verdict.
-fn counted(
+pub(crate) fn counted(
     kind: Kind,
     state: VerdictState,
     obligations: &[Obligation],
@@ -51,7 +51,7 @@ fn one_where(holds: bool) -> usize
 }
 
 /// How many obligations there are of the kind.
-fn total(kind: Kind, obligations: &[Obligation]) -> usize
+pub(crate) fn total(kind: Kind, obligations: &[Obligation]) -> usize
     ensures { result ≡ total kind obligations.now }
 {
     let mut count = 0;

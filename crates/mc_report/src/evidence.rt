@@ -1,19 +1,16 @@
 //! What shows an obligation, and why it need not be met.
-ghost use Rattle.std.specs.Prelude.{◌≡◌, ◌++◌, ◌<◌, length, map, slice_get, IfOk, OnOk, IsUtf8};
-ghost use Rattle.serde_json.specs.Data.{string};
-ghost use Rattle.serde_json.specs.Written.{compact_text};
+ghost use Rattle.std.specs.Prelude.{◌≡◌, ◌++◌, ◌<◌, length, map, slice_get, OnOk};
 ghost use Rattle.mc_probe.specs.Mapped.{mapped_of};
 ghost use Rattle.mc_report.specs.Lines.{decision_in, name_text, path_text, reason_text, shown_text};
 ghost use Rattle.mc_report.specs.Report.{HasPath, IsOfKind, IsReason};
 ghost use Rattle.mc_report.specs.steps.Kinds.{IsCondition, IsIn};
 
+use crate::quoted::quoted_bytes;
 use crate::vector::push_vector;
 use mc_oblige::{Evidence, ObligationId, Reason};
 use mc_probe::MappedDecision;
 use mc_typed::Name;
-use serde_json::Value;
 use std::alloc::{AllocError, Global};
-use std::str;
 
 /// Adds the name of a test.
 pub(crate) fn push_name(line: &mut Vec<u8>, names: &[Name], test: u32) -> Result<(), AllocError>
@@ -41,12 +38,12 @@ pub(crate) fn push_path(
 
 /// The vectors and the tests of a pair of paths of a condition's decision.
 #[derive(Clone, Copy)]
-struct Pair {
-    d: u32,
-    first: u32,
-    first_test: u32,
-    second: u32,
-    second_test: u32,
+pub(crate) struct Pair {
+    pub(crate) d: u32,
+    pub(crate) first: u32,
+    pub(crate) first_test: u32,
+    pub(crate) second: u32,
+    pub(crate) second_test: u32,
 }
 
 fn push_pair(
@@ -103,7 +100,7 @@ pub(crate) fn push_evidence(
 }
 
 /// The decision of a condition.
-fn decision_of(id: ObligationId) -> u32
+pub(crate) fn decision_of(id: ObligationId) -> u32
     requires { IsCondition id }
     ensures { IsIn result id }
 {
@@ -111,23 +108,6 @@ fn decision_of(id: ObligationId) -> u32
         ObligationId::Condition(d, _) => d,
         _ => unreachable!(),
     }
-}
-
-/// A text as a JSON string.
-fn quoted(alloc: Global, text: &[u8]) -> Result<Vec<u8>, AllocError>
-    requires { IsUtf8 text.now }
-    ensures { IfOk result (λ v. v.items ≡ compact_text (string text.now)) }
-{
-    match str::from_utf8(text) {
-        Ok(text) => string_bytes(alloc, text),
-        Err(_) => unreachable!(),
-    }
-}
-
-fn string_bytes(alloc: Global, text: &str) -> Result<Vec<u8>, AllocError>
-    ensures { IfOk result (λ v. v.items ≡ compact_text (string text.now)) }
-{
-    Value::try_from_str(alloc, text)?.to_vec(alloc)
 }
 
 /// Adds the reason of a justification, where there is one.
@@ -142,7 +122,7 @@ pub(crate) fn push_reason(
     let Some(reason) = reason else {
         return Ok(());
     };
-    let text = quoted(alloc, reason.bytes())?;
+    let text = quoted_bytes(alloc, reason.bytes())?;
     line.extend_from_slice(b" ")?;
     line.extend_from_slice(&text)
 }

@@ -1,17 +1,20 @@
-//! The text report of a program's tests and coverage, as a verifier reads it, and its status.
+//! The report of a program's tests and coverage, as a verifier or a program reads it, and its status.
 #![tactic(auto)]
 
 mod counts;
+mod csv_form;
 mod evidence;
 mod fault;
-mod hexadecimal;
-mod id;
+mod form;
+mod json_form;
 mod kind;
 mod laws;
-mod output;
 mod places;
+mod quoted;
 mod report;
+mod row;
 mod settled;
+mod shown;
 mod test_lines;
 mod text;
 mod vector;
@@ -19,9 +22,14 @@ mod vectors;
 mod verdicts;
 mod words;
 
+pub use csv_form::{csv_report_lines, write_csv};
 pub use fault::ReportFault;
-pub use laws::{evaluated_are_present, vector_is_of_path, verdicts_are_reported};
-pub use output::put_lines;
+pub use form::{Form, lines_in};
+pub use json_form::{json_report_line, write_json};
+pub use laws::{
+    evaluated_are_present, reports_have_no_float, vector_is_of_path, verdicts_are_reported,
+};
+pub use mc_port::put_lines;
 pub use report::Report;
 pub use settled::{all_passed, status};
 pub use text::{report_lines, write_text};

@@ -9,14 +9,13 @@ ghost use Rattle.mc_report.specs.Written.{Writes};
 
 use crate::counts::push_counts;
 use crate::fault::ReportFault;
-use crate::hexadecimal::push_hexadecimal;
-use crate::output::put_lines;
 use crate::report::Report;
 use crate::settled::status;
 use crate::test_lines::push_tests;
 use crate::verdicts::push_verdicts;
 use crate::words::mode_word;
-use mc_port::Sink;
+use mc_port::{Sink, put_lines};
+use mc_wording::push_hexadecimal;
 use std::alloc::{AllocError, Global};
 
 fn push_mode(alloc: Global, lines: &mut Vec<Vec<u8>>, report: &Report<'_>) -> Result<(), AllocError>

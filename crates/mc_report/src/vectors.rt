@@ -6,7 +6,6 @@ ghost use Rattle.mc_report.specs.Seen.{bytes_of};
 ghost use Rattle.mc_report.specs.VectorsText.{IsPresent, vector_line, vectors_lines};
 
 use crate::evidence::{push_name, push_path};
-use crate::id::numbered;
 use crate::test_lines::push_runs;
 use mc_meaning::TestResult;
 use mc_oblige::EvaluatedPath;
@@ -24,7 +23,8 @@ fn vector_line(
     ensures { IfOk result (λ line.
         line.items ≡ vector_line names.now (map mapped_of decisions.now) evaluated) }
 {
-    let decision = numbered(alloc, "D", evaluated.decision)?;
+    let number = u64::from(evaluated.decision) + 1;
+    let decision = format!(in alloc; "D{number}")?;
     let mut line = Vec::new(alloc);
     line.extend_from_slice(decision.as_bytes())?;
     push_path(&mut line, decisions, evaluated.decision, evaluated.path)?;

@@ -6,12 +6,11 @@ ghost use Rattle.mc_report.specs.Seen.{bytes_of, report_of};
 ghost use Rattle.mc_report.specs.steps.Starts.{AreStarts};
 
 use crate::evidence::{push_evidence, push_reason};
-use crate::id::id_text;
 use crate::places::{line_starts, place_at};
 use crate::report::Report;
 use crate::words::verdict_word;
 use mc_lex::Place;
-use mc_oblige::{Obligation, Verdict, VerdictState};
+use mc_oblige::{Obligation, Verdict, VerdictState, id_text};
 use std::alloc::{AllocError, Global};
 
 fn obligation_text(

@@ -1,9 +1,13 @@
 -- The lines compute.
 use Rattle.std.proofs.Common.{refl}
 use Rattle.std.specs.Fmt.{digits}
+use Rattle.csv.specs.Writing.{escaped, fields_text, is_blank}
 use Rattle.serde_json.proofs.OnLiterals.{serde_json_on_literals}
+use Rattle.mc_report.specs.Forms.{lines_in_form}
+use Rattle.mc_report.specs.Json.{json_data}
 use Rattle.tests_report.specs.Bodies.{AreRight}
 use Rattle.tests_report.specs.Exits.{exits_asked, loops, plain, switches}
+use Rattle.tests_report.specs.Forms.{AllMetCsv, AllMetJson, Fields, LongName, ReasonsCsv, ReasonsJson, TestsJson}
 use Rattle.tests_report.specs.Flap.{Reasoned, Unreasoned}
 use Rattle.tests_report.specs.Places.{TwoFunctions, counted_bodies, labelled_bodies, labels_asked, statements_asked}
 use Rattle.tests_report.specs.Rows.{AllMet, Failed, Ids, Limits, Negated, NoneRun, Reasons, Settled, States, TestLines, TwoAnds, TwoOrs}
@@ -83,3 +87,31 @@ reasoned = refl
 pub unreasoned : Unreasoned
 unfolding digits
 unreasoned = refl
+
+pub all_met_csv : AllMetCsv
+unfolding digits escaped fields_text is_blank lines_in_form
+all_met_csv = refl
+
+pub all_met_json : AllMetJson
+unfolding digits serde_json_on_literals lines_in_form json_data
+all_met_json = refl
+
+pub reasons_csv : ReasonsCsv
+unfolding digits escaped fields_text is_blank
+reasons_csv = refl
+
+pub reasons_json : ReasonsJson
+unfolding digits serde_json_on_literals
+reasons_json = refl
+
+pub fields : Fields
+unfolding digits escaped fields_text is_blank
+fields = (refl, refl)
+
+pub long_name : LongName
+unfolding digits escaped fields_text is_blank
+long_name = refl
+
+pub tests_json : TestsJson
+unfolding digits serde_json_on_literals
+tests_json = (refl, refl)

@@ -4,3 +4,4 @@ pub mod Flap
 pub mod Bodies
 pub mod Exits
 pub mod Places
+pub mod Forms

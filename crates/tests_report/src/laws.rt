@@ -3,6 +3,7 @@
 ghost use Rattle.tests_report.specs.Bodies.{AreRight};
 ghost use Rattle.tests_report.specs.Exits.{exits_asked, loops, plain, switches};
 ghost use Rattle.tests_report.specs.Flap.{Reasoned, Unreasoned};
+ghost use Rattle.tests_report.specs.Forms.{AllMetCsv, AllMetJson, Fields, LongName, ReasonsCsv, ReasonsJson, TestsJson};
 ghost use Rattle.tests_report.specs.Places.{TwoFunctions, counted_bodies, labelled_bodies, labels_asked, statements_asked};
 ghost use Rattle.tests_report.specs.Rows.{AllMet, Failed, Ids, Limits, Negated, NoneRun, Reasons, Settled, States, TestLines, TwoAnds, TwoOrs};
 
@@ -100,4 +101,27 @@ pub fn statements_that_count()
 /// Two functions: each kind of obligation is numbered over the whole text.
 pub fn two_functions()
     ensures { TwoFunctions }
+{}
+
+/// A whole report where all is met, as rows of comma-separated fields and as JSON.
+pub fn all_met_in_forms()
+    ensures csv { AllMetCsv }
+    ensures json { AllMetJson }
+{}
+
+/// Stale and justified obligations, as rows of comma-separated fields and as JSON.
+pub fn reasons_in_forms()
+    ensures csv { ReasonsCsv }
+    ensures json { ReasonsJson }
+{}
+
+/// Fields with commas, quotes and line ends, one with bytes that are not text, and a name of 64.
+pub fn fields()
+    ensures fields { Fields }
+    ensures name { LongName }
+{}
+
+/// Tests as JSON, of a run and of a record.
+pub fn tests_as_json()
+    ensures { TestsJson }
 {}

@@ -1,5 +1,5 @@
 //! Reports on one function whose decision is `a && b`, made by hand.
-ghost use Rattle.std.specs.Prelude.{◌≡◌, ◌≤◌, ◌<◌, ◌^◌, length, IfOk};
+ghost use Rattle.std.specs.Prelude.{◌≡◌, ◌≤◌, ◌<◌, ◌^◌, length, All, IfOk, IsUtf8};
 ghost use Rattle.mc_cond.specs.Tree.{IsNumbered, size, tree_of};
 ghost use Rattle.mc_probe.specs.BitMaps.{map_of};
 ghost use Rattle.mc_report.specs.Report.{AreJudged, IsReport};
@@ -129,14 +129,20 @@ struct Parts {
     results: Vec<TestResult>,
 }
 
+fn name(alloc: Global, number: u64) -> Result<Name, AllocError>
+    ensures { IfOk result (λ name. IsUtf8 name) }
+{
+    let text = format!(in alloc; "t{number}")?;
+    Ok(Name::new(text.into_bytes()))
+}
+
 fn names(alloc: Global, count: usize) -> Result<Vec<Name>, AllocError>
-    ensures { IfOk result (λ v. length v.items ≡ count) }
+    ensures count { IfOk result (λ v. length v.items ≡ count) }
+    ensures text { IfOk result (λ v. All IsUtf8 v.items) }
 {
     let mut all = Vec::new(alloc);
     for test in 0..count {
-        let number = test as u64 + 1;
-        let name = format!(in alloc; "t{number}")?;
-        all.push(Name::new(name.into_bytes()))?;
+        all.push(name(alloc, test as u64 + 1)?)?;
     }
     Ok(all)
 }
@@ -175,6 +181,7 @@ fn results(alloc: Global, tests: &[Test<'_>]) -> Result<Vec<TestResult>, AllocEr
 
 fn told(alloc: Global, tests: &[Test<'_>]) -> Result<Parts, AllocError>
     ensures names { IfOk result (λ t. length t.names.items ≡ length tests.now) }
+    ensures text { IfOk result (λ t. All IsUtf8 t.names.items) }
     ensures states { IfOk result (λ t. length t.states.items ≡ length tests.now) }
     ensures results { IfOk result (λ t. length t.results.items ≡ length tests.now) }
 {
@@ -226,7 +233,8 @@ fn assembled(count: usize, told: Parts, map: BitMap, judged: Verdicts) -> Report
     requires results { length told.results.items ≡ count }
     requires judged { AreJudged count (map_of map).decisions judged.obligations.items
         judged.verdicts.items }
-    ensures { IsReport (report_of result) }
+    ensures report { IsReport (report_of result) }
+    ensures names { (report_of result).names ≡ told.names.items }
 {
     Report {
         source: SOURCE,
@@ -247,7 +255,8 @@ pub(crate) fn report(
     alloc: Global,
     tests: &[Test<'_>],
 ) -> Result<Report<'static>, Fail>
-    ensures { IfOk result (λ r. IsReport (report_of r)) }
+    ensures report { IfOk result (λ r. IsReport (report_of r)) }
+    ensures text { IfOk result (λ r. All IsUtf8 (report_of r).names) }
 {
     let told = told(alloc, tests)?;
     let map = map(alloc)?;

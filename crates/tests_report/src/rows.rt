@@ -46,10 +46,13 @@ const STOPPED: Test<'static> = Test {
     value: 1,
 };
 
+/// Tests by which all is met.
+pub(crate) const ALL_MET: &[Test<'static>] = &[BOTH, FIRST, NEITHER];
+
 /// All is met; a condition is missing; all is met, by a test that did not pass; no test is run.
 static ROWS: [Row<'static>; 4] = [
     Row {
-        tests: &[BOTH, FIRST, NEITHER],
+        tests: ALL_MET,
         text: "mcdc report unique
 source sha256 8200d2384991a90c0fb5f6a208a7f0176cae5c6443e46177ef6bfd44c40d4caf
 test t1 pass values 1 output
