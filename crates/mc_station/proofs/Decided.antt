@@ -1,5 +1,5 @@
 -- Decisions that are few enough in conditions and in paths.
-use Rattle.std.proofs.Common.{◌≡◌, ◌∙◌, ◌≤◌, ℕ, List, codes, [], ◌∷◌, length, map, Ok, Err, All, ap, sym, subst, inl, inr, arith}
+use Rattle.std.proofs.Common.{◌≡◌, ◌∙◌, ◌≤◌, ℕ, List, codes, [], ◌∷◌, length, map, Result, Ok, Err, All, ap, sym, subst, inl, inr, arith}
 use Rattle.std.proofs.lemmas.List.Elements.{All-nil, All-cons, All-head, All-tail, All-map}
 use Rattle.mc_cond.specs.Tree.{tree_of, size, IsNumbered}
 use Rattle.mc_roots.specs.declared.decision.Decision as code
@@ -12,10 +12,11 @@ use Rattle.mc_roots.specs.Decisions.{Decision, Tells, AreTold, AreDecisions, IsS
 use Rattle.mc_roots.specs.Seen.{decision_of}
 use Rattle.mc_roots.proofs.Trees.{size_of_tree}
 use Rattle.mc_lex.specs.Lines.{column_of, line_of}
-use Rattle.mc_station.specs.Reply.{refusal}
-use Rattle.mc_station.specs.Source.{Accepted, JudgesDecisions}
-use Rattle.mc_station.specs.Texts.{bits_line, many_line}
-use Rattle.mc_station.specs.declared.status.Status.TheVariants.{SourceRefused}
+use Rattle.mc_replies.specs.Phases.{Then}
+use Rattle.mc_replies.specs.Reply.{Reply, refusal}
+use Rattle.mc_replies.specs.Texts.{bits_line, many_line}
+use Rattle.mc_replies.specs.declared.status.Status.TheVariants.{SourceRefused}
+use Rattle.mc_station.specs.Source.{Accepted, Accepts, Maps, Numbers}
 
 -- ---- conditions
 
@@ -82,15 +83,19 @@ one_with_many (d ∷ ds) e f (inr a) (inr b) = one_with_many ds e f a.1 b.1
 -- ---- what an instrumenter gives and refuses
 
 module _ (source : List ℕ) (program : Program) (ds : List Decision) where
+  -- the phases of the paths and of the map
+  abbrev Mapping : Result Accepted Reply → Type 0
+  Mapping = Then (Numbers source ds) (λ u. Then (Maps program ds) (Accepts source program))
+
   pub accepts : (m : Map) (a : Accepted) → All HasFewPaths ds → IsMapOf program m
       → a ≡ record { source = source; program = program; map = m }
-      → JudgesDecisions source program ds (Ok a)
+      → Mapping (Ok a)
   accepts m a few is_map is = (tt, few, (m, is_map, ap Ok is))
 
   -- the line on the decision that has too many paths
   pub refuses_paths : (at count line column : ℕ) → IsFault program ds (TooManyPaths at count)
       → line ≡ line_of source at → column ≡ column_of source at
-      → JudgesDecisions source program ds (Err (refusal SourceRefused (many_line line column (codes "paths") count)))
+      → Mapping (Err (refusal SourceRefused (many_line line column (codes "paths") count)))
   refuses_paths at count line column (d, many, at_is, count_is) line_is column_is =
       let root_line : line ≡ line_of source d.root.start = line_is ∙ ap (line_of source) at_is in
       let root_column : column ≡ column_of source d.root.start = column_is ∙ ap (column_of source) at_is in
@@ -104,6 +109,6 @@ module _ (source : List ℕ) (program : Program) (ds : List Decision) where
 
   -- and on a program that has too many bits
   pub refuses_bits : (count : ℕ) → IsFault program ds (TooManyBits count)
-      → JudgesDecisions source program ds (Err (refusal SourceRefused (bits_line count)))
+      → Mapping (Err (refusal SourceRefused (bits_line count)))
   refuses_bits count (few, many, is) =
       inr (tt, few, inl (many, ap (λ (n : ℕ). refusal SourceRefused (bits_line n)) is))

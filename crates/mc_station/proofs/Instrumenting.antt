@@ -17,7 +17,7 @@ use Rattle.mc_probe.specs.Table as table
 use Rattle.mc_probe.specs.Trees.{tree_of}
 use Rattle.mc_probe.proofs.ErasedPrograms.{programs_erase}
 use Rattle.mc_runner.specs.Laws.{IsReady}
-use Rattle.mc_station.specs.Runs.{words_needed}
+use Rattle.mc_station.specs.Tests.{words_needed}
 use Rattle.mc_station.specs.Seen.{ArePlanned, IsInstrumented, seen_accepted}
 use Rattle.mc_station.specs.declared.accepted.Accepted.{Accepted}
 

@@ -1,17 +1,22 @@
 -- How a stage leads to a reply, by what was found of its file.
-use Rattle.std.proofs.Common.{◌≡◌, ◌≤◌, ℕ, List, length, Option, Some, Result, Ok, Err, refl, sym, subst}
+use Rattle.std.proofs.Common.{◌≡◌, ◌≢◌, ◌≤◌, ℕ, List, length, Option, Some, Result, Ok, Err, refl, sym, subst}
 use Rattle.std.specs.Prelude.{IfOk}
+use Rattle.std.specs.Result.{IsErr}
 use Rattle.std.specs.declared.alloc.AllocError.{AllocError}
 use Rattle.mc_port.specs.Store.{Files, HasFile, IsLonger, and_asked}
 use Rattle.mc_station.specs.Calls as calls
 use Rattle.mc_station.specs.Calls.{Answers, Leads, Requests}
-use Rattle.mc_station.specs.Files.{File, limit_of, request_of}
-use Rattle.mc_station.specs.Reply.{Reply, cannot_read, longer, out_of_memory}
-use Rattle.mc_station.specs.Seen.{Gives, IsReplyTo, outcome_of, reply_to, seen_reply, seen_stage}
+use Rattle.mc_replies.specs.Files.{File, limit_of, request_of}
+use Rattle.mc_replies.specs.Reply.{Reply, cannot_read, longer, out_of_memory}
+use Rattle.mc_replies.specs.Seen.{Gives, IsReplyTo, outcome_of, reply_to, seen_reply}
+use Rattle.mc_station.specs.Seen.{seen_stage}
+use Rattle.mc_replies.specs.Status.{IsAnswer}
+use Rattle.mc_replies.specs.declared.status.Status.TheVariants as status
 use Rattle.mc_station.specs.Stages.{Ends, Judges, Stage, file_of}
-use Rattle.mc_station.specs.declared.refusal.Stop.{Stop}
-use Rattle.mc_station.specs.declared.refusal.Stop.TheVariants as stop
-use Rattle.mc_station.specs.declared.reply.Reply.{Reply as Given}
+use Rattle.mc_station.proofs.Ends.{end_answers}
+use Rattle.mc_replies.specs.declared.stop.Stop.{Stop}
+use Rattle.mc_replies.specs.declared.stop.Stop.TheVariants as stop
+use Rattle.mc_replies.specs.declared.reply.Reply.{Reply as Given}
 
 module _ (files : Option Files) (s : Stage) (asked : Requests) where
   pub finished : (r : Reply) → Ends s r → Leads files s asked r asked
@@ -24,6 +29,11 @@ module _ (files : Option Files) (s : Stage) (asked : Requests) where
   pub ended : (given : Result Given AllocError) → IfOk given (λ reply. Ends s (seen_reply reply)) → Leads files s asked (outcome_of given) asked
   ended (Ok reply) ends = finished (seen_reply reply) ends
   ended (Err e) ends = no_memory asked refl
+
+-- memory does not suffice before a file is asked for
+pub none_given : (files : Option Files) (s : Stage) (asked : Requests) (given : Result Given AllocError) → IsErr given → Leads files s asked (outcome_of given) asked
+none_given files s asked (Ok reply) is = absurd (cc is)
+none_given files s asked (Err e) is = no_memory files s asked asked refl
 
 module _ (files : Option Files) (s : Stage) (asked after : Requests) (f : File) (is : Some f ≡ file_of s) (then : after ≡ and_asked asked (request_of f)) where
   at_end : (r : Reply) → Leads files s asked r (and_asked asked (request_of f)) → Leads files s asked r after
@@ -51,3 +61,12 @@ module _ (files : Option Files) (s : Stage) (asked after : Requests) (f : File) 
   accepted t bytes same r end has short judges told_same leads =
       calls.accepted s t f bytes asked end r (sym is) (has, short) judges
       (subst (λ (a : Requests). Leads files t a r end) then (subst (λ (fs : Option Files). Leads fs t after r end) told_same leads))
+
+-- a stage that ends gives an answer, or memory does not suffice
+pub end_is_read : (s : Stage) (given : Result Given AllocError) → IfOk given (λ reply. Ends s (seen_reply reply)) → (outcome_of given).status ≢ status.CannotRead
+end_is_read s (Ok reply) ends is = subst IsAnswer is (end_answers s (seen_reply reply) ends)
+end_is_read s (Err e) ends is = cc is
+
+pub end_has_texts : (s : Stage) (given : Result Given AllocError) → IfOk given (λ reply. Ends s (seen_reply reply)) → IfOk given (λ reply. reply.status ≢ status.OutOfMemory)
+end_has_texts s (Ok reply) ends = λ is. subst IsAnswer is (end_answers s (seen_reply reply) ends)
+end_has_texts s (Err e) ends = tt

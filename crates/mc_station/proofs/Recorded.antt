@@ -9,10 +9,10 @@ use Rattle.mc_tests.specs.Seen.{seen_plans}
 use Rattle.mc_runner.specs.Recorded.{AreRecorded, told_by}
 use Rattle.mc_runner.specs.Laws.{EventsStand, ResultsArePlain}
 use Rattle.mc_station.specs.Ran.{IsRun}
-use Rattle.mc_station.specs.Runs.{names, results}
+use Rattle.mc_station.specs.Tests.{names, results}
 use Rattle.mc_station.specs.Seen.{ArePlanned, IsInstrumented, seen_accepted}
 use Rattle.mc_station.specs.declared.accepted.Accepted.{Accepted}
-use Rattle.mc_station.specs.declared.finish.Ran.{Ran}
+use Rattle.mc_station.specs.declared.ran.Ran.{Ran}
 use Rattle.mc_station.proofs.Instrumenting.{bits_are, ready}
 use Rattle.mc_station.proofs.Reported.{states_told}
 

@@ -1,10 +1,10 @@
 -- What the parts of the text of a command are, from what the tests gave.
 use Rattle.std.proofs.Common.{◌≡◌, ◌∙◌, ◌<◌, ◌^◌, ℕ, List, [], ◌∷◌, Some, Result, Ok, Err, length, map, refl, sym, ap, subst, arith}
-use Rattle.std.specs.Prelude.{All, IfOk}
+use Rattle.std.specs.Prelude.{All, IfOk, IsUtf8}
 use Rattle.std.specs.declared.alloc.AllocError.{AllocError}
 use Rattle.std.proofs.lemmas.List.{length-map}
 use Rattle.sha2.specs.Sha256.{sha256}
-use Rattle.mc_command.specs.declared.independence.Independence.{Independence}
+use Rattle.mc_command.specs.Command as command
 use Rattle.mc_core.specs.Matrix.{MatrixView}
 use Rattle.mc_typed.specs.Plans.{Plan}
 use Rattle.mc_typed.specs.Tree.{Program}
@@ -16,20 +16,23 @@ use Rattle.mc_oblige.specs.Evaluated.{AreEvaluated}
 use Rattle.mc_oblige.specs.Obligations.{obligations_of}
 use Rattle.mc_oblige.specs.Shown.{HasEvent}
 use Rattle.mc_oblige.specs.Verdicts.{AreVerdicts}
+use Rattle.mc_oblige.specs.declared.justification.Justification.{Justification}
 use Rattle.mc_oblige.specs.declared.evaluated.EvaluatedPath.{EvaluatedPath}
 use Rattle.mc_oblige.specs.declared.verdict.Verdict.{Verdict}
 use Rattle.mc_report.specs.Report as text
 use Rattle.mc_report.specs.Report.{AreJudged, IsReport}
 use Rattle.mc_report.specs.Status.{status_of}
-use Rattle.mc_report.specs.Text.{report_lines}
+use Rattle.mc_report.specs.Forms.{lines_in_form}
 use Rattle.mc_report.specs.VectorsText.{IsPresent, vectors_lines}
 use Rattle.mc_report.proofs.Judging.{reported}
 use Rattle.mc_report.proofs.Present.{present}
-use Rattle.mc_station.specs.Reply.{Reply, written}
-use Rattle.mc_station.specs.Runs.{Lists, Reports, mode_of, names, report, results, stands, states, status_where}
-use Rattle.mc_station.specs.Seen.{seen_reply}
+use Rattle.mc_replies.specs.Reply.{Reply, written}
+use Rattle.mc_replies.specs.Seen.{seen_reply}
+use Rattle.mc_replies.specs.declared.reply.Reply.{Reply as Given}
+use Rattle.mc_station.specs.Tests.{names, results, stands, states, status_where}
+use Rattle.mc_station.specs.commands.Report.{Reports, form_of, mode_of, report}
+use Rattle.mc_station.specs.commands.Vectors.{Lists}
 use Rattle.mc_station.specs.Source.{Accepted}
-use Rattle.mc_station.specs.declared.reply.Reply.{Reply as Given}
 
 -- the state stands in what is told of a test
 pub states_told : (rs : List TestResult) (p : Program) (plans : List Plan) → map told_of rs ≡ results p plans → map (λ (r : TestResult). r.state) rs ≡ states p plans
@@ -54,11 +57,11 @@ names_are_plans plans = length-map plans _
 
 -- ---- the reply of `report`
 
-module _ (shown_by : Independence) (accepted : Accepted) (plans : List Plan) where
+module _ (asked : command.Report) (accepted : Accepted) (plans : List Plan) (js : List Justification) where
   -- the parts of a report are those of its definition
-  pub report_is : (made : text.Report) (verdicts : List Verdict) → made.source ≡ accepted.source → made.digest ≡ sha256 accepted.source → made.mode ≡ mode_of shown_by → made.names ≡ names plans
+  pub report_is : (made : text.Report) (verdicts : List Verdict) → made.source ≡ accepted.source → made.digest ≡ sha256 accepted.source → made.mode ≡ mode_of asked.mode → made.names ≡ names plans
       → made.states ≡ states accepted.program plans → made.results ≡ Some (results accepted.program plans) → made.decisions ≡ accepted.map.decisions → made.obligations ≡ obligations_of accepted.map
-      → made.verdicts ≡ verdicts → made ≡ report shown_by accepted plans verdicts
+      → made.verdicts ≡ verdicts → made ≡ report asked.mode accepted plans verdicts
   report_is made verdicts source digest mode named state result decisions obligations verdict = λ i. record {
     source = source i;
     digest = digest i;
@@ -71,26 +74,26 @@ module _ (shown_by : Independence) (accepted : Accepted) (plans : List Plan) whe
     verdicts = verdict i;
   }
 
-  reports : (made : text.Report) (verdicts : List Verdict) (reply : Reply) → AreVerdicts (stands accepted plans) accepted.map (mode_of shown_by) [] verdicts → made ≡ report shown_by accepted plans verdicts
-      → reply ≡ written (status_of made) (report_lines made) → Reports shown_by accepted plans reply
+  reports : (made : text.Report) (verdicts : List Verdict) (reply : Reply) → AreVerdicts (stands accepted plans) accepted.map (mode_of asked.mode) js verdicts → made ≡ report asked.mode accepted plans verdicts
+      → reply ≡ written (status_of made) (lines_in_form (form_of asked.form) made) → Reports asked accepted plans js reply
   reports made verdicts reply are made_is reply_is = (
     verdicts,
     are,
-    reply_is ∙ ap (λ (r : text.Report). written (status_of r) (report_lines r)) made_is,
+    reply_is ∙ ap (λ (r : text.Report). written (status_of r) (lines_in_form (form_of asked.form) r)) made_is,
   )
 
   -- memory may not suffice for the text
-  pub told_reports : (made : text.Report) (verdicts : List Verdict) (given : Result Given AllocError) → AreVerdicts (stands accepted plans) accepted.map (mode_of shown_by) [] verdicts
-      → made ≡ report shown_by accepted plans verdicts → IfOk given (λ reply. seen_reply reply ≡ written (status_of made) (report_lines made)) → IfOk given (λ reply. Reports shown_by accepted plans (seen_reply reply))
+  pub told_reports : (made : text.Report) (verdicts : List Verdict) (given : Result Given AllocError) → AreVerdicts (stands accepted plans) accepted.map (mode_of asked.mode) js verdicts
+      → made ≡ report asked.mode accepted plans verdicts → IfOk given (λ reply. seen_reply reply ≡ written (status_of made) (lines_in_form (form_of asked.form) made)) → IfOk given (λ reply. Reports asked accepted plans js (seen_reply reply))
   told_reports made verdicts (Ok reply) are made_is reply_is = reports made verdicts (seen_reply reply) are made_is reply_is
   told_reports made verdicts (Err e) are made_is reply_is = tt
 
   -- a report can be written
-  pub can_be_written : (made : text.Report) (verdicts : List Verdict) (matrix : MatrixView) → made ≡ report shown_by accepted plans verdicts → length accepted.source < 2 ^ 31
-      → matrix.shape.tests ≡ length plans → AreVerdicts (HasEvent accepted.map matrix) accepted.map (mode_of shown_by) [] verdicts → IsReport made
-  can_be_written made verdicts matrix is short tests are =
+  pub can_be_written : (made : text.Report) (verdicts : List Verdict) (matrix : MatrixView) → made ≡ report asked.mode accepted plans verdicts → length accepted.source < 2 ^ 31
+      → matrix.shape.tests ≡ length plans → All (λ (j : Justification). IsUtf8 j.reason) js → AreVerdicts (HasEvent accepted.map matrix) accepted.map (mode_of asked.mode) js verdicts → IsReport made
+  can_be_written made verdicts matrix is short tests texts are =
       let many : matrix.shape.tests ≡ length (names plans) = tests ∙ sym (names_are_plans plans) in
-      let judged = reported accepted.map matrix (mode_of shown_by) [] verdicts (λ k d inside. absurd (omega arith)) are in
+      let judged = reported accepted.map matrix (mode_of asked.mode) js verdicts texts are in
       subst IsReport (sym is) record {
         short = short;
         states = as_many_states accepted.program plans;

@@ -1,6 +1,7 @@
 -- Words and files call for at most one reply.
 use Rattle.std.proofs.Common.{◌≡◌, ◌∙◌, ℕ, List, [], length, drop, Option, Some, None, Result, Ok, Err, refl, sym, ap, subst, inl, inr, arith}
-use Rattle.mc_command.specs.Command.{Command, Report, Vectors, command_of, fuel_of}
+use Rattle.mc_command.specs.Command as command
+use Rattle.mc_command.specs.Command.{Task, command_of}
 use Rattle.mc_lex.specs.declared.token.Dialect.TheVariants.{Plain}
 use Rattle.mc_lex.specs.Tokens.{Tok}
 use Rattle.mc_lex.proofs.Scanning.{one_scan}
@@ -9,73 +10,37 @@ use Rattle.mc_tree.specs.Tree.{Item}
 use Rattle.mc_reading.proofs.OneTree.{one_tree}
 use Rattle.mc_typed.specs.Tree.{Program}
 use Rattle.mc_typed.specs.Plans.{Plan}
+use Rattle.mc_tests.specs.File.{tests_file}
 use Rattle.mc_faults.specs.declared.fault.Fault.{Fault}
 use Rattle.mc_typing.specs.Typing.{faults_of}
 use Rattle.mc_paths.specs.Paths.{count_of}
 use Rattle.mc_roots.specs.Decisions.{AreDecisions, Decision, IsFirstLarge}
 use Rattle.mc_roots.proofs.Once as decided
 use Rattle.mc_port.specs.Store.{Files, IsLonger, and_asked}
-use Rattle.mc_oblige.specs.declared.evaluated.EvaluatedPath.{EvaluatedPath}
-use Rattle.mc_oblige.specs.declared.verdict.Verdict.{Verdict}
-use Rattle.mc_oblige.proofs.Ascending.{one_list_of_paths}
-use Rattle.mc_oblige.proofs.Single.{one}
-use Rattle.mc_report.specs.Status.{status_of}
-use Rattle.mc_report.specs.Text.{report_lines}
-use Rattle.mc_report.specs.VectorsText.{vectors_lines}
+use Rattle.mc_oblige.specs.Obligations.{obligations_of}
+use Rattle.mc_oblige.specs.declared.justification.Justification.{Justification}
+use Rattle.mc_justify.specs.Justifications.{justifications_of}
+use Rattle.mc_replies.specs.Files.{File, Holds, limit_of, request_of}
+use Rattle.mc_replies.specs.Phases.{Agree, AreOne, IsOne, IsOnSyntax}
+use Rattle.mc_replies.specs.Reply.{Reply, longer, refusal}
+use Rattle.mc_replies.specs.Status.{IsAnswer}
+use Rattle.mc_replies.specs.Texts.{conditions_line, fault_line, outside_line, paths_line, start_of, syntax_line, tests_line}
+use Rattle.mc_replies.specs.declared.status.Status.TheVariants.{SourceRefused, TestsRefused, JustificationsRefused}
+use Rattle.mc_replies.proofs.Phases.{one_ok, one_read, one_then}
 use Rattle.mc_station.specs.Calls as calls
 use Rattle.mc_station.specs.Calls.{Answers, Call, CallsFor, Fails, IsKnown, Leads, Requests}
-use Rattle.mc_station.specs.Files.{File, Holds, limit_of, request_of}
-use Rattle.mc_station.specs.Laws.{AreOne, IsOnSyntax}
-use Rattle.mc_station.specs.Reply.{Reply, longer, refusal, written}
-use Rattle.mc_station.specs.Runs.{Finishes, Tells, mode_of, names, report, results, stands, states, status_where}
-use Rattle.mc_station.specs.Source.{Accepted, Accepts, Admits, Decides, JudgesDecisions, JudgesNames, JudgesProgram, JudgesSource, JudgesTokens, JudgesTree, Lexes, Maps, Numbers, Parses, Then, Types}
+use Rattle.mc_station.specs.Justified.{reasons_line}
+use Rattle.mc_station.specs.Source.{Accepted, Admits, Decides, JudgesSource, Lexes, Maps, Numbers, Parses, Types, type_line}
 use Rattle.mc_station.specs.Stages as stages
-use Rattle.mc_station.specs.Stages.{Ends, Judges, JudgesTests, Stage, file_of, first_stage}
-use Rattle.mc_station.specs.Status.{IsAnswer}
-use Rattle.mc_station.specs.Texts.{conditions_line, fault_line, outside_line, paths_line, start_of, syntax_line, tests_line, type_line}
-use Rattle.mc_station.specs.declared.status.Status.TheVariants.{SourceRefused, TestsRefused}
+use Rattle.mc_station.specs.Stages.{Ends, Judges, Stage, Tells, after_source, after_tests, file_of, first_stage, justified_by}
+use Rattle.mc_station.specs.Tests.{Fits}
 use Rattle.mc_station.proofs.Firsts.{one_first, none_first}
 use Rattle.mc_station.proofs.Decided.{none_large, one_large, none_with_many, one_with_many}
+use Rattle.mc_station.proofs.Listing.{one_list}
 use Rattle.mc_station.proofs.Mapped.{few_bits, one_map}
+use Rattle.mc_station.proofs.Reporting.{one_report}
 
--- ---- phases
-
--- two verdicts are one
-abbrev Agree : {A : Type 0} → Result A Reply → Result A Reply → Type 0
-Agree (Ok a) (Ok b) = a ≡ b
-Agree (Ok a) (Err s) = ⊥
-Agree (Err r) (Ok b) = ⊥
-Agree (Err r) (Err s) = AreOne r s
-
--- a phase gives at most one thing
-abbrev IsOne : {A : Type 0} → (Result A Reply → Type 0) → Type 0
-IsOne {A} Phase = (u v : Result A Reply) → Phase u → Phase v → Agree u v
-
-one_then : {A B : Type 0} (Phase : Result A Reply → Type 0) (Next : A → Result B Reply → Type 0) → IsOne Phase → ((a : A) → Phase (Ok a) → IsOne (Next a)) → IsOne (Then Phase Next)
-one_then {A} {B} Phase Next one next (Ok b) (Ok c) (a, p, q) (d, r, s) =
-    let same : a ≡ d = one (Ok a) (Ok d) p r in
-    next d r (Ok b) (Ok c) (subst (λ (x : A). Next x (Ok b)) same q) s
-one_then {A} {B} Phase Next one next (Ok b) (Err e) (a, p, q) (inl r) = absurd (one (Ok a) (Err e) p r)
-one_then {A} {B} Phase Next one next (Ok b) (Err e) (a, p, q) (inr (d, r, s)) =
-    let same : a ≡ d = one (Ok a) (Ok d) p r in
-    next d r (Ok b) (Err e) (subst (λ (x : A). Next x (Ok b)) same q) s
-one_then {A} {B} Phase Next one next (Err e) (Ok c) (inl p) (d, r, s) = absurd (one (Err e) (Ok d) p r)
-one_then {A} {B} Phase Next one next (Err e) (Ok c) (inr (a, p, q)) (d, r, s) =
-    let same : a ≡ d = one (Ok a) (Ok d) p r in
-    next d r (Err e) (Ok c) (subst (λ (x : A). Next x (Err e)) same q) s
-one_then {A} {B} Phase Next one next (Err e) (Err f) (inl p) (inl r) = one (Err e) (Err f) p r
-one_then {A} {B} Phase Next one next (Err e) (Err f) (inl p) (inr (d, r, s)) = absurd (one (Err e) (Ok d) p r)
-one_then {A} {B} Phase Next one next (Err e) (Err f) (inr (a, p, q)) (inl r) = absurd (one (Ok a) (Err f) p r)
-one_then {A} {B} Phase Next one next (Err e) (Err f) (inr (a, p, q)) (inr (d, r, s)) =
-    let same : a ≡ d = one (Ok a) (Ok d) p r in
-    next d r (Err e) (Err f) (subst (λ (x : A). Next x (Err e)) same q) s
-
--- one thing alone
-one_ok : {A : Type 0} (t : A) → IsOne (λ (v : Result A Reply). v ≡ Ok t)
-one_ok t (Ok a) (Ok b) p q = cc (p, q)
-one_ok t (Ok a) (Err s) p q = absurd (cc q)
-one_ok t (Err r) (Ok b) p q = absurd (cc p)
-one_ok t (Err r) (Err s) p q = absurd (cc p)
+-- ---- the phases of a source
 
 one_lexed : (source : List ℕ) → IsOne (Lexes source)
 one_lexed source (Ok ts) (Ok us) p q = (one_scan Plain source ts us None None p q).0
@@ -139,76 +104,58 @@ one_mapped program ds are (Ok m) (Err s) p (many, is) = absurd (few_bits program
 one_mapped program ds are (Err r) (Ok n) (many, is) q = absurd (few_bits program n q ds are many)
 one_mapped program ds are (Err r) (Err s) (many, is) (also, other) = inl (is ∙ sym other)
 
-one_decisions_judged : (source : List ℕ) (program : Program) (ds : List Decision) → AreDecisions program.functions ds → IsOne (JudgesDecisions source program ds)
-one_decisions_judged source program ds are =
-    one_then (Numbers source ds) (λ u. Then (Maps program ds) (Accepts source program)) (one_numbered source ds)
-    (λ u few. one_then (Maps program ds) (Accepts source program) (one_mapped program ds are) (λ m is. one_ok (record { source = source; program = program; map = m })))
-
-one_program_judged : (source : List ℕ) (program : Program) → IsOne (JudgesProgram source program)
-one_program_judged source program = one_then (Decides source program) (JudgesDecisions source program) (one_decided source program) (λ ds are. one_decisions_judged source program ds are.0)
-
-one_names_judged : (source : List ℕ) (unit : List Item) → IsOne (JudgesNames source unit)
-one_names_judged source unit = one_then (Types source unit) (JudgesProgram source) (one_typed source unit) (λ program is. one_program_judged source program)
-
-one_tree_judged : (source : List ℕ) (unit : List Item) → IsOne (JudgesTree source unit)
-one_tree_judged source unit = one_then (Admits source unit) (λ u. JudgesNames source unit) (one_admitted source unit) (λ u is. one_names_judged source unit)
-
-one_tokens_judged : (source : List ℕ) (tokens : List Tok) → IsOne (JudgesTokens source tokens)
-one_tokens_judged source tokens = one_then (Parses source tokens) (JudgesTree source) (one_parsed source tokens) (λ unit is. one_tree_judged source unit)
-
 one_source : (source : List ℕ) → IsOne (JudgesSource source)
-one_source source = one_then (Lexes source) (JudgesTokens source) (one_lexed source) (λ tokens is. one_tokens_judged source tokens)
+one_source source =
+    one_then _ _ (one_lexed source) (λ tokens lexes.
+    one_then _ _ (one_parsed source tokens) (λ unit parses.
+    one_then _ _ (one_admitted source unit) (λ u admits.
+    one_then _ _ (one_typed source unit) (λ program types.
+    one_then _ _ (one_decided source program) (λ ds decides.
+    one_then _ _ (one_numbered source ds) (λ v numbers.
+    one_then _ _ (one_mapped program ds decides.0) (λ m maps. one_ok (record { source = source; program = program; map = m }))))))))
 
-one_tests : (program : Program) (fuel : ℕ) (bytes : List ℕ) → IsOne (JudgesTests program fuel bytes)
-one_tests program fuel bytes (Ok ps) (Ok qs) p q = cc (p, q)
-one_tests program fuel bytes (Ok ps) (Err r) p (fault, q, is) = absurd (cc (p, q))
-one_tests program fuel bytes (Err r) (Ok qs) (fault, p, is) q = absurd (cc (p, q))
-one_tests program fuel bytes (Err r) (Err s) (f, p, is) (g, q, also) =
-    let same : f ≡ g = cc (p, q) in
-    inl (is ∙ ap (λ x. refusal TestsRefused (tests_line x)) same ∙ sym also)
+-- ---- stages
+
+one_fit : (accepted : Accepted) (plans : List Plan) → IsOne (Fits accepted plans)
+one_fit accepted plans (Ok u) (Ok v) few also = refl
+one_fit accepted plans (Ok u) (Err s) few (large, is) = absurd (omega (arith, large, few))
+one_fit accepted plans (Err r) (Ok v) (large, is) few = absurd (omega (arith, large, few))
+one_fit accepted plans (Err r) (Err s) (large, is) (also, other) = inl (is ∙ sym other)
 
 one_verdict : (s : Stage) (bytes : List ℕ) → IsOne (Judges s bytes)
-one_verdict stages.usage bytes u v p q = absurd p
-one_verdict (stages.source command) bytes u v p q =
-    one_then (JudgesSource bytes) (λ accepted w. w ≡ Ok (stages.tests command accepted)) (one_source bytes) (λ accepted is. one_ok (stages.tests command accepted)) u v p q
-one_verdict (stages.tests command accepted) bytes u v p q =
-    one_then (JudgesTests accepted.program (fuel_of command) bytes) (λ plans w. w ≡ Ok (stages.run command accepted plans)) (one_tests accepted.program (fuel_of command) bytes) (λ plans is. one_ok (stages.run command accepted plans)) u v p q
-one_verdict (stages.run command accepted plans) bytes u v p q = absurd p
+one_verdict stages.usage bytes = λ u v p q. absurd p
+one_verdict (stages.source name action) bytes =
+    one_then _ _ (one_source bytes) (λ accepted is. one_ok (after_source action accepted))
+one_verdict (stages.tests run accepted) bytes =
+    one_then _ _ (one_read (tests_file accepted.program run.fuel bytes) (λ fault. refusal TestsRefused (tests_line fault))) (λ plans is.
+    one_then _ _ (one_fit accepted plans) (λ u fits. one_ok (after_tests (justified_by run.task) accepted (stages.tested run plans))))
+one_verdict (stages.reasons name accepted basis) bytes =
+    one_then _ _ (one_read (justifications_of bytes (obligations_of accepted.map) accepted.source) (λ fault. refusal JustificationsRefused (reasons_line fault))) (λ js is. one_ok (stages.last accepted basis js))
+one_verdict (stages.last accepted basis js) bytes = λ u v p q. absurd p
 
 -- ---- ends
 
-one_told : (command : Command) (accepted : Accepted) (plans : List Plan) (r q : Reply) → Tells command accepted plans r → Tells command accepted plans q → r ≡ q
-one_told (Report source tests mode fuel) accepted plans r q (verdicts, are, is) (others, also, other) =
-    let same : verdicts ≡ others = one (stands accepted plans) accepted.map (mode_of mode) [] verdicts others are also in
-    is ∙ ap (λ (vs : List Verdict). written (status_of (report mode accepted plans vs)) (report_lines (report mode accepted plans vs))) same ∙ sym other
-one_told (Vectors source tests fuel) accepted plans r q (paths, are, is) (others, also, other) =
-    let same : paths ≡ others = one_list_of_paths (stands accepted plans) accepted.map paths others are also in
-    is
-    ∙ ap (λ (ps : List EvaluatedPath). written (status_where (states accepted.program plans))
-    (vectors_lines (names plans) (states accepted.program plans) (results accepted.program plans) accepted.map.decisions ps)) same
-    ∙ sym other
-
-one_finish : (command : Command) (accepted : Accepted) (plans : List Plan) (r q : Reply) → Finishes command accepted plans r → Finishes command accepted plans q → r ≡ q
-one_finish command accepted plans r q (inl (large, is)) (inl (also, other)) = is ∙ sym other
-one_finish command accepted plans r q (inl (large, is)) (inr (few, tells)) = absurd (omega (arith, large, few))
-one_finish command accepted plans r q (inr (few, tells)) (inl (large, is)) = absurd (omega (arith, large, few))
-one_finish command accepted plans r q (inr (few, tells)) (inr (also, others)) = one_told command accepted plans r q tells others
+one_told : (task : Task) (accepted : Accepted) (plans : List Plan) (js : List Justification) (r q : Reply) → Tells task accepted plans js r → Tells task accepted plans js q → r ≡ q
+one_told (command.report asked) accepted plans js r q tells others = one_report asked accepted plans js r q tells others
+one_told command.vectors accepted plans js r q tells others = one_list accepted plans r q tells others
 
 -- a stage ends with one reply
 one_end_reply : (s : Stage) (r q : Reply) → Ends s r → Ends s q → r ≡ q
 one_end_reply stages.usage r q is also = is ∙ sym also
-one_end_reply (stages.source command) r q ends also = absurd ends
-one_end_reply (stages.tests command accepted) r q ends also = absurd ends
-one_end_reply (stages.run command accepted plans) r q ends also = one_finish command accepted plans r q ends also
+one_end_reply (stages.source name action) r q ends also = absurd ends
+one_end_reply (stages.tests run accepted) r q ends also = absurd ends
+one_end_reply (stages.reasons name accepted basis) r q ends also = absurd ends
+one_end_reply (stages.last accepted (stages.tested run plans) js) r q ends also = one_told run.task accepted plans js r q ends also
 
 -- and then asks for no file
-no_file : (s : Stage) (r : Reply) (f : File) → Ends s r → file_of s ≡ Some f → ⊥
+pub no_file : (s : Stage) (r : Reply) (f : File) → Ends s r → file_of s ≡ Some f → ⊥
 no_file stages.usage r f ends is = cc is
-no_file (stages.source command) r f ends is = absurd ends
-no_file (stages.tests command accepted) r f ends is = absurd ends
-no_file (stages.run command accepted plans) r f ends is = cc is
+no_file (stages.source name action) r f ends is = absurd ends
+no_file (stages.tests run accepted) r f ends is = absurd ends
+no_file (stages.reasons name accepted basis) r f ends is = absurd ends
+no_file (stages.last accepted basis js) r f ends is = cc is
 
--- ---- stages
+-- ---- answers
 
 module _ (files : Files) where
   -- a file that is told has one content
@@ -268,24 +215,18 @@ one_end files s a b c d r q (calls.accepted _ t f bytes _ _ _ is holds judges le
 
 -- ---- calls
 
-one_usage : (files : Option Files) (a b : Requests) (r : Reply) → Leads files stages.usage a r b → IsAnswer r.status → Ends stages.usage r
-one_usage files a b r (calls.answers _ _ _ _ (calls.finished x p)) answer = p
-one_usage files a b r (calls.answers _ _ _ _ (calls.too_long f p long)) answer = absurd (cc p)
-one_usage files a b r (calls.answers _ _ _ _ (calls.refused f bytes x p holds judges)) answer = absurd judges
-one_usage files a b r (calls.fails _ _ _ _ x) answer = absurd (no_fault stages.usage a b r x answer)
-one_usage files a b r (calls.accepted _ t f bytes _ _ _ is holds judges leads) answer = absurd judges
+-- a stage that asks for no file ends
+ends_alone : (files : Option Files) (s : Stage) (a b : Requests) (r : Reply) → file_of s ≡ None → Leads files s a r b → IsAnswer r.status → Ends s r
+ends_alone files s a b r none (calls.answers _ _ _ _ (calls.finished x p)) answer = p
+ends_alone files s a b r none (calls.answers _ _ _ _ (calls.too_long f p long)) answer = absurd (cc (none, p))
+ends_alone files s a b r none (calls.answers _ _ _ _ (calls.refused f bytes x p holds judges)) answer = absurd (cc (none, p))
+ends_alone files s a b r none (calls.fails _ _ _ _ x) answer = absurd (no_fault s a b r x answer)
+ends_alone files s a b r none (calls.accepted _ t f bytes _ _ _ is holds judges leads) answer = absurd (cc (none, is))
 
 pub one_reply : (call : Call) (r q : Reply) → IsKnown call → CallsFor call r → CallsFor call q → AreOne r q
 one_reply call r q (inl none) (p, (a, b, leads)) (o, (c, d, also)) =
-    let first : first_stage (command_of call.words) ≡ stages.usage = ap first_stage none in
-    let one = one_usage call.files a b r (subst (λ (s : Stage). Leads call.files s a r b) first leads) p in
-    let two = one_usage call.files c d q (subst (λ (s : Stage). Leads call.files s c q d) first also) o in
-    inl (one ∙ sym two)
+    let first = first_stage (command_of call.words) in
+    inl (one_end_reply first r q (ends_alone call.files first a b r none leads p) (ends_alone call.files first c d q none also o))
 one_reply call r q (inr (files, told)) (p, (a, b, leads)) (o, (c, d, also)) =
     let first = first_stage (command_of call.words) in
     one_end files first a b c d r q (subst (λ (f : Option Files). Leads f first a r b) told leads) (subst (λ (f : Option Files). Leads f first c q d) told also) p o
-
--- two replies that are one have one status
-pub same_status : (r q : Reply) → AreOne r q → r.status ≡ q.status
-same_status r q (inl is) = ap (λ (x : Reply). x.status) is
-same_status r q (inr ((l, c, is), (m, d, also))) = ap (λ (x : Reply). x.status) is ∙ sym (ap (λ (x : Reply). x.status) also)

@@ -2,10 +2,10 @@
 use Rattle.std.specs.Prelude.{◌≡◌, ◌⊎◌, ℕ, List, Option, Some, None, Ok, Err}
 use Rattle.mc_command.specs.Command.{command_of}
 use Rattle.mc_port.specs.Store.{Files, IsLonger, Request, State, and_asked}
-use Rattle.mc_station.specs.Files.{File, Holds, limit_of, request_of}
-use Rattle.mc_station.specs.Reply.{Reply, cannot_read, longer, out_of_memory}
+use Rattle.mc_replies.specs.Files.{File, Holds, limit_of, request_of}
+use Rattle.mc_replies.specs.Reply.{Reply, cannot_read, longer, out_of_memory}
 use Rattle.mc_station.specs.Stages.{Ends, Judges, Stage, file_of, first_stage}
-use Rattle.mc_station.specs.Status.{IsAnswer}
+use Rattle.mc_replies.specs.Status.{IsAnswer}
 
 -- what was asked of the store, where it is told
 abbrev pub Requests : Type 0
@@ -61,6 +61,8 @@ CallsFor call reply =
     IsAnswer reply.status
     × ((asked : Requests) × (after : Requests) × LeadsTo call asked reply after)
 
--- all that the words ask for is told: they are not a command, or the store tells its files
+-- all that the words ask for is told: they ask for no file, or the store tells its files
 abbrev pub IsKnown : Call → Type 0
-IsKnown call = (command_of call.words ≡ None) ⊎ ((files : Files) × (call.files ≡ Some files))
+IsKnown call =
+    (file_of (first_stage (command_of call.words)) ≡ None)
+    ⊎ ((files : Files) × (call.files ≡ Some files))

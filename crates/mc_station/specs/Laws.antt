@@ -1,25 +1,15 @@
 -- Laws of what calls lead to.
-use Rattle.std.specs.Prelude.{◌≡◌, ◌↔◌, ◌⊎◌, ℕ, None, codes, Some}
+use Rattle.std.specs.Prelude.{◌≡◌, ◌↔◌, ◌++◌, ℕ, List, None, Some, Option, option_map, take}
 use Rattle.mc_command.specs.Command.{command_of}
-use Rattle.mc_port.specs.Store.{and_asked}
+use Rattle.mc_port.specs.Store.{Request, and_asked}
+use Rattle.mc_replies.specs.Files.{File, request_of}
+use Rattle.mc_replies.specs.Phases.{AreOne, IsSilent}
+use Rattle.mc_replies.specs.Reply.{Reply, cannot_read}
+use Rattle.mc_replies.specs.Status.{IsAfterSource, IsAnswer}
+use Rattle.mc_replies.specs.declared.file.FileKind.TheVariants.{Source}
+use Rattle.mc_replies.specs.declared.status.Status.TheVariants.{CannotRead, NoCommand, SourceRefused}
 use Rattle.mc_station.specs.Calls.{Call, CallsFor, IsKnown, LeadsTo, Requests}
-use Rattle.mc_station.specs.Files.{File, request_of}
-use Rattle.mc_station.specs.Reply.{Reply, refusal}
-use Rattle.mc_station.specs.Stages.{file_of, first_stage}
-use Rattle.mc_station.specs.Status.{IsAnswer}
-use Rattle.mc_station.specs.Texts.{place_line}
-use Rattle.mc_station.specs.declared.file.FileKind.TheVariants.{Source}
-use Rattle.mc_station.specs.declared.status.Status.TheVariants.{NoCommand, SourceRefused}
-
--- a reply on the syntax of a source, at some place
-abbrev pub IsOnSyntax : Reply → Type 0
-IsOnSyntax r =
-    (line : ℕ) × (column : ℕ)
-    × (r ≡ refusal SourceRefused (place_line line column (codes "syntax")))
-
--- one reply, or two on the syntax, which may name different places
-abbrev pub AreOne : Reply → Reply → Type 0
-AreOne r s = (r ≡ s) ⊎ (IsOnSyntax r × IsOnSyntax s)
+use Rattle.mc_station.specs.Stages.{file_of, first_stage, requests_left}
 
 -- where all that the words ask for is told, they call for at most one reply, but for the place of
 -- a fault of the syntax
@@ -35,10 +25,38 @@ NoCommandAlone =
     → IsAnswer r.status
     → (r.status ≡ NoCommand) ↔ (command_of call.words ≡ None)
 
--- where the source is refused, it was asked for, and nothing else
+-- where a file is asked for and the source is refused, the source was asked for, and nothing else
 abbrev pub SourceAlone : Type 0
 SourceAlone =
+    (call : Call) (asked after : Requests) (r : Reply) (file : File)
+    → file_of (first_stage (command_of call.words)) ≡ Some file
+    → LeadsTo call asked r after → r.status ≡ SourceRefused
+    → (file.kind ≡ Source) × (after ≡ and_asked asked (request_of file))
+
+-- a reply to a command whose source is accepted, if nothing fails
+abbrev pub IsLater : Reply → Type 0
+IsLater r = IsAfterSource r.status × IsSilent r
+
+-- nothing goes to the output but with a text that is written whole
+abbrev pub RefusalsAreSilent : Type 0
+RefusalsAreSilent =
+    (call : Call) (asked after : Requests) (r : Reply) → LeadsTo call asked r after → IsSilent r
+
+-- what was asked for before, where it is told, and then these
+abbrev pub and_all : Requests → List Request → Requests
+and_all asked requests = option_map (λ rs. rs ++ requests) asked
+
+-- what was asked for in a call is a first part of what its command asks for, in order
+abbrev pub AskedInOrder : Type 0
+AskedInOrder =
     (call : Call) (asked after : Requests) (r : Reply) → LeadsTo call asked r after
-    → r.status ≡ SourceRefused
-    → (file : File) × (file_of (first_stage (command_of call.words)) ≡ Some file)
-    × (file.kind ≡ Source) × (after ≡ and_asked asked (request_of file))
+    → (n : ℕ)
+    × (after ≡ and_all asked (take n (requests_left (first_stage (command_of call.words)))))
+
+-- a reply on a file that cannot be read names the one that was asked for last
+abbrev pub LastIsNamed : Type 0
+LastIsNamed =
+    (call : Call) (asked after : Requests) (r : Reply) → LeadsTo call asked r after
+    → r.status ≡ CannotRead
+    → (file : File) × (before : Requests)
+    × (r ≡ cannot_read file) × (after ≡ and_asked before (request_of file))

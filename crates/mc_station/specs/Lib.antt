@@ -1,10 +1,8 @@
 -- What words and files call for: the status, the texts, and the files that are asked for.
-pub mod Status
-pub mod Files
-pub mod Texts
-pub mod Reply
 pub mod Source
-pub mod Runs
+pub mod Tests
+pub mod commands
+pub mod Justified
 pub mod Stages
 pub mod Calls
 pub mod Laws

@@ -4,9 +4,9 @@ use Rattle.mc_steps.specs.Events.{Event}
 use Rattle.mc_typed.specs.Plans.{Plan}
 use Rattle.mc_meaning.specs.Seen.{told_of}
 use Rattle.mc_oblige.specs.Shown.{HasEvent}
-use Rattle.mc_station.specs.Runs.{names, results, stands, states}
+use Rattle.mc_station.specs.Tests.{names, results, stands, states}
 use Rattle.mc_station.specs.Source.{Accepted}
-use Rattle.mc_station.specs.declared.finish.Ran.{Ran}
+use Rattle.mc_station.specs.declared.ran.Ran.{Ran}
 
 -- the matrix has the events that stand, and the tests have their names, states and results
 pub record IsRun (accepted : Accepted) (plans : List Plan) (ran : Ran) : Type 0 where

@@ -17,15 +17,11 @@ use Rattle.mc_roots.specs.Decisions.{Decision, AreDecisions, IsSmall, IsFirstLar
 use Rattle.mc_paths.specs.Paths.{count_of}
 use Rattle.mc_probe.specs.Maps.{Map, IsMapOf}
 use Rattle.mc_map.specs.Faults.{HasFewPaths, IsFirstWithMany, bits_of, most_bits}
-use Rattle.mc_station.specs.Reply.{Reply, refusal}
-use Rattle.mc_station.specs.Texts.{bits_line, conditions_line, fault_line, outside_line, paths_line, syntax_line, type_line}
-use Rattle.mc_station.specs.declared.status.Status.TheVariants.{SourceRefused}
-
--- a phase, and the next one on what it gives: the first that refuses answers
-abbrev pub Then : {A B : Type 0} → (Result A Reply → Type 0) → (A → Result B Reply → Type 0)
-    → Result B Reply → Type 0
-Then {A} Phase Next (Ok b) = (a : A) × Phase (Ok a) × Next a (Ok b)
-Then {A} Phase Next (Err reply) = Phase (Err reply) ⊎ ((a : A) × Phase (Ok a) × Next a (Err reply))
+use Rattle.mc_types.specs.Faults.{kind_word}
+use Rattle.mc_replies.specs.Phases.{Then}
+use Rattle.mc_replies.specs.Reply.{Reply, refusal}
+use Rattle.mc_replies.specs.Texts.{bits_line, conditions_line, fault_line, line_at, outside_line, paths_line, syntax_line}
+use Rattle.mc_replies.specs.declared.status.Status.TheVariants.{SourceRefused}
 
 -- the tokens of a source, or the first place without a token (C17 6.4)
 abbrev pub Lexes : List ℕ → Result (List Tok) Reply → Type 0
@@ -49,6 +45,10 @@ Admits source unit (Ok u) = first_outside (nodes_of_unit unit) ≡ None
 Admits source unit (Err reply) =
     (outside : Outside) × (first_outside (nodes_of_unit unit) ≡ Some outside)
     × (reply ≡ refusal SourceRefused (outside_line source outside))
+
+-- the line on a fault of names and types
+abbrev pub type_line : (source : List ℕ) → Fault → List ℕ
+type_line source f = line_at source (Some f.at) (kind_word f.kind)
 
 -- the typed program of a unit, or its first fault of names and types (C17 6.2 to 6.9)
 abbrev pub Types : List ℕ → List Item → Result Program Reply → Type 0
@@ -93,27 +93,13 @@ pub record Accepted : Type 0 where
 abbrev pub Accepts : List ℕ → Program → Map → Result Accepted Reply → Type 0
 Accepts source program m v = v ≡ Ok (record { source = source; program = program; map = m })
 
--- the phases after the conditions
-abbrev pub JudgesDecisions : List ℕ → Program → List Decision → Result Accepted Reply → Type 0
-JudgesDecisions source program ds =
-    Then (Numbers source ds) (λ u. Then (Maps program ds) (Accepts source program))
-
--- the phases after names and types
-abbrev pub JudgesProgram : List ℕ → Program → Result Accepted Reply → Type 0
-JudgesProgram source program = Then (Decides source program) (JudgesDecisions source program)
-
--- the phases after the outside forms
-abbrev pub JudgesNames : List ℕ → List Item → Result Accepted Reply → Type 0
-JudgesNames source unit = Then (Types source unit) (JudgesProgram source)
-
--- the phases after the syntax
-abbrev pub JudgesTree : List ℕ → List Item → Result Accepted Reply → Type 0
-JudgesTree source unit = Then (Admits source unit) (λ u. JudgesNames source unit)
-
--- the phases after the tokens
-abbrev pub JudgesTokens : List ℕ → List Tok → Result Accepted Reply → Type 0
-JudgesTokens source tokens = Then (Parses source tokens) (JudgesTree source)
-
--- what a source is accepted as, or why it is refused
+-- What a source is accepted as, or why it is refused: its phases in a row.
 abbrev pub JudgesSource : List ℕ → Result Accepted Reply → Type 0
-JudgesSource source = Then (Lexes source) (JudgesTokens source)
+JudgesSource source =
+    Then (Lexes source) (λ tokens.
+    Then (Parses source tokens) (λ unit.
+    Then (Admits source unit) (λ u.
+    Then (Types source unit) (λ program.
+    Then (Decides source program) (λ ds.
+    Then (Numbers source ds) (λ v.
+    Then (Maps program ds) (Accepts source program)))))))

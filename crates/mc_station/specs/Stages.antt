@@ -1,72 +1,144 @@
 -- The stages of the commands. A stage asks for a file and accepts it, which leads to the next
 -- stage, or refuses it; the last stage of a command asks for none and makes the texts.
-use Rattle.std.specs.Prelude.{◌≡◌, ◌≤◌, ℕ, List, Option, Some, None, Result, Ok, Err}
-use Rattle.mc_command.specs.Command.{Command, source_of, tests_of, fuel_of}
+use Rattle.std.specs.Prelude.{◌≡◌, ◌≤◌, ℕ, List, [], ◌∷◌, Option, Some, None, Result, Ok, Err}
+use Rattle.mc_command.specs.Command as command
+use Rattle.mc_command.specs.Command.{Action, Command, Run, Task}
+use Rattle.mc_port.specs.Store.{Request}
 use Rattle.mc_typed.specs.Tree.{Program}
 use Rattle.mc_typed.specs.Plans.{Plan}
-use Rattle.mc_tests.specs.declared.fault.TestFault.{TestFault}
 use Rattle.mc_tests.specs.File.{tests_file}
-use Rattle.mc_station.specs.Files.{File, limit_of}
-use Rattle.mc_station.specs.Reply.{Reply, refusal}
-use Rattle.mc_station.specs.Runs.{Finishes}
-use Rattle.mc_station.specs.Source.{Accepted, JudgesSource, Then}
-use Rattle.mc_station.specs.Texts.{tests_line, usage_text}
-use Rattle.mc_station.specs.declared.file.FileKind.TheVariants.{Source, Tests}
-use Rattle.mc_station.specs.declared.status.Status.TheVariants.{NoCommand, TestsRefused}
+use Rattle.mc_oblige.specs.Obligations.{obligations_of}
+use Rattle.mc_oblige.specs.declared.justification.Justification.{Justification}
+use Rattle.mc_justify.specs.Justifications.{justifications_of}
+use Rattle.mc_replies.specs.Files.{File, limit_of, request_of}
+use Rattle.mc_replies.specs.Phases.{Reads, Then}
+use Rattle.mc_replies.specs.Reply.{Reply, refusal}
+use Rattle.mc_replies.specs.Texts.{tests_line, usage_text}
+use Rattle.mc_replies.specs.declared.file.FileKind.TheVariants as kind
+use Rattle.mc_replies.specs.declared.status.Status.TheVariants.{NoCommand, TestsRefused, JustificationsRefused}
+use Rattle.mc_station.specs.Justified.{reasons_line}
+use Rattle.mc_station.specs.Source.{Accepted, JudgesSource}
+use Rattle.mc_station.specs.Tests.{Fits}
+use Rattle.mc_station.specs.commands.Report.{Reports}
+use Rattle.mc_station.specs.commands.Vectors.{Lists}
+
+-- what the last stage of a command stands on, beside its source
+pub data Basis : Type 0 where
+  -- the tests of a run
+  tested : Run → List Plan → Basis
 
 pub data Stage : Type 0 where
   -- the words are not a command
   usage : Stage
-  -- the source of a command is asked for
-  source : Command → Stage
+  -- the source is asked for
+  source : (name : List ℕ) → Action → Stage
   -- the source is accepted, and the tests file is asked for
-  tests : Command → Accepted → Stage
-  -- both files are accepted
-  run : Command → Accepted → List Plan → Stage
+  tests : Run → Accepted → Stage
+  -- what goes before is accepted, and the file of justifications is asked for
+  reasons : (name : List ℕ) → Accepted → Basis → Stage
+  -- all files are accepted
+  last : Accepted → Basis → List Justification → Stage
+
+-- ---- files
+
+abbrev pub source_named : List ℕ → File
+source_named name = record { kind = kind.Source; name = name }
+
+abbrev pub tests_named : List ℕ → File
+tests_named name = record { kind = kind.Tests; name = name }
+
+abbrev pub reasons_named : List ℕ → File
+reasons_named name = record { kind = kind.Justifications; name = name }
+
+-- the name of the file of justifications that a command asks for, if it does
+abbrev pub justified_by : Task → Option (List ℕ)
+justified_by (command.report report) = report.justify
+justified_by command.vectors = None
 
 -- the file that a stage asks for
 abbrev pub file_of : Stage → Option File
 file_of usage = None
-file_of (source command) = Some (record { kind = Source; name = source_of command })
-file_of (tests command accepted) = Some (record { kind = Tests; name = tests_of command })
-file_of (run command accepted plans) = None
+file_of (source name action) = Some (source_named name)
+file_of (tests run accepted) = Some (tests_named run.tests)
+file_of (reasons name accepted basis) = Some (reasons_named name)
+file_of (last accepted basis js) = None
 
--- the reply of a stage that asks for no file
-abbrev pub Ends : Stage → Reply → Type 0
-Ends usage reply = reply ≡ refusal NoCommand usage_text
-Ends (source command) reply = ⊥
-Ends (tests command accepted) reply = ⊥
-Ends (run command accepted plans) reply = Finishes command accepted plans reply
+-- what is asked for of justifications
+abbrev pub reasons_of : Option (List ℕ) → List Request
+reasons_of None = []
+reasons_of (Some name) = request_of (reasons_named name) ∷ []
 
--- the plans of a tests file that is accepted, or its first fault
-abbrev pub JudgesTests : Program → ℕ → List ℕ → Result (List Plan) Reply → Type 0
-JudgesTests program fuel bytes (Ok plans) = tests_file program fuel bytes ≡ Ok plans
-JudgesTests program fuel bytes (Err reply) =
-    (fault : TestFault) × (tests_file program fuel bytes ≡ Err fault)
-    × (reply ≡ refusal TestsRefused (tests_line fault))
+-- what is asked for from the tests on
+abbrev pub tests_and_reasons : Run → List Request
+tests_and_reasons run = request_of (tests_named run.tests) ∷ reasons_of (justified_by run.task)
 
--- the bytes of the file that a stage asks for lead to another stage, or to a refusal
-abbrev pub Judges : Stage → List ℕ → Result Stage Reply → Type 0
-Judges usage bytes verdict = ⊥
-Judges (source command) bytes verdict =
-    Then (JudgesSource bytes) (λ accepted v. v ≡ Ok (tests command accepted)) verdict
-Judges (tests command accepted) bytes verdict =
-    Then (JudgesTests accepted.program (fuel_of command) bytes)
-    (λ plans v. v ≡ Ok (run command accepted plans)) verdict
-Judges (run command accepted plans) bytes verdict = ⊥
+-- what is asked for after the source
+abbrev pub requests_of : Action → List Request
+requests_of (command.run run) = tests_and_reasons run
 
--- the first stage
-abbrev pub first_stage : Option Command → Stage
-first_stage None = usage
-first_stage (Some command) = source command
+-- what a stage and those after it ask for, in order
+abbrev pub requests_left : Stage → List Request
+requests_left usage = []
+requests_left (source name action) = request_of (source_named name) ∷ requests_of action
+requests_left (tests run accepted) = tests_and_reasons run
+requests_left (reasons name accepted basis) = request_of (reasons_named name) ∷ []
+requests_left (last accepted basis js) = []
 
 -- the stage asks for a file that may have so many bytes
 abbrev pub AsksUpTo : Stage → ℕ → Type 0
 AsksUpTo stage n = (file : File) × (file_of stage ≡ Some file) × (n ≤ limit_of file.kind)
 
--- how many files a stage may ask for yet
-abbrev pub files_left : Stage → ℕ
-files_left usage = 0
-files_left (source command) = 2
-files_left (tests command accepted) = 1
-files_left (run command accepted plans) = 0
+-- ---- from stage to stage
+
+-- the first stage
+abbrev pub first_stage : Option Command → Stage
+first_stage None = usage
+first_stage (Some (command.on_source name action)) = source name action
+
+-- the stage after the source
+abbrev pub after_source : Action → Accepted → Stage
+after_source (command.run run) accepted = tests run accepted
+
+-- the plans of a tests file that is accepted, or its first fault
+abbrev pub JudgesTests : Program → ℕ → List ℕ → Result (List Plan) Reply → Type 0
+JudgesTests program fuel bytes =
+    Reads (tests_file program fuel bytes) (λ fault. refusal TestsRefused (tests_line fault))
+
+-- the stage after the tests
+abbrev pub after_tests : Option (List ℕ) → Accepted → Basis → Stage
+after_tests None accepted basis = last accepted basis []
+after_tests (Some name) accepted basis = reasons name accepted basis
+
+-- the justifications of a file that is accepted, or its first fault
+abbrev pub JudgesReasons : Accepted → List ℕ → Result (List Justification) Reply → Type 0
+JudgesReasons accepted bytes =
+    Reads (justifications_of bytes (obligations_of accepted.map) accepted.source)
+    (λ fault. refusal JustificationsRefused (reasons_line fault))
+
+-- the bytes of the file that a stage asks for lead to another stage, or to a refusal
+abbrev pub Judges : Stage → List ℕ → Result Stage Reply → Type 0
+Judges usage bytes = λ verdict. ⊥
+Judges (source name action) bytes =
+    Then (JudgesSource bytes) (λ accepted v. v ≡ Ok (after_source action accepted))
+Judges (tests run accepted) bytes =
+    Then (JudgesTests accepted.program run.fuel bytes)
+    (λ plans. Then (Fits accepted plans)
+    (λ u v. v ≡ Ok (after_tests (justified_by run.task) accepted (tested run plans))))
+Judges (reasons name accepted basis) bytes =
+    Then (JudgesReasons accepted bytes) (λ js v. v ≡ Ok (last accepted basis js))
+Judges (last accepted basis js) bytes = λ verdict. ⊥
+
+-- ---- the end
+
+-- what a command tells of the tests
+abbrev pub Tells : Task → Accepted → List Plan → List Justification → Reply → Type 0
+Tells (command.report report) accepted plans js = Reports report accepted plans js
+Tells command.vectors accepted plans js = Lists accepted plans
+
+-- the reply of a stage that asks for no file
+abbrev pub Ends : Stage → Reply → Type 0
+Ends usage reply = reply ≡ refusal NoCommand usage_text
+Ends (source name action) reply = ⊥
+Ends (tests run accepted) reply = ⊥
+Ends (reasons name accepted basis) reply = ⊥
+Ends (last accepted (tested run plans) js) reply = Tells run.task accepted plans js reply

@@ -1,19 +1,34 @@
 //! How a stage judges the bytes of the file that it asked for.
-ghost use Rattle.std.specs.Prelude.{◌≤◌, IfOk, length};
+ghost use Rattle.std.specs.Prelude.{◌≡◌, ◌≤◌, List, Result, Err, IfOk, length, option_map};
 ghost use Rattle.mc_tests.specs.Seen.{seen_plans};
-ghost use Rattle.mc_typed.specs.Views.{program_of};
-ghost use Rattle.mc_command.specs.Seen.{HasFuel, seen_command};
-ghost use Rattle.mc_station.specs.Seen.{ArePlanned, Gives, IsInstrumented, IsReady, seen_accepted, seen_stage};
-ghost use Rattle.mc_station.specs.Stages.{AsksUpTo, Judges, JudgesTests, source, tests};
+ghost use Rattle.mc_command.specs.Seen.{ActionHasFuel, RunHasFuel, seen_action, seen_run, seen_task};
+ghost use Rattle.mc_oblige.specs.declared.justification.Justification.{Justification};
+ghost use Rattle.mc_justify.specs.Faults.{Fault};
+ghost use Rattle.mc_justify.specs.Returned.{GivesFault};
+ghost use Rattle.mc_replies.specs.Phases.{Reads};
+ghost use Rattle.mc_replies.specs.Reply.{refusal};
+ghost use Rattle.mc_replies.specs.Seen.{Gives};
+ghost use Rattle.mc_replies.specs.declared.status.Status.TheVariants.{JustificationsRefused};
+ghost use Rattle.mc_station.specs.Justified.{reasons_line};
+ghost use Rattle.mc_station.specs.Seen.{ArePlanned, AreReasons, IsBasis, IsInstrumented, IsReady, seen_accepted, seen_basis, seen_stage};
+ghost use Rattle.mc_station.specs.Stages.{AsksUpTo, Judges, JudgesReasons, JudgesTests, after_source, after_tests, justified_by, reasons, source, tested, tests};
+ghost use Rattle.mc_station.specs.Tests.{Fits, most_words, words_needed};
 
 use crate::accepted::Accepted;
-use crate::refusal::{Refusal, Stop};
+use crate::basis::Basis;
 use crate::source::judge_source;
 use crate::stage::Stage;
-use mc_command::Command;
+use mc_command::{Action, Run, Task};
+use mc_core::{Shape, words};
+use mc_justify::{JustifyFault, read_justifications};
+use mc_oblige::{Justification, obligations};
+use mc_replies::{Refusal, Stop};
 use mc_tests::{TestFault, read_tests};
 use mc_typed::TestPlan;
 use std::alloc::Global;
+
+/// The most words that a matrix may have.
+const MOST_WORDS: u64 = 1_048_576;
 
 // The tests of a tests file.
 fn judge_tests<'a>(
@@ -35,38 +50,175 @@ fn judge_tests<'a>(
     }
 }
 
+// Whether the matrix of all bits under the tests fits.
+fn fits<'a>(accepted: &Accepted<'_>, plans: &[TestPlan]) -> Result<(), Stop<'a>>
+    requires { ArePlanned accepted.now plans.now }
+    ensures { Gives (λ u. u)
+        (Fits (seen_accepted accepted.now) (seen_plans plans.now)) result }
+{
+    let words = words(Shape {
+        bits: accepted.map.bits,
+        tests: plans.len() as u32,
+    });
+    if words > MOST_WORDS {
+        Err(Stop::Refused(Refusal::TooLarge { words }))
+    } else {
+        Ok(())
+    }
+}
+
+// The stage after a source that is accepted.
+fn with_source<'a>(action: Action<'a>, accepted: Accepted<'a>) -> Stage<'a>
+    requires fuel { ActionHasFuel action }
+    requires instrumented { IsInstrumented accepted }
+    ensures stage { seen_stage result
+        ≡ after_source (seen_action action.entry) (seen_accepted accepted.entry) }
+    ensures ready { IsReady result }
+{
+    match action {
+        Action::Run(run) => Stage::Tests(run, accepted),
+    }
+}
+
 // The stage after the source of a command.
 fn after_source<'a>(
     alloc: Global,
-    command: Command<'a>,
+    name: &'a str,
+    action: Action<'a>,
     bytes: &'a [u8],
 ) -> Result<Stage<'a>, Stop<'a>>
-    requires fuel { HasFuel command }
+    requires fuel { ActionHasFuel action }
     requires short { length bytes.now ≤ 1048576 }
     ensures judges { Gives seen_stage
-        (Judges (source (seen_command command.entry)) bytes.now) result }
+        (Judges (source name.now (seen_action action.entry)) bytes.now) result }
     ensures ready { IfOk result IsReady }
 {
     let accepted = judge_source(alloc, bytes)?;
-    Ok(Stage::Tests(command, accepted))
+    Ok(with_source(action, accepted))
+}
+
+// The name of the file of justifications that a command asks for.
+fn justified_by(task: Task<'_>) -> Option<&str>
+    ensures { option_map (λ name. name.now) result ≡ justified_by (seen_task task.entry) }
+{
+    match task {
+        Task::Report(report) => report.justify,
+        Task::Vectors => None,
+    }
+}
+
+// The stage after the tests, whose matrix fits.
+fn with_plans<'a>(
+    alloc: Global,
+    run: Run<'a>,
+    accepted: Accepted<'a>,
+    plans: Vec<TestPlan>,
+) -> Stage<'a>
+    requires instrumented { IsInstrumented accepted }
+    requires planned { ArePlanned accepted plans.items }
+    requires small { words_needed (seen_accepted accepted) (seen_plans plans.items)
+        ≤ most_words }
+    ensures stage { seen_stage result ≡ after_tests (justified_by (seen_run run.entry).task)
+        (seen_accepted accepted.entry) (tested (seen_run run.entry) (seen_plans plans.items)) }
+    ensures ready { IsReady result }
+{
+    match justified_by(run.task) {
+        Some(name) => Stage::Reasons(name, accepted, Basis::Tested(run, plans)),
+        None => Stage::Last(accepted, Basis::Tested(run, plans), Vec::new(alloc)),
+    }
 }
 
 // The stage after the tests file.
 fn after_tests<'a>(
     alloc: Global,
-    command: Command<'a>,
+    run: Run<'a>,
     accepted: Accepted<'a>,
     bytes: &[u8],
 ) -> Result<Stage<'a>, Stop<'a>>
-    requires fuel { HasFuel command }
+    requires fuel { RunHasFuel run }
     requires instrumented { IsInstrumented accepted }
     ensures judges { Gives seen_stage
-        (Judges (tests (seen_command command.entry) (seen_accepted accepted.entry)) bytes.now)
-        result }
+        (Judges (tests (seen_run run.entry) (seen_accepted accepted.entry)) bytes.now) result }
     ensures ready { IfOk result IsReady }
 {
-    match judge_tests(alloc, &accepted, command.fuel(), bytes) {
-        Ok(plans) => Ok(Stage::Run(command, accepted, plans)),
+    match judge_tests(alloc, &accepted, run.fuel, bytes) {
+        Ok(plans) => match fits(&accepted, &plans) {
+            Ok(()) => Ok(with_plans(alloc, run, accepted, plans)),
+            Err(stop) => {
+                drop(accepted);
+                Err(stop)
+            }
+        },
+        Err(stop) => {
+            drop(accepted);
+            Err(stop)
+        }
+    }
+}
+
+// Why a file of justifications is refused.
+fn stop_of<'a>(alloc: Global, fault: JustifyFault<'a>) -> Stop<'a>
+    ensures { (list : Result (List Justification) Fault) → GivesFault list fault.entry
+        → Gives (λ js. js) (Reads list (λ f. refusal JustificationsRefused (reasons_line f)))
+        (Err result) }
+{
+    match fault {
+        JustifyFault::Json => Stop::Refused(Refusal::Justifications { word: "json" }),
+        JustifyFault::Limit => Stop::Refused(Refusal::Justifications { word: "limit" }),
+        JustifyFault::Shape { entry } => Stop::Refused(Refusal::Entry {
+            entry,
+            word: "shape",
+        }),
+        JustifyFault::Unknown { entry } => Stop::Refused(Refusal::Entry {
+            entry,
+            word: "unknown",
+        }),
+        JustifyFault::Quote { entry, kept, given } => match given.bytes().to_vec(alloc) {
+            Ok(given) => Stop::Refused(Refusal::Quote { entry, kept, given }),
+            Err(_) => Stop::OutOfMemory,
+        },
+        JustifyFault::Repeated { entry } => Stop::Refused(Refusal::Entry {
+            entry,
+            word: "repeated",
+        }),
+        JustifyFault::OutOfMemory => Stop::OutOfMemory,
+    }
+}
+
+// The justifications of a file.
+fn judge_reasons<'a>(
+    alloc: Global,
+    accepted: &Accepted<'a>,
+    bytes: &[u8],
+) -> Result<Vec<Justification>, Stop<'a>>
+    requires { IsInstrumented accepted.now }
+    ensures judges { Gives (λ js. js.items)
+        (JudgesReasons (seen_accepted accepted.now) bytes.now) result }
+    ensures reasons { IfOk result (λ js. AreReasons accepted.now js.items) }
+{
+    let obligations = obligations(alloc, &accepted.map)?;
+    match read_justifications(alloc, bytes, &obligations, accepted.source) {
+        Ok(justifications) => Ok(justifications),
+        Err(fault) => Err(stop_of(alloc, fault)),
+    }
+}
+
+// The stage after the file of justifications.
+fn after_reasons<'a>(
+    alloc: Global,
+    name: &'a str,
+    accepted: Accepted<'a>,
+    basis: Basis<'a>,
+    bytes: &[u8],
+) -> Result<Stage<'a>, Stop<'a>>
+    requires instrumented { IsInstrumented accepted }
+    requires basis { IsBasis accepted basis }
+    ensures judges { Gives seen_stage (Judges (reasons name.now
+        (seen_accepted accepted.entry) (seen_basis basis.entry)) bytes.now) result }
+    ensures ready { IfOk result IsReady }
+{
+    match judge_reasons(alloc, &accepted, bytes) {
+        Ok(justifications) => Ok(Stage::Last(accepted, basis, justifications)),
         Err(stop) => {
             drop(accepted);
             Err(stop)
@@ -82,8 +234,11 @@ pub fn judge<'a>(alloc: Global, stage: Stage<'a>, bytes: &'a [u8]) -> Result<Sta
     ensures ready { IfOk result IsReady }
 {
     match stage {
-        Stage::Source(command) => after_source(alloc, command, bytes),
-        Stage::Tests(command, accepted) => after_tests(alloc, command, accepted, bytes),
-        Stage::Usage | Stage::Run(..) => unreachable!(),
+        Stage::Source(name, action) => after_source(alloc, name, action, bytes),
+        Stage::Tests(run, accepted) => after_tests(alloc, run, accepted, bytes),
+        Stage::Reasons(name, accepted, basis) => {
+            after_reasons(alloc, name, accepted, basis, bytes)
+        }
+        Stage::Usage | Stage::Last(..) => unreachable!(),
     }
 }

@@ -11,7 +11,18 @@ pub fn no_command_alone()
     ensures { laws.NoCommandAlone }
 {}
 
-/// With status 3 the source was asked for, and nothing else.
+/// With status 3 the source was asked for, and nothing else, where a file is asked for at all.
 pub fn source_alone()
     ensures { laws.SourceAlone }
+{}
+
+/// Nothing goes to the output but with a text that is written whole.
+pub fn refusals_are_silent()
+    ensures { laws.RefusalsAreSilent }
+{}
+
+/// Files are asked for in the order of their command; with status 6 the last one is named.
+pub fn asked_in_order()
+    ensures order { laws.AskedInOrder }
+    ensures last { laws.LastIsNamed }
 {}

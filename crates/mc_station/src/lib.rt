@@ -2,17 +2,14 @@
 #![tactic(auto)]
 
 mod accepted;
-mod file;
-mod finish;
+mod basis;
+mod commands;
 mod judge;
 pub mod laws;
-mod refusal;
-mod reply;
+mod ran;
 mod run;
 mod source;
 mod stage;
-mod status;
-mod text;
 mod top;
 
 pub use top::station;

@@ -1,27 +1,28 @@
 //! The one function that sees the store.
 ghost use Rattle.std.specs.Prelude.{◌≡◌, ◌≢◌, ◌≤◌, IfOk, length};
-ghost use Rattle.mc_station.specs.Stages.{files_left};
 ghost use Rattle.mc_port.specs.Causes.{Rose};
+ghost use Rattle.mc_replies.specs.Seen.{outcome_of};
+ghost use Rattle.mc_replies.specs.declared.status.Status.TheVariants.{CannotRead, OutOfMemory};
 ghost use Rattle.mc_station.specs.Calls.{Leads};
-ghost use Rattle.mc_station.specs.Seen.{IsReady, outcome_of, seen_stage};
-ghost use Rattle.mc_station.specs.declared.status.Status.TheVariants.{CannotRead, OutOfMemory};
+ghost use Rattle.mc_station.specs.Seen.{IsReady, seen_stage};
+ghost use Rattle.mc_station.specs.Stages.{requests_left};
 
 use crate::judge::judge;
-use crate::refusal::Refusal;
-use crate::reply::Reply;
 use crate::stage::Stage;
 use mc_port::{LoadFault, Store};
+use mc_replies::{Refusal, Reply};
 use std::alloc::{AllocError, Global};
 
 /// Goes from a stage to the reply: asks for one file after the other, each after the one before it
 /// was accepted, and keeps their bytes in the slots.
+#[tactic(auto, using(crate::proofs::Order::fewer))]
 pub fn run<'a, S: Store>(
     alloc: Global,
     store: &mut S,
     stage: Stage<'a>,
     slots: &'a mut [Vec<u8>],
 ) -> Result<Reply, AllocError>
-    requires room { files_left (seen_stage stage) ≤ length slots.old }
+    requires room { length (requests_left (seen_stage stage)) ≤ length slots.old }
     requires ready { IsReady stage }
     ensures leads { Leads (S.state store.old).contents (seen_stage stage.entry)
         (S.state store.old).asked (outcome_of result) (S.state store.new).asked }
@@ -42,12 +43,12 @@ pub fn run<'a, S: Store>(
             *slot = bytes;
             match judge(alloc, stage, slot) {
                 Ok(stage) => run(alloc, store, stage, later),
-                Err(stop) => Reply::of_stop(alloc, stop),
+                Err(stop) => Reply::of_stop(alloc, &stop),
             }
         }
         Err(LoadFault::TooLong { .. }) => {
             drop(stage);
-            Reply::of_refusal(alloc, Refusal::TooLong(file))
+            Reply::of_refusal(alloc, &Refusal::TooLong(file))
         }
         Err(LoadFault::Failed) => {
             drop(stage);

@@ -10,16 +10,18 @@ ghost use Rattle.mc_subset.specs.Nodes.{nodes_of_unit};
 ghost use Rattle.mc_cond.specs.Tree.{tree_of, IsNumbered};
 ghost use Rattle.mc_roots.specs.Decisions.{AreDecisions};
 ghost use Rattle.mc_roots.specs.Seen.{decision_of};
-ghost use Rattle.mc_station.specs.Seen.{Gives, IsInstrumented, seen_accepted};
-ghost use Rattle.mc_station.specs.Source.{Admits, Decides, JudgesDecisions, JudgesNames, JudgesProgram, JudgesSource, JudgesTokens, JudgesTree, Lexes, Parses, Types};
-ghost use Rattle.mc_station.specs.Texts.{start_of};
+ghost use Rattle.mc_replies.specs.Phases.{Then};
+ghost use Rattle.mc_replies.specs.Seen.{Gives};
+ghost use Rattle.mc_replies.specs.Texts.{start_of};
+ghost use Rattle.mc_station.specs.Seen.{IsInstrumented, seen_accepted};
+ghost use Rattle.mc_station.specs.Source.{Accepts, Admits, Decides, JudgesSource, Lexes, Maps, Numbers, Parses, Types};
 
 use crate::accepted::Accepted;
-use crate::refusal::{Refusal, Stop};
 use mc_decide::{DecideFault, Decision, decisions};
 use mc_instrument::{InstrumentFault, instrument};
 use mc_lex::{Dialect, Place, Token, lex, place_of};
 use mc_parse::{ParseFault, parse};
+use mc_replies::{Refusal, Stop};
 use mc_subset::check;
 use mc_tree::Unit;
 use mc_typed::Program;
@@ -144,7 +146,7 @@ fn decided<'a>(
 }
 
 // The phases of the paths and of the map.
-fn judge_decisions<'a>(
+fn mapped<'a>(
     alloc: Global,
     source: &'a [u8],
     program: &Program<'a>,
@@ -154,8 +156,10 @@ fn judge_decisions<'a>(
     requires decisions { AreDecisions (program_of program.now).functions
         (map decision_of decisions.items) }
     requires numbered { All (λ d. IsNumbered (tree_of d.tree)) decisions.items }
-    ensures judges { Gives seen_accepted (JudgesDecisions source.now (program_of program.now)
-        (map decision_of decisions.items)) result }
+    ensures judges { Gives seen_accepted (Then
+        (Numbers source.now (map decision_of decisions.items)) (λ u. Then
+        (Maps (program_of program.now) (map decision_of decisions.items))
+        (Accepts source.now (program_of program.now)))) result }
     ensures instrumented { IfOk result IsInstrumented }
 {
     match instrument(alloc, program, decisions) {
@@ -172,78 +176,16 @@ fn judge_decisions<'a>(
     }
 }
 
-// The phases after names and types.
-fn judge_program<'a>(
-    alloc: Global,
-    source: &'a [u8],
-    program: &Program<'a>,
-) -> Result<Accepted<'a>, Stop<'a>>
-    requires { length source.now < 2 ^ 31 }
-    ensures judges { Gives seen_accepted
-        (JudgesProgram source.now (program_of program.now)) result }
-    ensures instrumented { IfOk result IsInstrumented }
-{
-    let decisions = decided(alloc, source, program)?;
-    judge_decisions(alloc, source, program, decisions)
-}
-
-// The phases after the outside forms.
-fn judge_names<'a>(
-    alloc: Global,
-    source: &'a [u8],
-    unit: &Unit<'a>,
-) -> Result<Accepted<'a>, Stop<'a>>
-    requires short { length source.now < 2 ^ 31 }
-    requires admitted { first_outside (nodes_of_unit (items_of unit.now.items.items)) ≡ None }
-    ensures judges { Gives seen_accepted
-        (JudgesNames source.now (items_of unit.now.items.items)) result }
-    ensures instrumented { IfOk result IsInstrumented }
-{
-    let program = typed(alloc, source, unit)?;
-    let accepted = judge_program(alloc, source, &program);
-    drop(program);
-    accepted
-}
-
-// The phases after the syntax.
-fn judge_tree<'a>(
-    alloc: Global,
-    source: &'a [u8],
-    unit: &Unit<'a>,
-) -> Result<Accepted<'a>, Stop<'a>>
-    requires { length source.now < 2 ^ 31 }
-    ensures judges { Gives seen_accepted
-        (JudgesTree source.now (items_of unit.now.items.items)) result }
-    ensures instrumented { IfOk result IsInstrumented }
-{
-    admitted(source, unit)?;
-    judge_names(alloc, source, unit)
-}
-
-// The phases after the tokens.
-fn judge_tokens<'a>(
-    alloc: Global,
-    source: &'a [u8],
-    tokens: &[Token<'a>],
-) -> Result<Accepted<'a>, Stop<'a>>
-    requires short { length source.now < 2 ^ 31 }
-    requires slices { All (IsSlice source.now) (toks_of tokens.now) }
-    requires few { length tokens.now ≤ length source.now }
-    ensures judges { Gives seen_accepted (JudgesTokens source.now (toks_of tokens.now)) result }
-    ensures instrumented { IfOk result IsInstrumented }
-{
-    let unit = parsed(alloc, source, tokens)?;
-    let accepted = judge_tree(alloc, source, &unit);
-    drop(unit);
-    accepted
-}
-
-/// What a source is accepted as, by its phases.
+/// What a source is accepted as: the first phase with a fault refuses it.
 pub fn judge_source<'a>(alloc: Global, source: &'a [u8]) -> Result<Accepted<'a>, Stop<'a>>
     requires { length source.now < 2 ^ 31 }
     ensures judges { Gives seen_accepted (JudgesSource source.now) result }
     ensures instrumented { IfOk result IsInstrumented }
 {
     let tokens = lexed(alloc, source)?;
-    judge_tokens(alloc, source, &tokens)
+    let unit = parsed(alloc, source, &tokens)?;
+    admitted(source, &unit)?;
+    let program = typed(alloc, source, &unit)?;
+    let decisions = decided(alloc, source, &program)?;
+    mapped(alloc, source, &program, decisions)
 }

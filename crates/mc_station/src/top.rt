@@ -1,20 +1,20 @@
 //! The top call.
-ghost use Rattle.std.specs.Prelude.{◌≡◌, ◌≢◌, ◌⊎◌, ◌≤◌, OnErr, OnOk};
+ghost use Rattle.std.specs.Prelude.{◌≡◌, ◌≢◌, ◌⊎◌, ◌≤◌, IfOk, OnErr, OnOk};
 ghost use Rattle.mc_port.specs.Causes.{Rose};
 ghost use Rattle.mc_port.specs.Sink.{Puts};
-ghost use Rattle.mc_station.specs.Calls.{CallsFor, IsKnown, call_of};
+ghost use Rattle.mc_station.specs.Calls.{CallsFor, IsKnown, LeadsTo, call_of};
 ghost use Rattle.mc_station.specs.Outcome.{PutPart, PutWhole, Told, ToldPart};
-ghost use Rattle.mc_station.specs.Reply.{Reply as CalledFor};
-ghost use Rattle.mc_station.specs.Seen.{seen_reply};
-ghost use Rattle.mc_station.specs.Status.{number_of};
+ghost use Rattle.mc_replies.specs.Reply.{Reply as CalledFor};
+ghost use Rattle.mc_replies.specs.Seen.{outcome_of, seen_reply};
+ghost use Rattle.mc_replies.specs.Status.{number_of};
+ghost use Rattle.mc_replies.specs.declared.status.Status.TheVariants.{CannotRead, OutOfMemory};
 
-use crate::reply::Reply;
 use crate::run::run;
 use crate::stage::first_stage;
-use crate::status::Status;
+use mc_command::line_of;
 use mc_port::{Gate, PutFault, Sink, Store, Words};
-use mc_report::put_lines;
-use std::alloc::Global;
+use mc_replies::{Reply, Status};
+use std::alloc::{AllocError, Global};
 
 // Puts the texts of a reply, up to the first piece that cannot be put.
 fn put<K: Sink, E: Sink>(reply: &Reply, out: &mut K, diag: &mut E) -> Result<(), PutFault>
@@ -25,8 +25,23 @@ fn put<K: Sink, E: Sink>(reply: &Reply, out: &mut K, diag: &mut E) -> Result<(),
     ensures unwritten { OnErr result (Rose (K.faults out.old) (K.faults out.new)
         ⊎ Rose (E.faults diag.old) (E.faults diag.new)) }
 {
-    put_lines(&reply.out, out)?;
-    diag.put(reply.diag.as_bytes())
+    reply.out.put(out)?;
+    diag.put(&reply.diag)
+}
+
+// The reply to what the words ask for: all is decided here, and nothing is put.
+fn reply_to<S: Store>(alloc: Global, words: &Words, store: &mut S) -> Result<Reply, AllocError>
+    ensures leads { LeadsTo (call_of words.now (S.state store.old)) (S.state store.old).asked
+        (outcome_of result) (S.state store.new).asked }
+    ensures unreadable { (outcome_of result).status ≡ CannotRead
+        → Rose (S.state store.old).faults (S.state store.new).faults }
+    ensures texts { IfOk result (λ reply. reply.status ≢ OutOfMemory) }
+{
+    let line = line_of(alloc, words)?;
+    // A slot for the bytes of each file; there is room for a command with three.
+    let mut slots = [Vec::new(alloc), Vec::new(alloc), Vec::new(alloc)];
+    let stage = first_stage(alloc, &line)?;
+    run(alloc, store, stage, &mut slots)
 }
 
 /// Does what the words of a command line ask for, and gives the status of the program.
@@ -72,9 +87,7 @@ pub fn station<S: Store, K: Sink, E: Sink, G: Gate>(
         → ¬ (Rose (E.faults diag.old) (E.faults diag.new))
         → (result ≡ number_of reply.status) ⊎ (result ≡ 8) }
 {
-    // A slot for the bytes of each file; there is room for a command with three.
-    let mut slots = [Vec::new(alloc), Vec::new(alloc), Vec::new(alloc)];
-    match run(alloc, store, first_stage(words), &mut slots) {
+    match reply_to(alloc, words, store) {
         Ok(reply) => match put(&reply, out, diag) {
             Ok(()) => reply.status.number(),
             Err(_) => Status::CannotWrite.number(),

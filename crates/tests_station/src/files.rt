@@ -2,7 +2,7 @@
 
 use crate::fail::Fail;
 use crate::run::{HEADER, SOURCE, TESTS, Want, gives, plain};
-use crate::text::{lines_of, push};
+use crate::text::{lines_of, padded, push};
 use std::alloc::Global;
 
 const NAME_64: &str = "aaaaaaaaaaaaaaaabbbbbbbbbbbbbbbbccccccccccccccccdddddddddddddddd";
@@ -192,16 +192,6 @@ fn number_of_tests(rt: HostRuntime) -> Result<(), Fail> {
     assert!(rt; are_most(rt.alloc(), lines.as_str())?);
     assert!(rt; are_too_many(rt.alloc(), &mut lines)?);
     Ok(())
-}
-
-/// The text, and a byte of white space up to that length.
-fn padded(alloc: Global, text: &str, space: u8, length: usize) -> Result<Vec<u8>, Fail> {
-    let mut bytes = Vec::new(alloc);
-    bytes.extend_from_slice(text.as_bytes())?;
-    for _turn in text.len()..length {
-        bytes.push(space)?;
-    }
-    Ok(bytes)
 }
 
 /// Whether files of these lengths give this.

@@ -74,9 +74,11 @@ fn tests_of_first(alloc: Global, count: u32) -> Result<String, Fail> {
     Ok(tests)
 }
 
-/// Whether a program of so many functions with such a decision, under so many tests, is refused.
+/// Whether these words are refused for a program of so many functions with such a decision, under
+/// so many tests.
 fn is_too_large(
     alloc: Global,
+    words: &str,
     functions: u32,
     count: u32,
     status: u8,
@@ -84,7 +86,8 @@ fn is_too_large(
 ) -> Result<bool, Fail> {
     let source = many_functions(alloc, functions)?;
     let tests = tests_of_first(alloc, count)?;
-    let setting = plain(source.as_bytes(), tests.as_bytes());
+    let mut setting = plain(source.as_bytes(), tests.as_bytes());
+    setting.words = words;
     let is_wanted = gives(alloc, &setting, (status, b"", line.as_bytes()));
     drop(tests);
     drop(source);
@@ -93,10 +96,14 @@ fn is_too_large(
 
 #[test]
 fn sizes_of_maps_and_matrices(rt: HostRuntime) -> Result<(), Fail> {
-    let words = "mcdc: matrix needs 1311360 words\n";
-    assert!(rt; is_too_large(rt.alloc(), 5, 4096, 9, words)?);
+    let words = "vectors|s.c|t.csv";
+    let line = "mcdc: matrix needs 1311360 words\n";
+    assert!(rt; is_too_large(rt.alloc(), words, 5, 4096, 9, line)?);
+    // No file of justifications is asked for then: this one is not there.
+    let justified = "report|s.c|t.csv|--justify|u.json";
+    assert!(rt; is_too_large(rt.alloc(), justified, 5, 4096, 9, line)?);
     let bits = "mcdc: source: too many bits 65568\n";
-    assert!(rt; is_too_large(rt.alloc(), 16, 0, 3, bits)?);
+    assert!(rt; is_too_large(rt.alloc(), words, 16, 0, 3, bits)?);
     Ok(())
 }
 

@@ -9,7 +9,13 @@ mod fail;
 #[cfg(test)]
 mod files;
 #[cfg(test)]
+mod forms;
+#[cfg(test)]
 mod generated;
+#[cfg(test)]
+mod justifications;
+#[cfg(test)]
+mod justified;
 #[cfg(test)]
 mod outcomes;
 #[cfg(test)]

@@ -2,8 +2,10 @@
 
 use crate::fail::Fail;
 use crate::run::{SOURCE, TESTS, gives, plain};
+use std::alloc::Global;
 
-const USAGE: &str = "usage: mcdc report SOURCE TESTS [--mode unique|masking] [--fuel N]\n\
+const USAGE: &str = "usage: mcdc report SOURCE TESTS [--mode unique|masking] [--fuel N] \
+    [--justify NAME] [--format text|csv|json]\n\
     \x20      mcdc vectors SOURCE TESTS [--fuel N]\n";
 
 /// Words with `|` between each two; the first line has none.
@@ -15,20 +17,39 @@ vectors|s.c|t.csv|--fuel
 vectors|s.c|t.csv|--fuel|0
 vectors|s.c|t.csv|--fuel|08
 vectors|s.c|t.csv|--fuel|100000001
+vectors|s.c|t.csv|--fuel|8|--fuel|8
+vectors|s.c|t.csv|--fuel=
 vectors|s.c|t.csv|--mode|unique
+vectors|s.c|t.csv|--justify|j.json
+vectors|s.c|t.csv|--format|text
+vectors|s.c|t.csv|--workers|4
+report|s.c
 report|s.c|t.csv|--mode|both
-report|s.c|t.csv|--format|json
+report|s.c|t.csv|--mode=
+report|s.c|t.csv|--fuel|0
+report|s.c|t.csv|--workers|4
+report|s.c|t.csv|--format|xml
+report|s.c|t.csv|--format|JSON
+report|s.c|t.csv|--justify
+report|s.c|t.csv|j.json
+--fuel|8|vectors|s.c|t.csv
 |s.c|t.csv
 Vectors|s.c|t.csv
 vectors |s.c|t.csv
 -vectors|s.c|t.csv
 -|s.c|t.csv
 vectors|-s.c|t.csv
-vectors|-|t.csv
 vectors|s.c|-t.csv
-vectors|s.c|-
 vectors|s.c|--
+vectors|--|s.c|t.csv|--fuel|8
 instrument|s.c
+--help
+-h
+help
+help|report
+--version
+report|--help
+vectors|s.c|t.csv|--help
 ";
 
 #[test]
@@ -40,6 +61,62 @@ fn words_that_are_not_a_command(rt: HostRuntime) -> Result<(), Fail> {
             gives(rt.alloc(), &setting, (2, b"", USAGE.as_bytes()))?,
             "{words}"
         );
+    }
+    Ok(())
+}
+
+/// A row is words with `|` between each two, the status, and what goes to the errors' sink.
+const COMMANDS: &str = "\
+vectors|s.c|t.csv|--fuel=8@0@
+vectors|s.c|t.csv|--fuel|8@0@
+vectors|--fuel|8|s.c|t.csv@0@
+vectors|--fuel=8|s.c|t.csv@0@
+vectors|s.c|--fuel|8|t.csv@0@
+vectors|s.c|--fuel=8|t.csv@0@
+vectors|--|s.c|t.csv@0@
+vectors|s.c|--|t.csv@0@
+vectors|s.c|t.csv|--@0@
+vectors|--fuel|100000000|--|s.c|t.csv@0@
+vectors|-|t.csv@6@mcdc: cannot read -
+vectors||t.csv@6@mcdc: cannot read\x20
+vectors|s.c|-@6@mcdc: cannot read -
+vectors|s.c|@6@mcdc: cannot read\x20
+vectors|help|t.csv@6@mcdc: cannot read help
+vectors|--|-s.c|t.csv@6@mcdc: cannot read -s.c
+";
+
+/// The lines of `vectors` with three tests of `a&&b`.
+const VECTORS: &str = "\
+test t1 pass values 1 output
+test t2 pass values 0 output
+test t3 pass values 0 output
+D1 TT=T by t1
+D1 TF=F by t2
+D1 F-=F by t3
+";
+
+fn is_read(alloc: Global, row: &str) -> Result<bool, Fail> {
+    let Some((words, rest)) = row.split_once('@') else {
+        return Err(Fail);
+    };
+    let Some((status, line)) = rest.split_once('@') else {
+        return Err(Fail);
+    };
+    let mut setting = plain(SOURCE.as_bytes(), TESTS.as_bytes());
+    setting.words = words;
+    if status == "0" {
+        return gives(alloc, &setting, (0, VECTORS.as_bytes(), b""));
+    }
+    let diag = format!(in alloc; "{line}\n")?;
+    let is_wanted = gives(alloc, &setting, (6, b"", diag.as_bytes()));
+    drop(diag);
+    is_wanted
+}
+
+#[test]
+fn words_that_are_a_command(rt: HostRuntime) -> Result<(), Fail> {
+    for row in COMMANDS.lines() {
+        assert!(rt; is_read(rt.alloc(), row)?, "{row}");
     }
     Ok(())
 }

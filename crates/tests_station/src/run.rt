@@ -3,6 +3,7 @@
 use crate::fail::Fail;
 use mc_port::{MemorySink, MemoryStore, OpenGate, Words};
 use mc_station::station;
+use serde_json::Value;
 use std::alloc::Global;
 
 pub const HEADER: &str = "test,call,arguments,inputs,expect,output\n";
@@ -12,13 +13,37 @@ pub const SOURCE: &str = "int f(int a,int b){return a&&b;}";
 pub const TESTS: &str =
     "test,call,arguments,inputs,expect,output\nt1,f,1 1,,,\nt2,f,1 0,,,\nt3,f,0 1,,,\n";
 
-/// A run: its words, at most five, with `|` between each two, the bytes of `s.c` and `t.csv`, and
-/// where the outside fails.
+/// The report of these tests on this source.
+pub const REPORT: &str = "\
+mcdc report unique
+source sha256 8200d2384991a90c0fb5f6a208a7f0176cae5c6443e46177ef6bfd44c40d4caf
+test t1 pass values 1 output
+test t2 pass values 0 output
+test t3 pass values 0 output
+E1 1:5 met by t1
+X1 1:20 met by t1
+S1 1:20 met by t1
+D1T 1:27 met by t1
+D1F 1:27 met by t2
+D1C1 1:27 met TT=T by t1 F-=F by t3
+D1C2 1:30 met TT=T by t1 TF=F by t2
+entries met 1 justified 0 stale 0 missing 0 of 1
+exits met 1 justified 0 stale 0 missing 0 of 1
+statements met 1 justified 0 stale 0 missing 0 of 1
+labels met 0 justified 0 stale 0 missing 0 of 0
+outcomes met 2 justified 0 stale 0 missing 0 of 2
+conditions met 2 justified 0 stale 0 missing 0 of 2
+status 0
+";
+
+/// A run: its words, at most twelve, with `|` between each two, the bytes of `s.c`, `t.csv` and
+/// `j.json`, and where the outside fails.
 #[derive(Clone, Copy)]
 pub struct Setting<'a> {
     pub words: &'a str,
     pub source: &'a [u8],
     pub tests: &'a [u8],
+    pub justifications: &'a [u8],
     /// How many bytes the output takes.
     pub room: u32,
     pub failing_load: u32,
@@ -32,6 +57,7 @@ pub fn plain<'a>(source: &'a [u8], tests: &'a [u8]) -> Setting<'a> {
         words: "vectors|s.c|t.csv",
         source,
         tests,
+        justifications: b"[]",
         room: 4096,
         failing_load: 0,
         failing_out: (0, 0),
@@ -48,7 +74,7 @@ fn words_of(alloc: Global, text: &str) -> Result<Words, Fail> {
         return Ok(words);
     }
     for word in text.split('|') {
-        if words.count() < 5 {
+        if words.count() < 12 {
             words.push(word)?;
         }
     }
@@ -61,6 +87,8 @@ fn store_of(alloc: Global, setting: &Setting<'_>) -> Result<MemoryStore, Fail> {
     files.push((name, setting.source.to_vec(alloc)?))?;
     let name = String::from_str(alloc, "t.csv")?;
     files.push((name, setting.tests.to_vec(alloc)?))?;
+    let name = String::from_str(alloc, "j.json")?;
+    files.push((name, setting.justifications.to_vec(alloc)?))?;
     let mut failing = Vec::new(alloc);
     failing.push(setting.failing_load)?;
     Ok(MemoryStore::new(alloc, files, failing))
@@ -122,4 +150,33 @@ pub fn is_refused(alloc: Global, source: &[u8], end: &str) -> Result<bool, Fail>
         && given.diag.bytes().ends_with(end.as_bytes());
     drop(given);
     Ok(is_wanted)
+}
+
+// The number that a JSON object has at a key.
+fn number_at(alloc: Global, text: &[u8], key: &str) -> Result<Option<u64>, Fail> {
+    match Value::from_slice(alloc, text) {
+        Ok(value) => {
+            let number = value.get(key).and_then(Value::as_u64);
+            drop(value);
+            Ok(number)
+        }
+        Err(error) => {
+            drop(error);
+            Err(Fail)
+        }
+    }
+}
+
+/// Whether a run ends with 0 and writes a JSON object that has this number at this key.
+pub fn has_number(
+    alloc: Global,
+    setting: &Setting<'_>,
+    key: &str,
+    number: u64,
+) -> Result<bool, Fail> {
+    let given = run(alloc, setting)?;
+    let found = number_at(alloc, given.out.bytes(), key);
+    let is_done = given.status == 0 && given.diag.bytes().is_empty();
+    drop(given);
+    Ok(is_done && found? == Some(number))
 }

@@ -19,3 +19,33 @@ pub fn lines_of(alloc: Global, text: &str) -> Result<Vec<u8>, Fail> {
     }
     Ok(bytes)
 }
+
+fn byte_of(symbol: u8) -> u8 {
+    match symbol {
+        b'\'' => b'"',
+        b'^' => b'\r',
+        b'$' => b'\n',
+        b'?' => 200,
+        other => other,
+    }
+}
+
+/// The text, in which each `'` is a quotation mark, `^` a carriage return, `$` the end of a line,
+/// and `?` the byte 200, which is no text alone.
+pub fn bytes_of(alloc: Global, text: &str) -> Result<Vec<u8>, Fail> {
+    let mut bytes = Vec::new(alloc);
+    for symbol in text.as_bytes() {
+        bytes.push(byte_of(*symbol))?;
+    }
+    Ok(bytes)
+}
+
+/// The text, and a byte of white space up to that length.
+pub fn padded(alloc: Global, text: &str, space: u8, length: usize) -> Result<Vec<u8>, Fail> {
+    let mut bytes = Vec::new(alloc);
+    bytes.extend_from_slice(text.as_bytes())?;
+    for _turn in text.len()..length {
+        bytes.push(space)?;
+    }
+    Ok(bytes)
+}

@@ -1,8 +1,9 @@
 use Rattle.std.proofs.Common.{ℕ, List, Err, subst}
-use Rattle.mc_station.specs.Seen.{Gives, outcome_of, seen_file, seen_stage}
+use Rattle.mc_replies.specs.Seen.{Gives, outcome_of, seen_file}
+use Rattle.mc_station.specs.Seen.{seen_stage}
 use Rattle.mc_station.specs.Stages.{Judges}
 use Rattle.mc_station.proofs.Leading.{accepted, ended, no_memory, refused, too_long, unreadable}
-use Rattle.mc_station.proofs.Statuses.{end_has_texts, end_is_read}
+use Rattle.mc_station.proofs.Leading.{end_has_texts, end_is_read}
 use Rattle.mc_station.proofs.run.+run.Goals as goal
 
 pub returns-in_default-clause-leads : goal.returns-in_default-clause-leads

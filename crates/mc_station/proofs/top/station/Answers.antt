@@ -1,11 +1,13 @@
 use Rattle.std.proofs.Common.{◌∙◌, ap, inl, sym}
 use Rattle.mc_station.specs.Calls.{call_of}
-use Rattle.mc_station.specs.Reply.{out_of_memory}
-use Rattle.mc_station.specs.Seen.{seen_reply}
-use Rattle.mc_station.specs.Status.{number_of}
+use Rattle.mc_replies.specs.Reply.{out_of_memory}
+use Rattle.mc_replies.specs.Seen.{seen_reply}
+use Rattle.mc_replies.specs.Status.{number_of}
+use Rattle.mc_replies.proofs.Phases.{same_status}
+use Rattle.mc_replies.proofs.Statuses.{is_answer, seven}
 use Rattle.mc_station.proofs.Parts.{nothing_put}
-use Rattle.mc_station.proofs.Statuses.{is_answer, never_unwritten, seven}
-use Rattle.mc_station.proofs.Unique.{one_reply, same_status}
+use Rattle.mc_station.proofs.Ends.{never_unwritten}
+use Rattle.mc_station.proofs.Unique.{one_reply}
 use Rattle.mc_station.proofs.top.station.Goals as goal
 
 pub returns-in-Ok-put-clause-unwritten : goal.returns-in-Ok-put-clause-unwritten
@@ -18,16 +20,15 @@ returns-in-Ok-put-clause-complete g c = λ reply known calls no_store no_out no_
     let call = call_of c.args.words.now (g.S.Store.state c.args.store.now) in
     let given = seen_reply c.in-Ok.reply in
     let leads = c.in-Ok.ensures.leads in
-    let from_first = rw c.first_stage.ensures.stage at leads in
     let answer = is_answer given.status (λ is. no_store (c.in-Ok.ensures.unreadable is)) (never_unwritten _ _ _ _ given leads) c.in-Ok.ensures.texts in
-    let same = same_status given reply (one_reply call given reply known (answer, (_, _, from_first)) calls) in
+    let same = same_status given reply (one_reply call given reply known (answer, (_, _, leads)) calls) in
     inl (c.number.ensures ∙ ap number_of same)
 
 pub returns-clause-told : goal.returns-clause-told
 returns-clause-told g c = λ other.
     record {
       reply = out_of_memory;
-      leads = rw c.first_stage.ensures.stage at c.in-Err.ensures.leads;
+      leads = c.in-Err.ensures.leads;
       status_is = c.number-in-Err.ensures;
       texts = (nothing_put (g.K.Sink.written c.args.out.now), nothing_put (g.E.Sink.written c.args.diag.now));
     }

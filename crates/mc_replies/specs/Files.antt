@@ -1,0 +1,31 @@
+-- The files that commands ask for.
+use Rattle.std.specs.Prelude.{◌≤◌, ℕ, List, length, Option}
+use Rattle.mc_port.specs.Store.{Files, HasFile, Request}
+use Rattle.mc_replies.specs.declared.file.FileKind.{FileKind}
+use Rattle.mc_replies.specs.declared.file.FileKind.TheVariants.{Source, Tests, Justifications}
+use Rattle.mc_replies.specs.declared.status.Status.{Status}
+use Rattle.mc_replies.specs.declared.status.Status.TheVariants.{SourceRefused, TestsRefused, JustificationsRefused}
+
+-- the greatest length of a file, in bytes
+abbrev pub limit_of : FileKind → ℕ
+limit_of Source = 1048576
+limit_of Tests = 4194304
+limit_of Justifications = 1048576
+
+-- the status where it is refused
+abbrev pub status_of : FileKind → Status
+status_of Source = SourceRefused
+status_of Tests = TestsRefused
+status_of Justifications = JustificationsRefused
+
+pub record File : Type 0 where
+  pub kind : FileKind
+  pub name : List ℕ
+
+-- how a file is asked for: by its name, and with the limit of its kind
+abbrev pub request_of : File → Request
+request_of file = record { name = file.name; limit = limit_of file.kind }
+
+-- the file has these bytes, where the files are told, and no more than its limit
+abbrev pub Holds : Option Files → File → List ℕ → Type 0
+Holds files file bytes = HasFile files file.name bytes × (length bytes ≤ limit_of file.kind)

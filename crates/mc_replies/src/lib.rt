@@ -1,0 +1,19 @@
+//! What the top call answers: the statuses of the program, the files that commands ask for, why a
+//! file is refused, and replies with their texts.
+#![tactic(auto)]
+
+mod file;
+mod output;
+mod refusal;
+mod reply;
+mod status;
+mod stop;
+mod text;
+
+pub use file::{File, FileKind};
+pub use output::Output;
+pub use refusal::Refusal;
+pub use reply::Reply;
+pub use status::Status;
+pub use stop::Stop;
+pub use text::usage_text;

@@ -1,0 +1,27 @@
+//! What goes to the output.
+ghost use Rattle.std.specs.Prelude.{◌≡◌, ◌≤◌};
+ghost use Rattle.std.specs.List.{concat};
+ghost use Rattle.mc_port.specs.Sink.{Puts};
+ghost use Rattle.mc_replies.specs.Seen.{pieces_of};
+
+use mc_port::{PutFault, Sink, put_lines};
+
+/// What is put on the output once all has been decided: to put it takes no memory.
+#[derive(Drop)]
+pub enum Output {
+    /// Lines, each put as one piece.
+    Lines(Vec<Vec<u8>>),
+}
+
+impl Output {
+    /// Puts all of it, up to the first piece that cannot be put.
+    pub fn put<K: Sink>(&self, out: &mut K) -> Result<(), PutFault>
+        ensures bytes { Puts (K.written out.old) (K.written out.new)
+            (K.faults out.old) (K.faults out.new) (concat (pieces_of self.now)) result }
+        ensures later { K.faults out.old ≤ K.faults out.new }
+    {
+        match self {
+            Output::Lines(lines) => put_lines(lines, out),
+        }
+    }
+}

@@ -1,0 +1,72 @@
+//! Replies.
+ghost use Rattle.std.specs.Prelude.{◌≡◌, IfOk};
+ghost use Rattle.mc_port.specs.Lines.{bytes_of};
+ghost use Rattle.mc_replies.specs.Reply.{cannot_read, written};
+ghost use Rattle.mc_replies.specs.Reply as spec;
+ghost use Rattle.mc_replies.specs.Seen.{IsReplyTo, reply_to, seen_file, seen_reply};
+
+use crate::file::File;
+use crate::output::Output;
+use crate::refusal::Refusal;
+use crate::status::Status;
+use crate::stop::Stop;
+use crate::text::{cannot_read_line, refusal_line};
+use std::alloc::{AllocError, Global};
+
+/// A status, the text for the errors' sink, and what goes to the output.
+#[derive(Drop)]
+pub struct Reply {
+    pub status: Status,
+    pub diag: Vec<u8>,
+    pub out: Output,
+}
+
+impl Reply {
+    /// Lines for the output. Something is missing where the number is not 0.
+    pub fn of_lines(alloc: Global, number: u8, lines: Vec<Vec<u8>>) -> Reply
+        ensures { seen_reply result ≡ written number (bytes_of lines.items) }
+    {
+        Reply {
+            status: Status::written(number),
+            diag: Vec::new(alloc),
+            out: Output::Lines(lines),
+        }
+    }
+
+    /// A text on the errors' sink alone.
+    pub fn of_text(alloc: Global, status: Status, text: Vec<u8>) -> Reply
+        ensures { seen_reply result ≡ spec.refusal status text.items }
+    {
+        Reply {
+            status,
+            diag: text,
+            out: Output::Lines(Vec::new(alloc)),
+        }
+    }
+
+    /// The reply to a file that is refused.
+    pub fn of_refusal(alloc: Global, refusal: &Refusal<'_>) -> Result<Reply, AllocError>
+        ensures { IfOk result (λ reply. seen_reply reply ≡ reply_to refusal.now) }
+    {
+        let line = refusal_line(alloc, refusal)?;
+        Ok(Reply::of_text(alloc, refusal.status(), line))
+    }
+
+    /// The reply where a phase gives nothing.
+    pub fn of_stop(alloc: Global, stop: &Stop<'_>) -> Result<Reply, AllocError>
+        ensures { IfOk result (λ reply. IsReplyTo stop.now (seen_reply reply)) }
+    {
+        match stop {
+            Stop::Refused(refusal) => Reply::of_refusal(alloc, refusal),
+            Stop::OutOfMemory => Err(AllocError),
+        }
+    }
+
+    /// The reply to a file that cannot be read.
+    pub fn of_unreadable(alloc: Global, file: File<'_>) -> Result<Reply, AllocError>
+        ensures { IfOk result (λ reply. seen_reply reply ≡ cannot_read (seen_file file.entry)) }
+    {
+        let line = cannot_read_line(alloc, file.name)?;
+        Ok(Reply::of_text(alloc, Status::CannotRead, line))
+    }
+}

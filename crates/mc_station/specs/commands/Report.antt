@@ -1,0 +1,55 @@
+-- The command `report`: the verdicts of the events that stand under the tests.
+use Rattle.std.specs.Prelude.{◌≡◌, List, Some}
+use Rattle.sha2.specs.Sha256.{sha256}
+use Rattle.mc_command.specs.Command as command
+use Rattle.mc_command.specs.declared.independence.Independence.{Independence}
+use Rattle.mc_command.specs.declared.independence.Independence.TheVariants.{UniqueCause, Masking}
+use Rattle.mc_command.specs.declared.form.Form as form
+use Rattle.mc_command.specs.declared.form.Form.TheVariants as option
+use Rattle.mc_typed.specs.Plans.{Plan}
+use Rattle.mc_oblige.specs.declared.mode.Mode.{Mode}
+use Rattle.mc_oblige.specs.declared.mode.Mode.TheVariants as mode
+use Rattle.mc_oblige.specs.declared.verdict.Verdict.{Verdict}
+use Rattle.mc_oblige.specs.declared.justification.Justification.{Justification}
+use Rattle.mc_oblige.specs.Obligations.{obligations_of}
+use Rattle.mc_oblige.specs.Verdicts.{AreVerdicts}
+use Rattle.mc_report.specs.Report as text
+use Rattle.mc_report.specs.Status.{status_of}
+use Rattle.mc_report.specs.Forms.{lines_in_form}
+use Rattle.mc_report.specs.declared.form.Form.{Form}
+use Rattle.mc_report.specs.declared.form.Form.TheVariants as given
+use Rattle.mc_replies.specs.Reply.{Reply, written}
+use Rattle.mc_station.specs.Source.{Accepted}
+use Rattle.mc_station.specs.Tests.{names, results, stands, states}
+
+-- the kind of independence that a mode of the command names
+abbrev pub mode_of : Independence → Mode
+mode_of UniqueCause = mode.Unique
+mode_of Masking = mode.Masking
+
+abbrev pub report : Independence → Accepted → List Plan → List Verdict → text.Report
+report shown_by accepted plans verdicts = record {
+  source = accepted.source;
+  digest = sha256 accepted.source;
+  mode = mode_of shown_by;
+  names = names plans;
+  states = states accepted.program plans;
+  results = Some (results accepted.program plans);
+  decisions = accepted.map.decisions;
+  obligations = obligations_of accepted.map;
+  verdicts = verdicts;
+}
+
+-- the form that an option of the command names
+abbrev pub form_of : form.Form → Form
+form_of option.Text = given.Text
+form_of option.Csv = given.Csv
+form_of option.Json = given.Json
+
+-- the verdicts of the events that stand, with these justifications, in the form that is asked for
+abbrev pub Reports : command.Report → Accepted → List Plan → List Justification → Reply → Type 0
+Reports asked accepted plans js reply =
+    (verdicts : List Verdict)
+    × AreVerdicts (stands accepted plans) accepted.map (mode_of asked.mode) js verdicts
+    × (let r = report asked.mode accepted plans verdicts in
+    reply ≡ written (status_of r) (lines_in_form (form_of asked.form) r))
