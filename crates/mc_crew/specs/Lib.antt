@@ -1,0 +1,3 @@
+pub mod Recorder
+pub mod Led
+pub mod Crew
