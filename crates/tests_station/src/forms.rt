@@ -2,7 +2,7 @@
 //! written out by hand.
 
 use crate::fail::Fail;
-use crate::run::{SOURCE, TESTS, gives, has_number, plain};
+use crate::run::{SOURCE, TESTS, gives, has_number, of_files, plain};
 use crate::text::bytes_of;
 use std::alloc::Global;
 
@@ -196,9 +196,7 @@ fn is_written(
     let source = bytes_of(alloc, source)?;
     let justifications = bytes_of(alloc, JUSTIFICATIONS)?;
     let written = bytes_of(alloc, written)?;
-    let mut setting = plain(&source, tests.as_bytes());
-    setting.words = words;
-    setting.justifications = &justifications;
+    let setting = of_files(words, &source, tests.as_bytes(), &justifications);
     let is_wanted = gives(alloc, &setting, (status, &written, b""));
     drop(written);
     drop(justifications);
@@ -256,8 +254,7 @@ fn is_put(
     let (status, written) = want;
     let source = bytes_of(alloc, source)?;
     let written = bytes_of(alloc, written)?;
-    let mut setting = plain(&source, TESTS.as_bytes());
-    setting.words = words;
+    let mut setting = of_files(words, &source, TESTS.as_bytes(), b"[]");
     setting.failing_out = failing;
     let is_wanted = gives(alloc, &setting, (status, &written, b""));
     drop(written);

@@ -1,7 +1,7 @@
 //! Runs whose files or texts are put together: many tests, many functions, and a long output.
 
 use crate::fail::Fail;
-use crate::run::{HEADER, gives, plain};
+use crate::run::{HEADER, gives, of_files, plain};
 use crate::text::push;
 use std::alloc::Global;
 
@@ -86,8 +86,7 @@ fn is_too_large(
 ) -> Result<bool, Fail> {
     let source = many_functions(alloc, functions)?;
     let tests = tests_of_first(alloc, count)?;
-    let mut setting = plain(source.as_bytes(), tests.as_bytes());
-    setting.words = words;
+    let setting = of_files(words, source.as_bytes(), tests.as_bytes(), b"[]");
     let is_wanted = gives(alloc, &setting, (status, b"", line.as_bytes()));
     drop(tests);
     drop(source);

@@ -1,7 +1,7 @@
 //! Files of justifications that are refused, and when they are asked for.
 
 use crate::fail::Fail;
-use crate::run::{REPORT, SOURCE, TESTS, Want, gives, plain};
+use crate::run::{REPORT, SOURCE, TESTS, Want, gives, of_files, plain};
 use crate::text::{bytes_of, padded};
 use std::alloc::Global;
 
@@ -9,9 +9,7 @@ const WORDS: &str = "report|s.c|t.csv|--justify|j.json";
 
 /// Whether a report of this source with these justifications gives this.
 fn reports(alloc: Global, source: &[u8], file: &[u8], want: Want<'_>) -> Result<bool, Fail> {
-    let mut setting = plain(source, TESTS.as_bytes());
-    setting.words = WORDS;
-    setting.justifications = file;
+    let setting = of_files(WORDS, source, TESTS.as_bytes(), file);
     gives(alloc, &setting, want)
 }
 

@@ -51,18 +51,28 @@ pub struct Setting<'a> {
     pub failing_diag: (u32, u32),
 }
 
-/// A run of `vectors s.c t.csv` in which nothing fails.
-pub fn plain<'a>(source: &'a [u8], tests: &'a [u8]) -> Setting<'a> {
+/// A run of these words over these files in which nothing fails.
+pub fn of_files<'a>(
+    words: &'a str,
+    source: &'a [u8],
+    tests: &'a [u8],
+    justifications: &'a [u8],
+) -> Setting<'a> {
     Setting {
-        words: "vectors|s.c|t.csv",
+        words,
         source,
         tests,
-        justifications: b"[]",
+        justifications,
         room: 4096,
         failing_load: 0,
         failing_out: (0, 0),
         failing_diag: (0, 0),
     }
+}
+
+/// A run of `vectors s.c t.csv` in which nothing fails.
+pub fn plain<'a>(source: &'a [u8], tests: &'a [u8]) -> Setting<'a> {
+    of_files("vectors|s.c|t.csv", source, tests, b"[]")
 }
 
 /// A status, and what both sinks have.
