@@ -3,7 +3,7 @@ use Rattle.std.specs.Prelude.{ℕ, List, ◌∷◌, Option, Some, None, if◌the
 use Rattle.std.specs.Str.{bytes_eq}
 use Rattle.clap.specs.Walk.{Row, Text, first_of}
 use Rattle.mc_command.specs.Line.{matches_on}
-use Rattle.mc_command.specs.Values.{form_in, fuel_in, mode_in}
+use Rattle.mc_command.specs.Values.{count_in, form_in, fuel_in, mode_in, workers_in}
 use Rattle.mc_command.specs.declared.form.Form.{Form}
 use Rattle.mc_command.specs.declared.independence.Independence.{Independence}
 
@@ -19,21 +19,32 @@ pub data Task : Type 0 where
   report : Report → Task
   -- `vectors`: the evaluated vectors of each decision
   vectors : Task
+  -- `record`: the matrix of what was evaluated, to be kept in a file
+  recorded : Task
 
--- a run of the tests: the name of their file, the fuel of each, and what is written of it
+-- a run of the tests: the name of their file, how many workers share them, the fuel of each, and
+-- what is written of it
 pub record Run : Type 0 where
   pub tests : List ℕ
+  pub workers : ℕ
   pub fuel : ℕ
   pub task : Task
 
 -- what is done with a source
 pub data Action : Type 0 where
-  -- its tests are run
+  -- its tests are run: `report`, `vectors`, `record`
   run : Run → Action
+  -- `merge`: two records of its tests are joined, the left one first
+  merge : (left right : List ℕ) → Action
+  -- `analyse`: a record of its tests is reported on
+  analyse : (kept : List ℕ) → Report → Action
 
--- a command on a source, which has this name
 pub data Command : Type 0 where
+  -- a command on a source, which has this name
   on_source : (source : List ℕ) → Action → Command
+  -- `selfload`: the program makes a source of so many functions and its tests, so many workers run
+  -- them, and it sums up
+  selfload : (count workers : ℕ) → Command
 
 -- ---- what the matches of a subcommand ask for
 
@@ -50,28 +61,66 @@ abbrev pub task_in : (name : Text) → List Row → Option Task
 task_in name values =
     if bytes_eq name (codes "report") then option_map report (report_in values)
     else if bytes_eq name (codes "vectors") then Some vectors
+    else if bytes_eq name (codes "record") then Some recorded
     else None
 
-abbrev pub run_with : Task → Option Text → Option ℕ → Option Run
-run_with task (Some tests) (Some fuel) =
-    Some (record { tests = tests; fuel = fuel; task = task })
-run_with task tests fuel = None
+abbrev pub run_with : Task → Option Text → Option ℕ → Option ℕ → Option Run
+run_with task (Some tests) (Some workers) (Some fuel) =
+    Some (record { tests = tests; workers = workers; fuel = fuel; task = task })
+run_with task tests workers fuel = None
 
--- `TESTS [--fuel N]`
+-- `TESTS [--workers N] [--fuel N]`
 abbrev pub run_in : Task → List Row → Option Run
-run_in task values = run_with task (first_of (codes "tests") values) (fuel_in values)
+run_in task values =
+    run_with task (first_of (codes "tests") values) (workers_in values) (fuel_in values)
+
+-- `TESTS [--workers N] [--fuel N]`, with the options of the task that has this name
+abbrev pub run_action_in : (name : Text) → List Row → Option Action
+run_action_in name values =
+    option_map run (option_and_then (λ task. run_in task values) (task_in name values))
+
+abbrev pub merge_with : Option Text → Option Text → Option Action
+merge_with (Some left) (Some right) = Some (merge left right)
+merge_with left right = None
+
+-- `LEFT RIGHT`
+abbrev pub merge_in : List Row → Option Action
+merge_in values = merge_with (first_of (codes "left") values) (first_of (codes "right") values)
+
+abbrev pub analyse_with : Option Text → Option Report → Option Action
+analyse_with (Some kept) (Some how) = Some (analyse kept how)
+analyse_with kept how = None
+
+-- `RECORD [--mode M] [--justify NAME] [--format F]`
+abbrev pub analyse_in : List Row → Option Action
+analyse_in values = analyse_with (first_of (codes "record") values) (report_in values)
 
 abbrev pub action_in : (name : Text) → List Row → Option Action
 action_in name values =
-    option_map run (option_and_then (λ task. run_in task values) (task_in name values))
+    if bytes_eq name (codes "merge") then merge_in values
+    else if bytes_eq name (codes "analyse") then analyse_in values
+    else run_action_in name values
 
-abbrev pub command_with : Option Text → Option Action → Option Command
-command_with (Some source) (Some action) = Some (on_source source action)
-command_with source action = None
+abbrev pub on_source_with : Option Text → Option Action → Option Command
+on_source_with (Some source) (Some action) = Some (on_source source action)
+on_source_with source action = None
+
+-- `SOURCE`, with the files and options of the action that has this name
+abbrev pub on_source_in : (name : Text) → List Row → Option Command
+on_source_in name values =
+    on_source_with (first_of (codes "source") values) (action_in name values)
+
+abbrev pub selfload_with : Option ℕ → Option ℕ → Option Command
+selfload_with (Some count) (Some workers) = Some (selfload count workers)
+selfload_with count workers = None
+
+-- `N [--workers N]`
+abbrev pub selfload_in : List Row → Option Command
+selfload_in values = selfload_with (count_in values) (workers_in values)
 
 abbrev pub command_in : Text × List Row → Option Command
 command_in (name, values) =
-    command_with (first_of (codes "source") values) (action_in name values)
+    if bytes_eq name (codes "selfload") then selfload_in values else on_source_in name values
 
 -- The command that words are, which stand after the program's own name. They are one exactly where
 -- `clap` states matches for them, and each value is in its set.

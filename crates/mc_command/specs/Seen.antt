@@ -1,6 +1,8 @@
 -- What clauses see of commands.
-use Rattle.std.specs.Prelude.{◌≤◌, option_map}
-use Rattle.mc_command.specs.Command.{Action, Command, Report, Run, Task, on_source, report, run, vectors}
+use Rattle.std.specs.Prelude.{◌≤◌, ℕ, ⊤, option_map}
+use Rattle.mc_limits.specs.Limits.{most_fuel, most_workers}
+use Rattle.mc_command.specs.Command.{Action, Command, Report, Run, Task, analyse, merge, on_source, recorded, report, run, selfload, vectors}
+use Rattle.mc_command.specs.Values.{most_functions}
 use Rattle.mc_command.specs.declared.action.Action.{Action as ActionGiven}
 use Rattle.mc_command.specs.declared.action.Action.TheVariants as action
 use Rattle.mc_command.specs.declared.command.Command.{Command as Given}
@@ -17,24 +19,36 @@ seen_report r =
 abbrev pub seen_task : TaskGiven → Task
 seen_task (task.Report r) = report (seen_report r)
 seen_task task.Vectors = vectors
+seen_task task.Record = recorded
 
 abbrev pub seen_run : RunGiven → Run
-seen_run r = record { tests = r.tests.now; fuel = r.fuel; task = seen_task r.task }
+seen_run r =
+    record { tests = r.tests.now; workers = r.workers; fuel = r.fuel; task = seen_task r.task }
 
 abbrev pub seen_action : ActionGiven → Action
 seen_action (action.Run r) = run (seen_run r)
+seen_action (action.Merge left right) = merge left.now right.now
+seen_action (action.Analyse kept r) = analyse kept.now (seen_report r)
 
 -- what a command of the program stands for
 abbrev pub seen_command : Given → Command
 seen_command (command.OnSource source given) = on_source source.now (seen_action given)
+seen_command (command.Selfload count workers) = selfload count workers
 
--- the fuel of each test is in range
-abbrev pub RunHasFuel : RunGiven → Type 0
-RunHasFuel r = (1 ≤ r.fuel) × (r.fuel ≤ 100000000)
+abbrev pub IsWithin : (least most : ℕ) → ℕ → Type 0
+IsWithin least most n = (least ≤ n) × (n ≤ most)
 
--- its runs have their fuel in range
-abbrev pub ActionHasFuel : ActionGiven → Type 0
-ActionHasFuel (action.Run r) = RunHasFuel r
+-- the workers of a run, and the fuel of each test, are in range
+abbrev pub RunIsInRange : RunGiven → Type 0
+RunIsInRange r = IsWithin 1 most_workers r.workers × IsWithin 1 most_fuel r.fuel
 
-abbrev pub HasFuel : Given → Type 0
-HasFuel (command.OnSource source given) = ActionHasFuel given
+-- the numbers of its run, where it has one, are in range
+abbrev pub ActionIsInRange : ActionGiven → Type 0
+ActionIsInRange (action.Run r) = RunIsInRange r
+ActionIsInRange given = ⊤
+
+-- the numbers of a command are in range
+abbrev pub IsInRange : Given → Type 0
+IsInRange (command.OnSource source given) = ActionIsInRange given
+IsInRange (command.Selfload count workers) =
+    IsWithin 1 most_functions count × IsWithin 1 most_workers workers

@@ -1,12 +1,12 @@
--- The command line as `clap` sees it: a command with one level of subcommands, built of files that
--- have to be given and of options of one value.
+-- The command line as `clap` sees it: a command with one level of subcommands, built of positionals
+-- that have to be given and of options of one value.
 use Rattle.std.specs.Prelude.{List, [], ◌∷◌, Some, true, codes}
 use Rattle.clap.specs.Walk.{Rule, Text}
 use Rattle.clap.specs.Simple.{App, new_app, new_rule, with_rule, with_subcommand}
 
--- a file that has to be given
-abbrev pub file_rule : Text → Rule
-file_rule name = record (new_rule name) { required = true }
+-- a positional that has to be given
+abbrev pub positional_rule : Text → Rule
+positional_rule name = record (new_rule name) { required = true }
 
 -- an option of one value: `--NAME VALUE`
 abbrev pub option_rule : Text → Rule
@@ -16,22 +16,62 @@ abbrev pub with_rules : App → List Rule → App
 with_rules app [] = app
 with_rules app (rule ∷ rules) = with_rules (with_rule app rule) rules
 
--- `SOURCE TESTS [--fuel N]`
+-- `SOURCE` and one more file
+abbrev pub file_rules : Text → List Rule
+file_rules other = positional_rule (codes "source") ∷ positional_rule other ∷ []
+
+-- `[--workers N] [--fuel N]`
 abbrev pub run_rules : List Rule
-run_rules = file_rule (codes "source") ∷ file_rule (codes "tests") ∷ option_rule (codes "fuel") ∷ []
+run_rules = option_rule (codes "workers") ∷ option_rule (codes "fuel") ∷ []
 
 -- `[--mode M] [--justify NAME] [--format F]`
 abbrev pub report_rules : List Rule
 report_rules =
     option_rule (codes "mode") ∷ option_rule (codes "justify") ∷ option_rule (codes "format") ∷ []
 
--- `report SOURCE TESTS [--fuel N] [--mode M] [--justify NAME] [--format F]`
-abbrev pub report_app : App
-report_app = with_rules (with_rules (new_app (codes "report")) run_rules) report_rules
+-- ---- the commands
 
--- `vectors SOURCE TESTS [--fuel N]`
-abbrev pub vectors_app : App
-vectors_app = with_rules (new_app (codes "vectors")) run_rules
+-- `NAME SOURCE OTHER`
+abbrev pub files_app : (name other : Text) → App
+files_app name other = with_rules (new_app name) (file_rules other)
+
+-- `NAME SOURCE TESTS [--workers N] [--fuel N]`
+abbrev pub run_app : Text → App
+run_app name = with_rules (files_app name (codes "tests")) run_rules
+
+-- `report SOURCE TESTS [--workers N] [--fuel N] [--mode M] [--justify NAME] [--format F]`
+abbrev pub report_app : App
+report_app = with_rules (run_app (codes "report")) report_rules
+
+-- `merge SOURCE LEFT RIGHT`
+abbrev pub merge_app : App
+merge_app =
+    with_rule (files_app (codes "merge") (codes "left")) (positional_rule (codes "right"))
+
+-- `analyse SOURCE RECORD [--mode M] [--justify NAME] [--format F]`
+abbrev pub analyse_app : App
+analyse_app = with_rules (files_app (codes "analyse") (codes "record")) report_rules
+
+-- `selfload N [--workers N]`
+abbrev pub selfload_app : App
+selfload_app =
+    with_rules (new_app (codes "selfload"))
+    (positional_rule (codes "count") ∷ option_rule (codes "workers") ∷ [])
+
+-- ---- the line
+
+-- the commands that run the tests of a source
+abbrev pub with_run_commands : App → App
+with_run_commands line =
+    with_subcommand
+    (with_subcommand (with_subcommand line report_app.top) (run_app (codes "vectors")).top)
+    (run_app (codes "record")).top
+
+-- the commands on records, and the one on a source that the program makes itself
+abbrev pub with_other_commands : App → App
+with_other_commands line =
+    with_subcommand (with_subcommand (with_subcommand line merge_app.top) analyse_app.top)
+    selfload_app.top
 
 abbrev pub line_app : App
-line_app = with_subcommand (with_subcommand (new_app (codes "mcdc")) report_app.top) vectors_app.top
+line_app = with_other_commands (with_run_commands (new_app (codes "mcdc")))

@@ -14,6 +14,8 @@ pub enum Task<'w> {
     Report(Report<'w>),
     /// The evaluated vectors of each decision: `vectors`
     Vectors,
+    /// The matrix of what was evaluated, to be kept in a file: `record`
+    Record,
 }
 
 /// The task of the command with this name.
@@ -26,6 +28,7 @@ pub fn read_task<'w>(name: &str, values: &ArgMatches<'w>) -> Option<Task<'w>>
             Some(Task::Report(report))
         }
         "vectors" => Some(Task::Vectors),
+        "record" => Some(Task::Record),
         _ => None,
     }
 }

@@ -1,15 +1,15 @@
 //! The command line that `clap` reads: a command with one level of subcommands.
-ghost use Rattle.std.specs.Prelude.{◌≡◌, IfOk, false};
+ghost use Rattle.std.specs.Prelude.{◌≡◌, IfOk, codes, false};
 ghost use Rattle.clap.specs.declared.builder.command.Command.TheViews.{out-Command as fields_of};
 ghost use Rattle.clap.specs.Words.{app_of, new_app, rule_of};
-ghost use Rattle.mc_command.specs.Usage.{file_rule, line_app, option_rule, report_app, report_rules, run_rules, vectors_app, with_rules};
+ghost use Rattle.mc_command.specs.Usage.{analyse_app, files_app, line_app, merge_app, option_rule, positional_rule, report_app, report_rules, run_app, selfload_app, with_other_commands, with_rules, with_run_commands};
 
 use clap::{Arg, Command};
 use std::alloc::{AllocError, Global};
 
-// A file that has to be given.
-fn file<'w>(alloc: Global, name: &'w str) -> Arg<'w>
-    ensures rule { rule_of result ≡ file_rule name.entry.now }
+// A positional that has to be given.
+fn positional<'w>(alloc: Global, name: &'w str) -> Arg<'w>
+    ensures rule { rule_of result ≡ positional_rule name.entry.now }
     ensures local { result.global ≡ false }
 {
     Arg::new(alloc, name).required(true)
@@ -23,15 +23,24 @@ fn option<'w>(alloc: Global, name: &'w str) -> Arg<'w>
     Arg::new(alloc, name).long(name)
 }
 
-// `NAME SOURCE TESTS [--fuel N]`
-fn run<'w>(alloc: Global, name: &'w str) -> Result<Command<'w>, AllocError>
-    ensures app { IfOk result (λ c.
-        app_of c ≡ with_rules (new_app name.entry.now) run_rules) }
+// A command on the source and one more file: `NAME SOURCE OTHER`
+fn on_files<'w>(alloc: Global, name: &'w str, other: &'w str) -> Result<Command<'w>, AllocError>
+    ensures app { IfOk result (λ c. app_of c ≡ files_app name.entry.now other.entry.now) }
     ensures local { IfOk result (λ c. (fields_of c).has_globals ≡ false) }
 {
     Command::new(alloc, name)
-        .arg(file(alloc, "source"))?
-        .arg(file(alloc, "tests"))?
+        .arg(positional(alloc, "source"))?
+        .arg(positional(alloc, other))
+}
+
+// A command that runs the tests: `NAME SOURCE TESTS [--workers N] [--fuel N]`
+fn run<'w>(alloc: Global, name: &'w str) -> Result<Command<'w>, AllocError>
+    ensures app { IfOk result (λ c. app_of c ≡ run_app name.entry.now) }
+    ensures local { IfOk result (λ c. (fields_of c).has_globals ≡ false) }
+{
+    let command = on_files(alloc, name, "tests")?;
+    command
+        .arg(option(alloc, "workers"))?
         .arg(option(alloc, "fuel"))
 }
 
@@ -57,19 +66,73 @@ fn report<'w>(alloc: Global) -> Result<Command<'w>, AllocError>
 }
 
 fn vectors<'w>(alloc: Global) -> Result<Command<'w>, AllocError>
-    ensures app { IfOk result (λ c. app_of c ≡ vectors_app) }
+    ensures app { IfOk result (λ c. app_of c ≡ run_app (codes "vectors")) }
     ensures local { IfOk result (λ c. (fields_of c).has_globals ≡ false) }
 {
     run(alloc, "vectors")
+}
+
+// `record SOURCE TESTS [--workers N] [--fuel N]`
+fn recorded<'w>(alloc: Global) -> Result<Command<'w>, AllocError>
+    ensures app { IfOk result (λ c. app_of c ≡ run_app (codes "record")) }
+    ensures local { IfOk result (λ c. (fields_of c).has_globals ≡ false) }
+{
+    run(alloc, "record")
+}
+
+fn merge<'w>(alloc: Global) -> Result<Command<'w>, AllocError>
+    ensures app { IfOk result (λ c. app_of c ≡ merge_app) }
+    ensures local { IfOk result (λ c. (fields_of c).has_globals ≡ false) }
+{
+    let command = on_files(alloc, "merge", "left")?;
+    command.arg(positional(alloc, "right"))
+}
+
+fn analyse<'w>(alloc: Global) -> Result<Command<'w>, AllocError>
+    ensures app { IfOk result (λ c. app_of c ≡ analyse_app) }
+    ensures local { IfOk result (λ c. (fields_of c).has_globals ≡ false) }
+{
+    let command = on_files(alloc, "analyse", "record")?;
+    with_report_options(alloc, command)
+}
+
+fn selfload<'w>(alloc: Global) -> Result<Command<'w>, AllocError>
+    ensures app { IfOk result (λ c. app_of c ≡ selfload_app) }
+    ensures local { IfOk result (λ c. (fields_of c).has_globals ≡ false) }
+{
+    Command::new(alloc, "selfload")
+        .arg(positional(alloc, "count"))?
+        .arg(option(alloc, "workers"))
+}
+
+// The commands that run the tests of a source.
+fn with_run_commands<'w>(alloc: Global, line: Command<'w>) -> Result<Command<'w>, AllocError>
+    ensures { IfOk result (λ c. app_of c ≡ with_run_commands (app_of line.entry)) }
+{
+    let report = report(alloc)?;
+    let vectors = vectors(alloc)?;
+    let recorded = recorded(alloc)?;
+    line.subcommand(report)?
+        .subcommand(vectors)?
+        .subcommand(recorded)
+}
+
+// The commands on records, and the one on a source that the program makes itself.
+fn with_other_commands<'w>(alloc: Global, line: Command<'w>) -> Result<Command<'w>, AllocError>
+    ensures { IfOk result (λ c. app_of c ≡ with_other_commands (app_of line.entry)) }
+{
+    let merge = merge(alloc)?;
+    let analyse = analyse(alloc)?;
+    let selfload = selfload(alloc)?;
+    line.subcommand(merge)?
+        .subcommand(analyse)?
+        .subcommand(selfload)
 }
 
 /// The command line of the program.
 pub fn line_command<'w>(alloc: Global) -> Result<Command<'w>, AllocError>
     ensures { IfOk result (λ c. app_of c ≡ line_app) }
 {
-    let report = report(alloc)?;
-    let vectors = vectors(alloc)?;
-    Command::new(alloc, "mcdc")
-        .subcommand(report)?
-        .subcommand(vectors)
+    let line = with_run_commands(alloc, Command::new(alloc, "mcdc"))?;
+    with_other_commands(alloc, line)
 }

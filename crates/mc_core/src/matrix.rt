@@ -1,5 +1,6 @@
 //! The matrix of bits under tests.
 ghost use Rattle.std.specs.Prelude.{◌≡◌, ℕ, ◌^◌, ◌<◌, ◌≤◌, ◌⊎◌, ◌↔◌, List, All, vec_len, IsTrue, IsNone, IfSome, IfOk};
+ghost use Rattle.mc_limits.specs.Limits.{most_words};
 ghost use Rattle.mc_core.specs.Shape.{word_count};
 ghost use Rattle.mc_core.specs.Joined.{IsWordOf};
 ghost use Rattle.mc_core.specs.Matrix.{Holds, HasNoSpareBit, IsSound, empty_matrix, with_pair};
@@ -29,7 +30,7 @@ impl Model for Matrix {
 impl Matrix {
     /// The matrix in which all bits are clear.
     pub fn zero(alloc: Global, shape: Shape) -> Result<Matrix, AllocError>
-        requires small { word_count shape ≤ 1048576 }
+        requires small { word_count shape ≤ most_words }
         ensures { IfOk result (λ m. m ≡ empty_matrix shape) }
     {
         let words: Vec<u64> = vec![in alloc; 0; words(shape) as usize]?;

@@ -1,6 +1,7 @@
 //! Two matrices of the same bits, one after the other.
 ghost use Rattle.std.specs.Prelude.{◌≡◌, ℕ, ◌+◌, ◌-◌, ◌<◌, ◌≤◌, ◌↔◌, Err, IfOk, IfErr};
 ghost use Rattle.std.specs.Int.{bit_at};
+ghost use Rattle.mc_limits.specs.Limits.{most_tests, most_words};
 ghost use Rattle.mc_core.specs.Shape.{rows, word_count};
 ghost use Rattle.mc_core.specs.Matrix.{Holds};
 ghost use Rattle.mc_core.specs.Joined.{IsWordOf, AreJoined};
@@ -8,6 +9,7 @@ ghost use Rattle.mc_core.specs.Merged.{both_shapes, words_of_both, HoldsEither};
 
 use crate::matrix::Matrix;
 use crate::shape::{Shape, words};
+use mc_limits::MOST_WORDS;
 use std::alloc::{AllocError, Global};
 use thiserror::Error;
 
@@ -36,13 +38,13 @@ impl From<AllocError> for MergeFault {
 /// The tests of `left`, followed by those of `right`.
 pub fn merge(alloc: Global, left: &Matrix, right: &Matrix) -> Result<Matrix, MergeFault>
     requires bits { left.now.shape.bits ≡ right.now.shape.bits }
-    requires tests { left.now.shape.tests + right.now.shape.tests ≤ 4096 }
+    requires tests { left.now.shape.tests + right.now.shape.tests ≤ most_tests }
     ensures shape { IfOk result (λ m. m.shape ≡ both_shapes left.now.shape right.now.shape) }
     ensures pairs { IfOk result (λ m. (b t : ℕ) →
         Holds m b t ↔ HoldsEither left.now right.now b t) }
-    ensures too_large { 1048576 < words_of_both left.now right.now
+    ensures too_large { most_words < words_of_both left.now right.now
         → result ≡ Err (MergeFault.TooLarge (words_of_both left.now right.now)) }
-    ensures fits { words_of_both left.now right.now ≤ 1048576
+    ensures fits { words_of_both left.now right.now ≤ most_words
         → IfErr result (λ e. e ≡ MergeFault.OutOfMemory) }
 {
     let first = left.shape();
@@ -51,7 +53,7 @@ pub fn merge(alloc: Global, left: &Matrix, right: &Matrix) -> Result<Matrix, Mer
         tests: first.tests + right.shape().tests,
     };
     let count = words(shape);
-    if count > 1_048_576 {
+    if count > MOST_WORDS {
         return Err(MergeFault::TooLarge { words: count });
     }
     let list = joined_words(alloc, left, right, shape)?;
@@ -66,7 +68,7 @@ fn joined_words(
     right: &Matrix,
     shape: Shape,
 ) -> Result<Vec<u64>, AllocError>
-    requires small { word_count shape ≤ 1048576 }
+    requires small { word_count shape ≤ most_words }
     ensures { IfOk result (λ list.
         AreJoined left.now right.now (rows shape) (word_count shape) list.items) }
 {
@@ -82,7 +84,7 @@ fn joined_words(
 
 // The word of a row of tests.
 fn joined_word(left: &Matrix, right: &Matrix, bit: u32, row: usize) -> u64
-    requires { row ≤ 1048576 }
+    requires { row ≤ most_words }
     ensures { IsWordOf (HoldsEither left.now right.now bit) result row }
 {
     left.word(bit, row) | later_word(right, bit, row, left.shape().tests)
@@ -90,7 +92,7 @@ fn joined_word(left: &Matrix, right: &Matrix, bit: u32, row: usize) -> u64
 
 // The word of a row of tests, where the matrix's own tests are counted from `offset` on.
 fn later_word(matrix: &Matrix, bit: u32, row: usize, offset: u32) -> u64
-    requires { row ≤ 1048576 }
+    requires { row ≤ most_words }
     ensures { IsWordOf (λ t. (offset ≤ t) × Holds matrix.now bit (t - offset)) result row }
 {
     let passed = (offset / 64) as usize;

@@ -1,5 +1,6 @@
 //! The interleaving core: workers that claim tests and hit their bits, one atomic step at a time.
 ghost use Rattle.std.specs.Prelude.{◌≡◌, ℕ, ◌+◌, ◌<◌, ◌≤◌, ◌↔◌, ◌^◌, List, length, min, All, Contains, IfOk, OnOk, map, vec_len, true, false};
+ghost use Rattle.mc_limits.specs.Limits.{most_words, most_workers};
 ghost use Rattle.mc_core.specs.Shape.{word_count};
 ghost use Rattle.mc_core.specs.Matrix.{Holds, with_pair};
 ghost use Rattle.mc_core.specs.Schedule.{core_of, run, start, script_of, scripts_of, worker_of, workers_of, fresh_workers, next_bit, last_claim};
@@ -41,11 +42,11 @@ pub fn run_schedule(
     workers: u32,
     schedule: &[u32],
 ) -> Result<CoreState, AllocError>
-    requires small { word_count shape ≤ 1048576 }
+    requires small { word_count shape ≤ most_words }
     requires tests { length scripts.now ≡ shape.tests }
     requires scripts { All (λ v. (vec_len v < 2 ^ 31) × All (λ b. b < shape.bits) v.items)
         scripts.now }
-    requires workers { (1 ≤ workers) × (workers ≤ 64) }
+    requires workers { (1 ≤ workers) × (workers ≤ most_workers) }
     requires steps { length schedule.now < 2 ^ 31 }
     ensures state { IfOk result (λ s.
         core_of s ≡ run (scripts_of scripts.now) (start shape workers) schedule.now) }
@@ -71,7 +72,7 @@ pub fn run_schedule(
 
 // The state before the first step.
 fn started(alloc: Global, shape: Shape, workers: u32) -> Result<CoreState, AllocError>
-    requires small { word_count shape ≤ 1048576 }
+    requires small { word_count shape ≤ most_words }
     ensures { IfOk result (λ s. core_of s ≡ start shape workers) }
 {
     Ok(CoreState {

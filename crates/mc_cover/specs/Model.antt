@@ -1,6 +1,7 @@
 -- What contracts see of a cover and of a pass.
 use Rattle.std.specs.Prelude.{◌≡◌, ◌≤◌, ℕ, ◌+◌, Option, Some, None, nat_lt, if◌then◌else◌}
 use Rattle.atomic_table.specs.Seated.{TableId}
+use Rattle.mc_limits.specs.Limits.{most_words}
 use Rattle.mc_core.specs.declared.shape.Shape.{Shape}
 use Rattle.mc_core.specs.Shape.{word_count}
 use Rattle.mc_cover.specs.declared.view.View.{View}
@@ -31,5 +32,5 @@ pub record IsSized (table : TableId) (key shape : Shape) (room : ℕ) : Type 0 w
   pub keyed : key ≡ shape
   pub words : table.words ≡ word_count shape + 1
   pub slots : table.slots ≡ 0
-  pub limited : word_count shape ≤ 1048576
+  pub limited : word_count shape ≤ most_words
   pub room_is : room ≡ word_count shape

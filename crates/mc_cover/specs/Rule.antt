@@ -5,6 +5,7 @@ use mathlib.Core.Option.{some}
 use lib.ListN.{get_elem?}
 use Rattle.std.specs.Int.{bit_at}
 use Rattle.atomic_table.specs.Table.{State}
+use Rattle.mc_limits.specs.Limits.{most_workers}
 use Rattle.mc_core.specs.declared.shape.Shape.{Shape}
 use Rattle.mc_core.specs.Shape.{rows, word_count}
 use Rattle.mc_core.specs.Matrix.{bit_of}
@@ -57,5 +58,5 @@ pub record IsKept (k : Shape) (s : Shared) : Type 0 where
   pub workers : sum_by (λ v. works v.role) s.views + sum_by (λ v. v.joined) s.views
       ≡ sum_by (λ v. v.forks) s.views
   pub running : sum_by (λ v. v.over) s.views + sum_by runs s.views ≤ sum_by (λ v. v.forks) s.views
-  pub forks : sum_by (λ v. v.forks) s.views ≤ 64
+  pub forks : sum_by (λ v. v.forks) s.views ≤ most_workers
   pub each : (id : ℕ) (v : View) → HasView s id v → IsSound k s.words v

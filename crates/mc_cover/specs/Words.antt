@@ -1,6 +1,7 @@
 -- The rule of the shared words in plain words, part by part.
 use Rattle.std.specs.Prelude.{◌≡◌, ◌≢◌, ◌≤◌, ◌↔◌, ℕ, ◌+◌, ◌-◌, ◌*◌, ◌<◌, List, length, slice_index, sum_by, min, All, Contains}
 use Rattle.std.specs.Int.{bit_at}
+use Rattle.mc_limits.specs.Limits.{most_workers}
 use Rattle.mc_core.specs.declared.shape.Shape.{Shape}
 use Rattle.mc_core.specs.Shape.{rows, word_count}
 use Rattle.mc_core.specs.Matrix.{bit_of}
@@ -28,7 +29,7 @@ IsDrawnTest k s n = n < min (draws s.words) k.tests
 pub record OpenerCounts (s : Shared) (v : View) : Type 0 where
   pub workers : sum_by (λ w. works w.role) s.views + v.joined ≡ v.forks
   pub running : sum_by (λ w. w.over) s.views + sum_by runs s.views ≤ v.forks
-  pub forks : v.forks ≤ 64
+  pub forks : v.forks ≤ most_workers
 
 -- what holds of one pass's view
 pub record IsOrderly (k : Shape) (words : List ℕ) (v : View) : Type 0 where

@@ -1,5 +1,6 @@
 //! New shared words.
 ghost use Rattle.std.specs.Prelude.{◌≡◌, ◌<◌, ◌≤◌, Err, IfOk, IfErr};
+ghost use Rattle.mc_limits.specs.Limits.{most_words};
 ghost use Rattle.mc_core.specs.Shape.{word_count};
 ghost use Rattle.mc_cover.specs.Views.{opener};
 ghost use Rattle.mc_cover.specs.Model.{IsOf};
@@ -8,6 +9,7 @@ use crate::cover::Cover;
 use crate::pass::Pass;
 use atomic_table::Table;
 use mc_core::{Shape, words};
+use mc_limits::MOST_WORDS;
 use std::alloc::{AllocError, Global};
 use thiserror::Error;
 
@@ -37,14 +39,14 @@ impl From<AllocError> for OpenFault {
 /// It also takes the memory of the closing matrix.
 pub fn open(alloc: Global, shape: Shape) -> Result<(Cover, Pass), OpenFault>
     ensures own { IfOk result (λ r. IsOf r.0 r.1) }
-    ensures shape { IfOk result (λ r. (r.0.shape ≡ shape) × (word_count shape ≤ 1048576)) }
+    ensures shape { IfOk result (λ r. (r.0.shape ≡ shape) × (word_count shape ≤ most_words)) }
     ensures view { IfOk result (λ r. r.1.view ≡ opener shape) }
-    ensures too_large { 1048576 < word_count shape
+    ensures too_large { most_words < word_count shape
         → result ≡ Err (OpenFault.TooLarge (word_count shape)) }
-    ensures fits { word_count shape ≤ 1048576 → IfErr result (λ e. e ≡ OpenFault.OutOfMemory) }
+    ensures fits { word_count shape ≤ most_words → IfErr result (λ e. e ≡ OpenFault.OutOfMemory) }
 {
     let count = words(shape);
-    if count > 1_048_576 {
+    if count > MOST_WORDS {
         return Err(OpenFault::TooLarge { words: count });
     }
     // One vector holds the zeros, and then keeps the room for the matrix.

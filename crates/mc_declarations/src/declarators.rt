@@ -104,7 +104,7 @@ pub(crate) fn is_later_absent(lengths: &[ArrayLength<'_>]) -> bool
 /// The fault of an absent length, where no list tells it.
 pub(crate) fn absent_fault(
     lengths: &[ArrayLength<'_>],
-    count: Option<u64>,
+    count: Option<u32>,
     at: u32,
 ) -> Option<Fault>
     ensures least { result ≡ least_of (d.absent_faults (written lengths.now) count at) }
@@ -117,7 +117,7 @@ pub(crate) fn absent_fault(
 }
 
 // The first length, where it is absent: it stands apart.
-fn leading(lengths: &[ArrayLength<'_>], count: Option<u64>) -> Option<Option<u64>>
+fn leading(lengths: &[ArrayLength<'_>], count: Option<u32>) -> Option<Option<u32>>
     ensures { option_map length_list result ≡ d.leading (written lengths.now) count }
 {
     if is_first_absent(lengths) {
@@ -132,8 +132,8 @@ fn leading(lengths: &[ArrayLength<'_>], count: Option<u64>) -> Option<Option<u64
 
 fn array_of(
     alloc: Global,
-    front: Option<Option<u64>>,
-    given: &Option<Vec<u64>>,
+    front: Option<Option<u32>>,
+    given: &Option<Vec<u32>>,
     base: &Option<CType>,
 ) -> Result<Option<CType>, AllocError>
     ensures { IfOk result (λ r. option_map type_of r ≡ v.lift3 d.array_of
@@ -160,8 +160,8 @@ fn array_of(
 pub fn declared_type(
     alloc: Global,
     lengths: &[ArrayLength<'_>],
-    given: &Option<Vec<u64>>,
-    count: Option<u64>,
+    given: &Option<Vec<u32>>,
+    count: Option<u32>,
     base: &Option<CType>,
 ) -> Result<Option<CType>, AllocError>
     ensures { IfOk result (λ r. option_map type_of r ≡ d.declared_type (written lengths.now)

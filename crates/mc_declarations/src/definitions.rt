@@ -1,5 +1,5 @@
 //! Function definitions (C17 6.9.1).
-ghost use Rattle.std.specs.Prelude.{◌≡◌, [], ◌∷◌, ◌++◌, IfOk, OnOk, true, List, Option, length, take, map, option_map};
+ghost use Rattle.std.specs.Prelude.{◌≡◌, ◌≤◌, [], ◌∷◌, ◌++◌, IfOk, OnOk, true, List, Option, length, take, map, option_map};
 ghost use Rattle.mc_tree.specs.Tree as tree;
 ghost use Rattle.mc_tree.specs.Views.{name_of, parameter_of, parameters_from};
 ghost use Rattle.mc_typed.specs.Tree as typed;
@@ -8,6 +8,7 @@ ghost use Rattle.mc_typed.specs.Views as views;
 ghost use Rattle.mc_faults.specs.declared.fault.Fault.{Fault};
 ghost use Rattle.mc_typing.specs.Declarations as w;
 ghost use Rattle.mc_faults.specs.Faults.{least_of};
+ghost use Rattle.mc_typing.specs.Limits as limit;
 ghost use Rattle.mc_typing.specs.Scopes as s;
 ghost use Rattle.mc_typing.specs.Types as t;
 ghost use Rattle.mc_typing.specs.Typing as ty;
@@ -30,6 +31,7 @@ use crate::parameters::Parameters;
 use crate::signatures::{function_fault, repeated_fault, result_of, signature};
 use crate::tags::plain;
 use mc_faults::{Fault, FaultKind, after_two, fault_where, lesser};
+use mc_limits::MOST_FRAME_CELLS;
 use mc_scopes::found::Judged;
 use mc_scopes::lists::{list_of, push, unused, where_done};
 use mc_scopes::{
@@ -39,9 +41,6 @@ use mc_tree::{Identifier, Parameter};
 use mc_typed::{Function, Object, ParameterType, ResultType, Span, Statement};
 use std::alloc::{AllocError, Global};
 use std::sync::Arc;
-
-// The cells of a frame.
-const MOST_CELLS: u64 = 65536;
 
 // ---- before the parameters
 
@@ -181,6 +180,7 @@ fn enter_definition<'a>(
     name: &Identifier<'a>,
     of: &Option<Arc<Signature>>,
 ) -> Result<Block, AllocError>
+    requires { block.names ≤ length scope.old.names }
     ensures around { IfOk result (λ b. around_of b ≡ with_one_name (around_of block)) }
     ensures body { IfOk result (λ b. scope_of scope.new ≡ body_in (around_of block).names
         (name_of name.now) (s.Function (signature_in of.now) true) (scope_of scope.old)) }
@@ -212,6 +212,7 @@ pub fn begin_definition<'a>(
     unnamed: Option<Fault>,
     parameters: &Parameters,
 ) -> Result<Body, AllocError>
+    requires { block.names ≤ length scope.old.names }
     ensures body { IfOk result (λ r. (o : s.Scope) (ps : tree.Parameters)
         → IsHeading heading.now (name_of name.now) (option_map type_of typed.now.value) o
         → unnamed ≡ least_of (ty.names_faults ps)
@@ -465,6 +466,13 @@ fn function_listed<'a>(
     }
 }
 
+// The fault of an activation with so many cells.
+fn frame_fault(cells: u64, at: u32) -> Option<Fault>
+    ensures { result ≡ least_of (limit.frame_faults cells at) }
+{
+    fault_where(cells > MOST_FRAME_CELLS as u64, FaultKind::Limit, at)
+}
+
 /// The end of a definition whose body is known. Its frame holds all its objects.
 pub fn end_definition<'a>(
     alloc: Global,
@@ -478,7 +486,7 @@ pub fn end_definition<'a>(
         ≡ squeezed_part (definition_ended (name_of name.now) span (body_of body u)
         (around_of body.block) (judged_of statements_of statements (scope_of scope.old)))) }
 {
-    let frame = fault_where(scope.frame > MOST_CELLS, FaultKind::Limit, name.span.start);
+    let frame = frame_fault(scope.frame, name.span.start);
     let fault = after_two(body.fault, statements.fault, frame);
     let value = function_listed(alloc, scope, name, span, &body.signature, statements.value);
     scope.leave_function(alloc, body.block);

@@ -1,5 +1,5 @@
 //! Enumerations (C17 6.7.2.2).
-ghost use Rattle.std.specs.Prelude.{◌≡◌, ◌++◌, ◌+ℤ◌, pos, IfOk, List, Some, is_some, option_map};
+ghost use Rattle.std.specs.Prelude.{◌≡◌, ◌++◌, ◌+ℤ◌, pos, IfOk, IsTrue, List, Some, is_some, option_map};
 ghost use Rattle.mc_tree.specs.Views.{name_of, tag_of};
 ghost use Rattle.mc_faults.specs.declared.fault.Fault.{Fault};
 ghost use Rattle.mc_typing.specs.Declarators as d;
@@ -107,21 +107,20 @@ fn fits_int(value: Option<i128>) -> bool
 }
 
 fn in_int(value: Option<i128>) -> Option<i128>
-    ensures { result ≡ d.in_int value }
+    ensures exact { result ≡ d.in_int value }
+    ensures fits { IsTrue (d.fits_int result) }
 {
     if fits_int(value) { value } else { None }
 }
 
-// The value of the next enumerator.
-fn next_value(value: Option<i128>) -> Result<Option<i128>, AllocError>
-    ensures { IfOk result (λ r. r ≡ option_map (λ w. w +ℤ pos 1) value) }
+// The value of the next enumerator, after one that fits int.
+fn next_value(value: Option<i128>) -> Option<i128>
+    requires { IsTrue (d.fits_int value) }
+    ensures { result ≡ option_map (λ w. w +ℤ pos 1) value }
 {
     match value {
-        Some(value) => match value.checked_add(1) {
-            Some(next) => Ok(Some(next)),
-            None => Err(AllocError),
-        },
-        None => Ok(None),
+        Some(value) => Some(value + 1),
+        None => None,
     }
 }
 
@@ -147,7 +146,7 @@ fn declare_enumerator<'a>(
 {
     let value = in_int(value);
     match scope.declare(name, Meaning::Constant { value }) {
-        Ok(()) => next_value(value),
+        Ok(()) => Ok(next_value(value)),
         Err(error) => Err(error),
     }
 }
@@ -170,13 +169,13 @@ pub fn enumerator<'a>(
 
 // The fault of the expression and of the enumerator, in their order.
 #[tactic(auto, using(mc_scopes::proofs::Squeezed::joined_listed, mc_scopes::proofs::Squeezed::joined_leasts))]
-fn valued_fault(at: u32, found: &Found, own: Option<Fault>) -> Result<Option<Fault>, AllocError>
-    ensures { IfOk result (λ r. (s : s.Scope) (fs : List Fault) → own ≡ least_of fs
-        → r ≡ least_of (listed found.now.fault ++ (fs
-        ++ c.constant_faults at found.now.constant (v.number_found (found_of found.now s))))) }
+fn valued_fault(at: u32, found: &Found, own: Option<Fault>) -> Option<Fault>
+    ensures { (s : s.Scope) (fs : List Fault) → own ≡ least_of fs
+        → result ≡ least_of (listed found.now.fault ++ (fs
+        ++ c.constant_faults at found.now.constant (v.number_found (found_of found.now s)))) }
 {
-    let constant = fault_of_constant(at, found)?;
-    Ok(lesser(found.fault, lesser(own, constant)))
+    let constant = fault_of_constant(at, found);
+    lesser(found.fault, lesser(own, constant))
 }
 
 /// An enumerator with an expression that starts here; the value of the next one.
@@ -190,9 +189,9 @@ pub fn valued_enumerator<'a>(
         ≡ squeezed_part (d.valued_enumerator_judged (name_of name.now) at
         (found_of found.now (scope_of scope.old)))) }
 {
-    let value = constant_found(found)?;
+    let value = constant_found(found);
     let own = enumerator_fault(scope, name, value);
-    let fault = valued_fault(at, found, own)?;
+    let fault = valued_fault(at, found, own);
     let value = declare_enumerator(scope, name, value)?;
     Ok(Judged { fault, value })
 }

@@ -14,10 +14,14 @@ use mc_faults::{Fault, FaultKind, after_two, fault_where, lesser};
 use mc_scopes::found::{Found, Judged};
 use mc_scopes::lists::with_last;
 use mc_scopes::values::{constant_found, fault_of_constant};
+use mc_value::MOST_CELLS;
 use std::alloc::{AllocError, Global};
 
+/// The greatest length that is kept: longer arrays are too long as well.
+pub(crate) const MOST_KEPT: u32 = MOST_CELLS + 1;
+
 /// No lengths. Takes no memory.
-pub fn no_lengths(alloc: Global) -> Judged<Vec<u64>>
+pub fn no_lengths(alloc: Global) -> Judged<Vec<u32>>
     ensures { (s : s.Scope) → judged_of lengths_in result s ≡ judged [] (Some []) s }
 {
     Judged {
@@ -26,59 +30,50 @@ pub fn no_lengths(alloc: Global) -> Judged<Vec<u64>>
     }
 }
 
-/// The length of this value, where it is one.
-///
-/// # Errors
-///
-/// `AllocError` where 64 bits do not hold it, which hold each value of an integer type.
-fn length_of(value: i128) -> Result<Option<u64>, AllocError>
-    ensures { IfOk result (λ r. r ≡ d.length_of value) }
+// The length of this value, where it is one.
+fn length_of(value: i128) -> Option<u32>
+    ensures { result ≡ d.length_of value }
 {
     if value < 1 {
-        return Ok(None);
-    }
-    match u64::try_from(value) {
-        Ok(length) => Ok(Some(length)),
-        Err(_) => Err(AllocError),
+        None
+    } else {
+        Some(value.min(i128::from(MOST_KEPT)) as u32)
     }
 }
 
-fn length_in(value: Option<i128>) -> Result<Option<u64>, AllocError>
-    ensures { IfOk result (λ r. r ≡ option_and_then d.length_of value) }
+fn length_in(value: Option<i128>) -> Option<u32>
+    ensures { result ≡ option_and_then d.length_of value }
 {
     match value {
         Some(value) => length_of(value),
-        None => Ok(None),
+        None => None,
     }
 }
 
 // Whether the value is known, and is no length.
-fn is_no_length(value: Option<i128>) -> Result<bool, AllocError>
-    ensures { IfOk result (λ r. r ≡ d.is_no_length value) }
+fn is_no_length(value: Option<i128>) -> bool
+    ensures { result ≡ d.is_no_length value }
 {
     match value {
-        Some(value) => match length_of(value) {
-            Ok(length) => Ok(length.is_none()),
-            Err(error) => Err(error),
-        },
-        None => Ok(false),
+        Some(value) => length_of(value).is_none(),
+        None => false,
     }
 }
 
 // The fault of an expression that has to be a length.
 #[tactic(auto, using(mc_scopes::proofs::Squeezed::joined_leasts))]
-fn length_fault(at: u32, found: &Found) -> Result<Option<Fault>, AllocError>
-    ensures { IfOk result (λ r. (s : s.Scope) → r ≡ least_of
-        (d.length_faults at found.now.constant (v.number_found (found_of found.now s)))) }
+fn length_fault(at: u32, found: &Found) -> Option<Fault>
+    ensures { (s : s.Scope) → result ≡ least_of
+        (d.length_faults at found.now.constant (v.number_found (found_of found.now s))) }
 {
-    let constant = fault_of_constant(at, found)?;
-    let value = constant_found(found)?;
-    let misfit = is_no_length(value)?;
+    let constant = fault_of_constant(at, found);
+    let value = constant_found(found);
+    let misfit = is_no_length(value);
     let own = fault_where(misfit, FaultKind::Mismatch, at);
-    Ok(lesser(constant, own))
+    lesser(constant, own)
 }
 
-fn lengths_with(list: Option<Vec<u64>>, one: Option<u64>) -> Result<Option<Vec<u64>>, AllocError>
+fn lengths_with(list: Option<Vec<u32>>, one: Option<u32>) -> Result<Option<Vec<u32>>, AllocError>
     ensures { IfOk result (λ r. option_map lengths_in r
         ≡ v.lift2 with_length (option_map lengths_in list) one) }
 {
@@ -99,16 +94,16 @@ fn lengths_with(list: Option<Vec<u64>>, one: Option<u64>) -> Result<Option<Vec<u
 
 /// Lengths, and one more after them, whose expression starts here.
 pub fn more_lengths(
-    list: Judged<Vec<u64>>,
+    list: Judged<Vec<u32>>,
     at: u32,
     found: &Found,
-) -> Result<Judged<Vec<u64>>, AllocError>
+) -> Result<Judged<Vec<u32>>, AllocError>
     ensures { IfOk result (λ r. (s u : s.Scope) → judged_of lengths_in r u ≡ squeezed_part
         (length_then (judged_of lengths_in list s) at (found_of found.now u))) }
 {
-    let own = length_fault(at, found)?;
+    let own = length_fault(at, found);
     let fault = after_two(list.fault, found.fault, own);
-    let one = length_in(constant_found(found)?)?;
+    let one = length_in(constant_found(found));
     let value = lengths_with(list.value, one)?;
     Ok(Judged { fault, value })
 }

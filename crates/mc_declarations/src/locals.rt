@@ -109,7 +109,7 @@ pub fn begin_local<'a>(
     faults: Option<Fault>,
     name: &Identifier<'a>,
     lengths: &[ArrayLength<'_>],
-    count: Option<u64>,
+    count: Option<u32>,
     base: &Option<CType>,
     of: &Option<CType>,
 ) -> Result<Local, AllocError>

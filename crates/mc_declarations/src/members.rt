@@ -110,7 +110,7 @@ pub fn member<'a>(
     base: &Option<CType>,
     name: &Identifier<'a>,
     lengths: &[ArrayLength<'_>],
-    given: Judged<Vec<u64>>,
+    given: Judged<Vec<u32>>,
     members: &mut Members<'a>,
 ) -> Result<Option<Fault>, AllocError>
     ensures { IfOk result (λ r. listed_members r members.new (scope_of scope.now)

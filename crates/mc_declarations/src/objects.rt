@@ -24,7 +24,7 @@ pub(crate) fn object_fault(
     scope: &Scope<'_>,
     name: &Identifier<'_>,
     lengths: &[ArrayLength<'_>],
-    count: Option<u64>,
+    count: Option<u32>,
     base: &Option<CType>,
     of: &Option<CType>,
 ) -> Option<Fault>

@@ -314,7 +314,7 @@ pub fn parameter<'a>(
     lengths: &[ArrayLength<'_>],
     fault: Option<Fault>,
     base: &Option<CType>,
-    given: Judged<Vec<u64>>,
+    given: Judged<Vec<u32>>,
 ) -> Result<Parameters, AllocError>
     ensures { IfOk result (λ r. listed_parameters r (scope_of scope.new)
         ≡ squeezed_listed (d.parameter_listed (tag_of name.now) at (written lengths.now)

@@ -13,14 +13,12 @@ ghost use Rattle.mc_declarations.specs.Declarations.{kind_found, kinds_of, meani
 use crate::earlier::Earlier;
 use crate::external::{is_input, is_output};
 use mc_faults::{Fault, FaultKind, fault_where, lesser};
+use mc_limits::MOST_PARAMETERS;
 use mc_scopes::{Base, CType, ParameterKind, Signature, same_base};
 use mc_tree::Identifier;
 use mc_value::IntType;
 use std::alloc::{AllocError, Global};
 use std::sync::Arc;
-
-// The greatest number of parameters.
-const MOST_PARAMETERS: usize = 16;
 
 /// What a function gives, where its type is no array.
 pub fn result_of(gives: &Option<CType>) -> Option<Base>
@@ -259,7 +257,7 @@ pub(crate) fn function_fault(
         (option_map type_of gives.now) count (signature_in signature.now)) }
 {
     let at = name.span.start;
-    let many = fault_where(count > MOST_PARAMETERS, FaultKind::Limit, at);
+    let many = fault_where(count > MOST_PARAMETERS as usize, FaultKind::Limit, at);
     let array = fault_where(is_array_type(gives), FaultKind::Mismatch, at);
     let external = external_fault(name, signature);
     lesser(external, lesser(array, many))

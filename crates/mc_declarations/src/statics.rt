@@ -1,6 +1,7 @@
 //! Objects with static storage duration (C17 6.2.4p3).
 ghost use Rattle.std.specs.Prelude.{◌≡◌, ◌++◌, [], IfOk, OnOk, Some, None, option_map};
 ghost use Rattle.mc_tree.specs.Views.{name_of};
+ghost use Rattle.mc_limits.specs.Limits.{most_static_cells};
 ghost use Rattle.mc_typed.specs.Layout as sizes;
 ghost use Rattle.mc_faults.specs.declared.fault.FaultKind.TheVariants.{Limit};
 ghost use Rattle.mc_typing.specs.Declarations as w;
@@ -22,6 +23,7 @@ use crate::declarators::copy_unless;
 use crate::faults::first_fault;
 use crate::objects::{declare_untyped, object_fault};
 use mc_faults::{Fault, FaultKind, after, fault_where};
+use mc_limits::MOST_STATIC_CELLS;
 use mc_scopes::found::Judged;
 use mc_scopes::initial::{values_of, zeros};
 use mc_scopes::lists::unused_inner;
@@ -46,7 +48,7 @@ pub fn begin_static<'a>(
     faults: Option<Fault>,
     name: &Identifier<'a>,
     lengths: &[ArrayLength<'_>],
-    count: Option<u64>,
+    count: Option<u32>,
     base: &Option<CType>,
     of: &Option<CType>,
 ) -> Result<Stored, AllocError>
@@ -114,9 +116,10 @@ fn add_static(
 // The fault of an object with so many cells that passes the limit of all of them.
 fn sum_fault(scope: &Scope<'_>, at: u32, count: u32) -> Option<Fault>
     ensures { listed result ≡ fault_if
-        (limit.is_passed_with (scope_of scope.now).static_cells count) Limit at }
+        (limit.is_passed_with most_static_cells (scope_of scope.now).static_cells count) Limit
+        at }
 {
-    let passed = is_passed_with(scope.static_cells, count);
+    let passed = is_passed_with(MOST_STATIC_CELLS, scope.static_cells, count);
     fault_where(passed, FaultKind::Limit, at)
 }
 

@@ -15,6 +15,7 @@ ghost use Rattle.mc_faults.specs.Kept.{listed};
 ghost use Rattle.mc_scopes.specs.steps.Squeezed.{squeezed_part};
 
 use crate::faults::first_fault;
+use crate::lengths::MOST_KEPT;
 use crate::specifier_types::has;
 use mc_faults::{Fault, FaultKind, fault_where};
 use mc_scopes::count::count_of;
@@ -59,14 +60,18 @@ pub(crate) fn has_initializer(value: Option<&mc_tree::Initializer<'_>>) -> bool
 }
 
 // A list without items counts for nothing.
-fn at_least_one(count: usize) -> Option<u64>
+fn at_least_one(count: usize) -> Option<u32>
     ensures { result ≡ w.at_least_one count }
 {
-    if count == 0 { None } else { Some(count as u64) }
+    if count == 0 {
+        None
+    } else {
+        Some(count.min(MOST_KEPT as usize) as u32)
+    }
 }
 
 /// The number of items of an initializer, where it is a list (C17 6.7.9p22).
-pub fn count_listed(value: Option<&mc_tree::Initializer<'_>>) -> Option<u64>
+pub fn count_listed(value: Option<&mc_tree::Initializer<'_>>) -> Option<u32>
     ensures { result
         ≡ w.count_listed (option_map units.initializer_of (option_copied value.entry)) }
 {

@@ -1,5 +1,5 @@
 //! External declarations (C17 6.9).
-ghost use Rattle.std.specs.Prelude.{◌≡◌, ◌++◌, [], ◌∷◌, List, Some, None, IfOk, OnOk, option_map};
+ghost use Rattle.std.specs.Prelude.{◌≡◌, ◌<◌, ◌≤◌, ◌^◌, ◌+◌, ◌++◌, [], ◌∷◌, List, length, Some, None, IfOk, OnOk, option_map};
 ghost use Rattle.mc_tree.specs.Units.{item_of, items_of};
 ghost use Rattle.mc_tree.specs.Tree as tree;
 ghost use Rattle.mc_tree.specs.Views.{declarator_of, name_of};
@@ -103,8 +103,10 @@ pub fn declared_name<'d, 'a>(declarator: &'d Declarator<'a>) -> &'d Identifier<'
 
 // The function of an item, where it has a body.
 fn add_body<'a>(bodies: &mut Bodies<'a>, item: &Item<'a>) -> Result<(), AllocError>
-    ensures { OnOk result ((rest : List tree.Item) → bodies.new ++ ty.bodies_of rest
+    requires { length bodies.old < 2 ^ 32 }
+    ensures named { OnOk result ((rest : List tree.Item) → bodies.new ++ ty.bodies_of rest
         ≡ bodies.old ++ ty.bodies_of (item_of item.now ∷ rest)) }
+    ensures count { OnOk result (length bodies.new ≤ length bodies.old + 1) }
 {
     match item {
         Item::Defined { declarator, .. } => bodies.push(declared_name(declarator).text),
@@ -114,6 +116,7 @@ fn add_body<'a>(bodies: &mut Bodies<'a>, item: &Item<'a>) -> Result<(), AllocErr
 
 // The functions of items that have a body, after those so far.
 fn add_bodies<'a>(bodies: &mut Bodies<'a>, items: &[Item<'a>]) -> Result<(), AllocError>
+    requires { length bodies.old + length items.now < 2 ^ 32 }
     ensures { OnOk result (bodies.new ≡ bodies.old ++ ty.bodies_of (items_of items.now)) }
 {
     let mut left = items;
@@ -126,6 +129,7 @@ fn add_bodies<'a>(bodies: &mut Bodies<'a>, items: &[Item<'a>]) -> Result<(), All
 
 /// The functions of a unit that have a body.
 pub fn bodies_of<'a>(alloc: Global, items: &[Item<'a>]) -> Result<Bodies<'a>, AllocError>
+    requires { length items.now < 2 ^ 32 }
     ensures { IfOk result (λ r. r ≡ ty.bodies_of (items_of items.now)) }
 {
     let mut bodies = Bodies::new(alloc);

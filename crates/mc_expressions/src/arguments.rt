@@ -119,34 +119,33 @@ fn structure_argument(
     }
 }
 
-fn stored_array(parameter: &CType, place: Place, of: &CType) -> Result<Option<Argument>, AllocError>
-    ensures { IfOk result (λ r. option_map argument_of r
+fn stored_array(parameter: &CType, place: Place, of: &CType) -> Option<Argument>
+    ensures { option_map argument_of result
         ≡ c.stored_array (type_of parameter.now) (place_of place) (type_of of.now)
-        of.now.lengths.items) }
+        of.now.lengths.items }
 {
     match of.lengths.as_slice() {
         [length, rest @ ..] => {
-            let Ok(length) = u32::try_from(*length) else {
-                drop(place);
-                return Err(AllocError);
-            };
             if array_fits(parameter, of.base, of.is_const, rest) {
-                Ok(Some(Argument::Array { place, length }))
+                Some(Argument::Array {
+                    place,
+                    length: *length,
+                })
             } else {
                 drop(place);
-                Ok(None)
+                None
             }
         }
         _ => {
             drop(place);
-            Ok(None)
+            None
         }
     }
 }
 
-fn array_argument(parameter: &CType, value: Value) -> Result<Option<Argument>, AllocError>
-    ensures { IfOk result (λ r. option_map argument_of r
-        ≡ c.array_argument (type_of parameter.now) (value_of value)) }
+fn array_argument(parameter: &CType, value: Value) -> Option<Argument>
+    ensures { option_map argument_of result
+        ≡ c.array_argument (type_of parameter.now) (value_of value) }
 {
     match value.into_parts() {
         ValueParts::Stored(place, of) => {
@@ -162,14 +161,14 @@ fn array_argument(parameter: &CType, value: Value) -> Result<Option<Argument>, A
             let fits = array_fits(parameter, element.base, element.is_const, &element.lengths);
             drop(element);
             if fits {
-                Ok(Some(Argument::Again { array, span }))
+                Some(Argument::Again { array, span })
             } else {
-                Ok(None)
+                None
             }
         }
         other => {
             drop(other);
-            Ok(None)
+            None
         }
     }
 }
@@ -197,7 +196,7 @@ fn argument_value(
                         structure_argument(scope, value.into_structure(number))
                     }
                 },
-                ParameterKind::Array(of) => array_argument(of, value),
+                ParameterKind::Array(of) => Ok(array_argument(of, value)),
             },
             None => Ok(None),
         },
@@ -254,7 +253,7 @@ pub fn add_temporary(alloc: Global, scope: &mut Scope<'_>, number: u32) -> Resul
     ensures scope { IfOk result (λ _. scope_of scope.new
         ≡ s.with_object (c.layout_of_structure (scope_of scope.old) number) (scope_of scope.old)) }
 {
-    let count = structure_cells(alloc, &scope.structures, number)?;
+    let count = structure_cells(&scope.structures, number);
     let object = structure_layout(alloc, &scope.structures, number)?;
     scope.add_object(object, count)?;
     Ok(count)

@@ -7,7 +7,7 @@ use mc_scopes::{Base, CType, same_base, same_lengths};
 
 /// Whether a parameter with elements of the first type takes an array with elements of a type with
 /// this base and these lengths, which may be `const`.
-pub fn array_fits(parameter: &CType, base: Base, is_const: bool, lengths: &[u64]) -> bool
+pub fn array_fits(parameter: &CType, base: Base, is_const: bool, lengths: &[u32]) -> bool
     ensures { result ≡ c.array_fits (type_of parameter.now)
         (record { base = base_of base; is_const = is_const; lengths = lengths.now }) }
 {

@@ -182,22 +182,16 @@ fn structure_effect(
 {
     match value {
         Some(value) => {
-            match structure_cells(alloc, structures, number) {
-                Ok(cells) => assigned(
-                    alloc,
-                    Effect::Copy {
-                        target,
-                        value,
-                        cells,
-                        span,
-                    },
-                ),
-                Err(error) => {
-                    drop(target);
-                    drop(value);
-                    Err(error)
-                }
-            }
+            let cells = structure_cells(structures, number);
+            assigned(
+                alloc,
+                Effect::Copy {
+                    target,
+                    value,
+                    cells,
+                    span,
+                },
+            )
         }
         None => {
             drop(target);

@@ -24,21 +24,17 @@ use mc_scopes::{CType, Scope, Structure, cells};
 use mc_typed::{Expression, Place, Span};
 use std::alloc::{AllocError, Global};
 
-// The length of an array, which 32 bits count within the limits, and the type of its elements,
-// whose lengths are these.
+// The length of an array, and the type of its elements, whose lengths are these.
 fn elements(
     alloc: Global,
     of: &CType,
-    length: u64,
-    rest: &[u64],
+    length: u32,
+    rest: &[u32],
 ) -> Result<(u32, CType), AllocError>
     ensures length { IfOk result (λ r. r.0 ≡ length) }
     ensures element { IfOk result (λ r. type_of r.1
         ≡ record (type_of of.now) { lengths = rest.now }) }
 {
-    let Ok(length) = u32::try_from(length) else {
-        return Err(AllocError);
-    };
     let mut lengths = Vec::new(alloc);
     match lengths.extend_from_slice(rest) {
         Ok(()) => {

@@ -60,16 +60,13 @@ fn operator_after(span: Span) -> Span
 }
 
 // Where the two bytes of an operator stand that begins an expression.
-fn operator_before(span: Span) -> Result<Span, AllocError>
-    ensures { IfOk result (λ at. at ≡ e.operator_before span) }
+fn operator_before(span: Span) -> Span
+    ensures { result ≡ e.operator_before span }
 {
-    let Some(end) = span.start.checked_add(2) else {
-        return Err(AllocError);
-    };
-    Ok(Span {
+    Span {
         start: span.start,
-        end,
-    })
+        end: span.start.saturating_add(2).min(span.end),
+    }
 }
 
 /// A postfix `++` or `--` on an operand (C17 6.5.2.4).
@@ -86,11 +83,6 @@ pub fn postfix_step(
 }
 
 /// A prefix `++` or `--` on an operand (C17 6.5.3.1).
-///
-/// # Errors
-///
-/// `AllocError` where memory runs out, and at an operator that 32 bits do not place, which no
-/// source has.
 pub fn prefix_step(
     alloc: Global,
     operator: StepOperator,
@@ -100,11 +92,5 @@ pub fn prefix_step(
     ensures { IfOk result (λ r. (s : s.Scope) → found_of r s ≡ squeezed
         (e.step_found operator (e.operator_before span) span (found_of operand s))) }
 {
-    match operator_before(span) {
-        Ok(at) => step(alloc, operator, at, span, operand),
-        Err(error) => {
-            drop(operand.value);
-            Err(error)
-        }
-    }
+    step(alloc, operator, operator_before(span), span, operand)
 }

@@ -1,14 +1,13 @@
 //! Which expressions are candidates: roots unless they are constant.
 ghost use Rattle.std.specs.Prelude.{◌≡◌, IfOk};
 ghost use Rattle.mc_typed.specs.Views.{expression_of};
-ghost use Rattle.mc_roots.specs.Nodes.{expression, is_comparison};
-ghost use Rattle.mc_roots.specs.Roots.{is_boolean, is_candidate};
+ghost use Rattle.mc_roots.specs.Nodes.{expression};
+ghost use Rattle.mc_roots.specs.Roots.{is_candidate};
 ghost use Rattle.mc_gather.specs.steps.Gathering.{entered, gathered_of, is_taken};
 
 use crate::gathered::{Gathered, add};
-use mc_roots::Role;
-use mc_typed::{Expression, Operator};
-use mc_value::BinOp;
+use mc_roots::{Role, is_boolean};
+use mc_typed::Expression;
 use std::alloc::AllocError;
 
 /// Adds the decision with this root where it is one unless it is constant.
@@ -36,43 +35,5 @@ fn is_taken(role: Role, boolean: bool) -> bool
         Role::Test => true,
         Role::Inner => false,
         Role::Plain => boolean,
-    }
-}
-
-/// Whether the top operator is `&&`, `||`, `!`, a relational or an equality operator.
-fn is_boolean(tree: &Expression) -> bool
-    ensures { result ≡ is_boolean (expression (expression_of tree.now)) }
-{
-    match tree {
-        Expression::Not { .. } | Expression::Logic { .. } => true,
-        Expression::Binary { operator, .. } => is_comparison(*operator),
-        Expression::Probe { operand, .. } => is_boolean(operand),
-        Expression::Constant { .. }
-        | Expression::Read { .. }
-        | Expression::Unary { .. }
-        | Expression::Convert { .. }
-        | Expression::Choice { .. }
-        | Expression::Call { .. }
-        | Expression::Input { .. } => false,
-    }
-}
-
-fn is_comparison(operator: Operator) -> bool
-    ensures { result ≡ is_comparison operator }
-{
-    match operator {
-        Operator::Binary(BinOp::Lt | BinOp::Gt | BinOp::Le | BinOp::Ge | BinOp::Eq | BinOp::Ne) =>
-            true,
-        Operator::Binary(
-            BinOp::Mul
-            | BinOp::Div
-            | BinOp::Rem
-            | BinOp::Add
-            | BinOp::Sub
-            | BinOp::And
-            | BinOp::Xor
-            | BinOp::Or,
-        )
-        | Operator::Shift(_) => false,
     }
 }

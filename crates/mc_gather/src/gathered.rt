@@ -1,5 +1,6 @@
 //! What a walk over a program gathers.
 ghost use Rattle.std.specs.Prelude.{◌≡◌, ◌∷◌, ◌++◌, ◌≤◌, [], if◌then◌else◌, length, map, take, IfOk, IfErr, Some, None};
+ghost use Rattle.mc_limits.specs.Limits.{most_conditions};
 ghost use Rattle.mc_typed.specs.Views.{expression_of};
 ghost use Rattle.mc_roots.specs.Nodes as n;
 ghost use Rattle.mc_roots.specs.Conditions.{width};
@@ -8,12 +9,13 @@ ghost use Rattle.mc_gather.specs.steps.Gathering.{added, begun, cut, gathered_of
 ghost use Rattle.mc_roots.specs.Seen.{decision_of};
 
 use crate::tree::{build, conditions};
+use mc_limits::MOST_CONDITIONS;
 use mc_roots::{DecideFault, Decision};
 use mc_typed::{Expression, Span};
 use std::alloc::{AllocError, Global};
 
 /// How many conditions a decision has at most.
-const MOST: u32 = 64;
+const MOST: u32 = MOST_CONDITIONS;
 
 /// The decisions that were found so far, up to the first that is too large.
 #[derive(Drop)]
@@ -114,7 +116,7 @@ fn stop(found: &mut Gathered, at: u32, count: u32)
 }
 
 fn add_small(found: &mut Gathered, root: &Expression) -> Result<(), AllocError>
-    requires { width (n.expression (expression_of root.now)) ≤ 64 }
+    requires { width (n.expression (expression_of root.now)) ≤ most_conditions }
     ensures { IfOk result (λ _. gathered_of found.new
         ≡ grown (n.expression (expression_of root.now)) (gathered_of found.old)) }
 {
@@ -131,7 +133,7 @@ fn put(decisions: &mut Vec<Decision>, decision: Decision) -> Result<(), AllocErr
 
 /// The decision with this root.
 fn decide(alloc: Global, function: u32, root: &Expression) -> Result<Decision, AllocError>
-    requires { width (n.expression (expression_of root.now)) ≤ 64 }
+    requires { width (n.expression (expression_of root.now)) ≤ most_conditions }
     ensures { IfOk result (λ d.
         decision_of d ≡ decision function (n.expression (expression_of root.now))) }
 {

@@ -1,5 +1,6 @@
 //! The tree of a decision, from its root.
 ghost use Rattle.std.specs.Prelude.{◌≡◌, ◌+◌, ◌++◌, ◌∷◌, ◌≤◌, [], length, IfOk};
+ghost use Rattle.mc_limits.specs.Limits.{most_conditions};
 ghost use Rattle.mc_cond.specs.Tree.{tree_of, Leaf, Not};
 ghost use Rattle.mc_typed.specs.Levels.{limited};
 ghost use Rattle.mc_typed.specs.Views.{expression_of};
@@ -37,7 +38,7 @@ pub(crate) fn build(
     tree: &Expression,
     before: &mut Vec<Span>,
 ) -> Result<CondTree, AllocError>
-    requires { length before.old.items + width (expression (expression_of tree.now)) ≤ 64 }
+    requires { length before.old.items + width (expression (expression_of tree.now)) ≤ most_conditions }
     ensures tree { IfOk result (λ t. tree_of t
         ≡ tree_from (length before.old.items) (expression (expression_of tree.now))) }
     ensures count { IfOk result (λ _. length before.new.items
@@ -96,7 +97,7 @@ fn join(
 }
 
 fn condition(span: Span, before: &mut Vec<Span>) -> Result<CondTree, AllocError>
-    requires { length before.old.items ≤ 64 }
+    requires { length before.old.items ≤ most_conditions }
     ensures tree { IfOk result (λ t. tree_of t ≡ Leaf (length before.old.items)) }
     ensures count { IfOk result (λ _. length before.new.items ≡ length before.old.items + 1) }
     ensures spans { IfOk result (λ _. before.new.items ≡ before.old.items ++ span ∷ []) }

@@ -147,29 +147,23 @@ pub fn default_label(
 // ---- `case`
 
 // The value of a label from what is found of its expression.
-fn case_value(labels: &Option<Labels>, found: &Found) -> Result<Option<i128>, AllocError>
-    ensures { IfOk result (λ r. (s : s.Scope)
-        → r ≡ w.label_value labels.now (c.constant_found (found_of found.now s))) }
+fn case_value(labels: &Option<Labels>, found: &Found) -> Option<i128>
+    ensures { (s : s.Scope)
+        → result ≡ w.label_value labels.now (c.constant_found (found_of found.now s)) }
 {
-    let value = constant_found(found)?;
-    Ok(label_value(labels, value))
+    label_value(labels, constant_found(found))
 }
 
 // The fault of a label itself.
-fn case_fault(
-    labels: &Option<Labels>,
-    label: Span,
-    at: u32,
-    found: &Found,
-) -> Result<Option<Fault>, AllocError>
-    ensures { IfOk result (λ r. (s : s.Scope) → r ≡ least_of (w.case_faults label at
-        found.now.constant (v.number_found (found_of found.now s)) labels.now)) }
+fn case_fault(labels: &Option<Labels>, label: Span, at: u32, found: &Found) -> Option<Fault>
+    ensures { (s : s.Scope) → result ≡ least_of (w.case_faults label at
+        found.now.constant (v.number_found (found_of found.now s)) labels.now) }
 {
-    let value = case_value(labels, found)?;
+    let value = case_value(labels, found);
     let repeated = is_repeated(labels, value);
     let own = label_fault(labels, repeated, label.start);
-    let constant = fault_of_constant(at, found)?;
-    Ok(lesser(constant, own))
+    let constant = fault_of_constant(at, found);
+    lesser(constant, own)
 }
 
 fn case_alone(
@@ -204,8 +198,8 @@ fn case_of(
     ensures { IfOk result (λ r. judged_of statements_of r (scope_of scope.new)
         ≡ squeezed_part (w.case_judged label at (found_of found.now (scope_of scope.old)))) }
 {
-    let value = case_value(&scope.labels, found)?;
-    let own = case_fault(&scope.labels, label, at, found)?;
+    let value = case_value(&scope.labels, found);
+    let own = case_fault(&scope.labels, label, at, found);
     let fault = after(found.fault, own);
     add_label(scope, value)?;
     let value = case_alone(alloc, label, value)?;

@@ -80,24 +80,19 @@ fn return_number(
     }
 }
 
-fn return_structure(
-    alloc: Global,
-    scope: &Scope<'_>,
-    number: u32,
-    value: Option<Structure>,
-) -> Result<Option<ReturnValue>, AllocError>
-    ensures { IfOk result (λ r. option_map return_value_of r
+fn return_structure(scope: &Scope<'_>, number: u32, value: Option<Structure>) -> Option<ReturnValue>
+    ensures { option_map return_value_of result
         ≡ option_map
         (λ w. t.ReturnStructure w
         (cells (layout_of (scope_of scope.now).structures (plain (Tagged number)))))
-        (option_map structure_of value)) }
+        (option_map structure_of value) }
 {
     match value {
         Some(value) => {
-            let cells = structure_cells(alloc, &scope.structures, number)?;
-            Ok(Some(ReturnValue::Structure { value, cells }))
+            let cells = structure_cells(&scope.structures, number);
+            Some(ReturnValue::Structure { value, cells })
         }
-        None => Ok(None),
+        None => None,
     }
 }
 
@@ -119,7 +114,7 @@ fn value_for(
             }
             Base::Integer(to) => return_number(alloc, to, value.into_number()),
             Base::Tagged(number) => {
-                return_structure(alloc, scope, number, value.into_structure(number))
+                Ok(return_structure(scope, number, value.into_structure(number)))
             }
         },
         None => {

@@ -1,18 +1,12 @@
 -- Why a program is not instrumented.
 use Rattle.std.specs.Prelude.{◌≡◌, ℕ, ◌+◌, ◌-◌, ◌<◌, ◌≤◌, ◌^◌, ◌⊎◌, min, List, [], ◌∷◌, length, All}
+pub use Rattle.mc_limits.specs.Limits.{most_bits, most_paths}
 use Rattle.mc_paths.specs.Paths.{count_of}
 use Rattle.mc_typed.specs.Tree.{Program}
 use Rattle.mc_roots.specs.Decisions.{Decision}
 use Rattle.mc_probe.specs.Obligations.{entries_of, exits_of, statements_of, labels_of}
 use Rattle.mc_map.specs.declared.fault.InstrumentFault.{InstrumentFault}
 use Rattle.mc_map.specs.declared.fault.InstrumentFault.TheVariants.{TooManyPaths, TooManyBits, OutOfMemory}
-
--- how many paths a decision has at most, and how many bits a program
-abbrev pub most_paths : ℕ
-most_paths = 4096
-
-abbrev pub most_bits : ℕ
-most_bits = 65536
 
 abbrev pub HasFewPaths : Decision → Type 0
 HasFewPaths d = count_of d.tree ≤ most_paths

@@ -14,8 +14,7 @@ use std::alloc::AllocError;
 ///
 /// # Errors
 ///
-/// `AllocError` at the end of the type of a bit, or where a constant in the body has an operand out
-/// of its type, which in a typed tree none has.
+/// `AllocError` at the end of the type of a bit.
 pub fn closing_exit(counter: &mut u32, body: &[Statement]) -> Result<Option<u32>, AllocError>
     ensures bit { IfOk result (λ b. b
         ≡ (if points.all_complete (plain.statements_from (map plain.statement_of body.now))
@@ -24,8 +23,7 @@ pub fn closing_exit(counter: &mut u32, body: &[Statement]) -> Result<Option<u32>
         + (points.where_completes
         (points.all_complete (plain.statements_from (map plain.statement_of body.now)))).exits) }
 {
-    let completes = all_complete(body)?;
-    if !completes {
+    if !all_complete(body) {
         return Ok(None);
     }
     let bit = count(counter)?;

@@ -1,13 +1,12 @@
 //! Which bodies can complete, which declarations initialize something, and which `switch` has a
 //! `default`.
-ghost use Rattle.std.specs.Prelude.{◌≡◌, map, option_map, is_some, IfOk};
+ghost use Rattle.std.specs.Prelude.{◌≡◌, map, option_map, is_some};
 ghost use Rattle.mc_typed.specs.Views.{declarator_of, expression_of, statement_of, statements_from};
 ghost use Rattle.mc_steps.specs.Points as points;
 ghost use Rattle.mc_map.specs.steps.Completes as c;
 
 use crate::constants::is_always_true;
 use mc_typed::{Declarator, Expression, Statement};
-use std::alloc::AllocError;
 
 fn has_value(tree: &Declarator) -> bool
     ensures { result ≡ is_some (declarator_of tree.now).value }
@@ -98,77 +97,58 @@ fn some_breaks(trees: &[Statement]) -> bool
 }
 
 /// Whether a controlling expression is absent, or a constant other than 0.
-fn is_always(test: &Option<Expression>) -> Result<bool, AllocError>
-    ensures { IfOk result (λ r. r ≡ points.is_always (option_map expression_of test.now)) }
+fn is_always(test: &Option<Expression>) -> bool
+    ensures { result ≡ points.is_always (option_map expression_of test.now) }
 {
     match test {
         Some(test) => is_always_true(test),
-        None => Ok(true),
+        None => true,
     }
 }
 
 /// Whether the end of a statement can be reached, by its form alone (C17 6.8).
 #[cycle(completes)]
-fn completes(tree: &Statement) -> Result<bool, AllocError>
-    ensures { IfOk result (λ r. r ≡ points.completes (statement_of tree.now)) }
+fn completes(tree: &Statement) -> bool
+    ensures { result ≡ points.completes (statement_of tree.now) }
 {
     match tree {
         Statement::Compound { items, .. } => all_complete(items),
-        Statement::IfElse { chosen, other, .. } => {
-            let first = completes(chosen)?;
-            let second = completes(other)?;
-            Ok(first || second)
-        }
+        Statement::IfElse { chosen, other, .. } => completes(chosen) || completes(other),
         Statement::Switch { items, .. } => {
-            let last = last_completes(items)?;
-            Ok(!has_default(items) || some_breaks(items) || last)
+            !has_default(items) || some_breaks(items) || last_completes(items)
         }
-        Statement::For { test, body, .. } => {
-            let always = is_always(test)?;
-            Ok(!always || breaks(body))
-        }
-        Statement::DoWhile { body, test, .. } => {
-            let always = is_always_true(test)?;
-            Ok(!always || breaks(body))
-        }
-        Statement::Break { .. } | Statement::Continue { .. } | Statement::Return { .. } => Ok(
-            false,
-        ),
+        Statement::For { test, body, .. } => !is_always(test) || breaks(body),
+        Statement::DoWhile { body, test, .. } => !is_always_true(test) || breaks(body),
+        Statement::Break { .. } | Statement::Continue { .. } | Statement::Return { .. } => false,
         Statement::Label { .. }
         | Statement::Declaration { .. }
         | Statement::Null { .. }
         | Statement::Effect { .. }
-        | Statement::If { .. } => Ok(true),
+        | Statement::If { .. } => true,
     }
 }
 
 /// Whether each item of a body completes.
 #[cycle(completes)]
-pub(crate) fn all_complete(trees: &[Statement]) -> Result<bool, AllocError>
-    ensures { IfOk result (λ r. r
-        ≡ points.all_complete (statements_from (map statement_of trees.now))) }
+pub(crate) fn all_complete(trees: &[Statement]) -> bool
+    ensures { result ≡ points.all_complete (statements_from (map statement_of trees.now)) }
 {
     for tree in trees {
-        let completes = completes(tree)?;
-        if !completes {
-            return Ok(false);
+        if !completes(tree) {
+            return false;
         }
     }
-    Ok(true)
+    true
 }
 
 /// Whether the last item of a `switch` completes.
 #[cycle(completes)]
 #[tactic(auto, using(crate::proofs::Last::last_item))]
-fn last_completes(trees: &[Statement]) -> Result<bool, AllocError>
-    ensures { IfOk result (λ r. r
-        ≡ points.last_completes (statements_from (map statement_of trees.now))) }
+fn last_completes(trees: &[Statement]) -> bool
+    ensures { result ≡ points.last_completes (statements_from (map statement_of trees.now)) }
 {
     match trees.last() {
-        Some(tree) => {
-            let completes = completes(tree)?;
-            Ok(completes)
-        }
-        None => Ok(true),
+        Some(tree) => completes(tree),
+        None => true,
     }
 }

@@ -15,10 +15,10 @@ use mc_roots::Decision;
 use std::alloc::{AllocError, Global};
 
 /// How many bits a program has at most.
-pub(crate) const MOST_BITS: u64 = 65536;
+pub(crate) const MOST_BITS: u64 = mc_limits::MOST_BITS as u64;
 
 /// Decisions with their bits, and how many bits there are with them. Where there are more than
-/// 65,536, not all decisions stand in the list.
+/// a program has, not all decisions stand in the list.
 #[derive(Drop)]
 pub(crate) struct Numbered {
     pub decisions: Vec<MappedDecision>,

@@ -77,8 +77,7 @@ fn add_function(places: &mut Places, tree: &Function<'_>) -> Result<(), AllocErr
 {
     add(&mut places.entries, tree.name_span)?;
     add_exits(&mut places.exits, &tree.body)?;
-    let completes = all_complete(&tree.body)?;
-    add_where(&mut places.exits, completes, tree.closing)?;
+    add_where(&mut places.exits, all_complete(&tree.body), tree.closing)?;
     add_all_counted(&mut places.statements, &tree.body)?;
     add_all_labels(&mut places.labels, &tree.body)
 }

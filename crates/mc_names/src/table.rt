@@ -1,5 +1,5 @@
 //! Names with what they mean.
-ghost use Rattle.std.specs.Prelude.{◌≡◌, ◌∷◌, ◌++◌, ◌-◌, ◌+◌, [], ℕ, List, Some, None, IsSome, length, take, drop, option_copied, option_map, option_to_list, map, reverse, slice_get, if◌then◌else◌, bytes_eq, IfOk, OnOk, OnErr};
+ghost use Rattle.std.specs.Prelude.{◌≡◌, ◌≤◌, ◌∷◌, ◌++◌, ◌-◌, ◌+◌, [], ℕ, List, Some, None, IsSome, length, take, drop, option_copied, option_map, option_to_list, map, reverse, slice_get, if◌then◌else◌, bytes_eq, IfOk, OnOk, OnErr};
 ghost use Rattle.mc_names.specs.Tables.{Named, last_of, last_place_of};
 ghost use Rattle.mc_names.specs.Indexed.{place_of};
 ghost use Rattle.mc_names.specs.Taken.{taken_of};
@@ -209,13 +209,14 @@ impl<'a, M: Drop> Table<'a, M> {
         name: &'a [u8],
         meaning: M,
     ) -> Result<usize, AllocError>
+        requires { from ≤ length self.old }
         ensures inserted { OnOk result (self.new ≡ take from self.old
             ++ (record { name = name.now; meaning = meaning } ∷ drop from self.old)) }
         ensures later { IfOk result (λ begin. begin ≡ from + 1) }
     {
-        let begin = from.checked_add(1).ok_or(AllocError)?;
         let later = self.take_from(alloc, from)?;
         self.push(name, meaning)?;
+        let begin = self.len();
         self.put_back(later)?;
         Ok(begin)
     }

@@ -1,6 +1,7 @@
 //! The short-circuit graph of a decision: how many paths lead on from where.
 
 ghost use Rattle.std.specs.Prelude.{◌≡◌, ◌++◌, IfOk};
+ghost use Rattle.mc_limits.specs.Limits.{most_paths};
 ghost use Rattle.mc_cond.specs.Tree.{tree_of};
 ghost use Rattle.mc_paths.specs.Paths.{paths, false_edges};
 ghost use Rattle.mc_paths.specs.steps.Bounds.{AreWithin};
@@ -35,7 +36,7 @@ pub(crate) fn add_false_edges(
     after_false: u128,
     on_false: &mut Vec<u32>,
 ) -> Result<(), AllocError>
-    requires { AreWithin 4096 (tree_of tree.now) after_true after_false }
+    requires { AreWithin most_paths (tree_of tree.now) after_true after_false }
     ensures { IfOk result (λ _. on_false.new.items
         ≡ on_false.old.items ++ false_edges (tree_of tree.now) after_true after_false) }
 {

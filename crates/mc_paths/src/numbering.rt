@@ -1,6 +1,7 @@
 //! The path numbers of a decision.
 
 ghost use Rattle.std.specs.Prelude.{◌≡◌, ℕ, ◌<◌, ◌≤◌, length, slice_get, Some, Err, IfOk};
+ghost use Rattle.mc_limits.specs.Limits.{most_paths};
 ghost use Rattle.mc_cond.specs.Tree.{tree_of, size, IsNumbered};
 ghost use Rattle.mc_cond.specs.Vectors.{Evaluation};
 ghost use Rattle.mc_cond.specs.Influence.{HasInfluence};
@@ -14,11 +15,12 @@ use crate::graph::{add_false_edges, copied, paths};
 use crate::masks::{Masks, all_masks};
 use crate::simple::simplified;
 use mc_cond::{CondTree, Vector};
+use mc_limits::MOST_PATHS;
 use std::alloc::{AllocError, Global};
 use std::marker::Model;
 
 /// How many paths a decision has at most.
-const MOST: u128 = 4096;
+const MOST: u128 = MOST_PATHS as u128;
 
 /// What a true edge adds to a path's number.
 const ON_TRUE: u32 = 0;
@@ -53,11 +55,11 @@ impl Model for Numbering {
 pub fn number(alloc: Global, tree: &CondTree) -> Result<Numbering, NumberFault>
     requires { IsNumbered (tree_of tree.now) }
     ensures tree { IfOk result (λ n. tree_of n ≡ tree_of tree.now) }
-    ensures few { IfOk result (λ n. count_of (tree_of tree.now) ≤ 4096) }
-    ensures refused { 4096 < count_of (tree_of tree.now)
+    ensures few { IfOk result (λ n. count_of (tree_of tree.now) ≤ most_paths) }
+    ensures refused { most_paths < count_of (tree_of tree.now)
         → result ≡ Err (NumberFault.TooManyPaths (count_of (tree_of tree.now))) }
     ensures only { (count : ℕ) → result ≡ Err (NumberFault.TooManyPaths count)
-        → (4096 < count) × (count ≡ count_of (tree_of tree.now)) }
+        → (most_paths < count) × (count ≡ count_of (tree_of tree.now)) }
 {
     let count = paths(tree, 1, 1);
     if count > MOST {
@@ -73,7 +75,7 @@ pub fn number(alloc: Global, tree: &CondTree) -> Result<Numbering, NumberFault>
 fn kept(alloc: Global, tree: &CondTree, count: u32) -> Result<Numbering, AllocError>
     requires numbered { IsNumbered (tree_of tree.now) }
     requires count { count ≡ count_of (tree_of tree.now) }
-    requires few { count ≤ 4096 }
+    requires few { count ≤ most_paths }
     ensures { IfOk result (λ n. tree_of n ≡ tree_of tree.now) }
 {
     let mut on_false = Vec::new(alloc);
@@ -109,7 +111,7 @@ impl Numbering {
     /// How many paths the decision has, at most 4,096. Their numbers are those below it.
     pub fn count(&self) -> u32
         ensures count { result ≡ count_of (tree_of self.now) }
-        ensures few { result ≤ 4096 }
+        ensures few { result ≤ most_paths }
     {
         self.count
     }

@@ -1,5 +1,6 @@
 -- The map of the bits: which bit belongs to which event.
 use Rattle.std.specs.Prelude.{◌≡◌, ℕ, ◌+◌, ◌≤◌, List, [], ◌∷◌, map, length, slice_get, Option, Some, None}
+use Rattle.mc_limits.specs.Limits.{most_bits}
 use Rattle.mc_span.specs.declared.span.Span.{Span}
 use Rattle.mc_cond.specs.Tree.{size, IsNumbered}
 use Rattle.mc_cond.specs.Vectors.{Evaluation}
@@ -57,7 +58,7 @@ ArePlaced (d ∷ rest) = IsPlaced d.decision × ArePlaced rest
 pub record IsMap (m : Map) : Type 0 where
   pub placed : ArePlaced m.decisions
   pub based : AreBased m.decisions (first_path m) m.bits
-  pub few : m.bits ≤ 65536
+  pub few : m.bits ≤ most_bits
 
 -- this is the program's map
 pub record IsMapOf (p : Program) (m : Map) : Type 0 where

@@ -1,5 +1,6 @@
 -- The run of a test.
 use Rattle.std.specs.Prelude.{ℕ, ℤ, [], map, flat_map, slice_get, Option, Some, None, option_map}
+use Rattle.mc_limits.specs.Limits.{most_levels}
 use Rattle.mc_typed.specs.Sound.{result_at}
 use Rattle.mc_typed.specs.Plans.{Call, Plan}
 use Rattle.mc_steps.specs.Runs.{after}
@@ -19,7 +20,7 @@ start program = record {
 
 abbrev pub test_call : Tree → Call → Does (Option ℤ)
 test_call tree c s =
-    after (calls tree 512 0 c.function None (map PassedNumber c.arguments) s)
+    after (calls tree most_levels 0 c.function None (map PassedNumber c.arguments) s)
     (value_given (result_at (option_map erase_function
     (slice_get tree.program.functions c.function))))
 

@@ -3,13 +3,14 @@ use Rattle.std.proofs.Common.{◌≡◌, ◌≢◌, refl, arith}
 use Rattle.mc_replies.specs.Files.{status_of}
 use Rattle.mc_replies.specs.Status.{IsAfterSource, IsAnswer, number_of}
 use Rattle.mc_replies.specs.declared.file.FileKind.{FileKind}
-use Rattle.mc_replies.specs.declared.file.FileKind.TheVariants.{Source, Tests, Justifications}
+use Rattle.mc_replies.specs.declared.file.FileKind.TheVariants.{Source, Tests, Record, Justifications}
 use Rattle.mc_replies.specs.declared.status.Status.{Status}
 use Rattle.mc_replies.specs.declared.status.Status.TheVariants as status
 
 pub kind_answers : (kind : FileKind) → IsAnswer (status_of kind)
 kind_answers Source = tt
 kind_answers Tests = tt
+kind_answers Record = tt
 kind_answers Justifications = tt
 
 pub after_source_answers : (s : Status) → IsAfterSource s → IsAnswer s

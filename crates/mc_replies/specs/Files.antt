@@ -2,7 +2,7 @@
 use Rattle.std.specs.Prelude.{◌≤◌, ℕ, List, length, Option}
 use Rattle.mc_port.specs.Store.{Files, HasFile, Request}
 use Rattle.mc_replies.specs.declared.file.FileKind.{FileKind}
-use Rattle.mc_replies.specs.declared.file.FileKind.TheVariants.{Source, Tests, Justifications}
+use Rattle.mc_replies.specs.declared.file.FileKind.TheVariants.{Source, Tests, Record, Justifications}
 use Rattle.mc_replies.specs.declared.status.Status.{Status}
 use Rattle.mc_replies.specs.declared.status.Status.TheVariants.{SourceRefused, TestsRefused, JustificationsRefused}
 
@@ -10,12 +10,14 @@ use Rattle.mc_replies.specs.declared.status.Status.TheVariants.{SourceRefused, T
 abbrev pub limit_of : FileKind → ℕ
 limit_of Source = 1048576
 limit_of Tests = 4194304
+limit_of Record = 33554432
 limit_of Justifications = 1048576
 
 -- the status where it is refused
 abbrev pub status_of : FileKind → Status
 status_of Source = SourceRefused
 status_of Tests = TestsRefused
+status_of Record = TestsRefused
 status_of Justifications = JustificationsRefused
 
 pub record File : Type 0 where

@@ -18,6 +18,11 @@ abbrev pub Then : {A B : Type 0} → (Result A Reply → Type 0) → (A → Resu
 Then {A} Phase Next (Ok b) = (a : A) × Phase (Ok a) × Next a (Ok b)
 Then {A} Phase Next (Err reply) = Phase (Err reply) ⊎ ((a : A) × Phase (Ok a) × Next a (Err reply))
 
+-- a phase, and the reply that what it gives ends with; where it refuses, that is the reply
+abbrev pub Reaches : {A : Type 0} → (Result A Reply → Type 0) → (A → Reply → Type 0) → Reply
+    → Type 0
+Reaches {A} Phase End reply = Phase (Err reply) ⊎ ((a : A) × Phase (Ok a) × End a reply)
+
 -- ---- what replies have in common
 
 -- a reply with a line on the errors' sink alone

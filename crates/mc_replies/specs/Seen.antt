@@ -3,12 +3,14 @@ use Rattle.std.specs.Prelude.{◌≡◌, ℕ, List, Result, Ok, Err, ⊤}
 use Rattle.std.specs.declared.alloc.AllocError.{AllocError}
 use Rattle.mc_forms.specs.Names.{name_of}
 use Rattle.mc_port.specs.Lines.{bytes_of}
+use Rattle.mc_record.specs.Lines.{record_lines}
+use Rattle.mc_record.specs.Seen.{kept_of}
 use Rattle.mc_replies.specs.Files.{File as AskedFile}
 use Rattle.mc_replies.specs.Reply.{Reply as CalledFor, longer, out_of_memory, refusal}
-use Rattle.mc_replies.specs.Texts.{bits_line, entry_line, form_line, justifications_line, many_line, matrix_line, place_line, quote_line, tests_line}
+use Rattle.mc_replies.specs.Texts.{bits_line, entry_line, form_line, justifications_line, kept_line, many_line, many_tests_line, matrix_line, place_line, quote_line, same_test_line, tests_line}
 use Rattle.mc_replies.specs.declared.file.File.{File}
 use Rattle.mc_replies.specs.declared.output.Output.{Output}
-use Rattle.mc_replies.specs.declared.output.Output.TheVariants.{Lines}
+use Rattle.mc_replies.specs.declared.output.Output.TheVariants as output
 use Rattle.mc_replies.specs.declared.refusal.Refusal.{Refusal}
 use Rattle.mc_replies.specs.declared.refusal.Refusal.TheVariants as why
 use Rattle.mc_replies.specs.declared.stop.Stop.{Stop}
@@ -30,6 +32,10 @@ reply_to (why.TooMany place what count) =
     refusal SourceRefused (many_line place.line place.column what.now count)
 reply_to (why.TooManyBits count) = refusal SourceRefused (bits_line count)
 reply_to (why.Tests fault) = refusal TestsRefused (tests_line fault)
+reply_to (why.Record name line word) =
+    refusal TestsRefused (kept_line name.now line word.now)
+reply_to (why.SameTest left right) = refusal TestsRefused (same_test_line left right)
+reply_to (why.TooManyTests count) = refusal TestsRefused (many_tests_line count)
 reply_to (why.Justifications word) =
     refusal JustificationsRefused (justifications_line word.now)
 reply_to (why.Entry entry word) = refusal JustificationsRefused (entry_line entry word.now)
@@ -44,7 +50,8 @@ IsReplyTo stop.OutOfMemory reply = ⊥
 
 -- the pieces that are put on the output
 abbrev pub pieces_of : Output → List (List ℕ)
-pieces_of (Lines lines) = bytes_of lines.items
+pieces_of (output.Lines lines) = bytes_of lines.items
+pieces_of (output.Record writable) = record_lines (kept_of writable.kept)
 
 -- a reply of the program; where there is none, memory did not suffice
 abbrev pub seen_reply : Reply → CalledFor

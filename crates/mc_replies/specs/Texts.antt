@@ -1,5 +1,5 @@
 -- The texts on the errors' sink.
-use Rattle.std.specs.Prelude.{ℕ, List, [], ◌∷◌, ◌++◌, length, drop, Option, Some, None, codes}
+use Rattle.std.specs.Prelude.{ℕ, ◌+◌, List, [], ◌∷◌, ◌++◌, length, drop, Option, Some, None, codes}
 use Rattle.std.specs.List.{concat}
 use Rattle.std.specs.Fmt.{decimal}
 use Rattle.mc_lex.specs.declared.fault.LexFault.{LexFault}
@@ -16,9 +16,14 @@ newline = 10 ∷ []
 
 abbrev pub usage_text : List ℕ
 usage_text =
-    concat (codes "usage: mcdc report SOURCE TESTS [--mode unique|masking] [--fuel N]"
-    ∷ codes " [--justify NAME] [--format text|csv|json]" ∷ newline
-    ∷ codes "       mcdc vectors SOURCE TESTS [--fuel N]" ∷ newline ∷ [])
+    concat (codes "usage: mcdc report SOURCE TESTS [--mode unique|masking] [--workers N]"
+    ∷ codes " [--fuel N] [--justify NAME] [--format text|csv|json]" ∷ newline
+    ∷ codes "       mcdc vectors SOURCE TESTS [--workers N] [--fuel N]" ∷ newline
+    ∷ codes "       mcdc record SOURCE TESTS [--workers N] [--fuel N]" ∷ newline
+    ∷ codes "       mcdc merge SOURCE LEFT RIGHT" ∷ newline
+    ∷ codes "       mcdc analyse SOURCE RECORD [--mode unique|masking] [--justify NAME]"
+    ∷ codes " [--format text|csv|json]" ∷ newline
+    ∷ codes "       mcdc selfload N [--workers N]" ∷ newline ∷ [])
 
 abbrev pub cannot_read_line : List ℕ → List ℕ
 cannot_read_line name = concat (codes "mcdc: cannot read " ∷ name ∷ newline ∷ [])
@@ -102,6 +107,23 @@ tests_line (fault.NotCallable row) = record_line row (codes "not callable")
 tests_line (fault.NameAgain row) = record_line row (codes "name again")
 tests_line (fault.Limit row) = record_line row (codes "limit")
 tests_line fault.OutOfMemory = []
+
+-- the first fault of a record, by the file's name and the line in which it stands
+abbrev pub kept_line : (name : List ℕ) (line : ℕ) → List ℕ → List ℕ
+kept_line name line word =
+    concat (codes "mcdc: record " ∷ name ∷ codes " line " ∷ decimal line ∷ codes ": " ∷ word
+    ∷ newline ∷ [])
+
+-- a name in both of two records: the tests that have it are numbered from 0, and written from 1
+abbrev pub same_test_line : (left right : ℕ) → List ℕ
+same_test_line left right =
+    concat (codes "mcdc: records: same test " ∷ decimal (left + 1) ∷ codes " and "
+    ∷ decimal (right + 1) ∷ newline ∷ [])
+
+-- too many tests in both of two records: how many
+abbrev pub many_tests_line : (count : ℕ) → List ℕ
+many_tests_line count =
+    concat (codes "mcdc: records: " ∷ decimal count ∷ codes " tests" ∷ newline ∷ [])
 
 -- what is wrong with a file of justifications
 abbrev pub justifications_line : List ℕ → List ℕ

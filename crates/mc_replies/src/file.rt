@@ -9,6 +9,7 @@ use crate::status::Status;
 pub enum FileKind {
     Source,
     Tests,
+    Record,
     Justifications,
 }
 
@@ -27,6 +28,7 @@ impl FileKind {
         match self {
             FileKind::Source => 1048576,
             FileKind::Tests => 4194304,
+            FileKind::Record => 33554432,
             FileKind::Justifications => 1048576,
         }
     }
@@ -38,6 +40,7 @@ impl FileKind {
         match self {
             FileKind::Source => Status::SourceRefused,
             FileKind::Tests => Status::TestsRefused,
+            FileKind::Record => Status::TestsRefused,
             FileKind::Justifications => Status::JustificationsRefused,
         }
     }

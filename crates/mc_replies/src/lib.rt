@@ -9,6 +9,7 @@ mod reply;
 mod status;
 mod stop;
 mod text;
+mod writable;
 
 pub use file::{File, FileKind};
 pub use output::Output;
@@ -17,3 +18,4 @@ pub use reply::Reply;
 pub use status::Status;
 pub use stop::Stop;
 pub use text::usage_text;
+pub use writable::Writable;

@@ -4,13 +4,17 @@ ghost use Rattle.std.specs.List.{concat};
 ghost use Rattle.mc_port.specs.Sink.{Puts};
 ghost use Rattle.mc_replies.specs.Seen.{pieces_of};
 
+use crate::writable::Writable;
 use mc_port::{PutFault, Sink, put_lines};
+use mc_record::write_record;
 
 /// What is put on the output once all has been decided: to put it takes no memory.
 #[derive(Drop)]
 pub enum Output {
     /// Lines, each put as one piece.
     Lines(Vec<Vec<u8>>),
+    /// The lines of a record.
+    Record(Writable),
 }
 
 impl Output {
@@ -22,6 +26,7 @@ impl Output {
     {
         match self {
             Output::Lines(lines) => put_lines(lines, out),
+            Output::Record(writable) => write_record(&writable.kept, out),
         }
     }
 }

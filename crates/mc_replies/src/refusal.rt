@@ -35,6 +35,22 @@ pub enum Refusal<'a> {
     },
     /// The tests file has a first fault.
     Tests(TestFault),
+    /// The record with this name has a first fault, in this line, and this is its kind.
+    Record {
+        name: &'a str,
+        line: u32,
+        word: &'static str,
+    },
+    /// A test of the left record and one of the right record have one name. Each is numbered from
+    /// 0.
+    SameTest {
+        left: u32,
+        right: u32,
+    },
+    /// Two records have too many tests together: so many.
+    TooManyTests {
+        count: u32,
+    },
     /// The file of justifications is none, for this reason.
     Justifications {
         word: &'static str,
@@ -67,7 +83,10 @@ impl Refusal<'_> {
             | Refusal::Outside { .. }
             | Refusal::TooMany { .. }
             | Refusal::TooManyBits { .. } => Status::SourceRefused,
-            Refusal::Tests(_) => Status::TestsRefused,
+            Refusal::Tests(_)
+            | Refusal::Record { .. }
+            | Refusal::SameTest { .. }
+            | Refusal::TooManyTests { .. } => Status::TestsRefused,
             Refusal::Justifications { .. } | Refusal::Entry { .. } | Refusal::Quote { .. } => {
                 Status::JustificationsRefused
             }

@@ -1,6 +1,9 @@
 //! Replies.
 ghost use Rattle.std.specs.Prelude.{◌≡◌, IfOk};
 ghost use Rattle.mc_port.specs.Lines.{bytes_of};
+ghost use Rattle.mc_record.specs.Kept.{IsKept};
+ghost use Rattle.mc_record.specs.Lines.{record_lines};
+ghost use Rattle.mc_record.specs.Seen.{kept_of};
 ghost use Rattle.mc_replies.specs.Reply.{cannot_read, written};
 ghost use Rattle.mc_replies.specs.Reply as spec;
 ghost use Rattle.mc_replies.specs.Seen.{IsReplyTo, reply_to, seen_file, seen_reply};
@@ -11,6 +14,8 @@ use crate::refusal::Refusal;
 use crate::status::Status;
 use crate::stop::Stop;
 use crate::text::{cannot_read_line, refusal_line};
+use crate::writable::Writable;
+use mc_record::Record;
 use std::alloc::{AllocError, Global};
 
 /// A status, the text for the errors' sink, and what goes to the output.
@@ -30,6 +35,18 @@ impl Reply {
             status: Status::written(number),
             diag: Vec::new(alloc),
             out: Output::Lines(lines),
+        }
+    }
+
+    /// A record for the output. Some test did not pass where the number is not 0.
+    pub fn of_record(alloc: Global, number: u8, kept: Record) -> Reply
+        requires { IsKept (kept_of kept) }
+        ensures { seen_reply result ≡ written number (record_lines (kept_of kept)) }
+    {
+        Reply {
+            status: Status::written(number),
+            diag: Vec::new(alloc),
+            out: Output::Record(Writable { kept }),
         }
     }
 

@@ -13,7 +13,7 @@ pub enum Status {
     NoCommand,
     /// The source is not accepted.
     SourceRefused,
-    /// The tests file is not accepted.
+    /// The tests file, a record, or a pair of records is not accepted.
     TestsRefused,
     /// The file of justifications is not accepted.
     JustificationsRefused,

@@ -1,7 +1,7 @@
 //! The texts on the errors' sink.
 ghost use Rattle.std.specs.Prelude.{◌≡◌, IfOk};
 ghost use Rattle.mc_replies.specs.Seen.{reply_to};
-ghost use Rattle.mc_replies.specs.Texts.{bits_line, cannot_read_line, entry_line, form_line, justifications_line, longer_line, many_line, matrix_line, place_line, quote_line, record_line, tests_line, usage_text};
+ghost use Rattle.mc_replies.specs.Texts.{bits_line, cannot_read_line, entry_line, form_line, justifications_line, kept_line, longer_line, many_line, many_tests_line, matrix_line, place_line, quote_line, record_line, same_test_line, tests_line, usage_text};
 
 use crate::refusal::Refusal;
 use mc_lex::Place;
@@ -14,9 +14,14 @@ pub fn usage_text(alloc: Global) -> Result<Vec<u8>, AllocError>
 {
     let text = String::from_str(
         alloc,
-        "usage: mcdc report SOURCE TESTS [--mode unique|masking] [--fuel N] [--justify NAME] \
+        "usage: mcdc report SOURCE TESTS [--mode unique|masking] [--workers N] [--fuel N] \
+        [--justify NAME] [--format text|csv|json]\n       \
+        mcdc vectors SOURCE TESTS [--workers N] [--fuel N]\n       \
+        mcdc record SOURCE TESTS [--workers N] [--fuel N]\n       \
+        mcdc merge SOURCE LEFT RIGHT\n       \
+        mcdc analyse SOURCE RECORD [--mode unique|masking] [--justify NAME] \
         [--format text|csv|json]\n       \
-        mcdc vectors SOURCE TESTS [--fuel N]\n",
+        mcdc selfload N [--workers N]\n",
     )?;
     Ok(text.into_bytes())
 }
@@ -104,6 +109,32 @@ fn tests_line(alloc: Global, fault: TestFault) -> Result<Vec<u8>, AllocError>
     }
 }
 
+// The line on the first fault of a record.
+fn kept_line(alloc: Global, name: &str, row: u32, word: &str) -> Result<Vec<u8>, AllocError>
+    ensures { IfOk result (λ text. text.items ≡ kept_line name.now row word.now) }
+{
+    let text = format!(in alloc; "mcdc: record {name} line {row}: {word}\n")?;
+    Ok(text.into_bytes())
+}
+
+// The line on tests of two records that have one name. They are numbered from 0.
+fn same_test_line(alloc: Global, left: u32, right: u32) -> Result<Vec<u8>, AllocError>
+    ensures { IfOk result (λ text. text.items ≡ same_test_line left right) }
+{
+    let left = u64::from(left) + 1;
+    let right = u64::from(right) + 1;
+    let text = format!(in alloc; "mcdc: records: same test {left} and {right}\n")?;
+    Ok(text.into_bytes())
+}
+
+// The line on two records with too many tests together.
+fn many_tests_line(alloc: Global, count: u32) -> Result<Vec<u8>, AllocError>
+    ensures { IfOk result (λ text. text.items ≡ many_tests_line count) }
+{
+    let text = format!(in alloc; "mcdc: records: {count} tests\n")?;
+    Ok(text.into_bytes())
+}
+
 // The line on what is wrong with a file of justifications.
 fn justifications_line(alloc: Global, word: &str) -> Result<Vec<u8>, AllocError>
     ensures { IfOk result (λ text. text.items ≡ justifications_line word.now) }
@@ -152,6 +183,9 @@ pub fn refusal_line(alloc: Global, refusal: &Refusal<'_>) -> Result<Vec<u8>, All
         Refusal::TooMany { place, what, count } => many_line(alloc, *place, what, *count),
         Refusal::TooManyBits { count } => bits_line(alloc, *count),
         Refusal::Tests(fault) => tests_line(alloc, *fault),
+        Refusal::Record { name, line, word } => kept_line(alloc, name, *line, word),
+        Refusal::SameTest { left, right } => same_test_line(alloc, *left, *right),
+        Refusal::TooManyTests { count } => many_tests_line(alloc, *count),
         Refusal::Justifications { word } => justifications_line(alloc, word),
         Refusal::Entry { entry, word } => entry_line(alloc, *entry, word),
         Refusal::Quote { entry, kept, given } => quote_line(alloc, *entry, kept, given),

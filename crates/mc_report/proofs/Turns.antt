@@ -32,3 +32,10 @@ whole_text none a b c d e f mode digest tests verdicts counts status empty p q r
     (join c d f verdicts (counts ++ status ∷ []) s
     (join d e f counts (status ∷ []) m n))))
     ∙ ap (λ (l : List (List ℕ)). l ++ mode ∷ digest ∷ (tests ++ (verdicts ++ (counts ++ status ∷ [])))) empty
+
+pub summed : (none a b c d : List (List ℕ)) (load passed : List ℕ) (counts : List (List ℕ)) (status : List ℕ) → none ≡ [] → a ≡ none ++ load ∷ [] → b ≡ a ++ passed ∷ [] → c ≡ b ++ counts → d ≡ c ++ status ∷ [] → d ≡ (load ∷ passed ∷ []) ++ (counts ++ status ∷ [])
+summed none a b c d load passed counts status empty p q r s =
+    join none a d (load ∷ []) (passed ∷ (counts ++ status ∷ [])) p
+    (join a b d (passed ∷ []) (counts ++ status ∷ []) q
+    (join b c d counts (status ∷ []) r s))
+    ∙ ap (λ (l : List (List ℕ)). l ++ load ∷ passed ∷ (counts ++ status ∷ [])) empty

@@ -5,6 +5,7 @@ pub mod Status
 pub mod Lines
 pub mod Counts
 pub mod Text
+pub mod Summary
 pub mod Csv
 pub mod Json
 pub mod Forms

@@ -44,7 +44,8 @@ pub(crate) fn counted(
     count
 }
 
-fn one_where(holds: bool) -> usize
+/// 1 where it holds, else 0.
+pub(crate) fn one_where(holds: bool) -> usize
     ensures { result ≡ (if holds then 1 else 0) }
 {
     if holds { 1 } else { 0 }

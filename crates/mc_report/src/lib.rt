@@ -15,6 +15,7 @@ mod report;
 mod row;
 mod settled;
 mod shown;
+mod summary;
 mod test_lines;
 mod text;
 mod vector;
@@ -32,5 +33,6 @@ pub use laws::{
 pub use mc_port::put_lines;
 pub use report::Report;
 pub use settled::{all_passed, status};
+pub use summary::summary_lines;
 pub use text::{report_lines, write_text};
 pub use vectors::vectors_lines;

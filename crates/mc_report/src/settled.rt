@@ -1,9 +1,10 @@
 //! The status of a report.
-ghost use Rattle.std.specs.Prelude.{◌≡◌};
+ghost use Rattle.std.specs.Prelude.{◌≡◌, count_by};
 ghost use Rattle.std.specs.List.{list_all};
 ghost use Rattle.mc_report.specs.Seen.{report_of};
 ghost use Rattle.mc_report.specs.Status.{passed, is_settled, status_of};
 
+use crate::counts::one_where;
 use crate::report::Report;
 use mc_oblige::{Verdict, VerdictState};
 use mc_typed::TestState;
@@ -24,6 +25,17 @@ pub fn all_passed(states: &[TestState]) -> bool
     ensures { result ≡ list_all passed states.now }
 {
     states.iter().all(|state| passed(*state))
+}
+
+/// How many tests passed.
+pub(crate) fn passed_count(states: &[TestState]) -> usize
+    ensures { result ≡ count_by passed states.now }
+{
+    let mut count = 0;
+    for state in states {
+        count += one_where(passed(*state));
+    }
+    count
 }
 
 fn all_settled(verdicts: &[Verdict]) -> bool

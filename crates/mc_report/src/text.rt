@@ -53,7 +53,8 @@ fn push_digest(
     Ok(())
 }
 
-fn push_status(
+/// Adds the line of the status.
+pub(crate) fn push_status(
     alloc: Global,
     lines: &mut Vec<Vec<u8>>,
     report: &Report<'_>,

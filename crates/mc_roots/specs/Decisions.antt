@@ -1,5 +1,6 @@
 -- The decisions of a program, in their order.
 use Rattle.std.specs.Prelude.{◌≡◌, ℕ, ◌<◌, ◌≤◌, ◌⊎◌, List, [], ◌∷◌, length, slice_get, Some, All, Contains}
+use Rattle.mc_limits.specs.Limits.{most_conditions}
 use Rattle.mc_span.specs.declared.span.Span.{Span}
 use Rattle.mc_cond.specs.Tree.{Tree}
 use Rattle.mc_typed.specs.Tree.{Function}
@@ -60,12 +61,13 @@ pub record AreDecisions (fs : List Function) (ds : List Decision) : Type 0 where
 -- ---- too many conditions
 
 abbrev pub IsSmall : Decision → Type 0
-IsSmall d = length d.conditions ≤ 64
+IsSmall d = length d.conditions ≤ most_conditions
 
 -- The first decision that is not small has its root at this byte and so many conditions; where
 -- there are more than 2^32 - 1, this number stands for them.
 abbrev pub IsFirstLarge : List Decision → ℕ → ℕ → Type 0
 IsFirstLarge [] at count = ⊥
 IsFirstLarge (d ∷ ds) at count =
-    ((64 < length d.conditions) × (at ≡ d.root.start) × (count ≡ limited (length d.conditions)))
+    ((most_conditions < length d.conditions) × (at ≡ d.root.start)
+    × (count ≡ limited (length d.conditions)))
     ⊎ (IsSmall d × IsFirstLarge ds at count)

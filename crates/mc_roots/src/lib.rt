@@ -1,11 +1,13 @@
 //! What the decisions of a typed program are, as definitions, with what follows from them.
 #![tactic(auto)]
 
+mod boolean;
 mod decision;
 mod fault;
 mod laws;
 mod role;
 
+pub use boolean::is_boolean;
 pub use decision::Decision;
 pub use fault::DecideFault;
 pub use laws::{one_list, starts_are_in_order};

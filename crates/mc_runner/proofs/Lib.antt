@@ -2,4 +2,6 @@ pub mod Numbers
 pub mod Counted
 pub mod Images
 pub mod Standing
-pub mod Hits
+pub mod Jobs
+pub mod Gathered
+pub mod Sent

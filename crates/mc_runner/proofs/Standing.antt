@@ -24,9 +24,10 @@ use Rattle.mc_probe.specs.Table.{IsInstrumented}
 use Rattle.mc_probe.proofs.Counted.{events_listed}
 use Rattle.mc_simulation.specs.Simulation.{RunsAs}
 use Rattle.mc_simulation.proofs.Tests.{simulated}
+use Rattle.mc_core.specs.Matrix.{Holds}
 use Rattle.mc_oblige.specs.Shown.{IsEvent, IsVectorOf}
 use Rattle.mc_runner.specs.Recorded.{told_by}
-use Rattle.mc_runner.specs.Laws.{EventsStand, ResultsArePlain}
+use Rattle.mc_runner.specs.Laws.{BitsStand, EventsStand, ResultsArePlain}
 use Rattle.mc_runner.proofs.Images.{one_image}
 use Rattle.mc_runner.proofs.Counted.{IsCounted, every, entries, run_is_counted}
 
@@ -106,6 +107,11 @@ module _ (p : Program) (m : Map) (tree : Tree) (sound : IsSound p) (is : IsInstr
       let Q : Event → Type 0 = λ f. Contains listed f in
       subst Q same found.1
 
+  event_of_hit : (bit : ℕ) → Contains (run_of tree plan).events bit → (e : Event) × Contains listed e × (image m e ≡ bit)
+  event_of_hit bit c =
+      let P : List ℕ → Type 0 = λ bits. Contains bits bit in
+      of_map (image m) listed bit (subst P runs.hits c)
+
   told_is : told_by tree plan ≡ plainly_told p plan
   told_is =
       let r = runs in
@@ -118,32 +124,50 @@ module _ (p : Program) (m : Map) (tree : Tree) (sound : IsSound p) (is : IsInstr
 
 -- ---- all tests
 
-none_skipped : (test : ℕ) → ¬ (Contains [] test)
-none_skipped test c = absurd (let lt = c.1 in omega arith)
-
 fits_at : (p : Program) (plans : List Plan) (test : ℕ) (plan : Plan) → All (λ x. Fits x p) plans → slice_get plans test ≡ Some plan → Fits plan p
 fits_at p plans test plan h e =
     let P : Plan → Type 0 = λ x. Fits x p in
     subst P (get_or_from_slice_get plans test plan plan e) (h test plan (slice_get_within plans test plan e))
 
 pub events_stand : EventsStand
-events_stand p m tree plans x ready recorded e test = (
+events_stand p m tree plans skipped x ready recorded e test = (
   λ has.
-      (let hit = (recorded.hits (image m e) test).0 has.held in
+      (let both = (recorded.hits (image m e) test).0 has.held in
+      let hit = both.0 in
       record {
         plan = hit.plan;
         planned = hit.planned;
         happened = hit_is_event p m tree ready.sound ready.is_tree hit.plan (fits_at p plans test hit.plan ready.fit hit.planned) e has.event hit.hit;
-        kept = none_skipped test;
+        kept = both.1;
       }),
   λ stands. record {
     event = events_are_of p m ready.is_tree.is_map ready.sound stands.plan e stands.happened;
-    held = (recorded.hits (image m e) test).1 (record {
-      plan = stands.plan;
-      planned = stands.planned;
-      hit = event_is_hit p m tree ready.sound ready.is_tree stands.plan (fits_at p plans test stands.plan ready.fit stands.planned) e stands.happened;
-    });
+    held = (recorded.hits (image m e) test).1 (
+      record {
+        plan = stands.plan;
+        planned = stands.planned;
+        hit = event_is_hit p m tree ready.sound ready.is_tree stands.plan (fits_at p plans test stands.plan ready.fit stands.planned) e stands.happened;
+      },
+      stands.kept,
+    );
   },
+)
+
+pub bits_stand : BitsStand
+bits_stand p m tree plans skipped x ready recorded bit test = (
+  λ held.
+      (let both = (recorded.hits bit test).0 held in
+      let hit = both.0 in
+      let found = event_of_hit p m tree ready.sound ready.is_tree hit.plan (fits_at p plans test hit.plan ready.fit hit.planned) bit hit.hit in
+      record {
+        event = found.0;
+        of_map = events_are_of p m ready.is_tree.is_map ready.sound hit.plan found.0 found.1;
+        has_bit = found.2;
+        stands = record { plan = hit.plan; planned = hit.planned; happened = found.1; kept = both.1 };
+      }),
+  λ marked.
+      (let has = (events_stand p m tree plans skipped x ready recorded marked.event test).1 marked.stands in
+      subst (λ (b : ℕ). Holds x b test) marked.has_bit has.held),
 )
 
 all_told : (p : Program) (m : Map) (tree : Tree) (plans : List Plan) → IsSound p → IsInstrumented p m tree → All (λ plan. Fits plan p) plans → map (told_by tree) plans ≡ map (plainly_told p) plans

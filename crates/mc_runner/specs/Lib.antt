@@ -1,4 +1,3 @@
 pub mod Recorded
-pub mod Marks
-pub mod Marked
+pub mod Jobs
 pub mod Laws

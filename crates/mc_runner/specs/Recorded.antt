@@ -29,8 +29,11 @@ pub record IsHit (tree : Tree) (plans : List Plan) (bit test : ℕ) : Type 0 whe
   pub planned : slice_get plans test ≡ Some plan
   pub hit : Contains (run_of tree plan).events bit
 
--- the matrix has the bits of the tree under the tests, and holds a bit where it is hit
-pub record AreRecorded (tree : Tree) (plans : List Plan) (x : MatrixView) : Type 0 where
+-- the matrix has the bits of the tree under the tests, and holds a bit where it is hit and the test
+-- is not skipped
+pub record AreRecorded (tree : Tree) (plans : List Plan) (skipped : List ℕ) (x : MatrixView)
+    : Type 0 where
   pub bits : x.shape.bits ≡ tree.bits
   pub tests : x.shape.tests ≡ length plans
-  pub hits : (bit test : ℕ) → Holds x bit test ↔ IsHit tree plans bit test
+  pub hits : (bit test : ℕ) →
+      Holds x bit test ↔ (IsHit tree plans bit test × ¬ Contains skipped test)

@@ -1,13 +1,14 @@
-//! Runs the tests of an instrumented program: the matrix of the bits that they hit, and what is
-//! told of each test.
+//! Runs the tests of an instrumented program by workers: the hits of each test in a cover, and what
+//! is told of it.
 #![tactic(auto)]
 
+mod done;
 mod expected;
+mod job;
 mod laws;
 mod output;
 mod results;
-mod runs;
-mod test_probe;
+mod workers;
 
-pub use laws::{events_stand, results_are_plain};
-pub use runs::run_tests;
+pub use laws::{bits_stand, closed_is_recorded, events_stand, results_are_plain};
+pub use workers::run_tests;

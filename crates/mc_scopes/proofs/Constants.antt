@@ -3,7 +3,8 @@ use Rattle.std.proofs.Common.{◌≡◌, ℕ, false, List, [], ◌∷◌, None, 
 use Rattle.mc_typed.specs.Tree.{Place}
 use Rattle.mc_typing.specs.Types.{Base, Void, Integer, Tagged, CType}
 use Rattle.mc_typing.specs.Values.{kind_of_base, kind_of_object, is_integer, number_stored}
-use Rattle.mc_typing.specs.Constants.{constant_value, traps}
+use Rattle.mc_typed.specs.Constants.{constant_value}
+use Rattle.mc_typing.specs.Constants.{traps}
 
 pub stored_is_none : (place : Place) (b : Base) (ns : List ℕ)
     → option_and_then constant_value (number_stored place b ns) ≡ None

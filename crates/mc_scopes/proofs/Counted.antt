@@ -4,29 +4,11 @@ use Rattle.std.proofs.Math.Nat.{le-mul_of_pos_right, mul_assoc, mul_comm, mul_le
 use Rattle.std.proofs.lemmas.Bool.{cases_lt}
 use Rattle.std.proofs.lemmas.List.{drop_all}
 use Rattle.std.proofs.lemmas.Bool.Decides.{Decides-ltb, Decides-like, same_from_decides}
+use Rattle.mc_value.specs.ObjectTypes.{most_cells}
 use Rattle.mc_typed.specs.Layout.{ObjectType, cells, nesting}
 use Rattle.mc_typing.specs.Types.{arrays_of}
 use Rattle.mc_typing.specs.Limits.{is_passed_with}
-use Rattle.mc_typing.specs.Profile.{most_cells}
 use Rattle.mc_scopes.specs.Counted.{most_counted, product}
-
-pub factor_counted : (l a b : ℕ) → min (a * min b l) l ≡ min (a * b) l
-factor_counted l zero b = omega arith
-factor_counted l (suc a) b = go (cases_lt l b)
-  where
-    go : ((l < b) ⊎ (b ≤ l)) → min (suc a * min b l) l ≡ min (suc a * b) l
-    go (inl more) =
-        let is : min b l ≡ l = omega (arith, more) in
-        let one : l ≤ suc a * l =
-        subst (λ n. l ≤ n) (mul_comm l (suc a)) (le-mul_of_pos_right l (omega arith)) in
-        let two : b ≤ suc a * b =
-        subst (λ n. b ≤ n) (mul_comm b (suc a)) (le-mul_of_pos_right b (omega arith)) in
-        let left : min (suc a * l) l ≡ l = omega (arith, one) in
-        let right : min (suc a * b) l ≡ l = omega (arith, two, more) in
-        ap (λ n. min (suc a * n) l) is ∙ left ∙ sym right
-    go (inr few) =
-        let is : min b l ≡ b = omega (arith, few) in
-        ap (λ n. min (suc a * n) l) is
 
 pub product_counted : (l a b : ℕ) → min (min a l * b) l ≡ min (a * b) l
 product_counted l a zero = rw (mul-zero (min a l), mul-zero a) refl
@@ -64,17 +46,19 @@ many_counted k n h =
     (Decides-ltb k (min n most_counted)))
     (Decides-ltb k n)
 
-pub passed_counted : (before n : ℕ) → is_passed_with before (min n most_counted) ≡ is_passed_with before n
+pub passed_counted : (before n : ℕ)
+    → is_passed_with most_cells before (min n most_counted) ≡ is_passed_with most_cells before n
 passed_counted before n = go (cases_lt most_counted n)
   where
-    go : ((most_counted < n) ⊎ (n ≤ most_counted)) → is_passed_with before (min n most_counted) ≡ is_passed_with before n
+    go : ((most_counted < n) ⊎ (n ≤ most_counted))
+        → is_passed_with most_cells before (min n most_counted) ≡ is_passed_with most_cells before n
     go (inl more) =
         ap (λ b. nat_le before most_cells && b)
         ((Decides-ltb most_cells (before + min n most_counted)).1 (omega (arith, more))
         ∙ sym ((Decides-ltb most_cells (before + n)).1 (omega (arith, more))))
     go (inr few) =
         let is : min n most_counted ≡ n = omega (arith, few) in
-        ap (is_passed_with before) is
+        ap (is_passed_with most_cells before) is
 
 -- ---- factors in turn
 

@@ -1,2 +1,1 @@
 pub mod Squeezed
-pub mod Logic

@@ -1,5 +1,5 @@
 //! The functions of a unit that have a body.
-ghost use Rattle.std.specs.Prelude.{◌≡◌, ◌∷◌, ◌++◌, [], ℕ, List, Some, length, OnOk, OnErr, IfOk};
+ghost use Rattle.std.specs.Prelude.{◌≡◌, ◌<◌, ◌^◌, ◌∷◌, ◌++◌, [], ℕ, List, Some, length, OnOk, OnErr};
 ghost use Rattle.mc_typing.specs.Scopes.{place_from, later_or};
 
 use mc_names::Table;
@@ -42,16 +42,14 @@ impl<'a> Bodies<'a> {
     }
 
     // The number of a name once it is that of one more function.
-    fn number_with(&self, name: &[u8]) -> Result<u32, AllocError>
-        ensures { IfOk result (λ n. Some n
-            ≡ later_or (place_from 0 name.now self.now) (Some (length self.now))) }
+    fn number_with(&self, name: &[u8]) -> u32
+        requires { length self.now < 2 ^ 32 }
+        ensures { Some result
+            ≡ later_or (place_from 0 name.now self.now) (Some (length self.now)) }
     {
         match self.number(name) {
-            Some(number) => Ok(number),
-            None => match u32::try_from(self.numbers.len()) {
-                Ok(number) => Ok(number),
-                Err(_) => Err(AllocError),
-            },
+            Some(number) => number,
+            None => self.numbers.len() as u32,
         }
     }
 
@@ -59,13 +57,13 @@ impl<'a> Bodies<'a> {
     ///
     /// # Errors
     ///
-    /// `AllocError` where memory runs out, and after as many functions as 32 bits count: then the
-    /// functions are as before.
+    /// `AllocError` where memory runs out: then the functions are as before.
     pub fn push(&mut self, name: &'a [u8]) -> Result<(), AllocError>
+        requires { length self.old < 2 ^ 32 }
         ensures ok { OnOk result (self.new ≡ self.old ++ name.now ∷ []) }
         ensures err { OnErr result (self.new ≡ self.old) }
     {
-        let number = self.number_with(name)?;
+        let number = self.number_with(name);
         self.numbers.push(name, number)?;
         Ok(())
     }

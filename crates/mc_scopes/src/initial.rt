@@ -1,21 +1,19 @@
 //! Values of objects with static storage duration (C17 6.7.9p4, p10, p21).
 ghost use Rattle.std.specs.Prelude.{◌≡◌, ◌≤◌, ◌∷◌, ◌++◌, [], ℤ, List, pos, length, map, unwrap_or, IfOk, OnOk};
+ghost use Rattle.mc_typed.specs.Constants as c;
 ghost use Rattle.mc_typed.specs.Views.{expression_of, initializer_of, initializers_from};
 ghost use Rattle.mc_typing.specs.Initializers as i;
-ghost use Rattle.mc_typing.specs.Constants as c;
 
 use crate::lists::{push, where_done};
-use crate::values::constant_value;
-use mc_typed::{Expression, Initializer};
+use mc_typed::{Expression, Initializer, constant_value};
 use std::alloc::{AllocError, Global};
 
-fn number_or_zero(value: &Expression) -> Result<i128, AllocError>
-    ensures { IfOk result (λ r.
-        r ≡ unwrap_or (c.constant_value (expression_of value.now)) (pos 0)) }
+fn number_or_zero(value: &Expression) -> i128
+    ensures { result ≡ unwrap_or (c.constant_value (expression_of value.now)) (pos 0) }
 {
-    match constant_value(value)? {
-        Some(number) => Ok(number),
-        None => Ok(0),
+    match constant_value(value) {
+        Some(number) => number,
+        None => 0,
     }
 }
 
@@ -28,7 +26,7 @@ fn fill(values: &mut Vec<i128>, start: usize, count: u32) -> Result<(), AllocErr
 {
     let given = values.len() - start;
     let missing = (count as usize).saturating_sub(given);
-    let total = values.len().checked_add(missing).ok_or(AllocError)?;
+    let total = values.len() + missing;
     values.resize(total, 0)
 }
 
@@ -37,7 +35,7 @@ fn fill(values: &mut Vec<i128>, start: usize, count: u32) -> Result<(), AllocErr
 fn add_zeros(values: &mut Vec<i128>, count: u32) -> Result<(), AllocError>
     ensures { OnOk result (values.new.items ≡ values.old.items ++ i.filled count []) }
 {
-    let total = values.len().checked_add(count as usize).ok_or(AllocError)?;
+    let total = values.len() + count as usize;
     values.resize(total, 0)
 }
 
@@ -46,8 +44,7 @@ fn add_number(values: &mut Vec<i128>, value: &Expression) -> Result<(), AllocErr
     ensures { OnOk result (values.new.items
         ≡ values.old.items ++ unwrap_or (c.constant_value (expression_of value.now)) (pos 0) ∷ []) }
 {
-    let number = number_or_zero(value)?;
-    push(values, number)
+    push(values, number_or_zero(value))
 }
 
 #[cycle(values)]

@@ -19,7 +19,7 @@ pub enum Kind<'a> {
     Array {
         base: Base,
         is_const: bool,
-        lengths: &'a [u64],
+        lengths: &'a [u32],
     },
     Function,
 }

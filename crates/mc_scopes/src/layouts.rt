@@ -1,10 +1,10 @@
 //! Layouts of types (C17 6.2.5), and the limits of objects.
 ghost use Rattle.std.specs.Prelude.{◌≡◌, ◌+◌, ◌*◌, ◌<◌, ◌≤◌, ◌||◌, ◌^◌, ◌∷◌, ◌++◌, nat_lt, min, [], length, map, slice_get, Some, IfOk, OnOk, OnErr};
+ghost use Rattle.mc_value.specs.ObjectTypes.{most_cells};
 ghost use Rattle.mc_typed.specs.Layout as layout;
 ghost use Rattle.mc_typed.specs.Layout.{object_type_of};
 ghost use Rattle.mc_typing.specs.Types as t;
 ghost use Rattle.mc_typing.specs.Limits as limit;
-ghost use Rattle.mc_typing.specs.Profile.{most_cells};
 ghost use Rattle.mc_typing.specs.Declarators.{cells_of_members};
 ghost use Rattle.mc_typing.specs.Expressions.{layouts_of};
 ghost use Rattle.mc_scopes.specs.Types.{base_of, type_of};
@@ -14,14 +14,10 @@ ghost use Rattle.mc_scopes.specs.Counted.{most_counted, product};
 use crate::lists::{push, shared, where_done};
 use crate::members::Structure;
 use crate::types::{Base, CType};
-use mc_value::ObjType;
+use mc_limits::MOST_NESTING;
+use mc_value::{MOST_CELLS, ObjType};
 use std::alloc::{AllocError, Global};
 use std::sync::Arc;
-
-// The limits of this profile.
-const MOST_CELLS: u32 = 65536;
-
-const MOST_NESTING: u64 = 200;
 
 // Whether the structure type with this number has its members.
 #[tactic(auto, using(crate::proofs::Arrays::structure_at))]
@@ -128,18 +124,15 @@ fn layout_of_base(
 }
 
 // An array of so many elements.
-fn array(alloc: Global, length: u64, element: ObjType) -> Result<ObjType, AllocError>
+fn array(alloc: Global, length: u32, element: ObjType) -> Result<ObjType, AllocError>
     ensures { IfOk result (λ r. object_type_of r ≡ layout.Array length (object_type_of element)) }
 {
-    let Ok(length) = u32::try_from(length) else {
-        return Err(AllocError);
-    };
     let element = shared(alloc, element)?;
     Ok(ObjType::Array { element, length })
 }
 
 // Arrays of arrays, the outermost length first. A type keeps few lengths, so this does not go deep.
-fn arrays(alloc: Global, lengths: &[u64], element: ObjType) -> Result<ObjType, AllocError>
+fn arrays(alloc: Global, lengths: &[u32], element: ObjType) -> Result<ObjType, AllocError>
     ensures { IfOk result (λ r. object_type_of r
         ≡ t.arrays_of lengths.now (object_type_of element)) }
 {
@@ -152,12 +145,7 @@ fn arrays(alloc: Global, lengths: &[u64], element: ObjType) -> Result<ObjType, A
     }
 }
 
-/// The layout of an object of a complete type. No type within the limits has a length that does not
-/// fit 32 bits.
-///
-/// # Errors
-///
-/// `AllocError` where memory runs out, and at such a length.
+/// The layout of an object of a complete type.
 pub fn layout(
     alloc: Global,
     structures: &[Structure<'_>],
@@ -189,18 +177,15 @@ fn add_type(
     types: &mut Vec<ObjType>,
     structure: &Structure<'_>,
 ) -> Result<(), AllocError>
+    requires { length types.old.items < 2 ^ 32 }
     ensures more { OnOk result (map object_type_of types.new.items
         ≡ map object_type_of types.old.items
         ++ t.structure_from (length types.old.items) (structure_of structure.now) ∷ []) }
     ensures count { OnOk result (length types.new.items ≡ length types.old.items + 1) }
 {
-    match u32::try_from(types.len()) {
-        Ok(number) => {
-            let one = structure_type(alloc, number, structure)?;
-            push(types, one)
-        }
-        Err(_) => Err(AllocError),
-    }
+    let number = types.len() as u32;
+    let one = structure_type(alloc, number, structure)?;
+    push(types, one)
 }
 
 // Adds structure types to none.
@@ -209,7 +194,8 @@ fn add_types(
     types: &mut Vec<ObjType>,
     structures: &[Structure<'_>],
 ) -> Result<(), AllocError>
-    requires { types.old.items ≡ [] }
+    requires none { types.old.items ≡ [] }
+    requires few { length structures.now < 2 ^ 32 }
     ensures { OnOk result (map object_type_of types.new.items
         ≡ t.structures_from 0 (map structure_of structures.now)) }
 {
@@ -220,14 +206,11 @@ fn add_types(
 }
 
 /// The structure types of a program, by their numbers. One that stays incomplete has no members.
-///
-/// # Errors
-///
-/// `AllocError` where memory runs out, and at more structure types than 32 bits count.
 pub fn structure_types(
     alloc: Global,
     structures: &[Structure<'_>],
 ) -> Result<Vec<ObjType>, AllocError>
+    requires { length structures.now < 2 ^ 32 }
     ensures { IfOk result (λ r. map object_type_of r.items
         ≡ t.structures_from 0 (map structure_of structures.now)) }
 {
@@ -251,7 +234,7 @@ fn cells_at(structures: &[Structure<'_>], number: u32) -> u32
 }
 
 // The cells of an object of a base.
-fn cells_of_base(structures: &[Structure<'_>], base: Base) -> u32
+pub(crate) fn cells_of_base(structures: &[Structure<'_>], base: Base) -> u32
     ensures { result
         ≡ layout.cells (t.layout_of_base (map structure_of structures.now) (base_of base)) }
 {
@@ -263,18 +246,16 @@ fn cells_of_base(structures: &[Structure<'_>], base: Base) -> u32
 }
 
 // A product, or the greatest number of cells that is counted.
-#[tactic(auto, using(crate::proofs::Counted::factor_counted))]
-fn counted_product(cells: u32, length: u64) -> u32
+fn counted_product(cells: u32, length: u32) -> u32
     ensures { result ≡ min (cells * length) most_counted }
 {
-    let factor = length.min(u32::MAX as u64);
-    let product = cells as u64 * factor;
+    let product = cells as u64 * length as u64;
     product.min(u32::MAX as u64) as u32
 }
 
 // The same of many factors.
 #[tactic(auto, using(crate::proofs::Counted::factors_counted))]
-fn counted_products(cells: u32, lengths: &[u64]) -> u32
+fn counted_products(cells: u32, lengths: &[u32]) -> u32
     ensures { result ≡ min (cells * product lengths.now) most_counted }
 {
     let mut total = cells;
@@ -379,23 +360,25 @@ fn has_many_cells(structures: &[Structure<'_>], of: &CType) -> bool
 pub fn is_too_large(structures: &[Structure<'_>], of: &CType) -> bool
     ensures { result ≡ limit.is_too_large (map structure_of structures.now) (type_of of.now) }
 {
-    of.is_long() || has_many_cells(structures, of) || nesting(structures, of) > MOST_NESTING
+    of.is_long()
+        || has_many_cells(structures, of)
+        || nesting(structures, of) > u64::from(MOST_NESTING)
 }
 
-/// Whether so many cells are within the limit, but with so many more they pass it.
-pub fn is_passed_with(before: u64, more: u32) -> bool
-    ensures { result ≡ limit.is_passed_with before more }
+/// Whether so many cells are within this limit, but with so many more they pass it.
+pub fn is_passed_with(most: u32, before: u64, more: u32) -> bool
+    ensures { result ≡ limit.is_passed_with most before more }
 {
-    before <= MOST_CELLS as u64 && before + more as u64 > MOST_CELLS as u64
+    before <= most as u64 && before + more as u64 > most as u64
 }
 
 // Whether a member of the type is the first with which the cells pass the limit.
 #[tactic(auto, using(crate::proofs::Counted::passed_counted))]
 fn is_passed_by(before: u32, structures: &[Structure<'_>], of: &CType) -> bool
-    ensures { result ≡ limit.is_passed_with before
+    ensures { result ≡ limit.is_passed_with most_cells before
         (layout.cells (t.layout_of (map structure_of structures.now) (type_of of.now))) }
 {
-    is_passed_with(before as u64, counted_cells(structures, of))
+    is_passed_with(MOST_CELLS, before as u64, counted_cells(structures, of))
 }
 
 /// Whether a member of the type, after members with so many cells, passes a limit of its structure.
@@ -403,5 +386,7 @@ pub fn is_large_member(before: u32, structures: &[Structure<'_>], of: &CType) ->
     ensures { result ≡ (limit.is_long of.now.lengths.items || limit.is_large_member before
         (t.layout_of (map structure_of structures.now) (type_of of.now))) }
 {
-    of.is_long() || is_passed_by(before, structures, of) || nesting(structures, of) >= MOST_NESTING
+    of.is_long()
+        || is_passed_by(before, structures, of)
+        || nesting(structures, of) >= u64::from(MOST_NESTING)
 }

@@ -1,5 +1,5 @@
 //! Parameter lists, and the outermost block of a body (C17 6.2.1p4, 6.7.6.3).
-ghost use Rattle.std.specs.Prelude.{◌≡◌, [], map, IfOk};
+ghost use Rattle.std.specs.Prelude.{◌≡◌, ◌≤◌, [], length, map, IfOk};
 ghost use Rattle.mc_tree.specs.Views.{name_of};
 ghost use Rattle.mc_typed.specs.Views.{object_of};
 ghost use Rattle.mc_typing.specs.Scopes as s;
@@ -100,6 +100,7 @@ impl<'a> Scope<'a> {
         name: &Identifier<'a>,
         meaning: Meaning,
     ) -> Result<Block, AllocError>
+        requires { block.names ≤ length self.old.names }
         ensures around { IfOk result (λ b. around_of b ≡ with_one_name (around_of block)) }
         ensures body { IfOk result (λ b. scope_of self.new
             ≡ body_in (around_of block).names (name_of name.now) (meaning_of meaning)

@@ -11,6 +11,7 @@ use crate::labels::Labels;
 use crate::lists::push;
 use crate::meanings::{Meaning, TagMeaning};
 use crate::members::Structure;
+use mc_limits::{MOST_FRAME_CELLS, MOST_STATIC_CELLS};
 use mc_names::Table;
 use mc_tree::Identifier;
 use mc_typed::{Object, Slot, StaticObject};
@@ -42,14 +43,14 @@ pub struct Scope<'a> {
     pub labels: Option<Labels>,
 }
 
-/// The first cell of an object after so many others.
-fn start_at(before: u64) -> u32
-    ensures { result ≡ p.start_at before }
+/// The first cell of an object after so many others, which have this limit.
+fn start_at(most: u32, before: u64) -> u32
+    ensures { result ≡ p.start_at most before }
 {
-    if before <= 65536 {
+    if before <= u64::from(most) {
         before as u32
     } else {
-        65536
+        most
     }
 }
 
@@ -166,7 +167,7 @@ impl<'a> Scope<'a> {
         };
         Ok(Slot {
             object,
-            start: start_at(self.frame),
+            start: start_at(MOST_FRAME_CELLS, self.frame),
         })
     }
 
@@ -179,7 +180,7 @@ impl<'a> Scope<'a> {
         };
         Ok(Slot {
             object,
-            start: start_at(self.static_cells),
+            start: start_at(MOST_STATIC_CELLS, self.static_cells),
         })
     }
 
@@ -189,7 +190,7 @@ impl<'a> Scope<'a> {
         ensures { IfOk result (λ _. scope_of self.new
             ≡ s.with_object (object_type_of object_type) (scope_of self.old)) }
     {
-        let start = start_at(self.frame);
+        let start = start_at(MOST_FRAME_CELLS, self.frame);
         match self.frame.checked_add(u64::from(count)) {
             Some(frame) => {
                 let object = Object {
@@ -226,7 +227,7 @@ impl<'a> Scope<'a> {
         ensures { IfOk result (λ _. scope_of self.new
             ≡ s.with_static (object_type_of object_type) initial.items (scope_of self.old)) }
     {
-        let start = start_at(self.static_cells);
+        let start = start_at(MOST_STATIC_CELLS, self.static_cells);
         match self.static_cells.checked_add(u64::from(count)) {
             Some(cells) => {
                 let object = StaticObject {

@@ -5,13 +5,12 @@ ghost use Rattle.mc_typing.specs.Limits as limit;
 ghost use Rattle.mc_typing.specs.Declarators as declarators;
 ghost use Rattle.mc_scopes.specs.Types.{base_of, type_of, kind_of, signature_of, length_list};
 
-use mc_value::IntType;
+use mc_limits::MOST_NESTING;
+use mc_value::{IntType, MOST_CELLS};
 use std::alloc::{AllocError, Global};
 
-// The elements of an array, and the lengths that a type keeps.
-const MOST_LENGTH: u64 = 65536;
-
-const MOST_LENGTHS: usize = 202;
+// The lengths that a type keeps: enough to see that it nests too deep.
+const MOST_LENGTHS: usize = MOST_NESTING as usize + 2;
 
 /// A type that is no array: void, an integer type, or the structure type with this number.
 #[derive(Clone, Copy)]
@@ -26,7 +25,7 @@ pub enum Base {
 pub struct CType {
     pub base: Base,
     pub is_const: bool,
-    pub lengths: Vec<u64>,
+    pub lengths: Vec<u32>,
 }
 
 impl Drop for CType {
@@ -106,7 +105,7 @@ pub fn same_base(a: Base, b: Base) -> bool
 }
 
 /// Whether two lists of lengths are one. Takes no memory.
-pub fn same_lengths(a: &[u64], b: &[u64]) -> bool
+pub fn same_lengths(a: &[u32], b: &[u32]) -> bool
     ensures { result ≡ t.same_lengths a.now b.now }
 {
     let mut left = b;
@@ -123,7 +122,7 @@ pub fn same_lengths(a: &[u64], b: &[u64]) -> bool
 }
 
 // Adds the lengths of a list, but no more than a type keeps.
-fn add_lengths(lengths: &mut Vec<u64>, more: &[u64]) -> Result<(), AllocError>
+fn add_lengths(lengths: &mut Vec<u32>, more: &[u32]) -> Result<(), AllocError>
     requires { length lengths.old.items ≤ 202 }
     ensures { OnOk result (lengths.new.items ≡ take 202 (lengths.old.items ++ more.now)) }
 {
@@ -162,7 +161,7 @@ impl CType {
         ensures { result ≡ limit.is_long self.now.lengths.items }
     {
         for length in &self.lengths {
-            if *length > MOST_LENGTH {
+            if *length > MOST_CELLS {
                 return true;
             }
         }
@@ -222,8 +221,8 @@ impl CType {
     /// apart. A type keeps its 202 outermost lengths: with more than 200 it passes the limit.
     pub fn array_of(
         alloc: Global,
-        front: Option<u64>,
-        rest: &[u64],
+        front: Option<u32>,
+        rest: &[u32],
         of: &CType,
     ) -> Result<CType, AllocError>
         ensures { IfOk result (λ r. type_of r
@@ -241,7 +240,7 @@ impl CType {
 }
 
 // The length that stands apart, where there is one.
-fn front_lengths(alloc: Global, front: Option<u64>) -> Result<Vec<u64>, AllocError>
+fn front_lengths(alloc: Global, front: Option<u32>) -> Result<Vec<u32>, AllocError>
     ensures { IfOk result (λ r. r.items ≡ length_list front) }
 {
     let mut lengths = Vec::new(alloc);

@@ -1,10 +1,14 @@
 -- A controlling expression that is always true is never false in a run.
-use Rattle.std.proofs.Common.{◌≡◌, ◌∙◌, refl, sym, ap, ℕ, ℤ, Bool, true, false, ◌&&◌, Option, Some, None, Result, Ok, Err}
+use Rattle.std.proofs.Common.{◌≡◌, ◌∙◌, refl, sym, ap, subst, ℕ, ℤ, Bool, true, false, ◌&&◌, if◌then◌else◌, option_map, Option, Some, None, Result, Ok, Err}
 use Rattle.mc_value.specs.declared.trap.Trap.{Trap}
 use Rattle.mc_value.specs.Conversions.{converted, is_zero}
 use Rattle.mc_value.specs.Arithmetic.{unary_of, truth}
 use Rattle.mc_span.specs.declared.span.Span.{Span}
+use Rattle.mc_value.specs.declared.int_type.IntType.{IntType}
+use Rattle.mc_value.specs.declared.operators.UnOp.{UnOp}
+use Rattle.mc_typed.specs.declared.operators.Operator.{Operator}
 use Rattle.mc_typed.specs.declared.operators.LogicOperator.{LogicOperator}
+use Rattle.mc_typed.specs.Constants.{unless_trap, is_operand, are_operands, unary_value, binary_value, truth_value, logic_value, choice_value, constant_value}
 use Rattle.mc_typed.specs.Tree.{Expression}
 use Rattle.mc_typed.specs.Tree as t
 use Rattle.mc_roots.specs.declared.role.Role.{Role}
@@ -13,8 +17,7 @@ use Rattle.mc_roots.specs.Nodes as n
 use Rattle.mc_roots.specs.Roots.{is_root, operand_role}
 use Rattle.mc_steps.specs.Runs.{Out, Gave, Stopped, gives, after, with_result}
 use Rattle.mc_steps.specs.Expressions.{operated, is_true, where_true, goes_on, unary_does, binary_does, logic_does, choice_does, as_does}
-use Rattle.mc_steps.specs.Points.{is_constant, number, on_number, logic_value, choice_value, is_nonzero, is_always}
-use Rattle.mc_steps.specs.Points as c
+use Rattle.mc_steps.specs.Points.{is_constant, is_nonzero, is_always}
 use Rattle.mc_meaning.specs.Stores.{Store}
 use Rattle.mc_steps.specs.Events.{Event}
 use Rattle.mc_meaning.specs.Within.{Does, Within}
@@ -35,9 +38,12 @@ pub both_right : (a b : Bool) → a && b ≡ true → b ≡ true
 both_right true b h = h
 both_right false b h = no_root h
 
--- the expression has this value
+-- where the expression has a value, it is this one
+abbrev Is : Option ℤ → ℤ → Type 0
+Is o x = (v : ℤ) → o ≡ Some v → x ≡ v
+
 abbrev IsNumber : Expression → ℤ → Type 0
-IsNumber e x = c.value_of e ≡ Some x
+IsNumber e x = Is (constant_value e) x
 
 abbrev Judges : Expression → Judged → Type 0
 Judges e j = IsNumber e j.value
@@ -63,34 +69,92 @@ where_gives : (P : ℤ → Type 0) (b : Bool) (f g : Does ℤ) → (b ≡ true �
 where_gives P true f g h k s = h refl s
 where_gives P false f g h k s = k refl s
 
+-- ---- from the values of operands to that of an expression
+
+some_same : (x y : ℤ) → Some x ≡ Some y → x ≡ y
+some_same x y h = cc
+
+no_value : {X : Type 0} (v : ℤ) → None ≡ Some v → X
+no_value v h = absurd (cc)
+
+taken : (b : Bool) (o p : Option ℤ) (v : ℤ) → b ≡ true → (if b then o else p) ≡ Some v → o ≡ Some v
+taken true o p v e h = h
+taken false o p v e h = no_root e
+
+left_out : (b : Bool) (o p : Option ℤ) (v : ℤ) → b ≡ false → (if b then o else p) ≡ Some v → p ≡ Some v
+left_out true o p v e h = no_root (sym e)
+left_out false o p v e h = h
+
+result_is : (b : Bool) (r : Result ℤ Trap) (y v : ℤ) → r ≡ Ok y → (if b then unless_trap r else None) ≡ Some v → y ≡ v
+result_is true r y v e h = some_same y v (sym (ap unless_trap e) ∙ h)
+result_is false r y v e h = no_value v h
+
+mapped_is : (f : ℤ → ℤ) (o : Option ℤ) (x : ℤ) → Is o x → Is (option_map f o) (f x)
+mapped_is f None x p v h = no_value v h
+mapped_is f (Some u) x p v h = ap f (p u refl) ∙ some_same (f u) v h
+
+unary_is : (operator : UnOp) (a : IntType) (o : Option ℤ) (x y : ℤ) → Is o x → unary_of operator a x ≡ Ok y → Is (unary_value operator a o) y
+unary_is operator a None x y p r v h = no_value v h
+unary_is operator a (Some u) x y p r v h =
+    result_is (is_operand a u) (unary_of operator a u) y v (subst (λ (z : ℤ). unary_of operator a z ≡ Ok y) (p u refl) r) h
+
+binary_is : (operator : Operator) (a : IntType) (o q : Option ℤ) (x y z : ℤ) → Is o x → Is q y → operated operator a x y ≡ Ok z → Is (binary_value operator a o q) z
+binary_is operator a None q x y z p k r v h = no_value v h
+binary_is operator a (Some u) None x y z p k r v h = no_value v h
+binary_is operator a (Some u) (Some w) x y z p k r v h =
+    result_is (are_operands operator a u w) (operated operator a u w) z v
+    (subst (λ (i : ℤ). operated operator a i w ≡ Ok z) (p u refl) (subst (λ (i : ℤ). operated operator a x i ≡ Ok z) (k w refl) r)) h
+
+second_is : (operator : LogicOperator) (o q : Option ℤ) (x y : ℤ) → Is o x → goes_on operator (is_true x) ≡ true → Is q y → Is (logic_value operator o q) (truth (is_true y))
+second_is operator None q x y p b k v h = no_value v h
+second_is operator (Some u) q x y p b k v h =
+    mapped_is (λ (i : ℤ). truth (is_true i)) q y k v
+    (taken (goes_on operator (is_true u)) (truth_value q) (Some (truth (is_true u))) v (subst (λ (i : ℤ). goes_on operator (is_true i) ≡ true) (p u refl) b) h)
+
+first_is : (operator : LogicOperator) (o q : Option ℤ) (x : ℤ) → Is o x → goes_on operator (is_true x) ≡ false → Is (logic_value operator o q) (truth (is_true x))
+first_is operator None q x p b v h = no_value v h
+first_is operator (Some u) q x p b v h =
+    ap (λ (i : ℤ). truth (is_true i)) (p u refl)
+    ∙ some_same (truth (is_true u)) v
+    (left_out (goes_on operator (is_true u)) (truth_value q) (Some (truth (is_true u))) v (subst (λ (i : ℤ). goes_on operator (is_true i) ≡ false) (p u refl) b) h)
+
+chosen_is : (o q r : Option ℤ) (x z : ℤ) → Is o x → is_true x ≡ true → Is q z → Is (choice_value o q r) z
+chosen_is None q r x z p b k v h = no_value v h
+chosen_is (Some u) q r x z p b k v h = k v (taken (is_true u) q r v (subst (λ (i : ℤ). is_true i ≡ true) (p u refl) b) h)
+
+other_is : (o q r : Option ℤ) (x z : ℤ) → Is o x → is_true x ≡ false → Is r z → Is (choice_value o q r) z
+other_is None q r x z p b k v h = no_value v h
+other_is (Some u) q r x z p b k v h = k v (left_out (is_true u) q r v (subst (λ (i : ℤ). is_true i ≡ false) (p u refl) b) h)
+
+nonzero_is : (o : Option ℤ) (x : ℤ) → Is o x → is_nonzero o ≡ true → is_true x ≡ true
+nonzero_is None x p h = no_root h
+nonzero_is (Some u) x p h = subst (λ (i : ℤ). is_true i ≡ true) (sym (p u refl)) h
+
 second_gives : (operator : LogicOperator) (e f : Expression) (span : Span) (j : Judged) (h : Does Judged) (b : Bool) → goes_on operator (is_true j.value) ≡ b → Judges e j → Gives (Judges f) h → Gives (Judges (t.Logic operator e f span)) (where_true b (λ s. after (h s) (λ k s. gives (both j k) s)) (gives (first_alone f j)))
 second_gives operator e f span j h true is p g s =
     given_then (Judges f) (Judges (t.Logic operator e f span)) (h s) (λ k s. gives (both j k) s) (g s)
-    (λ k s q. ap (λ (o : Option ℤ). on_number o (λ x. logic_value (goes_on operator (is_true x)) x (c.value_of f))) p
-    ∙ (ap (λ (b : Bool). logic_value b j.value (c.value_of f)) is ∙ ap (λ (o : Option ℤ). logic_value true j.value o) q))
-second_gives operator e f span j h false is p g s =
-    ap (λ (o : Option ℤ). on_number o (λ x. logic_value (goes_on operator (is_true x)) x (c.value_of f))) p
-    ∙ ap (λ (b : Bool). logic_value b j.value (c.value_of f)) is
+    (λ k s q. second_is operator (constant_value e) (constant_value f) j.value k.value p is q)
+second_gives operator e f span j h false is p g s = first_is operator (constant_value e) (constant_value f) j.value p is
 
 pub number_is : (e : Expression) (role : Role) (w : Within) → is_constant e ≡ true → Gives (Judges e) (value_of e role w)
-number_is (t.Constant v a span) role w k = condition_gives (IsNumber (t.Constant v a span)) role (t.Constant v a span) w (λ w. gives v) (λ s. refl)
+number_is (t.Constant v a span) role w k = condition_gives (IsNumber (t.Constant v a span)) role (t.Constant v a span) w (λ w. gives v) (λ s u h. some_same v u h)
 number_is (t.Read place a) role w k = no_root k
 number_is (t.Unary operator a e span) role w k =
     let u : Within = into role (t.Unary operator a e span) w in
     condition_gives (IsNumber (t.Unary operator a e span)) role (t.Unary operator a e span) w (λ w. unary_does operator a (value (value_of e Plain w)))
     (λ s. given_then (IsNumber e) (IsNumber (t.Unary operator a e span)) (value (value_of e Plain u) s) (λ x s. with_result (unary_of operator a x) gives s) (value_gives (IsNumber e) (value_of e Plain u) (number_is e Plain u k) s)
-    (λ x s p. result_gives (IsNumber (t.Unary operator a e span)) (unary_of operator a x) (λ y r. ap (λ (o : Option ℤ). on_number o (λ x. number (unary_of operator a x))) p ∙ ap number r) s))
+    (λ x s p. result_gives (IsNumber (t.Unary operator a e span)) (unary_of operator a x) (λ y r. unary_is operator a (constant_value e) x y p r) s))
 number_is (t.Convert a written e span) role w k =
     let u : Within = into role (t.Convert a written e span) w in
     condition_gives (IsNumber (t.Convert a written e span)) role (t.Convert a written e span) w (λ w. as_does (converted a) (value (value_of e Plain w)))
     (λ s. given_then (IsNumber e) (IsNumber (t.Convert a written e span)) (value (value_of e Plain u) s) (λ x s. gives (converted a x) s) (value_gives (IsNumber e) (value_of e Plain u) (number_is e Plain u k) s)
-    (λ x s p. ap (λ (o : Option ℤ). on_number o (λ x. Some (converted a x))) p))
+    (λ x s p. mapped_is (converted a) (constant_value e) x p))
 number_is (t.Not e span) role w k =
     let r : Role = operand_role role (n.expression (t.Not e span)) in
     let u : Within = into role (t.Not e span) w in
     root_gives (Judges (t.Not e span)) (is_root role (n.expression (t.Not e span))) w.decisions (as_does negated (value_of e r u))
     (λ s. given_then (Judges e) (Judges (t.Not e span)) (value_of e r u s) (λ j s. gives (negated j) s) (number_is e r u k s)
-    (λ j s p. ap (λ (o : Option ℤ). on_number o (λ x. Some (truth (is_zero x)))) p))
+    (λ j s p. mapped_is (λ (x : ℤ). truth (is_zero x)) (constant_value e) j.value p))
 number_is (t.Binary operator a e f span) role w k =
     let u : Within = into role (t.Binary operator a e f span) w in
     let q : Within = past Plain (n.expression e) u in
@@ -98,8 +162,7 @@ number_is (t.Binary operator a e f span) role w k =
     (λ s. given_then (IsNumber e) (IsNumber (t.Binary operator a e f span)) (value (value_of e Plain u) s) (λ x s. after (value (value_of f Plain q) s) (λ y s. with_result (operated operator a x y) gives s)) (value_gives (IsNumber e) (value_of e Plain u) (number_is e Plain u (both_left (is_constant e) (is_constant f) k)) s)
     (λ x s p. given_then (IsNumber f) (IsNumber (t.Binary operator a e f span)) (value (value_of f Plain q) s) (λ y s. with_result (operated operator a x y) gives s) (value_gives (IsNumber f) (value_of f Plain q) (number_is f Plain q (both_right (is_constant e) (is_constant f) k)) s)
     (λ y s o. result_gives (IsNumber (t.Binary operator a e f span)) (operated operator a x y)
-    (λ z r. ap (λ (i : Option ℤ). on_number i (λ x. on_number (c.value_of f) (λ y. number (operated operator a x y)))) p
-    ∙ (ap (λ (i : Option ℤ). on_number i (λ y. number (operated operator a x y))) o ∙ ap number r)) s)))
+    (λ z r. binary_is operator a (constant_value e) (constant_value f) x y z p o r) s)))
 number_is (t.Logic operator e f span) role w k =
     let r : Role = operand_role role (n.expression (t.Logic operator e f span)) in
     let u : Within = into role (t.Logic operator e f span) w in
@@ -117,9 +180,9 @@ number_is (t.Choice e f g a span) role w k =
     (λ s. given_then (IsNumber e) (IsNumber (t.Choice e f g a span)) (value (value_of e Test u) s) (λ x s. where_true (is_true x) (value (value_of f Plain q)) (value (value_of g Plain y)) s) (value_gives (IsNumber e) (value_of e Test u) (number_is e Test u (both_left (is_constant e) (is_constant f) kf)) s)
     (λ x s p. where_gives (IsNumber (t.Choice e f g a span)) (is_true x) (value (value_of f Plain q)) (value (value_of g Plain y))
     (λ b s. any_value (IsNumber f) (value (value_of f Plain q) s).out (value_gives (IsNumber f) (value_of f Plain q) (number_is f Plain q (both_right (is_constant e) (is_constant f) kf)) s)
-    (λ z o. ap (λ (i : Option ℤ). on_number i (λ x. choice_value (is_true x) (c.value_of f) (c.value_of g))) p ∙ (ap (λ (d : Bool). choice_value d (c.value_of f) (c.value_of g)) b ∙ o)))
+    (λ z o. chosen_is (constant_value e) (constant_value f) (constant_value g) x z p b o))
     (λ b s. any_value (IsNumber g) (value (value_of g Plain y) s).out (value_gives (IsNumber g) (value_of g Plain y) (number_is g Plain y (both_right (is_constant e && is_constant f) (is_constant g) k)) s)
-    (λ z o. ap (λ (i : Option ℤ). on_number i (λ x. choice_value (is_true x) (c.value_of f) (c.value_of g))) p ∙ (ap (λ (d : Bool). choice_value d (c.value_of f) (c.value_of g)) b ∙ o))) s))
+    (λ z o. other_is (constant_value e) (constant_value f) (constant_value g) x z p b o)) s))
   where
     any_value : (P : ℤ → Type 0) {Q : ℤ → Type 0} (o : Out Store ℤ) → IsGiven P o → ((z : ℤ) → P z → Q z) → IsGiven Q o
     any_value P (Gave z s) h k = k z h
@@ -132,5 +195,5 @@ number_is (t.Input span) role w k = no_root k
 pub always_true : (test : Option Expression) (w : Within) → is_always test ≡ true → Gives (λ b. b ≡ true) (loop_test test w)
 always_true None w k s = refl
 always_true (Some e) w k s =
-    given_then (IsNumber e) (λ b. b ≡ true) (value (value_of e Test w) s) (λ x s. gives (is_true x) s) (value_gives (IsNumber e) (value_of e Test w) (number_is e Test w (both_left (is_constant e) (is_nonzero (c.value_of e)) k)) s)
-    (λ x s p. sym (ap is_nonzero p) ∙ both_right (is_constant e) (is_nonzero (c.value_of e)) k)
+    given_then (IsNumber e) (λ b. b ≡ true) (value (value_of e Test w) s) (λ x s. gives (is_true x) s) (value_gives (IsNumber e) (value_of e Test w) (number_is e Test w (both_left (is_constant e) (is_nonzero (constant_value e)) k)) s)
+    (λ x s p. nonzero_is (constant_value e) x p (both_right (is_constant e) (is_nonzero (constant_value e)) k))

@@ -12,6 +12,7 @@ use Rattle.mc_typed.specs.Tree as t
 use Rattle.mc_typed.specs.Frames.{slots, slots_argument, slots_arguments}
 use Rattle.mc_typed.specs.Sound.{structure_result, result_at, IsSlotOf, IsExpression, IsStructureType, IsArgument, AreArguments, Takes, type_of}
 use Rattle.mc_faults.specs.declared.fault.FaultKind.TheVariants.{Mismatch, NoBody}
+use Rattle.mc_limits.specs.Limits.{most_frame_cells}
 use Rattle.mc_typing.specs.Profile.{start_at}
 use Rattle.mc_typing.specs.Types.{Base, Void, Integer, Tagged, CType, plain, Structure, is_complete, layout_of_base, arrays_of, layout_of, same_base, same_lengths, same_unqualified, ParameterKind, ByValue, ByArray, Signature}
 use Rattle.mc_typing.specs.Scopes.{Function, Scope, place_from, function_number, is_input, is_output, is_external, next_slot, with_object, with_counted}
@@ -68,7 +69,7 @@ same_layout all u v h =
 pub next_there : (w : World) (s : Scope) (u : ObjectType) → Ends w (with_object u s)
     → IsSlotOf w.scope.objects (next_slot s) u
 next_there w s u e =
-    let o : Object = record { object_type = u; cells = cells u; start = start_at s.frame } in
+    let o : Object = record { object_type = u; cells = cells u; start = start_at most_frame_cells s.frame } in
     let here : slice_get w.scope.objects (length s.objects) ≡ Some o =
     get_begun Object (s.objects ++ (o ∷ [])) w.scope.objects (length s.objects) o e.objects
     (get_next s.objects o []) in

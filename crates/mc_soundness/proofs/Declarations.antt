@@ -12,7 +12,9 @@ use Rattle.mc_typed.proofs.CellTypes.{length_scalars}
 use Rattle.mc_faults.specs.declared.fault.Fault.{Fault}
 use Rattle.mc_faults.specs.declared.fault.FaultKind.TheVariants.{Mismatch, Limit}
 use Rattle.mc_faults.specs.Faults.{unless_faulty}
-use Rattle.mc_typing.specs.Profile.{most_cells, most_nesting, most_lengths, start_at}
+use Rattle.mc_limits.specs.Limits.{most_frame_cells, most_nesting, most_static_cells}
+use Rattle.mc_value.specs.ObjectTypes.{most_cells}
+use Rattle.mc_typing.specs.Profile.{most_lengths, start_at}
 use Rattle.mc_typing.specs.Types.{CType, Structure, Incomplete, Complete, Faulty, is_complete, layout_of}
 use Rattle.mc_typing.specs.Scopes.{Entry, Meaning, Automatic, Stored, Borrowed, Constant, Function, Typedef, Scope, with_name, with_counted, cells_counted, with_object, with_static, next_slot, next_static}
 use Rattle.mc_typing.specs.Values.{Judged, lift3}
@@ -186,7 +188,7 @@ optional_well w static u (Some i) s fit k ends h =
 object_there : (w : World) (s : Scope) (u : ObjectType) → Ends w (with_object u s)
     → cells_at w.scope.objects (length s.objects) ≡ Some (cells u)
 object_there w s u e =
-    let o : Object = record { object_type = u; cells = cells u; start = start_at s.frame } in
+    let o : Object = record { object_type = u; cells = cells u; start = start_at most_frame_cells s.frame } in
     ap (option_map (λ x. x.cells))
     (get_begun Object (s.objects ++ (o ∷ [])) w.scope.objects (length s.objects) o e.objects
     (get_next s.objects o []))
@@ -294,7 +296,7 @@ static_there : (w : World) (s t : Scope) (u : ObjectType) (vs : List ℤ) → t.
     → t.static_cells ≡ s.static_cells → Ends w (with_static u vs t)
     → IsSlotOf w.scope.statics (next_static s) u
 static_there w s t u vs same cells_same e =
-    let o : Object = record { object_type = u; cells = cells u; start = start_at t.static_cells } in
+    let o : Object = record { object_type = u; cells = cells u; start = start_at most_static_cells t.static_cells } in
     let os = map (λ x. x.object) t.statics in
     let last : Begins Object (os ++ (o ∷ [])) w.scope.statics =
     subst (λ l. Begins Object l w.scope.statics) (map-append (λ x. x.object) t.statics (record { object = o; initial = vs } ∷ [])) e.statics in
@@ -302,7 +304,7 @@ static_there w s t u vs same cells_same e =
     let here : slice_get w.scope.statics (length s.statics) ≡ Some o =
     ap (slice_get w.scope.statics) (sym count)
     ∙ get_begun Object (os ++ (o ∷ [])) w.scope.statics (length os) o last (get_next os o []) in (
-      ap (option_map (λ x. x.start)) here ∙ ap (λ n. Some (start_at n)) cells_same,
+      ap (option_map (λ x. x.start)) here ∙ ap (λ n. Some (start_at most_static_cells n)) cells_same,
       ap (option_map (λ x. x.object_type)) here,
     )
 
@@ -372,10 +374,10 @@ structures_move w os all fit k x h = by_structure x (fit k x h)
     by_structure (Complete ms) f = record { types = f.types; formed = f.formed; small = f.small; flat = f.flat }
     by_structure Faulty f = f
 
-laid_move : (w : World) (os : List Object) (n : ℕ) (xs : List Object) → AreLaid w n xs
-    → AreLaid (with_object_at w os) n xs
-laid_move w os n [] h = tt
-laid_move w os n (x ∷ xs) h = (h.0, h.1, h.2, laid_move w os (n + x.cells) xs h.3)
+laid_move : (most : ℕ) (w : World) (os : List Object) (n : ℕ) (xs : List Object) → AreLaid most w n xs
+    → AreLaid most (with_object_at w os) n xs
+laid_move most w os n [] h = tt
+laid_move most w os n (x ∷ xs) h = (h.0, h.1, h.2, laid_move most w os (n + x.cells) xs h.3)
 
 fits_move : (w : World) (os : List Object) (s : Scope) (n : ℕ)
     → ((k : ℕ) → k < n → slice_get os k ≡ slice_get w.scope.statics k) → AreBelow n s.names → Fits w s
@@ -383,10 +385,10 @@ fits_move : (w : World) (os : List Object) (s : Scope) (n : ℕ)
 fits_move w os s n same below fit = record {
   names = names_move w os n s.structures s.names same below fit.names;
   structures = structures_move w os s.structures fit.structures;
-  laid = laid_move w os 0 s.objects fit.laid;
+  laid = laid_move most_frame_cells w os 0 s.objects fit.laid;
   frame = fit.frame;
   statics = record {
-    laid = laid_move w os 0 (map (λ o. o.object) s.statics) fit.statics.laid;
+    laid = laid_move most_static_cells w os 0 (map (λ o. o.object) s.statics) fit.statics.laid;
     cells = fit.statics.cells;
     room = fit.statics.room;
     initial = fit.statics.initial;
@@ -406,7 +408,7 @@ static_value_there w s name u value fit below complete ends none =
     let x = judge_optional_initializer true (Some u) value named in
     let g = optional_grows true (Some u) value named in
     let l = layout_of s.structures u in
-    let o : Object = record { object_type = l; cells = cells l; start = start_at s.static_cells } in
+    let o : Object = record { object_type = l; cells = cells l; start = start_at most_static_cells s.static_cells } in
     let old = map (λ z. z.object) s.statics in
     let os = old ++ (o ∷ []) in
     let v = with_object_at w os in
@@ -460,7 +462,7 @@ static_at w s name u value i fit below complete object none is sum ends =
     let o = optional_well w true u value named fit_named complete ends_x none in
     let v = o.values refl in
     let value_same : o.value ≡ i = some_same o.value i (sym o.is ∙ is) in
-    let room = fits_in x.scope.static_cells (cells l) o.fits.statics.room (no_fault _ Limit name.span.start sum) in
+    let room = fits_in most_static_cells x.scope.static_cells (cells l) o.fits.statics.room (no_fault _ Limit name.span.start sum) in
     record {
       declared = [];
       is = refl;

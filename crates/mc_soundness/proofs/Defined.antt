@@ -13,7 +13,8 @@ use Rattle.mc_typed.specs.Frames.{slots_statements}
 use Rattle.mc_typed.specs.Sound.{AreStatements, AreLaidOut, AreObjectTypes, AreParameters, IsResult, slots_from, scope_of, IsFunction}
 use Rattle.mc_typed.specs.Sound as sound
 use Rattle.mc_faults.specs.declared.fault.FaultKind.TheVariants.{Limit}
-use Rattle.mc_typing.specs.Profile.{most_cells, start_at}
+use Rattle.mc_limits.specs.Limits.{most_frame_cells, most_static_cells}
+use Rattle.mc_typing.specs.Profile.{start_at}
 use Rattle.mc_typing.specs.Types.{Base, Void, Integer, Tagged, plain, Structure, Incomplete, Complete, Faulty, is_complete, layout_of, structures_from, ParameterKind, ByValue, ByArray, Signature}
 use Rattle.mc_typing.specs.Scopes.{Entry, Scope, prototype, body_scope, left_function}
 use Rattle.mc_typing.specs.Values.{Judged}
@@ -187,10 +188,10 @@ structures_back w os us r all fit k x h = by_structure x (fit k x h)
     by_structure (Complete ms) f = record { types = f.types; formed = f.formed; small = f.small; flat = f.flat }
     by_structure Faulty f = f
 
-laid_back : (w : World) (os : List Object) (us : List ObjectType) (r : ResultType) (n : ℕ) (xs : List Object)
-    → AreLaid (located w os us r) n xs → AreLaid w n xs
-laid_back w os us r n [] h = tt
-laid_back w os us r n (x ∷ xs) h = (h.0, h.1, h.2, laid_back w os us r (n + x.cells) xs h.3)
+laid_back : (most : ℕ) (w : World) (os : List Object) (us : List ObjectType) (r : ResultType) (n : ℕ)
+    (xs : List Object) → AreLaid most (located w os us r) n xs → AreLaid most w n xs
+laid_back most w os us r n [] h = tt
+laid_back most w os us r n (x ∷ xs) h = (h.0, h.1, h.2, laid_back most w os us r (n + x.cells) xs h.3)
 
 -- ---- after a definition
 
@@ -239,7 +240,7 @@ definition_stands name g parameters body s none st stf y_nil z_nil =
             laid = tt;
             frame = refl;
             statics = record {
-              laid = laid_back w z.scope.objects us r 0 (map (λ o. o.object) z.scope.statics) fit.statics.laid;
+              laid = laid_back most_static_cells w z.scope.objects us r 0 (map (λ o. o.object) z.scope.statics) fit.statics.laid;
               cells = fit.statics.cells;
               room = fit.statics.room;
               initial = fit.statics.initial;
@@ -346,10 +347,10 @@ somes_same (x ∷ xs) (y ∷ ys) h =
     some_same : Some x ≡ Some y → x ≡ y
     some_same h = cc
 
-start_small : (n : ℕ) → n ≤ 65536 → start_at n ≡ n
+start_small : (n : ℕ) → n ≤ 65536 → start_at 65536 n ≡ n
 start_small n h = grind (arith, h)
 
-pub laid_out : (w : World) (n : ℕ) (os : List Object) → AreLaid w n os → n + total os ≤ 65536
+pub laid_out : (w : World) (n : ℕ) (os : List Object) → AreLaid 65536 w n os → n + total os ≤ 65536
     → AreLaidOut (objects_of w) n os
 laid_out w n [] h small = tt
 laid_out w n (o ∷ os) h small =
@@ -376,10 +377,10 @@ slots_after xs ys =
     zero_plus : (n : ℕ) → 0 + n ≡ n
     zero_plus n = omega arith
 
-frame_small : (n at : ℕ) → frame_faults n at ≡ [] → n ≤ 65536
-frame_small n at h = within (no_fault (nat_lt most_cells n) Limit at h)
+frame_small : (n at : ℕ) → frame_faults n at ≡ [] → n ≤ most_frame_cells
+frame_small n at h = within (no_fault (nat_lt most_frame_cells n) Limit at h)
   where
-    within : nat_lt most_cells n ≡ false → n ≤ 65536
+    within : nat_lt most_frame_cells n ≡ false → n ≤ most_frame_cells
     within h = grind (arith, h)
 
 count_small : (n at : ℕ) → parameter_count_faults n at ≡ [] → n ≤ 16

@@ -8,6 +8,7 @@ use Rattle.mc_typed.specs.Layout.{ObjectType, cells, scalars, members_from}
 use Rattle.mc_typed.specs.Layout as layout
 use Rattle.mc_typed.specs.Tree.{Object, StaticObject}
 use Rattle.mc_typed.specs.Sound.{IsSlotOf, IsObjectType, AreInRange, AreInitial, slots_from}
+use Rattle.mc_limits.specs.Limits.{most_frame_cells, most_static_cells}
 use Rattle.mc_typing.specs.Profile.{start_at}
 use Rattle.mc_typing.specs.Types.{Base, Void, Integer, Tagged, CType, plain, Member, Structure, Incomplete, Complete, Faulty, members_of, is_complete_structure, is_complete, layout_of_base, arrays_of, layout_of, structure_from, structures_from}
 use Rattle.mc_typing.specs.Scopes.{Entry, Meaning, Automatic, Constant, Function, Typedef, Scope, TagMeaning, later_or, named, with_name, with_tag, with_structure, with_structure_at, with_object, with_static}
@@ -193,12 +194,13 @@ fits_structure_at w s n new fit c fits =
 
 -- ---- objects
 
-laid_append : (w : World) (n : ℕ) (os : List Object) (o : Object) → AreLaid w n os
-    → AreLaid w (n + total os) (o ∷ []) → AreLaid w n (os ++ (o ∷ []))
-laid_append w n [] o h k = let e : n + 0 ≡ n = omega arith in subst (λ m. AreLaid w m (o ∷ [])) e k
-laid_append w n (x ∷ os) o h k =
+laid_append : (most : ℕ) (w : World) (n : ℕ) (os : List Object) (o : Object) → AreLaid most w n os
+    → AreLaid most w (n + total os) (o ∷ []) → AreLaid most w n (os ++ (o ∷ []))
+laid_append most w n [] o h k =
+    let e : n + 0 ≡ n = omega arith in subst (λ m. AreLaid most w m (o ∷ [])) e k
+laid_append most w n (x ∷ os) o h k =
     let e : n + (x.cells + total os) ≡ n + x.cells + total os = omega arith in
-    (h.0, h.1, h.2, laid_append w (n + x.cells) os o h.3 (subst (λ m. AreLaid w m (o ∷ [])) e k))
+    (h.0, h.1, h.2, laid_append most w (n + x.cells) os o h.3 (subst (λ m. AreLaid most w m (o ∷ [])) e k))
 
 total_append : (os : List Object) (o : Object) → total (os ++ (o ∷ [])) ≡ total os + o.cells
 total_append [] o = omega arith
@@ -207,13 +209,13 @@ total_append (x ∷ os) o = let below = total_append os o in omega (arith, below
 pub fits_object : (w : World) (s : Scope) (u : ObjectType) → Fits w s
     → IsObjectType (objects_of w) u → Fits w (with_object u s)
 fits_object w s u fit h =
-    let o : Object = record { object_type = u; cells = cells u; start = start_at s.frame } in
-    let start : o.start ≡ start_at (0 + total s.objects) =
-    ap start_at (fit.frame ∙ zero_plus (total s.objects)) in
+    let o : Object = record { object_type = u; cells = cells u; start = start_at most_frame_cells s.frame } in
+    let start : o.start ≡ start_at most_frame_cells (0 + total s.objects) =
+    ap (start_at most_frame_cells) (fit.frame ∙ zero_plus (total s.objects)) in
     record {
       names = fit.names;
       structures = fit.structures;
-      laid = laid_append w 0 s.objects o fit.laid (h, refl, start, tt);
+      laid = laid_append most_frame_cells w 0 s.objects o fit.laid (h, refl, start, tt);
       frame = ap (λ n. n + cells u) fit.frame ∙ sym (total_append s.objects o);
       statics = fit.statics;
       bodies = fit.bodies;
@@ -237,20 +239,20 @@ pub fits_static : (w : World) (s : Scope) (u : ObjectType) (vs : List ℤ) → F
     → Fits w (with_static u vs s)
 fits_static w s u vs fit h room values =
     let o : StaticObject = record {
-      object = record { object_type = u; cells = cells u; start = start_at s.static_cells };
+      object = record { object_type = u; cells = cells u; start = start_at most_static_cells s.static_cells };
       initial = vs;
     } in
     let os = map (λ o. o.object) s.statics in
-    let start : start_at s.static_cells ≡ start_at (0 + total os) =
-    ap start_at (fit.statics.cells ∙ zero_plus (total os)) in
+    let start : start_at most_static_cells s.static_cells ≡ start_at most_static_cells (0 + total os) =
+    ap (start_at most_static_cells) (fit.statics.cells ∙ zero_plus (total os)) in
     record {
       names = fit.names;
       structures = fit.structures;
       laid = fit.laid;
       frame = fit.frame;
       statics = record {
-        laid = subst (AreLaid w 0) (sym (map_last s.statics o))
-            (laid_append w 0 os o.object fit.statics.laid (h, refl, start, tt));
+        laid = subst (AreLaid most_static_cells w 0) (sym (map_last s.statics o))
+            (laid_append most_static_cells w 0 os o.object fit.statics.laid (h, refl, start, tt));
         cells = ap (λ n. n + cells u) fit.statics.cells ∙ sym (total_append os o.object)
             ∙ ap total (sym (map_last s.statics o));
         room = room;
@@ -321,7 +323,7 @@ made_two s t u l m p q = (
 pub made_object : (s : Scope) (u : ObjectType)
     → Made s (with_object u s) (scope.next_slot s ∷ [])
 made_object s u =
-    (record { object_type = u; cells = cells u; start = start_at s.frame } ∷ [], refl, refl)
+    (record { object_type = u; cells = cells u; start = start_at most_frame_cells s.frame } ∷ [], refl, refl)
 
 -- ---- what the program has
 

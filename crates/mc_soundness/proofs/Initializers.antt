@@ -15,7 +15,8 @@ use Rattle.mc_faults.specs.Faults.{fault, fault_if}
 use Rattle.mc_typing.specs.Types.{Base, Void, Integer, Tagged, CType, plain, Member, Structure, Complete, members_of, is_complete, layout_of}
 use Rattle.mc_typing.specs.Scopes.{Scope}
 use Rattle.mc_typing.specs.Values.{Judged, judged, judged_one, part, Found, kind_found, is_integer, fails, number_in, number_found}
-use Rattle.mc_typing.specs.Constants.{constant_value, value_of_constant, constant_found, is_zero_constant}
+use Rattle.mc_typed.specs.Constants.{constant_value}
+use Rattle.mc_typing.specs.Constants.{value_of_constant, constant_found, is_zero_constant}
 use Rattle.mc_typing.specs.Expressions.{convert_to, layouts_of}
 use Rattle.mc_typing.specs.Initializers.{Target, ScalarTarget, ArrayTarget, StructureTarget, target_of_base, target_of_object, target_of, Parts, Elements, Members, NoParts, parts_of, first_part, later_parts, is_kind, item_faults, static_faults, cells_of, scalar_value, item_value, count_of, count_faults, only_item, list_value, zero_value, is_zero, zero_judged, list_judged, braced_judged, only_expression, items_judged, judge_initializer, judge_items, values_of, values_of_items}
 use Rattle.mc_typing.specs.Judgement.{judge}

@@ -6,7 +6,9 @@ use Rattle.mc_typed.specs.Layout.{ObjectType, cells, cells_all, nesting, nesting
 use Rattle.mc_typed.specs.Sound.{IsFormed, AreFormed}
 use Rattle.mc_faults.specs.declared.fault.FaultKind.TheVariants.{Mismatch, Limit, Redeclared}
 use Rattle.mc_faults.specs.Faults.{fault_if, unless_faulty}
-use Rattle.mc_typing.specs.Profile.{most_nesting, most_lengths}
+use Rattle.mc_limits.specs.Limits.{most_nesting}
+use Rattle.mc_value.specs.ObjectTypes.{most_cells}
+use Rattle.mc_typing.specs.Profile.{most_lengths}
 use Rattle.mc_typing.specs.Types.{Base, Void, Integer, Tagged, CType, plain, Member, Structure, Incomplete, Complete, Faulty, is_complete, layout_of_base, arrays_of, layout_of}
 use Rattle.mc_typing.specs.Scopes.{TagMeaning, StructureTag, EnumerationTag, Scope, tag_here, with_tag, with_structure, with_structure_at}
 use Rattle.mc_typing.specs.Values.{Judged, lift3}
@@ -75,8 +77,9 @@ members_append : (all : List Structure) (ms : List Member) (m : Member) → Memb
 members_append all [] m h k = k
 members_append all (x ∷ ms) m h k = (h.0, members_append all ms m h.1 k)
 
-pub fits_in : (before more : ℕ) → before ≤ 65536 → is_passed_with before more ≡ false → before + more ≤ 65536
-fits_in before more h k = grind (arith, h, k)
+pub fits_in : (most before more : ℕ) → before ≤ most → is_passed_with most before more ≡ false
+    → before + more ≤ most
+fits_in most before more h k = grind (arith, h, k)
 
 flat_enough : (n : ℕ) → nat_lt most_nesting (n + 1) ≡ false → n ≤ 199
 flat_enough n h = grind (arith, h)
@@ -93,10 +96,10 @@ list_more w all ms name u fit c list h p small =
     map-append (λ m. m.layout) ms (m ∷ []) in
     let n = cells_all (members_from us) in
     let room : n + cells (layout_of all u) ≤ 65536 =
-    fits_in n (cells (layout_of all u)) list.small
-    (or_left (is_passed_with n (cells (layout_of all u))) _ small) in
+    fits_in most_cells n (cells (layout_of all u)) list.small
+    (or_left (is_passed_with most_cells n (cells (layout_of all u))) _ small) in
     let flat : nesting (layout_of all u) ≤ 199 =
-    flat_enough (nesting (layout_of all u)) (or_right (is_passed_with n (cells (layout_of all u))) _ small) in
+    flat_enough (nesting (layout_of all u)) (or_right (is_passed_with most_cells n (cells (layout_of all u))) _ small) in
     record {
       types = members_append all ms m list.types ((u, refl, refl, h), tt);
       formed = subst (λ l. AreFormed (objects_of w) (members_from l)) (sym e)

@@ -10,6 +10,7 @@ use Rattle.mc_typed.specs.Sound.{IsSlotOf, IsObjectType, AreObjectTypes}
 use Rattle.mc_typed.specs.Sound as sound
 use Rattle.mc_faults.specs.declared.fault.FaultKind.TheVariants.{Mismatch}
 use Rattle.mc_faults.specs.Faults.{fault_if, unless_faulty}
+use Rattle.mc_limits.specs.Limits.{most_frame_cells}
 use Rattle.mc_typing.specs.Profile.{start_at}
 use Rattle.mc_typing.specs.Types.{Base, Void, Integer, Tagged, CType, plain, Structure, is_complete, layout_of_base, arrays_of, layout_of, ParameterKind, ByValue, ByArray}
 use Rattle.mc_typing.specs.Scopes.{Entry, Meaning, Automatic, Borrowed, Scope, next_slot, with_name, with_object, with_array, with_objects_of}
@@ -125,7 +126,7 @@ parameter_value w None u s fit below e complete c ends =
       are = refl;
       complete = (complete, tt);
       objects = (
-        record { object_type = l; cells = cells l; start = start_at s.frame } ∷ [],
+        record { object_type = l; cells = cells l; start = start_at most_frame_cells s.frame } ∷ [],
         refl,
         ap (λ z. z ∷ []) same ∙ kept_base w s u.base c complete,
       );
@@ -148,7 +149,7 @@ parameter_value w (Some name) u s fit below e complete c ends =
       are = refl;
       complete = (complete, tt);
       objects = (
-        record { object_type = l; cells = cells l; start = start_at s.frame } ∷ [],
+        record { object_type = l; cells = cells l; start = start_at most_frame_cells s.frame } ∷ [],
         refl,
         ap (λ z. z ∷ []) same ∙ kept_base w s u.base c complete,
       );

@@ -13,7 +13,8 @@ use Rattle.mc_typing.specs.Types.{Base, Void, Integer, Tagged, CType, Structure}
 use Rattle.mc_typing.specs.Scopes.{Automatic, Scope, next_slot, next_static, with_name, with_counted}
 use Rattle.mc_typing.specs.Scopes as scope
 use Rattle.mc_typing.specs.Values.{Judged, Value, Found, number_in, structure_in, number_found}
-use Rattle.mc_typing.specs.Constants.{constant_value, value_of_constant, is_zero_constant}
+use Rattle.mc_typed.specs.Constants.{constant_value}
+use Rattle.mc_typing.specs.Constants.{value_of_constant, is_zero_constant}
 use Rattle.mc_typing.specs.Expressions.{convert_to}
 use Rattle.mc_typing.specs.Declarators.{declared_type}
 use Rattle.mc_typing.specs.Judgement.{typed_by, judge, judge_specifiers, judge_lengths}

@@ -1,6 +1,6 @@
 -- Specifiers, enumerators, lengths and members: what is found of them is well where their parts are
 -- and they have no fault of their own.
-use Rattle.std.proofs.Common.{◌≡◌, ℕ, zero, suc, ◌≤◌, ℤ, pos, negsuc, ◌+ℤ◌, Bool, true, false, not, ◌||◌, if◌then◌else◌, List, [], ◌∷◌, ◌++◌, length, slice_get, Option, Some, None, option_map, option_and_then, is_some, is_none, refl, ap, sym, ◌∙◌, subst, arith}
+use Rattle.std.proofs.Common.{◌≡◌, ℕ, zero, suc, ◌≤◌, ℤ, pos, negsuc, ◌+ℤ◌, Bool, true, false, not, ◌||◌, if◌then◌else◌, min, List, [], ◌∷◌, ◌++◌, length, slice_get, Option, Some, None, option_map, option_and_then, is_some, is_none, refl, ap, sym, ◌∙◌, subst, arith}
 use Rattle.mc_span.specs.declared.span.Span.{Span}
 use Rattle.mc_tree.specs.Tree.{Name, Specifiers}
 use Rattle.mc_value.specs.declared.int_type.IntType.TheVariants as the
@@ -11,7 +11,9 @@ use Rattle.mc_tree.specs.declared.declarations.specifier_word.SpecifierWord.TheV
 use Rattle.mc_typing.specs.Scopes.{Meaning, Automatic, Borrowed, Constant, Function, Typedef, TagMeaning, StructureTag, EnumerationTag, Scope, meaning_of, tag_of, tag_here, with_name, with_tag, with_structure, with_structure_at}
 use Rattle.mc_typing.specs.Scopes as scope
 use Rattle.mc_typing.specs.Values.{Judged, judged, Found, number_found, number_in}
-use Rattle.mc_typing.specs.Constants.{constant_value, value_of_constant, constant_found, traps, constant_faults}
+use Rattle.mc_typed.specs.Constants.{constant_value}
+use Rattle.mc_typing.specs.Profile.{most_kept}
+use Rattle.mc_typing.specs.Constants.{value_of_constant, constant_found, traps, constant_faults}
 use Rattle.mc_typing.specs.Declarators.{used_type, typedef_type, structure_type, declared_tag, used_structure_tag, structure_tag, used_enumeration_tag, fits_int, in_int, enumerator_judged, valued_enumerator_judged, redeclared_faults, misnamed_faults, length_of, is_no_length, length_faults, lengths_judged}
 use Rattle.mc_typing.specs.Judgement.{typed_by, one_of, specifiers_judged}
 use Rattle.mc_soundness.specs.Fits.{World, Completes, ArePositive, StructuresFit, MeaningFits, Fits, IsWell, IsTyped, AreTyped, AreCounted, AreLengths}
@@ -244,5 +246,5 @@ length_well w s at x y wx wy h =
   where
     known : (v : ℤ) → is_no_length (Some v) ≡ false → (n : ℕ) × (length_of v ≡ Some n) × (1 ≤ n)
     known (pos zero) q = absurd (cc)
-    known (pos (suc n)) q = (suc n, refl, omega arith)
+    known (pos (suc n)) q = (min (suc n) most_kept, refl, omega arith)
     known (negsuc n) q = absurd (cc)

@@ -12,6 +12,8 @@ use Rattle.mc_typed.specs.Tree as t
 use Rattle.mc_typed.specs.Frames.{slots_place, slots, slots_call, slots_arguments, slots_effect, slots_initializer, slots_initializers, slots_declarators, slots_statements}
 use Rattle.mc_typed.specs.Sound.{IsSlotOf, place_type, structure_type, IsPlace, IsExpression, IsStructureCall, IsEffect, IsCast, AreArguments, IsInitializer, AreElements, AreMembers, AreDeclarators, AreStatements, labels_of, AreInRange, AreInitial, AreFormed, IsObjectType, parameters_at, result_at, AreObjectTypes, slots_from}
 use Rattle.mc_typed.specs.Sound as sound
+use Rattle.mc_limits.specs.Limits.{most_frame_cells, most_static_cells}
+use Rattle.mc_value.specs.ObjectTypes.{most_cells}
 use Rattle.mc_typing.specs.Profile.{start_at}
 use Rattle.mc_typing.specs.Types.{Base, Tagged, CType, plain, Member, Structure, Incomplete, Complete, Faulty, is_complete, layout_of, structures_from, ParameterKind, ByValue, ByArray, Signature}
 use Rattle.mc_typing.specs.Scopes.{Entry, Labels, Meaning, Automatic, Constant, Function, Typedef, Scope, file_scope, place_from, is_input, is_output}
@@ -61,7 +63,7 @@ MembersFit all (m ∷ ms) = MemberFits all m × MembersFit all ms
 pub record ListFits (w : World) (all : List Structure) (ms : List Member) : Type 0 where
   pub types : MembersFit all ms
   pub formed : AreFormed (objects_of w) (members_from (map (λ m. m.layout) ms))
-  pub small : cells_all (members_from (map (λ m. m.layout) ms)) ≤ 65536
+  pub small : cells_all (members_from (map (λ m. m.layout) ms)) ≤ most_cells
   pub flat : nesting_all (members_from (map (λ m. m.layout) ms)) ≤ 199
 
 abbrev pub StructureFits : World → List Structure → Structure → Type 0
@@ -107,11 +109,11 @@ NamesFit w all (e ∷ es) = MeaningFits w all e.name e.meaning × NamesFit w all
 -- ---- objects of a function
 
 -- they lie one after the other from a cell on, until the limit is passed
-abbrev pub AreLaid : World → ℕ → List Object → Type 0
-AreLaid w n [] = Unit {0}
-AreLaid w n (o ∷ os) =
+abbrev pub AreLaid : ℕ → World → ℕ → List Object → Type 0
+AreLaid most w n [] = Unit {0}
+AreLaid most w n (o ∷ os) =
     IsObjectType (objects_of w) o.object_type × (o.cells ≡ cells o.object_type)
-    × (o.start ≡ start_at n) × AreLaid w (n + o.cells) os
+    × (o.start ≡ start_at most n) × AreLaid most w (n + o.cells) os
 
 abbrev pub total : List Object → ℕ
 total [] = 0
@@ -119,9 +121,9 @@ total (o ∷ os) = o.cells + total os
 
 -- the same of objects with static storage duration, whose values are those of their types
 pub record StaticsFit (w : World) (objects : List StaticObject) (n : ℕ) : Type 0 where
-  pub laid : AreLaid w 0 (map (λ o. o.object) objects)
+  pub laid : AreLaid most_static_cells w 0 (map (λ o. o.object) objects)
   pub cells : n ≡ total (map (λ o. o.object) objects)
-  pub room : n ≤ 65536
+  pub room : n ≤ most_static_cells
   pub initial : AreInitial objects
 
 -- ---- scopes
@@ -129,7 +131,7 @@ pub record StaticsFit (w : World) (objects : List StaticObject) (n : ℕ) : Type
 pub record Fits (w : World) (s : Scope) : Type 0 where
   pub names : NamesFit w s.structures s.names
   pub structures : StructuresFit w s.structures
-  pub laid : AreLaid w 0 s.objects
+  pub laid : AreLaid most_frame_cells w 0 s.objects
   pub frame : s.frame ≡ total s.objects
   pub statics : StaticsFit w s.statics s.static_cells
   pub bodies : s.bodies ≡ w.bodies

@@ -2,7 +2,7 @@
 use Rattle.std.specs.Prelude.{◌≡◌, pos, false, List, [], ◌∷◌, Option, Some, None}
 use Rattle.mc_typed.specs.Tree.{Place, Expression, StructureValue, FunctionCall, Argument, Arguments, Effect, Initializer, Initializers, Declarator, ForStart, ReturnValue, Statement, Statements, Function, Program}
 use Rattle.mc_typed.specs.Tree as t
-use Rattle.mc_typing.specs.Constants.{constant_value}
+use Rattle.mc_typed.specs.Constants.{constant_value}
 
 -- What is compared with 0 is converted only where a cast is written: the rules ask for no
 -- conversion of an operand of `!`, `&&` and `||`, of the first one of `?:`, nor of a controlling

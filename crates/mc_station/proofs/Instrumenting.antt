@@ -3,7 +3,7 @@ use Rattle.std.proofs.Common.{◌≡◌, ◌∙◌, ◌<◌, ◌^◌, List, [], 
 use Rattle.std.specs.Prelude.{All}
 use Rattle.std.proofs.lemmas.List.{length-map}
 use Rattle.std.proofs.lemmas.List.Elements.{All-nil, All-cons}
-use Rattle.mc_core.specs.Shape.{word_count}
+use Rattle.mc_core.specs.declared.shape.Shape.{Shape}
 use Rattle.mc_typed.specs.Plans.{Fits, Plan, plan_of}
 use Rattle.mc_typed.specs.Sound.{IsSound}
 use Rattle.mc_typed.specs.Tree.{Program}
@@ -17,7 +17,7 @@ use Rattle.mc_probe.specs.Table as table
 use Rattle.mc_probe.specs.Trees.{tree_of}
 use Rattle.mc_probe.proofs.ErasedPrograms.{programs_erase}
 use Rattle.mc_runner.specs.Laws.{IsReady}
-use Rattle.mc_station.specs.Tests.{words_needed}
+use Rattle.mc_station.specs.Tests.{shape_of}
 use Rattle.mc_station.specs.Seen.{ArePlanned, IsInstrumented, seen_accepted}
 use Rattle.mc_station.specs.declared.accepted.Accepted.{Accepted}
 
@@ -56,10 +56,10 @@ module _ (a : Accepted) (plans : List TestPlan) (is : IsInstrumented a) (planned
   pub bits_are : a.tree.bits ≡ a.map.bits
   bits_are = ap (λ t. t.bits) is.tree.is_tree
 
-  -- the matrix is as large as is needed
-  pub words_are : word_count (record { bits = a.tree.bits; tests = length plans }) ≡ words_needed (seen_accepted a) (seen_plans plans)
-  words_are = λ i. word_count (record { bits = bits_are i; tests = sym (length-map plans plan_of) i })
+  -- the shape of the bits of the tree under the tests
+  pub shape_is : shape_of (seen_accepted a) (seen_plans plans) ≡ record { bits = a.tree.bits; tests = length plans }
+  shape_is = λ i. record { bits = sym bits_are i; tests = length-map plans plan_of i }
 
--- what the matrix of a source and its plans needs
-pub needed_is : (a : Accepted) (plans : List TestPlan) → word_count (record { bits = a.map.bits; tests = length plans }) ≡ words_needed (seen_accepted a) (seen_plans plans)
-needed_is a plans = λ i. word_count (record { bits = a.map.bits; tests = sym (length-map plans plan_of) i })
+-- what is opened for a source and its plans
+pub needed_is : (a : Accepted) (plans : List TestPlan) → record { bits = a.map.bits; tests = length plans } ≡ shape_of (seen_accepted a) (seen_plans plans)
+needed_is a plans = λ i. record { bits = a.map.bits; tests = sym (length-map plans plan_of) i }

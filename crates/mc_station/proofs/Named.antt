@@ -28,7 +28,7 @@ bytes_below (b ∷ bs) all (suc i) = bytes_below bs (both (is_name_byte b) (list
 name_is_text : (name : List ℕ) → is_name name ≡ true → IsUtf8 name
 name_is_text name is = IsUtf8-from_ascii name (bytes_below name (both _ (list_all is_name_byte name) is).1)
 
-names_texts : (ns : List (List ℕ)) → list_all is_name ns ≡ true → All IsUtf8 ns
+pub names_texts : (ns : List (List ℕ)) → list_all is_name ns ≡ true → All IsUtf8 ns
 names_texts [] all = All-nil IsUtf8
 names_texts (n ∷ ns) all =
     let each = both (is_name n) (list_all is_name ns) all in

@@ -5,8 +5,11 @@ use Rattle.std.specs.declared.alloc.AllocError.{AllocError}
 use Rattle.std.proofs.lemmas.List.{length-map}
 use Rattle.sha2.specs.Sha256.{sha256}
 use Rattle.mc_command.specs.Command as command
+use Rattle.mc_command.specs.declared.independence.Independence.{Independence}
 use Rattle.mc_core.specs.Matrix.{MatrixView}
 use Rattle.mc_typed.specs.Plans.{Plan}
+use Rattle.mc_steps.specs.Events.{Event}
+use Rattle.mc_tests.specs.File.{AreNamed}
 use Rattle.mc_typed.specs.Tree.{Program}
 use Rattle.mc_typed.specs.declared.plans.TestState.{TestState}
 use Rattle.mc_meaning.specs.Seen.{Told, told_of}
@@ -29,10 +32,17 @@ use Rattle.mc_report.proofs.Present.{present}
 use Rattle.mc_replies.specs.Reply.{Reply, written}
 use Rattle.mc_replies.specs.Seen.{seen_reply}
 use Rattle.mc_replies.specs.declared.reply.Reply.{Reply as Given}
-use Rattle.mc_station.specs.Tests.{names, results, stands, states, status_where}
-use Rattle.mc_station.specs.commands.Report.{Reports, form_of, mode_of, report}
-use Rattle.mc_station.specs.commands.Vectors.{Lists}
+use Rattle.mc_station.specs.Ran.{AreTold, IsRun, seen_ran}
+use Rattle.mc_station.specs.Tests.{Tested, names, results, stands, states, status_where, tested_of}
+use Rattle.mc_station.specs.commands.Report.{Reports, ReportsOn, form_of, mode_of, report}
+use Rattle.mc_station.specs.commands.Selfload.{Sums, SumsOn}
+use Rattle.mc_station.specs.commands.Vectors.{Lists, ListsOn}
 use Rattle.mc_station.specs.Source.{Accepted}
+use Rattle.mc_station.specs.declared.ran.Ran.{Ran}
+use Rattle.mc_station.proofs.Listing.{also_lists}
+use Rattle.mc_station.proofs.Summing.{also_sums}
+use Rattle.mc_station.proofs.Named.{names_are_texts}
+use Rattle.mc_station.proofs.Reporting.{also_reports}
 
 -- the state stands in what is told of a test
 pub states_told : (rs : List TestResult) (p : Program) (plans : List Plan) → map told_of rs ≡ results p plans → map (λ (r : TestResult). r.state) rs ≡ states p plans
@@ -55,13 +65,29 @@ as_many_results p plans = length-map plans _ ∙ sym (length-map plans _)
 pub names_are_plans : (plans : List Plan) → length (names plans) ≡ length plans
 names_are_plans plans = length-map plans _
 
--- ---- the reply of `report`
+-- ---- what is told of tests that were run
 
-module _ (asked : command.Report) (accepted : Accepted) (plans : List Plan) (js : List Justification) where
+module _ (skipped : List ℕ) (accepted : Accepted) (plans : List Plan) (ran : Ran) (run : IsRun skipped accepted plans ran) where
+  pub told_is : seen_ran ran ≡ tested_of accepted.program plans
+  told_is = λ i. record { names = run.names i; states = run.states i; results = Some (run.results i) }
+
+  -- it belongs to the matrix
+  pub are_told : AreNamed plans → AreTold accepted ran.matrix (seen_ran ran)
+  are_told named =
+      let many : length plans ≡ length ran.names.items = sym (names_are_plans plans) ∙ ap length (sym run.names) in record {
+        shape = run.shape ∙ (λ i. record { bits = accepted.map.bits; tests = many i });
+        states = ap length run.states ∙ as_many_states accepted.program plans ∙ ap length (sym run.names);
+        results = ap length run.results ∙ as_many_results accepted.program plans ∙ ap length (sym run.names);
+        texts = subst (λ (ns : List (List ℕ)). All IsUtf8 ns) (sym run.names) (names_are_texts plans named);
+      }
+
+-- ---- reports
+
+module _ (shown : Event → ℕ → Type 0) (shown_by : Independence) (accepted : Accepted) (tests : Tested) (js : List Justification) where
   -- the parts of a report are those of its definition
-  pub report_is : (made : text.Report) (verdicts : List Verdict) → made.source ≡ accepted.source → made.digest ≡ sha256 accepted.source → made.mode ≡ mode_of asked.mode → made.names ≡ names plans
-      → made.states ≡ states accepted.program plans → made.results ≡ Some (results accepted.program plans) → made.decisions ≡ accepted.map.decisions → made.obligations ≡ obligations_of accepted.map
-      → made.verdicts ≡ verdicts → made ≡ report asked.mode accepted plans verdicts
+  pub report_is : (made : text.Report) (verdicts : List Verdict) → made.source ≡ accepted.source → made.digest ≡ sha256 accepted.source → made.mode ≡ mode_of shown_by → made.names ≡ tests.names
+      → made.states ≡ tests.states → made.results ≡ tests.results → made.decisions ≡ accepted.map.decisions → made.obligations ≡ obligations_of accepted.map
+      → made.verdicts ≡ verdicts → made ≡ report shown_by accepted tests verdicts
   report_is made verdicts source digest mode named state result decisions obligations verdict = λ i. record {
     source = source i;
     digest = digest i;
@@ -74,49 +100,57 @@ module _ (asked : command.Report) (accepted : Accepted) (plans : List Plan) (js 
     verdicts = verdict i;
   }
 
-  reports : (made : text.Report) (verdicts : List Verdict) (reply : Reply) → AreVerdicts (stands accepted plans) accepted.map (mode_of asked.mode) js verdicts → made ≡ report asked.mode accepted plans verdicts
-      → reply ≡ written (status_of made) (lines_in_form (form_of asked.form) made) → Reports asked accepted plans js reply
-  reports made verdicts reply are made_is reply_is = (
-    verdicts,
-    are,
-    reply_is ∙ ap (λ (r : text.Report). written (status_of r) (lines_in_form (form_of asked.form) r)) made_is,
-  )
-
-  -- memory may not suffice for the text
-  pub told_reports : (made : text.Report) (verdicts : List Verdict) (given : Result Given AllocError) → AreVerdicts (stands accepted plans) accepted.map (mode_of asked.mode) js verdicts
-      → made ≡ report asked.mode accepted plans verdicts → IfOk given (λ reply. seen_reply reply ≡ written (status_of made) (lines_in_form (form_of asked.form) made)) → IfOk given (λ reply. Reports asked accepted plans js (seen_reply reply))
-  told_reports made verdicts (Ok reply) are made_is reply_is = reports made verdicts (seen_reply reply) are made_is reply_is
-  told_reports made verdicts (Err e) are made_is reply_is = tt
-
-  -- a report can be written
-  pub can_be_written : (made : text.Report) (verdicts : List Verdict) (matrix : MatrixView) → made ≡ report asked.mode accepted plans verdicts → length accepted.source < 2 ^ 31
-      → matrix.shape.tests ≡ length plans → All (λ (j : Justification). IsUtf8 j.reason) js → AreVerdicts (HasEvent accepted.map matrix) accepted.map (mode_of asked.mode) js verdicts → IsReport made
-  can_be_written made verdicts matrix is short tests texts are =
-      let many : matrix.shape.tests ≡ length (names plans) = tests ∙ sym (names_are_plans plans) in
-      let judged = reported accepted.map matrix (mode_of asked.mode) js verdicts texts are in
-      subst IsReport (sym is) record {
-        short = short;
-        states = as_many_states accepted.program plans;
-        results = as_many_results accepted.program plans;
-        judged = subst (λ (n : ℕ). AreJudged n accepted.map.decisions (obligations_of accepted.map) verdicts) many judged;
-      }
+-- a report can be written
+pub can_be_written : (shown_by : Independence) (accepted : Accepted) (tests : Tested) (js : List Justification) (made : text.Report) (verdicts : List Verdict) (matrix : MatrixView)
+    → made ≡ report shown_by accepted tests verdicts → length accepted.source < 2 ^ 31 → AreTold accepted matrix tests → All (λ (j : Justification). IsUtf8 j.reason) js
+    → AreVerdicts (HasEvent accepted.map matrix) accepted.map (mode_of shown_by) js verdicts → IsReport made
+can_be_written shown_by accepted tests js made verdicts matrix is short told texts are =
+    let judged = reported accepted.map matrix (mode_of shown_by) js verdicts texts are in
+    subst IsReport (sym is) record {
+      short = short;
+      states = told.states;
+      results = told.results;
+      judged = subst (λ (n : ℕ). AreJudged n accepted.map.decisions (obligations_of accepted.map) verdicts) (ap (λ s. s.tests) told.shape) judged;
+    }
 
 -- ---- the reply of `vectors`
 
-module _ (accepted : Accepted) (plans : List Plan) where
-  pub lists : (paths : List EvaluatedPath) (number : ℕ) (made_states : List TestState) (made_names : List (List ℕ)) (made_results : List Told) (lines : List (List ℕ)) (reply : Reply)
-      → AreEvaluated (stands accepted plans) accepted.map paths → made_names ≡ names plans → made_states ≡ states accepted.program plans → made_results ≡ results accepted.program plans
-      → number ≡ status_where made_states → lines ≡ vectors_lines made_names made_states made_results accepted.map.decisions paths → reply ≡ written number lines → Lists accepted plans reply
-  lists paths number made_states made_names made_results lines reply are names_are states_are results_are number_is lines_are reply_is = (
-    paths,
-    are,
-    reply_is ∙ (λ i. written (number_is i) (lines_are i))
-        ∙ (λ i. written (status_where (states_are i)) (vectors_lines (names_are i) (states_are i) (results_are i) accepted.map.decisions paths)),
-  )
+module _ (accepted : Accepted) (names : List (List ℕ)) (states : List TestState) (results : List Told) where
+  pub lists : (shown : Event → ℕ → Type 0) (paths : List EvaluatedPath) (number : ℕ) (lines : List (List ℕ)) (reply : Reply) → AreEvaluated shown accepted.map paths
+      → number ≡ status_where states → lines ≡ vectors_lines names states results accepted.map.decisions paths → reply ≡ written number lines
+      → ListsOn shown accepted names states results reply
+  lists shown paths number lines reply are number_is lines_are reply_is = (paths, are, reply_is ∙ (λ i. written (number_is i) (lines_are i)))
 
   -- each path that is listed is there, and so is its test
-  pub are_present : (paths : List EvaluatedPath) (matrix : MatrixView) → matrix.shape.tests ≡ length plans → AreEvaluated (HasEvent accepted.map matrix) accepted.map paths
-      → All (IsPresent (length (names plans)) accepted.map.decisions) paths
-  are_present paths matrix tests are =
-      let many : matrix.shape.tests ≡ length (names plans) = tests ∙ sym (names_are_plans plans) in
-      subst (λ (n : ℕ). All (IsPresent n accepted.map.decisions) paths) many (present accepted.map matrix paths are)
+  pub are_present : (paths : List EvaluatedPath) (matrix : MatrixView) → matrix.shape.tests ≡ length names → AreEvaluated (HasEvent accepted.map matrix) accepted.map paths
+      → All (IsPresent (length names) accepted.map.decisions) paths
+  are_present paths matrix many are = subst (λ (n : ℕ). All (IsPresent n accepted.map.decisions) paths) many (present accepted.map matrix paths are)
+
+-- ---- what is told by the plain runs
+
+module _ (skipped : List ℕ) (accepted : Accepted) (plans : List Plan) (ran : Ran) (js : List Justification) (run : IsRun skipped accepted plans ran) where
+  -- a report on the matrix of a run
+  pub run_reports : (asked : command.Report) (given : Result Given AllocError) → IfOk given (λ reply. ReportsOn (HasEvent accepted.map ran.matrix) asked accepted (seen_ran ran) js (seen_reply reply))
+      → IfOk given (λ reply. Reports skipped asked accepted plans js (seen_reply reply))
+  run_reports asked (Ok reply) reports =
+      let stood = also_reports (HasEvent accepted.map ran.matrix) asked accepted (seen_ran ran) js (stands skipped accepted plans) (seen_reply reply) run.events reports in
+      subst (λ (tests : Tested). ReportsOn (stands skipped accepted plans) asked accepted tests js (seen_reply reply)) (told_is skipped accepted plans ran run) stood
+  run_reports asked (Err e) reports = tt
+
+  -- and the vectors
+  pub run_lists : (given : Result Given AllocError) → IfOk given (λ reply. ListsOn (HasEvent accepted.map ran.matrix) accepted ran.names.items ran.states.items (map told_of ran.results.items) (seen_reply reply))
+      → IfOk given (λ reply. Lists skipped accepted plans (seen_reply reply))
+  run_lists (Ok reply) lists =
+      let stood = also_lists (HasEvent accepted.map ran.matrix) accepted ran.names.items ran.states.items (map told_of ran.results.items) (stands skipped accepted plans) (seen_reply reply) run.events lists in
+      subst (λ (rs : List Told). ListsOn (stands skipped accepted plans) accepted (names plans) (states accepted.program plans) rs (seen_reply reply)) run.results
+      (subst (λ (ss : List TestState). ListsOn (stands skipped accepted plans) accepted (names plans) ss (map told_of ran.results.items) (seen_reply reply)) run.states
+      (subst (λ (ns : List (List ℕ)). ListsOn (stands skipped accepted plans) accepted ns ran.states.items (map told_of ran.results.items) (seen_reply reply)) run.names stood))
+  run_lists (Err e) lists = tt
+
+-- the summary of a run
+pub run_sums : (skipped : List ℕ) (accepted : Accepted) (plans : List Plan) (ran : Ran) → IsRun skipped accepted plans ran → (count : ℕ) (given : Result Given AllocError)
+    → IfOk given (λ reply. SumsOn (HasEvent accepted.map ran.matrix) count accepted (seen_ran ran) (seen_reply reply)) → IfOk given (λ reply. Sums skipped count accepted plans (seen_reply reply))
+run_sums skipped accepted plans ran run count (Ok reply) sums =
+    let stood = also_sums (HasEvent accepted.map ran.matrix) (stands skipped accepted plans) count accepted (seen_ran ran) (seen_reply reply) run.events sums in
+    subst (λ (tests : Tested). SumsOn (stands skipped accepted plans) count accepted tests (seen_reply reply)) (told_is skipped accepted plans ran run) stood
+run_sums skipped accepted plans ran run count (Err e) sums = tt

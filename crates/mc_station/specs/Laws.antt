@@ -1,7 +1,9 @@
 -- Laws of what calls lead to.
-use Rattle.std.specs.Prelude.{◌≡◌, ◌↔◌, ◌++◌, ℕ, List, None, Some, Option, option_map, take}
+use Rattle.std.specs.Prelude.{◌≡◌, ◌↔◌, ◌++◌, ℕ, List, [], None, Some, Option, option_map, take}
 use Rattle.mc_command.specs.Command.{command_of}
 use Rattle.mc_port.specs.Store.{Request, and_asked}
+use Rattle.mc_typed.specs.Plans.{Plan}
+use Rattle.mc_record.specs.Kept.{Kept}
 use Rattle.mc_replies.specs.Files.{File, request_of}
 use Rattle.mc_replies.specs.Phases.{AreOne, IsSilent}
 use Rattle.mc_replies.specs.Reply.{Reply, cannot_read}
@@ -9,6 +11,9 @@ use Rattle.mc_replies.specs.Status.{IsAfterSource, IsAnswer}
 use Rattle.mc_replies.specs.declared.file.FileKind.TheVariants.{Source}
 use Rattle.mc_replies.specs.declared.status.Status.TheVariants.{CannotRead, NoCommand, SourceRefused}
 use Rattle.mc_station.specs.Calls.{Call, CallsFor, IsKnown, LeadsTo, Requests}
+use Rattle.mc_station.specs.Source.{Accepted}
+use Rattle.mc_station.specs.commands.Merge.{IsJoined}
+use Rattle.mc_station.specs.commands.Record.{IsRecordOf}
 use Rattle.mc_station.specs.Stages.{file_of, first_stage, requests_left}
 
 -- where all that the words ask for is told, they call for at most one reply, but for the place of
@@ -60,3 +65,10 @@ LastIsNamed =
     → r.status ≡ CannotRead
     → (file : File) × (before : Requests)
     × (r ≡ cannot_read file) × (after ≡ and_asked before (request_of file))
+
+-- the record of two records of a source is that of the tests of both, if no test is skipped
+abbrev pub MergedIsOfBoth : Type 0
+MergedIsOfBoth =
+    (accepted : Accepted) (ps qs : List Plan) (left right both : Kept)
+    → IsRecordOf [] accepted ps left → IsRecordOf [] accepted qs right
+    → IsJoined left right both → IsRecordOf [] accepted (ps ++ qs) both

@@ -1,6 +1,7 @@
 -- What words and files call for: the status, the texts, and the files that are asked for.
 pub mod Source
 pub mod Tests
+pub mod Records
 pub mod commands
 pub mod Justified
 pub mod Stages

@@ -1,6 +1,12 @@
 -- What clauses see of accepted sources and of stages.
-use Rattle.std.specs.Prelude.{◌≡◌, ◌≤◌, ◌<◌, ◌^◌, List, length, ⊤}
-use Rattle.mc_command.specs.Seen.{ActionHasFuel, RunHasFuel, seen_action, seen_run}
+use Rattle.std.specs.Prelude.{◌≡◌, ◌≤◌, ◌<◌, ◌^◌, List, length, map, option_map, ⊤}
+use Rattle.sha2.specs.Sha256.{sha256}
+use Rattle.mc_command.specs.Values.{most_functions}
+use Rattle.mc_command.specs.Seen.{ActionIsInRange, IsWithin, RunIsInRange, seen_action, seen_report, seen_run}
+use Rattle.mc_core.specs.Shape.{word_count}
+use Rattle.mc_cover.specs.Model.{IsOf}
+use Rattle.mc_cover.specs.Views.{opener}
+use Rattle.mc_meaning.specs.Seen.{told_of}
 use Rattle.mc_typed.specs.Sound.{IsSound}
 use Rattle.mc_typed.specs.Views.{program_of}
 use Rattle.mc_typed.specs.declared.plans.TestPlan.{TestPlan}
@@ -12,14 +18,20 @@ use Rattle.mc_probe.specs.Table as table
 use Rattle.mc_oblige.specs.Obligations.{obligations_of}
 use Rattle.mc_oblige.specs.declared.justification.Justification.{Justification}
 use Rattle.mc_justify.specs.Returned.{AreFit}
+use Rattle.mc_limits.specs.Limits.{most_words, most_workers}
+use Rattle.mc_record.specs.Kept.{IsKept}
+use Rattle.mc_record.specs.Seen.{kept_of}
+use Rattle.mc_record.specs.declared.kept.Record.{Record}
 use Rattle.mc_station.specs.Source.{Accepted as AcceptedAs}
-use Rattle.mc_station.specs.Stages.{Basis as BasisOf, Stage as StageOf, last, reasons, source, tested, tests, usage}
-use Rattle.mc_station.specs.Tests.{most_words, words_needed}
+use Rattle.mc_station.specs.Stages.{Basis as BasisOf, Stage as StageOf, kept, last, left, load, merged, reasons, recorded, right, source, tested, tests, usage}
+use Rattle.mc_station.specs.Tests.{Tested as TestedAs, shape_of}
 use Rattle.mc_station.specs.declared.accepted.Accepted.{Accepted}
 use Rattle.mc_station.specs.declared.basis.Basis.{Basis}
 use Rattle.mc_station.specs.declared.basis.Basis.TheVariants as basis
+use Rattle.mc_station.specs.declared.opened.Opened.{Opened}
 use Rattle.mc_station.specs.declared.stage.Stage.{Stage}
 use Rattle.mc_station.specs.declared.stage.Stage.TheVariants as stage
+use Rattle.mc_station.specs.declared.tested.Tested.{Tested}
 
 -- an accepted source: its program is that of the tree, whatever probes this has
 abbrev pub seen_accepted : Accepted → AcceptedAs
@@ -30,16 +42,32 @@ seen_accepted a = record {
 }
 
 abbrev pub seen_basis : Basis → BasisOf
-seen_basis (basis.Tested run plans) = tested (seen_run run) (seen_plans plans.items)
+seen_basis (basis.Tested run plans opened) = tested (seen_run run) (seen_plans plans.items)
+seen_basis (basis.Recorded report r) = recorded (seen_report report) (kept_of r)
 
 abbrev pub seen_stage : Stage → StageOf
 seen_stage stage.Usage = usage
 seen_stage (stage.Source name action) = source name.now (seen_action action)
 seen_stage (stage.Tests run accepted) = tests (seen_run run) (seen_accepted accepted)
+seen_stage (stage.Left name other accepted) =
+    left name.now other.now (seen_accepted accepted)
+seen_stage (stage.Right name accepted first) =
+    right name.now (seen_accepted accepted) (kept_of first)
+seen_stage (stage.Kept name report accepted) =
+    kept name.now (seen_report report) (seen_accepted accepted)
 seen_stage (stage.Reasons name accepted basis) =
     reasons name.now (seen_accepted accepted) (seen_basis basis)
 seen_stage (stage.Last accepted basis js) =
     last (seen_accepted accepted) (seen_basis basis) js.items
+seen_stage (stage.Merged both) = merged (kept_of both)
+seen_stage (stage.Load l) = load l.count l.workers
+
+abbrev pub seen_tested : Tested → TestedAs
+seen_tested t = record {
+  names = t.names.items;
+  states = t.states.items;
+  results = option_map (λ results. map told_of results.items) t.results;
+}
 
 -- ---- what the parts of a stage keep
 
@@ -55,11 +83,24 @@ pub record ArePlanned (a : Accepted) (plans : List TestPlan) : Type 0 where
   pub named : AreNamed (seen_plans plans)
   pub few : length plans ≤ 4096
 
--- what the last stage stands on: tests of the program, whose matrix fits
+-- the shared words are those of the program's bits under the tests, and nothing is recorded
+pub record IsOpened (accepted : Accepted) (plans : List TestPlan) (opened : Opened) : Type 0 where
+  pub own : IsOf opened.cover opened.pass
+  pub shape : opened.cover.shape ≡ shape_of (seen_accepted accepted) (seen_plans plans)
+  pub small : word_count opened.cover.shape ≤ most_words
+  pub fresh : opened.pass.view ≡ opener opened.cover.shape
+
+-- the record is one of the source
+pub record IsRecordIn (accepted : Accepted) (r : Record) : Type 0 where
+  pub keeps : IsKept (kept_of r)
+  pub digest : r.digest ≡ sha256 accepted.source.now
+  pub bits : r.matrix.shape.bits ≡ accepted.map.bits
+
+-- what the last stage stands on: tests of the program, and shared words for them, or a record
 abbrev pub IsBasis : Accepted → Basis → Type 0
-IsBasis accepted (basis.Tested run plans) =
-    ArePlanned accepted plans.items
-    × (words_needed (seen_accepted accepted) (seen_plans plans.items) ≤ most_words)
+IsBasis accepted (basis.Tested run plans opened) =
+    RunIsInRange run × (ArePlanned accepted plans.items × IsOpened accepted plans.items opened)
+IsBasis accepted (basis.Recorded report r) = IsRecordIn accepted r
 
 -- the justifications are of the program's obligations
 abbrev pub AreReasons : Accepted → List Justification → Type 0
@@ -67,8 +108,14 @@ AreReasons accepted js = AreFit (length (obligations_of (map_of accepted.map))) 
 
 abbrev pub IsReady : Stage → Type 0
 IsReady stage.Usage = ⊤
-IsReady (stage.Source name action) = ActionHasFuel action
-IsReady (stage.Tests run accepted) = RunHasFuel run × IsInstrumented accepted
+IsReady (stage.Source name action) = ActionIsInRange action
+IsReady (stage.Tests run accepted) = RunIsInRange run × IsInstrumented accepted
+IsReady (stage.Left name other accepted) = IsInstrumented accepted
+IsReady (stage.Right name accepted first) = IsInstrumented accepted × IsRecordIn accepted first
+IsReady (stage.Kept name report accepted) = IsInstrumented accepted
 IsReady (stage.Reasons name accepted basis) = IsInstrumented accepted × IsBasis accepted basis
 IsReady (stage.Last accepted basis js) =
     IsInstrumented accepted × (IsBasis accepted basis × AreReasons accepted js.items)
+IsReady (stage.Merged both) = IsKept (kept_of both)
+IsReady (stage.Load l) =
+    IsWithin 1 most_functions l.count × IsWithin 1 most_workers l.workers

@@ -2,30 +2,36 @@
 -- stage, or refuses it; the last stage of a command asks for none and makes the texts.
 use Rattle.std.specs.Prelude.{◌≡◌, ◌≤◌, ℕ, List, [], ◌∷◌, Option, Some, None, Result, Ok, Err}
 use Rattle.mc_command.specs.Command as command
-use Rattle.mc_command.specs.Command.{Action, Command, Run, Task}
+use Rattle.mc_command.specs.Command.{Action, Command, Report, Run, Task}
 use Rattle.mc_port.specs.Store.{Request}
-use Rattle.mc_typed.specs.Tree.{Program}
 use Rattle.mc_typed.specs.Plans.{Plan}
-use Rattle.mc_tests.specs.File.{tests_file}
 use Rattle.mc_oblige.specs.Obligations.{obligations_of}
 use Rattle.mc_oblige.specs.declared.justification.Justification.{Justification}
 use Rattle.mc_justify.specs.Justifications.{justifications_of}
+use Rattle.mc_record.specs.Kept.{Kept}
 use Rattle.mc_replies.specs.Files.{File, limit_of, request_of}
 use Rattle.mc_replies.specs.Phases.{Reads, Then}
 use Rattle.mc_replies.specs.Reply.{Reply, refusal}
-use Rattle.mc_replies.specs.Texts.{tests_line, usage_text}
+use Rattle.mc_replies.specs.Texts.{usage_text}
 use Rattle.mc_replies.specs.declared.file.FileKind.TheVariants as kind
-use Rattle.mc_replies.specs.declared.status.Status.TheVariants.{NoCommand, TestsRefused, JustificationsRefused}
+use Rattle.mc_replies.specs.declared.status.Status.TheVariants.{NoCommand, JustificationsRefused}
 use Rattle.mc_station.specs.Justified.{reasons_line}
+use Rattle.mc_station.specs.Records.{JudgesRecord}
 use Rattle.mc_station.specs.Source.{Accepted, JudgesSource}
-use Rattle.mc_station.specs.Tests.{Fits}
+use Rattle.mc_station.specs.Tests.{Fits, JudgesTests}
+use Rattle.mc_station.specs.commands.Analyse.{Analyses}
+use Rattle.mc_station.specs.commands.Merge.{Joins, Merges}
+use Rattle.mc_station.specs.commands.Record.{Records}
 use Rattle.mc_station.specs.commands.Report.{Reports}
+use Rattle.mc_station.specs.commands.Selfload.{Loads}
 use Rattle.mc_station.specs.commands.Vectors.{Lists}
 
 -- what the last stage of a command stands on, beside its source
 pub data Basis : Type 0 where
   -- the tests of a run
   tested : Run → List Plan → Basis
+  -- a record that is to be reported on
+  recorded : Report → Kept → Basis
 
 pub data Stage : Type 0 where
   -- the words are not a command
@@ -34,10 +40,20 @@ pub data Stage : Type 0 where
   source : (name : List ℕ) → Action → Stage
   -- the source is accepted, and the tests file is asked for
   tests : Run → Accepted → Stage
+  -- the source is accepted, and the first of two records is asked for
+  left : (left right : List ℕ) → Accepted → Stage
+  -- the first one is accepted, and the second one is asked for
+  right : (name : List ℕ) → Accepted → Kept → Stage
+  -- the source is accepted, and the record that is to be reported on is asked for
+  kept : (name : List ℕ) → Report → Accepted → Stage
   -- what goes before is accepted, and the file of justifications is asked for
   reasons : (name : List ℕ) → Accepted → Basis → Stage
   -- all files are accepted
   last : Accepted → Basis → List Justification → Stage
+  -- both records are accepted, and this is the record of both
+  merged : Kept → Stage
+  -- no file is asked for: the program makes a source of so many functions and its tests
+  load : (count workers : ℕ) → Stage
 
 -- ---- files
 
@@ -47,6 +63,9 @@ source_named name = record { kind = kind.Source; name = name }
 abbrev pub tests_named : List ℕ → File
 tests_named name = record { kind = kind.Tests; name = name }
 
+abbrev pub record_named : List ℕ → File
+record_named name = record { kind = kind.Record; name = name }
+
 abbrev pub reasons_named : List ℕ → File
 reasons_named name = record { kind = kind.Justifications; name = name }
 
@@ -54,14 +73,20 @@ reasons_named name = record { kind = kind.Justifications; name = name }
 abbrev pub justified_by : Task → Option (List ℕ)
 justified_by (command.report report) = report.justify
 justified_by command.vectors = None
+justified_by command.recorded = None
 
 -- the file that a stage asks for
 abbrev pub file_of : Stage → Option File
 file_of usage = None
 file_of (source name action) = Some (source_named name)
 file_of (tests run accepted) = Some (tests_named run.tests)
+file_of (left name other accepted) = Some (record_named name)
+file_of (right name accepted first) = Some (record_named name)
+file_of (kept name report accepted) = Some (record_named name)
 file_of (reasons name accepted basis) = Some (reasons_named name)
 file_of (last accepted basis js) = None
+file_of (merged both) = None
+file_of (load count workers) = None
 
 -- what is asked for of justifications
 abbrev pub reasons_of : Option (List ℕ) → List Request
@@ -72,17 +97,28 @@ reasons_of (Some name) = request_of (reasons_named name) ∷ []
 abbrev pub tests_and_reasons : Run → List Request
 tests_and_reasons run = request_of (tests_named run.tests) ∷ reasons_of (justified_by run.task)
 
+-- a record, and what is asked for after it
+abbrev pub record_and : (name : List ℕ) → List Request → List Request
+record_and name later = request_of (record_named name) ∷ later
+
 -- what is asked for after the source
 abbrev pub requests_of : Action → List Request
 requests_of (command.run run) = tests_and_reasons run
+requests_of (command.merge name other) = record_and name (record_and other [])
+requests_of (command.analyse name report) = record_and name (reasons_of report.justify)
 
 -- what a stage and those after it ask for, in order
 abbrev pub requests_left : Stage → List Request
 requests_left usage = []
 requests_left (source name action) = request_of (source_named name) ∷ requests_of action
 requests_left (tests run accepted) = tests_and_reasons run
+requests_left (left name other accepted) = record_and name (record_and other [])
+requests_left (right name accepted first) = record_and name []
+requests_left (kept name report accepted) = record_and name (reasons_of report.justify)
 requests_left (reasons name accepted basis) = request_of (reasons_named name) ∷ []
 requests_left (last accepted basis js) = []
+requests_left (merged both) = []
+requests_left (load count workers) = []
 
 -- the stage asks for a file that may have so many bytes
 abbrev pub AsksUpTo : Stage → ℕ → Type 0
@@ -94,17 +130,15 @@ AsksUpTo stage n = (file : File) × (file_of stage ≡ Some file) × (n ≤ limi
 abbrev pub first_stage : Option Command → Stage
 first_stage None = usage
 first_stage (Some (command.on_source name action)) = source name action
+first_stage (Some (command.selfload count workers)) = load count workers
 
 -- the stage after the source
 abbrev pub after_source : Action → Accepted → Stage
 after_source (command.run run) accepted = tests run accepted
+after_source (command.merge name other) accepted = left name other accepted
+after_source (command.analyse name report) accepted = kept name report accepted
 
--- the plans of a tests file that is accepted, or its first fault
-abbrev pub JudgesTests : Program → ℕ → List ℕ → Result (List Plan) Reply → Type 0
-JudgesTests program fuel bytes =
-    Reads (tests_file program fuel bytes) (λ fault. refusal TestsRefused (tests_line fault))
-
--- the stage after the tests
+-- the stage after the tests, or after the record that stands in their place
 abbrev pub after_tests : Option (List ℕ) → Accepted → Basis → Stage
 after_tests None accepted basis = last accepted basis []
 after_tests (Some name) accepted basis = reasons name accepted basis
@@ -124,21 +158,41 @@ Judges (tests run accepted) bytes =
     Then (JudgesTests accepted.program run.fuel bytes)
     (λ plans. Then (Fits accepted plans)
     (λ u v. v ≡ Ok (after_tests (justified_by run.task) accepted (tested run plans))))
+Judges (left name other accepted) bytes =
+    Then (JudgesRecord accepted name bytes) (λ first v. v ≡ Ok (right other accepted first))
+Judges (right name accepted first) bytes =
+    Then (JudgesRecord accepted name bytes) (λ second.
+    Then (Joins first second) (λ both v. v ≡ Ok (merged both)))
+Judges (kept name report accepted) bytes =
+    Then (JudgesRecord accepted name bytes)
+    (λ found v. v ≡ Ok (after_tests report.justify accepted (recorded report found)))
 Judges (reasons name accepted basis) bytes =
     Then (JudgesReasons accepted bytes) (λ js v. v ≡ Ok (last accepted basis js))
 Judges (last accepted basis js) bytes = λ verdict. ⊥
+Judges (merged both) bytes = λ verdict. ⊥
+Judges (load count workers) bytes = λ verdict. ⊥
 
 -- ---- the end
 
--- what a command tells of the tests
-abbrev pub Tells : Task → Accepted → List Plan → List Justification → Reply → Type 0
-Tells (command.report report) accepted plans js = Reports report accepted plans js
-Tells command.vectors accepted plans js = Lists accepted plans
+-- what a command tells of the tests, whose matrix leaves out those that are skipped
+abbrev pub Tells : (skipped : List ℕ) → Task → Accepted → List Plan → List Justification → Reply
+    → Type 0
+Tells skipped (command.report report) accepted plans js = Reports skipped report accepted plans js
+Tells skipped command.vectors accepted plans js = Lists skipped accepted plans
+Tells skipped command.recorded accepted plans js = Records skipped accepted plans
 
 -- the reply of a stage that asks for no file
-abbrev pub Ends : Stage → Reply → Type 0
-Ends usage reply = reply ≡ refusal NoCommand usage_text
-Ends (source name action) reply = ⊥
-Ends (tests run accepted) reply = ⊥
-Ends (reasons name accepted basis) reply = ⊥
-Ends (last accepted (tested run plans) js) reply = Tells run.task accepted plans js reply
+abbrev pub Ends : (skipped : List ℕ) → Stage → Reply → Type 0
+Ends skipped usage reply = reply ≡ refusal NoCommand usage_text
+Ends skipped (source name action) reply = ⊥
+Ends skipped (tests run accepted) reply = ⊥
+Ends skipped (left name other accepted) reply = ⊥
+Ends skipped (right name accepted first) reply = ⊥
+Ends skipped (kept name report accepted) reply = ⊥
+Ends skipped (reasons name accepted basis) reply = ⊥
+Ends skipped (last accepted (tested run plans) js) reply =
+    Tells skipped run.task accepted plans js reply
+Ends skipped (last accepted (recorded report found) js) reply =
+    Analyses report accepted found js reply
+Ends skipped (merged both) reply = Merges both reply
+Ends skipped (load count workers) reply = Loads skipped count reply

@@ -1,2 +1,6 @@
 pub mod Report
 pub mod Vectors
+pub mod Record
+pub mod Merge
+pub mod Analyse
+pub mod Selfload

@@ -1,11 +1,15 @@
 //! What the last stage of a command stands on.
 
-use mc_command::Run;
+use crate::opened::Opened;
+use mc_command::{Report, Run};
+use mc_record::Record;
 use mc_typed::TestPlan;
 
 /// What the last stage of a command stands on, beside its source.
 #[derive(Drop)]
 pub enum Basis<'a> {
-    /// The tests of a run.
-    Tested(Run<'a>, Vec<TestPlan>),
+    /// The tests of a run, and the shared words that it records in.
+    Tested(Run<'a>, Vec<TestPlan>, Opened),
+    /// A record that is to be reported on.
+    Recorded(Report<'a>, Record),
 }

@@ -1,4 +1,8 @@
 //! The commands: each gives the reply to what its files were accepted as.
 
+pub mod analyse;
+pub mod merge;
+pub mod record;
 pub mod report;
+pub mod selfload;
 pub mod vectors;

@@ -1,7 +1,7 @@
 //! How a stage judges the bytes of the file that it asked for.
 ghost use Rattle.std.specs.Prelude.{◌≡◌, ◌≤◌, List, Result, Err, IfOk, length, option_map};
 ghost use Rattle.mc_tests.specs.Seen.{seen_plans};
-ghost use Rattle.mc_command.specs.Seen.{ActionHasFuel, RunHasFuel, seen_action, seen_run, seen_task};
+ghost use Rattle.mc_command.specs.Seen.{ActionIsInRange, RunIsInRange, seen_action, seen_run, seen_task};
 ghost use Rattle.mc_oblige.specs.declared.justification.Justification.{Justification};
 ghost use Rattle.mc_justify.specs.Faults.{Fault};
 ghost use Rattle.mc_justify.specs.Returned.{GivesFault};
@@ -10,16 +10,19 @@ ghost use Rattle.mc_replies.specs.Reply.{refusal};
 ghost use Rattle.mc_replies.specs.Seen.{Gives};
 ghost use Rattle.mc_replies.specs.declared.status.Status.TheVariants.{JustificationsRefused};
 ghost use Rattle.mc_station.specs.Justified.{reasons_line};
-ghost use Rattle.mc_station.specs.Seen.{ArePlanned, AreReasons, IsBasis, IsInstrumented, IsReady, seen_accepted, seen_basis, seen_stage};
-ghost use Rattle.mc_station.specs.Stages.{AsksUpTo, Judges, JudgesReasons, JudgesTests, after_source, after_tests, justified_by, reasons, source, tested, tests};
-ghost use Rattle.mc_station.specs.Tests.{Fits, most_words, words_needed};
+ghost use Rattle.mc_station.specs.Seen.{ArePlanned, AreReasons, IsBasis, IsInstrumented, IsOpened, IsReady, seen_accepted, seen_basis, seen_stage};
+ghost use Rattle.mc_station.specs.Stages.{AsksUpTo, Judges, JudgesReasons, after_source, after_tests, justified_by, reasons, source, tested, tests};
+ghost use Rattle.mc_station.specs.Tests.{Fits, JudgesTests};
 
 use crate::accepted::Accepted;
 use crate::basis::Basis;
+use crate::opened::Opened;
+use crate::records::{after_kept, after_left, after_right};
 use crate::source::judge_source;
-use crate::stage::Stage;
+use crate::stage::{Stage, with_basis};
 use mc_command::{Action, Run, Task};
-use mc_core::{Shape, words};
+use mc_core::Shape;
+use mc_cover::{OpenFault, open};
 use mc_justify::{JustifyFault, read_justifications};
 use mc_oblige::{Justification, obligations};
 use mc_replies::{Refusal, Stop};
@@ -27,11 +30,8 @@ use mc_tests::{TestFault, read_tests};
 use mc_typed::TestPlan;
 use std::alloc::Global;
 
-/// The most words that a matrix may have.
-const MOST_WORDS: u64 = 1_048_576;
-
-// The tests of a tests file.
-fn judge_tests<'a>(
+/// The tests of a tests file.
+pub fn judge_tests<'a>(
     alloc: Global,
     accepted: &Accepted<'_>,
     fuel: u32,
@@ -50,26 +50,31 @@ fn judge_tests<'a>(
     }
 }
 
-// Whether the matrix of all bits under the tests fits.
-fn fits<'a>(accepted: &Accepted<'_>, plans: &[TestPlan]) -> Result<(), Stop<'a>>
+/// The shared words of all bits under the tests, where they fit.
+pub fn open_for<'a>(
+    alloc: Global,
+    accepted: &Accepted<'_>,
+    plans: &[TestPlan],
+) -> Result<Opened, Stop<'a>>
     requires { ArePlanned accepted.now plans.now }
-    ensures { Gives (λ u. u)
+    ensures judges { Gives (λ opened. tt)
         (Fits (seen_accepted accepted.now) (seen_plans plans.now)) result }
+    ensures opened { IfOk result (λ opened. IsOpened accepted.now plans.now opened) }
 {
-    let words = words(Shape {
+    let shape = Shape {
         bits: accepted.map.bits,
         tests: plans.len() as u32,
-    });
-    if words > MOST_WORDS {
-        Err(Stop::Refused(Refusal::TooLarge { words }))
-    } else {
-        Ok(())
+    };
+    match open(alloc, shape) {
+        Ok((cover, pass)) => Ok(Opened { cover, pass }),
+        Err(OpenFault::TooLarge { words }) => Err(Stop::Refused(Refusal::TooLarge { words })),
+        Err(OpenFault::OutOfMemory) => Err(Stop::OutOfMemory),
     }
 }
 
 // The stage after a source that is accepted.
 fn with_source<'a>(action: Action<'a>, accepted: Accepted<'a>) -> Stage<'a>
-    requires fuel { ActionHasFuel action }
+    requires range { ActionIsInRange action }
     requires instrumented { IsInstrumented accepted }
     ensures stage { seen_stage result
         ≡ after_source (seen_action action.entry) (seen_accepted accepted.entry) }
@@ -77,6 +82,8 @@ fn with_source<'a>(action: Action<'a>, accepted: Accepted<'a>) -> Stage<'a>
 {
     match action {
         Action::Run(run) => Stage::Tests(run, accepted),
+        Action::Merge { left, right } => Stage::Left(left, right, accepted),
+        Action::Analyse { kept, report } => Stage::Kept(kept, report, accepted),
     }
 }
 
@@ -87,7 +94,7 @@ fn after_source<'a>(
     action: Action<'a>,
     bytes: &'a [u8],
 ) -> Result<Stage<'a>, Stop<'a>>
-    requires fuel { ActionHasFuel action }
+    requires range { ActionIsInRange action }
     requires short { length bytes.now ≤ 1048576 }
     ensures judges { Gives seen_stage
         (Judges (source name.now (seen_action action.entry)) bytes.now) result }
@@ -103,29 +110,28 @@ fn justified_by(task: Task<'_>) -> Option<&str>
 {
     match task {
         Task::Report(report) => report.justify,
-        Task::Vectors => None,
+        Task::Vectors | Task::Record => None,
     }
 }
 
-// The stage after the tests, whose matrix fits.
+// The stage after the tests, for which there are shared words.
 fn with_plans<'a>(
     alloc: Global,
     run: Run<'a>,
     accepted: Accepted<'a>,
     plans: Vec<TestPlan>,
+    opened: Opened,
 ) -> Stage<'a>
+    requires range { RunIsInRange run }
     requires instrumented { IsInstrumented accepted }
     requires planned { ArePlanned accepted plans.items }
-    requires small { words_needed (seen_accepted accepted) (seen_plans plans.items)
-        ≤ most_words }
+    requires opened { IsOpened accepted plans.items opened }
     ensures stage { seen_stage result ≡ after_tests (justified_by (seen_run run.entry).task)
         (seen_accepted accepted.entry) (tested (seen_run run.entry) (seen_plans plans.items)) }
     ensures ready { IsReady result }
 {
-    match justified_by(run.task) {
-        Some(name) => Stage::Reasons(name, accepted, Basis::Tested(run, plans)),
-        None => Stage::Last(accepted, Basis::Tested(run, plans), Vec::new(alloc)),
-    }
+    let name = justified_by(run.task);
+    with_basis(alloc, name, accepted, Basis::Tested(run, plans, opened))
 }
 
 // The stage after the tests file.
@@ -135,15 +141,15 @@ fn after_tests<'a>(
     accepted: Accepted<'a>,
     bytes: &[u8],
 ) -> Result<Stage<'a>, Stop<'a>>
-    requires fuel { RunHasFuel run }
+    requires range { RunIsInRange run }
     requires instrumented { IsInstrumented accepted }
     ensures judges { Gives seen_stage
         (Judges (tests (seen_run run.entry) (seen_accepted accepted.entry)) bytes.now) result }
     ensures ready { IfOk result IsReady }
 {
     match judge_tests(alloc, &accepted, run.fuel, bytes) {
-        Ok(plans) => match fits(&accepted, &plans) {
-            Ok(()) => Ok(with_plans(alloc, run, accepted, plans)),
+        Ok(plans) => match open_for(alloc, &accepted, &plans) {
+            Ok(opened) => Ok(with_plans(alloc, run, accepted, plans, opened)),
             Err(stop) => {
                 drop(accepted);
                 Err(stop)
@@ -236,9 +242,12 @@ pub fn judge<'a>(alloc: Global, stage: Stage<'a>, bytes: &'a [u8]) -> Result<Sta
     match stage {
         Stage::Source(name, action) => after_source(alloc, name, action, bytes),
         Stage::Tests(run, accepted) => after_tests(alloc, run, accepted, bytes),
+        Stage::Left(name, other, accepted) => after_left(alloc, name, other, accepted, bytes),
+        Stage::Right(name, accepted, first) => after_right(alloc, name, accepted, first, bytes),
+        Stage::Kept(name, report, accepted) => after_kept(alloc, name, report, accepted, bytes),
         Stage::Reasons(name, accepted, basis) => {
             after_reasons(alloc, name, accepted, basis, bytes)
         }
-        Stage::Usage | Stage::Last(..) => unreachable!(),
+        Stage::Usage | Stage::Last(..) | Stage::Merged(..) | Stage::Load(..) => unreachable!(),
     }
 }

@@ -1,10 +1,14 @@
 //! Laws of what calls lead to.
 ghost use Rattle.mc_station.specs.Laws as laws;
 
+use mc_core::words_follow_from_pairs;
+
 /// Words and files call for at most one reply, but for the place of a fault of the syntax.
 pub fn one_reply()
     ensures { laws.OneReply }
-{}
+{
+    words_follow_from_pairs();
+}
 
 /// Status 2 comes exactly where the words are not a command, unless something fails.
 pub fn no_command_alone()
@@ -25,4 +29,10 @@ pub fn refusals_are_silent()
 pub fn asked_in_order()
     ensures order { laws.AskedInOrder }
     ensures last { laws.LastIsNamed }
+{}
+
+/// A record that `merge` writes of two records of a source is the one that `record` would write of
+/// the tests of both, if the closer skips none.
+pub fn merged_is_of_both()
+    ensures { laws.MergedIsOfBoth }
 {}

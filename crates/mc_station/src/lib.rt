@@ -4,12 +4,19 @@
 mod accepted;
 mod basis;
 mod commands;
+mod digest;
 mod judge;
 pub mod laws;
+mod means;
+mod opened;
 mod ran;
+mod records;
 mod run;
 mod source;
 mod stage;
+mod tested;
+mod told;
 mod top;
+mod words;
 
 pub use top::station;

@@ -1,17 +1,23 @@
 //! Running the tests of a source.
 ghost use Rattle.std.specs.Prelude.{◌≡◌, ◌≤◌, IfOk, map};
+ghost use Rattle.mc_limits.specs.Limits.{most_workers};
 ghost use Rattle.mc_tests.specs.Seen.{seen_plans};
-ghost use Rattle.mc_station.specs.Tests.{most_words, names, status_where, words_needed};
-ghost use Rattle.mc_station.specs.Seen.{ArePlanned, IsInstrumented, seen_accepted};
+ghost use Rattle.mc_station.specs.Tests.{names, status_where};
+ghost use Rattle.mc_station.specs.Seen.{ArePlanned, IsInstrumented, IsOpened, seen_accepted};
 ghost use Rattle.mc_station.specs.Ran.{IsRun};
 
 use crate::accepted::Accepted;
+use crate::means::Means;
+use crate::opened::Opened;
 use mc_core::Matrix;
+use mc_cover::Closer;
 use mc_meaning::TestResult;
+use mc_port::Gate;
 use mc_report::all_passed;
 use mc_runner::run_tests;
 use mc_typed::{Name, TestPlan, TestState};
 use std::alloc::{AllocError, Global};
+use std::thread::Threads;
 
 /// What the tests gave when they were run.
 #[derive(Drop)]
@@ -47,19 +53,51 @@ pub fn number_of(states: &[TestState]) -> u8
     if all_passed(states) { 0 } else { 1 }
 }
 
-/// Runs the tests.
-pub fn run_all(
+/// Runs the tests by so many workers, which record in the shared words, and closes these.
+pub fn run_all<R: Threads + Sync, G: Gate, C: Closer>(
     alloc: Global,
+    means: Means<'_, R, G, C>,
+    workers: u32,
     accepted: &Accepted<'_>,
     plans: &[TestPlan],
+    opened: Opened,
 ) -> Result<Ran, AllocError>
+    requires workers { (1 ≤ workers) × (workers ≤ most_workers) }
     requires instrumented { IsInstrumented accepted.now }
     requires planned { ArePlanned accepted.now plans.now }
-    requires small { words_needed (seen_accepted accepted.now) (seen_plans plans.now)
-        ≤ most_words }
-    ensures { IfOk result (IsRun (seen_accepted accepted.now) (seen_plans plans.now)) }
+    requires opened { IsOpened accepted.now plans.now opened }
+    ensures { IfOk result (IsRun (C.skipped means.entry.closer.now) (seen_accepted accepted.now)
+        (seen_plans plans.now)) }
 {
-    let (matrix, results) = run_tests(alloc, &accepted.tree, plans)?;
+    let Opened { cover, pass } = opened;
+    let tree = &accepted.tree;
+    match run_tests(
+        means.rt, alloc, &cover, pass, tree, plans, workers, means.gate,
+    ) {
+        Ok((pass, results)) => {
+            let matrix = means.closer.close(cover, pass);
+            gathered(alloc, matrix, plans, results)
+        }
+        Err(error) => {
+            drop(cover);
+            Err(error)
+        }
+    }
+}
+
+// What the tests gave, with their names and states.
+fn gathered(
+    alloc: Global,
+    matrix: Matrix,
+    plans: &[TestPlan],
+    results: Vec<TestResult>,
+) -> Result<Ran, AllocError>
+    ensures matrix { IfOk result (λ ran. ran.matrix ≡ matrix) }
+    ensures results { IfOk result (λ ran. ran.results ≡ results) }
+    ensures names { IfOk result (λ ran. ran.names.items ≡ names (seen_plans plans.now)) }
+    ensures states { IfOk result (λ ran.
+        ran.states.items ≡ map (λ r. r.state) results.items) }
+{
     let names = names(alloc, plans)?;
     let states = states(alloc, &results)?;
     Ok(Ran {

@@ -8,23 +8,27 @@ ghost use Rattle.mc_station.specs.Seen.{IsReady, seen_stage};
 ghost use Rattle.mc_station.specs.Stages.{requests_left};
 
 use crate::judge::judge;
+use crate::means::Means;
 use crate::stage::Stage;
-use mc_port::{LoadFault, Store};
+use mc_cover::Closer;
+use mc_port::{Gate, LoadFault, Store};
 use mc_replies::{Refusal, Reply};
 use std::alloc::{AllocError, Global};
+use std::thread::Threads;
 
 /// Goes from a stage to the reply: asks for one file after the other, each after the one before it
 /// was accepted, and keeps their bytes in the slots.
 #[tactic(auto, using(crate::proofs::Order::fewer))]
-pub fn run<'a, S: Store>(
+pub fn run<'a, S: Store, R: Threads + Sync, G: Gate, C: Closer>(
     alloc: Global,
+    means: Means<'_, R, G, C>,
     store: &mut S,
     stage: Stage<'a>,
     slots: &'a mut [Vec<u8>],
 ) -> Result<Reply, AllocError>
     requires room { length (requests_left (seen_stage stage)) ≤ length slots.old }
     requires ready { IsReady stage }
-    ensures leads { Leads (S.state store.old).contents (seen_stage stage.entry)
+    ensures leads { Leads (C.skipped means.entry.closer.now) (S.state store.old).contents (seen_stage stage.entry)
         (S.state store.old).asked (outcome_of result) (S.state store.new).asked }
     ensures unreadable { (outcome_of result).status ≡ CannotRead
         → Rose (S.state store.old).faults (S.state store.new).faults }
@@ -33,7 +37,7 @@ pub fn run<'a, S: Store>(
     ensures later { (S.state store.old).faults ≤ (S.state store.new).faults }
 {
     let Some(file) = stage.file() else {
-        return stage.end(alloc);
+        return stage.end(alloc, means);
     };
     let [slot, later @ ..] = slots else {
         unreachable!();
@@ -42,7 +46,7 @@ pub fn run<'a, S: Store>(
         Ok(bytes) => {
             *slot = bytes;
             match judge(alloc, stage, slot) {
-                Ok(stage) => run(alloc, store, stage, later),
+                Ok(stage) => run(alloc, means, store, stage, later),
                 Err(stop) => Reply::of_stop(alloc, &stop),
             }
         }

@@ -1,24 +1,31 @@
 //! The stages of the commands.
-ghost use Rattle.std.specs.Prelude.{◌≡◌, ◌≤◌, None, IfOk, option_map};
+ghost use Rattle.std.specs.Prelude.{◌≡◌, None, IfOk, option_map};
 ghost use Rattle.mc_command.specs.Command.{command_of};
 ghost use Rattle.mc_command.specs.Line.{words_of};
-ghost use Rattle.mc_command.specs.Seen.{seen_run};
+ghost use Rattle.mc_command.specs.Seen.{RunIsInRange, seen_run};
 ghost use Rattle.mc_tests.specs.Seen.{seen_plans};
 ghost use Rattle.mc_replies.specs.Seen.{seen_file, seen_reply};
-ghost use Rattle.mc_station.specs.Seen.{ArePlanned, AreReasons, IsBasis, IsInstrumented, IsReady, seen_accepted, seen_basis, seen_stage};
-ghost use Rattle.mc_station.specs.Stages.{Ends, Tells, file_of, first_stage, last};
-ghost use Rattle.mc_station.specs.Tests.{most_words, words_needed};
+ghost use Rattle.mc_station.specs.Seen.{ArePlanned, AreReasons, IsBasis, IsInstrumented, IsOpened, IsReady, seen_accepted, seen_basis, seen_stage};
+ghost use Rattle.mc_station.specs.Stages.{Ends, Tells, after_tests, file_of, first_stage, last};
 
 use crate::accepted::Accepted;
 use crate::basis::Basis;
-use crate::commands::report::report;
-use crate::commands::vectors::vectors;
+use crate::commands::analyse::analyse;
+use crate::commands::merge::merge;
+use crate::commands::selfload::{Load, selfload};
+use crate::means::Means;
+use crate::opened::Opened;
 use crate::ran::run_all;
-use mc_command::{Action, Command, Run, Task, read_command};
+use crate::told::tell;
+use mc_command::{Action, Command, Report, Run, read_command};
+use mc_cover::Closer;
 use mc_oblige::Justification;
+use mc_port::Gate;
+use mc_record::Record;
 use mc_replies::{File, FileKind, Reply, Status, usage_text};
 use mc_typed::TestPlan;
 use std::alloc::{AllocError, Global};
+use std::thread::Threads;
 
 /// How far a command has come: what its files were accepted as so far.
 #[derive(Drop)]
@@ -29,10 +36,39 @@ pub enum Stage<'a> {
     Source(&'a str, Action<'a>),
     /// The source is accepted, and the tests file is asked for.
     Tests(Run<'a>, Accepted<'a>),
+    /// The source is accepted, and the first of two records is asked for.
+    Left(&'a str, &'a str, Accepted<'a>),
+    /// The first one is accepted, and the second one, of this name, is asked for.
+    Right(&'a str, Accepted<'a>, Record),
+    /// The source is accepted, and the record that is to be reported on is asked for.
+    Kept(&'a str, Report<'a>, Accepted<'a>),
     /// What goes before is accepted, and the file of justifications of this name is asked for.
     Reasons(&'a str, Accepted<'a>, Basis<'a>),
     /// All files are accepted.
     Last(Accepted<'a>, Basis<'a>, Vec<Justification>),
+    /// Both records are accepted, and this is the record of both.
+    Merged(Record),
+    /// No file is asked for: the program makes a source and its tests itself.
+    Load(Load),
+}
+
+/// The stage after what the last one stands on. `justify` names the file of justifications.
+pub fn with_basis<'a>(
+    alloc: Global,
+    justify: Option<&'a str>,
+    accepted: Accepted<'a>,
+    basis: Basis<'a>,
+) -> Stage<'a>
+    requires instrumented { IsInstrumented accepted }
+    requires basis { IsBasis accepted basis }
+    ensures stage { seen_stage result ≡ after_tests (option_map (λ name. name.now) justify.entry)
+        (seen_accepted accepted.entry) (seen_basis basis.entry) }
+    ensures ready { IsReady result }
+{
+    match justify {
+        Some(name) => Stage::Reasons(name, accepted, basis),
+        None => Stage::Last(accepted, basis, Vec::new(alloc)),
+    }
 }
 
 /// The first stage of what the words of a line ask for.
@@ -43,31 +79,32 @@ pub fn first_stage<'a>(alloc: Global, line: &'a [&'a str]) -> Result<Stage<'a>, 
 {
     match read_command(alloc, line)? {
         Some(Command::OnSource { source, action }) => Ok(Stage::Source(source, action)),
+        Some(Command::Selfload { count, workers }) => Ok(Stage::Load(Load { count, workers })),
         None => Ok(Stage::Usage),
     }
 }
 
 // What the command of a run tells of its tests.
-fn tested(
+fn tested<R: Threads + Sync, G: Gate, C: Closer>(
     alloc: Global,
+    means: Means<'_, R, G, C>,
     run: Run<'_>,
     accepted: Accepted<'_>,
     plans: &[TestPlan],
+    opened: Opened,
     justifications: &[Justification],
 ) -> Result<Reply, AllocError>
+    requires range { RunIsInRange run }
     requires instrumented { IsInstrumented accepted }
     requires planned { ArePlanned accepted plans.now }
+    requires opened { IsOpened accepted plans.now opened }
     requires reasons { AreReasons accepted justifications.now }
-    requires small { words_needed (seen_accepted accepted) (seen_plans plans.now) ≤ most_words }
-    ensures { IfOk result (λ reply. Tells (seen_run run.entry).task
-        (seen_accepted accepted.entry) (seen_plans plans.now) justifications.now
-        (seen_reply reply)) }
+    ensures { IfOk result (λ reply. Tells (C.skipped means.entry.closer.now)
+        (seen_run run.entry).task (seen_accepted accepted.entry) (seen_plans plans.now)
+        justifications.now (seen_reply reply)) }
 {
-    match run_all(alloc, &accepted, plans) {
-        Ok(ran) => match run.task {
-            Task::Report(asked) => { report(alloc, asked, accepted, plans, ran, justifications) }
-            Task::Vectors => vectors(alloc, accepted, plans, &ran),
-        },
+    match run_all(alloc, means, run.workers, &accepted, plans, opened) {
+        Ok(ran) => tell(alloc, run.task, accepted, plans, ran, justifications),
         Err(error) => {
             drop(accepted);
             Err(error)
@@ -76,8 +113,9 @@ fn tested(
 }
 
 // The reply of a command whose files are accepted.
-fn finished(
+fn finished<R: Threads + Sync, G: Gate, C: Closer>(
     alloc: Global,
+    means: Means<'_, R, G, C>,
     accepted: Accepted<'_>,
     basis: Basis<'_>,
     justifications: &[Justification],
@@ -85,12 +123,15 @@ fn finished(
     requires instrumented { IsInstrumented accepted }
     requires basis { IsBasis accepted basis }
     requires reasons { AreReasons accepted justifications.now }
-    ensures { IfOk result (λ reply. Ends
+    ensures { IfOk result (λ reply. Ends (C.skipped means.entry.closer.now)
         (last (seen_accepted accepted.entry) (seen_basis basis.entry) justifications.now)
         (seen_reply reply)) }
 {
     match basis {
-        Basis::Tested(run, plans) => tested(alloc, run, accepted, &plans, justifications),
+        Basis::Tested(run, plans, opened) => {
+            tested(alloc, means, run, accepted, &plans, opened, justifications)
+        }
+        Basis::Recorded(asked, kept) => analyse(alloc, asked, accepted, kept, justifications),
     }
 }
 
@@ -108,19 +149,28 @@ impl<'a> Stage<'a> {
                 kind: FileKind::Tests,
                 name: run.tests,
             }),
+            Stage::Left(name, ..) | Stage::Right(name, ..) | Stage::Kept(name, ..) => Some(File {
+                kind: FileKind::Record,
+                name,
+            }),
             Stage::Reasons(name, ..) => Some(File {
                 kind: FileKind::Justifications,
                 name,
             }),
-            Stage::Usage | Stage::Last(..) => None,
+            Stage::Usage | Stage::Last(..) | Stage::Merged(..) | Stage::Load(..) => None,
         }
     }
 
     /// The reply of a stage that asks for no file.
-    pub fn end(self, alloc: Global) -> Result<Reply, AllocError>
+    pub fn end<R: Threads + Sync, G: Gate, C: Closer>(
+        self,
+        alloc: Global,
+        means: Means<'_, R, G, C>,
+    ) -> Result<Reply, AllocError>
         requires last { file_of (seen_stage self) ≡ None }
         requires ready { IsReady self }
-        ensures { IfOk result (λ reply. Ends (seen_stage self.entry) (seen_reply reply)) }
+        ensures { IfOk result (λ reply.
+            Ends (C.skipped means.entry.closer.now) (seen_stage self.entry) (seen_reply reply)) }
     {
         match self {
             Stage::Usage => {
@@ -128,9 +178,16 @@ impl<'a> Stage<'a> {
                 Ok(Reply::of_text(alloc, Status::NoCommand, text))
             }
             Stage::Last(accepted, basis, justifications) => {
-                finished(alloc, accepted, basis, &justifications)
+                finished(alloc, means, accepted, basis, &justifications)
             }
-            Stage::Source(..) | Stage::Tests(..) | Stage::Reasons(..) => unreachable!(),
+            Stage::Merged(both) => Ok(merge(alloc, both)),
+            Stage::Load(load) => selfload(alloc, means, load),
+            Stage::Source(..)
+            | Stage::Tests(..)
+            | Stage::Left(..)
+            | Stage::Right(..)
+            | Stage::Kept(..)
+            | Stage::Reasons(..) => unreachable!(),
         }
     }
 }

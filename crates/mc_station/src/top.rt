@@ -9,12 +9,16 @@ ghost use Rattle.mc_replies.specs.Seen.{outcome_of, seen_reply};
 ghost use Rattle.mc_replies.specs.Status.{number_of};
 ghost use Rattle.mc_replies.specs.declared.status.Status.TheVariants.{CannotRead, OutOfMemory};
 
+use crate::laws::one_reply;
+use crate::means::Means;
 use crate::run::run;
 use crate::stage::first_stage;
 use mc_command::line_of;
+use mc_cover::Closer;
 use mc_port::{Gate, PutFault, Sink, Store, Words};
 use mc_replies::{Reply, Status};
 use std::alloc::{AllocError, Global};
+use std::thread::Threads;
 
 // Puts the texts of a reply, up to the first piece that cannot be put.
 fn put<K: Sink, E: Sink>(reply: &Reply, out: &mut K, diag: &mut E) -> Result<(), PutFault>
@@ -30,8 +34,15 @@ fn put<K: Sink, E: Sink>(reply: &Reply, out: &mut K, diag: &mut E) -> Result<(),
 }
 
 // The reply to what the words ask for: all is decided here, and nothing is put.
-fn reply_to<S: Store>(alloc: Global, words: &Words, store: &mut S) -> Result<Reply, AllocError>
-    ensures leads { LeadsTo (call_of words.now (S.state store.old)) (S.state store.old).asked
+#[tactic(auto, using(crate::proofs::Order::few_requests))]
+fn reply_to<S: Store, R: Threads + Sync, G: Gate, C: Closer>(
+    alloc: Global,
+    means: Means<'_, R, G, C>,
+    words: &Words,
+    store: &mut S,
+) -> Result<Reply, AllocError>
+    ensures leads { LeadsTo (call_of words.now (C.skipped means.entry.closer.now)
+        (S.state store.old)) (S.state store.old).asked
         (outcome_of result) (S.state store.new).asked }
     ensures unreadable { (outcome_of result).status ≡ CannotRead
         → Rose (S.state store.old).faults (S.state store.new).faults }
@@ -41,34 +52,41 @@ fn reply_to<S: Store>(alloc: Global, words: &Words, store: &mut S) -> Result<Rep
     // A slot for the bytes of each file; there is room for a command with three.
     let mut slots = [Vec::new(alloc), Vec::new(alloc), Vec::new(alloc)];
     let stage = first_stage(alloc, &line)?;
-    run(alloc, store, stage, &mut slots)
+    run(alloc, means, store, stage, &mut slots)
 }
 
 /// Does what the words of a command line ask for, and gives the status of the program.
 ///
 /// The command `report` puts on `out` the report of the tests and of the verdicts, `vectors` a line
-/// for each test and one for each vector that some test evaluates. Everything is computed, and all
-/// memory taken, before the first `put`; a line is one `put`. The gate is for workers, which there
-/// are none of yet.
-pub fn station<S: Store, K: Sink, E: Sink, G: Gate>(
+/// for each test and one for each vector that some test evaluates, `record` what is kept of the
+/// tests, `merge` the record of two records, `analyse` the report of a record, and `selfload` the
+/// summary of a source that the program makes itself. Everything is computed, and all memory taken,
+/// before the first `put`; a line is one `put`.
+///
+/// Tests run on as many workers as the words ask for, each in a thread of its own where one can be
+/// made. A worker passes the gate with the number of each test before it runs it. The closer makes
+/// the matrix of what was recorded; that of the program skips no test.
+pub fn station<R: Threads + Sync, S: Store, K: Sink, E: Sink, G: Gate, C: Closer>(
+    rt: &R,
     alloc: Global,
     words: &Words,
     store: &mut S,
     out: &mut K,
     diag: &mut E,
-    _gate: &G,
+    gate: &G,
+    closer: &C,
 ) -> u8
     // A status other than 7 is that of a reply to which words and files lead. Its texts were put
     // whole, and the store was asked for the files that it stands on, in order, each with its limit
     // and after the files before it were accepted. With 6 the line is on the last of them; with 8
     // there are no texts.
-    ensures told { result ≢ 7 → Told (call_of words.now (S.state store.old)) result
+    ensures told { result ≢ 7 → Told (call_of words.now (C.skipped closer.now) (S.state store.old)) result
         (S.state store.old).asked (S.state store.new).asked
         (K.written out.old) (K.written out.new) (E.written diag.old) (E.written diag.new) }
 
     // With 7 first parts of the texts of such a reply were put. Where they say that a file cannot
     // be read, the store failed in this call.
-    ensures part { result ≡ 7 → ToldPart (call_of words.now (S.state store.old))
+    ensures part { result ≡ 7 → ToldPart (call_of words.now (C.skipped closer.now) (S.state store.old))
         (S.state store.old) (S.state store.new)
         (K.written out.old) (K.written out.new) (E.written diag.old) (E.written diag.new) }
 
@@ -80,14 +98,16 @@ pub fn station<S: Store, K: Sink, E: Sink, G: Gate>(
         ⊎ Rose (E.faults diag.old) (E.faults diag.new) }
 
     // Where nothing failed, the status is that of the reply that is called for, or 8.
-    ensures complete { (reply : CalledFor) → IsKnown (call_of words.now (S.state store.old))
-        → CallsFor (call_of words.now (S.state store.old)) reply
+    ensures complete { (reply : CalledFor) → IsKnown (call_of words.now (C.skipped closer.now) (S.state store.old))
+        → CallsFor (call_of words.now (C.skipped closer.now) (S.state store.old)) reply
         → ¬ (Rose (S.state store.old).faults (S.state store.new).faults)
         → ¬ (Rose (K.faults out.old) (K.faults out.new))
         → ¬ (Rose (E.faults diag.old) (E.faults diag.new))
         → (result ≡ number_of reply.status) ⊎ (result ≡ 8) }
 {
-    match reply_to(alloc, words, store) {
+    one_reply();
+    let means = Means { rt, gate, closer };
+    match reply_to(alloc, means, words, store) {
         Ok(reply) => match put(&reply, out, diag) {
             Ok(()) => reply.status.number(),
             Err(_) => Status::CannotWrite.number(),

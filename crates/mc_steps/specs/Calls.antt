@@ -1,5 +1,6 @@
 -- What objects that are declared, arguments and calls do (C17 6.5.2.2, 6.7.9, 6.9.1).
 use Rattle.std.specs.Prelude.{ℕ, ℤ, nat_le, List, [], ◌∷◌, Option, Some, None}
+use Rattle.mc_limits.specs.Limits.{most_levels, most_run_cells}
 use Rattle.mc_value.specs.declared.trap.Trap.TheVariants.{Index, NoReturn}
 use Rattle.mc_typed.specs.declared.plans.Ending.{Ending}
 use Rattle.mc_typed.specs.declared.plans.Ending.TheVariants as ending
@@ -101,7 +102,8 @@ module _ {M E P : Type 0} where
   -- this one, then what is done in it.
   abbrev pub call_does : ℕ → ℕ → Acts M E (Given P) → Acts M E (Given P)
   call_does levels cells inside s =
-      spends (with_room levels 512 ending.Levels (with_room cells 65536 ending.Cells inside)) s
+      spends (with_room levels most_levels ending.Levels
+      (with_room cells most_run_cells ending.Cells inside)) s
 
   -- the value is used (C17 6.9.1p12)
   abbrev pub number_given : Given P → Acts M E ℤ

@@ -1,31 +1,20 @@
 -- What the parts of an expression make it do (C17 6.5). Operands are evaluated from left to right,
 -- which C17 6.5p3 leaves open.
-use Rattle.std.specs.Prelude.{ℕ, ◌*◌, ℤ, pos, negsuc, Bool, true, false, not, nat_lt, List, [], ◌∷◌, ◌++◌, length, Option, Some, Result}
-use Rattle.mc_value.specs.declared.trap.Trap.{Trap}
+use Rattle.std.specs.Prelude.{ℕ, ◌*◌, ℤ, pos, negsuc, Bool, true, false, nat_lt, List, [], ◌∷◌, ◌++◌, length, Option, Some}
 use Rattle.mc_value.specs.declared.trap.Trap.TheVariants.{Index, Unset, InputEnd}
 use Rattle.mc_value.specs.declared.int_type.IntType.{IntType}
 use Rattle.mc_value.specs.declared.operators.UnOp.{UnOp}
-use Rattle.mc_value.specs.Conversions.{converted, is_zero}
-use Rattle.mc_value.specs.Arithmetic.{binary_of, unary_of}
-use Rattle.mc_value.specs.Shifts.{shift_of}
+use Rattle.mc_value.specs.Conversions.{converted}
+use Rattle.mc_value.specs.Arithmetic.{unary_of}
 use Rattle.mc_typed.specs.declared.operators.Operator.{Operator}
-use Rattle.mc_typed.specs.declared.operators.Operator.TheVariants.{Binary, Shift}
 use Rattle.mc_typed.specs.declared.operators.LogicOperator.{LogicOperator}
-use Rattle.mc_typed.specs.declared.operators.LogicOperator.TheVariants.{And, Or}
 use Rattle.mc_typed.specs.declared.plans.Ending.TheVariants.{OutputFull}
+use Rattle.mc_limits.specs.Limits.{most_run_outputs}
+pub use Rattle.mc_typed.specs.Operators.{operated, is_true, goes_on}
 use Rattle.mc_steps.specs.Runs.{Acts, gives, stops, traps, after, changes, with_some, with_result, spends}
 use Rattle.mc_steps.specs.Memories.{Lent, Memory}
 
 -- ---- numbers
-
--- C17 6.5.5 to 6.5.12
-abbrev pub operated : Operator → IntType → ℤ → ℤ → Result ℤ Trap
-operated (Binary operator) a x y = binary_of operator a x y
-operated (Shift operator) a x y = shift_of operator a x y
-
--- a number is true where it differs from 0 (C17 6.5.13p3, 6.8.4.1p2)
-abbrev pub is_true : ℤ → Bool
-is_true v = not (is_zero v)
 
 -- the one where it holds, else the other
 abbrev pub where_true : {M E A : Type 0} → Bool → Acts M E A → Acts M E A → Acts M E A
@@ -78,12 +67,6 @@ module _ {M P : Type 0} (m : Memory M P) where
 
 -- ---- operators
 
--- the second operand of `&&` is evaluated where the first is true, that of `||` where it is false
--- (C17 6.5.13p4, 6.5.14p4)
-abbrev pub goes_on : LogicOperator → Bool → Bool
-goes_on And x = x
-goes_on Or x = not x
-
 module _ {M E : Type 0} where
   -- C17 6.5.3.3
   abbrev pub unary_does : UnOp → IntType → Acts M E ℤ → Acts M E ℤ
@@ -127,8 +110,8 @@ module _ {M E : Type 0} where
   abbrev pub input_does : Acts M E ℤ
   input_does s = spends (λ s. with_input s.inputs gives s) s
 
-  -- `mcdc_out(e)`: the number goes to the end of the output, which holds 4,096 numbers
+  -- `mcdc_out(e)`: the number goes to the end of the output, where that has room
   abbrev pub output_does : Acts M E ℤ → Acts M E (Unit {0})
   output_does e s =
-      after (e s) (λ v s. spends (λ s. where_true (nat_lt (length s.output) 4096)
+      after (e s) (λ v s. spends (λ s. where_true (nat_lt (length s.output) most_run_outputs)
       (λ s. gives tt (record s { output = s.output ++ v ∷ [] })) (stops OutputFull) s) s)

@@ -1,14 +1,12 @@
 -- The points of a program at which something is listed, but for its decisions: which statements are
 -- counted, which bodies complete, and how many points of each kind a part has. Points of one kind
 -- are numbered from 0 over the whole program, in the order of the text.
-use Rattle.std.specs.Prelude.{ℕ, zero, suc, ◌+◌, ℤ, Bool, true, false, not, ◌&&◌, ◌||◌, List, [], ◌∷◌, Option, Some, None, Result, Ok, Err, is_some}
-use Rattle.mc_value.specs.declared.trap.Trap.{Trap}
-use Rattle.mc_value.specs.Conversions.{converted, is_zero}
-use Rattle.mc_value.specs.Arithmetic.{unary_of, truth}
+use Rattle.std.specs.Prelude.{ℕ, zero, suc, ◌+◌, ℤ, Bool, true, false, not, ◌&&◌, ◌||◌, List, [], ◌∷◌, Option, Some, None, is_some}
+use Rattle.mc_typed.specs.Operators.{is_true}
+use Rattle.mc_typed.specs.Constants.{constant_value}
 use Rattle.mc_typed.specs.Sound.{labels_of}
 use Rattle.mc_typed.specs.Tree.{Expression, Declarator, Statement, Statements, Function}
 use Rattle.mc_typed.specs.Tree as t
-use Rattle.mc_steps.specs.Expressions.{operated, is_true, goes_on}
 use Rattle.mc_steps.specs.Statements.{has_label}
 
 -- ---- integer constant expressions (C17 6.6p6)
@@ -26,46 +24,18 @@ is_constant (t.Choice e f g a span) = is_constant e && is_constant f && is_const
 is_constant (t.Call k a) = false
 is_constant (t.Input span) = false
 
-abbrev pub number : Result ℤ Trap → Option ℤ
-number (Ok v) = Some v
-number (Err t) = None
-
-abbrev pub on_number : Option ℤ → (ℤ → Option ℤ) → Option ℤ
-on_number None next = None
-on_number (Some v) next = next v
-
-abbrev pub logic_value : Bool → ℤ → Option ℤ → Option ℤ
-logic_value true x y = on_number y (λ y. Some (truth (is_true y)))
-logic_value false x y = Some (truth (is_true x))
-
-abbrev pub choice_value : Bool → Option ℤ → Option ℤ → Option ℤ
-choice_value true y z = y
-choice_value false y z = z
-
--- its value, where it has one and no evaluation traps
-abbrev pub value_of : Expression → Option ℤ
-value_of (t.Constant v a span) = Some v
-value_of (t.Read place a) = None
-value_of (t.Unary operator a e span) = on_number (value_of e) (λ x. number (unary_of operator a x))
-value_of (t.Convert a written e span) = on_number (value_of e) (λ x. Some (converted a x))
-value_of (t.Not e span) = on_number (value_of e) (λ x. Some (truth (is_zero x)))
-value_of (t.Binary operator a e f span) =
-    on_number (value_of e) (λ x. on_number (value_of f) (λ y. number (operated operator a x y)))
-value_of (t.Logic operator e f span) =
-    on_number (value_of e) (λ x. logic_value (goes_on operator (is_true x)) x (value_of f))
-value_of (t.Choice e f g a span) =
-    on_number (value_of e) (λ x. choice_value (is_true x) (value_of f) (value_of g))
-value_of (t.Call k a) = None
-value_of (t.Input span) = None
-
 abbrev pub is_nonzero : Option ℤ → Bool
 is_nonzero None = false
 is_nonzero (Some v) = is_true v
 
--- a controlling expression that is absent, or a constant expression other than 0 without a trap
+-- a constant expression other than 0 without a trap
+abbrev pub is_always_true : Expression → Bool
+is_always_true e = is_constant e && is_nonzero (constant_value e)
+
+-- a controlling expression that is absent, or always true
 abbrev pub is_always : Option Expression → Bool
 is_always None = true
-is_always (Some e) = is_constant e && is_nonzero (value_of e)
+is_always (Some e) = is_always_true e
 
 -- ---- statements that complete
 
@@ -107,7 +77,7 @@ abbrev mutual
   completes (t.Switch e items keyword span) =
       not (has_default items) || some_breaks items || last_completes items
   completes (t.For start test step s keyword span) = not (is_always test) || breaks s
-  completes (t.DoWhile s e keyword span) = not (is_always (Some e)) || breaks s
+  completes (t.DoWhile s e keyword span) = not (is_always_true e) || breaks s
   completes (t.Break span) = false
   completes (t.Continue span) = false
   completes (t.Return value span) = false

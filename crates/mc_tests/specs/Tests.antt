@@ -3,6 +3,7 @@
 use Rattle.std.specs.Prelude.{ℕ, Bool, true, not, ◌&&◌, List, [], ◌∷◌, ◌++◌, length, map, Option, Some, None, if◌then◌else◌, nat_le}
 use Rattle.std.specs.List.{list_all, list_any}
 use Rattle.std.specs.Str.{bytes_eq}
+use Rattle.mc_limits.specs.Limits.{most_calls, most_expected, most_inputs, most_tests}
 use Rattle.mc_typed.specs.Plans.{Plan, expected_outputs}
 use Rattle.mc_tests.specs.declared.fault.TestFault.{TestFault}
 use Rattle.mc_tests.specs.declared.fault.TestFault.TheVariants as fault
@@ -43,14 +44,14 @@ are_distinct (name ∷ names) = not (list_any (bytes_eq name) names) && are_dist
 abbrev pub names_of : List Plan → List (List ℕ)
 names_of plans = map (λ p. p.name) plans
 
--- at most 1,024 calls, 4,096 inputs and 4,096 expected outputs
+-- calls, inputs and expected outputs are within their limits
 abbrev pub is_small : Plan → Bool
-is_small plan = nat_le (length plan.calls) 1024 && nat_le (length plan.inputs) 4096
-    && nat_le (expected_outputs plan.calls) 4096
+is_small plan = nat_le (length plan.calls) most_calls && nat_le (length plan.inputs) most_inputs
+    && nat_le (expected_outputs plan.calls) most_expected
 
--- at most 4,096 tests
+-- so are the tests
 abbrev pub keeps_limits : List Plan → Bool
-keeps_limits plans = nat_le (length plans) 4096 && list_all is_small plans
+keeps_limits plans = nat_le (length plans) most_tests && list_all is_small plans
 
 -- the fault of the record with number `row` where these are the tests that it makes with those
 -- before it: a name of an earlier test comes again, or a limit is passed

@@ -1,5 +1,6 @@
 //! A test whose records are being read.
 ghost use Rattle.std.specs.Prelude.{◌≡◌, ◌≤◌, ◌&&◌, ℕ, IfOk, length, nat_le};
+ghost use Rattle.mc_limits.specs.Limits.{most_calls, most_expected, most_inputs};
 ghost use Rattle.mc_typed.specs.Plans.{outputs_of, plan_of};
 ghost use Rattle.mc_fields.specs.Seen.{seen_output};
 ghost use Rattle.mc_tests.specs.Seen.{IsCounted, seen_draft, seen_line};
@@ -7,14 +8,15 @@ ghost use Rattle.mc_tests.specs.Tests.{is_small, test_of};
 ghost use Rattle.mc_tests.specs.steps.Adding.{extended};
 
 use crate::line::Line;
+use mc_limits::{MOST_CALLS, MOST_EXPECTED, MOST_INPUTS};
 use mc_typed::{Call, Inputs, Name, TestPlan};
 use std::alloc::{AllocError, Global};
 
-const MAX_CALLS: usize = 1024;
+const MAX_CALLS: usize = MOST_CALLS as usize;
 
-const MAX_INPUTS: usize = 4096;
+const MAX_INPUTS: usize = MOST_INPUTS as usize;
 
-const MAX_OUTPUTS: usize = 4096;
+const MAX_OUTPUTS: usize = MOST_EXPECTED as usize;
 
 /// The name, the calls and the inputs that a test has so far, and how many outputs its calls
 /// expect.
@@ -37,7 +39,8 @@ fn expected(output: &Option<Vec<i32>>) -> usize
 }
 
 fn keeps_limits(calls: usize, inputs: usize, outputs: usize) -> bool
-    ensures { result ≡ (nat_le calls 1024 && nat_le inputs 4096 && nat_le outputs 4096) }
+    ensures { result ≡ (nat_le calls most_calls && nat_le inputs most_inputs
+        && nat_le outputs most_expected) }
 {
     calls <= MAX_CALLS && inputs <= MAX_INPUTS && outputs <= MAX_OUTPUTS
 }
@@ -71,7 +74,7 @@ pub(crate) fn start(alloc: Global, line: Line<'_>) -> Result<Draft, AllocError>
 /// Whether the test keeps the limits with one more record. Takes no memory.
 pub(crate) fn has_room(draft: &Draft, line: &Line<'_>) -> bool
     requires counted { IsCounted draft.now }
-    requires few { draft.now.outputs ≤ 4096 }
+    requires few { draft.now.outputs ≤ most_expected }
     ensures { (fuel : ℕ) → result
         ≡ is_small (extended (seen_draft fuel draft.now) (seen_line line.now)) }
 {
@@ -85,7 +88,7 @@ pub(crate) fn has_room(draft: &Draft, line: &Line<'_>) -> bool
 /// The test with one more record.
 pub(crate) fn extend(draft: Draft, line: Line<'_>) -> Result<Draft, AllocError>
     requires counted { IsCounted draft }
-    requires few { draft.outputs ≤ 4096 }
+    requires few { draft.outputs ≤ most_expected }
     ensures counted { IfOk result (λ d. IsCounted d) }
     ensures draft { (fuel : ℕ) → IfOk result (λ d.
         seen_draft fuel d ≡ extended (seen_draft fuel draft) (seen_line line.entry)) }

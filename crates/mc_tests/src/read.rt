@@ -1,5 +1,6 @@
 //! The plans that a tests file stands for.
 ghost use Rattle.std.specs.Prelude.{◌≡◌, ◌≢◌, ◌≤◌, ◌<◌, ◌^◌, [], Ok, Err, IfOk, IfErr, length, map};
+ghost use Rattle.mc_limits.specs.Limits.{most_fuel, most_tests};
 ghost use Rattle.mc_typed.specs.Views.{function_of, program_of};
 ghost use Rattle.mc_tests.specs.File.{AllFit, AreNamed, records_from, rows_file, tests_file};
 ghost use Rattle.mc_tests.specs.Seen.{seen_plans};
@@ -70,12 +71,12 @@ pub fn read_tests(
     fuel: u32,
 ) -> Result<Vec<TestPlan>, TestFault>
     requires some { 1 ≤ fuel }
-    requires few { fuel ≤ 100000000 }
+    requires few { fuel ≤ most_fuel }
     ensures plans { IfOk result (λ v.
         tests_file (program_of program.now) fuel bytes.now ≡ Ok (seen_plans v.items)) }
     ensures fit { IfOk result (λ v. AllFit (program_of program.now) (seen_plans v.items)) }
     ensures named { IfOk result (λ v. AreNamed (seen_plans v.items)) }
-    ensures few { IfOk result (λ v. length (seen_plans v.items) ≤ 4096) }
+    ensures few { IfOk result (λ v. length (seen_plans v.items) ≤ most_tests) }
     ensures fault { IfErr result (λ e. e ≢ OutOfMemory
         → tests_file (program_of program.now) fuel bytes.now ≡ Err e) }
 {

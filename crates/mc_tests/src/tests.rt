@@ -1,6 +1,7 @@
 //! The tests that the records of a tests file make.
 ghost use Rattle.std.specs.Prelude.{◌≡◌, ◌≢◌, ◌++◌, ◌∷◌, ◌||◌, ◌&&◌, ◌+◌, ℕ, List, [], Some, IfOk, IfErr, OnOk, length, nat_le};
 ghost use Rattle.std.specs.Str.{bytes_eq};
+ghost use Rattle.mc_limits.specs.Limits.{most_tests};
 ghost use Rattle.mc_tests.specs.Seen.{AreRead, IsCounted, Stand, has_name, open_plans, plans_in, seen_draft, seen_line, seen_plans};
 ghost use Rattle.mc_tests.specs.Tests.{is_small, test_of, tests_fault};
 ghost use Rattle.mc_tests.specs.steps.Adding.{extended, with_last};
@@ -9,11 +10,12 @@ ghost use Rattle.mc_tests.specs.declared.fault.TestFault.TheVariants.{OutOfMemor
 use crate::draft::{Draft, extend, fits_alone, has_room, start, to_plan};
 use crate::fault::TestFault;
 use crate::line::Line;
+use mc_limits::MOST_TESTS;
 use mc_typed::TestPlan;
 use std::alloc::{AllocError, Global};
 use std::collections::BTreeSet;
 
-const MAX_TESTS: usize = 4096;
+const MAX_TESTS: usize = MOST_TESTS as usize;
 
 /// The tests so far, the last of which is open: its next record may follow. The names are those of
 /// them all.
@@ -58,7 +60,7 @@ fn has_name(names: &BTreeSet<Vec<u8>>, name: &[u8]) -> bool
 // Whether one test more, of this record alone, keeps the limits.
 fn has_room_after(done: &[TestPlan], line: &Line<'_>) -> bool
     ensures { (fuel : ℕ) → result
-        ≡ (nat_le (length done.now + 1) 4096 && is_small (test_of fuel (seen_line line.now))) }
+        ≡ (nat_le (length done.now + 1) most_tests && is_small (test_of fuel (seen_line line.now))) }
 {
     done.len() < MAX_TESTS && fits_alone(line)
 }

@@ -1,6 +1,15 @@
--- What follows from the definitions of layouts.
-use Rattle.std.specs.Prelude.{◌≡◌, ℕ, ◌+◌, ◌*◌, ◌<◌, ◌≤◌, ◌⊎◌, true, List, [], ◌++◌, length, slice_get, Some}
+-- What follows from the definitions of layouts and of constant expressions.
+use Rattle.std.specs.Prelude.{◌≡◌, ℕ, ◌+◌, ◌*◌, ◌<◌, ◌≤◌, ℤ, ◌⊎◌, true, List, [], ◌++◌, length, slice_get, Some, option_and_then}
 use Rattle.mc_value.specs.declared.int_type.IntType.{IntType}
+use Rattle.mc_value.specs.declared.operators.UnOp.{UnOp}
+use Rattle.mc_value.specs.IntTypes.{InRange}
+use Rattle.mc_value.specs.Conversions.{promoted}
+use Rattle.mc_value.specs.Arithmetic.{unary_of}
+use Rattle.mc_typed.specs.declared.operators.Operator.{Operator}
+use Rattle.mc_typed.specs.Operators.{operated}
+use Rattle.mc_typed.specs.Constants.{unless_trap, unary_value, binary_value, constant_value}
+use Rattle.mc_typed.specs.Tree.{Expression}
+use Rattle.mc_typed.specs.Sound.{Scope, type_of, HasOperands, IsExpression}
 use Rattle.mc_typed.specs.Layout.{ObjectType, Scalar, Array, Structure, Members, cells, cells_all, count, member, start, with_last, Leads, LeadsIn, is_below, rest, scalars, IsPart}
 
 -- a part of an object lies within it
@@ -55,3 +64,21 @@ pub record CellsHaveTypes : Type 0 where
   pub scalar :
       (all : List IntType) (at : ℕ) (a : IntType) → IsPart all at (Scalar a) →
       slice_get all at ≡ Some a
+
+-- In a sound program the value of a constant expression is one of its type, so each operand is one
+-- of its operator, and none is refused.
+pub record ConstantsAreValues : Type 0 where
+  pub within :
+      (c : Scope) (e : Expression) (v : ℤ) → IsExpression e c → constant_value e ≡ Some v →
+      InRange (type_of e) v
+  pub unary :
+      (c : Scope) (operator : UnOp) (a : IntType) (e : Expression) → IsExpression e c →
+      promoted a ≡ a → type_of e ≡ a →
+      unary_value operator a (constant_value e)
+      ≡ option_and_then (λ x. unless_trap (unary_of operator a x)) (constant_value e)
+  pub binary :
+      (c : Scope) (operator : Operator) (a : IntType) (e f : Expression) → IsExpression e c →
+      IsExpression f c → HasOperands operator a (type_of e) (type_of f) →
+      binary_value operator a (constant_value e) (constant_value f)
+      ≡ option_and_then (λ x. option_and_then (λ y. unless_trap (operated operator a x y))
+      (constant_value f)) (constant_value e)

@@ -1,6 +1,8 @@
 pub mod Layout
 pub mod Tree
 pub mod Views
+pub mod Operators
+pub mod Constants
 pub mod Levels
 pub mod Frames
 pub mod Sound

@@ -2,6 +2,7 @@
 use Rattle.std.specs.Prelude.{ℕ, ◌+◌, ◌≤◌, ℤ, List, [], ◌∷◌, length, map, slice_get, Option, Some, None, option_map}
 use Rattle.mc_value.specs.declared.int_type.IntType.TheVariants.{Int}
 use Rattle.mc_value.specs.IntTypes.{InRange}
+use Rattle.mc_limits.specs.Limits.{most_calls, most_expected, most_fuel, most_inputs}
 use Rattle.mc_typed.specs.declared.plans.Call as code_call
 use Rattle.mc_typed.specs.declared.plans.TestPlan.{TestPlan}
 use Rattle.mc_typed.specs.Tree.{ParameterType, ResultType, Function, Program}
@@ -81,14 +82,13 @@ abbrev pub expected_outputs : List Call → ℕ
 expected_outputs [] = 0
 expected_outputs (c ∷ cs) = length (outputs_of c.output) + expected_outputs cs
 
--- at most 1,024 calls, 4,096 inputs and 4,096 expected outputs, these all in the range of int, and
--- fuel from 1 to 10^8
+-- calls, inputs and expected outputs within their limits, the numbers in the range of int, and fuel
 pub record Fits (plan : Plan) (p : Program) : Type 0 where
   pub calls : CallsFit plan.calls p
-  pub calls_few : length plan.calls ≤ 1024
+  pub calls_few : length plan.calls ≤ most_calls
   pub inputs : AreInts plan.inputs
-  pub inputs_few : length plan.inputs ≤ 4096
+  pub inputs_few : length plan.inputs ≤ most_inputs
   pub outputs : AreOutputs plan.calls
-  pub outputs_few : expected_outputs plan.calls ≤ 4096
+  pub outputs_few : expected_outputs plan.calls ≤ most_expected
   pub some_fuel : 1 ≤ plan.fuel
-  pub fuel : plan.fuel ≤ 100000000
+  pub fuel : plan.fuel ≤ most_fuel

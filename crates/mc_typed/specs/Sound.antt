@@ -7,7 +7,9 @@ use Rattle.mc_value.specs.declared.operators.BinOp.{BinOp}
 use Rattle.mc_value.specs.declared.operators.BinOp.TheVariants.{Lt, Gt, Le, Ge, Eq, Ne}
 use Rattle.mc_value.specs.declared.operators.UnOp.{UnOp}
 use Rattle.mc_value.specs.declared.operators.UnOp.TheVariants.{Not}
+use Rattle.mc_limits.specs.Limits.{most_frame_cells, most_nesting, most_parameters, most_static_cells}
 use Rattle.mc_value.specs.IntTypes.{InRange}
+use Rattle.mc_value.specs.ObjectTypes.{most_cells}
 use Rattle.mc_value.specs.Conversions.{promoted, common_of}
 use Rattle.mc_value.specs.Arithmetic.{binary_type}
 use Rattle.mc_typed.specs.declared.operators.Operator.{Operator}
@@ -392,11 +394,11 @@ abbrev mutual
   AreFormed structures no_members = Unit {0}
   AreFormed structures (members u ms) = IsFormed structures u × AreFormed structures ms
 
--- the limits of this profile: 65,536 cells, and 200 arrays and structures inside one another
+-- the limits of this profile: the cells, and the arrays and structures inside one another
 pub record IsObjectType (structures : List ObjectType) (u : ObjectType) : Type 0 where
   pub formed : IsFormed structures u
-  pub small : cells u ≤ 65536
-  pub flat : nesting u ≤ 200
+  pub small : cells u ≤ most_cells
+  pub flat : nesting u ≤ most_nesting
 
 -- objects that lie one after the other from a cell on
 abbrev pub AreLaidOut : List ObjectType → ℕ → List Object → Type 0
@@ -472,7 +474,7 @@ scope_of p f = record {
 }
 
 pub record IsFunction (p : Program) (f : Function) : Type 0 where
-  pub few : length f.parameters ≤ 16
+  pub few : length f.parameters ≤ most_parameters
   pub parameters : AreParameters f.parameters
   pub arrays : AreObjectTypes p.structures (arrays_of f.parameters)
   pub result : IsResult p.structures f.result
@@ -481,7 +483,7 @@ pub record IsFunction (p : Program) (f : Function) : Type 0 where
   pub laid : AreLaidOut p.structures 0 f.objects
   pub named :
       slots_statements f.body ≡ drop (length (values_of f.parameters)) (slots_from 0 f.objects)
-  pub frame : frame_of f ≤ 65536
+  pub frame : frame_of f ≤ most_frame_cells
   pub body : AreStatements f.body (scope_of p f) outermost
 
 abbrev pub AreFunctions : Program → List Function → Type 0
@@ -494,7 +496,7 @@ pub record IsSound (p : Program) : Type 0 where
   pub functions : AreFunctions p p.functions
   pub statics : AreLaidOut p.structures 0 (map (λ s. s.object) p.statics)
   pub initial : AreInitial p.statics
-  pub static_room : static_cells p ≤ 65536
+  pub static_room : static_cells p ≤ most_static_cells
   pub structures : AreStructures p.structures 0 p.structures
   -- fewer than 2^31 of each
   pub functions_few : length p.functions < 2 ^ 31

@@ -1,5 +1,6 @@
 //! The cells of a frame.
 ghost use Rattle.std.specs.Prelude.{◌≡◌, ◌<◌, ◌≤◌, length, slice_get, IfSome};
+ghost use Rattle.mc_limits.specs.Limits.{most_frame_cells};
 ghost use Rattle.mc_typed.specs.Frames.{frame_of};
 ghost use Rattle.mc_typed.specs.Views.{function_of};
 
@@ -17,9 +18,9 @@ pub fn frame(program: &Program<'_>, function: u32) -> u32
     frame_cells(program.function(function))
 }
 
-/// The same of a function whose frame has at most 65,536 cells. Takes no memory.
+/// The same of a function whose frame keeps its limit. Takes no memory.
 pub fn frame_cells(function: &Function<'_>) -> u32
-    requires { frame_of (function_of function.now) ≤ 65536 }
+    requires { frame_of (function_of function.now) ≤ most_frame_cells }
     ensures { result ≡ frame_of (function_of function.now) }
 {
     let mut total = 0;

@@ -1,11 +1,12 @@
-//! Laws of layouts, and worked examples. The functions do nothing: each has a law as its contract.
+//! Laws of layouts and of constant expressions, and worked examples. The functions do nothing: each
+//! has a law as its contract.
 ghost use Rattle.std.specs.Prelude.{◌≡◌};
 ghost use Rattle.mc_typed.specs.Levels.{levels_of};
 ghost use Rattle.mc_typed.specs.Frames.{frame_of};
 ghost use Rattle.mc_typed.specs.Plans.{Fits};
 ghost use Rattle.mc_typed.specs.Sound.{IsSound};
 ghost use Rattle.mc_typed.specs.Examples as example;
-ghost use Rattle.mc_typed.specs.Laws.{CellsHaveTypes, MembersCanBeAdded, PartsLieWithin, PathsLeadOn, ScalarsAreApart};
+ghost use Rattle.mc_typed.specs.Laws.{CellsHaveTypes, ConstantsAreValues, MembersCanBeAdded, PartsLieWithin, PathsLeadOn, ScalarsAreApart};
 
 /// A part of an object lies within it.
 pub fn parts_lie_within()
@@ -31,6 +32,12 @@ pub fn members_can_be_added()
 /// An element, a member and a scalar have the types of their cells.
 pub fn cells_have_types()
     ensures { CellsHaveTypes }
+{}
+
+/// In a sound program the value of a constant expression is one of its type, and each operand is
+/// one of its operator, so there is a value wherever no evaluation traps (C17 6.6).
+pub fn constants_are_values()
+    ensures { ConstantsAreValues }
 {}
 
 /// `int f(int n){return n?f(n-1):0;}`: the body, `return`, `?:`, the call, `-`, and its operands.

@@ -2,6 +2,7 @@
 //! written.
 #![tactic(auto)]
 
+mod constants;
 mod effects;
 mod expressions;
 mod frames;
@@ -16,6 +17,10 @@ mod probes;
 mod programs;
 mod statements;
 
+pub use constants::{
+    binary_value, choice_value, constant_value, converted_value, logic_value, negated_value,
+    unary_value,
+};
 pub use effects::Effect;
 pub use expressions::{Argument, Expression, FunctionCall, Place, Slot, Structure};
 pub use frames::{frame, frame_cells};
@@ -23,8 +28,9 @@ pub use functions::{Function, ParameterType, ResultType};
 pub use heights::{levels, levels_of_body};
 pub use initializers::Initializer;
 pub use laws::{
-    cells_have_types, levels_of_each_construct, members_can_be_added, parts_lie_within,
-    paths_lead_on, recursion, recursion_with_array, scalars_are_apart, structure_argument,
+    cells_have_types, constants_are_values, levels_of_each_construct, members_can_be_added,
+    parts_lie_within, paths_lead_on, recursion, recursion_with_array, scalars_are_apart,
+    structure_argument,
 };
 pub use mc_span::Span;
 pub use objects::{Object, StaticObject, share};

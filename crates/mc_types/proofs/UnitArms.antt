@@ -1,13 +1,15 @@
 -- What is found of a definition and of a unit, from what is found of their parts: of the faults of
 -- each the least alone is kept.
-use Rattle.std.proofs.Common.{◌≡◌, ◌∙◌, ◌<◌, ◌^◌, ℕ, false, List, [], ◌∷◌, Option, Some, None, option_map, take, length, map, subst, refl, sym, ap, arith}
+use Rattle.std.proofs.Common.{◌≡◌, ◌∙◌, ◌+◌, ◌<◌, ◌≤◌, ◌^◌, ℕ, false, List, [], ◌∷◌, Option, Some, None, option_map, take, length, map, subst, refl, sym, ap, arith}
+use Rattle.std.proofs.lemmas.List.{length-take}
 use Rattle.mc_span.specs.declared.span.Span.{Span}
 use Rattle.mc_tree.specs.Tree as t
+use Rattle.mc_tree.specs.Length.{of_item, token_count}
 use Rattle.mc_typed.specs.Tree.{Function, Statements}
 use Rattle.mc_faults.specs.declared.fault.Fault.{Fault}
 use Rattle.mc_faults.specs.Faults.{least_of}
-use Rattle.mc_typing.specs.Types.{CType, ParameterKind}
-use Rattle.mc_typing.specs.Scopes.{Scope, prototype}
+use Rattle.mc_typing.specs.Types.{CType, ParameterKind, Structure, structures_from}
+use Rattle.mc_typing.specs.Scopes.{Entry, Scope, prototype}
 use Rattle.mc_typing.specs.Values.{Judged}
 use Rattle.mc_typing.specs.Declarators.{Listed}
 use Rattle.mc_typing.specs.Declarations.{result_of}
@@ -18,6 +20,7 @@ use Rattle.mc_typing.specs.Typing.{IsFirstFaultOf, IsTypingOf, faults_of, found_
 use Rattle.mc_faults.proofs.Leasts.{least_is_first, no_least}
 use Rattle.mc_soundness.specs.Laws.{IsAccepted}
 use Rattle.mc_soundness.proofs.Units.{units_typed}
+use Rattle.mc_soundness.proofs.Counts.{units_are_few}
 use Rattle.mc_scopes.specs.Blocks.{Around, around}
 use Rattle.mc_faults.specs.Kept.{listed, least}
 use Rattle.mc_scopes.specs.steps.Squeezed.{squeezed_part}
@@ -134,6 +137,43 @@ counted : {A B : Type 0} (f : A → B) (xs : List A) → length (map f xs) ≡ l
 counted f [] = refl
 counted f (x ∷ xs) = omega (arith, counted f xs)
 
-pub few_mapped : {A B : Type 0} (f : A → B) (xs : List A) → length xs < 2 ^ 31
-    → length (map f xs) < 2 ^ 31
-few_mapped f xs h = subst (λ (k : ℕ). k < 2 ^ 31) (sym (counted f xs)) h
+types_counted : (k : ℕ) (xs : List Structure) → length (structures_from k xs) ≡ length xs
+types_counted k [] = refl
+types_counted k (x ∷ xs) = omega (arith, types_counted (k + 1) xs)
+
+-- a unit with a typing has fewer structure types than tokens
+pub few_structures : {A : Type 0} (items : List t.Item) (s : Scope) (functions : List Function)
+    (f : A → Structure) (xs : List A) → s.structures ≡ map f xs
+    → IsTypingOf items (program_from s functions) → token_count items < 2 ^ 31
+    → length xs < 2 ^ 32
+few_structures items s functions f xs e typed short =
+    let few = (units_are_few items (program_from s functions) typed short).structures in
+    let a = types_counted 0 s.structures in
+    let b : length s.structures ≡ length (map f xs) = ap length e in
+    let c = counted f xs in
+    omega (arith, few, a, b, c)
+
+-- an item stands for a token at least
+item_counted : (i : t.Item) → 1 ≤ of_item i
+item_counted (t.Declared (t.declaration s ds span)) = omega arith
+item_counted (t.Defined s d b span) = omega arith
+
+items_counted : (items : List t.Item) → length items ≤ token_count items
+items_counted [] = omega arith
+items_counted (i ∷ rest) = omega (arith, item_counted i, items_counted rest)
+
+pub few_items : {A : Type 0} (f : A → t.Item) (xs : List A) → token_count (map f xs) < 2 ^ 31
+    → length xs < 2 ^ 32
+few_items f xs short =
+    let a = items_counted (map f xs) in
+    let b = counted f xs in
+    omega (arith, short, a, b)
+
+-- the names of before stand among those that stay
+pub within : {A : Type 0} (f : A → Entry) (n : ℕ) (before : List Entry) (names : List A)
+    → n ≡ length before → take (length before) (map f names) ≡ before → n ≤ length names
+within f n before names is stay =
+    let a : length (take (length before) (map f names)) ≡ length before = ap length stay in
+    let b = length-take (length before) (map f names) in
+    let c = counted f names in
+    omega (arith, is, a, b, c)

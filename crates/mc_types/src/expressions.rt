@@ -478,7 +478,7 @@ pub(crate) fn lengths<'a>(
     alloc: Global,
     scope: &mut Scope<'a>,
     trees: &[ArrayLength<'a>],
-) -> Result<Judged<Vec<u64>>, AllocError>
+) -> Result<Judged<Vec<u32>>, AllocError>
     ensures { IfOk result (λ r. judged_of lengths_in r (scope_of scope.new)
         ≡ squeezed_part (j.judge_lengths (lengths_from (map array_length_of trees.now))
         (scope_of scope.old))) }
@@ -495,9 +495,9 @@ pub(crate) fn lengths<'a>(
 fn more_lengths<'a>(
     alloc: Global,
     scope: &mut Scope<'a>,
-    list: Judged<Vec<u64>>,
+    list: Judged<Vec<u32>>,
     tree: &ArrayLength<'a>,
-) -> Result<Judged<Vec<u64>>, AllocError>
+) -> Result<Judged<Vec<u32>>, AllocError>
     ensures { IfOk result (λ r. TakesLength (array_length_of tree.now) list (scope_of scope.old) r
         (scope_of scope.new)) }
 {

@@ -1,5 +1,5 @@
 //! Units (C17 6.9).
-ghost use Rattle.std.specs.Prelude.{◌≡◌, ◌<◌, ◌^◌, IfOk, IfErr, IsTrue, length, map};
+ghost use Rattle.std.specs.Prelude.{◌≡◌, IfOk, IfErr, map};
 ghost use Rattle.mc_span.specs.declared.span.Span.{Span};
 ghost use Rattle.mc_tree.specs.Tree as t;
 ghost use Rattle.mc_tree.specs.Units as units;
@@ -22,8 +22,7 @@ use mc_scopes::around::Around;
 use mc_scopes::found::Judged;
 use mc_scopes::{Scope, structure_types};
 use mc_tree::{BlockItem, Declarator, Identifier, Item, Parameter, Specifier, Unit};
-use mc_typed::{Function, Program, Span, StaticObject};
-use mc_value::ObjType;
+use mc_typed::{Function, Program, Span};
 use std::alloc::{AllocError, Global};
 
 /// A function definition (C17 6.9.1).
@@ -104,16 +103,6 @@ fn items<'a>(
     Ok(list)
 }
 
-/// Whether a program may have so many functions, static objects and structure types. Takes no
-/// memory.
-fn are_few(functions: &[Function<'_>], statics: &[StaticObject], structures: &[ObjType]) -> bool
-    ensures functions { IsTrue result → length functions.now < 2 ^ 31 }
-    ensures statics { IsTrue result → length statics.now < 2 ^ 31 }
-    ensures structures { IsTrue result → length structures.now < 2 ^ 31 }
-{
-    functions.len() < 1 << 31 && statics.len() < 1 << 31 && structures.len() < 1 << 31
-}
-
 /// The program of these functions, in the scope at the end of their unit, whose objects with static
 /// storage duration it takes.
 fn program<'a>(
@@ -131,13 +120,7 @@ fn program<'a>(
     match structure_types(alloc, &scope.structures) {
         Ok(structures) => {
             let statics = std::mem::replace(&mut scope.statics, Vec::new(alloc));
-            if are_few(&functions, &statics, &structures) {
-                return Ok(Program::new(functions, statics, structures));
-            }
-            drop(structures);
-            drop(statics);
-            drop(functions);
-            Err(AllocError)
+            Ok(Program::new(functions, statics, structures))
         }
         Err(error) => {
             drop(functions);

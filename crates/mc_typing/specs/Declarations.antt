@@ -1,5 +1,5 @@
 -- Declarations of objects, functions and typedef names (C17 6.7, 6.9.2).
-use Rattle.std.specs.Prelude.{ℕ, zero, suc, ℤ, Bool, true, false, not, ◌&&◌, ◌||◌, if◌then◌else◌, List, [], ◌∷◌, ◌++◌, length, Option, Some, None, option_map, is_some}
+use Rattle.std.specs.Prelude.{ℕ, zero, suc, min, ℤ, Bool, true, false, not, ◌&&◌, ◌||◌, if◌then◌else◌, List, [], ◌∷◌, ◌++◌, length, Option, Some, None, option_map, is_some}
 use Rattle.mc_tree.specs.declared.declarations.specifier_word.SpecifierWord.TheVariants as word
 use Rattle.mc_tree.specs.Tree.{Name, Specifier, Specifiers, ArrayLengths, Initializer, InitDeclarator, Declaration}
 use Rattle.mc_tree.specs.Tree as tree
@@ -11,6 +11,7 @@ use Rattle.mc_typed.specs.Tree as t
 use Rattle.mc_faults.specs.declared.fault.Fault.{Fault}
 use Rattle.mc_faults.specs.declared.fault.FaultKind.TheVariants.{Redeclared, Mismatch}
 use Rattle.mc_faults.specs.Faults.{fault, fault_if, unless_faulty}
+use Rattle.mc_typing.specs.Profile.{most_kept}
 use Rattle.mc_typing.specs.Types.{Base, Void, Integer, CType, has, layout_of, ParameterKind, ByValue, Signature, same_signature}
 use Rattle.mc_typing.specs.Scopes.{Meaning, Automatic, Stored, Function, Typedef, Scope, meaning_here, is_input, is_output, with_name, next_slot, next_static, with_counted, cells_counted, uncounted, with_static, prototype}
 use Rattle.mc_typing.specs.Values.{Judged, judged, judged_two, lift2}
@@ -37,7 +38,7 @@ storage_of all is_file =
 -- the number of items, where the initializer is a list; no list without items is read
 abbrev pub at_least_one : ℕ → Option ℕ
 at_least_one zero = None
-at_least_one (suc n) = Some (suc n)
+at_least_one (suc n) = Some (min (suc n) most_kept)
 
 abbrev pub count_listed : Option Initializer → Option ℕ
 count_listed (Some (tree.Braced items span)) = at_least_one (count_of items)

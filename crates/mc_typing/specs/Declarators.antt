@@ -1,6 +1,6 @@
 -- Tags, enumerators, members, declarators and parameters (C17 6.7.2, 6.7.6): what is found at each
 -- node, from what is found of its parts.
-use Rattle.std.specs.Prelude.{ℕ, zero, suc, ℤ, pos, negsuc, ◌+ℤ◌, Bool, true, false, not, ◌&&◌, ◌||◌, if◌then◌else◌, List, [], ◌∷◌, ◌++◌, take, map, length, slice_get, is_some, bytes_eq, Option, Some, None, option_map, option_and_then, is_none}
+use Rattle.std.specs.Prelude.{ℕ, zero, suc, min, ℤ, pos, negsuc, ◌+ℤ◌, Bool, true, false, not, ◌&&◌, ◌||◌, if◌then◌else◌, List, [], ◌∷◌, ◌++◌, take, map, length, slice_get, is_some, bytes_eq, Option, Some, None, option_map, option_and_then, is_none}
 use Rattle.mc_span.specs.declared.span.Span.{Span}
 use Rattle.mc_tree.specs.Tree.{Name, ArrayLengths}
 use Rattle.mc_tree.specs.Tree as tree
@@ -11,7 +11,7 @@ use Rattle.mc_typed.specs.Layout.{cells_all, members_from}
 use Rattle.mc_faults.specs.declared.fault.Fault.{Fault}
 use Rattle.mc_faults.specs.declared.fault.FaultKind.TheVariants.{Undeclared, Redeclared, Mismatch}
 use Rattle.mc_faults.specs.Faults.{fault, fault_if, unless_faulty}
-use Rattle.mc_typing.specs.Profile.{most_lengths}
+use Rattle.mc_typing.specs.Profile.{most_kept, most_lengths}
 use Rattle.mc_typing.specs.Types.{Tagged, CType, plain, int, Member, Structure, Incomplete, Complete, Faulty, is_faulty, is_complete, layout_of, layout_of_member, ParameterKind, ByValue, ByArray}
 use Rattle.mc_typing.specs.Scopes.{Meaning, Automatic, Borrowed, Constant, Typedef, TagMeaning, StructureTag, EnumerationTag, Scope, meaning_here, tag_of, tag_here, is_external, with_name, with_tag, with_structure, with_structure_at, next_slot, with_object, with_array}
 use Rattle.mc_typing.specs.Values.{Judged, judged, judged_two, Found, part, number_found, lift2, lift3}
@@ -190,10 +190,10 @@ is_later_absent tree.no_lengths = false
 is_later_absent (tree.absent_length rest) = has_absent rest
 is_later_absent (tree.given_length e rest) = has_absent rest
 
--- a length is at least 1
+-- A length is at least 1; the greatest ones are not kept.
 abbrev pub length_of : ℤ → Option ℕ
 length_of (pos zero) = None
-length_of (pos (suc n)) = Some (suc n)
+length_of (pos (suc n)) = Some (min (suc n) most_kept)
 length_of (negsuc n) = None
 
 abbrev pub is_no_length : Option ℤ → Bool

@@ -1,5 +1,5 @@
 -- Expressions (C17 6.5): what is found at each node, from what is found of its parts.
-use Rattle.std.specs.Prelude.{ℕ, ◌+◌, ◌-◌, ◌==◌, ℤ, pos, Bool, true, false, not, ◌&&◌, ◌||◌, if◌then◌else◌, List, [], ◌∷◌, ◌++◌, map, slice_get, bytes_eq, Option, Some, None, option_map, option_and_then, is_none}
+use Rattle.std.specs.Prelude.{ℕ, ◌+◌, ◌-◌, min, ◌==◌, ℤ, pos, Bool, true, false, not, ◌&&◌, ◌||◌, if◌then◌else◌, List, [], ◌∷◌, ◌++◌, map, slice_get, bytes_eq, Option, Some, None, option_map, option_and_then, is_none}
 use Rattle.mc_span.specs.declared.span.Span.{Span}
 use Rattle.mc_tree.specs.declared.expressions.unary_operator.UnaryOperator.{UnaryOperator}
 use Rattle.mc_tree.specs.declared.expressions.unary_operator.UnaryOperator.TheVariants as unary
@@ -471,4 +471,4 @@ abbrev pub operator_after : Span → Span
 operator_after span = record { start = span.end - 2; end = span.end }
 
 abbrev pub operator_before : Span → Span
-operator_before span = record { start = span.start; end = span.start + 2 }
+operator_before span = record { start = span.start; end = min (span.start + 2) span.end }

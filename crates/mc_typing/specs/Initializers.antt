@@ -2,6 +2,7 @@
 use Rattle.std.specs.Prelude.{ℕ, ◌+◌, ◌-◌, ◌==◌, nat_lt, ℤ, pos, Bool, true, false, ◌||◌, if◌then◌else◌, List, [], ◌∷◌, ◌++◌, length, replicate, slice_get, unwrap_or, Option, Some, None, option_map, option_and_then}
 use Rattle.mc_tree.specs.Tree.{Expression, Initializer, Initializers, span_of}
 use Rattle.mc_tree.specs.Tree as tree
+use Rattle.mc_typed.specs.Constants.{constant_value}
 use Rattle.mc_typed.specs.Layout.{cells}
 use Rattle.mc_typed.specs.Tree as t
 use Rattle.mc_faults.specs.declared.fault.Fault.{Fault}
@@ -10,7 +11,7 @@ use Rattle.mc_faults.specs.Faults.{fault, fault_if}
 use Rattle.mc_typing.specs.Types.{Base, Void, Integer, Tagged, CType, Member, Structure, members_of, layout_of}
 use Rattle.mc_typing.specs.Scopes.{Scope}
 use Rattle.mc_typing.specs.Values.{Judged, judged, judged_one, judged_two, Value, Kind, IsStructure, Found, part, kind_found, is_integer, fails, number_in, structure_in, number_found, lift2}
-use Rattle.mc_typing.specs.Constants.{constant_value, constant_found, constant_faults, is_zero_constant}
+use Rattle.mc_typing.specs.Constants.{constant_found, constant_faults, is_zero_constant}
 use Rattle.mc_typing.specs.Expressions.{convert_to}
 use Rattle.mc_typing.specs.Judgement.{judge}
 

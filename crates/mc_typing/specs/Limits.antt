@@ -1,10 +1,11 @@
 -- Limits of this profile: cells, parameters, and types inside one another.
 use Rattle.std.specs.Prelude.{ℕ, ◌+◌, nat_lt, nat_le, Bool, false, ◌&&◌, ◌||◌, List, [], ◌∷◌, Option, Some, None}
+use Rattle.mc_limits.specs.Limits.{most_frame_cells, most_nesting, most_parameters, most_static_cells}
+use Rattle.mc_value.specs.ObjectTypes.{most_cells}
 use Rattle.mc_typed.specs.Layout.{ObjectType, cells, nesting}
 use Rattle.mc_faults.specs.declared.fault.Fault.{Fault}
 use Rattle.mc_faults.specs.declared.fault.FaultKind.TheVariants.{Limit}
 use Rattle.mc_faults.specs.Faults.{fault_if}
-use Rattle.mc_typing.specs.Profile.{most_cells, most_nesting, most_parameters}
 use Rattle.mc_typing.specs.Types.{CType, Structure, is_complete, layout_of}
 
 -- an array has at most so many elements as an object has cells, whatever they are
@@ -25,13 +26,14 @@ object_limit_faults all (Some u) at =
     fault_if (is_complete all u.base && is_too_large all u) Limit at
 
 -- with so many more the sum passes the limit
-abbrev pub is_passed_with : ℕ → ℕ → Bool
-is_passed_with before more = nat_le before most_cells && nat_lt most_cells (before + more)
+abbrev pub is_passed_with : ℕ → ℕ → ℕ → Bool
+is_passed_with most before more = nat_le before most && nat_lt most (before + more)
 
 -- the first member with which the cells of its structure pass the limit, one that makes it nest too
 -- deep, and a long array
 abbrev pub is_large_member : ℕ → ObjectType → Bool
-is_large_member before u = is_passed_with before (cells u) || nat_lt most_nesting (nesting u + 1)
+is_large_member before u =
+    is_passed_with most_cells before (cells u) || nat_lt most_nesting (nesting u + 1)
 
 -- a member after members with so many cells
 abbrev pub member_limit_faults : ℕ → List Structure → Option CType → ℕ → List Fault
@@ -41,10 +43,11 @@ member_limit_faults before all (Some u) at =
 
 -- the first object with which all objects with static storage duration pass the limit
 abbrev pub static_limit_faults : ℕ → ObjectType → ℕ → List Fault
-static_limit_faults before u at = fault_if (is_passed_with before (cells u)) Limit at
+static_limit_faults before u at =
+    fault_if (is_passed_with most_static_cells before (cells u)) Limit at
 
 abbrev pub frame_faults : ℕ → ℕ → List Fault
-frame_faults frame at = fault_if (nat_lt most_cells frame) Limit at
+frame_faults frame at = fault_if (nat_lt most_frame_cells frame) Limit at
 
 abbrev pub parameter_count_faults : ℕ → ℕ → List Fault
 parameter_count_faults count at = fault_if (nat_lt most_parameters count) Limit at

@@ -1,6 +1,7 @@
 -- Names in scope, and what has been declared so far (C17 6.2.1 to 6.2.4).
 use Rattle.std.specs.Prelude.{ℕ, ◌+◌, ◌-◌, ℤ, Bool, true, false, ◌||◌, if◌then◌else◌, List, [], ◌∷◌, ◌++◌, length, take, drop, slice_set, bytes_eq, codes, Option, Some, None}
 use Rattle.mc_tree.specs.Tree.{Name}
+use Rattle.mc_limits.specs.Limits.{most_frame_cells, most_static_cells}
 use Rattle.mc_value.specs.declared.int_type.IntType.{IntType}
 use Rattle.mc_typed.specs.declared.expressions.Slot.{Slot}
 use Rattle.mc_typed.specs.Layout.{ObjectType, cells}
@@ -155,17 +156,17 @@ with_structure_at k structure s = record s { structures = slice_set s.structures
 
 -- where the next object of the function, and the next one with static storage duration, stands
 abbrev pub next_slot : Scope → Slot
-next_slot s = record { object = length s.objects; start = start_at s.frame }
+next_slot s = record { object = length s.objects; start = start_at most_frame_cells s.frame }
 
 abbrev pub next_static : Scope → Slot
-next_static s = record { object = length s.statics; start = start_at s.static_cells }
+next_static s = record { object = length s.statics; start = start_at most_static_cells s.static_cells }
 
 abbrev pub with_object : ObjectType → Scope → Scope
 with_object u s = record s {
   objects = s.objects ++ (record {
     object_type = u;
     cells = cells u;
-    start = start_at s.frame;
+    start = start_at most_frame_cells s.frame;
   } ∷ []);
   frame = s.frame + cells u;
 }
@@ -189,7 +190,7 @@ with_objects_of before s = record s { objects = before.objects; frame = before.f
 abbrev pub with_static : ObjectType → List ℤ → Scope → Scope
 with_static u initial s = record s {
   statics = s.statics ++ (record {
-    object = record { object_type = u; cells = cells u; start = start_at s.static_cells };
+    object = record { object_type = u; cells = cells u; start = start_at most_static_cells s.static_cells };
     initial = initial;
   } ∷ []);
   static_cells = s.static_cells + cells u;

@@ -1,5 +1,5 @@
 -- Statements (C17 6.8): what is found at each node, from what is found of its parts.
-use Rattle.std.specs.Prelude.{ℕ, ◌+◌, ℤ, Bool, true, false, not, ◌||◌, if◌then◌else◌, List, [], ◌∷◌, ◌++◌, Option, Some, None, option_map, option_and_then}
+use Rattle.std.specs.Prelude.{ℕ, ◌+◌, min, ℤ, Bool, true, false, not, ◌||◌, if◌then◌else◌, List, [], ◌∷◌, ◌++◌, Option, Some, None, option_map, option_and_then}
 use Rattle.mc_span.specs.declared.span.Span.{Span}
 use Rattle.mc_tree.specs.Tree.{Expression}
 use Rattle.mc_tree.specs.Tree as tree
@@ -74,9 +74,9 @@ statement_found x = option_and_then only x.value
 abbrev pub leaf : List Fault → Statement → Scope → Judged Statements
 leaf faults one s = judged faults (Some (alone one)) s
 
--- the word with which a statement begins
+-- the word with which a statement begins, of so many bytes
 abbrev pub keyword : ℕ → Span → Span
-keyword size span = record { start = span.start; end = span.start + size }
+keyword size span = record { start = span.start; end = min (span.start + size) span.end }
 
 -- ---- compound and expression statements (C17 6.8.2, 6.8.3)
 

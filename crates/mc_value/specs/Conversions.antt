@@ -37,6 +37,10 @@ promoted t =
     else if holds the.Int t then the.Int
     else the.UInt
 
+-- the promotions leave the type: its rank is that of int or greater
+abbrev pub is_promoted : IntType → Bool
+is_promoted t = nat_le (rank_of the.Int) (rank_of t)
+
 -- promoted types are the same where their ranks and signs are
 abbrev pub same_sign : IntType → IntType → Bool
 same_sign a b = if signed_of a then signed_of b else not (signed_of b)

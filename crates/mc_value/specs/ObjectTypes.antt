@@ -4,6 +4,10 @@ use Rattle.mc_value.specs.declared.object_type.ObjType.{ObjType}
 use Rattle.mc_value.specs.declared.object_type.ObjType.TheOpen.{ObjType-F}
 use Rattle.mc_value.specs.declared.object_type.ObjType.TheFolds.{fold-ObjType}
 
+-- how many scalars an object has at most
+abbrev pub most_cells : ℕ
+most_cells = 65536
+
 -- the scalars of an object, from those of its parts
 abbrev pub cells_of_parts : ObjType-F ℕ → ℕ
 cells_of_parts (ObjType-F.Int t) = 1

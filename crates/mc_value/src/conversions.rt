@@ -1,8 +1,8 @@
 //! Conversions of numbers and of types.
 
-ghost use Rattle.std.specs.Prelude.{◌≡◌, pos, ◌^◌};
+ghost use Rattle.std.specs.Prelude.{◌≡◌, pos, ◌^◌, IsTrue};
 ghost use Rattle.mc_value.specs.IntTypes.{InRange, width_of};
-ghost use Rattle.mc_value.specs.Conversions.{promoted, common_of, converted, wrapped};
+ghost use Rattle.mc_value.specs.Conversions.{promoted, is_promoted, common_of, converted, wrapped};
 
 use crate::int_type::{IntType, range, width};
 
@@ -24,6 +24,27 @@ pub fn promote(t: IntType) -> IntType
         | IntType::ULong
         | IntType::LLong
         | IntType::ULLong => t,
+    }
+}
+
+/// Whether the integer promotions leave the type as it is (C17 6.3.1.1p2).
+pub fn is_promoted(t: IntType) -> bool
+    ensures value { result ≡ is_promoted t }
+    ensures stays { IsTrue result → promoted t ≡ t }
+{
+    match t {
+        IntType::Bool
+        | IntType::Char
+        | IntType::SChar
+        | IntType::UChar
+        | IntType::Short
+        | IntType::UShort => false,
+        IntType::Int
+        | IntType::UInt
+        | IntType::Long
+        | IntType::ULong
+        | IntType::LLong
+        | IntType::ULLong => true,
     }
 }
 

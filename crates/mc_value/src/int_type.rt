@@ -34,7 +34,7 @@ pub enum IntType {
 }
 
 /// How many bits a value of the type has, the sign bit included (C17 6.2.6.2p6).
-pub(crate) fn width(t: IntType) -> u32
+pub fn width(t: IntType) -> u32
     ensures { result ≡ width_of t }
 {
     match t {
@@ -47,7 +47,7 @@ pub(crate) fn width(t: IntType) -> u32
 }
 
 /// Whether the type has negative values.
-pub(crate) fn is_signed(t: IntType) -> bool
+pub fn is_signed(t: IntType) -> bool
     ensures { result ≡ signed_of t }
 {
     match t {
@@ -85,7 +85,7 @@ pub fn range(t: IntType) -> (i128, i128)
 }
 
 /// Whether a number is a value of the type.
-pub(crate) fn is_in(t: IntType, v: i128) -> bool
+pub fn is_in(t: IntType, v: i128) -> bool
     ensures value { result ≡ in_range t v }
     ensures inside { IsTrue result → InRange t v }
 {

@@ -1,10 +1,13 @@
 //! Types of objects.
 
 ghost use Rattle.std.specs.Prelude.{◌≡◌, ◌≤◌, map, sum};
-ghost use Rattle.mc_value.specs.ObjectTypes.{cells_of};
+ghost use Rattle.mc_value.specs.ObjectTypes.{cells_of, most_cells};
 
 use crate::int_type::IntType;
 use std::sync::Arc;
+
+/// How many scalars an object has at most.
+pub const MOST_CELLS: u32 = 65_536;
 
 /// The type of an object (C17 6.2.5). Types that are made of one type share it.
 pub enum ObjType {
@@ -41,7 +44,7 @@ impl Drop for ObjType {
 /// How many scalars an object of the type consists of.
 #[cycle(cells)]
 pub fn cells(t: &ObjType) -> u32
-    requires { cells_of t.now ≤ 65536 }
+    requires { cells_of t.now ≤ most_cells }
     ensures { result ≡ cells_of t.now }
 {
     match t {
@@ -59,7 +62,7 @@ pub fn cells(t: &ObjType) -> u32
 
 #[cycle(cells)]
 fn cells_of_all(members: &[ObjType]) -> u32
-    requires { sum (map cells_of members.now) ≤ 65536 }
+    requires { sum (map cells_of members.now) ≤ most_cells }
     ensures { result ≡ sum (map cells_of members.now) }
 {
     let mut total = 0;

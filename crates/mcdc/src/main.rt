@@ -1,6 +1,7 @@
 //! The program: the top call over the machine's files and streams.
 #![tactic(auto)]
 
+use mc_cover::PlainCloser;
 use mc_port::{HostSink, HostStore, OpenGate, Words};
 use mc_station::station;
 use std::alloc::{AllocError, Global};
@@ -42,6 +43,15 @@ fn main(rt: HostRuntime) -> ExitCode {
     let mut diag = HostSink::over(rt.stderr());
     let mut store = HostStore::new(rt);
     let gate = OpenGate::new();
-    let status = station(alloc, &words, &mut store, &mut out, &mut diag, &gate);
+    let status = station(
+        &rt,
+        alloc,
+        &words,
+        &mut store,
+        &mut out,
+        &mut diag,
+        &gate,
+        &PlainCloser,
+    );
     ExitCode::from(status)
 }

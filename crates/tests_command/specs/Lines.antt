@@ -1,6 +1,6 @@
 -- Worked lines of words, and the commands that they are.
 use Rattle.std.specs.Prelude.{◌≡◌, ℕ, List, [], ◌∷◌, Option, Some, None, if◌then◌else◌, ◌==◌, ⊤, codes}
-use Rattle.mc_command.specs.Command.{Command, Task, command_of, on_source, report, run, vectors}
+use Rattle.mc_command.specs.Command.{Command, Task, analyse, command_of, on_source, report, run, vectors}
 use Rattle.mc_command.specs.declared.form.Form.{Form}
 use Rattle.mc_command.specs.declared.form.Form.TheVariants.{Text}
 use Rattle.mc_command.specs.declared.independence.Independence.{Independence}
@@ -30,10 +30,15 @@ abbrev pub AreNone : List (List ℕ) → Type 0
 AreNone [] = ⊤
 AreNone (line ∷ lines) = (command_of (words_in line) ≡ None) × AreNone lines
 
--- a run of the tests that `a.csv` lists
+-- a run of the tests that a file lists, by so many workers and with so much fuel for each
+abbrev pub run_by : List ℕ → List ℕ → (workers fuel : ℕ) → Task → Command
+run_by source tests workers fuel task =
+    on_source source
+    (run (record { tests = tests; workers = workers; fuel = fuel; task = task }))
+
+-- a run by 4 workers
 abbrev pub run_of : List ℕ → List ℕ → ℕ → Task → Command
-run_of source tests fuel task =
-    on_source source (run (record { tests = tests; fuel = fuel; task = task }))
+run_of source tests fuel task = run_by source tests 4 fuel task
 
 abbrev pub report_by : Independence → Form → Option (List ℕ) → ℕ → Command
 report_by mode form justify fuel = run_of (codes "a.c") (codes "a.csv") fuel
@@ -47,8 +52,17 @@ plain_report mode fuel = report_by mode Text None fuel
 abbrev pub justified_by : List ℕ → Command
 justified_by name = report_by UniqueCause Text (Some name) 1000000
 
+-- a report of the record `a.rec`
+abbrev pub analysis : Independence → Form → Option (List ℕ) → Command
+analysis mode form justify = on_source (codes "a.c")
+    (analyse (codes "a.rec") (record { mode = mode; form = form; justify = justify }))
+
 abbrev pub vectors_by : ℕ → Command
 vectors_by fuel = run_of (codes "a.c") (codes "a.csv") fuel vectors
+
+-- the vectors, found by so many workers
+abbrev pub vectors_shared : (workers fuel : ℕ) → Command
+vectors_shared workers fuel = run_by (codes "a.c") (codes "a.csv") workers fuel vectors
 
 -- the vectors of these files
 abbrev pub vectors_of : List ℕ → List ℕ → Command

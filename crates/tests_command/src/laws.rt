@@ -3,12 +3,13 @@
 #![tactic(auto, unfolding(mc_command::specs::Command::command_of, clap::proofs::OnLiterals::clap_on_literals))]
 
 ghost use Rattle.std.specs.Prelude.{◌∷◌, [], None, Some, codes};
-ghost use Rattle.mc_command.specs.Command.{vectors};
+ghost use Rattle.mc_command.specs.Command.{merge, on_source, recorded, selfload, vectors};
 ghost use Rattle.mc_command.specs.declared.form.Form.TheVariants.{Csv, Json, Text};
 ghost use Rattle.mc_command.specs.declared.independence.Independence.TheVariants.{UniqueCause, Masking};
-ghost use Rattle.tests_command.specs.Lines.{AreAll, Is, justified_by, plain_report, report_by, run_of, vectors_by, vectors_of};
+ghost use Rattle.tests_command.specs.Lines.{AreAll, Is, analysis, justified_by, plain_report, report_by, run_by, run_of, vectors_by, vectors_of, vectors_shared};
 
-/// Without options independence is unique cause, the form text, and the fuel 1,000,000.
+/// Without options independence is unique cause, the form text, and the fuel 1,000,000; 4 workers
+/// share the tests.
 pub fn defaults()
     ensures report { Is (codes "report a.c a.csv") (plain_report UniqueCause 1000000) }
     ensures vectors { Is (codes "vectors a.c a.csv") (vectors_by 1000000) }
@@ -21,6 +22,9 @@ pub fn places_of_options()
         ∷ codes "vectors a.c --fuel 8 a.csv" ∷ codes "vectors a.c a.csv --fuel 8"
         ∷ codes "vectors --fuel=8 a.c a.csv" ∷ codes "vectors a.c --fuel=8 a.csv"
         ∷ codes "vectors a.c a.csv --fuel=8" ∷ []) }
+    ensures workers { AreAll (vectors_shared 2 8)
+        (codes "vectors a.c a.csv --workers 2 --fuel 8"
+        ∷ codes "vectors --fuel=8 a.c --workers=2 a.csv" ∷ []) }
     ensures both { AreAll (plain_report Masking 8)
         (codes "report a.c a.csv --mode masking --fuel 8"
         ∷ codes "report a.c a.csv --fuel 8 --mode masking"
@@ -40,6 +44,9 @@ pub fn values()
         (report_by UniqueCause Csv None 1000000) }
     ensures json { Is (codes "report a.c a.csv --format json")
         (report_by UniqueCause Json None 1000000) }
+    ensures one_worker { Is (codes "vectors a.c a.csv --workers 1") (vectors_shared 1 1000000) }
+    ensures most_workers { Is (codes "vectors a.c a.csv --workers 64")
+        (vectors_shared 64 1000000) }
     ensures least { Is (codes "vectors a.c a.csv --fuel 1") (vectors_by 1) }
     ensures most { Is (codes "vectors a.c a.csv --fuel 100000000") (vectors_by 100000000) }
 {}
@@ -66,4 +73,25 @@ pub fn names_of_files()
         ∷ codes "vectors a.c -- a.csv" ∷ codes "vectors a.c a.csv --" ∷ []) }
     ensures options { Is (codes "vectors --fuel 8 -- -a.c --fuel")
         (run_of (codes "-a.c") (codes "--fuel") 8 vectors) }
+{}
+
+/// The commands other than `report` and `vectors`.
+pub fn other_commands()
+    ensures recorded { AreAll (run_of (codes "a.c") (codes "a.csv") 8 recorded)
+        (codes "record a.c a.csv --fuel 8" ∷ codes "record --fuel=8 a.c a.csv" ∷ []) }
+    ensures recorded_by_two { Is (codes "record a.c a.csv --workers 2 --fuel 8")
+        (run_by (codes "a.c") (codes "a.csv") 2 8 recorded) }
+    ensures merge { Is (codes "merge a.c a.rec b.rec")
+        (on_source (codes "a.c") (merge (codes "a.rec") (codes "b.rec"))) }
+    ensures selfload_least { Is (codes "selfload 1") (selfload 1 4) }
+    ensures selfload_most { AreAll (selfload 200 64) (codes "selfload 200 --workers 64"
+        ∷ codes "selfload --workers=64 200" ∷ []) }
+{}
+
+/// The options of a report of a record.
+pub fn reports_of_records()
+    ensures plain { Is (codes "analyse a.c a.rec") (analysis UniqueCause Text None) }
+    ensures all { AreAll (analysis Masking Json (Some (codes "j.json")))
+        (codes "analyse a.c a.rec --mode masking --justify j.json --format json"
+        ∷ codes "analyse --format=json a.c --justify=j.json a.rec --mode=masking" ∷ []) }
 {}

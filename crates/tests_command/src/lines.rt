@@ -6,16 +6,23 @@ use mc_port::Words;
 use std::alloc::{AllocError, Global};
 use std::test::Fail;
 
-/// A row is a line, `@` and the parts of its command: the source, the tests, the fuel and the task.
-/// Where nothing follows, the line is not a command.
+/// A row is a line, `@` and the parts of its command: for a run the source, the tests, the workers,
+/// the fuel and the task. Where nothing follows, the line is not a command.
 static ROWS: &str = "\
-report a.c a.csv@a.c|a.csv|1000000|report|unique|text
-report a.c --fuel=8 a.csv --mode masking@a.c|a.csv|8|report|masking|text
-report --format json --justify j.json -- -a.c --fuel@-a.c|--fuel|1000000|report|unique|json|j.json
-report a.c a.csv --justify= --format=csv@a.c|a.csv|1000000|report|unique|csv|
-vectors a.c a.csv@a.c|a.csv|1000000|vectors
-vectors --fuel 100000000 - a.csv@-|a.csv|100000000|vectors
-vectors \u{e9}.c \u{4e2d}.csv@\u{e9}.c|\u{4e2d}.csv|1000000|vectors
+report a.c a.csv@a.c|a.csv|4|1000000|report|unique|text
+report a.c --fuel=8 a.csv --mode masking@a.c|a.csv|4|8|report|masking|text
+report a.c a.csv --workers 1@a.c|a.csv|1|1000000|report|unique|text
+report --format json --justify j.json -- -a.c --fuel@-a.c|--fuel|4|1000000|report|unique|json|j.json
+report a.c a.csv --justify= --format=csv@a.c|a.csv|4|1000000|report|unique|csv|
+vectors a.c a.csv@a.c|a.csv|4|1000000|vectors
+vectors a.c --workers=64 a.csv --fuel=8@a.c|a.csv|64|8|vectors
+vectors --fuel 100000000 - a.csv@-|a.csv|4|100000000|vectors
+record a.c a.csv --fuel 8 --workers 2@a.c|a.csv|2|8|record
+merge a.c a.rec b.rec@a.c|merge|a.rec|b.rec
+analyse a.c a.rec --mode masking@a.c|analyse|a.rec|report|masking|text
+selfload 200@selfload|200|4
+selfload 1 --workers 64@selfload|1|64
+vectors \u{e9}.c \u{4e2d}.csv@\u{e9}.c|\u{4e2d}.csv|4|1000000|vectors
 @
 --help@
 help report@
@@ -28,7 +35,16 @@ vectors a.c a.csv --fuel 05@
 vectors a.c a.csv --fuel 100000001@
 vectors a.c a.csv --fuel 5 --fuel 5@
 vectors a.c a.csv --fuel@
-vectors a.c a.csv --workers 4@
+vectors a.c a.csv --workers 0@
+vectors a.c a.csv --workers 65@
+vectors a.c a.csv --workers 01@
+vectors a.c a.csv --workers +4@
+vectors a.c a.csv --workers@
+merge a.c a.rec@
+analyse a.c a.rec --fuel 8@
+selfload 0@
+selfload 201@
+selfload 5 --workers 65@
 ";
 
 fn push_words(words: &mut Words, line: &str) -> Result<(), AllocError> {

@@ -44,7 +44,7 @@ pub fn options_that_are_none()
         ∷ codes "report a.c a.csv --justify" ∷ codes "report a.c a.csv --format --" ∷ []) }
     ensures other { AreNone (codes "vectors a.c a.csv --mode unique"
         ∷ codes "vectors a.c a.csv --justify j.json" ∷ codes "vectors a.c a.csv --format text"
-        ∷ codes "vectors a.c a.csv --workers 4" ∷ codes "report a.c a.csv --json" ∷ []) }
+        ∷ codes "vectors a.c a.csv --worker 4" ∷ codes "report a.c a.csv --json" ∷ []) }
     ensures shortened { AreNone (codes "report a.c a.csv --mo unique"
         ∷ codes "report a.c a.csv --f 8" ∷ codes "report a.c a.csv -m unique"
         ∷ codes "report a.c a.csv -fuel 8" ∷ codes "report a.c a.csv ---fuel 8" ∷ []) }
@@ -59,8 +59,13 @@ pub fn other_values()
         ∷ codes "report a.c a.csv --format CSV" ∷ codes "report a.c a.csv --format=" ∷ []) }
 {}
 
-/// A number is decimal digits without sign or leading zero, from 1 to 100,000,000.
+/// A number is decimal digits without sign or leading zero: from 1 to 64 workers, and a fuel from 1
+/// to 100,000,000.
 pub fn other_numbers()
+    ensures workers { AreNone (codes "vectors a.c a.csv --workers 0"
+        ∷ codes "vectors a.c a.csv --workers 65" ∷ codes "vectors a.c a.csv --workers 01"
+        ∷ codes "vectors a.c a.csv --workers +4" ∷ codes "report a.c a.csv --workers="
+        ∷ codes "vectors a.c a.csv --workers 2 --workers 2" ∷ []) }
     ensures small { AreNone (codes "vectors a.c a.csv --fuel 0"
         ∷ codes "vectors a.c a.csv --fuel 05" ∷ codes "vectors a.c a.csv --fuel=" ∷ []) }
     ensures sign { AreNone (codes "vectors a.c a.csv --fuel +5"
@@ -71,4 +76,20 @@ pub fn other_numbers()
     ensures bytes { AreNone (codes "vectors a.c a.csv --fuel 8x"
         ∷ codes "vectors a.c a.csv --fuel 0x8" ∷ codes "vectors a.c a.csv --fuel 1_000"
         ∷ codes "vectors a.c a.csv --fuel=8=9" ∷ codes "vectors a.c a.csv --fuel= 8" ∷ []) }
+{}
+
+/// The other commands have their own files and options.
+pub fn other_commands()
+    ensures recorded { AreNone (codes "record a.c" ∷ codes "record a.c a.csv b.csv"
+        ∷ codes "record a.c a.csv --mode unique" ∷ codes "record a.c a.csv --fuel 0" ∷ []) }
+    ensures merge { AreNone (codes "merge a.c a.rec" ∷ codes "merge a.c a.rec b.rec c.rec"
+        ∷ codes "merge a.c a.rec b.rec --fuel 8" ∷ codes "merge a.c a.rec b.rec --workers 4"
+        ∷ []) }
+    ensures analyse { AreNone (codes "analyse a.c" ∷ codes "analyse a.c a.rec b.rec"
+        ∷ codes "analyse a.c a.rec --fuel 8" ∷ codes "analyse a.c a.rec --workers 4"
+        ∷ codes "analyse a.c a.rec --mode both" ∷ []) }
+    ensures selfload { AreNone (codes "selfload" ∷ codes "selfload 0" ∷ codes "selfload 201"
+        ∷ codes "selfload 05" ∷ codes "selfload +5" ∷ codes "selfload 5 6"
+        ∷ codes "selfload 5 --fuel 8" ∷ codes "selfload 5 --workers 65" ∷ codes "selfload a.c"
+        ∷ []) }
 {}

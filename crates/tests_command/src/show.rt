@@ -36,6 +36,7 @@ fn push_task(text: &mut String, task: Task<'_>) -> Result<(), AllocError> {
     match task {
         Task::Report(report) => push_report(text, report),
         Task::Vectors => text.push_str("vectors"),
+        Task::Record => text.push_str("record"),
     }
 }
 
@@ -49,9 +50,29 @@ fn push_number(alloc: Global, text: &mut String, number: u32) -> Result<(), Allo
 fn push_run(alloc: Global, text: &mut String, run: Run<'_>) -> Result<(), AllocError> {
     text.push_str(run.tests)?;
     text.push_str("|")?;
+    push_number(alloc, text, run.workers)?;
+    text.push_str("|")?;
     push_number(alloc, text, run.fuel)?;
     text.push_str("|")?;
     push_task(text, run.task)
+}
+
+fn push_action(alloc: Global, text: &mut String, action: Action<'_>) -> Result<(), AllocError> {
+    match action {
+        Action::Run(run) => push_run(alloc, text, run),
+        Action::Merge { left, right } => {
+            text.push_str("merge|")?;
+            text.push_str(left)?;
+            text.push_str("|")?;
+            text.push_str(right)
+        }
+        Action::Analyse { kept, report } => {
+            text.push_str("analyse|")?;
+            text.push_str(kept)?;
+            text.push_str("|")?;
+            push_report(text, report)
+        }
+    }
 }
 
 /// Adds the parts of the command, with `|` between them.
@@ -64,9 +85,13 @@ pub fn push_command(
         Command::OnSource { source, action } => {
             text.push_str(source)?;
             text.push_str("|")?;
-            match action {
-                Action::Run(run) => push_run(alloc, text, run),
-            }
+            push_action(alloc, text, action)
+        }
+        Command::Selfload { count, workers } => {
+            text.push_str("selfload|")?;
+            push_number(alloc, text, count)?;
+            text.push_str("|")?;
+            push_number(alloc, text, workers)
         }
     }
 }

@@ -10,11 +10,15 @@ use Rattle.tests_report.specs.Exits.{exits_asked, loops, plain, switches}
 use Rattle.tests_report.specs.Forms.{AllMetCsv, AllMetJson, Fields, LongName, ReasonsCsv, ReasonsJson, TestsJson}
 use Rattle.tests_report.specs.Flap.{Reasoned, Unreasoned}
 use Rattle.tests_report.specs.Places.{TwoFunctions, counted_bodies, labelled_bodies, labels_asked, statements_asked}
-use Rattle.tests_report.specs.Rows.{AllMet, Failed, Ids, Limits, Negated, NoneRun, Reasons, Settled, States, TestLines, TwoAnds, TwoOrs}
+use Rattle.tests_report.specs.Rows.{AllMet, Failed, Ids, Limits, Negated, NoneRun, Reasons, Settled, States, SummedUp, TestLines, TwoAnds, TwoOrs}
 
 pub all_met : AllMet
 unfolding digits
 all_met = (refl, refl)
+
+pub summed_up : SummedUp
+unfolding digits
+summed_up = (refl, refl)
 
 pub none_run : NoneRun
 unfolding digits

@@ -15,6 +15,7 @@ use Rattle.mc_report.specs.Words.{id_text, state_word}
 use Rattle.mc_report.specs.Report.{Report}
 use Rattle.mc_report.specs.Lines.{kept_lines, run_lines, verdict_lines}
 use Rattle.mc_report.specs.Status.{status_of}
+use Rattle.mc_report.specs.Summary.{passed_line, summary_lines}
 use Rattle.mc_report.specs.Text.{report_lines}
 use Rattle.tests_report.specs.Words.{justified, lines, met, missing, names, paired, reported, returned, returning, span, stale}
 
@@ -70,6 +71,26 @@ abbrev pub AllMet : Type 0
 AllMet =
     (report_lines (all_met Unique) ≡ lines (codes "mcdc report unique" ∷ all_met_after))
     × (report_lines (all_met Masking) ≡ lines (codes "mcdc report masking" ∷ all_met_after))
+
+-- summed up as the report on a program of one function
+abbrev pub all_met_summed : List (List ℕ)
+all_met_summed =
+    codes "selfload 1"
+    ∷ codes "tests 3 passed 3"
+    ∷ codes "entries met 1 justified 0 stale 0 missing 0 of 1"
+    ∷ codes "exits met 1 justified 0 stale 0 missing 0 of 1"
+    ∷ codes "statements met 1 justified 0 stale 0 missing 0 of 1"
+    ∷ codes "labels met 0 justified 0 stale 0 missing 0 of 0"
+    ∷ codes "outcomes met 2 justified 0 stale 0 missing 0 of 2"
+    ∷ codes "conditions met 2 justified 0 stale 0 missing 0 of 2"
+    ∷ codes "status 0"
+    ∷ []
+
+-- and tests of which one passed
+abbrev pub SummedUp : Type 0
+SummedUp =
+    (summary_lines 1 (all_met Masking) ≡ lines all_met_summed)
+    × (passed_line (Fail ∷ Pass ∷ Ended ending.Fuel ∷ []) ≡ codes "tests 3 passed 1\n")
 
 -- no tests
 abbrev pub none_run : Report

@@ -5,11 +5,16 @@ ghost use Rattle.tests_report.specs.Exits.{exits_asked, loops, plain, switches};
 ghost use Rattle.tests_report.specs.Flap.{Reasoned, Unreasoned};
 ghost use Rattle.tests_report.specs.Forms.{AllMetCsv, AllMetJson, Fields, LongName, ReasonsCsv, ReasonsJson, TestsJson};
 ghost use Rattle.tests_report.specs.Places.{TwoFunctions, counted_bodies, labelled_bodies, labels_asked, statements_asked};
-ghost use Rattle.tests_report.specs.Rows.{AllMet, Failed, Ids, Limits, Negated, NoneRun, Reasons, Settled, States, TestLines, TwoAnds, TwoOrs};
+ghost use Rattle.tests_report.specs.Rows.{AllMet, Failed, Ids, Limits, Negated, NoneRun, Reasons, Settled, States, SummedUp, TestLines, TwoAnds, TwoOrs};
 
 /// A whole report where all is met, by either kind of independence.
 pub fn all_met()
     ensures { AllMet }
+{}
+
+/// The summary of a report where all is met, and of tests of which one passed.
+pub fn summed_up()
+    ensures { SummedUp }
 {}
 
 /// A whole report where no test is run.

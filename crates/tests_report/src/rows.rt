@@ -4,7 +4,7 @@ ghost use Rattle.mc_report.specs.Seen.{report_of};
 
 use crate::make::{Test, report};
 use mc_port::MemorySink;
-use mc_report::{Report, ReportFault, status, write_text};
+use mc_report::{Report, ReportFault, put_lines, status, summary_lines, write_text};
 use mc_typed::{Ending, TestState};
 use std::alloc::Global;
 use std::process::Abort;
@@ -165,6 +165,37 @@ fn reports_of_rows(rt: HostRuntime) -> Result<(), Fail> {
         checked?;
     }
     Ok(())
+}
+
+/// The summary of the first report, as that of a program of two functions.
+static SUMMARY: &str = "selfload 2
+tests 3 passed 3
+entries met 1 justified 0 stale 0 missing 0 of 1
+exits met 1 justified 0 stale 0 missing 0 of 1
+statements met 1 justified 0 stale 0 missing 0 of 1
+labels met 0 justified 0 stale 0 missing 0 of 0
+outcomes met 2 justified 0 stale 0 missing 0 of 2
+conditions met 2 justified 0 stale 0 missing 0 of 2
+status 0
+";
+
+fn check_summary(rt: &impl Abort, alloc: Global, report: &Report<'_>) -> Result<(), Fail>
+    requires { IsReport (report_of report.now) }
+{
+    let lines = summary_lines(alloc, 2, report)?;
+    let mut out = MemorySink::new(alloc, 2000, Vec::new(alloc))?;
+    assert_eq!(rt; put_lines(&lines, &mut out), Ok(()));
+    assert!(rt; out.bytes() == SUMMARY.as_bytes());
+    Ok(())
+}
+
+#[test]
+fn a_report_is_summed_up(rt: HostRuntime) -> Result<(), Fail> {
+    let alloc = rt.alloc();
+    let report = report(&rt, alloc, ALL_MET)?;
+    let checked = check_summary(&rt, alloc, &report);
+    drop(report);
+    checked
 }
 
 /// Puts that fail, how many bytes each takes before, and how many bytes the sink then has of the

@@ -5,7 +5,7 @@ use crate::row::is_written;
 
 /// Traps, values that do not trap, and limits, as rows `CASE@WORDS@SOURCE@TESTS@STATUS@OUT@DIAG`
 /// with `~` between each two.
-const ROWS: &str = "\
+pub const ROWS: &str = "\
 overflow@vectors|s.c|t.csv@\
 int f(int a,int b){return a+b;}@\
 test,call,arguments,inputs,expect,output
@@ -114,7 +114,7 @@ D1 F=F by t2
 #[test]
 fn endings(rt: HostRuntime) -> Result<(), Fail> {
     for row in ROWS.split('~') {
-        assert!(rt; is_written(rt.alloc(), row)?, "{row}");
+        assert!(rt; is_written(&rt, rt.alloc(), row)?, "{row}");
     }
     Ok(())
 }

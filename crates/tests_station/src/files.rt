@@ -4,25 +4,36 @@ use crate::fail::Fail;
 use crate::run::{HEADER, SOURCE, TESTS, Want, gives, plain};
 use crate::text::{lines_of, padded, push};
 use std::alloc::Global;
+use std::thread::Threads;
 
 const NAME_64: &str = "aaaaaaaaaaaaaaaabbbbbbbbbbbbbbbbccccccccccccccccdddddddddddddddd";
 
 /// Whether a tests file of the header and these lines gives this.
-fn lists(alloc: Global, lines: &[u8], want: Want<'_>) -> Result<bool, Fail> {
+fn lists<R: Threads + Sync>(
+    rt: &R,
+    alloc: Global,
+    lines: &[u8],
+    want: Want<'_>,
+) -> Result<bool, Fail> {
     let mut tests = Vec::new(alloc);
     tests.extend_from_slice(HEADER.as_bytes())?;
     tests.extend_from_slice(lines)?;
     let mut setting = plain(SOURCE.as_bytes(), &tests);
     setting.room = 200000;
-    let is_wanted = gives(alloc, &setting, want);
+    let is_wanted = gives(rt, alloc, &setting, want);
     drop(tests);
     is_wanted
 }
 
 /// Whether a tests file of the header and these lines is refused with this record and fault.
-fn is_refused(alloc: Global, lines: &[u8], fault: &str) -> Result<bool, Fail> {
+fn is_refused<R: Threads + Sync>(
+    rt: &R,
+    alloc: Global,
+    lines: &[u8],
+    fault: &str,
+) -> Result<bool, Fail> {
     let diag = format!(in alloc; "mcdc: tests record {fault}\n")?;
-    let is_wanted = lists(alloc, lines, (4, b"", diag.as_bytes()));
+    let is_wanted = lists(rt, alloc, lines, (4, b"", diag.as_bytes()));
     drop(diag);
     is_wanted
 }
@@ -41,13 +52,13 @@ test A_z-0.9 pass values 0 output$D1 F-=F by A_z-0.9$@A_z-0.9,f,0 0,,,$
 test z pass values 0 output$test a pass values 0 output$D1 F-=F by z$@z,f,0 5,,,$a,f,0 6,,,$
 ";
 
-fn is_accepted_row(alloc: Global, row: &str) -> Result<bool, Fail> {
+fn is_accepted_row<R: Threads + Sync>(rt: &R, alloc: Global, row: &str) -> Result<bool, Fail> {
     let Some((out, lines)) = row.split_once('@') else {
         return Err(Fail);
     };
     let out = lines_of(alloc, out)?;
     let lines = lines_of(alloc, lines)?;
-    let is_wanted = lists(alloc, &lines, (0, &out, b""));
+    let is_wanted = lists(rt, alloc, &lines, (0, &out, b""));
     drop(lines);
     drop(out);
     is_wanted
@@ -84,12 +95,12 @@ const REFUSED: &str = "\
 4: name again@t1,f,1 1,,,$t2,f,1 0,,,$t1,f,1 1,,,$
 ";
 
-fn is_refused_row(alloc: Global, row: &str) -> Result<bool, Fail> {
+fn is_refused_row<R: Threads + Sync>(rt: &R, alloc: Global, row: &str) -> Result<bool, Fail> {
     let Some((fault, lines)) = row.split_once('@') else {
         return Err(Fail);
     };
     let lines = lines_of(alloc, lines)?;
-    let is_wanted = is_refused(alloc, &lines, fault);
+    let is_wanted = is_refused(rt, alloc, &lines, fault);
     drop(lines);
     is_wanted
 }
@@ -109,7 +120,7 @@ const HEADERS: &str = "\
 ";
 
 /// Whether a tests file without a test is accepted, or else has no header.
-fn is_judged_row(alloc: Global, row: &str) -> Result<bool, Fail> {
+fn is_judged_row<R: Threads + Sync>(rt: &R, alloc: Global, row: &str) -> Result<bool, Fail> {
     let Some((fault, file)) = row.split_once('@') else {
         return Err(Fail);
     };
@@ -120,7 +131,7 @@ fn is_judged_row(alloc: Global, row: &str) -> Result<bool, Fail> {
     } else {
         (4, b"", b"mcdc: tests record 1: header\n")
     };
-    let is_wanted = gives(alloc, &setting, want);
+    let is_wanted = gives(rt, alloc, &setting, want);
     drop(tests);
     is_wanted
 }
@@ -128,39 +139,39 @@ fn is_judged_row(alloc: Global, row: &str) -> Result<bool, Fail> {
 #[test]
 fn tests_files(rt: HostRuntime) -> Result<(), Fail> {
     for row in ACCEPTED.lines() {
-        assert!(rt; is_accepted_row(rt.alloc(), row)?, "{row}");
+        assert!(rt; is_accepted_row(&rt, rt.alloc(), row)?, "{row}");
     }
     for row in REFUSED.lines() {
-        assert!(rt; is_refused_row(rt.alloc(), row)?, "{row}");
+        assert!(rt; is_refused_row(&rt, rt.alloc(), row)?, "{row}");
     }
     for row in HEADERS.lines() {
-        assert!(rt; is_judged_row(rt.alloc(), row)?, "{row}");
+        assert!(rt; is_judged_row(&rt, rt.alloc(), row)?, "{row}");
     }
     Ok(())
 }
 
 /// Whether a test with a name of 64 bytes is accepted.
-fn is_named(alloc: Global, name: &str) -> Result<bool, Fail> {
+fn is_named<R: Threads + Sync>(rt: &R, alloc: Global, name: &str) -> Result<bool, Fail> {
     let line = format!(in alloc; "{name},f,1 1,,,\n")?;
     let out = format!(in alloc; "test {name} pass values 1 output\nD1 TT=T by {name}\n")?;
-    let is_wanted = lists(alloc, line.as_bytes(), (0, out.as_bytes(), b""));
+    let is_wanted = lists(rt, alloc, line.as_bytes(), (0, out.as_bytes(), b""));
     drop(out);
     drop(line);
     is_wanted
 }
 
 /// Whether a test with a name of one byte more is refused.
-fn is_too_long(alloc: Global, name: &str) -> Result<bool, Fail> {
+fn is_too_long<R: Threads + Sync>(rt: &R, alloc: Global, name: &str) -> Result<bool, Fail> {
     let line = format!(in alloc; "{name}e,f,1 1,,,\n")?;
-    let is_wanted = is_refused(alloc, line.as_bytes(), "2: text");
+    let is_wanted = is_refused(rt, alloc, line.as_bytes(), "2: text");
     drop(line);
     is_wanted
 }
 
 #[test]
 fn length_of_names(rt: HostRuntime) -> Result<(), Fail> {
-    assert!(rt; is_named(rt.alloc(), NAME_64)?);
-    assert!(rt; is_too_long(rt.alloc(), NAME_64)?);
+    assert!(rt; is_named(&rt, rt.alloc(), NAME_64)?);
+    assert!(rt; is_too_long(&rt, rt.alloc(), NAME_64)?);
     Ok(())
 }
 
@@ -173,29 +184,34 @@ fn numbered(alloc: Global, front: &str, back: &str) -> Result<String, Fail> {
     Ok(text)
 }
 
-fn are_most(alloc: Global, lines: &str) -> Result<bool, Fail> {
+fn are_most<R: Threads + Sync>(rt: &R, alloc: Global, lines: &str) -> Result<bool, Fail> {
     let mut out = numbered(alloc, "test t", " pass values 1 output\n")?;
     out.push_str("D1 TT=T by t0\n")?;
-    let is_wanted = lists(alloc, lines.as_bytes(), (0, out.as_bytes(), b""));
+    let is_wanted = lists(rt, alloc, lines.as_bytes(), (0, out.as_bytes(), b""));
     drop(out);
     is_wanted
 }
 
-fn are_too_many(alloc: Global, lines: &mut String) -> Result<bool, Fail> {
+fn are_too_many<R: Threads + Sync>(
+    rt: &R,
+    alloc: Global,
+    lines: &mut String,
+) -> Result<bool, Fail> {
     lines.push_str("more,f,1 1,,,\n")?;
-    is_refused(alloc, lines.as_bytes(), "4098: limit")
+    is_refused(rt, alloc, lines.as_bytes(), "4098: limit")
 }
 
 #[test]
 fn number_of_tests(rt: HostRuntime) -> Result<(), Fail> {
     let mut lines = numbered(rt.alloc(), "t", ",f,1 1,,,\n")?;
-    assert!(rt; are_most(rt.alloc(), lines.as_str())?);
-    assert!(rt; are_too_many(rt.alloc(), &mut lines)?);
+    assert!(rt; are_most(&rt, rt.alloc(), lines.as_str())?);
+    assert!(rt; are_too_many(&rt, rt.alloc(), &mut lines)?);
     Ok(())
 }
 
 /// Whether files of these lengths give this.
-fn is_limited(
+fn is_limited<R: Threads + Sync>(
+    rt: &R,
     alloc: Global,
     source: usize,
     tests: usize,
@@ -205,6 +221,7 @@ fn is_limited(
     let source = padded(alloc, SOURCE, b' ', source)?;
     let tests = padded(alloc, HEADER, b'\n', tests)?;
     let is_wanted = gives(
+        rt,
         alloc,
         &plain(&source, &tests),
         (status, b"", diag.as_bytes()),
@@ -232,7 +249,7 @@ static LENGTHS: [(usize, usize, u8, &str); 5] = [
 fn lengths_of_files(rt: HostRuntime) -> Result<(), Fail> {
     for (source, tests, status, diag) in &LENGTHS {
         assert!(rt;
-            is_limited(rt.alloc(), *source, *tests, *status, diag)?,
+            is_limited(&rt, rt.alloc(), *source, *tests, *status, diag)?,
             "{source} {tests}"
         );
     }
@@ -244,10 +261,17 @@ fn faults_come_in_order(rt: HostRuntime) -> Result<(), Fail> {
     let source = b"int f(int a){return b;}".as_slice();
     let fault: Want<'_> = (3, b"", b"mcdc: source 1:21: undeclared\n");
     let mut setting = plain(source, b"");
-    assert!(rt; gives(rt.alloc(), &setting, fault)?);
+    assert!(rt; gives(&rt, rt.alloc(), &setting, fault)?);
     setting.failing_load = 1;
-    assert!(rt; gives(rt.alloc(), &setting, (6, b"", b"mcdc: cannot read s.c\n"))?);
+    assert!(rt;
+        gives(
+            &rt,
+            rt.alloc(),
+            &setting,
+            (6, b"", b"mcdc: cannot read s.c\n")
+        )?
+    );
     setting = plain(source, TESTS.as_bytes());
-    assert!(rt; gives(rt.alloc(), &setting, fault)?);
+    assert!(rt; gives(&rt, rt.alloc(), &setting, fault)?);
     Ok(())
 }

@@ -5,6 +5,7 @@ use crate::fail::Fail;
 use crate::run::{SOURCE, TESTS, gives, has_number, of_files, plain};
 use crate::text::bytes_of;
 use std::alloc::Global;
+use std::thread::Threads;
 
 const CSV: &str = "report|s.c|t.csv|--format|csv";
 
@@ -185,7 +186,8 @@ static REPORTS: [(&str, &str, &str, u8, &str); 8] = [
     (JSON, KINDS, KINDS_TESTS, 1, KINDS_OBJECT),
 ];
 
-fn is_written(
+fn is_written<R: Threads + Sync>(
+    rt: &R,
     alloc: Global,
     words: &str,
     source: &str,
@@ -197,7 +199,7 @@ fn is_written(
     let justifications = bytes_of(alloc, JUSTIFICATIONS)?;
     let written = bytes_of(alloc, written)?;
     let setting = of_files(words, &source, tests.as_bytes(), &justifications);
-    let is_wanted = gives(alloc, &setting, (status, &written, b""));
+    let is_wanted = gives(rt, alloc, &setting, (status, &written, b""));
     drop(written);
     drop(justifications);
     drop(source);
@@ -207,7 +209,7 @@ fn is_written(
 #[test]
 fn reports_in_both_forms(rt: HostRuntime) -> Result<(), Fail> {
     for (words, source, tests, status, written) in &REPORTS {
-        let is_written = is_written(rt.alloc(), words, source, tests, (*status, written))?;
+        let is_written = is_written(&rt, rt.alloc(), words, source, tests, (*status, written))?;
         assert!(rt; is_written, "{words} {source}");
     }
     Ok(())
@@ -217,7 +219,7 @@ fn reports_in_both_forms(rt: HostRuntime) -> Result<(), Fail> {
 fn the_object_is_read_again(rt: HostRuntime) -> Result<(), Fail> {
     let mut setting = plain(SOURCE.as_bytes(), TESTS.as_bytes());
     setting.words = JSON;
-    assert!(rt; has_number(rt.alloc(), &setting, "status", 0)?);
+    assert!(rt; has_number(&rt, rt.alloc(), &setting, "status", 0)?);
     Ok(())
 }
 
@@ -244,7 +246,8 @@ static PUTS: [(&str, &str, (u32, u32), &str); 4] = [
     (JSON, SOURCE, (1, 5), "{'cou"),
 ];
 
-fn is_put(
+fn is_put<R: Threads + Sync>(
+    rt: &R,
     alloc: Global,
     words: &str,
     source: &str,
@@ -256,7 +259,7 @@ fn is_put(
     let written = bytes_of(alloc, written)?;
     let mut setting = of_files(words, &source, TESTS.as_bytes(), b"[]");
     setting.failing_out = failing;
-    let is_wanted = gives(alloc, &setting, (status, &written, b""));
+    let is_wanted = gives(rt, alloc, &setting, (status, &written, b""));
     drop(written);
     drop(source);
     is_wanted
@@ -265,10 +268,10 @@ fn is_put(
 #[test]
 fn puts_of_both_forms(rt: HostRuntime) -> Result<(), Fail> {
     for (words, source, failing, written) in &PUTS {
-        let is_put = is_put(rt.alloc(), words, source, *failing, (7, written))?;
+        let is_put = is_put(&rt, rt.alloc(), words, source, *failing, (7, written))?;
         assert!(rt; is_put, "{words} {source}");
     }
     // There is no second put of an object.
-    assert!(rt; is_put(rt.alloc(), JSON, SOURCE, (2, 0), (0, OBJECT))?);
+    assert!(rt; is_put(&rt, rt.alloc(), JSON, SOURCE, (2, 0), (0, OBJECT))?);
     Ok(())
 }

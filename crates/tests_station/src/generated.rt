@@ -4,9 +4,10 @@ use crate::fail::Fail;
 use crate::run::{HEADER, gives, of_files, plain};
 use crate::text::push;
 use std::alloc::Global;
+use std::thread::Threads;
 
 /// A header, and as many tests of `f` with the two lowest bits of their number as arguments.
-fn many_tests(alloc: Global, count: u32) -> Result<String, Fail> {
+pub fn many_tests(alloc: Global, count: u32) -> Result<String, Fail> {
     let mut tests = String::from_str(alloc, HEADER)?;
     for before in 0..count {
         let j = before + 1;
@@ -20,25 +21,31 @@ fn many_tests(alloc: Global, count: u32) -> Result<String, Fail> {
     Ok(tests)
 }
 
-/// The lines of 130 such tests of `a&&b`, and those of the vectors.
-fn lines_of_tests(alloc: Global) -> Result<String, Fail> {
-    let mut out = String::new(alloc);
+/// Adds the lines of 130 such tests of `a&&b`.
+pub fn push_lines(alloc: Global, out: &mut String) -> Result<(), Fail> {
     for j in 1..131 {
         let value = if j % 4 == 3 { 1 } else { 0 };
         push(
-            &mut out,
+            out,
             format!(in alloc; "test t{j} pass values {value} output\n"),
         )?;
     }
+    Ok(())
+}
+
+/// The lines of these tests, and those of the vectors.
+fn lines_of_tests(alloc: Global) -> Result<String, Fail> {
+    let mut out = String::new(alloc);
+    push_lines(alloc, &mut out)?;
     out.push_str("D1 TT=T by t3\nD1 TF=F by t1\nD1 F-=F by t2\n")?;
     Ok(out)
 }
 
-fn are_least(alloc: Global, tests: &str) -> Result<bool, Fail> {
+fn are_least<R: Threads + Sync>(rt: &R, alloc: Global, tests: &str) -> Result<bool, Fail> {
     let out = lines_of_tests(alloc)?;
     let mut setting = plain(b"int f(int a,int b){return a&&b;}", tests.as_bytes());
     setting.room = 65536;
-    let is_wanted = gives(alloc, &setting, (0, out.as_bytes(), b""));
+    let is_wanted = gives(rt, alloc, &setting, (0, out.as_bytes(), b""));
     drop(out);
     is_wanted
 }
@@ -46,7 +53,7 @@ fn are_least(alloc: Global, tests: &str) -> Result<bool, Fail> {
 #[test]
 fn least_of_many_tests(rt: HostRuntime) -> Result<(), Fail> {
     let tests = many_tests(rt.alloc(), 130)?;
-    assert!(rt; are_least(rt.alloc(), tests.as_str())?);
+    assert!(rt; are_least(&rt, rt.alloc(), tests.as_str())?);
     Ok(())
 }
 
@@ -76,7 +83,8 @@ fn tests_of_first(alloc: Global, count: u32) -> Result<String, Fail> {
 
 /// Whether these words are refused for a program of so many functions with such a decision, under
 /// so many tests.
-fn is_too_large(
+fn is_too_large<R: Threads + Sync>(
+    rt: &R,
     alloc: Global,
     words: &str,
     functions: u32,
@@ -87,7 +95,7 @@ fn is_too_large(
     let source = many_functions(alloc, functions)?;
     let tests = tests_of_first(alloc, count)?;
     let setting = of_files(words, source.as_bytes(), tests.as_bytes(), b"[]");
-    let is_wanted = gives(alloc, &setting, (status, b"", line.as_bytes()));
+    let is_wanted = gives(rt, alloc, &setting, (status, b"", line.as_bytes()));
     drop(tests);
     drop(source);
     is_wanted
@@ -97,12 +105,12 @@ fn is_too_large(
 fn sizes_of_maps_and_matrices(rt: HostRuntime) -> Result<(), Fail> {
     let words = "vectors|s.c|t.csv";
     let line = "mcdc: matrix needs 1311360 words\n";
-    assert!(rt; is_too_large(rt.alloc(), words, 5, 4096, 9, line)?);
+    assert!(rt; is_too_large(&rt, rt.alloc(), words, 5, 4096, 9, line)?);
     // No file of justifications is asked for then: this one is not there.
     let justified = "report|s.c|t.csv|--justify|u.json";
-    assert!(rt; is_too_large(rt.alloc(), justified, 5, 4096, 9, line)?);
+    assert!(rt; is_too_large(&rt, rt.alloc(), justified, 5, 4096, 9, line)?);
     let bits = "mcdc: source: too many bits 65568\n";
-    assert!(rt; is_too_large(rt.alloc(), words, 16, 0, 3, bits)?);
+    assert!(rt; is_too_large(&rt, rt.alloc(), words, 16, 0, 3, bits)?);
     Ok(())
 }
 
@@ -126,11 +134,11 @@ fn lines_of_outputs(alloc: Global) -> Result<String, Fail> {
     Ok(out)
 }
 
-fn is_full(alloc: Global, out: &str) -> Result<bool, Fail> {
+fn is_full<R: Threads + Sync>(rt: &R, alloc: Global, out: &str) -> Result<bool, Fail> {
     let tests = format!(in alloc; "{HEADER}t1,f,4096,,,\nt2,f,4097,,,\n")?;
     let mut setting = plain(COUNTS_DOWN.as_bytes(), tests.as_bytes());
     setting.room = 65536;
-    let is_wanted = gives(alloc, &setting, (1, out.as_bytes(), b""));
+    let is_wanted = gives(rt, alloc, &setting, (1, out.as_bytes(), b""));
     drop(tests);
     is_wanted
 }
@@ -138,6 +146,6 @@ fn is_full(alloc: Global, out: &str) -> Result<bool, Fail> {
 #[test]
 fn a_full_output(rt: HostRuntime) -> Result<(), Fail> {
     let out = lines_of_outputs(rt.alloc())?;
-    assert!(rt; is_full(rt.alloc(), out.as_str())?);
+    assert!(rt; is_full(&rt, rt.alloc(), out.as_str())?);
     Ok(())
 }

@@ -4,13 +4,20 @@ use crate::fail::Fail;
 use crate::run::{REPORT, SOURCE, TESTS, Want, gives, of_files, plain};
 use crate::text::{bytes_of, padded};
 use std::alloc::Global;
+use std::thread::Threads;
 
 const WORDS: &str = "report|s.c|t.csv|--justify|j.json";
 
 /// Whether a report of this source with these justifications gives this.
-fn reports(alloc: Global, source: &[u8], file: &[u8], want: Want<'_>) -> Result<bool, Fail> {
+fn reports<R: Threads + Sync>(
+    rt: &R,
+    alloc: Global,
+    source: &[u8],
+    file: &[u8],
+    want: Want<'_>,
+) -> Result<bool, Fail> {
     let setting = of_files(WORDS, source, TESTS.as_bytes(), file);
-    gives(alloc, &setting, want)
+    gives(rt, alloc, &setting, want)
 }
 
 /// What the line says after `mcdc: justification`, and the file. There `'` is a quotation mark, `$`
@@ -35,7 +42,13 @@ const REFUSED: &str = "\
 {'id':'S1','quote':'return a&&b;','reason':'y'}]
 ";
 
-fn is_refused(alloc: Global, source: &str, said: &str, file: &str) -> Result<bool, Fail> {
+fn is_refused<R: Threads + Sync>(
+    rt: &R,
+    alloc: Global,
+    source: &str,
+    said: &str,
+    file: &str,
+) -> Result<bool, Fail> {
     let front = "mcdc: justification";
     let source = bytes_of(alloc, source)?;
     let file = bytes_of(alloc, file)?;
@@ -44,7 +57,7 @@ fn is_refused(alloc: Global, source: &str, said: &str, file: &str) -> Result<boo
     line.extend_from_slice(front.as_bytes())?;
     line.extend_from_slice(&said)?;
     line.push(b'\n')?;
-    let is_wanted = reports(alloc, &source, &file, (5, b"", &line));
+    let is_wanted = reports(rt, alloc, &source, &file, (5, b"", &line));
     drop(line);
     drop(said);
     drop(file);
@@ -52,17 +65,17 @@ fn is_refused(alloc: Global, source: &str, said: &str, file: &str) -> Result<boo
     is_wanted
 }
 
-fn is_refused_row(alloc: Global, row: &str) -> Result<bool, Fail> {
+fn is_refused_row<R: Threads + Sync>(rt: &R, alloc: Global, row: &str) -> Result<bool, Fail> {
     let Some((said, file)) = row.split_once('@') else {
         return Err(Fail);
     };
-    is_refused(alloc, SOURCE, said, file)
+    is_refused(rt, alloc, SOURCE, said, file)
 }
 
 #[test]
 fn files_of_justifications(rt: HostRuntime) -> Result<(), Fail> {
     for row in REFUSED.lines() {
-        assert!(rt; is_refused_row(rt.alloc(), row)?, "{row}");
+        assert!(rt; is_refused_row(&rt, rt.alloc(), row)?, "{row}");
     }
     Ok(())
 }
@@ -74,19 +87,24 @@ const NO_UTF8: &str = "int f(int a,int b){return a&&/*?*/b;}";
 fn a_statement_that_is_no_utf8(rt: HostRuntime) -> Result<(), Fail> {
     let said = " entry 1: quote kept <<return a&&/*?*/b;>> given <<return a&&/**/b;>>";
     let file = "[{'id':'S1','quote':'return a&&/**/b;','reason':'x'}]";
-    assert!(rt; is_refused(rt.alloc(), NO_UTF8, said, file)?);
+    assert!(rt; is_refused(&rt, rt.alloc(), NO_UTF8, said, file)?);
     Ok(())
 }
 
 /// Whether a file of so many entries without a shape is refused so.
-fn is_counted(alloc: Global, count: usize, line: &str) -> Result<bool, Fail> {
+fn is_counted<R: Threads + Sync>(
+    rt: &R,
+    alloc: Global,
+    count: usize,
+    line: &str,
+) -> Result<bool, Fail> {
     let mut file = String::from_str(alloc, "[0")?;
     for _turn in 1..count {
         file.push_str(",0")?;
     }
     file.push_str("]")?;
     let want: Want<'_> = (5, b"", line.as_bytes());
-    let is_wanted = reports(alloc, SOURCE.as_bytes(), file.as_bytes(), want);
+    let is_wanted = reports(rt, alloc, SOURCE.as_bytes(), file.as_bytes(), want);
     drop(file);
     is_wanted
 }
@@ -95,15 +113,20 @@ fn is_counted(alloc: Global, count: usize, line: &str) -> Result<bool, Fail> {
 fn number_of_entries(rt: HostRuntime) -> Result<(), Fail> {
     let shape = "mcdc: justification entry 1: shape\n";
     let limit = "mcdc: justification: limit\n";
-    assert!(rt; is_counted(rt.alloc(), 4096, shape)?);
-    assert!(rt; is_counted(rt.alloc(), 4097, limit)?);
+    assert!(rt; is_counted(&rt, rt.alloc(), 4096, shape)?);
+    assert!(rt; is_counted(&rt, rt.alloc(), 4097, limit)?);
     Ok(())
 }
 
 /// Whether a file of this length without an entry gives this.
-fn is_limited(alloc: Global, length: usize, want: Want<'_>) -> Result<bool, Fail> {
+fn is_limited<R: Threads + Sync>(
+    rt: &R,
+    alloc: Global,
+    length: usize,
+    want: Want<'_>,
+) -> Result<bool, Fail> {
     let file = padded(alloc, "[]", b' ', length)?;
-    let is_wanted = reports(alloc, SOURCE.as_bytes(), &file, want);
+    let is_wanted = reports(rt, alloc, SOURCE.as_bytes(), &file, want);
     drop(file);
     is_wanted
 }
@@ -112,8 +135,8 @@ fn is_limited(alloc: Global, length: usize, want: Want<'_>) -> Result<bool, Fail
 fn length_of_justifications(rt: HostRuntime) -> Result<(), Fail> {
     let most: Want<'_> = (0, REPORT.as_bytes(), b"");
     let more: Want<'_> = (5, b"", b"mcdc: j.json: longer than 1048576 bytes\n");
-    assert!(rt; is_limited(rt.alloc(), 1048576, most)?);
-    assert!(rt; is_limited(rt.alloc(), 1048577, more)?);
+    assert!(rt; is_limited(&rt, rt.alloc(), 1048576, most)?);
+    assert!(rt; is_limited(&rt, rt.alloc(), 1048577, more)?);
     Ok(())
 }
 
@@ -188,7 +211,7 @@ fn justifications_are_asked_for_last(rt: HostRuntime) -> Result<(), Fail> {
         setting.words = words;
         setting.failing_load = *load;
         let want: Want<'_> = (*status, b"", line.as_bytes());
-        assert!(rt; gives(rt.alloc(), &setting, want)?, "{words} {load}");
+        assert!(rt; gives(&rt, rt.alloc(), &setting, want)?, "{words} {load}");
     }
     Ok(())
 }

@@ -4,7 +4,7 @@ use crate::fail::Fail;
 use crate::row::is_justified;
 
 /// Rows `JUSTIFICATIONS@CASE@WORDS@SOURCE@TESTS@STATUS@OUT@DIAG`, with `~` between each two.
-const ROWS: &str = "\
+pub const ROWS: &str = "\
 [{\"id\":\"D1C2\",\"quote\":\"b\",\"reason\":\"b is stuck\"}]@\
 a justified condition@report|s.c|t.csv|--justify|j.json@\
 int f(int a,int b){return a&&b;}@\
@@ -313,7 +313,7 @@ status 0
 #[test]
 fn justified(rt: HostRuntime) -> Result<(), Fail> {
     for row in ROWS.split('~') {
-        assert!(rt; is_justified(rt.alloc(), row)?, "{row}");
+        assert!(rt; is_justified(&rt, rt.alloc(), row)?, "{row}");
     }
     Ok(())
 }

@@ -3,6 +3,8 @@
 #![tactic(auto)]
 
 #[cfg(test)]
+mod closers;
+#[cfg(test)]
 mod endings;
 #[cfg(test)]
 mod fail;
@@ -16,6 +18,8 @@ mod generated;
 mod justifications;
 #[cfg(test)]
 mod justified;
+#[cfg(test)]
+mod meeting;
 #[cfg(test)]
 mod outcomes;
 #[cfg(test)]
@@ -32,3 +36,5 @@ mod text;
 mod truth_tables;
 #[cfg(test)]
 mod worked;
+#[cfg(test)]
+mod workers;

@@ -3,10 +3,16 @@
 use crate::fail::Fail;
 use crate::run::{SOURCE, TESTS, gives, plain};
 use std::alloc::Global;
+use std::thread::Threads;
 
-const USAGE: &str = "usage: mcdc report SOURCE TESTS [--mode unique|masking] [--fuel N] \
-    [--justify NAME] [--format text|csv|json]\n\
-    \x20      mcdc vectors SOURCE TESTS [--fuel N]\n";
+const USAGE: &str = "usage: mcdc report SOURCE TESTS [--mode unique|masking] [--workers N] \
+    [--fuel N] [--justify NAME] [--format text|csv|json]\n\
+    \x20      mcdc vectors SOURCE TESTS [--workers N] [--fuel N]\n\
+    \x20      mcdc record SOURCE TESTS [--workers N] [--fuel N]\n\
+    \x20      mcdc merge SOURCE LEFT RIGHT\n\
+    \x20      mcdc analyse SOURCE RECORD [--mode unique|masking] [--justify NAME] \
+    [--format text|csv|json]\n\
+    \x20      mcdc selfload N [--workers N]\n";
 
 /// Words with `|` between each two; the first line has none.
 const NOT_A_COMMAND: &str = "\n\
@@ -22,12 +28,21 @@ vectors|s.c|t.csv|--fuel=
 vectors|s.c|t.csv|--mode|unique
 vectors|s.c|t.csv|--justify|j.json
 vectors|s.c|t.csv|--format|text
-vectors|s.c|t.csv|--workers|4
+vectors|s.c|t.csv|--workers
+vectors|s.c|t.csv|--workers|0
+vectors|s.c|t.csv|--workers|01
+vectors|s.c|t.csv|--workers|65
+vectors|s.c|t.csv|--workers|4294967297
+vectors|s.c|t.csv|--workers|2|--workers|2
+vectors|s.c|t.csv|--workers=
 report|s.c
 report|s.c|t.csv|--mode|both
 report|s.c|t.csv|--mode=
 report|s.c|t.csv|--fuel|0
-report|s.c|t.csv|--workers|4
+report|s.c|t.csv|--workers|0
+report|s.c|t.csv|--workers|01
+report|s.c|t.csv|--workers|65
+report|s.c|t.csv|--workers|four
 report|s.c|t.csv|--format|xml
 report|s.c|t.csv|--format|JSON
 report|s.c|t.csv|--justify
@@ -58,7 +73,7 @@ fn words_that_are_not_a_command(rt: HostRuntime) -> Result<(), Fail> {
         let mut setting = plain(SOURCE.as_bytes(), TESTS.as_bytes());
         setting.words = words;
         assert!(rt;
-            gives(rt.alloc(), &setting, (2, b"", USAGE.as_bytes()))?,
+            gives(&rt, rt.alloc(), &setting, (2, b"", USAGE.as_bytes()))?,
             "{words}"
         );
     }
@@ -77,6 +92,10 @@ vectors|--|s.c|t.csv@0@
 vectors|s.c|--|t.csv@0@
 vectors|s.c|t.csv|--@0@
 vectors|--fuel|100000000|--|s.c|t.csv@0@
+vectors|s.c|t.csv|--workers|1@0@
+vectors|s.c|t.csv|--workers|64@0@
+vectors|--workers=64|s.c|t.csv@0@
+vectors|s.c|--workers|2|t.csv|--fuel=8@0@
 vectors|-|t.csv@6@mcdc: cannot read -
 vectors||t.csv@6@mcdc: cannot read\x20
 vectors|s.c|-@6@mcdc: cannot read -
@@ -95,7 +114,7 @@ D1 TF=F by t2
 D1 F-=F by t3
 ";
 
-fn is_read(alloc: Global, row: &str) -> Result<bool, Fail> {
+fn is_read<R: Threads + Sync>(rt: &R, alloc: Global, row: &str) -> Result<bool, Fail> {
     let Some((words, rest)) = row.split_once('@') else {
         return Err(Fail);
     };
@@ -105,10 +124,10 @@ fn is_read(alloc: Global, row: &str) -> Result<bool, Fail> {
     let mut setting = plain(SOURCE.as_bytes(), TESTS.as_bytes());
     setting.words = words;
     if status == "0" {
-        return gives(alloc, &setting, (0, VECTORS.as_bytes(), b""));
+        return gives(rt, alloc, &setting, (0, VECTORS.as_bytes(), b""));
     }
     let diag = format!(in alloc; "{line}\n")?;
-    let is_wanted = gives(alloc, &setting, (6, b"", diag.as_bytes()));
+    let is_wanted = gives(rt, alloc, &setting, (6, b"", diag.as_bytes()));
     drop(diag);
     is_wanted
 }
@@ -116,7 +135,7 @@ fn is_read(alloc: Global, row: &str) -> Result<bool, Fail> {
 #[test]
 fn words_that_are_a_command(rt: HostRuntime) -> Result<(), Fail> {
     for row in COMMANDS.lines() {
-        assert!(rt; is_read(rt.alloc(), row)?, "{row}");
+        assert!(rt; is_read(&rt, rt.alloc(), row)?, "{row}");
     }
     Ok(())
 }
@@ -223,7 +242,7 @@ fn faults_outside(rt: HostRuntime) -> Result<(), Fail> {
         setting.failing_out = *out;
         setting.failing_diag = *diag;
         let want = (*status, written.as_bytes(), told.as_bytes());
-        assert!(rt; gives(rt.alloc(), &setting, want)?, "{case}");
+        assert!(rt; gives(&rt, rt.alloc(), &setting, want)?, "{case}");
     }
     Ok(())
 }

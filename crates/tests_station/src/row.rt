@@ -3,6 +3,7 @@
 use crate::fail::Fail;
 use crate::run::{gives, plain};
 use std::alloc::Global;
+use std::thread::Threads;
 
 /// A run: its words, the source, the tests file, the file of justifications, and what it gives.
 #[derive(Clone, Copy)]
@@ -44,17 +45,59 @@ fn justified_row_of(text: &str) -> Option<Row<'_>> {
 }
 
 /// Whether the run of a row, a text `CASE@WORDS@SOURCE@TESTS@STATUS@OUT@DIAG`, gives what it says.
-pub fn is_written(alloc: Global, text: &str) -> Result<bool, Fail> {
-    is_given(alloc, row_of(text))
+pub fn is_written<R: Threads + Sync>(rt: &R, alloc: Global, text: &str) -> Result<bool, Fail> {
+    is_given(rt, alloc, row_of(text))
 }
 
 /// Whether the run of a row, a text `JUSTIFICATIONS@CASE@WORDS@SOURCE@TESTS@STATUS@OUT@DIAG`, gives
 /// what it says.
-pub fn is_justified(alloc: Global, text: &str) -> Result<bool, Fail> {
-    is_given(alloc, justified_row_of(text))
+pub fn is_justified<R: Threads + Sync>(rt: &R, alloc: Global, text: &str) -> Result<bool, Fail> {
+    is_given(rt, alloc, justified_row_of(text))
 }
 
-fn is_given(alloc: Global, row: Option<Row<'_>>) -> Result<bool, Fail> {
+/// Whether the run of a row, a text `CASE@WORDS@SOURCE@TESTS@STATUS@OUT@DIAG`, gives what it says
+/// by so many workers.
+pub fn is_written_by<R: Threads + Sync>(
+    rt: &R,
+    alloc: Global,
+    text: &str,
+    workers: u32,
+) -> Result<bool, Fail> {
+    is_given_by(rt, alloc, row_of(text), workers)
+}
+
+/// Whether the run of a row, a text `JUSTIFICATIONS@CASE@WORDS@SOURCE@TESTS@STATUS@OUT@DIAG`, gives
+/// what it says by so many workers.
+pub fn is_justified_by<R: Threads + Sync>(
+    rt: &R,
+    alloc: Global,
+    text: &str,
+    workers: u32,
+) -> Result<bool, Fail> {
+    is_given_by(rt, alloc, justified_row_of(text), workers)
+}
+
+fn is_given_by<R: Threads + Sync>(
+    rt: &R,
+    alloc: Global,
+    row: Option<Row<'_>>,
+    workers: u32,
+) -> Result<bool, Fail> {
+    let Some(row) = row else {
+        return Err(Fail);
+    };
+    let given_words = row.words;
+    let words = format!(in alloc; "{given_words}|--workers|{workers}")?;
+    let by_workers = Row {
+        words: words.as_str(),
+        ..row
+    };
+    let is_wanted = is_given(rt, alloc, Some(by_workers));
+    drop(words);
+    is_wanted
+}
+
+fn is_given<R: Threads + Sync>(rt: &R, alloc: Global, row: Option<Row<'_>>) -> Result<bool, Fail> {
     let Some(row) = row else {
         return Err(Fail);
     };
@@ -65,6 +108,7 @@ fn is_given(alloc: Global, row: Option<Row<'_>>) -> Result<bool, Fail> {
     setting.words = row.words;
     setting.justifications = row.justifications.as_bytes();
     gives(
+        rt,
         alloc,
         &setting,
         (status, row.out.as_bytes(), row.diag.as_bytes()),

@@ -1,10 +1,12 @@
 //! Runs of the top call over a store and sinks in memory.
 
 use crate::fail::Fail;
-use mc_port::{MemorySink, MemoryStore, OpenGate, Words};
+use mc_cover::{Closer, PlainCloser};
+use mc_port::{Gate, MemorySink, MemoryStore, OpenGate, Words};
 use mc_station::station;
 use serde_json::Value;
 use std::alloc::Global;
+use std::thread::Threads;
 
 pub const HEADER: &str = "test,call,arguments,inputs,expect,output\n";
 
@@ -119,42 +121,80 @@ struct Given {
 }
 
 // The run over these words and this store.
-fn called(
+fn called<R: Threads + Sync, G: Gate, C: Closer>(
+    rt: &R,
     alloc: Global,
     words: &Words,
     store: &mut MemoryStore,
     setting: &Setting<'_>,
+    gate: &G,
+    closer: &C,
 ) -> Result<Given, Fail> {
     let mut out = sink_of(alloc, setting.room, setting.failing_out)?;
     let mut diag = sink_of(alloc, 200, setting.failing_diag)?;
-    let gate = OpenGate::new();
-    let status = station(alloc, words, store, &mut out, &mut diag, &gate);
+    let status = station(rt, alloc, words, store, &mut out, &mut diag, gate, closer);
     Ok(Given { status, out, diag })
 }
 
-fn run(alloc: Global, setting: &Setting<'_>) -> Result<Given, Fail> {
+fn run_by<R: Threads + Sync, G: Gate, C: Closer>(
+    rt: &R,
+    alloc: Global,
+    setting: &Setting<'_>,
+    gate: &G,
+    closer: &C,
+) -> Result<Given, Fail> {
     let mut store = store_of(alloc, setting)?;
     let words = words_of(alloc, setting.words)?;
-    let given = called(alloc, &words, &mut store, setting);
+    let given = called(rt, alloc, &words, &mut store, setting, gate, closer);
     drop(words);
     drop(store);
     given
 }
 
-/// Whether a run gives this status and exactly these bytes.
-pub fn gives(alloc: Global, setting: &Setting<'_>, want: Want<'_>) -> Result<bool, Fail> {
+// The run as the program makes it.
+fn run<R: Threads + Sync>(rt: &R, alloc: Global, setting: &Setting<'_>) -> Result<Given, Fail> {
+    run_by(rt, alloc, setting, &OpenGate::new(), &PlainCloser)
+}
+
+// Whether this is what a run gave.
+fn is_given(given: &Given, want: Want<'_>) -> bool {
     let (status, out, diag) = want;
-    let given = run(alloc, setting)?;
-    let is_wanted = given.status == status
-        && given.out.bytes() == out
-        && given.diag.bytes() == diag;
+    given.status == status && given.out.bytes() == out && given.diag.bytes() == diag
+}
+
+/// Whether a run through this gate and by this closer gives this status and exactly these bytes.
+pub fn gives_by<R: Threads + Sync, G: Gate, C: Closer>(
+    rt: &R,
+    alloc: Global,
+    setting: &Setting<'_>,
+    gate: &G,
+    closer: &C,
+    want: Want<'_>,
+) -> Result<bool, Fail> {
+    let given = run_by(rt, alloc, setting, gate, closer)?;
+    let is_wanted = is_given(&given, want);
     drop(given);
     Ok(is_wanted)
 }
 
+/// Whether a run gives this status and exactly these bytes.
+pub fn gives<R: Threads + Sync>(
+    rt: &R,
+    alloc: Global,
+    setting: &Setting<'_>,
+    want: Want<'_>,
+) -> Result<bool, Fail> {
+    gives_by(rt, alloc, setting, &OpenGate::new(), &PlainCloser, want)
+}
+
 /// Whether a run with a tests file of no test refuses this source with a line that ends so.
-pub fn is_refused(alloc: Global, source: &[u8], end: &str) -> Result<bool, Fail> {
-    let given = run(alloc, &plain(source, HEADER.as_bytes()))?;
+pub fn is_refused<R: Threads + Sync>(
+    rt: &R,
+    alloc: Global,
+    source: &[u8],
+    end: &str,
+) -> Result<bool, Fail> {
+    let given = run(rt, alloc, &plain(source, HEADER.as_bytes()))?;
     let is_wanted = given.status == 3
         && given.out.bytes().is_empty()
         && given.diag.bytes().ends_with(end.as_bytes());
@@ -178,13 +218,14 @@ fn number_at(alloc: Global, text: &[u8], key: &str) -> Result<Option<u64>, Fail>
 }
 
 /// Whether a run ends with 0 and writes a JSON object that has this number at this key.
-pub fn has_number(
+pub fn has_number<R: Threads + Sync>(
+    rt: &R,
     alloc: Global,
     setting: &Setting<'_>,
     key: &str,
     number: u64,
 ) -> Result<bool, Fail> {
-    let given = run(alloc, setting)?;
+    let given = run(rt, alloc, setting)?;
     let found = number_at(alloc, given.out.bytes(), key);
     let is_done = given.status == 0 && given.diag.bytes().is_empty();
     drop(given);

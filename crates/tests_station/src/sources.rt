@@ -4,6 +4,7 @@ use crate::fail::Fail;
 use crate::run::{HEADER, gives, is_refused, plain};
 use crate::text::{lines_of, push};
 use std::alloc::Global;
+use std::thread::Threads;
 
 /// A row is the place and the words of the line that refuses a source, or nothing where it is
 /// accepted, or `?` for `syntax` at any place; and after `@` the source, in which `$` is the end of
@@ -108,26 +109,31 @@ const ROWS: &str = "\
 
 /// Whether a run with a tests file of no test accepts this source where there are no words, and
 /// else refuses it with a line of them.
-fn is_judged(alloc: Global, source: &[u8], words: &str) -> Result<bool, Fail> {
+fn is_judged<R: Threads + Sync>(
+    rt: &R,
+    alloc: Global,
+    source: &[u8],
+    words: &str,
+) -> Result<bool, Fail> {
     let setting = plain(source, HEADER.as_bytes());
     if words.is_empty() {
-        return gives(alloc, &setting, (0, b"", b""));
+        return gives(rt, alloc, &setting, (0, b"", b""));
     }
     if words == "?" {
-        return is_refused(alloc, source, ": syntax\n");
+        return is_refused(rt, alloc, source, ": syntax\n");
     }
     let line = format!(in alloc; "mcdc: source{words}\n")?;
-    let is_wanted = gives(alloc, &setting, (3, b"", line.as_bytes()));
+    let is_wanted = gives(rt, alloc, &setting, (3, b"", line.as_bytes()));
     drop(line);
     is_wanted
 }
 
-fn is_right(alloc: Global, row: &str) -> Result<bool, Fail> {
+fn is_right<R: Threads + Sync>(rt: &R, alloc: Global, row: &str) -> Result<bool, Fail> {
     let Some((words, text)) = row.split_once('@') else {
         return Ok(row.starts_with('#'));
     };
     let source = lines_of(alloc, text)?;
-    let is_wanted = is_judged(alloc, &source, words);
+    let is_wanted = is_judged(rt, alloc, &source, words);
     drop(source);
     is_wanted
 }
@@ -135,13 +141,14 @@ fn is_right(alloc: Global, row: &str) -> Result<bool, Fail> {
 #[test]
 fn sources(rt: HostRuntime) -> Result<(), Fail> {
     for row in ROWS.lines() {
-        assert!(rt; is_right(rt.alloc(), row)?, "{row}");
+        assert!(rt; is_right(&rt, rt.alloc(), row)?, "{row}");
     }
     Ok(())
 }
 
 /// Whether a source with a piece between two others, so many times, is judged so.
-fn is_repeated(
+fn is_repeated<R: Threads + Sync>(
+    rt: &R,
     alloc: Global,
     front: &str,
     pieces: (&str, usize),
@@ -154,7 +161,7 @@ fn is_repeated(
         source.push_str(piece)?;
     }
     source.push_str(back)?;
-    let is_wanted = is_judged(alloc, source.as_bytes(), words);
+    let is_wanted = is_judged(rt, alloc, source.as_bytes(), words);
     drop(source);
     is_wanted
 }
@@ -178,44 +185,54 @@ static LARGE: [(&str, usize, &str, &str); 5] = [
 fn decisions_that_are_too_large(rt: HostRuntime) -> Result<(), Fail> {
     let front = "int f(int a){return ";
     for (piece, times, back, words) in &LARGE {
-        let is_judged = is_repeated(rt.alloc(), front, (piece, *times), back, words)?;
+        let is_judged = is_repeated(&rt, rt.alloc(), front, (piece, *times), back, words)?;
         assert!(rt; is_judged, "{piece} {times}");
     }
     Ok(())
 }
 
 /// Whether a function with one parameter more than the text has is judged so.
-fn has_room(alloc: Global, text: &mut String, count: u32) -> Result<bool, Fail> {
+fn has_room<R: Threads + Sync>(
+    rt: &R,
+    alloc: Global,
+    text: &mut String,
+    count: u32,
+) -> Result<bool, Fail> {
     push(text, format!(in alloc; ",int p{count}"))?;
     let words = if count <= 16 { "" } else { " 1:5: type limit" };
-    is_repeated(alloc, text.as_str(), ("", 0), "){return !a;}", words)
+    is_repeated(rt, alloc, text.as_str(), ("", 0), "){return !a;}", words)
 }
 
 #[test]
 fn limit_of_parameters(rt: HostRuntime) -> Result<(), Fail> {
     let mut text = String::from_str(rt.alloc(), "int f(int a")?;
     for count in 2..18 {
-        assert!(rt; has_room(rt.alloc(), &mut text, count)?, "{count}");
+        assert!(rt; has_room(&rt, rt.alloc(), &mut text, count)?, "{count}");
     }
     Ok(())
 }
 
 /// Whether a tree that would be too high is refused: so many parentheses are opened, and so many
 /// closed.
-fn is_too_high(alloc: Global, opened: usize, closed: usize) -> Result<bool, Fail> {
+fn is_too_high<R: Threads + Sync>(
+    rt: &R,
+    alloc: Global,
+    opened: usize,
+    closed: usize,
+) -> Result<bool, Fail> {
     let mut front = String::from_str(alloc, "int f(int a){return ")?;
     for _turn in 0..opened {
         front.push_str("(")?;
     }
     front.push_str("a")?;
-    let is_wanted = is_repeated(alloc, front.as_str(), (")", closed), ";}", "?");
+    let is_wanted = is_repeated(rt, alloc, front.as_str(), (")", closed), ";}", "?");
     drop(front);
     is_wanted
 }
 
 #[test]
 fn deep_parentheses(rt: HostRuntime) -> Result<(), Fail> {
-    assert!(rt; is_too_high(rt.alloc(), 250, 250)?);
-    assert!(rt; is_too_high(rt.alloc(), 100_000, 0)?);
+    assert!(rt; is_too_high(&rt, rt.alloc(), 250, 250)?);
+    assert!(rt; is_too_high(&rt, rt.alloc(), 100_000, 0)?);
     Ok(())
 }

@@ -6,6 +6,7 @@ use crate::fail::Fail;
 use crate::run::{HEADER, gives, plain};
 use crate::text::push;
 use std::alloc::Global;
+use std::thread::Threads;
 
 /// A node of an expression: a condition, or the operator that joins the two parts before it.
 #[derive(Clone, Copy)]
@@ -279,16 +280,28 @@ struct Shape {
 }
 
 /// Whether a run of an expression writes these lines.
-fn writes(alloc: Global, text: &str, tests: &str, out: &str) -> Result<bool, Fail> {
+fn writes<R: Threads + Sync>(
+    rt: &R,
+    alloc: Global,
+    text: &str,
+    tests: &str,
+    out: &str,
+) -> Result<bool, Fail> {
     let source = format!(in alloc; "int f(int a,int b,int c,int d){{return {text};}}")?;
     let setting = plain(source.as_bytes(), tests.as_bytes());
-    let is_wanted = gives(alloc, &setting, (0, out.as_bytes(), b""));
+    let is_wanted = gives(rt, alloc, &setting, (0, out.as_bytes(), b""));
     drop(source);
     is_wanted
 }
 
 /// Whether a run of the expression gives the lines of its truth table.
-fn is_reported(alloc: Global, nodes: &[Node], tests: &str, shape: Shape) -> Result<bool, Fail> {
+fn is_reported<R: Threads + Sync>(
+    rt: &R,
+    alloc: Global,
+    nodes: &[Node],
+    tests: &str,
+    shape: Shape,
+) -> Result<bool, Fail> {
     let text = text_of(alloc, nodes)?;
     // a condition alone is no decision
     let vectors = if text.as_str() == "a" {
@@ -297,17 +310,22 @@ fn is_reported(alloc: Global, nodes: &[Node], tests: &str, shape: Shape) -> Resu
         shape.vectors
     };
     let out = lines_of(alloc, nodes, shape.conditions, vectors)?;
-    let is_wanted = writes(alloc, text.as_str(), tests, out.as_str());
+    let is_wanted = writes(rt, alloc, text.as_str(), tests, out.as_str());
     drop(out);
     drop(text);
     is_wanted
 }
 
 /// Whether all expressions of a shape are reported so.
-fn are_reported(alloc: Global, tests: &str, shape: Shape) -> Result<bool, Fail> {
+fn are_reported<R: Threads + Sync>(
+    rt: &R,
+    alloc: Global,
+    tests: &str,
+    shape: Shape,
+) -> Result<bool, Fail> {
     for choice in 0..shape.choices {
         let nodes = nodes_of(alloc, shape.text, choice)?;
-        let is_wanted = is_reported(alloc, &nodes, tests, shape);
+        let is_wanted = is_reported(rt, alloc, &nodes, tests, shape);
         drop(nodes);
         if !is_wanted? {
             return Ok(false);
@@ -316,9 +334,9 @@ fn are_reported(alloc: Global, tests: &str, shape: Shape) -> Result<bool, Fail> 
     Ok(true)
 }
 
-fn all_of_shape(alloc: Global, shape: Shape) -> Result<bool, Fail> {
+fn all_of_shape<R: Threads + Sync>(rt: &R, alloc: Global, shape: Shape) -> Result<bool, Fail> {
     let tests = all_tests(alloc)?;
-    let is_wanted = are_reported(alloc, tests.as_str(), shape);
+    let is_wanted = are_reported(rt, alloc, tests.as_str(), shape);
     drop(tests);
     is_wanted
 }
@@ -335,10 +353,10 @@ fn shape_of(text: &'static str, conditions: u32, vectors: u32, choices: u32) -> 
 #[test]
 fn expressions_of_up_to_three_conditions(rt: HostRuntime) -> Result<(), Fail> {
     let alloc = rt.alloc();
-    assert!(rt; all_of_shape(alloc, shape_of("l", 1, 3, 2))?);
-    assert!(rt; all_of_shape(alloc, shape_of("ll.", 2, 9, 16))?);
-    assert!(rt; all_of_shape(alloc, shape_of("ll.l.", 3, 27, 128))?);
-    assert!(rt; all_of_shape(alloc, shape_of("lll..", 3, 27, 128))?);
+    assert!(rt; all_of_shape(&rt, alloc, shape_of("l", 1, 3, 2))?);
+    assert!(rt; all_of_shape(&rt, alloc, shape_of("ll.", 2, 9, 16))?);
+    assert!(rt; all_of_shape(&rt, alloc, shape_of("ll.l.", 3, 27, 128))?);
+    assert!(rt; all_of_shape(&rt, alloc, shape_of("lll..", 3, 27, 128))?);
     Ok(())
 }
 
@@ -346,15 +364,15 @@ fn expressions_of_up_to_three_conditions(rt: HostRuntime) -> Result<(), Fail> {
 #[test]
 fn expressions_of_four_conditions_with_one_last(rt: HostRuntime) -> Result<(), Fail> {
     let alloc = rt.alloc();
-    assert!(rt; all_of_shape(alloc, shape_of("ll.l.l.", 4, 81, 1024))?);
-    assert!(rt; all_of_shape(alloc, shape_of("lll..l.", 4, 81, 1024))?);
+    assert!(rt; all_of_shape(&rt, alloc, shape_of("ll.l.l.", 4, 81, 1024))?);
+    assert!(rt; all_of_shape(&rt, alloc, shape_of("lll..l.", 4, 81, 1024))?);
     Ok(())
 }
 
 /// The right operand of the last operator is two conditions.
 #[test]
 fn expressions_of_four_conditions_with_two_last(rt: HostRuntime) -> Result<(), Fail> {
-    assert!(rt; all_of_shape(rt.alloc(), shape_of("ll.ll..", 4, 81, 1024))?);
+    assert!(rt; all_of_shape(&rt, rt.alloc(), shape_of("ll.ll..", 4, 81, 1024))?);
     Ok(())
 }
 
@@ -362,7 +380,7 @@ fn expressions_of_four_conditions_with_two_last(rt: HostRuntime) -> Result<(), F
 #[test]
 fn expressions_of_four_conditions_with_three_last(rt: HostRuntime) -> Result<(), Fail> {
     let alloc = rt.alloc();
-    assert!(rt; all_of_shape(alloc, shape_of("lll.l..", 4, 81, 1024))?);
-    assert!(rt; all_of_shape(alloc, shape_of("llll...", 4, 81, 1024))?);
+    assert!(rt; all_of_shape(&rt, alloc, shape_of("lll.l..", 4, 81, 1024))?);
+    assert!(rt; all_of_shape(&rt, alloc, shape_of("llll...", 4, 81, 1024))?);
     Ok(())
 }

@@ -7,7 +7,7 @@ use crate::row::is_written;
 /// Rows `CASE@WORDS@SOURCE@TESTS@STATUS@OUT@DIAG`, with `~` between each two. First vectors and
 /// pairs, then decisions wherever they stand, fuel and no test at all, then many conditions, a
 /// program of several functions, and tests files that are refused.
-const ROWS: &str = "\
+pub const ROWS: &str = "\
 a header alone@vectors|s.c|t.csv@\
 int f(int a,int b){return a&&b;}@\
 test,call,arguments,inputs,expect,output
@@ -722,7 +722,7 @@ D1 TT=T by t1
 #[test]
 fn worked(rt: HostRuntime) -> Result<(), Fail> {
     for row in ROWS.split('~') {
-        assert!(rt; is_written(rt.alloc(), row)?, "{row}");
+        assert!(rt; is_written(&rt, rt.alloc(), row)?, "{row}");
     }
     Ok(())
 }

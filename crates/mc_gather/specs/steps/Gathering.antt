@@ -1,5 +1,6 @@
 -- The walk that gathers decisions, as functions on nodes.
 use Rattle.std.specs.Prelude.{ℕ, ◌+◌, Bool, true, false, nat_lt, List, [], ◌∷◌, ◌++◌, map, take, Option, Some, None}
+use Rattle.mc_limits.specs.Limits.{most_conditions}
 use Rattle.mc_typed.specs.Tree as t
 use Rattle.mc_typed.specs.Levels.{limited}
 use Rattle.mc_roots.specs.declared.role.Role.{Role}
@@ -54,7 +55,7 @@ sized false a g = grown a g
 
 abbrev pub added : Option DecideFault → Node → Gathered → Gathered
 added (Some fault) a g = g
-added None a g = sized (nat_lt 64 (width a)) a g
+added None a g = sized (nat_lt most_conditions (width a)) a g
 
 -- what stands in a constant goes again
 abbrev pub cut : ℕ → Option DecideFault → Gathered → Gathered

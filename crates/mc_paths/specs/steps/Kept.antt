@@ -1,6 +1,7 @@
 -- A step of the proofs: it follows the code, and no public clause rests on it.
 -- What a numbering keeps beside its tree.
 use Rattle.std.specs.Prelude.{◌≡◌, ℕ, ◌≤◌, List}
+use Rattle.mc_limits.specs.Limits.{most_paths}
 use Rattle.mc_cond.specs.Tree.{tree_of, IsNumbered}
 use Rattle.mc_cond.specs.declared.tree.CondTree.{CondTree}
 use Rattle.mc_paths.specs.Paths.{count_of, increments}
@@ -14,5 +15,5 @@ pub record IsKept (tree : CondTree) (on_false : List ℕ) (count : ℕ) (masks :
   pub numbered : IsNumbered (tree_of tree)
   pub edges : on_false ≡ increments (tree_of tree)
   pub total : count ≡ count_of (tree_of tree)
-  pub few : count ≤ 4096
+  pub few : count ≤ most_paths
   pub words : AreMasked (tree_of tree) count masks

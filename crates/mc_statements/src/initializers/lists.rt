@@ -216,17 +216,10 @@ pub fn braced_expression(
         start (found_of found (scope_of scope.now)))
         (judged [] (Some t.no_initializers) (scope_of scope.now))) (scope_of scope.now))) }
 {
-    match is_zero_found(&found) {
-        Ok(zero) => {
-            if zero {
-                zero_initializer(scope, of, found)
-            } else {
-                list_of_expression(alloc, is_static, scope, of, item, at, start, found)
-            }
-        }
-        Err(error) => {
-            unused(found.value);
-            Err(error)
-        }
+    let zero = is_zero_found(&found);
+    if zero {
+        zero_initializer(scope, of, found)
+    } else {
+        list_of_expression(alloc, is_static, scope, of, item, at, start, found)
     }
 }

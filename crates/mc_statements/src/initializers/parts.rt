@@ -131,7 +131,7 @@ fn types_of(
     }
 }
 
-fn elements(alloc: Global, base: Base, is_const: bool, lengths: &[u64]) -> Result<CType, AllocError>
+fn elements(alloc: Global, base: Base, is_const: bool, lengths: &[u32]) -> Result<CType, AllocError>
     ensures { IfOk result (λ r. type_of r
         ≡ record { base = base_of base; is_const = is_const; lengths = lengths.now }) }
 {

@@ -160,34 +160,27 @@ fn item_value(
 }
 
 // An object with static storage duration takes integer constant expressions.
-fn static_fault(is_static: bool, at: u32, found: &Found) -> Result<Option<Fault>, AllocError>
-    ensures { IfOk result (λ r. (s : s.Scope) → r ≡ least_of (i.static_faults is_static at
-        found.now.constant (v.number_found (found_of found.now s)))) }
+fn static_fault(is_static: bool, at: u32, found: &Found) -> Option<Fault>
+    ensures { (s : s.Scope) → result ≡ least_of (i.static_faults is_static at
+        found.now.constant (v.number_found (found_of found.now s))) }
 {
     if is_static {
         fault_of_constant(at, found)
     } else {
-        Ok(None)
+        None
     }
 }
 
 // The fault of the initializer itself.
-fn own_fault(
-    is_static: bool,
-    target: Target<'_, '_>,
-    at: u32,
-    found: &Found,
-) -> Result<Option<Fault>, AllocError>
-    ensures { IfOk result (λ r. (s : s.Scope) → r ≡ least_of
+fn own_fault(is_static: bool, target: Target<'_, '_>, at: u32, found: &Found) -> Option<Fault>
+    ensures { (s : s.Scope) → result ≡ least_of
         (i.item_faults is_static (target_of target.entry) at (v.kind_found (found_of found.now s))
         ++ i.static_faults is_static at found.now.constant
-        (v.number_found (found_of found.now s)))) }
+        (v.number_found (found_of found.now s))) }
 {
     let item = item_fault(is_static, target, at, kind_found(&found.value));
-    match static_fault(is_static, at, found) {
-        Ok(constant) => Ok(lesser(item, constant)),
-        Err(error) => Err(error),
-    }
+    let constant = static_fault(is_static, at, found);
+    lesser(item, constant)
 }
 
 /// An expression that starts here, for an object of this type.
@@ -204,17 +197,10 @@ pub fn single_initializer(
         (found_of found (scope_of scope.now)))) }
 {
     let target = target_for(scope, of);
-    match own_fault(is_static, target, at, &found) {
-        Ok(own) => {
-            let fault = after(found.fault, own);
-            match item_value(alloc, scope, of, target, found.value) {
-                Ok(value) => Ok(Judged { fault, value }),
-                Err(error) => Err(error),
-            }
-        }
-        Err(error) => {
-            unused(found.value);
-            Err(error)
-        }
+    let own = own_fault(is_static, target, at, &found);
+    let fault = after(found.fault, own);
+    match item_value(alloc, scope, of, target, found.value) {
+        Ok(value) => Ok(Judged { fault, value }),
+        Err(error) => Err(error),
     }
 }

@@ -17,10 +17,10 @@ pub enum Target<'t, 'a> {
     Scalar(&'t CType),
     /// So many elements of a type.
     Array {
-        length: u64,
+        length: u32,
         base: Base,
         is_const: bool,
-        lengths: &'t [u64],
+        lengths: &'t [u32],
     },
     /// The structure type with this number, and its members where it is complete.
     Structure {
@@ -107,7 +107,7 @@ pub(crate) fn fails_count(target: Target<'_, '_>, count: usize) -> bool
     match target {
         Target::Missing => false,
         Target::Scalar(_) => 1 < count || count == 0,
-        Target::Array { length, .. } => length < count as u64,
+        Target::Array { length, .. } => (length as usize) < count,
         Target::Structure { members, .. } => count_of_members(members) < count,
     }
 }

@@ -66,18 +66,11 @@ pub(crate) fn listed(alloc: Global, one: Statement) -> Result<Option<Vec<Stateme
 }
 
 /// The word with which a statement begins, of so many bytes. Takes no memory.
-///
-/// # Errors
-///
-/// `AllocError` where 32 bits do not count the place after the word, which in a text they do.
-pub(crate) fn keyword(size: u32, span: Span) -> Result<Span, AllocError>
-    ensures { IfOk result (λ r. r ≡ w.keyword size span) }
+pub(crate) fn first_word(size: u32, span: Span) -> Span
+    ensures { result ≡ w.keyword size span }
 {
-    let Some(end) = span.start.checked_add(size) else {
-        return Err(AllocError);
-    };
-    Ok(Span {
+    Span {
         start: span.start,
-        end,
-    })
+        end: span.start.saturating_add(size).min(span.end),
+    }
 }

@@ -10,7 +10,7 @@ ghost use Rattle.mc_scopes.specs.Statements.{statements_of, effects_of, declarat
 ghost use Rattle.mc_scopes.specs.steps.Squeezed.{squeezed_part};
 ghost use Rattle.mc_statements.specs.Lists.{boxed_of};
 
-use crate::statements::lists::{keyword, listed, only_boxed};
+use crate::statements::lists::{first_word, listed, only_boxed};
 use mc_faults::{FaultKind, or_fault, two_or_fault};
 use mc_scopes::found::{Found, Judged, fails_integer, number_in};
 use mc_scopes::joined;
@@ -47,23 +47,17 @@ fn do_alone(
     ensures { IfOk result (λ r. option_map statements_of r ≡ Some (w.alone
         (t.DoWhile (boxed_of body) (expression_of test) (w.keyword 2 span) span))) }
 {
-    match keyword(2, span) {
-        Ok(keyword) => listed(
-            alloc,
-            Statement::DoWhile {
-                body,
-                test,
-                keyword,
-                span,
-                bit: None,
-            },
-        ),
-        Err(error) => {
-            drop(body);
-            drop(test);
-            Err(error)
-        }
-    }
+    let keyword = first_word(2, span);
+    listed(
+        alloc,
+        Statement::DoWhile {
+            body,
+            test,
+            keyword,
+            span,
+            bit: None,
+        },
+    )
 }
 
 fn do_of(
@@ -178,25 +172,19 @@ fn loop_alone(
     ensures { IfOk result (λ r. option_map statements_of r ≡ Some (w.loop size span
         (start_of head.start) (test_of head.test) (effects_of head.step) (boxed_of body))) }
 {
-    match keyword(size, span) {
-        Ok(keyword) => listed(
-            alloc,
-            Statement::For {
-                start: head.start,
-                test: head.test,
-                step: head.step,
-                body,
-                keyword,
-                span,
-                bit: None,
-            },
-        ),
-        Err(error) => {
-            drop(head);
-            drop(body);
-            Err(error)
-        }
-    }
+    let keyword = first_word(size, span);
+    listed(
+        alloc,
+        Statement::For {
+            start: head.start,
+            test: head.test,
+            step: head.step,
+            body,
+            keyword,
+            span,
+            bit: None,
+        },
+    )
 }
 
 fn loop_of(

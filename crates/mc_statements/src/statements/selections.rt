@@ -16,7 +16,7 @@ ghost use Rattle.mc_scopes.specs.Statements.{statements_of};
 ghost use Rattle.mc_scopes.specs.steps.Squeezed.{squeezed_part};
 ghost use Rattle.mc_statements.specs.Lists.{boxed_of};
 
-use crate::statements::lists::{keyword, listed, only_boxed, only_in};
+use crate::statements::lists::{first_word, listed, only_boxed, only_in};
 use mc_faults::{FaultKind, three_or_fault, two_or_fault};
 use mc_scopes::found::{Found, Judged, fails_integer, number_in};
 use mc_scopes::lists::unused;
@@ -36,23 +36,17 @@ fn if_alone(
     ensures { IfOk result (λ r. option_map statements_of r ≡ Some (w.alone
         (t.If (expression_of test) (boxed_of chosen) (w.keyword 2 span) span))) }
 {
-    match keyword(2, span) {
-        Ok(keyword) => listed(
-            alloc,
-            Statement::If {
-                test,
-                chosen,
-                keyword,
-                span,
-                bit: None,
-            },
-        ),
-        Err(error) => {
-            drop(test);
-            drop(chosen);
-            Err(error)
-        }
-    }
+    let keyword = first_word(2, span);
+    listed(
+        alloc,
+        Statement::If {
+            test,
+            chosen,
+            keyword,
+            span,
+            bit: None,
+        },
+    )
 }
 
 fn if_of(
@@ -120,25 +114,18 @@ fn if_else_alone(
         (t.IfElse (expression_of test) (boxed_of chosen) (boxed_of other)
         (w.keyword 2 span) span))) }
 {
-    match keyword(2, span) {
-        Ok(keyword) => listed(
-            alloc,
-            Statement::IfElse {
-                test,
-                chosen,
-                other,
-                keyword,
-                span,
-                bit: None,
-            },
-        ),
-        Err(error) => {
-            drop(test);
-            drop(chosen);
-            drop(other);
-            Err(error)
-        }
-    }
+    let keyword = first_word(2, span);
+    listed(
+        alloc,
+        Statement::IfElse {
+            test,
+            chosen,
+            other,
+            keyword,
+            span,
+            bit: None,
+        },
+    )
 }
 
 fn if_else_of(
@@ -339,14 +326,8 @@ fn switch_alone(
         (t.Switch (promote (expression_of value)) (statements_of items)
         (w.keyword 6 span) span))) }
 {
-    match keyword(6, span) {
-        Ok(keyword) => switch_with(alloc, span, keyword, value, items),
-        Err(error) => {
-            drop(value);
-            drop(items);
-            Err(error)
-        }
-    }
+    let keyword = first_word(6, span);
+    switch_with(alloc, span, keyword, value, items)
 }
 
 fn switch_of(

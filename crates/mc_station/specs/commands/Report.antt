@@ -1,5 +1,5 @@
 -- The command `report`: the verdicts of the events that stand under the tests.
-use Rattle.std.specs.Prelude.{◌≡◌, List, Some}
+use Rattle.std.specs.Prelude.{◌≡◌, ℕ, List}
 use Rattle.sha2.specs.Sha256.{sha256}
 use Rattle.mc_command.specs.Command as command
 use Rattle.mc_command.specs.declared.independence.Independence.{Independence}
@@ -7,6 +7,7 @@ use Rattle.mc_command.specs.declared.independence.Independence.TheVariants.{Uniq
 use Rattle.mc_command.specs.declared.form.Form as form
 use Rattle.mc_command.specs.declared.form.Form.TheVariants as option
 use Rattle.mc_typed.specs.Plans.{Plan}
+use Rattle.mc_steps.specs.Events.{Event}
 use Rattle.mc_oblige.specs.declared.mode.Mode.{Mode}
 use Rattle.mc_oblige.specs.declared.mode.Mode.TheVariants as mode
 use Rattle.mc_oblige.specs.declared.verdict.Verdict.{Verdict}
@@ -20,21 +21,21 @@ use Rattle.mc_report.specs.declared.form.Form.{Form}
 use Rattle.mc_report.specs.declared.form.Form.TheVariants as given
 use Rattle.mc_replies.specs.Reply.{Reply, written}
 use Rattle.mc_station.specs.Source.{Accepted}
-use Rattle.mc_station.specs.Tests.{names, results, stands, states}
+use Rattle.mc_station.specs.Tests.{Tested, stands, tested_of}
 
 -- the kind of independence that a mode of the command names
 abbrev pub mode_of : Independence → Mode
 mode_of UniqueCause = mode.Unique
 mode_of Masking = mode.Masking
 
-abbrev pub report : Independence → Accepted → List Plan → List Verdict → text.Report
-report shown_by accepted plans verdicts = record {
+abbrev pub report : Independence → Accepted → Tested → List Verdict → text.Report
+report shown_by accepted tests verdicts = record {
   source = accepted.source;
   digest = sha256 accepted.source;
   mode = mode_of shown_by;
-  names = names plans;
-  states = states accepted.program plans;
-  results = Some (results accepted.program plans);
+  names = tests.names;
+  states = tests.states;
+  results = tests.results;
   decisions = accepted.map.decisions;
   obligations = obligations_of accepted.map;
   verdicts = verdicts;
@@ -46,10 +47,24 @@ form_of option.Text = given.Text
 form_of option.Csv = given.Csv
 form_of option.Json = given.Json
 
--- the verdicts of the events that stand, with these justifications, in the form that is asked for
-abbrev pub Reports : command.Report → Accepted → List Plan → List Justification → Reply → Type 0
-Reports asked accepted plans js reply =
+-- the report has the verdicts of the events that are shown, each under its test, with these
+-- justifications
+abbrev pub IsReportOn : (shown : Event → ℕ → Type 0) → Independence → Accepted → Tested
+    → List Justification → text.Report → Type 0
+IsReportOn shown shown_by accepted tests js r =
     (verdicts : List Verdict)
-    × AreVerdicts (stands accepted plans) accepted.map (mode_of asked.mode) js verdicts
-    × (let r = report asked.mode accepted plans verdicts in
-    reply ≡ written (status_of r) (lines_in_form (form_of asked.form) r))
+    × AreVerdicts shown accepted.map (mode_of shown_by) js verdicts
+    × (r ≡ report shown_by accepted tests verdicts)
+
+-- it is written in the form that is asked for
+abbrev pub ReportsOn : (shown : Event → ℕ → Type 0) → command.Report → Accepted → Tested
+    → List Justification → Reply → Type 0
+ReportsOn shown asked accepted tests js reply =
+    (r : text.Report) × IsReportOn shown asked.mode accepted tests js r
+    × (reply ≡ written (status_of r) (lines_in_form (form_of asked.form) r))
+
+-- of tests that were run
+abbrev pub Reports : (skipped : List ℕ) → command.Report → Accepted → List Plan
+    → List Justification → Reply → Type 0
+Reports skipped asked accepted plans js = ReportsOn (stands skipped accepted plans) asked accepted
+    (tested_of accepted.program plans) js

@@ -1,26 +1,25 @@
 //! The command `report`.
 ghost use Rattle.std.specs.Prelude.{◌≡◌, All, IfOk, IsUtf8};
-ghost use Rattle.sha2.specs.Sha256.{sha256};
 ghost use Rattle.mc_command.specs.Seen.{seen_report};
-ghost use Rattle.mc_tests.specs.Seen.{seen_plans};
+ghost use Rattle.mc_oblige.specs.Shown.{HasEvent};
 ghost use Rattle.mc_report.specs.Report.{IsReport};
 ghost use Rattle.mc_report.specs.Seen.{report_of};
 ghost use Rattle.mc_report.specs.Status.{status_of};
 ghost use Rattle.mc_report.specs.Forms.{lines_in_form};
 ghost use Rattle.mc_replies.specs.Reply as spec;
 ghost use Rattle.mc_replies.specs.Seen.{seen_reply};
-ghost use Rattle.mc_station.specs.Ran.{IsRun};
-ghost use Rattle.mc_station.specs.Seen.{ArePlanned, AreReasons, IsInstrumented, seen_accepted};
-ghost use Rattle.mc_station.specs.commands.Report.{Reports, form_of, mode_of};
+ghost use Rattle.mc_station.specs.Ran.{AreTold};
+ghost use Rattle.mc_station.specs.Seen.{AreReasons, IsInstrumented, seen_accepted, seen_tested};
+ghost use Rattle.mc_station.specs.commands.Report.{IsReportOn, ReportsOn, form_of, mode_of};
 
 use crate::accepted::Accepted;
-use crate::ran::Ran;
+use crate::digest::digest_of;
+use crate::tested::Tested;
 use mc_command::{Form as AskedForm, Independence, Report as Asked};
+use mc_core::Matrix;
 use mc_oblige::{Justification, Mode, judge, obligations};
 use mc_replies::Reply;
 use mc_report::{Form, Report, lines_in, status};
-use mc_typed::TestPlan;
-use sha2::{Digest, Sha256};
 use std::alloc::{AllocError, Global};
 
 // The form that an option names.
@@ -44,13 +43,6 @@ fn mode_of(mode: Independence) -> Mode
     }
 }
 
-// The SHA-256 digest of a source (FIPS 180-4).
-fn digest_of(source: &[u8]) -> [u8; 32]
-    ensures { result ≡ sha256 source.now }
-{
-    Sha256::digest(source)
-}
-
 // The reply with the lines of a report in a form, and its status.
 fn written_report(alloc: Global, form: Form, report: Report<'_>) -> Result<Reply, AllocError>
     requires report { IsReport (report_of report) }
@@ -64,38 +56,58 @@ fn written_report(alloc: Global, form: Form, report: Report<'_>) -> Result<Reply
     Ok(Reply::of_lines(alloc, number, lines?))
 }
 
-/// The reply of `report`.
+/// A report on the events of a matrix, whose conditions are shown by this kind of independence.
+pub fn report_on<'a>(
+    alloc: Global,
+    independence: Independence,
+    accepted: Accepted<'a>,
+    matrix: &Matrix,
+    tests: Tested,
+    justifications: &[Justification],
+) -> Result<Report<'a>, AllocError>
+    requires instrumented { IsInstrumented accepted }
+    requires told { AreTold (seen_accepted accepted) matrix.now (seen_tested tests) }
+    requires reasons { AreReasons accepted justifications.now }
+    ensures made { IfOk result (λ report. let a = seen_accepted accepted.entry in
+        IsReportOn (HasEvent a.map matrix.now) independence a (seen_tested tests)
+        justifications.now (report_of report)) }
+    ensures whole { IfOk result (λ report. IsReport (report_of report)) }
+    ensures texts { IfOk result (λ report. All IsUtf8 (report_of report).names) }
+{
+    let Accepted { source, tree, map } = accepted;
+    drop(tree);
+    let mode = mode_of(independence);
+    let obligations = obligations(alloc, &map)?;
+    let verdicts = judge(alloc, &map, matrix, mode, justifications)?;
+    Ok(Report {
+        source,
+        digest: digest_of(source),
+        mode,
+        names: tests.names,
+        states: tests.states,
+        results: tests.results,
+        map,
+        obligations,
+        verdicts,
+    })
+}
+
+/// The reply of `report`, and of each command that reports on tests: on the events of a matrix.
 pub fn report(
     alloc: Global,
     asked: Asked<'_>,
     accepted: Accepted<'_>,
-    plans: &[TestPlan],
-    ran: Ran,
+    matrix: &Matrix,
+    tests: Tested,
     justifications: &[Justification],
 ) -> Result<Reply, AllocError>
     requires instrumented { IsInstrumented accepted }
-    requires planned { ArePlanned accepted plans.now }
-    requires ran { IsRun (seen_accepted accepted) (seen_plans plans.now) ran }
+    requires told { AreTold (seen_accepted accepted) matrix.now (seen_tested tests) }
     requires reasons { AreReasons accepted justifications.now }
-    ensures { IfOk result (λ reply. Reports (seen_report asked.entry)
-        (seen_accepted accepted.entry) (seen_plans plans.now) justifications.now
-        (seen_reply reply)) }
+    ensures { IfOk result (λ reply. let a = seen_accepted accepted.entry in
+        ReportsOn (HasEvent a.map matrix.now) (seen_report asked.entry) a
+        (seen_tested tests) justifications.now (seen_reply reply)) }
 {
-    let Accepted { source, tree, map } = accepted;
-    drop(tree);
-    let mode = mode_of(asked.mode);
-    let obligations = obligations(alloc, &map)?;
-    let verdicts = judge(alloc, &map, &ran.matrix, mode, justifications)?;
-    let report = Report {
-        source,
-        digest: digest_of(source),
-        mode,
-        names: ran.names,
-        states: ran.states,
-        results: Some(ran.results),
-        map,
-        obligations,
-        verdicts,
-    };
+    let report = report_on(alloc, asked.mode, accepted, matrix, tests, justifications)?;
     written_report(alloc, form_of(asked.form), report)
 }

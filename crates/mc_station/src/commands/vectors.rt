@@ -1,30 +1,26 @@
 //! The command `vectors`.
-ghost use Rattle.std.specs.Prelude.{IfOk};
-ghost use Rattle.mc_tests.specs.Seen.{seen_plans};
+ghost use Rattle.std.specs.Prelude.{IfOk, map};
+ghost use Rattle.mc_meaning.specs.Seen.{told_of};
+ghost use Rattle.mc_oblige.specs.Shown.{HasEvent};
 ghost use Rattle.mc_replies.specs.Seen.{seen_reply};
-ghost use Rattle.mc_station.specs.Ran.{IsRun};
+ghost use Rattle.mc_station.specs.Ran.{AreTold, seen_ran};
 ghost use Rattle.mc_station.specs.Seen.{IsInstrumented, seen_accepted};
-ghost use Rattle.mc_station.specs.commands.Vectors.{Lists};
+ghost use Rattle.mc_station.specs.commands.Vectors.{ListsOn};
 
 use crate::accepted::Accepted;
 use crate::ran::{Ran, number_of};
 use mc_oblige::evaluated_paths;
 use mc_replies::Reply;
 use mc_report::vectors_lines;
-use mc_typed::TestPlan;
 use std::alloc::{AllocError, Global};
 
 // The reply of `vectors`, from a source that is lent.
-fn listed(
-    alloc: Global,
-    accepted: &Accepted<'_>,
-    plans: &[TestPlan],
-    ran: &Ran,
-) -> Result<Reply, AllocError>
+fn listed(alloc: Global, accepted: &Accepted<'_>, ran: &Ran) -> Result<Reply, AllocError>
     requires instrumented { IsInstrumented accepted.now }
-    requires ran { IsRun (seen_accepted accepted.now) (seen_plans plans.now) ran.now }
-    ensures { IfOk result (λ reply.
-        Lists (seen_accepted accepted.now) (seen_plans plans.now) (seen_reply reply)) }
+    requires told { AreTold (seen_accepted accepted.now) ran.now.matrix (seen_ran ran.now) }
+    ensures { IfOk result (λ reply. let a = seen_accepted accepted.now in
+        ListsOn (HasEvent a.map ran.now.matrix) a ran.now.names.items ran.now.states.items
+        (map told_of ran.now.results.items) (seen_reply reply)) }
 {
     let map = &accepted.map;
     let paths = evaluated_paths(alloc, map, &ran.matrix)?;
@@ -40,18 +36,14 @@ fn listed(
 }
 
 /// The reply of `vectors`.
-pub fn vectors(
-    alloc: Global,
-    accepted: Accepted<'_>,
-    plans: &[TestPlan],
-    ran: &Ran,
-) -> Result<Reply, AllocError>
+pub fn vectors(alloc: Global, accepted: Accepted<'_>, ran: &Ran) -> Result<Reply, AllocError>
     requires instrumented { IsInstrumented accepted }
-    requires ran { IsRun (seen_accepted accepted) (seen_plans plans.now) ran.now }
-    ensures { IfOk result (λ reply.
-        Lists (seen_accepted accepted.entry) (seen_plans plans.now) (seen_reply reply)) }
+    requires told { AreTold (seen_accepted accepted) ran.now.matrix (seen_ran ran.now) }
+    ensures { IfOk result (λ reply. let a = seen_accepted accepted.entry in
+        ListsOn (HasEvent a.map ran.now.matrix) a ran.now.names.items ran.now.states.items
+        (map told_of ran.now.results.items) (seen_reply reply)) }
 {
-    let reply = listed(alloc, &accepted, plans, ran);
+    let reply = listed(alloc, &accepted, ran);
     drop(accepted);
     reply
 }

@@ -146,10 +146,10 @@ pub(crate) fn valued_enumerator<'a>(
 
 /// Lengths of an array, and one more (C17 6.7.6.2).
 pub(crate) fn more_lengths(
-    list: Judged<Vec<u64>>,
+    list: Judged<Vec<u32>>,
     tree: &Expression<'_>,
     found: Result<Found, AllocError>,
-) -> Result<Judged<Vec<u64>>, AllocError>
+) -> Result<Judged<Vec<u32>>, AllocError>
     ensures { (first last : s.Scope)
         → IfOk found (λ y. found_of y last ≡ squeezed (j.judge (expression_of tree.now) first))
         → IfOk result (λ r.
@@ -193,7 +193,7 @@ pub(crate) fn parameter<'a>(
     before: Objects,
     tree: &Parameter<'a>,
     of: Judged<CType>,
-    given: Result<Judged<Vec<u64>>, AllocError>,
+    given: Result<Judged<Vec<u32>>, AllocError>,
 ) -> Result<Parameters, AllocError>
     ensures { let all = specifiers_from (map specifier_of tree.now.specifiers.items) in
         let list = lengths_from (map array_length_of tree.now.lengths.items) in

@@ -6,5 +6,5 @@ use Rattle.mc_declarations.proofs.definitions.end_definition.Goals as goal
 
 pub returns-in-Ok : goal.returns-in-Ok
 returns-in-Ok c = λ u.
-    judged_same _ _ _ _ _ _ (ap listed (c.after_two-fault.ensures _ c.fault_where-frame.ensures.least))
+    judged_same _ _ _ _ _ _ (ap listed (c.after_two-fault.ensures _ c.frame_fault-frame.ensures))
     c.in-Ok.ensures.value (c.leave_function.ensures ∙ c.in-Ok.ensures.scope (around_of c.args.body.block))

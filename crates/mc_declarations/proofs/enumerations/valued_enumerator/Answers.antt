@@ -9,8 +9,8 @@ pub returns : goal.returns
 returns c =
     let name = name_of c.args.name.now in
     let s = scope_of c.args.scope.now in
-    let v = c.in_ok-value.value in
-    enumerator_found name c.args.at (found_of c.args.found.now s) v c.in_ok-value-2.value c.in_ok-fault.fault
-    (scope_of c.declare_enumerator.new.scope) (c.in_ok-value.ensures s)
-    (c.in_ok-fault.ensures s (enumerator_faults name v s) c.enumerator_fault-own.ensures)
-    c.in_ok-value-2.ensures.value c.in_ok-value-2.ensures.scope
+    let v = c.constant_found-value.result in
+    enumerator_found name c.args.at (found_of c.args.found.now s) v c.in_ok-value.value c.valued_fault-fault.result
+    (scope_of c.declare_enumerator.new.scope) (c.constant_found-value.ensures s)
+    (c.valued_fault-fault.ensures s (enumerator_faults name v s) c.enumerator_fault-own.ensures)
+    c.in_ok-value.ensures.value c.in_ok-value.ensures.scope

@@ -9,8 +9,8 @@ use Rattle.mc_declarations.proofs.lengths.length_fault.Goals as goal
 pub returns : goal.returns
 returns c = λ s.
     let found = c.args.found.now in
-    length_joined c.in_ok-constant.constant c.fault_where-own.result c.lesser.result
-    (constant_faults c.args.at found.constant (number_found (found_of found s))) c.args.at c.in_ok-misfit.misfit
+    length_joined c.fault_of_constant-constant.result c.fault_where-own.result c.lesser.result
+    (constant_faults c.args.at found.constant (number_found (found_of found s))) c.args.at c.is_no_length-misfit.result
     (is_no_length (constant_found (found_of found s)))
-    (c.in_ok-constant.ensures s) c.fault_where-own.ensures.least
-    (c.in_ok-misfit.ensures ∙ ap is_no_length (c.in_ok-value.ensures s)) c.lesser.ensures
+    (c.fault_of_constant-constant.ensures s) c.fault_where-own.ensures.least
+    (c.is_no_length-misfit.ensures ∙ ap is_no_length (c.constant_found-value.ensures s)) c.lesser.ensures

@@ -10,6 +10,6 @@ pub returns : goal.returns
 returns c = λ s u.
     let found = c.args.found.now in
     lengths_found (judged_of lengths_in c.args.list s) c.args.at (found_of found u) c.after_two-fault.result
-    (option_map lengths_in c.in_ok-value.value) c.in_ok-one.one c.in_ok-constant_found.field-0
-    (c.after_two-fault.ensures (length_faults c.args.at found.constant (number_found (found_of found u))) (c.in_ok-own.ensures u))
-    c.in_ok-value.ensures c.in_ok-one.ensures (c.in_ok-constant_found.ensures u)
+    (option_map lengths_in c.in_ok-value.value) c.length_in-one.result c.constant_found.result
+    (c.after_two-fault.ensures (length_faults c.args.at found.constant (number_found (found_of found u))) (c.length_fault-own.ensures u))
+    c.in_ok-value.ensures c.length_in-one.ensures (c.constant_found.ensures u)

@@ -6,8 +6,8 @@ use Rattle.mc_scopes.specs.Found.{found_of}
 use Rattle.mc_scopes.specs.steps.Squeezed.{squeezed}
 use Rattle.mc_expressions.proofs.update.prefix_step.Goals as goal
 
-pub returns-in-Ok : goal.returns-in-Ok
-returns-in-Ok c =
+pub returns : goal.returns
+returns c =
     IfOk-weaker c.step.result _ _ (λ r is s.
-    is s ∙ ap (λ (at : Span). squeezed (e.step_found c.args.operator at c.args.span (found_of c.args.operand s))) c.in-Ok.ensures)
+    is s ∙ ap (λ (at : Span). squeezed (e.step_found c.args.operator at c.args.span (found_of c.args.operand s))) c.operator_before.ensures)
     c.step.ensures

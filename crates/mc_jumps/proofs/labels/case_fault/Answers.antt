@@ -13,11 +13,11 @@ returns c = λ s.
     let x = found_of c.args.found.now s in
     let all = c.args.labels.now in
     let at = c.args.label.start in
-    lesser_joined c.lesser.result c.in_ok-constant.constant c.label_fault-own.result
+    lesser_joined c.lesser.result c.fault_of_constant-constant.result c.label_fault-own.result
     (constant_faults c.args.at c.args.found.now.constant (number_found x))
     (place_faults all at
     ++ fault_if (is_repeated all (label_value all (constant_found x))) DuplicateLabel at)
-    c.lesser.ensures (c.in_ok-constant.ensures s)
+    c.lesser.ensures (c.fault_of_constant-constant.ensures s)
     (c.label_fault-own.ensures
     ∙ ap (λ b. least_of (place_faults all at ++ fault_if b DuplicateLabel at))
-    (c.is_repeated-repeated.ensures ∙ ap (is_repeated all) (c.in_ok-value.ensures s)))
+    (c.is_repeated-repeated.ensures ∙ ap (is_repeated all) (c.case_value-value.ensures s)))

@@ -18,10 +18,10 @@ returns c =
     let v = label_value s.labels (constant_found x) in
     let own = case_faults c.args.label c.args.at x.constant (number_found x) s.labels in
     same_parts c.after-fault.result (least_of (listed c.args.found.now.fault ++ own))
-    (option_map statements_of c.in_ok-value-2.value)
+    (option_map statements_of c.in_ok-value.value)
     (option_map (λ w. alone (t.Label (Some w) c.args.label)) v)
     (scope_of c.add_label.new.scope) (with_label v s)
-    (c.after-fault.ensures own (c.in_ok-own.ensures s))
-    (c.in_ok-value-2.ensures
-    ∙ ap (option_map (λ w. alone (t.Label (Some w) c.args.label))) (c.in_ok-value.ensures s))
-    (c.in_ok-add_label.ensures ∙ ap (λ w. with_label w s) (c.in_ok-value.ensures s))
+    (c.after-fault.ensures own (c.case_fault-own.ensures s))
+    (c.in_ok-value.ensures
+    ∙ ap (option_map (λ w. alone (t.Label (Some w) c.args.label))) (c.case_value-value.ensures s))
+    (c.in_ok-add_label.ensures ∙ ap (λ w. with_label w s) (c.case_value-value.ensures s))

@@ -3,4 +3,4 @@ use Rattle.mc_typing.specs.Constants.{is_zero_constant}
 use Rattle.mc_scopes.proofs.values.is_zero_found.Goals as goal
 
 pub returns : goal.returns
-returns c = λ s. c.is_zero_constant.ensures ∙ ap is_zero_constant (c.in_ok-value.ensures s)
+returns c = λ s. c.is_zero_constant.ensures ∙ ap is_zero_constant (c.constant_found.ensures s)

@@ -4,16 +4,27 @@ use Rattle.mc_tree.specs.Units as units
 use Rattle.mc_tree.specs.Views.{name_of, parameter_of, parameters_from, specifier_of, specifiers_from}
 use Rattle.mc_typing.specs.Scopes.{Scope}
 use Rattle.mc_typing.specs.Judgement.{judge_parameter_list}
-use Rattle.mc_scopes.specs.Blocks.{around_of}
+use Rattle.mc_scopes.specs.Blocks.{Around, around_of}
 use Rattle.mc_scopes.specs.Types.{type_of}
-use Rattle.mc_scopes.specs.Views.{scope_of}
+use Rattle.mc_scopes.specs.Views.{entry_of, scope_of}
 use Rattle.mc_scopes.specs.Found.{judged_of}
 use Rattle.mc_scopes.specs.Statements.{statements_of}
 use Rattle.mc_declarations.specs.Bodies.{body_of}
 use Rattle.mc_declarations.specs.Declarations.{functions_of, listed_parameters, squeezed_listed}
 use Rattle.mc_types.proofs.Exits.{found_each}
-use Rattle.mc_types.proofs.UnitArms.{in_definition, names_stay}
+use Rattle.mc_types.proofs.UnitArms.{in_definition, names_stay, within}
 use Rattle.mc_types.proofs.units.definition.Goals as goal
+
+pub begin_definition-requires : goal.begin_definition-requires
+begin_definition-requires c =
+    let r = scope_of c.typed.new.scope in
+    let q = scope_of c.parameters.new.scope in
+    let list = parameters_from (map parameter_of c.args.list.now) in
+    let ps = tree.Listed list c.args.span in
+    let y = listed_parameters c.in_ok-found.found q in
+    let hy = c.in_ok-found.ensures ∙ ap (λ (v : Scope). squeezed_listed (judge_parameter_list list v)) c.enter_prototype-outer.ensures.entered in
+    within entry_of _ r.names c.parameters.new.scope.names
+    (ap (λ (a : Around). a.names) c.enter_prototype-outer.ensures.block) (names_stay ps r y hy)
 
 pub returns : goal.returns
 returns c =

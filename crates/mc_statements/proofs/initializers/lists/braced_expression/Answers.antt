@@ -19,7 +19,7 @@ returns-then-zero c =
     subst (λ (b : Bool). IfOk c.zero_initializer.result (λ r. judged_of initializer_of r s
     ≡ squeezed_part (if b then zero_judged u (Some x) s
     else list_judged u c.args.at 1 (items_judged one (judged [] (Some no_initializers) s)))))
-    (sym c.if-zero.true ∙ c.in-Ok.ensures s)
+    (sym c.if-zero.true ∙ c.is_zero_found-zero.ensures s)
     c.zero_initializer.ensures
 
 pub returns-else-zero : goal.returns-else-zero
@@ -32,5 +32,5 @@ returns-else-zero c =
     subst (λ (b : Bool). IfOk c.list_of_expression.result (λ r. judged_of initializer_of r s
     ≡ squeezed_part (if b then zero_judged u (Some x) s
     else list_judged u c.args.at 1 (items_judged one (judged [] (Some no_initializers) s)))))
-    (sym c.if-zero.false ∙ c.in-Ok.ensures s)
+    (sym c.if-zero.false ∙ c.is_zero_found-zero.ensures s)
     c.list_of_expression.ensures

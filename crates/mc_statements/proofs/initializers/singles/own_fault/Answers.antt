@@ -7,14 +7,14 @@ use Rattle.mc_statements.specs.Initializers.{target_of}
 use Rattle.mc_scopes.proofs.Leasts.{lesser_joined}
 use Rattle.mc_statements.proofs.initializers.singles.own_fault.Goals as goal
 
-pub returns-in-Ok : goal.returns-in-Ok
-returns-in-Ok c = λ s.
+pub returns : goal.returns
+returns c = λ s.
     let x = found_of c.args.found.now s in
-    lesser_joined c.lesser.result c.item_fault-item.result c.in-Ok.constant
+    lesser_joined c.lesser.result c.item_fault-item.result c.static_fault-constant.result
     (item_faults c.args.is_static (target_of c.args.target) c.args.at (kind_found x))
     (static_faults c.args.is_static c.args.at c.args.found.now.constant (number_found x))
     c.lesser.ensures
     (c.item_fault-item.ensures
     ∙ ap (λ k. least_of (item_faults c.args.is_static (target_of c.args.target) c.args.at k))
     c.kind_found.ensures)
-    (c.in-Ok.ensures s)
+    (c.static_fault-constant.ensures s)

@@ -12,8 +12,8 @@ use Rattle.mc_statements.specs.Initializers.{target_of}
 use Rattle.mc_scopes.proofs.Leasts.{same_parts}
 use Rattle.mc_statements.proofs.initializers.singles.single_initializer.Goals as goal
 
-pub returns-in-Ok-item_value : goal.returns-in-Ok-item_value
-returns-in-Ok-item_value c =
+pub returns-in-Ok : goal.returns-in-Ok
+returns-in-Ok c =
     let s = scope_of c.args.scope.now in
     let u = option_map type_of (option_copied c.args.of) in
     let x = found_of c.args.found s in
@@ -21,10 +21,10 @@ returns-in-Ok-item_value c =
     ++ static_faults c.args.is_static c.args.at c.args.found.constant (number_found x) in
     let target = i.target_of s.structures u in
     same_parts c.after-fault.result (least_of (listed c.args.found.fault ++ own target))
-    (option_map initializer_of c.in-Ok-item_value.value)
+    (option_map initializer_of c.in-Ok.value)
     (option_and_then (item_value s.structures u target) x.value) s s
     (c.after-fault.ensures (own target)
-    (c.in-Ok.ensures s ∙ ap (λ t. least_of (own t)) c.target_for-target.ensures))
-    (c.in-Ok-item_value.ensures
+    (c.own_fault-own.ensures s ∙ ap (λ t. least_of (own t)) c.target_for-target.ensures))
+    (c.in-Ok.ensures
     ∙ ap (λ t. option_and_then (item_value s.structures u t) x.value) c.target_for-target.ensures)
     refl

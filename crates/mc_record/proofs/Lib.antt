@@ -1,0 +1,13 @@
+pub mod Fronts
+pub mod Hexadecimal
+pub mod Numbers
+pub mod Raised
+pub mod TestLines
+pub mod BitLines
+pub mod SeenNames
+pub mod Composed
+pub mod Places
+pub mod Merging
+pub mod Accepted
+pub mod Putting
+pub mod Pushing

@@ -1,0 +1,10 @@
+pub mod Kept
+pub mod Lines
+pub mod Parts
+pub mod Digits
+pub mod Tests
+pub mod Bits
+pub mod Reading
+pub mod Merged
+pub mod Seen
+pub mod Laws

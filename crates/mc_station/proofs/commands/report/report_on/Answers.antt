@@ -1,0 +1,33 @@
+use Rattle.std.proofs.Common.{refl, subst}
+use Rattle.mc_oblige.specs.Shown.{HasEvent}
+use Rattle.mc_oblige.specs.Verdicts.{AreVerdicts}
+use Rattle.mc_oblige.specs.declared.mode.Mode.{Mode}
+use Rattle.mc_station.specs.commands.Report.{mode_of}
+use Rattle.mc_station.specs.Seen.{seen_accepted, seen_tested}
+use Rattle.mc_station.proofs.Reported.{can_be_written, report_is}
+use Rattle.mc_station.proofs.commands.report.report_on.Goals as goal
+
+pub returns-clause-made : goal.returns-clause-made
+returns-clause-made c =
+    let a = seen_accepted c.args.accepted in
+    let tests = seen_tested c.args.tests in
+    let shown = HasEvent a.map c.args.matrix.now in
+    let vs = c.in_ok-verdicts.verdicts.items in
+    let js = c.args.justifications.now in
+    let are : AreVerdicts shown a.map (mode_of c.args.independence) js vs = subst (λ (m : Mode). AreVerdicts shown a.map m js vs) c.mode_of-mode.ensures c.in_ok-verdicts.ensures in
+    (vs, are, report_is shown c.args.independence a tests js _ vs refl c.digest_of.ensures c.mode_of-mode.ensures refl refl refl refl c.in_ok-obligations.ensures refl)
+
+pub returns-clause-whole : goal.returns-clause-whole
+returns-clause-whole c =
+    let a = seen_accepted c.args.accepted in
+    let tests = seen_tested c.args.tests in
+    let shown = HasEvent a.map c.args.matrix.now in
+    let vs = c.in_ok-verdicts.verdicts.items in
+    let js = c.args.justifications.now in
+    let are : AreVerdicts shown a.map (mode_of c.args.independence) js vs = subst (λ (m : Mode). AreVerdicts shown a.map m js vs) c.mode_of-mode.ensures c.in_ok-verdicts.ensures in
+    can_be_written c.args.independence a tests js _ vs c.args.matrix.now
+    (report_is shown c.args.independence a tests js _ vs refl c.digest_of.ensures c.mode_of-mode.ensures refl refl refl refl c.in_ok-obligations.ensures refl)
+    c.requires.instrumented.short c.requires.told c.requires.reasons.text are
+
+pub returns-clause-texts : goal.returns-clause-texts
+returns-clause-texts c = c.requires.told.texts

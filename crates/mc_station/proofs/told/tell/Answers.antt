@@ -1,0 +1,19 @@
+use Rattle.mc_command.specs.Seen.{seen_report}
+use Rattle.mc_tests.specs.Seen.{seen_plans}
+use Rattle.mc_replies.specs.Seen.{seen_reply}
+use Rattle.mc_station.specs.Seen.{seen_accepted}
+use Rattle.mc_station.proofs.Recording.{run_records}
+use Rattle.mc_station.proofs.Reported.{run_lists, run_reports}
+use Rattle.mc_station.proofs.told.tell.Goals as goal
+
+pub returns-in-Report : goal.returns-in-Report
+returns-in-Report c = rw c.in-Report.is (λ skipped run.
+    run_reports skipped (seen_accepted c.args.accepted) (seen_plans c.args.plans.now) c.args.ran c.args.justifications.now run (seen_report c.in-Report.asked) c.reported.result c.reported.ensures)
+
+pub returns-in-Vectors : goal.returns-in-Vectors
+returns-in-Vectors c = rw c.in-Vectors.is (λ skipped run.
+    run_lists skipped (seen_accepted c.args.accepted) (seen_plans c.args.plans.now) c.args.ran c.args.justifications.now run c.vectors.result c.vectors.ensures)
+
+pub returns-in-Record : goal.returns-in-Record
+returns-in-Record c = rw c.in-Record.is (λ skipped run.
+    run_records skipped (seen_accepted c.args.accepted) (seen_plans c.args.plans.now) c.args.ran (seen_reply c.record-reply.result) run c.record-reply.ensures.words c.record-reply.ensures.reply)

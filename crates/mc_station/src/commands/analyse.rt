@@ -1,0 +1,44 @@
+//! The command `analyse`.
+ghost use Rattle.std.specs.Prelude.{IfOk};
+ghost use Rattle.mc_command.specs.Seen.{seen_report};
+ghost use Rattle.mc_record.specs.Seen.{kept_of};
+ghost use Rattle.mc_replies.specs.Seen.{seen_reply};
+ghost use Rattle.mc_station.specs.Seen.{AreReasons, IsInstrumented, IsRecordIn, seen_accepted};
+ghost use Rattle.mc_station.specs.commands.Analyse.{Analyses};
+
+use crate::accepted::Accepted;
+use crate::commands::report::report;
+use crate::tested::Tested;
+use mc_command::Report;
+use mc_oblige::Justification;
+use mc_record::Record;
+use mc_replies::Reply;
+use std::alloc::{AllocError, Global};
+
+/// The reply of `analyse`: a report on the events that a record of the source has.
+pub fn analyse(
+    alloc: Global,
+    asked: Report<'_>,
+    accepted: Accepted<'_>,
+    kept: Record,
+    justifications: &[Justification],
+) -> Result<Reply, AllocError>
+    requires instrumented { IsInstrumented accepted }
+    requires of_source { IsRecordIn accepted kept }
+    requires reasons { AreReasons accepted justifications.now }
+    ensures { IfOk result (λ reply. Analyses (seen_report asked.entry)
+        (seen_accepted accepted.entry) (kept_of kept) justifications.now (seen_reply reply)) }
+{
+    let Record {
+        digest: _,
+        names,
+        states,
+        matrix,
+    } = kept;
+    let tests = Tested {
+        names,
+        states,
+        results: None,
+    };
+    report(alloc, asked, accepted, &matrix, tests, justifications)
+}

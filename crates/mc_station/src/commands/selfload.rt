@@ -1,0 +1,161 @@
+//! The command `selfload`.
+ghost use Rattle.std.specs.Prelude.{◌≡◌, ◌≤◌, ℕ, List, IfOk};
+ghost use Rattle.mc_command.specs.Seen.{IsWithin};
+ghost use Rattle.mc_command.specs.Values.{most_functions};
+ghost use Rattle.mc_gen.specs.Source.{source_text};
+ghost use Rattle.mc_gen.specs.Tests.{tests_text};
+ghost use Rattle.mc_limits.specs.Limits.{most_workers, usual_fuel};
+ghost use Rattle.mc_oblige.specs.Shown.{HasEvent};
+ghost use Rattle.mc_replies.specs.Phases.{Reaches};
+ghost use Rattle.mc_replies.specs.Seen.{seen_reply};
+ghost use Rattle.mc_tests.specs.Seen.{seen_plans};
+ghost use Rattle.mc_station.specs.Ran.{AreTold, seen_ran};
+ghost use Rattle.mc_station.specs.Seen.{ArePlanned, IsInstrumented, IsOpened, seen_accepted};
+ghost use Rattle.mc_station.specs.Tests.{Fits, JudgesTests};
+ghost use Rattle.mc_station.specs.commands.Selfload.{Loads, Sums, SumsOn};
+
+use crate::accepted::Accepted;
+use crate::commands::report::report_on;
+use crate::judge::{judge_tests, open_for};
+use crate::means::Means;
+use crate::opened::Opened;
+use crate::ran::{Ran, run_all};
+use crate::source::judge_source;
+use crate::tested::Tested;
+use mc_command::Independence;
+use mc_cover::Closer;
+use mc_gen::generate;
+use mc_port::Gate;
+use mc_replies::Reply;
+use mc_report::summary_lines;
+use mc_typed::TestPlan;
+use std::alloc::{AllocError, Global};
+use std::thread::Threads;
+
+/// Units of fuel of each test.
+const USUAL_FUEL: u32 = 1_000_000;
+
+/// How much is run: the functions of the source, and the workers that share its tests.
+#[derive(Clone, Copy)]
+pub struct Load {
+    pub count: u32,
+    pub workers: u32,
+}
+
+// The summary of a run of the tests.
+fn summary(alloc: Global, count: u32, accepted: Accepted<'_>, ran: Ran) -> Result<Reply, AllocError>
+    requires instrumented { IsInstrumented accepted }
+    requires told { AreTold (seen_accepted accepted) ran.matrix (seen_ran ran) }
+    ensures { IfOk result (λ reply. let a = seen_accepted accepted.entry in
+        SumsOn (HasEvent a.map ran.matrix) count a (seen_ran ran)
+        (seen_reply reply)) }
+{
+    let Ran {
+        matrix,
+        names,
+        states,
+        results,
+    } = ran;
+    let tests = Tested {
+        names,
+        states,
+        results: Some(results),
+    };
+    let report = report_on(alloc, Independence::Masking, accepted, &matrix, tests, &[])?;
+    let lines = summary_lines(alloc, count, &report);
+    drop(report);
+    Ok(Reply::of_lines(alloc, 0, lines?))
+}
+
+// Runs the tests, for which there are shared words, and sums up.
+fn opened<R: Threads + Sync, G: Gate, C: Closer>(
+    alloc: Global,
+    means: Means<'_, R, G, C>,
+    load: Load,
+    accepted: Accepted<'_>,
+    plans: &[TestPlan],
+    opened: Opened,
+) -> Result<Reply, AllocError>
+    requires workers { IsWithin 1 most_workers load.workers }
+    requires instrumented { IsInstrumented accepted }
+    requires planned { ArePlanned accepted plans.now }
+    requires opened { IsOpened accepted plans.now opened }
+    ensures { IfOk result (λ reply. Sums (C.skipped means.entry.closer.now) load.count
+        (seen_accepted accepted.entry) (seen_plans plans.now) (seen_reply reply)) }
+{
+    match run_all(alloc, means, load.workers, &accepted, plans, opened) {
+        Ok(ran) => summary(alloc, load.count, accepted, ran),
+        Err(error) => {
+            drop(accepted);
+            Err(error)
+        }
+    }
+}
+
+// What the tests lead to.
+fn planned<R: Threads + Sync, G: Gate, C: Closer>(
+    alloc: Global,
+    means: Means<'_, R, G, C>,
+    load: Load,
+    accepted: Accepted<'_>,
+    plans: &[TestPlan],
+) -> Result<Reply, AllocError>
+    requires workers { IsWithin 1 most_workers load.workers }
+    requires instrumented { IsInstrumented accepted }
+    requires planned { ArePlanned accepted plans.now }
+    ensures { IfOk result (λ reply. let a = seen_accepted accepted.entry in
+        Reaches (Fits a (seen_plans plans.now))
+        (λ _. Sums (C.skipped means.entry.closer.now) load.count a (seen_plans plans.now))
+        (seen_reply reply)) }
+{
+    match open_for(alloc, &accepted, plans) {
+        Ok(words) => opened(alloc, means, load, accepted, plans, words),
+        Err(stop) => {
+            drop(accepted);
+            Reply::of_stop(alloc, &stop)
+        }
+    }
+}
+
+// What the source and its tests lead to.
+fn loaded<R: Threads + Sync, G: Gate, C: Closer>(
+    alloc: Global,
+    means: Means<'_, R, G, C>,
+    load: Load,
+    accepted: Accepted<'_>,
+    tests: &[u8],
+) -> Result<Reply, AllocError>
+    requires workers { IsWithin 1 most_workers load.workers }
+    requires instrumented { IsInstrumented accepted }
+    ensures { IfOk result (λ reply. let a = seen_accepted accepted.entry in
+        Reaches (JudgesTests a.program usual_fuel tests.now)
+        (λ plans. Reaches (Fits a plans)
+        (λ _. Sums (C.skipped means.entry.closer.now) load.count a plans))
+        (seen_reply reply)) }
+{
+    match judge_tests(alloc, &accepted, USUAL_FUEL, tests) {
+        Ok(plans) => planned(alloc, means, load, accepted, &plans),
+        Err(stop) => {
+            drop(accepted);
+            Reply::of_stop(alloc, &stop)
+        }
+    }
+}
+
+/// The reply of `selfload`: a source and its tests are made, and what comes of them is summed up.
+pub fn selfload<R: Threads + Sync, G: Gate, C: Closer>(
+    alloc: Global,
+    means: Means<'_, R, G, C>,
+    load: Load,
+) -> Result<Reply, AllocError>
+    requires count { IsWithin 1 most_functions load.count }
+    requires workers { IsWithin 1 most_workers load.workers }
+    ensures { IfOk result (λ reply. Loads (C.skipped means.entry.closer.now) load.count
+        (seen_reply reply)) }
+{
+    let (source, tests) = generate(alloc, load.count)?;
+    match judge_source(alloc, &source) {
+        Ok(accepted) => loaded(alloc, means, load, accepted, &tests),
+        Err(stop) => Reply::of_stop(alloc, &stop),
+    }
+}

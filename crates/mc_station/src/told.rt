@@ -1,0 +1,81 @@
+//! What the command of a run tells of its tests.
+ghost use Rattle.std.specs.Prelude.{ℕ, IfOk, List};
+ghost use Rattle.mc_command.specs.Seen.{seen_report, seen_task};
+ghost use Rattle.mc_oblige.specs.Shown.{HasEvent};
+ghost use Rattle.mc_tests.specs.Seen.{seen_plans};
+ghost use Rattle.mc_record.specs.Kept.{IsKept};
+ghost use Rattle.mc_replies.specs.Seen.{seen_reply};
+ghost use Rattle.mc_station.specs.Ran.{AreTold, IsRun, kept_in, seen_ran};
+ghost use Rattle.mc_station.specs.Seen.{AreReasons, IsInstrumented, seen_accepted};
+ghost use Rattle.mc_station.specs.Stages.{Tells};
+ghost use Rattle.mc_station.specs.commands.Report.{ReportsOn};
+
+use crate::accepted::Accepted;
+use crate::commands::record::record;
+use crate::commands::report::report;
+use crate::commands::vectors::vectors;
+use crate::ran::Ran;
+use crate::tested::Tested;
+use mc_command::{Report, Task};
+use mc_oblige::Justification;
+use mc_replies::Reply;
+use mc_typed::TestPlan;
+use std::alloc::{AllocError, Global};
+
+// The report on a run of the tests.
+fn reported(
+    alloc: Global,
+    asked: Report<'_>,
+    accepted: Accepted<'_>,
+    ran: Ran,
+    justifications: &[Justification],
+) -> Result<Reply, AllocError>
+    requires instrumented { IsInstrumented accepted }
+    requires told { AreTold (seen_accepted accepted) ran.matrix (seen_ran ran) }
+    requires reasons { AreReasons accepted justifications.now }
+    ensures { IfOk result (λ reply. let a = seen_accepted accepted.entry in
+        ReportsOn (HasEvent a.map ran.matrix) (seen_report asked.entry) a
+        (seen_ran ran) justifications.now (seen_reply reply)) }
+{
+    let Ran {
+        matrix,
+        names,
+        states,
+        results,
+    } = ran;
+    let tests = Tested {
+        names,
+        states,
+        results: Some(results),
+    };
+    report(alloc, asked, accepted, &matrix, tests, justifications)
+}
+
+/// The reply of a task on the tests that were run. `plans` are the tests.
+pub fn tell(
+    alloc: Global,
+    task: Task<'_>,
+    accepted: Accepted<'_>,
+    plans: &[TestPlan],
+    ran: Ran,
+    justifications: &[Justification],
+) -> Result<Reply, AllocError>
+    requires instrumented { IsInstrumented accepted }
+    requires told { AreTold (seen_accepted accepted) ran.matrix (seen_ran ran) }
+    requires kept { IsKept (kept_in accepted.source.now ran) }
+    requires reasons { AreReasons accepted justifications.now }
+    ensures { (skipped : List ℕ)
+        → IsRun skipped (seen_accepted accepted.entry) (seen_plans plans.now) ran
+        → IfOk result (λ reply. Tells skipped (seen_task task.entry) (seen_accepted accepted.entry)
+        (seen_plans plans.now) justifications.now (seen_reply reply)) }
+{
+    match task {
+        Task::Report(asked) => reported(alloc, asked, accepted, ran, justifications),
+        Task::Vectors => vectors(alloc, accepted, &ran),
+        Task::Record => {
+            let reply = record(alloc, accepted.source, ran);
+            drop(accepted);
+            Ok(reply)
+        }
+    }
+}

@@ -1,0 +1,22 @@
+//! Tests of the commands that keep records, join and report on them, and of the large program: what
+//! no clause says. Runs succeed with ample memory, and the definitions are the ones meant.
+#![tactic(auto)]
+
+#[cfg(test)]
+mod analyses;
+#[cfg(test)]
+mod closed;
+#[cfg(test)]
+mod fail;
+#[cfg(test)]
+mod faults;
+#[cfg(test)]
+mod merges;
+#[cfg(test)]
+mod records;
+#[cfg(test)]
+mod run;
+#[cfg(test)]
+mod summaries;
+#[cfg(test)]
+mod text;
