@@ -5,11 +5,19 @@
 #[cfg(test)]
 mod analyses;
 #[cfg(test)]
+mod asked;
+#[cfg(test)]
 mod closed;
+#[cfg(test)]
+mod compared;
 #[cfg(test)]
 mod fail;
 #[cfg(test)]
 mod faults;
+#[cfg(test)]
+mod generated;
+#[cfg(test)]
+mod large;
 #[cfg(test)]
 mod merges;
 #[cfg(test)]

@@ -73,6 +73,7 @@ const USAGE: &str = "\
 usage: mcdc report SOURCE TESTS [--mode unique|masking] [--workers N] [--fuel N] \
 [--justify NAME] [--format text|csv|json]
        mcdc vectors SOURCE TESTS [--workers N] [--fuel N]
+       mcdc instrument SOURCE
        mcdc record SOURCE TESTS [--workers N] [--fuel N]
        mcdc merge SOURCE LEFT RIGHT
        mcdc analyse SOURCE RECORD [--mode unique|masking] [--justify NAME] \
@@ -100,7 +101,7 @@ static LARGE: [(&str, &str); 3] = [
 ];
 
 /// Words that are no command.
-static REFUSED: [&str; 20] = [
+static REFUSED: [&str; 23] = [
     "selfload",
     "selfload|0",
     "selfload|201",
@@ -108,10 +109,13 @@ static REFUSED: [&str; 20] = [
     "selfload|1|2",
     "selfload|1|--workers|0",
     "selfload|1|--workers|65",
+    "selfload|1|--workers|01",
     "selfload|1|--fuel|100",
     "record|s.c",
     "record|s.c|t.csv|--mode|unique",
     "record|s.c|t.csv|--workers|65",
+    "record|s.c|t.csv|--workers|0",
+    "record|s.c|t.csv|--workers|01",
     "record|s.c|t.csv|--fuel|0",
     "merge|s.c|LEFT",
     "merge|s.c|LEFT|RIGHT|RIGHT",

@@ -174,7 +174,7 @@ fn comes(alloc: Global, pair: Pair) -> Result<bool, AllocError>
 }
 
 /// A row has the parts of a `Pair`, in order.
-static PAIRS: [(u32, u32, u32, u32, Result<u32, PairFault>); 7] = [
+static PAIRS: [(u32, u32, u32, u32, Result<u32, PairFault>); 11] = [
     (1, 4095, 1, 4095, Ok(4096)),
     (1, 4096, 0, 0, Ok(4096)),
     (1, 4096, 1, 4096, Err(PairFault::Limit { tests: 4097 })),
@@ -196,6 +196,41 @@ static PAIRS: [(u32, u32, u32, u32, Result<u32, PairFault>); 7] = [
         513,
         512,
         Err(PairFault::TooLarge { words: 1_114_112 }),
+    ),
+    (
+        16385,
+        2048,
+        2048,
+        2048,
+        Err(PairFault::TooLarge { words: 1_048_640 }),
+    ),
+    // The words would be too many in these too, and another fault comes first.
+    (
+        16385,
+        2048,
+        2049,
+        2048,
+        Err(PairFault::Limit { tests: 4097 }),
+    ),
+    (
+        65536,
+        512,
+        513,
+        511,
+        Err(PairFault::SameTest {
+            left: 511,
+            right: 0,
+        }),
+    ),
+    (
+        16385,
+        2049,
+        2049,
+        2048,
+        Err(PairFault::SameTest {
+            left: 2048,
+            right: 0,
+        }),
     ),
 ];
 

@@ -27,6 +27,8 @@ record line 7: ending@any@2@mcdc-record 2$source #$bits 2$tests 0$bit 0$bit 1$bi
 record line 5: ending@any@0@mcdc-record 2$source #$bits 0$tests 0$bit 0$end$
 record line 3: shape@any@1@mcdc-record 2$source #$bits 0$tests 0$end$
 record line 6: name again@any@0@mcdc-record 2$source #$bits 0$tests 2$test a pass$test a pass$end$
+# a test without a bit
+ok@any@1@mcdc-record 2$source #$bits 1$tests 2$test a pass$test b fuel$bit 0 *1$end$
 # each state
 ok@any@0@mcdc-record 2$source #$bits 0$tests 7$test a pass$test b fail$test c trap-overflow$test d trap-division$test e trap-shift$test f trap-index$test g trap-unset$end$
 ok@any@0@mcdc-record 2$source #$bits 0$tests 6$test a trap-no-return$test b trap-input-end$test c fuel$test d levels$test e cells$test f output-full$end$
@@ -39,6 +41,9 @@ record line 1: header@any@1@mcdc-record 1
 record line 1: old rules@new@1@mcdc-record 1$source #$bits 1$tests 1$test a pass$bit 0 *2$end$
 record line 6: spare bit@old@1@mcdc-record 1$source #$bits 1$tests 1$test a pass$bit 0 *2$end$
 record line 2: source@old@1@mcdc-record 1$source ****0000$
+record line 1: old rules@new@1@mcdc-record 1$source ****0000$
+ok@old@6@mcdc-record 1$source #$bits 6$tests 3$test t1 pass$test t2 pass$test t3 pass$bit 0 *7$bit 1 *7$bit 2 *7$bit 3 *1$bit 4 *2$bit 5 *4$end$
+record line 1: old rules@new@6@mcdc-record 1$source #$bits 6$tests 3$test t1 pass$test t2 pass$test t3 pass$bit 0 *7$bit 1 *7$bit 2 *7$bit 3 *1$bit 4 *2$bit 5 *4$end$
 # the first line with a fault answers
 record line 2: source@any@1@mcdc-record 2$source ****0000$bits 2$tests 5000$
 record line 3: shape@any@1@mcdc-record 2$source #$bits 2$tests 5000$
