@@ -6,3 +6,7 @@ pub mod Flap
 pub mod RulesOfValues
 pub mod RulesOfStatements
 pub mod RulesOfInitializers
+pub mod RulesOfOperators
+pub mod RulesOfOrder
+pub mod RulesOfCompleting
+pub mod RulesOfEndings

@@ -6,6 +6,11 @@ ghost use Rattle.tests_meaning.specs.Seen.{Hold, one_call};
 ghost use Rattle.tests_meaning.specs.Flap as flap;
 ghost use Rattle.tests_meaning.specs.Rows as rows;
 ghost use Rattle.tests_meaning.specs.RulesOfInitializers as initializers;
+ghost use Rattle.tests_meaning.specs.RulesOfOperators as operators;
+ghost use Rattle.tests_meaning.specs.RulesOfOrder as order;
+ghost use Rattle.tests_meaning.specs.RulesOfCompleting as completing;
+ghost use Rattle.tests_meaning.specs.RulesOfEndings as endings;
+ghost use Rattle.tests_meaning.specs.RulesOfEndings.{ExpectationsAreJudged, FuelComesFirst, OutputTakesAUnit};
 ghost use Rattle.tests_meaning.specs.RulesOfValues as values;
 ghost use Rattle.tests_meaning.specs.RulesOfStatements.{LimitsAreInOrder, OutputIsLimited, StatesAreJudged};
 ghost use Rattle.tests_meaning.specs.RulesOfStatements as statements;
@@ -57,4 +62,35 @@ pub fn output_is_limited()
 pub fn states_of_tests()
     ensures judged { StatesAreJudged }
     ensures trapped { Hold (statements.trapped_test ∷ []) }
+{}
+
+/// What each operator gives, and where it traps; shifts, comparisons and conversions.
+pub fn rules_of_operators()
+    ensures { Hold operators.rows }
+{}
+
+/// In which order parts are evaluated, and how decisions are numbered.
+pub fn rules_of_order()
+    ensures { Hold order.rows }
+{}
+
+/// Which bodies complete: branches, loops, controlling expressions and switches.
+pub fn rules_of_completing()
+    ensures branches { Hold completing.rows }
+    ensures loops { Hold completing.loop_rows }
+    ensures tests { Hold completing.test_rows }
+    ensures cases { Hold completing.case_rows }
+{}
+
+/// Functions that fall off their end, labels that are absent, and limits.
+pub fn rules_of_endings()
+    ensures rows { Hold endings.rows }
+    ensures large { Hold endings.large_rows }
+    ensures unit { OutputTakesAUnit }
+    ensures first { FuelComesFirst }
+{}
+
+/// Expected values and outputs, of one call and of two.
+pub fn expectations_are_judged()
+    ensures { ExpectationsAreJudged }
 {}

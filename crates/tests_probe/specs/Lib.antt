@@ -3,3 +3,4 @@ pub mod Followed
 pub mod Bits
 pub mod Counting
 pub mod Formed
+pub mod ByHand

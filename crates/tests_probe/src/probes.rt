@@ -1,5 +1,6 @@
 //! Bits that were counted by hand, and trees with other probes than a program's own.
 ghost use Rattle.tests_probe.specs.Counting as counting;
+ghost use Rattle.tests_probe.specs.ByHand.{MapIsThat, TreeIsThat};
 ghost use Rattle.tests_probe.specs.Bits.{Again, Anywhere, Compared, Cut, InBits, Nested, OfLong, Wraps, WrapsInside};
 
 /// The order of the bits, and a decision that a trap cuts.
@@ -36,4 +37,10 @@ pub fn other_bits_are_not_hit()
 /// Registers belong to the activation and begin at 0.
 pub fn activations_have_registers()
     ensures { Nested }
+{}
+
+/// A program with each probe: its map and its tree were written by hand from the text.
+pub fn tree_by_hand()
+    ensures map { MapIsThat }
+    ensures tree { TreeIsThat }
 {}

@@ -2,7 +2,11 @@
 ghost use Rattle.std.specs.Prelude.{[], ◌∷◌};
 ghost use Rattle.tests_meaning.specs.Flap as flap;
 ghost use Rattle.tests_meaning.specs.Rows as rows;
+ghost use Rattle.tests_meaning.specs.RulesOfCompleting as completing;
+ghost use Rattle.tests_meaning.specs.RulesOfEndings as endings;
 ghost use Rattle.tests_meaning.specs.RulesOfInitializers as initializers;
+ghost use Rattle.tests_meaning.specs.RulesOfOperators as operators;
+ghost use Rattle.tests_meaning.specs.RulesOfOrder as order;
 ghost use Rattle.tests_meaning.specs.RulesOfStatements as statements;
 ghost use Rattle.tests_meaning.specs.RulesOfValues as values;
 ghost use Rattle.tests_meaning.specs.Traps as traps;
@@ -38,4 +42,28 @@ pub fn rules_of_initializers()
 pub fn rules_of_statements()
     ensures rows { Follow statements.rows }
     ensures trapped { Follow (statements.trapped_test ∷ []) }
+{}
+
+/// What each operator gives, and where it traps; shifts, comparisons and conversions.
+pub fn rules_of_operators()
+    ensures { Follow operators.rows }
+{}
+
+/// In which order parts are evaluated, and how decisions are numbered.
+pub fn rules_of_order()
+    ensures { Follow order.rows }
+{}
+
+/// Which bodies complete: branches, loops, controlling expressions and switches.
+pub fn rules_of_completing()
+    ensures branches { Follow completing.rows }
+    ensures loops { Follow completing.loop_rows }
+    ensures tests { Follow completing.test_rows }
+    ensures cases { Follow completing.case_rows }
+{}
+
+/// Functions that fall off their end, labels that are absent, and limits.
+pub fn rules_of_endings()
+    ensures rows { Follow endings.rows }
+    ensures large { Follow endings.large_rows }
 {}

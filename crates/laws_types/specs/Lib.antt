@@ -1,0 +1,5 @@
+pub mod Written
+pub mod Operators
+pub mod Conversions
+pub mod Constants
+pub mod Heights

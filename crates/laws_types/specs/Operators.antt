@@ -1,0 +1,128 @@
+-- What an operator of the source stands for in the typed program, with its operands in their order
+-- (C17 6.5): one line for each operator, from the text.
+use Rattle.std.specs.Prelude.{◌≡◌, pos, true, List, [], ◌∷◌, ◌++◌, map, Some}
+use Rattle.mc_tree.specs.declared.expressions.unary_operator.UnaryOperator.TheVariants as unary
+use Rattle.mc_tree.specs.declared.expressions.step_operator.StepOperator.TheVariants as step
+use Rattle.mc_tree.specs.declared.expressions.binary_operator.BinaryOperator.TheVariants as binary
+use Rattle.mc_tree.specs.declared.expressions.assignment_operator.AssignmentOperator.TheVariants as assign
+use Rattle.mc_tree.specs.declared.declarations.specifier_word.SpecifierWord.TheVariants as word
+use Rattle.mc_tree.specs.Tree as tree
+use Rattle.mc_value.specs.declared.int_type.IntType.TheVariants.{Char, Int, UInt, Long}
+use Rattle.mc_value.specs.declared.operators.BinOp.TheVariants as op
+use Rattle.mc_value.specs.declared.operators.ShiftOp.TheVariants as shift
+use Rattle.mc_value.specs.declared.operators.UnOp.TheVariants as un
+use Rattle.mc_typed.specs.declared.operators.Operator.TheVariants.{Binary, Shift}
+use Rattle.mc_typed.specs.declared.operators.LogicOperator.TheVariants as logic
+use Rattle.mc_typed.specs.Tree as t
+use Rattle.laws_types.specs.Written.{here, named, digit, typed, done, object, read, read_as}
+
+-- ---- two operands: an int and a long
+
+abbrev pub binaries : List tree.Expression
+binaries = map (λ o. tree.Binary o (named Int) (named Long) here)
+    (binary.Multiply ∷ binary.Divide ∷ binary.Remainder ∷ binary.Add ∷ binary.Subtract
+    ∷ binary.Less ∷ binary.Greater ∷ binary.LessOrEqual ∷ binary.GreaterOrEqual ∷ binary.Equal
+    ∷ binary.Unequal ∷ binary.BitAnd ∷ binary.BitXor ∷ binary.BitOr
+    ∷ binary.ShiftLeft ∷ binary.ShiftRight ∷ binary.And ∷ binary.Or ∷ [])
+
+-- those of arithmetic, comparison and bits have both operands in the common type, a shift has each
+-- in its own, and `&&` and `||` have them as they are
+abbrev pub of_binaries : List t.Expression
+of_binaries =
+    map (λ o. t.Binary (Binary o) Long (read_as Long Int) (read Long) here)
+    (op.Mul ∷ op.Div ∷ op.Rem ∷ op.Add ∷ op.Sub ∷ op.Lt ∷ op.Gt ∷ op.Le ∷ op.Ge ∷ op.Eq ∷ op.Ne
+    ∷ op.And ∷ op.Xor ∷ op.Or ∷ [])
+    ++ t.Binary (Shift shift.Left) Int (read Int) (read Long) here
+    ∷ t.Binary (Shift shift.Right) Int (read Int) (read Long) here
+    ∷ t.Logic logic.And (read Int) (read Long) here
+    ∷ t.Logic logic.Or (read Int) (read Long) here ∷ []
+
+-- ---- one operand
+
+abbrev pub unaries : List tree.Expression
+unaries = map (λ o. tree.Unary o (named Char) here)
+    (unary.Plus ∷ unary.Minus ∷ unary.Complement ∷ unary.Not ∷ [])
+
+abbrev pub of_unaries : List t.Expression
+of_unaries =
+    map (λ o. t.Unary o Int (read_as Int Char) here) (un.Plus ∷ un.Minus ∷ un.Flip ∷ [])
+    ++ t.Not (read Char) here ∷ []
+
+-- ---- assignments of a long to an int: `=`, and then each compound one
+
+abbrev pub assignments : List tree.Expression
+assignments = map (λ o. tree.Assignment o (named Int) (named Long) here)
+    (assign.Assign ∷ assign.Multiply ∷ assign.Divide ∷ assign.Remainder ∷ assign.Add
+    ∷ assign.Subtract ∷ assign.BitAnd ∷ assign.BitXor ∷ assign.BitOr ∷ assign.ShiftLeft
+    ∷ assign.ShiftRight ∷ [])
+
+abbrev pub of_assignments : List t.Effect
+of_assignments =
+    t.Assign (object Int) Int (read_as Int Long) here
+    ∷ map (λ o. t.Update (object Int) Int (Binary o) Long (read Long) here)
+    (op.Mul ∷ op.Div ∷ op.Rem ∷ op.Add ∷ op.Sub ∷ op.And ∷ op.Xor ∷ op.Or ∷ [])
+    ++ t.Update (object Int) Int (Shift shift.Left) Int (read Long) here
+    ∷ t.Update (object Int) Int (Shift shift.Right) Int (read Long) here ∷ []
+
+-- ---- steps: 1 is added or subtracted, and stands where the two bytes of the operator stand
+
+abbrev pub steps : List tree.Expression
+steps =
+    tree.PostfixStep step.Increment (named Char) here
+    ∷ tree.PostfixStep step.Decrement (named Char) here
+    ∷ tree.PrefixStep step.Increment (named Char) here
+    ∷ tree.PrefixStep step.Decrement (named Char) here ∷ []
+
+abbrev pub after : t.Expression
+after = t.Constant (pos 1) Int (record { start = 18; end = 20 })
+
+abbrev pub before : t.Expression
+before = t.Constant (pos 1) Int (record { start = 10; end = 12 })
+
+abbrev pub of_steps : List t.Effect
+of_steps =
+    t.Update (object Char) Char (Binary op.Add) Int after here
+    ∷ t.Update (object Char) Char (Binary op.Sub) Int after here
+    ∷ t.Update (object Char) Char (Binary op.Add) Int before here
+    ∷ t.Update (object Char) Char (Binary op.Sub) Int before here ∷ []
+
+-- ---- `?:`, casts, and parentheses
+
+abbrev pub as_char : tree.Expression → tree.Expression
+as_char e = tree.Cast (tree.type_name (tree.specifiers (tree.Word word.Char here)
+    tree.no_specifiers) 0 here) e here
+
+abbrev pub others : List tree.Expression
+others =
+    tree.Conditional (named Char) (named UInt) (named Long) here
+    ∷ tree.Conditional (named Long) (named Char) (named Char) here
+    ∷ as_char (named Int)
+    ∷ as_char (named Char)
+    ∷ tree.Parenthesized (named Int) here
+    ∷ tree.Binary binary.Subtract (digit 5) (digit 3) here ∷ []
+
+-- the test of `?:` stays as it is, and its arms have a common type; a cast that is written stands
+-- there, also where it changes nothing
+abbrev pub of_others : List t.Expression
+of_others =
+    t.Choice (read Char) (read_as Long UInt) (read Long) Long here
+    ∷ t.Choice (read Long) (read_as Int Char) (read_as Int Char) Int here
+    ∷ t.Convert Char true (read Int) here
+    ∷ t.Convert Char true (read Char) here
+    ∷ read Int
+    ∷ t.Binary (Binary op.Sub) Int (t.Constant (pos 5) Int here) (t.Constant (pos 3) Int here) here
+    ∷ []
+
+-- ---- the laws
+
+abbrev pub Kept : List tree.Expression → List t.Expression → Type 0
+Kept es xs = map typed es ≡ map Some xs
+
+abbrev pub AreDone : List tree.Expression → List t.Effect → Type 0
+AreDone es xs = map done es ≡ map Some xs
+
+abbrev pub OperatorsAreKept : Type 0
+OperatorsAreKept = Kept binaries of_binaries × Kept unaries of_unaries × Kept others of_others
+
+abbrev pub AssignmentsAreKept : Type 0
+AssignmentsAreKept = AreDone assignments of_assignments × AreDone steps of_steps

@@ -1,0 +1,57 @@
+//! The functions do nothing: each has a law as its contract.
+ghost use Rattle.laws_types.specs.Constants.{ConstantsHaveTheirTypes, NarrowWords, WideWords};
+ghost use Rattle.laws_types.specs.Conversions.{AssignedIsConverted, LabelsArePromoted, OneIsPromoted, OperandsAreConverted};
+ghost use Rattle.laws_types.specs.Heights.{ExpressionsHaveLevels, StatementsHaveLevels};
+ghost use Rattle.laws_types.specs.Operators.{AssignmentsAreKept, OperatorsAreKept};
+
+/// Each operator of the source is the same one in the typed program, with its operands in order.
+pub fn operators_are_kept()
+    ensures { OperatorsAreKept }
+{}
+
+/// So is that of each assignment and step.
+pub fn assignments_are_kept()
+    ensures { AssignmentsAreKept }
+{}
+
+/// The operands of arithmetic operators, `?:` and shifts, of each pair of types, have the
+/// conversions that C implies, and no others.
+pub fn operands_are_converted()
+    ensures { OperandsAreConverted }
+{}
+
+/// So has what is assigned, of each pair of types.
+pub fn assigned_is_converted()
+    ensures { AssignedIsConverted }
+{}
+
+/// The operand of a unary operator, of each type, is promoted.
+pub fn one_is_promoted()
+    ensures { OneIsPromoted }
+{}
+
+/// The labels of a `switch` have the promoted type of its expression.
+pub fn labels_are_promoted()
+    ensures { LabelsArePromoted }
+{}
+
+/// The types of constants: each cell of the table.
+pub fn constants_have_their_types()
+    ensures { ConstantsHaveTheirTypes }
+{}
+
+/// The types of words: each set of the table, in more than one order.
+pub fn words_have_their_types()
+    ensures narrow { NarrowWords }
+    ensures wide { WideWords }
+{}
+
+/// Each part of each expression the highest once.
+pub fn expressions_have_levels()
+    ensures { ExpressionsHaveLevels }
+{}
+
+/// Each part of each effect, declaration and statement the highest once.
+pub fn statements_have_levels()
+    ensures { StatementsHaveLevels }
+{}

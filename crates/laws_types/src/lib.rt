@@ -1,0 +1,11 @@
+//! Laws on names and types: what the typed program has of the text, by tables from the C standard.
+//! There is no code in it, but laws.
+#![tactic(auto)]
+
+mod laws;
+
+pub use laws::{
+    assigned_is_converted, assignments_are_kept, constants_have_their_types,
+    expressions_have_levels, labels_are_promoted, one_is_promoted, operands_are_converted,
+    operators_are_kept, statements_have_levels, words_have_their_types,
+};

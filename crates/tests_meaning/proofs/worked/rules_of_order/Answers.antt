@@ -1,0 +1,5 @@
+use Rattle.std.specs.Prelude.{refl}
+use Rattle.tests_meaning.proofs.worked.rules_of_order.Goals as goal
+
+pub returns : goal.returns
+returns c = refl
