@@ -34,6 +34,8 @@ pub record Run : Type 0 where
 pub data Action : Type 0 where
   -- its tests are run: `report`, `vectors`, `record`
   run : Run → Action
+  -- `instrument`: its program is written with the probes
+  instrument : Action
   -- `merge`: two records of its tests are joined, the left one first
   merge : (left right : List ℕ) → Action
   -- `analyse`: a record of its tests is reported on
@@ -99,6 +101,7 @@ abbrev pub action_in : (name : Text) → List Row → Option Action
 action_in name values =
     if bytes_eq name (codes "merge") then merge_in values
     else if bytes_eq name (codes "analyse") then analyse_in values
+    else if bytes_eq name (codes "instrument") then Some instrument
     else run_action_in name values
 
 abbrev pub on_source_with : Option Text → Option Action → Option Command

@@ -1,8 +1,7 @@
 -- What clauses see of commands.
 use Rattle.std.specs.Prelude.{◌≤◌, ℕ, ⊤, option_map}
-use Rattle.mc_limits.specs.Limits.{most_fuel, most_workers}
-use Rattle.mc_command.specs.Command.{Action, Command, Report, Run, Task, analyse, merge, on_source, recorded, report, run, selfload, vectors}
-use Rattle.mc_command.specs.Values.{most_functions}
+use Rattle.mc_limits.specs.Limits.{most_fuel, most_functions, most_workers}
+use Rattle.mc_command.specs.Command.{Action, Command, Report, Run, Task, analyse, instrument, merge, on_source, recorded, report, run, selfload, vectors}
 use Rattle.mc_command.specs.declared.action.Action.{Action as ActionGiven}
 use Rattle.mc_command.specs.declared.action.Action.TheVariants as action
 use Rattle.mc_command.specs.declared.command.Command.{Command as Given}
@@ -27,6 +26,7 @@ seen_run r =
 
 abbrev pub seen_action : ActionGiven → Action
 seen_action (action.Run r) = run (seen_run r)
+seen_action action.Instrument = instrument
 seen_action (action.Merge left right) = merge left.now right.now
 seen_action (action.Analyse kept r) = analyse kept.now (seen_report r)
 

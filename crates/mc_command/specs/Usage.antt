@@ -43,6 +43,10 @@ run_app name = with_rules (files_app name (codes "tests")) run_rules
 abbrev pub report_app : App
 report_app = with_rules (run_app (codes "report")) report_rules
 
+-- `instrument SOURCE`
+abbrev pub instrument_app : App
+instrument_app = with_rule (new_app (codes "instrument")) (positional_rule (codes "source"))
+
 -- `merge SOURCE LEFT RIGHT`
 abbrev pub merge_app : App
 merge_app =
@@ -67,11 +71,16 @@ with_run_commands line =
     (with_subcommand (with_subcommand line report_app.top) (run_app (codes "vectors")).top)
     (run_app (codes "record")).top
 
--- the commands on records, and the one on a source that the program makes itself
+-- the commands on records
+abbrev pub with_record_commands : App → App
+with_record_commands line =
+    with_subcommand (with_subcommand line merge_app.top) analyse_app.top
+
+-- the command on a source alone, and the one on a source that the program makes itself
 abbrev pub with_other_commands : App → App
 with_other_commands line =
-    with_subcommand (with_subcommand (with_subcommand line merge_app.top) analyse_app.top)
-    selfload_app.top
+    with_subcommand (with_subcommand line instrument_app.top) selfload_app.top
 
 abbrev pub line_app : App
-line_app = with_other_commands (with_run_commands (new_app (codes "mcdc")))
+line_app =
+    with_other_commands (with_record_commands (with_run_commands (new_app (codes "mcdc"))))

@@ -5,7 +5,7 @@ use Rattle.std.specs.List.{list_all}
 use Rattle.std.specs.Str.{bytes_eq}
 use Rattle.std.specs.Str.Parse.{digits_value}
 use Rattle.clap.specs.Walk.{Row, Text, first_of}
-use Rattle.mc_limits.specs.Limits.{most_fuel, most_workers, usual_fuel}
+use Rattle.mc_limits.specs.Limits.{most_fuel, most_functions, most_workers, usual_fuel}
 use Rattle.mc_command.specs.declared.form.Form.{Form}
 use Rattle.mc_command.specs.declared.form.Form.TheVariants as form
 use Rattle.mc_command.specs.declared.independence.Independence.{Independence}
@@ -51,24 +51,20 @@ number_within least most value =
     if is_numeral value && is_within least most (digits_value 10 value)
     then Some (digits_value 10 value) else None
 
--- functions of a source that the program makes itself
-abbrev pub most_functions : ℕ
-most_functions = 200
-
 -- workers of a run, where the command names none
 abbrev pub usual_workers : ℕ
 usual_workers = 4
 
--- `N`, the functions of a source that the program makes itself, from 1 to 200
+-- `N`, the functions of a source that the program makes itself, from 1 on
 abbrev pub count_in : List Row → Option ℕ
 count_in values = option_and_then (number_within 1 most_functions) (first_of (codes "count") values)
 
--- `[--workers N]`, from 1 to 64: without it, 4
+-- `[--workers N]`, from 1 on: without it, the usual number
 abbrev pub workers_in : List Row → Option ℕ
 workers_in values =
     or_default usual_workers (number_within 1 most_workers) (first_of (codes "workers") values)
 
--- `[--fuel N]`, from 1 to 100,000,000: without it, 1,000,000
+-- `[--fuel N]`, from 1 on: without it, the usual fuel
 abbrev pub fuel_in : List Row → Option ℕ
 fuel_in values =
     or_default usual_fuel (number_within 1 most_fuel) (first_of (codes "fuel") values)

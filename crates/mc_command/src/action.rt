@@ -15,6 +15,8 @@ use clap::ArgMatches;
 pub enum Action<'w> {
     /// Its tests are run: `report`, `vectors`, `record`
     Run(Run<'w>),
+    /// Its program is written with the probes: `instrument`
+    Instrument,
     /// Two records of its tests are joined: `merge`
     Merge {
         /// The name of the record whose tests come first.
@@ -71,6 +73,7 @@ pub fn read_action<'w>(name: &str, values: &ArgMatches<'w>) -> Option<Action<'w>
     match name {
         "merge" => read_merge(values),
         "analyse" => read_analyse(values),
+        "instrument" => Some(Action::Instrument),
         _ => read_run_action(name, values),
     }
 }

@@ -1,10 +1,11 @@
 //! The commands, and the reading of one from a line.
 ghost use Rattle.std.specs.Prelude.{◌≡◌, IfOk, IfSome, option_map};
 ghost use Rattle.clap.specs.Words.{found_of, rows_of};
+ghost use Rattle.mc_limits.specs.Limits.{most_functions};
 ghost use Rattle.mc_command.specs.Command.{command_in, command_of, on_source_in, selfload_in};
 ghost use Rattle.mc_command.specs.Line.{words_of};
 ghost use Rattle.mc_command.specs.Seen.{IsInRange, IsWithin, seen_command};
-ghost use Rattle.mc_command.specs.Values.{count_in, most_functions};
+ghost use Rattle.mc_command.specs.Values.{count_in};
 
 use crate::action::{Action, read_action};
 use crate::line::matches_in;
@@ -12,10 +13,8 @@ use crate::number::read_number;
 use crate::run::read_workers;
 use crate::values::text_at;
 use clap::ArgMatches;
+use mc_limits::MOST_FUNCTIONS;
 use std::alloc::{AllocError, Global};
-
-/// The most functions of a source that the program makes itself.
-const MOST_FUNCTIONS: u32 = 200;
 
 /// What a command line asks for, with the names of its files as they stand there.
 #[derive(Clone, Copy)]
@@ -29,9 +28,9 @@ pub enum Command<'w> {
     },
     /// The program makes a source and its tests itself, runs them and sums up: `selfload`
     Selfload {
-        /// How many functions the source has, from 1 to 200.
+        /// How many functions the source has, from 1 to `MOST_FUNCTIONS`.
         count: u32,
-        /// How many workers share the tests, from 1 to 64.
+        /// How many workers share the tests, from 1 to `MOST_WORKERS`.
         workers: u32,
     },
 }

@@ -20,9 +20,9 @@ const USUAL_WORKERS: u32 = 4;
 pub struct Run<'w> {
     /// The name of the tests file.
     pub tests: &'w str,
-    /// How many workers share the tests, from 1 to 64.
+    /// How many workers share the tests, from 1 to `MOST_WORKERS`.
     pub workers: u32,
-    /// The fuel of each test, from 1 to 100,000,000.
+    /// The fuel of each test, from 1 to `MOST_FUEL`.
     pub fuel: u32,
     /// What is written of the run.
     pub task: Task<'w>,

@@ -2,7 +2,7 @@
 ghost use Rattle.std.specs.Prelude.{◌≡◌, IfOk, codes, false};
 ghost use Rattle.clap.specs.declared.builder.command.Command.TheViews.{out-Command as fields_of};
 ghost use Rattle.clap.specs.Words.{app_of, new_app, rule_of};
-ghost use Rattle.mc_command.specs.Usage.{analyse_app, files_app, line_app, merge_app, option_rule, positional_rule, report_app, report_rules, run_app, selfload_app, with_other_commands, with_rules, with_run_commands};
+ghost use Rattle.mc_command.specs.Usage.{analyse_app, files_app, instrument_app, line_app, merge_app, option_rule, positional_rule, report_app, report_rules, run_app, selfload_app, with_other_commands, with_record_commands, with_rules, with_run_commands};
 
 use clap::{Arg, Command};
 use std::alloc::{AllocError, Global};
@@ -80,6 +80,14 @@ fn recorded<'w>(alloc: Global) -> Result<Command<'w>, AllocError>
     run(alloc, "record")
 }
 
+// `instrument SOURCE`
+fn instrument<'w>(alloc: Global) -> Result<Command<'w>, AllocError>
+    ensures app { IfOk result (λ c. app_of c ≡ instrument_app) }
+    ensures local { IfOk result (λ c. (fields_of c).has_globals ≡ false) }
+{
+    Command::new(alloc, "instrument").arg(positional(alloc, "source"))
+}
+
 fn merge<'w>(alloc: Global) -> Result<Command<'w>, AllocError>
     ensures app { IfOk result (λ c. app_of c ≡ merge_app) }
     ensures local { IfOk result (λ c. (fields_of c).has_globals ≡ false) }
@@ -117,16 +125,22 @@ fn with_run_commands<'w>(alloc: Global, line: Command<'w>) -> Result<Command<'w>
         .subcommand(recorded)
 }
 
-// The commands on records, and the one on a source that the program makes itself.
-fn with_other_commands<'w>(alloc: Global, line: Command<'w>) -> Result<Command<'w>, AllocError>
-    ensures { IfOk result (λ c. app_of c ≡ with_other_commands (app_of line.entry)) }
+// The commands on records.
+fn with_record_commands<'w>(alloc: Global, line: Command<'w>) -> Result<Command<'w>, AllocError>
+    ensures { IfOk result (λ c. app_of c ≡ with_record_commands (app_of line.entry)) }
 {
     let merge = merge(alloc)?;
     let analyse = analyse(alloc)?;
+    line.subcommand(merge)?.subcommand(analyse)
+}
+
+// The command on a source alone, and the one on a source that the program makes itself.
+fn with_other_commands<'w>(alloc: Global, line: Command<'w>) -> Result<Command<'w>, AllocError>
+    ensures { IfOk result (λ c. app_of c ≡ with_other_commands (app_of line.entry)) }
+{
+    let instrument = instrument(alloc)?;
     let selfload = selfload(alloc)?;
-    line.subcommand(merge)?
-        .subcommand(analyse)?
-        .subcommand(selfload)
+    line.subcommand(instrument)?.subcommand(selfload)
 }
 
 /// The command line of the program.
@@ -134,5 +148,6 @@ pub fn line_command<'w>(alloc: Global) -> Result<Command<'w>, AllocError>
     ensures { IfOk result (λ c. app_of c ≡ line_app) }
 {
     let line = with_run_commands(alloc, Command::new(alloc, "mcdc"))?;
+    let line = with_record_commands(alloc, line)?;
     with_other_commands(alloc, line)
 }

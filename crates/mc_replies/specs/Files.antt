@@ -1,5 +1,6 @@
 -- The files that commands ask for.
 use Rattle.std.specs.Prelude.{◌≤◌, ℕ, List, length, Option}
+use Rattle.mc_limits.specs.Limits.{most_justification_bytes, most_record_bytes, most_source_bytes, most_tests_bytes}
 use Rattle.mc_port.specs.Store.{Files, HasFile, Request}
 use Rattle.mc_replies.specs.declared.file.FileKind.{FileKind}
 use Rattle.mc_replies.specs.declared.file.FileKind.TheVariants.{Source, Tests, Record, Justifications}
@@ -8,10 +9,10 @@ use Rattle.mc_replies.specs.declared.status.Status.TheVariants.{SourceRefused, T
 
 -- the greatest length of a file, in bytes
 abbrev pub limit_of : FileKind → ℕ
-limit_of Source = 1048576
-limit_of Tests = 4194304
-limit_of Record = 33554432
-limit_of Justifications = 1048576
+limit_of Source = most_source_bytes
+limit_of Tests = most_tests_bytes
+limit_of Record = most_record_bytes
+limit_of Justifications = most_justification_bytes
 
 -- the status where it is refused
 abbrev pub status_of : FileKind → Status

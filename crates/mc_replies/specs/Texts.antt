@@ -19,6 +19,7 @@ usage_text =
     concat (codes "usage: mcdc report SOURCE TESTS [--mode unique|masking] [--workers N]"
     ∷ codes " [--fuel N] [--justify NAME] [--format text|csv|json]" ∷ newline
     ∷ codes "       mcdc vectors SOURCE TESTS [--workers N] [--fuel N]" ∷ newline
+    ∷ codes "       mcdc instrument SOURCE" ∷ newline
     ∷ codes "       mcdc record SOURCE TESTS [--workers N] [--fuel N]" ∷ newline
     ∷ codes "       mcdc merge SOURCE LEFT RIGHT" ∷ newline
     ∷ codes "       mcdc analyse SOURCE RECORD [--mode unique|masking] [--justify NAME]"
@@ -78,7 +79,7 @@ many_line line column what count =
 abbrev pub many_line_at : (source : List ℕ) → ℕ → List ℕ → ℕ → List ℕ
 many_line_at source at what count = many_line (line_of source at) (column_of source at) what count
 
--- the line on the first decision with more than 64 conditions
+-- the line on the first decision with too many conditions
 abbrev pub conditions_line : (source : List ℕ) (at count : ℕ) → List ℕ
 conditions_line source at count = many_line_at source at (codes "conditions") count
 

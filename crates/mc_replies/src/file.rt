@@ -3,6 +3,7 @@ ghost use Rattle.std.specs.Prelude.{◌≡◌};
 ghost use Rattle.mc_replies.specs.Files.{limit_of, status_of};
 
 use crate::status::Status;
+use mc_limits::{MOST_JUSTIFICATION_BYTES, MOST_RECORD_BYTES, MOST_SOURCE_BYTES, MOST_TESTS_BYTES};
 
 /// What a file is read as.
 #[derive(Clone, Copy)]
@@ -26,10 +27,10 @@ impl FileKind {
         ensures { result ≡ limit_of self }
     {
         match self {
-            FileKind::Source => 1048576,
-            FileKind::Tests => 4194304,
-            FileKind::Record => 33554432,
-            FileKind::Justifications => 1048576,
+            FileKind::Source => MOST_SOURCE_BYTES as u64,
+            FileKind::Tests => MOST_TESTS_BYTES as u64,
+            FileKind::Record => MOST_RECORD_BYTES as u64,
+            FileKind::Justifications => MOST_JUSTIFICATION_BYTES as u64,
         }
     }
 

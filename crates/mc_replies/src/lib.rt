@@ -4,6 +4,7 @@
 
 mod file;
 mod output;
+mod printable;
 mod refusal;
 mod reply;
 mod status;
@@ -13,6 +14,7 @@ mod writable;
 
 pub use file::{File, FileKind};
 pub use output::Output;
+pub use printable::Printable;
 pub use refusal::Refusal;
 pub use reply::Reply;
 pub use status::Status;

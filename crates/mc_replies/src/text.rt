@@ -17,6 +17,7 @@ pub fn usage_text(alloc: Global) -> Result<Vec<u8>, AllocError>
         "usage: mcdc report SOURCE TESTS [--mode unique|masking] [--workers N] [--fuel N] \
         [--justify NAME] [--format text|csv|json]\n       \
         mcdc vectors SOURCE TESTS [--workers N] [--fuel N]\n       \
+        mcdc instrument SOURCE\n       \
         mcdc record SOURCE TESTS [--workers N] [--fuel N]\n       \
         mcdc merge SOURCE LEFT RIGHT\n       \
         mcdc analyse SOURCE RECORD [--mode unique|masking] [--justify NAME] \

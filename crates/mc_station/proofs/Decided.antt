@@ -1,6 +1,7 @@
 -- Decisions that are few enough in conditions and in paths.
 use Rattle.std.proofs.Common.{◌≡◌, ◌∙◌, ◌≤◌, ℕ, List, codes, [], ◌∷◌, length, map, Result, Ok, Err, All, ap, sym, subst, inl, inr, arith}
 use Rattle.std.proofs.lemmas.List.Elements.{All-nil, All-cons, All-head, All-tail, All-map}
+use Rattle.mc_limits.specs.Limits.{most_conditions}
 use Rattle.mc_cond.specs.Tree.{tree_of, size, IsNumbered}
 use Rattle.mc_roots.specs.declared.decision.Decision as code
 use Rattle.mc_typed.specs.Tree.{Function, Program}
@@ -24,7 +25,7 @@ small : (f : Found) (d : Decision) → Tells f d → IsNumbered d.tree → IsSma
 small f d told numbered =
     let size_is : size d.tree ≡ length d.conditions =
     ap size told.tree ∙ size_of_tree 0 f.node ∙ sym told.count in
-    subst (λ (n : ℕ). n ≤ 64) size_is numbered.few
+    subst (λ (n : ℕ). n ≤ most_conditions) size_is numbered.few
 
 small_told : (fs : List Found) (ds : List Decision) → AreTold fs ds
     → All (λ (d : Decision). IsNumbered d.tree) ds → All IsSmall ds
@@ -36,7 +37,7 @@ small_told (f ∷ fs) (d ∷ ds) told all =
     (small f d told.0 (All-head (λ (e : Decision). IsNumbered e.tree) d ds all))
     (small_told fs ds told.1 (All-tail (λ (e : Decision). IsNumbered e.tree) d ds all))
 
--- where each tree is numbered, no decision has more than 64 conditions
+-- where each tree is numbered, no decision has too many conditions
 pub all_small : (fs : List Function) (ds : List code.Decision)
     → AreDecisions fs (map decision_of ds) → All (λ (d : code.Decision). IsNumbered (tree_of d.tree)) ds
     → All IsSmall (map decision_of ds)
@@ -47,7 +48,7 @@ all_small fs ds are all =
 pub none_large : (ds : List Decision) (at count : ℕ) → All IsSmall ds → IsFirstLarge ds at count → ⊥
 none_large [] at count all none = absurd none
 none_large (d ∷ ds) at count all (inl large) =
-    let few : length d.conditions ≤ 64 = All-head IsSmall d ds all in omega (arith, few, large.0)
+    let few : length d.conditions ≤ most_conditions = All-head IsSmall d ds all in omega (arith, few, large.0)
 none_large (d ∷ ds) at count all (inr later) =
     none_large ds at count (All-tail IsSmall d ds all) later.1
 
@@ -56,9 +57,9 @@ pub one_large : (ds : List Decision) (at count place number : ℕ) → IsFirstLa
 one_large [] at count place number none b = absurd none
 one_large (d ∷ ds) at count place number (inl a) (inl b) = (cc (a.1, b.1), cc (a.2, b.2))
 one_large (d ∷ ds) at count place number (inl a) (inr b) =
-    let few : length d.conditions ≤ 64 = b.0 in absurd (omega (arith, few, a.0))
+    let few : length d.conditions ≤ most_conditions = b.0 in absurd (omega (arith, few, a.0))
 one_large (d ∷ ds) at count place number (inr a) (inl b) =
-    let few : length d.conditions ≤ 64 = a.0 in absurd (omega (arith, few, b.0))
+    let few : length d.conditions ≤ most_conditions = a.0 in absurd (omega (arith, few, b.0))
 one_large (d ∷ ds) at count place number (inr a) (inr b) =
     one_large ds at count place number a.1 b.1
 

@@ -25,6 +25,7 @@ use Rattle.mc_station.specs.commands.Analyse.{tested_in}
 use Rattle.mc_station.proofs.Joining.{merge_keeps}
 use Rattle.mc_station.proofs.Listing.{list_keeps}
 use Rattle.mc_station.proofs.Loading.{load_keeps}
+use Rattle.mc_station.proofs.Printing.{text_keeps}
 use Rattle.mc_station.proofs.Recording.{record_keeps}
 use Rattle.mc_station.proofs.Reporting.{report_keeps}
 use Rattle.mc_station.proofs.Unique.{no_fault, no_file}
@@ -41,6 +42,7 @@ tells_keep skipped command.recorded accepted plans js r tells = record_keeps ski
 abbrev May : Stage → Reply → Type 0
 May stages.usage r = IsRefusal status.NoCommand r
 May (stages.source name action) r = IsRefused r ⊎ IsLater r
+May (stages.instrumented accepted) r = IsLater r
 May (stages.tests run accepted) r = IsLater r
 May (stages.reasons name accepted basis) r = IsLater r
 May (stages.left name other accepted) r = IsLater r
@@ -53,6 +55,7 @@ May (stages.load count workers) r = IsRefused r ⊎ IsLater r
 may_end : (skipped : List ℕ) (s : Stage) (r : Reply) → Ends skipped s r → May s r
 may_end skipped stages.usage r is = (_, is)
 may_end skipped (stages.source name action) r ends = absurd ends
+may_end skipped (stages.instrumented accepted) r ends = text_keeps accepted r ends
 may_end skipped (stages.tests run accepted) r ends = absurd ends
 may_end skipped (stages.left name other accepted) r ends = absurd ends
 may_end skipped (stages.right name accepted first) r ends = absurd ends
@@ -72,6 +75,8 @@ may_answer skipped files (stages.source name action) a b r (calls.too_long f is 
     inl (subst (λ (g : File). IsRefused (longer g)) (sym same) (_, refl))
 may_answer skipped files (stages.source name action) a b r (calls.refused f bytes x is holds judges) =
     inl (refuses_first name action bytes r judges)
+may_answer skipped files (stages.instrumented accepted) a b r (calls.too_long f is long) = absurd (cc is)
+may_answer skipped files (stages.instrumented accepted) a b r (calls.refused f bytes x is holds judges) = absurd judges
 may_answer skipped files (stages.tests run accepted) a b r (calls.too_long f is long) =
     let same : f ≡ stages.tests_named run.tests = cc is in
     subst (λ (g : File). IsLater (longer g)) (sym same) (tests_later (longer (stages.tests_named run.tests)).diag)
@@ -102,6 +107,7 @@ may_answer skipped files (stages.load count workers) a b r (calls.refused f byte
 -- the stage after the source has been accepted
 after_keeps : (action : command.Action) (accepted : Accepted) (r : Reply) → May (after_source action accepted) r → IsLater r
 after_keeps (command.run run) accepted r may = may
+after_keeps command.instrument accepted r may = may
 after_keeps (command.merge name other) accepted r may = may
 after_keeps (command.analyse name report) accepted r may = may
 
@@ -115,6 +121,7 @@ later_after : (s t : Stage) (bytes : List ℕ) (r : Reply) → Judges s bytes (O
 later_after stages.usage t bytes r judges may = absurd judges
 later_after (stages.source name action) t bytes r (accepted, judges, next) may =
     let same : t ≡ after_source action accepted = cc next in after_keeps action accepted r (subst (λ (x : Stage). May x r) same may)
+later_after (stages.instrumented accepted) t bytes r judges may = absurd judges
 later_after (stages.tests run accepted) t bytes r (plans, judges, (u, fits, next)) may =
     let same : t ≡ after_tests (justified_by run.task) accepted (stages.tested run plans) = cc next in
     tests_keep (justified_by run.task) accepted (stages.tested run plans) r (subst (λ (x : Stage). May x r) same may)
@@ -134,6 +141,7 @@ later_after (stages.load count workers) t bytes r judges may = absurd judges
 may_later : (s t : Stage) (bytes : List ℕ) (r : Reply) → Judges s bytes (Ok t) → IsLater r → May s r
 may_later stages.usage t bytes r judges is = absurd judges
 may_later (stages.source name action) t bytes r judges is = inr is
+may_later (stages.instrumented accepted) t bytes r judges is = absurd judges
 may_later (stages.tests run accepted) t bytes r judges is = is
 may_later (stages.left name other accepted) t bytes r judges is = is
 may_later (stages.right name accepted first) t bytes r judges is = is
@@ -160,6 +168,7 @@ judged_silent r (inr is) = is.1
 pub may_answers : (s : Stage) (r : Reply) → May s r → IsAnswer r.status
 may_answers stages.usage r may = subst IsAnswer (sym (refusal_status status.NoCommand r may)) tt
 may_answers (stages.source name action) r may = judged_answers r may
+may_answers (stages.instrumented accepted) r is = after_source_answers r.status is.0
 may_answers (stages.tests run accepted) r is = after_source_answers r.status is.0
 may_answers (stages.left name other accepted) r is = after_source_answers r.status is.0
 may_answers (stages.right name accepted first) r is = after_source_answers r.status is.0
@@ -172,6 +181,7 @@ may_answers (stages.load count workers) r may = judged_answers r may
 may_silent : (s : Stage) (r : Reply) → May s r → IsSilent r
 may_silent stages.usage r may = refusal_silent status.NoCommand r may
 may_silent (stages.source name action) r may = judged_silent r may
+may_silent (stages.instrumented accepted) r is = is.1
 may_silent (stages.tests run accepted) r is = is.1
 may_silent (stages.left name other accepted) r is = is.1
 may_silent (stages.right name accepted first) r is = is.1

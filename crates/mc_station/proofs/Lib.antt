@@ -16,6 +16,7 @@ pub mod Order
 pub mod Parts
 pub mod Phases
 pub mod Places
+pub mod Printing
 pub mod Recorded
 pub mod Recording
 pub mod Refusing

@@ -22,6 +22,7 @@ pub asks_first : (s : Stage) (f : File) → file_of s ≡ Some f → (rest : Lis
 asks_first stages.usage f is = absurd (cc is)
 asks_first (stages.source name action) f is =
     let same : f ≡ stages.source_named name = cc is in (stages.requests_of action, ap (λ (x : File). request_of x ∷ stages.requests_of action) (sym same))
+asks_first (stages.instrumented accepted) f is = absurd (cc is)
 asks_first (stages.tests run accepted) f is =
     let same : f ≡ stages.tests_named run.tests = cc is in
     (stages.reasons_of (justified_by run.task), ap (λ (x : File). request_of x ∷ stages.reasons_of (justified_by run.task)) (sym same))
@@ -41,6 +42,7 @@ asks_first (stages.load count workers) f is = absurd (cc is)
 
 left_after : (action : command.Action) (accepted : Accepted) → requests_left (after_source action accepted) ≡ stages.requests_of action
 left_after (command.run run) accepted = refl
+left_after command.instrument accepted = refl
 left_after (command.merge name other) accepted = refl
 left_after (command.analyse name report) accepted = refl
 
@@ -55,6 +57,7 @@ asks_then (stages.source name action) t f bytes is (accepted, judges, next) =
     let stage : t ≡ after_source action accepted = cc next in
     let rest : stages.requests_of action ≡ requests_left t = sym (left_after action accepted) ∙ ap requests_left (sym stage) in
     ap (λ (x : File). request_of x ∷ stages.requests_of action) (sym same) ∙ ap (λ (rs : List Request). request_of f ∷ rs) rest
+asks_then (stages.instrumented accepted) t f bytes is judges = absurd judges
 asks_then (stages.tests run accepted) t f bytes is (plans, judges, (u, fits, next)) =
     let same : f ≡ stages.tests_named run.tests = cc is in
     let name = justified_by run.task in
@@ -93,6 +96,7 @@ fewer (stages.source name action) t bytes (accepted, judges, next) =
     let stage : t ≡ after_source action accepted = cc next in
     let rest : length (requests_left t) ≡ length (stages.requests_of action) = ap (λ (x : Stage). length (requests_left x)) stage ∙ ap length (left_after action accepted) in
     omega (arith, rest)
+fewer (stages.instrumented accepted) t bytes judges = absurd judges
 fewer (stages.tests run accepted) t bytes (plans, judges, (u, fits, next)) =
     let name = justified_by run.task in
     let stage : t ≡ after_tests name accepted (stages.tested run plans) = cc next in
@@ -128,6 +132,7 @@ pub few_requests : (given : Option command.Command) → length (requests_left (f
 few_requests None = omega arith
 few_requests (Some (command.selfload count workers)) = omega arith
 few_requests (Some (command.on_source name (command.run run))) = let few = reasons_few (justified_by run.task) in omega (arith, few)
+few_requests (Some (command.on_source name command.instrument)) = omega arith
 few_requests (Some (command.on_source name (command.merge left right))) = omega arith
 few_requests (Some (command.on_source name (command.analyse record_name report))) = let few = reasons_few report.justify in omega (arith, few)
 

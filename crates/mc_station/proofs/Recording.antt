@@ -5,6 +5,7 @@ use Rattle.std.specs.List.{list_all, list_any}
 use Rattle.std.specs.Str.{bytes_eq}
 use Rattle.std.proofs.lemmas.List.{length-map}
 use Rattle.std.proofs.lemmas.List.Elements.{All-nil, All-cons}
+use Rattle.mc_limits.specs.Limits.{most_bits, most_words}
 use Rattle.mc_core.specs.Laws.{AreWords, WordsFollowFromPairs}
 use Rattle.mc_core.specs.Shape.{word_count}
 use Rattle.mc_core.specs.declared.shape.Shape.{Shape}
@@ -80,14 +81,14 @@ same_distinct : (ns : List (List ℕ)) → tests.are_distinct ns ≡ are_distinc
 same_distinct [] = refl
 same_distinct (n ∷ ns) = ap (λ (b : Bool). not (list_any (bytes_eq n) ns) && b) (same_distinct ns)
 
-pub can_be_kept : (skipped : List ℕ) (a : Given) (plans : List TestPlan) (ran : Ran) → IsInstrumented a → ArePlanned a plans → word_count (shape_of (seen_accepted a) (seen_plans plans)) ≤ 1048576
+pub can_be_kept : (skipped : List ℕ) (a : Given) (plans : List TestPlan) (ran : Ran) → IsInstrumented a → ArePlanned a plans → word_count (shape_of (seen_accepted a) (seen_plans plans)) ≤ most_words
     → IsRun skipped (seen_accepted a) (seen_plans plans) ran → IsKept (kept_in a.source.now ran)
 can_be_kept skipped a plans ran is planned small run =
     let p = program_of a.tree.program in
     let all = seen_plans plans in
     let count : ran.matrix.shape.tests ≡ length all = ap (λ (s : Shape). s.tests) run.shape in
     let bits : ran.matrix.shape.bits ≡ a.map.bits = ap (λ (s : Shape). s.bits) run.shape in
-    let few : a.map.bits ≤ 65536 = is.tree.is_map.kept.few in
+    let few : a.map.bits ≤ most_bits = is.tree.is_map.kept.few in
     let many : length all ≡ length plans = length-map plans _ in
     let few_plans = planned.few in
     record {
@@ -98,5 +99,5 @@ can_be_kept skipped a plans ran is planned small run =
       judged = subst (λ (ss : List TestState). All (λ (s : TestState). s ≢ Ended ending.Returned) ss) (sym run.states) (all_judged p all);
       few_bits = omega (arith, bits, few);
       few_tests = omega (arith, count, many, few_plans);
-      few_words = subst (λ (s : Shape). word_count s ≤ 1048576) (sym run.shape) small;
+      few_words = subst (λ (s : Shape). word_count s ≤ most_words) (sym run.shape) small;
     }

@@ -4,6 +4,7 @@ use Rattle.std.specs.Prelude.{slice_index_or}
 use Rattle.std.specs.Fmt.{decimal}
 use Rattle.std.specs.List.{flat_map, range_with_len}
 use Rattle.std.proofs.lemmas.Fmt.{length-decimal-le_succ}
+use Rattle.mc_limits.specs.Limits.{most_functions}
 use Rattle.mc_gen.specs.Source.{condition_of, conditions, function_line, source_text}
 
 condition_short : (m : ℕ) → length (slice_index_or conditions m []) ≤ 16
@@ -13,7 +14,7 @@ condition_short (suc (suc zero)) = omega (arith, (let e : length (codes "a<b||c<
 condition_short (suc (suc (suc zero))) = omega (arith, (let e : length (codes "(a<b||b<c)&&c<d") ≡ 15 = refl in e))
 condition_short (suc (suc (suc (suc m)))) = omega arith
 
-line_short : (k : ℕ) → k ≤ 200 → length (function_line k) ≤ 512
+line_short : (k : ℕ) → k ≤ most_functions → length (function_line k) ≤ 512
 line_short k few =
     let tail : List ℕ = codes ")s++;}return s;}\n" in
     let middle : List ℕ = codes "(int a,int b,int c,int d){int s=0;int i;for(i=0;i<8;i++){if(" in
@@ -29,7 +30,7 @@ line_short k few =
     let one = length-append front (decimal k ++ (middle ++ (condition_of k ++ tail))) in
     omega (arith, few, f, m, t, asked, number, four, three, two, one)
 
-lines_short : (a n : ℕ) → a + n ≤ 201 → length (flat_map function_line (range_with_len a n)) ≤ 512 * n
+lines_short : (a n : ℕ) → a + n ≤ most_functions + 1 → length (flat_map function_line (range_with_len a n)) ≤ 512 * n
 lines_short a zero fits = omega arith
 lines_short a (suc n) fits =
     let line = line_short a (omega (arith, fits)) in
@@ -37,7 +38,7 @@ lines_short a (suc n) fits =
     let all = length-append (function_line a) (flat_map function_line (range_with_len (a + 1) n)) in
     omega (arith, line, more, all)
 
-pub source_short : (n : ℕ) → n ≤ 200 → length (source_text n) < 2 ^ 31
+pub source_short : (n : ℕ) → n ≤ most_functions → length (source_text n) < 2 ^ 31
 source_short n few =
     let lines = lines_short 1 n (omega (arith, few)) in
     omega (arith, few, lines)

@@ -28,6 +28,7 @@ use Rattle.mc_station.specs.commands.Analyse.{tested_in}
 use Rattle.mc_station.proofs.Joining.{one_join, one_record_in}
 use Rattle.mc_station.proofs.Loading.{one_load}
 use Rattle.mc_station.proofs.Phases.{one_fit, one_source, one_tests}
+use Rattle.mc_station.proofs.Printing.{one_text}
 use Rattle.mc_station.proofs.Recording.{one_record}
 
 -- ---- stages
@@ -36,6 +37,7 @@ one_verdict : WordsFollowFromPairs → (s : Stage) (bytes : List ℕ) → IsOne 
 one_verdict law stages.usage bytes = λ u v p q. absurd p
 one_verdict law (stages.source name action) bytes =
     one_then _ _ (one_source bytes) (λ accepted is. one_ok (after_source action accepted))
+one_verdict law (stages.instrumented accepted) bytes = λ u v p q. absurd p
 one_verdict law (stages.tests run accepted) bytes =
     one_then _ _ (one_tests accepted.program run.fuel bytes) (λ plans is.
     one_then _ _ (one_fit accepted plans) (λ u fits. one_ok (after_tests (justified_by run.task) accepted (stages.tested run plans))))
@@ -63,6 +65,7 @@ one_told law skipped command.recorded accepted plans js r q tells others = one_r
 one_end_reply : WordsFollowFromPairs → (skipped : List ℕ) (s : Stage) (r q : Reply) → Ends skipped s r → Ends skipped s q → AreOne r q
 one_end_reply law skipped stages.usage r q is also = inl (is ∙ sym also)
 one_end_reply law skipped (stages.source name action) r q ends also = absurd ends
+one_end_reply law skipped (stages.instrumented accepted) r q ends also = inl (one_text accepted r q ends also)
 one_end_reply law skipped (stages.tests run accepted) r q ends also = absurd ends
 one_end_reply law skipped (stages.left name other accepted) r q ends also = absurd ends
 one_end_reply law skipped (stages.right name accepted first) r q ends also = absurd ends
@@ -77,6 +80,7 @@ one_end_reply law skipped (stages.load count workers) r q ends also = one_load s
 pub no_file : (skipped : List ℕ) (s : Stage) (r : Reply) (f : File) → Ends skipped s r → file_of s ≡ Some f → ⊥
 no_file skipped stages.usage r f ends is = cc is
 no_file skipped (stages.source name action) r f ends is = absurd ends
+no_file skipped (stages.instrumented accepted) r f ends is = cc is
 no_file skipped (stages.tests run accepted) r f ends is = absurd ends
 no_file skipped (stages.left name other accepted) r f ends is = absurd ends
 no_file skipped (stages.right name accepted first) r f ends is = absurd ends

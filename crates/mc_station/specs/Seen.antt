@@ -1,11 +1,11 @@
 -- What clauses see of accepted sources and of stages.
-use Rattle.std.specs.Prelude.{◌≡◌, ◌≤◌, ◌<◌, ◌^◌, List, length, map, option_map, ⊤}
+use Rattle.std.specs.Prelude.{◌≡◌, ◌≤◌, ◌<◌, ◌^◌, List, Ok, length, map, option_map, ⊤}
 use Rattle.sha2.specs.Sha256.{sha256}
-use Rattle.mc_command.specs.Values.{most_functions}
 use Rattle.mc_command.specs.Seen.{ActionIsInRange, IsWithin, RunIsInRange, seen_action, seen_report, seen_run}
 use Rattle.mc_core.specs.Shape.{word_count}
 use Rattle.mc_cover.specs.Model.{IsOf}
 use Rattle.mc_cover.specs.Views.{opener}
+use Rattle.mc_lex.specs.Tokens.{Tok}
 use Rattle.mc_meaning.specs.Seen.{told_of}
 use Rattle.mc_typed.specs.Sound.{IsSound}
 use Rattle.mc_typed.specs.Views.{program_of}
@@ -18,12 +18,12 @@ use Rattle.mc_probe.specs.Table as table
 use Rattle.mc_oblige.specs.Obligations.{obligations_of}
 use Rattle.mc_oblige.specs.declared.justification.Justification.{Justification}
 use Rattle.mc_justify.specs.Returned.{AreFit}
-use Rattle.mc_limits.specs.Limits.{most_words, most_workers}
+use Rattle.mc_limits.specs.Limits.{most_functions, most_tests, most_words, most_workers}
 use Rattle.mc_record.specs.Kept.{IsKept}
 use Rattle.mc_record.specs.Seen.{kept_of}
 use Rattle.mc_record.specs.declared.kept.Record.{Record}
-use Rattle.mc_station.specs.Source.{Accepted as AcceptedAs}
-use Rattle.mc_station.specs.Stages.{Basis as BasisOf, Stage as StageOf, kept, last, left, load, merged, reasons, recorded, right, source, tested, tests, usage}
+use Rattle.mc_station.specs.Source.{Accepted as AcceptedAs, Lexes}
+use Rattle.mc_station.specs.Stages.{Basis as BasisOf, Stage as StageOf, instrumented, kept, last, left, load, merged, reasons, recorded, right, source, tested, tests, usage}
 use Rattle.mc_station.specs.Tests.{Tested as TestedAs, shape_of}
 use Rattle.mc_station.specs.declared.accepted.Accepted.{Accepted}
 use Rattle.mc_station.specs.declared.basis.Basis.{Basis}
@@ -48,6 +48,7 @@ seen_basis (basis.Recorded report r) = recorded (seen_report report) (kept_of r)
 abbrev pub seen_stage : Stage → StageOf
 seen_stage stage.Usage = usage
 seen_stage (stage.Source name action) = source name.now (seen_action action)
+seen_stage (stage.Instrumented accepted) = instrumented (seen_accepted accepted)
 seen_stage (stage.Tests run accepted) = tests (seen_run run) (seen_accepted accepted)
 seen_stage (stage.Left name other accepted) =
     left name.now other.now (seen_accepted accepted)
@@ -77,11 +78,15 @@ pub record IsInstrumented (a : Accepted) : Type 0 where
   pub sound : IsSound (program_of a.tree.program)
   pub tree : table.IsInstrumented (program_of a.tree.program) (map_of a.map) (tree_of a.tree)
 
+-- the source has tokens
+abbrev pub HasTokens : Accepted → Type 0
+HasTokens a = (tokens : List Tok) × Lexes a.source.now (Ok tokens)
+
 -- the plans are tests of the program, with their names
 pub record ArePlanned (a : Accepted) (plans : List TestPlan) : Type 0 where
   pub fit : AllFit (program_of a.tree.program) (seen_plans plans)
   pub named : AreNamed (seen_plans plans)
-  pub few : length plans ≤ 4096
+  pub few : length plans ≤ most_tests
 
 -- the shared words are those of the program's bits under the tests, and nothing is recorded
 pub record IsOpened (accepted : Accepted) (plans : List TestPlan) (opened : Opened) : Type 0 where
@@ -109,6 +114,7 @@ AreReasons accepted js = AreFit (length (obligations_of (map_of accepted.map))) 
 abbrev pub IsReady : Stage → Type 0
 IsReady stage.Usage = ⊤
 IsReady (stage.Source name action) = ActionIsInRange action
+IsReady (stage.Instrumented accepted) = IsInstrumented accepted × HasTokens accepted
 IsReady (stage.Tests run accepted) = RunIsInRange run × IsInstrumented accepted
 IsReady (stage.Left name other accepted) = IsInstrumented accepted
 IsReady (stage.Right name accepted first) = IsInstrumented accepted × IsRecordIn accepted first

@@ -57,7 +57,7 @@ Types source unit (Err reply) =
     (fault : Fault) × IsFirstFaultOf unit fault
     × (reply ≡ refusal SourceRefused (type_line source fault))
 
--- the decisions of a program, where none has more than 64 conditions, or the first that has more
+-- the decisions of a program, where none has too many conditions, or the first that has
 abbrev pub Decides : List ℕ → Program → Result (List Decision) Reply → Type 0
 Decides source program (Ok ds) = AreDecisions program.functions ds × All IsSmall ds
 Decides source program (Err reply) =

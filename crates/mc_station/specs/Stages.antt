@@ -20,6 +20,7 @@ use Rattle.mc_station.specs.Records.{JudgesRecord}
 use Rattle.mc_station.specs.Source.{Accepted, JudgesSource}
 use Rattle.mc_station.specs.Tests.{Fits, JudgesTests}
 use Rattle.mc_station.specs.commands.Analyse.{Analyses}
+use Rattle.mc_station.specs.commands.Instrument.{Instruments}
 use Rattle.mc_station.specs.commands.Merge.{Joins, Merges}
 use Rattle.mc_station.specs.commands.Record.{Records}
 use Rattle.mc_station.specs.commands.Report.{Reports}
@@ -38,6 +39,8 @@ pub data Stage : Type 0 where
   usage : Stage
   -- the source is asked for
   source : (name : List ℕ) → Action → Stage
+  -- the source is accepted, and no other file is asked for
+  instrumented : Accepted → Stage
   -- the source is accepted, and the tests file is asked for
   tests : Run → Accepted → Stage
   -- the source is accepted, and the first of two records is asked for
@@ -79,6 +82,7 @@ justified_by command.recorded = None
 abbrev pub file_of : Stage → Option File
 file_of usage = None
 file_of (source name action) = Some (source_named name)
+file_of (instrumented accepted) = None
 file_of (tests run accepted) = Some (tests_named run.tests)
 file_of (left name other accepted) = Some (record_named name)
 file_of (right name accepted first) = Some (record_named name)
@@ -104,6 +108,7 @@ record_and name later = request_of (record_named name) ∷ later
 -- what is asked for after the source
 abbrev pub requests_of : Action → List Request
 requests_of (command.run run) = tests_and_reasons run
+requests_of command.instrument = []
 requests_of (command.merge name other) = record_and name (record_and other [])
 requests_of (command.analyse name report) = record_and name (reasons_of report.justify)
 
@@ -111,6 +116,7 @@ requests_of (command.analyse name report) = record_and name (reasons_of report.j
 abbrev pub requests_left : Stage → List Request
 requests_left usage = []
 requests_left (source name action) = request_of (source_named name) ∷ requests_of action
+requests_left (instrumented accepted) = []
 requests_left (tests run accepted) = tests_and_reasons run
 requests_left (left name other accepted) = record_and name (record_and other [])
 requests_left (right name accepted first) = record_and name []
@@ -135,6 +141,7 @@ first_stage (Some (command.selfload count workers)) = load count workers
 -- the stage after the source
 abbrev pub after_source : Action → Accepted → Stage
 after_source (command.run run) accepted = tests run accepted
+after_source command.instrument accepted = instrumented accepted
 after_source (command.merge name other) accepted = left name other accepted
 after_source (command.analyse name report) accepted = kept name report accepted
 
@@ -154,6 +161,7 @@ abbrev pub Judges : Stage → List ℕ → Result Stage Reply → Type 0
 Judges usage bytes = λ verdict. ⊥
 Judges (source name action) bytes =
     Then (JudgesSource bytes) (λ accepted v. v ≡ Ok (after_source action accepted))
+Judges (instrumented accepted) bytes = λ verdict. ⊥
 Judges (tests run accepted) bytes =
     Then (JudgesTests accepted.program run.fuel bytes)
     (λ plans. Then (Fits accepted plans)
@@ -185,6 +193,7 @@ Tells skipped command.recorded accepted plans js = Records skipped accepted plan
 abbrev pub Ends : (skipped : List ℕ) → Stage → Reply → Type 0
 Ends skipped usage reply = reply ≡ refusal NoCommand usage_text
 Ends skipped (source name action) reply = ⊥
+Ends skipped (instrumented accepted) reply = Instruments accepted reply
 Ends skipped (tests run accepted) reply = ⊥
 Ends skipped (left name other accepted) reply = ⊥
 Ends skipped (right name accepted first) reply = ⊥

@@ -5,12 +5,13 @@ ghost use Rattle.mc_command.specs.Seen.{ActionIsInRange, RunIsInRange, seen_acti
 ghost use Rattle.mc_oblige.specs.declared.justification.Justification.{Justification};
 ghost use Rattle.mc_justify.specs.Faults.{Fault};
 ghost use Rattle.mc_justify.specs.Returned.{GivesFault};
+ghost use Rattle.mc_limits.specs.Limits.{most_fuel, most_source_bytes};
 ghost use Rattle.mc_replies.specs.Phases.{Reads};
 ghost use Rattle.mc_replies.specs.Reply.{refusal};
 ghost use Rattle.mc_replies.specs.Seen.{Gives};
 ghost use Rattle.mc_replies.specs.declared.status.Status.TheVariants.{JustificationsRefused};
 ghost use Rattle.mc_station.specs.Justified.{reasons_line};
-ghost use Rattle.mc_station.specs.Seen.{ArePlanned, AreReasons, IsBasis, IsInstrumented, IsOpened, IsReady, seen_accepted, seen_basis, seen_stage};
+ghost use Rattle.mc_station.specs.Seen.{ArePlanned, AreReasons, HasTokens, IsBasis, IsInstrumented, IsOpened, IsReady, seen_accepted, seen_basis, seen_stage};
 ghost use Rattle.mc_station.specs.Stages.{AsksUpTo, Judges, JudgesReasons, after_source, after_tests, justified_by, reasons, source, tested, tests};
 ghost use Rattle.mc_station.specs.Tests.{Fits, JudgesTests};
 
@@ -38,7 +39,7 @@ pub fn judge_tests<'a>(
     bytes: &[u8],
 ) -> Result<Vec<TestPlan>, Stop<'a>>
     requires some { 1 ≤ fuel }
-    requires few { fuel ≤ 100000000 }
+    requires few { fuel ≤ most_fuel }
     ensures judges { Gives (λ plans. seen_plans plans.items)
         (JudgesTests (seen_accepted accepted.now).program fuel bytes.now) result }
     ensures planned { IfOk result (λ plans. ArePlanned accepted.now plans.items) }
@@ -76,12 +77,14 @@ pub fn open_for<'a>(
 fn with_source<'a>(action: Action<'a>, accepted: Accepted<'a>) -> Stage<'a>
     requires range { ActionIsInRange action }
     requires instrumented { IsInstrumented accepted }
+    requires tokens { HasTokens accepted }
     ensures stage { seen_stage result
         ≡ after_source (seen_action action.entry) (seen_accepted accepted.entry) }
     ensures ready { IsReady result }
 {
     match action {
         Action::Run(run) => Stage::Tests(run, accepted),
+        Action::Instrument => Stage::Instrumented(accepted),
         Action::Merge { left, right } => Stage::Left(left, right, accepted),
         Action::Analyse { kept, report } => Stage::Kept(kept, report, accepted),
     }
@@ -95,7 +98,7 @@ fn after_source<'a>(
     bytes: &'a [u8],
 ) -> Result<Stage<'a>, Stop<'a>>
     requires range { ActionIsInRange action }
-    requires short { length bytes.now ≤ 1048576 }
+    requires short { length bytes.now ≤ most_source_bytes }
     ensures judges { Gives seen_stage
         (Judges (source name.now (seen_action action.entry)) bytes.now) result }
     ensures ready { IfOk result IsReady }
@@ -248,6 +251,10 @@ pub fn judge<'a>(alloc: Global, stage: Stage<'a>, bytes: &'a [u8]) -> Result<Sta
         Stage::Reasons(name, accepted, basis) => {
             after_reasons(alloc, name, accepted, basis, bytes)
         }
-        Stage::Usage | Stage::Last(..) | Stage::Merged(..) | Stage::Load(..) => unreachable!(),
+        Stage::Usage
+        | Stage::Instrumented(_)
+        | Stage::Last(..)
+        | Stage::Merged(..)
+        | Stage::Load(..) => unreachable!(),
     }
 }

@@ -25,7 +25,7 @@ pub fn run<'a, S: Store, R: Threads + Sync, G: Gate, C: Closer>(
     store: &mut S,
     stage: Stage<'a>,
     slots: &'a mut [Vec<u8>],
-) -> Result<Reply, AllocError>
+) -> Result<Reply<'a>, AllocError>
     requires room { length (requests_left (seen_stage stage)) ≤ length slots.old }
     requires ready { IsReady stage }
     ensures leads { Leads (C.skipped means.entry.closer.now) (S.state store.old).contents (seen_stage stage.entry)

@@ -11,6 +11,7 @@ ghost use Rattle.mc_station.specs.Stages.{Ends, Tells, after_tests, file_of, fir
 use crate::accepted::Accepted;
 use crate::basis::Basis;
 use crate::commands::analyse::analyse;
+use crate::commands::instrument::instrument;
 use crate::commands::merge::merge;
 use crate::commands::selfload::{Load, selfload};
 use crate::means::Means;
@@ -34,6 +35,8 @@ pub enum Stage<'a> {
     Usage,
     /// The source of this name is asked for.
     Source(&'a str, Action<'a>),
+    /// The source is accepted, and no other file is asked for.
+    Instrumented(Accepted<'a>),
     /// The source is accepted, and the tests file is asked for.
     Tests(Run<'a>, Accepted<'a>),
     /// The source is accepted, and the first of two records is asked for.
@@ -93,7 +96,7 @@ fn tested<R: Threads + Sync, G: Gate, C: Closer>(
     plans: &[TestPlan],
     opened: Opened,
     justifications: &[Justification],
-) -> Result<Reply, AllocError>
+) -> Result<Reply<'static>, AllocError>
     requires range { RunIsInRange run }
     requires instrumented { IsInstrumented accepted }
     requires planned { ArePlanned accepted plans.now }
@@ -119,7 +122,7 @@ fn finished<R: Threads + Sync, G: Gate, C: Closer>(
     accepted: Accepted<'_>,
     basis: Basis<'_>,
     justifications: &[Justification],
-) -> Result<Reply, AllocError>
+) -> Result<Reply<'static>, AllocError>
     requires instrumented { IsInstrumented accepted }
     requires basis { IsBasis accepted basis }
     requires reasons { AreReasons accepted justifications.now }
@@ -157,7 +160,11 @@ impl<'a> Stage<'a> {
                 kind: FileKind::Justifications,
                 name,
             }),
-            Stage::Usage | Stage::Last(..) | Stage::Merged(..) | Stage::Load(..) => None,
+            Stage::Usage
+            | Stage::Instrumented(_)
+            | Stage::Last(..)
+            | Stage::Merged(..)
+            | Stage::Load(..) => None,
         }
     }
 
@@ -166,7 +173,7 @@ impl<'a> Stage<'a> {
         self,
         alloc: Global,
         means: Means<'_, R, G, C>,
-    ) -> Result<Reply, AllocError>
+    ) -> Result<Reply<'a>, AllocError>
         requires last { file_of (seen_stage self) ≡ None }
         requires ready { IsReady self }
         ensures { IfOk result (λ reply.
@@ -177,6 +184,7 @@ impl<'a> Stage<'a> {
                 let text = usage_text(alloc)?;
                 Ok(Reply::of_text(alloc, Status::NoCommand, text))
             }
+            Stage::Instrumented(accepted) => instrument(alloc, accepted),
             Stage::Last(accepted, basis, justifications) => {
                 finished(alloc, means, accepted, basis, &justifications)
             }

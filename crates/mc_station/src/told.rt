@@ -29,7 +29,7 @@ fn reported(
     accepted: Accepted<'_>,
     ran: Ran,
     justifications: &[Justification],
-) -> Result<Reply, AllocError>
+) -> Result<Reply<'static>, AllocError>
     requires instrumented { IsInstrumented accepted }
     requires told { AreTold (seen_accepted accepted) ran.matrix (seen_ran ran) }
     requires reasons { AreReasons accepted justifications.now }
@@ -59,7 +59,7 @@ pub fn tell(
     plans: &[TestPlan],
     ran: Ran,
     justifications: &[Justification],
-) -> Result<Reply, AllocError>
+) -> Result<Reply<'static>, AllocError>
     requires instrumented { IsInstrumented accepted }
     requires told { AreTold (seen_accepted accepted) ran.matrix (seen_ran ran) }
     requires kept { IsKept (kept_in accepted.source.now ran) }

@@ -1,5 +1,5 @@
 //! The top call.
-ghost use Rattle.std.specs.Prelude.{◌≡◌, ◌≢◌, ◌⊎◌, ◌≤◌, IfOk, OnErr, OnOk};
+ghost use Rattle.std.specs.Prelude.{◌≡◌, ◌≢◌, ◌⊎◌, ◌≤◌, IfOk, OnErr, OnOk, length};
 ghost use Rattle.mc_port.specs.Causes.{Rose};
 ghost use Rattle.mc_port.specs.Sink.{Puts};
 ghost use Rattle.mc_station.specs.Calls.{CallsFor, IsKnown, LeadsTo, call_of};
@@ -21,7 +21,7 @@ use std::alloc::{AllocError, Global};
 use std::thread::Threads;
 
 // Puts the texts of a reply, up to the first piece that cannot be put.
-fn put<K: Sink, E: Sink>(reply: &Reply, out: &mut K, diag: &mut E) -> Result<(), PutFault>
+fn put<K: Sink, E: Sink>(reply: &Reply<'_>, out: &mut K, diag: &mut E) -> Result<(), PutFault>
     ensures whole { OnOk result (PutWhole (seen_reply reply.now)
         (K.written out.old) (K.written out.new) (E.written diag.old) (E.written diag.new)) }
     ensures part { PutPart (seen_reply reply.now)
@@ -33,14 +33,18 @@ fn put<K: Sink, E: Sink>(reply: &Reply, out: &mut K, diag: &mut E) -> Result<(),
     diag.put(&reply.diag)
 }
 
-// The reply to what the words ask for: all is decided here, and nothing is put.
+// The reply to what the words ask for: all is decided here, and nothing is put. What a reply lends
+// from stays with the caller: the words of the line, and the bytes of each file in a slot.
 #[tactic(auto, using(crate::proofs::Order::few_requests))]
-fn reply_to<S: Store, R: Threads + Sync, G: Gate, C: Closer>(
+fn reply_to<'a, 'w, S: Store, R: Threads + Sync, G: Gate, C: Closer>(
     alloc: Global,
     means: Means<'_, R, G, C>,
-    words: &Words,
+    words: &'w Words,
     store: &mut S,
-) -> Result<Reply, AllocError>
+    read: &'a mut Vec<&'w str>,
+    slots: &'a mut [Vec<u8>],
+) -> Result<Reply<'a>, AllocError>
+    requires { 3 ≤ length slots.old }
     ensures leads { LeadsTo (call_of words.now (C.skipped means.entry.closer.now)
         (S.state store.old)) (S.state store.old).asked
         (outcome_of result) (S.state store.new).asked }
@@ -49,19 +53,19 @@ fn reply_to<S: Store, R: Threads + Sync, G: Gate, C: Closer>(
     ensures texts { IfOk result (λ reply. reply.status ≢ OutOfMemory) }
 {
     let line = line_of(alloc, words)?;
-    // A slot for the bytes of each file; there is room for a command with three.
-    let mut slots = [Vec::new(alloc), Vec::new(alloc), Vec::new(alloc)];
-    let stage = first_stage(alloc, &line)?;
-    run(alloc, means, store, stage, &mut slots)
+    *read = line;
+    let stage = first_stage(alloc, read)?;
+    run(alloc, means, store, stage, slots)
 }
 
 /// Does what the words of a command line ask for, and gives the status of the program.
 ///
 /// The command `report` puts on `out` the report of the tests and of the verdicts, `vectors` a line
-/// for each test and one for each vector that some test evaluates, `record` what is kept of the
-/// tests, `merge` the record of two records, `analyse` the report of a record, and `selfload` the
-/// summary of a source that the program makes itself. Everything is computed, and all memory taken,
-/// before the first `put`; a line is one `put`.
+/// for each test and one for each vector that some test evaluates, `instrument` the program with its
+/// probes as C text, `record` what is kept of the tests, `merge` the record of two records, `analyse`
+/// the report of a record, and `selfload` the summary of a source that the program makes itself.
+/// Everything is computed, and all memory taken, before the first `put`; a line is one `put`, and of
+/// C text a token is one, and so is what stands after it.
 ///
 /// Tests run on as many workers as the words ask for, each in a thread of its own where one can be
 /// made. A worker passes the gate with the number of each test before it runs it. The closer makes
@@ -107,7 +111,10 @@ pub fn station<R: Threads + Sync, S: Store, K: Sink, E: Sink, G: Gate, C: Closer
 {
     one_reply();
     let means = Means { rt, gate, closer };
-    match reply_to(alloc, means, words, store) {
+    let mut line = Vec::new(alloc);
+    // A slot for the bytes of each file; there is room for a command with three.
+    let mut slots = [Vec::new(alloc), Vec::new(alloc), Vec::new(alloc)];
+    match reply_to(alloc, means, words, store, &mut line, &mut slots) {
         Ok(reply) => match put(&reply, out, diag) {
             Ok(()) => reply.status.number(),
             Err(_) => Status::CannotWrite.number(),

@@ -3,7 +3,7 @@
 #![tactic(auto, unfolding(mc_command::specs::Command::command_of, clap::proofs::OnLiterals::clap_on_literals))]
 
 ghost use Rattle.std.specs.Prelude.{◌∷◌, [], None, Some, codes};
-ghost use Rattle.mc_command.specs.Command.{merge, on_source, recorded, selfload, vectors};
+ghost use Rattle.mc_command.specs.Command.{instrument, merge, on_source, recorded, selfload, vectors};
 ghost use Rattle.mc_command.specs.declared.form.Form.TheVariants.{Csv, Json, Text};
 ghost use Rattle.mc_command.specs.declared.independence.Independence.TheVariants.{UniqueCause, Masking};
 ghost use Rattle.tests_command.specs.Lines.{AreAll, Is, analysis, justified_by, plain_report, report_by, run_by, run_of, vectors_by, vectors_of, vectors_shared};
@@ -81,6 +81,8 @@ pub fn other_commands()
         (codes "record a.c a.csv --fuel 8" ∷ codes "record --fuel=8 a.c a.csv" ∷ []) }
     ensures recorded_by_two { Is (codes "record a.c a.csv --workers 2 --fuel 8")
         (run_by (codes "a.c") (codes "a.csv") 2 8 recorded) }
+    ensures instrument { AreAll (on_source (codes "a.c") instrument)
+        (codes "instrument a.c" ∷ codes "instrument -- a.c" ∷ codes "instrument a.c --" ∷ []) }
     ensures merge { Is (codes "merge a.c a.rec b.rec")
         (on_source (codes "a.c") (merge (codes "a.rec") (codes "b.rec"))) }
     ensures selfload_least { Is (codes "selfload 1") (selfload 1 4) }

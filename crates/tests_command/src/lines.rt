@@ -17,6 +17,8 @@ report a.c a.csv --justify= --format=csv@a.c|a.csv|4|1000000|report|unique|csv|
 vectors a.c a.csv@a.c|a.csv|4|1000000|vectors
 vectors a.c --workers=64 a.csv --fuel=8@a.c|a.csv|64|8|vectors
 vectors --fuel 100000000 - a.csv@-|a.csv|4|100000000|vectors
+instrument a.c@a.c|instrument
+instrument -- -a.c@-a.c|instrument
 record a.c a.csv --fuel 8 --workers 2@a.c|a.csv|2|8|record
 merge a.c a.rec b.rec@a.c|merge|a.rec|b.rec
 analyse a.c a.rec --mode masking@a.c|analyse|a.rec|report|masking|text
@@ -40,6 +42,9 @@ vectors a.c a.csv --workers 65@
 vectors a.c a.csv --workers 01@
 vectors a.c a.csv --workers +4@
 vectors a.c a.csv --workers@
+instrument@
+instrument a.c a.csv@
+instrument a.c --fuel 8@
 merge a.c a.rec@
 analyse a.c a.rec --fuel 8@
 selfload 0@

@@ -82,6 +82,9 @@ pub fn other_numbers()
 pub fn other_commands()
     ensures recorded { AreNone (codes "record a.c" ∷ codes "record a.c a.csv b.csv"
         ∷ codes "record a.c a.csv --mode unique" ∷ codes "record a.c a.csv --fuel 0" ∷ []) }
+    ensures instrument { AreNone (codes "instrument" ∷ codes "instrument a.c a.csv"
+        ∷ codes "instrument a.c --fuel 8" ∷ codes "instrument --workers=4 a.c"
+        ∷ codes "instrument -a.c" ∷ codes "Instrument a.c" ∷ []) }
     ensures merge { AreNone (codes "merge a.c a.rec" ∷ codes "merge a.c a.rec b.rec c.rec"
         ∷ codes "merge a.c a.rec b.rec --fuel 8" ∷ codes "merge a.c a.rec b.rec --workers 4"
         ∷ []) }

@@ -60,6 +60,7 @@ fn push_run(alloc: Global, text: &mut String, run: Run<'_>) -> Result<(), AllocE
 fn push_action(alloc: Global, text: &mut String, action: Action<'_>) -> Result<(), AllocError> {
     match action {
         Action::Run(run) => push_run(alloc, text, run),
+        Action::Instrument => text.push_str("instrument"),
         Action::Merge { left, right } => {
             text.push_str("merge|")?;
             text.push_str(left)?;

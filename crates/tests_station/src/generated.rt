@@ -111,6 +111,7 @@ fn sizes_of_maps_and_matrices(rt: HostRuntime) -> Result<(), Fail> {
     assert!(rt; is_too_large(&rt, rt.alloc(), justified, 5, 4096, 9, line)?);
     let bits = "mcdc: source: too many bits 65568\n";
     assert!(rt; is_too_large(&rt, rt.alloc(), words, 16, 0, 3, bits)?);
+    assert!(rt; is_too_large(&rt, rt.alloc(), "instrument|s.c", 16, 0, 3, bits)?);
     Ok(())
 }
 

@@ -23,6 +23,8 @@ mod meeting;
 #[cfg(test)]
 mod outcomes;
 #[cfg(test)]
+mod printed;
+#[cfg(test)]
 mod row;
 #[cfg(test)]
 mod rows;

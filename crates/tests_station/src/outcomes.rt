@@ -8,6 +8,7 @@ use std::thread::Threads;
 const USAGE: &str = "usage: mcdc report SOURCE TESTS [--mode unique|masking] [--workers N] \
     [--fuel N] [--justify NAME] [--format text|csv|json]\n\
     \x20      mcdc vectors SOURCE TESTS [--workers N] [--fuel N]\n\
+    \x20      mcdc instrument SOURCE\n\
     \x20      mcdc record SOURCE TESTS [--workers N] [--fuel N]\n\
     \x20      mcdc merge SOURCE LEFT RIGHT\n\
     \x20      mcdc analyse SOURCE RECORD [--mode unique|masking] [--justify NAME] \
@@ -57,7 +58,12 @@ vectors|-s.c|t.csv
 vectors|s.c|-t.csv
 vectors|s.c|--
 vectors|--|s.c|t.csv|--fuel|8
-instrument|s.c
+instrument
+instrument|s.c|t.csv
+instrument|s.c|--fuel|8
+instrument|--workers=4|s.c
+instrument|-s.c
+Instrument|s.c
 --help
 -h
 help

@@ -1,7 +1,7 @@
 //! Which sources are accepted, and the lines for those that are not.
 
 use crate::fail::Fail;
-use crate::run::{HEADER, gives, is_refused, plain};
+use crate::run::{HEADER, gives, is_refused, of_files, plain};
 use crate::text::{lines_of, push};
 use std::alloc::Global;
 use std::thread::Threads;
@@ -107,6 +107,20 @@ const ROWS: &str = "\
  1:27: outside form pointer@int f(void){return x;}int *p;
 ";
 
+/// Whether a run with a tests file of no test refuses this source with this line, and so does one
+/// that asks for no tests file.
+fn is_refused_with<R: Threads + Sync>(
+    rt: &R,
+    alloc: Global,
+    source: &[u8],
+    line: &str,
+) -> Result<bool, Fail> {
+    let want: (u8, &[u8], &[u8]) = (3, b"", line.as_bytes());
+    let by_vectors = gives(rt, alloc, &plain(source, HEADER.as_bytes()), want)?;
+    let alone = of_files("instrument|s.c", source, b"", b"");
+    Ok(by_vectors && gives(rt, alloc, &alone, want)?)
+}
+
 /// Whether a run with a tests file of no test accepts this source where there are no words, and
 /// else refuses it with a line of them.
 fn is_judged<R: Threads + Sync>(
@@ -115,15 +129,15 @@ fn is_judged<R: Threads + Sync>(
     source: &[u8],
     words: &str,
 ) -> Result<bool, Fail> {
-    let setting = plain(source, HEADER.as_bytes());
     if words.is_empty() {
+        let setting = plain(source, HEADER.as_bytes());
         return gives(rt, alloc, &setting, (0, b"", b""));
     }
     if words == "?" {
         return is_refused(rt, alloc, source, ": syntax\n");
     }
     let line = format!(in alloc; "mcdc: source{words}\n")?;
-    let is_wanted = gives(rt, alloc, &setting, (3, b"", line.as_bytes()));
+    let is_wanted = is_refused_with(rt, alloc, source, line.as_str());
     drop(line);
     is_wanted
 }

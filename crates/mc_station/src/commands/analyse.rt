@@ -22,7 +22,7 @@ pub fn analyse(
     accepted: Accepted<'_>,
     kept: Record,
     justifications: &[Justification],
-) -> Result<Reply, AllocError>
+) -> Result<Reply<'static>, AllocError>
     requires instrumented { IsInstrumented accepted }
     requires of_source { IsRecordIn accepted kept }
     requires reasons { AreReasons accepted justifications.now }

@@ -44,7 +44,11 @@ fn mode_of(mode: Independence) -> Mode
 }
 
 // The reply with the lines of a report in a form, and its status.
-fn written_report(alloc: Global, form: Form, report: Report<'_>) -> Result<Reply, AllocError>
+fn written_report(
+    alloc: Global,
+    form: Form,
+    report: Report<'_>,
+) -> Result<Reply<'static>, AllocError>
     requires report { IsReport (report_of report) }
     requires names { All IsUtf8 (report_of report).names }
     ensures { IfOk result (λ reply. let r = report_of report.entry in
@@ -100,7 +104,7 @@ pub fn report(
     matrix: &Matrix,
     tests: Tested,
     justifications: &[Justification],
-) -> Result<Reply, AllocError>
+) -> Result<Reply<'static>, AllocError>
     requires instrumented { IsInstrumented accepted }
     requires told { AreTold (seen_accepted accepted) matrix.now (seen_tested tests) }
     requires reasons { AreReasons accepted justifications.now }

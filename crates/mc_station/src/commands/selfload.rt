@@ -1,10 +1,9 @@
 //! The command `selfload`.
 ghost use Rattle.std.specs.Prelude.{◌≡◌, ◌≤◌, ℕ, List, IfOk};
 ghost use Rattle.mc_command.specs.Seen.{IsWithin};
-ghost use Rattle.mc_command.specs.Values.{most_functions};
 ghost use Rattle.mc_gen.specs.Source.{source_text};
 ghost use Rattle.mc_gen.specs.Tests.{tests_text};
-ghost use Rattle.mc_limits.specs.Limits.{most_workers, usual_fuel};
+ghost use Rattle.mc_limits.specs.Limits.{most_functions, most_workers, usual_fuel};
 ghost use Rattle.mc_oblige.specs.Shown.{HasEvent};
 ghost use Rattle.mc_replies.specs.Phases.{Reaches};
 ghost use Rattle.mc_replies.specs.Seen.{seen_reply};
@@ -25,15 +24,13 @@ use crate::tested::Tested;
 use mc_command::Independence;
 use mc_cover::Closer;
 use mc_gen::generate;
+use mc_limits::USUAL_FUEL;
 use mc_port::Gate;
 use mc_replies::Reply;
 use mc_report::summary_lines;
 use mc_typed::TestPlan;
 use std::alloc::{AllocError, Global};
 use std::thread::Threads;
-
-/// Units of fuel of each test.
-const USUAL_FUEL: u32 = 1_000_000;
 
 /// How much is run: the functions of the source, and the workers that share its tests.
 #[derive(Clone, Copy)]
@@ -43,7 +40,12 @@ pub struct Load {
 }
 
 // The summary of a run of the tests.
-fn summary(alloc: Global, count: u32, accepted: Accepted<'_>, ran: Ran) -> Result<Reply, AllocError>
+fn summary(
+    alloc: Global,
+    count: u32,
+    accepted: Accepted<'_>,
+    ran: Ran,
+) -> Result<Reply<'static>, AllocError>
     requires instrumented { IsInstrumented accepted }
     requires told { AreTold (seen_accepted accepted) ran.matrix (seen_ran ran) }
     ensures { IfOk result (λ reply. let a = seen_accepted accepted.entry in
@@ -75,7 +77,7 @@ fn opened<R: Threads + Sync, G: Gate, C: Closer>(
     accepted: Accepted<'_>,
     plans: &[TestPlan],
     opened: Opened,
-) -> Result<Reply, AllocError>
+) -> Result<Reply<'static>, AllocError>
     requires workers { IsWithin 1 most_workers load.workers }
     requires instrumented { IsInstrumented accepted }
     requires planned { ArePlanned accepted plans.now }
@@ -99,7 +101,7 @@ fn planned<R: Threads + Sync, G: Gate, C: Closer>(
     load: Load,
     accepted: Accepted<'_>,
     plans: &[TestPlan],
-) -> Result<Reply, AllocError>
+) -> Result<Reply<'static>, AllocError>
     requires workers { IsWithin 1 most_workers load.workers }
     requires instrumented { IsInstrumented accepted }
     requires planned { ArePlanned accepted plans.now }
@@ -124,7 +126,7 @@ fn loaded<R: Threads + Sync, G: Gate, C: Closer>(
     load: Load,
     accepted: Accepted<'_>,
     tests: &[u8],
-) -> Result<Reply, AllocError>
+) -> Result<Reply<'static>, AllocError>
     requires workers { IsWithin 1 most_workers load.workers }
     requires instrumented { IsInstrumented accepted }
     ensures { IfOk result (λ reply. let a = seen_accepted accepted.entry in
@@ -147,7 +149,7 @@ pub fn selfload<R: Threads + Sync, G: Gate, C: Closer>(
     alloc: Global,
     means: Means<'_, R, G, C>,
     load: Load,
-) -> Result<Reply, AllocError>
+) -> Result<Reply<'static>, AllocError>
     requires count { IsWithin 1 most_functions load.count }
     requires workers { IsWithin 1 most_workers load.workers }
     ensures { IfOk result (λ reply. Loads (C.skipped means.entry.closer.now) load.count

@@ -15,7 +15,7 @@ use mc_report::vectors_lines;
 use std::alloc::{AllocError, Global};
 
 // The reply of `vectors`, from a source that is lent.
-fn listed(alloc: Global, accepted: &Accepted<'_>, ran: &Ran) -> Result<Reply, AllocError>
+fn listed(alloc: Global, accepted: &Accepted<'_>, ran: &Ran) -> Result<Reply<'static>, AllocError>
     requires instrumented { IsInstrumented accepted.now }
     requires told { AreTold (seen_accepted accepted.now) ran.now.matrix (seen_ran ran.now) }
     ensures { IfOk result (λ reply. let a = seen_accepted accepted.now in
@@ -36,7 +36,11 @@ fn listed(alloc: Global, accepted: &Accepted<'_>, ran: &Ran) -> Result<Reply, Al
 }
 
 /// The reply of `vectors`.
-pub fn vectors(alloc: Global, accepted: Accepted<'_>, ran: &Ran) -> Result<Reply, AllocError>
+pub fn vectors(
+    alloc: Global,
+    accepted: Accepted<'_>,
+    ran: &Ran,
+) -> Result<Reply<'static>, AllocError>
     requires instrumented { IsInstrumented accepted }
     requires told { AreTold (seen_accepted accepted) ran.now.matrix (seen_ran ran.now) }
     ensures { IfOk result (λ reply. let a = seen_accepted accepted.entry in

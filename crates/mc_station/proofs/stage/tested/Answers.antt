@@ -1,4 +1,5 @@
 use Rattle.std.proofs.Common.{◌≤◌, subst}
+use Rattle.mc_limits.specs.Limits.{most_words}
 use Rattle.mc_core.specs.Shape.{word_count}
 use Rattle.mc_core.specs.declared.shape.Shape.{Shape}
 use Rattle.mc_tests.specs.Seen.{seen_plans}
@@ -14,7 +15,7 @@ tell-requires-clause-told g c =
 pub tell-requires-clause-kept : goal.tell-requires-clause-kept
 tell-requires-clause-kept g c =
     can_be_kept (g.C.Closer.skipped c.args.means.closer.now) c.args.accepted c.args.plans.now c.in-Ok.ran c.requires.instrumented c.requires.planned
-    (subst (λ (s : Shape). word_count s ≤ 1048576) c.requires.opened.shape c.requires.opened.small) c.in-Ok.ensures
+    (subst (λ (s : Shape). word_count s ≤ most_words) c.requires.opened.shape c.requires.opened.small) c.in-Ok.ensures
 
 pub returns-in-Ok : goal.returns-in-Ok
 returns-in-Ok g c = c.tell.ensures (g.C.Closer.skipped c.args.means.closer.now) c.in-Ok.ensures

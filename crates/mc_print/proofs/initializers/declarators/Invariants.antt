@@ -1,0 +1,6 @@
+use Rattle.mc_print.proofs.Lists.{declarator_act, StillTo}
+use Rattle.mc_print.proofs.initializers.declarators.Given as goal
+
+abbrev pub invariant-loop-tree : goal.invariant-loop-tree
+invariant-loop-tree g l =
+    StillTo declarator_act l.trees l.tree-index (g.K.Sink.written l.fn.out) (g.K.Sink.faults l.fn.out) l.fn.pen (g.K.Sink.written l.out) (g.K.Sink.faults l.out) l.pen

@@ -1,0 +1,5 @@
+pub mod Pens
+pub mod Insertions
+pub mod Texts
+pub mod Worked
+pub mod steps

@@ -1,0 +1,11 @@
+-- The command `instrument`: the tokens of the source with what the probes of its program insert.
+use Rattle.std.specs.Prelude.{◌≡◌, ℕ, List, Ok}
+use Rattle.mc_lex.specs.Tokens.{Tok}
+use Rattle.mc_probe.specs.Table.{instrumented}
+use Rattle.mc_replies.specs.Reply.{Reply, program_pieces, written}
+use Rattle.mc_station.specs.Source.{Accepted, Lexes}
+
+abbrev pub Instruments : Accepted → Reply → Type 0
+Instruments accepted reply =
+    (tokens : List Tok) × Lexes accepted.source (Ok tokens)
+    × (reply ≡ written 0 (program_pieces tokens (instrumented accepted.map accepted.program)))

@@ -1,0 +1,50 @@
+//! The command `instrument`.
+ghost use Rattle.std.specs.Prelude.{◌<◌, ◌^◌, IfOk, Ok, length};
+ghost use Rattle.mc_lex.specs.Tokens.{toks_of};
+ghost use Rattle.mc_replies.specs.Seen.{seen_reply};
+ghost use Rattle.mc_station.specs.Seen.{HasTokens, IsInstrumented, seen_accepted};
+ghost use Rattle.mc_station.specs.Source.{Lexes};
+ghost use Rattle.mc_station.specs.commands.Instrument.{Instruments};
+
+use crate::accepted::Accepted;
+use mc_lex::{Dialect, LexFault, Token, lex};
+use mc_replies::Reply;
+use std::alloc::{AllocError, Global};
+
+// The tokens of a source that has them, read again.
+fn tokens_of<'a>(alloc: Global, accepted: &Accepted<'a>) -> Result<Vec<Token<'a>>, AllocError>
+    requires short { length accepted.now.source.now < 2 ^ 31 }
+    requires tokens { HasTokens accepted.now }
+    ensures { IfOk result (λ tokens.
+        Lexes accepted.now.source.now (Ok (toks_of tokens.items))) }
+{
+    match lex(alloc, accepted.source, Dialect::Plain) {
+        Ok(tokens) => Ok(tokens),
+        Err(LexFault::OutOfMemory) => Err(AllocError),
+        Err(_) => unreachable!(),
+    }
+}
+
+/// The reply of `instrument`: the text of the program with its probes.
+pub fn instrument<'a>(alloc: Global, accepted: Accepted<'a>) -> Result<Reply<'a>, AllocError>
+    requires instrumented { IsInstrumented accepted }
+    requires tokens { HasTokens accepted }
+    ensures { IfOk result (λ reply.
+        Instruments (seen_accepted accepted.entry) (seen_reply reply)) }
+{
+    match tokens_of(alloc, &accepted) {
+        Ok(tokens) => {
+            let Accepted {
+                source: _,
+                tree,
+                map,
+            } = accepted;
+            drop(map);
+            Ok(Reply::of_program(alloc, tokens, tree))
+        }
+        Err(error) => {
+            drop(accepted);
+            Err(error)
+        }
+    }
+}
