@@ -1,45 +1,45 @@
 -- The nonterminals that stand as parts, as the program names them.
 use Rattle.std.specs.Prelude.{List, [], map}
 use Rattle.mc_grammar.specs.Nonterminal.{Nonterminal, operand}
-use Rattle.mc_grammar.specs.Nonterminal as n
+use Rattle.mc_grammar.specs.Nonterminal as nonterminal
 use Rattle.mc_grammar.specs.steps.Next.{up_to}
 use Rattle.mc_cursor.specs.declared.rule.Level.{Level}
 use Rattle.mc_cursor.specs.declared.rule.Level.TheVariants as level
 use Rattle.mc_cursor.specs.declared.rule.Rule.{Rule}
 use Rattle.mc_cursor.specs.declared.rule.Rule.TheVariants as rule
 
-abbrev pub level_of : Level → n.Level
-level_of level.Product = n.product
-level_of level.Sum = n.sum
-level_of level.Shift = n.shift
-level_of level.Relation = n.relation
-level_of level.Equality = n.equality
-level_of level.BitAnd = n.bit_and
-level_of level.BitXor = n.bit_xor
-level_of level.BitOr = n.bit_or
-level_of level.And = n.land
-level_of level.Or = n.lor
+abbrev pub level_of : Level → nonterminal.Level
+level_of level.Product = nonterminal.product
+level_of level.Sum = nonterminal.sum
+level_of level.Shift = nonterminal.shift
+level_of level.Relation = nonterminal.relation
+level_of level.Equality = nonterminal.equality
+level_of level.BitAnd = nonterminal.bit_and
+level_of level.BitXor = nonterminal.bit_xor
+level_of level.BitOr = nonterminal.bit_or
+level_of level.And = nonterminal.land
+level_of level.Or = nonterminal.lor
 
-abbrev pub levels_of : List Level → List n.Level
+abbrev pub levels_of : List Level → List nonterminal.Level
 levels_of levels = map level_of levels
 
 abbrev pub nonterminal_of : Rule → Nonterminal
-nonterminal_of rule.Comma = n.comma
-nonterminal_of rule.Assign = n.assign
-nonterminal_of rule.Cond = n.cond
-nonterminal_of rule.Unary = n.unary
-nonterminal_of rule.Cast = n.cast
+nonterminal_of rule.Comma = nonterminal.comma
+nonterminal_of rule.Assign = nonterminal.assign
+nonterminal_of rule.Cond = nonterminal.cond
+nonterminal_of rule.Unary = nonterminal.unary
+nonterminal_of rule.Cast = nonterminal.cast
 nonterminal_of (rule.Operand level) = operand (level_of level)
 
 -- the levels of operators in an operand of this level
-abbrev pub below : n.Level → List n.Level
-below n.product = []
-below n.sum = up_to n.product
-below n.shift = up_to n.sum
-below n.relation = up_to n.shift
-below n.equality = up_to n.relation
-below n.bit_and = up_to n.equality
-below n.bit_xor = up_to n.bit_and
-below n.bit_or = up_to n.bit_xor
-below n.land = up_to n.bit_or
-below n.lor = up_to n.land
+abbrev pub below : nonterminal.Level → List nonterminal.Level
+below nonterminal.product = []
+below nonterminal.sum = up_to nonterminal.product
+below nonterminal.shift = up_to nonterminal.sum
+below nonterminal.relation = up_to nonterminal.shift
+below nonterminal.equality = up_to nonterminal.relation
+below nonterminal.bit_and = up_to nonterminal.equality
+below nonterminal.bit_xor = up_to nonterminal.bit_and
+below nonterminal.bit_or = up_to nonterminal.bit_xor
+below nonterminal.land = up_to nonterminal.bit_or
+below nonterminal.lor = up_to nonterminal.land

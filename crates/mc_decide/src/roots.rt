@@ -1,7 +1,7 @@
 //! The walk over the functions of a program.
 ghost use Rattle.std.specs.Prelude.{◌≡◌, ◌<◌, ◌^◌, length, map, IfOk};
 ghost use Rattle.mc_typed.specs.Views.{function_of};
-ghost use Rattle.mc_roots.specs.Nodes as n;
+ghost use Rattle.mc_roots.specs.Nodes as nodes;
 ghost use Rattle.mc_gather.specs.steps.Gathering.{gathered_of, in_function, in_functions, inside};
 
 mod effects;
@@ -28,7 +28,8 @@ pub(crate) fn functions(found: &mut Gathered, trees: &[Function<'_>]) -> Result<
 /// Adds the decisions of the function with this number.
 fn function(found: &mut Gathered, number: u32, tree: &Function<'_>) -> Result<(), AllocError>
     ensures { IfOk result (λ _. gathered_of found.new
-        ≡ inside (n.function (function_of tree.now)) (in_function number (gathered_of found.old))) }
+        ≡ inside (nodes.function (function_of tree.now))
+        (in_function number (gathered_of found.old))) }
 {
     found.function = number;
     statements::statements(found, &tree.body)

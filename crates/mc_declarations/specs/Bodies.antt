@@ -4,7 +4,7 @@ use Rattle.std.specs.Prelude.{◌≡◌, ℕ, List, [], ◌∷◌, ◌++◌, len
 use Rattle.mc_span.specs.declared.span.Span.{Span}
 use Rattle.mc_tree.specs.Tree.{Name, Parameters}
 use Rattle.mc_typed.specs.Tree.{Statements}
-use Rattle.mc_typed.specs.Tree as t
+use Rattle.mc_typed.specs.Tree as typed
 use Rattle.mc_faults.specs.declared.fault.Fault.{Fault}
 use Rattle.mc_typing.specs.Types.{CType, ParameterKind, Signature}
 use Rattle.mc_typing.specs.Scopes.{Scope, meaning_here, body_scope}
@@ -56,11 +56,11 @@ definition_begun name parameters x y =
 
 -- the function in a list, where its type is known and its body has no fault
 abbrev pub listed_function : Name → Span → Option Signature → Option Statements → Scope
-    → Option (List t.Function)
+    → Option (List typed.Function)
 listed_function name span f body s = lift2 (λ g b. function_from name span s g b ∷ []) f body
 
 abbrev pub definition_ended : Name → Span → BodyBegun → Around → Judged Statements
-    → Judged (List t.Function)
+    → Judged (List typed.Function)
 definition_ended name span b file z = record {
   faults = b.faults ++ (z.faults ++ frame_faults z.scope.frame name.span.start);
   value = listed_function name span b.signature z.value z.scope;

@@ -8,16 +8,16 @@ use Rattle.mc_tree.specs.Tree as tree
 use Rattle.mc_tree.specs.Views.{array_length_of, lengths_from}
 use Rattle.mc_typed.specs.declared.functions.Function.{Function}
 use Rattle.mc_typed.specs.declared.initializers.Initializer.{Initializer}
-use Rattle.mc_typed.specs.Tree as t
+use Rattle.mc_typed.specs.Tree as typed
 use Rattle.mc_typed.specs.Views.{function_of, initializer_of}
 use Rattle.mc_faults.specs.declared.fault.Fault.{Fault}
 use Rattle.mc_typing.specs.Types as types
 use Rattle.mc_typing.specs.Scopes.{Meaning, Scope}
-use Rattle.mc_typing.specs.Scopes as s
-use Rattle.mc_typing.specs.Values as v
+use Rattle.mc_typing.specs.Scopes as scopes
+use Rattle.mc_typing.specs.Values as values
 use Rattle.mc_typing.specs.Constants.{constant_found}
 use Rattle.mc_typing.specs.Declarators.{Listed, Opened, length_of, length_faults}
-use Rattle.mc_typing.specs.Declarations as w
+use Rattle.mc_typing.specs.Declarations as declarations
 use Rattle.mc_scopes.specs.Listed.{listed_of}
 use Rattle.mc_names.specs.Tables.{Named}
 use Rattle.mc_scopes.specs.declared.member.Member.{Member}
@@ -35,7 +35,7 @@ use Rattle.mc_faults.specs.Kept.{listed, least}
 
 -- ---- numbers, lengths and lists
 
-abbrev pub number_judged : Judged ℤ → Scope → v.Judged ℤ
+abbrev pub number_judged : Judged ℤ → Scope → values.Judged ℤ
 number_judged x s = record { faults = listed x.fault; value = x.value; scope = s }
 
 abbrev pub lengths_in : Vec ℕ Global → List ℕ
@@ -49,18 +49,18 @@ written lengths = lengths_from (map array_length_of lengths)
 abbrev pub with_length : List ℕ → ℕ → List ℕ
 with_length ns n = ns ++ (n ∷ [])
 
-abbrev pub length_then : v.Judged (List ℕ) → ℕ → v.Found → v.Judged (List ℕ)
+abbrev pub length_then : values.Judged (List ℕ) → ℕ → values.Found → values.Judged (List ℕ)
 length_then x at y = record {
-  faults = x.faults ++ (y.faults ++ length_faults at y.constant (v.number_found y));
-  value = v.lift2 with_length x.value (option_and_then length_of (constant_found y));
+  faults = x.faults ++ (y.faults ++ length_faults at y.constant (values.number_found y));
+  value = values.lift2 with_length x.value (option_and_then length_of (constant_found y));
   scope = y.scope;
 }
 
 -- an initializer that may be absent
-abbrev pub optional_of : Option Initializer → Option t.Initializer
+abbrev pub optional_of : Option Initializer → Option typed.Initializer
 optional_of i = option_map initializer_of i
 
-abbrev pub functions_of : Vec Function Global → List t.Function
+abbrev pub functions_of : Vec Function Global → List typed.Function
 functions_of v = map function_of v.items
 
 -- ---- structures and members
@@ -94,15 +94,15 @@ listed_parameters p s =
 abbrev pub meaning_of_earlier : Earlier → Option Meaning
 meaning_of_earlier earlier.Missing = None
 meaning_of_earlier (earlier.Function signature has_body) =
-    Some (s.Function (signature_in signature) has_body)
-meaning_of_earlier earlier.Other = Some (s.Typedef None)
+    Some (scopes.Function (signature_in signature) has_body)
+meaning_of_earlier earlier.Other = Some (scopes.Typedef None)
 
 -- ---- storage
 
-abbrev pub storage_from : Storage → w.Storage
-storage_from storage.Typedef = w.TypedefStorage
-storage_from storage.Static = w.StaticStorage
-storage_from storage.Automatic = w.AutomaticStorage
+abbrev pub storage_from : Storage → declarations.Storage
+storage_from storage.Typedef = declarations.TypedefStorage
+storage_from storage.Static = declarations.StaticStorage
+storage_from storage.Automatic = declarations.AutomaticStorage
 
 abbrev pub is_structure_tag : Specifier → Bool
 is_structure_tag (tree.StructureTag tag span) = true

@@ -4,7 +4,7 @@ use Rattle.mc_tree.specs.Tree.{Name, ArrayLengths, Initializer}
 use Rattle.mc_typed.specs.declared.expressions.Slot.{Slot}
 use Rattle.mc_typed.specs.Layout.{cells}
 use Rattle.mc_typed.specs.Tree.{Declarator}
-use Rattle.mc_typed.specs.Tree as t
+use Rattle.mc_typed.specs.Tree as typed
 use Rattle.mc_faults.specs.declared.fault.Fault.{Fault}
 use Rattle.mc_faults.specs.Faults.{unless_faulty}
 use Rattle.mc_typing.specs.Types.{CType, ParameterKind}
@@ -68,13 +68,13 @@ abbrev pub zero_or : Option ℕ → ℕ
 zero_or None = 0
 zero_or (Some n) = n
 
-abbrev pub counted_value : Slot → Option ℕ → Option (Option t.Initializer)
+abbrev pub counted_value : Slot → Option ℕ → Option (Option typed.Initializer)
     → Option (List Declarator)
 counted_value slot (Some n) (Some value) =
     Some (record { slot = slot; cells = n; value = value } ∷ [])
 counted_value slot _ _ = None
 
-abbrev pub automatic_ended : Local → Name → Judged (Option t.Initializer)
+abbrev pub automatic_ended : Local → Name → Judged (Option typed.Initializer)
     → Judged (List Declarator)
 automatic_ended b name x = record {
   faults = b.faults ++ x.faults;
@@ -110,7 +110,7 @@ static_begun faults name lengths count base u s =
       scope = with_name name (Stored (next_static s) (unless_faulty (faults ++ own) u)) s;
     }
 
-abbrev pub static_ended : StaticBegun → Name → Option CType → Judged (Option t.Initializer)
+abbrev pub static_ended : StaticBegun → Name → Option CType → Judged (Option typed.Initializer)
     → Judged (List Declarator)
 static_ended b name u x =
     let layout = layout_counted (b.own ++ x.faults) u x.scope in
@@ -147,9 +147,10 @@ function_begun storage name result parameters value s =
     }
 
 -- they declare no object
-abbrev pub declared_ended : List Fault → Judged (Option t.Initializer) → Judged (List Declarator)
+abbrev pub declared_ended : List Fault → Judged (Option typed.Initializer)
+    → Judged (List Declarator)
 declared_ended faults x = record { faults = faults ++ x.faults; value = Some []; scope = x.scope }
 
 -- an initializer that is there
-abbrev pub optional_judged : Judged t.Initializer → Judged (Option t.Initializer)
+abbrev pub optional_judged : Judged typed.Initializer → Judged (Option typed.Initializer)
 optional_judged x = judged x.faults (option_map Some x.value) x.scope

@@ -2,13 +2,13 @@
 ghost use Rattle.std.specs.Prelude.{◌≡◌, ◌||◌, ◌&&◌, List, map, is_some, IfOk, option_map};
 ghost use Rattle.mc_tree.specs.Tree as tree;
 ghost use Rattle.mc_tree.specs.Views.{array_length_of, name_of};
-ghost use Rattle.mc_typing.specs.Declarators as d;
+ghost use Rattle.mc_typing.specs.Declarators as declarators;
 ghost use Rattle.mc_faults.specs.declared.fault.Fault.{Fault};
 ghost use Rattle.mc_faults.specs.Faults.{least_of, unless_faulty};
 ghost use Rattle.mc_typing.specs.Limits as limit;
-ghost use Rattle.mc_typing.specs.Scopes as s;
-ghost use Rattle.mc_typing.specs.Types as t;
-ghost use Rattle.mc_typing.specs.Values as v;
+ghost use Rattle.mc_typing.specs.Scopes as scopes;
+ghost use Rattle.mc_typing.specs.Types as types;
+ghost use Rattle.mc_typing.specs.Values as values;
 ghost use Rattle.mc_scopes.specs.Types.{base_of, type_of, length_list};
 ghost use Rattle.mc_scopes.specs.Views.{scope_of, structure_of};
 ghost use Rattle.mc_declarations.specs.Declarations.{lengths_in, written};
@@ -21,7 +21,7 @@ use mc_tree::{ArrayLength, Identifier};
 use std::alloc::{AllocError, Global};
 
 fn is_declared_here(scope: &Scope<'_>, name: &Identifier<'_>) -> bool
-    ensures { result ≡ is_some (s.meaning_here (name_of name.now) (scope_of scope.now)) }
+    ensures { result ≡ is_some (scopes.meaning_here (name_of name.now) (scope_of scope.now)) }
 {
     match scope.meaning_here(name) {
         Some(_) => true,
@@ -32,8 +32,9 @@ fn is_declared_here(scope: &Scope<'_>, name: &Identifier<'_>) -> bool
 /// The fault of a name that the innermost block declares already.
 pub(crate) fn redeclared_fault(scope: &Scope<'_>, name: &Identifier<'_>) -> Option<Fault>
     ensures least { result
-        ≡ least_of (d.redeclared_faults (name_of name.now) (scope_of scope.now)) }
-    ensures list { listed result ≡ d.redeclared_faults (name_of name.now) (scope_of scope.now) }
+        ≡ least_of (declarators.redeclared_faults (name_of name.now) (scope_of scope.now)) }
+    ensures list { listed result ≡ declarators.redeclared_faults (name_of name.now)
+        (scope_of scope.now) }
 {
     let redeclared = is_declared_here(scope, name);
     fault_where(redeclared, FaultKind::Redeclared, name.span.start)
@@ -41,8 +42,10 @@ pub(crate) fn redeclared_fault(scope: &Scope<'_>, name: &Identifier<'_>) -> Opti
 
 /// The fault of an external function's name that stands for another thing.
 pub(crate) fn misnamed_fault(scope: &Scope<'_>, name: &Identifier<'_>) -> Option<Fault>
-    ensures least { result ≡ least_of (d.misnamed_faults (name_of name.now) (scope_of scope.now)) }
-    ensures list { listed result ≡ d.misnamed_faults (name_of name.now) (scope_of scope.now) }
+    ensures least { result ≡ least_of
+        (declarators.misnamed_faults (name_of name.now) (scope_of scope.now)) }
+    ensures list { listed result ≡ declarators.misnamed_faults (name_of name.now)
+        (scope_of scope.now) }
 {
     let external = is_external(name);
     fault_where(
@@ -55,7 +58,7 @@ pub(crate) fn misnamed_fault(scope: &Scope<'_>, name: &Identifier<'_>) -> Option
 // ---- lengths
 
 fn is_first_absent(lengths: &[ArrayLength<'_>]) -> bool
-    ensures { result ≡ d.is_first_absent (written lengths.now) }
+    ensures { result ≡ declarators.is_first_absent (written lengths.now) }
 {
     match lengths {
         [first, ..] => match first {
@@ -67,7 +70,7 @@ fn is_first_absent(lengths: &[ArrayLength<'_>]) -> bool
 }
 
 fn is_absent(length: &ArrayLength<'_>) -> bool
-    ensures { result ≡ d.is_first_absent (array_length_of length.now tree.no_lengths) }
+    ensures { result ≡ declarators.is_first_absent (array_length_of length.now tree.no_lengths) }
 {
     match length {
         ArrayLength::Absent => true,
@@ -77,7 +80,7 @@ fn is_absent(length: &ArrayLength<'_>) -> bool
 
 #[tactic(auto, using(crate::proofs::Absent::absent_more))]
 fn has_absent(lengths: &[ArrayLength<'_>]) -> bool
-    ensures { result ≡ d.has_absent (written lengths.now) }
+    ensures { result ≡ declarators.has_absent (written lengths.now) }
 {
     let mut found = false;
     let mut left = lengths;
@@ -93,7 +96,7 @@ fn has_absent(lengths: &[ArrayLength<'_>]) -> bool
 /// Whether a length after the first one is absent. Takes no memory.
 #[tactic(auto, using(crate::proofs::Absent::later_absent))]
 pub(crate) fn is_later_absent(lengths: &[ArrayLength<'_>]) -> bool
-    ensures { result ≡ d.is_later_absent (written lengths.now) }
+    ensures { result ≡ declarators.is_later_absent (written lengths.now) }
 {
     match lengths {
         [_, later @ ..] => has_absent(later),
@@ -107,8 +110,8 @@ pub(crate) fn absent_fault(
     count: Option<u32>,
     at: u32,
 ) -> Option<Fault>
-    ensures least { result ≡ least_of (d.absent_faults (written lengths.now) count at) }
-    ensures list { listed result ≡ d.absent_faults (written lengths.now) count at }
+    ensures least { result ≡ least_of (declarators.absent_faults (written lengths.now) count at) }
+    ensures list { listed result ≡ declarators.absent_faults (written lengths.now) count at }
 {
     let later = is_later_absent(lengths);
     let first = is_first_absent(lengths);
@@ -118,7 +121,7 @@ pub(crate) fn absent_fault(
 
 // The first length, where it is absent: it stands apart.
 fn leading(lengths: &[ArrayLength<'_>], count: Option<u32>) -> Option<Option<u32>>
-    ensures { option_map length_list result ≡ d.leading (written lengths.now) count }
+    ensures { option_map length_list result ≡ declarators.leading (written lengths.now) count }
 {
     if is_first_absent(lengths) {
         match count {
@@ -136,7 +139,7 @@ fn array_of(
     given: &Option<Vec<u32>>,
     base: &Option<CType>,
 ) -> Result<Option<CType>, AllocError>
-    ensures { IfOk result (λ r. option_map type_of r ≡ v.lift3 d.array_of
+    ensures { IfOk result (λ r. option_map type_of r ≡ values.lift3 declarators.array_of
         (option_map length_list front) (option_map lengths_in given.now)
         (option_map type_of base.now)) }
 {
@@ -164,7 +167,8 @@ pub fn declared_type(
     count: Option<u32>,
     base: &Option<CType>,
 ) -> Result<Option<CType>, AllocError>
-    ensures { IfOk result (λ r. option_map type_of r ≡ d.declared_type (written lengths.now)
+    ensures { IfOk result (λ r. option_map type_of r
+        ≡ declarators.declared_type (written lengths.now)
         (option_map lengths_in given.now) count (option_map type_of base.now)) }
 {
     if is_later_absent(lengths) {
@@ -181,9 +185,10 @@ pub(crate) fn incomplete_fault(
     base: &Option<CType>,
     at: u32,
 ) -> Option<Fault>
-    ensures least { result ≡ least_of (d.incomplete_faults (map structure_of structures.now)
+    ensures least { result ≡ least_of
+        (declarators.incomplete_faults (map structure_of structures.now)
         (option_map type_of base.now) at) }
-    ensures list { listed result ≡ d.incomplete_faults (map structure_of structures.now)
+    ensures list { listed result ≡ declarators.incomplete_faults (map structure_of structures.now)
         (option_map type_of base.now) at }
 {
     match base {
@@ -194,7 +199,7 @@ pub(crate) fn incomplete_fault(
 
 /// Whether an object of the type would pass a limit.
 pub(crate) fn is_over_limit(structures: &[Structure<'_>], of: &CType) -> bool
-    ensures { result ≡ (t.is_complete (map structure_of structures.now) (base_of of.now.base)
+    ensures { result ≡ (types.is_complete (map structure_of structures.now) (base_of of.now.base)
         && limit.is_too_large (map structure_of structures.now) (type_of of.now)) }
 {
     let complete = is_complete(structures, of.base);

@@ -6,11 +6,11 @@ ghost use Rattle.mc_typed.specs.Tree as typed;
 ghost use Rattle.mc_typed.specs.Views.{object_of};
 ghost use Rattle.mc_typed.specs.Views as views;
 ghost use Rattle.mc_faults.specs.declared.fault.Fault.{Fault};
-ghost use Rattle.mc_typing.specs.Declarations as w;
+ghost use Rattle.mc_typing.specs.Declarations as declarations;
 ghost use Rattle.mc_faults.specs.Faults.{least_of};
 ghost use Rattle.mc_typing.specs.Limits as limit;
-ghost use Rattle.mc_typing.specs.Scopes as s;
-ghost use Rattle.mc_typing.specs.Types as t;
+ghost use Rattle.mc_typing.specs.Scopes as scopes;
+ghost use Rattle.mc_typing.specs.Types as type_rules;
 ghost use Rattle.mc_typing.specs.Typing as ty;
 ghost use Rattle.mc_scopes.specs.Blocks.{Around, around, around_of, function_left_by};
 ghost use Rattle.mc_scopes.specs.Prototypes.{body_in, with_one_name};
@@ -124,9 +124,10 @@ pub fn names_fault(parameters: &[Parameter<'_>]) -> Option<Fault>
 
 #[tactic(auto, using(mc_scopes::proofs::Squeezed::joined_listed, mc_scopes::proofs::Squeezed::joined_leasts))]
 fn definition_fault(heading: &Heading, name: &Identifier<'_>) -> Option<Fault>
-    ensures { (gives : Option t.CType) (s : s.Scope)
+    ensures { (gives : Option type_rules.CType) (s : scopes.Scope)
         → IsHeading heading.now (name_of name.now) gives s
-        → result ≡ least_of (ty.definition_faults (name_of name.now) (w.result_of gives) s) }
+        → result ≡ least_of (ty.definition_faults (name_of name.now)
+        (declarations.result_of gives) s) }
 {
     let at = name.span.start;
     let again = heading.before.has_body();
@@ -155,10 +156,10 @@ fn head_fault(
     parameters: &Parameters,
     of: &Option<Arc<Signature>>,
 ) -> Option<Fault>
-    ensures { (o u : s.Scope) (ps : tree.Parameters)
+    ensures { (o u : scopes.Scope) (ps : tree.Parameters)
         → IsHeading heading.now (name_of name.now) (option_map type_of typed.now.value) o
         → unnamed ≡ least_of (ty.names_faults ps)
-        → signature_in of.now ≡ w.signature_listed (option_map type_of typed.now.value)
+        → signature_in of.now ≡ declarations.signature_listed (option_map type_of typed.now.value)
         (listed_parameters parameters.now u)
         → result ≡ least_of (definition_begun (name_of name.now) ps (judged_of type_of typed.now o)
         (listed_parameters parameters.now u)).faults }
@@ -183,7 +184,7 @@ fn enter_definition<'a>(
     requires { block.names ≤ length scope.old.names }
     ensures around { IfOk result (λ b. around_of b ≡ with_one_name (around_of block)) }
     ensures body { IfOk result (λ b. scope_of scope.new ≡ body_in (around_of block).names
-        (name_of name.now) (s.Function (signature_in of.now) true) (scope_of scope.old)) }
+        (name_of name.now) (scopes.Function (signature_in of.now) true) (scope_of scope.old)) }
 {
     match share_signature(of) {
         Ok(signature) => {
@@ -213,13 +214,13 @@ pub fn begin_definition<'a>(
     parameters: &Parameters,
 ) -> Result<Body, AllocError>
     requires { block.names ≤ length scope.old.names }
-    ensures body { IfOk result (λ r. (o : s.Scope) (ps : tree.Parameters)
+    ensures body { IfOk result (λ r. (o : scopes.Scope) (ps : tree.Parameters)
         → IsHeading heading.now (name_of name.now) (option_map type_of typed.now.value) o
         → unnamed ≡ least_of (ty.names_faults ps)
         → around_of block ≡ around o → take (length o.names) (scope_of scope.old).names ≡ o.names
         → body_of r (scope_of scope.new) ≡ squeezed_body (definition_begun (name_of name.now) ps
         (judged_of type_of typed.now o) (listed_parameters parameters.now (scope_of scope.old)))) }
-    ensures block { IfOk result (λ r. (o : s.Scope) → around_of block ≡ around o
+    ensures block { IfOk result (λ r. (o : scopes.Scope) → around_of block ≡ around o
         → around_of r.block ≡ around (ty.with_function (name_of name.now)
         (signature_in r.signature) o)) }
 {
@@ -274,7 +275,8 @@ fn structure_parameter(
     base: Base,
 ) -> Result<ParameterType, AllocError>
     ensures { IfOk result (λ r. views.parameter_of r ≡ typed.StructureParameter
-        (t.layout_of (map structure_of structures.now) (t.plain (base_of base)))) }
+        (type_rules.layout_of (map structure_of structures.now)
+        (type_rules.plain (base_of base)))) }
 {
     let of = plain(alloc, base);
     let layout = layout(alloc, structures, &of);
@@ -381,7 +383,7 @@ fn function_from<'a>(
     objects: Vec<Object>,
     body: Vec<Statement>,
 ) -> Result<Function<'a>, AllocError>
-    ensures { IfOk result (λ r. (s : s.Scope) → map structure_of structures.now ≡ s.structures
+    ensures { IfOk result (λ r. (s : scopes.Scope) → map structure_of structures.now ≡ s.structures
         → map object_of objects.items ≡ s.objects
         → views.function_of r ≡ ty.function_from (name_of name.now) span s
         (types.signature_of of.now) (statements_of body)) }
@@ -482,7 +484,7 @@ pub fn end_definition<'a>(
     body: Body,
     statements: Judged<Vec<Statement>>,
 ) -> Result<Judged<Vec<Function<'a>>>, AllocError>
-    ensures { IfOk result (λ r. (u : s.Scope) → judged_of functions_of r (scope_of scope.new)
+    ensures { IfOk result (λ r. (u : scopes.Scope) → judged_of functions_of r (scope_of scope.new)
         ≡ squeezed_part (definition_ended (name_of name.now) span (body_of body u)
         (around_of body.block) (judged_of statements_of statements (scope_of scope.old)))) }
 {

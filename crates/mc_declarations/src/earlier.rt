@@ -1,7 +1,7 @@
 //! What a function's name was declared to be before.
 ghost use Rattle.std.specs.Prelude.{◌≡◌, ℕ, IfOk, Option, Some, option_map, option_copied};
-ghost use Rattle.mc_typing.specs.Declarations as w;
-ghost use Rattle.mc_typing.specs.Types as t;
+ghost use Rattle.mc_typing.specs.Declarations as declarations;
+ghost use Rattle.mc_typing.specs.Types as types;
 ghost use Rattle.mc_scopes.specs.Views.{meaning_of};
 ghost use Rattle.mc_declarations.specs.Declarations.{meaning_of_earlier, signature_in};
 
@@ -37,11 +37,11 @@ pub(crate) fn share_signature(
 }
 
 fn by_meaning(meaning: &Meaning) -> Result<Earlier, AllocError>
-    ensures repeated { IfOk result (λ r. (f : Option t.Signature) (at : ℕ)
-        → w.repeated_faults (meaning_of_earlier r) f at
-        ≡ w.repeated_faults (Some (meaning_of meaning.now)) f at) }
-    ensures body { IfOk result (λ r. w.has_body (meaning_of_earlier r)
-        ≡ w.has_body (Some (meaning_of meaning.now))) }
+    ensures repeated { IfOk result (λ r. (f : Option types.Signature) (at : ℕ)
+        → declarations.repeated_faults (meaning_of_earlier r) f at
+        ≡ declarations.repeated_faults (Some (meaning_of meaning.now)) f at) }
+    ensures body { IfOk result (λ r. declarations.has_body (meaning_of_earlier r)
+        ≡ declarations.has_body (Some (meaning_of meaning.now))) }
 {
     match meaning {
         Meaning::Function {
@@ -64,11 +64,11 @@ fn by_meaning(meaning: &Meaning) -> Result<Earlier, AllocError>
 
 /// By what the name means in its block.
 pub(crate) fn declared_before(meaning: Option<&Meaning>) -> Result<Earlier, AllocError>
-    ensures repeated { IfOk result (λ r. (f : Option t.Signature) (at : ℕ)
-        → w.repeated_faults (meaning_of_earlier r) f at
-        ≡ w.repeated_faults (option_map meaning_of (option_copied meaning.entry)) f at) }
-    ensures body { IfOk result (λ r. w.has_body (meaning_of_earlier r)
-        ≡ w.has_body (option_map meaning_of (option_copied meaning.entry))) }
+    ensures repeated { IfOk result (λ r. (f : Option types.Signature) (at : ℕ)
+        → declarations.repeated_faults (meaning_of_earlier r) f at
+        ≡ declarations.repeated_faults (option_map meaning_of (option_copied meaning.entry)) f at) }
+    ensures body { IfOk result (λ r. declarations.has_body (meaning_of_earlier r)
+        ≡ declarations.has_body (option_map meaning_of (option_copied meaning.entry))) }
 {
     match meaning {
         Some(meaning) => by_meaning(meaning),
@@ -79,7 +79,7 @@ pub(crate) fn declared_before(meaning: Option<&Meaning>) -> Result<Earlier, Allo
 impl Earlier {
     /// Whether it is a function with a body.
     pub(crate) fn has_body(&self) -> bool
-        ensures { result ≡ w.has_body (meaning_of_earlier self.now) }
+        ensures { result ≡ declarations.has_body (meaning_of_earlier self.now) }
     {
         match self {
             Earlier::Function { has_body, .. } => *has_body,

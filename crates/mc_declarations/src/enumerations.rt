@@ -2,12 +2,12 @@
 ghost use Rattle.std.specs.Prelude.{◌≡◌, ◌++◌, ◌+ℤ◌, pos, IfOk, IsTrue, List, Some, is_some, option_map};
 ghost use Rattle.mc_tree.specs.Views.{name_of, tag_of};
 ghost use Rattle.mc_faults.specs.declared.fault.Fault.{Fault};
-ghost use Rattle.mc_typing.specs.Declarators as d;
+ghost use Rattle.mc_typing.specs.Declarators as declarator_rules;
 ghost use Rattle.mc_faults.specs.Faults.{least_of, unless_faulty};
-ghost use Rattle.mc_typing.specs.Scopes as s;
-ghost use Rattle.mc_typing.specs.Types as t;
-ghost use Rattle.mc_typing.specs.Values as v;
-ghost use Rattle.mc_typing.specs.Constants as c;
+ghost use Rattle.mc_typing.specs.Scopes as scopes;
+ghost use Rattle.mc_typing.specs.Types as types;
+ghost use Rattle.mc_typing.specs.Values as judged;
+ghost use Rattle.mc_typing.specs.Constants as constants;
 ghost use Rattle.mc_scopes.specs.Types.{type_of};
 ghost use Rattle.mc_scopes.specs.Views.{scope_of};
 ghost use Rattle.mc_declarations.specs.Declarations.{number_judged};
@@ -27,7 +27,7 @@ use mc_value::{IntType, range};
 use std::alloc::{AllocError, Global};
 
 fn is_tagged_here(scope: &Scope<'_>, tag: &Identifier<'_>) -> bool
-    ensures { result ≡ is_some (s.tag_here (name_of tag.now) (scope_of scope.now)) }
+    ensures { result ≡ is_some (scopes.tag_here (name_of tag.now) (scope_of scope.now)) }
 {
     match scope.tag_here(tag) {
         Some(_) => true,
@@ -37,7 +37,7 @@ fn is_tagged_here(scope: &Scope<'_>, tag: &Identifier<'_>) -> bool
 
 fn enumeration_fault(scope: &Scope<'_>, tag: &Identifier<'_>) -> Option<Fault>
     ensures { listed result
-        ≡ d.enumeration_faults (Some (name_of tag.now)) (scope_of scope.now) }
+        ≡ declarator_rules.enumeration_faults (Some (name_of tag.now)) (scope_of scope.now) }
 {
     let redeclared = is_tagged_here(scope, tag);
     fault_where(redeclared, FaultKind::Redeclared, tag.span.start)
@@ -49,9 +49,9 @@ pub fn enter_enumeration<'a>(
     tag: &Option<Identifier<'a>>,
 ) -> Result<Option<Fault>, AllocError>
     ensures fault { IfOk result (λ r. listed r
-        ≡ d.enumeration_faults (tag_of tag.now) (scope_of scope.old)) }
+        ≡ declarator_rules.enumeration_faults (tag_of tag.now) (scope_of scope.old)) }
     ensures scope { IfOk result (λ _. scope_of scope.new
-        ≡ d.enumeration_scope (tag_of tag.now) (scope_of scope.old)) }
+        ≡ declarator_rules.enumeration_scope (tag_of tag.now) (scope_of scope.old)) }
 {
     match tag {
         Some(tag) => {
@@ -66,7 +66,7 @@ pub fn enter_enumeration<'a>(
 }
 
 fn enumeration_type(alloc: Global, fault: Option<Fault>) -> Option<CType>
-    ensures { option_map type_of result ≡ unless_faulty (listed fault) (Some t.int) }
+    ensures { option_map type_of result ≡ unless_faulty (listed fault) (Some types.int) }
 {
     match fault {
         Some(_) => None,
@@ -77,8 +77,9 @@ fn enumeration_type(alloc: Global, fault: Option<Fault>) -> Option<CType>
 /// An enumeration with its list, from the fault of its tag.
 #[tactic(auto, using(crate::proofs::DeclarationFaults::unless_least_of))]
 pub fn enumeration(alloc: Global, own: Option<Fault>, enumerators: Judged<i128>) -> Judged<CType>
-    ensures { (s : s.Scope) → judged_of type_of result s
-        ≡ squeezed_part (d.enumeration_judged (listed own) (number_judged enumerators s)) }
+    ensures { (s : scopes.Scope) → judged_of type_of result s
+        ≡ squeezed_part (declarator_rules.enumeration_judged (listed own)
+        (number_judged enumerators s)) }
 {
     let fault = first_fault(own, enumerators.fault);
     Judged {
@@ -91,14 +92,14 @@ pub fn enumeration(alloc: Global, own: Option<Fault>, enumerators: Judged<i128>)
 
 // Whether int has the value.
 fn is_int(value: i128) -> bool
-    ensures { result ≡ d.fits_int (Some value) }
+    ensures { result ≡ declarator_rules.fits_int (Some value) }
 {
     let (least, greatest) = range(IntType::Int);
     least <= value && value <= greatest
 }
 
 fn fits_int(value: Option<i128>) -> bool
-    ensures { result ≡ d.fits_int value }
+    ensures { result ≡ declarator_rules.fits_int value }
 {
     match value {
         Some(value) => is_int(value),
@@ -107,15 +108,15 @@ fn fits_int(value: Option<i128>) -> bool
 }
 
 fn in_int(value: Option<i128>) -> Option<i128>
-    ensures exact { result ≡ d.in_int value }
-    ensures fits { IsTrue (d.fits_int result) }
+    ensures exact { result ≡ declarator_rules.in_int value }
+    ensures fits { IsTrue (declarator_rules.fits_int result) }
 {
     if fits_int(value) { value } else { None }
 }
 
 // The value of the next enumerator, after one that fits int.
 fn next_value(value: Option<i128>) -> Option<i128>
-    requires { IsTrue (d.fits_int value) }
+    requires { IsTrue (declarator_rules.fits_int value) }
     ensures { result ≡ option_map (λ w. w +ℤ pos 1) value }
 {
     match value {
@@ -127,7 +128,8 @@ fn next_value(value: Option<i128>) -> Option<i128>
 #[tactic(auto, using(mc_scopes::proofs::Squeezed::joined_listed, mc_scopes::proofs::Squeezed::joined_leasts))]
 fn enumerator_fault(scope: &Scope<'_>, name: &Identifier<'_>, value: Option<i128>) -> Option<Fault>
     ensures { result
-        ≡ least_of (d.enumerator_faults (name_of name.now) value (scope_of scope.now)) }
+        ≡ least_of (declarator_rules.enumerator_faults (name_of name.now) value
+        (scope_of scope.now)) }
 {
     let misfit = fault_where(!fits_int(value), FaultKind::Mismatch, name.span.start);
     let misnamed = misnamed_fault(scope, name);
@@ -140,9 +142,11 @@ fn declare_enumerator<'a>(
     name: &Identifier<'a>,
     value: Option<i128>,
 ) -> Result<Option<i128>, AllocError>
-    ensures value { IfOk result (λ r. r ≡ option_map (λ w. w +ℤ pos 1) (d.in_int value)) }
+    ensures value { IfOk result (λ r. r
+        ≡ option_map (λ w. w +ℤ pos 1) (declarator_rules.in_int value)) }
     ensures scope { IfOk result (λ _. scope_of scope.new
-        ≡ s.with_name (name_of name.now) (s.Constant (d.in_int value)) (scope_of scope.old)) }
+        ≡ scopes.with_name (name_of name.now) (scopes.Constant (declarator_rules.in_int value))
+        (scope_of scope.old)) }
 {
     let value = in_int(value);
     match scope.declare(name, Meaning::Constant { value }) {
@@ -158,7 +162,8 @@ pub fn enumerator<'a>(
     value: Option<i128>,
 ) -> Result<Judged<i128>, AllocError>
     ensures { IfOk result (λ r. number_judged r (scope_of scope.new)
-        ≡ squeezed_part (d.enumerator_judged (name_of name.now) value (scope_of scope.old))) }
+        ≡ squeezed_part (declarator_rules.enumerator_judged (name_of name.now) value
+        (scope_of scope.old))) }
 {
     let fault = enumerator_fault(scope, name, value);
     match declare_enumerator(scope, name, value) {
@@ -170,9 +175,10 @@ pub fn enumerator<'a>(
 // The fault of the expression and of the enumerator, in their order.
 #[tactic(auto, using(mc_scopes::proofs::Squeezed::joined_listed, mc_scopes::proofs::Squeezed::joined_leasts))]
 fn valued_fault(at: u32, found: &Found, own: Option<Fault>) -> Option<Fault>
-    ensures { (s : s.Scope) (fs : List Fault) → own ≡ least_of fs
+    ensures { (s : scopes.Scope) (fs : List Fault) → own ≡ least_of fs
         → result ≡ least_of (listed found.now.fault ++ (fs
-        ++ c.constant_faults at found.now.constant (v.number_found (found_of found.now s)))) }
+        ++ constants.constant_faults at found.now.constant
+        (judged.number_found (found_of found.now s)))) }
 {
     let constant = fault_of_constant(at, found);
     lesser(found.fault, lesser(own, constant))
@@ -186,7 +192,7 @@ pub fn valued_enumerator<'a>(
     found: &Found,
 ) -> Result<Judged<i128>, AllocError>
     ensures { IfOk result (λ r. number_judged r (scope_of scope.new)
-        ≡ squeezed_part (d.valued_enumerator_judged (name_of name.now) at
+        ≡ squeezed_part (declarator_rules.valued_enumerator_judged (name_of name.now) at
         (found_of found.now (scope_of scope.old)))) }
 {
     let value = constant_found(found);

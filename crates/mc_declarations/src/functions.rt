@@ -3,10 +3,10 @@ ghost use Rattle.std.specs.Prelude.{◌≡◌, ◌++◌, ℕ, IfOk, List, Option
 ghost use Rattle.mc_tree.specs.Units as units;
 ghost use Rattle.mc_tree.specs.Views.{name_of};
 ghost use Rattle.mc_faults.specs.declared.fault.Fault.{Fault};
-ghost use Rattle.mc_typing.specs.Declarations as w;
+ghost use Rattle.mc_typing.specs.Declarations as declarations;
 ghost use Rattle.mc_faults.specs.Faults.{least_of, unless_faulty};
-ghost use Rattle.mc_typing.specs.Scopes as s;
-ghost use Rattle.mc_typing.specs.Types as t;
+ghost use Rattle.mc_typing.specs.Scopes as scopes;
+ghost use Rattle.mc_typing.specs.Types as types;
 ghost use Rattle.mc_scopes.specs.Types.{type_of};
 ghost use Rattle.mc_scopes.specs.Views.{meaning_of, scope_of};
 ghost use Rattle.mc_declarations.specs.Declarations.{listed_parameters, meaning_of_earlier, signature_in, storage_from};
@@ -27,7 +27,7 @@ use std::sync::Arc;
 
 // A typedef has no function declarator, and no function declarator has an initializer.
 fn form_fault(storage: Storage, value: Option<&Initializer<'_>>, at: u32) -> Option<Fault>
-    ensures { result ≡ least_of (w.function_form_faults (storage_from storage)
+    ensures { result ≡ least_of (declarations.function_form_faults (storage_from storage)
         (option_map units.initializer_of (option_copied value.entry)) at) }
 {
     match storage {
@@ -48,10 +48,11 @@ fn again_fault(
     before: &Earlier,
     signature: &Option<Arc<Signature>>,
 ) -> Option<Fault>
-    requires { (f : Option t.Signature) (at : ℕ)
-        → w.repeated_faults (meaning_of_earlier before.now) f at
-        ≡ w.repeated_faults (s.meaning_here (name_of name.now) (scope_of scope.now)) f at }
-    ensures { result ≡ least_of (w.again_faults (storage_from storage) (name_of name.now)
+    requires { (f : Option types.Signature) (at : ℕ)
+        → declarations.repeated_faults (meaning_of_earlier before.now) f at
+        ≡ declarations.repeated_faults
+        (scopes.meaning_here (name_of name.now) (scope_of scope.now)) f at }
+    ensures { result ≡ least_of (declarations.again_faults (storage_from storage) (name_of name.now)
         (signature_in signature.now) (scope_of scope.now)) }
 {
     match storage {
@@ -73,15 +74,16 @@ fn declarator_fault(
     of: &Option<Arc<Signature>>,
     value: Option<&Initializer<'_>>,
 ) -> Option<Fault>
-    requires { (f : Option t.Signature) (at : ℕ)
-        → w.repeated_faults (meaning_of_earlier before.now) f at
-        ≡ w.repeated_faults (s.meaning_here (name_of name.now) (scope_of scope.now)) f at }
+    requires { (f : Option types.Signature) (at : ℕ)
+        → declarations.repeated_faults (meaning_of_earlier before.now) f at
+        ≡ declarations.repeated_faults
+        (scopes.meaning_here (name_of name.now) (scope_of scope.now)) f at }
     ensures { result ≡ least_of (
-        w.again_faults (storage_from storage) (name_of name.now) (signature_in of.now)
+        declarations.again_faults (storage_from storage) (name_of name.now) (signature_in of.now)
         (scope_of scope.now)
-        ++ (w.function_faults (name_of name.now) (option_map type_of gives.now) count
+        ++ (declarations.function_faults (name_of name.now) (option_map type_of gives.now) count
         (signature_in of.now)
-        ++ w.function_form_faults (storage_from storage)
+        ++ declarations.function_form_faults (storage_from storage)
         (option_map units.initializer_of (option_copied value.entry)) name.now.span.start)) }
 {
     let again = again_fault(scope, storage, name, before, of);
@@ -102,7 +104,7 @@ fn function_meaning(
     signature: Option<Arc<Signature>>,
     before: &Earlier,
 ) -> Meaning
-    ensures { meaning_of result ≡ w.function_meaning (storage_from storage)
+    ensures { meaning_of result ≡ declarations.function_meaning (storage_from storage)
         (signature_in signature) (meaning_of_earlier before.now) }
 {
     match storage {
@@ -132,7 +134,7 @@ pub fn begin_function<'a>(
     parameters: &Parameters,
     value: Option<&Initializer<'_>>,
 ) -> Result<Option<Fault>, AllocError>
-    ensures { IfOk result (λ r. (u : s.Scope) → begun r (scope_of scope.new) ≡ squeezed_begun
+    ensures { IfOk result (λ r. (u : scopes.Scope) → begun r (scope_of scope.new) ≡ squeezed_begun
         (function_begun (storage_from storage) (name_of name.now) (option_map type_of gives.now)
         (listed_parameters parameters.now u)
         (option_map units.initializer_of (option_copied value.entry)) (scope_of scope.old))) }

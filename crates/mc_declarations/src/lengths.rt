@@ -1,10 +1,10 @@
 //! Lengths of arrays (C17 6.7.6.2).
 ghost use Rattle.std.specs.Prelude.{◌≡◌, [], Some, IfOk, List, option_map, option_and_then};
-ghost use Rattle.mc_typing.specs.Constants as c;
-ghost use Rattle.mc_typing.specs.Declarators as d;
+ghost use Rattle.mc_typing.specs.Constants as constants;
+ghost use Rattle.mc_typing.specs.Declarators as declarators;
 ghost use Rattle.mc_faults.specs.Faults.{least_of};
-ghost use Rattle.mc_typing.specs.Scopes as s;
-ghost use Rattle.mc_typing.specs.Values as v;
+ghost use Rattle.mc_typing.specs.Scopes as scopes;
+ghost use Rattle.mc_typing.specs.Values as typing_values;
 ghost use Rattle.mc_typing.specs.Values.{judged};
 ghost use Rattle.mc_declarations.specs.Declarations.{lengths_in, length_then, with_length};
 ghost use Rattle.mc_scopes.specs.Found.{found_of, judged_of};
@@ -22,7 +22,7 @@ pub(crate) const MOST_KEPT: u32 = MOST_CELLS + 1;
 
 /// No lengths. Takes no memory.
 pub fn no_lengths(alloc: Global) -> Judged<Vec<u32>>
-    ensures { (s : s.Scope) → judged_of lengths_in result s ≡ judged [] (Some []) s }
+    ensures { (s : scopes.Scope) → judged_of lengths_in result s ≡ judged [] (Some []) s }
 {
     Judged {
         fault: None,
@@ -32,7 +32,7 @@ pub fn no_lengths(alloc: Global) -> Judged<Vec<u32>>
 
 // The length of this value, where it is one.
 fn length_of(value: i128) -> Option<u32>
-    ensures { result ≡ d.length_of value }
+    ensures { result ≡ declarators.length_of value }
 {
     if value < 1 {
         None
@@ -42,7 +42,7 @@ fn length_of(value: i128) -> Option<u32>
 }
 
 fn length_in(value: Option<i128>) -> Option<u32>
-    ensures { result ≡ option_and_then d.length_of value }
+    ensures { result ≡ option_and_then declarators.length_of value }
 {
     match value {
         Some(value) => length_of(value),
@@ -52,7 +52,7 @@ fn length_in(value: Option<i128>) -> Option<u32>
 
 // Whether the value is known, and is no length.
 fn is_no_length(value: Option<i128>) -> bool
-    ensures { result ≡ d.is_no_length value }
+    ensures { result ≡ declarators.is_no_length value }
 {
     match value {
         Some(value) => length_of(value).is_none(),
@@ -63,8 +63,9 @@ fn is_no_length(value: Option<i128>) -> bool
 // The fault of an expression that has to be a length.
 #[tactic(auto, using(mc_scopes::proofs::Squeezed::joined_leasts))]
 fn length_fault(at: u32, found: &Found) -> Option<Fault>
-    ensures { (s : s.Scope) → result ≡ least_of
-        (d.length_faults at found.now.constant (v.number_found (found_of found.now s))) }
+    ensures { (s : scopes.Scope) → result ≡ least_of
+        (declarators.length_faults at found.now.constant
+        (typing_values.number_found (found_of found.now s))) }
 {
     let constant = fault_of_constant(at, found);
     let value = constant_found(found);
@@ -75,7 +76,7 @@ fn length_fault(at: u32, found: &Found) -> Option<Fault>
 
 fn lengths_with(list: Option<Vec<u32>>, one: Option<u32>) -> Result<Option<Vec<u32>>, AllocError>
     ensures { IfOk result (λ r. option_map lengths_in r
-        ≡ v.lift2 with_length (option_map lengths_in list) one) }
+        ≡ typing_values.lift2 with_length (option_map lengths_in list) one) }
 {
     match list {
         Some(list) => match one {
@@ -98,7 +99,7 @@ pub fn more_lengths(
     at: u32,
     found: &Found,
 ) -> Result<Judged<Vec<u32>>, AllocError>
-    ensures { IfOk result (λ r. (s u : s.Scope) → judged_of lengths_in r u ≡ squeezed_part
+    ensures { IfOk result (λ r. (s u : scopes.Scope) → judged_of lengths_in r u ≡ squeezed_part
         (length_then (judged_of lengths_in list s) at (found_of found.now u))) }
 {
     let own = length_fault(at, found);

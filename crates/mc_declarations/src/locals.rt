@@ -4,8 +4,8 @@ ghost use Rattle.mc_tree.specs.Views.{name_of};
 ghost use Rattle.mc_typed.specs.Layout as sizes;
 ghost use Rattle.mc_faults.specs.declared.fault.Fault.{Fault};
 ghost use Rattle.mc_faults.specs.Faults.{least_of, unless_faulty};
-ghost use Rattle.mc_typing.specs.Declarations as w;
-ghost use Rattle.mc_typing.specs.Scopes as s;
+ghost use Rattle.mc_typing.specs.Declarations as declarations;
+ghost use Rattle.mc_typing.specs.Scopes as scopes;
 ghost use Rattle.mc_scopes.specs.Types.{type_of};
 ghost use Rattle.mc_scopes.specs.Views.{scope_of};
 ghost use Rattle.mc_declarations.specs.Declarations.{optional_of, written};
@@ -44,9 +44,9 @@ fn add_typed(
     of: &Option<CType>,
 ) -> Result<Option<u32>, AllocError>
     ensures cells { IfOk result (λ n. n ≡ option_map sizes.cells
-        (w.layout_counted [] (option_map type_of of.now) (scope_of scope.old))) }
-    ensures scope { IfOk result (λ _. scope_of scope.new ≡ s.with_counted
-        (w.layout_counted [] (option_map type_of of.now) (scope_of scope.old))
+        (declarations.layout_counted [] (option_map type_of of.now) (scope_of scope.old))) }
+    ensures scope { IfOk result (λ _. scope_of scope.new ≡ scopes.with_counted
+        (declarations.layout_counted [] (option_map type_of of.now) (scope_of scope.old))
         (scope_of scope.old)) }
 {
     match of {
@@ -66,9 +66,10 @@ fn add_counted(
     of: &Option<CType>,
 ) -> Result<Option<u32>, AllocError>
     ensures cells { IfOk result (λ n. n ≡ option_map sizes.cells
-        (w.layout_counted (listed own) (option_map type_of of.now) (scope_of scope.old))) }
-    ensures scope { IfOk result (λ _. scope_of scope.new ≡ s.with_counted
-        (w.layout_counted (listed own) (option_map type_of of.now) (scope_of scope.old))
+        (declarations.layout_counted (listed own) (option_map type_of of.now)
+        (scope_of scope.old))) }
+    ensures scope { IfOk result (λ _. scope_of scope.new ≡ scopes.with_counted
+        (declarations.layout_counted (listed own) (option_map type_of of.now) (scope_of scope.old))
         (scope_of scope.old)) }
 {
     match own {
@@ -84,10 +85,10 @@ fn declare_automatic<'a>(
     name: &Identifier<'a>,
     of: &Option<CType>,
 ) -> Result<Slot, AllocError>
-    ensures slot { IfOk result (λ r. r ≡ s.next_slot (scope_of scope.old)) }
+    ensures slot { IfOk result (λ r. r ≡ scopes.next_slot (scope_of scope.old)) }
     ensures scope { IfOk result (λ r. (fs : List Fault) → fault ≡ least_of fs
-        → scope_of scope.new ≡ s.with_name (name_of name.now)
-        (s.Automatic r (unless_faulty fs (option_map type_of of.now))) (scope_of scope.old)) }
+        → scope_of scope.new ≡ scopes.with_name (name_of name.now)
+        (scopes.Automatic r (unless_faulty fs (option_map type_of of.now))) (scope_of scope.old)) }
 {
     let Ok(slot) = scope.next_slot() else {
         return Err(AllocError);
@@ -147,7 +148,7 @@ fn zero_or(cells: Option<u32>) -> u64
 // The object does not count where its initializer has a fault.
 fn uncount_after(scope: &mut Scope<'_>, fault: Option<Fault>, cells: Option<u32>)
     ensures { scope_of scope.new
-        ≡ w.counted_after (listed fault) (zero_or cells) (scope_of scope.old) }
+        ≡ declarations.counted_after (listed fault) (zero_or cells) (scope_of scope.old) }
 {
     match fault {
         Some(_) => scope.uncount(zero_or(cells)),
@@ -199,7 +200,7 @@ pub fn end_local<'a>(
     local: Local,
     value: Judged<Option<Initializer>>,
 ) -> Result<Judged<Vec<Declarator>>, AllocError>
-    ensures { IfOk result (λ r. (u : s.Scope) → judged_of declarators_of r (scope_of scope.new)
+    ensures { IfOk result (λ r. (u : scopes.Scope) → judged_of declarators_of r (scope_of scope.new)
         ≡ squeezed_part (automatic_ended (local_of local u) (name_of name.now)
         (judged_of optional_of value (scope_of scope.old)))) }
 {

@@ -1,10 +1,10 @@
 //! Members of structures (C17 6.7.2.1).
 ghost use Rattle.std.specs.Prelude.{◌≡◌, ◌++◌, IfOk, OnOk, Some, map, option_map};
 ghost use Rattle.mc_tree.specs.Views.{name_of};
-ghost use Rattle.mc_typing.specs.Declarators as d;
+ghost use Rattle.mc_typing.specs.Declarators as declarator_rules;
 ghost use Rattle.mc_faults.specs.Faults.{least_of};
 ghost use Rattle.mc_typing.specs.Limits as limit;
-ghost use Rattle.mc_typing.specs.Scopes as s;
+ghost use Rattle.mc_typing.specs.Scopes as scopes;
 ghost use Rattle.mc_scopes.specs.Listed.{listed_of};
 ghost use Rattle.mc_scopes.specs.Types.{type_of};
 ghost use Rattle.mc_scopes.specs.Views.{scope_of, structure_of};
@@ -54,7 +54,8 @@ fn member_fault(
     of: &Option<CType>,
     members: &Members<'_>,
 ) -> Option<Fault>
-    ensures { result ≡ least_of (listed before ++ d.declared_member_faults (name_of name.now)
+    ensures { result ≡ least_of (listed before
+        ++ declarator_rules.declared_member_faults (name_of name.now)
         (written lengths.now) (option_map type_of base.now) (option_map type_of of.now)
         (map listed_of members.now) (map structure_of structures.now)) }
 {
@@ -77,7 +78,8 @@ fn push_typed<'a>(
     of: CType,
     members: &mut Members<'a>,
 ) -> Result<(), AllocError>
-    ensures { OnOk result (map listed_of members.new ≡ d.with_member (name_of name.now)
+    ensures { OnOk result (map listed_of members.new
+        ≡ declarator_rules.with_member (name_of name.now)
         (Some (type_of of)) (map listed_of members.old) (map structure_of structures.now)) }
 {
     let count = cells(structures, &of)?;
@@ -94,7 +96,8 @@ fn push_member<'a>(
     of: Option<CType>,
     members: &mut Members<'a>,
 ) -> Result<(), AllocError>
-    ensures { OnOk result (map listed_of members.new ≡ d.with_member (name_of name.now)
+    ensures { OnOk result (map listed_of members.new
+        ≡ declarator_rules.with_member (name_of name.now)
         (option_map type_of of) (map listed_of members.old) (map structure_of structures.now)) }
 {
     match of {
@@ -114,7 +117,8 @@ pub fn member<'a>(
     members: &mut Members<'a>,
 ) -> Result<Option<Fault>, AllocError>
     ensures { IfOk result (λ r. listed_members r members.new (scope_of scope.now)
-        ≡ squeezed_listed (d.member_listed (option_map type_of base.now) (name_of name.now)
+        ≡ squeezed_listed (declarator_rules.member_listed (option_map type_of base.now)
+        (name_of name.now)
         (written lengths.now) (map listed_of members.old)
         (judged_of lengths_in given (scope_of scope.now)))) }
 {
@@ -140,7 +144,7 @@ pub fn member<'a>(
 
 // The fault of a function among the members, after those before it.
 fn function_member_fault(name: &Identifier<'_>, members: &Members<'_>) -> Option<Fault>
-    ensures { result ≡ least_of (d.function_member_faults (name_of name.now)
+    ensures { result ≡ least_of (declarator_rules.function_member_faults (name_of name.now)
         (map listed_of members.now)) }
 {
     let at = name.span.start;
@@ -162,8 +166,10 @@ pub fn function_member<'a>(
     parameters: &Parameters,
     members: &mut Members<'a>,
 ) -> Result<Option<Fault>, AllocError>
-    ensures { IfOk result (λ r. (u : s.Scope) → listed_members r members.new (scope_of scope.now)
-        ≡ squeezed_listed (d.function_member_listed (name_of name.now) (map listed_of members.old)
+    ensures { IfOk result (λ r. (u : scopes.Scope)
+        → listed_members r members.new (scope_of scope.now)
+        ≡ squeezed_listed (declarator_rules.function_member_listed (name_of name.now)
+        (map listed_of members.old)
         (listed_parameters parameters.now u) (scope_of scope.now))) }
 {
     let own = function_member_fault(name, members);

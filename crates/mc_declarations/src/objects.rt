@@ -2,7 +2,7 @@
 ghost use Rattle.std.specs.Prelude.{◌≡◌, OnOk, option_map, option_copied};
 ghost use Rattle.mc_tree.specs.Units as units;
 ghost use Rattle.mc_tree.specs.Views.{name_of};
-ghost use Rattle.mc_typing.specs.Declarations as w;
+ghost use Rattle.mc_typing.specs.Declarations as declarations;
 ghost use Rattle.mc_faults.specs.Faults.{least_of, unless_faulty};
 ghost use Rattle.mc_scopes.specs.Types.{type_of};
 ghost use Rattle.mc_scopes.specs.Views.{meaning_of, scope_of};
@@ -28,7 +28,8 @@ pub(crate) fn object_fault(
     base: &Option<CType>,
     of: &Option<CType>,
 ) -> Option<Fault>
-    ensures { result ≡ least_of (w.object_faults (name_of name.now) (written lengths.now) count
+    ensures { result ≡ least_of (declarations.object_faults (name_of name.now)
+        (written lengths.now) count
         (option_map type_of base.now) (option_map type_of of.now) (scope_of scope.now)) }
 {
     let at = name.span.start;
@@ -51,7 +52,8 @@ pub(crate) fn typedef_fault(
     lengths: &[ArrayLength<'_>],
     value: Option<&Initializer<'_>>,
 ) -> Option<Fault>
-    ensures { result ≡ least_of (w.typedef_faults (name_of name.now) (written lengths.now)
+    ensures { result ≡ least_of (declarations.typedef_faults (name_of name.now)
+        (written lengths.now)
         (option_map units.initializer_of (option_copied value.entry)) (scope_of scope.now)) }
 {
     let at = name.span.start;
@@ -81,7 +83,7 @@ pub(crate) fn declare_untyped<'a>(
     name: &Identifier<'a>,
     untyped: Meaning,
 ) -> Result<(), AllocError>
-    ensures { OnOk result (scope_of scope.new ≡ w.after_initializer (listed fault)
+    ensures { OnOk result (scope_of scope.new ≡ declarations.after_initializer (listed fault)
         (name_of name.now) (meaning_of untyped) (scope_of scope.old)) }
 {
     match fault {

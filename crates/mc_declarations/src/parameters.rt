@@ -2,11 +2,11 @@
 ghost use Rattle.std.specs.Prelude.{◌≡◌, ◌++◌, [], ◌∷◌, IfOk, OnOk, Some, map, option_map};
 ghost use Rattle.mc_tree.specs.Views.{name_of, tag_of};
 ghost use Rattle.mc_typed.specs.Layout as sizes;
-ghost use Rattle.mc_typing.specs.Declarators as d;
+ghost use Rattle.mc_typing.specs.Declarators as declarator_rules;
 ghost use Rattle.mc_faults.specs.Faults.{least_of, unless_faulty};
 ghost use Rattle.mc_typing.specs.Limits as limit;
-ghost use Rattle.mc_typing.specs.Scopes as s;
-ghost use Rattle.mc_typing.specs.Types as t;
+ghost use Rattle.mc_typing.specs.Scopes as scopes;
+ghost use Rattle.mc_typing.specs.Types as types;
 ghost use Rattle.mc_scopes.specs.Prototypes.{counted_of, cut_to};
 ghost use Rattle.mc_scopes.specs.Types.{kind_of, type_of};
 ghost use Rattle.mc_scopes.specs.Views.{meaning_of, scope_of, structure_of};
@@ -39,7 +39,7 @@ pub struct Parameters {
 
 /// No parameters. Takes no memory.
 pub fn no_parameters(alloc: Global) -> Parameters
-    ensures { (s : s.Scope) → listed_parameters result s ≡ d.listed_none s }
+    ensures { (s : scopes.Scope) → listed_parameters result s ≡ declarator_rules.listed_none s }
 {
     Parameters {
         fault: None,
@@ -49,7 +49,7 @@ pub fn no_parameters(alloc: Global) -> Parameters
 
 /// Where a parameter starts for its faults: at its name, where it has one.
 pub fn name_start(name: &Option<Identifier<'_>>, span: Span) -> u32
-    ensures { result ≡ d.name_start (tag_of name.now) span }
+    ensures { result ≡ declarator_rules.name_start (tag_of name.now) span }
 {
     match name {
         Some(name) => name.span.start,
@@ -61,7 +61,7 @@ pub fn name_start(name: &Option<Identifier<'_>>, span: Span) -> u32
 
 // An array loses its first length (C17 6.7.6.3p7).
 fn adjusted(of: CType) -> ParameterKind
-    ensures { kind_of result ≡ d.adjusted (type_of of) (type_of of).lengths }
+    ensures { kind_of result ≡ declarator_rules.adjusted (type_of of) (type_of of).lengths }
 {
     if of.lengths.is_empty() {
         ParameterKind::Value(of.base)
@@ -75,7 +75,8 @@ fn parameter_kind(
     of: &Option<CType>,
 ) -> Result<Option<ParameterKind>, AllocError>
     ensures { IfOk result (λ r. option_map kind_of r
-        ≡ d.parameter_kind (map structure_of structures.now) (option_map type_of of.now)) }
+        ≡ declarator_rules.parameter_kind (map structure_of structures.now)
+        (option_map type_of of.now)) }
 {
     match of {
         Some(of) => {
@@ -96,7 +97,7 @@ fn parameter_kind(
 
 fn parameter_name_fault(scope: &Scope<'_>, name: &Option<Identifier<'_>>) -> Option<Fault>
     ensures { result
-        ≡ least_of (d.parameter_name_faults (tag_of name.now) (scope_of scope.now)) }
+        ≡ least_of (declarator_rules.parameter_name_faults (tag_of name.now) (scope_of scope.now)) }
 {
     match name {
         Some(name) => redeclared_fault(scope, name),
@@ -116,7 +117,8 @@ fn parameter_limit_fault(
     kind: &Option<ParameterKind>,
     at: u32,
 ) -> Option<Fault>
-    ensures { result ≡ least_of (d.parameter_limit_faults (map structure_of structures.now)
+    ensures { result ≡ least_of (declarator_rules.parameter_limit_faults
+        (map structure_of structures.now)
         (option_map kind_of kind.now) at) }
 {
     match kind {
@@ -143,8 +145,9 @@ fn parameter_fault(
     kind: &Option<ParameterKind>,
 ) -> Option<Fault>
     requires { option_map kind_of kind.now
-        ≡ d.parameter_kind (scope_of scope.now).structures (option_map type_of of.now) }
-    ensures { result ≡ least_of (listed typed ++ (listed before ++ d.parameter_faults
+        ≡ declarator_rules.parameter_kind (scope_of scope.now).structures
+        (option_map type_of of.now) }
+    ensures { result ≡ least_of (listed typed ++ (listed before ++ declarator_rules.parameter_faults
         (tag_of name.now) at (written lengths.now) (option_map type_of base.now)
         (option_map type_of of.now) (scope_of scope.now))) }
 {
@@ -163,7 +166,8 @@ fn parameter_meaning(
     of: &Option<CType>,
     kind: &Option<ParameterKind>,
 ) -> Result<Meaning, AllocError>
-    ensures { IfOk result (λ r. meaning_of r ≡ d.parameter_meaning (option_map type_of of.now)
+    ensures { IfOk result (λ r. meaning_of r
+        ≡ declarator_rules.parameter_meaning (option_map type_of of.now)
         (option_map kind_of kind.now) (scope_of scope.now)) }
 {
     match kind {
@@ -183,7 +187,7 @@ fn parameter_meaning(
 
 fn automatic_meaning(scope: &Scope<'_>, of: &Option<CType>) -> Result<Meaning, AllocError>
     ensures { IfOk result (λ r. meaning_of r
-        ≡ s.Automatic (s.next_slot (scope_of scope.now)) (option_map type_of of.now)) }
+        ≡ scopes.Automatic (scopes.next_slot (scope_of scope.now)) (option_map type_of of.now)) }
 {
     let Ok(slot) = scope.next_slot() else {
         return Err(AllocError);
@@ -199,7 +203,8 @@ fn declare_parameter_name<'a>(
     name: &Option<Identifier<'a>>,
     meaning: Meaning,
 ) -> Result<(), AllocError>
-    ensures { OnOk result (scope_of scope.new ≡ d.with_parameter_name (tag_of name.now)
+    ensures { OnOk result (scope_of scope.new
+        ≡ declarator_rules.with_parameter_name (tag_of name.now)
         (meaning_of meaning) (scope_of scope.old)) }
 {
     match name {
@@ -218,9 +223,9 @@ pub(crate) fn add_object_of(
     of: &CType,
 ) -> Result<u32, AllocError>
     ensures cells { IfOk result (λ n. n ≡ sizes.cells
-        (t.layout_of (scope_of scope.old).structures (type_of of.now))) }
-    ensures scope { IfOk result (λ _. scope_of scope.new ≡ s.with_object
-        (t.layout_of (scope_of scope.old).structures (type_of of.now)) (scope_of scope.old)) }
+        (types.layout_of (scope_of scope.old).structures (type_of of.now))) }
+    ensures scope { IfOk result (λ _. scope_of scope.new ≡ scopes.with_object
+        (types.layout_of (scope_of scope.old).structures (type_of of.now)) (scope_of scope.old)) }
 {
     let Ok(count) = cells(&scope.structures, of) else {
         return Err(AllocError);
@@ -235,8 +240,8 @@ pub(crate) fn add_object_of(
 }
 
 fn add_value(alloc: Global, scope: &mut Scope<'_>, of: &Option<CType>) -> Result<(), AllocError>
-    ensures { (b : t.Base) → OnOk result (scope_of scope.new ≡ d.with_parameter
-        (option_map type_of of.now) (Some (t.ByValue b)) (scope_of scope.old)) }
+    ensures { (b : types.Base) → OnOk result (scope_of scope.new ≡ declarator_rules.with_parameter
+        (option_map type_of of.now) (Some (types.ByValue b)) (scope_of scope.old)) }
 {
     match of {
         Some(of) => match add_object_of(alloc, scope, of) {
@@ -254,7 +259,8 @@ fn add_parameter(
     of: &Option<CType>,
     kind: &Option<ParameterKind>,
 ) -> Result<(), AllocError>
-    ensures { OnOk result (scope_of scope.new ≡ d.with_parameter (option_map type_of of.now)
+    ensures { OnOk result (scope_of scope.new
+        ≡ declarator_rules.with_parameter (option_map type_of of.now)
         (option_map kind_of kind.now) (scope_of scope.old)) }
 {
     match kind {
@@ -273,7 +279,8 @@ fn declare_parameter<'a>(
     of: &Option<CType>,
     kind: &Option<ParameterKind>,
 ) -> Result<(), AllocError>
-    ensures { OnOk result (scope_of scope.new ≡ d.declared_parameter (tag_of name.now)
+    ensures { OnOk result (scope_of scope.new
+        ≡ declarator_rules.declared_parameter (tag_of name.now)
         (option_map type_of of.now) (option_map kind_of kind.now) (scope_of scope.old)) }
 {
     let Ok(meaning) = parameter_meaning(scope, of, kind) else {
@@ -317,7 +324,8 @@ pub fn parameter<'a>(
     given: Judged<Vec<u32>>,
 ) -> Result<Parameters, AllocError>
     ensures { IfOk result (λ r. listed_parameters r (scope_of scope.new)
-        ≡ squeezed_listed (d.parameter_listed (tag_of name.now) at (written lengths.now)
+        ≡ squeezed_listed (declarator_rules.parameter_listed (tag_of name.now) at
+        (written lengths.now)
         (option_map type_of base.now) (listed fault)
         (judged_of lengths_in given (cut_to (counted_of before) (scope_of scope.old))))) }
 {
@@ -358,8 +366,9 @@ pub fn parameter<'a>(
 /// Parameters, and more after them.
 #[tactic(auto, using(crate::proofs::Lists::mapped_joined))]
 pub fn join_parameters(list: Parameters, more: Parameters) -> Result<Parameters, AllocError>
-    ensures { IfOk result (λ r. (s u : s.Scope) → listed_parameters r u
-        ≡ squeezed_listed (d.joined (listed_parameters list s) (listed_parameters more u))) }
+    ensures { IfOk result (λ r. (s u : scopes.Scope) → listed_parameters r u
+        ≡ squeezed_listed (declarator_rules.joined (listed_parameters list s)
+        (listed_parameters more u))) }
 {
     let fault = first_fault(list.fault, more.fault);
     match joined(list.kinds, more.kinds) {

@@ -1,10 +1,10 @@
 //! Types of functions (C17 6.7.6.3).
 ghost use Rattle.std.specs.Prelude.{◌≡◌, ◌||◌, ◌&&◌, IfOk, Some, map, option_map};
 ghost use Rattle.mc_tree.specs.Views.{name_of};
-ghost use Rattle.mc_typing.specs.Declarations as w;
+ghost use Rattle.mc_typing.specs.Declarations as declarations;
 ghost use Rattle.mc_faults.specs.Faults.{least_of};
-ghost use Rattle.mc_typing.specs.Scopes as s;
-ghost use Rattle.mc_typing.specs.Types as t;
+ghost use Rattle.mc_typing.specs.Scopes as scopes;
+ghost use Rattle.mc_typing.specs.Types as type_rules;
 ghost use Rattle.mc_value.specs.declared.int_type.IntType.TheVariants as int;
 ghost use Rattle.mc_scopes.specs.Types.{base_of, kind_of, type_of};
 ghost use Rattle.mc_scopes.specs.Types as types;
@@ -22,7 +22,7 @@ use std::sync::Arc;
 
 /// What a function gives, where its type is no array.
 pub fn result_of(gives: &Option<CType>) -> Option<Base>
-    ensures { option_map base_of result ≡ w.result_of (option_map type_of gives.now) }
+    ensures { option_map base_of result ≡ declarations.result_of (option_map type_of gives.now) }
 {
     match gives {
         Some(of) => {
@@ -37,7 +37,7 @@ pub fn result_of(gives: &Option<CType>) -> Option<Base>
 }
 
 fn is_array_type(of: &Option<CType>) -> bool
-    ensures { result ≡ w.is_array_type (option_map type_of of.now) }
+    ensures { result ≡ declarations.is_array_type (option_map type_of of.now) }
 {
     match of {
         Some(of) => !of.lengths.is_empty(),
@@ -50,7 +50,8 @@ fn all_of(
     alloc: Global,
     kinds: &[Option<ParameterKind>],
 ) -> Result<Option<Vec<ParameterKind>>, AllocError>
-    ensures { IfOk result (λ r. option_map kinds_of r ≡ w.all_of (map kind_found kinds.now)) }
+    ensures { IfOk result (λ r. option_map kinds_of r
+        ≡ declarations.all_of (map kind_found kinds.now)) }
 {
     let mut all = Vec::new(alloc);
     let mut left = kinds;
@@ -82,7 +83,7 @@ fn signature_of(
     parameters: Option<Vec<ParameterKind>>,
 ) -> Result<Option<Arc<Signature>>, AllocError>
     ensures { IfOk result (λ r. signature_in r
-        ≡ w.signature_of (option_map base_of gives) (option_map kinds_of parameters)) }
+        ≡ declarations.signature_of (option_map base_of gives) (option_map kinds_of parameters)) }
 {
     match gives {
         Some(gives) => match parameters {
@@ -110,8 +111,8 @@ pub(crate) fn signature(
     kinds: &[Option<ParameterKind>],
 ) -> Result<Option<Arc<Signature>>, AllocError>
     ensures { IfOk result (λ r. signature_in r
-        ≡ w.signature_of (w.result_of (option_map type_of gives.now))
-        (w.all_of (map kind_found kinds.now))) }
+        ≡ declarations.signature_of (declarations.result_of (option_map type_of gives.now))
+        (declarations.all_of (map kind_found kinds.now))) }
 {
     match all_of(alloc, kinds) {
         Ok(parameters) => signature_of(alloc, result_of(gives), parameters),
@@ -122,7 +123,8 @@ pub(crate) fn signature(
 // ---- faults
 
 fn differs(one: &Signature, other: &Option<Arc<Signature>>) -> bool
-    ensures { result ≡ w.differs (Some (types.signature_of one.now)) (signature_in other.now) }
+    ensures { result ≡ declarations.differs (Some (types.signature_of one.now))
+        (signature_in other.now) }
 {
     match other {
         Some(other) => !one.same_signature(other),
@@ -131,7 +133,7 @@ fn differs(one: &Signature, other: &Option<Arc<Signature>>) -> bool
 }
 
 fn differs_from(one: &Option<Arc<Signature>>, other: &Option<Arc<Signature>>) -> bool
-    ensures { result ≡ w.differs (signature_in one.now) (signature_in other.now) }
+    ensures { result ≡ declarations.differs (signature_in one.now) (signature_in other.now) }
 {
     match one {
         Some(one) => differs(one, other),
@@ -145,7 +147,7 @@ pub(crate) fn repeated_fault(
     signature: &Option<Arc<Signature>>,
     at: u32,
 ) -> Option<Fault>
-    ensures { result ≡ least_of (w.repeated_faults (meaning_of_earlier earlier.now)
+    ensures { result ≡ least_of (declarations.repeated_faults (meaning_of_earlier earlier.now)
         (signature_in signature.now) at) }
 {
     match earlier {
@@ -164,7 +166,8 @@ pub(crate) fn repeated_fault(
 // ---- int mcdc_in(void); void mcdc_out(int);
 
 fn takes_int(kind: &ParameterKind) -> bool
-    ensures { result ≡ t.same_parameter (t.ByValue (t.Integer int.Int)) (kind_of kind.now) }
+    ensures { result ≡ type_rules.same_parameter (type_rules.ByValue (type_rules.Integer int.Int))
+        (kind_of kind.now) }
 {
     match kind {
         ParameterKind::Value(base) => same_base(Base::Integer(IntType::Int), *base),
@@ -174,7 +177,8 @@ fn takes_int(kind: &ParameterKind) -> bool
 
 fn take_one_int(parameters: &[ParameterKind]) -> bool
     ensures { result
-        ≡ t.same_parameters w.output_signature.parameters (map kind_of parameters.now) }
+        ≡ type_rules.same_parameters declarations.output_signature.parameters
+        (map kind_of parameters.now) }
 {
     match parameters {
         [one, later @ ..] => {
@@ -187,7 +191,8 @@ fn take_one_int(parameters: &[ParameterKind]) -> bool
 }
 
 fn is_of_input(of: &Signature) -> bool
-    ensures { result ≡ t.same_signature w.input_signature (types.signature_of of.now) }
+    ensures { result ≡ type_rules.same_signature declarations.input_signature
+        (types.signature_of of.now) }
 {
     let gives = same_base(Base::Integer(IntType::Int), of.result);
     let takes = of.parameters.is_empty();
@@ -195,7 +200,8 @@ fn is_of_input(of: &Signature) -> bool
 }
 
 fn is_of_output(of: &Signature) -> bool
-    ensures { result ≡ t.same_signature w.output_signature (types.signature_of of.now) }
+    ensures { result ≡ type_rules.same_signature declarations.output_signature
+        (types.signature_of of.now) }
 {
     let gives = same_base(Base::Void, of.result);
     let takes = take_one_int(&of.parameters);
@@ -203,7 +209,8 @@ fn is_of_output(of: &Signature) -> bool
 }
 
 fn differs_from_input(signature: &Option<Arc<Signature>>) -> bool
-    ensures { result ≡ w.differs (Some w.input_signature) (signature_in signature.now) }
+    ensures { result ≡ declarations.differs (Some declarations.input_signature)
+        (signature_in signature.now) }
 {
     match signature {
         Some(of) => !is_of_input(of),
@@ -212,7 +219,8 @@ fn differs_from_input(signature: &Option<Arc<Signature>>) -> bool
 }
 
 fn differs_from_output(signature: &Option<Arc<Signature>>) -> bool
-    ensures { result ≡ w.differs (Some w.output_signature) (signature_in signature.now) }
+    ensures { result ≡ declarations.differs (Some declarations.output_signature)
+        (signature_in signature.now) }
 {
     match signature {
         Some(of) => !is_of_output(of),
@@ -222,10 +230,11 @@ fn differs_from_output(signature: &Option<Arc<Signature>>) -> bool
 
 // Whether an external function has another type than its own.
 fn is_mistyped(name: &Identifier<'_>, signature: &Option<Arc<Signature>>) -> bool
-    ensures { result ≡ ((s.is_input (name_of name.now)
-        && w.differs (Some w.input_signature) (signature_in signature.now))
-        || (s.is_output (name_of name.now)
-        && w.differs (Some w.output_signature) (signature_in signature.now))) }
+    ensures { result ≡ ((scopes.is_input (name_of name.now)
+        && declarations.differs (Some declarations.input_signature) (signature_in signature.now))
+        || (scopes.is_output (name_of name.now)
+        && declarations.differs (Some declarations.output_signature)
+        (signature_in signature.now))) }
 {
     let input = is_input(name);
     let other_input = differs_from_input(signature);
@@ -236,7 +245,7 @@ fn is_mistyped(name: &Identifier<'_>, signature: &Option<Arc<Signature>>) -> boo
 
 fn external_fault(name: &Identifier<'_>, signature: &Option<Arc<Signature>>) -> Option<Fault>
     ensures { result
-        ≡ least_of (w.external_faults (name_of name.now) (signature_in signature.now)) }
+        ≡ least_of (declarations.external_faults (name_of name.now) (signature_in signature.now)) }
 {
     fault_where(
         is_mistyped(name, signature),
@@ -253,7 +262,7 @@ pub(crate) fn function_fault(
     count: usize,
     signature: &Option<Arc<Signature>>,
 ) -> Option<Fault>
-    ensures { result ≡ least_of (w.function_faults (name_of name.now)
+    ensures { result ≡ least_of (declarations.function_faults (name_of name.now)
         (option_map type_of gives.now) count (signature_in signature.now)) }
 {
     let at = name.span.start;

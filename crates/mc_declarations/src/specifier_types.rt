@@ -1,10 +1,10 @@
 //! Types of declaration specifiers (C17 6.7.2).
 ghost use Rattle.std.specs.Prelude.{◌≡◌, [], None, map, option_map};
 ghost use Rattle.mc_tree.specs.Views.{specifier_of, specifiers_from};
-ghost use Rattle.mc_typing.specs.Judgement as j;
-ghost use Rattle.mc_typing.specs.Scopes as s;
-ghost use Rattle.mc_typing.specs.Types as t;
-ghost use Rattle.mc_typing.specs.Values as v;
+ghost use Rattle.mc_typing.specs.Judgement as judgement;
+ghost use Rattle.mc_typing.specs.Scopes as scopes;
+ghost use Rattle.mc_typing.specs.Types as types;
+ghost use Rattle.mc_typing.specs.Values as values;
 ghost use Rattle.mc_scopes.specs.Types.{base_of, type_of};
 ghost use Rattle.mc_scopes.specs.Found.{judged_of};
 ghost use Rattle.mc_scopes.specs.steps.Squeezed.{squeezed_part};
@@ -18,7 +18,7 @@ use mc_value::IntType;
 use std::alloc::Global;
 
 fn is_word(word: SpecifierWord, specifier: &Specifier<'_>) -> bool
-    ensures { result ≡ t.is_word word (specifier_of specifier.now) }
+    ensures { result ≡ types.is_word word (specifier_of specifier.now) }
 {
     match specifier {
         Specifier::Word { word: other, .. } => *other == word,
@@ -27,7 +27,7 @@ fn is_word(word: SpecifierWord, specifier: &Specifier<'_>) -> bool
 }
 
 fn count(word: SpecifierWord, specifiers: &[Specifier<'_>]) -> usize
-    ensures { result ≡ t.count word (specifiers_from (map specifier_of specifiers.now)) }
+    ensures { result ≡ types.count word (specifiers_from (map specifier_of specifiers.now)) }
 {
     let mut count = 0;
     let mut left = specifiers;
@@ -42,14 +42,14 @@ fn count(word: SpecifierWord, specifiers: &[Specifier<'_>]) -> usize
 
 /// Whether a word stands among specifiers.
 pub fn has(word: SpecifierWord, specifiers: &[Specifier<'_>]) -> bool
-    ensures { result ≡ t.has word (specifiers_from (map specifier_of specifiers.now)) }
+    ensures { result ≡ types.has word (specifiers_from (map specifier_of specifiers.now)) }
 {
     0 < count(word, specifiers)
 }
 
 fn signed_or(signed: IntType, unsigned: IntType, specifiers: &[Specifier<'_>]) -> IntType
     ensures { result
-        ≡ t.signed_or signed unsigned (specifiers_from (map specifier_of specifiers.now)) }
+        ≡ types.signed_or signed unsigned (specifiers_from (map specifier_of specifiers.now)) }
 {
     if has(SpecifierWord::Unsigned, specifiers) {
         unsigned
@@ -59,7 +59,7 @@ fn signed_or(signed: IntType, unsigned: IntType, specifiers: &[Specifier<'_>]) -
 }
 
 fn char_of_words(specifiers: &[Specifier<'_>]) -> IntType
-    ensures { result ≡ t.char_of_words (specifiers_from (map specifier_of specifiers.now)) }
+    ensures { result ≡ types.char_of_words (specifiers_from (map specifier_of specifiers.now)) }
 {
     if has(SpecifierWord::Signed, specifiers) {
         IntType::SChar
@@ -70,7 +70,7 @@ fn char_of_words(specifiers: &[Specifier<'_>]) -> IntType
 
 /// The integer type of a set of words (C17 6.7.2p2).
 fn integer_of_words(specifiers: &[Specifier<'_>]) -> Option<IntType>
-    ensures { result ≡ t.integer_of_words (specifiers_from (map specifier_of specifiers.now)) }
+    ensures { result ≡ types.integer_of_words (specifiers_from (map specifier_of specifiers.now)) }
 {
     if has(SpecifierWord::Bool, specifiers) {
         return Some(IntType::Bool);
@@ -98,7 +98,7 @@ fn integer_of_words(specifiers: &[Specifier<'_>]) -> Option<IntType>
 
 fn base_of_words(specifiers: &[Specifier<'_>]) -> Option<Base>
     ensures { option_map base_of result
-        ≡ t.base_of_words (specifiers_from (map specifier_of specifiers.now)) }
+        ≡ types.base_of_words (specifiers_from (map specifier_of specifiers.now)) }
 {
     if has(SpecifierWord::Void, specifiers) {
         return Some(Base::Void);
@@ -110,7 +110,7 @@ fn base_of_words(specifiers: &[Specifier<'_>]) -> Option<Base>
 }
 
 fn any_is_no_word(specifiers: &[Specifier<'_>]) -> bool
-    ensures { result ≡ t.any_is_no_word (specifiers_from (map specifier_of specifiers.now)) }
+    ensures { result ≡ types.any_is_no_word (specifiers_from (map specifier_of specifiers.now)) }
 {
     let mut found = false;
     let mut left = specifiers;
@@ -125,14 +125,14 @@ fn any_is_no_word(specifiers: &[Specifier<'_>]) -> bool
 
 /// Whether they have a type (C17 6.7.2p2).
 fn has_type(specifiers: &[Specifier<'_>]) -> bool
-    ensures { result ≡ t.has_type (specifiers_from (map specifier_of specifiers.now)) }
+    ensures { result ≡ types.has_type (specifiers_from (map specifier_of specifiers.now)) }
 {
     base_of_words(specifiers).is_some() || any_is_no_word(specifiers)
 }
 
 fn type_of_words_or(alloc: Global, other: Option<CType>, base: Option<Base>) -> Option<CType>
     ensures { option_map type_of result
-        ≡ t.type_of_words_or (option_map type_of other) (option_map base_of base) }
+        ≡ types.type_of_words_or (option_map type_of other) (option_map base_of base) }
 {
     match base {
         None => other,
@@ -149,7 +149,7 @@ fn type_of_words_or(alloc: Global, other: Option<CType>, base: Option<Base>) -> 
 
 fn qualified(is_const: bool, of: Option<CType>) -> Option<CType>
     ensures { option_map type_of result
-        ≡ option_map (t.qualified is_const) (option_map type_of of) }
+        ≡ option_map (types.qualified is_const) (option_map type_of of) }
 {
     match of {
         Some(of) => Some(of.qualified(is_const)),
@@ -164,8 +164,8 @@ pub fn typed_by(
     specifiers: &[Specifier<'_>],
     found: Judged<CType>,
 ) -> Judged<CType>
-    ensures { (s : s.Scope) → judged_of type_of result s ≡ squeezed_part
-        (j.typed_by at (specifiers_from (map specifier_of specifiers.now))
+    ensures { (s : scopes.Scope) → judged_of type_of result s ≡ squeezed_part
+        (judgement.typed_by at (specifiers_from (map specifier_of specifiers.now))
         (judged_of type_of found s)) }
 {
     let fault = or_fault(found.fault, !has_type(specifiers), FaultKind::Mismatch, at);
@@ -176,7 +176,7 @@ pub fn typed_by(
 
 /// A specifier that is a word has no type of its own.
 pub fn no_specifier() -> Judged<CType>
-    ensures { (s : s.Scope) → judged_of type_of result s ≡ v.judged [] None s }
+    ensures { (s : scopes.Scope) → judged_of type_of result s ≡ values.judged [] None s }
 {
     Judged {
         fault: None,
@@ -186,7 +186,7 @@ pub fn no_specifier() -> Judged<CType>
 
 fn one_of(one: Option<CType>, other: Option<CType>) -> Option<CType>
     ensures { option_map type_of result
-        ≡ j.one_of (option_map type_of one) (option_map type_of other) }
+        ≡ judgement.one_of (option_map type_of one) (option_map type_of other) }
 {
     match one {
         Some(of) => {
@@ -199,8 +199,8 @@ fn one_of(one: Option<CType>, other: Option<CType>) -> Option<CType>
 
 /// Specifiers, and more after them.
 pub fn specifiers(one: Judged<CType>, more: Judged<CType>) -> Judged<CType>
-    ensures { (s : s.Scope) → judged_of type_of result s ≡ squeezed_part
-        (j.specifiers_judged (judged_of type_of one s) (judged_of type_of more s)) }
+    ensures { (s : scopes.Scope) → judged_of type_of result s ≡ squeezed_part
+        (judgement.specifiers_judged (judged_of type_of one s) (judged_of type_of more s)) }
 {
     Judged {
         fault: of_two(one.fault, more.fault),

@@ -4,12 +4,12 @@ ghost use Rattle.mc_tree.specs.Views.{name_of};
 ghost use Rattle.mc_limits.specs.Limits.{most_static_cells};
 ghost use Rattle.mc_typed.specs.Layout as sizes;
 ghost use Rattle.mc_faults.specs.declared.fault.FaultKind.TheVariants.{Limit};
-ghost use Rattle.mc_typing.specs.Declarations as w;
+ghost use Rattle.mc_typing.specs.Declarations as declarations;
 ghost use Rattle.mc_faults.specs.Faults.{fault_if};
 ghost use Rattle.mc_typing.specs.Limits as limit;
-ghost use Rattle.mc_typing.specs.Scopes as s;
-ghost use Rattle.mc_typing.specs.Types as t;
-ghost use Rattle.mc_typing.specs.Values as v;
+ghost use Rattle.mc_typing.specs.Scopes as scopes;
+ghost use Rattle.mc_typing.specs.Types as types;
+ghost use Rattle.mc_typing.specs.Values as values;
 ghost use Rattle.mc_scopes.specs.Types.{type_of};
 ghost use Rattle.mc_scopes.specs.Views.{scope_of};
 ghost use Rattle.mc_declarations.specs.Declarations.{optional_of, written};
@@ -79,7 +79,7 @@ fn initial_values(
     value: &Option<Initializer>,
 ) -> Result<Vec<i128>, AllocError>
     ensures { IfOk result (λ r. (u : sizes.ObjectType) → count ≡ sizes.cells u
-        → r.items ≡ w.initial_values u (optional_of value.now)) }
+        → r.items ≡ declarations.initial_values u (optional_of value.now)) }
 {
     match value {
         Some(value) => values_of(alloc, value),
@@ -95,10 +95,12 @@ fn add_static(
     count: u32,
     value: &Option<Initializer>,
 ) -> Result<(), AllocError>
-    requires { count ≡ sizes.cells (t.layout_of (scope_of scope.old).structures (type_of of.now)) }
-    ensures { OnOk result (scope_of scope.new ≡ s.with_static
-        (t.layout_of (scope_of scope.old).structures (type_of of.now))
-        (w.initial_values (t.layout_of (scope_of scope.old).structures (type_of of.now))
+    requires { count ≡ sizes.cells
+        (types.layout_of (scope_of scope.old).structures (type_of of.now)) }
+    ensures { OnOk result (scope_of scope.new ≡ scopes.with_static
+        (types.layout_of (scope_of scope.old).structures (type_of of.now))
+        (declarations.initial_values (types.layout_of (scope_of scope.old).structures
+        (type_of of.now))
         (optional_of value.now)) (scope_of scope.old)) }
 {
     let Ok(initial) = initial_values(alloc, count, value) else {
@@ -133,13 +135,13 @@ fn add_faultless<'a>(
     of: &CType,
     value: &Option<Initializer>,
 ) -> Result<Option<Fault>, AllocError>
-    ensures fault { IfOk result (λ r. listed r ≡ w.static_faults_with name.now.span.start
-        (Some (t.layout_of (scope_of scope.old).structures (type_of of.now)))
+    ensures fault { IfOk result (λ r. listed r ≡ declarations.static_faults_with name.now.span.start
+        (Some (types.layout_of (scope_of scope.old).structures (type_of of.now)))
         (Some (optional_of value.now)) (scope_of scope.old)) }
-    ensures scope { IfOk result (λ r. scope_of scope.new ≡ w.static_scope
-        (Some (t.layout_of (scope_of scope.old).structures (type_of of.now)))
+    ensures scope { IfOk result (λ r. scope_of scope.new ≡ declarations.static_scope
+        (Some (types.layout_of (scope_of scope.old).structures (type_of of.now)))
         (Some (optional_of value.now))
-        (w.after_initializer (listed r) (name_of name.now) (s.Stored slot None)
+        (declarations.after_initializer (listed r) (name_of name.now) (scopes.Stored slot None)
         (scope_of scope.old))) }
 {
     let Ok(count) = cells(&scope.structures, of) else {
@@ -163,8 +165,9 @@ fn end_uncounted<'a>(
     inner: Option<Fault>,
 ) -> Result<Judged<Vec<Declarator>>, AllocError>
     ensures judged { IfOk result (λ r. judged_of declarators_of r (scope_of scope.new)
-        ≡ squeezed_part (v.judged (listed stored.fault ++ (listed inner ++ [])) None
-        (w.after_initializer (listed inner ++ []) (name_of name.now) (s.Stored stored.slot None)
+        ≡ squeezed_part (values.judged (listed stored.fault ++ (listed inner ++ [])) None
+        (declarations.after_initializer (listed inner ++ []) (name_of name.now)
+        (scopes.Stored stored.slot None)
         (scope_of scope.old)))) }
 {
     let slot = stored.slot;
@@ -187,10 +190,10 @@ fn end_counted<'a>(
     value: &Option<Initializer>,
 ) -> Result<Judged<Vec<Declarator>>, AllocError>
     requires { stored.own ≡ None }
-    ensures { IfOk result (λ r. (u : s.Scope) → judged_of declarators_of r (scope_of scope.new)
+    ensures { IfOk result (λ r. (u : scopes.Scope) → judged_of declarators_of r (scope_of scope.new)
         ≡ squeezed_part (static_ended (stored_of stored u) (name_of name.now)
         (Some (type_of of.now))
-        (v.judged [] (Some (optional_of value.now)) (scope_of scope.old)))) }
+        (values.judged [] (Some (optional_of value.now)) (scope_of scope.old)))) }
 {
     match add_faultless(alloc, scope, name, stored.slot, of, value) {
         Ok(sum) => Ok(Judged {
@@ -210,10 +213,10 @@ fn end_faultless<'a>(
     stored: Stored,
     value: &Option<Option<Initializer>>,
 ) -> Result<Judged<Vec<Declarator>>, AllocError>
-    ensures { IfOk result (λ r. (u : s.Scope) → judged_of declarators_of r (scope_of scope.new)
+    ensures { IfOk result (λ r. (u : scopes.Scope) → judged_of declarators_of r (scope_of scope.new)
         ≡ squeezed_part (static_ended (stored_of stored u) (name_of name.now)
         (option_map type_of of.now)
-        (v.judged [] (option_map optional_of value.now) (scope_of scope.old)))) }
+        (values.judged [] (option_map optional_of value.now) (scope_of scope.old)))) }
 {
     match stored.own {
         Some(_) => end_uncounted(scope, name, stored, None),
@@ -237,10 +240,10 @@ fn end_stored<'a>(
     inner: Option<Fault>,
     value: &Option<Option<Initializer>>,
 ) -> Result<Judged<Vec<Declarator>>, AllocError>
-    ensures { IfOk result (λ r. (u : s.Scope) → judged_of declarators_of r (scope_of scope.new)
+    ensures { IfOk result (λ r. (u : scopes.Scope) → judged_of declarators_of r (scope_of scope.new)
         ≡ squeezed_part (static_ended (stored_of stored u) (name_of name.now)
         (option_map type_of of.now)
-        (v.judged (listed inner) (option_map optional_of value.now) (scope_of scope.old)))) }
+        (values.judged (listed inner) (option_map optional_of value.now) (scope_of scope.old)))) }
 {
     match inner {
         Some(_) => match stored.own {
@@ -260,7 +263,7 @@ pub fn end_static<'a>(
     stored: Stored,
     value: Judged<Option<Initializer>>,
 ) -> Result<Judged<Vec<Declarator>>, AllocError>
-    ensures { IfOk result (λ r. (u : s.Scope) → judged_of declarators_of r (scope_of scope.new)
+    ensures { IfOk result (λ r. (u : scopes.Scope) → judged_of declarators_of r (scope_of scope.new)
         ≡ squeezed_part (static_ended (stored_of stored u) (name_of name.now)
         (option_map type_of of.now) (judged_of optional_of value (scope_of scope.old)))) }
 {

@@ -3,10 +3,10 @@ ghost use Rattle.std.specs.Prelude.{◌≡◌, ◌++◌, [], map, Some, None, is
 ghost use Rattle.mc_tree.specs.Units as units;
 ghost use Rattle.mc_tree.specs.Views.{specifier_of, specifiers_from};
 ghost use Rattle.mc_typed.specs.Views.{initializer_of};
-ghost use Rattle.mc_typing.specs.Declarations as w;
-ghost use Rattle.mc_typing.specs.Judgement as j;
-ghost use Rattle.mc_typing.specs.Scopes as s;
-ghost use Rattle.mc_typing.specs.Values as v;
+ghost use Rattle.mc_typing.specs.Declarations as declarations;
+ghost use Rattle.mc_typing.specs.Judgement as judgement;
+ghost use Rattle.mc_typing.specs.Scopes as scopes;
+ghost use Rattle.mc_typing.specs.Values as values;
 ghost use Rattle.mc_declarations.specs.Declarations.{is_structure_tag, optional_of, storage_from};
 ghost use Rattle.mc_declarations.specs.Halves.{optional_judged};
 ghost use Rattle.mc_scopes.specs.Statements.{declarators_of};
@@ -34,7 +34,7 @@ pub enum Storage {
 /// By the specifiers of a declaration, and whether it stands at file scope.
 pub fn storage_of(specifiers: &[Specifier<'_>], is_file: bool) -> Storage
     ensures { storage_from result
-        ≡ w.storage_of (specifiers_from (map specifier_of specifiers.now)) is_file }
+        ≡ declarations.storage_of (specifiers_from (map specifier_of specifiers.now)) is_file }
 {
     if has(SpecifierWord::Typedef, specifiers) {
         return Storage::Typedef;
@@ -61,7 +61,7 @@ pub(crate) fn has_initializer(value: Option<&mc_tree::Initializer<'_>>) -> bool
 
 // A list without items counts for nothing.
 fn at_least_one(count: usize) -> Option<u32>
-    ensures { result ≡ w.at_least_one count }
+    ensures { result ≡ declarations.at_least_one count }
 {
     if count == 0 {
         None
@@ -73,7 +73,7 @@ fn at_least_one(count: usize) -> Option<u32>
 /// The number of items of an initializer, where it is a list (C17 6.7.9p22).
 pub fn count_listed(value: Option<&mc_tree::Initializer<'_>>) -> Option<u32>
     ensures { result
-        ≡ w.count_listed (option_map units.initializer_of (option_copied value.entry)) }
+        ≡ declarations.count_listed (option_map units.initializer_of (option_copied value.entry)) }
 {
     match value {
         Some(value) => match value {
@@ -86,7 +86,7 @@ pub fn count_listed(value: Option<&mc_tree::Initializer<'_>>) -> Option<u32>
 
 /// No initializer.
 pub fn no_initializer() -> Judged<Option<Initializer>>
-    ensures { (s : s.Scope) → judged_of optional_of result s ≡ v.judged [] (Some None) s }
+    ensures { (s : scopes.Scope) → judged_of optional_of result s ≡ values.judged [] (Some None) s }
 {
     Judged {
         fault: None,
@@ -106,7 +106,7 @@ fn some_initializer(value: Option<Initializer>) -> Option<Option<Initializer>>
 
 /// An initializer that is there.
 pub fn optional_initializer(value: Judged<Initializer>) -> Judged<Option<Initializer>>
-    ensures { (s : s.Scope) → judged_of optional_of result s
+    ensures { (s : scopes.Scope) → judged_of optional_of result s
         ≡ optional_judged (judged_of initializer_of value s) }
 {
     Judged {
@@ -120,7 +120,7 @@ pub fn optional_initializer(value: Judged<Initializer>) -> Judged<Option<Initial
 /// Whether a declaration is a structure's tag alone (C17 6.7.2.3p7).
 #[tactic(auto, using(crate::proofs::Alone::tag_alone))]
 pub fn is_tag_alone(specifiers: &[Specifier<'_>], declarators: &[InitDeclarator<'_>]) -> bool
-    ensures { result ≡ w.is_tag_alone (specifiers_from (map specifier_of specifiers.now))
+    ensures { result ≡ declarations.is_tag_alone (specifiers_from (map specifier_of specifiers.now))
         (map units.init_declarator_of declarators.now) }
 {
     match specifiers {
@@ -149,7 +149,7 @@ fn is_structure_tag(specifier: &Specifier<'_>) -> bool
 
 // Whether a specifier declares a tag, or members of an enumeration.
 fn declares(specifier: &Specifier<'_>) -> bool
-    ensures { result ≡ w.declares (specifier_of specifier.now) }
+    ensures { result ≡ declarations.declares (specifier_of specifier.now) }
 {
     match specifier {
         Specifier::StructureTag { .. } => true,
@@ -162,7 +162,8 @@ fn declares(specifier: &Specifier<'_>) -> bool
 }
 
 fn any_declares(specifiers: &[Specifier<'_>]) -> bool
-    ensures { result ≡ w.any_declares (specifiers_from (map specifier_of specifiers.now)) }
+    ensures { result ≡ declarations.any_declares
+        (specifiers_from (map specifier_of specifiers.now)) }
 {
     let mut found = false;
     let mut left = specifiers;
@@ -181,7 +182,8 @@ pub fn empty_fault(
     declarators: &[InitDeclarator<'_>],
     at: u32,
 ) -> Option<Fault>
-    ensures { listed result ≡ w.empty_faults (specifiers_from (map specifier_of specifiers.now))
+    ensures { listed result ≡ declarations.empty_faults
+        (specifiers_from (map specifier_of specifiers.now))
         (map units.init_declarator_of declarators.now) at }
 {
     match declarators {
@@ -196,8 +198,8 @@ pub fn declaration(
     empty: Option<Fault>,
     declarators: Judged<Vec<Declarator>>,
 ) -> Judged<Vec<Declarator>>
-    ensures { (s : s.Scope) → judged_of declarators_of result s ≡ squeezed_part
-        (j.after (listed typed ++ listed empty) (judged_of declarators_of declarators s)) }
+    ensures { (s : scopes.Scope) → judged_of declarators_of result s ≡ squeezed_part
+        (judgement.after (listed typed ++ listed empty) (judged_of declarators_of declarators s)) }
 {
     let first = first_fault(typed, empty);
     Judged {

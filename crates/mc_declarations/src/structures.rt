@@ -3,10 +3,10 @@ ghost use Rattle.std.specs.Prelude.{◌≡◌, IfOk, Some, None, false, if◌the
 ghost use Rattle.mc_tree.specs.Tree.{Name};
 ghost use Rattle.mc_tree.specs.Views.{name_of, tag_of};
 ghost use Rattle.mc_faults.specs.declared.fault.FaultKind.TheVariants.{Redeclared};
-ghost use Rattle.mc_typing.specs.Declarators as d;
+ghost use Rattle.mc_typing.specs.Declarators as declarators;
 ghost use Rattle.mc_faults.specs.Faults.{fault, unless_faulty};
-ghost use Rattle.mc_typing.specs.Scopes as s;
-ghost use Rattle.mc_typing.specs.Types as t;
+ghost use Rattle.mc_typing.specs.Scopes as scopes;
+ghost use Rattle.mc_typing.specs.Types as types;
 ghost use Rattle.mc_scopes.specs.Listed.{listed_of};
 ghost use Rattle.mc_scopes.specs.Types.{type_of};
 ghost use Rattle.mc_scopes.specs.Views.{scope_of, structure_of};
@@ -32,7 +32,7 @@ pub struct Opened {
 
 fn open_anew<'a>(scope: &mut Scope<'a>, fault: Option<Fault>) -> Result<Opened, AllocError>
     ensures { IfOk result (λ r. opened_of r (scope_of scope.new)
-        ≡ d.opened_anew (listed fault) (scope_of scope.old)) }
+        ≡ declarators.opened_anew (listed fault) (scope_of scope.old)) }
 {
     let Ok(number) = next_structure(scope) else {
         return Err(AllocError);
@@ -49,7 +49,7 @@ fn open_with_tag<'a>(
     tag: &Identifier<'a>,
 ) -> Result<Opened, AllocError>
     ensures { IfOk result (λ r. opened_of r (scope_of scope.new)
-        ≡ d.opened_with_tag (listed fault) (name_of tag.now) (scope_of scope.old)) }
+        ≡ declarators.opened_with_tag (listed fault) (name_of tag.now) (scope_of scope.old)) }
 {
     let Ok(number) = next_structure(scope) else {
         return Err(AllocError);
@@ -73,9 +73,10 @@ fn declared_already(tag: &Identifier<'_>) -> Option<Fault>
 /// Whether the structure type with this number has had no list so far.
 #[tactic(auto, using(crate::proofs::Numbered::structure_at))]
 fn has_no_list(scope: &Scope<'_>, number: u32) -> bool
-    ensures { (tag : Name) (u : s.Scope) → d.opened_again tag number u
+    ensures { (tag : Name) (u : scopes.Scope) → declarators.opened_again tag number u
         (slice_get (scope_of scope.now).structures number)
-        ≡ d.opened_again tag number u (if result then Some (t.Incomplete false) else None) }
+        ≡ declarators.opened_again tag number u
+        (if result then Some (types.Incomplete false) else None) }
 {
     match scope.structures.get(number as usize) {
         Some(structure) => match structure {
@@ -93,7 +94,7 @@ fn open_again<'a>(
     number: u32,
 ) -> Result<Opened, AllocError>
     ensures { IfOk result (λ r. opened_of r (scope_of scope.new)
-        ≡ d.opened_again (name_of tag.now) number (scope_of scope.old)
+        ≡ declarators.opened_again (name_of tag.now) number (scope_of scope.old)
         (slice_get (scope_of scope.old).structures number)) }
 {
     if has_no_list(scope, number) {
@@ -112,7 +113,7 @@ fn open_again<'a>(
 
 fn open_tag<'a>(scope: &mut Scope<'a>, tag: &Identifier<'a>) -> Result<Opened, AllocError>
     ensures { IfOk result (λ r. opened_of r (scope_of scope.new)
-        ≡ d.opened (Some (name_of tag.now)) (scope_of scope.old)) }
+        ≡ declarators.opened (Some (name_of tag.now)) (scope_of scope.old)) }
 {
     match scope.tag_here(tag).copied() {
         None => open_with_tag(scope, None, tag),
@@ -127,7 +128,7 @@ pub fn open_structure<'a>(
     tag: &Option<Identifier<'a>>,
 ) -> Result<Opened, AllocError>
     ensures { IfOk result (λ r. opened_of r (scope_of scope.new)
-        ≡ d.opened (tag_of tag.now) (scope_of scope.old)) }
+        ≡ declarators.opened (tag_of tag.now) (scope_of scope.old)) }
 {
     match tag {
         Some(tag) => open_tag(scope, tag),
@@ -142,7 +143,7 @@ fn completed<'a>(
     members: Members<'a>,
 ) -> Result<Structure<'a>, AllocError>
     ensures { IfOk result (λ r. structure_of r
-        ≡ d.completed (listed fault) (map listed_of members.entry)) }
+        ≡ declarators.completed (listed fault) (map listed_of members.entry)) }
 {
     match fault {
         Some(_) => {
@@ -158,7 +159,7 @@ fn completed<'a>(
 
 fn completed_type(alloc: Global, fault: Option<Fault>, number: u32) -> Option<CType>
     ensures { option_map type_of result
-        ≡ unless_faulty (listed fault) (Some (t.plain (t.Tagged number))) }
+        ≡ unless_faulty (listed fault) (Some (types.plain (types.Tagged number))) }
 {
     match fault {
         Some(_) => None,
@@ -176,8 +177,8 @@ pub fn close_structure<'a>(
     fault: Option<Fault>,
     members: Members<'a>,
 ) -> Result<Judged<CType>, AllocError>
-    ensures { IfOk result (λ r. (u : s.Scope) → judged_of type_of r (scope_of scope.new)
-        ≡ squeezed_part (d.structure_judged (opened_of opened u)
+    ensures { IfOk result (λ r. (u : scopes.Scope) → judged_of type_of r (scope_of scope.new)
+        ≡ squeezed_part (declarators.structure_judged (opened_of opened u)
         (listed_members fault members.entry (scope_of scope.old)))) }
 {
     let number = opened.number;

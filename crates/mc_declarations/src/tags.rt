@@ -1,9 +1,9 @@
 //! Tags without a list (C17 6.7.2.3).
 ghost use Rattle.std.specs.Prelude.{◌≡◌, IfOk, Some, None, true, false, length, option_map};
 ghost use Rattle.mc_tree.specs.Views.{name_of};
-ghost use Rattle.mc_typing.specs.Declarators as d;
-ghost use Rattle.mc_typing.specs.Scopes as s;
-ghost use Rattle.mc_typing.specs.Types as t;
+ghost use Rattle.mc_typing.specs.Declarators as declarators;
+ghost use Rattle.mc_typing.specs.Scopes as scopes;
+ghost use Rattle.mc_typing.specs.Types as types;
 ghost use Rattle.mc_scopes.specs.Types.{base_of, type_of};
 ghost use Rattle.mc_scopes.specs.Views.{scope_of};
 ghost use Rattle.mc_scopes.specs.Found.{judged_of};
@@ -18,7 +18,7 @@ use std::alloc::{AllocError, Global};
 
 /// A type without `const` and without lengths. Takes no memory.
 pub fn plain(alloc: Global, base: Base) -> CType
-    ensures { type_of result ≡ t.plain (base_of base) }
+    ensures { type_of result ≡ types.plain (base_of base) }
 {
     CType {
         base,
@@ -48,7 +48,7 @@ pub(crate) fn faultless<A>(value: Option<A>) -> Judged<A>
 
 /// The structure type with this number, where its list has no fault.
 fn structure_type(alloc: Global, scope: &Scope<'_>, number: u32) -> Option<CType>
-    ensures { option_map type_of result ≡ d.structure_type number (scope_of scope.now) }
+    ensures { option_map type_of result ≡ declarators.structure_type number (scope_of scope.now) }
 {
     if is_faulty(&scope.structures, Base::Tagged(number)) {
         None
@@ -73,7 +73,7 @@ fn declare_structure<'a>(
     tag: &Identifier<'a>,
 ) -> Result<Judged<CType>, AllocError>
     ensures { IfOk result (λ r. judged_of type_of r (scope_of scope.new)
-        ≡ d.declared_tag (name_of tag.now) (scope_of scope.old) None) }
+        ≡ declarators.declared_tag (name_of tag.now) (scope_of scope.old) None) }
 {
     let Ok(number) = next_structure(scope) else {
         return Err(AllocError);
@@ -94,7 +94,7 @@ fn declared_tag<'a>(
     tag: &Identifier<'a>,
 ) -> Result<Judged<CType>, AllocError>
     ensures { IfOk result (λ r. judged_of type_of r (scope_of scope.new)
-        ≡ d.structure_tag true (name_of tag.now) tag.now.span (scope_of scope.old)) }
+        ≡ declarators.structure_tag true (name_of tag.now) tag.now.span (scope_of scope.old)) }
 {
     match scope.tag_here(tag).copied() {
         None => declare_structure(alloc, scope, tag),
@@ -113,7 +113,7 @@ fn used_structure_tag(
     span: Span,
 ) -> Judged<CType>
     ensures { judged_of type_of result (scope_of scope.now)
-        ≡ d.structure_tag false (name_of tag.now) span (scope_of scope.now) }
+        ≡ declarators.structure_tag false (name_of tag.now) span (scope_of scope.now) }
 {
     match scope.tag(tag).copied() {
         None => faulty(FaultKind::Undeclared, tag.span.start),
@@ -131,7 +131,7 @@ pub fn structure_tag<'a>(
     span: Span,
 ) -> Result<Judged<CType>, AllocError>
     ensures { IfOk result (λ r. judged_of type_of r (scope_of scope.new)
-        ≡ d.structure_tag alone (name_of tag.now) span (scope_of scope.old)) }
+        ≡ declarators.structure_tag alone (name_of tag.now) span (scope_of scope.old)) }
 {
     if alone {
         declared_tag(alloc, scope, tag)
@@ -147,9 +147,9 @@ pub fn enumeration_tag(
     tag: &Identifier<'_>,
     span: Span,
 ) -> Judged<CType>
-    ensures { judged_of type_of result (scope_of scope.now) ≡ d.used_enumeration_tag
+    ensures { judged_of type_of result (scope_of scope.now) ≡ declarators.used_enumeration_tag
         (name_of tag.now) span (scope_of scope.now)
-        (s.tag_of (name_of tag.now) (scope_of scope.now)) }
+        (scopes.tag_of (name_of tag.now) (scope_of scope.now)) }
 {
     match scope.tag(tag).copied() {
         None => faulty(FaultKind::Undeclared, tag.span.start),

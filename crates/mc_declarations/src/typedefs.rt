@@ -3,8 +3,8 @@ ghost use Rattle.std.specs.Prelude.{◌≡◌, IfOk, Some, option_map, option_an
 ghost use Rattle.mc_tree.specs.Tree.{Name};
 ghost use Rattle.mc_tree.specs.Units as units;
 ghost use Rattle.mc_tree.specs.Views.{name_of};
-ghost use Rattle.mc_typing.specs.Declarators as d;
-ghost use Rattle.mc_typing.specs.Scopes as s;
+ghost use Rattle.mc_typing.specs.Declarators as declarator_rules;
+ghost use Rattle.mc_typing.specs.Scopes as scopes;
 ghost use Rattle.mc_scopes.specs.Types.{type_of};
 ghost use Rattle.mc_scopes.specs.Views.{meaning_of, scope_of};
 ghost use Rattle.mc_declarations.specs.Declarations.{optional_of, written};
@@ -29,7 +29,7 @@ use std::alloc::{AllocError, Global};
 // A type that is used: none where its structure has a list with a fault.
 fn used_type(scope: &Scope<'_>, of: &CType) -> Result<Option<CType>, AllocError>
     ensures { IfOk result (λ r. option_map type_of r
-        ≡ d.used_type (scope_of scope.now) (type_of of.now)) }
+        ≡ declarator_rules.used_type (scope_of scope.now) (type_of of.now)) }
 {
     if is_faulty(&scope.structures, of.base) {
         Ok(None)
@@ -43,7 +43,8 @@ fn used_type(scope: &Scope<'_>, of: &CType) -> Result<Option<CType>, AllocError>
 
 fn type_used(scope: &Scope<'_>, of: &Option<CType>) -> Result<Option<CType>, AllocError>
     ensures { IfOk result (λ r. option_map type_of r
-        ≡ option_and_then (d.used_type (scope_of scope.now)) (option_map type_of of.now)) }
+        ≡ option_and_then (declarator_rules.used_type (scope_of scope.now))
+        (option_map type_of of.now)) }
 {
     match of {
         Some(of) => used_type(scope, of),
@@ -54,7 +55,7 @@ fn type_used(scope: &Scope<'_>, of: &Option<CType>) -> Result<Option<CType>, All
 fn type_named(scope: &Scope<'_>, meaning: &Meaning, at: u32) -> Result<Judged<CType>, AllocError>
     ensures { IfOk result (λ r. (name : Name) → name.span.start ≡ at
         → judged_of type_of r (scope_of scope.now)
-        ≡ d.typedef_type name (scope_of scope.now) (Some (meaning_of meaning.now))) }
+        ≡ declarator_rules.typedef_type name (scope_of scope.now) (Some (meaning_of meaning.now))) }
 {
     match meaning {
         Meaning::Typedef { of } => match type_used(scope, of) {
@@ -72,8 +73,8 @@ fn type_named(scope: &Scope<'_>, meaning: &Meaning, at: u32) -> Result<Judged<CT
 /// The type that a typedef name stands for (C17 6.7.8p3).
 pub fn typedef_name(scope: &Scope<'_>, name: &Identifier<'_>) -> Result<Judged<CType>, AllocError>
     ensures { IfOk result (λ r. judged_of type_of r (scope_of scope.now)
-        ≡ d.typedef_type (name_of name.now) (scope_of scope.now)
-        (s.meaning_of (name_of name.now) (scope_of scope.now))) }
+        ≡ declarator_rules.typedef_type (name_of name.now) (scope_of scope.now)
+        (scopes.meaning_of (name_of name.now) (scope_of scope.now))) }
 {
     match scope.meaning(name) {
         Some(meaning) => type_named(scope, meaning, name.span.start),
@@ -113,7 +114,7 @@ pub fn end_declared(
     fault: Option<Fault>,
     value: Judged<Option<Initializer>>,
 ) -> Judged<Vec<Declarator>>
-    ensures { (s : s.Scope) → judged_of declarators_of result s
+    ensures { (s : scopes.Scope) → judged_of declarators_of result s
         ≡ squeezed_part (declared_ended (listed fault) (judged_of optional_of value s)) }
 {
     let first = first_fault(fault, value.fault);

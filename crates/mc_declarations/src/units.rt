@@ -6,7 +6,7 @@ ghost use Rattle.mc_tree.specs.Views.{declarator_of, name_of};
 ghost use Rattle.mc_faults.specs.declared.fault.FaultKind.TheVariants.{Mismatch};
 ghost use Rattle.mc_typing.specs.Declarations.{both_lists};
 ghost use Rattle.mc_faults.specs.Faults.{fault};
-ghost use Rattle.mc_typing.specs.Scopes as s;
+ghost use Rattle.mc_typing.specs.Scopes as scopes;
 ghost use Rattle.mc_typing.specs.Typing as ty;
 ghost use Rattle.mc_typing.specs.Values.{judged};
 ghost use Rattle.mc_declarations.specs.Declarations.{functions_of};
@@ -43,7 +43,7 @@ pub fn declared_item<'a>(
     alloc: Global,
     declarators: Judged<Vec<mc_typed::Declarator>>,
 ) -> Judged<Vec<Function<'a>>>
-    ensures { (s : s.Scope) → judged_of functions_of result s
+    ensures { (s : scopes.Scope) → judged_of functions_of result s
         ≡ ty.declared_only (judged_of declarators_of declarators s) }
 {
     Judged {
@@ -54,7 +54,7 @@ pub fn declared_item<'a>(
 
 /// A body after a declarator that is no function's, which no text has.
 pub fn wrong_definition<'a>(span: Span) -> Judged<Vec<Function<'a>>>
-    ensures { (s : s.Scope) → judged_of functions_of result s
+    ensures { (s : scopes.Scope) → judged_of functions_of result s
         ≡ judged (fault Mismatch span.start) None s }
 {
     Judged {
@@ -68,7 +68,7 @@ pub fn wrong_definition<'a>(span: Span) -> Judged<Vec<Function<'a>>>
 
 /// No functions. Takes no memory.
 pub fn no_functions<'a>(alloc: Global) -> Judged<Vec<Function<'a>>>
-    ensures { (s : s.Scope) → judged_of functions_of result s ≡ judged [] (Some []) s }
+    ensures { (s : scopes.Scope) → judged_of functions_of result s ≡ judged [] (Some []) s }
 {
     Judged {
         fault: None,
@@ -81,7 +81,7 @@ pub fn more_functions<'a>(
     list: Judged<Vec<Function<'a>>>,
     more: Judged<Vec<Function<'a>>>,
 ) -> Result<Judged<Vec<Function<'a>>>, AllocError>
-    ensures { IfOk result (λ r. (s : s.Scope) → judged_of functions_of r s ≡ squeezed_part
+    ensures { IfOk result (λ r. (s : scopes.Scope) → judged_of functions_of r s ≡ squeezed_part
         (both_lists (judged_of functions_of list.entry s) (judged_of functions_of more.entry s))) }
 {
     joined_lists(list, more)

@@ -2,8 +2,8 @@
 use Rattle.std.specs.Prelude.{◌≡◌, ◌≤◌, ◌+◌, max, ℕ, IfOk, List, map, Option, Some, Result, Ok, Err}
 use Rattle.std.specs.declared.alloc.Global.{Global}
 use denote.Ref.{MutBor}
-use Rattle.mc_tree.specs.Tree as t
-use Rattle.mc_tree.specs.Height as h
+use Rattle.mc_tree.specs.Tree as source_tree
+use Rattle.mc_tree.specs.Height as height
 use Rattle.mc_tree.specs.Views.{expression_of, specifier_of, specifiers_from, expressions_from}
 use Rattle.mc_grammar.specs.Words.{Lexeme}
 use Rattle.mc_grammar.specs.Counts.{for_type}
@@ -23,55 +23,58 @@ use Rattle.mc_cursor.specs.Cursors.{left_of, NotMade, Refuses}
 use Rattle.mc_cursor.specs.Rules.{nonterminal_of}
 
 -- an expression
-abbrev pub tree_of : Read → t.Expression
+abbrev pub tree_of : Read → source_tree.Expression
 tree_of r = expression_of r.tree.value
 
 -- its height is told
 abbrev pub IsHigh : Read → Type 0
-IsHigh r = r.height ≡ h.height (tree_of r)
+IsHigh r = r.height ≡ height.height (tree_of r)
 
-abbrev pub GivesTree : Option (t.Expression × List Lexeme) → Result Read Fault → List Lexeme
+abbrev pub GivesTree : Option (source_tree.Expression × List Lexeme) → Result Read Fault
+    → List Lexeme
     → Type 0
 GivesTree read (Ok r) rest = (read ≡ Some (tree_of r, rest)) × IsHigh r
 GivesTree read (Err fault) rest = Refuses read fault
 
 -- expressions, with the greatest of their heights
-abbrev pub trees_of : ReadAll → List t.Expression
+abbrev pub trees_of : ReadAll → List source_tree.Expression
 trees_of r = map expression_of r.trees.items
 
 abbrev pub IsAllHigh : ReadAll → Type 0
-IsAllHigh r = r.height ≡ h.tallest (expressions_from (trees_of r))
+IsAllHigh r = r.height ≡ height.tallest (expressions_from (trees_of r))
 
 -- expressions that were put after others
-abbrev pub GivesMore : {X : Type 0} → Option (List t.Expression × List Lexeme) → ReadAll
+abbrev pub GivesMore : {X : Type 0} → Option (List source_tree.Expression × List Lexeme) → ReadAll
     → Result X Fault → List Lexeme → Type 0
 GivesMore read all (Ok done) rest = (read ≡ Some (trees_of all, rest)) × IsAllHigh all
 GivesMore read all (Err fault) rest = Refuses read fault
 
-abbrev pub specifiers_of : ReadSpecifiers → t.Specifiers
+abbrev pub specifiers_of : ReadSpecifiers → source_tree.Specifiers
 specifiers_of r = specifiers_from (map specifier_of r.all.items)
 
 -- specifiers, with their height
-abbrev pub GivesSpecifiers : Option (t.Specifiers × List Lexeme) → Result ReadSpecifiers Fault
+abbrev pub GivesSpecifiers : Option (source_tree.Specifiers × List Lexeme)
+    → Result ReadSpecifiers Fault
     → List Lexeme → Type 0
 GivesSpecifiers read (Ok r) rest =
-    (read ≡ Some (specifiers_of r, rest)) × (r.height ≡ h.height_specifiers (specifiers_of r))
+    (read ≡ Some (specifiers_of r, rest)) × (r.height ≡ height.height_specifiers (specifiers_of r))
 GivesSpecifiers read (Err fault) rest = Refuses read fault
 
 abbrev pub stars_of : ReadStars → Stars
 stars_of r = record { count = r.count; end = r.end }
 
-abbrev pub type_of : ReadType → t.TypeName
-type_of r = t.type_name (specifiers_from (map specifier_of r.all.items)) r.stars r.span
+abbrev pub type_of : ReadType → source_tree.TypeName
+type_of r = source_tree.type_name (specifiers_from (map specifier_of r.all.items)) r.stars r.span
 
-abbrev pub GivesType : Option (t.TypeName × List Lexeme) → Result ReadType Fault → List Lexeme
+abbrev pub GivesType : Option (source_tree.TypeName × List Lexeme) → Result ReadType Fault
+    → List Lexeme
     → Type 0
 GivesType read (Ok r) rest =
-    (read ≡ Some (type_of r, rest)) × (r.height ≡ h.height_type (type_of r))
+    (read ≡ Some (type_of r, rest)) × (r.height ≡ height.height_type (type_of r))
 GivesType read (Err fault) rest = Refuses read fault
 
 -- a node that was made on the heap
-abbrev pub GivesMade : t.Expression → ℕ → Result Read Fault → Type 0
+abbrev pub GivesMade : source_tree.Expression → ℕ → Result Read Fault → Type 0
 GivesMade tree high (Ok r) = (expression_of r.tree.value ≡ tree) × (r.height ≡ high)
 GivesMade tree high (Err fault) = NotMade fault
 

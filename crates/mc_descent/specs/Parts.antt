@@ -9,12 +9,12 @@ use Rattle.mc_tree.specs.declared.declarations.enumerator.Enumerator as code_enu
 use Rattle.mc_tree.specs.declared.declarations.declarator.Declarator as code_declarator
 use Rattle.mc_tree.specs.declared.declarations.parameter.Parameter as code_parameter
 use Rattle.mc_tree.specs.Tree.{ArrayLengths, Declarator, Enumerator, Expression, Name, Parameter, Specifier, Specifiers, StructMember, TypeName, span_of, span_of_parameters}
-use Rattle.mc_tree.specs.Tree as t
+use Rattle.mc_tree.specs.Tree as source_tree
 use Rattle.mc_tree.specs.Views.{array_length_of, declarator_of, declarators_from, enumerator_of, enumerators_from, expressions_from, lengths_from, member_of, members_from, parameter_of, parameters_from, specifier_of, specifiers_from}
 use Rattle.mc_tree.specs.Height.{height_declarators, height_enumerators, height_lengths, height_members, height_parameter_list, height_specifiers}
 use Rattle.mc_grammar.specs.Places.{at, end_of_specifiers, name_at, to}
 use Rattle.mc_grammar.specs.Words.{Lexeme, is_name}
-use Rattle.mc_grammar.specs.Nonterminal as n
+use Rattle.mc_grammar.specs.Nonterminal as nonterminal
 use Rattle.mc_reading.specs.Lists.{listed}
 use Rattle.mc_grammar.specs.steps.Parsers.{Parser, ◌>>=◌, accept, ask, expect, pure, take}
 use Rattle.mc_reading.specs.Expressions.{Parts, stars_of}
@@ -50,7 +50,7 @@ enumerators_of all = map enumerator_of all.items
 
 -- the heights of lists
 abbrev pub high_length : Length → ℕ
-high_length l = height_lengths (l.one t.no_lengths)
+high_length l = height_lengths (l.one source_tree.no_lengths)
 
 abbrev pub high_lengths : Lengths → ℕ
 high_lengths ls = height_lengths (lengths_from ls.all)
@@ -90,85 +90,85 @@ boxed_parameter one = parameter_of one.value
 abbrev pub constant_of : ℕ → Bool → Bool → ℕ → Parser Expression
 constant_of value decimal unsigned longs = do
   x ← take
-  pure (t.Constant value decimal unsigned longs (at x))
+  pure (source_tree.Constant value decimal unsigned longs (at x))
 
 abbrev pub character_of : ℤ → Parser Expression
 character_of value = do
   x ← take
-  pure (t.Character value (at x))
+  pure (source_tree.Character value (at x))
 
 -- an expression, after its last part
 abbrev pub parenthesized_end : Span → Expression → Parser Expression
 parenthesized_end start a = do
   y ← expect (codes ")")
-  pure (t.Parenthesized a (to start (at y)))
+  pure (source_tree.Parenthesized a (to start (at y)))
 
 abbrev pub call_end : Lexeme → List Expression → Parser Expression
 call_end x all = do
   z ← expect (codes ")")
-  pure (t.Call (name_at x) (expressions_from all) (to (at x) (at z)))
+  pure (source_tree.Call (name_at x) (expressions_from all) (to (at x) (at z)))
 
 abbrev pub index_end : Expression → Expression → Parser Expression
 index_end a b = do
   y ← expect (codes "]")
-  pure (t.Index a b (to (span_of a) (at y)))
+  pure (source_tree.Index a b (to (span_of a) (at y)))
 
 -- a suffix, after its first token
 abbrev pub index_after : Parts → Expression → Parser Expression
 index_after parts a = do
-  b ← parts.expression n.comma
+  b ← parts.expression nonterminal.comma
   index_end a b
 
 abbrev pub member_after : Expression → Parser Expression
 member_after a = do
   y ← accept is_name
-  pure (t.Member a (name_at y) (to (span_of a) (at y)))
+  pure (source_tree.Member a (name_at y) (to (span_of a) (at y)))
 
 -- a type name, after its specifiers
 abbrev pub type_end : Span → Specifiers → Parser TypeName
 type_end start s = do
   stars ← stars_of (end_of_specifiers start s)
-  pure (t.type_name s stars.count (to start stars.end))
+  pure (source_tree.type_name s stars.count (to start stars.end))
 
 -- a length, after its bracket and after its value
 abbrev pub no_length : Parser Length
 no_length = do
   y ← take
-  pure (record { one = t.absent_length; end = at y })
+  pure (record { one = source_tree.absent_length; end = at y })
 
 abbrev pub length_end : Expression → Parser Length
 length_end a = do
   y ← expect (codes "]")
-  pure (record { one = t.given_length a; end = at y })
+  pure (record { one = source_tree.given_length a; end = at y })
 
 -- a specifier that is one token
 abbrev pub word_of : SpecifierWord → Parser Specifier
 word_of w = do
   x ← take
-  pure (t.Word w (at x))
+  pure (source_tree.Word w (at x))
 
 abbrev pub typedef_name_of : Parser Specifier
 typedef_name_of = do
   x ← take
-  pure (t.TypedefName (name_at x))
+  pure (source_tree.TypedefName (name_at x))
 
 -- a structure, after its members
 abbrev pub structure_end : Lexeme → Option Name → List StructMember → Parser Specifier
 structure_end x tag ms = do
   v ← expect (codes "}")
-  pure (t.Structure tag (members_from ms) (to (at x) (at v)))
+  pure (source_tree.Structure tag (members_from ms) (to (at x) (at v)))
 
 -- an enumeration, after its constants
 abbrev pub enumeration_end : Lexeme → Option Name → List Enumerator → Parser Specifier
 enumeration_end x tag es = do
   v ← expect (codes "}")
-  pure (t.Enumeration tag (enumerators_from es) (to (at x) (at v)))
+  pure (source_tree.Enumeration tag (enumerators_from es) (to (at x) (at v)))
 
 -- members, after their declarators
 abbrev pub member_end : Span → Specifiers → List Declarator → Parser StructMember
 member_end start s ds = do
   y ← expect (codes ";")
-  pure (t.member s (declarators_from ds) (to start (at y)))
+  pure (source_tree.member s (declarators_from ds) (to start (at y)))
 
 -- a parameter, after its specifiers
 abbrev pub parameter_named : Parts → Span → Specifiers → Parser Parameter
@@ -181,7 +181,7 @@ parameter_named parts start s = do
 abbrev pub object_of : Parts → Span → ℕ → Name → Parser Declarator
 object_of parts start stars name = do
   lengths ← lengths_of parts name.span
-  pure (t.object stars name (lengths_from lengths.all) (to start lengths.end))
+  pure (source_tree.object stars name (lengths_from lengths.all) (to start lengths.end))
 
 -- a part that was made on the heap: nothing else can go wrong than memory
 abbrev pub IsMade : {X Y : Type 0} → (X → Y) → Y → Result X Fault → Type 0
@@ -197,26 +197,28 @@ IsMadeSpecifier tree (Err fault) = NotMade fault
 abbrev pub parameter_after : Parts → Span → Specifiers → ℕ → Option Name → Span → Parser Parameter
 parameter_after parts start s stars name end = do
   lengths ← lengths_of parts end
-  pure (t.parameter s stars name (lengths_from lengths.all) (to start lengths.end))
+  pure (source_tree.parameter s stars name (lengths_from lengths.all) (to start lengths.end))
 
 -- a declarator of a function, after the parenthesis that opens its list
 abbrev pub void_function : Span → ℕ → Name → Span → Parser Declarator
 void_function start stars name list_start = do
   y ← take
   z ← take
-  pure (t.function stars name (t.Void (to list_start (at z))) (to start (to list_start (at z))))
+  pure (source_tree.function stars name (source_tree.Void (to list_start (at z)))
+      (to start (to list_start (at z))))
 
 abbrev pub listed_function : Span → ℕ → Name → Span → List Parameter → Parser Declarator
 listed_function start stars name list_start ps = do
   y ← expect (codes ")")
-  pure (t.function stars name (t.Listed (parameters_from ps) (to list_start (at y)))
+  pure (source_tree.function stars name
+      (source_tree.Listed (parameters_from ps) (to list_start (at y)))
       (to start (to list_start (at y))))
 
 -- the parameters of a declarator, after its name
 abbrev pub function_of : Parts → Span → ℕ → Name → Parser Declarator
 function_of parts start stars name = do
   ps ← spec.parameters_of parts
-  pure (t.function stars name ps (to start (span_of_parameters ps)))
+  pure (source_tree.function stars name ps (to start (span_of_parameters ps)))
 
 -- specifiers, as long as they go on
 abbrev pub all_specifiers_of : Parts → ℕ → Parser (List Specifier)

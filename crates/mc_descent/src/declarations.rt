@@ -1,6 +1,6 @@
 //! Declarations (C17 6.7).
 ghost use Rattle.std.specs.Prelude.{◌≡◌, ◌≤◌, ◌∷◌, ◌++◌, [], Bool, IfOk, map};
-ghost use Rattle.mc_tree.specs.Tree as t;
+ghost use Rattle.mc_tree.specs.Tree as tree;
 ghost use Rattle.mc_tree.specs.Views.{declarator_of};
 ghost use Rattle.mc_grammar.specs.Places as places;
 ghost use Rattle.mc_tree.specs.Units.{declaration_of, init_declarator_of};
@@ -141,7 +141,7 @@ fn declaration<'a>(
     last: Span,
 ) -> Declaration<'a>
     ensures { declaration_of result
-        ≡ t.declaration (words_of head.entry) (map init_declarator_of declarators.entry.items)
+        ≡ tree.declaration (words_of head.entry) (map init_declarator_of declarators.entry.items)
         (places.to head.entry.start last) }
 {
     let Head { start, specifiers } = head;

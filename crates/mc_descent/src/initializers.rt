@@ -1,6 +1,6 @@
 //! Initializers (C17 6.7.9).
 ghost use Rattle.std.specs.Prelude.{◌≡◌, ◌≤◌, ◌<◌, ◌∷◌, ◌++◌, [], IfOk, map};
-ghost use Rattle.mc_tree.specs.Tree as t;
+ghost use Rattle.mc_tree.specs.Tree as tree;
 ghost use Rattle.mc_tree.specs.Units.{initializer_of, initializers_from};
 ghost use Rattle.mc_reading.specs.Declarations as spec;
 ghost use Rattle.mc_reading.specs.Lists.{braced_list, listed};
@@ -33,7 +33,7 @@ fn single<'a>(
 
 fn braced<'a>(items: Vec<Initializer<'a>>, span: Span) -> Initializer<'a>
     ensures { initializer_of result
-        ≡ t.Braced (initializers_from (map initializer_of items.entry.items)) span }
+        ≡ tree.Braced (initializers_from (map initializer_of items.entry.items)) span }
 {
     Initializer::Braced { items, span }
 }

@@ -1,16 +1,16 @@
 //! Arguments of calls (C17 6.5.2.2).
 ghost use Rattle.std.specs.Prelude.{◌≡◌, ◌++◌, IfOk, Ok, map, option_map, option_copied};
 ghost use Rattle.mc_typed.specs.Layout as objects;
-ghost use Rattle.mc_typed.specs.Tree as t;
+ghost use Rattle.mc_typed.specs.Tree as typed_tree;
 ghost use Rattle.mc_typed.specs.Views.{argument_of, expression_of, place_of};
 ghost use Rattle.mc_typed.specs.Views as typed;
 ghost use Rattle.mc_faults.specs.Faults.{least_of};
 ghost use Rattle.mc_faults.specs.Kept.{listed};
 ghost use Rattle.mc_typing.specs.Types as typing;
-ghost use Rattle.mc_typing.specs.Scopes as s;
-ghost use Rattle.mc_typing.specs.Values as v;
-ghost use Rattle.mc_typing.specs.Expressions as e;
-ghost use Rattle.mc_typing.specs.Calls as c;
+ghost use Rattle.mc_typing.specs.Scopes as scopes;
+ghost use Rattle.mc_typing.specs.Values as values;
+ghost use Rattle.mc_typing.specs.Expressions as expressions;
+ghost use Rattle.mc_typing.specs.Calls as calls;
 ghost use Rattle.mc_scopes.specs.Types.{type_of};
 ghost use Rattle.mc_scopes.specs.Types as types;
 ghost use Rattle.mc_scopes.specs.Views.{scope_of, structure_of};
@@ -32,7 +32,8 @@ use mc_value::{IntType, ObjType};
 use std::alloc::{AllocError, Global};
 
 fn value_fits(base: Base, kind: Kind<'_>) -> bool
-    ensures { result ≡ c.argument_fits (typing.ByValue (types.base_of base)) (kind_of kind.entry) }
+    ensures { result ≡ calls.argument_fits (typing.ByValue (types.base_of base))
+        (kind_of kind.entry) }
 {
     match base {
         Base::Void => false,
@@ -45,7 +46,7 @@ fn value_fits(base: Base, kind: Kind<'_>) -> bool
 }
 
 fn argument_fits(parameter: &ParameterKind, kind: Kind<'_>) -> bool
-    ensures { result ≡ c.argument_fits (types.kind_of parameter.now) (kind_of kind.entry) }
+    ensures { result ≡ calls.argument_fits (types.kind_of parameter.now) (kind_of kind.entry) }
 {
     match parameter {
         ParameterKind::Value(base) => value_fits(*base, kind),
@@ -65,7 +66,7 @@ fn argument_fault(
     parameter: Option<&ParameterKind>,
     kind: Option<Kind<'_>>,
 ) -> Option<Fault>
-    ensures { result ≡ least_of (c.argument_faults at
+    ensures { result ≡ least_of (calls.argument_faults at
         (option_map types.kind_of (option_copied parameter.entry))
         (option_map kind_of kind.entry)) }
 {
@@ -86,7 +87,8 @@ fn number_argument(
     value: Option<Expression>,
 ) -> Result<Option<Argument>, AllocError>
     ensures { IfOk result (λ r. option_map argument_of r
-        ≡ option_map (λ f. t.NumberArgument (e.convert_to to f)) (option_map expression_of value)) }
+        ≡ option_map (λ f. typed_tree.NumberArgument (expressions.convert_to to f))
+        (option_map expression_of value)) }
 {
     match value {
         Some(value) => match convert_to(alloc, to, value) {
@@ -102,7 +104,7 @@ fn structure_argument(
     value: Option<mc_typed::Structure>,
 ) -> Result<Option<Argument>, AllocError>
     ensures { IfOk result (λ r. option_map argument_of r
-        ≡ option_map (λ w. t.StructureArgument w (s.next_slot (scope_of scope.now)))
+        ≡ option_map (λ w. typed_tree.StructureArgument w (scopes.next_slot (scope_of scope.now)))
         (option_map typed.structure_of value)) }
 {
     match value {
@@ -121,7 +123,7 @@ fn structure_argument(
 
 fn stored_array(parameter: &CType, place: Place, of: &CType) -> Option<Argument>
     ensures { option_map argument_of result
-        ≡ c.stored_array (type_of parameter.now) (place_of place) (type_of of.now)
+        ≡ calls.stored_array (type_of parameter.now) (place_of place) (type_of of.now)
         of.now.lengths.items }
 {
     match of.lengths.as_slice() {
@@ -145,7 +147,7 @@ fn stored_array(parameter: &CType, place: Place, of: &CType) -> Option<Argument>
 
 fn array_argument(parameter: &CType, value: Value) -> Option<Argument>
     ensures { option_map argument_of result
-        ≡ c.array_argument (type_of parameter.now) (value_of value) }
+        ≡ calls.array_argument (type_of parameter.now) (value_of value) }
 {
     match value.into_parts() {
         ValueParts::Stored(place, of) => {
@@ -180,7 +182,7 @@ fn argument_value(
     value: Option<Value>,
 ) -> Result<Option<Argument>, AllocError>
     ensures { IfOk result (λ r. option_map argument_of r
-        ≡ c.argument_value (scope_of scope.now)
+        ≡ calls.argument_value (scope_of scope.now)
         (option_map types.kind_of (option_copied parameter.entry)) (option_map value_of value)) }
 {
     match parameter {
@@ -211,8 +213,8 @@ fn argument_value(
 
 // The number of the structure type that an argument copies.
 fn copied_structure(parameter: Option<&ParameterKind>, value: &Option<Argument>) -> Option<u32>
-    ensures { (s : s.Scope) → option_map (c.layout_of_structure s) result
-        ≡ c.copy_of s (option_map types.kind_of (option_copied parameter.entry))
+    ensures { (s : scopes.Scope) → option_map (calls.layout_of_structure s) result
+        ≡ calls.copy_of s (option_map types.kind_of (option_copied parameter.entry))
         (option_map argument_of value.now) }
 {
     match parameter {
@@ -249,9 +251,10 @@ fn structure_layout(
 /// One more object of the function, of the structure type with this number; how many cells it has.
 pub fn add_temporary(alloc: Global, scope: &mut Scope<'_>, number: u32) -> Result<u32, AllocError>
     ensures cells { IfOk result (λ n. n
-        ≡ objects.cells (c.layout_of_structure (scope_of scope.old) number)) }
+        ≡ objects.cells (calls.layout_of_structure (scope_of scope.old) number)) }
     ensures scope { IfOk result (λ _. scope_of scope.new
-        ≡ s.with_object (c.layout_of_structure (scope_of scope.old) number) (scope_of scope.old)) }
+        ≡ scopes.with_object (calls.layout_of_structure (scope_of scope.old) number)
+        (scope_of scope.old)) }
 {
     let count = structure_cells(&scope.structures, number);
     let object = structure_layout(alloc, &scope.structures, number)?;
@@ -260,10 +263,10 @@ pub fn add_temporary(alloc: Global, scope: &mut Scope<'_>, number: u32) -> Resul
 }
 
 fn add_counted(alloc: Global, scope: &mut Scope<'_>, number: Option<u32>) -> Result<u32, AllocError>
-    ensures cells { IfOk result (λ n. n ≡ s.cells_counted
-        (option_map (c.layout_of_structure (scope_of scope.old)) number)) }
+    ensures cells { IfOk result (λ n. n ≡ scopes.cells_counted
+        (option_map (calls.layout_of_structure (scope_of scope.old)) number)) }
     ensures scope { IfOk result (λ _. scope_of scope.new
-        ≡ s.with_counted (option_map (c.layout_of_structure (scope_of scope.old)) number)
+        ≡ scopes.with_counted (option_map (calls.layout_of_structure (scope_of scope.old)) number)
         (scope_of scope.old)) }
 {
     match number {
@@ -279,11 +282,11 @@ fn add_copy(
     parameter: Option<&ParameterKind>,
     value: &Option<Argument>,
 ) -> Result<u32, AllocError>
-    ensures cells { IfOk result (λ n. n ≡ s.cells_counted (c.copy_of (scope_of scope.old)
+    ensures cells { IfOk result (λ n. n ≡ scopes.cells_counted (calls.copy_of (scope_of scope.old)
         (option_map types.kind_of (option_copied parameter.entry))
         (option_map argument_of value.now))) }
     ensures scope { IfOk result (λ _. scope_of scope.new
-        ≡ s.with_counted (c.copy_of (scope_of scope.old)
+        ≡ scopes.with_counted (calls.copy_of (scope_of scope.old)
         (option_map types.kind_of (option_copied parameter.entry))
         (option_map argument_of value.now)) (scope_of scope.old)) }
 {
@@ -293,9 +296,9 @@ fn add_copy(
 
 // The first fault of an argument for a parameter.
 fn judged(at: u32, parameter: Option<&ParameterKind>, found: &Found) -> Option<Fault>
-    ensures { result ≡ least_of (listed found.now.fault ++ c.argument_faults at
+    ensures { result ≡ least_of (listed found.now.fault ++ calls.argument_faults at
         (option_map types.kind_of (option_copied parameter.entry))
-        (option_map v.kind_of (option_map value_of found.now.value))) }
+        (option_map values.kind_of (option_map value_of found.now.value))) }
 {
     let own = argument_fault(at, parameter, kind_found(&found.value));
     after(found.fault, own)
@@ -311,11 +314,12 @@ fn with_copy(
 ) -> Result<Given<Argument>, AllocError>
     ensures fault { IfOk result (λ r. r.fault ≡ fault) }
     ensures value { IfOk result (λ r. value ≡ Ok r.value) }
-    ensures copied { IfOk result (λ r. r.copied ≡ s.cells_counted (c.copy_of (scope_of scope.old)
+    ensures copied { IfOk result (λ r. r.copied
+        ≡ scopes.cells_counted (calls.copy_of (scope_of scope.old)
         (option_map types.kind_of (option_copied parameter.entry))
         (option_map argument_of r.value))) }
     ensures scope { IfOk result (λ r. scope_of scope.new
-        ≡ s.with_counted (c.copy_of (scope_of scope.old)
+        ≡ scopes.with_counted (calls.copy_of (scope_of scope.old)
         (option_map types.kind_of (option_copied parameter.entry))
         (option_map argument_of r.value)) (scope_of scope.old)) }
 {
@@ -345,7 +349,7 @@ pub fn argument(
     found: Found,
 ) -> Result<Given<Argument>, AllocError>
     ensures { IfOk result (λ r. given_of argument_of r (scope_of scope.new)
-        ≡ squeezed_given (c.argument_judged at
+        ≡ squeezed_given (calls.argument_judged at
         (option_map types.kind_of (option_copied parameter.entry))
         (found_of found (scope_of scope.old)))) }
 {

@@ -1,7 +1,7 @@
 //! Assignments (C17 6.5.16).
 ghost use Rattle.std.specs.Prelude.{◌≡◌, ◌||◌, IfOk, option_map};
-ghost use Rattle.mc_typing.specs.Values as v;
-ghost use Rattle.mc_typing.specs.Expressions as e;
+ghost use Rattle.mc_typing.specs.Values as values;
+ghost use Rattle.mc_typing.specs.Expressions as expressions;
 ghost use Rattle.mc_scopes.specs.Views.{scope_of};
 ghost use Rattle.mc_scopes.specs.Found.{found_of, kind_of, value_of};
 ghost use Rattle.mc_scopes.specs.steps.Squeezed.{squeezed};
@@ -17,7 +17,7 @@ use mc_typed::Span;
 use std::alloc::{AllocError, Global};
 
 fn sides_fit(one: Kind<'_>, other: Kind<'_>) -> bool
-    ensures { result ≡ e.sides_fit (kind_of one.entry) (kind_of other.entry) }
+    ensures { result ≡ expressions.sides_fit (kind_of one.entry) (kind_of other.entry) }
 {
     match one {
         Kind::Integer => matches!(other, Kind::Integer),
@@ -31,7 +31,7 @@ fn sides_fit(one: Kind<'_>, other: Kind<'_>) -> bool
 
 fn sides_fail(one: Option<Kind<'_>>, other: Option<Kind<'_>>) -> bool
     ensures { result
-        ≡ e.sides_fail (option_map kind_of one.entry) (option_map kind_of other.entry) }
+        ≡ expressions.sides_fail (option_map kind_of one.entry) (option_map kind_of other.entry) }
 {
     match one {
         Some(kind) => match other {
@@ -44,9 +44,10 @@ fn sides_fail(one: Option<Kind<'_>>, other: Option<Kind<'_>>) -> bool
 
 /// Whether the sides cannot stand in a simple assignment.
 pub(crate) fn assign_fails(place: bool, target: &Option<Value>, value: &Option<Value>) -> bool
-    ensures { result ≡ (e.target_fails e.is_assigned place (option_map value_of target.now)
-        || e.sides_fail (option_map v.kind_of (option_map value_of target.now))
-        (option_map v.kind_of (option_map value_of value.now))) }
+    ensures { result ≡ (expressions.target_fails expressions.is_assigned place
+        (option_map value_of target.now)
+        || expressions.sides_fail (option_map values.kind_of (option_map value_of target.now))
+        (option_map values.kind_of (option_map value_of value.now))) }
 {
     let own = kind_found(target);
     let not_assigned = fails_assigned(own);
@@ -57,8 +58,8 @@ pub(crate) fn assign_fails(place: bool, target: &Option<Value>, value: &Option<V
 
 // How an assignment by this operator makes its effect.
 fn making_of<'t, 'a>(scope: &'t Scope<'a>, operator: AssignmentOperator) -> Making<'t, 'a>
-    ensures { (span : Span) (x y : v.Found) → y.scope ≡ scope_of scope.now
-        → found_by result span x y ≡ e.assignment_found operator span x y }
+    ensures { (span : Span) (x y : values.Found) → y.scope ≡ scope_of scope.now
+        → found_by result span x y ≡ expressions.assignment_found operator span x y }
 {
     match operator {
         AssignmentOperator::Assign => Making::Assign(&scope.structures),
@@ -76,7 +77,8 @@ pub fn assignment(
     value: Found,
 ) -> Result<Found, AllocError>
     ensures { IfOk result (λ r. found_of r (scope_of scope.now)
-        ≡ squeezed (e.assignment_found operator span (found_of target (scope_of scope.now))
+        ≡ squeezed (expressions.assignment_found operator span
+        (found_of target (scope_of scope.now))
         (found_of value (scope_of scope.now)))) }
 {
     made(alloc, making_of(scope, operator), span, target, value)

@@ -1,13 +1,13 @@
 //! Binary operators (C17 6.5.5 to 6.5.14).
 ghost use Rattle.std.specs.Prelude.{◌≡◌, ◌++◌, ◌&&◌, IfOk, Some, option_map};
 ghost use Rattle.mc_typed.specs.declared.operators.Operator.TheVariants as operators;
-ghost use Rattle.mc_typed.specs.Tree as t;
+ghost use Rattle.mc_typed.specs.Tree as typed;
 ghost use Rattle.mc_typed.specs.Views.{expression_of};
 ghost use Rattle.mc_faults.specs.Faults.{least_of};
 ghost use Rattle.mc_faults.specs.Kept.{listed};
-ghost use Rattle.mc_typing.specs.Scopes as s;
-ghost use Rattle.mc_typing.specs.Values as v;
-ghost use Rattle.mc_typing.specs.Expressions as e;
+ghost use Rattle.mc_typing.specs.Scopes as scopes;
+ghost use Rattle.mc_typing.specs.Values as values;
+ghost use Rattle.mc_typing.specs.Expressions as expressions;
 ghost use Rattle.mc_scopes.specs.Found.{found_of, value_of};
 ghost use Rattle.mc_scopes.specs.steps.Squeezed.{squeezed};
 ghost use Rattle.mc_expressions.specs.steps.Operations.{operating};
@@ -31,8 +31,8 @@ enum Operation {
 }
 
 fn operation_of(operator: BinaryOperator) -> Operation
-    ensures { (span : Span) (l r : t.Expression)
-        → e.binary_of operator span l r ≡ operating result span l r }
+    ensures { (span : Span) (l r : typed.Expression)
+        → expressions.binary_of operator span l r ≡ operating result span l r }
 {
     match operator {
         BinaryOperator::Multiply => Operation::Common(BinOp::Mul),
@@ -64,7 +64,7 @@ fn applied(
     right: Box<Expression>,
     span: Span,
 ) -> Value
-    ensures { value_of result ≡ v.Number (t.Binary operator of (expression_of left.value)
+    ensures { value_of result ≡ values.Number (typed.Binary operator of (expression_of left.value)
         (expression_of right.value) span) }
 {
     Value::Number(Expression::Binary {
@@ -83,8 +83,8 @@ fn in_common_type(
     left: Expression,
     right: Expression,
 ) -> Result<Option<Value>, AllocError>
-    ensures { IfOk result (λ r. option_map value_of r ≡ Some (v.Number
-        (e.in_common_type operator span (expression_of left) (expression_of right)))) }
+    ensures { IfOk result (λ r. option_map value_of r ≡ Some (values.Number
+        (expressions.in_common_type operator span (expression_of left) (expression_of right)))) }
 {
     let of = common(left.integer_type(), right.integer_type());
     match operands(alloc, of, left, of, right) {
@@ -103,8 +103,8 @@ fn shifting(
     left: Expression,
     right: Expression,
 ) -> Result<Option<Value>, AllocError>
-    ensures { IfOk result (λ r. option_map value_of r ≡ Some (v.Number
-        (e.shifting (operators.Shift operator) span (expression_of left)
+    ensures { IfOk result (λ r. option_map value_of r ≡ Some (values.Number
+        (expressions.shifting (operators.Shift operator) span (expression_of left)
         (expression_of right)))) }
 {
     let left_to = promote(left.integer_type());
@@ -127,7 +127,8 @@ fn logic(
     right: Expression,
 ) -> Result<Option<Value>, AllocError>
     ensures { IfOk result (λ r. option_map value_of r
-        ≡ Some (v.Number (t.Logic operator (expression_of left) (expression_of right) span))) }
+        ≡ Some (values.Number (typed.Logic operator (expression_of left) (expression_of right)
+        span))) }
 {
     match both_boxed(alloc, left, right) {
         Ok((left, right)) => Ok(Some(Value::Number(Expression::Logic {
@@ -148,7 +149,7 @@ fn binary_value(
     right: Option<Expression>,
 ) -> Result<Option<Value>, AllocError>
     ensures { IfOk result (λ r. option_map value_of r
-        ≡ option_map v.Number (v.lift2 (e.binary_of operator span)
+        ≡ option_map values.Number (values.lift2 (expressions.binary_of operator span)
         (option_map expression_of left) (option_map expression_of right))) }
 {
     match left {
@@ -173,8 +174,9 @@ fn binary_value(
 // The first fault of an operator on these operands, and whether it is built as a constant.
 fn judged(at: u32, left: &Found, right: &Found) -> (Option<Fault>, bool)
     ensures fault { result.0 ≡ least_of (listed left.now.fault ++ (listed right.now.fault
-        ++ e.operands_faults at (option_map v.kind_of (option_map value_of left.now.value))
-        (option_map v.kind_of (option_map value_of right.now.value)))) }
+        ++ expressions.operands_faults at
+        (option_map values.kind_of (option_map value_of left.now.value))
+        (option_map values.kind_of (option_map value_of right.now.value)))) }
     ensures constant { result.1 ≡ (left.now.constant && right.now.constant) }
 {
     let left_wrong = fails_integer(&left.value);
@@ -192,8 +194,8 @@ pub fn binary(
     left: Found,
     right: Found,
 ) -> Result<Found, AllocError>
-    ensures { IfOk result (λ r. (s : s.Scope) → found_of r s
-        ≡ squeezed (e.binary_found operator span (found_of left s) (found_of right s))) }
+    ensures { IfOk result (λ r. (s : scopes.Scope) → found_of r s
+        ≡ squeezed (expressions.binary_found operator span (found_of left s) (found_of right s))) }
 {
     let (fault, constant) = judged(span.start, &left, &right);
     let left = number_in(left.value);

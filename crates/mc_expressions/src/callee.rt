@@ -3,7 +3,7 @@ ghost use Rattle.std.specs.Prelude.{◌≡◌, ℕ, map, IfOk, Some, option_map,
 ghost use Rattle.mc_span.specs.declared.span.Span.{Span};
 ghost use Rattle.mc_tree.specs.Tree.{Name};
 ghost use Rattle.mc_typed.specs.Tree.{Arguments};
-ghost use Rattle.mc_typing.specs.Calls as c;
+ghost use Rattle.mc_typing.specs.Calls as calls;
 ghost use Rattle.mc_scopes.specs.Types.{kind_of};
 ghost use Rattle.mc_scopes.specs.Views.{meaning_of};
 ghost use Rattle.mc_expressions.specs.steps.Callees.{meaning_of_callee};
@@ -24,7 +24,7 @@ pub enum Callee {
 impl Callee {
     /// What its parameters take, where that is known. Takes no memory.
     pub fn parameters(&self) -> &[ParameterKind]
-        ensures { map kind_of result.now ≡ c.parameters_of (meaning_of_callee self.now) }
+        ensures { map kind_of result.now ≡ calls.parameters_of (meaning_of_callee self.now) }
     {
         match self {
             Callee::Function(signature) => match signature {
@@ -38,11 +38,11 @@ impl Callee {
 }
 
 fn callee_of(meaning: &Meaning) -> Result<Callee, AllocError>
-    ensures parameters { IfOk result (λ r. c.parameters_of (meaning_of_callee r)
-        ≡ c.parameters_of (Some (meaning_of meaning.now))) }
+    ensures parameters { IfOk result (λ r. calls.parameters_of (meaning_of_callee r)
+        ≡ calls.parameters_of (Some (meaning_of meaning.now))) }
     ensures found { IfOk result (λ r. (name : Name) (count : ℕ) (span : Span)
-        (x : c.Given Arguments) → c.call_found name count span (meaning_of_callee r) x
-        ≡ c.call_found name count span (Some (meaning_of meaning.now)) x) }
+        (x : calls.Given Arguments) → calls.call_found name count span (meaning_of_callee r) x
+        ≡ calls.call_found name count span (Some (meaning_of meaning.now)) x) }
 {
     match meaning {
         Meaning::Function { signature, .. } => match signature {
@@ -59,11 +59,12 @@ fn callee_of(meaning: &Meaning) -> Result<Callee, AllocError>
 
 /// What is called, by what its name means.
 pub fn callee_named(meaning: Option<&Meaning>) -> Result<Callee, AllocError>
-    ensures parameters { IfOk result (λ r. c.parameters_of (meaning_of_callee r)
-        ≡ c.parameters_of (option_map meaning_of (option_copied meaning.entry))) }
+    ensures parameters { IfOk result (λ r. calls.parameters_of (meaning_of_callee r)
+        ≡ calls.parameters_of (option_map meaning_of (option_copied meaning.entry))) }
     ensures found { IfOk result (λ r. (name : Name) (count : ℕ) (span : Span)
-        (x : c.Given Arguments) → c.call_found name count span (meaning_of_callee r) x
-        ≡ c.call_found name count span (option_map meaning_of (option_copied meaning.entry)) x) }
+        (x : calls.Given Arguments) → calls.call_found name count span (meaning_of_callee r) x
+        ≡ calls.call_found name count span (option_map meaning_of (option_copied meaning.entry))
+        x) }
 {
     match meaning {
         Some(meaning) => callee_of(meaning),

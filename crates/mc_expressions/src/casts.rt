@@ -1,13 +1,13 @@
 //! Casts (C17 6.5.4).
 ghost use Rattle.std.specs.Prelude.{◌≡◌, ◌++◌, ◌&&◌, IfOk, true, option_map};
 ghost use Rattle.mc_tree.specs.Views as syntax;
-ghost use Rattle.mc_typed.specs.Tree as t;
+ghost use Rattle.mc_typed.specs.Tree as typed_tree;
 ghost use Rattle.mc_typed.specs.Views.{effect_of, expression_of};
 ghost use Rattle.mc_faults.specs.Faults.{least_of};
 ghost use Rattle.mc_faults.specs.Kept.{listed};
-ghost use Rattle.mc_typing.specs.Scopes as s;
-ghost use Rattle.mc_typing.specs.Values as v;
-ghost use Rattle.mc_typing.specs.Expressions as e;
+ghost use Rattle.mc_typing.specs.Scopes as scopes;
+ghost use Rattle.mc_typing.specs.Values as values;
+ghost use Rattle.mc_typing.specs.Expressions as expressions;
 ghost use Rattle.mc_scopes.specs.Types.{base_of, type_of};
 ghost use Rattle.mc_scopes.specs.Found.{found_of, judged_of, kind_of, value_of};
 ghost use Rattle.mc_scopes.specs.steps.Squeezed.{squeezed};
@@ -26,7 +26,8 @@ use std::alloc::{AllocError, Global};
 
 // The type of a cast, where it is scalar or void.
 fn cast_base(of: &CType) -> Option<Base>
-    ensures { option_map base_of result ≡ e.cast_base (type_of of.now) of.now.lengths.items }
+    ensures { option_map base_of result
+        ≡ expressions.cast_base (type_of of.now) of.now.lengths.items }
 {
     if !of.lengths.is_empty() {
         return None;
@@ -44,7 +45,7 @@ fn fault_to(
     kind: Option<Kind<'_>>,
     base: Option<Base>,
 ) -> Option<Fault>
-    ensures { result ≡ least_of (e.cast_faults_to at (syntax.expression_of tree.now)
+    ensures { result ≡ least_of (expressions.cast_faults_to at (syntax.expression_of tree.now)
         (option_map kind_of kind.entry) (option_map base_of base)) }
 {
     match base {
@@ -65,7 +66,7 @@ fn cast_fault(
     kind: Option<Kind<'_>>,
     of: &Option<CType>,
 ) -> Option<Fault>
-    ensures { result ≡ least_of (e.cast_faults at (syntax.expression_of tree.now)
+    ensures { result ≡ least_of (expressions.cast_faults at (syntax.expression_of tree.now)
         (option_map kind_of kind.entry) (option_map type_of of.now)) }
 {
     match of {
@@ -80,7 +81,8 @@ fn discarding(
     operand: Option<Effect>,
 ) -> Result<Option<Value>, AllocError>
     ensures { IfOk result (λ r. option_map value_of r
-        ≡ option_map (λ a. v.Done (t.Discard a span)) (option_map effect_of operand)) }
+        ≡ option_map (λ a. values.Done (typed_tree.Discard a span))
+        (option_map effect_of operand)) }
 {
     match operand {
         Some(operand) => match boxed(alloc, operand) {
@@ -98,7 +100,7 @@ fn converting(
     operand: Option<typed::Expression>,
 ) -> Result<Option<Value>, AllocError>
     ensures { IfOk result (λ r. option_map value_of r
-        ≡ option_map (λ f. v.Number (t.Convert to true f span))
+        ≡ option_map (λ f. values.Number (typed_tree.Convert to true f span))
         (option_map expression_of operand)) }
 {
     match operand {
@@ -122,7 +124,7 @@ fn cast_value(
     operand: Option<Value>,
 ) -> Result<Option<Value>, AllocError>
     ensures { IfOk result (λ r. option_map value_of r
-        ≡ e.cast_value span (option_map type_of of.now) (option_map value_of operand)) }
+        ≡ expressions.cast_value span (option_map type_of of.now) (option_map value_of operand)) }
 {
     match of {
         Some(of) => match operand {
@@ -145,7 +147,7 @@ fn cast_value(
 
 // Whether the cast is, or may be, one to an integer type.
 fn may_cast_to_integer(of: &Option<CType>) -> bool
-    ensures { result ≡ e.may_cast_to_integer (option_map type_of of.now) }
+    ensures { result ≡ expressions.may_cast_to_integer (option_map type_of of.now) }
 {
     match of {
         Some(of) => matches!(cast_base(of), Some(Base::Integer(_))),
@@ -161,11 +163,11 @@ fn judged(
     operand: &Found,
 ) -> (Option<Fault>, bool)
     ensures fault { result.0 ≡ least_of (listed of.now.fault ++ (listed operand.now.fault
-        ++ e.cast_faults at (syntax.expression_of tree.now)
-        (option_map v.kind_of (option_map value_of operand.now.value))
+        ++ expressions.cast_faults at (syntax.expression_of tree.now)
+        (option_map values.kind_of (option_map value_of operand.now.value))
         (option_map type_of of.now.value))) }
     ensures constant { result.1 ≡ (operand.now.constant
-        && e.may_cast_to_integer (option_map type_of of.now.value)) }
+        && expressions.may_cast_to_integer (option_map type_of of.now.value)) }
 {
     let own = cast_fault(at, tree, kind_found(&operand.value), &of.value);
     let integer = may_cast_to_integer(&of.value);
@@ -181,8 +183,9 @@ pub fn cast(
     tree: &Expression<'_>,
     operand: Found,
 ) -> Result<Found, AllocError>
-    ensures { IfOk result (λ r. (s : s.Scope) → found_of r s
-        ≡ squeezed (e.cast_found span (judged_of type_of of s) (syntax.expression_of tree.now)
+    ensures { IfOk result (λ r. (s : scopes.Scope) → found_of r s
+        ≡ squeezed (expressions.cast_found span (judged_of type_of of s)
+        (syntax.expression_of tree.now)
         (found_of operand s))) }
 {
     let (fault, constant) = judged(span.start, &of, tree, &operand);

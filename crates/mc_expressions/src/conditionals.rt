@@ -1,12 +1,12 @@
 //! The conditional operator (C17 6.5.15).
 ghost use Rattle.std.specs.Prelude.{◌≡◌, ◌++◌, ◌&&◌, IfOk, Some, option_map};
-ghost use Rattle.mc_typed.specs.Tree as t;
+ghost use Rattle.mc_typed.specs.Tree as typed;
 ghost use Rattle.mc_typed.specs.Views.{expression_of, effect_of};
 ghost use Rattle.mc_faults.specs.Faults.{least_of};
 ghost use Rattle.mc_faults.specs.Kept.{listed};
-ghost use Rattle.mc_typing.specs.Scopes as s;
-ghost use Rattle.mc_typing.specs.Values as v;
-ghost use Rattle.mc_typing.specs.Expressions as e;
+ghost use Rattle.mc_typing.specs.Scopes as scopes;
+ghost use Rattle.mc_typing.specs.Values as values;
+ghost use Rattle.mc_typing.specs.Expressions as expressions;
 ghost use Rattle.mc_scopes.specs.Found.{found_of, kind_of, value_of};
 ghost use Rattle.mc_scopes.specs.steps.Squeezed.{squeezed};
 
@@ -21,7 +21,7 @@ use mc_value::{IntType, common};
 use std::alloc::{AllocError, Global};
 
 fn are_arms(one: Kind<'_>, other: Kind<'_>) -> bool
-    ensures { result ≡ e.are_arms (kind_of one.entry) (kind_of other.entry) }
+    ensures { result ≡ expressions.are_arms (kind_of one.entry) (kind_of other.entry) }
 {
     match one {
         Kind::Void => matches!(other, Kind::Void),
@@ -31,7 +31,8 @@ fn are_arms(one: Kind<'_>, other: Kind<'_>) -> bool
 }
 
 fn arms_fail(one: Option<Kind<'_>>, other: Option<Kind<'_>>) -> bool
-    ensures { result ≡ e.arms_fail (option_map kind_of one.entry) (option_map kind_of other.entry) }
+    ensures { result ≡ expressions.arms_fail (option_map kind_of one.entry)
+        (option_map kind_of other.entry) }
 {
     match one {
         Some(kind) => match other {
@@ -50,7 +51,7 @@ fn choice(
     of: IntType,
     span: Span,
 ) -> Value
-    ensures { value_of result ≡ v.Number (t.Choice (expression_of test.value)
+    ensures { value_of result ≡ values.Number (typed.Choice (expression_of test.value)
         (expression_of chosen.value) (expression_of other.value) of span) }
 {
     Value::Number(Expression::Choice {
@@ -70,7 +71,7 @@ fn choice_of(
     other: Expression,
 ) -> Result<Option<Value>, AllocError>
     ensures { IfOk result (λ r. option_map value_of r
-        ≡ Some (e.choice_of span (expression_of test) (expression_of chosen)
+        ≡ Some (expressions.choice_of span (expression_of test) (expression_of chosen)
         (expression_of other))) }
 {
     let of = common(chosen.integer_type(), other.integer_type());
@@ -98,7 +99,7 @@ fn choice_of_effects(
     other: Box<Effect>,
 ) -> Result<Option<Value>, AllocError>
     ensures { IfOk result (λ r. option_map value_of r
-        ≡ Some (e.choice_of_effects span (expression_of test) (effect_of chosen.value)
+        ≡ Some (expressions.choice_of_effects span (expression_of test) (effect_of chosen.value)
         (effect_of other.value))) }
 {
     done(
@@ -120,7 +121,8 @@ fn number_arms(
     other: Option<Expression>,
 ) -> Result<Option<Value>, AllocError>
     ensures { IfOk result (λ r. option_map value_of r
-        ≡ v.lift2 (e.choice_of span (expression_of test)) (option_map expression_of chosen)
+        ≡ values.lift2 (expressions.choice_of span (expression_of test))
+        (option_map expression_of chosen)
         (option_map expression_of other)) }
 {
     match chosen {
@@ -148,8 +150,9 @@ fn effect_arms(
     chosen: Box<Effect>,
     other: Value,
 ) -> Result<Option<Value>, AllocError>
-    ensures { IfOk result (λ r. option_map value_of r ≡ e.arms_value span (expression_of test)
-        (v.Done (effect_of chosen.value)) (value_of other)) }
+    ensures { IfOk result (λ r. option_map value_of r
+        ≡ expressions.arms_value span (expression_of test)
+        (values.Done (effect_of chosen.value)) (value_of other)) }
 {
     match other.into_parts() {
         ValueParts::Done(other) => choice_of_effects(alloc, span, test, chosen, other),
@@ -170,7 +173,8 @@ fn conditional_value(
     other: Option<Value>,
 ) -> Result<Option<Value>, AllocError>
     ensures { IfOk result (λ r. option_map value_of r
-        ≡ e.conditional_value span (option_map expression_of test) (option_map value_of chosen)
+        ≡ expressions.conditional_value span (option_map expression_of test)
+        (option_map value_of chosen)
         (option_map value_of other)) }
 {
     let Some(test) = test else {
@@ -201,9 +205,10 @@ fn conditional_value(
 fn judged(at: u32, test: &Found, chosen: &Found, other: &Found) -> (Option<Fault>, bool)
     ensures fault { result.0 ≡ least_of (listed test.now.fault ++ (listed chosen.now.fault
         ++ (listed other.now.fault
-        ++ e.conditional_faults at (option_map v.kind_of (option_map value_of test.now.value))
-        (option_map v.kind_of (option_map value_of chosen.now.value))
-        (option_map v.kind_of (option_map value_of other.now.value))))) }
+        ++ expressions.conditional_faults at
+        (option_map values.kind_of (option_map value_of test.now.value))
+        (option_map values.kind_of (option_map value_of chosen.now.value))
+        (option_map values.kind_of (option_map value_of other.now.value))))) }
     ensures constant { result.1
         ≡ (test.now.constant && chosen.now.constant && other.now.constant) }
 {
@@ -229,8 +234,8 @@ pub fn conditional(
     chosen: Found,
     other: Found,
 ) -> Result<Found, AllocError>
-    ensures { IfOk result (λ r. (s : s.Scope) → found_of r s
-        ≡ squeezed (e.conditional_found span (found_of test s) (found_of chosen s)
+    ensures { IfOk result (λ r. (s : scopes.Scope) → found_of r s
+        ≡ squeezed (expressions.conditional_found span (found_of test s) (found_of chosen s)
         (found_of other s))) }
 {
     let (fault, constant) = judged(span.start, &test, &chosen, &other);

@@ -2,28 +2,20 @@
 ghost use Rattle.std.specs.Prelude.{◌≡◌, if◌then◌else◌, pos, Some, None, [], ◌∷◌, false, true, is_none, option_map};
 ghost use Rattle.mc_value.specs.declared.int_type.IntType.TheVariants as IntType;
 ghost use Rattle.mc_value.specs.IntTypes.{in_range};
-ghost use Rattle.mc_typed.specs.Tree as t;
+ghost use Rattle.mc_typed.specs.Tree as typed;
 ghost use Rattle.mc_faults.specs.declared.fault.FaultKind.TheVariants.{Mismatch};
 ghost use Rattle.mc_faults.specs.Faults.{fault_if, least_of};
-ghost use Rattle.mc_typing.specs.Scopes as s;
-ghost use Rattle.mc_typing.specs.Values as v;
-ghost use Rattle.mc_typing.specs.Constants as c;
-ghost use Rattle.mc_typing.specs.Expressions as e;
+ghost use Rattle.mc_typing.specs.Scopes as scopes;
+ghost use Rattle.mc_typing.specs.Values as values;
+ghost use Rattle.mc_typing.specs.Constants as constants;
+ghost use Rattle.mc_typing.specs.Expressions as expressions;
 ghost use Rattle.mc_scopes.specs.Found.{found_of, value_of};
 ghost use Rattle.mc_scopes.specs.steps.Squeezed.{squeezed};
 
 use mc_faults::{FaultKind, fault_where};
 use mc_scopes::found::{Found, number_found};
 use mc_typed::{Expression, Span};
-use mc_value::{IntType, range};
-
-// Whether a number is a value of the type.
-fn is_in(of: IntType, value: i128) -> bool
-    ensures { result ≡ in_range of value }
-{
-    let (least, greatest) = range(of);
-    least <= value && value <= greatest
-}
+use mc_value::{IntType, is_in};
 
 // The type where it holds the value, else that of the types after it.
 fn this_or(value: i128, of: IntType, later: Option<IntType>) -> Option<IntType>
@@ -34,19 +26,19 @@ fn this_or(value: i128, of: IntType, later: Option<IntType>) -> Option<IntType>
 
 // `unsigned long long`, and the types before it.
 fn unsigned_long_long(value: i128) -> Option<IntType>
-    ensures { result ≡ c.first_holding value (IntType.ULLong ∷ []) }
+    ensures { result ≡ constants.first_holding value (IntType.ULLong ∷ []) }
 {
     this_or(value, IntType::ULLong, None)
 }
 
 fn unsigned_long(value: i128) -> Option<IntType>
-    ensures { result ≡ c.first_holding value (IntType.ULong ∷ IntType.ULLong ∷ []) }
+    ensures { result ≡ constants.first_holding value (IntType.ULong ∷ IntType.ULLong ∷ []) }
 {
     this_or(value, IntType::ULong, unsigned_long_long(value))
 }
 
 fn long_long(value: i128, decimal: bool) -> Option<IntType>
-    ensures { result ≡ c.first_holding value (c.types_of_constant decimal false 2) }
+    ensures { result ≡ constants.first_holding value (constants.types_of_constant decimal false 2) }
 {
     let later = if decimal {
         None
@@ -57,7 +49,8 @@ fn long_long(value: i128, decimal: bool) -> Option<IntType>
 }
 
 fn unsigned_or_longer(value: i128, longs: u32) -> Option<IntType>
-    ensures { result ≡ c.first_holding value (c.types_of_constant false true longs) }
+    ensures { result ≡ constants.first_holding value
+        (constants.types_of_constant false true longs) }
 {
     match longs {
         0 => this_or(value, IntType::UInt, unsigned_long(value)),
@@ -68,7 +61,7 @@ fn unsigned_or_longer(value: i128, longs: u32) -> Option<IntType>
 
 // `long` and the types after it.
 fn long(value: i128, decimal: bool) -> Option<IntType>
-    ensures { result ≡ c.first_holding value (c.types_of_constant decimal false 1) }
+    ensures { result ≡ constants.first_holding value (constants.types_of_constant decimal false 1) }
 {
     let longest = long_long(value, decimal);
     let later = if decimal {
@@ -81,7 +74,7 @@ fn long(value: i128, decimal: bool) -> Option<IntType>
 
 // `int` and the types after it.
 fn int(value: i128, decimal: bool) -> Option<IntType>
-    ensures { result ≡ c.first_holding value (c.types_of_constant decimal false 0) }
+    ensures { result ≡ constants.first_holding value (constants.types_of_constant decimal false 0) }
 {
     let longer = long(value, decimal);
     let later = if decimal {
@@ -93,7 +86,8 @@ fn int(value: i128, decimal: bool) -> Option<IntType>
 }
 
 fn signed_or_longer(value: i128, decimal: bool, longs: u32) -> Option<IntType>
-    ensures { result ≡ c.first_holding value (c.types_of_constant decimal false longs) }
+    ensures { result ≡ constants.first_holding value
+        (constants.types_of_constant decimal false longs) }
 {
     match longs {
         0 => int(value, decimal),
@@ -105,7 +99,7 @@ fn signed_or_longer(value: i128, decimal: bool, longs: u32) -> Option<IntType>
 /// The type of an integer constant: the first of its list that holds the value (C17 6.4.4.1p5).
 /// `longs` is the number of `l` in its suffix.
 pub fn type_of_constant(value: u64, decimal: bool, unsigned: bool, longs: u32) -> Option<IntType>
-    ensures { result ≡ c.type_of_constant value decimal unsigned longs }
+    ensures { result ≡ constants.type_of_constant value decimal unsigned longs }
 {
     if unsigned {
         unsigned_or_longer(value as i128, longs)
@@ -118,7 +112,7 @@ pub fn type_of_constant(value: u64, decimal: bool, unsigned: bool, longs: u32) -
 fn literal(value: i128, of: Option<IntType>, span: Span) -> Found
     ensures fault { result.fault ≡ least_of (fault_if (is_none of) Mismatch span.start) }
     ensures value { option_map value_of result.value
-        ≡ option_map (λ b. v.Number (t.Constant value b span)) of }
+        ≡ option_map (λ b. values.Number (typed.Constant value b span)) of }
     ensures place { result.place ≡ false }
     ensures constant { result.constant ≡ true }
 {
@@ -132,8 +126,8 @@ fn literal(value: i128, of: Option<IntType>, span: Span) -> Found
 
 /// An integer constant.
 pub fn constant(value: u64, decimal: bool, unsigned: bool, longs: u32, span: Span) -> Found
-    ensures { (s : s.Scope) → found_of result s
-        ≡ squeezed (e.constant_literal value decimal unsigned longs span s) }
+    ensures { (s : scopes.Scope) → found_of result s
+        ≡ squeezed (expressions.constant_literal value decimal unsigned longs span s) }
 {
     literal(
         value as i128,
@@ -144,7 +138,8 @@ pub fn constant(value: u64, decimal: bool, unsigned: bool, longs: u32, span: Spa
 
 /// A character constant, whose type is `int` (C17 6.4.4.4p10).
 pub fn character(value: i32, span: Span) -> Found
-    ensures { (s : s.Scope) → found_of result s ≡ squeezed (e.character_literal value span s) }
+    ensures { (s : scopes.Scope) → found_of result s
+        ≡ squeezed (expressions.character_literal value span s) }
 {
     let value = value as i128;
     let of = this_or(value, IntType::Int, None);
@@ -155,7 +150,7 @@ pub fn character(value: i32, span: Span) -> Found
 pub fn one(at: Span) -> Found
     ensures fault { result.fault ≡ None }
     ensures value { option_map value_of result.value
-        ≡ Some (v.Number (t.Constant (pos 1) IntType.Int at)) }
+        ≡ Some (values.Number (typed.Constant (pos 1) IntType.Int at)) }
     ensures place { result.place ≡ false }
     ensures constant { result.constant ≡ true }
 {

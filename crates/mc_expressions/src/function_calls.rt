@@ -1,11 +1,11 @@
 //! Calls (C17 6.5.2.2).
 ghost use Rattle.std.specs.Prelude.{◌≡◌, IfOk, Ok, map, not, ◌&&◌, is_none, option_map};
 ghost use Rattle.mc_tree.specs.Views.{name_of};
-ghost use Rattle.mc_typed.specs.Tree as t;
+ghost use Rattle.mc_typed.specs.Tree as typed;
 ghost use Rattle.mc_typed.specs.Views.{argument_of, call_of, expression_of};
 ghost use Rattle.mc_faults.specs.Faults.{least_of};
-ghost use Rattle.mc_typing.specs.Scopes as s;
-ghost use Rattle.mc_typing.specs.Calls as c;
+ghost use Rattle.mc_typing.specs.Scopes as scopes;
+ghost use Rattle.mc_typing.specs.Calls as calls;
 ghost use Rattle.mc_scopes.specs.Types.{base_of, signature_of};
 ghost use Rattle.mc_scopes.specs.Views.{scope_of, structure_of};
 ghost use Rattle.mc_scopes.specs.Given.{arguments_of, given_of};
@@ -29,19 +29,19 @@ use std::sync::Arc;
 // ---- the two external functions
 
 fn is_input(name: &Identifier<'_>) -> bool
-    ensures { result ≡ s.is_input (name_of name.now) }
+    ensures { result ≡ scopes.is_input (name_of name.now) }
 {
     name.text == b"mcdc_in".as_slice()
 }
 
 fn is_output(name: &Identifier<'_>) -> bool
-    ensures { result ≡ s.is_output (name_of name.now) }
+    ensures { result ≡ scopes.is_output (name_of name.now) }
 {
     name.text == b"mcdc_out".as_slice()
 }
 
 fn is_external(name: &Identifier<'_>) -> bool
-    ensures { result ≡ s.is_external (name_of name.now) }
+    ensures { result ≡ scopes.is_external (name_of name.now) }
 {
     let input = is_input(name);
     let output = is_output(name);
@@ -50,7 +50,7 @@ fn is_external(name: &Identifier<'_>) -> bool
 
 // The number of the function with this name, where it has a body.
 fn function_number(scope: &Scope<'_>, name: &Identifier<'_>) -> Option<u32>
-    ensures { result ≡ s.function_number (name_of name.now) (scope_of scope.now) }
+    ensures { result ≡ scopes.function_number (name_of name.now) (scope_of scope.now) }
 {
     scope.bodies.number(name.text)
 }
@@ -59,7 +59,7 @@ fn function_number(scope: &Scope<'_>, name: &Identifier<'_>) -> Option<u32>
 
 // Whether a function can give the type (C17 6.5.2.2p1).
 fn gives(structures: &[Structure<'_>], base: Base) -> bool
-    ensures { result ≡ c.gives (map structure_of structures.now) (base_of base) }
+    ensures { result ≡ calls.gives (map structure_of structures.now) (base_of base) }
 {
     match base {
         Base::Void => true,
@@ -74,7 +74,7 @@ fn signature_fault(
     structures: &[Structure<'_>],
     signature: &Option<Arc<Signature>>,
 ) -> Option<Fault>
-    ensures { listed result ≡ c.signature_faults at count (map structure_of structures.now)
+    ensures { listed result ≡ calls.signature_faults at count (map structure_of structures.now)
         (option_map (λ f. signature_of f.value) signature.now) }
 {
     match signature {
@@ -89,8 +89,8 @@ fn signature_fault(
 
 // Whether a function has no body, and is none of the external ones.
 fn has_no_body(scope: &Scope<'_>, name: &Identifier<'_>) -> bool
-    ensures { result ≡ (not (s.is_external (name_of name.now))
-        && is_none (s.function_number (name_of name.now) (scope_of scope.now))) }
+    ensures { result ≡ (not (scopes.is_external (name_of name.now))
+        && is_none (scopes.function_number (name_of name.now) (scope_of scope.now))) }
 {
     let external = is_external(name);
     let absent = function_number(scope, name).is_none();
@@ -104,7 +104,8 @@ fn callee_fault(
     count: usize,
     callee: &Callee,
 ) -> Option<Fault>
-    ensures { result ≡ least_of (c.callee_faults (name_of name.now) at count (scope_of scope.now)
+    ensures { result ≡ least_of (calls.callee_faults (name_of name.now) at count
+        (scope_of scope.now)
         (meaning_of_callee callee.now)) }
 {
     match callee {
@@ -170,7 +171,7 @@ fn output_of(
     arguments: Vec<Argument>,
 ) -> Result<Option<Value>, AllocError>
     ensures { IfOk result (λ r. option_map value_of r
-        ≡ c.output_of span (arguments_of arguments)) }
+        ≡ calls.output_of span (arguments_of arguments)) }
 {
     match only(arguments) {
         Some(argument) => output_with(alloc, span, argument),
@@ -184,7 +185,7 @@ fn function_call(
     slot: Option<Slot>,
     span: Span,
 ) -> FunctionCall
-    ensures { call_of result ≡ t.call function (arguments_of arguments) slot span }
+    ensures { call_of result ≡ typed.call function (arguments_of arguments) slot span }
 {
     FunctionCall {
         function,
@@ -203,7 +204,8 @@ fn returned(
     base: Base,
 ) -> Result<Option<Value>, AllocError>
     ensures { IfOk result (λ r. option_map value_of r
-        ≡ c.returned (scope_of scope.now) function (arguments_of arguments) span (base_of base)) }
+        ≡ calls.returned (scope_of scope.now) function (arguments_of arguments) span
+        (base_of base)) }
 {
     match base {
         Base::Void => {
@@ -242,7 +244,7 @@ fn called(
     arguments: Vec<Argument>,
 ) -> Result<Option<Value>, AllocError>
     ensures { IfOk result (λ r. option_map value_of r
-        ≡ c.called (name_of name.now) span (scope_of scope.now) (base_of base)
+        ≡ calls.called (name_of name.now) span (scope_of scope.now) (base_of base)
         (arguments_of arguments)) }
 {
     if is_input(name) {
@@ -270,7 +272,7 @@ fn call_value(
     arguments: Option<Vec<Argument>>,
 ) -> Result<Option<Value>, AllocError>
     ensures { IfOk result (λ r. option_map value_of r
-        ≡ c.call_value (name_of name.now) span (meaning_of_callee callee.now)
+        ≡ calls.call_value (name_of name.now) span (meaning_of_callee callee.now)
         (scope_of scope.now) (option_map arguments_of arguments)) }
 {
     match callee {
@@ -300,7 +302,7 @@ fn after_call(
     copied: u64,
 ) -> Result<(), AllocError>
     ensures { IfOk result (λ _. scope_of scope.new
-        ≡ c.after_call (option_map value_of value.now) copied (scope_of scope.old)) }
+        ≡ calls.after_call (option_map value_of value.now) copied (scope_of scope.old)) }
 {
     match value {
         Some(value) => match value {
@@ -326,7 +328,7 @@ fn with_object(
 ) -> Result<Option<Value>, AllocError>
     ensures value { IfOk result (λ r. value ≡ Ok r) }
     ensures scope { IfOk result (λ r. scope_of scope.new
-        ≡ c.after_call (option_map value_of r) copied (scope_of scope.old)) }
+        ≡ calls.after_call (option_map value_of r) copied (scope_of scope.old)) }
 {
     match value {
         Ok(value) => match after_call(alloc, scope, &value, copied) {
@@ -351,7 +353,7 @@ pub fn call(
     given: Given<Vec<Argument>>,
 ) -> Result<Found, AllocError>
     ensures { IfOk result (λ r. found_of r (scope_of scope.new)
-        ≡ squeezed (c.call_found (name_of name.now) count span (meaning_of_callee callee.now)
+        ≡ squeezed (calls.call_found (name_of name.now) count span (meaning_of_callee callee.now)
         (given_of arguments_of given (scope_of scope.old)))) }
 {
     let own = callee_fault(scope, name, span.start, count, callee);
@@ -363,8 +365,8 @@ pub fn call(
 
 /// A comma operator, which elsewhere than between the clauses of a `for` is an outside form.
 pub fn comma(at: u32, given: Given<Vec<Argument>>) -> Found
-    ensures { (s : s.Scope) → found_of result s
-        ≡ squeezed (c.comma_found at (given_of arguments_of given s)) }
+    ensures { (s : scopes.Scope) → found_of result s
+        ≡ squeezed (calls.comma_found at (given_of arguments_of given s)) }
 {
     Found {
         fault: or_fault(given.fault, true, FaultKind::Mismatch, at),

@@ -3,10 +3,10 @@ ghost use Rattle.std.specs.Prelude.{◌≡◌, ◌++◌, [], map, Some, None, Is
 ghost use Rattle.mc_typed.specs.Tree.{no_arguments};
 ghost use Rattle.mc_typed.specs.Views.{argument_of};
 ghost use Rattle.mc_typing.specs.Calls.{judged_given};
-ghost use Rattle.mc_typing.specs.Calls as c;
+ghost use Rattle.mc_typing.specs.Calls as calls;
 ghost use Rattle.mc_faults.specs.Faults.{least_of};
-ghost use Rattle.mc_typing.specs.Scopes as s;
-ghost use Rattle.mc_typing.specs.Values as v;
+ghost use Rattle.mc_typing.specs.Scopes as scopes;
+ghost use Rattle.mc_typing.specs.Values as values;
 ghost use Rattle.mc_scopes.specs.Types.{kind_of};
 ghost use Rattle.mc_scopes.specs.Given.{arguments_of, given_of, items_of};
 ghost use Rattle.mc_faults.specs.Kept.{listed};
@@ -21,7 +21,7 @@ use std::alloc::{AllocError, Global};
 
 /// No arguments so far. Takes no memory.
 pub fn none_given(alloc: Global) -> Given<Vec<Argument>>
-    ensures { (s : s.Scope) → given_of items_of result s ≡ judged_given [] (Some []) 0 s }
+    ensures { (s : scopes.Scope) → given_of items_of result s ≡ judged_given [] (Some []) 0 s }
 {
     Given {
         fault: None,
@@ -35,7 +35,7 @@ fn push_argument(
     one: Option<Argument>,
 ) -> Result<Option<Vec<Argument>>, AllocError>
     ensures { IfOk result (λ r. option_map items_of r
-        ≡ v.lift2 with_last (option_map items_of given) (option_map argument_of one)) }
+        ≡ values.lift2 with_last (option_map items_of given) (option_map argument_of one)) }
 {
     match given {
         Some(given) => match one {
@@ -86,7 +86,7 @@ pub fn gather(
     given: Given<Vec<Argument>>,
     one: Given<Argument>,
 ) -> Result<Given<Vec<Argument>>, AllocError>
-    ensures { IfOk result (λ r. (s u : s.Scope) → given_of items_of r u
+    ensures { IfOk result (λ r. (s u : scopes.Scope) → given_of items_of r u
         ≡ squeezed_given (extended (given_of items_of given s) (given_of argument_of one u))) }
 {
     let fault = join(given.fault, one.fault);
@@ -105,8 +105,8 @@ fn join(one: Option<Fault>, other: Option<Fault>) -> Option<Fault>
 
 // Whether no parameters are left.
 fn none_left(left: &[ParameterKind]) -> bool
-    ensures none { IsTrue result → c.no_more (map kind_of left.now) ≡ Some no_arguments }
-    ensures more { IsFalse result → c.no_more (map kind_of left.now) ≡ None }
+    ensures none { IsTrue result → calls.no_more (map kind_of left.now) ≡ Some no_arguments }
+    ensures more { IsFalse result → calls.no_more (map kind_of left.now) ≡ None }
 {
     match left {
         [] => true,
@@ -118,7 +118,7 @@ fn none_left(left: &[ParameterKind]) -> bool
 #[tactic(auto, using(crate::proofs::Gathered::before_none))]
 fn only_complete(given: Option<Vec<Argument>>, left: &[ParameterKind]) -> Option<Vec<Argument>>
     ensures { option_map arguments_of result
-        ≡ v.lift2 before (option_map items_of given) (c.no_more (map kind_of left.now)) }
+        ≡ values.lift2 before (option_map items_of given) (calls.no_more (map kind_of left.now)) }
 {
     let complete = none_left(left);
     match given {
@@ -138,9 +138,9 @@ fn only_complete(given: Option<Vec<Argument>>, left: &[ParameterKind]) -> Option
 /// Takes no memory.
 #[tactic(auto, using(mc_scopes::proofs::Squeezed::least_alone))]
 pub fn given_for(given: Given<Vec<Argument>>, left: &[ParameterKind]) -> Given<Vec<Argument>>
-    ensures { (s : s.Scope) → given_of arguments_of result s
+    ensures { (s : scopes.Scope) → given_of arguments_of result s
         ≡ squeezed_given (gathered (given_of items_of given s)
-        (judged_given [] (c.no_more (map kind_of left.now)) 0 s)) }
+        (judged_given [] (calls.no_more (map kind_of left.now)) 0 s)) }
 {
     Given {
         fault: given.fault,
@@ -151,7 +151,7 @@ pub fn given_for(given: Given<Vec<Argument>>, left: &[ParameterKind]) -> Given<V
 
 /// The parameter that the next argument is for, where there is one. Takes no memory.
 pub fn first_of(left: &[ParameterKind]) -> Option<&ParameterKind>
-    ensures { option_map kind_of (option_copied result) ≡ c.first_of (map kind_of left.now) }
+    ensures { option_map kind_of (option_copied result) ≡ calls.first_of (map kind_of left.now) }
 {
     match left {
         [first, ..] => Some(first),
@@ -161,7 +161,7 @@ pub fn first_of(left: &[ParameterKind]) -> Option<&ParameterKind>
 
 /// The parameters that the arguments after the next one are for. Takes no memory.
 pub fn rest_of(left: &[ParameterKind]) -> &[ParameterKind]
-    ensures { map kind_of result.now ≡ c.rest_of (map kind_of left.now) }
+    ensures { map kind_of result.now ≡ calls.rest_of (map kind_of left.now) }
 {
     match left {
         [_, rest @ ..] => rest,

@@ -1,16 +1,16 @@
 //! Assignments of both kinds, made by one walk over their sides (C17 6.5.16).
 ghost use Rattle.std.specs.Prelude.{◌≡◌, ◌++◌, IfOk, Some, map, option_map};
 ghost use Rattle.mc_typed.specs.Layout as objects;
-ghost use Rattle.mc_typed.specs.Tree as t;
+ghost use Rattle.mc_typed.specs.Tree as typed_tree;
 ghost use Rattle.mc_typed.specs.Views.{expression_of, place_of};
 ghost use Rattle.mc_typed.specs.Views as typed;
 ghost use Rattle.mc_faults.specs.declared.fault.FaultKind.TheVariants.{Mismatch};
 ghost use Rattle.mc_faults.specs.Faults.{fault_if, least_of};
 ghost use Rattle.mc_faults.specs.Kept.{listed};
 ghost use Rattle.mc_typing.specs.Types as types;
-ghost use Rattle.mc_typing.specs.Scopes as s;
-ghost use Rattle.mc_typing.specs.Values as v;
-ghost use Rattle.mc_typing.specs.Expressions as e;
+ghost use Rattle.mc_typing.specs.Scopes as scopes;
+ghost use Rattle.mc_typing.specs.Values as values;
+ghost use Rattle.mc_typing.specs.Expressions as expressions;
 ghost use Rattle.mc_scopes.specs.Types.{base_of};
 ghost use Rattle.mc_scopes.specs.Views.{structure_of};
 ghost use Rattle.mc_scopes.specs.Found.{found_of, value_of};
@@ -45,8 +45,8 @@ pub(crate) enum Making<'t, 'a> {
 
 // The operator of a compound assignment.
 fn operator_of(operator: AssignmentOperator) -> Option<Operator>
-    ensures { (place : t.Place) (of : IntType) (f : t.Expression) (span : Span)
-        → e.update_of operator place of f span
+    ensures { (place : typed_tree.Place) (of : IntType) (f : typed_tree.Expression) (span : Span)
+        → expressions.update_of operator place of f span
         ≡ option_map (λ o. updated o place of f span) result }
 {
     match operator {
@@ -87,7 +87,7 @@ fn updating(
     value: Expression,
     span: Span,
 ) -> Result<Option<Value>, AllocError>
-    ensures { IfOk result (λ r. option_map value_of r ≡ Some (v.Assigned
+    ensures { IfOk result (λ r. option_map value_of r ≡ Some (values.Assigned
         (updated operator (place_of target) of (expression_of value) span))) }
 {
     let (common, to) = types_for(operator, of, value.integer_type());
@@ -117,8 +117,9 @@ fn storing(
     value: Expression,
     span: Span,
 ) -> Result<Option<Value>, AllocError>
-    ensures { IfOk result (λ r. option_map value_of r ≡ Some (v.Assigned
-        (t.Assign (place_of target) of (e.convert_to of (expression_of value)) span))) }
+    ensures { IfOk result (λ r. option_map value_of r ≡ Some (values.Assigned
+        (typed_tree.Assign (place_of target) of (expressions.convert_to of (expression_of value))
+        span))) }
 {
     match convert_to(alloc, of, value) {
         Ok(value) => assigned(
@@ -145,7 +146,7 @@ fn number_effect(
     value: Option<Expression>,
     span: Span,
 ) -> Result<Option<Value>, AllocError>
-    ensures { IfOk result (λ r. option_map value_of r ≡ option_map v.Assigned
+    ensures { IfOk result (λ r. option_map value_of r ≡ option_map values.Assigned
         (number_by making.entry (place_of target) of span (option_map expression_of value))) }
 {
     let Some(value) = value else {
@@ -175,8 +176,8 @@ fn structure_effect(
     value: Option<mc_typed::Structure>,
     span: Span,
 ) -> Result<Option<Value>, AllocError>
-    ensures { IfOk result (λ r. option_map value_of r ≡ option_map v.Assigned
-        (option_map (λ w. t.Copy (place_of target) w (objects.cells (types.layout_of
+    ensures { IfOk result (λ r. option_map value_of r ≡ option_map values.Assigned
+        (option_map (λ w. typed_tree.Copy (place_of target) w (objects.cells (types.layout_of
         (map structure_of structures.now) (types.plain (types.Tagged number)))) span)
         (option_map typed.structure_of value))) }
 {
@@ -211,7 +212,7 @@ fn made_in(
     target: Place,
     of: &CType,
 ) -> Result<Option<Value>, AllocError>
-    ensures { IfOk result (λ r. option_map value_of r ≡ option_map v.Assigned
+    ensures { IfOk result (λ r. option_map value_of r ≡ option_map values.Assigned
         (made_by making.entry span (value_of value) (place_of target) (base_of of.now.base)
         of.now.lengths.items)) }
 {
@@ -250,7 +251,7 @@ fn made_value(
     value: Option<Value>,
 ) -> Result<Option<Value>, AllocError>
     ensures { IfOk result (λ r. option_map value_of r
-        ≡ e.assignment_value (made_by making.entry span) (option_map value_of target)
+        ≡ expressions.assignment_value (made_by making.entry span) (option_map value_of target)
         (option_map value_of value)) }
 {
     let Some(target) = target else {
@@ -279,7 +280,7 @@ fn made_value(
 fn sides_fault(making: Making<'_, '_>, at: u32, target: &Found, value: &Found) -> Option<Fault>
     ensures { result ≡ least_of (listed target.now.fault ++ (listed value.now.fault
         ++ fault_if (fails_by making.entry target.now.place (option_map value_of target.now.value)
-        (option_map v.kind_of (option_map value_of value.now.value))) Mismatch at)) }
+        (option_map values.kind_of (option_map value_of value.now.value))) Mismatch at)) }
 {
     let wrong = match making {
         Making::Assign(_) => assign_fails(target.place, &target.value, &value.value),
@@ -296,7 +297,7 @@ pub(crate) fn made(
     target: Found,
     value: Found,
 ) -> Result<Found, AllocError>
-    ensures { IfOk result (λ r. (s : s.Scope) → found_of r s
+    ensures { IfOk result (λ r. (s : scopes.Scope) → found_of r s
         ≡ squeezed (found_by making.entry span (found_of target s) (found_of value s))) }
 {
     let fault = sides_fault(making, span.start, &target, &value);

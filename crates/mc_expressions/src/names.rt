@@ -1,12 +1,12 @@
 //! Names (C17 6.5.1).
 ghost use Rattle.std.specs.Prelude.{◌≡◌, IfOk, Some, option_copied, option_map, option_and_then};
 ghost use Rattle.mc_value.specs.declared.int_type.IntType.TheVariants as IntType;
-ghost use Rattle.mc_typed.specs.Tree as t;
+ghost use Rattle.mc_typed.specs.Tree as typed;
 ghost use Rattle.mc_typed.specs.Views.{place_of};
 ghost use Rattle.mc_faults.specs.Faults.{least_of};
-ghost use Rattle.mc_typing.specs.Values as v;
-ghost use Rattle.mc_typing.specs.Scopes as s;
-ghost use Rattle.mc_typing.specs.Expressions as e;
+ghost use Rattle.mc_typing.specs.Values as values;
+ghost use Rattle.mc_typing.specs.Scopes as in_scope;
+ghost use Rattle.mc_typing.specs.Expressions as expressions;
 ghost use Rattle.mc_scopes.specs.Types.{type_of};
 ghost use Rattle.mc_scopes.specs.Views as scopes;
 ghost use Rattle.mc_scopes.specs.Found.{found_of, value_of};
@@ -23,7 +23,8 @@ use mc_value::IntType;
 use std::alloc::AllocError;
 
 fn is_object(meaning: Option<&Meaning>) -> bool
-    ensures { result ≡ e.is_object (option_map scopes.meaning_of (option_copied meaning.entry)) }
+    ensures { result ≡ expressions.is_object
+        (option_map scopes.meaning_of (option_copied meaning.entry)) }
 {
     match meaning {
         Some(meaning) => match meaning {
@@ -36,7 +37,7 @@ fn is_object(meaning: Option<&Meaning>) -> bool
 
 fn is_enumerator(meaning: Option<&Meaning>) -> bool
     ensures { result
-        ≡ e.is_enumerator (option_map scopes.meaning_of (option_copied meaning.entry)) }
+        ≡ expressions.is_enumerator (option_map scopes.meaning_of (option_copied meaning.entry)) }
 {
     match meaning {
         Some(meaning) => match meaning {
@@ -53,7 +54,8 @@ fn is_enumerator(meaning: Option<&Meaning>) -> bool
 
 fn name_fault(meaning: Option<&Meaning>, at: u32) -> Option<Fault>
     ensures { result
-        ≡ least_of (e.name_faults (option_map scopes.meaning_of (option_copied meaning.entry)) at) }
+        ≡ least_of (expressions.name_faults
+        (option_map scopes.meaning_of (option_copied meaning.entry)) at) }
 {
     match meaning {
         Some(meaning) => match meaning {
@@ -77,7 +79,7 @@ fn name_fault(meaning: Option<&Meaning>, at: u32) -> Option<Fault>
 // An object with its type, where that is known.
 fn stored(place: Place, of: &Option<CType>) -> Result<Option<Value>, AllocError>
     ensures { IfOk result (λ r. option_map value_of r
-        ≡ option_map (v.Stored (place_of place)) (option_map type_of of.now)) }
+        ≡ option_map (values.Stored (place_of place)) (option_map type_of of.now)) }
 {
     match of {
         Some(of) => match of.try_clone() {
@@ -97,7 +99,7 @@ fn stored(place: Place, of: &Option<CType>) -> Result<Option<Value>, AllocError>
 // The array that an array parameter names.
 fn borrowed(array: u32, element: &CType, span: Span) -> Result<Option<Value>, AllocError>
     ensures { IfOk result (λ r. option_map value_of r
-        ≡ Some (v.Borrowed array (type_of element.now) span)) }
+        ≡ Some (values.Borrowed array (type_of element.now) span)) }
 {
     match element.try_clone() {
         Ok(element) => Ok(Some(Value::Borrowed {
@@ -112,7 +114,7 @@ fn borrowed(array: u32, element: &CType, span: Span) -> Result<Option<Value>, Al
 // An enumeration constant, where its value is known.
 fn enumerator(value: Option<i128>, span: Span) -> Option<Value>
     ensures { option_map value_of result
-        ≡ option_map (λ w. v.Number (t.Constant w IntType.Int span)) value }
+        ≡ option_map (λ w. values.Number (typed.Constant w IntType.Int span)) value }
 {
     match value {
         Some(value) => Some(Value::Number(Expression::Constant {
@@ -126,7 +128,7 @@ fn enumerator(value: Option<i128>, span: Span) -> Option<Value>
 
 fn value_of_name(span: Span, meaning: &Meaning) -> Result<Option<Value>, AllocError>
     ensures { IfOk result (λ r. option_map value_of r
-        ≡ e.value_of_name span (scopes.meaning_of meaning.now)) }
+        ≡ expressions.value_of_name span (scopes.meaning_of meaning.now)) }
 {
     match meaning {
         Meaning::Automatic { slot, of } => stored(Place::Local { slot: *slot, span }, of),
@@ -140,7 +142,7 @@ fn value_of_name(span: Span, meaning: &Meaning) -> Result<Option<Value>, AllocEr
 
 fn value_named(span: Span, meaning: Option<&Meaning>) -> Result<Option<Value>, AllocError>
     ensures { IfOk result (λ r. option_map value_of r
-        ≡ option_and_then (e.value_of_name span)
+        ≡ option_and_then (expressions.value_of_name span)
         (option_map scopes.meaning_of (option_copied meaning.entry))) }
 {
     match meaning {
@@ -151,7 +153,7 @@ fn value_named(span: Span, meaning: Option<&Meaning>) -> Result<Option<Value>, A
 
 /// A name that stands here, by what it means.
 pub fn name(span: Span, meaning: Option<&Meaning>) -> Result<Found, AllocError>
-    ensures { IfOk result (λ r. (s : s.Scope) → found_of r s
+    ensures { IfOk result (λ r. (s : in_scope.Scope) → found_of r s
         ≡ squeezed (named_found span
         (option_map scopes.meaning_of (option_copied meaning.entry)) s)) }
 {

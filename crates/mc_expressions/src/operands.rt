@@ -2,7 +2,7 @@
 //! `drop`: written out at each exit, their drops would make each proof several times as long.
 ghost use Rattle.std.specs.Prelude.{◌≡◌, IfOk, Ok};
 ghost use Rattle.mc_typed.specs.Views.{expression_of};
-ghost use Rattle.mc_typing.specs.Expressions as e;
+ghost use Rattle.mc_typing.specs.Expressions as expressions;
 
 use mc_faults::Fault;
 use mc_scopes::conversions::convert_to;
@@ -49,7 +49,8 @@ pub(crate) fn operand(
     to: IntType,
     one: Expression,
 ) -> Result<Box<Expression>, AllocError>
-    ensures { IfOk result (λ r. expression_of r.value ≡ e.convert_to to (expression_of one)) }
+    ensures { IfOk result (λ r. expression_of r.value
+        ≡ expressions.convert_to to (expression_of one)) }
 {
     match convert_to(alloc, to, one) {
         Ok(one) => boxed(alloc, one),
@@ -66,9 +67,9 @@ pub(crate) fn operands(
     right: Expression,
 ) -> Result<(Box<Expression>, Box<Expression>), AllocError>
     ensures left { IfOk result (λ r. expression_of r.0.value
-        ≡ e.convert_to left_to (expression_of left)) }
+        ≡ expressions.convert_to left_to (expression_of left)) }
     ensures right { IfOk result (λ r. expression_of r.1.value
-        ≡ e.convert_to right_to (expression_of right)) }
+        ≡ expressions.convert_to right_to (expression_of right)) }
 {
     match operand(alloc, left_to, left) {
         Ok(left) => match operand(alloc, right_to, right) {

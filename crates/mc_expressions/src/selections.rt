@@ -2,13 +2,13 @@
 ghost use Rattle.std.specs.Prelude.{◌≡◌, ◌++◌, ℕ, List, IfOk, IfSome, Some, map, slice_get, option_map, option_and_then};
 ghost use Rattle.mc_tree.specs.Views.{name_of};
 ghost use Rattle.mc_typed.specs.Layout as objects;
-ghost use Rattle.mc_typed.specs.Tree as t;
+ghost use Rattle.mc_typed.specs.Tree as typed;
 ghost use Rattle.mc_typed.specs.Views.{place_of};
 ghost use Rattle.mc_faults.specs.Faults.{least_of};
 ghost use Rattle.mc_faults.specs.Kept.{listed};
 ghost use Rattle.mc_typing.specs.Types as types;
-ghost use Rattle.mc_typing.specs.Values as v;
-ghost use Rattle.mc_typing.specs.Expressions as e;
+ghost use Rattle.mc_typing.specs.Values as values;
+ghost use Rattle.mc_typing.specs.Expressions as expressions;
 ghost use Rattle.mc_scopes.specs.Listed.{selected_of};
 ghost use Rattle.mc_scopes.specs.Types.{base_of, type_of};
 ghost use Rattle.mc_scopes.specs.Views.{scope_of, structure_of};
@@ -29,9 +29,9 @@ use std::alloc::{AllocError, Global};
 // The member of a structure with this name, and its number.
 fn selected_in<'t>(structure: &'t Structure<'_>, name: &[u8]) -> Option<(u32, &'t Member)>
     ensures member { option_map (λ r. selected_of name.now r.0 r.1.now) result
-        ≡ e.selected 0 name.now (types.members_of (Some (structure_of structure.now))) }
+        ≡ expressions.selected 0 name.now (types.members_of (Some (structure_of structure.now))) }
     ensures offset { IfSome result (λ r. r.1.now.offset ≡ objects.start
-        (e.layouts_of (types.members_of (Some (structure_of structure.now)))) r.0) }
+        (expressions.layouts_of (types.members_of (Some (structure_of structure.now)))) r.0) }
 {
     match structure {
         Structure::Complete(complete) => complete.select(name),
@@ -48,10 +48,11 @@ fn selected<'t>(
     name: &[u8],
 ) -> Option<(u32, &'t Member)>
     ensures member { option_map (λ r. selected_of name.now r.0 r.1.now) result
-        ≡ e.selected 0 name.now
+        ≡ expressions.selected 0 name.now
         (types.members_of (slice_get (map structure_of structures.now) number)) }
     ensures offset { IfSome result (λ r. r.1.now.offset ≡ objects.start
-        (e.layouts_of (types.members_of (slice_get (map structure_of structures.now) number)))
+        (expressions.layouts_of (types.members_of
+        (slice_get (map structure_of structures.now) number)))
         r.0) }
 {
     match structures.get(number as usize) {
@@ -65,7 +66,8 @@ fn is_undeclared(
     name: &Identifier<'_>,
     kind: Option<Kind<'_>>,
 ) -> bool
-    ensures { result ≡ e.undeclared_member (map structure_of structures.now) (name_of name.now)
+    ensures { result ≡ expressions.undeclared_member (map structure_of structures.now)
+        (name_of name.now)
         (option_map kind_of kind.entry) }
 {
     match kind {
@@ -87,7 +89,7 @@ fn member_fault(
     place: bool,
     kind: Option<Kind<'_>>,
 ) -> Option<Fault>
-    ensures { result ≡ least_of (e.member_faults at (name_of name.now)
+    ensures { result ≡ least_of (expressions.member_faults at (name_of name.now)
         (map structure_of structures.now) place (option_map kind_of kind.entry)) }
 {
     let no_structure = fails_structure(kind);
@@ -103,9 +105,10 @@ fn selection_fault(
     structures: &[Structure<'_>],
     operand: &Found,
 ) -> Option<Fault>
-    ensures { result ≡ least_of (listed operand.now.fault ++ e.member_faults at (name_of name.now)
+    ensures { result ≡ least_of (listed operand.now.fault
+        ++ expressions.member_faults at (name_of name.now)
         (map structure_of structures.now) operand.now.place
-        (option_map v.kind_of (option_map value_of operand.now.value))) }
+        (option_map values.kind_of (option_map value_of operand.now.value))) }
 {
     let kind = kind_found(&operand.value);
     let own = member_fault(at, name, structures, operand.place, kind);
@@ -122,7 +125,7 @@ fn typed_member(
     offset: u32,
 ) -> Result<Option<Value>, AllocError>
     ensures { IfOk result (λ r. option_map value_of r
-        ≡ Some (v.Stored (t.Member (place_of place) number offset span) (type_of of))) }
+        ≡ Some (values.Stored (typed.Member (place_of place) number offset span) (type_of of))) }
 {
     match boxed(alloc, place) {
         Ok(structure) => {
@@ -151,8 +154,10 @@ fn member_at(
     member: &Member,
 ) -> Result<Option<Value>, AllocError>
     ensures { IfOk result (λ r. (members : List types.Member) (name : List ℕ)
-        → member.now.offset ≡ objects.start (e.layouts_of members) number → option_map value_of r
-        ≡ e.member_at members (place_of place) is_const span (selected_of name number member.now)) }
+        → member.now.offset ≡ objects.start (expressions.layouts_of members) number
+        → option_map value_of r
+        ≡ expressions.member_at members (place_of place) is_const span
+        (selected_of name number member.now)) }
 {
     match &member.of {
         Some(of) => {
@@ -183,7 +188,7 @@ fn stored_member(
     of: &CType,
 ) -> Result<Option<Value>, AllocError>
     ensures { IfOk result (λ r. option_map value_of r
-        ≡ e.stored_member (map structure_of structures.now) (name_of name.now) span
+        ≡ expressions.stored_member (map structure_of structures.now) (name_of name.now) span
         (place_of place) (type_of of.now) of.now.lengths.items (base_of of.now.base)) }
 {
     if !of.lengths.is_empty() {
@@ -213,7 +218,8 @@ fn member_of(
     value: Option<Value>,
 ) -> Result<Option<Value>, AllocError>
     ensures { IfOk result (λ r. option_map value_of r
-        ≡ option_and_then (e.member_of (map structure_of structures.now) (name_of name.now) span)
+        ≡ option_and_then (expressions.member_of (map structure_of structures.now)
+        (name_of name.now) span)
         (option_map value_of value)) }
 {
     let Some(value) = value else {
@@ -241,7 +247,7 @@ pub fn member(
     operand: Found,
 ) -> Result<Found, AllocError>
     ensures { IfOk result (λ r. found_of r (scope_of scope.now)
-        ≡ squeezed (e.member_found (name_of name.now) span
+        ≡ squeezed (expressions.member_found (name_of name.now) span
         (found_of operand (scope_of scope.now)))) }
 {
     let fault = selection_fault(span.start, name, &scope.structures, &operand);

@@ -1,13 +1,13 @@
 //! Elements of arrays (C17 6.5.2.1).
 ghost use Rattle.std.specs.Prelude.{◌≡◌, ◌++◌, IfOk, Some, map, option_map};
 ghost use Rattle.mc_typed.specs.Layout as objects;
-ghost use Rattle.mc_typed.specs.Tree as t;
+ghost use Rattle.mc_typed.specs.Tree as typed;
 ghost use Rattle.mc_typed.specs.Views.{expression_of, place_of};
 ghost use Rattle.mc_faults.specs.Faults.{least_of};
 ghost use Rattle.mc_faults.specs.Kept.{listed};
 ghost use Rattle.mc_typing.specs.Types as types;
-ghost use Rattle.mc_typing.specs.Values as v;
-ghost use Rattle.mc_typing.specs.Expressions as e;
+ghost use Rattle.mc_typing.specs.Values as values;
+ghost use Rattle.mc_typing.specs.Expressions as expressions;
 ghost use Rattle.mc_scopes.specs.Types.{type_of};
 ghost use Rattle.mc_scopes.specs.Views.{scope_of, structure_of};
 ghost use Rattle.mc_scopes.specs.Found.{found_of, value_of};
@@ -62,7 +62,7 @@ fn item(
     span: Span,
 ) -> Result<Place, AllocError>
     ensures { IfOk result (λ r. place_of r
-        ≡ t.Item (place_of array) length stride (expression_of index) span) }
+        ≡ typed.Item (place_of array) length stride (expression_of index) span) }
 {
     match boxed(alloc, array) {
         Ok(array) => match boxed(alloc, index) {
@@ -96,7 +96,7 @@ fn item_of_type(
     span: Span,
 ) -> Result<Option<Value>, AllocError>
     ensures { IfOk result (λ r. option_map value_of r
-        ≡ Some (v.Stored (t.Item (place_of array) length
+        ≡ Some (values.Stored (typed.Item (place_of array) length
         (objects.cells (types.layout_of (map structure_of structures.now) (type_of element)))
         (expression_of index) span) (type_of element))) }
 {
@@ -126,7 +126,8 @@ fn stored_element(
     span: Span,
 ) -> Result<Option<Value>, AllocError>
     ensures { IfOk result (λ r. option_map value_of r
-        ≡ e.stored_element (map structure_of structures.now) (place_of place) (type_of of.now)
+        ≡ expressions.stored_element (map structure_of structures.now) (place_of place)
+        (type_of of.now)
         of.now.lengths.items (expression_of index) span) }
 {
     match of.lengths.as_slice() {
@@ -158,7 +159,7 @@ fn borrowed_element(
     span: Span,
 ) -> Result<Option<Value>, AllocError>
     ensures { IfOk result (λ r. option_map value_of r
-        ≡ Some (v.Stored (t.Parameter array
+        ≡ Some (values.Stored (typed.Parameter array
         (objects.cells (types.layout_of (map structure_of structures.now) (type_of element)))
         (expression_of index) span) (type_of element))) }
 {
@@ -194,7 +195,7 @@ fn index_value(
     index: Option<Expression>,
 ) -> Result<Option<Value>, AllocError>
     ensures { IfOk result (λ r. option_map value_of r
-        ≡ e.index_value (map structure_of structures.now) span (option_map value_of array)
+        ≡ expressions.index_value (map structure_of structures.now) span (option_map value_of array)
         (option_map expression_of index)) }
 {
     let Some(array) = array else {
@@ -224,9 +225,9 @@ fn index_value(
 
 fn index_fault(at: u32, array: &Found, index: &Found) -> Option<Fault>
     ensures { result ≡ least_of (listed array.now.fault ++ (listed index.now.fault
-        ++ e.index_faults at array.now.place
-        (option_map v.kind_of (option_map value_of array.now.value))
-        (option_map v.kind_of (option_map value_of index.now.value)))) }
+        ++ expressions.index_faults at array.now.place
+        (option_map values.kind_of (option_map value_of array.now.value))
+        (option_map values.kind_of (option_map value_of index.now.value)))) }
 {
     let no_array = fails_array(kind_found(&array.value));
     let no_integer = fails_integer(&index.value);
@@ -243,7 +244,7 @@ pub fn index(
     index: Found,
 ) -> Result<Found, AllocError>
     ensures { IfOk result (λ r. found_of r (scope_of scope.now)
-        ≡ squeezed (e.index_found span (found_of array (scope_of scope.now))
+        ≡ squeezed (expressions.index_found span (found_of array (scope_of scope.now))
         (found_of index (scope_of scope.now)))) }
 {
     let fault = index_fault(span.start, &array, &index);

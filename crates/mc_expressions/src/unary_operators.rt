@@ -1,12 +1,12 @@
 //! Unary operators (C17 6.5.3.3).
 ghost use Rattle.std.specs.Prelude.{◌≡◌, ◌++◌, ◌&&◌, IfOk, Some, option_map, option_and_then};
-ghost use Rattle.mc_typed.specs.Tree as t;
+ghost use Rattle.mc_typed.specs.Tree as typed;
 ghost use Rattle.mc_typed.specs.Views.{expression_of};
 ghost use Rattle.mc_faults.specs.Faults.{least_of};
 ghost use Rattle.mc_faults.specs.Kept.{listed};
-ghost use Rattle.mc_typing.specs.Scopes as s;
-ghost use Rattle.mc_typing.specs.Values as v;
-ghost use Rattle.mc_typing.specs.Expressions as e;
+ghost use Rattle.mc_typing.specs.Scopes as scopes;
+ghost use Rattle.mc_typing.specs.Values as values;
+ghost use Rattle.mc_typing.specs.Expressions as expressions;
 ghost use Rattle.mc_scopes.specs.Found.{found_of, value_of};
 ghost use Rattle.mc_scopes.specs.steps.Squeezed.{squeezed};
 
@@ -20,7 +20,7 @@ use mc_value::{UnOp, promote};
 use std::alloc::{AllocError, Global};
 
 fn is_arithmetic(operator: UnaryOperator) -> bool
-    ensures { result ≡ e.is_arithmetic operator }
+    ensures { result ≡ expressions.is_arithmetic operator }
 {
     !matches!(
         operator,
@@ -35,7 +35,7 @@ fn promoting(
     one: Expression,
 ) -> Result<Option<Value>, AllocError>
     ensures { IfOk result (λ r. option_map value_of r
-        ≡ Some (v.Number (e.promoting operator span (expression_of one)))) }
+        ≡ Some (values.Number (expressions.promoting operator span (expression_of one)))) }
 {
     let to = promote(one.integer_type());
     match operand(alloc, to, one) {
@@ -54,7 +54,7 @@ fn promoting(
 
 fn negating(alloc: Global, span: Span, one: Expression) -> Result<Option<Value>, AllocError>
     ensures { IfOk result (λ r. option_map value_of r
-        ≡ Some (v.Number (t.Not (expression_of one) span))) }
+        ≡ Some (values.Number (typed.Not (expression_of one) span))) }
 {
     match boxed(alloc, one) {
         Ok(operand) => Ok(Some(Value::Number(Expression::Not { operand, span }))),
@@ -68,8 +68,8 @@ fn unary_value(
     span: Span,
     one: Option<Expression>,
 ) -> Result<Option<Value>, AllocError>
-    ensures { IfOk result (λ r. option_map value_of r ≡ option_map v.Number
-        (option_and_then (e.unary_of operator span) (option_map expression_of one))) }
+    ensures { IfOk result (λ r. option_map value_of r ≡ option_map values.Number
+        (option_and_then (expressions.unary_of operator span) (option_map expression_of one))) }
 {
     let Some(one) = one else {
         return Ok(None);
@@ -88,9 +88,10 @@ fn unary_value(
 
 // The first fault of an operator on this operand, and whether it is built as a constant.
 fn judged(at: u32, operator: UnaryOperator, operand: &Found) -> (Option<Fault>, bool)
-    ensures fault { result.0 ≡ least_of (listed operand.now.fault ++ e.unary_faults operator at
-        (option_map v.kind_of (option_map value_of operand.now.value))) }
-    ensures constant { result.1 ≡ (e.is_arithmetic operator && operand.now.constant) }
+    ensures fault { result.0 ≡ least_of
+        (listed operand.now.fault ++ expressions.unary_faults operator at
+        (option_map values.kind_of (option_map value_of operand.now.value))) }
+    ensures constant { result.1 ≡ (expressions.is_arithmetic operator && operand.now.constant) }
 {
     let arithmetic = is_arithmetic(operator);
     let wrong = !arithmetic || fails_integer(&operand.value);
@@ -105,8 +106,8 @@ pub fn unary(
     span: Span,
     operand: Found,
 ) -> Result<Found, AllocError>
-    ensures { IfOk result (λ r. (s : s.Scope) → found_of r s
-        ≡ squeezed (e.unary_found operator span (found_of operand s))) }
+    ensures { IfOk result (λ r. (s : scopes.Scope) → found_of r s
+        ≡ squeezed (expressions.unary_found operator span (found_of operand s))) }
 {
     let (fault, constant) = judged(span.start, operator, &operand);
     let value = unary_value(alloc, operator, span, number_in(operand.value));

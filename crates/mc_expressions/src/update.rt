@@ -1,8 +1,8 @@
 //! Compound assignments (C17 6.5.16.2) and steps (C17 6.5.2.4, 6.5.3.1).
 ghost use Rattle.std.specs.Prelude.{◌≡◌, ◌||◌, IfOk, option_map};
-ghost use Rattle.mc_typing.specs.Scopes as s;
-ghost use Rattle.mc_typing.specs.Values as v;
-ghost use Rattle.mc_typing.specs.Expressions as e;
+ghost use Rattle.mc_typing.specs.Scopes as scopes;
+ghost use Rattle.mc_typing.specs.Values as values;
+ghost use Rattle.mc_typing.specs.Expressions as expressions;
 ghost use Rattle.mc_scopes.specs.Found.{found_of, value_of};
 ghost use Rattle.mc_scopes.specs.steps.Squeezed.{squeezed};
 
@@ -16,8 +16,10 @@ use std::alloc::{AllocError, Global};
 
 /// Whether the sides cannot stand in a compound assignment.
 pub(crate) fn update_fails(place: bool, target: &Option<Value>, value: &Option<Value>) -> bool
-    ensures { result ≡ (e.target_fails v.is_integer place (option_map value_of target.now)
-        || v.fails v.is_integer (option_map v.kind_of (option_map value_of value.now))) }
+    ensures { result ≡ (expressions.target_fails values.is_integer place
+        (option_map value_of target.now)
+        || values.fails values.is_integer
+        (option_map values.kind_of (option_map value_of value.now))) }
 {
     let no_integer = fails_integer(target);
     let fixed = is_const(target);
@@ -26,7 +28,7 @@ pub(crate) fn update_fails(place: bool, target: &Option<Value>, value: &Option<V
 }
 
 fn step_operator(operator: StepOperator) -> AssignmentOperator
-    ensures { result ≡ e.step_operator operator }
+    ensures { result ≡ expressions.step_operator operator }
 {
     match operator {
         StepOperator::Increment => AssignmentOperator::Add,
@@ -42,8 +44,8 @@ fn step(
     span: Span,
     operand: Found,
 ) -> Result<Found, AllocError>
-    ensures { IfOk result (λ r. (s : s.Scope) → found_of r s
-        ≡ squeezed (e.step_found operator at span (found_of operand s))) }
+    ensures { IfOk result (λ r. (s : scopes.Scope) → found_of r s
+        ≡ squeezed (expressions.step_found operator at span (found_of operand s))) }
 {
     let making = Making::Update(step_operator(operator));
     made(alloc, making, span, operand, one(at))
@@ -51,7 +53,7 @@ fn step(
 
 // Where the two bytes of an operator stand that ends an expression.
 fn operator_after(span: Span) -> Span
-    ensures { result ≡ e.operator_after span }
+    ensures { result ≡ expressions.operator_after span }
 {
     Span {
         start: span.end.saturating_sub(2),
@@ -61,7 +63,7 @@ fn operator_after(span: Span) -> Span
 
 // Where the two bytes of an operator stand that begins an expression.
 fn operator_before(span: Span) -> Span
-    ensures { result ≡ e.operator_before span }
+    ensures { result ≡ expressions.operator_before span }
 {
     Span {
         start: span.start,
@@ -76,8 +78,9 @@ pub fn postfix_step(
     span: Span,
     operand: Found,
 ) -> Result<Found, AllocError>
-    ensures { IfOk result (λ r. (s : s.Scope) → found_of r s ≡ squeezed
-        (e.step_found operator (e.operator_after span) span (found_of operand s))) }
+    ensures { IfOk result (λ r. (s : scopes.Scope) → found_of r s ≡ squeezed
+        (expressions.step_found operator (expressions.operator_after span) span
+        (found_of operand s))) }
 {
     step(alloc, operator, operator_after(span), span, operand)
 }
@@ -89,8 +92,9 @@ pub fn prefix_step(
     span: Span,
     operand: Found,
 ) -> Result<Found, AllocError>
-    ensures { IfOk result (λ r. (s : s.Scope) → found_of r s ≡ squeezed
-        (e.step_found operator (e.operator_before span) span (found_of operand s))) }
+    ensures { IfOk result (λ r. (s : scopes.Scope) → found_of r s ≡ squeezed
+        (expressions.step_found operator (expressions.operator_before span) span
+        (found_of operand s))) }
 {
     step(alloc, operator, operator_before(span), span, operand)
 }

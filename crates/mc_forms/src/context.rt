@@ -1,6 +1,6 @@
 //! What a node has to know of the nodes around it.
 ghost use Rattle.std.specs.Prelude.{◌≡◌};
-ghost use Rattle.mc_forms.specs.Contexts as c;
+ghost use Rattle.mc_forms.specs.Contexts as contexts;
 
 /// Whether a node stands inside a function definition or a parameter.
 #[derive(Clone, Copy)]
@@ -25,7 +25,7 @@ pub enum Role {
 impl Role {
     /// What the operands of a comma are.
     pub fn of_operands(self) -> Role
-        ensures { result ≡ c.role_of_operands self }
+        ensures { result ≡ contexts.role_of_operands self }
     {
         match self {
             Role::ForPart => Role::Clause,
@@ -35,7 +35,7 @@ impl Role {
 
     /// What the expression in parentheses is.
     pub fn in_parentheses(self) -> Role
-        ensures { result ≡ c.role_in_parentheses self }
+        ensures { result ≡ contexts.role_in_parentheses self }
     {
         match self {
             Role::Part | Role::Statement | Role::ForPart | Role::Clause => Role::Part,
@@ -58,7 +58,7 @@ pub enum Standing {
 impl Standing {
     /// Where the items of a compound statement stand that stands here.
     pub fn of_items(self) -> Standing
-        ensures { result ≡ c.standing_of_items self }
+        ensures { result ≡ contexts.standing_of_items self }
     {
         match self {
             Standing::Body => Standing::BeforeLabels,
@@ -70,7 +70,7 @@ impl Standing {
 
     /// Where a labeled statement and what follows it stand, where the label stands here.
     pub fn of_label(self) -> Standing
-        ensures { result ≡ c.standing_of_label self }
+        ensures { result ≡ contexts.standing_of_label self }
     {
         match self {
             Standing::BeforeLabels => Standing::AmongLabels,

@@ -2,7 +2,7 @@
 ghost use Rattle.std.specs.Prelude.{◌≡◌, ◌∷◌, ◌++◌, ◌≤◌, [], if◌then◌else◌, length, map, take, IfOk, IfErr, Some, None};
 ghost use Rattle.mc_limits.specs.Limits.{most_conditions};
 ghost use Rattle.mc_typed.specs.Views.{expression_of};
-ghost use Rattle.mc_roots.specs.Nodes as n;
+ghost use Rattle.mc_roots.specs.Nodes as nodes;
 ghost use Rattle.mc_roots.specs.Conditions.{width};
 ghost use Rattle.mc_roots.specs.steps.Walk.{decision};
 ghost use Rattle.mc_gather.specs.steps.Gathering.{added, begun, cut, gathered_of, grown, stopped};
@@ -86,7 +86,8 @@ fn shorten(decisions: &mut Vec<Decision>, count: usize)
 /// Adds the decision with this root.
 pub(crate) fn add(found: &mut Gathered, root: &Expression) -> Result<(), AllocError>
     ensures { IfOk result (λ _. gathered_of found.new
-        ≡ added found.old.fault (n.expression (expression_of root.now)) (gathered_of found.old)) }
+        ≡ added found.old.fault (nodes.expression (expression_of root.now))
+        (gathered_of found.old)) }
 {
     match found.fault {
         Some(_) => Ok(()),
@@ -97,7 +98,7 @@ pub(crate) fn add(found: &mut Gathered, root: &Expression) -> Result<(), AllocEr
 /// Adds the decision with this root, where none before it is too large.
 fn add_first(found: &mut Gathered, root: &Expression) -> Result<(), AllocError>
     ensures { IfOk result (λ _. gathered_of found.new
-        ≡ added None (n.expression (expression_of root.now)) (gathered_of found.old)) }
+        ≡ added None (nodes.expression (expression_of root.now)) (gathered_of found.old)) }
 {
     let count = conditions(root);
     if count > MOST {
@@ -116,9 +117,9 @@ fn stop(found: &mut Gathered, at: u32, count: u32)
 }
 
 fn add_small(found: &mut Gathered, root: &Expression) -> Result<(), AllocError>
-    requires { width (n.expression (expression_of root.now)) ≤ most_conditions }
+    requires { width (nodes.expression (expression_of root.now)) ≤ most_conditions }
     ensures { IfOk result (λ _. gathered_of found.new
-        ≡ grown (n.expression (expression_of root.now)) (gathered_of found.old)) }
+        ≡ grown (nodes.expression (expression_of root.now)) (gathered_of found.old)) }
 {
     let decision = decide(found.alloc, found.function, root)?;
     put(&mut found.decisions, decision)
@@ -133,9 +134,9 @@ fn put(decisions: &mut Vec<Decision>, decision: Decision) -> Result<(), AllocErr
 
 /// The decision with this root.
 fn decide(alloc: Global, function: u32, root: &Expression) -> Result<Decision, AllocError>
-    requires { width (n.expression (expression_of root.now)) ≤ most_conditions }
+    requires { width (nodes.expression (expression_of root.now)) ≤ most_conditions }
     ensures { IfOk result (λ d.
-        decision_of d ≡ decision function (n.expression (expression_of root.now))) }
+        decision_of d ≡ decision function (nodes.expression (expression_of root.now))) }
 {
     let mut conditions = Vec::new(alloc);
     let tree = build(alloc, root, &mut conditions)?;
@@ -149,7 +150,7 @@ fn decide(alloc: Global, function: u32, root: &Expression) -> Result<Decision, A
 
 /// Where a root stands.
 fn span_of(root: &Expression) -> Span
-    ensures { result ≡ n.span_of (n.expression (expression_of root.now)) }
+    ensures { result ≡ nodes.span_of (nodes.expression (expression_of root.now)) }
 {
     root.span()
 }

@@ -1,5 +1,6 @@
 //! The source.
 ghost use Rattle.std.specs.Prelude.{◌≡◌, ◌≤◌, IfOk, string_bytes};
+ghost use Rattle.mc_limits.specs.Limits.{most_functions};
 ghost use Rattle.mc_gen.specs.Source.{condition_of, function_line, source_text};
 
 use std::alloc::{AllocError, Global};
@@ -27,7 +28,7 @@ fn function_line(alloc: Global, number: u32) -> Result<String, AllocError>
 
 /// The functions, each in a line of its own.
 pub(crate) fn source(alloc: Global, functions: u32) -> Result<Vec<u8>, AllocError>
-    requires { functions ≤ 200 }
+    requires { functions ≤ most_functions }
     ensures { IfOk result (λ text. text.items ≡ source_text functions) }
 {
     let mut text = Vec::new(alloc);

@@ -1,6 +1,7 @@
 //! The tests file.
 ghost use Rattle.std.specs.Prelude.{◌≡◌, ◌≤◌, ◌<◌, ◌++◌, IfOk, OnOk, string_bytes};
 ghost use Rattle.std.specs.Int.{bit_at};
+ghost use Rattle.mc_limits.specs.Limits.{most_functions};
 ghost use Rattle.mc_gen.specs.Tests.{arguments_of, test_line, lines_of, tests_text};
 
 use std::alloc::{AllocError, Global};
@@ -46,7 +47,7 @@ fn push_tests(alloc: Global, text: &mut Vec<u8>, function: u32) -> Result<(), Al
 
 /// The header, and the tests of each function.
 pub(crate) fn tests(alloc: Global, functions: u32) -> Result<Vec<u8>, AllocError>
-    requires { functions ≤ 200 }
+    requires { functions ≤ most_functions }
     ensures { IfOk result (λ text. text.items ≡ tests_text functions) }
 {
     let mut text = Vec::new(alloc);

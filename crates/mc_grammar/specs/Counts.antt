@@ -4,7 +4,7 @@ use Rattle.std.specs.Prelude.{ℕ, ◌+◌, Bool, ◌&&◌, ◌||◌, nat_eq, na
 use Rattle.mc_tree.specs.declared.declarations.specifier_word.SpecifierWord.{SpecifierWord}
 use Rattle.mc_tree.specs.declared.declarations.specifier_word.SpecifierWord.TheVariants as word
 use Rattle.mc_tree.specs.Tree.{Specifier, Specifiers}
-use Rattle.mc_tree.specs.Tree as t
+use Rattle.mc_tree.specs.Tree as tree
 
 -- how often each word stands, and how many typedef names, structures and enumerations there are
 pub record Counts : Type 0 where
@@ -51,12 +51,12 @@ with_word word.Signed c = record c { signs = c.signs + 1 }
 with_word word.Unsigned c = record c { signs = c.signs + 1 }
 
 abbrev pub with_specifier : Specifier → Counts → Counts
-with_specifier (t.Word w span) c = with_word w c
+with_specifier (tree.Word w span) c = with_word w c
 with_specifier _ c = record c { others = c.others + 1 }
 
 abbrev pub counts : Specifiers → Counts
-counts t.no_specifiers = nothing
-counts (t.specifiers s rest) = with_specifier s (counts rest)
+counts tree.no_specifiers = nothing
+counts (tree.specifiers s rest) = with_specifier s (counts rest)
 
 -- at most one storage word
 abbrev pub storages : Specifiers → ℕ

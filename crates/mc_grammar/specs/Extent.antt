@@ -3,7 +3,7 @@
 use Rattle.std.specs.Prelude.{List, ◌∷◌, map}
 use Rattle.mc_span.specs.declared.span.Span.{Span}
 use Rattle.mc_tree.specs.Tree.{TypeName, StructMember, Declarator, Parameter, Declaration, Item}
-use Rattle.mc_tree.specs.Tree as t
+use Rattle.mc_tree.specs.Tree as tree
 use Rattle.mc_grammar.specs.Words.{Lexeme}
 use Rattle.mc_grammar.specs.Places.{at, to}
 
@@ -19,21 +19,21 @@ pub data IsPlace : Span → List Span → List Span → Type 0 where
 
 -- where these stand
 abbrev pub span_of_type_name : TypeName → Span
-span_of_type_name (t.type_name s stars span) = span
+span_of_type_name (tree.type_name s stars span) = span
 
 abbrev pub span_of_member : StructMember → Span
-span_of_member (t.member s all span) = span
+span_of_member (tree.member s all span) = span
 
 abbrev pub span_of_parameter : Parameter → Span
-span_of_parameter (t.parameter s stars name all span) = span
+span_of_parameter (tree.parameter s stars name all span) = span
 
 abbrev pub span_of_declarator : Declarator → Span
-span_of_declarator (t.object stars name all span) = span
-span_of_declarator (t.function stars name all span) = span
+span_of_declarator (tree.object stars name all span) = span
+span_of_declarator (tree.function stars name all span) = span
 
 abbrev pub span_of_declaration : Declaration → Span
-span_of_declaration (t.declaration s all span) = span
+span_of_declaration (tree.declaration s all span) = span
 
 abbrev pub span_of_item : Item → Span
-span_of_item (t.Declared d) = span_of_declaration d
-span_of_item (t.Defined s d body span) = span
+span_of_item (tree.Declared d) = span_of_declaration d
+span_of_item (tree.Defined s d body span) = span

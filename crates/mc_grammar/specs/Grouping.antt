@@ -7,10 +7,10 @@ use Rattle.mc_tree.specs.declared.expressions.step_operator.StepOperator.{StepOp
 use Rattle.mc_tree.specs.declared.expressions.binary_operator.BinaryOperator.{BinaryOperator}
 use Rattle.mc_tree.specs.declared.expressions.assignment_operator.AssignmentOperator.{AssignmentOperator}
 use Rattle.mc_tree.specs.Tree.{Expression, span_of}
-use Rattle.mc_tree.specs.Tree as t
+use Rattle.mc_tree.specs.Tree as tree
 use Rattle.mc_grammar.specs.Words.{Lexeme}
 use Rattle.mc_grammar.specs.Places.{at, name_at, to}
-use Rattle.mc_grammar.specs.Nonterminal as n
+use Rattle.mc_grammar.specs.Nonterminal as nonterminal
 use Rattle.mc_grammar.specs.Expressions.{Reads}
 use Rattle.mc_grammar.specs.Meaning.{identifier, type_name, punctuator}
 use Rattle.mc_grammar.specs.Spelling.{text_of_unary, text_of_step, text_of_binary, text_of_assignment}
@@ -23,21 +23,21 @@ abbrev pub assigning : AssignmentOperator → ℕ → Lexeme
 assigning operator place = punctuator (text_of_assignment operator) place
 
 abbrev pub binary : BinaryOperator → Expression → Expression → Expression
-binary operator a b = t.Binary operator a b (to (span_of a) (span_of b))
+binary operator a b = tree.Binary operator a b (to (span_of a) (span_of b))
 
 abbrev pub assignment : AssignmentOperator → Expression → Expression → Expression
-assignment operator a b = t.Assignment operator a b (to (span_of a) (span_of b))
+assignment operator a b = tree.Assignment operator a b (to (span_of a) (span_of b))
 
 abbrev pub conditional : Expression → Expression → Expression → Expression
-conditional a b c = t.Conditional a b c (to (span_of a) (span_of c))
+conditional a b c = tree.Conditional a b c (to (span_of a) (span_of c))
 
 -- an operand before a binary operator, a `?`, a `:` or a `;`
 abbrev pub Operand : Dialect → List Lexeme → Expression → List Lexeme → Type 0
-Operand d ts a rest = Reads d n.cast ts a rest
+Operand d ts a rest = Reads d nonterminal.cast ts a rest
 
 -- an expression before a `;`
 abbrev pub Whole : Dialect → List Lexeme → Expression → ℕ → List Lexeme → Type 0
-Whole d ts a place rest = Reads d n.comma ts a (punctuator (codes ";") place ∷ rest)
+Whole d ts a place rest = Reads d nonterminal.comma ts a (punctuator (codes ";") place ∷ rest)
 
 -- `a o b p c;` where `o` binds as close as `p` or closer: `(a o b) p c`
 abbrev pub GroupsToTheLeft : Type 0
@@ -90,8 +90,8 @@ ConditionalEndsWithBinary =
 abbrev pub AssignmentGroupsToTheRight : Type 0
 AssignmentGroupsToTheRight =
     (d : Dialect) (o p : AssignmentOperator) (i j k : ℕ) (ts us vs rest : List Lexeme)
-    (a b c : Expression) → Reads d n.unary ts a (assigning o i ∷ us)
-    → Reads d n.unary us b (assigning p j ∷ vs)
+    (a b c : Expression) → Reads d nonterminal.unary ts a (assigning o i ∷ us)
+    → Reads d nonterminal.unary us b (assigning p j ∷ vs)
     → Operand d vs c (punctuator (codes ";") k ∷ rest)
     → Whole d ts (assignment o a (assignment p b c)) k rest
 
@@ -100,7 +100,7 @@ abbrev pub AssignmentTakesBinary : Type 0
 AssignmentTakesBinary =
     (d : Dialect) (o : AssignmentOperator) (p : BinaryOperator) (i j k : ℕ)
     (ts us vs rest : List Lexeme) (a b c : Expression)
-    → Reads d n.unary ts a (assigning o i ∷ us) → Operand d us b (infix_token p j ∷ vs)
+    → Reads d nonterminal.unary ts a (assigning o i ∷ us) → Operand d us b (infix_token p j ∷ vs)
     → Operand d vs c (punctuator (codes ";") k ∷ rest)
     → Whole d ts (assignment o a (binary p b c)) k rest
 
@@ -108,7 +108,7 @@ AssignmentTakesBinary =
 abbrev pub AssignmentTakesConditional : Type 0
 AssignmentTakesConditional =
     (d : Dialect) (o : AssignmentOperator) (i j k l : ℕ) (ts us vs ws rest : List Lexeme)
-    (a b c e : Expression) → Reads d n.unary ts a (assigning o i ∷ us)
+    (a b c e : Expression) → Reads d nonterminal.unary ts a (assigning o i ∷ us)
     → Operand d us b (punctuator (codes "?") j ∷ vs)
     → Operand d vs c (punctuator (codes ":") k ∷ ws)
     → Operand d ws e (punctuator (codes ";") l ∷ rest)
@@ -118,11 +118,11 @@ AssignmentTakesConditional =
 abbrev pub CommaTakesAssignment : Type 0
 CommaTakesAssignment =
     (d : Dialect) (o : AssignmentOperator) (i j k : ℕ) (ts us vs rest : List Lexeme)
-    (a b c : Expression) → Reads d n.unary ts a (assigning o i ∷ us)
+    (a b c : Expression) → Reads d nonterminal.unary ts a (assigning o i ∷ us)
     → Operand d us b (punctuator (codes ",") j ∷ vs)
     → Operand d vs c (punctuator (codes ";") k ∷ rest)
     → Whole d ts
-    (t.Comma (t.expressions (assignment o a b) (t.expressions c t.no_expressions))
+    (tree.Comma (tree.expressions (assignment o a b) (tree.expressions c tree.no_expressions))
     (to (span_of a) (span_of c))) k rest
 
 -- `o x[y]`, `o x.y` and `o x s`, with a prefix operator `o` and a step `s`, at these places
@@ -133,19 +133,19 @@ PrefixTakesSuffix =
     let first = punctuator (text_of_unary o) i in
     let name = identifier x j in
     let end = punctuator (codes ";") n ∷ rest in
-    let index = t.Index (t.Named (name_at name)) (t.Named (name_at (identifier y l)))
+    let index = tree.Index (tree.Named (name_at name)) (tree.Named (name_at (identifier y l)))
     (to (at name) (at (punctuator (codes "]") m))) in
-    let member = t.Member (t.Named (name_at name)) (name_at (identifier y l))
+    let member = tree.Member (tree.Named (name_at name)) (name_at (identifier y l))
     (to (at name) (at (identifier y l))) in
-    let step = t.PostfixStep s (t.Named (name_at name))
+    let step = tree.PostfixStep s (tree.Named (name_at name))
     (to (at name) (at (punctuator (text_of_step s) k))) in
     Operand d
     (first ∷ name ∷ punctuator (codes "[") k ∷ identifier y l ∷ punctuator (codes "]") m ∷ end)
-    (t.Unary o index (to (at first) (span_of index))) end
+    (tree.Unary o index (to (at first) (span_of index))) end
     × Operand d (first ∷ name ∷ punctuator (codes ".") k ∷ identifier y l ∷ end)
-    (t.Unary o member (to (at first) (span_of member))) end
+    (tree.Unary o member (to (at first) (span_of member))) end
     × Operand d (first ∷ name ∷ punctuator (text_of_step s) k ∷ end)
-    (t.Unary o step (to (at first) (span_of step))) end
+    (tree.Unary o step (to (at first) (span_of step))) end
 
 -- `o (T)x` is `o ((T)x)`, with a prefix operator `o` and a typedef name `T`
 abbrev pub PrefixTakesCast : Type 0
@@ -156,8 +156,8 @@ PrefixTakesCast =
     let word = type_name type k in
     let name = identifier x m in
     let end = punctuator (codes ";") n ∷ rest in
-    let words = t.specifiers (t.TypedefName (name_at word)) t.no_specifiers in
-    let cast = t.Cast (t.type_name words 0 (at word)) (t.Named (name_at name))
+    let words = tree.specifiers (tree.TypedefName (name_at word)) tree.no_specifiers in
+    let cast = tree.Cast (tree.type_name words 0 (at word)) (tree.Named (name_at name))
     (to (at open_) (at name)) in
     Operand d (first ∷ open_ ∷ word ∷ punctuator (codes ")") l ∷ name ∷ end)
-    (t.Unary o cast (to (at first) (at name))) end
+    (tree.Unary o cast (to (at first) (at name))) end

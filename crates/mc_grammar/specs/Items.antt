@@ -5,7 +5,7 @@ use Rattle.mc_lex.specs.declared.token.Dialect.{Dialect}
 use Rattle.mc_lex.specs.declared.token.Dialect.TheVariants.{Plain}
 use Rattle.mc_lex.specs.Tokens.{Tok}
 use Rattle.mc_tree.specs.Tree.{Name, Specifiers, Parameters, Declaration, BlockItems, Item, span_of_parameters}
-use Rattle.mc_tree.specs.Tree as t
+use Rattle.mc_tree.specs.Tree as tree
 use Rattle.mc_tree.specs.Height.{height_unit}
 use Rattle.mc_grammar.specs.Words.{Lexeme, is_name, lexemes_of}
 use Rattle.mc_span.specs.declared.span.Span.{Span}
@@ -23,7 +23,7 @@ pub data ReadsItem (dialect : Dialect) : List Lexeme → Item → List Lexeme �
   -- item = specifiers [ initdecl { "," initdecl } ] ";"                                C17 6.9, 6.7
   declared : {typedef : Bool} {ts rest : List Lexeme} {d : Declaration}
       → ReadsDeclaration dialect typedef (is_item_of typedef) ts d rest
-      → ReadsItem dialect ts (t.Declared d) rest
+      → ReadsItem dialect ts (tree.Declared d) rest
   -- specifiers { "*" } identifier "(" params ")" compound                               C17 6.9.1
   -- The `{` after the `)` makes it a definition: no declaration goes on with one.
   defined : {x y z : Lexeme} {before span : Span} {ts words mid body rest : List Lexeme}
@@ -32,7 +32,7 @@ pub data ReadsItem (dialect : Dialect) : List Lexeme → Item → List Lexeme �
       → ReadsStars (at y) (y ∷ words) stars before (z ∷ mid) → is_name z ≡ true
       → ReadsParameters dialect mid ps body → ReadsCompound dialect body b span rest
       → ReadsItem dialect (x ∷ ts)
-      (t.Defined s (t.function stars (name_at z) ps (to (at y) (span_of_parameters ps))) b
+      (tree.Defined s (tree.function stars (name_at z) ps (to (at y) (span_of_parameters ps))) b
       (to (at x) span)) rest
 
 -- unit = { item }                                                                       C17 6.9

@@ -8,11 +8,11 @@ use Rattle.mc_lex.specs.declared.token.TokenKind.TheVariants as kind
 use Rattle.mc_span.specs.declared.span.Span.{Span}
 use Rattle.mc_tree.specs.declared.declarations.specifier_word.SpecifierWord.{SpecifierWord}
 use Rattle.mc_tree.specs.Tree.{Name, Expression, ArrayLengths, Declaration, Specifier, Specifiers, Declarator, Initializer, Initializers, Statement, BlockItems, Item, name_of, span_of, span_of_specifier}
-use Rattle.mc_tree.specs.Tree as t
+use Rattle.mc_tree.specs.Tree as tree
 use Rattle.mc_tree.specs.Length.{token_count}
 use Rattle.mc_grammar.specs.Words.{Lexeme, lexemes_of, begins_specifiers, sees_cast, sees_keyword}
 use Rattle.mc_grammar.specs.Nonterminal.{Nonterminal, takes}
-use Rattle.mc_grammar.specs.Nonterminal as n
+use Rattle.mc_grammar.specs.Nonterminal as nonterminal
 use Rattle.mc_grammar.specs.Expressions.{Reads, ReadsSpecifiers, ReadsEnumerator, ReadsArrayLengths, ReadsDeclarator}
 use Rattle.mc_grammar.specs.Statements.{ReadsInitializer, ReadsInitDeclarator, ReadsDeclaration, ReadsForStart, ReadsStatement, ReadsCompound, ReadsBlockItems}
 use Rattle.mc_grammar.specs.Items.{ReadsItem, ReadsUnit, IsTree}
@@ -70,13 +70,13 @@ HasOneType {T = T} words reads =
 abbrev pub LocalHasOneType : Type 0
 LocalHasOneType =
     (d : Dialect) (ts rest : List Lexeme) (one : Declaration) (others : BlockItems)
-    → ReadsBlockItems d ts (t.local one others) rest
+    → ReadsBlockItems d ts (tree.local one others) rest
     → IsOneType (counts (words_of_declaration one))
 
 abbrev pub ForHasOneType : Type 0
 ForHasOneType =
     (d : Dialect) (ts rest : List Lexeme) (one : Declaration)
-    → ReadsForStart d ts (t.StartsLocal one) rest → IsOneType (counts (words_of_declaration one))
+    → ReadsForStart d ts (tree.StartsLocal one) rest → IsOneType (counts (words_of_declaration one))
 
 -- each list of words of C17 is one type
 abbrev pub ListsAreAccepted : Type 0
@@ -88,29 +88,29 @@ ListsAreAccepted =
 abbrev pub ExpressionIsGrouped : Type 0
 ExpressionIsGrouped =
     (d : Dialect) (ts rest : List Lexeme) (a : Expression)
-    → Reads d n.comma ts a rest → Within 17 a
+    → Reads d nonterminal.comma ts a rest → Within 17 a
 
 -- the value of a label, of a constant and of a length is a conditional expression or binds closer,
 -- and that of an initializer an assignment or closer
 abbrev pub CaseIsConditional : Type 0
 CaseIsConditional =
     (d : Dialect) (ts rest : List Lexeme) (a : Expression) (label span : Span) (one : Statement)
-    → ReadsStatement d ts (t.Case a label one span) rest → Within 15 a
+    → ReadsStatement d ts (tree.Case a label one span) rest → Within 15 a
 
 abbrev pub EnumeratorIsConditional : Type 0
 EnumeratorIsConditional =
     (d : Dialect) (ts rest : List Lexeme) (name : Name) (a : Expression)
-    → ReadsEnumerator d ts (t.valued_enumerator name a) rest → Within 15 a
+    → ReadsEnumerator d ts (tree.valued_enumerator name a) rest → Within 15 a
 
 abbrev pub LengthIsConditional : Type 0
 LengthIsConditional =
     (d : Dialect) (before end : Span) (ts rest : List Lexeme) (a : Expression) (all : ArrayLengths)
-    → ReadsArrayLengths d before ts (t.given_length a all) end rest → Within 15 a
+    → ReadsArrayLengths d before ts (tree.given_length a all) end rest → Within 15 a
 
 abbrev pub InitializerIsAssignment : Type 0
 InitializerIsAssignment =
     (d : Dialect) (ts rest : List Lexeme) (a : Expression)
-    → ReadsInitializer d ts (t.Single a) rest → Within 16 a
+    → ReadsInitializer d ts (tree.Single a) rest → Within 16 a
 
 -- ---- a tree and its text
 
@@ -146,7 +146,7 @@ CompoundHasPlace =
 abbrev pub SpecifierHasPlace : Type 0
 SpecifierHasPlace =
     (d : Dialect) (has_type : Bool) (ts rest : List Lexeme) (one : Specifier) (others : Specifiers)
-    → ReadsSpecifiers d has_type ts (t.specifiers one others) rest
+    → ReadsSpecifiers d has_type ts (tree.specifiers one others) rest
     → (has : Bool) × (mid : List Lexeme)
     × IsPlace (span_of_specifier one) (places ts) (places mid)
     × ReadsSpecifiers d has mid others rest
@@ -154,19 +154,19 @@ SpecifierHasPlace =
 abbrev pub BracesHavePlace : Type 0
 BracesHavePlace =
     (d : Dialect) (ts rest : List Lexeme) (all : Initializers) (span : Span)
-    → ReadsInitializer d ts (t.Braced all span) rest → IsPlace span (places ts) (places rest)
+    → ReadsInitializer d ts (tree.Braced all span) rest → IsPlace span (places ts) (places rest)
 
 -- the place of a label, before the statement that it stands at
 abbrev pub CaseHasPlace : Type 0
 CaseHasPlace =
     (d : Dialect) (ts rest : List Lexeme) (a : Expression) (label span : Span) (one : Statement)
-    → ReadsStatement d ts (t.Case a label one span) rest
+    → ReadsStatement d ts (tree.Case a label one span) rest
     → (mid : List Lexeme) × IsPlace label (places ts) (places mid) × ReadsStatement d mid one rest
 
 abbrev pub DefaultHasPlace : Type 0
 DefaultHasPlace =
     (d : Dialect) (ts rest : List Lexeme) (label span : Span) (one : Statement)
-    → ReadsStatement d ts (t.Default label one span) rest
+    → ReadsStatement d ts (tree.Default label one span) rest
     → (mid : List Lexeme) × IsPlace label (places ts) (places mid) × ReadsStatement d mid one rest
 
 -- the place of a function's declarator, between its specifiers and its body
@@ -174,7 +174,7 @@ abbrev pub FunctionHasPlace : Type 0
 FunctionHasPlace =
     (d : Dialect) (ts rest : List Lexeme) (words : Specifiers) (one : Declarator)
     (body : BlockItems) (span : Span)
-    → ReadsItem d ts (t.Defined words one body span) rest
+    → ReadsItem d ts (tree.Defined words one body span) rest
     → (left mid : List Lexeme) × (place : Span) × ReadsSpecifiers d false ts words left
     × IsPlace (span_of_declarator one) (places left) (places mid)
     × ReadsCompound d mid body place rest
@@ -191,33 +191,33 @@ ExpressionTakesTokens =
 abbrev pub ElseIsOfNearestIf : Type 0
 ElseIsOfNearestIf =
     (d : Dialect) (ts rest : List Lexeme) (a : Expression) (one : Statement) (span : Span)
-    → ReadsStatement d ts (t.If a one span) rest → sees_keyword (codes "else") rest ≡ false
+    → ReadsStatement d ts (tree.If a one span) rest → sees_keyword (codes "else") rest ≡ false
 
 abbrev pub CastBeginsAtType : Type 0
 CastBeginsAtType =
     (d : Dialect) (ts rest : List Lexeme) (a : Expression)
-    → Reads d n.cast ts a rest → is_cast a ≡ sees_cast ts
+    → Reads d nonterminal.cast ts a rest → is_cast a ≡ sees_cast ts
 
 abbrev pub DeclarationBeginsAtType : Type 0
 DeclarationBeginsAtType =
     (d : Dialect) (x : Lexeme) (ts rest : List Lexeme) (one : Declaration) (b : BlockItems)
-    → ReadsBlockItems d (x ∷ ts) (t.local one b) rest → begins_specifiers x ≡ true
+    → ReadsBlockItems d (x ∷ ts) (tree.local one b) rest → begins_specifiers x ≡ true
 
 abbrev pub StatementBeginsElsewhere : Type 0
 StatementBeginsElsewhere =
     (d : Dialect) (x : Lexeme) (ts rest : List Lexeme) (one : Statement) (b : BlockItems)
-    → ReadsBlockItems d (x ∷ ts) (t.statement one b) rest → begins_specifiers x ≡ false
+    → ReadsBlockItems d (x ∷ ts) (tree.statement one b) rest → begins_specifiers x ≡ false
 
 abbrev pub NameBeginsDeclaration : Type 0
 NameBeginsDeclaration =
     (d : Dialect) (x : Lexeme) (ts rest : List Lexeme) (one : Declaration) (b : BlockItems)
-    → x.token.kind ≡ kind.Identifier → ReadsBlockItems d (x ∷ ts) (t.local one b) rest
+    → x.token.kind ≡ kind.Identifier → ReadsBlockItems d (x ∷ ts) (tree.local one b) rest
     → x.names_type ≡ true
 
 abbrev pub NameBeginsStatement : Type 0
 NameBeginsStatement =
     (d : Dialect) (x : Lexeme) (ts rest : List Lexeme) (one : Statement) (b : BlockItems)
-    → x.token.kind ≡ kind.Identifier → ReadsBlockItems d (x ∷ ts) (t.statement one b) rest
+    → x.token.kind ≡ kind.Identifier → ReadsBlockItems d (x ∷ ts) (tree.statement one b) rest
     → x.names_type ≡ false
 
 -- ---- typedef names
@@ -225,17 +225,18 @@ NameBeginsStatement =
 abbrev pub TypedefIsGone : Type 0
 TypedefIsGone =
     (d : Dialect) (ts rest : List Lexeme) (one : Declarator)
-    → ReadsInitDeclarator d true ts (t.bare one) rest → IsGone (name_of one).text rest
+    → ReadsInitDeclarator d true ts (tree.bare one) rest → IsGone (name_of one).text rest
 
 abbrev pub ValuedTypedefIsGone : Type 0
 ValuedTypedefIsGone =
     (d : Dialect) (ts rest : List Lexeme) (one : Declarator) (value : Initializer)
-    → ReadsInitDeclarator d true ts (t.initialized one value) rest → IsGone (name_of one).text rest
+    → ReadsInitDeclarator d true ts (tree.initialized one value) rest
+    → IsGone (name_of one).text rest
 
 abbrev pub OtherDeclaratorKeeps : Type 0
 OtherDeclaratorKeeps =
     (d : Dialect) (ts rest : List Lexeme) (one : Declarator)
-    → ReadsInitDeclarator d false ts (t.bare one) rest → ReadsDeclarator d ts one rest
+    → ReadsInitDeclarator d false ts (tree.bare one) rest → ReadsDeclarator d ts one rest
 
 abbrev pub TypedefNamesAreGone : Type 0
 TypedefNamesAreGone =

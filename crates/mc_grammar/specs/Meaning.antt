@@ -7,14 +7,14 @@ use Rattle.mc_lex.specs.declared.token.TokenKind.TheVariants as kind
 use Rattle.mc_tree.specs.declared.expressions.binary_operator.BinaryOperator.TheVariants as binary
 use Rattle.mc_lex.specs.declared.token.Dialect.{Dialect}
 use Rattle.mc_tree.specs.Tree.{Expression, BlockItems, InitDeclarator, Item, name_of}
-use Rattle.mc_tree.specs.Tree as t
+use Rattle.mc_tree.specs.Tree as tree
 use Rattle.mc_grammar.specs.Words.{Lexeme, lexeme_of, is_name}
 use Rattle.mc_grammar.specs.Places.{at, name_at, to}
 use Rattle.mc_grammar.specs.Counts.{is_typedef}
 use Rattle.mc_grammar.specs.Items.{ReadsItem}
 
 abbrev pub is_cast : Expression → Bool
-is_cast (t.Cast type operand span) = true
+is_cast (tree.Cast type operand span) = true
 is_cast _ = false
 
 -- an identifier of this text that is not a typedef name
@@ -31,8 +31,8 @@ AreGone names ts = All (λ name. IsGone name ts) names
 
 -- the text of the name that a declarator declares, with or without a value
 abbrev pub declared_name : InitDeclarator → List ℕ
-declared_name (t.bare d) = (name_of d).text
-declared_name (t.initialized d value) = (name_of d).text
+declared_name (tree.bare d) = (name_of d).text
+declared_name (tree.initialized d value) = (name_of d).text
 
 -- the texts of the names that the declarators of a declaration declare
 abbrev pub names_of : List InitDeclarator → List (List ℕ)
@@ -40,13 +40,14 @@ names_of all = map declared_name all
 
 -- the texts of the names that an item declares: its declarators', or its function's
 abbrev pub declared_names : Item → List (List ℕ)
-declared_names (t.Declared (t.declaration s all span)) = names_of all
-declared_names (t.Defined s d body span) = (name_of d).text ∷ []
+declared_names (tree.Declared (tree.declaration s all span)) = names_of all
+declared_names (tree.Defined s d body span) = (name_of d).text ∷ []
 
 -- those of them that are typedef names from there on (C17 6.7.8)
 abbrev pub typedef_names : Item → List (List ℕ)
-typedef_names (t.Declared (t.declaration s all span)) = if is_typedef s then names_of all else []
-typedef_names (t.Defined s d body span) = []
+typedef_names (tree.Declared (tree.declaration s all span)) = if is_typedef s then names_of all
+    else []
+typedef_names (tree.Defined s d body span) = []
 
 -- the typedef names of several items, joined
 abbrev pub typedef_names_of : List Item → List (List ℕ)
@@ -73,20 +74,21 @@ punctuator text start = lexeme_of (record { kind = kind.Punctuator; text = text;
 abbrev pub declares : List ℕ → List ℕ → ℕ → ℕ → ℕ → ℕ → BlockItems
 declares name other type_place star_place name_place semicolon_place =
     let x = identifier other name_place in
-    t.local
-    (t.declaration (t.specifiers (t.TypedefName (name_at (type_name name type_place)))
-    t.no_specifiers)
-    (t.bare (t.object 1 (name_at x) t.no_lengths
+    tree.local
+    (tree.declaration (tree.specifiers (tree.TypedefName (name_at (type_name name type_place)))
+    tree.no_specifiers)
+    (tree.bare (tree.object 1 (name_at x) tree.no_lengths
     (to (at (punctuator (codes "*") star_place)) (at x))) ∷ [])
     (to (at (type_name name type_place)) (at (punctuator (codes ";") semicolon_place))))
-    t.no_block_items
+    tree.no_block_items
 
 -- the tree of `a * x;` in a block where `a` is not a typedef name
 abbrev pub multiplies : List ℕ → List ℕ → ℕ → ℕ → ℕ → ℕ → BlockItems
 multiplies name other type_place star_place name_place semicolon_place =
     let x = identifier name type_place in
     let y = identifier other name_place in
-    t.statement
-    (t.ExpressionStatement (t.Binary binary.Multiply (t.Named (name_at x)) (t.Named (name_at y))
+    tree.statement
+    (tree.ExpressionStatement (tree.Binary binary.Multiply (tree.Named (name_at x))
+    (tree.Named (name_at y))
     (to (at x) (at y))) (to (at x) (at (punctuator (codes ";") semicolon_place))))
-    t.no_block_items
+    tree.no_block_items

@@ -12,7 +12,7 @@ use Rattle.mc_tree.specs.declared.declarations.specifier_word.SpecifierWord.{Spe
 use Rattle.mc_tree.specs.declared.declarations.specifier_word.SpecifierWord.TheVariants as word
 use Rattle.mc_grammar.specs.Words.{Lexeme, is_punctuator, is_keyword}
 use Rattle.mc_grammar.specs.Nonterminal.{Level}
-use Rattle.mc_grammar.specs.Nonterminal as l
+use Rattle.mc_grammar.specs.Nonterminal as nonterminal
 
 -- C17 6.5.3.2, 6.5.3.3
 pub data IsUnary : Lexeme → UnaryOperator → Type 0 where
@@ -31,38 +31,38 @@ pub data IsStep : Lexeme → StepOperator → Type 0 where
 -- the operator between two operands, at its level of precedence, if the token is one
 abbrev pub operator_at : Level → Lexeme → Option BinaryOperator
 -- C17 6.5.5
-operator_at l.product x =
+operator_at nonterminal.product x =
     if is_punctuator (codes "*") x then Some binary.Multiply
     else (if is_punctuator (codes "/") x then Some binary.Divide
     else (if is_punctuator (codes "%") x then Some binary.Remainder else None))
 -- C17 6.5.6
-operator_at l.sum x =
+operator_at nonterminal.sum x =
     if is_punctuator (codes "+") x then Some binary.Add
     else (if is_punctuator (codes "-") x then Some binary.Subtract else None)
 -- C17 6.5.7
-operator_at l.shift x =
+operator_at nonterminal.shift x =
     if is_punctuator (codes "<<") x then Some binary.ShiftLeft
     else (if is_punctuator (codes ">>") x then Some binary.ShiftRight else None)
 -- C17 6.5.8
-operator_at l.relation x =
+operator_at nonterminal.relation x =
     if is_punctuator (codes "<") x then Some binary.Less
     else (if is_punctuator (codes ">") x then Some binary.Greater
     else (if is_punctuator (codes "<=") x then Some binary.LessOrEqual
     else (if is_punctuator (codes ">=") x then Some binary.GreaterOrEqual else None)))
 -- C17 6.5.9
-operator_at l.equality x =
+operator_at nonterminal.equality x =
     if is_punctuator (codes "==") x then Some binary.Equal
     else (if is_punctuator (codes "!=") x then Some binary.Unequal else None)
 -- C17 6.5.10
-operator_at l.bit_and x = if is_punctuator (codes "&") x then Some binary.BitAnd else None
+operator_at nonterminal.bit_and x = if is_punctuator (codes "&") x then Some binary.BitAnd else None
 -- C17 6.5.11
-operator_at l.bit_xor x = if is_punctuator (codes "^") x then Some binary.BitXor else None
+operator_at nonterminal.bit_xor x = if is_punctuator (codes "^") x then Some binary.BitXor else None
 -- C17 6.5.12
-operator_at l.bit_or x = if is_punctuator (codes "|") x then Some binary.BitOr else None
+operator_at nonterminal.bit_or x = if is_punctuator (codes "|") x then Some binary.BitOr else None
 -- C17 6.5.13
-operator_at l.land x = if is_punctuator (codes "&&") x then Some binary.And else None
+operator_at nonterminal.land x = if is_punctuator (codes "&&") x then Some binary.And else None
 -- C17 6.5.14
-operator_at l.lor x = if is_punctuator (codes "||") x then Some binary.Or else None
+operator_at nonterminal.lor x = if is_punctuator (codes "||") x then Some binary.Or else None
 
 -- the same of the next token
 abbrev pub operator_next : Level → List Lexeme → Option BinaryOperator

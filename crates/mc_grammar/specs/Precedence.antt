@@ -4,7 +4,7 @@ use Rattle.std.specs.Prelude.{ℕ, ◌-◌, ◌≤◌}
 use Rattle.mc_tree.specs.declared.expressions.binary_operator.BinaryOperator.{BinaryOperator}
 use Rattle.mc_tree.specs.declared.expressions.binary_operator.BinaryOperator.TheVariants as binary
 use Rattle.mc_tree.specs.Tree.{Expression, Expressions}
-use Rattle.mc_tree.specs.Tree as t
+use Rattle.mc_tree.specs.Tree as tree
 
 -- C17 6.5.5 to 6.5.14
 abbrev pub section : BinaryOperator → ℕ
@@ -33,30 +33,31 @@ section binary.Or = 14
 abbrev mutual
   pub Within : ℕ → Expression → Type 0
   -- C17 6.5.1
-  Within limit (t.Named name) = 1 ≤ limit
-  Within limit (t.Constant value decimal unsigned longs span) = 1 ≤ limit
-  Within limit (t.Character value span) = 1 ≤ limit
-  Within limit (t.Parenthesized a span) = (1 ≤ limit) × Within 17 a
+  Within limit (tree.Named name) = 1 ≤ limit
+  Within limit (tree.Constant value decimal unsigned longs span) = 1 ≤ limit
+  Within limit (tree.Character value span) = 1 ≤ limit
+  Within limit (tree.Parenthesized a span) = (1 ≤ limit) × Within 17 a
   -- C17 6.5.2
-  Within limit (t.Call name arguments span) = (2 ≤ limit) × AllWithin 16 arguments
-  Within limit (t.Index a b span) = (2 ≤ limit) × Within 2 a × Within 17 b
-  Within limit (t.Member a name span) = (2 ≤ limit) × Within 2 a
-  Within limit (t.PostfixStep operator a span) = (2 ≤ limit) × Within 2 a
+  Within limit (tree.Call name arguments span) = (2 ≤ limit) × AllWithin 16 arguments
+  Within limit (tree.Index a b span) = (2 ≤ limit) × Within 2 a × Within 17 b
+  Within limit (tree.Member a name span) = (2 ≤ limit) × Within 2 a
+  Within limit (tree.PostfixStep operator a span) = (2 ≤ limit) × Within 2 a
   -- C17 6.5.3
-  Within limit (t.PrefixStep operator a span) = (3 ≤ limit) × Within 3 a
-  Within limit (t.Unary operator a span) = (3 ≤ limit) × Within 4 a
+  Within limit (tree.PrefixStep operator a span) = (3 ≤ limit) × Within 3 a
+  Within limit (tree.Unary operator a span) = (3 ≤ limit) × Within 4 a
   -- C17 6.5.4
-  Within limit (t.Cast type a span) = (4 ≤ limit) × Within 4 a
+  Within limit (tree.Cast type a span) = (4 ≤ limit) × Within 4 a
   -- C17 6.5.5 to 6.5.14
-  Within limit (t.Binary operator a b span) =
+  Within limit (tree.Binary operator a b span) =
       (section operator ≤ limit) × Within (section operator) a × Within (section operator - 1) b
   -- C17 6.5.15
-  Within limit (t.Conditional a b c span) = (15 ≤ limit) × Within 14 a × Within 17 b × Within 15 c
+  Within limit (tree.Conditional a b c span) = (15 ≤ limit) × Within 14 a × Within 17 b × Within
+      15 c
   -- C17 6.5.16
-  Within limit (t.Assignment operator a b span) = (16 ≤ limit) × Within 3 a × Within 16 b
+  Within limit (tree.Assignment operator a b span) = (16 ≤ limit) × Within 3 a × Within 16 b
   -- C17 6.5.17
-  Within limit (t.Comma operands span) = (17 ≤ limit) × AllWithin 16 operands
+  Within limit (tree.Comma operands span) = (17 ≤ limit) × AllWithin 16 operands
 
   pub AllWithin : ℕ → Expressions → Type 0
-  AllWithin limit t.no_expressions = Unit {0}
-  AllWithin limit (t.expressions a rest) = Within limit a × AllWithin limit rest
+  AllWithin limit tree.no_expressions = Unit {0}
+  AllWithin limit (tree.expressions a rest) = Within limit a × AllWithin limit rest

@@ -6,7 +6,7 @@ use Rattle.mc_lex.specs.declared.token.TokenKind.TheVariants as kind
 use Rattle.mc_span.specs.declared.span.Span.{Span}
 use Rattle.mc_tree.specs.declared.declarations.specifier_word.SpecifierWord.TheVariants as word
 use Rattle.mc_tree.specs.Tree.{Name, Specifier, Specifiers, Declarator, Item}
-use Rattle.mc_tree.specs.Tree as t
+use Rattle.mc_tree.specs.Tree as tree
 
 abbrev pub token : TokenKind → List ℕ → ℕ → Tok
 token what text start = record { kind = what; text = text; start = start }
@@ -36,14 +36,14 @@ zero_at start = token (kind.Constant 0 false false 0) (codes "0") start
 
 -- specifiers of one and of two words
 abbrev pub one_specifier : Specifier → Specifiers
-one_specifier s = t.specifiers s t.no_specifiers
+one_specifier s = tree.specifiers s tree.no_specifiers
 
 abbrev pub two_specifiers : Specifier → Specifier → Specifiers
-two_specifiers s u = t.specifiers s (one_specifier u)
+two_specifiers s u = tree.specifiers s (one_specifier u)
 
 -- the declarator of this name alone
 abbrev pub name_alone : Name → Declarator
-name_alone x = t.object 0 x t.no_lengths x.span
+name_alone x = tree.object 0 x tree.no_lengths x.span
 
 -- its second declarator needs the first one's name: `typedef int T,t[(T)3];`
 abbrev pub typedef_tokens : List Tok
@@ -57,14 +57,15 @@ typedef_tokens =
 -- the second `T` is a typedef name, so `(T)3` is a cast
 abbrev pub typedef_tree : List Item
 typedef_tree =
-    t.Declared (t.declaration
-    (t.specifiers (t.Word word.Typedef (span 0 7))
-    (t.specifiers (t.Word word.Int (span 8 11)) t.no_specifiers))
-    (t.bare (t.object 0 (name (codes "T") 12 13) t.no_lengths (span 12 13))
-    ∷ t.bare (t.object 0 (name (codes "t") 14 15)
-    (t.given_length
-    (t.Cast (t.type_name (t.specifiers (t.TypedefName (name (codes "T") 17 18)) t.no_specifiers)
-    0 (span 17 18)) (t.Constant 3 true false 0 (span 19 20)) (span 16 20)) t.no_lengths)
+    tree.Declared (tree.declaration
+    (tree.specifiers (tree.Word word.Typedef (span 0 7))
+    (tree.specifiers (tree.Word word.Int (span 8 11)) tree.no_specifiers))
+    (tree.bare (tree.object 0 (name (codes "T") 12 13) tree.no_lengths (span 12 13))
+    ∷ tree.bare (tree.object 0 (name (codes "t") 14 15)
+    (tree.given_length
+    (tree.Cast (tree.type_name (tree.specifiers (tree.TypedefName (name (codes "T") 17 18))
+    tree.no_specifiers)
+    0 (span 17 18)) (tree.Constant 3 true false 0 (span 19 20)) (span 16 20)) tree.no_lengths)
     (span 14 21)) ∷ [])
     (span 0 22)) ∷ []
 
@@ -76,9 +77,9 @@ value_tokens =
 
 abbrev pub value_tree : List Item
 value_tree =
-    t.Declared (t.declaration (one_specifier (t.Word word.Int (span 0 3)))
-    (t.initialized (name_alone (name (codes "a") 4 5))
-    (t.Single (t.Constant 5 true false 0 (span 8 9))) ∷ [])
+    tree.Declared (tree.declaration (one_specifier (tree.Word word.Int (span 0 3)))
+    (tree.initialized (name_alone (name (codes "a") 4 5))
+    (tree.Single (tree.Constant 5 true false 0 (span 8 9))) ∷ [])
     (span 0 10)) ∷ []
 
 -- `typedef void V; int f(V);`
@@ -92,14 +93,15 @@ named_void_tokens =
 -- `f` has a list of one parameter
 abbrev pub named_void_tree : List Item
 named_void_tree =
-    t.Declared (t.declaration
-    (two_specifiers (t.Word word.Typedef (span 0 7)) (t.Word word.Void (span 8 12)))
-    (t.bare (name_alone (name (codes "V") 13 14)) ∷ []) (span 0 15))
-    ∷ t.Declared (t.declaration (one_specifier (t.Word word.Int (span 16 19)))
-    (t.bare (t.function 0 (name (codes "f") 20 21)
-    (t.Listed
-    (t.parameters (t.parameter (one_specifier (t.TypedefName (name (codes "V") 22 23))) 0 None
-    t.no_lengths (span 22 23)) t.no_parameters) (span 21 24))
+    tree.Declared (tree.declaration
+    (two_specifiers (tree.Word word.Typedef (span 0 7)) (tree.Word word.Void (span 8 12)))
+    (tree.bare (name_alone (name (codes "V") 13 14)) ∷ []) (span 0 15))
+    ∷ tree.Declared (tree.declaration (one_specifier (tree.Word word.Int (span 16 19)))
+    (tree.bare (tree.function 0 (name (codes "f") 20 21)
+    (tree.Listed
+    (tree.parameters (tree.parameter (one_specifier (tree.TypedefName (name (codes "V") 22 23))) 0
+    None
+    tree.no_lengths (span 22 23)) tree.no_parameters) (span 21 24))
     (span 20 24)) ∷ [])
     (span 16 25)) ∷ []
 
@@ -112,8 +114,8 @@ void_tokens =
 -- `f` has no parameter
 abbrev pub void_tree : List Item
 void_tree =
-    t.Declared (t.declaration (one_specifier (t.Word word.Int (span 0 3)))
-    (t.bare (t.function 0 (name (codes "f") 4 5) (t.Void (span 5 11)) (span 4 11)) ∷ [])
+    tree.Declared (tree.declaration (one_specifier (tree.Word word.Int (span 0 3)))
+    (tree.bare (tree.function 0 (name (codes "f") 4 5) (tree.Void (span 5 11)) (span 4 11)) ∷ [])
     (span 0 12)) ∷ []
 
 -- `int f(void) { return 0; }`
@@ -126,10 +128,10 @@ body_tokens =
 
 abbrev pub body_tree : List Item
 body_tree =
-    t.Defined (one_specifier (t.Word word.Int (span 0 3)))
-    (t.function 0 (name (codes "f") 4 5) (t.Void (span 5 11)) (span 4 11))
-    (t.statement (t.Return (Some (t.Constant 0 false false 0 (span 21 22))) (span 14 23))
-    t.no_block_items)
+    tree.Defined (one_specifier (tree.Word word.Int (span 0 3)))
+    (tree.function 0 (name (codes "f") 4 5) (tree.Void (span 5 11)) (span 4 11))
+    (tree.statement (tree.Return (Some (tree.Constant 0 false false 0 (span 21 22))) (span 14 23))
+    tree.no_block_items)
     (span 0 25) ∷ []
 
 -- `typedef int T; struct T { int a; };`
@@ -143,13 +145,13 @@ tag_tokens =
 
 abbrev pub tag_tree : List Item
 tag_tree =
-    t.Declared (t.declaration
-    (two_specifiers (t.Word word.Typedef (span 0 7)) (t.Word word.Int (span 8 11)))
-    (t.bare (name_alone (name (codes "T") 12 13)) ∷ []) (span 0 14))
-    ∷ t.Declared (t.declaration (one_specifier (t.Structure (Some (name (codes "T") 22 23))
-    (t.members (t.member (one_specifier (t.Word word.Int (span 26 29)))
-    (t.declarators (name_alone (name (codes "a") 30 31)) t.no_declarators) (span 26 32))
-    t.no_members)
+    tree.Declared (tree.declaration
+    (two_specifiers (tree.Word word.Typedef (span 0 7)) (tree.Word word.Int (span 8 11)))
+    (tree.bare (name_alone (name (codes "T") 12 13)) ∷ []) (span 0 14))
+    ∷ tree.Declared (tree.declaration (one_specifier (tree.Structure (Some (name (codes "T") 22 23))
+    (tree.members (tree.member (one_specifier (tree.Word word.Int (span 26 29)))
+    (tree.declarators (name_alone (name (codes "a") 30 31)) tree.no_declarators) (span 26 32))
+    tree.no_members)
     (span 15 34))) [] (span 15 35)) ∷ []
 
 -- `enum { A, B = 2, };`
@@ -162,10 +164,10 @@ enumeration_tokens =
 
 abbrev pub enumeration_tree : List Item
 enumeration_tree =
-    t.Declared (t.declaration (one_specifier (t.Enumeration None
-    (t.enumerators (t.enumerator (name (codes "A") 7 8))
-    (t.enumerators (t.valued_enumerator (name (codes "B") 10 11)
-    (t.Constant 2 true false 0 (span 14 15))) t.no_enumerators))
+    tree.Declared (tree.declaration (one_specifier (tree.Enumeration None
+    (tree.enumerators (tree.enumerator (name (codes "A") 7 8))
+    (tree.enumerators (tree.valued_enumerator (name (codes "B") 10 11)
+    (tree.Constant 2 true false 0 (span 14 15))) tree.no_enumerators))
     (span 0 18))) [] (span 0 19)) ∷ []
 
 -- `int a[2] = {1, 2,};`
@@ -179,10 +181,11 @@ braced_tokens =
 
 abbrev pub braced_tree : List Item
 braced_tree =
-    t.Declared (t.declaration (one_specifier (t.Word word.Int (span 0 3)))
-    (t.initialized (t.object 0 (name (codes "a") 4 5)
-    (t.given_length (t.Constant 2 true false 0 (span 6 7)) t.no_lengths) (span 4 8))
-    (t.Braced (t.initializers (t.Single (t.Constant 1 true false 0 (span 12 13)))
-    (t.initializers (t.Single (t.Constant 2 true false 0 (span 15 16))) t.no_initializers))
+    tree.Declared (tree.declaration (one_specifier (tree.Word word.Int (span 0 3)))
+    (tree.initialized (tree.object 0 (name (codes "a") 4 5)
+    (tree.given_length (tree.Constant 2 true false 0 (span 6 7)) tree.no_lengths) (span 4 8))
+    (tree.Braced (tree.initializers (tree.Single (tree.Constant 1 true false 0 (span 12 13)))
+    (tree.initializers (tree.Single (tree.Constant 2 true false 0 (span 15 16)))
+    tree.no_initializers))
     (span 11 18)) ∷ [])
     (span 0 19)) ∷ []

@@ -5,7 +5,7 @@ use Rattle.mc_tree.specs.declared.expressions.binary_operator.BinaryOperator.The
 use Rattle.mc_tree.specs.declared.expressions.unary_operator.UnaryOperator.TheVariants as unary
 use Rattle.mc_tree.specs.declared.expressions.assignment_operator.AssignmentOperator.TheVariants as assign
 use Rattle.mc_tree.specs.Tree.{Expression, Statement}
-use Rattle.mc_tree.specs.Tree as t
+use Rattle.mc_tree.specs.Tree as tree
 use Rattle.mc_grammar.specs.Samples.{span, name, keyword, word_of, punctuator, number, zero_at}
 
 -- a `;` alone, at this place
@@ -14,7 +14,7 @@ semicolon start = punctuator (codes ";") start ∷ []
 
 -- the expression that is this identifier of one byte
 abbrev pub letter : List ℕ → ℕ → Expression
-letter text start = t.Named (name text start (suc start))
+letter text start = tree.Named (name text start (suc start))
 
 -- `a + b + c;`
 abbrev pub sum_tokens : List Tok
@@ -24,8 +24,8 @@ sum_tokens =
 
 -- `(a + b) + c`
 abbrev pub sum_tree : Expression
-sum_tree = t.Binary binary.Add
-    (t.Binary binary.Add (letter (codes "a") 0) (letter (codes "b") 4) (span 0 5))
+sum_tree = tree.Binary binary.Add
+    (tree.Binary binary.Add (letter (codes "a") 0) (letter (codes "b") 4) (span 0 5))
     (letter (codes "c") 8) (span 0 9)
 
 -- `a, b, c;`
@@ -36,8 +36,9 @@ operands_tokens =
 
 -- one node with three operands
 abbrev pub operands_tree : Expression
-operands_tree = t.Comma (t.expressions (letter (codes "a") 0)
-    (t.expressions (letter (codes "b") 3) (t.expressions (letter (codes "c") 6) t.no_expressions)))
+operands_tree = tree.Comma (tree.expressions (letter (codes "a") 0)
+    (tree.expressions (letter (codes "b") 3)
+    (tree.expressions (letter (codes "c") 6) tree.no_expressions)))
     (span 0 7)
 
 -- `(T) - 1;`
@@ -49,14 +50,16 @@ minus_tokens =
 -- a cast of `-1`
 abbrev pub cast_tree : Expression
 cast_tree =
-    t.Cast (t.type_name (t.specifiers (t.TypedefName (name (codes "T") 1 2)) t.no_specifiers) 0
+    tree.Cast (tree.type_name (tree.specifiers (tree.TypedefName (name (codes "T") 1 2))
+    tree.no_specifiers) 0
     (span 1 2))
-    (t.Unary unary.Minus (t.Constant 1 true false 0 (span 6 7)) (span 4 7)) (span 0 7)
+    (tree.Unary unary.Minus (tree.Constant 1 true false 0 (span 6 7)) (span 4 7)) (span 0 7)
 
 -- `(T)` less 1
 abbrev pub subtraction_tree : Expression
-subtraction_tree = t.Binary binary.Subtract (t.Parenthesized (letter (codes "T") 1) (span 0 3))
-    (t.Constant 1 true false 0 (span 6 7)) (span 0 7)
+subtraction_tree = tree.Binary binary.Subtract
+    (tree.Parenthesized (letter (codes "T") 1) (span 0 3))
+    (tree.Constant 1 true false 0 (span 6 7)) (span 0 7)
 
 -- `if (a) if (b) ; else ;`
 abbrev pub else_tokens : List Tok
@@ -69,8 +72,9 @@ else_tokens =
 
 -- the `else` is of the inner `if`
 abbrev pub else_tree : Statement
-else_tree = t.If (letter (codes "a") 4)
-    (t.IfElse (letter (codes "b") 11) (t.Null (span 14 15)) (t.Null (span 21 22)) (span 7 22))
+else_tree = tree.If (letter (codes "a") 4)
+    (tree.IfElse (letter (codes "b") 11) (tree.Null (span 14 15)) (tree.Null (span 21 22))
+    (span 7 22))
     (span 0 22)
 
 -- `(a=1);`
@@ -81,9 +85,9 @@ assignment_tokens =
 
 -- an assignment in parentheses
 abbrev pub assignment_tree : Statement
-assignment_tree = t.ExpressionStatement
-    (t.Parenthesized (t.Assignment assign.Assign (letter (codes "a") 1)
-    (t.Constant 1 true false 0 (span 3 4)) (span 1 4)) (span 0 5)) (span 0 6)
+assignment_tree = tree.ExpressionStatement
+    (tree.Parenthesized (tree.Assignment assign.Assign (letter (codes "a") 1)
+    (tree.Constant 1 true false 0 (span 3 4)) (span 1 4)) (span 0 5)) (span 0 6)
 
 -- `(f)(x);`, and what stands in it after `(f)`
 abbrev pub after_parentheses : List Tok
@@ -96,7 +100,7 @@ parentheses_tokens =
 
 -- `(f)`
 abbrev pub parentheses_tree : Expression
-parentheses_tree = t.Parenthesized (letter (codes "f") 1) (span 0 3)
+parentheses_tree = tree.Parenthesized (letter (codes "f") 1) (span 0 3)
 
 -- `a[0](x);`, and what stands in it after `a[0]`
 abbrev pub after_element : List Tok
@@ -110,7 +114,8 @@ element_tokens =
 
 -- `a[0]`
 abbrev pub element_tree : Expression
-element_tree = t.Index (letter (codes "a") 0) (t.Constant 0 false false 0 (span 2 3)) (span 0 4)
+element_tree = tree.Index (letter (codes "a") 0) (tree.Constant 0 false false 0 (span 2 3))
+    (span 0 4)
 
 -- `int a[b=1];`, what stands in it after `[`, and after `b`
 abbrev pub after_name : List Tok

@@ -13,7 +13,7 @@ use Rattle.mc_tree.specs.declared.expressions.assignment_operator.AssignmentOper
 use Rattle.mc_tree.specs.declared.declarations.specifier_word.SpecifierWord.{SpecifierWord}
 use Rattle.mc_tree.specs.declared.declarations.specifier_word.SpecifierWord.TheVariants as word
 use Rattle.mc_tree.specs.Tree.{Name, Expression, Expressions, TypeName, Specifier, Specifiers, StructMember, Members, Enumerator, Enumerators, Declarator, Declarators, ArrayLengths, Parameters, Parameter, ParameterList, Initializer, Initializers, InitDeclarator, Declaration, ForStart, Statement, BlockItems, Item, name_of}
-use Rattle.mc_tree.specs.Tree as t
+use Rattle.mc_tree.specs.Tree as tree
 use Rattle.mc_grammar.specs.Words.{Lexeme, is_punctuator, is_keyword, is_name, is_type_name, is_tag, sees, retag}
 use Rattle.mc_grammar.specs.Places.{name_at}
 use Rattle.mc_grammar.specs.WordSets.{is_typedef_word, some_word}
@@ -173,123 +173,126 @@ spell_name (Some name) after = Identifier name ∷ after
 abbrev mutual
   -- C17 6.5
   pub spell : Expression → List Spelled → List Spelled
-  spell (t.Named name) after = Identifier name ∷ after
-  spell (t.Constant value decimal unsigned longs span) after =
+  spell (tree.Named name) after = Identifier name ∷ after
+  spell (tree.Constant value decimal unsigned longs span) after =
       Constant value decimal unsigned longs ∷ after
-  spell (t.Character value span) after = Character value ∷ after
-  spell (t.Parenthesized a span) after = left_parenthesis ∷ spell a (right_parenthesis ∷ after)
-  spell (t.Call name arguments span) after =
+  spell (tree.Character value span) after = Character value ∷ after
+  spell (tree.Parenthesized a span) after = left_parenthesis ∷ spell a (right_parenthesis ∷ after)
+  spell (tree.Call name arguments span) after =
       Identifier name ∷ left_parenthesis ∷ spell_expressions arguments (right_parenthesis ∷ after)
-  spell (t.Index a b span) after = spell a (left_bracket ∷ spell b (right_bracket ∷ after))
-  spell (t.Member a name span) after = spell a (period ∷ Identifier name ∷ after)
-  spell (t.PostfixStep operator a span) after = spell a (Punctuator (text_of_step operator) ∷ after)
-  spell (t.PrefixStep operator a span) after = Punctuator (text_of_step operator) ∷ spell a after
-  spell (t.Unary operator a span) after = Punctuator (text_of_unary operator) ∷ spell a after
-  spell (t.Cast type a span) after =
+  spell (tree.Index a b span) after = spell a (left_bracket ∷ spell b (right_bracket ∷ after))
+  spell (tree.Member a name span) after = spell a (period ∷ Identifier name ∷ after)
+  spell (tree.PostfixStep operator a span) after = spell a
+      (Punctuator (text_of_step operator) ∷ after)
+  spell (tree.PrefixStep operator a span) after = Punctuator (text_of_step operator) ∷ spell a after
+  spell (tree.Unary operator a span) after = Punctuator (text_of_unary operator) ∷ spell a after
+  spell (tree.Cast type a span) after =
       left_parenthesis ∷ spell_type_name type (right_parenthesis ∷ spell a after)
-  spell (t.Binary operator a b span) after =
+  spell (tree.Binary operator a b span) after =
       spell a (Punctuator (text_of_binary operator) ∷ spell b after)
-  spell (t.Conditional a b c span) after = spell a (question ∷ spell b (colon ∷ spell c after))
-  spell (t.Assignment operator a b span) after =
+  spell (tree.Conditional a b c span) after = spell a (question ∷ spell b (colon ∷ spell c after))
+  spell (tree.Assignment operator a b span) after =
       spell a (Punctuator (text_of_assignment operator) ∷ spell b after)
-  spell (t.Comma operands span) after = spell_expressions operands after
+  spell (tree.Comma operands span) after = spell_expressions operands after
 
   pub spell_expressions : Expressions → List Spelled → List Spelled
-  spell_expressions t.no_expressions after = after
-  spell_expressions (t.expressions a t.no_expressions) after = spell a after
-  spell_expressions (t.expressions a rest) after = spell a (comma ∷ spell_expressions rest after)
+  spell_expressions tree.no_expressions after = after
+  spell_expressions (tree.expressions a tree.no_expressions) after = spell a after
+  spell_expressions (tree.expressions a rest) after = spell a (comma ∷ spell_expressions rest after)
 
   -- C17 6.7.7
   pub spell_type_name : TypeName → List Spelled → List Spelled
-  spell_type_name (t.type_name s stars span) after = spell_specifiers s (spell_stars stars after)
+  spell_type_name (tree.type_name s stars span) after = spell_specifiers s (spell_stars stars after)
 
   -- C17 6.7.1 to 6.7.3
   pub spell_specifier : Specifier → List Spelled → List Spelled
-  spell_specifier (t.Word w span) after = Keyword (text_of_word w) ∷ after
-  spell_specifier (t.TypedefName name) after = TypedefName name ∷ after
-  spell_specifier (t.StructureTag tag span) after = Keyword (codes "struct") ∷ Tag tag ∷ after
-  spell_specifier (t.Structure tag all span) after =
+  spell_specifier (tree.Word w span) after = Keyword (text_of_word w) ∷ after
+  spell_specifier (tree.TypedefName name) after = TypedefName name ∷ after
+  spell_specifier (tree.StructureTag tag span) after = Keyword (codes "struct") ∷ Tag tag ∷ after
+  spell_specifier (tree.Structure tag all span) after =
       Keyword (codes "struct")
       ∷ spell_tag tag (left_brace ∷ spell_members all (right_brace ∷ after))
-  spell_specifier (t.EnumerationTag tag span) after = Keyword (codes "enum") ∷ Tag tag ∷ after
-  spell_specifier (t.Enumeration tag all span) after =
+  spell_specifier (tree.EnumerationTag tag span) after = Keyword (codes "enum") ∷ Tag tag ∷ after
+  spell_specifier (tree.Enumeration tag all span) after =
       Keyword (codes "enum")
       ∷ spell_tag tag (left_brace ∷ spell_enumerators all (right_brace ∷ after))
 
   pub spell_specifiers : Specifiers → List Spelled → List Spelled
-  spell_specifiers t.no_specifiers after = after
-  spell_specifiers (t.specifiers one rest) after = spell_specifier one (spell_specifiers rest after)
+  spell_specifiers tree.no_specifiers after = after
+  spell_specifiers (tree.specifiers one rest) after = spell_specifier one
+      (spell_specifiers rest after)
 
   -- C17 6.7.2.1
   pub spell_member : StructMember → List Spelled → List Spelled
-  spell_member (t.member s all span) after =
+  spell_member (tree.member s all span) after =
       spell_specifiers s (spell_declarators all (semicolon ∷ after))
 
   pub spell_members : Members → List Spelled → List Spelled
-  spell_members t.no_members after = after
-  spell_members (t.members one rest) after = spell_member one (spell_members rest after)
+  spell_members tree.no_members after = after
+  spell_members (tree.members one rest) after = spell_member one (spell_members rest after)
 
   -- C17 6.7.2.2
   pub spell_enumerator : Enumerator → List Spelled → List Spelled
-  spell_enumerator (t.enumerator name) after = Identifier name ∷ after
-  spell_enumerator (t.valued_enumerator name a) after = Identifier name ∷ equals ∷ spell a after
+  spell_enumerator (tree.enumerator name) after = Identifier name ∷ after
+  spell_enumerator (tree.valued_enumerator name a) after = Identifier name ∷ equals ∷ spell a after
 
   pub spell_enumerators : Enumerators → List Spelled → List Spelled
-  spell_enumerators t.no_enumerators after = after
-  spell_enumerators (t.enumerators one t.no_enumerators) after = spell_enumerator one after
-  spell_enumerators (t.enumerators one rest) after =
+  spell_enumerators tree.no_enumerators after = after
+  spell_enumerators (tree.enumerators one tree.no_enumerators) after = spell_enumerator one after
+  spell_enumerators (tree.enumerators one rest) after =
       spell_enumerator one (comma ∷ spell_enumerators rest after)
 
   -- C17 6.7.6
   pub spell_declarator : Declarator → List Spelled → List Spelled
-  spell_declarator (t.object stars name all span) after =
+  spell_declarator (tree.object stars name all span) after =
       spell_stars stars (Identifier name ∷ spell_lengths all after)
-  spell_declarator (t.function stars name all span) after =
+  spell_declarator (tree.function stars name all span) after =
       spell_stars stars (Identifier name ∷ spell_parameters all after)
 
   pub spell_declarators : Declarators → List Spelled → List Spelled
-  spell_declarators t.no_declarators after = after
-  spell_declarators (t.declarators one t.no_declarators) after = spell_declarator one after
-  spell_declarators (t.declarators one rest) after =
+  spell_declarators tree.no_declarators after = after
+  spell_declarators (tree.declarators one tree.no_declarators) after = spell_declarator one after
+  spell_declarators (tree.declarators one rest) after =
       spell_declarator one (comma ∷ spell_declarators rest after)
 
   -- C17 6.7.6.2
   pub spell_lengths : ArrayLengths → List Spelled → List Spelled
-  spell_lengths t.no_lengths after = after
-  spell_lengths (t.absent_length rest) after =
+  spell_lengths tree.no_lengths after = after
+  spell_lengths (tree.absent_length rest) after =
       left_bracket ∷ right_bracket ∷ spell_lengths rest after
-  spell_lengths (t.given_length a rest) after =
+  spell_lengths (tree.given_length a rest) after =
       left_bracket ∷ spell a (right_bracket ∷ spell_lengths rest after)
 
   -- C17 6.7.6.3
   pub spell_parameters : Parameters → List Spelled → List Spelled
-  spell_parameters (t.Empty span) after = left_parenthesis ∷ right_parenthesis ∷ after
-  spell_parameters (t.Void span) after =
+  spell_parameters (tree.Empty span) after = left_parenthesis ∷ right_parenthesis ∷ after
+  spell_parameters (tree.Void span) after =
       left_parenthesis ∷ Keyword (codes "void") ∷ right_parenthesis ∷ after
-  spell_parameters (t.Listed all span) after =
+  spell_parameters (tree.Listed all span) after =
       left_parenthesis ∷ spell_parameter_list all (right_parenthesis ∷ after)
 
   pub spell_parameter : Parameter → List Spelled → List Spelled
-  spell_parameter (t.parameter s stars name all span) after =
+  spell_parameter (tree.parameter s stars name all span) after =
       spell_specifiers s (spell_stars stars (spell_name name (spell_lengths all after)))
 
   pub spell_parameter_list : ParameterList → List Spelled → List Spelled
-  spell_parameter_list t.no_parameters after = after
-  spell_parameter_list (t.parameters one t.no_parameters) after = spell_parameter one after
-  spell_parameter_list (t.parameters one rest) after =
+  spell_parameter_list tree.no_parameters after = after
+  spell_parameter_list (tree.parameters one tree.no_parameters) after = spell_parameter one after
+  spell_parameter_list (tree.parameters one rest) after =
       spell_parameter one (comma ∷ spell_parameter_list rest after)
 
 -- C17 6.7.9
 abbrev mutual
   pub spell_initializer : Initializer → List Spelled → List Spelled
-  spell_initializer (t.Single a) after = spell a after
-  spell_initializer (t.Braced all span) after =
+  spell_initializer (tree.Single a) after = spell a after
+  spell_initializer (tree.Braced all span) after =
       left_brace ∷ spell_initializers all (right_brace ∷ after)
 
   pub spell_initializers : Initializers → List Spelled → List Spelled
-  spell_initializers t.no_initializers after = after
-  spell_initializers (t.initializers one t.no_initializers) after = spell_initializer one after
-  spell_initializers (t.initializers one rest) after =
+  spell_initializers tree.no_initializers after = after
+  spell_initializers (tree.initializers one tree.no_initializers) after = spell_initializer one
+      after
+  spell_initializers (tree.initializers one rest) after =
       spell_initializer one (comma ∷ spell_initializers rest after)
 
 -- where its declaration is a typedef, the name of a declarator is a typedef name from its end on
@@ -299,8 +302,8 @@ spell_force false d after = after
 
 -- C17 6.7
 abbrev pub spell_init_declarator : Bool → InitDeclarator → List Spelled → List Spelled
-spell_init_declarator typedef (t.bare d) after = spell_declarator d (spell_force typedef d after)
-spell_init_declarator typedef (t.initialized d value) after =
+spell_init_declarator typedef (tree.bare d) after = spell_declarator d (spell_force typedef d after)
+spell_init_declarator typedef (tree.initialized d value) after =
     spell_declarator d (spell_force typedef d (equals ∷ spell_initializer value after))
 
 abbrev pub spell_init_declarators : Bool → List InitDeclarator → List Spelled → List Spelled
@@ -310,7 +313,7 @@ spell_init_declarators typedef (one ∷ rest) after =
     spell_init_declarator typedef one (comma ∷ spell_init_declarators typedef rest after)
 
 abbrev pub spell_declaration : Declaration → List Spelled → List Spelled
-spell_declaration (t.declaration s all span) after =
+spell_declaration (tree.declaration s all span) after =
     spell_specifiers s
     (spell_init_declarators (some_word is_typedef_word s) all (semicolon ∷ after))
 
@@ -320,8 +323,8 @@ spell_optional (Some a) after = spell a after
 
 -- C17 6.8.5.3
 abbrev pub spell_start : ForStart → List Spelled → List Spelled
-spell_start (t.StartsLocal d) after = spell_declaration d after
-spell_start (t.StartsExpression a) after = spell_optional a (semicolon ∷ after)
+spell_start (tree.StartsLocal d) after = spell_declaration d after
+spell_start (tree.StartsExpression a) after = spell_optional a (semicolon ∷ after)
 
 -- an expression in parentheses (C17 6.8.4, 6.8.5)
 abbrev pub spell_test : Expression → List Spelled → List Spelled
@@ -330,46 +333,47 @@ spell_test a after = left_parenthesis ∷ spell a (right_parenthesis ∷ after)
 -- C17 6.8
 abbrev mutual
   pub spell_statement : Statement → List Spelled → List Spelled
-  spell_statement (t.Compound all span) after = left_brace ∷ spell_block all (right_brace ∷ after)
-  spell_statement (t.Null span) after = semicolon ∷ after
-  spell_statement (t.ExpressionStatement a span) after = spell a (semicolon ∷ after)
-  spell_statement (t.If a s span) after =
+  spell_statement (tree.Compound all span) after = left_brace
+      ∷ spell_block all (right_brace ∷ after)
+  spell_statement (tree.Null span) after = semicolon ∷ after
+  spell_statement (tree.ExpressionStatement a span) after = spell a (semicolon ∷ after)
+  spell_statement (tree.If a s span) after =
       Keyword (codes "if") ∷ spell_test a (spell_statement s after)
-  spell_statement (t.IfElse a s u span) after =
+  spell_statement (tree.IfElse a s u span) after =
       Keyword (codes "if")
       ∷ spell_test a (spell_statement s (Keyword (codes "else") ∷ spell_statement u after))
-  spell_statement (t.Switch a s span) after =
+  spell_statement (tree.Switch a s span) after =
       Keyword (codes "switch") ∷ spell_test a (spell_statement s after)
-  spell_statement (t.While a s span) after =
+  spell_statement (tree.While a s span) after =
       Keyword (codes "while") ∷ spell_test a (spell_statement s after)
-  spell_statement (t.DoWhile s a span) after =
+  spell_statement (tree.DoWhile s a span) after =
       Keyword (codes "do")
       ∷ spell_statement s (Keyword (codes "while") ∷ spell_test a (semicolon ∷ after))
-  spell_statement (t.For start a b s span) after =
+  spell_statement (tree.For start a b s span) after =
       Keyword (codes "for") ∷ left_parenthesis
       ∷ spell_start start (spell_optional a (semicolon
       ∷ spell_optional b (right_parenthesis ∷ spell_statement s after)))
-  spell_statement (t.Case a label s span) after =
+  spell_statement (tree.Case a label s span) after =
       Keyword (codes "case") ∷ spell a (colon ∷ spell_statement s after)
-  spell_statement (t.Default label s span) after =
+  spell_statement (tree.Default label s span) after =
       Keyword (codes "default") ∷ colon ∷ spell_statement s after
-  spell_statement (t.Label name s span) after = Identifier name ∷ colon ∷ spell_statement s after
-  spell_statement (t.Goto name span) after =
+  spell_statement (tree.Label name s span) after = Identifier name ∷ colon ∷ spell_statement s after
+  spell_statement (tree.Goto name span) after =
       Keyword (codes "goto") ∷ Identifier name ∷ semicolon ∷ after
-  spell_statement (t.Break span) after = Keyword (codes "break") ∷ semicolon ∷ after
-  spell_statement (t.Continue span) after = Keyword (codes "continue") ∷ semicolon ∷ after
-  spell_statement (t.Return a span) after =
+  spell_statement (tree.Break span) after = Keyword (codes "break") ∷ semicolon ∷ after
+  spell_statement (tree.Continue span) after = Keyword (codes "continue") ∷ semicolon ∷ after
+  spell_statement (tree.Return a span) after =
       Keyword (codes "return") ∷ spell_optional a (semicolon ∷ after)
 
   pub spell_block : BlockItems → List Spelled → List Spelled
-  spell_block t.no_block_items after = after
-  spell_block (t.local d rest) after = spell_declaration d (spell_block rest after)
-  spell_block (t.statement s rest) after = spell_statement s (spell_block rest after)
+  spell_block tree.no_block_items after = after
+  spell_block (tree.local d rest) after = spell_declaration d (spell_block rest after)
+  spell_block (tree.statement s rest) after = spell_statement s (spell_block rest after)
 
 -- C17 6.9
 abbrev pub spell_item : Item → List Spelled → List Spelled
-spell_item (t.Declared d) after = spell_declaration d after
-spell_item (t.Defined s d body span) after =
+spell_item (tree.Declared d) after = spell_declaration d after
+spell_item (tree.Defined s d body span) after =
     spell_specifiers s (spell_declarator d (left_brace ∷ spell_block body (right_brace ∷ after)))
 
 abbrev pub spell_unit : List Item → List Spelled

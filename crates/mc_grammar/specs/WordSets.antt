@@ -4,7 +4,7 @@ use Rattle.mc_span.specs.declared.span.Span.{Span}
 use Rattle.mc_tree.specs.declared.declarations.specifier_word.SpecifierWord.{SpecifierWord}
 use Rattle.mc_tree.specs.declared.declarations.specifier_word.SpecifierWord.TheVariants.{Typedef, Static, Extern, Void, Bool as Boolean, Char, Short, Int, Long, Signed, Unsigned}
 use Rattle.mc_tree.specs.Tree.{TypeName, Specifiers, StructMember, Parameter, Declaration, ForStart, BlockItems, Item}
-use Rattle.mc_tree.specs.Tree as t
+use Rattle.mc_tree.specs.Tree as tree
 use Rattle.mc_grammar.specs.Counts.{Counts}
 
 abbrev pub is_typedef_word : SpecifierWord → Bool
@@ -24,15 +24,16 @@ is_storage_word _ = false
 
 -- a word that meets this test stands among the specifiers
 abbrev pub some_word : (SpecifierWord → Bool) → Specifiers → Bool
-some_word test t.no_specifiers = false
-some_word test (t.specifiers (t.Word w span) rest) = test w || some_word test rest
-some_word test (t.specifiers _ rest) = some_word test rest
+some_word test tree.no_specifiers = false
+some_word test (tree.specifiers (tree.Word w span) rest) = test w || some_word test rest
+some_word test (tree.specifiers _ rest) = some_word test rest
 
 -- how often one does
 abbrev pub how_many : (SpecifierWord → Bool) → Specifiers → ℕ
-how_many test t.no_specifiers = 0
-how_many test (t.specifiers (t.Word w span) rest) = how_many test rest + (if test w then 1 else 0)
-how_many test (t.specifiers _ rest) = how_many test rest
+how_many test tree.no_specifiers = 0
+how_many test (tree.specifiers (tree.Word w span) rest) = how_many test rest +
+    (if test w then 1 else 0)
+how_many test (tree.specifiers _ rest) = how_many test rest
 
 -- the lists of words of C17 6.7.2, each in one order, without those of floating types
 abbrev pub type_lists : List (List SpecifierWord)
@@ -48,8 +49,8 @@ type_lists =
     ∷ (Unsigned ∷ Long ∷ Long ∷ []) ∷ (Unsigned ∷ Long ∷ Long ∷ Int ∷ []) ∷ []
 
 abbrev pub specifiers_of : List SpecifierWord → Span → Specifiers
-specifiers_of [] span = t.no_specifiers
-specifiers_of (w ∷ ws) span = t.specifiers (t.Word w span) (specifiers_of ws span)
+specifiers_of [] span = tree.no_specifiers
+specifiers_of (w ∷ ws) span = tree.specifiers (tree.Word w span) (specifiers_of ws span)
 
 -- these counts are those of one type (C17 6.7.2): a typedef name, a structure or an enumeration,
 -- `void` or `_Bool` alone; or words of an integer type, at most two of them `long` and no other one
@@ -64,30 +65,30 @@ IsOneType c =
 
 -- the specifiers of a part, where it has some
 abbrev pub words_of_type_name : TypeName → Specifiers
-words_of_type_name (t.type_name s stars span) = s
+words_of_type_name (tree.type_name s stars span) = s
 
 abbrev pub words_of_member : StructMember → Specifiers
-words_of_member (t.member s all span) = s
+words_of_member (tree.member s all span) = s
 
 abbrev pub words_of_parameter : Parameter → Specifiers
-words_of_parameter (t.parameter s stars name all span) = s
+words_of_parameter (tree.parameter s stars name all span) = s
 
 abbrev pub words_of_declaration : Declaration → Specifiers
-words_of_declaration (t.declaration s all span) = s
+words_of_declaration (tree.declaration s all span) = s
 
 abbrev pub words_of_start : ForStart → Specifiers
-words_of_start (t.StartsLocal d) = words_of_declaration d
-words_of_start (t.StartsExpression a) = t.no_specifiers
+words_of_start (tree.StartsLocal d) = words_of_declaration d
+words_of_start (tree.StartsExpression a) = tree.no_specifiers
 
 abbrev pub words_of_first : BlockItems → Specifiers
-words_of_first t.no_block_items = t.no_specifiers
-words_of_first (t.local d rest) = words_of_declaration d
-words_of_first (t.statement s rest) = t.no_specifiers
+words_of_first tree.no_block_items = tree.no_specifiers
+words_of_first (tree.local d rest) = words_of_declaration d
+words_of_first (tree.statement s rest) = tree.no_specifiers
 
 abbrev pub words_of_item : Item → Specifiers
-words_of_item (t.Declared d) = words_of_declaration d
-words_of_item (t.Defined s d body span) = s
+words_of_item (tree.Declared d) = words_of_declaration d
+words_of_item (tree.Defined s d body span) = s
 
 abbrev pub words_of_function : Item → Specifiers
-words_of_function (t.Declared d) = t.no_specifiers
-words_of_function (t.Defined s d body span) = s
+words_of_function (tree.Declared d) = tree.no_specifiers
+words_of_function (tree.Defined s d body span) = s

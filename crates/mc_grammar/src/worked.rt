@@ -4,11 +4,11 @@ ghost use Rattle.std.specs.Prelude.{◌≡◌, ◌≤◌, ◌<◌, ℕ, Bool, Li
 ghost use Rattle.mc_lex.specs.declared.token.Dialect.{Dialect};
 ghost use Rattle.mc_span.specs.declared.span.Span.{Span};
 ghost use Rattle.mc_tree.specs.Tree.{Declarator, Expression, Initializer, Parameters, Statement, Item};
-ghost use Rattle.mc_tree.specs.Tree as t;
+ghost use Rattle.mc_tree.specs.Tree as source_tree;
 ghost use Rattle.mc_tree.specs.Height.{height, height_unit};
 ghost use Rattle.mc_tree.specs.Length.{token_count};
 ghost use Rattle.mc_grammar.specs.Words.{Lexeme, lexemes_of, retag};
-ghost use Rattle.mc_grammar.specs.Nonterminal as n;
+ghost use Rattle.mc_grammar.specs.Nonterminal as nonterminal;
 ghost use Rattle.mc_grammar.specs.Expressions.{Reads, ReadsStars, ReadsDeclarator, ReadsParameters};
 ghost use Rattle.mc_grammar.specs.Statements.{ReadsBlockItems, ReadsStatement, ReadsInitializer};
 ghost use Rattle.mc_grammar.specs.Items.{IsTree, IsTreeWithin, ReadsItem};
@@ -54,7 +54,7 @@ pub fn typedef_name_is_in_force_at_once()
 #[tactic(auto, using(crate::proofs::Snippets::sum))]
 pub fn sum_groups_to_the_left()
     ensures tree { (d : Dialect)
-        → Reads d n.comma (lexemes_of sum_tokens) sum_tree (lexemes_of (semicolon 9)) }
+        → Reads d nonterminal.comma (lexemes_of sum_tokens) sum_tree (lexemes_of (semicolon 9)) }
     ensures high { height sum_tree ≡ 3 }
 {}
 
@@ -62,7 +62,8 @@ pub fn sum_groups_to_the_left()
 #[tactic(auto, using(crate::proofs::Snippets::operands))]
 pub fn operands_share_one_node()
     ensures tree { (d : Dialect)
-        → Reads d n.comma (lexemes_of operands_tokens) operands_tree (lexemes_of (semicolon 7)) }
+        → Reads d nonterminal.comma (lexemes_of operands_tokens) operands_tree
+        (lexemes_of (semicolon 7)) }
     ensures high { height operands_tree ≡ 2 }
 {}
 
@@ -70,10 +71,11 @@ pub fn operands_share_one_node()
 #[tactic(auto, using(crate::proofs::Snippets::cast, crate::proofs::Snippets::subtraction))]
 pub fn typedef_name_makes_a_cast()
     ensures cast { (d : Dialect)
-        → Reads d n.comma (retag (codes "T") (lexemes_of minus_tokens)) cast_tree
+        → Reads d nonterminal.comma (retag (codes "T") (lexemes_of minus_tokens)) cast_tree
         (lexemes_of (semicolon 7)) }
     ensures subtraction { (d : Dialect)
-        → Reads d n.comma (lexemes_of minus_tokens) subtraction_tree (lexemes_of (semicolon 7)) }
+        → Reads d nonterminal.comma (lexemes_of minus_tokens) subtraction_tree
+        (lexemes_of (semicolon 7)) }
 {}
 
 /// In `if (a) if (b) ; else ;` the `else` is of the inner `if`.
@@ -132,7 +134,7 @@ pub fn list_may_end_with_comma()
 #[tactic(auto, using(crate::proofs::Refused::parentheses_leave, crate::proofs::Refused::parentheses_no_statement))]
 pub fn parentheses_are_not_called()
     ensures rest { (d : Dialect) (a : Expression) (rest : List Lexeme)
-        → Reads d n.comma (lexemes_of parentheses_tokens) a rest
+        → Reads d nonterminal.comma (lexemes_of parentheses_tokens) a rest
         → (rest ≡ lexemes_of after_parentheses) × (a ≡ parentheses_tree) }
     ensures statement { (d : Dialect) (one : Statement) (rest : List Lexeme)
         → ReadsStatement d (lexemes_of parentheses_tokens) one rest → ⊥ }
@@ -142,7 +144,7 @@ pub fn parentheses_are_not_called()
 #[tactic(auto, using(crate::proofs::Refused::element_leaves, crate::proofs::Refused::element_no_statement))]
 pub fn element_is_not_called()
     ensures rest { (d : Dialect) (a : Expression) (rest : List Lexeme)
-        → Reads d n.comma (lexemes_of element_tokens) a rest
+        → Reads d nonterminal.comma (lexemes_of element_tokens) a rest
         → (rest ≡ lexemes_of after_element) × (a ≡ element_tree) }
     ensures statement { (d : Dialect) (one : Statement) (rest : List Lexeme)
         → ReadsStatement d (lexemes_of element_tokens) one rest → ⊥ }
@@ -152,8 +154,8 @@ pub fn element_is_not_called()
 #[tactic(auto, using(crate::proofs::Refused::length_leaves, crate::proofs::Refused::length_no_tree))]
 pub fn length_is_not_an_assignment()
     ensures rest { (d : Dialect) (a : Expression) (rest : List Lexeme)
-        → Reads d n.cond (lexemes_of after_bracket) a rest
-        → (rest ≡ lexemes_of after_name) × (a ≡ t.Named (name (codes "b") 6 7)) }
+        → Reads d nonterminal.cond (lexemes_of after_bracket) a rest
+        → (rest ≡ lexemes_of after_name) × (a ≡ source_tree.Named (name (codes "b") 6 7)) }
     ensures tree { (d : Dialect) (unit : List Item) → IsTree d length_tokens unit → ⊥ }
 {}
 

@@ -1,6 +1,6 @@
 //! Whole programs.
 ghost use Rattle.std.specs.Prelude.{◌≡◌, map, All, IfOk, IfErr};
-ghost use Rattle.mc_cond.specs.Tree as c;
+ghost use Rattle.mc_cond.specs.Tree as conditions;
 ghost use Rattle.mc_typed.specs.Plans.{Fits, Plan};
 ghost use Rattle.mc_typed.specs.Sound.{IsSound};
 ghost use Rattle.mc_typed.specs.Views.{program_of};
@@ -38,7 +38,8 @@ pub fn instrument<'a>(
 ) -> Result<(Instrumented<'a>, BitMap), InstrumentFault>
     requires decisions { AreDecisions (program_of program.now).functions
         (map decision_of decisions.items) }
-    requires numbered { All (λ d. c.IsNumbered (c.tree_of d.tree)) decisions.items }
+    requires numbered { All (λ d. conditions.IsNumbered (conditions.tree_of d.tree))
+        decisions.items }
     ensures instrumented { IfOk result (λ r.
         IsInstrumented (program_of program.now) (map_of r.1) (tree_of r.0)) }
     ensures decisions { IfOk result (λ r. map (λ d. d.decision) (map_of r.1).decisions

@@ -3,6 +3,7 @@ use Rattle.std.proofs.Common.{◌≡◌, ℕ, zero, suc, ◌+◌, ◌<◌, ◌�
 use Rattle.std.specs.Prelude.{slice_get, unwrap_or}
 use Rattle.std.proofs.lemmas.List.{append-nil, drop_all, length-map}
 use Rattle.std.proofs.Math.Seq.{drop-cons}
+use Rattle.mc_limits.specs.Limits.{most_parameters}
 use Rattle.mc_value.specs.declared.int_type.IntType.{IntType}
 use Rattle.mc_typed.specs.declared.expressions.Slot.{Slot}
 use Rattle.mc_typed.specs.declared.objects.Object as code_object
@@ -66,16 +67,16 @@ as_many [] (q ∷ qs) c h = absurd h
 as_many (x ∷ xs) [] c h = absurd h
 as_many (x ∷ xs) (q ∷ qs) c h = ap suc (as_many xs qs c h.1)
 
--- a function has no more than 16 parameters
+-- a function has no more parameters than a function can have
 pub few_parameters : (p : t.Program) (all : List t.Function) (k : ℕ) → AreFunctions p all →
-    length (parameters_at (slice_get all k)) ≤ 16
+    length (parameters_at (slice_get all k)) ≤ most_parameters
 few_parameters p [] k h = omega arith
 few_parameters p (g ∷ all) zero h = h.0.few
 few_parameters p (g ∷ all) (suc k) h = few_parameters p all k h.1
 
 pub few_arguments : (f : Frame) (m : Store) (room g : ℕ) (xs : List Argument) → IsReady f m room →
     AreArguments (plain.arguments_from (map plain.argument_of xs)) (parameters_at (slice_get (scope_in f).functions g)) (scope_in f) →
-    length xs ≤ 16
+    length xs ≤ most_parameters
 few_arguments f m room g xs r h =
     let e = as_many (map plain.argument_of xs) (parameters_at (slice_get (scope_in f).functions g)) (scope_in f) h in
     let n = length-map xs plain.argument_of in

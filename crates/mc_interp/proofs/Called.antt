@@ -2,6 +2,7 @@
 use Rattle.std.proofs.Common.{◌≡◌, ℕ, ◌+◌, ◌<◌, ◌≤◌, List, sym, subst, arith, Option, Some, None, option_map}
 use Rattle.std.specs.Prelude.{slice_get, IfSome}
 use Rattle.std.proofs.lemmas.List.{length-map}
+use Rattle.mc_limits.specs.Limits.{most_run_cells}
 use Rattle.mc_value.specs.declared.int_type.IntType.{IntType}
 use Rattle.mc_typed.specs.declared.expressions.Slot.{Slot}
 use Rattle.mc_span.specs.declared.span.Span.{Span}
@@ -38,10 +39,10 @@ into_is c w types ok None t.NoResult h = tt
 into_is c w types ok None (t.NumberResult a) h = tt
 
 pub into_small : (f : Frame) (m : Store) (room g : ℕ) (given : t.Arguments) (result : Option Slot) (span : Span) → IsReady f m room →
-    IsAnyCall (t.call g given result span) (scope_in f) → IfSome result (λ slot. f.base + slot.start ≤ 65536)
+    IsAnyCall (t.call g given result span) (scope_in f) → IfSome result (λ slot. f.base + slot.start ≤ most_run_cells)
 into_small f m room g given result span r h = go result (result_at (slice_get (scope_in f).functions g)) h.2
   where
-    go : (result : Option Slot) (u : ResultType) → Takes result u (scope_in f) → IfSome result (λ slot. f.base + slot.start ≤ 65536)
+    go : (result : Option Slot) (u : ResultType) → Takes result u (scope_in f) → IfSome result (λ slot. f.base + slot.start ≤ most_run_cells)
     go (Some slot) (t.StructureResult u) h =
         let s = slot_placed (scope_in f) (activation_of f) slot u h r.types r.typed in
         omega (arith, s.within, r.has.room, r.small)

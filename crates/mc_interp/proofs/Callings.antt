@@ -3,6 +3,7 @@ use Rattle.std.proofs.Common.{◌≡◌, ℕ, suc, ◌+◌, ◌<◌, ◌≤◌, 
 use Rattle.std.specs.Prelude.{slice_get}
 use Rattle.std.proofs.lemmas.List.{append-nil, drop_all, drop_more, length_push, length-map}
 use Rattle.std.proofs.lemmas.Option.{slice_get-map, slice_get_within}
+use Rattle.mc_limits.specs.Limits.{most_levels}
 use denote.Ref.{Bor}
 use Rattle.mc_value.specs.declared.int_type.IntType.{IntType}
 use Rattle.mc_typed.specs.declared.functions.Function as code_function
@@ -181,21 +182,21 @@ module _ {P : Type 0} (leads : List ℕ → P → P → Type 0) (stays : (p : P)
   valued kind v s = value_given kind v s
 
   pub did_test_call : (m n o : Store) (v : Given ℕ) (result : Option (Option ℤ)) (p q : P) →
-      Did leads (calls (tree_of i) 512 0 c.function None passed (state_of m)) (Some v) n p q →
+      Did leads (calls (tree_of i) most_levels 0 c.function None passed (state_of m)) (Some v) n p q →
       value_given (plain.result_of fn.result) v (state_of n) ≡ told result o → Did leads (test_call (tree_of i) c (state_of m)) result o p q
   did_test_call m n o v result p q d e =
       let K = result_at (option_map erase_function (slice_get (tree_of i).program.functions c.function)) in
-      did_then leads stays joins (calls (tree_of i) 512 0 c.function None (map steps.PassedNumber c.arguments) (state_of m)) (valued K) v n o result p q q
-      (subst (λ (xs : List (steps.Passed ℕ)). Did leads (calls (tree_of i) 512 0 c.function None xs (state_of m)) (Some v) n p q) same d)
+      did_then leads stays joins (calls (tree_of i) most_levels 0 c.function None (map steps.PassedNumber c.arguments) (state_of m)) (valued K) v n o result p q q
+      (subst (λ (xs : List (steps.Passed ℕ)). Did leads (calls (tree_of i) most_levels 0 c.function None xs (state_of m)) (Some v) n p q) same d)
       (did_told leads stays joins (valued K v (state_of n)) result o q
       (subst (λ (k : t.ResultType). valued k v (state_of n) ≡ told result o) (sym result_is) e))
 
-  pub did_test_call_end : (m n : Store) (p q : P) → Did leads (calls (tree_of i) 512 0 c.function None passed (state_of m)) None n p q →
+  pub did_test_call_end : (m n : Store) (p q : P) → Did leads (calls (tree_of i) most_levels 0 c.function None passed (state_of m)) None n p q →
       Did leads (test_call (tree_of i) c (state_of m)) None n p q
   did_test_call_end m n p q d =
       let K = result_at (option_map erase_function (slice_get (tree_of i).program.functions c.function)) in
-      did_end leads stays joins (calls (tree_of i) 512 0 c.function None (map steps.PassedNumber c.arguments) (state_of m)) (valued K) n p q
-      (subst (λ (xs : List (steps.Passed ℕ)). Did leads (calls (tree_of i) 512 0 c.function None xs (state_of m)) None n p q) same d)
+      did_end leads stays joins (calls (tree_of i) most_levels 0 c.function None (map steps.PassedNumber c.arguments) (state_of m)) (valued K) n p q
+      (subst (λ (xs : List (steps.Passed ℕ)). Did leads (calls (tree_of i) most_levels 0 c.function None xs (state_of m)) None n p q) same d)
 
 -- ---- the values that are passed
 
@@ -297,7 +298,7 @@ ready_same i shapes m n room r e l =
 
 module _ (i : Bor Instrumented) (shapes : Bor (List Shape)) (f : ℕ) (passed : Bor (List Passed)) where
   abbrev tested : Called
-  tested = record { program = i; shapes = shapes; depth = 512; levels = 0; function = f; into = None; passed = passed }
+  tested = record { program = i; shapes = shapes; depth = most_levels; levels = 0; function = f; into = None; passed = passed }
 
   abbrev IsPassedAll : Type 0
   IsPassedAll = (types : List IntType) → ArePassed types passed.now (parameters_at (callee_of tested))

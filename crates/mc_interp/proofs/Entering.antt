@@ -2,6 +2,7 @@
 use Rattle.std.proofs.Common.{◌≡◌, ℕ, zero, suc, ◌+◌, ◌-◌, ◌<◌, ◌≤◌, ◌^◌, ◌⊎◌, min, Bool, List, [], ◌∷◌, length, refl, sym, ap, subst, ◌∙◌, arith, inl, inr, Option, Some, None}
 use Rattle.std.specs.Prelude.{nat_le, slice_get}
 use Rattle.std.proofs.lemmas.Bool.{cases_lt, le-leb, lt-leb}
+use Rattle.mc_limits.specs.Limits.{most_levels, most_run_cells}
 use Rattle.mc_value.specs.declared.int_type.IntType.{IntType}
 use Rattle.mc_typed.specs.declared.plans.Ending.TheVariants as ending
 use Rattle.mc_typed.specs.Layout.{ObjectType, cells}
@@ -25,19 +26,19 @@ use Rattle.mc_interp.proofs.Spent.{spent_end, spent_then}
 
 -- ---- levels
 
-pub levels_test : (held n more r : ℕ) → limited n ≡ more → r ≡ min (held + more) (2 ^ 32 - 1) → nat_le r 512 ≡ nat_le (held + n) 512
+pub levels_test : (held n more r : ℕ) → limited n ≡ more → r ≡ min (held + more) (2 ^ 32 - 1) → nat_le r most_levels ≡ nat_le (held + n) most_levels
 unfolding limited
-levels_test held n more r e f = go (cases_lt 512 (held + n))
+levels_test held n more r e f = go (cases_lt most_levels (held + n))
   where
-    go : (512 < held + n) ⊎ (held + n ≤ 512) → nat_le r 512 ≡ nat_le (held + n) 512
+    go : (most_levels < held + n) ⊎ (held + n ≤ most_levels) → nat_le r most_levels ≡ nat_le (held + n) most_levels
     go (inl l) =
-        let k : 512 < r = omega (arith, e, f, l) in
-        lt-leb r 512 k ∙ sym (lt-leb (held + n) 512 l)
+        let k : most_levels < r = omega (arith, e, f, l) in
+        lt-leb r most_levels k ∙ sym (lt-leb (held + n) most_levels l)
     go (inr l) =
-        let k : r ≤ 512 = omega (arith, e, f, l) in
-        le-leb r 512 k ∙ sym (le-leb (held + n) 512 l)
+        let k : r ≤ most_levels = omega (arith, e, f, l) in
+        le-leb r most_levels k ∙ sym (le-leb (held + n) most_levels l)
 
-pub levels_exact : (held n more r : ℕ) → limited n ≡ more → r ≡ min (held + more) (2 ^ 32 - 1) → r ≤ 512 → r ≡ held + n
+pub levels_exact : (held n more r : ℕ) → limited n ≡ more → r ≡ min (held + more) (2 ^ 32 - 1) → r ≤ most_levels → r ≡ held + n
 unfolding limited
 levels_exact held n more r e f l = omega (arith, e, f, l)
 
@@ -46,16 +47,16 @@ levels_exact held n more r e f l = omega (arith, e, f, l)
 module _ (levels n : ℕ) (s : State Flat) (m : Store) (spent : spends {E = ℕ} (gives {A = Unit {0}} tt) s ≡ told (Some tt) m) where
   abbrev after_unit : Does ℕ
   after_unit s =
-      with_room levels 512 ending.Levels (λ s. with_room (length s.memory.cells + n) 65536 ending.Cells (λ s. gives (length s.memory.cells) (grown n s)) s) s
+      with_room levels most_levels ending.Levels (λ s. with_room (length s.memory.cells + n) most_run_cells ending.Cells (λ s. gives (length s.memory.cells) (grown n s)) s) s
 
   unit_then : enters levels n s ≡ after_unit (state_of m)
   unit_then = spent_then after_unit s m spent
 
-  pub enters_levels : 512 < levels → enters levels n s ≡ told None (record m { ending = ending.Levels })
+  pub enters_levels : most_levels < levels → enters levels n s ≡ told None (record m { ending = ending.Levels })
   enters_levels l =
       unit_then
-      ∙ ap (λ b. where_true {E = ℕ} b (λ s. with_room (length s.memory.cells + n) 65536 ending.Cells (λ s. gives (length s.memory.cells) (grown n s)) s) (λ s. stops ending.Levels s) (state_of m))
-      (lt-leb levels 512 l)
+      ∙ ap (λ b. where_true {E = ℕ} b (λ s. with_room (length s.memory.cells + n) most_run_cells ending.Cells (λ s. gives (length s.memory.cells) (grown n s)) s) (λ s. stops ending.Levels s) (state_of m))
+      (lt-leb levels most_levels l)
 
 -- ---- objects that stand somewhere, for a step that asks for an activation
 
@@ -115,12 +116,12 @@ left_is None leave (steps.Structure p n) s = refl
 
 pub enters_unspent : (levels n : ℕ) (s : State Flat) (m : Store) → spends {E = ℕ} (gives {A = Unit {0}} tt) s ≡ told None m → enters levels n s ≡ told None m
 enters_unspent levels n s m h =
-    spent_end (λ s. with_room levels 512 ending.Levels (λ s. with_room (length s.memory.cells + n) 65536 ending.Cells (λ s. gives (length s.memory.cells) (grown n s)) s) s) s m h
+    spent_end (λ s. with_room levels most_levels ending.Levels (λ s. with_room (length s.memory.cells + n) most_run_cells ending.Cells (λ s. gives (length s.memory.cells) (grown n s)) s) s) s m h
 
 -- only the test of the levels counts
-pub enters_same : (a b n : ℕ) (s : State Flat) → nat_le a 512 ≡ nat_le b 512 → enters a n s ≡ enters b n s
+pub enters_same : (a b n : ℕ) (s : State Flat) → nat_le a most_levels ≡ nat_le b most_levels → enters a n s ≡ enters b n s
 enters_same a b n s e =
-    ap (λ (x : Bool). spends {E = ℕ} (λ s. where_true x (λ s. with_room (length s.memory.cells + n) 65536 ending.Cells (λ s. gives (length s.memory.cells) (grown n s)) s) (λ s. stops ending.Levels s) s) s) e
+    ap (λ (x : Bool). spends {E = ℕ} (λ s. where_true x (λ s. with_room (length s.memory.cells + n) most_run_cells ending.Cells (λ s. gives (length s.memory.cells) (grown n s)) s) (λ s. stops ending.Levels s) s) s) e
 
 -- ---- what a copy and a value that is put did to the rows
 

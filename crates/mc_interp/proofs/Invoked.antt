@@ -2,6 +2,7 @@
 use Rattle.std.proofs.Common.{◌≡◌, ℕ, zero, suc, ◌+◌, Bool, true, false, List, ◌++◌, length, map, replicate, refl, sym, ap, ◌∙◌, Option, Some, None, option_map}
 use Rattle.std.specs.Prelude.{slice_get, nat_le}
 use Rattle.std.proofs.lemmas.Option.{slice_get-map}
+use Rattle.mc_limits.specs.Limits.{most_levels, most_run_cells}
 use Rattle.mc_value.specs.declared.trap.Trap.TheVariants.{NoReturn}
 use Rattle.mc_typed.specs.declared.functions.Function as code_function
 use Rattle.mc_typed.specs.declared.plans.Ending.TheVariants as ending
@@ -39,22 +40,22 @@ module _ (n : ℕ) (s : State Flat) (within : Does (Given ℕ)) where
       with_fuel f (λ s. where_true a (λ s. where_true b within (λ s. stops ending.Cells s) s) (λ s. stops ending.Levels s) s) s
 
   by_levels : (k : ℕ) (a : Bool) →
-      where_true {E = ℕ} a (λ s. where_true (nat_le (length s.memory.cells + n) 65536) (λ s. gives (length s.memory.cells) (grown n s)) (λ s. stops ending.Cells s) s)
+      where_true {E = ℕ} a (λ s. where_true (nat_le (length s.memory.cells + n) most_run_cells) (λ s. gives (length s.memory.cells) (grown n s)) (λ s. stops ending.Cells s) s)
       (λ s. stops ending.Levels s) (record s { fuel = k })
-      ≡ where_true a (λ t. where_true (nat_le (length s.memory.cells + n) 65536) (λ s. gives (length s.memory.cells) (grown n s)) (λ s. stops ending.Cells s) t)
+      ≡ where_true a (λ t. where_true (nat_le (length s.memory.cells + n) most_run_cells) (λ s. gives (length s.memory.cells) (grown n s)) (λ s. stops ending.Cells s) t)
       (λ s. stops ending.Levels s) (record s { fuel = k })
   by_levels k true = refl
   by_levels k false = refl
 
   by_fuel : (levels f : ℕ) →
-      with_fuel {E = ℕ} f (λ s. where_true (nat_le levels 512) (λ s. where_true (nat_le (length s.memory.cells + n) 65536) (λ s. gives (length s.memory.cells) (grown n s)) (λ s. stops ending.Cells s) s)
+      with_fuel {E = ℕ} f (λ s. where_true (nat_le levels most_levels) (λ s. where_true (nat_le (length s.memory.cells + n) most_run_cells) (λ s. gives (length s.memory.cells) (grown n s)) (λ s. stops ending.Cells s) s)
       (λ s. stops ending.Levels s) s) s
-      ≡ entering f (nat_le levels 512) (nat_le (length s.memory.cells + n) 65536)
+      ≡ entering f (nat_le levels most_levels) (nat_le (length s.memory.cells + n) most_run_cells)
   by_fuel levels zero = refl
-  by_fuel levels (suc k) = by_levels k (nat_le levels 512)
+  by_fuel levels (suc k) = by_levels k (nat_le levels most_levels)
 
   -- the cells are those from before the unit was spent
-  entering_is : (levels : ℕ) → entering s.fuel (nat_le levels 512) (nat_le (length s.memory.cells + n) 65536) ≡ enters levels n s
+  entering_is : (levels : ℕ) → entering s.fuel (nat_le levels most_levels) (nat_le (length s.memory.cells + n) most_run_cells) ≡ enters levels n s
   entering_is levels = sym (by_fuel levels s.fuel)
 
   -- what the entry left, and what is done from there on
@@ -149,7 +150,7 @@ module _ (i : Instrumented) (depth levels f : ℕ) (into : Option ℕ) (ps : Lis
         let A = activation (λ f into passed s. calls (tree_of i) depth with_this f into passed s) (tree_of i).bits g ps s.memory in
         let ins : Does (Given ℕ) = inside A g into ps in
         let N = frame_of (plain.function_of fn) in
-        let b = begun N s ins base l s.fuel (nat_le with_this 512) (nat_le (length s.memory.cells + N) 65536) (entering_is N s ins with_this ∙ e) in
+        let b = begun N s ins base l s.fuel (nat_le with_this most_levels) (nat_le (length s.memory.cells + N) most_run_cells) (entering_is N s ins with_this ∙ e) in
         let s1 = record s { fuel = b.left } in
         let state : record s1 { memory = entered g ps s1.memory } ≡ state_of o =
         ap (passing (length s.memory.cells)) (ap with_registers b.state)
@@ -168,4 +169,4 @@ module _ (i : Instrumented) (depth levels f : ℕ) (into : Option ℕ) (ps : Lis
       let A = activation (λ f into passed s. calls (tree_of i) depth with_this f into passed s) (tree_of i).bits g ps s.memory in
       let N = frame_of (plain.function_of fn) in
       call_by m ∙ plainly_is s
-      ∙ not_begun N s (inside A g into ps) l s.fuel (nat_le with_this 512) (nat_le (length s.memory.cells + N) 65536) (entering_is N s (inside A g into ps) with_this ∙ e)
+      ∙ not_begun N s (inside A g into ps) l s.fuel (nat_le with_this most_levels) (nat_le (length s.memory.cells + N) most_run_cells) (entering_is N s (inside A g into ps) with_this ∙ e)

@@ -3,6 +3,7 @@ use Rattle.std.proofs.Common.{◌≡◌, ℕ, ◌+◌, ◌≤◌, ℤ, List, [],
 use Rattle.std.specs.Prelude.{sum}
 use Rattle.std.proofs.lemmas.List.{length-map}
 use Rattle.std.proofs.lemmas.List.Sums.{sum_by-cons}
+use Rattle.mc_limits.specs.Limits.{most_static_cells}
 use Rattle.mc_typed.specs.declared.objects.StaticObject as code_static
 use Rattle.mc_typed.specs.declared.plans.Call as code_call
 use Rattle.mc_typed.specs.declared.plans.Ending.{Ending}
@@ -53,7 +54,7 @@ initial_length structures n (s ∷ ss) l h =
       sum_by-cons (λ (x : ℕ). x) s.object.cells rest,
     )
 
-pub statics_room : (p : t.Program) → IsSound p → length (initial_of p.statics) ≤ 65536
+pub statics_room : (p : t.Program) → IsSound p → length (initial_of p.statics) ≤ most_static_cells
 statics_room p s = omega (arith, initial_length p.structures 0 p.statics s.statics s.initial, s.static_room)
 
 pub calls_fit : (i : Instrumented) (calls : List plans.Call) → CallsFit calls (erase (tree_of i).program) → CallsFit calls (plain.program_of i.program)

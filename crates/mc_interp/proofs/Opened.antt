@@ -4,6 +4,7 @@ use Rattle.std.specs.Prelude.{slice_get, IfSome}
 use Rattle.std.proofs.lemmas.List.{length-replicate}
 use Rattle.std.proofs.Math.Nat.{suc-mul}
 use Rattle.std.proofs.lemmas.Option.{slice_get-map}
+use Rattle.mc_limits.specs.Limits.{most_parameters}
 use denote.Ref.{Bor}
 use Rattle.mc_value.specs.declared.int_type.IntType.{IntType}
 use Rattle.mc_typed.specs.declared.functions.Function as code_function
@@ -271,7 +272,7 @@ as_many_passed types [] (q ∷ qs) h = absurd h
 as_many_passed types (x ∷ xs) [] h = absurd h
 as_many_passed types (x ∷ xs) (q ∷ qs) h = ap suc (as_many_passed types xs qs h.1)
 
-pub few_called : (k : Called) (m : Store) (room : ℕ) → IsCalled k m room → length k.passed.now ≤ 16
+pub few_called : (k : Called) (m : Store) (room : ℕ) → IsCalled k m room → length k.passed.now ≤ most_parameters
 few_called k m room h =
     let e = as_many_passed h.types k.passed.now (parameters_at (callee_of k)) h.typed.passed in
     let few = few_parameters (plain.program_of k.program.now.program) (plain.program_of k.program.now.program).functions k.function h.sound.functions in

@@ -2,6 +2,7 @@
 use Rattle.std.proofs.Common.{◌≡◌, ℕ, ◌+◌, ◌*◌, ◌<◌, ◌≤◌, ℤ, List, [], length, map, refl, sym, ap, subst, ◌∙◌, arith, Option, Some, None, option_map}
 use Rattle.std.specs.Prelude.{slice_get, IfSome}
 use Rattle.std.proofs.lemmas.Option.{slice_get_within, slice_get-map}
+use Rattle.mc_limits.specs.Limits.{most_run_cells}
 use Rattle.mc_value.specs.declared.int_type.IntType.{IntType}
 use Rattle.mc_value.specs.IntTypes.{InRange}
 use Rattle.mc_typed.specs.declared.expressions.Slot.{Slot}
@@ -118,14 +119,14 @@ scalar_typed f m room at t a r h e v g =
     r.has.each at a v (part_scalar r.types at a s.part) g
 
 pub place_small : (f : Frame) (m : Store) (room at : ℕ) (t : Option ObjectType) → IsReady f m room →
-    IsPlaced (scope_in f) (activation_of f) at t → at ≤ 65536
+    IsPlaced (scope_in f) (activation_of f) at t → at ≤ most_run_cells
 place_small f m room at None r h = absurd (h r.types r.typed)
 place_small f m room at (Some u) r h =
     let s = h r.types r.typed in omega (arith, s.within, r.has.room, r.small)
 
 pub item_room : (f : Frame) (m : Store) (room at n stride : ℕ) (t : Option ObjectType) → IsReady f m room →
     IsPlaced (scope_in f) (activation_of f) at t → length_of t ≡ Some n →
-    option_map cells (element_of t) ≡ Some stride → at + n * stride ≤ 65536
+    option_map cells (element_of t) ≡ Some stride → at + n * stride ≤ most_run_cells
 item_room f m room at n stride None r h l s = none_some n l
 item_room f m room at n stride (Some (Scalar a)) r h l s = none_some n l
 item_room f m room at n stride (Some (Structure number ms)) r h l s = none_some n l
@@ -170,15 +171,15 @@ lent_there f m room array stride r e =
 
 pub lent_small : (f : Frame) (m : Store) (room array stride : ℕ) → IsReady f m room →
     option_map cells (slice_get (scope_in f).arrays array) ≡ Some stride →
-    IfSome (slice_get f.arrays.now array) (λ l. l.base + l.length * stride ≤ 65536)
+    IfSome (slice_get f.arrays.now array) (λ l. l.base + l.length * stride ≤ most_run_cells)
 lent_small f m room array stride r e =
     let x = element_there (slice_get (scope_in f).arrays array) stride e in
     let l = lent_stands f r.types array x.0 r.typed x.1 in
     let w : l.0.base + l.0.length * cells x.0 ≤ length r.types = l.2.within in
     let z : l.0.base + l.0.length * stride ≤ length r.types =
     subst (λ y. l.0.base + l.0.length * y ≤ length r.types) x.2 w in
-    let b : l.0.base + l.0.length * stride ≤ 65536 = omega (arith, z, r.has.room, r.small) in
-    subst (λ o. IfSome o (λ l. l.base + l.length * stride ≤ 65536)) (sym l.1) b
+    let b : l.0.base + l.0.length * stride ≤ most_run_cells = omega (arith, z, r.has.room, r.small) in
+    subst (λ o. IfSome o (λ l. l.base + l.length * stride ≤ most_run_cells)) (sym l.1) b
 
 abbrev IsItem : ℕ → code.Lent → ℕ → Type 0
 IsItem stride l k = (i : ℕ) × (i < l.length) × (k ≡ l.base + i * stride)

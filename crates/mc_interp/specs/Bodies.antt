@@ -1,7 +1,7 @@
 -- Statements as they are run.
 use Rattle.std.specs.Prelude.{◌≡◌, ℕ, ℤ, Bool, true, false, not, List, map, Option, Some, None}
 use Rattle.mc_typed.specs.Layout.{cells}
-use Rattle.mc_typed.specs.Tree as t
+use Rattle.mc_typed.specs.Tree as typed
 use Rattle.mc_typed.specs.Sound.{Scope, AreDeclarators, IsExpression, IsReturn, IsTest, labels_of}
 use Rattle.mc_steps.specs.Runs.{after, gives, spends}
 use Rattle.mc_steps.specs.Expressions.{where_true, as_does, choice_does, is_true}
@@ -16,7 +16,7 @@ use Rattle.mc_probe.specs.Expressions.{value_of}
 use Rattle.mc_probe.specs.Flat.{Activation, Does, Runs, flat, hits_some}
 use Rattle.mc_probe.specs.Probes.{mark_does}
 use Rattle.mc_probe.specs.Statements.{declarators_of, effect_of, effects_of, exit_does, return_of, start_of, statement_of, statements_of, test_of}
-use Rattle.mc_probe.specs.Tree as p
+use Rattle.mc_probe.specs.Tree as probed
 use Rattle.mc_course.specs.declared.ends.Flow as code_flow
 use Rattle.mc_course.specs.declared.ends.Flow.TheVariants as ends
 use Rattle.mc_interp.specs.declared.flow.Seek as code_seek
@@ -80,10 +80,10 @@ has_left ends.Continued = false
 has_left ends.Left = true
 
 -- what a `return` gave is of the function's result type
-abbrev pub IsGivenFor : Scope → Activation → t.ResultType → Given → Type 0
+abbrev pub IsGivenFor : Scope → Activation → typed.ResultType → Given → Type 0
 IsGivenFor c w r given.Nothing = Unit {0}
-IsGivenFor c w (t.NumberResult a) (given.Number of word) = (of ≡ a) × Holds a word
-IsGivenFor c w (t.StructureResult u) (given.Structure at n) =
+IsGivenFor c w (typed.NumberResult a) (given.Number of word) = (of ≡ a) × Holds a word
+IsGivenFor c w (typed.StructureResult u) (given.Structure at n) =
     (n ≡ cells u) × IsPlaced c w at (Some u)
 IsGivenFor c w _ _ = ⊥
 
@@ -103,50 +103,50 @@ IsEnd c w (Some f) v = IsReturned c w f v
 
 -- ---- soundness, whatever stands around
 
-abbrev pub IsAnyStart : t.ForStart → Scope → Type 0
-IsAnyStart (t.StartEffects effects) c = AreAnyEffects effects c
-IsAnyStart (t.StartDeclaration declarators) c = AreDeclarators declarators c
+abbrev pub IsAnyStart : typed.ForStart → Scope → Type 0
+IsAnyStart (typed.StartEffects effects) c = AreAnyEffects effects c
+IsAnyStart (typed.StartDeclaration declarators) c = AreDeclarators declarators c
 
 abbrev mutual
-  pub IsAnyStatement : t.Statement → Scope → Type 0
-  IsAnyStatement (t.Compound items span) c = AreAnyStatements items c
-  IsAnyStatement (t.Label v span) c = Unit {0}
-  IsAnyStatement (t.Declaration declarators span) c = AreDeclarators declarators c
-  IsAnyStatement (t.Null span) c = Unit {0}
-  IsAnyStatement (t.EffectStatement effect span) c = IsAnyEffect effect c
-  IsAnyStatement (t.If e s keyword span) c = IsExpression e c × IsAnyStatement s c
-  IsAnyStatement (t.IfElse e s u keyword span) c =
+  pub IsAnyStatement : typed.Statement → Scope → Type 0
+  IsAnyStatement (typed.Compound items span) c = AreAnyStatements items c
+  IsAnyStatement (typed.Label v span) c = Unit {0}
+  IsAnyStatement (typed.Declaration declarators span) c = AreDeclarators declarators c
+  IsAnyStatement (typed.Null span) c = Unit {0}
+  IsAnyStatement (typed.EffectStatement effect span) c = IsAnyEffect effect c
+  IsAnyStatement (typed.If e s keyword span) c = IsExpression e c × IsAnyStatement s c
+  IsAnyStatement (typed.IfElse e s u keyword span) c =
       IsExpression e c × IsAnyStatement s c × IsAnyStatement u c
-  IsAnyStatement (t.Switch e items keyword span) c = IsExpression e c × AreAnyStatements items c
-  IsAnyStatement (t.For start test step s keyword span) c =
+  IsAnyStatement (typed.Switch e items keyword span) c = IsExpression e c × AreAnyStatements items c
+  IsAnyStatement (typed.For start test step s keyword span) c =
       IsAnyStart start c × IsTest test c × AreAnyEffects step c × IsAnyStatement s c
-  IsAnyStatement (t.DoWhile s e keyword span) c = IsAnyStatement s c × IsExpression e c
-  IsAnyStatement (t.Break span) c = Unit {0}
-  IsAnyStatement (t.Continue span) c = Unit {0}
-  IsAnyStatement (t.Return value span) c = IsReturn value c.result c
+  IsAnyStatement (typed.DoWhile s e keyword span) c = IsAnyStatement s c × IsExpression e c
+  IsAnyStatement (typed.Break span) c = Unit {0}
+  IsAnyStatement (typed.Continue span) c = Unit {0}
+  IsAnyStatement (typed.Return value span) c = IsReturn value c.result c
 
-  pub AreAnyStatements : t.Statements → Scope → Type 0
-  AreAnyStatements t.no_statements c = Unit {0}
-  AreAnyStatements (t.statements s rest) c = IsAnyStatement s c × AreAnyStatements rest c
+  pub AreAnyStatements : typed.Statements → Scope → Type 0
+  AreAnyStatements typed.no_statements c = Unit {0}
+  AreAnyStatements (typed.statements s rest) c = IsAnyStatement s c × AreAnyStatements rest c
 
 -- ---- labels
 
-abbrev pub label_of : p.Statement → Option Label
-label_of (p.Compound items span) = None
-label_of (p.Label v span mark) = Some (record { value = v; mark = mark })
-label_of (p.Declaration declarators span bit) = None
-label_of (p.Null span bit) = None
-label_of (p.EffectStatement effect span bit) = None
-label_of (p.If e u keyword span bit) = None
-label_of (p.IfElse e u v keyword span bit) = None
-label_of (p.Switch e items keyword span bit absent) = None
-label_of (p.For start test step u keyword span bit) = None
-label_of (p.DoWhile u e keyword span bit) = None
-label_of (p.Break span bit) = None
-label_of (p.Continue span bit) = None
-label_of (p.Return value span bit exit) = None
+abbrev pub label_of : probed.Statement → Option Label
+label_of (probed.Compound items span) = None
+label_of (probed.Label v span mark) = Some (record { value = v; mark = mark })
+label_of (probed.Declaration declarators span bit) = None
+label_of (probed.Null span bit) = None
+label_of (probed.EffectStatement effect span bit) = None
+label_of (probed.If e u keyword span bit) = None
+label_of (probed.IfElse e u v keyword span bit) = None
+label_of (probed.Switch e items keyword span bit absent) = None
+label_of (probed.For start test step u keyword span bit) = None
+label_of (probed.DoWhile u e keyword span bit) = None
+label_of (probed.Break span bit) = None
+label_of (probed.Continue span bit) = None
+label_of (probed.Return value span bit exit) = None
 
-abbrev pub labels_in : p.Statements → List (Option ℤ)
+abbrev pub labels_in : probed.Statements → List (Option ℤ)
 labels_in items = labels_of (erase_statements items)
 
 abbrev pub is_case : Option ℤ → Option Label → Bool
@@ -164,14 +164,14 @@ module _ (w : Activation) where
       gives (at_label label.value k) s))
       (gives (at_label label.value k)) s
 
-  abbrev pub where_label : Option Label → p.Statement → Seek → Does Next
+  abbrev pub where_label : Option Label → probed.Statement → Seek → Does Next
   where_label (Some label) u k s = after (label_runs label k s) (λ l s. gives (Item l) s)
   where_label None u Running s =
       after (statement_of w u s) (λ flow s. gives (next_after flow) s)
   where_label None u (For l) s = gives (Item (For l)) s
 
   -- an item of a body
-  abbrev pub item_of : p.Statement → Seek → Does Next
+  abbrev pub item_of : probed.Statement → Seek → Does Next
   item_of u k s = where_label (label_of u) u k s
 
   -- the unit and the bit of a statement, where it is counted
@@ -180,47 +180,47 @@ module _ (w : Activation) where
   counts_of (Some bit) s = spends (hits_some w bit) s
 
   -- what a statement does after them
-  abbrev pub act_of : p.Statement → Runs
-  act_of (p.Compound items span) s = statements_of w items Running s
-  act_of (p.Label v span mark) s = gives Completed s
-  act_of (p.Declaration declarators span bit) s = effect_does (declarators_of w declarators) s
-  act_of (p.Null span bit) s = gives Completed s
-  act_of (p.EffectStatement effect span bit) s = effect_does (effect_of w effect) s
-  act_of (p.If e u keyword span bit) s =
+  abbrev pub act_of : probed.Statement → Runs
+  act_of (probed.Compound items span) s = statements_of w items Running s
+  act_of (probed.Label v span mark) s = gives Completed s
+  act_of (probed.Declaration declarators span bit) s = effect_does (declarators_of w declarators) s
+  act_of (probed.Null span bit) s = gives Completed s
+  act_of (probed.EffectStatement effect span bit) s = effect_does (effect_of w effect) s
+  act_of (probed.If e u keyword span bit) s =
       choice_does (value_of w e) (statement_of w u) (gives Completed) s
-  act_of (p.IfElse e u v keyword span bit) s =
+  act_of (probed.IfElse e u v keyword span bit) s =
       choice_does (value_of w e) (statement_of w u) (statement_of w v) s
-  act_of (p.Switch e items keyword span bit absent) s =
+  act_of (probed.Switch e items keyword span bit absent) s =
       switch_does (value_of w e) (labels_in items) (statements_of w items) (mark_does w absent) s
-  act_of (p.For start test step u keyword span bit) s =
+  act_of (probed.For start test step u keyword span bit) s =
       after (start_of w start s) (λ _ s.
       loop_does (test_of w test) (statement_of w u) (effects_of w step) s)
-  act_of (p.DoWhile u e keyword span bit) s =
+  act_of (probed.DoWhile u e keyword span bit) s =
       do_does (statement_of w u) (as_does is_true (value_of w e)) s
-  act_of (p.Break span bit) s = gives Broke s
-  act_of (p.Continue span bit) s = gives Continued s
-  act_of (p.Return value span bit exit) s = exit_does w exit (return_of w value) s
+  act_of (probed.Break span bit) s = gives Broke s
+  act_of (probed.Continue span bit) s = gives Continued s
+  act_of (probed.Return value span bit exit) s = exit_does w exit (return_of w value) s
 
 abbrev pub where_initializes : Bool → Option ℕ → Option (Option ℕ)
 where_initializes true bit = Some bit
 where_initializes false bit = None
 
 -- the bit of a counted statement, where it has one
-abbrev pub count_of : p.Statement → Option (Option ℕ)
-count_of (p.Compound items span) = None
-count_of (p.Label v span mark) = None
-count_of (p.Declaration declarators span bit) =
+abbrev pub count_of : probed.Statement → Option (Option ℕ)
+count_of (probed.Compound items span) = None
+count_of (probed.Label v span mark) = None
+count_of (probed.Declaration declarators span bit) =
     where_initializes (initializes (map erase_declarator declarators)) bit
-count_of (p.Null span bit) = Some bit
-count_of (p.EffectStatement effect span bit) = Some bit
-count_of (p.If e u keyword span bit) = Some bit
-count_of (p.IfElse e u v keyword span bit) = Some bit
-count_of (p.Switch e items keyword span bit absent) = Some bit
-count_of (p.For start test step u keyword span bit) = Some bit
-count_of (p.DoWhile u e keyword span bit) = Some bit
-count_of (p.Break span bit) = Some bit
-count_of (p.Continue span bit) = Some bit
-count_of (p.Return value span bit exit) = Some bit
+count_of (probed.Null span bit) = Some bit
+count_of (probed.EffectStatement effect span bit) = Some bit
+count_of (probed.If e u keyword span bit) = Some bit
+count_of (probed.IfElse e u v keyword span bit) = Some bit
+count_of (probed.Switch e items keyword span bit absent) = Some bit
+count_of (probed.For start test step u keyword span bit) = Some bit
+count_of (probed.DoWhile u e keyword span bit) = Some bit
+count_of (probed.Break span bit) = Some bit
+count_of (probed.Continue span bit) = Some bit
+count_of (probed.Return value span bit exit) = Some bit
 
 -- ---- loops
 
@@ -253,7 +253,7 @@ where_again (Some f) again s = gives f s
 -- ---- whole bodies
 
 -- the body of a function in its activation, after its objects are there
-abbrev pub body_of : Activation → p.Function → Option ℕ → Does (steps.Given ℕ)
+abbrev pub body_of : Activation → probed.Function → Option ℕ → Does (steps.Given ℕ)
 body_of w f into s =
     after (hits_some w f.entry s) (λ _ s. after (statements_of w f.body Running s) (λ flow s.
     after (where_left flow (hits_some w f.exit) s) (leaves flat into (left w.base w.first))))

@@ -1,10 +1,11 @@
 -- What runs a call.
 use Rattle.std.specs.Prelude.{◌≡◌, ℕ, ◌+◌, ◌*◌, ◌≤◌, ◌<◌, ◌^◌, List, [], ◌∷◌, length, map, slice_get, Option, Some, None, option_map, IfSome}
 use denote.Ref.{MutBor}
+use Rattle.mc_limits.specs.Limits.{most_run_cells, most_run_outputs}
 use Rattle.mc_value.specs.declared.int_type.IntType.{IntType}
 use Rattle.mc_typed.specs.Layout.{Array, cells}
 use Rattle.mc_typed.specs.Tree.{ParameterType, ResultType, Function}
-use Rattle.mc_typed.specs.Tree as t
+use Rattle.mc_typed.specs.Tree as typed
 use Rattle.mc_typed.specs.Sound.{parameters_at, result_at, IsSound}
 use Rattle.mc_typed.specs.Views as plain
 use Rattle.mc_words.specs.Words.{Holds}
@@ -23,9 +24,9 @@ use Rattle.mc_interp.specs.Frames.{most_in, shapes_of, taken_of}
 
 -- an argument is one of its parameter's type
 abbrev pub IsPassed : List IntType → Passed → ParameterType → Type 0
-IsPassed types (passed.Number of word) (t.NumberParameter a) = (of ≡ a) × Holds a word
-IsPassed types (passed.Structure at) (t.StructureParameter u) = Stands types at u
-IsPassed types (passed.Array l) (t.ArrayParameter u) = Stands types l.base (Array l.length u)
+IsPassed types (passed.Number of word) (typed.NumberParameter a) = (of ≡ a) × Holds a word
+IsPassed types (passed.Structure at) (typed.StructureParameter u) = Stands types at u
+IsPassed types (passed.Array l) (typed.ArrayParameter u) = Stands types l.base (Array l.length u)
 IsPassed types _ _ = ⊥
 
 abbrev pub ArePassed : List IntType → List Passed → List ParameterType → Type 0
@@ -36,27 +37,27 @@ ArePassed types (a ∷ given) (q ∷ parameters) = IsPassed types a q × ArePass
 
 -- the place for the structure that is returned
 abbrev pub IsInto : List IntType → Option ℕ → ResultType → Type 0
-IsInto types (Some at) (t.StructureResult u) = Stands types at u
+IsInto types (Some at) (typed.StructureResult u) = Stands types at u
 IsInto types (Some at) _ = ⊥
-IsInto types None (t.StructureResult u) = Unit {0}
+IsInto types None (typed.StructureResult u) = Unit {0}
 IsInto types None _ = Unit {0}
 
 -- what a call gives is of the function's result type
 abbrev pub IsResultOf : Option ℕ → ResultType → Given → Type 0
 IsResultOf into r given.Nothing = Unit {0}
-IsResultOf into (t.NumberResult a) (given.Number of word) = (of ≡ a) × Holds a word
-IsResultOf into (t.StructureResult u) (given.Structure at n) = (into ≡ Some at) × (n ≡ cells u)
+IsResultOf into (typed.NumberResult a) (given.Number of word) = (of ≡ a) × Holds a word
+IsResultOf into (typed.StructureResult u) (given.Structure at n) = (into ≡ Some at) × (n ≡ cells u)
 IsResultOf into _ _ = ⊥
 
 abbrev pub callee_of : Called → Option Function
 callee_of k = slice_get (plain.program_of k.program.now.program).functions k.function
 
-abbrev pub statics_of : Instrumented → List t.Object
+abbrev pub statics_of : Instrumented → List typed.Object
 statics_of i = map (λ s. s.object) (plain.program_of i.program).statics
 
 -- the cells have the types of what the call is given
 pub record AreGiven (k : Called) (types : List IntType) : Type 0 where
-  pub statics : (i : ℕ) (o : t.Object) → slice_get (statics_of k.program.now) i ≡ Some o →
+  pub statics : (i : ℕ) (o : typed.Object) → slice_get (statics_of k.program.now) i ≡ Some o →
       Stands types o.start o.object_type
   pub passed : ArePassed types k.passed.now (parameters_at (callee_of k))
   pub into : IsInto types k.into (result_at (callee_of k))
@@ -65,12 +66,12 @@ pub record IsCalled (k : Called) (m : Store) (room : ℕ) : Type 0 where
   pub sound : IsSound (plain.program_of k.program.now.program)
   pub shapes : map taken_of k.shapes.now ≡ shapes_of k.program.now
   pub there : k.function < length k.program.now.program.functions
-  pub limit : m.cells.limit ≡ 65536
-  pub small : length m.cells.cells ≤ 65536
+  pub limit : m.cells.limit ≡ most_run_cells
+  pub small : length m.cells.cells ≤ most_run_cells
   pub registers_fit : length m.registers.items + k.depth * most_in k.program.now ≤ m.registers.limit
   pub registers_small : length m.registers.items ≤ 2 ^ 42
   pub registers_limit : m.registers.limit ≤ 2 ^ 42
-  pub output : m.output.limit ≡ 4096
+  pub output : m.output.limit ≡ most_run_outputs
   pub bits : k.program.now.bits ≤ room
   pub types : List IntType
   pub typed : AreGiven k types

@@ -1,5 +1,6 @@
 -- The entry of a call and its end.
 use Rattle.std.specs.Prelude.{◌≡◌, ℕ, ◌+◌, ◌≤◌, List, [], ◌∷◌, ◌++◌, length, map, replicate, slice_get, Option, Some, None}
+use Rattle.mc_limits.specs.Limits.{most_levels, most_run_cells}
 use Rattle.mc_value.specs.declared.int_type.IntType.{IntType}
 use Rattle.mc_typed.specs.declared.objects.Object as code_object
 use Rattle.mc_typed.specs.declared.plans.Ending.TheVariants as ending
@@ -14,7 +15,7 @@ use Rattle.mc_steps.specs.Calls.{leaves, where_left, with_room, passed_to, Passe
 use Rattle.mc_probe.specs.Calls.{calls, left}
 use Rattle.mc_probe.specs.Flat.{Activation, Does, Flat, flat, hits_some}
 use Rattle.mc_probe.specs.Statements.{statements_of}
-use Rattle.mc_probe.specs.Tree as p
+use Rattle.mc_probe.specs.Tree as probed
 use Rattle.mc_probe.specs.Trees.{tree_of}
 use Rattle.mc_probe.specs.Views as view
 use Rattle.mc_probe.specs.WellFormed.{FitStatements}
@@ -45,15 +46,15 @@ grown n s = record s {
 -- a unit, the levels and then the cells of all open activations with this one, and then its cells
 abbrev pub enters : ℕ → ℕ → Does ℕ
 enters levels n s =
-    spends (with_room levels 512 ending.Levels (λ s.
-    with_room (length s.memory.cells + n) 65536 ending.Cells (λ s.
+    spends (with_room levels most_levels ending.Levels (λ s.
+    with_room (length s.memory.cells + n) most_run_cells ending.Cells (λ s.
     gives (length s.memory.cells) (grown n s)) s)) s
 
 -- the cells of the frame are there
 pub record HasEntered (at n : ℕ) (old new : Store) : Type 0 where
   pub base : at ≡ length old.cells.cells
   pub cells : new.cells ≡ with_cells old.cells (old.cells.cells ++ replicate n None)
-  pub room : length old.cells.cells + n ≤ 65536
+  pub room : length old.cells.cells + n ≤ most_run_cells
   pub registers : new.registers ≡ old.registers
   pub output : new.output ≡ old.output
   pub fuel : new.fuel ≤ old.fuel
@@ -86,7 +87,7 @@ pub record IsPassing (arguments : List code_passed.Passed) (objects : List code_
   pub typed : ArePassed types arguments parameters
   pub stand : StandAll types base (values_of parameters) (map plain.object_of objects)
   pub room : length m.cells.cells ≡ length types
-  pub small : length m.cells.cells ≤ 65536
+  pub small : length m.cells.cells ≤ most_run_cells
 
 -- ---- the end
 
@@ -138,7 +139,7 @@ pub record HasLeft (f : Frame) (into : Option ℕ) (old new : Store) : Type 0 wh
       HasTypes (types ++ more) old.cells.cells → HasTypes types new.cells.cells
 
 -- a body after its entry
-abbrev pub inside_of : Activation → p.Function → Option ℕ → Does (steps.Given ℕ)
+abbrev pub inside_of : Activation → probed.Function → Option ℕ → Does (steps.Given ℕ)
 inside_of w f into s =
     after (statements_of w f.body steps.Running s) (λ flow s.
     after (where_left flow (hits_some w f.exit) s) (leaves flat into (left w.base w.first)))

@@ -1,5 +1,6 @@
 -- An activation as it is kept, and what a part of its run asks for and keeps.
 use Rattle.std.specs.Prelude.{◌≡◌, ℕ, ◌+◌, ◌*◌, ◌≤◌, ◌^◌, max, List, [], ◌∷◌, length, map}
+use Rattle.mc_limits.specs.Limits.{most_run_cells, most_run_outputs}
 use Rattle.mc_value.specs.declared.int_type.IntType.{IntType}
 use Rattle.mc_typed.specs.Frames.{frame_of}
 use Rattle.mc_typed.specs.Levels.{levels_of, limited}
@@ -8,7 +9,7 @@ use Rattle.mc_typed.specs.Views as plain
 use Rattle.mc_probe.specs.Flat.{Activation}
 use Rattle.mc_probe.specs.Calls.{calls}
 use Rattle.mc_probe.specs.Trees.{Instrumented, tree_of}
-use Rattle.mc_probe.specs.Tree as p
+use Rattle.mc_probe.specs.Tree as probed
 use Rattle.mc_interp.specs.declared.store.Store.{Store}
 use Rattle.mc_interp.specs.declared.frame.Frame.{Frame}
 use Rattle.mc_interp.specs.declared.values.Shape.{Shape}
@@ -32,7 +33,7 @@ abbrev pub scope_in : Frame → Scope
 scope_in f = scope_of (plain.program_of f.program.now.program) (plain.function_of f.function.now)
 
 -- the most registers that an activation has
-abbrev pub most_registers : List p.Function → ℕ
+abbrev pub most_registers : List probed.Function → ℕ
 most_registers [] = 0
 most_registers (f ∷ functions) = max f.registers (most_registers functions)
 
@@ -43,7 +44,7 @@ most_in i = most_registers (tree_of i).program.functions
 pub record Taken : Type 0 where
   pub levels : ℕ
   pub cells : ℕ
-  pub body : p.Statements
+  pub body : probed.Statements
 
 abbrev pub taken_of : Shape → Taken
 taken_of s = record {
@@ -70,13 +71,13 @@ pub record IsReady (f : Frame) (m : Store) (room : ℕ) : Type 0 where
   pub whole : IsFunction (plain.program_of f.program.now.program)
       (plain.function_of f.function.now)
   pub shapes : map taken_of f.shapes.now ≡ shapes_of f.program.now
-  pub limit : m.cells.limit ≡ 65536
-  pub small : length m.cells.cells ≤ 65536
+  pub limit : m.cells.limit ≡ most_run_cells
+  pub small : length m.cells.cells ≤ most_run_cells
   pub registers : f.first + f.function.now.registers ≤ length m.registers.items
   pub registers_small : length m.registers.items ≤ 2 ^ 42
   pub registers_limit : m.registers.limit ≤ 2 ^ 42
   pub registers_fit : length m.registers.items + f.depth * most_in f.program.now ≤ m.registers.limit
-  pub output : m.output.limit ≡ 4096
+  pub output : m.output.limit ≡ most_run_outputs
   pub bits : f.program.now.bits ≤ room
   pub types : List IntType
   pub typed : AreTyped (scope_in f) (activation_of f) types

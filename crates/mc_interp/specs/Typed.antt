@@ -8,7 +8,7 @@ use Rattle.mc_interp.specs.declared.values.Passed.{Passed}
 use Rattle.mc_interp.specs.declared.values.Passed.TheVariants as passed
 use Rattle.mc_interp.specs.declared.values.Lent as code
 use Rattle.mc_typed.specs.Tree.{Object}
-use Rattle.mc_typed.specs.Tree as t
+use Rattle.mc_typed.specs.Tree as typed
 use Rattle.mc_typed.specs.Sound.{Scope, AreArguments, IsExpression, IsPlace, IsSlot, IsStructure, Takes, parameters_at, place_type, object_type_at, result_at, structure_type, type_of}
 use Rattle.mc_steps.specs.Memories.{Lent}
 use Rattle.mc_probe.specs.Flat.{Activation}
@@ -49,50 +49,51 @@ IsPlaced c w at u = (types : List IntType) → AreTyped c w types → StandsSome
 -- ---- calls
 
 -- a call of a function of the program, with arguments for its parameters
-abbrev pub IsAnyCall : t.FunctionCall → Scope → Type 0
-IsAnyCall (t.call f given result span) c =
+abbrev pub IsAnyCall : typed.FunctionCall → Scope → Type 0
+IsAnyCall (typed.call f given result span) c =
     (f < length c.functions)
     × AreArguments given (parameters_at (slice_get c.functions f)) c
     × Takes result (result_at (slice_get c.functions f)) c
 
 -- what its function gives, and the place for it
-abbrev pub result_in : Scope → t.FunctionCall → t.ResultType
-result_in c (t.call f given result span) = result_at (slice_get c.functions f)
+abbrev pub result_in : Scope → typed.FunctionCall → typed.ResultType
+result_in c (typed.call f given result span) = result_at (slice_get c.functions f)
 
-abbrev pub into_of : Activation → t.FunctionCall → Option ℕ
-into_of w (t.call f given result span) = option_map (λ slot. w.base + slot.start) result
+abbrev pub into_of : Activation → typed.FunctionCall → Option ℕ
+into_of w (typed.call f given result span) = option_map (λ slot. w.base + slot.start) result
 
 -- an argument, whatever parameter it is for
-abbrev pub IsSomeArgument : t.Argument → Scope → Type 0
-IsSomeArgument (t.NumberArgument e) c = IsExpression e c
-IsSomeArgument (t.StructureArgument value copy) c =
+abbrev pub IsSomeArgument : typed.Argument → Scope → Type 0
+IsSomeArgument (typed.NumberArgument e) c = IsExpression e c
+IsSomeArgument (typed.StructureArgument value copy) c =
     IsStructure value c × IsSlot c.objects copy
     × (structure_type c value ≡ object_type_at c.objects copy.object)
-IsSomeArgument (t.ArrayArgument place n) c = IsPlace place c
-IsSomeArgument (t.AgainArgument array span) c = array < length c.arrays
+IsSomeArgument (typed.ArrayArgument place n) c = IsPlace place c
+IsSomeArgument (typed.AgainArgument array span) c = array < length c.arrays
 
-abbrev pub AreSomeArguments : t.Arguments → Scope → Type 0
-AreSomeArguments t.no_arguments c = Unit {0}
-AreSomeArguments (t.arguments a rest) c = IsSomeArgument a c × AreSomeArguments rest c
+abbrev pub AreSomeArguments : typed.Arguments → Scope → Type 0
+AreSomeArguments typed.no_arguments c = Unit {0}
+AreSomeArguments (typed.arguments a rest) c = IsSomeArgument a c × AreSomeArguments rest c
 
 abbrev pub StandsArray : List IntType → code.Lent → Option ObjectType → Type 0
 StandsArray types l None = ⊥
 StandsArray types l (Some u) = Stands types l.base (Array l.length u)
 
 -- what is passed has the type of its argument
-abbrev pub IsPassedFor : Scope → List IntType → Passed → t.Argument → Type 0
-IsPassedFor c types (passed.Number of word) (t.NumberArgument e) = (of ≡ type_of e) × Holds of word
-IsPassedFor c types (passed.Structure at) (t.StructureArgument value copy) =
+abbrev pub IsPassedFor : Scope → List IntType → Passed → typed.Argument → Type 0
+IsPassedFor c types (passed.Number of word) (typed.NumberArgument e) =
+    (of ≡ type_of e) × Holds of word
+IsPassedFor c types (passed.Structure at) (typed.StructureArgument value copy) =
     StandsSome types at (structure_type c value)
-IsPassedFor c types (passed.Array l) (t.ArrayArgument place n) =
+IsPassedFor c types (passed.Array l) (typed.ArrayArgument place n) =
     (l.length ≡ n) × StandsSome types l.base (place_type c place)
-IsPassedFor c types (passed.Array l) (t.AgainArgument array span) =
+IsPassedFor c types (passed.Array l) (typed.AgainArgument array span) =
     StandsArray types l (slice_get c.arrays array)
 IsPassedFor c types _ _ = ⊥
 
-abbrev pub ArePassedFor : Scope → List IntType → List Passed → t.Arguments → Type 0
-ArePassedFor c types [] t.no_arguments = Unit {0}
-ArePassedFor c types [] (t.arguments a rest) = ⊥
-ArePassedFor c types (x ∷ xs) t.no_arguments = ⊥
-ArePassedFor c types (x ∷ xs) (t.arguments a rest) =
+abbrev pub ArePassedFor : Scope → List IntType → List Passed → typed.Arguments → Type 0
+ArePassedFor c types [] typed.no_arguments = Unit {0}
+ArePassedFor c types [] (typed.arguments a rest) = ⊥
+ArePassedFor c types (x ∷ xs) typed.no_arguments = ⊥
+ArePassedFor c types (x ∷ xs) (typed.arguments a rest) =
     IsPassedFor c types x a × ArePassedFor c types xs rest

@@ -8,7 +8,7 @@ ghost use Rattle.mc_words.specs.Words.{number_of, Holds};
 ghost use Rattle.mc_steps.specs.Expressions as steps;
 ghost use Rattle.mc_probe.specs.Erase.{erase_expression};
 ghost use Rattle.mc_probe.specs.Expressions as does;
-ghost use Rattle.mc_probe.specs.Tree as p;
+ghost use Rattle.mc_probe.specs.Tree as probed;
 ghost use Rattle.mc_probe.specs.WellFormed.{Fits};
 ghost use Rattle.mc_interp.specs.Calls.{Invokes};
 ghost use Rattle.mc_interp.specs.Frames.{activation_of, scope_in, IsKept, IsReady};
@@ -65,7 +65,7 @@ fn related(
         (type_of (erase_expression (prepared.leaf_of right.now))) }
     requires ready { IsReady frame.now store.old frame.now.program.now.bits }
     ensures ran { (span : Span) → steps.as_does steps.is_true (does.value_of
-        (activation_of frame.now) (p.Binary (Binary (prepared.operator_of relation)) of
+        (activation_of frame.now) (probed.Binary (Binary (prepared.operator_of relation)) of
         (prepared.leaf_of left.now) (prepared.leaf_of right.now) span)) (state_of store.old)
         ≡ told result store.new }
     ensures kept { IfSome result (λ _. IsKept (scope_in frame.now) (activation_of frame.now)
@@ -130,7 +130,7 @@ fn negated(operand: &Question, frame: &Frame<'_, '_, '_>, store: &mut Store) -> 
     requires fits { Fits frame.now.function.now.registers (prepared.question_of operand.now) }
     requires ready { IsReady frame.now store.old frame.now.program.now.bits }
     ensures ran { (span : Span) → steps.as_does steps.is_true (does.value_of
-        (activation_of frame.now) (p.Not (prepared.question_of operand.now) span))
+        (activation_of frame.now) (probed.Not (prepared.question_of operand.now) span))
         (state_of store.old) ≡ told result store.new }
     ensures kept { IfSome result (λ _. IsKept (scope_in frame.now) (activation_of frame.now)
         store.old store.new) }
@@ -159,7 +159,7 @@ fn joined(
     requires right_fits { Fits frame.now.function.now.registers (prepared.question_of right.now) }
     requires ready { IsReady frame.now store.old frame.now.program.now.bits }
     ensures ran { (span : Span) → steps.as_does steps.is_true (does.value_of
-        (activation_of frame.now) (p.Logic operator (prepared.question_of left.now)
+        (activation_of frame.now) (probed.Logic operator (prepared.question_of left.now)
         (prepared.question_of right.now) span)) (state_of store.old) ≡ told result store.new }
     ensures kept { IfSome result (λ _. IsKept (scope_in frame.now) (activation_of frame.now)
         store.old store.new) }

@@ -1,5 +1,6 @@
 //! Effects: what is evaluated for what it does (C17 6.5.16, 6.8.3).
 ghost use Rattle.std.specs.Prelude.{◌≡◌, ◌<◌, ◌≤◌, Some, length, map, option_map, IfSome};
+ghost use Rattle.mc_limits.specs.Limits.{most_run_outputs};
 ghost use Rattle.mc_typed.specs.Layout.{Scalar, cells as cells_of};
 ghost use Rattle.mc_typed.specs.Views as plain;
 ghost use Rattle.mc_typed.specs.Sound.{Scope, place_type, structure_type, type_of, HasOperands, IsExpression, IsPlace, IsStructure};
@@ -23,6 +24,7 @@ use crate::expressions::{call, place, structure, truth, value};
 use crate::frame::{Called, Frame};
 use crate::store::Store;
 use mc_hits::Probe;
+use mc_limits::MOST_RUN_OUTPUTS;
 use mc_typed::{Effect, Ending, Expression, FunctionCall, Operator, Place, Structure};
 use mc_value::IntType;
 
@@ -279,14 +281,14 @@ impl Store {
     /// A number goes to the end of the output, where there is room, or the run stops.
     #[tactic(auto, unfolding(crate::specs::Stores::limits_of))]
     fn append(&mut self, number: u64) -> Option<()>
-        requires limit { self.old.output.limit ≡ 4096 }
+        requires limit { self.old.output.limit ≡ most_run_outputs }
         requires typed { Holds IntType.Int number }
         ensures ran { appends (number_of IntType.Int number) (state_of self.old)
             ≡ told result self.new }
         ensures kept { (c : Scope) (w : Activation) → IsKept c w self.old self.new }
         ensures limits { limits_of self.new ≡ limits_of self.old }
     {
-        if self.output.len() < 4096 {
+        if self.output.len() < MOST_RUN_OUTPUTS as usize {
             self.output.push(number.cast_signed() as i32);
             Some(())
         } else {
@@ -298,7 +300,7 @@ impl Store {
     /// The same after a unit of fuel.
     #[tactic(auto, unfolding(crate::specs::Stores::limits_of))]
     fn output(&mut self, number: u64) -> Option<()>
-        requires limit { self.old.output.limit ≡ 4096 }
+        requires limit { self.old.output.limit ≡ most_run_outputs }
         requires typed { Holds IntType.Int number }
         ensures ran { spends (appends (number_of IntType.Int number)) (state_of self.old)
             ≡ told result self.new }

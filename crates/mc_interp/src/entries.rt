@@ -2,6 +2,7 @@
 #![tactic(auto, unfolding(crate::specs::Stores::limits_of))]
 
 ghost use Rattle.std.specs.Prelude.{◌≡◌, ℕ, ◌+◌, ◌<◌, ◌≤◌, ◌++◌, ◌^◌, nat_le, [], ◌∷◌, List, Some, None, length, map, take, replicate, option_map, IfSome};
+ghost use Rattle.mc_limits.specs.Limits.{most_levels, most_parameters, most_run_cells};
 ghost use Rattle.mc_value.specs.declared.int_type.IntType.{IntType};
 ghost use Rattle.mc_typed.specs.declared.plans.Ending.{Ending};
 ghost use Rattle.mc_typed.specs.Levels.{limited};
@@ -22,14 +23,16 @@ ghost use Rattle.mc_interp.specs.Typed.{HasTypes};
 ghost use Rattle.mc_interp.specs.Frames.{IsKept};
 
 use crate::store::Store;
-use crate::values::{Given, Lent, Passed};
+use crate::values::{Given, Lent, MOST_PASSED, Passed};
 use arrayvec::ArrayVec;
+use mc_limits::MOST_LEVELS;
 use mc_typed::{Ending, Object};
 
 /// The levels of the open activations with so many more.
 pub(crate) fn levels_with(held: u32, more: u32) -> u32
-    ensures test { (n : ℕ) → limited n ≡ more → nat_le result 512 ≡ nat_le (held + n) 512 }
-    ensures exact { (n : ℕ) → limited n ≡ more → result ≤ 512 → result ≡ held + n }
+    ensures test { (n : ℕ) → limited n ≡ more → nat_le result most_levels
+        ≡ nat_le (held + n) most_levels }
+    ensures exact { (n : ℕ) → limited n ≡ more → result ≤ most_levels → result ≡ held + n }
 {
     held.saturating_add(more)
 }
@@ -59,14 +62,14 @@ impl Store {
     /// A call begins: a unit is spent, the levels and then the cells are tested, and the cells of
     /// the frame are there, all unset.
     pub(crate) fn enter(&mut self, levels: u32, cells: u32) -> Option<u32>
-        requires { self.old.cells.limit ≡ 65536 }
+        requires { self.old.cells.limit ≡ most_run_cells }
         ensures ran { enters levels cells (state_of self.old) ≡ told result self.new }
         ensures entered { IfSome result (λ base. HasEntered base cells self.old self.new) }
-        ensures levels { IfSome result (λ base. levels ≤ 512) }
+        ensures levels { IfSome result (λ base. levels ≤ most_levels) }
         ensures limits { limits_of self.new ≡ limits_of self.old }
     {
         self.spend()?;
-        if levels > 512 {
+        if levels > MOST_LEVELS {
             self.ending = Ending::Levels;
             return None;
         }
@@ -151,9 +154,9 @@ impl Store {
 }
 
 /// The arrays that are passed, in their order.
-pub(crate) fn lend(passed: &[Passed], arrays: &mut ArrayVec<Lent, 16>)
+pub(crate) fn lend(passed: &[Passed], arrays: &mut ArrayVec<Lent, MOST_PASSED>)
     requires none { arrays.old.items ≡ [] }
-    requires few { length passed.now ≤ 16 }
+    requires few { length passed.now ≤ most_parameters }
     ensures { map lent_of arrays.new.items ≡ steps.lent_of (map passed_of passed.now) }
 {
     for given in passed {

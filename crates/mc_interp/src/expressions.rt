@@ -1,5 +1,6 @@
 //! Expressions: their values, and whether they are true.
 ghost use Rattle.std.specs.Prelude.{◌≡◌, ◌≤◌, List, [], false, length, map, option_map, true, IfSome};
+ghost use Rattle.mc_limits.specs.Limits.{most_parameters};
 ghost use Rattle.mc_value.specs.declared.int_type.IntType.{IntType};
 ghost use Rattle.mc_typed.specs.Sound.{IsExpression, IsPlace, IsStructure, compares, place_type, structure_type, type_of};
 ghost use Rattle.mc_typed.specs.declared.operators.Operator.TheVariants.{Binary};
@@ -18,7 +19,7 @@ ghost use Rattle.mc_steps.specs.Expressions as steps;
 use crate::frame::{Called, Frame};
 use crate::steps::goes_on;
 use crate::store::Store;
-use crate::values::{Lent, Passed};
+use crate::values::{Lent, MOST_PASSED, Passed};
 use arrayvec::ArrayVec;
 use mc_course::{in_order, is_true};
 use mc_hits::Probe;
@@ -467,7 +468,7 @@ fn arguments<P: Probe, F: Fn(Called<'_, '_, '_>, &mut Store, &mut P) -> Option<(
     trees: &[Argument],
     frame: &Frame<'_, '_, '_>,
     invoke: F,
-    passed: &mut ArrayVec<Passed, 16>,
+    passed: &mut ArrayVec<Passed, MOST_PASSED>,
     store: &mut Store,
     probe: &mut P,
 ) -> Option<()>
@@ -475,7 +476,7 @@ fn arguments<P: Probe, F: Fn(Called<'_, '_, '_>, &mut Store, &mut P) -> Option<(
         (scope_in frame.now) }
     requires fits { FitArguments frame.now.function.now.registers
         (view.arguments_from (map view.argument_of trees.now)) }
-    requires few { length trees.now ≤ 16 }
+    requires few { length trees.now ≤ most_parameters }
     requires none { passed.old.items ≡ [] }
     requires ready { IsReady frame.now store.old (P.bits probe.old) }
     requires invokes { Invokes frame.now P.bits P.leads (F.pre invoke) (F.post invoke) }

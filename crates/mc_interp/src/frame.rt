@@ -1,5 +1,6 @@
 //! Activations and calls.
 ghost use Rattle.std.specs.Prelude.{◌≡◌, ℕ, ◌+◌, ◌*◌, ◌<◌, ◌≤◌, ◌^◌, length, map, slice_get, if◌then◌else◌, Some, IfSome, Option, option_map, unwrap_or};
+ghost use Rattle.mc_limits.specs.Limits.{most_run_cells};
 ghost use Rattle.mc_value.specs.declared.int_type.IntType.{IntType};
 ghost use Rattle.mc_value.specs.declared.trap.Trap.{Trap};
 ghost use Rattle.mc_typed.specs.Layout.{ObjectType, cells};
@@ -134,7 +135,7 @@ impl<'f, 'a, 'p> Frame<'f, 'a, 'p> {
     ) -> Option<u32>
         requires there { array < length self.now.arrays.now }
         requires small { IfSome (slice_get self.now.arrays.now array)
-            (λ l. l.base + l.length * stride ≤ 65536) }
+            (λ l. l.base + l.length * stride ≤ most_run_cells) }
         ensures ran { (u : IntType) → with_some Trap.Index (slice_get (map lent_of
             self.now.arrays.now) array) (λ l s. with_index (number_of u index) l.length
             (λ i s. gives (l.place + i * stride) s) s) (state_of store.old)
@@ -158,7 +159,7 @@ impl<'f, 'a, 'p> Frame<'f, 'a, 'p> {
 
     /// Where the temporary object for the structure that a call returns begins.
     pub(crate) fn into(&self, slot: Option<Slot>) -> Option<u32>
-        requires { IfSome slot (λ s. self.now.base + s.start ≤ 65536) }
+        requires { IfSome slot (λ s. self.now.base + s.start ≤ most_run_cells) }
         ensures { result ≡ option_map (λ s. self.now.base + s.start) slot }
     {
         match slot {
@@ -182,7 +183,7 @@ impl<'f, 'a, 'p> Frame<'f, 'a, 'p> {
             ≤ length store.old.cells.cells }
         requires room { self.now.base + copy.start
             + (target (activation_of self.now) copy).cells ≤ length store.old.cells.cells }
-        requires small { self.now.base + copy.start ≤ 65536 }
+        requires small { self.now.base + copy.start ≤ most_run_cells }
         ensures place { result ≡ self.now.base + copy.start }
         ensures ran { changes (flat.copy from (self.now.base + copy.start)
             (target (activation_of self.now) copy).cells) (state_of store.old)

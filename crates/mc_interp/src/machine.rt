@@ -16,6 +16,7 @@ use crate::tests::test_calls;
 use crate::values::{Given, Shape};
 use mc_cells::Cells;
 use mc_hits::Probe;
+use mc_limits::{MOST_CALLS, MOST_INPUTS, MOST_LEVELS, MOST_RUN_CELLS, MOST_RUN_OUTPUTS};
 use mc_probe::Instrumented;
 use mc_stack::Stack;
 use mc_typed::{Ending, Function, TestPlan, frame_cells, levels_of_body};
@@ -99,20 +100,19 @@ impl<'p, 'a> Model for Machine<'p, 'a> {
 }
 
 impl<'p, 'a> Machine<'p, 'a> {
-    /// A machine for this program. It takes the room that every run uses: 65,536 cells, 4,096
-    /// inputs and as many outputs, 1,024 calls, and the registers of all activations that 512
-    /// levels allow.
+    /// A machine for this program. It takes the room that every run uses: the most cells, inputs,
+    /// outputs and calls, and the registers of all activations that the most levels allow.
     pub fn new(alloc: Global, program: &'p Instrumented<'a>) -> Result<Machine<'p, 'a>, AllocError>
         ensures { IfOk result (λ m. m ≡ fresh program.now) }
     {
         let functions = program.program().functions();
         let shapes = shapes_of(alloc, functions)?;
         let most = most_registers(functions) as usize;
-        let cells = Cells::with(alloc, 65536)?;
-        let registers = Stack::with(alloc, 512 * most)?;
-        let inputs = Stack::with(alloc, 4096)?;
-        let output = Stack::with(alloc, 4096)?;
-        let done = Stack::with(alloc, 1024)?;
+        let cells = Cells::with(alloc, MOST_RUN_CELLS)?;
+        let registers = Stack::with(alloc, MOST_LEVELS as usize * most)?;
+        let inputs = Stack::with(alloc, MOST_INPUTS as usize)?;
+        let output = Stack::with(alloc, MOST_RUN_OUTPUTS as usize)?;
+        let done = Stack::with(alloc, MOST_CALLS as usize)?;
         let store = Store {
             cells,
             registers,

@@ -2,6 +2,7 @@
 #![tactic(auto, unfolding(crate::specs::Stores::limits_of))]
 
 ghost use Rattle.std.specs.Prelude.{◌≡◌, ℕ, ℤ, ◌+◌, ◌*◌, ◌<◌, ◌≤◌, ◌^◌, pos, length, slice_get, slice_set, Some, None, Ok, Err, option_map, IfSome};
+ghost use Rattle.mc_limits.specs.Limits.{most_run_cells};
 ghost use Rattle.mc_value.specs.declared.int_type.IntType.{IntType};
 ghost use Rattle.mc_value.specs.IntTypes.{InRange};
 ghost use Rattle.mc_typed.specs.Layout.{ObjectType, Scalar};
@@ -23,8 +24,8 @@ use crate::store::Store;
 use crate::values::Given;
 use mc_course::{add, item, set};
 use mc_typed::{Ending, LogicOperator, Operator};
-use mc_value::{IntType, Trap};
-use mc_words::{convert, is_signed, operate};
+use mc_value::{IntType, Trap, is_signed};
+use mc_words::{convert, operate};
 
 impl Store {
     /// The run stops in a trap.
@@ -208,7 +209,7 @@ impl Store {
 
     /// An item of an array by its index, which is tested, or the run stops.
     pub(crate) fn item(&mut self, base: u32, length: u32, stride: u32, index: u64) -> Option<u32>
-        requires { base + length * stride ≤ 65536 }
+        requires { base + length * stride ≤ most_run_cells }
         ensures ran { (u : IntType) → steps.with_index (number_of u index) length
             (λ i s. gives (base + i * stride) s) (state_of self.old) ≡ told result self.new }
         ensures index { IfSome result (λ k. (i : ℕ) × (i < length) × (k ≡ base + i * stride)) }

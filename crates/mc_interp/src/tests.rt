@@ -1,10 +1,11 @@
 //! The calls of a test.
 ghost use Rattle.std.specs.Prelude.{◌≡◌, ◌+◌, ◌≤◌, ◌++◌, [], Some, length, map, slice_get, IfSome, List};
+ghost use Rattle.mc_limits.specs.Limits.{most_parameters};
 ghost use Rattle.arrayvec.specs.ArrayVec.{array_vec_len};
 ghost use Rattle.mc_value.specs.IntTypes.{InRange};
 ghost use Rattle.mc_value.specs.declared.int_type.IntType.{IntType};
 ghost use Rattle.mc_typed.specs.Plans.{plan_call_of, AreValues, CallFits, CallsFit};
-ghost use Rattle.mc_typed.specs.Tree as t;
+ghost use Rattle.mc_typed.specs.Tree as typed;
 ghost use Rattle.mc_typed.specs.Views as plain;
 ghost use Rattle.mc_steps.specs.Calls as passing;
 ghost use Rattle.mc_steps.specs.Tests as steps;
@@ -18,9 +19,10 @@ use crate::call_done::CallDone;
 use crate::calls::invoke;
 use crate::frame::Called;
 use crate::store::Store;
-use crate::values::{Passed, Shape};
+use crate::values::{MOST_PASSED, Passed, Shape};
 use arrayvec::ArrayVec;
 use mc_hits::Probe;
+use mc_limits::MOST_LEVELS;
 use mc_probe::Instrumented;
 use mc_stack::Stack;
 use mc_typed::{Call, Ending, ParameterType, ResultType};
@@ -31,7 +33,7 @@ use mc_words::{number, word};
 fn number_passed(of: IntType, value: i128) -> Passed
     requires { InRange of value }
     ensures value { passed_of result ≡ passing.PassedNumber value }
-    ensures typed { (types : List IntType) → IsPassed types result (t.NumberParameter of) }
+    ensures typed { (types : List IntType) → IsPassed types result (typed.NumberParameter of) }
 {
     Passed::Number {
         of,
@@ -40,12 +42,16 @@ fn number_passed(of: IntType, value: i128) -> Passed
 }
 
 /// The values that a test passes, for the parameters of its function.
-fn pass_values(values: &[i128], parameters: &[ParameterType], passed: &mut ArrayVec<Passed, 16>)
+fn pass_values(
+    values: &[i128],
+    parameters: &[ParameterType],
+    passed: &mut ArrayVec<Passed, MOST_PASSED>,
+)
     requires fits { AreValues values.now (map plain.parameter_of parameters.now) }
-    requires room { array_vec_len passed.old + length values.now ≤ 16 }
+    requires room { array_vec_len passed.old + length values.now ≤ most_parameters }
     ensures values { map passed_of passed.new.items
         ≡ map passed_of passed.old.items ++ map passing.PassedNumber values.now }
-    ensures typed { (types : List IntType) (before : List t.ParameterType) →
+    ensures typed { (types : List IntType) (before : List typed.ParameterType) →
         ArePassed types passed.old.items before →
         ArePassed types passed.new.items (before ++ map plain.parameter_of parameters.now) }
 {
@@ -101,7 +107,7 @@ fn test_call<P: Probe>(
     let called = Called {
         program,
         shapes,
-        depth: 512,
+        depth: MOST_LEVELS,
         levels: 0,
         function: call.function,
         into: None,

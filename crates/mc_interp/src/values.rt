@@ -1,6 +1,10 @@
 //! What calls take and give.
 use crate::prepared::Prepared;
+use mc_limits::MOST_PARAMETERS;
 use mc_value::IntType;
+
+/// Arguments of a call: as many as a function has parameters.
+pub(crate) const MOST_PASSED: usize = MOST_PARAMETERS as usize;
 
 /// An array that an array parameter names: its first cell, and its length.
 #[derive(Clone, Copy, Default)]

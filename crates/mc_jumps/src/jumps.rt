@@ -1,9 +1,9 @@
 //! Jump statements (C17 6.8.6).
 ghost use Rattle.std.specs.Prelude.{◌≡◌, IfOk, option_map};
-ghost use Rattle.mc_typed.specs.Tree as t;
+ghost use Rattle.mc_typed.specs.Tree as typed;
 ghost use Rattle.mc_faults.specs.Faults.{least_of};
-ghost use Rattle.mc_typing.specs.Scopes as s;
-ghost use Rattle.mc_typing.specs.Statements as w;
+ghost use Rattle.mc_typing.specs.Scopes as scopes;
+ghost use Rattle.mc_typing.specs.Statements as statements;
 ghost use Rattle.mc_scopes.specs.Types.{base_of};
 ghost use Rattle.mc_scopes.specs.Found.{judged_of};
 ghost use Rattle.mc_scopes.specs.Statements.{statements_of, around_of};
@@ -23,8 +23,8 @@ pub fn break_statement(
     around: Around,
     span: Span,
 ) -> Result<Judged<Vec<Statement>>, AllocError>
-    ensures { IfOk result (λ r. (s : s.Scope) → judged_of statements_of r s
-        ≡ squeezed_part (w.break_judged (around_of around) span s)) }
+    ensures { IfOk result (λ r. (s : scopes.Scope) → judged_of statements_of r s
+        ≡ squeezed_part (statements.break_judged (around_of around) span s)) }
 {
     let fault = or_fault(None, !around.breaks, FaultKind::Mismatch, span.start);
     leaf(alloc, fault, Statement::Break { span, bit: None })
@@ -36,15 +36,15 @@ pub fn continue_statement(
     around: Around,
     span: Span,
 ) -> Result<Judged<Vec<Statement>>, AllocError>
-    ensures { IfOk result (λ r. (s : s.Scope) → judged_of statements_of r s
-        ≡ squeezed_part (w.continue_judged (around_of around) span s)) }
+    ensures { IfOk result (λ r. (s : scopes.Scope) → judged_of statements_of r s
+        ≡ squeezed_part (statements.continue_judged (around_of around) span s)) }
 {
     let fault = or_fault(None, !around.continues, FaultKind::Mismatch, span.start);
     leaf(alloc, fault, Statement::Continue { span, bit: None })
 }
 
 fn return_nothing_fault(gives: Option<Base>, at: u32) -> Option<Fault>
-    ensures { result ≡ least_of (w.return_nothing_faults (option_map base_of gives) at) }
+    ensures { result ≡ least_of (statements.return_nothing_faults (option_map base_of gives) at) }
 {
     match gives {
         None => None,
@@ -62,8 +62,8 @@ pub fn return_nothing(
     gives: Option<Base>,
     span: Span,
 ) -> Result<Judged<Vec<Statement>>, AllocError>
-    ensures { IfOk result (λ r. (s : s.Scope) → judged_of statements_of r s
-        ≡ squeezed_part (w.return_nothing_judged (option_map base_of gives) span s)) }
+    ensures { IfOk result (λ r. (s : scopes.Scope) → judged_of statements_of r s
+        ≡ squeezed_part (statements.return_nothing_judged (option_map base_of gives) span s)) }
 {
     let fault = return_nothing_fault(gives, span.start);
     leaf(

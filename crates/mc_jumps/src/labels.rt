@@ -1,13 +1,13 @@
 //! Labels of a `switch` (C17 6.8.1, 6.8.4.2).
 ghost use Rattle.std.specs.Prelude.{◌≡◌, ◌++◌, Some, IfOk, OnOk, option_map};
 ghost use Rattle.mc_value.specs.Conversions as conversions;
-ghost use Rattle.mc_typed.specs.Tree as t;
+ghost use Rattle.mc_typed.specs.Tree as typed;
 ghost use Rattle.mc_faults.specs.declared.fault.FaultKind.TheVariants.{DuplicateLabel};
 ghost use Rattle.mc_faults.specs.Faults.{fault_if, least_of};
-ghost use Rattle.mc_typing.specs.Scopes as s;
-ghost use Rattle.mc_typing.specs.Values as v;
-ghost use Rattle.mc_typing.specs.Constants as c;
-ghost use Rattle.mc_typing.specs.Statements as w;
+ghost use Rattle.mc_typing.specs.Scopes as scopes;
+ghost use Rattle.mc_typing.specs.Values as typing_values;
+ghost use Rattle.mc_typing.specs.Constants as constants;
+ghost use Rattle.mc_typing.specs.Statements as statements;
 ghost use Rattle.mc_scopes.specs.Views.{scope_of};
 ghost use Rattle.mc_scopes.specs.Found.{found_of, judged_of};
 ghost use Rattle.mc_scopes.specs.Statements.{statements_of};
@@ -25,7 +25,7 @@ use std::alloc::{AllocError, Global};
 // ---- what the labels so far say of one more
 
 fn converted(to: Option<IntType>, value: Option<i128>) -> Option<i128>
-    ensures { result ≡ v.lift2 conversions.converted to value }
+    ensures { result ≡ typing_values.lift2 conversions.converted to value }
 {
     match to {
         Some(to) => match value {
@@ -38,7 +38,7 @@ fn converted(to: Option<IntType>, value: Option<i128>) -> Option<i128>
 
 // The value in the type of the labels (C17 6.8.4.2p5).
 fn label_value(labels: &Option<Labels>, value: Option<i128>) -> Option<i128>
-    ensures { result ≡ w.label_value labels.now value }
+    ensures { result ≡ statements.label_value labels.now value }
 {
     match labels {
         Some(labels) => converted(labels.value_type(), value),
@@ -47,7 +47,7 @@ fn label_value(labels: &Option<Labels>, value: Option<i128>) -> Option<i128>
 }
 
 fn is_repeated(labels: &Option<Labels>, value: Option<i128>) -> bool
-    ensures { result ≡ w.is_repeated labels.now value }
+    ensures { result ≡ statements.is_repeated labels.now value }
 {
     match labels {
         Some(labels) => match value {
@@ -59,7 +59,7 @@ fn is_repeated(labels: &Option<Labels>, value: Option<i128>) -> bool
 }
 
 fn has_default_label(labels: &Option<Labels>) -> bool
-    ensures { result ≡ w.has_default_label labels.now }
+    ensures { result ≡ statements.has_default_label labels.now }
 {
     match labels {
         Some(labels) => labels.has_default(),
@@ -69,7 +69,7 @@ fn has_default_label(labels: &Option<Labels>) -> bool
 
 // The fault of a label that stands here, perhaps a second time.
 fn label_fault(labels: &Option<Labels>, repeated: bool, at: u32) -> Option<Fault>
-    ensures { result ≡ least_of (w.place_faults labels.now at
+    ensures { result ≡ least_of (statements.place_faults labels.now at
         ++ fault_if repeated DuplicateLabel at) }
 {
     match labels {
@@ -87,7 +87,7 @@ fn label_fault(labels: &Option<Labels>, repeated: bool, at: u32) -> Option<Fault
 // ---- one more label
 
 fn add_value(labels: &mut Option<Labels>, value: i128) -> Result<(), AllocError>
-    ensures { OnOk result (labels.new ≡ option_map (w.with_value value) labels.old) }
+    ensures { OnOk result (labels.new ≡ option_map (statements.with_value value) labels.old) }
 {
     match labels {
         Some(labels) => labels.add(value),
@@ -96,7 +96,7 @@ fn add_value(labels: &mut Option<Labels>, value: i128) -> Result<(), AllocError>
 }
 
 fn add_label(scope: &mut Scope<'_>, value: Option<i128>) -> Result<(), AllocError>
-    ensures { OnOk result (scope_of scope.new ≡ w.with_label value (scope_of scope.old)) }
+    ensures { OnOk result (scope_of scope.new ≡ statements.with_label value (scope_of scope.old)) }
 {
     match value {
         Some(value) => add_value(&mut scope.labels, value),
@@ -105,7 +105,7 @@ fn add_label(scope: &mut Scope<'_>, value: Option<i128>) -> Result<(), AllocErro
 }
 
 fn set_default(labels: &mut Option<Labels>)
-    ensures { labels.new ≡ option_map w.default_in labels.old }
+    ensures { labels.new ≡ option_map statements.default_in labels.old }
 {
     match labels {
         Some(labels) => labels.set_default(),
@@ -114,7 +114,7 @@ fn set_default(labels: &mut Option<Labels>)
 }
 
 fn add_default(scope: &mut Scope<'_>)
-    ensures { scope_of scope.new ≡ w.with_default (scope_of scope.old) }
+    ensures { scope_of scope.new ≡ statements.with_default (scope_of scope.old) }
 {
     set_default(&mut scope.labels);
 }
@@ -128,7 +128,7 @@ pub fn default_label(
     label: Span,
 ) -> Result<Judged<Vec<Statement>>, AllocError>
     ensures { IfOk result (λ r. judged_of statements_of r (scope_of scope.new)
-        ≡ squeezed_part (w.default_judged label (scope_of scope.old))) }
+        ≡ squeezed_part (statements.default_judged label (scope_of scope.old))) }
 {
     let repeated = has_default_label(&scope.labels);
     let fault = label_fault(&scope.labels, repeated, label.start);
@@ -148,16 +148,17 @@ pub fn default_label(
 
 // The value of a label from what is found of its expression.
 fn case_value(labels: &Option<Labels>, found: &Found) -> Option<i128>
-    ensures { (s : s.Scope)
-        → result ≡ w.label_value labels.now (c.constant_found (found_of found.now s)) }
+    ensures { (s : scopes.Scope)
+        → result ≡ statements.label_value labels.now
+        (constants.constant_found (found_of found.now s)) }
 {
     label_value(labels, constant_found(found))
 }
 
 // The fault of a label itself.
 fn case_fault(labels: &Option<Labels>, label: Span, at: u32, found: &Found) -> Option<Fault>
-    ensures { (s : s.Scope) → result ≡ least_of (w.case_faults label at
-        found.now.constant (v.number_found (found_of found.now s)) labels.now) }
+    ensures { (s : scopes.Scope) → result ≡ least_of (statements.case_faults label at
+        found.now.constant (typing_values.number_found (found_of found.now s)) labels.now) }
 {
     let value = case_value(labels, found);
     let repeated = is_repeated(labels, value);
@@ -172,7 +173,7 @@ fn case_alone(
     value: Option<i128>,
 ) -> Result<Option<Vec<Statement>>, AllocError>
     ensures { IfOk result (λ r. option_map statements_of r
-        ≡ option_map (λ v. w.alone (t.Label (Some v) label)) value) }
+        ≡ option_map (λ v. statements.alone (typed.Label (Some v) label)) value) }
 {
     match value {
         Some(value) => Ok(Some(alone(
@@ -196,7 +197,8 @@ fn case_of(
     found: &Found,
 ) -> Result<Judged<Vec<Statement>>, AllocError>
     ensures { IfOk result (λ r. judged_of statements_of r (scope_of scope.new)
-        ≡ squeezed_part (w.case_judged label at (found_of found.now (scope_of scope.old)))) }
+        ≡ squeezed_part (statements.case_judged label at
+        (found_of found.now (scope_of scope.old)))) }
 {
     let value = case_value(&scope.labels, found);
     let own = case_fault(&scope.labels, label, at, found);
@@ -216,7 +218,7 @@ pub fn case_label(
     found: Found,
 ) -> Result<Judged<Vec<Statement>>, AllocError>
     ensures { IfOk result (λ r. judged_of statements_of r (scope_of scope.new)
-        ≡ squeezed_part (w.case_judged label at (found_of found (scope_of scope.old)))) }
+        ≡ squeezed_part (statements.case_judged label at (found_of found (scope_of scope.old)))) }
 {
     let judged = case_of(alloc, scope, label, at, &found);
     drop(found);

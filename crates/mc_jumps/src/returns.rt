@@ -1,13 +1,13 @@
 //! `return` with an expression (C17 6.8.6.4).
 ghost use Rattle.std.specs.Prelude.{◌≡◌, Some, IfOk, option_map, option_and_then};
 ghost use Rattle.mc_typed.specs.Layout.{cells};
-ghost use Rattle.mc_typed.specs.Tree as t;
+ghost use Rattle.mc_typed.specs.Tree as typed;
 ghost use Rattle.mc_typed.specs.Views.{expression_of, structure_of, return_value_of};
 ghost use Rattle.mc_faults.specs.Faults.{least_of};
 ghost use Rattle.mc_typing.specs.Types.{Tagged, layout_of, plain};
-ghost use Rattle.mc_typing.specs.Values as v;
+ghost use Rattle.mc_typing.specs.Values as values;
 ghost use Rattle.mc_typing.specs.Expressions as expressions;
-ghost use Rattle.mc_typing.specs.Statements as w;
+ghost use Rattle.mc_typing.specs.Statements as statements;
 ghost use Rattle.mc_scopes.specs.Types.{base_of};
 ghost use Rattle.mc_scopes.specs.Views.{scope_of};
 ghost use Rattle.mc_scopes.specs.Found.{found_of, judged_of, kind_of, value_of};
@@ -27,7 +27,7 @@ use mc_value::IntType;
 use std::alloc::{AllocError, Global};
 
 fn fits(base: Base, kind: Kind<'_>) -> bool
-    ensures { result ≡ w.fits (base_of base) (kind_of kind.entry) }
+    ensures { result ≡ statements.fits (base_of base) (kind_of kind.entry) }
 {
     match base {
         Base::Void => false,
@@ -37,7 +37,8 @@ fn fits(base: Base, kind: Kind<'_>) -> bool
 }
 
 fn fails_fit(base: Base, kind: Option<Kind<'_>>) -> bool
-    ensures { result ≡ v.fails (w.fits (base_of base)) (option_map kind_of kind.entry) }
+    ensures { result ≡ values.fails (statements.fits (base_of base))
+        (option_map kind_of kind.entry) }
 {
     match kind {
         Some(kind) => !fits(base, kind),
@@ -47,7 +48,7 @@ fn fails_fit(base: Base, kind: Option<Kind<'_>>) -> bool
 
 fn return_fault(gives: Option<Base>, at: u32, kind: Option<Kind<'_>>) -> Option<Fault>
     ensures { result ≡ least_of
-        (w.return_faults (option_map base_of gives) at (option_map kind_of kind.entry)) }
+        (statements.return_faults (option_map base_of gives) at (option_map kind_of kind.entry)) }
 {
     match gives {
         None => None,
@@ -68,7 +69,7 @@ fn return_number(
     number: Option<Expression>,
 ) -> Result<Option<ReturnValue>, AllocError>
     ensures { IfOk result (λ r. option_map return_value_of r
-        ≡ option_map (λ e. t.ReturnNumber (expressions.convert_to to e))
+        ≡ option_map (λ e. typed.ReturnNumber (expressions.convert_to to e))
         (option_map expression_of number)) }
 {
     match number {
@@ -83,7 +84,7 @@ fn return_number(
 fn return_structure(scope: &Scope<'_>, number: u32, value: Option<Structure>) -> Option<ReturnValue>
     ensures { option_map return_value_of result
         ≡ option_map
-        (λ w. t.ReturnStructure w
+        (λ w. typed.ReturnStructure w
         (cells (layout_of (scope_of scope.now).structures (plain (Tagged number)))))
         (option_map structure_of value) }
 {
@@ -103,7 +104,7 @@ fn value_for(
     value: Value,
 ) -> Result<Option<ReturnValue>, AllocError>
     ensures { IfOk result (λ r. option_map return_value_of r
-        ≡ w.return_value (scope_of scope.now).structures (option_map base_of gives)
+        ≡ statements.return_value (scope_of scope.now).structures (option_map base_of gives)
         (value_of value)) }
 {
     match gives {
@@ -132,7 +133,7 @@ fn return_value(
 ) -> Result<Option<ReturnValue>, AllocError>
     ensures { IfOk result (λ r. option_map return_value_of r
         ≡ option_and_then
-        (w.return_value (scope_of scope.now).structures (option_map base_of gives))
+        (statements.return_value (scope_of scope.now).structures (option_map base_of gives))
         (option_map value_of value)) }
 {
     match value {
@@ -147,7 +148,8 @@ fn return_alone(
     value: Option<ReturnValue>,
 ) -> Result<Option<Vec<Statement>>, AllocError>
     ensures { IfOk result (λ r. option_map statements_of r
-        ≡ option_map (λ v. w.alone (t.Return v span)) (option_map return_value_of value)) }
+        ≡ option_map (λ v. statements.alone (typed.Return v span))
+        (option_map return_value_of value)) }
 {
     match value {
         Some(value) => Ok(Some(alone(
@@ -172,7 +174,7 @@ pub fn return_statement(
     found: Found,
 ) -> Result<Judged<Vec<Statement>>, AllocError>
     ensures { IfOk result (λ r. judged_of statements_of r (scope_of scope.now)
-        ≡ squeezed_part (w.return_judged (option_map base_of gives) span
+        ≡ squeezed_part (statements.return_judged (option_map base_of gives) span
         (found_of found (scope_of scope.now)))) }
 {
     let own = return_fault(gives, span.start, kind_found(&found.value));

@@ -7,6 +7,7 @@ use Rattle.serde_json.specs.Find.{as_array, as_object}
 use Rattle.serde_json.specs.View.{items_view}
 use Rattle.serde_json.specs.declared.value.Value.{Value}
 use Rattle.serde_json.proofs.Views.{items_len-items_view}
+use Rattle.mc_limits.specs.Limits.{most_justifications}
 use Rattle.mc_oblige.specs.declared.obligation.Obligation.{Obligation}
 use Rattle.mc_justify.specs.Entries.{Entry, entry_of, entry_with, key_count, member_text}
 use Rattle.mc_justify.specs.Faults.{Limit, Shape}
@@ -42,7 +43,7 @@ reasoned d entry is = by_keys (key_count d == 3) is
     by_keys true e = by_texts (member_text (codes "id") d) (member_text (codes "quote") d) (member_text (codes "reason") d) e
 
 -- a list of more entries than may be
-listed_many : (source : List ℕ) (obligations : List Obligation) (d : Data) (vs : List Value) → Some (items_view vs) ≡ as_array d → 4096 < length vs → of_value source obligations (Some d) ≡ Err Limit
+listed_many : (source : List ℕ) (obligations : List Obligation) (d : Data) (vs : List Value) → Some (items_view vs) ≡ as_array d → most_justifications < length vs → of_value source obligations (Some d) ≡ Err Limit
 listed_many source obligations null vs e lt = cc
 listed_many source obligations (boolean b) vs e lt = cc
 listed_many source obligations (number n) vs e lt = cc
@@ -50,10 +51,10 @@ listed_many source obligations (string s) vs e lt = cc
 listed_many source obligations (object ms) vs e lt = cc
 listed_many source obligations (array ds) vs e lt =
     let same : items_view vs ≡ ds = cc in
-    let many : nat_lt 4096 (items_len ds) ≡ true = rw (← same, items_len-items_view vs) (grind (arith, nat_tests)) in
+    let many : nat_lt most_justifications (items_len ds) ≡ true = rw (← same, items_len-items_view vs) (grind (arith, nat_tests)) in
     rw many refl
 
-listed_few : (source : List ℕ) (obligations : List Obligation) (d : Data) (vs : List Value) → Some (items_view vs) ≡ as_array d → length vs ≤ 4096 → of_value source obligations (Some d) ≡ entries_from source obligations 1 [] (items_view vs)
+listed_few : (source : List ℕ) (obligations : List Obligation) (d : Data) (vs : List Value) → Some (items_view vs) ≡ as_array d → length vs ≤ most_justifications → of_value source obligations (Some d) ≡ entries_from source obligations 1 [] (items_view vs)
 listed_few source obligations null vs e le = cc
 listed_few source obligations (boolean b) vs e le = cc
 listed_few source obligations (number n) vs e le = cc
@@ -61,7 +62,7 @@ listed_few source obligations (string s) vs e le = cc
 listed_few source obligations (object ms) vs e le = cc
 listed_few source obligations (array ds) vs e le =
     let same : items_view vs ≡ ds = cc in
-    let few : nat_lt 4096 (items_len ds) ≡ false = rw (← same, items_len-items_view vs) (grind (arith, nat_tests)) in
+    let few : nat_lt most_justifications (items_len ds) ≡ false = rw (← same, items_len-items_view vs) (grind (arith, nat_tests)) in
     rw (few, same) refl
 
 unlisted : (source : List ℕ) (obligations : List Obligation) (d : Data) → None ≡ as_array d → of_value source obligations (Some d) ≡ Err (Shape 0)
@@ -73,10 +74,10 @@ unlisted source obligations (object ms) e = refl
 unlisted source obligations (array ds) e = cc
 
 module _ (bytes source : List ℕ) (obligations : List Obligation) (d : Data) (read : Some d ≡ json_of bytes) where
-  pub many : (vs : List Value) → Some (items_view vs) ≡ as_array d → 4096 < length vs → justifications_of bytes obligations source ≡ Err Limit
+  pub many : (vs : List Value) → Some (items_view vs) ≡ as_array d → most_justifications < length vs → justifications_of bytes obligations source ≡ Err Limit
   many vs e lt = rw (← read) (listed_many source obligations d vs e lt)
 
-  pub few : (vs : List Value) → Some (items_view vs) ≡ as_array d → length vs ≤ 4096 → justifications_of bytes obligations source ≡ entries_from source obligations 1 [] (items_view vs)
+  pub few : (vs : List Value) → Some (items_view vs) ≡ as_array d → length vs ≤ most_justifications → justifications_of bytes obligations source ≡ entries_from source obligations 1 [] (items_view vs)
   few vs e le = rw (← read) (listed_few source obligations d vs e le)
 
   pub no_list : None ≡ as_array d → justifications_of bytes obligations source ≡ Err (Shape 0)

@@ -5,6 +5,7 @@ use Rattle.std.specs.Str.{bytes_eq, is_utf8}
 use Rattle.serde_json.specs.Data.{Data, array, Items, no_items, item}
 use Rattle.serde_json.specs.Events.{items_len}
 use Rattle.serde_json.specs.Read.{read}
+use Rattle.mc_limits.specs.Limits.{most_justifications}
 use Rattle.mc_oblige.specs.Ids.{id_text}
 use Rattle.mc_oblige.specs.Texts.{text_at}
 use Rattle.mc_oblige.specs.declared.justification.Justification.{Justification}
@@ -62,12 +63,12 @@ entries_from source obligations n before (item value later) =
     after (justified source obligations n before (entry_of value)) (λ j.
     entries_from source obligations (n + 1) (before ++ j ∷ []) later)
 
--- at most 4,096 entries
+-- a list, which has not too many entries
 abbrev pub of_value :
     List ℕ → List Obligation → Option Data → Result (List Justification) Fault
 of_value source obligations None = Err Json
 of_value source obligations (Some (array entries)) =
-    if nat_lt 4096 (items_len entries) then Err Limit
+    if nat_lt most_justifications (items_len entries) then Err Limit
     else entries_from source obligations 1 [] entries
 of_value source obligations (Some _) = Err (Shape 0)
 

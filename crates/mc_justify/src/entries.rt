@@ -1,6 +1,7 @@
 //! The entries of a justification file, one after the other.
 ghost use Rattle.std.specs.Prelude.{◌≡◌, ◌≤◌, ◌<◌, ◌^◌, [], Ok, IfOk, IfErr, length, map};
 ghost use Rattle.serde_json.specs.View.{items_view};
+ghost use Rattle.mc_limits.specs.Limits.{most_justifications};
 ghost use Rattle.mc_justify.specs.Justifications.{entries_from, position_for};
 ghost use Rattle.mc_justify.specs.Returned.{AreFit, Gives, GivesFault};
 ghost use Rattle.mc_justify.specs.Seen.{seen_entry};
@@ -48,7 +49,7 @@ pub(crate) fn read_entries<'a>(
     obligations: &[Obligation],
     source: &'a [u8],
 ) -> Result<Vec<Justification>, JustifyFault<'a>>
-    requires entries { length list.now ≤ 4096 }
+    requires entries { length list.now ≤ most_justifications }
     requires obligations { length obligations.now < 2 ^ 31 }
     ensures justifications { Gives
         (entries_from source.now obligations.now 1 [] (items_view list.now)) result }

@@ -38,7 +38,7 @@ pub enum JustifyFault<'a> {
     Repeated {
         entry: u32,
     },
-    /// The file has more than 4,096 entries.
+    /// The file has more than `MOST_JUSTIFICATIONS` entries.
     #[error("justification: limit")]
     Limit,
     /// Memory ran out.

@@ -6,10 +6,11 @@ ghost use Rattle.mc_justify.specs.Returned.{AreFit, Gives};
 use crate::entries::read_entries;
 use crate::fault::JustifyFault;
 use crate::json::read_json;
+use mc_limits::MOST_JUSTIFICATIONS;
 use mc_oblige::{Justification, Obligation};
 use std::alloc::Global;
 
-const MAX_ENTRIES: usize = 4096;
+const MAX_ENTRIES: usize = MOST_JUSTIFICATIONS as usize;
 
 /// The justifications that the bytes of a justification file stand for, in their order, or the
 /// first fault of the file. The obligations are those of the source. Each justification names one

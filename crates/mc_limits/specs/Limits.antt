@@ -74,6 +74,22 @@ most_source_bytes = 1048576
 abbrev pub most_tests_bytes : ℕ
 most_tests_bytes = 4194304
 
+-- bytes of a file of justifications
+abbrev pub most_justification_bytes : ℕ
+most_justification_bytes = 1048576
+
+-- entries of a file of justifications
+abbrev pub most_justifications : ℕ
+most_justifications = 4096
+
+-- bytes of a record
+abbrev pub most_record_bytes : ℕ
+most_record_bytes = 33554432
+
+-- functions of a source that the program makes itself
+abbrev pub most_functions : ℕ
+most_functions = 200
+
 -- words, of 64 bits each, of a matrix of coverage
 abbrev pub most_words : ℕ
 most_words = 1048576

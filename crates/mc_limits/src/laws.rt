@@ -1,13 +1,14 @@
 //! The constants are the numbers of the definitions. The function does nothing: its contract says
 //! so.
 ghost use Rattle.std.specs.Prelude.{◌≡◌};
-ghost use Rattle.mc_limits.specs.Limits.{most_conditions, most_paths, most_bits, most_parameters, most_nesting, most_frame_cells, most_static_cells, most_run_cells, most_levels, most_run_outputs, most_tests, most_calls, most_inputs, most_expected, most_fuel, usual_fuel, most_source_bytes, most_tests_bytes, most_words, most_workers};
+ghost use Rattle.mc_limits.specs.Limits.{most_conditions, most_paths, most_bits, most_parameters, most_nesting, most_frame_cells, most_static_cells, most_run_cells, most_levels, most_run_outputs, most_tests, most_calls, most_inputs, most_expected, most_fuel, usual_fuel, most_source_bytes, most_tests_bytes, most_justification_bytes, most_justifications, most_record_bytes, most_functions, most_words, most_workers};
 
 use crate::{
     MOST_BITS, MOST_CALLS, MOST_CONDITIONS, MOST_EXPECTED, MOST_FRAME_CELLS, MOST_FUEL,
-    MOST_INPUTS, MOST_LEVELS, MOST_NESTING, MOST_PARAMETERS, MOST_PATHS, MOST_RUN_CELLS,
-    MOST_RUN_OUTPUTS, MOST_SOURCE_BYTES, MOST_STATIC_CELLS, MOST_TESTS, MOST_TESTS_BYTES,
-    MOST_WORDS, MOST_WORKERS, USUAL_FUEL,
+    MOST_FUNCTIONS, MOST_INPUTS, MOST_JUSTIFICATION_BYTES, MOST_JUSTIFICATIONS, MOST_LEVELS,
+    MOST_NESTING, MOST_PARAMETERS, MOST_PATHS, MOST_RECORD_BYTES, MOST_RUN_CELLS, MOST_RUN_OUTPUTS,
+    MOST_SOURCE_BYTES, MOST_STATIC_CELLS, MOST_TESTS, MOST_TESTS_BYTES, MOST_WORDS, MOST_WORKERS,
+    USUAL_FUEL,
 };
 
 /// Each constant is the limit of its name in the definitions.
@@ -30,6 +31,10 @@ pub fn limits_are_the_defined_ones()
     ensures usual_fuel { USUAL_FUEL ≡ usual_fuel }
     ensures source_bytes { MOST_SOURCE_BYTES ≡ most_source_bytes }
     ensures tests_bytes { MOST_TESTS_BYTES ≡ most_tests_bytes }
+    ensures justification_bytes { MOST_JUSTIFICATION_BYTES ≡ most_justification_bytes }
+    ensures justifications { MOST_JUSTIFICATIONS ≡ most_justifications }
+    ensures record_bytes { MOST_RECORD_BYTES ≡ most_record_bytes }
+    ensures functions { MOST_FUNCTIONS ≡ most_functions }
     ensures words { MOST_WORDS ≡ most_words }
     ensures workers { MOST_WORKERS ≡ most_workers }
 {}

@@ -60,6 +60,18 @@ pub const MOST_SOURCE_BYTES: u32 = 1_048_576;
 /// Bytes of a file of tests.
 pub const MOST_TESTS_BYTES: u32 = 4_194_304;
 
+/// Bytes of a file of justifications.
+pub const MOST_JUSTIFICATION_BYTES: u32 = 1_048_576;
+
+/// Entries of a file of justifications.
+pub const MOST_JUSTIFICATIONS: u32 = 4_096;
+
+/// Bytes of a record.
+pub const MOST_RECORD_BYTES: u32 = 33_554_432;
+
+/// Functions of a source that the program makes itself.
+pub const MOST_FUNCTIONS: u32 = 200;
+
 /// Words, of 64 bits each, of a matrix of coverage.
 pub const MOST_WORDS: u64 = 1_048_576;
 

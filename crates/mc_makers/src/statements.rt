@@ -1,7 +1,7 @@
 //! Statements with `if` on the heap. The values are made in functions of their own: a statement is
 //! dear to prove where it is handed on in the function that makes it.
 ghost use Rattle.std.specs.Prelude.{◌≡◌};
-ghost use Rattle.mc_tree.specs.Tree as t;
+ghost use Rattle.mc_tree.specs.Tree as tree;
 ghost use Rattle.mc_tree.specs.Tree.{span_of_statement};
 ghost use Rattle.mc_tree.specs.Units.{statement_of, value_of};
 ghost use Rattle.mc_grammar.specs.Places as places;
@@ -26,7 +26,7 @@ fn without_else<'a>(
     test: Box<Expression<'a>>,
     chosen: Box<Statement<'a>>,
 ) -> Statement<'a>
-    ensures { statement_of result ≡ t.If (value_of test.entry) (body_of chosen.entry)
+    ensures { statement_of result ≡ tree.If (value_of test.entry) (body_of chosen.entry)
         (places.to first (span_of_statement (body_of chosen.entry))) }
 {
     let span = to(first, place_of(&chosen));
@@ -39,7 +39,7 @@ fn with_else<'a>(
     chosen: Box<Statement<'a>>,
     other: Box<Statement<'a>>,
 ) -> Statement<'a>
-    ensures { statement_of result ≡ t.IfElse (value_of test.entry) (body_of chosen.entry)
+    ensures { statement_of result ≡ tree.IfElse (value_of test.entry) (body_of chosen.entry)
         (body_of other.entry) (places.to first (span_of_statement (body_of other.entry))) }
 {
     let span = to(first, place_of(&other));
@@ -59,7 +59,7 @@ pub fn if_only<'a>(
     chosen: Box<Statement<'a>>,
 ) -> Result<Box<Statement<'a>>, Fault>
     ensures { IsMade
-        (t.If (value_of test.entry) (body_of chosen.entry)
+        (tree.If (value_of test.entry) (body_of chosen.entry)
         (places.to first (span_of_statement (body_of chosen.entry)))) result }
 {
     on_heap(alloc, without_else(first, test, chosen))
@@ -73,7 +73,7 @@ pub fn if_else<'a>(
     chosen: Box<Statement<'a>>,
     other: Box<Statement<'a>>,
 ) -> Result<Box<Statement<'a>>, Fault>
-    ensures { IsMade (t.IfElse (value_of test.entry) (body_of chosen.entry) (body_of other.entry)
+    ensures { IsMade (tree.IfElse (value_of test.entry) (body_of chosen.entry) (body_of other.entry)
         (places.to first (span_of_statement (body_of other.entry)))) result }
 {
     on_heap(alloc, with_else(first, test, chosen, other))

@@ -3,7 +3,7 @@
 ghost use Rattle.std.specs.Prelude.{◌≡◌, map, option_map, is_some};
 ghost use Rattle.mc_typed.specs.Views.{declarator_of, expression_of, statement_of, statements_from};
 ghost use Rattle.mc_steps.specs.Points as points;
-ghost use Rattle.mc_map.specs.steps.Completes as c;
+ghost use Rattle.mc_map.specs.steps.Completes as completing;
 
 use crate::constants::is_always_true;
 use mc_typed::{Declarator, Expression, Statement};
@@ -30,7 +30,7 @@ pub(crate) fn initializes(declarators: &[Declarator]) -> bool
 }
 
 fn is_default(tree: &Statement) -> bool
-    ensures { result ≡ c.is_default (statement_of tree.now) }
+    ensures { result ≡ completing.is_default (statement_of tree.now) }
 {
     match tree {
         Statement::Label { value: None, .. } => true,

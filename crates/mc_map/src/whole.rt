@@ -1,6 +1,6 @@
 //! The map of all bits of a program.
 ghost use Rattle.std.specs.Prelude.{◌≡◌, ◌+◌, ◌-◌, ◌^◌, min, map, length, All, IfOk, IfErr};
-ghost use Rattle.mc_cond.specs.Tree as c;
+ghost use Rattle.mc_cond.specs.Tree as conditions;
 ghost use Rattle.mc_typed.specs.Views.{program_of};
 ghost use Rattle.mc_roots.specs.Decisions.{AreDecisions};
 ghost use Rattle.mc_roots.specs.Seen.{decision_of};
@@ -41,7 +41,8 @@ pub fn map_of_bits(
 ) -> Result<BitMap, InstrumentFault>
     requires decisions { AreDecisions (program_of program.now).functions
         (map decision_of decisions.items) }
-    requires numbered { All (λ d. c.IsNumbered (c.tree_of d.tree)) decisions.items }
+    requires numbered { All (λ d. conditions.IsNumbered (conditions.tree_of d.tree))
+        decisions.items }
     ensures is_map { IfOk result (λ m. IsMapOf (program_of program.now) (map_of m)) }
     ensures decisions { IfOk result (λ m. map (λ d. d.decision) (map_of m).decisions
         ≡ map decision_of decisions.items) }

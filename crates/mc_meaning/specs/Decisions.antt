@@ -6,7 +6,7 @@ use Rattle.mc_cond.specs.Order.{Answer}
 use Rattle.mc_cond.specs.Vectors.{Evaluation}
 use Rattle.mc_typed.specs.Tree.{Expression}
 use Rattle.mc_roots.specs.declared.role.Role.{Role}
-use Rattle.mc_roots.specs.Nodes as n
+use Rattle.mc_roots.specs.Nodes as nodes
 use Rattle.mc_roots.specs.Roots.{is_root, operand_role}
 use Rattle.mc_roots.specs.Conditions.{width}
 use Rattle.mc_steps.specs.Runs.{gives, lists, after}
@@ -38,7 +38,7 @@ holds j = is_true j.value
 abbrev pub first_alone : Expression → Judged → Judged
 first_alone f j = record {
   value = truth (holds j);
-  answers = j.answers ++ replicate (width (n.expression f)) None;
+  answers = j.answers ++ replicate (width (nodes.expression f)) None;
 }
 
 abbrev pub both : Judged → Judged → Judged
@@ -59,8 +59,8 @@ where_root false d e s = e s
 -- and `||` stand in it.
 abbrev pub decides : Role → Expression → Within → (Role → Within → Does Judged) → Does Judged
 decides role e w operands s =
-    where_root (is_root role (n.expression e)) w.decisions
-    (operands (operand_role role (n.expression e)) (into role e w)) s
+    where_root (is_root role (nodes.expression e)) w.decisions
+    (operands (operand_role role (nodes.expression e)) (into role e w)) s
 
 abbrev pub condition : Role → Expression → Within → (Within → Does ℤ) → Does Judged
 condition role e w operands s = decides role e w (λ r w. as_does as_condition (operands w)) s

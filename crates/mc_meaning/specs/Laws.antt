@@ -4,7 +4,7 @@ use Rattle.mc_cond.specs.Vectors.{IsVector}
 use Rattle.mc_typed.specs.Tree.{Expression, Program}
 use Rattle.mc_typed.specs.Plans.{Plan}
 use Rattle.mc_roots.specs.declared.role.Role.{Role}
-use Rattle.mc_roots.specs.Nodes as n
+use Rattle.mc_roots.specs.Nodes as nodes
 use Rattle.mc_roots.specs.Roots as roots
 use Rattle.mc_roots.specs.Conditions.{tree_from}
 use Rattle.mc_roots.specs.Decisions.{Decision, AreDecisions}
@@ -23,7 +23,7 @@ abbrev pub AnswersAreVectors : Type 0
 AnswersAreVectors =
     (e : Expression) (role : Role) (w : Within) (s t : State Store) (j : Judged) (first : ℕ)
     → (value_of e role w s).out ≡ Gave j t
-    → IsVector (tree_from first (n.expression e)) (vector_of j)
+    → IsVector (tree_from first (nodes.expression e)) (vector_of j)
 
 -- An evaluation is of the decision with its number, and its vector is one of that decision's tree.
 abbrev pub IsOfDecision : List Decision → Event → Type 0
@@ -39,4 +39,4 @@ EvaluationsAreOfDecisions =
 
 -- Integer constant expressions are the same for the statements that complete as for decisions.
 abbrev pub ConstantsAgree : Type 0
-ConstantsAgree = (e : Expression) → points.is_constant e ≡ roots.is_constant (n.expression e)
+ConstantsAgree = (e : Expression) → points.is_constant e ≡ roots.is_constant (nodes.expression e)

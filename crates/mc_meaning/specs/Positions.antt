@@ -5,7 +5,7 @@ use Rattle.mc_typed.specs.Tree.{Expression, Effect, ForStart, Statement, Stateme
 use Rattle.mc_roots.specs.declared.role.Role.{Role}
 use Rattle.mc_roots.specs.declared.role.Role.TheVariants.{Plain}
 use Rattle.mc_roots.specs.Nodes.{Node}
-use Rattle.mc_roots.specs.Nodes as n
+use Rattle.mc_roots.specs.Nodes as nodes
 use Rattle.mc_roots.specs.Roots.{is_root}
 use Rattle.mc_roots.specs.Counts.{one_where, roots}
 use Rattle.mc_steps.specs.Points.{Points, ◌⊕◌, a_statement, has_default, where_absent, points_of, points_of_all}
@@ -17,11 +17,11 @@ past role a w = record w { decisions = w.decisions + roots role a }
 
 -- in an expression, which is a decision itself where it is a root
 abbrev pub into : Role → Expression → Within → Within
-into role e w = record w { decisions = w.decisions + one_where (is_root role (n.expression e)) }
+into role e w = record w { decisions = w.decisions + one_where (is_root role (nodes.expression e)) }
 
 -- after a statement
 abbrev pub past_statement : Statement → Within → Within
-past_statement a w = past Plain (n.statement a) (record w { points = w.points ⊕ points_of a })
+past_statement a w = past Plain (nodes.statement a) (record w { points = w.points ⊕ points_of a })
 
 -- in a counted statement
 abbrev pub into_statement : Within → Within
@@ -33,13 +33,13 @@ in_switch items w = record w { points = w.points ⊕ where_absent (has_default i
 
 -- after the first clause of a `for`, its test, its step
 abbrev pub past_start : ForStart → Within → Within
-past_start first w = past Plain (n.start first) w
+past_start first w = past Plain (nodes.start first) w
 
 abbrev pub past_test : Option Expression → Within → Within
-past_test test w = past Plain (n.optional_test test) w
+past_test test w = past Plain (nodes.optional_test test) w
 
 abbrev pub past_step : List Effect → Within → Within
-past_step step w = past Plain (n.Whole (n.effects step)) w
+past_step step w = past Plain (nodes.Whole (nodes.effects step)) w
 
 -- at the closing brace of a function
 abbrev pub points_at_end : Function → Points → Points

@@ -1,10 +1,10 @@
 -- What effects, initializers and statements do (C17 6.7.9, 6.8).
 use Rattle.std.specs.Prelude.{ℕ, suc, pos, Bool, true, false, List, [], ◌∷◌, Option, Some, None}
 use Rattle.mc_typed.specs.Tree.{Expression, Effect, Initializer, Initializers, Declarator, ForStart, ReturnValue, Statement, Statements}
-use Rattle.mc_typed.specs.Tree as t
+use Rattle.mc_typed.specs.Tree as typed
 use Rattle.mc_typed.specs.Sound.{labels_of}
 use Rattle.mc_roots.specs.declared.role.Role.TheVariants.{Test, Plain}
-use Rattle.mc_roots.specs.Nodes as n
+use Rattle.mc_roots.specs.Nodes as nodes
 use Rattle.mc_steps.specs.Runs.{gives, lists, after, changes}
 use Rattle.mc_steps.specs.Events.{Exited, Started}
 use Rattle.mc_steps.specs.Expressions.{is_true, assign_does, update_does, copy_does, choice_does, as_does, drop_does, both_do, output_does}
@@ -21,29 +21,29 @@ use Rattle.mc_meaning.specs.Expressions.{place_of, value_of, structure_of, call_
 
 -- The value of a call that is the whole of a statement or of a clause of `for` is not used.
 abbrev pub effect : Effect → Within → Does (Unit {0})
-effect (t.Assign place a e span) w s =
+effect (typed.Assign place a e span) w s =
     assign_does on_places (place_of place w)
-    (value (value_of e Plain (past Plain (n.place place) w))) s
-effect (t.Update place a operator common e span) w s =
+    (value (value_of e Plain (past Plain (nodes.place place) w))) s
+effect (typed.Update place a operator common e span) w s =
     update_does on_places a operator common (place_of place w)
-    (value (value_of e Plain (past Plain (n.place place) w))) s
-effect (t.Copy place structure k span) w s =
+    (value (value_of e Plain (past Plain (nodes.place place) w))) s
+effect (typed.Copy place structure k span) w s =
     copy_does on_places k (place_of place w)
-    (structure_of structure (past Plain (n.place place) w)) s
-effect (t.NumberEffect (t.Call k a) true) w s = drop_does (call_of k w) s
-effect (t.NumberEffect e whole) w s = drop_does (value_of e Plain w) s
-effect (t.StructureEffect (t.Returned k) true) w s = drop_does (call_of k w) s
-effect (t.StructureEffect structure whole) w s = drop_does (structure_of structure w) s
-effect (t.CallEffect k) w s = drop_does (call_of k w) s
-effect (t.Output e span) w s = output_does (value (value_of e Plain w)) s
-effect (t.ChoiceEffect e a b span) w s =
-    choice_does (value (value_of e Test w)) (effect a (past Test (n.expression e) w))
-    (effect b (past Plain (n.effect a) (past Test (n.expression e) w))) s
-effect (t.Discard a span) w s = effect a w s
+    (structure_of structure (past Plain (nodes.place place) w)) s
+effect (typed.NumberEffect (typed.Call k a) true) w s = drop_does (call_of k w) s
+effect (typed.NumberEffect e whole) w s = drop_does (value_of e Plain w) s
+effect (typed.StructureEffect (typed.Returned k) true) w s = drop_does (call_of k w) s
+effect (typed.StructureEffect structure whole) w s = drop_does (structure_of structure w) s
+effect (typed.CallEffect k) w s = drop_does (call_of k w) s
+effect (typed.Output e span) w s = output_does (value (value_of e Plain w)) s
+effect (typed.ChoiceEffect e a b span) w s =
+    choice_does (value (value_of e Test w)) (effect a (past Test (nodes.expression e) w))
+    (effect b (past Plain (nodes.effect a) (past Test (nodes.expression e) w))) s
+effect (typed.Discard a span) w s = effect a w s
 
 abbrev pub effects : List Effect → Within → Does (Unit {0})
 effects [] w s = gives tt s
-effects (a ∷ rest) w s = both_do (effect a w) (effects rest (past Plain (n.effect a) w)) s
+effects (a ∷ rest) w s = both_do (effect a w) (effects rest (past Plain (nodes.effect a) w)) s
 
 -- ---- initializers (C17 6.7.9)
 
@@ -51,19 +51,20 @@ effects (a ∷ rest) w s = both_do (effect a w) (effects rest (past Plain (n.eff
 -- leaves open.
 abbrev mutual
   pub initialize : Initializer → Path → Within → Does (Unit {0})
-  initialize (t.NumberInitializer e) p w s = store_does on_places p (value (value_of e Plain w)) s
-  initialize (t.StructureInitializer structure k) p w s =
+  initialize (typed.NumberInitializer e) p w s = store_does on_places p
+      (value (value_of e Plain w)) s
+  initialize (typed.StructureInitializer structure k) p w s =
       store_structure_does on_places p k (structure_of structure w) s
-  initialize (t.ListInitializer items k) p w s = initialize_from items p 0 w s
+  initialize (typed.ListInitializer items k) p w s = initialize_from items p 0 w s
   -- the list `{0}`
-  initialize (t.ZeroInitializer e k) p w s = changes (on_places.put p k (Some (pos 0))) s
+  initialize (typed.ZeroInitializer e k) p w s = changes (on_places.put p k (Some (pos 0))) s
 
   -- the parts of an object, from part i on; where its list ends they become 0 (C17 6.7.9p21)
   pub initialize_from : Initializers → Path → ℕ → Within → Does (Unit {0})
-  initialize_from t.no_initializers p i w s = changes (on_places.zero_rest p i 0 0) s
-  initialize_from (t.initializers item rest) p i w s =
+  initialize_from typed.no_initializers p i w s = changes (on_places.zero_rest p i 0 0) s
+  initialize_from (typed.initializers item rest) p i w s =
       both_do (initialize item (on_places.part i 0 p) w)
-      (initialize_from rest p (suc i) (past Plain (n.initializer item) w)) s
+      (initialize_from rest p (suc i) (past Plain (nodes.initializer item) w)) s
 
 abbrev pub initialize_where : Option Initializer → Path → Within → Does (Unit {0})
 initialize_where None p w s = gives tt s
@@ -74,7 +75,7 @@ declare [] w s = gives tt s
 declare (d ∷ rest) w s =
     both_do (unset_does on_places (local w d.slot) d.cells)
     (both_do (initialize_where d.value (local w d.slot) w)
-    (declare rest (past Plain (n.initial d.value) w))) s
+    (declare rest (past Plain (nodes.initial d.value) w))) s
 
 -- ---- statements (C17 6.8)
 
@@ -87,8 +88,8 @@ where_initializes true w act s = counted w act s
 where_initializes false w act s = act w s
 
 abbrev pub start : ForStart → Within → Does (Unit {0})
-start (t.StartEffects clauses) w s = effects clauses w s
-start (t.StartDeclaration declarators) w s = declare declarators w s
+start (typed.StartEffects clauses) w s = effects clauses w s
+start (typed.StartDeclaration declarators) w s = declare declarators w s
 
 -- a controlling expression that is absent counts as true (C17 6.8.5.3p2)
 abbrev pub loop_test : Option Expression → Within → Does Bool
@@ -96,9 +97,9 @@ loop_test None w s = gives true s
 loop_test (Some e) w s = as_does is_true (value (value_of e Test w)) s
 
 abbrev pub returned : ReturnValue → Within → Does (Given Path)
-returned t.ReturnNothing w s = gives Nothing s
-returned (t.ReturnNumber e) w s = as_does Number (value (value_of e Plain w)) s
-returned (t.ReturnStructure structure k) w s =
+returned typed.ReturnNothing w s = gives Nothing s
+returned (typed.ReturnNumber e) w s = as_does Number (value (value_of e Plain w)) s
+returned (typed.ReturnStructure structure k) w s =
     as_does (λ p. Structure p k) (structure_of structure w) s
 
 -- A `return` is an exit when its value is there.
@@ -109,40 +110,40 @@ leave r w s =
 
 abbrev mutual
   pub run : Statement → Within → Does (Flow Path)
-  run (t.Compound items span) w s = run_from items Running w s
-  run (t.Label v span) w s = gives Completed s
-  run (t.Declaration declarators span) w s =
+  run (typed.Compound items span) w s = run_from items Running w s
+  run (typed.Label v span) w s = gives Completed s
+  run (typed.Declaration declarators span) w s =
       where_initializes (initializes declarators) w (λ w. effect_does (declare declarators w)) s
-  run (t.Null span) w s = counted w (λ w. gives Completed) s
-  run (t.EffectStatement whole span) w s = counted w (λ w. effect_does (effect whole w)) s
-  run (t.If e a keyword span) w s =
+  run (typed.Null span) w s = counted w (λ w. gives Completed) s
+  run (typed.EffectStatement whole span) w s = counted w (λ w. effect_does (effect whole w)) s
+  run (typed.If e a keyword span) w s =
       counted w (λ w. choice_does (value (value_of e Test w))
-      (run a (past Test (n.expression e) w)) (gives Completed)) s
-  run (t.IfElse e a b keyword span) w s =
+      (run a (past Test (nodes.expression e) w)) (gives Completed)) s
+  run (typed.IfElse e a b keyword span) w s =
       counted w (λ w. choice_does (value (value_of e Test w))
-      (run a (past Test (n.expression e) w))
-      (run b (past_statement a (past Test (n.expression e) w)))) s
-  run (t.Switch e items keyword span) w s =
+      (run a (past Test (nodes.expression e) w))
+      (run b (past_statement a (past Test (nodes.expression e) w)))) s
+  run (typed.Switch e items keyword span) w s =
       counted w (λ w. switch_does (value (value_of e Plain w)) (labels_of items)
-      (λ seek. run_from items seek (in_switch items (past Plain (n.expression e) w)))
+      (λ seek. run_from items seek (in_switch items (past Plain (nodes.expression e) w)))
       (choose w.points.labels)) s
-  run (t.For first test step a keyword span) w s =
+  run (typed.For first test step a keyword span) w s =
       counted w (λ w s. after (start first w s) (λ _.
       loop_does (loop_test test (past_start first w))
       (run a (past_step step (past_test test (past_start first w))))
       (effects step (past_test test (past_start first w))))) s
-  run (t.DoWhile a e keyword span) w s =
+  run (typed.DoWhile a e keyword span) w s =
       counted w (λ w. do_does (run a w)
       (as_does is_true (value (value_of e Test (past_statement a w))))) s
-  run (t.Break span) w s = counted w (λ w. gives Broke) s
-  run (t.Continue span) w s = counted w (λ w. gives Continued) s
-  run (t.Return r span) w s = counted w (leave r) s
+  run (typed.Break span) w s = counted w (λ w. gives Broke) s
+  run (typed.Continue span) w s = counted w (λ w. gives Continued) s
+  run (typed.Return r span) w s = counted w (leave r) s
 
   -- the items of a body, which run or are passed over up to a label
   pub run_from : Statements → Seek → Within → Does (Flow Path)
-  run_from t.no_statements seek w s = gives Completed s
-  run_from (t.statements (t.Label v span) rest) seek w s =
+  run_from typed.no_statements seek w s = gives Completed s
+  run_from (typed.statements (typed.Label v span) rest) seek w s =
       label_does (choose w.points.labels) v seek
-      (λ seek. run_from rest seek (past_statement (t.Label v span) w)) s
-  run_from (t.statements item rest) seek w s =
+      (λ seek. run_from rest seek (past_statement (typed.Label v span) w)) s
+  run_from (typed.statements item rest) seek w s =
       item_runs (run item w) seek (λ seek. run_from rest seek (past_statement item w)) s

@@ -1,6 +1,7 @@
 -- How many decisions and places a map has, and where the paths of a decision end.
 use Rattle.std.proofs.Common.{◌≡◌, ℕ, ◌+◌, ◌<◌, ◌≤◌, true, List, [], ◌∷◌, length, refl, subst, arith}
 use Rattle.std.specs.Prelude.{zero, suc, slice_get, Some}
+use Rattle.mc_limits.specs.Limits.{most_bits}
 use Rattle.mc_cond.specs.Tree.{Tree}
 use Rattle.mc_cond.specs.Vectors.{evaluated}
 use Rattle.mc_paths.specs.Paths.{count_of}
@@ -38,5 +39,5 @@ placed_at (x ∷ ds) zero d h e =
     subst P same h.0
 placed_at (x ∷ ds) (suc i) d h e = placed_at ds i d h.1 e
 
-pub few_places : (m : Map) → IsMap m → first_path m + length m.decisions ≤ 65536
+pub few_places : (m : Map) → IsMap m → first_path m + length m.decisions ≤ most_bits
 few_places m kept = let f = few_decisions m.decisions (first_path m) m.bits kept.based in let few = kept.few in omega arith

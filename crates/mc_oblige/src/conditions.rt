@@ -1,6 +1,7 @@
 //! The evidence of a decision's conditions.
 ghost use Rattle.std.specs.Prelude.{◌≡◌, ℕ, ◌<◌, ◌≤◌, length, All, IfOk, IfSome, IfNone};
 ghost use Rattle.std.specs.List.Sorted.{IsStrictlyIncreasing};
+ghost use Rattle.mc_limits.specs.Limits.{most_paths};
 ghost use Rattle.mc_cond.specs.Tree.{tree_of, size};
 ghost use Rattle.mc_paths.specs.Paths.{count_of};
 ghost use Rattle.mc_pairs.specs.Pairs.{NonePaired, IsChosen};
@@ -24,7 +25,7 @@ pub(crate) fn condition_evidence(
     mode: Mode,
 ) -> Result<Vec<Evidence>, AllocError>
     requires count { length tests.now ≡ count_of (tree_of mapped.now.decision.tree) }
-    requires few { length tests.now ≤ 4096 }
+    requires few { length tests.now ≤ most_paths }
     ensures { IfOk result (λ v. let t = tree_of mapped.now.decision.tree in
         AreFoundBelow mode t tests.now (size t) v.items) }
 {

@@ -1,5 +1,6 @@
 //! The evidence of a decision's obligations.
 ghost use Rattle.std.specs.Prelude.{◌≡◌, ◌≤◌, length, IfOk};
+ghost use Rattle.mc_limits.specs.Limits.{most_paths};
 ghost use Rattle.mc_cond.specs.Tree.{tree_of};
 ghost use Rattle.mc_paths.specs.Paths.{count_of};
 ghost use Rattle.mc_oblige.specs.steps.Found.{AreFound};
@@ -20,7 +21,7 @@ pub(crate) fn decision_evidence(
     mode: Mode,
 ) -> Result<Vec<Evidence>, AllocError>
     requires count { length tests.now ≡ count_of (tree_of mapped.now.decision.tree) }
-    requires few { length tests.now ≤ 4096 }
+    requires few { length tests.now ≤ most_paths }
     ensures { IfOk result (λ v.
         AreFound mode (tree_of mapped.now.decision.tree) tests.now v.items) }
 {

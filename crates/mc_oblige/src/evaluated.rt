@@ -1,5 +1,6 @@
 //! The evaluated paths of decisions.
 ghost use Rattle.std.specs.Prelude.{◌≡◌, ◌≤◌, ◌++◌, length, IfOk, OnOk};
+ghost use Rattle.mc_limits.specs.Limits.{most_paths};
 ghost use Rattle.mc_probe.specs.BitMaps.{map_of};
 ghost use Rattle.mc_oblige.specs.Shown.{HasEvent};
 ghost use Rattle.mc_oblige.specs.Evaluated.{AreEvaluated};
@@ -45,7 +46,7 @@ fn add_paths(
     d: u32,
     tests: &[Option<u32>],
 ) -> Result<(), AllocError>
-    requires { length tests.now ≤ 4096 }
+    requires { length tests.now ≤ most_paths }
     ensures { OnOk result (found.new.items ≡ found.old.items ++ tested d 0 tests.now) }
 {
     for (path, test) in tests.iter().enumerate() {

@@ -1,5 +1,6 @@
 //! The evidence of all obligations.
 ghost use Rattle.std.specs.Prelude.{◌≡◌, ◌+◌, ◌≤◌, length, take, drop, IfOk};
+ghost use Rattle.mc_limits.specs.Limits.{most_paths};
 ghost use Rattle.mc_cond.specs.Tree.{tree_of};
 ghost use Rattle.mc_paths.specs.Paths.{count_of};
 ghost use Rattle.mc_probe.specs.BitMaps.{map_of};
@@ -42,7 +43,7 @@ pub(crate) fn path_tests<'a>(mapped: &MappedDecision, tests: &'a [Option<u32>]) 
     ensures part { result.now
         ≡ take (count_of (tree_of mapped.now.decision.tree)) (drop mapped.now.base tests.now) }
     ensures count { length result.now ≡ count_of (tree_of mapped.now.decision.tree) }
-    ensures few { length result.now ≤ 4096 }
+    ensures few { length result.now ≤ most_paths }
 {
     let count = mapped.numbering.count() as usize;
     let later = &tests[mapped.base as usize..];

@@ -1,5 +1,6 @@
 //! The list of a program's obligations.
 ghost use Rattle.std.specs.Prelude.{◌≡◌, ◌≤◌, ◌++◌, map, length, true, false, IfOk};
+ghost use Rattle.mc_limits.specs.Limits.{most_bits};
 ghost use Rattle.mc_roots.specs.Seen.{decision_of};
 ghost use Rattle.mc_probe.specs.Mapped.{mapped_of};
 ghost use Rattle.mc_probe.specs.BitMaps.{map_of};
@@ -34,7 +35,7 @@ fn add_events(all: &mut Vec<Obligation>, map: &BitMap) -> Result<(), AllocError>
 
 /// Appends the obligations of the decisions.
 fn add_decisions(all: &mut Vec<Obligation>, decisions: &[MappedDecision]) -> Result<(), AllocError>
-    requires { length decisions.now ≤ 65536 }
+    requires { length decisions.now ≤ most_bits }
     ensures { IfOk result (λ _.
         all.new.items ≡ all.old.items ++ of_decisions 0 (map mapped_of decisions.now)) }
 {

@@ -1,5 +1,6 @@
 //! Obligations at places that are numbered from 0 on.
 ghost use Rattle.std.specs.Prelude.{◌≡◌, ◌≤◌, ◌++◌, length, IfOk};
+ghost use Rattle.mc_limits.specs.Limits.{most_bits};
 ghost use Rattle.mc_oblige.specs.Obligations.{numbered};
 ghost use Rattle.mc_oblige.specs.steps.Places.{id_of};
 
@@ -38,7 +39,7 @@ pub(crate) fn add_places(
     kind: Kind,
     spans: &[Span],
 ) -> Result<(), AllocError>
-    requires { length spans.now ≤ 65536 }
+    requires { length spans.now ≤ most_bits }
     ensures { IfOk result (λ _.
         all.new.items ≡ all.old.items ++ numbered (id_of kind) 0 spans.now) }
 {

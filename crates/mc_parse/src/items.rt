@@ -1,6 +1,6 @@
 //! External declarations, and a whole source (C17 6.9).
 ghost use Rattle.std.specs.Prelude.{◌≡◌, ◌≤◌, ◌∷◌, ◌++◌, [], IfOk};
-ghost use Rattle.mc_tree.specs.Tree as t;
+ghost use Rattle.mc_tree.specs.Tree as tree;
 ghost use Rattle.mc_tree.specs.Units.{block_from, item_of, items_of};
 ghost use Rattle.mc_tree.specs.Views.{declarator_of};
 ghost use Rattle.mc_grammar.specs.Places as places;
@@ -28,7 +28,7 @@ fn is_function(declarator: &Declarator<'_>) -> bool
 }
 
 fn definition<'a>(head: Head<'a>, declarator: Declarator<'a>, block: Block<'a>) -> Item<'a>
-    ensures { item_of result ≡ t.Defined (words_of head.entry) (declarator_of declarator.entry)
+    ensures { item_of result ≡ tree.Defined (words_of head.entry) (declarator_of declarator.entry)
         (block_from (block_of block.entry).items) (places.to head.entry.start block.entry.span) }
 {
     let Head { start, specifiers } = head;

@@ -1,7 +1,7 @@
 //! The tree of a whole source.
 ghost use Rattle.std.specs.Prelude.{◌≡◌, ◌+◌, ◌≤◌, ◌<◌, ◌^◌, All, IfOk, IsErrOf, List, MatchResult, length, ℕ};
 ghost use Rattle.mc_lex.specs.Tokens.{toks_of};
-ghost use Rattle.mc_tree.specs.Tree as t;
+ghost use Rattle.mc_tree.specs.Tree as source_tree;
 ghost use Rattle.mc_tree.specs.Units.{items_of};
 ghost use Rattle.mc_grammar.specs.Items.{IsSyntaxOf, IsTreeWithin, greatest_height};
 ghost use Rattle.mc_grammar.specs.Words.{lexemes_of};
@@ -49,7 +49,7 @@ pub fn parse_within<'a>(
         → IfOk result (λ unit. IsTreeWithin limit dialect (toks_of tokens.now)
         (items_of unit.items.items)) }
     // It is the only one, and it is read where memory suffices.
-    ensures only { (dialect : Dialect) (tree : List t.Item)
+    ensures only { (dialect : Dialect) (tree : List source_tree.Item)
         → IsTreeWithin limit dialect (toks_of tokens.now) tree
         → MatchResult result (λ unit. items_of unit.items.items ≡ tree) (λ fault. fault
         ≡ ParseFault.OutOfMemory) }
@@ -84,7 +84,7 @@ pub fn parse<'a>(
     ensures tree { IfOk result
         (λ unit. IsSyntaxOf dialect (toks_of tokens.now) (items_of unit.items.items)) }
     // They have no other, and it is read where memory suffices.
-    ensures only { (tree : List t.Item) → IsSyntaxOf dialect (toks_of tokens.now) tree
+    ensures only { (tree : List source_tree.Item) → IsSyntaxOf dialect (toks_of tokens.now) tree
         → MatchResult result (λ unit. items_of unit.items.items ≡ tree) (λ fault. fault
         ≡ ParseFault.OutOfMemory) }
     // The place of the fault is one of the tokens or the end.

@@ -1,124 +1,131 @@
 -- A tree without its probes.
 use Rattle.std.specs.Prelude.{map, option_map}
-use Rattle.mc_typed.specs.Tree as t
+use Rattle.mc_typed.specs.Tree as typed
 use Rattle.mc_probe.specs.Tree.{Place, Expression, StructureValue, FunctionCall, Argument, Arguments, Effect, Initializer, Initializers, Declarator, ForStart, ReturnValue, Statement, Statements, Function, Program}
-use Rattle.mc_probe.specs.Tree as p
+use Rattle.mc_probe.specs.Tree as probed
 
 abbrev mutual
-  pub erase_place : Place → t.Place
-  erase_place (p.Local slot span) = t.Local slot span
-  erase_place (p.Static slot span) = t.Static slot span
-  erase_place (p.Parameter array stride index span) =
-      t.Parameter array stride (erase_expression index) span
-  erase_place (p.Item array n stride index span) =
-      t.Item (erase_place array) n stride (erase_expression index) span
-  erase_place (p.Member structure i offset span) = t.Member (erase_place structure) i offset span
+  pub erase_place : Place → typed.Place
+  erase_place (probed.Local slot span) = typed.Local slot span
+  erase_place (probed.Static slot span) = typed.Static slot span
+  erase_place (probed.Parameter array stride index span) =
+      typed.Parameter array stride (erase_expression index) span
+  erase_place (probed.Item array n stride index span) =
+      typed.Item (erase_place array) n stride (erase_expression index) span
+  erase_place (probed.Member structure i offset span) = typed.Member (erase_place structure) i
+      offset span
 
-  pub erase_expression : Expression → t.Expression
-  erase_expression (p.Constant v a span) = t.Constant v a span
-  erase_expression (p.Read place a) = t.Read (erase_place place) a
-  erase_expression (p.Unary operator a e span) = t.Unary operator a (erase_expression e) span
-  erase_expression (p.Convert a written e span) = t.Convert a written (erase_expression e) span
-  erase_expression (p.Not e span) = t.Not (erase_expression e) span
-  erase_expression (p.Binary operator a e f span) =
-      t.Binary operator a (erase_expression e) (erase_expression f) span
-  erase_expression (p.Logic operator e f span) =
-      t.Logic operator (erase_expression e) (erase_expression f) span
-  erase_expression (p.Choice e f g a span) =
-      t.Choice (erase_expression e) (erase_expression f) (erase_expression g) a span
-  erase_expression (p.Call k a) = t.Call (erase_call k) a
-  erase_expression (p.Input span) = t.Input span
-  erase_expression (p.Probe probe e) = erase_expression e
+  pub erase_expression : Expression → typed.Expression
+  erase_expression (probed.Constant v a span) = typed.Constant v a span
+  erase_expression (probed.Read place a) = typed.Read (erase_place place) a
+  erase_expression (probed.Unary operator a e span) = typed.Unary operator a (erase_expression e)
+      span
+  erase_expression (probed.Convert a written e span) = typed.Convert a written
+      (erase_expression e) span
+  erase_expression (probed.Not e span) = typed.Not (erase_expression e) span
+  erase_expression (probed.Binary operator a e f span) =
+      typed.Binary operator a (erase_expression e) (erase_expression f) span
+  erase_expression (probed.Logic operator e f span) =
+      typed.Logic operator (erase_expression e) (erase_expression f) span
+  erase_expression (probed.Choice e f g a span) =
+      typed.Choice (erase_expression e) (erase_expression f) (erase_expression g) a span
+  erase_expression (probed.Call k a) = typed.Call (erase_call k) a
+  erase_expression (probed.Input span) = typed.Input span
+  erase_expression (probed.Probe probe e) = erase_expression e
 
-  pub erase_structure : StructureValue → t.StructureValue
-  erase_structure (p.Stored place) = t.Stored (erase_place place)
-  erase_structure (p.Returned k) = t.Returned (erase_call k)
+  pub erase_structure : StructureValue → typed.StructureValue
+  erase_structure (probed.Stored place) = typed.Stored (erase_place place)
+  erase_structure (probed.Returned k) = typed.Returned (erase_call k)
 
-  pub erase_call : FunctionCall → t.FunctionCall
-  erase_call (p.call f given result span) = t.call f (erase_arguments given) result span
+  pub erase_call : FunctionCall → typed.FunctionCall
+  erase_call (probed.call f given result span) = typed.call f (erase_arguments given) result span
 
-  pub erase_argument : Argument → t.Argument
-  erase_argument (p.NumberArgument e) = t.NumberArgument (erase_expression e)
-  erase_argument (p.StructureArgument value copy) =
-      t.StructureArgument (erase_structure value) copy
-  erase_argument (p.ArrayArgument place n) = t.ArrayArgument (erase_place place) n
-  erase_argument (p.AgainArgument array span) = t.AgainArgument array span
+  pub erase_argument : Argument → typed.Argument
+  erase_argument (probed.NumberArgument e) = typed.NumberArgument (erase_expression e)
+  erase_argument (probed.StructureArgument value copy) =
+      typed.StructureArgument (erase_structure value) copy
+  erase_argument (probed.ArrayArgument place n) = typed.ArrayArgument (erase_place place) n
+  erase_argument (probed.AgainArgument array span) = typed.AgainArgument array span
 
-  pub erase_arguments : Arguments → t.Arguments
-  erase_arguments p.no_arguments = t.no_arguments
-  erase_arguments (p.arguments a rest) = t.arguments (erase_argument a) (erase_arguments rest)
+  pub erase_arguments : Arguments → typed.Arguments
+  erase_arguments probed.no_arguments = typed.no_arguments
+  erase_arguments (probed.arguments a rest) = typed.arguments (erase_argument a)
+      (erase_arguments rest)
 
-abbrev pub erase_effect : Effect → t.Effect
-erase_effect (p.Assign target a e span) =
-    t.Assign (erase_place target) a (erase_expression e) span
-erase_effect (p.Update target a operator common e span) =
-    t.Update (erase_place target) a operator common (erase_expression e) span
-erase_effect (p.Copy target value n span) =
-    t.Copy (erase_place target) (erase_structure value) n span
-erase_effect (p.NumberEffect e whole) = t.NumberEffect (erase_expression e) whole
-erase_effect (p.StructureEffect value whole) = t.StructureEffect (erase_structure value) whole
-erase_effect (p.CallEffect k) = t.CallEffect (erase_call k)
-erase_effect (p.Output e span) = t.Output (erase_expression e) span
-erase_effect (p.ChoiceEffect e a b span) =
-    t.ChoiceEffect (erase_expression e) (erase_effect a) (erase_effect b) span
-erase_effect (p.Discard a span) = t.Discard (erase_effect a) span
+abbrev pub erase_effect : Effect → typed.Effect
+erase_effect (probed.Assign target a e span) =
+    typed.Assign (erase_place target) a (erase_expression e) span
+erase_effect (probed.Update target a operator common e span) =
+    typed.Update (erase_place target) a operator common (erase_expression e) span
+erase_effect (probed.Copy target value n span) =
+    typed.Copy (erase_place target) (erase_structure value) n span
+erase_effect (probed.NumberEffect e whole) = typed.NumberEffect (erase_expression e) whole
+erase_effect (probed.StructureEffect value whole) = typed.StructureEffect (erase_structure value)
+    whole
+erase_effect (probed.CallEffect k) = typed.CallEffect (erase_call k)
+erase_effect (probed.Output e span) = typed.Output (erase_expression e) span
+erase_effect (probed.ChoiceEffect e a b span) =
+    typed.ChoiceEffect (erase_expression e) (erase_effect a) (erase_effect b) span
+erase_effect (probed.Discard a span) = typed.Discard (erase_effect a) span
 
 abbrev mutual
-  pub erase_initializer : Initializer → t.Initializer
-  erase_initializer (p.NumberInitializer e) = t.NumberInitializer (erase_expression e)
-  erase_initializer (p.StructureInitializer value n) =
-      t.StructureInitializer (erase_structure value) n
-  erase_initializer (p.ListInitializer items n) = t.ListInitializer (erase_initializers items) n
-  erase_initializer (p.ZeroInitializer e n) = t.ZeroInitializer (erase_expression e) n
+  pub erase_initializer : Initializer → typed.Initializer
+  erase_initializer (probed.NumberInitializer e) = typed.NumberInitializer (erase_expression e)
+  erase_initializer (probed.StructureInitializer value n) =
+      typed.StructureInitializer (erase_structure value) n
+  erase_initializer (probed.ListInitializer items n) = typed.ListInitializer
+      (erase_initializers items) n
+  erase_initializer (probed.ZeroInitializer e n) = typed.ZeroInitializer (erase_expression e) n
 
-  pub erase_initializers : Initializers → t.Initializers
-  erase_initializers p.no_initializers = t.no_initializers
-  erase_initializers (p.initializers i rest) =
-      t.initializers (erase_initializer i) (erase_initializers rest)
+  pub erase_initializers : Initializers → typed.Initializers
+  erase_initializers probed.no_initializers = typed.no_initializers
+  erase_initializers (probed.initializers i rest) =
+      typed.initializers (erase_initializer i) (erase_initializers rest)
 
-abbrev pub erase_declarator : Declarator → t.Declarator
+abbrev pub erase_declarator : Declarator → typed.Declarator
 erase_declarator d =
     record { slot = d.slot; cells = d.cells; value = option_map erase_initializer d.value }
 
-abbrev pub erase_start : ForStart → t.ForStart
-erase_start (p.StartEffects effects) = t.StartEffects (map erase_effect effects)
-erase_start (p.StartDeclaration declarators) =
-    t.StartDeclaration (map erase_declarator declarators)
+abbrev pub erase_start : ForStart → typed.ForStart
+erase_start (probed.StartEffects effects) = typed.StartEffects (map erase_effect effects)
+erase_start (probed.StartDeclaration declarators) =
+    typed.StartDeclaration (map erase_declarator declarators)
 
-abbrev pub erase_return : ReturnValue → t.ReturnValue
-erase_return p.ReturnNothing = t.ReturnNothing
-erase_return (p.ReturnNumber e) = t.ReturnNumber (erase_expression e)
-erase_return (p.ReturnStructure value n) = t.ReturnStructure (erase_structure value) n
+abbrev pub erase_return : ReturnValue → typed.ReturnValue
+erase_return probed.ReturnNothing = typed.ReturnNothing
+erase_return (probed.ReturnNumber e) = typed.ReturnNumber (erase_expression e)
+erase_return (probed.ReturnStructure value n) = typed.ReturnStructure (erase_structure value) n
 
 abbrev mutual
-  pub erase_statement : Statement → t.Statement
-  erase_statement (p.Compound items span) = t.Compound (erase_statements items) span
-  erase_statement (p.Label v span mark) = t.Label v span
-  erase_statement (p.Declaration declarators span bit) =
-      t.Declaration (map erase_declarator declarators) span
-  erase_statement (p.Null span bit) = t.Null span
-  erase_statement (p.EffectStatement effect span bit) = t.EffectStatement (erase_effect effect) span
-  erase_statement (p.If e s keyword span bit) =
-      t.If (erase_expression e) (erase_statement s) keyword span
-  erase_statement (p.IfElse e s u keyword span bit) =
-      t.IfElse (erase_expression e) (erase_statement s) (erase_statement u) keyword span
-  erase_statement (p.Switch e items keyword span bit absent) =
-      t.Switch (erase_expression e) (erase_statements items) keyword span
-  erase_statement (p.For start test step s keyword span bit) =
-      t.For (erase_start start) (option_map erase_expression test) (map erase_effect step)
+  pub erase_statement : Statement → typed.Statement
+  erase_statement (probed.Compound items span) = typed.Compound (erase_statements items) span
+  erase_statement (probed.Label v span mark) = typed.Label v span
+  erase_statement (probed.Declaration declarators span bit) =
+      typed.Declaration (map erase_declarator declarators) span
+  erase_statement (probed.Null span bit) = typed.Null span
+  erase_statement (probed.EffectStatement effect span bit) = typed.EffectStatement
+      (erase_effect effect) span
+  erase_statement (probed.If e s keyword span bit) =
+      typed.If (erase_expression e) (erase_statement s) keyword span
+  erase_statement (probed.IfElse e s u keyword span bit) =
+      typed.IfElse (erase_expression e) (erase_statement s) (erase_statement u) keyword span
+  erase_statement (probed.Switch e items keyword span bit absent) =
+      typed.Switch (erase_expression e) (erase_statements items) keyword span
+  erase_statement (probed.For start test step s keyword span bit) =
+      typed.For (erase_start start) (option_map erase_expression test) (map erase_effect step)
       (erase_statement s) keyword span
-  erase_statement (p.DoWhile s e keyword span bit) =
-      t.DoWhile (erase_statement s) (erase_expression e) keyword span
-  erase_statement (p.Break span bit) = t.Break span
-  erase_statement (p.Continue span bit) = t.Continue span
-  erase_statement (p.Return value span bit exit) = t.Return (erase_return value) span
+  erase_statement (probed.DoWhile s e keyword span bit) =
+      typed.DoWhile (erase_statement s) (erase_expression e) keyword span
+  erase_statement (probed.Break span bit) = typed.Break span
+  erase_statement (probed.Continue span bit) = typed.Continue span
+  erase_statement (probed.Return value span bit exit) = typed.Return (erase_return value) span
 
-  pub erase_statements : Statements → t.Statements
-  erase_statements p.no_statements = t.no_statements
-  erase_statements (p.statements s rest) =
-      t.statements (erase_statement s) (erase_statements rest)
+  pub erase_statements : Statements → typed.Statements
+  erase_statements probed.no_statements = typed.no_statements
+  erase_statements (probed.statements s rest) =
+      typed.statements (erase_statement s) (erase_statements rest)
 
-abbrev pub erase_function : Function → t.Function
+abbrev pub erase_function : Function → typed.Function
 erase_function f = record {
   name = f.name;
   name_span = f.name_span;
@@ -130,7 +137,7 @@ erase_function f = record {
 }
 
 -- the program under the probes
-abbrev pub erase : Program → t.Program
+abbrev pub erase : Program → typed.Program
 erase program = record {
   functions = map erase_function program.functions;
   statics = program.statics;

@@ -2,7 +2,7 @@
 use Rattle.std.specs.Prelude.{◌≡◌, ◌↔◌, List, length}
 use Rattle.mc_span.specs.declared.span.Span.{Span}
 use Rattle.mc_cond.specs.Tree.{Tree}
-use Rattle.mc_typed.specs.Tree as t
+use Rattle.mc_typed.specs.Tree as typed
 use Rattle.mc_typed.specs.Sound.{IsSound}
 use Rattle.mc_typed.specs.Views.{Parts}
 use Rattle.mc_typed.specs.Views as plain
@@ -41,13 +41,13 @@ pub record AreCounted (ss xs ls : List Span) (q : Points) : Type 0 where
 
 -- The numbers of the events of a program end where its lists of places end.
 abbrev pub EventsAreListed : Type 0
-EventsAreListed = (p : t.Program) →
+EventsAreListed = (p : typed.Program) →
     AreCounted (statements_of p) (exits_of p) (labels_of p)
     (points_before p.functions (length p.functions))
 
 -- a tree without probes is its program, and well-formed
 abbrev pub BareTreesErase : Type 0
-BareTreesErase = (p : t.Program) → erase (bare_tree p).program ≡ p
+BareTreesErase = (p : typed.Program) → erase (bare_tree p).program ≡ p
 
 abbrev pub BareTreesAreWellFormed : Type 0
-BareTreesAreWellFormed = (p : t.Program) → IsSound p → IsWellFormed (bare_tree p)
+BareTreesAreWellFormed = (p : typed.Program) → IsSound p → IsWellFormed (bare_tree p)

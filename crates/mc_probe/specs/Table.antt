@@ -4,16 +4,16 @@
 use Rattle.std.specs.Prelude.{◌≡◌, ℕ, ◌+◌, Bool, true, false, if◌then◌else◌, List, [], ◌∷◌, slice_get, unwrap_or, Option, Some, None}
 use Rattle.mc_typed.specs.declared.probes.Probe.TheVariants as probe
 use Rattle.mc_typed.specs.declared.probes.Mark.{Mark}
-use Rattle.mc_typed.specs.Tree as t
+use Rattle.mc_typed.specs.Tree as typed
 use Rattle.mc_paths.specs.Paths.{increments}
 use Rattle.mc_roots.specs.declared.role.Role.{Role}
 use Rattle.mc_roots.specs.declared.role.Role.TheVariants.{Test, Inner, Plain}
 use Rattle.mc_roots.specs.Nodes.{Node}
-use Rattle.mc_roots.specs.Nodes as n
+use Rattle.mc_roots.specs.Nodes as nodes
 use Rattle.mc_roots.specs.Roots.{is_root}
 use Rattle.mc_roots.specs.Conditions.{width, is_operator}
 use Rattle.mc_roots.specs.Counts.{one_where, roots, roots_in}
-use Rattle.mc_probe.specs.Tree as p
+use Rattle.mc_probe.specs.Tree as probed
 use Rattle.mc_steps.specs.Points.{Points, no_points, ◌⊕◌, points_of, points_of_all, points_of_function, all_complete, has_default, initializes}
 use Rattle.mc_probe.specs.Bare.{bare_expression}
 use Rattle.mc_probe.specs.Maps.{Mapped, Map, IsMapOf, entry_bit, exit_bit, statement_bit, label_bit}
@@ -62,155 +62,163 @@ module _ (m : Map) (first : ℕ) where
   mapped k = slice_get m.decisions (first + k)
 
   -- round a condition; a true edge adds nothing
-  abbrev pub round_condition : ℕ → ℕ → Node → p.Expression → p.Expression
+  abbrev pub round_condition : ℕ → ℕ → Node → probed.Expression → probed.Expression
   round_condition k c a x =
-      if is_operator a then x else p.Probe (probe.Condition k 0 (increment_of (mapped k) c)) x
+      if is_operator a then x else probed.Probe (probe.Condition k 0 (increment_of (mapped k) c)) x
 
   -- and round a root
-  abbrev pub round : Stand → ℕ → Node → p.Expression → p.Expression
+  abbrev pub round : Stand → ℕ → Node → probed.Expression → probed.Expression
   round (Loose role) d a x =
       if is_root role a
-      then p.Probe (probe.Decision d (base_of (mapped d))) (round_condition d 0 a x)
+      then probed.Probe (probe.Decision d (base_of (mapped d))) (round_condition d 0 a x)
       else x
   round (InTree k c) d a x = round_condition k c a x
 
   -- `inside` puts the probes of the parts, from how the operands of `!`, `&&` and `||` stand and
   -- the number of the next decision.
-  abbrev pub wrap : Stand → ℕ → Node → (Stand → ℕ → p.Expression) → p.Expression
+  abbrev pub wrap : Stand → ℕ → Node → (Stand → ℕ → probed.Expression) → probed.Expression
   wrap st d a inside = round st d a (inside (operand st d a) (inner st d a))
 
-  abbrev pub plain_roots : t.Expression → ℕ
-  plain_roots e = roots Plain (n.expression e)
+  abbrev pub plain_roots : typed.Expression → ℕ
+  plain_roots e = roots Plain (nodes.expression e)
 
-  abbrev pub test_roots : t.Expression → ℕ
-  test_roots e = roots Test (n.expression e)
+  abbrev pub test_roots : typed.Expression → ℕ
+  test_roots e = roots Test (nodes.expression e)
 
   -- `d` is the number of the next decision.
   abbrev mutual
-    pub put_place : ℕ → t.Place → p.Place
-    put_place d (t.Local slot span) = p.Local slot span
-    put_place d (t.Static slot span) = p.Static slot span
-    put_place d (t.Parameter array stride index span) =
-        p.Parameter array stride (put (Loose Plain) d index) span
-    put_place d (t.Item array k stride index span) =
-        p.Item (put_place d array) k stride
-        (put (Loose Plain) (d + roots Plain (n.place array)) index) span
-    put_place d (t.Member structure i offset span) = p.Member (put_place d structure) i offset span
+    pub put_place : ℕ → typed.Place → probed.Place
+    put_place d (typed.Local slot span) = probed.Local slot span
+    put_place d (typed.Static slot span) = probed.Static slot span
+    put_place d (typed.Parameter array stride index span) =
+        probed.Parameter array stride (put (Loose Plain) d index) span
+    put_place d (typed.Item array k stride index span) =
+        probed.Item (put_place d array) k stride
+        (put (Loose Plain) (d + roots Plain (nodes.place array)) index) span
+    put_place d (typed.Member structure i offset span) = probed.Member (put_place d structure) i
+        offset span
 
-    pub put : Stand → ℕ → t.Expression → p.Expression
-    put st d (t.Constant v a span) =
-        wrap st d (n.expression (t.Constant v a span)) (λ o d. p.Constant v a span)
-    put st d (t.Read place a) =
-        wrap st d (n.expression (t.Read place a)) (λ o d. p.Read (put_place d place) a)
-    put st d (t.Unary operator a e span) =
-        wrap st d (n.expression (t.Unary operator a e span))
-        (λ o d. p.Unary operator a (put (Loose Plain) d e) span)
-    put st d (t.Convert a written e span) =
-        wrap st d (n.expression (t.Convert a written e span))
-        (λ o d. p.Convert a written (put (Loose Plain) d e) span)
-    put st d (t.Not e span) =
-        wrap st d (n.expression (t.Not e span)) (λ o d. p.Not (put o d e) span)
-    put st d (t.Binary operator a e f span) =
-        wrap st d (n.expression (t.Binary operator a e f span))
-        (λ o d. p.Binary operator a (put (Loose Plain) d e)
+    pub put : Stand → ℕ → typed.Expression → probed.Expression
+    put st d (typed.Constant v a span) =
+        wrap st d (nodes.expression (typed.Constant v a span)) (λ o d. probed.Constant v a span)
+    put st d (typed.Read place a) =
+        wrap st d (nodes.expression (typed.Read place a)) (λ o d. probed.Read (put_place d place) a)
+    put st d (typed.Unary operator a e span) =
+        wrap st d (nodes.expression (typed.Unary operator a e span))
+        (λ o d. probed.Unary operator a (put (Loose Plain) d e) span)
+    put st d (typed.Convert a written e span) =
+        wrap st d (nodes.expression (typed.Convert a written e span))
+        (λ o d. probed.Convert a written (put (Loose Plain) d e) span)
+    put st d (typed.Not e span) =
+        wrap st d (nodes.expression (typed.Not e span)) (λ o d. probed.Not (put o d e) span)
+    put st d (typed.Binary operator a e f span) =
+        wrap st d (nodes.expression (typed.Binary operator a e f span))
+        (λ o d. probed.Binary operator a (put (Loose Plain) d e)
         (put (Loose Plain) (d + plain_roots e) f) span)
-    put st d (t.Logic operator e f span) =
-        wrap st d (n.expression (t.Logic operator e f span))
-        (λ o d. p.Logic operator (put o d e)
-        (put (beside o (width (n.expression e))) (d + roots (role_of o) (n.expression e)) f)
+    put st d (typed.Logic operator e f span) =
+        wrap st d (nodes.expression (typed.Logic operator e f span))
+        (λ o d. probed.Logic operator (put o d e)
+        (put (beside o (width (nodes.expression e))) (d + roots (role_of o) (nodes.expression e)) f)
         span)
-    put st d (t.Choice e f g a span) =
-        wrap st d (n.expression (t.Choice e f g a span))
-        (λ o d. p.Choice (put (Loose Test) d e) (put (Loose Plain) (d + test_roots e) f)
+    put st d (typed.Choice e f g a span) =
+        wrap st d (nodes.expression (typed.Choice e f g a span))
+        (λ o d. probed.Choice (put (Loose Test) d e) (put (Loose Plain) (d + test_roots e) f)
         (put (Loose Plain) (d + test_roots e + plain_roots f) g) a span)
-    put st d (t.Call k a) = wrap st d (n.expression (t.Call k a)) (λ o d. p.Call (put_call d k) a)
-    put st d (t.Input span) = wrap st d (n.expression (t.Input span)) (λ o d. p.Input span)
+    put st d (typed.Call k a) = wrap st d (nodes.expression (typed.Call k a))
+        (λ o d. probed.Call (put_call d k) a)
+    put st d (typed.Input span) = wrap st d (nodes.expression (typed.Input span))
+        (λ o d. probed.Input span)
 
-    pub put_structure : ℕ → t.StructureValue → p.StructureValue
-    put_structure d (t.Stored place) = p.Stored (put_place d place)
-    put_structure d (t.Returned k) = p.Returned (put_call d k)
+    pub put_structure : ℕ → typed.StructureValue → probed.StructureValue
+    put_structure d (typed.Stored place) = probed.Stored (put_place d place)
+    put_structure d (typed.Returned k) = probed.Returned (put_call d k)
 
-    pub put_call : ℕ → t.FunctionCall → p.FunctionCall
-    put_call d (t.call f given result span) = p.call f (put_arguments d given) result span
+    pub put_call : ℕ → typed.FunctionCall → probed.FunctionCall
+    put_call d (typed.call f given result span) = probed.call f (put_arguments d given) result span
 
-    pub put_argument : ℕ → t.Argument → p.Argument
-    put_argument d (t.NumberArgument e) = p.NumberArgument (put (Loose Plain) d e)
-    put_argument d (t.StructureArgument value copy) =
-        p.StructureArgument (put_structure d value) copy
-    put_argument d (t.ArrayArgument place k) = p.ArrayArgument (put_place d place) k
-    put_argument d (t.AgainArgument array span) = p.AgainArgument array span
+    pub put_argument : ℕ → typed.Argument → probed.Argument
+    put_argument d (typed.NumberArgument e) = probed.NumberArgument (put (Loose Plain) d e)
+    put_argument d (typed.StructureArgument value copy) =
+        probed.StructureArgument (put_structure d value) copy
+    put_argument d (typed.ArrayArgument place k) = probed.ArrayArgument (put_place d place) k
+    put_argument d (typed.AgainArgument array span) = probed.AgainArgument array span
 
-    pub put_arguments : ℕ → t.Arguments → p.Arguments
-    put_arguments d t.no_arguments = p.no_arguments
-    put_arguments d (t.arguments a rest) =
-        p.arguments (put_argument d a) (put_arguments (d + roots Plain (n.argument a)) rest)
+    pub put_arguments : ℕ → typed.Arguments → probed.Arguments
+    put_arguments d typed.no_arguments = probed.no_arguments
+    put_arguments d (typed.arguments a rest) =
+        probed.arguments (put_argument d a)
+        (put_arguments (d + roots Plain (nodes.argument a)) rest)
 
-  abbrev pub put_plain : ℕ → t.Expression → p.Expression
+  abbrev pub put_plain : ℕ → typed.Expression → probed.Expression
   put_plain d e = put (Loose Plain) d e
 
-  abbrev pub put_test : ℕ → t.Expression → p.Expression
+  abbrev pub put_test : ℕ → typed.Expression → probed.Expression
   put_test d e = put (Loose Test) d e
 
-  abbrev pub place_roots : t.Place → ℕ
-  place_roots place = roots Plain (n.place place)
+  abbrev pub place_roots : typed.Place → ℕ
+  place_roots place = roots Plain (nodes.place place)
 
-  abbrev pub put_effect : ℕ → t.Effect → p.Effect
-  put_effect d (t.Assign target a e span) =
-      p.Assign (put_place d target) a (put_plain (d + place_roots target) e) span
-  put_effect d (t.Update target a operator common e span) =
-      p.Update (put_place d target) a operator common (put_plain (d + place_roots target) e) span
-  put_effect d (t.Copy target value k span) =
-      p.Copy (put_place d target) (put_structure (d + place_roots target) value) k span
-  put_effect d (t.NumberEffect e whole) = p.NumberEffect (put_plain d e) whole
-  put_effect d (t.StructureEffect value whole) = p.StructureEffect (put_structure d value) whole
-  put_effect d (t.CallEffect k) = p.CallEffect (put_call d k)
-  put_effect d (t.Output e span) = p.Output (put_plain d e) span
-  put_effect d (t.ChoiceEffect e a b span) =
-      p.ChoiceEffect (put_test d e) (put_effect (d + test_roots e) a)
-      (put_effect (d + test_roots e + roots Plain (n.effect a)) b) span
-  put_effect d (t.Discard a span) = p.Discard (put_effect d a) span
+  abbrev pub put_effect : ℕ → typed.Effect → probed.Effect
+  put_effect d (typed.Assign target a e span) =
+      probed.Assign (put_place d target) a (put_plain (d + place_roots target) e) span
+  put_effect d (typed.Update target a operator common e span) =
+      probed.Update (put_place d target) a operator common (put_plain (d + place_roots target) e)
+      span
+  put_effect d (typed.Copy target value k span) =
+      probed.Copy (put_place d target) (put_structure (d + place_roots target) value) k span
+  put_effect d (typed.NumberEffect e whole) = probed.NumberEffect (put_plain d e) whole
+  put_effect d (typed.StructureEffect value whole) = probed.StructureEffect
+      (put_structure d value) whole
+  put_effect d (typed.CallEffect k) = probed.CallEffect (put_call d k)
+  put_effect d (typed.Output e span) = probed.Output (put_plain d e) span
+  put_effect d (typed.ChoiceEffect e a b span) =
+      probed.ChoiceEffect (put_test d e) (put_effect (d + test_roots e) a)
+      (put_effect (d + test_roots e + roots Plain (nodes.effect a)) b) span
+  put_effect d (typed.Discard a span) = probed.Discard (put_effect d a) span
 
-  abbrev pub put_effects : ℕ → List t.Effect → List p.Effect
+  abbrev pub put_effects : ℕ → List typed.Effect → List probed.Effect
   put_effects d [] = []
-  put_effects d (a ∷ rest) = put_effect d a ∷ put_effects (d + roots Plain (n.effect a)) rest
+  put_effects d (a ∷ rest) = put_effect d a ∷ put_effects (d + roots Plain (nodes.effect a)) rest
 
   abbrev mutual
-    pub put_initializer : ℕ → t.Initializer → p.Initializer
-    put_initializer d (t.NumberInitializer e) = p.NumberInitializer (put_plain d e)
-    put_initializer d (t.StructureInitializer value k) =
-        p.StructureInitializer (put_structure d value) k
-    put_initializer d (t.ListInitializer items k) = p.ListInitializer (put_initializers d items) k
+    pub put_initializer : ℕ → typed.Initializer → probed.Initializer
+    put_initializer d (typed.NumberInitializer e) = probed.NumberInitializer (put_plain d e)
+    put_initializer d (typed.StructureInitializer value k) =
+        probed.StructureInitializer (put_structure d value) k
+    put_initializer d (typed.ListInitializer items k) = probed.ListInitializer
+        (put_initializers d items) k
     -- which evaluates nothing
-    put_initializer d (t.ZeroInitializer e k) = p.ZeroInitializer (bare_expression e) k
+    put_initializer d (typed.ZeroInitializer e k) = probed.ZeroInitializer (bare_expression e) k
 
-    pub put_initializers : ℕ → t.Initializers → p.Initializers
-    put_initializers d t.no_initializers = p.no_initializers
-    put_initializers d (t.initializers i rest) =
-        p.initializers (put_initializer d i)
-        (put_initializers (d + roots Plain (n.initializer i)) rest)
+    pub put_initializers : ℕ → typed.Initializers → probed.Initializers
+    put_initializers d typed.no_initializers = probed.no_initializers
+    put_initializers d (typed.initializers i rest) =
+        probed.initializers (put_initializer d i)
+        (put_initializers (d + roots Plain (nodes.initializer i)) rest)
 
-  abbrev pub put_initial : ℕ → Option t.Initializer → Option p.Initializer
+  abbrev pub put_initial : ℕ → Option typed.Initializer → Option probed.Initializer
   put_initial d None = None
   put_initial d (Some i) = Some (put_initializer d i)
 
-  abbrev pub put_declarators : ℕ → List t.Declarator → List p.Declarator
+  abbrev pub put_declarators : ℕ → List typed.Declarator → List probed.Declarator
   put_declarators d [] = []
   put_declarators d (x ∷ rest) =
       record { slot = x.slot; cells = x.cells; value = put_initial d x.value }
-      ∷ put_declarators (d + roots Plain (n.initial x.value)) rest
+      ∷ put_declarators (d + roots Plain (nodes.initial x.value)) rest
 
-  abbrev pub put_start : ℕ → t.ForStart → p.ForStart
-  put_start d (t.StartEffects effects) = p.StartEffects (put_effects d effects)
-  put_start d (t.StartDeclaration declarators) = p.StartDeclaration (put_declarators d declarators)
+  abbrev pub put_start : ℕ → typed.ForStart → probed.ForStart
+  put_start d (typed.StartEffects effects) = probed.StartEffects (put_effects d effects)
+  put_start d (typed.StartDeclaration declarators) = probed.StartDeclaration
+      (put_declarators d declarators)
 
-  abbrev pub put_optional : ℕ → Option t.Expression → Option p.Expression
+  abbrev pub put_optional : ℕ → Option typed.Expression → Option probed.Expression
   put_optional d None = None
   put_optional d (Some e) = Some (put_test d e)
 
-  abbrev pub put_return : ℕ → t.ReturnValue → p.ReturnValue
-  put_return d t.ReturnNothing = p.ReturnNothing
-  put_return d (t.ReturnNumber e) = p.ReturnNumber (put_plain d e)
-  put_return d (t.ReturnStructure value k) = p.ReturnStructure (put_structure d value) k
+  abbrev pub put_return : ℕ → typed.ReturnValue → probed.ReturnValue
+  put_return d typed.ReturnNothing = probed.ReturnNothing
+  put_return d (typed.ReturnNumber e) = probed.ReturnNumber (put_plain d e)
+  put_return d (typed.ReturnStructure value k) = probed.ReturnStructure (put_structure d value) k
 
   -- ---- statements
 
@@ -228,12 +236,12 @@ module _ (m : Map) (first : ℕ) where
   decided k at = record at { decision = at.decision + k }
 
   -- after a statement
-  abbrev pub past : t.Statement → At → At
+  abbrev pub past : typed.Statement → At → At
   past s at = record {
     exit = at.exit + (points_of s).exits;
     statement = at.statement + (points_of s).statements;
     label = at.label + (points_of s).labels;
-    decision = at.decision + roots Plain (n.statement s);
+    decision = at.decision + roots Plain (nodes.statement s);
     switch = at.switch + switches s;
   }
 
@@ -256,58 +264,59 @@ module _ (m : Map) (first : ℕ) where
 
   -- `r` is the register of the switch in whose body the statement stands.
   abbrev mutual
-    pub put_statement : ℕ → At → t.Statement → p.Statement
-    put_statement r at (t.Compound items span) = p.Compound (put_statements r at items) span
-    put_statement r at (t.Label v span) =
-        p.Label v span (Some (record { register = r; bit = at.label }))
-    put_statement r at (t.Declaration declarators span) =
-        p.Declaration (put_declarators at.decision declarators) span
+    pub put_statement : ℕ → At → typed.Statement → probed.Statement
+    put_statement r at (typed.Compound items span) = probed.Compound (put_statements r at items)
+        span
+    put_statement r at (typed.Label v span) =
+        probed.Label v span (Some (record { register = r; bit = at.label }))
+    put_statement r at (typed.Declaration declarators span) =
+        probed.Declaration (put_declarators at.decision declarators) span
         (if initializes declarators then Some at.statement else None)
-    put_statement r at (t.Null span) = p.Null span (Some at.statement)
-    put_statement r at (t.EffectStatement effect span) =
-        p.EffectStatement (put_effect at.decision effect) span (Some at.statement)
-    put_statement r at (t.If e s keyword span) =
-        p.If (put_test at.decision e) (put_statement r (decided (test_roots e) (within at)) s)
+    put_statement r at (typed.Null span) = probed.Null span (Some at.statement)
+    put_statement r at (typed.EffectStatement effect span) =
+        probed.EffectStatement (put_effect at.decision effect) span (Some at.statement)
+    put_statement r at (typed.If e s keyword span) =
+        probed.If (put_test at.decision e) (put_statement r (decided (test_roots e) (within at)) s)
         keyword span (Some at.statement)
-    put_statement r at (t.IfElse e s u keyword span) =
-        p.IfElse (put_test at.decision e)
+    put_statement r at (typed.IfElse e s u keyword span) =
+        probed.IfElse (put_test at.decision e)
         (put_statement r (decided (test_roots e) (within at)) s)
         (put_statement r (past s (decided (test_roots e) (within at))) u)
         keyword span (Some at.statement)
-    put_statement r at (t.Switch e items keyword span) =
-        p.Switch (p.Probe (probe.Switch at.switch) (put_plain at.decision e))
+    put_statement r at (typed.Switch e items keyword span) =
+        probed.Switch (probed.Probe (probe.Switch at.switch) (put_plain at.decision e))
         (put_statements at.switch (decided (plain_roots e) (in_switch (has_default items) at))
         items)
         keyword span (Some at.statement) (absent_mark (has_default items) at)
-    put_statement r at (t.For start test step s keyword span) =
-        p.For (put_start at.decision start)
-        (put_optional (at.decision + roots Plain (n.start start)) test)
-        (put_effects (at.decision + roots Plain (n.start start)
-        + roots Plain (n.optional_test test)) step)
-        (put_statement r (decided (roots Plain (n.start start)
-        + roots Plain (n.optional_test test) + roots_in (n.effects step)) (within at)) s)
+    put_statement r at (typed.For start test step s keyword span) =
+        probed.For (put_start at.decision start)
+        (put_optional (at.decision + roots Plain (nodes.start start)) test)
+        (put_effects (at.decision + roots Plain (nodes.start start)
+        + roots Plain (nodes.optional_test test)) step)
+        (put_statement r (decided (roots Plain (nodes.start start)
+        + roots Plain (nodes.optional_test test) + roots_in (nodes.effects step)) (within at)) s)
         keyword span (Some at.statement)
-    put_statement r at (t.DoWhile s e keyword span) =
-        p.DoWhile (put_statement r (within at) s)
-        (put_test (at.decision + roots Plain (n.statement s)) e)
+    put_statement r at (typed.DoWhile s e keyword span) =
+        probed.DoWhile (put_statement r (within at) s)
+        (put_test (at.decision + roots Plain (nodes.statement s)) e)
         keyword span (Some at.statement)
-    put_statement r at (t.Break span) = p.Break span (Some at.statement)
-    put_statement r at (t.Continue span) = p.Continue span (Some at.statement)
-    put_statement r at (t.Return value span) =
-        p.Return (put_return at.decision value) span (Some at.statement) (Some at.exit)
+    put_statement r at (typed.Break span) = probed.Break span (Some at.statement)
+    put_statement r at (typed.Continue span) = probed.Continue span (Some at.statement)
+    put_statement r at (typed.Return value span) =
+        probed.Return (put_return at.decision value) span (Some at.statement) (Some at.exit)
 
-    pub put_statements : ℕ → At → t.Statements → p.Statements
-    put_statements r at t.no_statements = p.no_statements
-    put_statements r at (t.statements s rest) =
-        p.statements (put_statement r at s) (put_statements r (past s at) rest)
+    pub put_statements : ℕ → At → typed.Statements → probed.Statements
+    put_statements r at typed.no_statements = probed.no_statements
+    put_statements r at (typed.statements s rest) =
+        probed.statements (put_statement r at s) (put_statements r (past s at) rest)
 
 -- ---- functions and programs
 
-abbrev pub decisions_in : t.Function → ℕ
-decisions_in f = roots Plain (n.function f)
+abbrev pub decisions_in : typed.Function → ℕ
+decisions_in f = roots Plain (nodes.function f)
 
 -- the function with this number, before which so many decisions and other points stand
-abbrev pub put_function : Map → ℕ → ℕ → Points → t.Function → p.Function
+abbrev pub put_function : Map → ℕ → ℕ → Points → typed.Function → probed.Function
 put_function m number decisions points f = record {
   name = f.name;
   name_span = f.name_span;
@@ -330,14 +339,14 @@ put_function m number decisions points f = record {
       else None;
 }
 
-abbrev pub put_functions : Map → ℕ → ℕ → Points → List t.Function → List p.Function
+abbrev pub put_functions : Map → ℕ → ℕ → Points → List typed.Function → List probed.Function
 put_functions m number decisions points [] = []
 put_functions m number decisions points (f ∷ rest) =
     put_function m number decisions points f
     ∷ put_functions m (number + 1) (decisions + decisions_in f) (points ⊕ points_of_function f) rest
 
 -- the program with its probes
-abbrev pub instrumented : Map → t.Program → p.Tree
+abbrev pub instrumented : Map → typed.Program → probed.Tree
 instrumented m program = record {
   program = record {
     functions = put_functions m 0 0 no_points program.functions;
@@ -348,6 +357,6 @@ instrumented m program = record {
 }
 
 -- the tree has exactly the probes that the table puts on this program, and this is its map
-pub record IsInstrumented (program : t.Program) (m : Map) (tree : p.Tree) : Type 0 where
+pub record IsInstrumented (program : typed.Program) (m : Map) (tree : probed.Tree) : Type 0 where
   pub is_map : IsMapOf program m
   pub is_tree : tree ≡ instrumented m program

@@ -8,7 +8,7 @@ use Rattle.mc_typed.specs.declared.probes.Mark.{Mark}
 use Rattle.mc_typed.specs.Sound.{IsSound}
 use Rattle.mc_steps.specs.Points.{has_default, initializes}
 use Rattle.mc_probe.specs.Tree.{Place, Expression, StructureValue, FunctionCall, Argument, Arguments, Effect, Initializer, Initializers, Declarator, ForStart, ReturnValue, Statement, Statements, Function, Program, Tree}
-use Rattle.mc_probe.specs.Tree as p
+use Rattle.mc_probe.specs.Tree as probed
 use Rattle.mc_probe.specs.Erase.{erase, erase_declarator, erase_statements}
 
 abbrev pub register_of : code.Probe → ℕ
@@ -21,93 +21,93 @@ register_of (probe.Switch register) = register
 -- A list `{E}` that sets each cell to zero evaluates no expression, so that no probe stands in it.
 abbrev mutual
   pub IsBarePlace : Place → Type 0
-  IsBarePlace (p.Local slot span) = Unit {0}
-  IsBarePlace (p.Static slot span) = Unit {0}
-  IsBarePlace (p.Parameter array stride index span) = IsBare index
-  IsBarePlace (p.Item array n stride index span) = IsBarePlace array × IsBare index
-  IsBarePlace (p.Member structure i offset span) = IsBarePlace structure
+  IsBarePlace (probed.Local slot span) = Unit {0}
+  IsBarePlace (probed.Static slot span) = Unit {0}
+  IsBarePlace (probed.Parameter array stride index span) = IsBare index
+  IsBarePlace (probed.Item array n stride index span) = IsBarePlace array × IsBare index
+  IsBarePlace (probed.Member structure i offset span) = IsBarePlace structure
 
   pub IsBare : Expression → Type 0
-  IsBare (p.Constant v a span) = Unit {0}
-  IsBare (p.Read place a) = IsBarePlace place
-  IsBare (p.Unary operator a e span) = IsBare e
-  IsBare (p.Convert a written e span) = IsBare e
-  IsBare (p.Not e span) = IsBare e
-  IsBare (p.Binary operator a e f span) = IsBare e × IsBare f
-  IsBare (p.Logic operator e f span) = IsBare e × IsBare f
-  IsBare (p.Choice e f g a span) = IsBare e × IsBare f × IsBare g
-  IsBare (p.Call k a) = IsBareCall k
-  IsBare (p.Input span) = Unit {0}
-  IsBare (p.Probe q e) = ⊥
+  IsBare (probed.Constant v a span) = Unit {0}
+  IsBare (probed.Read place a) = IsBarePlace place
+  IsBare (probed.Unary operator a e span) = IsBare e
+  IsBare (probed.Convert a written e span) = IsBare e
+  IsBare (probed.Not e span) = IsBare e
+  IsBare (probed.Binary operator a e f span) = IsBare e × IsBare f
+  IsBare (probed.Logic operator e f span) = IsBare e × IsBare f
+  IsBare (probed.Choice e f g a span) = IsBare e × IsBare f × IsBare g
+  IsBare (probed.Call k a) = IsBareCall k
+  IsBare (probed.Input span) = Unit {0}
+  IsBare (probed.Probe q e) = ⊥
 
   pub IsBareStructure : StructureValue → Type 0
-  IsBareStructure (p.Stored place) = IsBarePlace place
-  IsBareStructure (p.Returned k) = IsBareCall k
+  IsBareStructure (probed.Stored place) = IsBarePlace place
+  IsBareStructure (probed.Returned k) = IsBareCall k
 
   pub IsBareCall : FunctionCall → Type 0
-  IsBareCall (p.call f given result span) = AreBareArguments given
+  IsBareCall (probed.call f given result span) = AreBareArguments given
 
   pub IsBareArgument : Argument → Type 0
-  IsBareArgument (p.NumberArgument e) = IsBare e
-  IsBareArgument (p.StructureArgument value copy) = IsBareStructure value
-  IsBareArgument (p.ArrayArgument place n) = IsBarePlace place
-  IsBareArgument (p.AgainArgument array span) = Unit {0}
+  IsBareArgument (probed.NumberArgument e) = IsBare e
+  IsBareArgument (probed.StructureArgument value copy) = IsBareStructure value
+  IsBareArgument (probed.ArrayArgument place n) = IsBarePlace place
+  IsBareArgument (probed.AgainArgument array span) = Unit {0}
 
   pub AreBareArguments : Arguments → Type 0
-  AreBareArguments p.no_arguments = Unit {0}
-  AreBareArguments (p.arguments a rest) = IsBareArgument a × AreBareArguments rest
+  AreBareArguments probed.no_arguments = Unit {0}
+  AreBareArguments (probed.arguments a rest) = IsBareArgument a × AreBareArguments rest
 
 -- ---- the probes of a function with so many registers
 
 module _ (registers : ℕ) where
   abbrev mutual
     pub FitsPlace : Place → Type 0
-    FitsPlace (p.Local slot span) = Unit {0}
-    FitsPlace (p.Static slot span) = Unit {0}
-    FitsPlace (p.Parameter array stride index span) = Fits index
-    FitsPlace (p.Item array n stride index span) = FitsPlace array × Fits index
-    FitsPlace (p.Member structure i offset span) = FitsPlace structure
+    FitsPlace (probed.Local slot span) = Unit {0}
+    FitsPlace (probed.Static slot span) = Unit {0}
+    FitsPlace (probed.Parameter array stride index span) = Fits index
+    FitsPlace (probed.Item array n stride index span) = FitsPlace array × Fits index
+    FitsPlace (probed.Member structure i offset span) = FitsPlace structure
 
     pub Fits : Expression → Type 0
-    Fits (p.Constant v a span) = Unit {0}
-    Fits (p.Read place a) = FitsPlace place
-    Fits (p.Unary operator a e span) = Fits e
-    Fits (p.Convert a written e span) = Fits e
-    Fits (p.Not e span) = Fits e
-    Fits (p.Binary operator a e f span) = Fits e × Fits f
-    Fits (p.Logic operator e f span) = Fits e × Fits f
-    Fits (p.Choice e f g a span) = Fits e × Fits f × Fits g
-    Fits (p.Call k a) = FitsCall k
-    Fits (p.Input span) = Unit {0}
-    Fits (p.Probe q e) = (register_of q < registers) × Fits e
+    Fits (probed.Constant v a span) = Unit {0}
+    Fits (probed.Read place a) = FitsPlace place
+    Fits (probed.Unary operator a e span) = Fits e
+    Fits (probed.Convert a written e span) = Fits e
+    Fits (probed.Not e span) = Fits e
+    Fits (probed.Binary operator a e f span) = Fits e × Fits f
+    Fits (probed.Logic operator e f span) = Fits e × Fits f
+    Fits (probed.Choice e f g a span) = Fits e × Fits f × Fits g
+    Fits (probed.Call k a) = FitsCall k
+    Fits (probed.Input span) = Unit {0}
+    Fits (probed.Probe q e) = (register_of q < registers) × Fits e
 
     pub FitsStructure : StructureValue → Type 0
-    FitsStructure (p.Stored place) = FitsPlace place
-    FitsStructure (p.Returned k) = FitsCall k
+    FitsStructure (probed.Stored place) = FitsPlace place
+    FitsStructure (probed.Returned k) = FitsCall k
 
     pub FitsCall : FunctionCall → Type 0
-    FitsCall (p.call f given result span) = FitArguments given
+    FitsCall (probed.call f given result span) = FitArguments given
 
     pub FitsArgument : Argument → Type 0
-    FitsArgument (p.NumberArgument e) = Fits e
-    FitsArgument (p.StructureArgument value copy) = FitsStructure value
-    FitsArgument (p.ArrayArgument place n) = FitsPlace place
-    FitsArgument (p.AgainArgument array span) = Unit {0}
+    FitsArgument (probed.NumberArgument e) = Fits e
+    FitsArgument (probed.StructureArgument value copy) = FitsStructure value
+    FitsArgument (probed.ArrayArgument place n) = FitsPlace place
+    FitsArgument (probed.AgainArgument array span) = Unit {0}
 
     pub FitArguments : Arguments → Type 0
-    FitArguments p.no_arguments = Unit {0}
-    FitArguments (p.arguments a rest) = FitsArgument a × FitArguments rest
+    FitArguments probed.no_arguments = Unit {0}
+    FitArguments (probed.arguments a rest) = FitsArgument a × FitArguments rest
 
   abbrev pub FitsEffect : Effect → Type 0
-  FitsEffect (p.Assign target a e span) = FitsPlace target × Fits e
-  FitsEffect (p.Update target a operator common e span) = FitsPlace target × Fits e
-  FitsEffect (p.Copy target value n span) = FitsPlace target × FitsStructure value
-  FitsEffect (p.NumberEffect e whole) = Fits e
-  FitsEffect (p.StructureEffect value whole) = FitsStructure value
-  FitsEffect (p.CallEffect k) = FitsCall k
-  FitsEffect (p.Output e span) = Fits e
-  FitsEffect (p.ChoiceEffect e a b span) = Fits e × FitsEffect a × FitsEffect b
-  FitsEffect (p.Discard a span) = FitsEffect a
+  FitsEffect (probed.Assign target a e span) = FitsPlace target × Fits e
+  FitsEffect (probed.Update target a operator common e span) = FitsPlace target × Fits e
+  FitsEffect (probed.Copy target value n span) = FitsPlace target × FitsStructure value
+  FitsEffect (probed.NumberEffect e whole) = Fits e
+  FitsEffect (probed.StructureEffect value whole) = FitsStructure value
+  FitsEffect (probed.CallEffect k) = FitsCall k
+  FitsEffect (probed.Output e span) = Fits e
+  FitsEffect (probed.ChoiceEffect e a b span) = Fits e × FitsEffect a × FitsEffect b
+  FitsEffect (probed.Discard a span) = FitsEffect a
 
   abbrev pub FitEffects : List Effect → Type 0
   FitEffects [] = Unit {0}
@@ -115,14 +115,14 @@ module _ (registers : ℕ) where
 
   abbrev mutual
     pub FitsInitializer : Initializer → Type 0
-    FitsInitializer (p.NumberInitializer e) = Fits e
-    FitsInitializer (p.StructureInitializer value n) = FitsStructure value
-    FitsInitializer (p.ListInitializer items n) = FitInitializers items
-    FitsInitializer (p.ZeroInitializer e n) = IsBare e
+    FitsInitializer (probed.NumberInitializer e) = Fits e
+    FitsInitializer (probed.StructureInitializer value n) = FitsStructure value
+    FitsInitializer (probed.ListInitializer items n) = FitInitializers items
+    FitsInitializer (probed.ZeroInitializer e n) = IsBare e
 
     pub FitInitializers : Initializers → Type 0
-    FitInitializers p.no_initializers = Unit {0}
-    FitInitializers (p.initializers i rest) = FitsInitializer i × FitInitializers rest
+    FitInitializers probed.no_initializers = Unit {0}
+    FitInitializers (probed.initializers i rest) = FitsInitializer i × FitInitializers rest
 
   abbrev pub FitsInitial : Option Initializer → Type 0
   FitsInitial None = Unit {0}
@@ -133,17 +133,17 @@ module _ (registers : ℕ) where
   FitDeclarators (d ∷ rest) = FitsInitial d.value × FitDeclarators rest
 
   abbrev pub FitsStart : ForStart → Type 0
-  FitsStart (p.StartEffects effects) = FitEffects effects
-  FitsStart (p.StartDeclaration declarators) = FitDeclarators declarators
+  FitsStart (probed.StartEffects effects) = FitEffects effects
+  FitsStart (probed.StartDeclaration declarators) = FitDeclarators declarators
 
   abbrev pub FitsTest : Option Expression → Type 0
   FitsTest None = Unit {0}
   FitsTest (Some e) = Fits e
 
   abbrev pub FitsReturn : ReturnValue → Type 0
-  FitsReturn p.ReturnNothing = Unit {0}
-  FitsReturn (p.ReturnNumber e) = Fits e
-  FitsReturn (p.ReturnStructure value n) = FitsStructure value
+  FitsReturn probed.ReturnNothing = Unit {0}
+  FitsReturn (probed.ReturnNumber e) = Fits e
+  FitsReturn (probed.ReturnStructure value n) = FitsStructure value
 
   abbrev pub FitsMark : Option Mark → Type 0
   FitsMark None = Unit {0}
@@ -161,27 +161,28 @@ module _ (registers : ℕ) where
 
   abbrev mutual
     pub FitsStatement : Statement → Type 0
-    FitsStatement (p.Compound items span) = FitStatements items
-    FitsStatement (p.Label v span mark) = FitsMark mark
-    FitsStatement (p.Declaration declarators span bit) =
+    FitsStatement (probed.Compound items span) = FitStatements items
+    FitsStatement (probed.Label v span mark) = FitsMark mark
+    FitsStatement (probed.Declaration declarators span bit) =
         FitDeclarators declarators
         × FitsDeclaration (initializes (map erase_declarator declarators)) bit
-    FitsStatement (p.Null span bit) = Unit {0}
-    FitsStatement (p.EffectStatement effect span bit) = FitsEffect effect
-    FitsStatement (p.If e s keyword span bit) = Fits e × FitsStatement s
-    FitsStatement (p.IfElse e s u keyword span bit) = Fits e × FitsStatement s × FitsStatement u
-    FitsStatement (p.Switch e items keyword span bit absent) =
+    FitsStatement (probed.Null span bit) = Unit {0}
+    FitsStatement (probed.EffectStatement effect span bit) = FitsEffect effect
+    FitsStatement (probed.If e s keyword span bit) = Fits e × FitsStatement s
+    FitsStatement (probed.IfElse e s u keyword span bit) = Fits e × FitsStatement s ×
+        FitsStatement u
+    FitsStatement (probed.Switch e items keyword span bit absent) =
         Fits e × FitStatements items × FitsAbsent (has_default (erase_statements items)) absent
-    FitsStatement (p.For start test step s keyword span bit) =
+    FitsStatement (probed.For start test step s keyword span bit) =
         FitsStart start × FitsTest test × FitEffects step × FitsStatement s
-    FitsStatement (p.DoWhile s e keyword span bit) = FitsStatement s × Fits e
-    FitsStatement (p.Break span bit) = Unit {0}
-    FitsStatement (p.Continue span bit) = Unit {0}
-    FitsStatement (p.Return value span bit exit) = FitsReturn value
+    FitsStatement (probed.DoWhile s e keyword span bit) = FitsStatement s × Fits e
+    FitsStatement (probed.Break span bit) = Unit {0}
+    FitsStatement (probed.Continue span bit) = Unit {0}
+    FitsStatement (probed.Return value span bit exit) = FitsReturn value
 
     pub FitStatements : Statements → Type 0
-    FitStatements p.no_statements = Unit {0}
-    FitStatements (p.statements s rest) = FitsStatement s × FitStatements rest
+    FitStatements probed.no_statements = Unit {0}
+    FitStatements (probed.statements s rest) = FitsStatement s × FitStatements rest
 
 abbrev pub FitFunctions : List Function → Type 0
 FitFunctions [] = Unit {0}

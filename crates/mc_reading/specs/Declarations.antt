@@ -2,10 +2,10 @@
 use Rattle.std.specs.Prelude.{ℕ, zero, suc, Bool, false, if◌then◌else◌, List, [], ◌∷◌, Some, codes}
 use Rattle.mc_span.specs.declared.span.Span.{Span}
 use Rattle.mc_tree.specs.Tree.{Declaration, Declarator, InitDeclarator, Initializer, Specifiers}
-use Rattle.mc_tree.specs.Tree as t
+use Rattle.mc_tree.specs.Tree as tree
 use Rattle.mc_tree.specs.Units.{initializers_from}
 use Rattle.mc_grammar.specs.Places.{at, to}
-use Rattle.mc_grammar.specs.Nonterminal as n
+use Rattle.mc_grammar.specs.Nonterminal as nonterminal
 use Rattle.mc_grammar.specs.Statements.{after}
 use Rattle.mc_grammar.specs.steps.Parsers.{Parser, ◌>>=◌, pure, refuse, see, take, expect, first}
 use Rattle.mc_reading.specs.Lists.{braced_list, comma_list, listed}
@@ -15,15 +15,15 @@ use Rattle.mc_reading.specs.Rooms.{reading}
 
 abbrev pub single_of : Parts → Parser Initializer
 single_of parts = do
-  a ← parts.expression n.assign
-  pure (t.Single a)
+  a ← parts.expression nonterminal.assign
+  pure (tree.Single a)
 
 abbrev pub braced_of : Parser Initializer → Parser Initializer
 braced_of one = do
   x ← take
   all ← listed (λ turns. braced_list turns one [])
   y ← expect (codes "}")
-  pure (t.Braced (initializers_from all) (to (at x) (at y)))
+  pure (tree.Braced (initializers_from all) (to (at x) (at y)))
 
 unfoldable pub initializer_of : ℕ → Parser Initializer
 initializer_of zero = refuse
@@ -43,7 +43,7 @@ valued_of typedef rooms d = do
   if valued then (do
     x ← take
     i ← initializer_of rooms
-    pure (t.initialized d i)) else pure (t.bare d)
+    pure (tree.initialized d i)) else pure (tree.bare d)
 
 unfoldable pub init_declarator_of : Bool → ℕ → Parser InitDeclarator
 init_declarator_of typedef rooms = do
@@ -65,12 +65,12 @@ declared_of typedef rooms start s d = do
   i ← valued_of typedef rooms d
   all ← more_declarators_of typedef rooms i
   y ← expect (codes ";")
-  pure (t.declaration s all (to start (at y)))
+  pure (tree.declaration s all (to start (at y)))
 
 abbrev pub undeclared_of : Span → Specifiers → Parser Declaration
 undeclared_of start s = do
   y ← take
-  pure (t.declaration s [] (to start (at y)))
+  pure (tree.declaration s [] (to start (at y)))
 
 -- a declaration that is no typedef
 unfoldable pub local_of : (Specifiers → Bool) → ℕ → Parser Declaration

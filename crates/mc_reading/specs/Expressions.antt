@@ -8,7 +8,7 @@ use Rattle.mc_tree.specs.declared.expressions.step_operator.StepOperator.{StepOp
 use Rattle.mc_tree.specs.declared.expressions.binary_operator.BinaryOperator.{BinaryOperator}
 use Rattle.mc_tree.specs.declared.expressions.assignment_operator.AssignmentOperator.{AssignmentOperator}
 use Rattle.mc_tree.specs.Tree.{Expression, TypeName, Specifiers, span_of}
-use Rattle.mc_tree.specs.Tree as t
+use Rattle.mc_tree.specs.Tree as tree
 use Rattle.mc_tree.specs.Height.{height}
 use Rattle.mc_tree.specs.Views.{expressions_from}
 use Rattle.mc_grammar.specs.Words.{Lexeme, is_name, next_is, sees_specifiers, sees_cast}
@@ -17,7 +17,7 @@ use Rattle.mc_grammar.specs.Operators.{operator_next, is_suffix}
 use Rattle.mc_grammar.specs.Counts.{for_type}
 use Rattle.mc_grammar.specs.Expressions.{is_unary}
 use Rattle.mc_grammar.specs.Nonterminal.{Nonterminal, Level, operand}
-use Rattle.mc_grammar.specs.Nonterminal as n
+use Rattle.mc_grammar.specs.Nonterminal as nonterminal
 use Rattle.mc_grammar.specs.steps.Parsers.{Parser, ◌>>=◌, pure, refuse, ask, see, take, accept, expect, first, only}
 use Rattle.mc_grammar.specs.steps.Next.{assignment_next, step_next, unary_next, up_to}
 use Rattle.mc_reading.specs.Lists.{comma_list, listed}
@@ -49,14 +49,14 @@ stars_of before = listed (λ turns. stars_loop turns 0 before)
 -- the arguments of a call, or the operands of a comma, after these
 abbrev pub expressions_after : Parts → List Expression → Parser (List Expression)
 expressions_after parts before =
-    listed (λ turns. comma_list turns (parts.expression n.assign) before)
+    listed (λ turns. comma_list turns (parts.expression nonterminal.assign) before)
 
 unfoldable pub type_name_of : Parts → Parser TypeName
 type_name_of parts = do
   start ← first
   s ← parts.specifiers for_type
   stars ← stars_of (end_of_specifiers start s)
-  pure (t.type_name s stars.count (to start stars.end))
+  pure (tree.type_name s stars.count (to start stars.end))
 
 -- ---- primary and postfix
 
@@ -65,10 +65,10 @@ arguments_of parts x = do
   empty ← see (codes ")")
   if empty then (do
     z ← take
-    pure (t.Call (name_at x) t.no_expressions (to (at x) (at z)))) else (do
+    pure (tree.Call (name_at x) tree.no_expressions (to (at x) (at z)))) else (do
       all ← expressions_after parts []
       z ← expect (codes ")")
-      pure (t.Call (name_at x) (expressions_from all) (to (at x) (at z))))
+      pure (tree.Call (name_at x) (expressions_from all) (to (at x) (at z))))
 
 unfoldable pub named_of : Parts → Parser Expression
 named_of parts = do
@@ -76,25 +76,25 @@ named_of parts = do
   calls ← see (codes "(")
   if calls then (do
     y ← take
-    arguments_of parts x) else pure (t.Named (name_at x))
+    arguments_of parts x) else pure (tree.Named (name_at x))
 
 unfoldable pub parenthesized_of : Parts → Parser Expression
 parenthesized_of parts = do
   x ← take
   types ← ask sees_specifiers
   if types then refuse else (do
-    a ← parts.expression n.comma
+    a ← parts.expression nonterminal.comma
     y ← expect (codes ")")
-    pure (t.Parenthesized a (to (at x) (at y))))
+    pure (tree.Parenthesized a (to (at x) (at y))))
 
 -- by the kind of the next token
 abbrev pub primary_by : Parts → TokenKind → Parser Expression
 primary_by parts (kind.Constant value decimal unsigned longs) = do
   x ← take
-  pure (t.Constant value decimal unsigned longs (at x))
+  pure (tree.Constant value decimal unsigned longs (at x))
 primary_by parts (kind.Character value) = do
   x ← take
-  pure (t.Character value (at x))
+  pure (tree.Character value (at x))
 primary_by parts kind.Identifier = do
   names ← ask (next_is is_name)
   if names then named_of parts else refuse
@@ -110,21 +110,21 @@ primary_of parts (x ∷ ts) = primary_by parts x.token.kind (x ∷ ts)
 abbrev pub index_of : Parts → Expression → Parser Expression
 index_of parts a = do
   x ← take
-  b ← parts.expression n.comma
+  b ← parts.expression nonterminal.comma
   y ← expect (codes "]")
-  pure (t.Index a b (to (span_of a) (at y)))
+  pure (tree.Index a b (to (span_of a) (at y)))
 
 abbrev pub member_of : Expression → Parser Expression
 member_of a = do
   x ← take
   y ← accept is_name
-  pure (t.Member a (name_at y) (to (span_of a) (at y)))
+  pure (tree.Member a (name_at y) (to (span_of a) (at y)))
 
 abbrev pub stepped : Expression → Option StepOperator → Parser Expression
 stepped a None = refuse
 stepped a (Some operator) = do
   x ← take
-  pure (t.PostfixStep operator a (to (span_of a) (at x)))
+  pure (tree.PostfixStep operator a (to (span_of a) (at x)))
 
 -- a tree that may be a part
 abbrev pub fits : Expression → ℕ → Bool
@@ -163,8 +163,8 @@ abbrev pub operated : Parts → ℕ → Option UnaryOperator → Parser Expressi
 operated parts room None = postfix_of parts room
 operated parts room (Some operator) = do
   x ← take
-  a ← parts.expression n.cast
-  pure (t.Unary operator a (to (at x) (span_of a)))
+  a ← parts.expression nonterminal.cast
+  pure (tree.Unary operator a (to (at x) (span_of a)))
 
 abbrev pub prefixed : Parts → ℕ → Option StepOperator → Parser Expression
 prefixed parts room None = do
@@ -172,8 +172,8 @@ prefixed parts room None = do
   operated parts room operator
 prefixed parts room (Some operator) = do
   x ← take
-  a ← parts.expression n.unary
-  pure (t.PrefixStep operator a (to (at x) (span_of a)))
+  a ← parts.expression nonterminal.unary
+  pure (tree.PrefixStep operator a (to (at x) (span_of a)))
 
 unfoldable pub unary_of : Parts → ℕ → Parser Expression
 unary_of parts room = do
@@ -185,8 +185,8 @@ cast_to_of parts = do
   x ← take
   type ← type_name_of parts
   y ← expect (codes ")")
-  a ← parts.expression n.cast
-  pure (t.Cast type a (to (at x) (span_of a)))
+  a ← parts.expression nonterminal.cast
+  pure (tree.Cast type a (to (at x) (span_of a)))
 
 unfoldable pub cast_of : Parts → ℕ → Parser Expression
 cast_of parts room = do
@@ -200,7 +200,7 @@ unfoldable pub operation_of : Parts → ℕ → Level → BinaryOperator → Exp
 operation_of parts room k operator a = only (fits a room) (do
   x ← take
   b ← parts.expression (operand k)
-  pure (t.Binary operator a b (to (span_of a) (span_of b))))
+  pure (tree.Binary operator a b (to (span_of a) (span_of b))))
 
 abbrev pub operations_by : (Expression → Parser Expression) → Parts → ℕ → Level → Expression
     → Option BinaryOperator → Parser Expression
@@ -240,22 +240,22 @@ level_of parts room k = do
 unfoldable pub conditional_of : Parts → ℕ → Expression → Parser Expression
 conditional_of parts room a = only (fits a room) (do
   x ← take
-  b ← parts.expression n.comma
+  b ← parts.expression nonterminal.comma
   y ← expect (codes ":")
-  c ← parts.expression n.cond
-  pure (t.Conditional a b c (to (span_of a) (span_of c))))
+  c ← parts.expression nonterminal.cond
+  pure (tree.Conditional a b c (to (span_of a) (span_of c))))
 
 unfoldable pub cond_of : Parts → ℕ → Parser Expression
 cond_of parts room = do
-  a ← level_of parts room n.lor
+  a ← level_of parts room nonterminal.lor
   asks ← see (codes "?")
   if asks then conditional_of parts room a else pure a
 
 unfoldable pub assignment_of : Parts → ℕ → AssignmentOperator → Expression → Parser Expression
 assignment_of parts room operator a = only (fits a room) (do
   x ← take
-  b ← parts.expression n.assign
-  pure (t.Assignment operator a b (to (span_of a) (span_of b))))
+  b ← parts.expression nonterminal.assign
+  pure (tree.Assignment operator a b (to (span_of a) (span_of b))))
 
 abbrev pub assign_by : Parts → ℕ → Expression → Option AssignmentOperator → Parser Expression
 assign_by parts room a None = pure a
@@ -272,7 +272,7 @@ unfoldable pub operands_of : Parts → ℕ → Expression → Parser Expression
 operands_of parts room a = only (fits a room) (do
   x ← take
   all ← expressions_after parts (a ∷ [])
-  pure (t.Comma (expressions_from all)
+  pure (tree.Comma (expressions_from all)
       (to (span_of a) (end_of_expressions (span_of a) (expressions_from all)))))
 
 unfoldable pub comma_of : Parts → ℕ → Parser Expression
@@ -284,16 +284,17 @@ comma_of parts room = do
 -- ---- each nonterminal that stands as a part
 
 abbrev pub expression_by : Parts → ℕ → Nonterminal → Parser Expression
-expression_by parts room n.comma = comma_of parts room
-expression_by parts room n.assign = assign_of parts room
-expression_by parts room n.cond = cond_of parts room
-expression_by parts room n.cast = cast_of parts room
-expression_by parts room n.unary = unary_of parts room
-expression_by parts room n.postfix = postfix_of parts room
-expression_by parts room n.primary = primary_of parts
-expression_by parts room (n.level k) = level_of parts room k
-expression_by parts room (n.operations k a) = operations_of parts room k a
-expression_by parts room (n.suffixes a) = listed (λ turns. suffixes_loop turns parts room a)
+expression_by parts room nonterminal.comma = comma_of parts room
+expression_by parts room nonterminal.assign = assign_of parts room
+expression_by parts room nonterminal.cond = cond_of parts room
+expression_by parts room nonterminal.cast = cast_of parts room
+expression_by parts room nonterminal.unary = unary_of parts room
+expression_by parts room nonterminal.postfix = postfix_of parts room
+expression_by parts room nonterminal.primary = primary_of parts
+expression_by parts room (nonterminal.level k) = level_of parts room k
+expression_by parts room (nonterminal.operations k a) = operations_of parts room k a
+expression_by parts room (nonterminal.suffixes a) = listed
+    (λ turns. suffixes_loop turns parts room a)
 
 -- no expression has no level
 unfoldable pub expression_of : Parts → ℕ → Nonterminal → Parser Expression

@@ -2,7 +2,7 @@
 use Rattle.std.specs.Prelude.{ℕ, zero, suc, Bool, true, false, ◌&&◌, nat_le, if◌then◌else◌, List, [], codes}
 use Rattle.mc_span.specs.declared.span.Span.{Span}
 use Rattle.mc_tree.specs.Tree.{Declarator, Item, Specifiers}
-use Rattle.mc_tree.specs.Tree as t
+use Rattle.mc_tree.specs.Tree as tree
 use Rattle.mc_tree.specs.Units.{block_from}
 use Rattle.mc_grammar.specs.Places.{to}
 use Rattle.mc_grammar.specs.Counts.{for_item, for_function, is_typedef}
@@ -15,15 +15,15 @@ use Rattle.mc_reading.specs.Declarations.{declared_of, undeclared_of}
 use Rattle.mc_reading.specs.Statements.{compound_of, statement_of}
 
 abbrev pub is_function : Declarator → Bool
-is_function (t.object stars name all span) = false
-is_function (t.function stars name all span) = true
+is_function (tree.object stars name all span) = false
+is_function (tree.function stars name all span) = true
 
 -- the body of a function is one level
 abbrev pub body_of : ℕ → Span → Specifiers → Declarator → Parser Item
 body_of zero start s d = refuse
 body_of (suc room) start s d = only (nat_le 1 room) (do
   b ← compound_of room (statement_of room)
-  pure (t.Defined s d (block_from b.items) (to start b.span)))
+  pure (tree.Defined s d (block_from b.items) (to start b.span)))
 
 unfoldable pub defined_of : ℕ → Span → Specifiers → Declarator → Parser Item
 defined_of rooms start s d = only (is_function d && for_function s) (body_of rooms start s d)
@@ -31,12 +31,12 @@ defined_of rooms start s d = only (is_function d && for_function s) (body_of roo
 abbrev pub declaration_item_of : ℕ → Span → Specifiers → Declarator → Parser Item
 declaration_item_of rooms start s d = do
   declaration ← declared_of (is_typedef s) rooms start s d
-  pure (t.Declared declaration)
+  pure (tree.Declared declaration)
 
 abbrev pub undeclared_item_of : Span → Specifiers → Parser Item
 undeclared_item_of start s = do
   declaration ← undeclared_of start s
-  pure (t.Declared declaration)
+  pure (tree.Declared declaration)
 
 -- A `{` after the first declarator begins a body: no declaration goes on with one.
 unfoldable pub item_of : ℕ → Parser Item

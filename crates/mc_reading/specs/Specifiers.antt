@@ -4,13 +4,13 @@ use Rattle.std.specs.Prelude.{ℕ, zero, suc, Bool, true, false, ◌||◌, nat_l
 use Rattle.mc_span.specs.declared.span.Span.{Span}
 use Rattle.mc_tree.specs.declared.declarations.specifier_word.SpecifierWord.{SpecifierWord}
 use Rattle.mc_tree.specs.Tree.{Name, ArrayLengths, Declarator, Enumerator, Parameter, Parameters, Specifier, Specifiers, StructMember, span_of_parameters}
-use Rattle.mc_tree.specs.Tree as t
+use Rattle.mc_tree.specs.Tree as tree
 use Rattle.mc_tree.specs.Views.{declarators_from, enumerators_from, lengths_from, members_from, parameters_from, specifiers_from}
 use Rattle.mc_grammar.specs.Words.{Lexeme, is_keyword, is_name, is_tag, next_is, sees_specifiers, sees_void_alone, go_on}
 use Rattle.mc_grammar.specs.Places.{at, name_at, to, end_of_specifiers}
 use Rattle.mc_grammar.specs.Operators.{is_type_word}
 use Rattle.mc_grammar.specs.Counts.{for_type}
-use Rattle.mc_grammar.specs.Nonterminal as n
+use Rattle.mc_grammar.specs.Nonterminal as nonterminal
 use Rattle.mc_grammar.specs.steps.Parsers.{Parser, ◌>>=◌, pure, refuse, ask, see, take, accept, expect, first, only}
 use Rattle.mc_grammar.specs.steps.Next.{word_next}
 use Rattle.mc_reading.specs.Lists.{braced_list, comma_list, listed, some_list}
@@ -34,10 +34,10 @@ length_of parts = do
   empty ← see (codes "]")
   if empty then (do
     y ← take
-    pure (record { one = t.absent_length; end = at y })) else (do
-      a ← parts.expression n.cond
+    pure (record { one = tree.absent_length; end = at y })) else (do
+      a ← parts.expression nonterminal.cond
       y ← expect (codes "]")
-      pure (record { one = t.given_length a; end = at y }))
+      pure (record { one = tree.given_length a; end = at y }))
 
 abbrev pub lengths_turn : (List (ArrayLengths → ArrayLengths) → Span → Parser Lengths) → Parts
     → List (ArrayLengths → ArrayLengths) → Span → Parser Lengths
@@ -63,11 +63,11 @@ name_next (x ∷ ts) = if is_name x then Some (name_at x) else None
 abbrev pub parameter_by : Parts → Specifiers → ℕ → Span → Span → Option Name → Parser Parameter
 parameter_by parts s stars start end None = do
   lengths ← lengths_of parts end
-  pure (t.parameter s stars None (lengths_from lengths.all) (to start lengths.end))
+  pure (tree.parameter s stars None (lengths_from lengths.all) (to start lengths.end))
 parameter_by parts s stars start end (Some name) = do
   y ← take
   lengths ← lengths_of parts (at y)
-  pure (t.parameter s stars (Some name) (lengths_from lengths.all) (to start lengths.end))
+  pure (tree.parameter s stars (Some name) (lengths_from lengths.all) (to start lengths.end))
 
 unfoldable pub parameter_of : Parts → Parser Parameter
 parameter_of parts = do
@@ -81,13 +81,13 @@ abbrev pub parameter_list_of : Parts → Lexeme → Parser Parameters
 parameter_list_of parts x = do
   all ← listed (λ turns. comma_list turns (parameter_of parts) [])
   y ← expect (codes ")")
-  pure (t.Listed (parameters_from all) (to (at x) (at y)))
+  pure (tree.Listed (parameters_from all) (to (at x) (at y)))
 
 abbrev pub void_of : Lexeme → Parser Parameters
 void_of x = do
   y ← take
   z ← take
-  pure (t.Void (to (at x) (at z)))
+  pure (tree.Void (to (at x) (at z)))
 
 unfoldable pub parameters_of : Parts → Parser Parameters
 parameters_of parts = do
@@ -95,7 +95,7 @@ parameters_of parts = do
   empty ← see (codes ")")
   if empty then (do
     y ← take
-    pure (t.Empty (to (at x) (at y)))) else (do
+    pure (tree.Empty (to (at x) (at y)))) else (do
       void ← ask sees_void_alone
       if void then void_of x else parameter_list_of parts x)
 
@@ -109,9 +109,9 @@ declarator_of parts = do
   calls ← see (codes "(")
   if calls then (do
     ps ← parameters_of parts
-    pure (t.function stars.count (name_at y) ps (to start (span_of_parameters ps)))) else (do
+    pure (tree.function stars.count (name_at y) ps (to start (span_of_parameters ps)))) else (do
       lengths ← lengths_of parts (at y)
-      pure (t.object stars.count (name_at y) (lengths_from lengths.all) (to start lengths.end)))
+      pure (tree.object stars.count (name_at y) (lengths_from lengths.all) (to start lengths.end)))
 
 -- ---- members and enumerators
 
@@ -121,7 +121,7 @@ struct_member_of parts = do
   s ← parts.specifiers for_type
   ds ← listed (λ turns. comma_list turns (declarator_of parts) [])
   y ← expect (codes ";")
-  pure (t.member s (declarators_from ds) (to start (at y)))
+  pure (tree.member s (declarators_from ds) (to start (at y)))
 
 unfoldable pub enumerator_of : Parts → Parser Enumerator
 enumerator_of parts = do
@@ -129,8 +129,8 @@ enumerator_of parts = do
   valued ← see (codes "=")
   if valued then (do
     y ← take
-    a ← parts.expression n.cond
-    pure (t.valued_enumerator (name_at x) a)) else pure (t.enumerator (name_at x))
+    a ← parts.expression nonterminal.cond
+    pure (tree.valued_enumerator (name_at x) a)) else pure (tree.enumerator (name_at x))
 
 -- ---- specifiers
 
@@ -140,14 +140,14 @@ structure_list parts room x tag = only (nat_le 1 room) (do
   z ← take
   ms ← listed (λ turns. some_list turns sees_specifiers (struct_member_of parts) [])
   v ← expect (codes "}")
-  pure (t.Structure tag (members_from ms) (to (at x) (at v))))
+  pure (tree.Structure tag (members_from ms) (to (at x) (at v))))
 
 abbrev pub enumeration_list : Parts → ℕ → Lexeme → Option Name → Parser Specifier
 enumeration_list parts room x tag = only (nat_le 1 room) (do
   z ← take
   es ← listed (λ turns. braced_list turns (enumerator_of parts) [])
   v ← expect (codes "}")
-  pure (t.Enumeration tag (enumerators_from es) (to (at x) (at v))))
+  pure (tree.Enumeration tag (enumerators_from es) (to (at x) (at v))))
 
 unfoldable pub structure_of : Parts → ℕ → Parser Specifier
 structure_of parts room = do
@@ -157,7 +157,7 @@ structure_of parts room = do
     y ← accept is_tag
     lists ← see (codes "{")
     if lists then structure_list parts room x (Some (name_at y)) else
-        pure (t.StructureTag (name_at y) (to (at x) (at y))))
+        pure (tree.StructureTag (name_at y) (to (at x) (at y))))
 
 unfoldable pub enumeration_of : Parts → ℕ → Parser Specifier
 enumeration_of parts room = do
@@ -167,20 +167,20 @@ enumeration_of parts room = do
     y ← accept is_tag
     lists ← see (codes "{")
     if lists then enumeration_list parts room x (Some (name_at y)) else
-        pure (t.EnumerationTag (name_at y) (to (at x) (at y))))
+        pure (tree.EnumerationTag (name_at y) (to (at x) (at y))))
 
 -- one specifier; which stand first was asked
 abbrev pub specifier_by : Parts → ℕ → Option SpecifierWord → Parser Specifier
 specifier_by parts room (Some w) = do
   x ← take
-  pure (t.Word w (at x))
+  pure (tree.Word w (at x))
 specifier_by parts room None = do
   structures ← ask (next_is (is_keyword (codes "struct")))
   if structures then structure_of parts room else (do
     enumerates ← ask (next_is (is_keyword (codes "enum")))
     if enumerates then enumeration_of parts room else (do
       x ← take
-      pure (t.TypedefName (name_at x))))
+      pure (tree.TypedefName (name_at x))))
 
 unfoldable pub specifier_of : Parts → ℕ → Parser Specifier
 specifier_of parts room = do
@@ -189,7 +189,7 @@ specifier_of parts room = do
 
 -- whether there is a type after it
 abbrev pub is_type_specifier : Specifier → Bool
-is_type_specifier (t.Word w span) = is_type_word w
+is_type_specifier (tree.Word w span) = is_type_word w
 is_type_specifier _ = true
 
 abbrev pub specifiers_turn : (Bool → List Specifier → Parser (List Specifier)) → Parts → ℕ → Bool

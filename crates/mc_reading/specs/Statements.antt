@@ -2,12 +2,12 @@
 use Rattle.std.specs.Prelude.{ℕ, zero, suc, if◌then◌else◌, List, [], Option, Some, None, codes}
 use Rattle.mc_span.specs.declared.span.Span.{Span}
 use Rattle.mc_tree.specs.Tree.{BlockItems, Expression, ForStart, Statement, span_of, span_of_statement}
-use Rattle.mc_tree.specs.Tree as t
+use Rattle.mc_tree.specs.Tree as tree
 use Rattle.mc_tree.specs.Units.{block_from}
 use Rattle.mc_grammar.specs.Words.{Lexeme, is_name, sees, sees_keyword, sees_label, sees_specifiers}
 use Rattle.mc_grammar.specs.Places.{at, name_at, to}
 use Rattle.mc_grammar.specs.Counts.{for_local, for_type}
-use Rattle.mc_grammar.specs.Nonterminal as n
+use Rattle.mc_grammar.specs.Nonterminal as nonterminal
 use Rattle.mc_grammar.specs.steps.Parsers.{Parser, ◌>>=◌, pure, refuse, ask, see, take, accept, expect, expect_keyword}
 use Rattle.mc_reading.specs.Lists.{listed, until_list}
 use Rattle.mc_reading.specs.Expressions.{Parts}
@@ -19,13 +19,13 @@ unfoldable pub optional_of : List ℕ → Parts → Parser (Option Expression)
 optional_of stop parts = do
   absent ← see stop
   if absent then pure None else (do
-    a ← parts.expression n.comma
+    a ← parts.expression nonterminal.comma
     pure (Some a))
 
 unfoldable pub test_of : Parts → Parser Expression
 test_of parts = do
   x ← expect (codes "(")
-  a ← parts.expression n.comma
+  a ← parts.expression nonterminal.comma
   y ← expect (codes ")")
   pure a
 
@@ -35,9 +35,9 @@ block_item_of rooms statement = do
   declares ← ask sees_specifiers
   if declares then (do
     d ← local_of for_local rooms
-    pure (t.local d)) else (do
+    pure (tree.local d)) else (do
       s ← statement
-      pure (t.statement s))
+      pure (tree.statement s))
 
 -- a block, and where it stands
 pub record Block : Type 0 where
@@ -57,18 +57,18 @@ compound_of rooms statement = do
 abbrev pub block_statement_of : ℕ → Parser Statement → Parser Statement
 block_statement_of rooms statement = do
   b ← compound_of rooms statement
-  pure (t.Compound (block_from b.items) b.span)
+  pure (tree.Compound (block_from b.items) b.span)
 
 abbrev pub null_of : Parser Statement
 null_of = do
   y ← take
-  pure (t.Null (at y))
+  pure (tree.Null (at y))
 
 abbrev pub expression_statement_of : Parts → Parser Statement
 expression_statement_of parts = do
-  a ← parts.expression n.comma
+  a ← parts.expression nonterminal.comma
   y ← expect (codes ";")
-  pure (t.ExpressionStatement a (to (span_of a) (at y)))
+  pure (tree.ExpressionStatement a (to (span_of a) (at y)))
 
 abbrev pub if_of : Parts → Parser Statement → Parser Statement
 if_of parts statement = do
@@ -79,22 +79,22 @@ if_of parts statement = do
   if other then (do
     y ← take
     u ← statement
-    pure (t.IfElse a s u (to (at x) (span_of_statement u)))) else
-      pure (t.If a s (to (at x) (span_of_statement s)))
+    pure (tree.IfElse a s u (to (at x) (span_of_statement u)))) else
+      pure (tree.If a s (to (at x) (span_of_statement s)))
 
 abbrev pub switch_of : Parts → Parser Statement → Parser Statement
 switch_of parts statement = do
   x ← take
   a ← test_of parts
   s ← statement
-  pure (t.Switch a s (to (at x) (span_of_statement s)))
+  pure (tree.Switch a s (to (at x) (span_of_statement s)))
 
 abbrev pub while_of : Parts → Parser Statement → Parser Statement
 while_of parts statement = do
   x ← take
   a ← test_of parts
   s ← statement
-  pure (t.While a s (to (at x) (span_of_statement s)))
+  pure (tree.While a s (to (at x) (span_of_statement s)))
 
 abbrev pub do_while_of : Parts → Parser Statement → Parser Statement
 do_while_of parts statement = do
@@ -103,17 +103,17 @@ do_while_of parts statement = do
   y ← expect_keyword (codes "while")
   a ← test_of parts
   z ← expect (codes ";")
-  pure (t.DoWhile s a (to (at x) (at z)))
+  pure (tree.DoWhile s a (to (at x) (at z)))
 
 unfoldable pub for_start_of : ℕ → Parser ForStart
 for_start_of rooms = do
   declares ← ask sees_specifiers
   if declares then (do
     d ← local_of for_type rooms
-    pure (t.StartsLocal d)) else (do
+    pure (tree.StartsLocal d)) else (do
       a ← optional_of (codes ";") (reading rooms)
       y ← expect (codes ";")
-      pure (t.StartsExpression a))
+      pure (tree.StartsExpression a))
 
 abbrev pub for_of : ℕ → Parts → Parser Statement → Parser Statement
 for_of rooms parts statement = do
@@ -125,55 +125,55 @@ for_of rooms parts statement = do
   b ← optional_of (codes ")") parts
   v ← expect (codes ")")
   s ← statement
-  pure (t.For start a b s (to (at x) (span_of_statement s)))
+  pure (tree.For start a b s (to (at x) (span_of_statement s)))
 
 abbrev pub case_of : Parts → Parser Statement → Parser Statement
 case_of parts statement = do
   x ← take
-  a ← parts.expression n.cond
+  a ← parts.expression nonterminal.cond
   y ← expect (codes ":")
   s ← statement
-  pure (t.Case a (to (at x) (at y)) s (to (at x) (span_of_statement s)))
+  pure (tree.Case a (to (at x) (at y)) s (to (at x) (span_of_statement s)))
 
 abbrev pub default_of : Parser Statement → Parser Statement
 default_of statement = do
   x ← take
   y ← expect (codes ":")
   s ← statement
-  pure (t.Default (to (at x) (at y)) s (to (at x) (span_of_statement s)))
+  pure (tree.Default (to (at x) (at y)) s (to (at x) (span_of_statement s)))
 
 abbrev pub label_of : Parser Statement → Parser Statement
 label_of statement = do
   x ← take
   y ← take
   s ← statement
-  pure (t.Label (name_at x) s (to (at x) (span_of_statement s)))
+  pure (tree.Label (name_at x) s (to (at x) (span_of_statement s)))
 
 abbrev pub goto_of : Parser Statement
 goto_of = do
   x ← take
   y ← accept is_name
   z ← expect (codes ";")
-  pure (t.Goto (name_at y) (to (at x) (at z)))
+  pure (tree.Goto (name_at y) (to (at x) (at z)))
 
 abbrev pub continue_of : Parser Statement
 continue_of = do
   x ← take
   y ← expect (codes ";")
-  pure (t.Continue (to (at x) (at y)))
+  pure (tree.Continue (to (at x) (at y)))
 
 abbrev pub break_of : Parser Statement
 break_of = do
   x ← take
   y ← expect (codes ";")
-  pure (t.Break (to (at x) (at y)))
+  pure (tree.Break (to (at x) (at y)))
 
 abbrev pub return_of : Parts → Parser Statement
 return_of parts = do
   x ← take
   a ← optional_of (codes ";") parts
   y ← expect (codes ";")
-  pure (t.Return a (to (at x) (at y)))
+  pure (tree.Return a (to (at x) (at y)))
 
 -- ---- which statement begins
 

@@ -3,6 +3,7 @@ use Rattle.std.proofs.Common.{◌≡◌, ◌∙◌, ◌+◌, ◌≤◌, ℕ, Boo
 use Rattle.std.specs.Prelude.{◌&&◌, Result, Ok, Err, ℤ, pos, negsuc}
 use Rattle.std.proofs.lemmas.Bool.{cases_Bool}
 use Rattle.std.proofs.lemmas.Bool.Decides.{nat_tests}
+use Rattle.mc_limits.specs.Limits.{most_bits, most_tests, most_words}
 use Rattle.mc_core.specs.Matrix.{HasNoSpareBit}
 use Rattle.mc_core.specs.Shape.{word_count}
 use Rattle.mc_core.specs.declared.shape.Shape.{Shape}
@@ -34,21 +35,21 @@ shape_ok line None a is = absurd (cc is)
 
 -- ---- the number of tests
 
-counted : (bits : ℕ) (o : Option ℤ) (tests : ℕ) → test_count bits o ≡ Some tests → (tests ≤ 4096) × (word_count (record { bits = bits; tests = tests }) ≤ 1048576)
+counted : (bits : ℕ) (o : Option ℤ) (tests : ℕ) → test_count bits o ≡ Some tests → (tests ≤ most_tests) × (word_count (record { bits = bits; tests = tests }) ≤ most_words)
 counted bits None tests is = absurd (cc is)
 counted bits (Some (negsuc n)) tests is = absurd (cc is)
-counted bits (Some (pos n)) tests is = elim (cases_Bool (nat_le n 4096 && nat_le (word_count (record { bits = bits; tests = n })) 1048576)) [
+counted bits (Some (pos n)) tests is = elim (cases_Bool (nat_le n most_tests && nat_le (word_count (record { bits = bits; tests = n })) most_words)) [
   | inl fits ↦
       let e : ◌≡◌ {A = Option ℕ} (Some n) (Some tests) = rw fits at is in
       let same : n ≡ tests = cc in
-      let parts = and_parts (nat_le n 4096) (nat_le (word_count (record { bits = bits; tests = n })) 1048576) fits in
-      let few : n ≤ 4096 = grind (arith, nat_tests, parts.0) in
-      let small : word_count (record { bits = bits; tests = n }) ≤ 1048576 = grind (arith, nat_tests, parts.1) in
-      subst (λ m. (m ≤ 4096) × (word_count (record { bits = bits; tests = m }) ≤ 1048576)) same (few, small)
+      let parts = and_parts (nat_le n most_tests) (nat_le (word_count (record { bits = bits; tests = n })) most_words) fits in
+      let few : n ≤ most_tests = grind (arith, nat_tests, parts.0) in
+      let small : word_count (record { bits = bits; tests = n }) ≤ most_words = grind (arith, nat_tests, parts.1) in
+      subst (λ m. (m ≤ most_tests) × (word_count (record { bits = bits; tests = m }) ≤ most_words)) same (few, small)
   | inr over ↦ absurd (cc (rw over at is))
 ]
 
-pub head_small : (digest : List ℕ) (bits : ℕ) (old_rules : Bool) (text : List ℕ) (tests : ℕ) (rest : List ℕ) → head_in digest bits old_rules text ≡ Ok (tests, rest) → (tests ≤ 4096) × (word_count (record { bits = bits; tests = tests }) ≤ 1048576)
+pub head_small : (digest : List ℕ) (bits : ℕ) (old_rules : Bool) (text : List ℕ) (tests : ℕ) (rest : List ℕ) → head_in digest bits old_rules text ≡ Ok (tests, rest) → (tests ≤ most_tests) × (word_count (record { bits = bits; tests = tests }) ≤ most_words)
 head_small digest bits old_rules text tests rest is =
     let third : List ℕ → Result (ℕ × List ℕ) RecordFault = λ r. or_shape 4 (count_in bits r) in
     let second : List ℕ → Result (ℕ × List ℕ) RecordFault = λ r. read_on (after_bits bits r) third in
@@ -110,7 +111,7 @@ module _ (digest : List ℕ) (shape : Shape) (text : List ℕ) where
 no_tests : (text : List ℕ) → AreTests (record { names = []; states = []; rest = text })
 no_tests text = record { many = refl; named = refl; distinct = refl; judged = λ k d inside. absurd (omega (arith, inside)) }
 
-pub body_is_kept : (digest : List ℕ) (shape : Shape) (text : List ℕ) (k : Kept) → shape.bits ≤ 65536 → shape.tests ≤ 4096 → word_count shape ≤ 1048576 → body_in digest shape text ≡ Ok k → IsKept k
+pub body_is_kept : (digest : List ℕ) (shape : Shape) (text : List ℕ) (k : Kept) → shape.bits ≤ most_bits → shape.tests ≤ most_tests → word_count shape ≤ most_words → body_in digest shape text ≡ Ok k → IsKept k
 body_is_kept digest shape text k few_bits few_tests few_words is =
     let t = read_ok (tests_in [] [] shape.tests text) (from_tests digest shape text) k is in
     let w = read_ok (bits_in shape 0 [] shape.bits t.0.rest) (with_words digest shape t.0) k t.2 in
@@ -134,7 +135,7 @@ body_is_kept digest shape text k few_bits few_tests few_words is =
         })
     by_end t w false last found are names = absurd (cc (rw last at found))
 
-pub record_is_kept : (digest : List ℕ) (bits : ℕ) (old_rules : Bool) (text : List ℕ) (k : Kept) → bits ≤ 65536 → record_of digest bits old_rules text ≡ Ok k → IsKept k
+pub record_is_kept : (digest : List ℕ) (bits : ℕ) (old_rules : Bool) (text : List ℕ) (k : Kept) → bits ≤ most_bits → record_of digest bits old_rules text ≡ Ok k → IsKept k
 record_is_kept digest bits old_rules text k few is =
     let body : ℕ × List ℕ → Result Kept RecordFault = λ head. body_in digest (record { bits = bits; tests = head.0 }) head.1 in
     let head = read_ok (head_in digest bits old_rules text) body k is in

@@ -8,6 +8,7 @@ use Rattle.std.proofs.lemmas.Bool.Decides.{nat_tests}
 use Rattle.std.proofs.lemmas.List.{append-nil}
 use Rattle.std.proofs.lemmas.List.Folds.{concat-append}
 use Rattle.std.proofs.lemmas.Slice.Eq.{bytes_eq-Decides}
+use Rattle.mc_limits.specs.Limits.{most_tests, most_words}
 use Rattle.mc_core.specs.Shape.{word_count}
 use Rattle.mc_rows.specs.Numbers.{is_digit, number_of}
 use Rattle.mc_wording.specs.Hexadecimal.{hexadecimal}
@@ -44,13 +45,13 @@ source_read digest rest is =
 bits_line_read : (bits : ℕ) (rest : List ℕ) → after_bits bits (bits_line bits ++ rest) ≡ Ok rest
 bits_line_read bits rest = ap (λ (o : Option (List ℕ)). or_shape 3 o) (strip_front (bits_line bits) rest)
 
-count_fits : (bits tests : ℕ) → tests ≤ 4096 → word_count (record { bits = bits; tests = tests }) ≤ 1048576 → test_count bits (Some (pos tests)) ≡ Some tests
+count_fits : (bits tests : ℕ) → tests ≤ most_tests → word_count (record { bits = bits; tests = tests }) ≤ most_words → test_count bits (Some (pos tests)) ≡ Some tests
 count_fits bits tests few small =
-    let first : nat_le tests 4096 ≡ true = grind (arith, nat_tests) in
-    let second : nat_le (word_count (record { bits = bits; tests = tests })) 1048576 ≡ true = grind (arith, nat_tests) in
+    let first : nat_le tests most_tests ≡ true = grind (arith, nat_tests) in
+    let second : nat_le (word_count (record { bits = bits; tests = tests })) most_words ≡ true = grind (arith, nat_tests) in
     rw (first, second) refl
 
-tests_line_read : (bits tests : ℕ) (rest : List ℕ) → tests ≤ 4096 → word_count (record { bits = bits; tests = tests }) ≤ 1048576 → count_in bits (tests_line tests ++ rest) ≡ Some (tests, rest)
+tests_line_read : (bits tests : ℕ) (rest : List ℕ) → tests ≤ most_tests → word_count (record { bits = bits; tests = tests }) ≤ most_words → count_in bits (tests_line tests ++ rest) ≡ Some (tests, rest)
 tests_line_read bits tests rest few small =
     let less : tests < 2 ^ 64 = omega arith in
     let shape : (decimal tests ++ newline) ++ rest ≡ decimal tests ++ 10 ∷ rest = append_assoc (decimal tests) newline rest in

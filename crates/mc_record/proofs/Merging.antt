@@ -8,6 +8,7 @@ use Rattle.std.proofs.lemmas.Bool.Decides.{nat_tests}
 use Rattle.std.proofs.lemmas.List.{append-nil}
 use Rattle.std.proofs.lemmas.List.Elements.{All-append}
 use Rattle.std.proofs.lemmas.List.Folds.{list_all-append}
+use Rattle.mc_limits.specs.Limits.{most_tests, most_words}
 use Rattle.mc_core.specs.Merged.{words_of_both}
 use Rattle.mc_core.specs.Shape.{word_count}
 use Rattle.mc_core.specs.declared.shape.Shape.{Shape}
@@ -59,10 +60,10 @@ same_fault left right l r is = ap (λ (o : Option (ℕ × ℕ)). fault_or o (siz
 pub other_fault : (left right : Kept) (o : Option PairFault) → same_test left.names right.names ≡ None → size_fault left right ≡ o → pair_fault left right ≡ o
 other_fault left right o none is = ap (λ (s : Option (ℕ × ℕ)). fault_or s (size_fault left right)) none ∙ is
 
-small : (left right : Kept) → size_fault left right ≡ None → (left.matrix.shape.tests + right.matrix.shape.tests ≤ 4096) × (words_of_both left.matrix right.matrix ≤ 1048576)
-small left right is = elim (cases_Bool (nat_lt 4096 (left.matrix.shape.tests + right.matrix.shape.tests))) [
+small : (left right : Kept) → size_fault left right ≡ None → (left.matrix.shape.tests + right.matrix.shape.tests ≤ most_tests) × (words_of_both left.matrix right.matrix ≤ most_words)
+small left right is = elim (cases_Bool (nat_lt most_tests (left.matrix.shape.tests + right.matrix.shape.tests))) [
   | inl many ↦ absurd (cc (rw many at is))
-  | inr few ↦ elim (cases_Bool (nat_lt 1048576 (words_of_both left.matrix right.matrix))) [
+  | inr few ↦ elim (cases_Bool (nat_lt most_words (words_of_both left.matrix right.matrix))) [
     | inl large ↦ absurd (cc (rw (few, large) at is))
     | inr fits ↦ (grind (arith, nat_tests), grind (arith, nat_tests))
   ]

@@ -8,6 +8,7 @@ use Rattle.std.proofs.KnownBytes.{Appends-trans}
 use Rattle.std.proofs.lemmas.Bool.Decides.{nat_tests}
 use Rattle.std.proofs.lemmas.List.{append-nil, take_all}
 use Rattle.std.proofs.lemmas.List.Folds.{concat-append}
+use Rattle.mc_limits.specs.Limits.{most_tests}
 use Rattle.mc_core.specs.Matrix.{MatrixView}
 use Rattle.mc_core.specs.Shape.{place, rows}
 use Rattle.mc_core.specs.declared.shape.Shape.{Shape}
@@ -21,7 +22,7 @@ use Rattle.mc_typed.specs.declared.plans.TestState.TheVariants.{Pass, Fail, Ende
 use Rattle.mc_value.specs.declared.trap.Trap.TheVariants.{Overflow, Division, Shift, Index, Unset, NoReturn, InputEnd}
 use Rattle.mc_wording.specs.Words.{state_word}
 use Rattle.mc_record.specs.Kept.{Kept}
-use Rattle.mc_record.specs.Lines.{bit_line, bit_lines, bits_line, end_line, header_line, record_lines, row_of, source_line, test_line, test_lines, tests_line}
+use Rattle.mc_record.specs.Lines.{bit_line, bit_lines, bits_line, end_line, header_line, most_row_words, record_lines, row_of, source_line, test_line, test_lines, tests_line}
 use Rattle.mc_record.proofs.Numbers.{and_parts}
 
 -- ---- two texts
@@ -151,7 +152,7 @@ row_is m s b first count words is at many are =
     ∙ ap (λ n. take (rows m.shape) (drop n words)) begin
     ∙ ap (λ (l : List ℕ). take (rows m.shape) (drop (b * rows m.shape) l)) are)
 
-pub rows_few : (m : MatrixView) → m.shape.tests ≤ 4096 → rows m.shape ≤ 64
+pub rows_few : (m : MatrixView) → m.shape.tests ≤ most_tests → rows m.shape ≤ most_row_words
 rows_few m few = omega arith
 
 -- ---- the whole

@@ -2,6 +2,7 @@
 use Rattle.std.specs.Prelude.{◌≡◌, ◌≢◌, ◌≤◌, ℕ, Bool, true, not, ◌&&◌, List, [], ◌∷◌, length, All}
 use Rattle.std.specs.List.{list_all, list_any}
 use Rattle.std.specs.Str.{bytes_eq}
+use Rattle.mc_limits.specs.Limits.{most_bits, most_tests, most_words}
 use Rattle.mc_core.specs.Matrix.{MatrixView}
 use Rattle.mc_core.specs.Shape.{word_count}
 use Rattle.mc_rows.specs.Names.{is_name}
@@ -29,6 +30,6 @@ pub record IsKept (k : Kept) : Type 0 where
   pub named : list_all is_name k.names ≡ true
   pub distinct : are_distinct k.names ≡ true
   pub judged : All (λ s. s ≢ Ended Returned) k.states
-  pub few_bits : k.matrix.shape.bits ≤ 65536
-  pub few_tests : k.matrix.shape.tests ≤ 4096
-  pub few_words : word_count k.matrix.shape ≤ 1048576
+  pub few_bits : k.matrix.shape.bits ≤ most_bits
+  pub few_tests : k.matrix.shape.tests ≤ most_tests
+  pub few_words : word_count k.matrix.shape ≤ most_words

@@ -1,9 +1,10 @@
 -- The lines of a record, each of which ends with LF.
-use Rattle.std.specs.Prelude.{ℕ, ◌*◌, List, [], ◌∷◌, ◌++◌, codes, map, flat_map, take, drop}
+use Rattle.std.specs.Prelude.{ℕ, ◌+◌, ◌*◌, ◌/◌, List, [], ◌∷◌, ◌++◌, codes, map, flat_map, take, drop}
 use Rattle.std.specs.Fmt.{decimal}
 use Rattle.std.specs.Int.{to_be_bytes}
 use Rattle.std.specs.List.{range_with_len}
 use mir.Syntax.{w64}
+use Rattle.mc_limits.specs.Limits.{most_tests}
 use Rattle.mc_core.specs.Matrix.{MatrixView}
 use Rattle.mc_core.specs.Shape.{rows}
 use Rattle.mc_typed.specs.declared.plans.TestState.{TestState}
@@ -46,6 +47,15 @@ bit_front b = codes "bit " ++ decimal b
 
 abbrev pub bit_line : ℕ → List ℕ → List ℕ
 bit_line b words = bit_front b ++ (flat_map word_text words ++ newline)
+
+-- the words of a bit under the most tests, 64 tests to a word
+abbrev pub most_row_words : ℕ
+most_row_words = most_tests / 64
+
+-- the bytes of the longest line, that of a bit: `bit `, a number of 10 digits, a space and 16
+-- digits for each word, and LF
+abbrev pub most_line_bytes : ℕ
+most_line_bytes = 15 + 17 * most_row_words
 
 -- the words of a bit, those of the lowest tests first
 abbrev pub row_of : MatrixView → ℕ → List ℕ

@@ -1,6 +1,7 @@
 -- Two records of one source, joined.
 use Rattle.std.specs.Prelude.{◌≡◌, ◌↔◌, ℕ, ◌+◌, List, [], ◌∷◌, ◌++◌, Option, Some, None, if◌then◌else◌, nat_lt}
 use Rattle.std.specs.Str.{bytes_eq}
+use Rattle.mc_limits.specs.Limits.{most_tests, most_words}
 use Rattle.mc_core.specs.Matrix.{Holds}
 use Rattle.mc_core.specs.Merged.{both_shapes, words_of_both, HoldsEither}
 use Rattle.mc_record.specs.Kept.{Kept}
@@ -32,16 +33,16 @@ same_test left right = same_from left 0 right
 
 abbrev pub size_fault : Kept → Kept → Option PairFault
 size_fault left right =
-    if nat_lt 4096 (left.matrix.shape.tests + right.matrix.shape.tests)
+    if nat_lt most_tests (left.matrix.shape.tests + right.matrix.shape.tests)
     then Some (fault.Limit (left.matrix.shape.tests + right.matrix.shape.tests))
-    else if nat_lt 1048576 (words_of_both left.matrix right.matrix)
+    else if nat_lt most_words (words_of_both left.matrix right.matrix)
     then Some (fault.TooLarge (words_of_both left.matrix right.matrix)) else None
 
 abbrev pub fault_or : Option (ℕ × ℕ) → Option PairFault → Option PairFault
 fault_or (Some (left, right)) later = Some (fault.SameTest left right)
 fault_or None later = later
 
--- a name in both comes before more than 4,096 tests, and these before more than 1,048,576 words
+-- a name in both comes before too many tests, and these before too many words
 abbrev pub pair_fault : Kept → Kept → Option PairFault
 pair_fault left right = fault_or (same_test left.names right.names) (size_fault left right)
 

@@ -1,6 +1,7 @@
 -- The record that a text is, or its first fault.
 use Rattle.std.specs.Prelude.{ℕ, ◌+◌, Bool, true, false, ◌&&◌, List, [], codes, Option, Some, None, Result, Ok, Err, if◌then◌else◌, nat_le, ℤ, pos, negsuc}
 use Rattle.std.specs.Str.{bytes_eq}
+use Rattle.mc_limits.specs.Limits.{most_tests, most_words}
 use Rattle.mc_core.specs.Shape.{word_count}
 use Rattle.mc_core.specs.declared.shape.Shape.{Shape}
 use Rattle.mc_rows.specs.Numbers.{number_of}
@@ -54,8 +55,8 @@ abbrev pub test_count : ℕ → Option ℤ → Option ℕ
 test_count bits None = None
 test_count bits (Some (negsuc n)) = None
 test_count bits (Some (pos n)) =
-    if nat_le n 4096 && nat_le (word_count record { bits = bits; tests = n }) 1048576 then Some n
-    else None
+    if nat_le n most_tests && nat_le (word_count record { bits = bits; tests = n }) most_words
+    then Some n else None
 
 -- how many tests line 4 says that there are, and what follows it; 10 is LF
 abbrev pub count_in : ℕ → List ℕ → Option (ℕ × List ℕ)

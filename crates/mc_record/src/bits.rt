@@ -1,5 +1,6 @@
 //! The lines of bits.
 ghost use Rattle.std.specs.Prelude.{◌≡◌, ◌≢◌, ◌≤◌, ◌<◌, ◌+◌, ◌^◌, [], Some, None, Ok, Err, IfOk, IfErr, nat_lt};
+ghost use Rattle.mc_limits.specs.Limits.{most_bits, most_tests};
 ghost use Rattle.mc_core.specs.Shape.{rows};
 ghost use Rattle.mc_record.specs.Bits.{bits_in, has_no_spare, row_in, with_row};
 ghost use Rattle.mc_record.specs.Digits.{words_in};
@@ -68,8 +69,8 @@ fn read_row<'a>(
     shape: Shape,
     bit: u32,
 ) -> Result<&'a [u8], RecordFault>
-    requires bit { bit < 65536 }
-    requires tests { shape.tests ≤ 4096 }
+    requires bit { bit < most_bits }
+    requires tests { shape.tests ≤ most_tests }
     ensures read { IfOk result (λ rest.
         with_row (5 + shape.tests + bit) shape.tests words.old.items
         (row_in bit (rows shape) text.now)
@@ -101,8 +102,8 @@ pub(crate) fn read_bits<'a>(
     shape: Shape,
 ) -> Result<&'a [u8], RecordFault>
     requires empty { words.old.items ≡ [] }
-    requires bits { shape.bits ≤ 65536 }
-    requires tests { shape.tests ≤ 4096 }
+    requires bits { shape.bits ≤ most_bits }
+    requires tests { shape.tests ≤ most_tests }
     ensures read { IfOk result (λ rest.
         bits_in shape 0 [] shape.bits text.now ≡ Ok (words.new.items, rest.now)) }
     ensures fault { IfErr result (λ e. e ≢ OutOfMemory

@@ -22,7 +22,7 @@ pub enum RecordFault {
         given: [u8; 32],
     },
     /// Line 3 is not `bits ` and the number of the program's bits, or line 4 is not `tests ` and a
-    /// number, or there are more than 4,096 tests or 1,048,576 words.
+    /// number, or there are more than `MOST_TESTS` tests or `MOST_WORDS` words.
     #[error("record line {line}: shape")]
     Shape {
         line: u32,

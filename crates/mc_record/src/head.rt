@@ -8,11 +8,10 @@ use crate::fault::RecordFault;
 use crate::lines::bits_line;
 use crate::parts::{strip, until};
 use mc_core::{Shape, words};
+use mc_limits::{MOST_TESTS, MOST_WORDS};
 use mc_rows::read_number;
 
-const MAX_TESTS: i128 = 4096;
-
-const MAX_WORDS: u64 = 1_048_576;
+const MAX_TESTS: i128 = MOST_TESTS as i128;
 
 fn after_header(text: &[u8], old_rules: bool) -> Result<&[u8], RecordFault>
     ensures { rest_read result ≡ after_header old_rules text.now }
@@ -74,7 +73,7 @@ fn test_count(number: Option<i128>, bits: u32) -> Option<u32>
         return None;
     }
     let tests = number as u32;
-    if words(Shape { bits, tests }) > MAX_WORDS {
+    if words(Shape { bits, tests }) > MOST_WORDS {
         return None;
     }
     Some(tests)

@@ -1,5 +1,6 @@
 //! Two records, joined.
 ghost use Rattle.std.specs.Prelude.{◌≡◌, ◌≢◌, ◌≤◌, ◌++◌, ◌↔◌, ℕ, Some, None, IfOk, IfErr, OnOk};
+ghost use Rattle.mc_limits.specs.Limits.{most_tests};
 ghost use Rattle.mc_core.specs.Matrix.{Holds};
 ghost use Rattle.mc_core.specs.Merged.{HoldsEither, both_shapes, words_of_both};
 ghost use Rattle.mc_record.specs.Kept.{IsKept};
@@ -11,10 +12,9 @@ use crate::kept::Record;
 use crate::pair_fault::PairFault;
 use crate::same::same_test;
 use mc_core::{Matrix, MergeFault, merge};
+use mc_limits::MOST_TESTS;
 use mc_typed::{Name, TestState};
 use std::alloc::{AllocError, Global};
-
-const MAX_TESTS: u32 = 4096;
 
 fn push_names(alloc: Global, all: &mut Vec<Name>, names: &[Name]) -> Result<(), AllocError>
     ensures { OnOk result (all.new.items ≡ all.old.items ++ names.now) }
@@ -51,8 +51,8 @@ fn joined_states(
 // The matrix of both, where it keeps the limits.
 fn joined_matrix(alloc: Global, left: &Record, right: &Record) -> Result<Matrix, PairFault>
     requires bits { left.now.matrix.shape.bits ≡ right.now.matrix.shape.bits }
-    requires few_left { left.now.matrix.shape.tests ≤ 4096 }
-    requires few_right { right.now.matrix.shape.tests ≤ 4096 }
+    requires few_left { left.now.matrix.shape.tests ≤ most_tests }
+    requires few_right { right.now.matrix.shape.tests ≤ most_tests }
     ensures shape { IfOk result (λ m.
         m.shape ≡ both_shapes left.now.matrix.shape right.now.matrix.shape) }
     ensures pairs { IfOk result (λ m. (b t : ℕ) →
@@ -62,7 +62,7 @@ fn joined_matrix(alloc: Global, left: &Record, right: &Record) -> Result<Matrix,
         → size_fault (kept_of left.now) (kept_of right.now) ≡ Some e) }
 {
     let tests = left.matrix.shape().tests + right.matrix.shape().tests;
-    if tests > MAX_TESTS {
+    if tests > MOST_TESTS {
         return Err(PairFault::Limit { tests });
     }
     match merge(alloc, &left.matrix, &right.matrix) {

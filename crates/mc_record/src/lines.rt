@@ -2,7 +2,7 @@
 ghost use Rattle.std.specs.Prelude.{◌≡◌, ◌≤◌, ◌+◌, ◌*◌, ◌++◌, true, flat_map, length};
 ghost use Rattle.arrayvec.specs.ArrayVec.{array_vec_len};
 ghost use Rattle.mc_rows.specs.Names.{is_name};
-ghost use Rattle.mc_record.specs.Lines.{bit_front, bit_line, bits_line, source_line, test_line, tests_line, word_text};
+ghost use Rattle.mc_record.specs.Lines.{bit_front, bit_line, bits_line, most_line_bytes, most_row_words, source_line, test_line, tests_line, word_text};
 
 use crate::line::{Line, extend, push_digits, push_number};
 use mc_typed::{Name, TestState};
@@ -56,7 +56,7 @@ pub(crate) fn test_line(name: &Name, state: TestState) -> Line
 }
 
 fn push_words(line: &mut Line, words: &[u64])
-    requires { array_vec_len line.old + 17 * length words.now ≤ 1104 }
+    requires { array_vec_len line.old + 17 * length words.now ≤ most_line_bytes }
     ensures items { line.new.items ≡ line.old.items ++ flat_map word_text words.now }
     ensures len { array_vec_len line.new ≡ array_vec_len line.old + 17 * length words.now }
 {
@@ -79,9 +79,9 @@ pub(crate) fn bit_front(bit: u32) -> Line
     line
 }
 
-/// The line of a bit, of at most 4,096 tests.
+/// The line of a bit, of at most `MOST_TESTS` tests.
 pub(crate) fn bit_line(bit: u32, words: &[u64]) -> Line
-    requires { length words.now ≤ 64 }
+    requires { length words.now ≤ most_row_words }
     ensures { result.items ≡ bit_line bit words.now }
 {
     let mut line = bit_front(bit);

@@ -10,7 +10,7 @@ pub enum PairFault {
     /// number `left` in the left one, each counted from 0. It is the first such test on the right.
     #[error("tests {left} and {right} have one name")]
     SameTest { left: u32, right: u32 },
-    /// Together there are more than 4,096 tests; this many.
+    /// Together there are more than `MOST_TESTS` tests; this many.
     #[error("{tests} tests")]
     Limit { tests: u32 },
     /// The matrix would need more than 1,048,576 words; this many.

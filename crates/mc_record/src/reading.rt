@@ -1,5 +1,6 @@
 //! A record from its text.
 ghost use Rattle.std.specs.Prelude.{◌≡◌, ◌≢◌, ◌≤◌, [], Ok, Err, IfOk, IfErr};
+ghost use Rattle.mc_limits.specs.Limits.{most_bits, most_tests, most_words};
 ghost use Rattle.mc_core.specs.Shape.{word_count};
 ghost use Rattle.mc_record.specs.Kept.{IsKept};
 ghost use Rattle.mc_record.specs.Reading.{body_in, is_end, record_of};
@@ -27,9 +28,9 @@ fn read_body(
     digest: &[u8; 32],
     shape: Shape,
 ) -> Result<Record, RecordFault>
-    requires bits { shape.bits ≤ 65536 }
-    requires tests { shape.tests ≤ 4096 }
-    requires words { word_count shape ≤ 1048576 }
+    requires bits { shape.bits ≤ most_bits }
+    requires tests { shape.tests ≤ most_tests }
+    requires words { word_count shape ≤ most_words }
     ensures read { IfOk result (λ r. body_in digest.now shape text.now ≡ Ok (kept_of r)) }
     ensures fault { IfErr result (λ e. e ≢ OutOfMemory
         → body_in digest.now shape text.now ≡ Err e) }
@@ -63,7 +64,7 @@ pub fn read_record(
     bits: u32,
     old_rules: bool,
 ) -> Result<Record, RecordFault>
-    requires { bits ≤ 65536 }
+    requires { bits ≤ most_bits }
     ensures read { IfOk result (λ r.
         record_of digest.now bits old_rules bytes.now ≡ Ok (kept_of r)) }
     ensures kept { IfOk result (λ r. IsKept (kept_of r)) }

@@ -1,6 +1,7 @@
 //! A test that stands in both records.
 ghost use Rattle.std.specs.Prelude.{◌≡◌, ◌≤◌, ◌<◌, ◌^◌, ℕ, List, IfOk, OnOk, Some, length, if◌then◌else◌};
 ghost use Rattle.std.specs.Str.{bytes_eq};
+ghost use Rattle.mc_limits.specs.Limits.{most_tests};
 ghost use Rattle.mc_record.specs.Merged.{place_of, same_test};
 ghost use Rattle.mc_record.specs.Seen.{place_named};
 
@@ -48,8 +49,8 @@ pub(crate) fn same_test(
     left: &[Name],
     right: &[Name],
 ) -> Result<Option<(u32, u32)>, AllocError>
-    requires left { length left.now ≤ 4096 }
-    requires right { length right.now ≤ 4096 }
+    requires left { length left.now ≤ most_tests }
+    requires right { length right.now ≤ most_tests }
     ensures { IfOk result (λ found. found ≡ same_test left.now right.now) }
 {
     let places = places_of(alloc, left)?;

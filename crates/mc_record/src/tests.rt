@@ -1,6 +1,7 @@
 //! The lines of tests.
 ghost use Rattle.std.specs.Prelude.{◌≡◌, ◌≢◌, ◌≤◌, ◌||◌, ℕ, List, [], Ok, Err, IfOk, IfErr, OnOk, length};
 ghost use Rattle.std.specs.Str.{bytes_eq};
+ghost use Rattle.mc_limits.specs.Limits.{most_tests};
 ghost use Rattle.mc_record.specs.Seen.{AreSeen, has_name, seen_test, tests_of};
 ghost use Rattle.mc_record.specs.Tests.{test_in, tests_in, with_test};
 ghost use Rattle.mc_record.specs.declared.fault.RecordFault.TheVariants.{OutOfMemory};
@@ -57,7 +58,7 @@ fn read_test<'a>(
     seen: &mut BTreeSet<&'a [u8]>,
     text: &'a [u8],
 ) -> Result<&'a [u8], RecordFault>
-    requires few { length names.old.items ≤ 4096 }
+    requires few { length names.old.items ≤ most_tests }
     requires seen { AreSeen names.old.items seen.old }
     ensures seen { IfOk result (λ rest. AreSeen names.new.items seen.new) }
     ensures read { IfOk result (λ rest.
@@ -87,7 +88,7 @@ pub(crate) fn read_tests<'a>(
     text: &'a [u8],
     tests: u32,
 ) -> Result<&'a [u8], RecordFault>
-    requires few { tests ≤ 4096 }
+    requires few { tests ≤ most_tests }
     requires names { names.old.items ≡ [] }
     requires states { states.old.items ≡ [] }
     ensures read { IfOk result (λ rest.

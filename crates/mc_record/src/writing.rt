@@ -1,6 +1,7 @@
 //! The text of a record.
 ghost use Rattle.std.specs.Prelude.{◌≡◌, ◌≤◌, ◌++◌, true, length};
 ghost use Rattle.std.specs.List.{concat, list_all};
+ghost use Rattle.mc_limits.specs.Limits.{most_tests};
 ghost use Rattle.mc_core.specs.Matrix.{IsSound};
 ghost use Rattle.mc_port.specs.Sink.{Puts};
 ghost use Rattle.mc_rows.specs.Names.{is_name};
@@ -75,7 +76,7 @@ fn put_tests<K: Sink>(names: &[Name], states: &[TestState], out: &mut K) -> Resu
 }
 
 fn put_bits<K: Sink>(matrix: &Matrix, out: &mut K) -> Result<(), PutFault>
-    requires few { matrix.now.shape.tests ≤ 4096 }
+    requires few { matrix.now.shape.tests ≤ most_tests }
     ensures bytes { Puts (K.written out.old) (K.written out.new) (K.faults out.old)
         (K.faults out.new) (concat (bit_lines matrix.now)) result }
     ensures later { K.faults out.old ≤ K.faults out.new }

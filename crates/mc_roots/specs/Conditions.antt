@@ -5,7 +5,7 @@ use Rattle.mc_typed.specs.declared.operators.LogicOperator.{LogicOperator}
 use Rattle.mc_typed.specs.declared.operators.LogicOperator.TheVariants as logic
 use Rattle.mc_span.specs.declared.span.Span.{Span}
 use Rattle.mc_cond.specs.Tree.{Tree, Leaf}
-use Rattle.mc_cond.specs.Tree as c
+use Rattle.mc_cond.specs.Tree as conditions
 use Rattle.mc_roots.specs.Nodes.{Node, Constant, Not, Logic, Expression, Whole}
 use Rattle.mc_roots.specs.Roots.{Place}
 
@@ -18,14 +18,14 @@ width (Expression top ps span) = 1
 width (Whole ps) = 1
 
 abbrev pub joined : LogicOperator → Tree → Tree → Tree
-joined logic.And a b = c.And a b
-joined logic.Or a b = c.Or a b
+joined logic.And a b = conditions.And a b
+joined logic.Or a b = conditions.Or a b
 
 -- From the root down `&&`, `||` and `!` are nodes, and the largest operands with another top
 -- operator are the conditions, numbered in the order of the text, here from `first` on.
 abbrev pub tree_from : ℕ → Node → Tree
 tree_from first (Constant span) = Leaf first
-tree_from first (Not a span) = c.Not (tree_from first a)
+tree_from first (Not a span) = conditions.Not (tree_from first a)
 tree_from first (Logic operator a b span) =
     joined operator (tree_from first a) (tree_from (first + width a) b)
 tree_from first (Expression top ps span) = Leaf first

@@ -4,7 +4,7 @@ use Rattle.mc_typed.specs.Tree.{Function}
 use Rattle.mc_roots.specs.declared.role.Role.{Role}
 use Rattle.mc_roots.specs.declared.role.Role.TheVariants.{Test, Plain}
 use Rattle.mc_roots.specs.Nodes.{Node, Constant, Not, Logic, Expression, Whole, Parts, no_parts, part, test}
-use Rattle.mc_roots.specs.Nodes as n
+use Rattle.mc_roots.specs.Nodes as nodes
 use Rattle.mc_roots.specs.Roots.{is_root, operand_role}
 
 abbrev pub one_where : Bool → ℕ
@@ -34,4 +34,4 @@ abbrev mutual
 abbrev pub roots_before : List Function → ℕ → ℕ
 roots_before [] f = 0
 roots_before (g ∷ functions) zero = 0
-roots_before (g ∷ functions) (suc f) = roots Plain (n.function g) + roots_before functions f
+roots_before (g ∷ functions) (suc f) = roots Plain (nodes.function g) + roots_before functions f

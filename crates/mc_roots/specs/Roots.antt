@@ -4,7 +4,7 @@ use Rattle.mc_typed.specs.Tree.{Function}
 use Rattle.mc_roots.specs.declared.role.Role.{Role}
 use Rattle.mc_roots.specs.declared.role.Role.TheVariants.{Test, Inner, Plain}
 use Rattle.mc_roots.specs.Nodes.{Node, Constant, Not, Logic, Expression, Whole, Parts, no_parts, part, test, program}
-use Rattle.mc_roots.specs.Nodes as n
+use Rattle.mc_roots.specs.Nodes as nodes
 
 -- ---- integer constant expressions (C17 6.6)
 
@@ -16,8 +16,8 @@ abbrev mutual
   is_constant (Constant span) = true
   is_constant (Not a span) = is_constant a
   is_constant (Logic operator a b span) = is_constant a && is_constant b
-  is_constant (Expression (n.Operator compares) ps span) = are_constant ps
-  is_constant (Expression n.Other ps span) = false
+  is_constant (Expression (nodes.Operator compares) ps span) = are_constant ps
+  is_constant (Expression nodes.Other ps span) = false
   is_constant (Whole ps) = false
 
   pub are_constant : Parts → Bool
@@ -36,8 +36,8 @@ abbrev pub is_boolean : Node → Bool
 is_boolean (Constant span) = false
 is_boolean (Not a span) = true
 is_boolean (Logic operator a b span) = true
-is_boolean (Expression (n.Operator compares) ps span) = compares
-is_boolean (Expression n.Other ps span) = false
+is_boolean (Expression (nodes.Operator compares) ps span) = compares
+is_boolean (Expression nodes.Other ps span) = false
 is_boolean (Whole ps) = false
 
 -- A root is a test, or any other Boolean expression that is neither a node nor a condition of the

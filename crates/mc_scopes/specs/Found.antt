@@ -2,7 +2,7 @@
 use Rattle.std.specs.Prelude.{option_map}
 use Rattle.mc_typed.specs.Views.{expression_of, place_of, call_of, effect_of}
 use Rattle.mc_typing.specs.Scopes.{Scope}
-use Rattle.mc_typing.specs.Values as v
+use Rattle.mc_typing.specs.Values as values
 use Rattle.mc_scopes.specs.Types.{base_of, type_of}
 use Rattle.mc_scopes.specs.declared.found.Found.{Found}
 use Rattle.mc_scopes.specs.declared.found.Judged.{Judged}
@@ -14,35 +14,35 @@ use Rattle.mc_scopes.specs.declared.value.Value.{Value}
 use Rattle.mc_scopes.specs.declared.value.Value.TheVariants as value
 use Rattle.mc_faults.specs.Kept.{listed}
 
-abbrev pub value_of : Value → v.Value
-value_of (value.Number e) = v.Number (expression_of e)
-value_of (value.Stored place u) = v.Stored (place_of place) (type_of u)
-value_of (value.Borrowed array element span) = v.Borrowed array (type_of element) span
-value_of (value.Returned c k) = v.Returned (call_of c) k
-value_of (value.Done effect) = v.Done (effect_of effect.value)
-value_of (value.Assigned effect) = v.Assigned (effect_of effect.value)
-value_of value.Designator = v.Designator
+abbrev pub value_of : Value → values.Value
+value_of (value.Number e) = values.Number (expression_of e)
+value_of (value.Stored place u) = values.Stored (place_of place) (type_of u)
+value_of (value.Borrowed array element span) = values.Borrowed array (type_of element) span
+value_of (value.Returned c k) = values.Returned (call_of c) k
+value_of (value.Done effect) = values.Done (effect_of effect.value)
+value_of (value.Assigned effect) = values.Assigned (effect_of effect.value)
+value_of value.Designator = values.Designator
 
-abbrev pub parts_of : ValueParts → v.Value
-parts_of (parts.Number e) = v.Number (expression_of e)
-parts_of (parts.Stored place u) = v.Stored (place_of place) (type_of u)
-parts_of (parts.Borrowed array element span) = v.Borrowed array (type_of element) span
-parts_of (parts.Returned c k) = v.Returned (call_of c) k
-parts_of (parts.Done effect) = v.Done (effect_of effect.value)
-parts_of (parts.Assigned effect) = v.Assigned (effect_of effect.value)
-parts_of parts.Designator = v.Designator
+abbrev pub parts_of : ValueParts → values.Value
+parts_of (parts.Number e) = values.Number (expression_of e)
+parts_of (parts.Stored place u) = values.Stored (place_of place) (type_of u)
+parts_of (parts.Borrowed array element span) = values.Borrowed array (type_of element) span
+parts_of (parts.Returned c k) = values.Returned (call_of c) k
+parts_of (parts.Done effect) = values.Done (effect_of effect.value)
+parts_of (parts.Assigned effect) = values.Assigned (effect_of effect.value)
+parts_of parts.Designator = values.Designator
 
-abbrev pub kind_of : Kind → v.Kind
-kind_of kind.Void = v.IsVoid
-kind_of kind.Assignment = v.IsAssignment
-kind_of kind.Integer = v.IsInteger
-kind_of (kind.Structure k) = v.IsStructure k
+abbrev pub kind_of : Kind → values.Kind
+kind_of kind.Void = values.IsVoid
+kind_of kind.Assignment = values.IsAssignment
+kind_of kind.Integer = values.IsInteger
+kind_of (kind.Structure k) = values.IsStructure k
 kind_of (kind.Array base is_const lengths) =
-    v.IsArray (record { base = base_of base; is_const = is_const; lengths = lengths.now })
-kind_of kind.Function = v.IsFunction
+    values.IsArray (record { base = base_of base; is_const = is_const; lengths = lengths.now })
+kind_of kind.Function = values.IsFunction
 
 -- with the scope after it
-abbrev pub found_of : Found → Scope → v.Found
+abbrev pub found_of : Found → Scope → values.Found
 found_of x s = record {
   faults = listed x.fault;
   value = option_map value_of x.value;
@@ -51,5 +51,5 @@ found_of x s = record {
   scope = s;
 }
 
-abbrev pub judged_of : {A B : Type 0} → (A → B) → Judged A → Scope → v.Judged B
+abbrev pub judged_of : {A B : Type 0} → (A → B) → Judged A → Scope → values.Judged B
 judged_of f x s = record { faults = listed x.fault; value = option_map f x.value; scope = s }

@@ -2,7 +2,7 @@
 use Rattle.std.specs.Prelude.{List, map, option_map, Vec}
 use Rattle.std.specs.declared.alloc.Global.{Global}
 use Rattle.mc_typed.specs.declared.expressions.Argument.{Argument}
-use Rattle.mc_typed.specs.Tree as t
+use Rattle.mc_typed.specs.Tree as typed
 use Rattle.mc_typed.specs.Views.{argument_of, arguments_from}
 use Rattle.mc_typing.specs.Scopes.{Scope}
 use Rattle.mc_typing.specs.Calls as calls
@@ -10,10 +10,10 @@ use Rattle.mc_scopes.specs.declared.found.Given.{Given}
 use Rattle.mc_faults.specs.Kept.{listed}
 
 -- arguments, in their order
-abbrev pub items_of : Vec Argument Global → List t.Argument
+abbrev pub items_of : Vec Argument Global → List typed.Argument
 items_of given = map argument_of given.items
 
-abbrev pub arguments_of : Vec Argument Global → t.Arguments
+abbrev pub arguments_of : Vec Argument Global → typed.Arguments
 arguments_of given = arguments_from (map argument_of given.items)
 
 -- with the scope after them

@@ -4,7 +4,7 @@ use denote.Ref.{Bor}
 use Rattle.mc_value.specs.declared.object_type.ObjType.{ObjType}
 use Rattle.mc_typed.specs.Layout.{ObjectType, nesting_all, start, object_type_of}
 use Rattle.mc_typing.specs.Types.{nothing}
-use Rattle.mc_typing.specs.Types as t
+use Rattle.mc_typing.specs.Types as types
 use Rattle.mc_typing.specs.Declarators.{cells_of_members}
 use Rattle.mc_typing.specs.Expressions.{Selected, layouts_of}
 use Rattle.mc_names.specs.Tables.{Named}
@@ -15,7 +15,7 @@ abbrev pub layout_of : Option ObjType → ObjectType
 layout_of None = nothing
 layout_of (Some u) = object_type_of u
 
-abbrev pub listed_of : Named Member → t.Member
+abbrev pub listed_of : Named Member → types.Member
 listed_of m = record {
   name = m.name;
   member_type = option_map type_of m.meaning.of;

@@ -6,21 +6,21 @@ use Rattle.mc_typed.specs.declared.statements.Statement.{Statement}
 use Rattle.mc_typed.specs.declared.statements.Declarator.{Declarator}
 use Rattle.mc_typed.specs.declared.expressions.Expression.{Expression}
 use Rattle.mc_typed.specs.Views.{expression_of, effect_of, declarator_of, statement_of, statements_from}
-use Rattle.mc_typed.specs.Tree as t
-use Rattle.mc_typing.specs.Statements as w
+use Rattle.mc_typed.specs.Tree as typed
+use Rattle.mc_typing.specs.Statements as statements
 use Rattle.mc_scopes.specs.Types.{base_of}
 use Rattle.mc_scopes.specs.declared.around.Around.{Around}
 
-abbrev pub statements_of : Vec Statement Global → t.Statements
+abbrev pub statements_of : Vec Statement Global → typed.Statements
 statements_of v = statements_from (map statement_of v.items)
 
-abbrev pub effects_of : Vec Effect Global → List t.Effect
+abbrev pub effects_of : Vec Effect Global → List typed.Effect
 effects_of v = map effect_of v.items
 
-abbrev pub declarators_of : Vec Declarator Global → List t.Declarator
+abbrev pub declarators_of : Vec Declarator Global → List typed.Declarator
 declarators_of v = map declarator_of v.items
 
-abbrev pub around_of : Around → w.Around
+abbrev pub around_of : Around → statements.Around
 around_of a = record {
   result = option_map base_of a.result;
   breaks = a.breaks;
@@ -29,5 +29,5 @@ around_of a = record {
 }
 
 -- the controlling expression of a loop, where there is one
-abbrev pub test_of : Option Expression → Option t.Expression
+abbrev pub test_of : Option Expression → Option typed.Expression
 test_of e = option_map expression_of e

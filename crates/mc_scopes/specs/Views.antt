@@ -1,8 +1,8 @@
 -- What the scope of the program stands for.
 use Rattle.std.specs.Prelude.{List, map, Option, Some, None, option_map}
 use Rattle.mc_typed.specs.Views.{object_of, static_of}
-use Rattle.mc_typing.specs.Types as t
-use Rattle.mc_typing.specs.Scopes as s
+use Rattle.mc_typing.specs.Types as types
+use Rattle.mc_typing.specs.Scopes as scopes
 use Rattle.mc_names.specs.Tables.{Named}
 use Rattle.mc_scopes.specs.Types.{type_of, signature_of}
 use Rattle.mc_scopes.specs.Listed.{listed_of}
@@ -15,36 +15,36 @@ use Rattle.mc_scopes.specs.declared.members.Structure.{Structure}
 use Rattle.mc_scopes.specs.declared.members.Structure.TheVariants as structure
 use Rattle.mc_scopes.specs.declared.scope.Scope.{Scope}
 
-abbrev pub meaning_of : Meaning → s.Meaning
-meaning_of (meaning.Automatic slot of) = s.Automatic slot (option_map type_of of)
-meaning_of (meaning.Static slot of) = s.Stored slot (option_map type_of of)
-meaning_of (meaning.Borrowed array element) = s.Borrowed array (type_of element)
-meaning_of (meaning.Constant value) = s.Constant value
+abbrev pub meaning_of : Meaning → scopes.Meaning
+meaning_of (meaning.Automatic slot of) = scopes.Automatic slot (option_map type_of of)
+meaning_of (meaning.Static slot of) = scopes.Stored slot (option_map type_of of)
+meaning_of (meaning.Borrowed array element) = scopes.Borrowed array (type_of element)
+meaning_of (meaning.Constant value) = scopes.Constant value
 meaning_of (meaning.Function signature has_body) =
-    s.Function (option_map (λ f. signature_of f.value) signature) has_body
-meaning_of (meaning.Typedef of) = s.Typedef (option_map type_of of)
+    scopes.Function (option_map (λ f. signature_of f.value) signature) has_body
+meaning_of (meaning.Typedef of) = scopes.Typedef (option_map type_of of)
 
-abbrev pub tag_of : TagMeaning → s.TagMeaning
-tag_of (tag.Structure k) = s.StructureTag k
-tag_of tag.Enumeration = s.EnumerationTag
+abbrev pub tag_of : TagMeaning → scopes.TagMeaning
+tag_of (tag.Structure k) = scopes.StructureTag k
+tag_of tag.Enumeration = scopes.EnumerationTag
 
-abbrev pub structure_of : Structure → t.Structure
-structure_of (structure.Incomplete begun) = t.Incomplete begun
-structure_of (structure.Complete c) = t.Complete (map listed_of c)
-structure_of structure.Faulty = t.Faulty
+abbrev pub structure_of : Structure → types.Structure
+structure_of (structure.Incomplete begun) = types.Incomplete begun
+structure_of (structure.Complete c) = types.Complete (map listed_of c)
+structure_of structure.Faulty = types.Faulty
 
 -- the members of a complete structure
 abbrev pub complete_in : Structure → Option (List (Named Member))
 complete_in (structure.Complete c) = Some c
 complete_in _ = None
 
-abbrev pub entry_of : Named Meaning → s.Entry
+abbrev pub entry_of : Named Meaning → scopes.Entry
 entry_of e = record { name = e.name; meaning = meaning_of e.meaning }
 
-abbrev pub tag_entry_of : Named TagMeaning → s.Tag
+abbrev pub tag_entry_of : Named TagMeaning → scopes.Tag
 tag_entry_of e = record { name = e.name; meaning = tag_of e.meaning }
 
-abbrev pub scope_of : Scope → s.Scope
+abbrev pub scope_of : Scope → scopes.Scope
 scope_of c = record {
   names = map entry_of c.names;
   tags = map tag_entry_of c.tags;

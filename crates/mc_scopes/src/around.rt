@@ -1,6 +1,6 @@
 //! What stands around a statement.
 ghost use Rattle.std.specs.Prelude.{◌≡◌, option_map};
-ghost use Rattle.mc_typing.specs.Statements as w;
+ghost use Rattle.mc_typing.specs.Statements as statements;
 ghost use Rattle.mc_scopes.specs.Types.{base_of};
 ghost use Rattle.mc_scopes.specs.Statements.{around_of};
 
@@ -20,7 +20,7 @@ pub struct Around {
 impl Around {
     /// Round the body of a function.
     pub fn outermost(gives: Option<Base>) -> Around
-        ensures { around_of result ≡ w.outermost (option_map base_of gives) }
+        ensures { around_of result ≡ statements.outermost (option_map base_of gives) }
     {
         Around {
             result: gives,
@@ -32,7 +32,7 @@ impl Around {
 
     /// Round a statement inside another one.
     pub fn inside(self) -> Around
-        ensures { around_of result ≡ w.inside (around_of self) }
+        ensures { around_of result ≡ statements.inside (around_of self) }
     {
         Around {
             is_body: false,
@@ -42,7 +42,7 @@ impl Around {
 
     /// Round the body of a loop (C17 6.8.5).
     pub fn in_loop(self) -> Around
-        ensures { around_of result ≡ w.in_loop (around_of self) }
+        ensures { around_of result ≡ statements.in_loop (around_of self) }
     {
         Around {
             breaks: true,
@@ -54,7 +54,7 @@ impl Around {
 
     /// Round the body of a `switch` (C17 6.8.4.2).
     pub fn in_switch(self) -> Around
-        ensures { around_of result ≡ w.in_switch (around_of self) }
+        ensures { around_of result ≡ statements.in_switch (around_of self) }
     {
         Around {
             breaks: true,

@@ -2,7 +2,7 @@
 ghost use Rattle.std.specs.Prelude.{◌≡◌, option_map};
 ghost use Rattle.mc_tree.specs.Views as tree;
 ghost use Rattle.mc_faults.specs.Faults.{least_of};
-ghost use Rattle.mc_typing.specs.Values as v;
+ghost use Rattle.mc_typing.specs.Values as values;
 ghost use Rattle.mc_scopes.specs.Found.{kind_of};
 
 use crate::kind::{Kind, fails_discarded, fails_effect};
@@ -11,7 +11,7 @@ use mc_tree::Expression;
 
 /// Where an expression starts inside the parentheses round it. Takes no memory.
 pub fn bare_start(expression: &Expression<'_>) -> u32
-    ensures { result ≡ v.bare_start (tree.expression_of expression.now) }
+    ensures { result ≡ values.bare_start (tree.expression_of expression.now) }
 {
     match expression {
         Expression::Parenthesized { inner, .. } => bare_start(inner),
@@ -35,7 +35,7 @@ pub fn bare_start(expression: &Expression<'_>) -> u32
 /// The fault of an expression that stands as a statement and may not.
 pub fn effect_fault(expression: &Expression<'_>, kind: Option<Kind<'_>>) -> Option<Fault>
     ensures { result ≡ least_of
-        (v.effect_faults (tree.expression_of expression.now) (option_map kind_of kind.entry)) }
+        (values.effect_faults (tree.expression_of expression.now) (option_map kind_of kind.entry)) }
 {
     fault_where(
         fails_effect(kind),
@@ -47,7 +47,8 @@ pub fn effect_fault(expression: &Expression<'_>, kind: Option<Kind<'_>>) -> Opti
 /// The fault of an expression that stands under a cast to void and may not.
 pub fn discarded_fault(expression: &Expression<'_>, kind: Option<Kind<'_>>) -> Option<Fault>
     ensures { result ≡ least_of
-        (v.discarded_faults (tree.expression_of expression.now) (option_map kind_of kind.entry)) }
+        (values.discarded_faults (tree.expression_of expression.now)
+        (option_map kind_of kind.entry)) }
 {
     fault_where(
         fails_discarded(kind),

@@ -1,7 +1,7 @@
 //! Blocks (C17 6.2.1p4).
 ghost use Rattle.std.specs.Prelude.{◌≡◌, IfOk, option_map};
 ghost use Rattle.mc_tree.specs.Views.{name_of};
-ghost use Rattle.mc_typing.specs.Scopes as s;
+ghost use Rattle.mc_typing.specs.Scopes as scopes;
 ghost use Rattle.mc_scopes.specs.Blocks.{Around, around, around_of, left_by, function_left_by};
 ghost use Rattle.mc_scopes.specs.Views.{scope_of};
 
@@ -24,7 +24,7 @@ impl<'a> Scope<'a> {
     /// A new block, which may be the body of a `switch` with the labels so far. Takes no memory.
     pub fn enter(&mut self, labels: Option<Labels>) -> Block
         ensures block { around_of result ≡ around (scope_of self.old) }
-        ensures entered { scope_of self.new ≡ s.entered labels (scope_of self.old) }
+        ensures entered { scope_of self.new ≡ scopes.entered labels (scope_of self.old) }
     {
         let block = Block {
             names: self.names.len(),
@@ -55,7 +55,7 @@ impl<'a> Scope<'a> {
     /// The parameters of a function, whose objects begin a frame. Takes no memory.
     pub fn enter_prototype(&mut self, alloc: Global) -> Block
         ensures block { around_of result ≡ around (scope_of self.old) }
-        ensures entered { scope_of self.new ≡ s.prototype (scope_of self.old) }
+        ensures entered { scope_of self.new ≡ scopes.prototype (scope_of self.old) }
     {
         let block = self.enter(None);
         self.objects = Vec::new(alloc);

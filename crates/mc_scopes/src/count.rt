@@ -1,11 +1,12 @@
 //! How many items a list has.
 ghost use Rattle.std.specs.Prelude.{◌≡◌, map};
 ghost use Rattle.mc_tree.specs.Units as units;
-ghost use Rattle.mc_typing.specs.Initializers as i;
+ghost use Rattle.mc_typing.specs.Initializers as initializers;
 
 /// How many items a list has. Takes no memory.
 pub fn count_of(items: &[mc_tree::Initializer<'_>]) -> usize
-    ensures { result ≡ i.count_of (units.initializers_from (map units.initializer_of items.now)) }
+    ensures { result ≡ initializers.count_of
+        (units.initializers_from (map units.initializer_of items.now)) }
 {
     items.len()
 }

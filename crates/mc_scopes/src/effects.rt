@@ -1,14 +1,14 @@
 //! Whole effects (C17 6.8.3).
 ghost use Rattle.std.specs.Prelude.{◌≡◌};
 ghost use Rattle.mc_typed.specs.Views.{effect_of};
-ghost use Rattle.mc_typing.specs.Values as v;
+ghost use Rattle.mc_typing.specs.Values as values;
 
 use mc_typed::Effect;
 
 /// Makes an effect that of a whole expression statement or clause of a `for`, which does not use
 /// the value of a call. Takes no memory.
 pub fn make_whole(effect: &mut Effect)
-    ensures { effect_of effect.new ≡ v.whole (effect_of effect.old) }
+    ensures { effect_of effect.new ≡ values.whole (effect_of effect.old) }
 {
     match effect {
         Effect::Number { whole, .. } => *whole = true,

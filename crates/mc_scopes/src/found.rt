@@ -1,7 +1,7 @@
 //! What is found of a node.
 ghost use Rattle.std.specs.Prelude.{◌≡◌, option_map, option_and_then, false};
 ghost use Rattle.mc_typed.specs.Views.{expression_of};
-ghost use Rattle.mc_typing.specs.Values as v;
+ghost use Rattle.mc_typing.specs.Values as values;
 ghost use Rattle.mc_scopes.specs.Found.{kind_of, value_of};
 
 use crate::kind::Kind;
@@ -37,7 +37,8 @@ pub struct Given<A> {
 
 /// Whether an operand is known to be no integer.
 pub fn fails_integer(value: &Option<Value>) -> bool
-    ensures { result ≡ v.fails v.is_integer (option_map v.kind_of (option_map value_of value.now)) }
+    ensures { result ≡ values.fails values.is_integer
+        (option_map values.kind_of (option_map value_of value.now)) }
 {
     match value {
         Some(value) => !value.is_integer(),
@@ -47,7 +48,8 @@ pub fn fails_integer(value: &Option<Value>) -> bool
 
 /// The kind of an expression, where it has a type.
 pub fn kind_found(value: &Option<Value>) -> Option<Kind<'_>>
-    ensures { option_map kind_of result ≡ option_map v.kind_of (option_map value_of value.now) }
+    ensures { option_map kind_of result
+        ≡ option_map values.kind_of (option_map value_of value.now) }
 {
     match value {
         Some(value) => Some(value.kind()),
@@ -58,7 +60,7 @@ pub fn kind_found(value: &Option<Value>) -> Option<Kind<'_>>
 /// The number of an operand that has an integer type.
 pub fn number_in(value: Option<Value>) -> Option<Expression>
     ensures { option_map expression_of result
-        ≡ option_and_then v.number_in (option_map value_of value) }
+        ≡ option_and_then values.number_in (option_map value_of value) }
 {
     match value {
         Some(value) => value.into_number(),
@@ -70,7 +72,7 @@ pub fn number_in(value: Option<Value>) -> Option<Expression>
 pub fn number_found(fault: Option<Fault>, number: Option<Expression>, constant: bool) -> Found
     ensures fault { result.fault ≡ fault }
     ensures value { option_map value_of result.value
-        ≡ option_map v.Number (option_map expression_of number) }
+        ≡ option_map values.Number (option_map expression_of number) }
     ensures place { result.place ≡ false }
     ensures constant { result.constant ≡ constant }
 {

@@ -1,15 +1,15 @@
 //! Values of objects with static storage duration (C17 6.7.9p4, p10, p21).
 ghost use Rattle.std.specs.Prelude.{◌≡◌, ◌≤◌, ◌∷◌, ◌++◌, [], ℤ, List, pos, length, map, unwrap_or, IfOk, OnOk};
-ghost use Rattle.mc_typed.specs.Constants as c;
+ghost use Rattle.mc_typed.specs.Constants as folded;
 ghost use Rattle.mc_typed.specs.Views.{expression_of, initializer_of, initializers_from};
-ghost use Rattle.mc_typing.specs.Initializers as i;
+ghost use Rattle.mc_typing.specs.Initializers as initializers;
 
 use crate::lists::{push, where_done};
 use mc_typed::{Expression, Initializer, constant_value};
 use std::alloc::{AllocError, Global};
 
 fn number_or_zero(value: &Expression) -> i128
-    ensures { result ≡ unwrap_or (c.constant_value (expression_of value.now)) (pos 0) }
+    ensures { result ≡ unwrap_or (folded.constant_value (expression_of value.now)) (pos 0) }
 {
     match constant_value(value) {
         Some(number) => number,
@@ -22,7 +22,7 @@ fn number_or_zero(value: &Expression) -> i128
 fn fill(values: &mut Vec<i128>, start: usize, count: u32) -> Result<(), AllocError>
     requires { start ≤ length values.old.items }
     ensures { OnOk result ((before vs : List ℤ) → values.old.items ≡ before ++ vs
-        → length before ≡ start → values.new.items ≡ before ++ i.filled count vs) }
+        → length before ≡ start → values.new.items ≡ before ++ initializers.filled count vs) }
 {
     let given = values.len() - start;
     let missing = (count as usize).saturating_sub(given);
@@ -33,7 +33,7 @@ fn fill(values: &mut Vec<i128>, start: usize, count: u32) -> Result<(), AllocErr
 // So many zeros.
 #[tactic(auto, using(crate::proofs::Filled::zeros_more))]
 fn add_zeros(values: &mut Vec<i128>, count: u32) -> Result<(), AllocError>
-    ensures { OnOk result (values.new.items ≡ values.old.items ++ i.filled count []) }
+    ensures { OnOk result (values.new.items ≡ values.old.items ++ initializers.filled count []) }
 {
     let total = values.len() + count as usize;
     values.resize(total, 0)
@@ -42,7 +42,8 @@ fn add_zeros(values: &mut Vec<i128>, count: u32) -> Result<(), AllocError>
 // The value of a number.
 fn add_number(values: &mut Vec<i128>, value: &Expression) -> Result<(), AllocError>
     ensures { OnOk result (values.new.items
-        ≡ values.old.items ++ unwrap_or (c.constant_value (expression_of value.now)) (pos 0) ∷ []) }
+        ≡ values.old.items ++ unwrap_or (folded.constant_value (expression_of value.now)) (pos 0)
+        ∷ []) }
 {
     push(values, number_or_zero(value))
 }
@@ -50,7 +51,7 @@ fn add_number(values: &mut Vec<i128>, value: &Expression) -> Result<(), AllocErr
 #[cycle(values)]
 fn add_values(values: &mut Vec<i128>, tree: &Initializer) -> Result<(), AllocError>
     ensures { OnOk result (values.new.items
-        ≡ values.old.items ++ i.values_of (initializer_of tree.now)) }
+        ≡ values.old.items ++ initializers.values_of (initializer_of tree.now)) }
 {
     match tree {
         Initializer::Number { value } => { add_number(values, value) }
@@ -67,7 +68,7 @@ fn add_values(values: &mut Vec<i128>, tree: &Initializer) -> Result<(), AllocErr
 #[cycle(values)]
 fn add_all(values: &mut Vec<i128>, trees: &[Initializer]) -> Result<(), AllocError>
     ensures { OnOk result (values.new.items ≡ values.old.items
-        ++ i.values_of_items (initializers_from (map initializer_of trees.now))) }
+        ++ initializers.values_of_items (initializers_from (map initializer_of trees.now))) }
 {
     for tree in trees {
         add_values(values, tree)?;
@@ -77,7 +78,7 @@ fn add_all(values: &mut Vec<i128>, trees: &[Initializer]) -> Result<(), AllocErr
 
 /// The values of the cells of an object, from its initializer.
 pub fn values_of(alloc: Global, tree: &Initializer) -> Result<Vec<i128>, AllocError>
-    ensures { IfOk result (λ r. r.items ≡ i.values_of (initializer_of tree.now)) }
+    ensures { IfOk result (λ r. r.items ≡ initializers.values_of (initializer_of tree.now)) }
 {
     let mut values = Vec::new(alloc);
     let done = add_values(&mut values, tree);
@@ -86,7 +87,7 @@ pub fn values_of(alloc: Global, tree: &Initializer) -> Result<Vec<i128>, AllocEr
 
 /// The values of so many cells without an initializer (C17 6.7.9p10).
 pub fn zeros(alloc: Global, count: u32) -> Result<Vec<i128>, AllocError>
-    ensures { IfOk result (λ r. r.items ≡ i.filled count []) }
+    ensures { IfOk result (λ r. r.items ≡ initializers.filled count []) }
 {
     let mut values = Vec::new(alloc);
     let done = add_zeros(&mut values, count);

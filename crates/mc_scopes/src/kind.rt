@@ -1,8 +1,8 @@
 //! Kinds of types that expressions have.
 ghost use Rattle.std.specs.Prelude.{◌≡◌, option_map};
-ghost use Rattle.mc_typing.specs.Values as v;
-ghost use Rattle.mc_typing.specs.Expressions as e;
-ghost use Rattle.mc_typing.specs.Initializers as i;
+ghost use Rattle.mc_typing.specs.Values as values;
+ghost use Rattle.mc_typing.specs.Expressions as expressions;
+ghost use Rattle.mc_typing.specs.Initializers as initializers;
 ghost use Rattle.mc_scopes.specs.Found.{kind_of};
 
 use crate::types::Base;
@@ -26,7 +26,7 @@ pub enum Kind<'a> {
 
 impl Kind<'_> {
     pub fn is_integer(self) -> bool
-        ensures { result ≡ v.is_integer (kind_of self.entry) }
+        ensures { result ≡ values.is_integer (kind_of self.entry) }
     {
         match self {
             Kind::Integer => true,
@@ -39,7 +39,7 @@ impl Kind<'_> {
     }
 
     pub fn is_array(self) -> bool
-        ensures { result ≡ v.is_array (kind_of self.entry) }
+        ensures { result ≡ values.is_array (kind_of self.entry) }
     {
         match self {
             Kind::Array { .. } => true,
@@ -49,7 +49,7 @@ impl Kind<'_> {
     }
 
     pub fn is_structure(self) -> bool
-        ensures { result ≡ v.is_structure (kind_of self.entry) }
+        ensures { result ≡ values.is_structure (kind_of self.entry) }
     {
         match self {
             Kind::Structure(_) => true,
@@ -60,7 +60,7 @@ impl Kind<'_> {
 
     /// Whether it may be a statement of its own (C17 6.3.2.1p3, p4).
     pub fn is_effect(self) -> bool
-        ensures { result ≡ v.is_effect (kind_of self.entry) }
+        ensures { result ≡ values.is_effect (kind_of self.entry) }
     {
         match self {
             Kind::Array { .. } | Kind::Function => false,
@@ -70,7 +70,7 @@ impl Kind<'_> {
 
     /// Whether it may stand under a cast to void.
     pub fn is_discarded(self) -> bool
-        ensures { result ≡ v.is_discarded (kind_of self.entry) }
+        ensures { result ≡ values.is_discarded (kind_of self.entry) }
     {
         match self {
             Kind::Assignment | Kind::Array { .. } | Kind::Function => false,
@@ -80,7 +80,7 @@ impl Kind<'_> {
 
     /// Whether it may be an arm of `?:` (C17 6.5.15p3).
     pub fn is_arm(self) -> bool
-        ensures { result ≡ e.is_arm (kind_of self.entry) }
+        ensures { result ≡ expressions.is_arm (kind_of self.entry) }
     {
         match self {
             Kind::Void | Kind::Integer => true,
@@ -90,7 +90,7 @@ impl Kind<'_> {
 
     /// Whether an object of the kind can be assigned to (C17 6.5.16p2).
     pub fn is_assigned(self) -> bool
-        ensures { result ≡ e.is_assigned (kind_of self.entry) }
+        ensures { result ≡ expressions.is_assigned (kind_of self.entry) }
     {
         match self {
             Kind::Integer | Kind::Structure(_) => true,
@@ -103,7 +103,7 @@ impl Kind<'_> {
 
 /// Whether it is the kind of the structure type with this number.
 pub fn is_kind(number: u32, kind: Kind<'_>) -> bool
-    ensures { result ≡ i.is_kind number (kind_of kind.entry) }
+    ensures { result ≡ initializers.is_kind number (kind_of kind.entry) }
 {
     match kind {
         Kind::Structure(other) => other == number,
@@ -113,7 +113,7 @@ pub fn is_kind(number: u32, kind: Kind<'_>) -> bool
 }
 
 pub fn fails_integer(kind: Option<Kind<'_>>) -> bool
-    ensures { result ≡ v.fails v.is_integer (option_map kind_of kind.entry) }
+    ensures { result ≡ values.fails values.is_integer (option_map kind_of kind.entry) }
 {
     match kind {
         Some(kind) => !kind.is_integer(),
@@ -122,7 +122,7 @@ pub fn fails_integer(kind: Option<Kind<'_>>) -> bool
 }
 
 pub fn fails_array(kind: Option<Kind<'_>>) -> bool
-    ensures { result ≡ v.fails v.is_array (option_map kind_of kind.entry) }
+    ensures { result ≡ values.fails values.is_array (option_map kind_of kind.entry) }
 {
     match kind {
         Some(kind) => !kind.is_array(),
@@ -131,7 +131,7 @@ pub fn fails_array(kind: Option<Kind<'_>>) -> bool
 }
 
 pub fn fails_structure(kind: Option<Kind<'_>>) -> bool
-    ensures { result ≡ v.fails v.is_structure (option_map kind_of kind.entry) }
+    ensures { result ≡ values.fails values.is_structure (option_map kind_of kind.entry) }
 {
     match kind {
         Some(kind) => !kind.is_structure(),
@@ -140,7 +140,7 @@ pub fn fails_structure(kind: Option<Kind<'_>>) -> bool
 }
 
 pub fn fails_effect(kind: Option<Kind<'_>>) -> bool
-    ensures { result ≡ v.fails v.is_effect (option_map kind_of kind.entry) }
+    ensures { result ≡ values.fails values.is_effect (option_map kind_of kind.entry) }
 {
     match kind {
         Some(kind) => !kind.is_effect(),
@@ -149,7 +149,7 @@ pub fn fails_effect(kind: Option<Kind<'_>>) -> bool
 }
 
 pub fn fails_discarded(kind: Option<Kind<'_>>) -> bool
-    ensures { result ≡ v.fails v.is_discarded (option_map kind_of kind.entry) }
+    ensures { result ≡ values.fails values.is_discarded (option_map kind_of kind.entry) }
 {
     match kind {
         Some(kind) => !kind.is_discarded(),
@@ -158,7 +158,7 @@ pub fn fails_discarded(kind: Option<Kind<'_>>) -> bool
 }
 
 pub fn fails_arm(kind: Option<Kind<'_>>) -> bool
-    ensures { result ≡ v.fails e.is_arm (option_map kind_of kind.entry) }
+    ensures { result ≡ values.fails expressions.is_arm (option_map kind_of kind.entry) }
 {
     match kind {
         Some(kind) => !kind.is_arm(),
@@ -167,7 +167,7 @@ pub fn fails_arm(kind: Option<Kind<'_>>) -> bool
 }
 
 pub fn fails_assigned(kind: Option<Kind<'_>>) -> bool
-    ensures { result ≡ v.fails e.is_assigned (option_map kind_of kind.entry) }
+    ensures { result ≡ values.fails expressions.is_assigned (option_map kind_of kind.entry) }
 {
     match kind {
         Some(kind) => !kind.is_assigned(),

@@ -3,7 +3,7 @@ ghost use Rattle.std.specs.Prelude.{◌≡◌, ◌+◌, ◌*◌, ◌<◌, ◌≤
 ghost use Rattle.mc_value.specs.ObjectTypes.{most_cells};
 ghost use Rattle.mc_typed.specs.Layout as layout;
 ghost use Rattle.mc_typed.specs.Layout.{object_type_of};
-ghost use Rattle.mc_typing.specs.Types as t;
+ghost use Rattle.mc_typing.specs.Types as type_rules;
 ghost use Rattle.mc_typing.specs.Limits as limit;
 ghost use Rattle.mc_typing.specs.Declarators.{cells_of_members};
 ghost use Rattle.mc_typing.specs.Expressions.{layouts_of};
@@ -23,7 +23,7 @@ use std::sync::Arc;
 #[tactic(auto, using(crate::proofs::Arrays::structure_at))]
 fn has_members(structures: &[Structure<'_>], number: u32) -> bool
     ensures { result
-        ≡ t.is_complete_structure (slice_get (map structure_of structures.now) number) }
+        ≡ type_rules.is_complete_structure (slice_get (map structure_of structures.now) number) }
 {
     match structures.get(number as usize) {
         Some(structure) => structure.is_complete(),
@@ -33,7 +33,7 @@ fn has_members(structures: &[Structure<'_>], number: u32) -> bool
 
 /// Whether an object can have a type with this base (C17 6.2.5p1).
 pub fn is_complete(structures: &[Structure<'_>], base: Base) -> bool
-    ensures { result ≡ t.is_complete (map structure_of structures.now) (base_of base) }
+    ensures { result ≡ type_rules.is_complete (map structure_of structures.now) (base_of base) }
 {
     match base {
         Base::Void => false,
@@ -45,7 +45,8 @@ pub fn is_complete(structures: &[Structure<'_>], base: Base) -> bool
 // Whether the structure type with this number has a fault in its list.
 #[tactic(auto, using(crate::proofs::Arrays::structure_at))]
 fn has_fault(structures: &[Structure<'_>], number: u32) -> bool
-    ensures { result ≡ t.is_faulty_structure (slice_get (map structure_of structures.now) number) }
+    ensures { result ≡ type_rules.is_faulty_structure
+        (slice_get (map structure_of structures.now) number) }
 {
     match structures.get(number as usize) {
         Some(structure) => structure.is_faulty(),
@@ -55,7 +56,7 @@ fn has_fault(structures: &[Structure<'_>], number: u32) -> bool
 
 /// Whether the base is a structure with a fault in its list.
 pub fn is_faulty(structures: &[Structure<'_>], base: Base) -> bool
-    ensures { result ≡ t.is_faulty (map structure_of structures.now) (base_of base) }
+    ensures { result ≡ type_rules.is_faulty (map structure_of structures.now) (base_of base) }
 {
     match base {
         Base::Void => false,
@@ -76,7 +77,7 @@ fn no_parts(alloc: Global) -> Result<Arc<Vec<ObjType>>, AllocError>
 // The layouts of the members of a structure, where it is complete.
 fn parts_of(alloc: Global, structure: &Structure<'_>) -> Result<Arc<Vec<ObjType>>, AllocError>
     ensures { IfOk result (λ p. map object_type_of p.value.items
-        ≡ map (λ m. m.layout) (t.members_of (Some (structure_of structure.now)))) }
+        ≡ map (λ m. m.layout) (type_rules.members_of (Some (structure_of structure.now)))) }
 {
     match structure {
         Structure::Complete(complete) => complete.parts(),
@@ -93,7 +94,8 @@ fn parts_at(
     number: u32,
 ) -> Result<Arc<Vec<ObjType>>, AllocError>
     ensures { IfOk result (λ p. map object_type_of p.value.items
-        ≡ map (λ m. m.layout) (t.members_of (slice_get (map structure_of structures.now) number))) }
+        ≡ map (λ m. m.layout) (type_rules.members_of
+        (slice_get (map structure_of structures.now) number))) }
 {
     match structures.get(number as usize) {
         Some(structure) => parts_of(alloc, structure),
@@ -108,7 +110,7 @@ fn layout_of_base(
     base: Base,
 ) -> Result<ObjType, AllocError>
     ensures { IfOk result (λ r. object_type_of r
-        ≡ t.layout_of_base (map structure_of structures.now) (base_of base)) }
+        ≡ type_rules.layout_of_base (map structure_of structures.now) (base_of base)) }
 {
     match base {
         Base::Void => {
@@ -134,7 +136,7 @@ fn array(alloc: Global, length: u32, element: ObjType) -> Result<ObjType, AllocE
 // Arrays of arrays, the outermost length first. A type keeps few lengths, so this does not go deep.
 fn arrays(alloc: Global, lengths: &[u32], element: ObjType) -> Result<ObjType, AllocError>
     ensures { IfOk result (λ r. object_type_of r
-        ≡ t.arrays_of lengths.now (object_type_of element)) }
+        ≡ type_rules.arrays_of lengths.now (object_type_of element)) }
 {
     match lengths {
         [] => Ok(element),
@@ -152,7 +154,7 @@ pub fn layout(
     of: &CType,
 ) -> Result<ObjType, AllocError>
     ensures { IfOk result (λ r. object_type_of r
-        ≡ t.layout_of (map structure_of structures.now) (type_of of.now)) }
+        ≡ type_rules.layout_of (map structure_of structures.now) (type_of of.now)) }
 {
     let base = layout_of_base(alloc, structures, of.base)?;
     arrays(alloc, &of.lengths, base)
@@ -165,7 +167,7 @@ fn structure_type(
     structure: &Structure<'_>,
 ) -> Result<ObjType, AllocError>
     ensures { IfOk result (λ r. object_type_of r
-        ≡ t.structure_from number (structure_of structure.now)) }
+        ≡ type_rules.structure_from number (structure_of structure.now)) }
 {
     let members = parts_of(alloc, structure)?;
     Ok(ObjType::Struct { number, members })
@@ -180,7 +182,7 @@ fn add_type(
     requires { length types.old.items < 2 ^ 32 }
     ensures more { OnOk result (map object_type_of types.new.items
         ≡ map object_type_of types.old.items
-        ++ t.structure_from (length types.old.items) (structure_of structure.now) ∷ []) }
+        ++ type_rules.structure_from (length types.old.items) (structure_of structure.now) ∷ []) }
     ensures count { OnOk result (length types.new.items ≡ length types.old.items + 1) }
 {
     let number = types.len() as u32;
@@ -197,7 +199,7 @@ fn add_types(
     requires none { types.old.items ≡ [] }
     requires few { length structures.now < 2 ^ 32 }
     ensures { OnOk result (map object_type_of types.new.items
-        ≡ t.structures_from 0 (map structure_of structures.now)) }
+        ≡ type_rules.structures_from 0 (map structure_of structures.now)) }
 {
     for structure in structures {
         add_type(alloc, types, structure)?;
@@ -212,7 +214,7 @@ pub fn structure_types(
 ) -> Result<Vec<ObjType>, AllocError>
     requires { length structures.now < 2 ^ 32 }
     ensures { IfOk result (λ r. map object_type_of r.items
-        ≡ t.structures_from 0 (map structure_of structures.now)) }
+        ≡ type_rules.structures_from 0 (map structure_of structures.now)) }
 {
     let mut types = Vec::new(alloc);
     let done = add_types(alloc, &mut types, structures);
@@ -225,7 +227,7 @@ pub fn structure_types(
 #[tactic(auto, using(crate::proofs::Arrays::structure_at))]
 fn cells_at(structures: &[Structure<'_>], number: u32) -> u32
     ensures { result ≡ cells_of_members
-        (t.members_of (slice_get (map structure_of structures.now) number)) }
+        (type_rules.members_of (slice_get (map structure_of structures.now) number)) }
 {
     match structures.get(number as usize) {
         Some(structure) => structure.cells(),
@@ -236,7 +238,8 @@ fn cells_at(structures: &[Structure<'_>], number: u32) -> u32
 // The cells of an object of a base.
 pub(crate) fn cells_of_base(structures: &[Structure<'_>], base: Base) -> u32
     ensures { result
-        ≡ layout.cells (t.layout_of_base (map structure_of structures.now) (base_of base)) }
+        ≡ layout.cells (type_rules.layout_of_base (map structure_of structures.now)
+        (base_of base)) }
 {
     match base {
         Base::Void => 0,
@@ -269,7 +272,8 @@ fn counted_products(cells: u32, lengths: &[u32]) -> u32
 #[tactic(auto, using(crate::proofs::Counted::cells_of_arrays))]
 fn counted_cells(structures: &[Structure<'_>], of: &CType) -> u32
     ensures { result
-        ≡ min (layout.cells (t.layout_of (map structure_of structures.now) (type_of of.now)))
+        ≡ min (layout.cells (type_rules.layout_of (map structure_of structures.now)
+        (type_of of.now)))
         most_counted }
 {
     counted_products(cells_of_base(structures, of.base), &of.lengths)
@@ -283,9 +287,9 @@ fn counted_cells(structures: &[Structure<'_>], of: &CType) -> u32
 /// memory.
 pub fn cells(structures: &[Structure<'_>], of: &CType) -> Result<u32, AllocError>
     ensures exact { IfOk result (λ n. n
-        ≡ layout.cells (t.layout_of (map structure_of structures.now) (type_of of.now))) }
+        ≡ layout.cells (type_rules.layout_of (map structure_of structures.now) (type_of of.now))) }
     ensures many { OnErr result (most_counted
-        ≤ layout.cells (t.layout_of (map structure_of structures.now) (type_of of.now))) }
+        ≤ layout.cells (type_rules.layout_of (map structure_of structures.now) (type_of of.now))) }
 {
     let count = counted_cells(structures, of);
     if count == u32::MAX {
@@ -302,7 +306,7 @@ pub fn cells(structures: &[Structure<'_>], of: &CType) -> Result<u32, AllocError
 #[tactic(auto, using(crate::proofs::Arrays::structure_at))]
 fn nesting_at(structures: &[Structure<'_>], number: u32) -> u32
     ensures { result ≡ layout.nesting_all
-        (layouts_of (t.members_of (slice_get (map structure_of structures.now) number))) }
+        (layouts_of (type_rules.members_of (slice_get (map structure_of structures.now) number))) }
 {
     match structures.get(number as usize) {
         Some(structure) => structure.nesting(),
@@ -313,7 +317,8 @@ fn nesting_at(structures: &[Structure<'_>], number: u32) -> u32
 // How many arrays and structures stand inside one another in a base.
 fn nesting_of_base(structures: &[Structure<'_>], base: Base) -> u64
     ensures exact { result
-        ≡ layout.nesting (t.layout_of_base (map structure_of structures.now) (base_of base)) }
+        ≡ layout.nesting (type_rules.layout_of_base (map structure_of structures.now)
+        (base_of base)) }
     ensures few { result < 2 ^ 33 }
 {
     match base {
@@ -327,7 +332,7 @@ fn nesting_of_base(structures: &[Structure<'_>], base: Base) -> u64
 #[tactic(auto, using(crate::proofs::Counted::nesting_of_arrays))]
 fn nesting(structures: &[Structure<'_>], of: &CType) -> u64
     ensures { result
-        ≡ layout.nesting (t.layout_of (map structure_of structures.now) (type_of of.now)) }
+        ≡ layout.nesting (type_rules.layout_of (map structure_of structures.now) (type_of of.now)) }
 {
     of.lengths.len() as u64 + nesting_of_base(structures, of.base)
 }
@@ -339,7 +344,8 @@ fn nesting(structures: &[Structure<'_>], of: &CType) -> u64
 /// `AllocError` where 32 bits do not count them. Takes no memory.
 pub fn counted_nesting(structures: &[Structure<'_>], of: &CType) -> Result<u32, AllocError>
     ensures { IfOk result (λ n. n
-        ≡ layout.nesting (t.layout_of (map structure_of structures.now) (type_of of.now))) }
+        ≡ layout.nesting (type_rules.layout_of (map structure_of structures.now)
+        (type_of of.now))) }
 {
     match u32::try_from(nesting(structures, of)) {
         Ok(count) => Ok(count),
@@ -351,7 +357,7 @@ pub fn counted_nesting(structures: &[Structure<'_>], of: &CType) -> Result<u32, 
 #[tactic(auto, using(crate::proofs::Counted::many_counted))]
 fn has_many_cells(structures: &[Structure<'_>], of: &CType) -> bool
     ensures { result ≡ nat_lt most_cells
-        (layout.cells (t.layout_of (map structure_of structures.now) (type_of of.now))) }
+        (layout.cells (type_rules.layout_of (map structure_of structures.now) (type_of of.now))) }
 {
     counted_cells(structures, of) > MOST_CELLS
 }
@@ -376,7 +382,7 @@ pub fn is_passed_with(most: u32, before: u64, more: u32) -> bool
 #[tactic(auto, using(crate::proofs::Counted::passed_counted))]
 fn is_passed_by(before: u32, structures: &[Structure<'_>], of: &CType) -> bool
     ensures { result ≡ limit.is_passed_with most_cells before
-        (layout.cells (t.layout_of (map structure_of structures.now) (type_of of.now))) }
+        (layout.cells (type_rules.layout_of (map structure_of structures.now) (type_of of.now))) }
 {
     is_passed_with(MOST_CELLS, before as u64, counted_cells(structures, of))
 }
@@ -384,7 +390,7 @@ fn is_passed_by(before: u32, structures: &[Structure<'_>], of: &CType) -> bool
 /// Whether a member of the type, after members with so many cells, passes a limit of its structure.
 pub fn is_large_member(before: u32, structures: &[Structure<'_>], of: &CType) -> bool
     ensures { result ≡ (limit.is_long of.now.lengths.items || limit.is_large_member before
-        (t.layout_of (map structure_of structures.now) (type_of of.now))) }
+        (type_rules.layout_of (map structure_of structures.now) (type_of of.now))) }
 {
     of.is_long()
         || is_passed_by(before, structures, of)

@@ -1,7 +1,7 @@
 //! Statements that stand alone.
 ghost use Rattle.std.specs.Prelude.{◌≡◌, Some, IfOk, option_map};
 ghost use Rattle.mc_typed.specs.Views.{statement_of};
-ghost use Rattle.mc_typing.specs.Statements as w;
+ghost use Rattle.mc_typing.specs.Statements as statements;
 ghost use Rattle.mc_scopes.specs.Statements.{statements_of};
 
 use crate::found::Judged;
@@ -12,7 +12,7 @@ use std::alloc::{AllocError, Global};
 
 /// A list of one statement.
 pub fn alone(alloc: Global, one: Statement) -> Result<Vec<Statement>, AllocError>
-    ensures { IfOk result (λ r. statements_of r ≡ w.alone (statement_of one)) }
+    ensures { IfOk result (λ r. statements_of r ≡ statements.alone (statement_of one)) }
 {
     list_of(alloc, one)
 }
@@ -25,7 +25,7 @@ pub fn leaf(
 ) -> Result<Judged<Vec<Statement>>, AllocError>
     ensures fault { IfOk result (λ r. r.fault ≡ first) }
     ensures value { IfOk result (λ r.
-        option_map statements_of r.value ≡ Some (w.alone (statement_of one))) }
+        option_map statements_of r.value ≡ Some (statements.alone (statement_of one))) }
 {
     let value = alone(alloc, one)?;
     Ok(Judged {

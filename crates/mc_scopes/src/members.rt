@@ -2,7 +2,7 @@
 ghost use Rattle.std.specs.Prelude.{◌≡◌, ◌+◌, ◌<◌, ◌^◌, ◌∷◌, ◌++◌, [], List, map, length, slice_get, Some, option_map, option_copied, IfSome, IfOk, OnOk, OnErr};
 ghost use Rattle.mc_typed.specs.Layout as sizes;
 ghost use Rattle.mc_typed.specs.Layout.{object_type_of};
-ghost use Rattle.mc_typing.specs.Types as t;
+ghost use Rattle.mc_typing.specs.Types as type_rules;
 ghost use Rattle.mc_typing.specs.Declarators.{has_member, cells_of_members};
 ghost use Rattle.mc_typing.specs.Expressions.{selected, layouts_of};
 ghost use Rattle.mc_scopes.specs.Types.{type_of};
@@ -310,7 +310,7 @@ impl<'a> Complete<'a> {
 impl<'a> Structure<'a> {
     // Whether it has its members.
     pub(crate) fn is_complete(&self) -> bool
-        ensures { result ≡ t.is_complete_structure (Some (structure_of self.now)) }
+        ensures { result ≡ type_rules.is_complete_structure (Some (structure_of self.now)) }
     {
         match self {
             Structure::Complete(_) => true,
@@ -321,7 +321,7 @@ impl<'a> Structure<'a> {
 
     // Whether there is a fault in its list.
     pub(crate) fn is_faulty(&self) -> bool
-        ensures { result ≡ t.is_faulty_structure (Some (structure_of self.now)) }
+        ensures { result ≡ type_rules.is_faulty_structure (Some (structure_of self.now)) }
     {
         match self {
             Structure::Faulty => true,
@@ -332,7 +332,7 @@ impl<'a> Structure<'a> {
 
     // How many cells its members have.
     pub(crate) fn cells(&self) -> u32
-        ensures { result ≡ cells_of_members (t.members_of (Some (structure_of self.now))) }
+        ensures { result ≡ cells_of_members (type_rules.members_of (Some (structure_of self.now))) }
     {
         match self {
             Structure::Complete(complete) => complete.cells(),
@@ -344,7 +344,8 @@ impl<'a> Structure<'a> {
     // How many arrays and structures stand inside one another in its members.
     pub(crate) fn nesting(&self) -> u32
         ensures { result
-            ≡ sizes.nesting_all (layouts_of (t.members_of (Some (structure_of self.now)))) }
+            ≡ sizes.nesting_all (layouts_of
+            (type_rules.members_of (Some (structure_of self.now)))) }
     {
         match self {
             Structure::Complete(complete) => complete.nesting(),

@@ -1,7 +1,7 @@
 //! Expressions that have a type, to be taken apart.
 ghost use Rattle.std.specs.Prelude.{◌≡◌, option_map};
 ghost use Rattle.mc_typed.specs.Views.{expression_of, place_of};
-ghost use Rattle.mc_typing.specs.Values as v;
+ghost use Rattle.mc_typing.specs.Values as values;
 ghost use Rattle.mc_scopes.specs.Types.{base_of};
 ghost use Rattle.mc_scopes.specs.Found.{parts_of};
 
@@ -28,7 +28,7 @@ pub enum ValueParts {
 impl ValueParts {
     /// The number, where it has an integer type (C17 6.3.2.1p2).
     pub fn into_number(self) -> Option<Expression>
-        ensures { option_map expression_of result ≡ v.number_in (parts_of self) }
+        ensures { option_map expression_of result ≡ values.number_in (parts_of self) }
     {
         match self {
             ValueParts::Number(number) => Some(number),
@@ -48,7 +48,7 @@ impl ValueParts {
 // The number in an object of a type, where that is an integer type.
 fn number_stored(place: Place, of: &CType) -> Option<Expression>
     ensures { option_map expression_of result
-        ≡ v.number_stored (place_of place) (base_of of.now.base) of.now.lengths.items }
+        ≡ values.number_stored (place_of place) (base_of of.now.base) of.now.lengths.items }
 {
     match of.base {
         Base::Integer(integer) if of.lengths.is_empty() => {

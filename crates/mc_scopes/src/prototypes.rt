@@ -2,7 +2,7 @@
 ghost use Rattle.std.specs.Prelude.{◌≡◌, ◌≤◌, [], length, map, IfOk};
 ghost use Rattle.mc_tree.specs.Views.{name_of};
 ghost use Rattle.mc_typed.specs.Views.{object_of};
-ghost use Rattle.mc_typing.specs.Scopes as s;
+ghost use Rattle.mc_typing.specs.Scopes as scopes;
 ghost use Rattle.mc_scopes.specs.Blocks.{around_of};
 ghost use Rattle.mc_scopes.specs.Prototypes.{counted, counted_of, cut_to, around_prototype, prototype_of, prototype_left_by, body_in, with_one_name};
 ghost use Rattle.mc_scopes.specs.Views.{meaning_of, scope_of};
@@ -61,7 +61,7 @@ impl<'a> Scope<'a> {
     /// The parameters of a declarator that is no definition's. Takes no memory.
     pub fn enter_declarator(&mut self, alloc: Global) -> Prototype
         ensures around { prototype_of result ≡ around_prototype (scope_of self.old) }
-        ensures entered { scope_of self.new ≡ s.prototype (scope_of self.old) }
+        ensures entered { scope_of self.new ≡ scopes.prototype (scope_of self.old) }
     {
         let structures = self.structures.len();
         let objects = std::mem::replace(&mut self.objects, Vec::new(alloc));

@@ -2,8 +2,8 @@
 ghost use Rattle.std.specs.Prelude.{◌≡◌, Some, option_map, option_copied, IfOk, ◌<◌, length};
 ghost use Rattle.mc_tree.specs.Views.{name_of};
 ghost use Rattle.mc_typed.specs.Layout.{cells, object_type_of};
-ghost use Rattle.mc_typing.specs.Profile as p;
-ghost use Rattle.mc_typing.specs.Scopes as s;
+ghost use Rattle.mc_typing.specs.Profile as profile;
+ghost use Rattle.mc_typing.specs.Scopes as scopes;
 ghost use Rattle.mc_scopes.specs.Views.{meaning_of, scope_of, structure_of, tag_of};
 
 use crate::bodies::Bodies;
@@ -45,7 +45,7 @@ pub struct Scope<'a> {
 
 /// The first cell of an object after so many others, which have this limit.
 fn start_at(most: u32, before: u64) -> u32
-    ensures { result ≡ p.start_at most before }
+    ensures { result ≡ profile.start_at most before }
 {
     if before <= u64::from(most) {
         before as u32
@@ -58,7 +58,7 @@ impl<'a> Scope<'a> {
     /// The scope of a unit without declarations, whose functions with a body are these. Takes no
     /// memory.
     pub fn of_file(alloc: Global, bodies: Bodies<'a>) -> Scope<'a>
-        ensures { scope_of result ≡ s.file_scope bodies.entry }
+        ensures { scope_of result ≡ scopes.file_scope bodies.entry }
     {
         Scope {
             names: Table::new(alloc),
@@ -80,7 +80,7 @@ impl<'a> Scope<'a> {
     /// What a name means (C17 6.2.1p4).
     pub fn meaning(&self, name: &Identifier<'_>) -> Option<&Meaning>
         ensures { option_map meaning_of (option_copied result)
-            ≡ s.meaning_of (name_of name.now) (scope_of self.now) }
+            ≡ scopes.meaning_of (name_of name.now) (scope_of self.now) }
     {
         self.names.get(name.text)
     }
@@ -88,7 +88,7 @@ impl<'a> Scope<'a> {
     /// What the innermost block declares a name to be.
     pub fn meaning_here(&self, name: &Identifier<'_>) -> Option<&Meaning>
         ensures { option_map meaning_of (option_copied result)
-            ≡ s.meaning_here (name_of name.now) (scope_of self.now) }
+            ≡ scopes.meaning_here (name_of name.now) (scope_of self.now) }
     {
         self.names.get_from(self.names_from, name.text)
     }
@@ -96,7 +96,7 @@ impl<'a> Scope<'a> {
     /// What a tag means (C17 6.2.3p1).
     pub fn tag(&self, tag: &Identifier<'_>) -> Option<&TagMeaning>
         ensures { option_map tag_of (option_copied result)
-            ≡ s.tag_of (name_of tag.now) (scope_of self.now) }
+            ≡ scopes.tag_of (name_of tag.now) (scope_of self.now) }
     {
         self.tags.get(tag.text)
     }
@@ -104,7 +104,7 @@ impl<'a> Scope<'a> {
     /// What the innermost block declares a tag to be.
     pub fn tag_here(&self, tag: &Identifier<'_>) -> Option<&TagMeaning>
         ensures { option_map tag_of (option_copied result)
-            ≡ s.tag_here (name_of tag.now) (scope_of self.now) }
+            ≡ scopes.tag_here (name_of tag.now) (scope_of self.now) }
     {
         self.tags.get_from(self.tags_from, tag.text)
     }
@@ -112,7 +112,7 @@ impl<'a> Scope<'a> {
     /// Declares a name in the innermost block.
     pub fn declare(&mut self, name: &Identifier<'a>, meaning: Meaning) -> Result<(), AllocError>
         ensures { IfOk result (λ _. scope_of self.new
-            ≡ s.with_name (name_of name.now) (meaning_of meaning) (scope_of self.old)) }
+            ≡ scopes.with_name (name_of name.now) (meaning_of meaning) (scope_of self.old)) }
     {
         self.names.push(name.text, meaning)
     }
@@ -124,7 +124,7 @@ impl<'a> Scope<'a> {
         meaning: TagMeaning,
     ) -> Result<(), AllocError>
         ensures { IfOk result (λ _. scope_of self.new
-            ≡ s.with_tag (name_of tag.now) (tag_of meaning) (scope_of self.old)) }
+            ≡ scopes.with_tag (name_of tag.now) (tag_of meaning) (scope_of self.old)) }
     {
         self.tags.push(tag.text, meaning)
     }
@@ -132,7 +132,7 @@ impl<'a> Scope<'a> {
     /// One more structure type, whose number is that of the structure types before it.
     pub fn add_structure(&mut self, structure: Structure<'a>) -> Result<(), AllocError>
         ensures { IfOk result (λ _. scope_of self.new
-            ≡ s.with_structure (structure_of structure.entry) (scope_of self.old)) }
+            ≡ scopes.with_structure (structure_of structure.entry) (scope_of self.old)) }
     {
         push(&mut self.structures, structure)
     }
@@ -141,7 +141,7 @@ impl<'a> Scope<'a> {
     pub fn set_structure(&mut self, number: u32, structure: Structure<'a>)
         requires { number < length self.old.structures.items }
         ensures { scope_of self.new
-            ≡ s.with_structure_at number (structure_of structure.entry) (scope_of self.old) }
+            ≡ scopes.with_structure_at number (structure_of structure.entry) (scope_of self.old) }
     {
         self.structures[number as usize] = structure;
     }
@@ -149,7 +149,7 @@ impl<'a> Scope<'a> {
     /// The same, where there is a structure type with this number. Takes no memory.
     pub fn put_structure(&mut self, number: u32, structure: Structure<'a>)
         ensures { scope_of self.new
-            ≡ s.with_structure_at number (structure_of structure.entry) (scope_of self.old) }
+            ≡ scopes.with_structure_at number (structure_of structure.entry) (scope_of self.old) }
     {
         if (number as usize) < self.structures.len() {
             self.set_structure(number, structure);
@@ -160,7 +160,7 @@ impl<'a> Scope<'a> {
 
     /// Where the next object of the function stands.
     pub fn next_slot(&self) -> Result<Slot, AllocError>
-        ensures { IfOk result (λ slot. slot ≡ s.next_slot (scope_of self.now)) }
+        ensures { IfOk result (λ slot. slot ≡ scopes.next_slot (scope_of self.now)) }
     {
         let Ok(object) = u32::try_from(self.objects.len()) else {
             return Err(AllocError);
@@ -173,7 +173,7 @@ impl<'a> Scope<'a> {
 
     /// Where the next object with static storage duration stands.
     pub fn next_static(&self) -> Result<Slot, AllocError>
-        ensures { IfOk result (λ slot. slot ≡ s.next_static (scope_of self.now)) }
+        ensures { IfOk result (λ slot. slot ≡ scopes.next_static (scope_of self.now)) }
     {
         let Ok(object) = u32::try_from(self.statics.len()) else {
             return Err(AllocError);
@@ -188,7 +188,7 @@ impl<'a> Scope<'a> {
     pub fn add_object(&mut self, object_type: ObjType, count: u32) -> Result<(), AllocError>
         requires { count ≡ cells (object_type_of object_type) }
         ensures { IfOk result (λ _. scope_of self.new
-            ≡ s.with_object (object_type_of object_type) (scope_of self.old)) }
+            ≡ scopes.with_object (object_type_of object_type) (scope_of self.old)) }
     {
         let start = start_at(MOST_FRAME_CELLS, self.frame);
         match self.frame.checked_add(u64::from(count)) {
@@ -211,7 +211,7 @@ impl<'a> Scope<'a> {
 
     /// So many cells of the frame count no more.
     pub fn uncount(&mut self, count: u64)
-        ensures { scope_of self.new ≡ s.uncounted count (scope_of self.old) }
+        ensures { scope_of self.new ≡ scopes.uncounted count (scope_of self.old) }
     {
         self.frame = self.frame.saturating_sub(count);
     }
@@ -225,7 +225,7 @@ impl<'a> Scope<'a> {
     ) -> Result<(), AllocError>
         requires { count ≡ cells (object_type_of object_type) }
         ensures { IfOk result (λ _. scope_of self.new
-            ≡ s.with_static (object_type_of object_type) initial.items (scope_of self.old)) }
+            ≡ scopes.with_static (object_type_of object_type) initial.items (scope_of self.old)) }
     {
         let start = start_at(MOST_STATIC_CELLS, self.static_cells);
         match self.static_cells.checked_add(u64::from(count)) {
@@ -250,7 +250,7 @@ impl<'a> Scope<'a> {
 
     /// One more array parameter.
     pub fn add_array(&mut self) -> Result<(), AllocError>
-        ensures { IfOk result (λ _. scope_of self.new ≡ s.with_array (scope_of self.old)) }
+        ensures { IfOk result (λ _. scope_of self.new ≡ scopes.with_array (scope_of self.old)) }
     {
         self.arrays = self.arrays.checked_add(1).ok_or(AllocError)?;
         Ok(())

@@ -1,7 +1,8 @@
 //! Types of C (C17 6.2.5).
 ghost use Rattle.std.specs.Prelude.{◌≡◌, ◌≤◌, ◌++◌, map, length, take, drop, IfOk, OnOk};
-ghost use Rattle.mc_typing.specs.Types as t;
+ghost use Rattle.mc_typing.specs.Types as types;
 ghost use Rattle.mc_typing.specs.Limits as limit;
+ghost use Rattle.mc_typing.specs.Profile.{most_lengths};
 ghost use Rattle.mc_typing.specs.Declarators as declarators;
 ghost use Rattle.mc_scopes.specs.Types.{base_of, type_of, kind_of, signature_of, length_list};
 
@@ -56,7 +57,7 @@ pub struct Signature {
 
 // The number of an integer type.
 fn order(of: IntType) -> u32
-    ensures { result ≡ t.order_of of }
+    ensures { result ≡ types.order_of of }
 {
     match of {
         IntType::Bool => 0,
@@ -76,14 +77,14 @@ fn order(of: IntType) -> u32
 
 // Whether two integer types are one (C17 6.2.5p14).
 fn same_integer(a: IntType, b: IntType) -> bool
-    ensures { result ≡ t.same_integer a b }
+    ensures { result ≡ types.same_integer a b }
 {
     order(a) == order(b)
 }
 
 /// Whether two bases are one. Takes no memory.
 pub fn same_base(a: Base, b: Base) -> bool
-    ensures { result ≡ t.same_base (base_of a) (base_of b) }
+    ensures { result ≡ types.same_base (base_of a) (base_of b) }
 {
     match a {
         Base::Void => match b {
@@ -106,7 +107,7 @@ pub fn same_base(a: Base, b: Base) -> bool
 
 /// Whether two lists of lengths are one. Takes no memory.
 pub fn same_lengths(a: &[u32], b: &[u32]) -> bool
-    ensures { result ≡ t.same_lengths a.now b.now }
+    ensures { result ≡ types.same_lengths a.now b.now }
 {
     let mut left = b;
     for length in a {
@@ -123,8 +124,9 @@ pub fn same_lengths(a: &[u32], b: &[u32]) -> bool
 
 // Adds the lengths of a list, but no more than a type keeps.
 fn add_lengths(lengths: &mut Vec<u32>, more: &[u32]) -> Result<(), AllocError>
-    requires { length lengths.old.items ≤ 202 }
-    ensures { OnOk result (lengths.new.items ≡ take 202 (lengths.old.items ++ more.now)) }
+    requires { length lengths.old.items ≤ most_lengths }
+    ensures { OnOk result
+        (lengths.new.items ≡ take most_lengths (lengths.old.items ++ more.now)) }
 {
     let room = MOST_LENGTHS - lengths.len();
     let (kept, _) = more.split_at(room.min(more.len()));
@@ -135,7 +137,7 @@ fn add_lengths(lengths: &mut Vec<u32>, more: &[u32]) -> Result<(), AllocError>
 impl CType {
     /// A type that is no array, without `const`. Takes no memory.
     pub fn plain(alloc: Global, base: Base) -> CType
-        ensures { type_of result ≡ t.plain (base_of base) }
+        ensures { type_of result ≡ types.plain (base_of base) }
     {
         CType {
             base,
@@ -170,21 +172,21 @@ impl CType {
 
     /// Whether two types are one but for their qualifiers. Takes no memory.
     pub fn same_unqualified(&self, other: &CType) -> bool
-        ensures { result ≡ t.same_unqualified (type_of self.now) (type_of other.now) }
+        ensures { result ≡ types.same_unqualified (type_of self.now) (type_of other.now) }
     {
         same_base(self.base, other.base) && same_lengths(&self.lengths, &other.lengths)
     }
 
     /// Whether two types are one. Takes no memory.
     pub fn same_type(&self, other: &CType) -> bool
-        ensures { result ≡ t.same_type (type_of self.now) (type_of other.now) }
+        ensures { result ≡ types.same_type (type_of self.now) (type_of other.now) }
     {
         self.same_unqualified(other) && self.is_const == other.is_const
     }
 
     /// The type with `const` too, where it is asked for. Takes no memory.
     pub fn qualified(self, is_const: bool) -> CType
-        ensures { type_of result ≡ t.qualified is_const (type_of self) }
+        ensures { type_of result ≡ types.qualified is_const (type_of self) }
     {
         let Self {
             base,
@@ -218,7 +220,8 @@ impl CType {
     }
 
     /// An array of so many elements .. of the type, the first length in front where it stands
-    /// apart. A type keeps its 202 outermost lengths: with more than 200 it passes the limit.
+    /// apart. A type keeps two lengths more than arrays may nest: enough to see that it passes the
+    /// limit.
     pub fn array_of(
         alloc: Global,
         front: Option<u32>,
@@ -267,7 +270,7 @@ impl ParameterKind {
 
 // Whether two parameters take the same.
 fn same_parameter(a: &ParameterKind, b: &ParameterKind) -> bool
-    ensures { result ≡ t.same_parameter (kind_of a.now) (kind_of b.now) }
+    ensures { result ≡ types.same_parameter (kind_of a.now) (kind_of b.now) }
 {
     match a {
         ParameterKind::Value(left) => match b {
@@ -283,7 +286,7 @@ fn same_parameter(a: &ParameterKind, b: &ParameterKind) -> bool
 
 // Whether two lists of parameters take the same.
 fn same_parameters(a: &[ParameterKind], b: &[ParameterKind]) -> bool
-    ensures { result ≡ t.same_parameters (map kind_of a.now) (map kind_of b.now) }
+    ensures { result ≡ types.same_parameters (map kind_of a.now) (map kind_of b.now) }
 {
     let mut left = b;
     for kind in a {
@@ -301,7 +304,7 @@ fn same_parameters(a: &[ParameterKind], b: &[ParameterKind]) -> bool
 impl Signature {
     /// Whether two functions have one type (C17 6.7p4, 6.7.6.3p15). Takes no memory.
     pub fn same_signature(&self, other: &Signature) -> bool
-        ensures { result ≡ t.same_signature (signature_of self.now) (signature_of other.now) }
+        ensures { result ≡ types.same_signature (signature_of self.now) (signature_of other.now) }
     {
         same_base(self.result, other.result) && same_parameters(&self.parameters, &other.parameters)
     }

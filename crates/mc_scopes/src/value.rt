@@ -1,8 +1,8 @@
 //! Expressions that have a type.
 ghost use Rattle.std.specs.Prelude.{◌≡◌, IfOk, Some, option_map};
 ghost use Rattle.mc_typed.specs.Views.{expression_of, effect_of, structure_of, place_of};
-ghost use Rattle.mc_typing.specs.Values as v;
-ghost use Rattle.mc_typing.specs.Expressions as e;
+ghost use Rattle.mc_typing.specs.Values as values;
+ghost use Rattle.mc_typing.specs.Expressions as expressions;
 ghost use Rattle.mc_scopes.specs.Types.{base_of, type_of};
 ghost use Rattle.mc_scopes.specs.Found.{kind_of, parts_of, value_of};
 
@@ -80,7 +80,7 @@ impl Value {
 
     /// Whether it has an integer type.
     pub fn is_integer(&self) -> bool
-        ensures { result ≡ v.is_integer (v.kind_of (value_of self.now)) }
+        ensures { result ≡ values.is_integer (values.kind_of (value_of self.now)) }
     {
         match self {
             Value::Number(_) => true,
@@ -91,14 +91,14 @@ impl Value {
 
     /// Its number, where it has an integer type (C17 6.3.2.1p2).
     pub fn into_number(self) -> Option<Expression>
-        ensures { option_map expression_of result ≡ v.number_in (value_of self) }
+        ensures { option_map expression_of result ≡ values.number_in (value_of self) }
     {
         self.into_parts().into_number()
     }
 
     /// Its kind.
     pub fn kind(&self) -> Kind<'_>
-        ensures { kind_of result ≡ v.kind_of (value_of self.now) }
+        ensures { kind_of result ≡ values.kind_of (value_of self.now) }
     {
         match self {
             Value::Number(_) => Kind::Integer,
@@ -117,7 +117,7 @@ impl Value {
 
     /// The structure, where it has the structure type with this number.
     pub fn into_structure(self, number: u32) -> Option<Structure>
-        ensures { option_map structure_of result ≡ v.structure_in number (value_of self) }
+        ensures { option_map structure_of result ≡ values.structure_in number (value_of self) }
     {
         match self {
             Value::Stored(place, of) => {
@@ -142,7 +142,7 @@ impl Value {
 
     /// The effect that it is where its value is dropped, but for an assignment.
     pub fn into_discarded(self) -> Option<Effect>
-        ensures { option_map effect_of result ≡ v.discarded_in (value_of self) }
+        ensures { option_map effect_of result ≡ values.discarded_in (value_of self) }
     {
         match self {
             Value::Number(value) => Some(Effect::Number {
@@ -166,7 +166,7 @@ impl Value {
 
     /// The effect that it is where its value is dropped (C17 6.8.3).
     pub fn into_effect(self) -> Option<Effect>
-        ensures { option_map effect_of result ≡ v.effect_in (value_of self) }
+        ensures { option_map effect_of result ≡ values.effect_in (value_of self) }
     {
         match self {
             Value::Assigned(effect) => Some(Box::into_inner(effect)),
@@ -178,7 +178,8 @@ impl Value {
 // The structure in an object of a type, where that is the structure type with this number.
 fn structure_stored(number: u32, place: Place, of: &CType) -> Option<Structure>
     ensures { option_map structure_of result
-        ≡ v.structure_stored number (place_of place) (base_of of.now.base) of.now.lengths.items }
+        ≡ values.structure_stored number (place_of place) (base_of of.now.base)
+        of.now.lengths.items }
 {
     match of.base {
         Base::Tagged(other) if of.lengths.is_empty() && other == number => {
@@ -193,7 +194,7 @@ fn structure_stored(number: u32, place: Place, of: &CType) -> Option<Structure>
 
 // The kind of a type without lengths.
 fn kind_of_base(base: Base) -> Kind<'static>
-    ensures { kind_of result ≡ v.kind_of_base (base_of base) }
+    ensures { kind_of result ≡ values.kind_of_base (base_of base) }
 {
     match base {
         Base::Void => Kind::Void,
@@ -204,7 +205,7 @@ fn kind_of_base(base: Base) -> Kind<'static>
 
 // The kind of an object of a type.
 fn kind_of_object(of: &CType) -> Kind<'_>
-    ensures { kind_of result ≡ v.kind_of_object (type_of of.now) of.now.lengths.items }
+    ensures { kind_of result ≡ values.kind_of_object (type_of of.now) of.now.lengths.items }
 {
     match of.lengths.as_slice() {
         [_, lengths @ ..] => Kind::Array {
@@ -219,7 +220,7 @@ fn kind_of_object(of: &CType) -> Kind<'_>
 // The value of an object, dropped.
 fn effect_of_object(place: Place, of: CType) -> Option<Effect>
     ensures { option_map effect_of result
-        ≡ v.discarded_in (v.Stored (place_of place) (type_of of)) }
+        ≡ values.discarded_in (values.Stored (place_of place) (type_of of)) }
 {
     if !of.lengths.is_empty() {
         drop(place);
@@ -243,7 +244,7 @@ fn effect_of_object(place: Place, of: CType) -> Option<Effect>
 
 /// Whether it is an object that is `const`.
 pub fn is_const(value: &Option<Value>) -> bool
-    ensures { result ≡ e.is_const_value (option_map value_of value.now) }
+    ensures { result ≡ expressions.is_const_value (option_map value_of value.now) }
 {
     match value {
         Some(value) => match value {
@@ -261,7 +262,7 @@ pub fn is_const(value: &Option<Value>) -> bool
 
 /// A void expression that has this effect.
 pub fn done(alloc: Global, effect: Effect) -> Result<Option<Value>, AllocError>
-    ensures { IfOk result (λ r. option_map value_of r ≡ Some (v.Done (effect_of effect))) }
+    ensures { IfOk result (λ r. option_map value_of r ≡ Some (values.Done (effect_of effect))) }
 {
     match on_heap(alloc, effect) {
         Ok(effect) => Ok(Some(Value::Done(effect))),
@@ -271,7 +272,7 @@ pub fn done(alloc: Global, effect: Effect) -> Result<Option<Value>, AllocError>
 
 /// An assignment or a step that has this effect.
 pub fn assigned(alloc: Global, effect: Effect) -> Result<Option<Value>, AllocError>
-    ensures { IfOk result (λ r. option_map value_of r ≡ Some (v.Assigned (effect_of effect))) }
+    ensures { IfOk result (λ r. option_map value_of r ≡ Some (values.Assigned (effect_of effect))) }
 {
     match on_heap(alloc, effect) {
         Ok(effect) => Ok(Some(Value::Assigned(effect))),

@@ -3,10 +3,10 @@ ghost use Rattle.std.specs.Prelude.{◌≡◌, Some, option_map, option_and_then
 ghost use Rattle.mc_value.specs.Conversions as conversions;
 ghost use Rattle.mc_typed.specs.Constants.{constant_value};
 ghost use Rattle.mc_faults.specs.Faults.{least_of};
-ghost use Rattle.mc_typing.specs.Scopes as s;
-ghost use Rattle.mc_typing.specs.Values as v;
-ghost use Rattle.mc_typing.specs.Constants as c;
-ghost use Rattle.mc_typing.specs.Initializers as i;
+ghost use Rattle.mc_typing.specs.Scopes as scopes;
+ghost use Rattle.mc_typing.specs.Values as values;
+ghost use Rattle.mc_typing.specs.Constants as constants;
+ghost use Rattle.mc_typing.specs.Initializers as initializers;
 ghost use Rattle.mc_scopes.specs.Found.{found_of, value_of};
 
 use crate::found::Found;
@@ -23,7 +23,7 @@ fn is_zero(value: i128) -> bool
 // The value of an operand, where it has one.
 #[tactic(auto, using(crate::proofs::Constants::stored_is_none))]
 fn value_of_operand(value: &Value) -> Option<i128>
-    ensures { result ≡ option_and_then constant_value (v.number_in (value_of value.now)) }
+    ensures { result ≡ option_and_then constant_value (values.number_in (value_of value.now)) }
 {
     match value {
         Value::Number(number) => constant_value(number),
@@ -39,7 +39,7 @@ fn value_of_operand(value: &Value) -> Option<i128>
 // The same of an operand whose type may be missing.
 fn value_in(value: &Option<Value>) -> Option<i128>
     ensures { result ≡ option_and_then constant_value
-        (option_and_then v.number_in (option_map value_of value.now)) }
+        (option_and_then values.number_in (option_map value_of value.now)) }
 {
     match value {
         Some(value) => value_of_operand(value),
@@ -49,7 +49,7 @@ fn value_in(value: &Option<Value>) -> Option<i128>
 
 /// The value of an integer constant expression. Takes no memory.
 pub fn constant_found(found: &Found) -> Option<i128>
-    ensures { (s : s.Scope) → result ≡ c.constant_found (found_of found.now s) }
+    ensures { (s : scopes.Scope) → result ≡ constants.constant_found (found_of found.now s) }
 {
     if found.constant {
         value_in(&found.value)
@@ -60,7 +60,7 @@ pub fn constant_found(found: &Found) -> Option<i128>
 
 /// Whether it is an integer constant expression of value 0. Takes no memory.
 pub fn is_zero_found(found: &Found) -> bool
-    ensures { (s : s.Scope) → result ≡ i.is_zero (Some (found_of found.now s)) }
+    ensures { (s : scopes.Scope) → result ≡ initializers.is_zero (Some (found_of found.now s)) }
 {
     is_zero_constant(constant_found(found))
 }
@@ -68,7 +68,7 @@ pub fn is_zero_found(found: &Found) -> bool
 // Whether the number of an operand is known to have no value.
 #[tactic(auto, using(crate::proofs::Constants::stored_traps))]
 fn number_traps(value: &Value) -> bool
-    ensures { result ≡ c.traps (v.number_in (value_of value.now)) }
+    ensures { result ≡ constants.traps (values.number_in (value_of value.now)) }
 {
     match value {
         Value::Number(number) => constant_value(number).is_none(),
@@ -83,7 +83,8 @@ fn number_traps(value: &Value) -> bool
 
 // The same of an operand whose type may be missing.
 fn traps(value: &Option<Value>) -> bool
-    ensures { result ≡ c.traps (option_and_then v.number_in (option_map value_of value.now)) }
+    ensures { result ≡ constants.traps
+        (option_and_then values.number_in (option_map value_of value.now)) }
 {
     match value {
         Some(value) => number_traps(value),
@@ -94,8 +95,9 @@ fn traps(value: &Option<Value>) -> bool
 /// The fault of an expression that starts here and has to be an integer constant expression: it is
 /// built as none, or its value traps. Takes no memory.
 pub fn fault_of_constant(at: u32, found: &Found) -> Option<Fault>
-    ensures { (s : s.Scope) → result ≡ least_of
-        (c.constant_faults at found.now.constant (v.number_found (found_of found.now s))) }
+    ensures { (s : scopes.Scope) → result ≡ least_of
+        (constants.constant_faults at found.now.constant
+        (values.number_found (found_of found.now s))) }
 {
     let trapped = traps(&found.value);
     fault_where(!found.constant || trapped, FaultKind::NotConstant, at)
@@ -103,7 +105,7 @@ pub fn fault_of_constant(at: u32, found: &Found) -> Option<Fault>
 
 /// Whether it is the constant 0.
 pub fn is_zero_constant(value: Option<i128>) -> bool
-    ensures { result ≡ c.is_zero_constant value }
+    ensures { result ≡ constants.is_zero_constant value }
 {
     match value {
         Some(value) => is_zero(value),

@@ -84,14 +84,15 @@ given_type lengths o count b ns q p pb c later first =
       positive = positive_take most_lengths (ns ++ b.lengths) (positive_append ns b.lengths p pb);
     }
 
-is_small : (n m : ℕ) → (nat_lt most_cells n || nat_lt most_nesting m) ≡ false → (n ≤ 65536) × (m ≤ 200)
+is_small : (n m : ℕ) → (nat_lt most_cells n || nat_lt most_nesting m) ≡ false
+    → (n ≤ most_cells) × (m ≤ most_nesting)
 is_small n m h =
     (cells_small n (or_left (nat_lt most_cells n) _ h), nesting_small m (or_right (nat_lt most_cells n) _ h))
   where
-    cells_small : (n : ℕ) → nat_lt most_cells n ≡ false → n ≤ 65536
+    cells_small : (n : ℕ) → nat_lt most_cells n ≡ false → n ≤ most_cells
     cells_small n h = grind (arith, h)
 
-    nesting_small : (m : ℕ) → nat_lt most_nesting m ≡ false → m ≤ 200
+    nesting_small : (m : ℕ) → nat_lt most_nesting m ≡ false → m ≤ most_nesting
     nesting_small m h = grind (arith, h)
 
 -- an object without a fault of its own

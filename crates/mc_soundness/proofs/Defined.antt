@@ -13,7 +13,7 @@ use Rattle.mc_typed.specs.Frames.{slots_statements}
 use Rattle.mc_typed.specs.Sound.{AreStatements, AreLaidOut, AreObjectTypes, AreParameters, IsResult, slots_from, scope_of, IsFunction}
 use Rattle.mc_typed.specs.Sound as sound
 use Rattle.mc_faults.specs.declared.fault.FaultKind.TheVariants.{Limit}
-use Rattle.mc_limits.specs.Limits.{most_frame_cells, most_static_cells}
+use Rattle.mc_limits.specs.Limits.{most_frame_cells, most_parameters, most_static_cells}
 use Rattle.mc_typing.specs.Profile.{start_at}
 use Rattle.mc_typing.specs.Types.{Base, Void, Integer, Tagged, plain, Structure, Incomplete, Complete, Faulty, is_complete, layout_of, structures_from, ParameterKind, ByValue, ByArray, Signature}
 use Rattle.mc_typing.specs.Scopes.{Entry, Scope, prototype, body_scope, left_function}
@@ -347,16 +347,16 @@ somes_same (x ∷ xs) (y ∷ ys) h =
     some_same : Some x ≡ Some y → x ≡ y
     some_same h = cc
 
-start_small : (n : ℕ) → n ≤ 65536 → start_at 65536 n ≡ n
-start_small n h = grind (arith, h)
+start_small : (most n : ℕ) → n ≤ most → start_at most n ≡ n
+start_small most n h = grind (arith, h)
 
-pub laid_out : (w : World) (n : ℕ) (os : List Object) → AreLaid 65536 w n os → n + total os ≤ 65536
-    → AreLaidOut (objects_of w) n os
-laid_out w n [] h small = tt
-laid_out w n (o ∷ os) h small =
-    let here : n ≤ 65536 = omega (arith, small) in
-    let rest : n + o.cells + total os ≤ 65536 = omega (arith, small) in
-    (h.0, h.1, h.2 ∙ start_small n here, laid_out w (n + o.cells) os h.3 rest)
+pub laid_out : (most : ℕ) (w : World) (n : ℕ) (os : List Object) → AreLaid most w n os
+    → n + total os ≤ most → AreLaidOut (objects_of w) n os
+laid_out most w n [] h small = tt
+laid_out most w n (o ∷ os) h small =
+    let here : n ≤ most = omega (arith, small) in
+    let rest : n + o.cells + total os ≤ most = omega (arith, small) in
+    (h.0, h.1, h.2 ∙ start_small most n here, laid_out most w (n + o.cells) os h.3 rest)
 
 pub total_sum : (os : List Object) → sum (map (λ o. o.cells) os) ≡ total os
 total_sum [] = refl
@@ -383,10 +383,10 @@ frame_small n at h = within (no_fault (nat_lt most_frame_cells n) Limit at h)
     within : nat_lt most_frame_cells n ≡ false → n ≤ most_frame_cells
     within h = grind (arith, h)
 
-count_small : (n at : ℕ) → parameter_count_faults n at ≡ [] → n ≤ 16
-count_small n at h = within (no_fault (nat_lt 16 n) Limit at h)
+count_small : (n at : ℕ) → parameter_count_faults n at ≡ [] → n ≤ most_parameters
+count_small n at h = within (no_fault (nat_lt most_parameters n) Limit at h)
   where
-    within : nat_lt 16 n ≡ false → n ≤ 16
+    within : nat_lt most_parameters n ≡ false → n ≤ most_parameters
     within h = grind (arith, h)
 
 is_result : (w : World) (all : List Structure) (b : Base) → StructuresFit w all → Completes all w.structures
@@ -484,14 +484,14 @@ function_sound end p name span g parameters body s b d kept statics bodies names
     ∙ ap sound.values_of (sym types) in
     let count : length y.scope.objects ≡ length (sound.values_of fn.parameters) =
     sym (length-map y.scope.objects (λ (o : Object). o.object_type)) ∙ ap length object_types in
-    let room : total z.scope.objects ≤ 65536 =
-    subst (λ n. n ≤ 65536) run.fits.frame (frame_small z.scope.frame name.span.start d.frame) in
-    let room_from : 0 + total z.scope.objects ≤ 65536 = omega (arith, room) in
+    let room : total z.scope.objects ≤ most_frame_cells =
+    subst (λ n. n ≤ most_frame_cells) run.fits.frame (frame_small z.scope.frame name.span.start d.frame) in
+    let room_from : 0 + total z.scope.objects ≤ most_frame_cells = omega (arith, room) in
     let number : length fn.parameters ≡ length y.items =
     length-map g.parameters (parameter_type z.scope.structures)
     ∙ sym (ap length d.items ∙ length-map g.parameters Some) in
     record {
-      few = subst (λ n. n ≤ 16) (sym number) (count_small (length y.items) name.span.start d.few);
+      few = subst (λ n. n ≤ most_parameters) (sym number) (count_small (length y.items) name.span.start d.few);
       parameters = are_parameters z.scope.structures g.parameters;
       arrays = subst (λ l. AreObjectTypes l (sound.arrays_of fn.parameters)) (sym inside.structures)
           (subst (AreObjectTypes (objects_of w)) (sym arrays_same) runs.found.elements);
@@ -500,11 +500,11 @@ function_sound end p name span g parameters body s b d kept statics bodies names
       begins = subst (sound.Begins (sound.values_of fn.parameters)) (sym run.made.1)
           (begins_of (sound.values_of fn.parameters) y.scope.objects run.made.0 object_types);
       laid = subst (λ l. AreLaidOut l 0 z.scope.objects) (sym inside.structures)
-          (laid_out w 0 z.scope.objects run.fits.laid room_from);
+          (laid_out most_frame_cells w 0 z.scope.objects run.fits.laid room_from);
       named = ap slots_statements (sym same) ∙ run.made.2 ∙ sym (slots_after y.scope.objects run.made.0)
           ∙ ap (λ l. drop (length y.scope.objects) (slots_from 0 l)) (sym run.made.1)
           ∙ ap (λ n. drop n (slots_from 0 z.scope.objects)) count;
-      frame = subst (λ n. n ≤ 65536) (sym (total_sum z.scope.objects)) room;
+      frame = subst (λ n. n ≤ most_frame_cells) (sym (total_sum z.scope.objects)) room;
       body = subst (λ x. AreStatements b x sound.outermost) scope_same
           (subst (λ x. AreStatements x w.scope sound.outermost) same run.sound);
     }

@@ -235,8 +235,8 @@ initial_append (x ∷ os) o h k = (h.0, initial_append os o h.1 k)
 
 -- one more with static storage duration
 pub fits_static : (w : World) (s : Scope) (u : ObjectType) (vs : List ℤ) → Fits w s
-    → IsObjectType (objects_of w) u → s.static_cells + cells u ≤ 65536 → AreInRange (scalars u) vs
-    → Fits w (with_static u vs s)
+    → IsObjectType (objects_of w) u → s.static_cells + cells u ≤ most_static_cells
+    → AreInRange (scalars u) vs → Fits w (with_static u vs s)
 fits_static w s u vs fit h room values =
     let o : StaticObject = record {
       object = record { object_type = u; cells = cells u; start = start_at most_static_cells s.static_cells };

@@ -1,5 +1,5 @@
 -- Structures with a list: what is found of members, and of the whole, is well.
-use Rattle.std.proofs.Common.{◌≡◌, ℕ, zero, suc, ◌+◌, ◌≤◌, nat_lt, Bool, true, false, ◌&&◌, if◌then◌else◌, List, [], ◌∷◌, ◌++◌, map, length, take, slice_get, slice_set, Option, Some, None, refl, ap, sym, ◌∙◌, subst, arith, inl, inr}
+use Rattle.std.proofs.Common.{◌≡◌, ℕ, zero, suc, ◌+◌, ◌<◌, ◌≤◌, nat_lt, Bool, true, false, ◌&&◌, if◌then◌else◌, List, [], ◌∷◌, ◌++◌, map, length, take, slice_get, slice_set, Option, Some, None, refl, ap, sym, ◌∙◌, subst, arith, inl, inr}
 use Rattle.std.proofs.lemmas.List.{map-append}
 use Rattle.mc_tree.specs.Tree.{Name, ArrayLengths}
 use Rattle.mc_typed.specs.Layout.{ObjectType, cells, cells_all, nesting, nesting_all, members_from}
@@ -64,11 +64,11 @@ cells_append [] u = omega arith
 cells_append (v ∷ us) u = let below = cells_append us u in omega (arith, below)
 
 nesting_append : (us : List ObjectType) (u : ObjectType) (n : ℕ)
-    → nesting_all (members_from us) ≤ n → nesting u ≤ n
-    → nesting_all (members_from (us ++ (u ∷ []))) ≤ n
+    → nesting_all (members_from us) < n → nesting u < n
+    → nesting_all (members_from (us ++ (u ∷ []))) < n
 nesting_append [] u n h k = omega (arith, k)
 nesting_append (v ∷ us) u n h k =
-    let below : nesting_all (members_from (us ++ (u ∷ []))) ≤ n =
+    let below : nesting_all (members_from (us ++ (u ∷ []))) < n =
     nesting_append us u n (omega (arith, h)) k in
     omega (arith, h, below)
 
@@ -81,7 +81,7 @@ pub fits_in : (most before more : ℕ) → before ≤ most → is_passed_with mo
     → before + more ≤ most
 fits_in most before more h k = grind (arith, h, k)
 
-flat_enough : (n : ℕ) → nat_lt most_nesting (n + 1) ≡ false → n ≤ 199
+flat_enough : (n : ℕ) → nat_lt most_nesting (n + 1) ≡ false → n < most_nesting
 flat_enough n h = grind (arith, h)
 
 pub list_more : (w : World) (all : List Structure) (ms : List Member) (name : List ℕ) (u : CType)
@@ -95,19 +95,19 @@ list_more w all ms name u fit c list h p small =
     let e : map (λ m. m.layout) (ms ++ (m ∷ [])) ≡ us ++ (layout_of all u ∷ []) =
     map-append (λ m. m.layout) ms (m ∷ []) in
     let n = cells_all (members_from us) in
-    let room : n + cells (layout_of all u) ≤ 65536 =
+    let room : n + cells (layout_of all u) ≤ most_cells =
     fits_in most_cells n (cells (layout_of all u)) list.small
     (or_left (is_passed_with most_cells n (cells (layout_of all u))) _ small) in
-    let flat : nesting (layout_of all u) ≤ 199 =
+    let flat : nesting (layout_of all u) < most_nesting =
     flat_enough (nesting (layout_of all u)) (or_right (is_passed_with most_cells n (cells (layout_of all u))) _ small) in
     record {
       types = members_append all ms m list.types ((u, refl, refl, h), tt);
       formed = subst (λ l. AreFormed (objects_of w) (members_from l)) (sym e)
           (formed_append (objects_of w) us (layout_of all u) list.formed (formed_type w all u fit c h p));
-      small = subst (λ l. cells_all (members_from l) ≤ 65536) (sym e)
-          (subst (λ k. k ≤ 65536) (sym (cells_append us (layout_of all u))) room);
-      flat = subst (λ l. nesting_all (members_from l) ≤ 199) (sym e)
-          (nesting_append us (layout_of all u) 199 list.flat flat);
+      small = subst (λ l. cells_all (members_from l) ≤ most_cells) (sym e)
+          (subst (λ k. k ≤ most_cells) (sym (cells_append us (layout_of all u))) room);
+      flat = subst (λ l. nesting_all (members_from l) < most_nesting) (sym e)
+          (nesting_append us (layout_of all u) most_nesting list.flat flat);
     }
 
 pub list_kept : (w : World) (all more : List Structure) (ms : List Member) → Completes all more

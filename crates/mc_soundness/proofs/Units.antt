@@ -11,6 +11,7 @@ use Rattle.mc_typed.specs.Sound.{AreStructures, AreFunctions, parameters_at, res
 use Rattle.mc_faults.specs.declared.fault.Fault.{Fault}
 use Rattle.mc_faults.specs.declared.fault.FaultKind.TheVariants.{Mismatch}
 use Rattle.mc_faults.specs.Faults.{fault_if}
+use Rattle.mc_limits.specs.Limits.{most_static_cells}
 use Rattle.mc_typing.specs.Types.{Base, CType, Structure, Incomplete, Complete, Faulty, structure_from, structures_from, Signature}
 use Rattle.mc_typing.specs.Scopes.{Entry, Scope, file_scope, meaning_here, prototype, body_scope, left_function}
 use Rattle.mc_typing.specs.Values.{Judged, lift2}
@@ -396,13 +397,14 @@ program_sound items u functions_few statics_few structures_few =
     } in
     let fit = u.stands.fits w ends refl (inside.functions [] [] t.NoResult) in
     let statics = map (λ o. o.object) end.statics in
-    let room : total statics ≤ 65536 = subst (λ n. n ≤ 65536) fit.statics.cells fit.statics.room in
-    let room_from : 0 + total statics ≤ 65536 = omega (arith, room) in
+    let room : total statics ≤ most_static_cells =
+    subst (λ n. n ≤ most_static_cells) fit.statics.cells fit.statics.room in
+    let room_from : 0 + total statics ≤ most_static_cells = omega (arith, room) in
     record {
       functions = u.sound end p (later_refl end) inside;
-      statics = laid_out w 0 statics fit.statics.laid room_from;
+      statics = laid_out most_static_cells w 0 statics fit.statics.laid room_from;
       initial = fit.statics.initial;
-      static_room = subst (λ n. n ≤ 65536) (sym (static_sum end.statics)) room;
+      static_room = subst (λ n. n ≤ most_static_cells) (sym (static_sum end.statics)) room;
       structures = structures_are w end.structures 0 end.structures
           (λ j x q. (fit.structures j x q, ap (slice_get (objects_of w)) (zero_plus j) ∙ get_structure 0 j end.structures x q));
       functions_few = functions_few;

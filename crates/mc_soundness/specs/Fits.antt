@@ -8,11 +8,11 @@ use Rattle.mc_value.specs.IntTypes.{InRange}
 use Rattle.mc_typed.specs.declared.expressions.Slot.{Slot}
 use Rattle.mc_typed.specs.Layout.{ObjectType, cells, cells_all, nesting_all, members_from, repeated, scalars, scalars_all}
 use Rattle.mc_typed.specs.Tree.{Object, StaticObject, Effect, Arguments, Statement, Statements}
-use Rattle.mc_typed.specs.Tree as t
+use Rattle.mc_typed.specs.Tree as typed
 use Rattle.mc_typed.specs.Frames.{slots_place, slots, slots_call, slots_arguments, slots_effect, slots_initializer, slots_initializers, slots_declarators, slots_statements}
 use Rattle.mc_typed.specs.Sound.{IsSlotOf, place_type, structure_type, IsPlace, IsExpression, IsStructureCall, IsEffect, IsCast, AreArguments, IsInitializer, AreElements, AreMembers, AreDeclarators, AreStatements, labels_of, AreInRange, AreInitial, AreFormed, IsObjectType, parameters_at, result_at, AreObjectTypes, slots_from}
 use Rattle.mc_typed.specs.Sound as sound
-use Rattle.mc_limits.specs.Limits.{most_frame_cells, most_static_cells}
+use Rattle.mc_limits.specs.Limits.{most_frame_cells, most_nesting, most_static_cells}
 use Rattle.mc_value.specs.ObjectTypes.{most_cells}
 use Rattle.mc_typing.specs.Profile.{start_at}
 use Rattle.mc_typing.specs.Types.{Base, Tagged, CType, plain, Member, Structure, Incomplete, Complete, Faulty, is_complete, layout_of, structures_from, ParameterKind, ByValue, ByArray, Signature}
@@ -64,7 +64,7 @@ pub record ListFits (w : World) (all : List Structure) (ms : List Member) : Type
   pub types : MembersFit all ms
   pub formed : AreFormed (objects_of w) (members_from (map (λ m. m.layout) ms))
   pub small : cells_all (members_from (map (λ m. m.layout) ms)) ≤ most_cells
-  pub flat : nesting_all (members_from (map (λ m. m.layout) ms)) ≤ 199
+  pub flat : nesting_all (members_from (map (λ m. m.layout) ms)) < most_nesting
 
 abbrev pub StructureFits : World → List Structure → Structure → Type 0
 StructureFits w all (Incomplete b) = Unit {0}
@@ -158,7 +158,7 @@ IsSoundValue w all (Borrowed array u span) =
     (slice_get w.scope.arrays array ≡ Some (layout_of all u)) × (is_complete all u.base ≡ true)
 IsSoundValue w all (Returned c k) =
     IsStructureCall c w.scope
-    × (structure_type w.scope (t.Returned c) ≡ Some (layout_of all (plain (Tagged k))))
+    × (structure_type w.scope (typed.Returned c) ≡ Some (layout_of all (plain (Tagged k))))
     × (is_complete all (Tagged k) ≡ true)
 IsSoundValue w all (Done effect) =
     IsEffect effect false w.scope × IsEffect (whole effect) true w.scope × IsCast effect
@@ -240,8 +240,8 @@ pub record AreListed (w : World) (s : Scope) (x : Listed Member) : Type 0 where
 -- What is found of an initializer without a fault, for an object of this type; `static` says that
 -- the object has static storage duration.
 pub record IsInitialized (w : World) (static : Bool) (s : Scope) (u : CType)
-    (x : Judged t.Initializer) : Type 0 where
-  pub value : t.Initializer
+    (x : Judged typed.Initializer) : Type 0 where
+  pub value : typed.Initializer
   pub is : x.value ≡ Some value
   pub sound : IsInitializer value (layout_of x.scope.structures u) w.scope
   pub made : Made s x.scope (slots_initializer value)
@@ -265,7 +265,7 @@ ArePartsKnown all (Members ms) = MembersFit all ms
 ArePartsKnown all NoParts = ⊥
 
 -- items are sound for these parts
-abbrev pub AreItems : List Structure → Parts → t.Initializers → sound.Scope → Type 0
+abbrev pub AreItems : List Structure → Parts → typed.Initializers → sound.Scope → Type 0
 AreItems all (Elements u) items c = AreElements items (layout_of all u) c
 AreItems all (Members ms) items c = AreMembers items (layouts_of ms) c
 AreItems all NoParts items c = ⊥
@@ -277,8 +277,8 @@ scalars_of all (Members ms) n = scalars_all (layouts_of (take n ms))
 scalars_of all NoParts n = []
 
 pub record AreInitialized (w : World) (static : Bool) (s : Scope) (parts : Parts) (n : ℕ)
-    (x : Judged t.Initializers) : Type 0 where
-  pub value : t.Initializers
+    (x : Judged typed.Initializers) : Type 0 where
+  pub value : typed.Initializers
   pub is : x.value ≡ Some value
   pub count : sound.count_of value ≡ n
   pub sound : AreItems x.scope.structures parts value w.scope
@@ -290,9 +290,10 @@ pub record AreInitialized (w : World) (static : Bool) (s : Scope) (parts : Parts
 
 -- What is found of declarators without a fault: the objects with automatic storage duration that
 -- they declare.
-pub record IsDeclared (w : World) (s : Scope) (value : Option (List t.Declarator)) (after : Scope)
+pub record IsDeclared (w : World) (s : Scope) (value : Option (List typed.Declarator))
+    (after : Scope)
     : Type 0 where
-  pub declared : List t.Declarator
+  pub declared : List typed.Declarator
   pub is : value ≡ Some declared
   pub sound : AreDeclarators declared w.scope
   pub made : Made s after (slots_declarators declared)

@@ -2,7 +2,7 @@
 use Rattle.std.specs.Prelude.{ℕ, List, [], map, drop, slice_get, Option, Some, None, option_map, option_and_then}
 use denote.Ref.{Bor}
 use Rattle.mc_typing.specs.Types as types
-use Rattle.mc_typing.specs.Initializers as i
+use Rattle.mc_typing.specs.Initializers as initializers
 use Rattle.mc_scopes.specs.declared.member.Member.{Member}
 use Rattle.mc_names.specs.Tables.{Named}
 use Rattle.mc_scopes.specs.declared.types.CType.{CType}
@@ -17,21 +17,21 @@ abbrev pub members_in : Option (Bor (List (Named Member))) → List types.Member
 members_in None = []
 members_in (Some c) = map listed_of c.now
 
-abbrev pub target_of : Target → i.Target
-target_of target.Missing = i.Missing
-target_of (target.Scalar u) = i.ScalarTarget (type_of u.now)
+abbrev pub target_of : Target → initializers.Target
+target_of target.Missing = initializers.Missing
+target_of (target.Scalar u) = initializers.ScalarTarget (type_of u.now)
 target_of (target.Array n base is_const lengths) =
-    i.ArrayTarget n
+    initializers.ArrayTarget n
     (record { base = base_of base; is_const = is_const; lengths = lengths.now })
-target_of (target.Structure k members) = i.StructureTarget k (members_in members)
+target_of (target.Structure k members) = initializers.StructureTarget k (members_in members)
 
 -- ---- parts
 
 -- what the items after so many are for
-abbrev pub parts_from : ℕ → i.Parts → i.Parts
-parts_from n (i.Elements u) = i.Elements u
-parts_from n (i.Members members) = i.Members (drop n members)
-parts_from n i.NoParts = i.NoParts
+abbrev pub parts_from : ℕ → initializers.Parts → initializers.Parts
+parts_from n (initializers.Elements u) = initializers.Elements u
+parts_from n (initializers.Members members) = initializers.Members (drop n members)
+parts_from n initializers.NoParts = initializers.NoParts
 
 abbrev pub type_at : List (Option types.CType) → ℕ → Option types.CType
 type_at us n = option_and_then (λ u. u) (slice_get us n)

@@ -6,23 +6,23 @@ use Rattle.mc_typed.specs.Operators.{is_true}
 use Rattle.mc_typed.specs.Constants.{constant_value}
 use Rattle.mc_typed.specs.Sound.{labels_of}
 use Rattle.mc_typed.specs.Tree.{Expression, Declarator, Statement, Statements, Function}
-use Rattle.mc_typed.specs.Tree as t
+use Rattle.mc_typed.specs.Tree as typed
 use Rattle.mc_steps.specs.Statements.{has_label}
 
 -- ---- integer constant expressions (C17 6.6p6)
 
 -- its operands are constants, and it has no call
 abbrev pub is_constant : Expression → Bool
-is_constant (t.Constant v a span) = true
-is_constant (t.Read place a) = false
-is_constant (t.Unary operator a e span) = is_constant e
-is_constant (t.Convert a written e span) = is_constant e
-is_constant (t.Not e span) = is_constant e
-is_constant (t.Binary operator a e f span) = is_constant e && is_constant f
-is_constant (t.Logic operator e f span) = is_constant e && is_constant f
-is_constant (t.Choice e f g a span) = is_constant e && is_constant f && is_constant g
-is_constant (t.Call k a) = false
-is_constant (t.Input span) = false
+is_constant (typed.Constant v a span) = true
+is_constant (typed.Read place a) = false
+is_constant (typed.Unary operator a e span) = is_constant e
+is_constant (typed.Convert a written e span) = is_constant e
+is_constant (typed.Not e span) = is_constant e
+is_constant (typed.Binary operator a e f span) = is_constant e && is_constant f
+is_constant (typed.Logic operator e f span) = is_constant e && is_constant f
+is_constant (typed.Choice e f g a span) = is_constant e && is_constant f && is_constant g
+is_constant (typed.Call k a) = false
+is_constant (typed.Input span) = false
 
 abbrev pub is_nonzero : Option ℤ → Bool
 is_nonzero None = false
@@ -42,23 +42,23 @@ is_always (Some e) = is_always_true e
 -- whether a `break` belongs to the statement around
 abbrev mutual
   pub breaks : Statement → Bool
-  breaks (t.Compound items span) = some_breaks items
-  breaks (t.Label v span) = false
-  breaks (t.Declaration declarators span) = false
-  breaks (t.Null span) = false
-  breaks (t.EffectStatement effect span) = false
-  breaks (t.If e s keyword span) = breaks s
-  breaks (t.IfElse e s u keyword span) = breaks s || breaks u
-  breaks (t.Switch e items keyword span) = false
-  breaks (t.For start test step s keyword span) = false
-  breaks (t.DoWhile s e keyword span) = false
-  breaks (t.Break span) = true
-  breaks (t.Continue span) = false
-  breaks (t.Return value span) = false
+  breaks (typed.Compound items span) = some_breaks items
+  breaks (typed.Label v span) = false
+  breaks (typed.Declaration declarators span) = false
+  breaks (typed.Null span) = false
+  breaks (typed.EffectStatement effect span) = false
+  breaks (typed.If e s keyword span) = breaks s
+  breaks (typed.IfElse e s u keyword span) = breaks s || breaks u
+  breaks (typed.Switch e items keyword span) = false
+  breaks (typed.For start test step s keyword span) = false
+  breaks (typed.DoWhile s e keyword span) = false
+  breaks (typed.Break span) = true
+  breaks (typed.Continue span) = false
+  breaks (typed.Return value span) = false
 
   pub some_breaks : Statements → Bool
-  some_breaks t.no_statements = false
-  some_breaks (t.statements s rest) = breaks s || some_breaks rest
+  some_breaks typed.no_statements = false
+  some_breaks (typed.statements s rest) = breaks s || some_breaks rest
 
 abbrev pub has_default : Statements → Bool
 has_default items = has_label None (labels_of items)
@@ -67,30 +67,30 @@ has_default items = has_label None (labels_of items)
 -- decides where it has a `default` and no `break`; one without items completes.
 abbrev mutual
   pub completes : Statement → Bool
-  completes (t.Compound items span) = all_complete items
-  completes (t.Label v span) = true
-  completes (t.Declaration declarators span) = true
-  completes (t.Null span) = true
-  completes (t.EffectStatement effect span) = true
-  completes (t.If e s keyword span) = true
-  completes (t.IfElse e s u keyword span) = completes s || completes u
-  completes (t.Switch e items keyword span) =
+  completes (typed.Compound items span) = all_complete items
+  completes (typed.Label v span) = true
+  completes (typed.Declaration declarators span) = true
+  completes (typed.Null span) = true
+  completes (typed.EffectStatement effect span) = true
+  completes (typed.If e s keyword span) = true
+  completes (typed.IfElse e s u keyword span) = completes s || completes u
+  completes (typed.Switch e items keyword span) =
       not (has_default items) || some_breaks items || last_completes items
-  completes (t.For start test step s keyword span) = not (is_always test) || breaks s
-  completes (t.DoWhile s e keyword span) = not (is_always_true e) || breaks s
-  completes (t.Break span) = false
-  completes (t.Continue span) = false
-  completes (t.Return value span) = false
+  completes (typed.For start test step s keyword span) = not (is_always test) || breaks s
+  completes (typed.DoWhile s e keyword span) = not (is_always_true e) || breaks s
+  completes (typed.Break span) = false
+  completes (typed.Continue span) = false
+  completes (typed.Return value span) = false
 
   -- each item completes
   pub all_complete : Statements → Bool
-  all_complete t.no_statements = true
-  all_complete (t.statements s rest) = completes s && all_complete rest
+  all_complete typed.no_statements = true
+  all_complete (typed.statements s rest) = completes s && all_complete rest
 
   pub last_completes : Statements → Bool
-  last_completes t.no_statements = true
-  last_completes (t.statements s t.no_statements) = completes s
-  last_completes (t.statements s rest) = last_completes rest
+  last_completes typed.no_statements = true
+  last_completes (typed.statements s typed.no_statements) = completes s
+  last_completes (typed.statements s rest) = last_completes rest
 
 -- ---- points
 
@@ -136,24 +136,24 @@ where_absent false = a_label
 -- A statement's own point is before those of its parts.
 abbrev mutual
   pub points_of : Statement → Points
-  points_of (t.Compound items span) = points_of_all items
-  points_of (t.Label v span) = a_label
-  points_of (t.Declaration declarators span) = where_counted (initializes declarators)
-  points_of (t.Null span) = a_statement
-  points_of (t.EffectStatement effect span) = a_statement
-  points_of (t.If e s keyword span) = a_statement ⊕ points_of s
-  points_of (t.IfElse e s u keyword span) = a_statement ⊕ points_of s ⊕ points_of u
-  points_of (t.Switch e items keyword span) =
+  points_of (typed.Compound items span) = points_of_all items
+  points_of (typed.Label v span) = a_label
+  points_of (typed.Declaration declarators span) = where_counted (initializes declarators)
+  points_of (typed.Null span) = a_statement
+  points_of (typed.EffectStatement effect span) = a_statement
+  points_of (typed.If e s keyword span) = a_statement ⊕ points_of s
+  points_of (typed.IfElse e s u keyword span) = a_statement ⊕ points_of s ⊕ points_of u
+  points_of (typed.Switch e items keyword span) =
       a_statement ⊕ where_absent (has_default items) ⊕ points_of_all items
-  points_of (t.For start test step s keyword span) = a_statement ⊕ points_of s
-  points_of (t.DoWhile s e keyword span) = a_statement ⊕ points_of s
-  points_of (t.Break span) = a_statement
-  points_of (t.Continue span) = a_statement
-  points_of (t.Return value span) = a_statement ⊕ an_exit
+  points_of (typed.For start test step s keyword span) = a_statement ⊕ points_of s
+  points_of (typed.DoWhile s e keyword span) = a_statement ⊕ points_of s
+  points_of (typed.Break span) = a_statement
+  points_of (typed.Continue span) = a_statement
+  points_of (typed.Return value span) = a_statement ⊕ an_exit
 
   pub points_of_all : Statements → Points
-  points_of_all t.no_statements = no_points
-  points_of_all (t.statements s rest) = points_of s ⊕ points_of_all rest
+  points_of_all typed.no_statements = no_points
+  points_of_all (typed.statements s rest) = points_of s ⊕ points_of_all rest
 
 abbrev pub where_completes : Bool → Points
 where_completes true = an_exit

@@ -5,7 +5,7 @@ use Rattle.mc_tree.specs.declared.expressions.unary_operator.UnaryOperator.{Unar
 use Rattle.mc_tree.specs.declared.expressions.unary_operator.UnaryOperator.TheVariants as operator
 use Rattle.mc_tree.specs.declared.declarations.specifier_word.SpecifierWord.TheVariants as word
 use Rattle.mc_tree.specs.Tree.{Statement, Specifier, Specifiers, Parameters, span_of, span_of_specifier, span_of_statement, span_of_parameters}
-use Rattle.mc_tree.specs.Tree as t
+use Rattle.mc_tree.specs.Tree as tree
 use Rattle.mc_forms.specs.declared.context.Role.{Role}
 use Rattle.mc_forms.specs.declared.context.Role.TheVariants as role
 use Rattle.mc_forms.specs.declared.context.Standing.{Standing}
@@ -24,11 +24,11 @@ is_of_pointers _ = false
 
 -- pointer: a declarator, a parameter or a type name with `*` (C17 6.7.6.1), or unary `*` or `&`
 abbrev pub is_pointer : Node → Bool
-is_pointer (a_declarator (t.object stars name all span) local external) = nat_lt 0 stars
-is_pointer (a_declarator (t.function stars name all span) local external) = nat_lt 0 stars
-is_pointer (a_parameter (t.parameter s stars name all span)) = nat_lt 0 stars
-is_pointer (a_type_name (t.type_name s stars span)) = nat_lt 0 stars
-is_pointer (an_expression (t.Unary o a span) r) = is_of_pointers o
+is_pointer (a_declarator (tree.object stars name all span) local external) = nat_lt 0 stars
+is_pointer (a_declarator (tree.function stars name all span) local external) = nat_lt 0 stars
+is_pointer (a_parameter (tree.parameter s stars name all span)) = nat_lt 0 stars
+is_pointer (a_type_name (tree.type_name s stars span)) = nat_lt 0 stars
+is_pointer (an_expression (tree.Unary o a span) r) = is_of_pointers o
 is_pointer _ = false
 
 abbrev pub is_part : Role → Bool
@@ -38,9 +38,9 @@ is_part _ = false
 -- nested assignment: an assignment, `++` or `--` that is neither a whole expression statement nor a
 -- clause of the first or third part of a `for` (C17 6.5.2.4, 6.5.3.1, 6.5.16)
 abbrev pub is_nested_assignment : Node → Bool
-is_nested_assignment (an_expression (t.Assignment o a b span) r) = is_part r
-is_nested_assignment (an_expression (t.PostfixStep o a span) r) = is_part r
-is_nested_assignment (an_expression (t.PrefixStep o a span) r) = is_part r
+is_nested_assignment (an_expression (tree.Assignment o a b span) r) = is_part r
+is_nested_assignment (an_expression (tree.PostfixStep o a span) r) = is_part r
+is_nested_assignment (an_expression (tree.PrefixStep o a span) r) = is_part r
 is_nested_assignment _ = false
 
 abbrev pub is_for_part : Role → Bool
@@ -50,22 +50,22 @@ is_for_part _ = false
 -- comma: a comma between expressions, except between clauses of the first or third part of a `for`
 -- (C17 6.5.17)
 abbrev pub is_comma : Node → Bool
-is_comma (an_expression (t.Comma all span) r) = not (is_for_part r)
+is_comma (an_expression (tree.Comma all span) r) = not (is_for_part r)
 is_comma _ = false
 
 -- goto: a `goto`, or an ordinary label (C17 6.8.1, 6.8.6.1)
 abbrev pub is_goto : Node → Bool
-is_goto (a_statement (t.Goto name span) w) = true
-is_goto (a_statement (t.Label name s span) w) = true
+is_goto (a_statement (tree.Goto name span) w) = true
+is_goto (a_statement (tree.Label name s span) w) = true
 is_goto _ = false
 
 -- empty parameters: a parameter list without a token (C17 6.7.6.3)
 abbrev pub is_empty_parameters : Node → Bool
-is_empty_parameters (a_parameter_list (t.Empty span)) = true
+is_empty_parameters (a_parameter_list (tree.Empty span)) = true
 is_empty_parameters _ = false
 
 abbrev pub is_compound : Statement → Bool
-is_compound (t.Compound b span) = true
+is_compound (tree.Compound b span) = true
 is_compound _ = false
 
 abbrev pub is_before_labels : Standing → Bool
@@ -80,9 +80,9 @@ is_among_labels _ = false
 -- declaration directly in the body of a `switch`; a statement directly in that body before its
 -- first label; a `case` or `default` label that does not stand directly in the body of a `switch`
 abbrev pub is_switch_shape : Node → Bool
-is_switch_shape (a_statement (t.Switch a s span) w) = is_before_labels w || not (is_compound s)
-is_switch_shape (a_statement (t.Case a label s span) w) = not (is_among_labels w)
-is_switch_shape (a_statement (t.Default label s span) w) = not (is_among_labels w)
+is_switch_shape (a_statement (tree.Switch a s span) w) = is_before_labels w || not (is_compound s)
+is_switch_shape (a_statement (tree.Case a label s span) w) = not (is_among_labels w)
+is_switch_shape (a_statement (tree.Default label s span) w) = not (is_among_labels w)
 is_switch_shape (a_statement s w) = is_before_labels w
 is_switch_shape (a_declaration d w) = is_before_labels w || is_among_labels w
 is_switch_shape _ = false
@@ -90,31 +90,31 @@ is_switch_shape _ = false
 -- local tag: a structure or enumeration with a list, inside a function definition or a parameter
 -- (C17 6.7.2.1, 6.7.2.2)
 abbrev pub is_local_tag : Node → Bool
-is_local_tag (a_specifier (t.Structure tag all span) g) = is_local g
-is_local_tag (a_specifier (t.Enumeration tag all span) g) = is_local g
+is_local_tag (a_specifier (tree.Structure tag all span) g) = is_local g
+is_local_tag (a_specifier (tree.Enumeration tag all span) g) = is_local g
 is_local_tag _ = false
 
 -- local function: a function declarator in a local declaration (C17 6.7.6.3)
 abbrev pub is_local_function : Node → Bool
-is_local_function (a_declarator (t.function stars name all span) local external) = local
+is_local_function (a_declarator (tree.function stars name all span) local external) = local
 is_local_function _ = false
 
 -- external object: `extern` on a declarator that is not a function's (C17 6.7.1)
 abbrev pub is_external_object : Node → Bool
-is_external_object (a_declarator (t.object stars name all span) local external) = external
+is_external_object (a_declarator (tree.object stars name all span) local external) = external
 is_external_object _ = false
 
 abbrev pub is_const : Specifier → Bool
-is_const (t.Word word.Const span) = true
+is_const (tree.Word word.Const span) = true
 is_const _ = false
 
 abbrev pub has_const : Specifiers → Bool
-has_const t.no_specifiers = false
-has_const (t.specifiers s rest) = is_const s || has_const rest
+has_const tree.no_specifiers = false
+has_const (tree.specifiers s rest) = is_const s || has_const rest
 
 -- const member: `const` in a member (C17 6.7.2.1, 6.7.3)
 abbrev pub is_const_member : Node → Bool
-is_const_member (a_member (t.member s ds span)) = has_const s
+is_const_member (a_member (tree.member s ds span)) = has_const s
 is_const_member _ = false
 
 -- at one node the upper row answers
@@ -138,14 +138,14 @@ closing span = record { start = span.end - 1; end = span.end }
 -- where a node stands; a parameter list without a token stands at its `)`
 abbrev pub place_of : Node → Span
 place_of (an_expression e r) = span_of e
-place_of (a_type_name (t.type_name s stars span)) = span
+place_of (a_type_name (tree.type_name s stars span)) = span
 place_of (a_specifier s g) = span_of_specifier s
-place_of (a_member (t.member s ds span)) = span
-place_of (a_declarator (t.object stars name all span) local external) = span
-place_of (a_declarator (t.function stars name all span) local external) = span
+place_of (a_member (tree.member s ds span)) = span
+place_of (a_declarator (tree.object stars name all span) local external) = span
+place_of (a_declarator (tree.function stars name all span) local external) = span
 place_of (a_parameter_list all) = closing (span_of_parameters all)
-place_of (a_parameter (t.parameter s stars name all span)) = span
-place_of (a_declaration (t.declaration s ds span) w) = span
+place_of (a_parameter (tree.parameter s stars name all span)) = span
+place_of (a_declaration (tree.declaration s ds span) w) = span
 place_of (a_statement s w) = span_of_statement s
 
 -- what is said of a node

@@ -5,7 +5,7 @@ use Rattle.mc_tree.specs.declared.expressions.assignment_operator.AssignmentOper
 use Rattle.mc_tree.specs.declared.declarations.specifier_word.SpecifierWord.{SpecifierWord}
 use Rattle.mc_tree.specs.declared.declarations.specifier_word.SpecifierWord.TheVariants as word
 use Rattle.mc_tree.specs.Tree.{BlockItems, Declaration, Declarator, Expression, InitDeclarator, Item, Name, Parameters, Specifier, Specifiers, Statement}
-use Rattle.mc_tree.specs.Tree as t
+use Rattle.mc_tree.specs.Tree as tree
 use Rattle.mc_forms.specs.declared.outside.Outside.{Outside}
 use Rattle.mc_forms.specs.declared.form.Form.{Form}
 use Rattle.mc_subset.specs.Forms.{first_outside}
@@ -30,52 +30,55 @@ abbrev pub name : List ℕ → ℕ → Name
 name text at = record { text = text; span = span at (at + 1) }
 
 abbrev pub a : ℕ → Expression
-a at = t.Named (name (codes "a") at)
+a at = tree.Named (name (codes "a") at)
 
 abbrev pub one : ℕ → Expression
-one at = t.Constant 1 true false 0 (span at (at + 1))
+one at = tree.Constant 1 true false 0 (span at (at + 1))
 
 -- `a=1`
 abbrev pub assigned : ℕ → Expression
-assigned at = t.Assignment assign.Assign (a at) (one (at + 2)) (span at (at + 3))
+assigned at = tree.Assignment assign.Assign (a at) (one (at + 2)) (span at (at + 3))
 
 abbrev pub with_commas : Expression → Expression → ℕ → ℕ → Expression
-with_commas left right from to = t.Comma (t.expressions left (t.expressions right t.no_expressions))
+with_commas left right from to = tree.Comma
+    (tree.expressions left (tree.expressions right tree.no_expressions))
     (span from to)
 
 abbrev pub word_at : SpecifierWord → ℕ → ℕ → Specifiers → Specifiers
-word_at w from to rest = t.specifiers (t.Word w (span from to)) rest
+word_at w from to rest = tree.specifiers (tree.Word w (span from to)) rest
 
 -- `int`
 abbrev pub int_at : ℕ → Specifiers
-int_at at = word_at word.Int at (at + 3) t.no_specifiers
+int_at at = word_at word.Int at (at + 3) tree.no_specifiers
 
 -- a name of one byte, without `*` and brackets
 abbrev pub object_at : ℕ → Declarator
-object_at at = t.object 0 (name (codes "a") at) t.no_lengths (span at (at + 1))
+object_at at = tree.object 0 (name (codes "a") at) tree.no_lengths (span at (at + 1))
 
 -- a function's name of one byte, and its parameters
 abbrev pub function_at : ℕ → Parameters → ℕ → Declarator
-function_at at all to = t.function 0 (name (codes "f") at) all (span at to)
+function_at at all to = tree.function 0 (name (codes "f") at) all (span at to)
 
 -- a text that is one declaration
 abbrev pub declared : Specifiers → List InitDeclarator → ℕ → List Item
-declared s ds to = t.Declared (t.declaration s ds (span 0 to)) ∷ []
+declared s ds to = tree.Declared (tree.declaration s ds (span 0 to)) ∷ []
 
 -- `void f(void){` and `}` round what begins at byte 13
 abbrev pub in_function : BlockItems → ℕ → List Item
 in_function b to =
-    t.Defined (word_at word.Void 0 4 t.no_specifiers) (function_at 5 (t.Void (span 6 12)) 12) b
+    tree.Defined (word_at word.Void 0 4 tree.no_specifiers)
+    (function_at 5 (tree.Void (span 6 12)) 12) b
     (span 0 to) ∷ []
 
 -- `struct{int a;}` and `struct{const int a;}`
 abbrev pub structure_with : Specifiers → ℕ → ℕ → Specifiers
 structure_with s at place =
-    let all = t.declarators (object_at place) t.no_declarators in
-    t.specifiers
-    (t.Structure None (t.members (t.member s all (span (at + 7) (place + 2))) t.no_members)
+    let all = tree.declarators (object_at place) tree.no_declarators in
+    tree.specifiers
+    (tree.Structure None (tree.members (tree.member s all (span (at + 7) (place + 2)))
+    tree.no_members)
     (span at (place + 3)))
-    t.no_specifiers
+    tree.no_specifiers
 
 abbrev pub structure : ℕ → Specifiers
 structure at = structure_with (int_at (at + 7)) at (at + 11)
@@ -85,28 +88,29 @@ structure_of_const = structure_with (word_at word.Const 7 12 (int_at 13)) 0 17
 
 -- `;`, and `case 1:` before a statement
 abbrev pub null : ℕ → Statement
-null at = t.Null (span at (at + 1))
+null at = tree.Null (span at (at + 1))
 
 abbrev pub case_at : ℕ → Statement → ℕ → Statement
-case_at at s to = t.Case (one (at + 5)) (span at (at + 7)) s (span at to)
+case_at at s to = tree.Case (one (at + 5)) (span at (at + 7)) s (span at to)
 
 -- `switch(a)` before a compound statement, and before any other
 abbrev pub switch_of : BlockItems → ℕ → Statement
-switch_of b to = t.Switch (a 7) (t.Compound b (span 9 to)) (span 0 to)
+switch_of b to = tree.Switch (a 7) (tree.Compound b (span 9 to)) (span 0 to)
 
 abbrev pub alone : Statement → BlockItems
-alone s = t.statement s t.no_block_items
+alone s = tree.statement s tree.no_block_items
 
 -- `for(` with these three parts, and `);` with the `;` at this byte
 abbrev pub for_of : Expression → Expression → Expression → ℕ → Statement
-for_of first second third at = t.For (t.StartsExpression (Some first)) (Some second) (Some third)
+for_of first second third at = tree.For (tree.StartsExpression (Some first)) (Some second)
+    (Some third)
     (null at) (span 0 (at + 1))
 
 -- `(enum{a})1`
 abbrev pub enumeration_cast : ℕ → Expression
 enumeration_cast at =
-    t.Cast (t.type_name
-    (t.specifiers
-    (t.Enumeration None (t.enumerators (t.enumerator (name (codes "a") (at + 6)))
-    t.no_enumerators) (span (at + 1) (at + 8))) t.no_specifiers) 0 (span (at + 1) (at + 8)))
+    tree.Cast (tree.type_name
+    (tree.specifiers
+    (tree.Enumeration None (tree.enumerators (tree.enumerator (name (codes "a") (at + 6)))
+    tree.no_enumerators) (span (at + 1) (at + 8))) tree.no_specifiers) 0 (span (at + 1) (at + 8)))
     (one (at + 9)) (span at (at + 10))

@@ -3,7 +3,7 @@
 
 ghost use Rattle.std.specs.Prelude.{◌≡◌, map};
 ghost use Rattle.mc_tree.specs.Units.{declaration_of, init_declarator_of, initializer_of, initializers_from, option_of, start_of};
-ghost use Rattle.mc_subset.specs.Nodes as n;
+ghost use Rattle.mc_subset.specs.Nodes as nodes;
 ghost use Rattle.mc_subset.specs.Forms.{first_outside};
 
 use crate::expressions::{declarator, expression, part, specifiers};
@@ -13,7 +13,7 @@ use mc_tree::{Declaration, Expression, ForStart, InitDeclarator, Initializer};
 
 #[cycle(initializers)]
 fn initializer(tree: &Initializer<'_>, region: Region) -> Option<Outside>
-    ensures { result ≡ first_outside (n.nodes_of_initializer region (initializer_of tree.now)) }
+    ensures { result ≡ first_outside (nodes.nodes_of_initializer region (initializer_of tree.now)) }
 {
     match tree {
         Initializer::Single { value } => part(value, region),
@@ -24,7 +24,7 @@ fn initializer(tree: &Initializer<'_>, region: Region) -> Option<Outside>
 #[cycle(initializers)]
 fn initializers(trees: &[Initializer<'_>], region: Region) -> Option<Outside>
     ensures { let all = initializers_from (map initializer_of trees.now) in
-        result ≡ first_outside (n.nodes_of_initializers region all) }
+        result ≡ first_outside (nodes.nodes_of_initializers region all) }
 {
     for tree in trees {
         if let Some(first) = initializer(tree, region) {
@@ -35,7 +35,8 @@ fn initializers(trees: &[Initializer<'_>], region: Region) -> Option<Outside>
 }
 
 fn init_declarator(tree: &InitDeclarator<'_>, region: Region, external: bool) -> Option<Outside>
-    ensures { let all = n.nodes_of_init_declarator region external (init_declarator_of tree.now) in
+    ensures { let all = nodes.nodes_of_init_declarator region external
+        (init_declarator_of tree.now) in
         result ≡ first_outside all }
 {
     match tree {
@@ -54,7 +55,7 @@ fn init_declarator(tree: &InitDeclarator<'_>, region: Region, external: bool) ->
 
 fn init_declarators(trees: &[InitDeclarator<'_>], region: Region, external: bool) -> Option<Outside>
     ensures { let all = map init_declarator_of trees.now in
-        result ≡ first_outside (n.nodes_of_init_declarators region external all) }
+        result ≡ first_outside (nodes.nodes_of_init_declarators region external all) }
 {
     for tree in trees {
         if let Some(first) = init_declarator(tree, region, external) {
@@ -70,7 +71,7 @@ pub(crate) fn declaration(
     region: Region,
     standing: Standing,
 ) -> Option<Outside>
-    ensures { let all = n.nodes_of_declaration region standing (declaration_of tree.now) in
+    ensures { let all = nodes.nodes_of_declaration region standing (declaration_of tree.now) in
         result ≡ first_outside all }
 {
     let first = judge(declaration_form(standing), tree.span);
@@ -82,7 +83,7 @@ pub(crate) fn declaration(
 
 pub(crate) fn optional(tree: &Option<Box<Expression<'_>>>, role: Role) -> Option<Outside>
     ensures { let value = option_of tree.now in
-        result ≡ first_outside (n.nodes_of_optional role value) }
+        result ≡ first_outside (nodes.nodes_of_optional role value) }
 {
     match tree {
         Some(value) => expression(value, Region::Function, role),
@@ -91,7 +92,7 @@ pub(crate) fn optional(tree: &Option<Box<Expression<'_>>>, role: Role) -> Option
 }
 
 fn for_start(tree: &ForStart<'_>) -> Option<Outside>
-    ensures { result ≡ first_outside (n.nodes_of_start (start_of tree.now)) }
+    ensures { result ≡ first_outside (nodes.nodes_of_start (start_of tree.now)) }
 {
     match tree {
         ForStart::Local { declaration: local } => {
@@ -109,7 +110,7 @@ pub(crate) fn for_parts(
 ) -> Option<Outside>
     ensures { let second = option_of test.now in
         let third = option_of step.now in
-        result ≡ first_outside (n.nodes_of_parts (start_of start.now) second third) }
+        result ≡ first_outside (nodes.nodes_of_parts (start_of start.now) second third) }
 {
     let second = optional(test, Role::Part);
     let third = optional(step, Role::ForPart);

@@ -3,8 +3,8 @@
 
 ghost use Rattle.std.specs.Prelude.{◌≡◌, map};
 ghost use Rattle.mc_tree.specs.Views.{array_length_of, declarator_of, declarators_from, enumerator_of, enumerators_from, expression_of, expressions_from, lengths_from, member_of, members_from, parameter_of, parameters_from, specifier_of, specifiers_from};
-ghost use Rattle.mc_tree.specs.Tree as t;
-ghost use Rattle.mc_subset.specs.Nodes as n;
+ghost use Rattle.mc_tree.specs.Tree as source_tree;
+ghost use Rattle.mc_subset.specs.Nodes as nodes;
 ghost use Rattle.mc_forms.specs.declared.context.Role.TheVariants.{Part};
 ghost use Rattle.mc_forms.specs.Order.{or_else};
 ghost use Rattle.mc_subset.specs.Forms.{first_outside};
@@ -20,7 +20,8 @@ use mc_tree::{ArrayLength, Declarator, Enumerator, Expression, Member, Parameter
 #[cycle(check)]
 #[tactic(auto, using(crate::proofs::Order::first_of_expression))]
 pub(crate) fn expression(tree: &Expression<'_>, region: Region, role: Role) -> Option<Outside>
-    ensures { result ≡ first_outside (n.nodes_of_expression region role (expression_of tree.now)) }
+    ensures { result ≡ first_outside
+        (nodes.nodes_of_expression region role (expression_of tree.now)) }
 {
     let first = judge(expression_form(tree, role), tree.span());
     first_of(first, parts_of_expression(tree, region, role))
@@ -30,7 +31,7 @@ pub(crate) fn expression(tree: &Expression<'_>, region: Region, role: Role) -> O
 /// one.
 #[cycle(check)]
 pub(crate) fn part(tree: &Box<Expression<'_>>, region: Region) -> Option<Outside>
-    ensures { let all = n.nodes_of_expression region Part (expression_of tree.now.value) in
+    ensures { let all = nodes.nodes_of_expression region Part (expression_of tree.now.value) in
         result ≡ first_outside all }
 {
     expression(tree, region, Role::Part)
@@ -41,7 +42,7 @@ pub(crate) fn part(tree: &Box<Expression<'_>>, region: Region) -> Option<Outside
 fn parts_of_expression(tree: &Expression<'_>, region: Region, role: Role) -> Option<Outside>
     ensures { result
         ≡ first_outside
-        (n.after_first (n.nodes_of_expression region role (expression_of tree.now))) }
+        (nodes.after_first (nodes.nodes_of_expression region role (expression_of tree.now))) }
 {
     match tree {
         Expression::Name { .. } | Expression::Constant { .. } | Expression::Character { .. } =>
@@ -87,7 +88,7 @@ fn parts_of_expression(tree: &Expression<'_>, region: Region, role: Role) -> Opt
 #[cycle(check)]
 fn expressions(trees: &[Expression<'_>], region: Region, role: Role) -> Option<Outside>
     ensures { let all = expressions_from (map expression_of trees.now) in
-        result ≡ first_outside (n.nodes_of_expressions region role all) }
+        result ≡ first_outside (nodes.nodes_of_expressions region role all) }
 {
     for tree in trees {
         if let Some(first) = expression(tree, region, role) {
@@ -100,8 +101,9 @@ fn expressions(trees: &[Expression<'_>], region: Region, role: Role) -> Option<O
 #[cycle(check)]
 #[tactic(auto, using(crate::proofs::Order::first_of_both), unfolding(crate::specs::Forms::form_of))]
 fn type_name(words: &[Specifier<'_>], stars: u32, span: Span, region: Region) -> Option<Outside>
-    ensures { let type = t.type_name (specifiers_from (map specifier_of words.now)) stars span in
-        result ≡ first_outside (n.nodes_of_type region type) }
+    ensures { let type = source_tree.type_name (specifiers_from (map specifier_of words.now))
+        stars span in
+        result ≡ first_outside (nodes.nodes_of_type region type) }
 {
     first_of(judge(pointer_form(stars), span), specifiers(words, region))
 }
@@ -109,7 +111,7 @@ fn type_name(words: &[Specifier<'_>], stars: u32, span: Span, region: Region) ->
 #[cycle(check)]
 pub(crate) fn specifiers(trees: &[Specifier<'_>], region: Region) -> Option<Outside>
     ensures { let all = specifiers_from (map specifier_of trees.now) in
-        result ≡ first_outside (n.nodes_of_specifiers region all) }
+        result ≡ first_outside (nodes.nodes_of_specifiers region all) }
 {
     for tree in trees {
         if let Some(first) = specifier(tree, region) {
@@ -122,7 +124,7 @@ pub(crate) fn specifiers(trees: &[Specifier<'_>], region: Region) -> Option<Outs
 #[cycle(check)]
 #[tactic(auto, using(crate::proofs::Order::first_of_both), unfolding(crate::specs::Forms::form_of))]
 fn specifier(tree: &Specifier<'_>, region: Region) -> Option<Outside>
-    ensures { result ≡ first_outside (n.nodes_of_specifier region (specifier_of tree.now)) }
+    ensures { result ≡ first_outside (nodes.nodes_of_specifier region (specifier_of tree.now)) }
 {
     match tree {
         Specifier::Structure {
@@ -145,7 +147,7 @@ fn specifier(tree: &Specifier<'_>, region: Region) -> Option<Outside>
 #[cycle(check)]
 fn members(trees: &[Member<'_>], region: Region) -> Option<Outside>
     ensures { let all = members_from (map member_of trees.now) in
-        result ≡ first_outside (n.nodes_of_members region all) }
+        result ≡ first_outside (nodes.nodes_of_members region all) }
 {
     for tree in trees {
         if let Some(first) = member(tree, region) {
@@ -158,7 +160,7 @@ fn members(trees: &[Member<'_>], region: Region) -> Option<Outside>
 #[cycle(check)]
 #[tactic(auto, using(crate::proofs::Trees::declarations), unfolding(crate::specs::Forms::form_of))]
 fn member(tree: &Member<'_>, region: Region) -> Option<Outside>
-    ensures { result ≡ first_outside (n.nodes_of_member region (member_of tree.now)) }
+    ensures { result ≡ first_outside (nodes.nodes_of_member region (member_of tree.now)) }
 {
     let first = judge(member_form(&tree.specifiers), tree.span);
     let second = specifiers(&tree.specifiers, region);
@@ -170,7 +172,7 @@ fn member(tree: &Member<'_>, region: Region) -> Option<Outside>
 #[cycle(check)]
 fn declarators(trees: &[Declarator<'_>], region: Region, external: bool) -> Option<Outside>
     ensures { let all = declarators_from (map declarator_of trees.now) in
-        result ≡ first_outside (n.nodes_of_declarators region external all) }
+        result ≡ first_outside (nodes.nodes_of_declarators region external all) }
 {
     for tree in trees {
         if let Some(first) = declarator(tree, region, false, external) {
@@ -183,7 +185,7 @@ fn declarators(trees: &[Declarator<'_>], region: Region, external: bool) -> Opti
 #[cycle(check)]
 fn enumerators(trees: &[Enumerator<'_>], region: Region) -> Option<Outside>
     ensures { let all = enumerators_from (map enumerator_of trees.now) in
-        result ≡ first_outside (n.nodes_of_enumerators region all) }
+        result ≡ first_outside (nodes.nodes_of_enumerators region all) }
 {
     for tree in trees {
         if let Some(first) = enumerator(tree, region) {
@@ -195,7 +197,7 @@ fn enumerators(trees: &[Enumerator<'_>], region: Region) -> Option<Outside>
 
 #[cycle(check)]
 fn enumerator(tree: &Enumerator<'_>, region: Region) -> Option<Outside>
-    ensures { result ≡ first_outside (n.nodes_of_enumerator region (enumerator_of tree.now)) }
+    ensures { result ≡ first_outside (nodes.nodes_of_enumerator region (enumerator_of tree.now)) }
 {
     match tree {
         Enumerator::Valued { value, .. } => part(value, region),
@@ -211,7 +213,7 @@ pub(crate) fn declarator(
     local: bool,
     external: bool,
 ) -> Option<Outside>
-    ensures { let all = n.nodes_of_declarator region local external (declarator_of tree.now) in
+    ensures { let all = nodes.nodes_of_declarator region local external (declarator_of tree.now) in
         result ≡ first_outside all }
 {
     match tree {
@@ -250,7 +252,7 @@ pub(crate) fn declarator(
 #[cycle(check)]
 fn lengths(trees: &[ArrayLength<'_>], region: Region) -> Option<Outside>
     ensures { let all = lengths_from (map array_length_of trees.now) in
-        result ≡ first_outside (n.nodes_of_lengths region all) }
+        result ≡ first_outside (nodes.nodes_of_lengths region all) }
 {
     for tree in trees {
         if let Some(first) = length(tree, region) {
@@ -264,9 +266,9 @@ fn lengths(trees: &[ArrayLength<'_>], region: Region) -> Option<Outside>
 #[cycle(check)]
 #[tactic(auto, using(crate::proofs::Trees::lengths))]
 fn length(tree: &ArrayLength<'_>, region: Region) -> Option<Outside>
-    ensures { (rest : t.ArrayLengths)
-        → first_outside (n.nodes_of_lengths region (array_length_of tree.now rest))
-        ≡ or_else result (first_outside (n.nodes_of_lengths region rest)) }
+    ensures { (rest : source_tree.ArrayLengths)
+        → first_outside (nodes.nodes_of_lengths region (array_length_of tree.now rest))
+        ≡ or_else result (first_outside (nodes.nodes_of_lengths region rest)) }
 {
     match tree {
         ArrayLength::Given { value } => part(value, region),
@@ -277,7 +279,7 @@ fn length(tree: &ArrayLength<'_>, region: Region) -> Option<Outside>
 #[cycle(check)]
 fn parameters(trees: &[Parameter<'_>]) -> Option<Outside>
     ensures { let all = parameters_from (map parameter_of trees.now) in
-        result ≡ first_outside (n.nodes_of_parameter_list all) }
+        result ≡ first_outside (nodes.nodes_of_parameter_list all) }
 {
     for tree in trees {
         if let Some(first) = parameter(tree) {
@@ -290,7 +292,7 @@ fn parameters(trees: &[Parameter<'_>]) -> Option<Outside>
 #[cycle(check)]
 #[tactic(auto, using(crate::proofs::Trees::declarations), unfolding(crate::specs::Forms::form_of))]
 fn parameter(tree: &Parameter<'_>) -> Option<Outside>
-    ensures { result ≡ first_outside (n.nodes_of_parameter (parameter_of tree.now)) }
+    ensures { result ≡ first_outside (nodes.nodes_of_parameter (parameter_of tree.now)) }
 {
     let first = judge(pointer_form(tree.stars), tree.span);
     let second = specifiers(&tree.specifiers, Region::Function);

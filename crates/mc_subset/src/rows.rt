@@ -4,9 +4,9 @@ ghost use Rattle.mc_tree.specs.Views.{expression_of, specifier_of, specifiers_fr
 ghost use Rattle.mc_tree.specs.Units.{statement_of};
 ghost use Rattle.mc_forms.specs.declared.form.Form.TheVariants as form;
 ghost use Rattle.mc_subset.specs.Nodes.{an_expression, a_statement};
-ghost use Rattle.mc_subset.specs.Nodes as n;
+ghost use Rattle.mc_subset.specs.Nodes as nodes;
 ghost use Rattle.mc_subset.specs.Forms.{closing, form_of, outside_at};
-ghost use Rattle.mc_subset.specs.Forms as f;
+ghost use Rattle.mc_subset.specs.Forms as forms;
 
 use mc_forms::{Form, Outside, Region, Role, Standing};
 use mc_span::Span;
@@ -33,7 +33,7 @@ pub(crate) fn closing_of(list: Span) -> Span
 }
 
 fn is_of_pointers(operator: UnaryOperator) -> bool
-    ensures { result ≡ f.is_of_pointers operator }
+    ensures { result ≡ forms.is_of_pointers operator }
 {
     match operator {
         UnaryOperator::Dereference | UnaryOperator::Address => true,
@@ -45,7 +45,7 @@ fn is_of_pointers(operator: UnaryOperator) -> bool
 }
 
 fn is_part(role: Role) -> bool
-    ensures { result ≡ f.is_part role }
+    ensures { result ≡ forms.is_part role }
 {
     match role {
         Role::Part => true,
@@ -54,7 +54,7 @@ fn is_part(role: Role) -> bool
 }
 
 fn is_for_part(role: Role) -> bool
-    ensures { result ≡ f.is_for_part role }
+    ensures { result ≡ forms.is_for_part role }
 {
     match role {
         Role::ForPart => true,
@@ -118,13 +118,13 @@ pub(crate) fn function_form(stars: u32, local: bool) -> Option<Form>
 
 /// The form of a structure or an enumeration with a list.
 pub(crate) fn tag_form(region: Region) -> Option<Form>
-    ensures { result ≡ (if n.is_local region then Some form.LocalTag else None) }
+    ensures { result ≡ (if nodes.is_local region then Some form.LocalTag else None) }
 {
     is_local(region).then_some(Form::LocalTag)
 }
 
 pub(crate) fn is_local(region: Region) -> bool
-    ensures { result ≡ n.is_local region }
+    ensures { result ≡ nodes.is_local region }
 {
     match region {
         Region::File => false,
@@ -135,13 +135,13 @@ pub(crate) fn is_local(region: Region) -> bool
 /// The form of a member with these specifiers.
 pub(crate) fn member_form(specifiers: &[Specifier<'_>]) -> Option<Form>
     ensures { let words = specifiers_from (map specifier_of specifiers.now) in
-        result ≡ (if f.has_const words then Some form.ConstMember else None) }
+        result ≡ (if forms.has_const words then Some form.ConstMember else None) }
 {
     has_const(specifiers).then_some(Form::ConstMember)
 }
 
 fn has_const(trees: &[Specifier<'_>]) -> bool
-    ensures { result ≡ f.has_const (specifiers_from (map specifier_of trees.now)) }
+    ensures { result ≡ forms.has_const (specifiers_from (map specifier_of trees.now)) }
 {
     for tree in trees {
         if is_const(tree) {
@@ -152,7 +152,7 @@ fn has_const(trees: &[Specifier<'_>]) -> bool
 }
 
 fn is_const(tree: &Specifier<'_>) -> bool
-    ensures { result ≡ f.is_const (specifier_of tree.now) }
+    ensures { result ≡ forms.is_const (specifier_of tree.now) }
 {
     matches!(
         tree,
@@ -164,7 +164,7 @@ fn is_const(tree: &Specifier<'_>) -> bool
 }
 
 pub(crate) fn has_extern(trees: &[Specifier<'_>]) -> bool
-    ensures { result ≡ n.has_extern (specifiers_from (map specifier_of trees.now)) }
+    ensures { result ≡ nodes.has_extern (specifiers_from (map specifier_of trees.now)) }
 {
     for tree in trees {
         if is_extern(tree) {
@@ -175,7 +175,7 @@ pub(crate) fn has_extern(trees: &[Specifier<'_>]) -> bool
 }
 
 fn is_extern(tree: &Specifier<'_>) -> bool
-    ensures { result ≡ n.is_extern (specifier_of tree.now) }
+    ensures { result ≡ nodes.is_extern (specifier_of tree.now) }
 {
     matches!(
         tree,
@@ -188,7 +188,7 @@ fn is_extern(tree: &Specifier<'_>) -> bool
 
 /// Where a statement stands whose place in its compound statement is `standing`.
 pub(crate) fn standing_from(tree: &Statement<'_>, standing: Standing) -> Standing
-    ensures { result ≡ n.standing_from (statement_of tree.now) standing }
+    ensures { result ≡ nodes.standing_from (statement_of tree.now) standing }
 {
     match tree {
         Statement::Case { .. } | Statement::Default { .. } => standing.of_label(),
@@ -210,7 +210,7 @@ pub(crate) fn standing_from(tree: &Statement<'_>, standing: Standing) -> Standin
 }
 
 fn is_compound(tree: &Statement<'_>) -> bool
-    ensures { result ≡ f.is_compound (statement_of tree.now) }
+    ensures { result ≡ forms.is_compound (statement_of tree.now) }
 {
     match tree {
         Statement::Compound { .. } => true,
@@ -233,7 +233,7 @@ fn is_compound(tree: &Statement<'_>) -> bool
 }
 
 fn is_before_labels(standing: Standing) -> bool
-    ensures { result ≡ f.is_before_labels standing }
+    ensures { result ≡ forms.is_before_labels standing }
 {
     match standing {
         Standing::BeforeLabels => true,
@@ -242,7 +242,7 @@ fn is_before_labels(standing: Standing) -> bool
 }
 
 fn is_among_labels(standing: Standing) -> bool
-    ensures { result ≡ f.is_among_labels standing }
+    ensures { result ≡ forms.is_among_labels standing }
 {
     match standing {
         Standing::AmongLabels => true,
@@ -252,7 +252,7 @@ fn is_among_labels(standing: Standing) -> bool
 
 /// The form of a declaration.
 pub(crate) fn declaration_form(standing: Standing) -> Option<Form>
-    ensures { let inside = f.is_before_labels standing || f.is_among_labels standing in
+    ensures { let inside = forms.is_before_labels standing || forms.is_among_labels standing in
         result ≡ (if inside then Some form.SwitchShape else None) }
 {
     (is_before_labels(standing) || is_among_labels(standing)).then_some(Form::SwitchShape)

@@ -3,8 +3,8 @@
 
 ghost use Rattle.std.specs.Prelude.{◌≡◌, map};
 ghost use Rattle.mc_tree.specs.Units.{block_from, block_item_of, statement_of};
-ghost use Rattle.mc_tree.specs.Tree as t;
-ghost use Rattle.mc_subset.specs.Nodes as n;
+ghost use Rattle.mc_tree.specs.Tree as source_tree;
+ghost use Rattle.mc_subset.specs.Nodes as nodes;
 ghost use Rattle.mc_forms.specs.Order.{or_else};
 ghost use Rattle.mc_subset.specs.Forms.{first_outside};
 
@@ -17,7 +17,7 @@ use mc_tree::{BlockItem, Statement};
 #[cycle(check)]
 #[tactic(auto, using(crate::proofs::Order::first_of_statement))]
 fn statement(tree: &Statement<'_>, standing: Standing) -> Option<Outside>
-    ensures { result ≡ first_outside (n.nodes_of_statement standing (statement_of tree.now)) }
+    ensures { result ≡ first_outside (nodes.nodes_of_statement standing (statement_of tree.now)) }
 {
     let first = judge(statement_form(tree, standing), tree.span());
     first_of(first, parts_of_statement(tree, standing))
@@ -26,7 +26,7 @@ fn statement(tree: &Statement<'_>, standing: Standing) -> Option<Outside>
 /// A statement that is a part of another, in its box.
 #[cycle(check)]
 fn inner(tree: &Box<Statement<'_>>, standing: Standing) -> Option<Outside>
-    ensures { let all = n.nodes_of_statement standing (statement_of tree.now.value) in
+    ensures { let all = nodes.nodes_of_statement standing (statement_of tree.now.value) in
         result ≡ first_outside all }
 {
     statement(tree, standing)
@@ -35,8 +35,8 @@ fn inner(tree: &Box<Statement<'_>>, standing: Standing) -> Option<Outside>
 #[cycle(check)]
 #[tactic(auto, using(crate::proofs::Trees::statements))]
 fn parts_of_statement(tree: &Statement<'_>, standing: Standing) -> Option<Outside>
-    ensures { let all = n.nodes_of_statement standing (statement_of tree.now) in
-        result ≡ first_outside (n.after_first all) }
+    ensures { let all = nodes.nodes_of_statement standing (statement_of tree.now) in
+        result ≡ first_outside (nodes.after_first all) }
 {
     match tree {
         Statement::Compound { items, .. } => block(items, standing.of_items()),
@@ -92,7 +92,7 @@ fn parts_of_statement(tree: &Statement<'_>, standing: Standing) -> Option<Outsid
 #[cycle(check)]
 pub(crate) fn block(trees: &[BlockItem<'_>], standing: Standing) -> Option<Outside>
     ensures { let all = block_from (map block_item_of trees.now) in
-        result ≡ first_outside (n.nodes_of_block standing all) }
+        result ≡ first_outside (nodes.nodes_of_block standing all) }
 {
     let mut standing = standing;
     for tree in trees {
@@ -108,10 +108,10 @@ pub(crate) fn block(trees: &[BlockItem<'_>], standing: Standing) -> Option<Outsi
 #[cycle(check)]
 #[tactic(auto, using(crate::proofs::Trees::block_items))]
 fn block_item(tree: &BlockItem<'_>, standing: Standing) -> Option<Outside>
-    ensures { (rest : t.BlockItems)
-        → let next = n.standing_after (block_item_of tree.now rest) standing in
-        first_outside (n.nodes_of_block standing (block_item_of tree.now rest))
-        ≡ or_else result (first_outside (n.nodes_of_block next rest)) }
+    ensures { (rest : source_tree.BlockItems)
+        → let next = nodes.standing_after (block_item_of tree.now rest) standing in
+        first_outside (nodes.nodes_of_block standing (block_item_of tree.now rest))
+        ≡ or_else result (first_outside (nodes.nodes_of_block next rest)) }
 {
     match tree {
         BlockItem::Local { declaration: local } => declaration(local, Region::Function, standing),
@@ -121,8 +121,8 @@ fn block_item(tree: &BlockItem<'_>, standing: Standing) -> Option<Outside>
 
 /// Where what follows an item of a block stands.
 fn standing_after(tree: &BlockItem<'_>, standing: Standing) -> Standing
-    ensures { (rest : t.BlockItems)
-        → result ≡ n.standing_after (block_item_of tree.now rest) standing }
+    ensures { (rest : source_tree.BlockItems)
+        → result ≡ nodes.standing_after (block_item_of tree.now rest) standing }
 {
     match tree {
         BlockItem::Local { .. } => standing,

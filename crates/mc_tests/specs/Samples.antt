@@ -4,7 +4,7 @@ use Rattle.mc_value.specs.declared.int_type.IntType.TheVariants.{Bool, Int}
 use Rattle.mc_rows.specs.Rows.{Fields}
 use Rattle.mc_typed.specs.Layout.{Scalar}
 use Rattle.mc_typed.specs.Tree.{Function, Object, ParameterType, ResultType}
-use Rattle.mc_typed.specs.Tree as t
+use Rattle.mc_typed.specs.Tree as typed
 
 -- a function without statements; what objects it has does not matter to a tests file
 abbrev pub with_result : ResultType → List ℕ → List ParameterType → Function
@@ -14,16 +14,16 @@ with_result result name parameters = record {
   parameters = parameters;
   result = result;
   objects = [];
-  body = t.no_statements;
+  body = typed.no_statements;
   closing = record { start = 0; end = 0 };
 }
 
 -- `int f(_Bool)`, `void v(void)` and `int t(int [])`
 abbrev pub functions : List Function
 functions =
-    with_result (t.NumberResult Int) (codes "f") (t.NumberParameter Bool ∷ [])
-    ∷ with_result t.NoResult (codes "v") []
-    ∷ with_result (t.NumberResult Int) (codes "t") (t.ArrayParameter (Scalar Int) ∷ [])
+    with_result (typed.NumberResult Int) (codes "f") (typed.NumberParameter Bool ∷ [])
+    ∷ with_result typed.NoResult (codes "v") []
+    ∷ with_result (typed.NumberResult Int) (codes "t") (typed.ArrayParameter (Scalar Int) ∷ [])
     ∷ []
 
 -- the record `NAME,CALL,ARGUMENTS,INPUTS,EXPECT,`

@@ -11,14 +11,14 @@ use denote.Ref.{Bor}
 use Rattle.mc_typed.specs.Plans.{Plan, expected_outputs, plan_call_of, plan_of}
 use Rattle.mc_typed.specs.declared.plans.TestPlan.{TestPlan}
 use Rattle.mc_typed.specs.Tree.{Function}
-use Rattle.mc_tests.specs.Lines as l
+use Rattle.mc_tests.specs.Lines as lines
 use Rattle.mc_tests.specs.Lines.{function_named}
 use Rattle.mc_tests.specs.Tests.{are_distinct, keeps_limits, names_of}
 use Rattle.mc_tests.specs.declared.draft.Draft.{Draft}
 use Rattle.mc_tests.specs.declared.line.Line.{Line}
 use Rattle.mc_tests.specs.declared.tests.Tests.{Tests}
 
-abbrev pub seen_line : Line → l.Line
+abbrev pub seen_line : Line → lines.Line
 seen_line line =
     record { name = line.name.now; call = plan_call_of line.call; inputs = line.inputs.items }
 

@@ -13,7 +13,7 @@ use Rattle.mc_typed.specs.declared.operators.Operator.TheVariants.{Binary, Shift
 use Rattle.mc_typed.specs.declared.operators.LogicOperator.{LogicOperator}
 use Rattle.mc_typed.specs.Operators.{operated, is_true, goes_on}
 use Rattle.mc_typed.specs.Tree.{Expression}
-use Rattle.mc_typed.specs.Tree as t
+use Rattle.mc_typed.specs.Tree as typed
 
 abbrev pub unless_trap : Result ℤ Trap → Option ℤ
 unless_trap (Ok v) = Some v
@@ -65,16 +65,16 @@ choice_value x y z = option_and_then (λ x. if is_true x then y else z) x
 -- ---- the value of an expression, which has one where its operands are constants
 
 abbrev pub constant_value : Expression → Option ℤ
-constant_value (t.Constant v a span) = Some v
-constant_value (t.Read place a) = None
-constant_value (t.Unary operator a e span) = unary_value operator a (constant_value e)
-constant_value (t.Convert a written e span) = converted_value a (constant_value e)
-constant_value (t.Not e span) = negated_value (constant_value e)
-constant_value (t.Binary operator a e f span) =
+constant_value (typed.Constant v a span) = Some v
+constant_value (typed.Read place a) = None
+constant_value (typed.Unary operator a e span) = unary_value operator a (constant_value e)
+constant_value (typed.Convert a written e span) = converted_value a (constant_value e)
+constant_value (typed.Not e span) = negated_value (constant_value e)
+constant_value (typed.Binary operator a e f span) =
     binary_value operator a (constant_value e) (constant_value f)
-constant_value (t.Logic operator e f span) =
+constant_value (typed.Logic operator e f span) =
     logic_value operator (constant_value e) (constant_value f)
-constant_value (t.Choice e f g a span) =
+constant_value (typed.Choice e f g a span) =
     choice_value (constant_value e) (constant_value f) (constant_value g)
-constant_value (t.Call k a) = None
-constant_value (t.Input span) = None
+constant_value (typed.Call k a) = None
+constant_value (typed.Input span) = None

@@ -7,7 +7,7 @@ use Rattle.mc_typed.specs.declared.operators.Operator.TheVariants.{Binary}
 use Rattle.mc_typed.specs.declared.expressions.Slot.{Slot}
 use Rattle.mc_typed.specs.Layout.{ObjectType, Scalar, Array, Structure, no_members, members}
 use Rattle.mc_typed.specs.Tree.{Place, Expression, StructureValue, Statement, Object, Function, Program}
-use Rattle.mc_typed.specs.Tree as t
+use Rattle.mc_typed.specs.Tree as typed
 use Rattle.mc_typed.specs.Plans.{Call, Plan}
 
 abbrev pub at : ℕ → ℕ → Span
@@ -18,10 +18,10 @@ slot k from = record { object = k; start = from }
 
 -- the value of a local integer, and a constant, of type int
 abbrev pub local : ℕ → Span → Expression
-local k span = t.Read (t.Local (slot k k) span) Int
+local k span = typed.Read (typed.Local (slot k k) span) Int
 
 abbrev pub constant : ℕ → Span → Expression
-constant n span = t.Constant (pos n) Int span
+constant n span = typed.Constant (pos n) Int span
 
 abbrev pub scalar : ℕ → Object
 scalar k = record { object_type = Scalar Int; cells = 1; start = k }
@@ -31,15 +31,16 @@ abbrev pub recursive : Function
 recursive = record {
   name = 102 ∷ [];
   name_span = (at 4 5);
-  parameters = t.NumberParameter Int ∷ [];
-  result = t.NumberResult Int;
+  parameters = typed.NumberParameter Int ∷ [];
+  result = typed.NumberResult Int;
   objects = scalar 0 ∷ [];
-  body = t.statements (t.Return (t.ReturnNumber (t.Choice
+  body = typed.statements (typed.Return (typed.ReturnNumber (typed.Choice
       (local 0 (at 20 21))
-      (t.Call (t.call 0 (t.arguments (t.NumberArgument (t.Binary (Binary Sub) Int
-      (local 0 (at 24 25)) (constant 1 (at 26 27)) (at 24 27))) t.no_arguments) None (at 22 28))
+      (typed.Call (typed.call 0 (typed.arguments
+      (typed.NumberArgument (typed.Binary (Binary Sub) Int
+      (local 0 (at 24 25)) (constant 1 (at 26 27)) (at 24 27))) typed.no_arguments) None (at 22 28))
       Int)
-      (constant 0 (at 29 30)) Int (at 20 30))) (at 13 31)) t.no_statements;
+      (constant 0 (at 29 30)) Int (at 20 30))) (at 13 31)) typed.no_statements;
   closing = (at 31 32);
 }
 
@@ -51,21 +52,24 @@ abbrev pub array : Function
 array = record {
   name = 102 ∷ [];
   name_span = (at 4 5);
-  parameters = t.NumberParameter Int ∷ [];
-  result = t.NumberResult Int;
+  parameters = typed.NumberParameter Int ∷ [];
+  result = typed.NumberResult Int;
   objects = scalar 0 ∷ record { object_type = Array 30000 (Scalar Int); cells = 30000; start = 1 }
       ∷ [];
-  body = t.statements (t.Declaration (record { slot = slot 1 1; cells = 30000; value = None } ∷ [])
+  body = typed.statements (typed.Declaration
+      (record { slot = slot 1 1; cells = 30000; value = None } ∷ [])
       (at 13 26))
-      (t.statements (t.EffectStatement (t.Assign
-      (t.Item (t.Local (slot 1 1) (at 26 27)) 30000 1 (constant 0 (at 28 29)) (at 26 30)) Int
+      (typed.statements (typed.EffectStatement (typed.Assign
+      (typed.Item (typed.Local (slot 1 1) (at 26 27)) 30000 1 (constant 0 (at 28 29)) (at 26 30))
+      Int
       (local 0 (at 31 32)) (at 26 32)) (at 26 33))
-      (t.statements (t.Return (t.ReturnNumber (t.Choice
+      (typed.statements (typed.Return (typed.ReturnNumber (typed.Choice
       (local 0 (at 40 41))
-      (t.Call (t.call 0 (t.arguments (t.NumberArgument (t.Binary (Binary Sub) Int
-      (local 0 (at 44 45)) (constant 1 (at 46 47)) (at 44 47))) t.no_arguments) None (at 42 48))
+      (typed.Call (typed.call 0 (typed.arguments
+      (typed.NumberArgument (typed.Binary (Binary Sub) Int
+      (local 0 (at 44 45)) (constant 1 (at 46 47)) (at 44 47))) typed.no_arguments) None (at 42 48))
       Int)
-      (constant 0 (at 49 50)) Int (at 40 50))) (at 33 51)) t.no_statements));
+      (constant 0 (at 49 50)) Int (at 40 50))) (at 33 51)) typed.no_statements));
   closing = (at 51 52);
 }
 
@@ -75,18 +79,20 @@ abbrev pub structure : ObjectType
 structure = Structure 0 (members (Scalar Int) no_members)
 
 abbrev pub stored : Span → Place
-stored span = t.Static (slot 0 0) span
+stored span = typed.Static (slot 0 0) span
 
 abbrev pub setter : Function
 setter = record {
   name = 103 ∷ [];
   name_span = (at 39 40);
   parameters = [];
-  result = t.NumberResult Int;
+  result = typed.NumberResult Int;
   objects = [];
-  body = t.statements (t.EffectStatement (t.Assign (t.Member (stored (at 47 48)) 0 0 (at 47 50)) Int
+  body = typed.statements (typed.EffectStatement
+      (typed.Assign (typed.Member (stored (at 47 48)) 0 0 (at 47 50)) Int
       (constant 9 (at 51 52)) (at 47 52)) (at 47 53))
-      (t.statements (t.Return (t.ReturnNumber (constant 1 (at 60 61))) (at 53 62)) t.no_statements);
+      (typed.statements (typed.Return (typed.ReturnNumber (constant 1 (at 60 61))) (at 53 62))
+      typed.no_statements);
   closing = (at 62 63);
 }
 
@@ -94,12 +100,12 @@ abbrev pub callee : Function
 callee = record {
   name = 104 ∷ [];
   name_span = (at 67 68);
-  parameters = t.StructureParameter structure ∷ t.NumberParameter Int ∷ [];
-  result = t.NumberResult Int;
+  parameters = typed.StructureParameter structure ∷ typed.NumberParameter Int ∷ [];
+  result = typed.NumberResult Int;
   objects = record { object_type = structure; cells = 1; start = 0 } ∷ scalar 1 ∷ [];
-  body = t.statements (t.Return (t.ReturnNumber (t.Binary (Binary Add) Int
-      (t.Read (t.Member (t.Local (slot 0 0) (at 94 95)) 0 0 (at 94 97)) Int)
-      (local 1 (at 98 99)) (at 94 99))) (at 87 100)) t.no_statements;
+  body = typed.statements (typed.Return (typed.ReturnNumber (typed.Binary (Binary Add) Int
+      (typed.Read (typed.Member (typed.Local (slot 0 0) (at 94 95)) 0 0 (at 94 97)) Int)
+      (local 1 (at 98 99)) (at 94 99))) (at 87 100)) typed.no_statements;
   closing = (at 100 101);
 }
 
@@ -108,16 +114,17 @@ caller = record {
   name = 102 ∷ [];
   name_span = (at 105 106);
   parameters = [];
-  result = t.NumberResult Int;
+  result = typed.NumberResult Int;
   objects = record { object_type = structure; cells = 1; start = 0 } ∷ [];
-  body = t.statements
-      (t.EffectStatement (t.Assign (t.Member (stored (at 113 114)) 0 0 (at 113 116)) Int
+  body = typed.statements
+      (typed.EffectStatement (typed.Assign (typed.Member (stored (at 113 114)) 0 0 (at 113 116)) Int
       (constant 2 (at 117 118)) (at 113 118)) (at 113 119))
-      (t.statements (t.Return (t.ReturnNumber (t.Call (t.call 1
-      (t.arguments (t.StructureArgument (t.Stored (stored (at 128 129))) (slot 0 0))
-      (t.arguments (t.NumberArgument (t.Call (t.call 0 t.no_arguments None (at 130 133)) Int))
-      t.no_arguments))
-      None (at 126 134)) Int)) (at 119 135)) t.no_statements);
+      (typed.statements (typed.Return (typed.ReturnNumber (typed.Call (typed.call 1
+      (typed.arguments (typed.StructureArgument (typed.Stored (stored (at 128 129))) (slot 0 0))
+      (typed.arguments (typed.NumberArgument
+      (typed.Call (typed.call 0 typed.no_arguments None (at 130 133)) Int))
+      typed.no_arguments))
+      None (at 126 134)) Int)) (at 119 135)) typed.no_statements);
   closing = (at 135 136);
 }
 
@@ -137,30 +144,31 @@ abbrev pub constructs : Function
 constructs = record {
   name = 102 ∷ [];
   name_span = (at 4 5);
-  parameters = t.NumberParameter Int ∷ [];
-  result = t.NumberResult Int;
+  parameters = typed.NumberParameter Int ∷ [];
+  result = typed.NumberResult Int;
   objects = scalar 0 ∷ scalar 1 ∷ [];
-  body = t.statements (t.Declaration (record {
+  body = typed.statements (typed.Declaration (record {
     slot = slot 1 1;
     cells = 1;
-    value = Some (t.NumberInitializer (t.Binary (Binary Add) Int
+    value = Some (typed.NumberInitializer (typed.Binary (Binary Add) Int
         (local 0 (at 19 20)) (constant 1 (at 21 22)) (at 19 22)));
   } ∷ []) (at 13 23))
-      (t.statements (t.Switch (local 0 (at 30 31))
-      (t.statements (t.Label (Some (pos 1)) (at 33 40))
-      (t.statements
-      (t.For (t.StartEffects [])
-      (Some (t.Binary (Binary Lt) Int (local 1 (at 45 46)) (constant 9 (at 47 48)) (at 45 48)))
-      (t.Update (t.Local (slot 1 1) (at 49 50)) Int (Binary Add) Int (constant 1 (at 50 52))
+      (typed.statements (typed.Switch (local 0 (at 30 31))
+      (typed.statements (typed.Label (Some (pos 1)) (at 33 40))
+      (typed.statements
+      (typed.For (typed.StartEffects [])
+      (Some (typed.Binary (Binary Lt) Int (local 1 (at 45 46)) (constant 9 (at 47 48)) (at 45 48)))
+      (typed.Update (typed.Local (slot 1 1) (at 49 50)) Int (Binary Add) Int (constant 1 (at 50 52))
       (at 49 52) ∷ [])
-      (t.Null (at 53 54)) (at 40 43) (at 40 54))
-      (t.statements (t.Label None (at 54 62))
-      (t.statements
-      (t.Return (t.ReturnNumber
-      (t.Convert Int false (t.Convert Long true (local 1 (at 75 76)) (at 69 76)) (at 69 76)))
+      (typed.Null (at 53 54)) (at 40 43) (at 40 54))
+      (typed.statements (typed.Label None (at 54 62))
+      (typed.statements
+      (typed.Return (typed.ReturnNumber
+      (typed.Convert Int false (typed.Convert Long true (local 1 (at 75 76)) (at 69 76))
+      (at 69 76)))
       (at 62 77))
-      t.no_statements)))) (at 23 29) (at 23 78))
-      t.no_statements);
+      typed.no_statements)))) (at 23 29) (at 23 78))
+      typed.no_statements);
   closing = (at 78 79);
 }
 

@@ -3,7 +3,7 @@
 use Rattle.std.specs.Prelude.{ℕ, sum, map, List, [], ◌∷◌, ◌++◌, Option, Some, None}
 use Rattle.mc_typed.specs.declared.expressions.Slot.{Slot}
 use Rattle.mc_typed.specs.Tree.{Place, Expression, StructureValue, FunctionCall, Argument, Arguments, Effect, Initializer, Initializers, Declarator, ForStart, ReturnValue, Statement, Statements, Object, StaticObject, Function, Program}
-use Rattle.mc_typed.specs.Tree as t
+use Rattle.mc_typed.specs.Tree as typed
 
 -- ---- the objects that a body makes, in the order of the text
 
@@ -15,51 +15,51 @@ optional (Some s) = s ∷ []
 
 abbrev mutual
   pub slots_place : Place → List Slot
-  slots_place (t.Local slot span) = []
-  slots_place (t.Static slot span) = []
-  slots_place (t.Parameter array stride index span) = slots index
-  slots_place (t.Item array length stride index span) = slots_place array ++ slots index
-  slots_place (t.Member structure i offset span) = slots_place structure
+  slots_place (typed.Local slot span) = []
+  slots_place (typed.Static slot span) = []
+  slots_place (typed.Parameter array stride index span) = slots index
+  slots_place (typed.Item array length stride index span) = slots_place array ++ slots index
+  slots_place (typed.Member structure i offset span) = slots_place structure
 
   pub slots : Expression → List Slot
-  slots (t.Constant v a span) = []
-  slots (t.Read place a) = slots_place place
-  slots (t.Unary operator a e span) = slots e
-  slots (t.Convert a written e span) = slots e
-  slots (t.Not e span) = slots e
-  slots (t.Binary operator a e f span) = slots e ++ slots f
-  slots (t.Logic operator e f span) = slots e ++ slots f
-  slots (t.Choice e f g a span) = slots e ++ slots f ++ slots g
-  slots (t.Call k a) = slots_call k
-  slots (t.Input span) = []
+  slots (typed.Constant v a span) = []
+  slots (typed.Read place a) = slots_place place
+  slots (typed.Unary operator a e span) = slots e
+  slots (typed.Convert a written e span) = slots e
+  slots (typed.Not e span) = slots e
+  slots (typed.Binary operator a e f span) = slots e ++ slots f
+  slots (typed.Logic operator e f span) = slots e ++ slots f
+  slots (typed.Choice e f g a span) = slots e ++ slots f ++ slots g
+  slots (typed.Call k a) = slots_call k
+  slots (typed.Input span) = []
 
   pub slots_structure : StructureValue → List Slot
-  slots_structure (t.Stored place) = slots_place place
-  slots_structure (t.Returned k) = slots_call k
+  slots_structure (typed.Stored place) = slots_place place
+  slots_structure (typed.Returned k) = slots_call k
 
   pub slots_call : FunctionCall → List Slot
-  slots_call (t.call f given result span) = slots_arguments given ++ optional result
+  slots_call (typed.call f given result span) = slots_arguments given ++ optional result
 
   pub slots_argument : Argument → List Slot
-  slots_argument (t.NumberArgument e) = slots e
-  slots_argument (t.StructureArgument value copy) = slots_structure value ++ (copy ∷ [])
-  slots_argument (t.ArrayArgument place length) = slots_place place
-  slots_argument (t.AgainArgument array span) = []
+  slots_argument (typed.NumberArgument e) = slots e
+  slots_argument (typed.StructureArgument value copy) = slots_structure value ++ (copy ∷ [])
+  slots_argument (typed.ArrayArgument place length) = slots_place place
+  slots_argument (typed.AgainArgument array span) = []
 
   pub slots_arguments : Arguments → List Slot
-  slots_arguments t.no_arguments = []
-  slots_arguments (t.arguments a rest) = slots_argument a ++ slots_arguments rest
+  slots_arguments typed.no_arguments = []
+  slots_arguments (typed.arguments a rest) = slots_argument a ++ slots_arguments rest
 
 abbrev pub slots_effect : Effect → List Slot
-slots_effect (t.Assign target a e span) = slots_place target ++ slots e
-slots_effect (t.Update target a operator common e span) = slots_place target ++ slots e
-slots_effect (t.Copy target value n span) = slots_place target ++ slots_structure value
-slots_effect (t.NumberEffect e whole) = slots e
-slots_effect (t.StructureEffect value whole) = slots_structure value
-slots_effect (t.CallEffect k) = slots_call k
-slots_effect (t.Output e span) = slots e
-slots_effect (t.ChoiceEffect e a b span) = slots e ++ slots_effect a ++ slots_effect b
-slots_effect (t.Discard a span) = slots_effect a
+slots_effect (typed.Assign target a e span) = slots_place target ++ slots e
+slots_effect (typed.Update target a operator common e span) = slots_place target ++ slots e
+slots_effect (typed.Copy target value n span) = slots_place target ++ slots_structure value
+slots_effect (typed.NumberEffect e whole) = slots e
+slots_effect (typed.StructureEffect value whole) = slots_structure value
+slots_effect (typed.CallEffect k) = slots_call k
+slots_effect (typed.Output e span) = slots e
+slots_effect (typed.ChoiceEffect e a b span) = slots e ++ slots_effect a ++ slots_effect b
+slots_effect (typed.Discard a span) = slots_effect a
 
 abbrev pub slots_effects : List Effect → List Slot
 slots_effects [] = []
@@ -67,14 +67,14 @@ slots_effects (a ∷ rest) = slots_effect a ++ slots_effects rest
 
 abbrev mutual
   pub slots_initializer : Initializer → List Slot
-  slots_initializer (t.NumberInitializer e) = slots e
-  slots_initializer (t.StructureInitializer value n) = slots_structure value
-  slots_initializer (t.ListInitializer items n) = slots_initializers items
-  slots_initializer (t.ZeroInitializer e n) = slots e
+  slots_initializer (typed.NumberInitializer e) = slots e
+  slots_initializer (typed.StructureInitializer value n) = slots_structure value
+  slots_initializer (typed.ListInitializer items n) = slots_initializers items
+  slots_initializer (typed.ZeroInitializer e n) = slots e
 
   pub slots_initializers : Initializers → List Slot
-  slots_initializers t.no_initializers = []
-  slots_initializers (t.initializers i rest) = slots_initializer i ++ slots_initializers rest
+  slots_initializers typed.no_initializers = []
+  slots_initializers (typed.initializers i rest) = slots_initializer i ++ slots_initializers rest
 
 abbrev pub slots_value : Option Initializer → List Slot
 slots_value None = []
@@ -89,34 +89,35 @@ slots_optional None = []
 slots_optional (Some e) = slots e
 
 abbrev pub slots_start : ForStart → List Slot
-slots_start (t.StartEffects effects) = slots_effects effects
-slots_start (t.StartDeclaration declarators) = slots_declarators declarators
+slots_start (typed.StartEffects effects) = slots_effects effects
+slots_start (typed.StartDeclaration declarators) = slots_declarators declarators
 
 abbrev pub slots_return : ReturnValue → List Slot
-slots_return t.ReturnNothing = []
-slots_return (t.ReturnNumber e) = slots e
-slots_return (t.ReturnStructure value n) = slots_structure value
+slots_return typed.ReturnNothing = []
+slots_return (typed.ReturnNumber e) = slots e
+slots_return (typed.ReturnStructure value n) = slots_structure value
 
 abbrev mutual
   pub slots_statement : Statement → List Slot
-  slots_statement (t.Compound items span) = slots_statements items
-  slots_statement (t.Label value span) = []
-  slots_statement (t.Declaration declarators span) = slots_declarators declarators
-  slots_statement (t.Null span) = []
-  slots_statement (t.EffectStatement effect span) = slots_effect effect
-  slots_statement (t.If e s keyword span) = slots e ++ slots_statement s
-  slots_statement (t.IfElse e s u keyword span) = slots e ++ slots_statement s ++ slots_statement u
-  slots_statement (t.Switch e items keyword span) = slots e ++ slots_statements items
-  slots_statement (t.For start test step s keyword span) =
+  slots_statement (typed.Compound items span) = slots_statements items
+  slots_statement (typed.Label value span) = []
+  slots_statement (typed.Declaration declarators span) = slots_declarators declarators
+  slots_statement (typed.Null span) = []
+  slots_statement (typed.EffectStatement effect span) = slots_effect effect
+  slots_statement (typed.If e s keyword span) = slots e ++ slots_statement s
+  slots_statement (typed.IfElse e s u keyword span) = slots e ++ slots_statement s
+      ++ slots_statement u
+  slots_statement (typed.Switch e items keyword span) = slots e ++ slots_statements items
+  slots_statement (typed.For start test step s keyword span) =
       slots_start start ++ slots_optional test ++ slots_effects step ++ slots_statement s
-  slots_statement (t.DoWhile s e keyword span) = slots_statement s ++ slots e
-  slots_statement (t.Break span) = []
-  slots_statement (t.Continue span) = []
-  slots_statement (t.Return value span) = slots_return value
+  slots_statement (typed.DoWhile s e keyword span) = slots_statement s ++ slots e
+  slots_statement (typed.Break span) = []
+  slots_statement (typed.Continue span) = []
+  slots_statement (typed.Return value span) = slots_return value
 
   pub slots_statements : Statements → List Slot
-  slots_statements t.no_statements = []
-  slots_statements (t.statements s rest) = slots_statement s ++ slots_statements rest
+  slots_statements typed.no_statements = []
+  slots_statements (typed.statements s rest) = slots_statement s ++ slots_statements rest
 
 -- ---- cells
 

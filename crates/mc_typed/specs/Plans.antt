@@ -6,7 +6,7 @@ use Rattle.mc_limits.specs.Limits.{most_calls, most_expected, most_fuel, most_in
 use Rattle.mc_typed.specs.declared.plans.Call as code_call
 use Rattle.mc_typed.specs.declared.plans.TestPlan.{TestPlan}
 use Rattle.mc_typed.specs.Tree.{ParameterType, ResultType, Function, Program}
-use Rattle.mc_typed.specs.Tree as t
+use Rattle.mc_typed.specs.Tree as typed
 
 -- a call: the function's number, the arguments, the value and the outputs that are expected
 pub record Call : Type 0 where
@@ -46,15 +46,15 @@ plan_of p =
 abbrev pub AreValues : List ℤ → List ParameterType → Type 0
 AreValues [] [] = Unit {0}
 AreValues [] (p ∷ ps) = ⊥
-AreValues (v ∷ vs) (t.NumberParameter a ∷ ps) = InRange a v × AreValues vs ps
+AreValues (v ∷ vs) (typed.NumberParameter a ∷ ps) = InRange a v × AreValues vs ps
 AreValues (v ∷ vs) _ = ⊥
 
 -- a test takes no structure, and expects a value only where there is one
 abbrev pub IsExpected : Option ℤ → ResultType → Type 0
-IsExpected expect (t.StructureResult u) = ⊥
-IsExpected expect (t.NumberResult a) = Unit {0}
-IsExpected (Some v) t.NoResult = ⊥
-IsExpected None t.NoResult = Unit {0}
+IsExpected expect (typed.StructureResult u) = ⊥
+IsExpected expect (typed.NumberResult a) = Unit {0}
+IsExpected (Some v) typed.NoResult = ⊥
+IsExpected None typed.NoResult = Unit {0}
 
 -- the call names a function that has a body and that a test may call
 abbrev pub CallFits : Call → Option Function → Type 0

@@ -17,7 +17,7 @@ use Rattle.mc_typed.specs.declared.operators.Operator.TheVariants.{Binary, Shift
 use Rattle.mc_typed.specs.declared.expressions.Slot.{Slot}
 use Rattle.mc_typed.specs.Layout.{ObjectType, Scalar, Array, Structure, Members, no_members, members, cells, nesting, member, start, scalars}
 use Rattle.mc_typed.specs.Tree.{Place, Expression, StructureValue, FunctionCall, Argument, Arguments, Effect, Initializer, Initializers, Declarator, ForStart, ReturnValue, Statement, Statements, ParameterType, ResultType, Object, StaticObject, Function, Program}
-use Rattle.mc_typed.specs.Tree as t
+use Rattle.mc_typed.specs.Tree as typed
 use Rattle.mc_typed.specs.Frames.{slots_statements, frame_of, static_cells}
 
 -- ---- what a body can name
@@ -49,7 +49,7 @@ parameters_at None = []
 parameters_at (Some f) = f.parameters
 
 abbrev pub result_at : Option Function → ResultType
-result_at None = t.NoResult
+result_at None = typed.NoResult
 result_at (Some f) = f.result
 
 -- ---- types of places and values
@@ -72,11 +72,11 @@ offset_of _ i = None
 
 -- the type of the object that a place designates
 abbrev pub place_type : Scope → Place → Option ObjectType
-place_type c (t.Local slot span) = object_type_at c.objects slot.object
-place_type c (t.Static slot span) = object_type_at c.statics slot.object
-place_type c (t.Parameter array stride index span) = slice_get c.arrays array
-place_type c (t.Item array n stride index span) = element_of (place_type c array)
-place_type c (t.Member structure i offset span) = member_of (place_type c structure) i
+place_type c (typed.Local slot span) = object_type_at c.objects slot.object
+place_type c (typed.Static slot span) = object_type_at c.statics slot.object
+place_type c (typed.Parameter array stride index span) = slice_get c.arrays array
+place_type c (typed.Item array n stride index span) = element_of (place_type c array)
+place_type c (typed.Member structure i offset span) = member_of (place_type c structure) i
 
 -- the type of what an operator gives for a left operand of this type
 abbrev pub operator_type : Operator → IntType → IntType
@@ -85,25 +85,25 @@ operator_type (Shift operator) a = a
 
 -- the type of an integer expression
 abbrev pub type_of : Expression → IntType
-type_of (t.Constant v a span) = a
-type_of (t.Read place a) = a
-type_of (t.Unary operator a e span) = a
-type_of (t.Convert a written e span) = a
-type_of (t.Not e span) = the.Int
-type_of (t.Binary operator a e f span) = operator_type operator a
-type_of (t.Logic operator e f span) = the.Int
-type_of (t.Choice e f g a span) = a
-type_of (t.Call k a) = a
-type_of (t.Input span) = the.Int
+type_of (typed.Constant v a span) = a
+type_of (typed.Read place a) = a
+type_of (typed.Unary operator a e span) = a
+type_of (typed.Convert a written e span) = a
+type_of (typed.Not e span) = the.Int
+type_of (typed.Binary operator a e f span) = operator_type operator a
+type_of (typed.Logic operator e f span) = the.Int
+type_of (typed.Choice e f g a span) = a
+type_of (typed.Call k a) = a
+type_of (typed.Input span) = the.Int
 
 abbrev pub structure_result : ResultType → Option ObjectType
-structure_result (t.StructureResult u) = Some u
+structure_result (typed.StructureResult u) = Some u
 structure_result _ = None
 
 -- the type of a structure
 abbrev pub structure_type : Scope → StructureValue → Option ObjectType
-structure_type c (t.Stored place) = place_type c place
-structure_type c (t.Returned (t.call f given result span)) =
+structure_type c (typed.Stored place) = place_type c place
+structure_type c (typed.Returned (typed.call f given result span)) =
     structure_result (result_at (slice_get c.functions f))
 
 abbrev pub IsStructureType : Option ObjectType → Type 0
@@ -125,55 +125,55 @@ HasOperands (Shift operator) a left right = (promoted a ≡ a) × (left ≡ a) �
 
 -- a temporary object takes a structure, and nothing else (C17 6.2.4p8)
 abbrev pub Takes : Option Slot → ResultType → Scope → Type 0
-Takes (Some slot) (t.StructureResult u) c = IsSlotOf c.objects slot u
+Takes (Some slot) (typed.StructureResult u) c = IsSlotOf c.objects slot u
 Takes (Some slot) _ c = ⊥
-Takes None (t.StructureResult u) c = ⊥
+Takes None (typed.StructureResult u) c = ⊥
 Takes None _ c = Unit {0}
 
 abbrev mutual
   pub IsPlace : Place → Scope → Type 0
-  IsPlace (t.Local slot span) c = IsSlot c.objects slot
-  IsPlace (t.Static slot span) c = IsSlot c.statics slot
-  IsPlace (t.Parameter array stride index span) c =
+  IsPlace (typed.Local slot span) c = IsSlot c.objects slot
+  IsPlace (typed.Static slot span) c = IsSlot c.statics slot
+  IsPlace (typed.Parameter array stride index span) c =
       (option_map cells (slice_get c.arrays array) ≡ Some stride) × IsExpression index c
-  IsPlace (t.Item array n stride index span) c =
+  IsPlace (typed.Item array n stride index span) c =
       IsPlace array c
       × (length_of (place_type c array) ≡ Some n)
       × (option_map cells (element_of (place_type c array)) ≡ Some stride)
       × IsExpression index c
-  IsPlace (t.Member structure i offset span) c =
+  IsPlace (typed.Member structure i offset span) c =
       IsPlace structure c × (offset_of (place_type c structure) i ≡ Some offset)
 
   pub IsExpression : Expression → Scope → Type 0
-  IsExpression (t.Constant v a span) c = InRange a v
-  IsExpression (t.Read place a) c = IsPlace place c × (place_type c place ≡ Some (Scalar a))
-  IsExpression (t.Unary operator a e span) c =
+  IsExpression (typed.Constant v a span) c = InRange a v
+  IsExpression (typed.Read place a) c = IsPlace place c × (place_type c place ≡ Some (Scalar a))
+  IsExpression (typed.Unary operator a e span) c =
       IsUnary operator × (promoted a ≡ a) × IsExpression e c × (type_of e ≡ a)
-  IsExpression (t.Convert a written e span) c = IsExpression e c
-  IsExpression (t.Not e span) c = IsExpression e c
-  IsExpression (t.Binary operator a e f span) c =
+  IsExpression (typed.Convert a written e span) c = IsExpression e c
+  IsExpression (typed.Not e span) c = IsExpression e c
+  IsExpression (typed.Binary operator a e f span) c =
       IsExpression e c × IsExpression f c × HasOperands operator a (type_of e) (type_of f)
-  IsExpression (t.Logic operator e f span) c = IsExpression e c × IsExpression f c
-  IsExpression (t.Choice e f g a span) c =
+  IsExpression (typed.Logic operator e f span) c = IsExpression e c × IsExpression f c
+  IsExpression (typed.Choice e f g a span) c =
       IsExpression e c × IsExpression f c × IsExpression g c
       × (promoted a ≡ a) × (type_of f ≡ a) × (type_of g ≡ a)
-  IsExpression (t.Call k a) c = IsCall k c (t.NumberResult a)
-  IsExpression (t.Input span) c = Unit {0}
+  IsExpression (typed.Call k a) c = IsCall k c (typed.NumberResult a)
+  IsExpression (typed.Input span) c = Unit {0}
 
   pub IsStructure : StructureValue → Scope → Type 0
-  IsStructure (t.Stored place) c = IsPlace place c × IsStructureType (place_type c place)
-  IsStructure (t.Returned k) c = IsStructureCall k c
+  IsStructure (typed.Stored place) c = IsPlace place c × IsStructureType (place_type c place)
+  IsStructure (typed.Returned k) c = IsStructureCall k c
 
   -- a call of a function that gives this
   pub IsCall : FunctionCall → Scope → ResultType → Type 0
-  IsCall (t.call f given result span) c r =
+  IsCall (typed.call f given result span) c r =
       (f < length c.functions)
       × AreArguments given (parameters_at (slice_get c.functions f)) c
       × Takes result r c
       × (result_at (slice_get c.functions f) ≡ r)
 
   pub IsStructureCall : FunctionCall → Scope → Type 0
-  IsStructureCall (t.call f given result span) c =
+  IsStructureCall (typed.call f given result span) c =
       (f < length c.functions)
       × AreArguments given (parameters_at (slice_get c.functions f)) c
       × IsStructureType (structure_result (result_at (slice_get c.functions f)))
@@ -181,22 +181,24 @@ abbrev mutual
 
   -- as many arguments as parameters, each of the kind and type of its parameter (C17 6.5.2.2)
   pub AreArguments : Arguments → List ParameterType → Scope → Type 0
-  AreArguments t.no_arguments [] c = Unit {0}
-  AreArguments t.no_arguments (p ∷ ps) c = ⊥
-  AreArguments (t.arguments a rest) [] c = ⊥
-  AreArguments (t.arguments a rest) (p ∷ ps) c = IsArgument a p c × AreArguments rest ps c
+  AreArguments typed.no_arguments [] c = Unit {0}
+  AreArguments typed.no_arguments (p ∷ ps) c = ⊥
+  AreArguments (typed.arguments a rest) [] c = ⊥
+  AreArguments (typed.arguments a rest) (p ∷ ps) c = IsArgument a p c × AreArguments rest ps c
 
   pub IsArgument : Argument → ParameterType → Scope → Type 0
-  IsArgument (t.NumberArgument e) (t.NumberParameter a) c = IsExpression e c × (type_of e ≡ a)
-  IsArgument (t.NumberArgument e) _ c = ⊥
-  IsArgument (t.StructureArgument value copy) (t.StructureParameter u) c =
+  IsArgument (typed.NumberArgument e) (typed.NumberParameter a) c = IsExpression e c ×
+      (type_of e ≡ a)
+  IsArgument (typed.NumberArgument e) _ c = ⊥
+  IsArgument (typed.StructureArgument value copy) (typed.StructureParameter u) c =
       IsStructure value c × (structure_type c value ≡ Some u) × IsSlotOf c.objects copy u
-  IsArgument (t.StructureArgument value copy) _ c = ⊥
-  IsArgument (t.ArrayArgument place n) (t.ArrayParameter u) c =
+  IsArgument (typed.StructureArgument value copy) _ c = ⊥
+  IsArgument (typed.ArrayArgument place n) (typed.ArrayParameter u) c =
       IsPlace place c × (place_type c place ≡ Some (Array n u))
-  IsArgument (t.ArrayArgument place n) _ c = ⊥
-  IsArgument (t.AgainArgument array span) (t.ArrayParameter u) c = slice_get c.arrays array ≡ Some u
-  IsArgument (t.AgainArgument array span) _ c = ⊥
+  IsArgument (typed.ArrayArgument place n) _ c = ⊥
+  IsArgument (typed.AgainArgument array span) (typed.ArrayParameter u) c = slice_get c.arrays
+      array ≡ Some u
+  IsArgument (typed.AgainArgument array span) _ c = ⊥
 
 -- ---- effects (C17 6.5.16, 6.8.3)
 
@@ -222,61 +224,62 @@ Converts (Shift operator) a common = promoted a ≡ common
 
 -- no assignment stands under a cast to void
 abbrev pub IsCast : Effect → Type 0
-IsCast (t.Assign target a e span) = ⊥
-IsCast (t.Update target a operator common e span) = ⊥
-IsCast (t.Copy target value n span) = ⊥
+IsCast (typed.Assign target a e span) = ⊥
+IsCast (typed.Update target a operator common e span) = ⊥
+IsCast (typed.Copy target value n span) = ⊥
 IsCast _ = Unit {0}
 
 -- Assignments stand only as whole expression statements or clauses of a `for`: `whole` says that
 -- the effect is one.
 abbrev pub IsEffect : Effect → Bool → Scope → Type 0
-IsEffect (t.Assign target a e span) whole c =
+IsEffect (typed.Assign target a e span) whole c =
     IsTrue whole × IsPlace target c × (place_type c target ≡ Some (Scalar a)) × IsExpression e c
     × (type_of e ≡ a)
-IsEffect (t.Update target a operator common e span) whole c =
+IsEffect (typed.Update target a operator common e span) whole c =
     IsTrue whole × IsPlace target c × (place_type c target ≡ Some (Scalar a)) × Updates operator
     × Converts operator a common × IsExpression e c × HasOperands operator common common (type_of e)
-IsEffect (t.Copy target value n span) whole c =
+IsEffect (typed.Copy target value n span) whole c =
     IsTrue whole × IsPlace target c × IsStructure value c
     × (place_type c target ≡ structure_type c value)
     × (option_map cells (structure_type c value) ≡ Some n)
-IsEffect (t.NumberEffect e w) whole c = (w ≡ whole) × IsExpression e c
-IsEffect (t.StructureEffect value w) whole c = (w ≡ whole) × IsStructure value c
-IsEffect (t.CallEffect k) whole c = IsCall k c t.NoResult
-IsEffect (t.Output e span) whole c = IsExpression e c × (type_of e ≡ the.Int)
-IsEffect (t.ChoiceEffect e a b span) whole c =
+IsEffect (typed.NumberEffect e w) whole c = (w ≡ whole) × IsExpression e c
+IsEffect (typed.StructureEffect value w) whole c = (w ≡ whole) × IsStructure value c
+IsEffect (typed.CallEffect k) whole c = IsCall k c typed.NoResult
+IsEffect (typed.Output e span) whole c = IsExpression e c × (type_of e ≡ the.Int)
+IsEffect (typed.ChoiceEffect e a b span) whole c =
     IsExpression e c × IsEffect a false c × IsEffect b false c
-IsEffect (t.Discard a span) whole c = IsCast a × IsEffect a whole c
+IsEffect (typed.Discard a span) whole c = IsCast a × IsEffect a whole c
 
 -- ---- initializers (C17 6.7.9)
 
 abbrev pub count_of : Initializers → ℕ
-count_of t.no_initializers = 0
-count_of (t.initializers i rest) = count_of rest + 1
+count_of typed.no_initializers = 0
+count_of (typed.initializers i rest) = count_of rest + 1
 
 abbrev mutual
   pub IsInitializer : Initializer → ObjectType → Scope → Type 0
-  IsInitializer (t.NumberInitializer e) (Scalar a) c = IsExpression e c × (type_of e ≡ a)
-  IsInitializer (t.NumberInitializer e) _ c = ⊥
-  IsInitializer (t.StructureInitializer value n) u c =
+  IsInitializer (typed.NumberInitializer e) (Scalar a) c = IsExpression e c × (type_of e ≡ a)
+  IsInitializer (typed.NumberInitializer e) _ c = ⊥
+  IsInitializer (typed.StructureInitializer value n) u c =
       IsStructure value c × (structure_type c value ≡ Some u) × (n ≡ cells u)
-  IsInitializer (t.ListInitializer items n) (Scalar a) c = ⊥
-  IsInitializer (t.ListInitializer items n) (Array k u) c =
+  IsInitializer (typed.ListInitializer items n) (Scalar a) c = ⊥
+  IsInitializer (typed.ListInitializer items n) (Array k u) c =
       (n ≡ cells (Array k u)) × (count_of items ≤ k) × AreElements items u c
-  IsInitializer (t.ListInitializer items n) (Structure k ms) c =
+  IsInitializer (typed.ListInitializer items n) (Structure k ms) c =
       (n ≡ cells (Structure k ms)) × AreMembers items ms c
-  IsInitializer (t.ZeroInitializer e n) u c = (n ≡ cells u) × IsExpression e c
+  IsInitializer (typed.ZeroInitializer e n) u c = (n ≡ cells u) × IsExpression e c
 
   -- items for the first elements
   pub AreElements : Initializers → ObjectType → Scope → Type 0
-  AreElements t.no_initializers u c = Unit {0}
-  AreElements (t.initializers i rest) u c = IsInitializer i u c × AreElements rest u c
+  AreElements typed.no_initializers u c = Unit {0}
+  AreElements (typed.initializers i rest) u c = IsInitializer i u c × AreElements rest u c
 
   -- and for the first members
   pub AreMembers : Initializers → Members → Scope → Type 0
-  AreMembers t.no_initializers ms c = Unit {0}
-  AreMembers (t.initializers i rest) no_members c = ⊥
-  AreMembers (t.initializers i rest) (members u ms) c = IsInitializer i u c × AreMembers rest ms c
+  AreMembers typed.no_initializers ms c = Unit {0}
+  AreMembers (typed.initializers i rest) no_members c = ⊥
+  AreMembers (typed.initializers i rest) (members u ms) c = IsInitializer i u c × AreMembers rest
+      ms c
 
 abbrev pub IsInitial : Option Initializer → Option ObjectType → Scope → Type 0
 IsInitial None u c = Unit {0}
@@ -299,21 +302,21 @@ AreClauses [] c = Unit {0}
 AreClauses (e ∷ es) c = IsEffect e true c × AreClauses es c
 
 abbrev pub IsStart : ForStart → Scope → Type 0
-IsStart (t.StartEffects effects) c = AreClauses effects c
-IsStart (t.StartDeclaration declarators) c = AreDeclarators declarators c
+IsStart (typed.StartEffects effects) c = AreClauses effects c
+IsStart (typed.StartDeclaration declarators) c = AreDeclarators declarators c
 
 abbrev pub IsTest : Option Expression → Scope → Type 0
 IsTest None c = Unit {0}
 IsTest (Some e) c = IsExpression e c
 
 abbrev pub IsReturn : ReturnValue → ResultType → Scope → Type 0
-IsReturn t.ReturnNothing t.NoResult c = Unit {0}
-IsReturn t.ReturnNothing _ c = ⊥
-IsReturn (t.ReturnNumber e) (t.NumberResult a) c = IsExpression e c × (type_of e ≡ a)
-IsReturn (t.ReturnNumber e) _ c = ⊥
-IsReturn (t.ReturnStructure value n) (t.StructureResult u) c =
+IsReturn typed.ReturnNothing typed.NoResult c = Unit {0}
+IsReturn typed.ReturnNothing _ c = ⊥
+IsReturn (typed.ReturnNumber e) (typed.NumberResult a) c = IsExpression e c × (type_of e ≡ a)
+IsReturn (typed.ReturnNumber e) _ c = ⊥
+IsReturn (typed.ReturnStructure value n) (typed.StructureResult u) c =
     IsStructure value c × (structure_type c value ≡ Some u) × (n ≡ cells u)
-IsReturn (t.ReturnStructure value n) _ c = ⊥
+IsReturn (typed.ReturnStructure value n) _ c = ⊥
 
 -- what stands around a statement: whether `break` and `continue` have something to end, and,
 -- directly in the body of a `switch`, the promoted type of its controlling expression
@@ -342,9 +345,9 @@ IsLabel (Some v) (Some a) = InRange a v
 
 -- the labels among the items of a body
 abbrev pub labels_of : Statements → List (Option ℤ)
-labels_of t.no_statements = []
-labels_of (t.statements (t.Label v span) rest) = v ∷ labels_of rest
-labels_of (t.statements _ rest) = labels_of rest
+labels_of typed.no_statements = []
+labels_of (typed.statements (typed.Label v span) rest) = v ∷ labels_of rest
+labels_of (typed.statements _ rest) = labels_of rest
 
 abbrev pub Lacks : Option ℤ → List (Option ℤ) → Type 0
 Lacks l [] = Unit {0}
@@ -357,28 +360,28 @@ Differ (l ∷ ls) = Lacks l ls × Differ ls
 
 abbrev mutual
   pub IsStatement : Statement → Scope → Around → Type 0
-  IsStatement (t.Compound items span) c w = AreStatements items c (inside w)
-  IsStatement (t.Label v span) c w = IsLabel v w.labels
-  IsStatement (t.Declaration declarators span) c w = AreDeclarators declarators c
-  IsStatement (t.Null span) c w = Unit {0}
-  IsStatement (t.EffectStatement effect span) c w = IsEffect effect true c
-  IsStatement (t.If e s keyword span) c w = IsExpression e c × IsStatement s c (inside w)
-  IsStatement (t.IfElse e s u keyword span) c w =
+  IsStatement (typed.Compound items span) c w = AreStatements items c (inside w)
+  IsStatement (typed.Label v span) c w = IsLabel v w.labels
+  IsStatement (typed.Declaration declarators span) c w = AreDeclarators declarators c
+  IsStatement (typed.Null span) c w = Unit {0}
+  IsStatement (typed.EffectStatement effect span) c w = IsEffect effect true c
+  IsStatement (typed.If e s keyword span) c w = IsExpression e c × IsStatement s c (inside w)
+  IsStatement (typed.IfElse e s u keyword span) c w =
       IsExpression e c × IsStatement s c (inside w) × IsStatement u c (inside w)
-  IsStatement (t.Switch e items keyword span) c w =
+  IsStatement (typed.Switch e items keyword span) c w =
       IsExpression e c × (promoted (type_of e) ≡ type_of e)
       × AreStatements items c (in_switch w (type_of e))
       × Differ (labels_of items)
-  IsStatement (t.For start test step s keyword span) c w =
+  IsStatement (typed.For start test step s keyword span) c w =
       IsStart start c × IsTest test c × AreClauses step c × IsStatement s c in_loop
-  IsStatement (t.DoWhile s e keyword span) c w = IsStatement s c in_loop × IsExpression e c
-  IsStatement (t.Break span) c w = IsTrue w.breaks
-  IsStatement (t.Continue span) c w = IsTrue w.continues
-  IsStatement (t.Return value span) c w = IsReturn value c.result c
+  IsStatement (typed.DoWhile s e keyword span) c w = IsStatement s c in_loop × IsExpression e c
+  IsStatement (typed.Break span) c w = IsTrue w.breaks
+  IsStatement (typed.Continue span) c w = IsTrue w.continues
+  IsStatement (typed.Return value span) c w = IsReturn value c.result c
 
   pub AreStatements : Statements → Scope → Around → Type 0
-  AreStatements t.no_statements c w = Unit {0}
-  AreStatements (t.statements s rest) c w = IsStatement s c w × AreStatements rest c w
+  AreStatements typed.no_statements c w = Unit {0}
+  AreStatements (typed.statements s rest) c w = IsStatement s c w × AreStatements rest c w
 
 -- ---- types and objects
 
@@ -430,15 +433,15 @@ AreStructures all k (_ ∷ us) = ⊥
 -- the parameters that are objects of the function, and the element types of those that name arrays
 abbrev pub values_of : List ParameterType → List ObjectType
 values_of [] = []
-values_of (t.NumberParameter a ∷ ps) = Scalar a ∷ values_of ps
-values_of (t.StructureParameter u ∷ ps) = u ∷ values_of ps
-values_of (t.ArrayParameter u ∷ ps) = values_of ps
+values_of (typed.NumberParameter a ∷ ps) = Scalar a ∷ values_of ps
+values_of (typed.StructureParameter u ∷ ps) = u ∷ values_of ps
+values_of (typed.ArrayParameter u ∷ ps) = values_of ps
 
 abbrev pub arrays_of : List ParameterType → List ObjectType
 arrays_of [] = []
-arrays_of (t.NumberParameter a ∷ ps) = arrays_of ps
-arrays_of (t.StructureParameter u ∷ ps) = arrays_of ps
-arrays_of (t.ArrayParameter u ∷ ps) = u ∷ arrays_of ps
+arrays_of (typed.NumberParameter a ∷ ps) = arrays_of ps
+arrays_of (typed.StructureParameter u ∷ ps) = arrays_of ps
+arrays_of (typed.ArrayParameter u ∷ ps) = u ∷ arrays_of ps
 
 abbrev pub AreObjectTypes : List ObjectType → List ObjectType → Type 0
 AreObjectTypes structures [] = Unit {0}
@@ -446,11 +449,11 @@ AreObjectTypes structures (u ∷ us) = IsObjectType structures u × AreObjectTyp
 
 abbrev pub AreParameters : List ParameterType → Type 0
 AreParameters [] = Unit {0}
-AreParameters (t.StructureParameter u ∷ ps) = IsStructureType (Some u) × AreParameters ps
+AreParameters (typed.StructureParameter u ∷ ps) = IsStructureType (Some u) × AreParameters ps
 AreParameters (_ ∷ ps) = AreParameters ps
 
 abbrev pub IsResult : List ObjectType → ResultType → Type 0
-IsResult structures (t.StructureResult u) = IsObjectType structures u × IsStructureType (Some u)
+IsResult structures (typed.StructureResult u) = IsObjectType structures u × IsStructureType (Some u)
 IsResult structures _ = Unit {0}
 
 -- the first objects have these types

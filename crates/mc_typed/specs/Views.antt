@@ -32,187 +32,200 @@ use Rattle.mc_typed.specs.declared.objects.Object.{Object}
 use Rattle.mc_value.specs.declared.object_type.ObjType.{ObjType}
 use Rattle.mc_typed.specs.declared.objects.StaticObject.{StaticObject}
 use Rattle.mc_typed.specs.Layout.{object_type_of}
-use Rattle.mc_typed.specs.Tree as t
+use Rattle.mc_typed.specs.Tree as typed
 
 -- ---- expressions
 
-abbrev pub arguments_from : List t.Argument → t.Arguments
-arguments_from [] = t.no_arguments
-arguments_from (a ∷ rest) = t.arguments a (arguments_from rest)
+abbrev pub arguments_from : List typed.Argument → typed.Arguments
+arguments_from [] = typed.no_arguments
+arguments_from (a ∷ rest) = typed.arguments a (arguments_from rest)
 
 abbrev pub node_place :
-    Place-F t.Argument t.Expression t.Place t.StructureValue t.FunctionCall → t.Place
-node_place (Place-F.Local slot span) = t.Local slot span
-node_place (Place-F.Static slot span) = t.Static slot span
-node_place (Place-F.Parameter array stride index span) = t.Parameter array stride index.value span
+    Place-F typed.Argument typed.Expression typed.Place typed.StructureValue typed.FunctionCall
+    → typed.Place
+node_place (Place-F.Local slot span) = typed.Local slot span
+node_place (Place-F.Static slot span) = typed.Static slot span
+node_place (Place-F.Parameter array stride index span) = typed.Parameter array stride index.value
+    span
 node_place (Place-F.Item array length stride index span) =
-    t.Item array.value length stride index.value span
+    typed.Item array.value length stride index.value span
 node_place (Place-F.Member structure member offset span) =
-    t.Member structure.value member offset span
+    typed.Member structure.value member offset span
 
 abbrev pub node_expression :
-    Expression-F t.Argument t.Expression t.Place t.StructureValue t.FunctionCall → t.Expression
-node_expression (Expression-F.Constant value of span) = t.Constant value of span
-node_expression (Expression-F.Read place of) = t.Read place of
+    Expression-F typed.Argument typed.Expression typed.Place typed.StructureValue
+    typed.FunctionCall → typed.Expression
+node_expression (Expression-F.Constant value of span) = typed.Constant value of span
+node_expression (Expression-F.Read place of) = typed.Read place of
 node_expression (Expression-F.Unary operator of operand span) =
-    t.Unary operator of operand.value span
+    typed.Unary operator of operand.value span
 node_expression (Expression-F.Convert to written operand span) =
-    t.Convert to written operand.value span
-node_expression (Expression-F.Not operand span) = t.Not operand.value span
+    typed.Convert to written operand.value span
+node_expression (Expression-F.Not operand span) = typed.Not operand.value span
 node_expression (Expression-F.Binary operator of left right span) =
-    t.Binary operator of left.value right.value span
+    typed.Binary operator of left.value right.value span
 node_expression (Expression-F.Logic operator left right span) =
-    t.Logic operator left.value right.value span
+    typed.Logic operator left.value right.value span
 node_expression (Expression-F.Choice test chosen other of span) =
-    t.Choice test.value chosen.value other.value of span
-node_expression (Expression-F.Call k of) = t.Call k of
-node_expression (Expression-F.Input span) = t.Input span
+    typed.Choice test.value chosen.value other.value of span
+node_expression (Expression-F.Call k of) = typed.Call k of
+node_expression (Expression-F.Input span) = typed.Input span
 node_expression (Expression-F.Probe probe operand) = operand.value
 
 abbrev pub node_structure :
-    Structure-F t.Argument t.Expression t.Place t.StructureValue t.FunctionCall → t.StructureValue
-node_structure (Structure-F.Stored place) = t.Stored place
-node_structure (Structure-F.Returned k) = t.Returned k
+    Structure-F typed.Argument typed.Expression typed.Place typed.StructureValue
+    typed.FunctionCall → typed.StructureValue
+node_structure (Structure-F.Stored place) = typed.Stored place
+node_structure (Structure-F.Returned k) = typed.Returned k
 
 abbrev pub node_call :
-    FunctionCall-F t.Argument t.Expression t.Place t.StructureValue t.FunctionCall → t.FunctionCall
-node_call c = t.call c.function (arguments_from c.arguments.items) c.result c.span
+    FunctionCall-F typed.Argument typed.Expression typed.Place typed.StructureValue
+    typed.FunctionCall → typed.FunctionCall
+node_call c = typed.call c.function (arguments_from c.arguments.items) c.result c.span
 
 abbrev pub node_argument :
-    Argument-F t.Argument t.Expression t.Place t.StructureValue t.FunctionCall → t.Argument
-node_argument (Argument-F.Number value) = t.NumberArgument value
-node_argument (Argument-F.Structure value copy) = t.StructureArgument value copy
-node_argument (Argument-F.Array place length) = t.ArrayArgument place length
-node_argument (Argument-F.Again array span) = t.AgainArgument array span
+    Argument-F typed.Argument typed.Expression typed.Place typed.StructureValue typed.FunctionCall
+    → typed.Argument
+node_argument (Argument-F.Number value) = typed.NumberArgument value
+node_argument (Argument-F.Structure value copy) = typed.StructureArgument value copy
+node_argument (Argument-F.Array place length) = typed.ArrayArgument place length
+node_argument (Argument-F.Again array span) = typed.AgainArgument array span
 
-abbrev pub place_of : Place → t.Place
+abbrev pub place_of : Place → typed.Place
 place_of =
-    fold-Place t.Argument t.Expression t.Place t.StructureValue t.FunctionCall node_argument
+    fold-Place typed.Argument typed.Expression typed.Place typed.StructureValue typed.FunctionCall
+    node_argument
     node_expression node_place node_structure node_call
 
-abbrev pub expression_of : Expression → t.Expression
+abbrev pub expression_of : Expression → typed.Expression
 expression_of =
-    fold-Expression t.Argument t.Expression t.Place t.StructureValue t.FunctionCall node_argument
+    fold-Expression typed.Argument typed.Expression typed.Place typed.StructureValue
+    typed.FunctionCall node_argument
     node_expression node_place node_structure node_call
 
-abbrev pub structure_of : Structure → t.StructureValue
+abbrev pub structure_of : Structure → typed.StructureValue
 structure_of =
-    fold-Structure t.Argument t.Expression t.Place t.StructureValue t.FunctionCall node_argument
+    fold-Structure typed.Argument typed.Expression typed.Place typed.StructureValue
+    typed.FunctionCall node_argument
     node_expression node_place node_structure node_call
 
-abbrev pub call_of : FunctionCall → t.FunctionCall
+abbrev pub call_of : FunctionCall → typed.FunctionCall
 call_of =
-    fold-FunctionCall t.Argument t.Expression t.Place t.StructureValue t.FunctionCall
+    fold-FunctionCall typed.Argument typed.Expression typed.Place typed.StructureValue
+    typed.FunctionCall
     node_argument node_expression node_place node_structure node_call
 
-abbrev pub argument_of : Argument → t.Argument
+abbrev pub argument_of : Argument → typed.Argument
 argument_of =
-    fold-Argument t.Argument t.Expression t.Place t.StructureValue t.FunctionCall node_argument
+    fold-Argument typed.Argument typed.Expression typed.Place typed.StructureValue
+    typed.FunctionCall node_argument
     node_expression node_place node_structure node_call
 
 -- ---- effects and initializers
 
-abbrev pub node_effect : Effect-F t.Effect → t.Effect
+abbrev pub node_effect : Effect-F typed.Effect → typed.Effect
 node_effect (Effect-F.Assign target of value span) =
-    t.Assign (place_of target) of (expression_of value) span
+    typed.Assign (place_of target) of (expression_of value) span
 node_effect (Effect-F.Update target of operator common value span) =
-    t.Update (place_of target) of operator common (expression_of value) span
+    typed.Update (place_of target) of operator common (expression_of value) span
 node_effect (Effect-F.Copy target value cells span) =
-    t.Copy (place_of target) (structure_of value) cells span
-node_effect (Effect-F.Number value whole) = t.NumberEffect (expression_of value) whole
-node_effect (Effect-F.Structure value whole) = t.StructureEffect (structure_of value) whole
-node_effect (Effect-F.Call k) = t.CallEffect (call_of k)
-node_effect (Effect-F.Output value span) = t.Output (expression_of value) span
+    typed.Copy (place_of target) (structure_of value) cells span
+node_effect (Effect-F.Number value whole) = typed.NumberEffect (expression_of value) whole
+node_effect (Effect-F.Structure value whole) = typed.StructureEffect (structure_of value) whole
+node_effect (Effect-F.Call k) = typed.CallEffect (call_of k)
+node_effect (Effect-F.Output value span) = typed.Output (expression_of value) span
 node_effect (Effect-F.Choice test chosen other span) =
-    t.ChoiceEffect (expression_of test) chosen.value other.value span
-node_effect (Effect-F.Discard operand span) = t.Discard operand.value span
+    typed.ChoiceEffect (expression_of test) chosen.value other.value span
+node_effect (Effect-F.Discard operand span) = typed.Discard operand.value span
 
-abbrev pub effect_of : Effect → t.Effect
-effect_of = fold-Effect t.Effect node_effect
+abbrev pub effect_of : Effect → typed.Effect
+effect_of = fold-Effect typed.Effect node_effect
 
-abbrev pub initializers_from : List t.Initializer → t.Initializers
-initializers_from [] = t.no_initializers
-initializers_from (i ∷ rest) = t.initializers i (initializers_from rest)
+abbrev pub initializers_from : List typed.Initializer → typed.Initializers
+initializers_from [] = typed.no_initializers
+initializers_from (i ∷ rest) = typed.initializers i (initializers_from rest)
 
-abbrev pub node_initializer : Initializer-F t.Initializer → t.Initializer
-node_initializer (Initializer-F.Number value) = t.NumberInitializer (expression_of value)
+abbrev pub node_initializer : Initializer-F typed.Initializer → typed.Initializer
+node_initializer (Initializer-F.Number value) = typed.NumberInitializer (expression_of value)
 node_initializer (Initializer-F.Structure value cells) =
-    t.StructureInitializer (structure_of value) cells
+    typed.StructureInitializer (structure_of value) cells
 node_initializer (Initializer-F.List items cells) =
-    t.ListInitializer (initializers_from items.items) cells
-node_initializer (Initializer-F.Zero value cells) = t.ZeroInitializer (expression_of value) cells
+    typed.ListInitializer (initializers_from items.items) cells
+node_initializer (Initializer-F.Zero value cells) = typed.ZeroInitializer (expression_of value)
+    cells
 
-abbrev pub initializer_of : Initializer → t.Initializer
-initializer_of = fold-Initializer t.Initializer node_initializer
+abbrev pub initializer_of : Initializer → typed.Initializer
+initializer_of = fold-Initializer typed.Initializer node_initializer
 
 -- ---- statements
 
-abbrev pub declarator_of : Declarator → t.Declarator
+abbrev pub declarator_of : Declarator → typed.Declarator
 declarator_of d =
     record { slot = d.slot; cells = d.cells; value = option_map initializer_of d.value }
 
-abbrev pub start_of : ForStart → t.ForStart
-start_of (for_start.Effects effects) = t.StartEffects (map effect_of effects.items)
+abbrev pub start_of : ForStart → typed.ForStart
+start_of (for_start.Effects effects) = typed.StartEffects (map effect_of effects.items)
 start_of (for_start.Declaration declarators) =
-    t.StartDeclaration (map declarator_of declarators.items)
+    typed.StartDeclaration (map declarator_of declarators.items)
 
-abbrev pub return_value_of : ReturnValue → t.ReturnValue
-return_value_of return_value.Nothing = t.ReturnNothing
-return_value_of (return_value.Number value) = t.ReturnNumber (expression_of value)
-return_value_of (return_value.Structure value cells) = t.ReturnStructure (structure_of value) cells
+abbrev pub return_value_of : ReturnValue → typed.ReturnValue
+return_value_of return_value.Nothing = typed.ReturnNothing
+return_value_of (return_value.Number value) = typed.ReturnNumber (expression_of value)
+return_value_of (return_value.Structure value cells) = typed.ReturnStructure (structure_of value)
+    cells
 
-abbrev pub statements_from : List t.Statement → t.Statements
-statements_from [] = t.no_statements
-statements_from (s ∷ rest) = t.statements s (statements_from rest)
+abbrev pub statements_from : List typed.Statement → typed.Statements
+statements_from [] = typed.no_statements
+statements_from (s ∷ rest) = typed.statements s (statements_from rest)
 
-abbrev pub node_statement : Statement-F t.Statement → t.Statement
-node_statement (Statement-F.Compound items span) = t.Compound (statements_from items.items) span
-node_statement (Statement-F.Label value span mark) = t.Label value span
+abbrev pub node_statement : Statement-F typed.Statement → typed.Statement
+node_statement (Statement-F.Compound items span) = typed.Compound (statements_from items.items) span
+node_statement (Statement-F.Label value span mark) = typed.Label value span
 node_statement (Statement-F.Declaration declarators span bit) =
-    t.Declaration (map declarator_of declarators.items) span
-node_statement (Statement-F.Null span bit) = t.Null span
-node_statement (Statement-F.Effect effect span bit) = t.EffectStatement (effect_of effect) span
+    typed.Declaration (map declarator_of declarators.items) span
+node_statement (Statement-F.Null span bit) = typed.Null span
+node_statement (Statement-F.Effect effect span bit) = typed.EffectStatement (effect_of effect) span
 node_statement (Statement-F.If test chosen keyword span bit) =
-    t.If (expression_of test) chosen.value keyword span
+    typed.If (expression_of test) chosen.value keyword span
 node_statement (Statement-F.IfElse test chosen other keyword span bit) =
-    t.IfElse (expression_of test) chosen.value other.value keyword span
+    typed.IfElse (expression_of test) chosen.value other.value keyword span
 node_statement (Statement-F.Switch value items keyword span bit absent) =
-    t.Switch (expression_of value) (statements_from items.items) keyword span
+    typed.Switch (expression_of value) (statements_from items.items) keyword span
 node_statement (Statement-F.For start test step body keyword span bit) =
-    t.For (start_of start) (option_map expression_of test) (map effect_of step.items) body.value
+    typed.For (start_of start) (option_map expression_of test) (map effect_of step.items) body.value
     keyword span
 node_statement (Statement-F.DoWhile body test keyword span bit) =
-    t.DoWhile body.value (expression_of test) keyword span
-node_statement (Statement-F.Break span bit) = t.Break span
-node_statement (Statement-F.Continue span bit) = t.Continue span
-node_statement (Statement-F.Return value span bit exit) = t.Return (return_value_of value) span
+    typed.DoWhile body.value (expression_of test) keyword span
+node_statement (Statement-F.Break span bit) = typed.Break span
+node_statement (Statement-F.Continue span bit) = typed.Continue span
+node_statement (Statement-F.Return value span bit exit) = typed.Return (return_value_of value) span
 
-abbrev pub statement_of : Statement → t.Statement
-statement_of = fold-Statement t.Statement node_statement
+abbrev pub statement_of : Statement → typed.Statement
+statement_of = fold-Statement typed.Statement node_statement
 
 -- ---- programs
 
-abbrev pub parameter_of : ParameterType → t.ParameterType
-parameter_of (parameter.Int a) = t.NumberParameter a
-parameter_of (parameter.Structure u) = t.StructureParameter (object_type_of u)
-parameter_of (parameter.Array element) = t.ArrayParameter (object_type_of element)
+abbrev pub parameter_of : ParameterType → typed.ParameterType
+parameter_of (parameter.Int a) = typed.NumberParameter a
+parameter_of (parameter.Structure u) = typed.StructureParameter (object_type_of u)
+parameter_of (parameter.Array element) = typed.ArrayParameter (object_type_of element)
 
-abbrev pub result_of : ResultType → t.ResultType
-result_of result_type.Void = t.NoResult
-result_of (result_type.Int a) = t.NumberResult a
-result_of (result_type.Structure u) = t.StructureResult (object_type_of u)
+abbrev pub result_of : ResultType → typed.ResultType
+result_of result_type.Void = typed.NoResult
+result_of (result_type.Int a) = typed.NumberResult a
+result_of (result_type.Structure u) = typed.StructureResult (object_type_of u)
 
-abbrev pub object_of : Object → t.Object
+abbrev pub object_of : Object → typed.Object
 object_of o =
     record { object_type = object_type_of o.object_type; cells = o.cells; start = o.start }
 
-abbrev pub static_of : StaticObject → t.StaticObject
+abbrev pub static_of : StaticObject → typed.StaticObject
 static_of o = record {
   object = record { object_type = object_type_of o.object_type; cells = o.cells; start = o.start };
   initial = o.initial.items;
 }
 
-abbrev pub function_of : Function → t.Function
+abbrev pub function_of : Function → typed.Function
 function_of f = record {
   name = f.name.now;
   name_span = f.name_span;
@@ -229,7 +242,7 @@ pub record Parts : Type 0 where
   pub statics : List StaticObject
   pub structures : List ObjType
 
-abbrev pub program_of : Parts → t.Program
+abbrev pub program_of : Parts → typed.Program
 program_of p = record {
   functions = map function_of p.functions;
   statics = map static_of p.statics;

@@ -1,13 +1,13 @@
 //! Declarations (C17 6.7).
 ghost use Rattle.std.specs.Prelude.{◌≡◌, ℕ, IfOk, map, option_copied, option_map};
 ghost use Rattle.mc_span.specs.declared.span.Span.{Span};
-ghost use Rattle.mc_tree.specs.Tree as t;
+ghost use Rattle.mc_tree.specs.Tree as source_tree;
 ghost use Rattle.mc_tree.specs.Units as units;
 ghost use Rattle.mc_tree.specs.Views.{name_of, declarator_of, parameters_from, parameter_of, specifier_of, specifiers_from};
 ghost use Rattle.mc_typed.specs.Views.{initializer_of};
-ghost use Rattle.mc_typing.specs.Scopes as s;
-ghost use Rattle.mc_typing.specs.Declarators as d;
-ghost use Rattle.mc_typing.specs.Declarations as w;
+ghost use Rattle.mc_typing.specs.Scopes as scopes;
+ghost use Rattle.mc_typing.specs.Declarators as declarators;
+ghost use Rattle.mc_typing.specs.Declarations as declarations;
 ghost use Rattle.mc_scopes.specs.Types.{type_of};
 ghost use Rattle.mc_scopes.specs.Views.{scope_of};
 ghost use Rattle.mc_scopes.specs.Found.{judged_of};
@@ -35,7 +35,7 @@ fn optional_initializer<'a>(
     tree: Option<&Initializer<'a>>,
 ) -> Result<Judged<Option<typed_tree::Initializer>>, AllocError>
     ensures { IfOk result (λ r. judged_of optional_of r (scope_of scope.new)
-        ≡ squeezed_part (w.judge_optional_initializer is_static
+        ≡ squeezed_part (declarations.judge_optional_initializer is_static
         (option_map type_of (option_copied of.entry))
         (option_map units.initializer_of (option_copied tree.entry)) (scope_of scope.old))) }
 {
@@ -61,7 +61,8 @@ fn local<'a>(
     value: Option<&Initializer<'a>>,
 ) -> Result<Judged<Vec<typed_tree::Declarator>>, AllocError>
     ensures { IfOk result (λ r. judged_of declarators_of r (scope_of scope.new)
-        ≡ squeezed_part (w.automatic_judged (listed fault) (name_of name.now) (written all.now)
+        ≡ squeezed_part (declarations.automatic_judged (listed fault) (name_of name.now)
+        (written all.now)
         (option_map type_of base.now) (option_map type_of of.now)
         (option_map units.initializer_of (option_copied value.entry)) (scope_of scope.old))) }
 {
@@ -86,7 +87,8 @@ fn stored<'a>(
     value: Option<&Initializer<'a>>,
 ) -> Result<Judged<Vec<typed_tree::Declarator>>, AllocError>
     ensures { IfOk result (λ r. judged_of declarators_of r (scope_of scope.new)
-        ≡ squeezed_part (w.static_judged (listed fault) (name_of name.now) (written all.now)
+        ≡ squeezed_part (declarations.static_judged (listed fault) (name_of name.now)
+        (written all.now)
         (option_map type_of base.now) (option_map type_of of.now)
         (option_map units.initializer_of (option_copied value.entry)) (scope_of scope.old))) }
 {
@@ -111,7 +113,8 @@ fn typedef<'a>(
     value: Option<&Initializer<'a>>,
 ) -> Result<Judged<Vec<typed_tree::Declarator>>, AllocError>
     ensures { IfOk result (λ r. judged_of declarators_of r (scope_of scope.new)
-        ≡ squeezed_part (w.typedef_judged (listed fault) (name_of name.now) (written all.now)
+        ≡ squeezed_part (declarations.typedef_judged (listed fault) (name_of name.now)
+        (written all.now)
         (option_map type_of base.now) (option_map type_of of.now)
         (option_map units.initializer_of (option_copied value.entry)) (scope_of scope.old))) }
 {
@@ -134,8 +137,9 @@ fn object<'a>(
 ) -> Result<Judged<Vec<typed_tree::Declarator>>, AllocError>
     ensures { (stars : ℕ) (span : Span)
         → IfOk result (λ r. judged_of declarators_of r (scope_of scope.new)
-        ≡ squeezed_part (w.judge_init (storage_from storage) (option_map type_of base.now)
-        (t.object stars (name_of name.now) (written all.now) span)
+        ≡ squeezed_part (declarations.judge_init (storage_from storage)
+        (option_map type_of base.now)
+        (source_tree.object stars (name_of name.now) (written all.now) span)
         (option_map units.initializer_of (option_copied value.entry)) (scope_of scope.old))) }
 {
     let given = lengths(alloc, scope, all)?;
@@ -158,8 +162,8 @@ fn function<'a>(
     parameters: &Parameters,
     value: Option<&Initializer<'a>>,
 ) -> Result<Judged<Vec<typed_tree::Declarator>>, AllocError>
-    ensures { (u : s.Scope) → IfOk result (λ r. judged_of declarators_of r (scope_of scope.new)
-        ≡ squeezed_part (w.function_judged (storage_from storage) (name_of name.now)
+    ensures { (u : scopes.Scope) → IfOk result (λ r. judged_of declarators_of r (scope_of scope.new)
+        ≡ squeezed_part (declarations.function_judged (storage_from storage) (name_of name.now)
         (option_map type_of base.now) (listed_parameters parameters.now u)
         (option_map units.initializer_of (option_copied value.entry)) (scope_of scope.old))) }
 {
@@ -182,7 +186,8 @@ fn declarator<'a>(
     value: Option<&Initializer<'a>>,
 ) -> Result<Judged<Vec<typed_tree::Declarator>>, AllocError>
     ensures { IfOk result (λ r. judged_of declarators_of r (scope_of scope.new)
-        ≡ squeezed_part (w.judge_init (storage_from storage) (option_map type_of base.now)
+        ≡ squeezed_part (declarations.judge_init (storage_from storage)
+        (option_map type_of base.now)
         (declarator_of tree.now) (option_map units.initializer_of (option_copied value.entry))
         (scope_of scope.old))) }
 {
@@ -215,7 +220,7 @@ fn init_declarator<'a>(
     tree: &InitDeclarator<'a>,
 ) -> Result<Judged<Vec<typed_tree::Declarator>>, AllocError>
     ensures { IfOk result (λ r. judged_of declarators_of r (scope_of scope.new)
-        ≡ squeezed_part (w.judge_init_declarator (storage_from storage)
+        ≡ squeezed_part (declarations.judge_init_declarator (storage_from storage)
         (option_map type_of base.now) (units.init_declarator_of tree.now) (scope_of scope.old))) }
 {
     match tree {
@@ -237,7 +242,7 @@ fn init_declarators<'a>(
     trees: &[InitDeclarator<'a>],
 ) -> Result<Judged<Vec<typed_tree::Declarator>>, AllocError>
     ensures { IfOk result (λ r. judged_of declarators_of r (scope_of scope.new)
-        ≡ squeezed_part (w.judge_init_declarators (storage_from storage)
+        ≡ squeezed_part (declarations.judge_init_declarators (storage_from storage)
         (option_map type_of base.now) (map units.init_declarator_of trees.now)
         (scope_of scope.old))) }
 {
@@ -256,7 +261,7 @@ pub(crate) fn declaration<'a>(
     tree: &Declaration<'a>,
 ) -> Result<Judged<Vec<typed_tree::Declarator>>, AllocError>
     ensures { IfOk result (λ r. judged_of declarators_of r (scope_of scope.new)
-        ≡ squeezed_part (w.judge_declaration (units.declaration_of tree.now)
+        ≡ squeezed_part (declarations.judge_declaration (units.declaration_of tree.now)
         (scope_of scope.old))) }
 {
     let all = &tree.specifiers;

@@ -5,9 +5,9 @@
 //! (`steps`): an exit that lets it go here would make the proof of the walk twice as long.
 ghost use Rattle.std.specs.Prelude.{◌≡◌, ℕ, IfOk, Some, false, pos, map, option_map};
 ghost use Rattle.mc_tree.specs.Views.{name_of, expression_of, expressions_from, specifier_of, specifiers_from, member_of, members_from, enumerator_of, enumerators_from, declarator_of, declarators_from, array_length_of, lengths_from, parameter_of, parameters_from};
-ghost use Rattle.mc_tree.specs.Tree as t;
-ghost use Rattle.mc_typing.specs.Scopes as s;
-ghost use Rattle.mc_typing.specs.Judgement as j;
+ghost use Rattle.mc_tree.specs.Tree as source_tree;
+ghost use Rattle.mc_typing.specs.Scopes as scopes;
+ghost use Rattle.mc_typing.specs.Judgement as judgement;
 ghost use Rattle.mc_scopes.specs.Types.{type_of, kind_of};
 ghost use Rattle.mc_scopes.specs.Listed.{listed_of};
 ghost use Rattle.mc_scopes.specs.Views.{scope_of};
@@ -39,7 +39,7 @@ pub(crate) fn expression<'a>(
     tree: &Expression<'a>,
 ) -> Result<Found, AllocError>
     ensures { IfOk result (λ r. found_of r (scope_of scope.new)
-        ≡ squeezed (j.judge (expression_of tree.now) (scope_of scope.old))) }
+        ≡ squeezed (judgement.judge (expression_of tree.now) (scope_of scope.old))) }
 {
     match tree {
         Expression::Name { name } => named(scope, name),
@@ -146,11 +146,12 @@ fn cast<'a>(
     of: Result<Judged<CType>, AllocError>,
     span: Span,
 ) -> Result<Found, AllocError>
-    ensures { (all : t.Specifiers) (stars : ℕ) (name : Span) (start : s.Scope)
+    ensures { (all : source_tree.Specifiers) (stars : ℕ) (name : Span) (start : scopes.Scope)
         → IfOk of (λ y. judged_of type_of y (scope_of scope.old) ≡ squeezed_part
-        (j.typed_by name.start all (j.judge_specifiers false all start)))
-        → IfOk result (λ r. found_of r (scope_of scope.new) ≡ squeezed (j.judge
-        (t.Cast (t.type_name all stars name) (expression_of tree.now) span) start)) }
+        (judgement.typed_by name.start all (judgement.judge_specifiers false all start)))
+        → IfOk result (λ r. found_of r (scope_of scope.new) ≡ squeezed (judgement.judge
+        (source_tree.Cast (source_tree.type_name all stars name) (expression_of tree.now) span)
+        start)) }
 {
     match of {
         Ok(of) => {
@@ -171,11 +172,12 @@ fn conditional<'a>(
     chosen: Result<Found, AllocError>,
     span: Span,
 ) -> Result<Found, AllocError>
-    ensures { (a b : t.Expression) (start next : s.Scope)
-        → found_of test next ≡ squeezed (j.judge a start)
-        → IfOk chosen (λ y. found_of y (scope_of scope.old) ≡ squeezed (j.judge b next))
+    ensures { (a b : source_tree.Expression) (start next : scopes.Scope)
+        → found_of test next ≡ squeezed (judgement.judge a start)
+        → IfOk chosen (λ y. found_of y (scope_of scope.old) ≡ squeezed (judgement.judge b next))
         → IfOk result (λ r. found_of r (scope_of scope.new)
-        ≡ squeezed (j.judge (t.Conditional a b (expression_of tree.now) span) start)) }
+        ≡ squeezed (judgement.judge (source_tree.Conditional a b (expression_of tree.now) span)
+        start)) }
 {
     match chosen {
         Ok(chosen) => {
@@ -199,7 +201,7 @@ fn call<'a>(
     span: Span,
 ) -> Result<Found, AllocError>
     ensures { IfOk result (λ r. found_of r (scope_of scope.new)
-        ≡ squeezed (j.judge (t.Call (name_of name.now)
+        ≡ squeezed (judgement.judge (source_tree.Call (name_of name.now)
         (expressions_from (map expression_of trees.now)) span) (scope_of scope.old))) }
 {
     let callee = callee(scope, name)?;
@@ -216,7 +218,7 @@ fn arguments<'a>(
     parameters: &[ParameterKind],
 ) -> Result<Given<Vec<Argument>>, AllocError>
     ensures { IfOk result (λ r. given_of arguments_of r (scope_of scope.new)
-        ≡ squeezed_given (j.judge_arguments (expressions_from (map expression_of trees.now))
+        ≡ squeezed_given (judgement.judge_arguments (expressions_from (map expression_of trees.now))
         (map kind_of parameters.now) (scope_of scope.old))) }
 {
     let mut given = mc_expressions::none_given(alloc);
@@ -247,7 +249,8 @@ pub(crate) fn typed<'a>(
 ) -> Result<Judged<CType>, AllocError>
     ensures { let all = specifiers_from (map specifier_of trees.now) in
         IfOk result (λ r. judged_of type_of r (scope_of scope.new)
-        ≡ squeezed_part (j.typed_by at all (j.judge_specifiers alone all (scope_of scope.old)))) }
+        ≡ squeezed_part (judgement.typed_by at all
+        (judgement.judge_specifiers alone all (scope_of scope.old)))) }
 {
     let found = specifiers(alloc, scope, alone, trees)?;
     Ok(mc_declarations::typed_by(alloc, at, trees, found))
@@ -262,7 +265,8 @@ fn specifiers<'a>(
     trees: &[Specifier<'a>],
 ) -> Result<Judged<CType>, AllocError>
     ensures { IfOk result (λ r. judged_of type_of r (scope_of scope.new)
-        ≡ squeezed_part (j.judge_specifiers alone (specifiers_from (map specifier_of trees.now))
+        ≡ squeezed_part (judgement.judge_specifiers alone
+        (specifiers_from (map specifier_of trees.now))
         (scope_of scope.old))) }
 {
     let mut found = mc_declarations::no_specifier();
@@ -282,7 +286,8 @@ fn specifier<'a>(
     tree: &Specifier<'a>,
 ) -> Result<Judged<CType>, AllocError>
     ensures { IfOk result (λ r. judged_of type_of r (scope_of scope.new)
-        ≡ squeezed_part (j.judge_specifier alone (specifier_of tree.now) (scope_of scope.old))) }
+        ≡ squeezed_part (judgement.judge_specifier alone (specifier_of tree.now)
+        (scope_of scope.old))) }
 {
     match tree {
         Specifier::Word { .. } => Ok(mc_declarations::no_specifier()),
@@ -324,7 +329,7 @@ fn members<'a>(
     parts: &mut Members<'a>,
 ) -> Result<Option<Fault>, AllocError>
     ensures { IfOk result (λ r. listed_members r parts.new (scope_of scope.new)
-        ≡ squeezed_listed (j.judge_members (members_from (map member_of trees.now))
+        ≡ squeezed_listed (judgement.judge_members (members_from (map member_of trees.now))
         (map listed_of parts.old) (scope_of scope.old))) }
 {
     let mut fault = None;
@@ -344,7 +349,7 @@ fn member<'a>(
     parts: &mut Members<'a>,
 ) -> Result<Option<Fault>, AllocError>
     ensures { IfOk result (λ r. listed_members r parts.new (scope_of scope.new)
-        ≡ squeezed_listed (j.judge_member (member_of tree.now) (map listed_of parts.old)
+        ≡ squeezed_listed (judgement.judge_member (member_of tree.now) (map listed_of parts.old)
         (scope_of scope.old))) }
 {
     let of = typed(alloc, scope, tree.span.start, false, &tree.specifiers)?;
@@ -362,7 +367,7 @@ fn declarators<'a>(
     parts: &mut Members<'a>,
 ) -> Result<Option<Fault>, AllocError>
     ensures { IfOk result (λ r. listed_members r parts.new (scope_of scope.new)
-        ≡ squeezed_listed (j.judge_declarators (option_map type_of base.now)
+        ≡ squeezed_listed (judgement.judge_declarators (option_map type_of base.now)
         (declarators_from (map declarator_of trees.now)) (map listed_of parts.old)
         (scope_of scope.old))) }
 {
@@ -384,7 +389,7 @@ fn declarator<'a>(
     parts: &mut Members<'a>,
 ) -> Result<Option<Fault>, AllocError>
     ensures { IfOk result (λ r. listed_members r parts.new (scope_of scope.new)
-        ≡ squeezed_listed (j.judge_declarator (option_map type_of base.now)
+        ≡ squeezed_listed (judgement.judge_declarator (option_map type_of base.now)
         (declarator_of tree.now) (map listed_of parts.old) (scope_of scope.old))) }
 {
     match tree {
@@ -419,8 +424,9 @@ pub(crate) fn prototype<'a>(
     trees: &[Parameter<'a>],
 ) -> Result<Parameters, AllocError>
     ensures found { let all = parameters_from (map parameter_of trees.now) in
-        IfOk result (λ r. (u : s.Scope) → listed_parameters r u
-        ≡ squeezed_listed (record (j.judge_parameter_list all (s.prototype (scope_of scope.old)))
+        IfOk result (λ r. (u : scopes.Scope) → listed_parameters r u
+        ≡ squeezed_listed (record (judgement.judge_parameter_list all
+        (scopes.prototype (scope_of scope.old)))
         { scope = u })) }
     ensures scope { IfOk result (λ _. scope_of scope.new ≡ scope_of scope.old) }
 {
@@ -438,7 +444,8 @@ fn enumerators<'a>(
     trees: &[Enumerator<'a>],
 ) -> Result<Judged<i128>, AllocError>
     ensures { IfOk result (λ r. number_judged r (scope_of scope.new)
-        ≡ squeezed_part (j.judge_enumerators (enumerators_from (map enumerator_of trees.now))
+        ≡ squeezed_part (judgement.judge_enumerators
+        (enumerators_from (map enumerator_of trees.now))
         (Some (pos 0)) (scope_of scope.old))) }
 {
     let mut fault = None;
@@ -460,7 +467,7 @@ fn enumerator<'a>(
     tree: &Enumerator<'a>,
 ) -> Result<Judged<i128>, AllocError>
     ensures { IfOk result (λ r. number_judged r (scope_of scope.new)
-        ≡ squeezed_part (j.judge_enumerator (enumerator_of tree.now) value
+        ≡ squeezed_part (judgement.judge_enumerator (enumerator_of tree.now) value
         (scope_of scope.old))) }
 {
     match tree {
@@ -480,7 +487,7 @@ pub(crate) fn lengths<'a>(
     trees: &[ArrayLength<'a>],
 ) -> Result<Judged<Vec<u32>>, AllocError>
     ensures { IfOk result (λ r. judged_of lengths_in r (scope_of scope.new)
-        ≡ squeezed_part (j.judge_lengths (lengths_from (map array_length_of trees.now))
+        ≡ squeezed_part (judgement.judge_lengths (lengths_from (map array_length_of trees.now))
         (scope_of scope.old))) }
 {
     let mut list = mc_declarations::no_lengths(alloc);
@@ -518,7 +525,8 @@ pub(crate) fn parameters<'a>(
     trees: &[Parameter<'a>],
 ) -> Result<Parameters, AllocError>
     ensures { IfOk result (λ r. listed_parameters r (scope_of scope.new)
-        ≡ squeezed_listed (j.judge_parameter_list (parameters_from (map parameter_of trees.now))
+        ≡ squeezed_listed (judgement.judge_parameter_list
+        (parameters_from (map parameter_of trees.now))
         (scope_of scope.old))) }
 {
     let mut list = mc_declarations::no_parameters(alloc);
@@ -537,7 +545,8 @@ fn parameter<'a>(
     tree: &Parameter<'a>,
 ) -> Result<Parameters, AllocError>
     ensures { IfOk result (λ r. listed_parameters r (scope_of scope.new)
-        ≡ squeezed_listed (j.judge_parameter (parameter_of tree.now) (scope_of scope.old))) }
+        ≡ squeezed_listed (judgement.judge_parameter (parameter_of tree.now)
+        (scope_of scope.old))) }
 {
     let before = scope.objects_so_far();
     let of = typed(alloc, scope, tree.span.start, false, &tree.specifiers)?;

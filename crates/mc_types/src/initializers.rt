@@ -1,10 +1,10 @@
 //! Initializers (C17 6.7.9).
 ghost use Rattle.std.specs.Prelude.{◌≡◌, IfOk, length, map, option_copied, option_map};
-ghost use Rattle.mc_tree.specs.Tree as t;
+ghost use Rattle.mc_tree.specs.Tree as source_tree;
 ghost use Rattle.mc_tree.specs.Units as units;
 ghost use Rattle.mc_tree.specs.Views.{expression_of};
 ghost use Rattle.mc_typed.specs.Views.{initializer_of};
-ghost use Rattle.mc_typing.specs.Initializers as i;
+ghost use Rattle.mc_typing.specs.Initializers as initializer_rules;
 ghost use Rattle.mc_scopes.specs.Types.{type_of};
 ghost use Rattle.mc_scopes.specs.Views.{scope_of};
 ghost use Rattle.mc_scopes.specs.Found.{judged_of};
@@ -32,7 +32,8 @@ pub(crate) fn initializer<'a>(
     tree: &Initializer<'a>,
 ) -> Result<Judged<typed::Initializer>, AllocError>
     ensures { IfOk result (λ r. judged_of initializer_of r (scope_of scope.new)
-        ≡ squeezed_part (i.judge_initializer is_static (option_map type_of (option_copied of.entry))
+        ≡ squeezed_part (initializer_rules.judge_initializer is_static
+        (option_map type_of (option_copied of.entry))
         (units.initializer_of tree.now) (scope_of scope.old))) }
 {
     match tree {
@@ -69,7 +70,8 @@ fn single<'t, 'a>(tree: &'t Initializer<'a>) -> Option<&'t Expression<'a>>
 #[tactic(auto, using(crate::proofs::InitializerArms::only_none))]
 fn only<'t, 'a>(trees: &'t [Initializer<'a>]) -> Option<&'t Expression<'a>>
     ensures { option_map expression_of (option_copied result)
-        ≡ i.only_expression (units.initializers_from (map units.initializer_of trees.now)) }
+        ≡ initializer_rules.only_expression
+        (units.initializers_from (map units.initializer_of trees.now)) }
 {
     match trees {
         [tree] => single(tree),
@@ -87,8 +89,10 @@ fn only_expression<'a>(
     tree: &Expression<'a>,
 ) -> Result<Judged<typed::Initializer>, AllocError>
     ensures { IfOk result (λ r. judged_of initializer_of r (scope_of scope.new)
-        ≡ squeezed_part (i.judge_initializer is_static (option_map type_of (option_copied of.entry))
-        (t.Braced (t.initializers (t.Single (expression_of tree.now)) t.no_initializers) span)
+        ≡ squeezed_part (initializer_rules.judge_initializer is_static
+        (option_map type_of (option_copied of.entry))
+        (source_tree.Braced (source_tree.initializers
+        (source_tree.Single (expression_of tree.now)) source_tree.no_initializers) span)
         (scope_of scope.old))) }
 {
     let parts = mc_statements::parts(alloc, scope, of, 1)?;
@@ -121,8 +125,10 @@ fn list<'a>(
     ensures { let all = units.initializers_from (map units.initializer_of trees.now) in
         let u = option_map type_of (option_copied of.entry) in
         IfOk result (λ r. judged_of initializer_of r (scope_of scope.new)
-        ≡ squeezed_part (i.list_judged u span.start (i.count_of all) (i.judge_items is_static
-        (i.parts_of (i.target_of (scope_of scope.old).structures u)) all (scope_of scope.old)))) }
+        ≡ squeezed_part (initializer_rules.list_judged u span.start
+        (initializer_rules.count_of all) (initializer_rules.judge_items is_static
+        (initializer_rules.parts_of (initializer_rules.target_of (scope_of scope.old).structures
+        u)) all (scope_of scope.old)))) }
 {
     let parts = mc_statements::parts(alloc, scope, of, trees.len())?;
     let found = items(alloc, scope, is_static, &parts, trees)?;
@@ -138,9 +144,9 @@ fn items<'a>(
     parts: &PartTypes,
     trees: &[Initializer<'a>],
 ) -> Result<Judged<Vec<typed::Initializer>>, AllocError>
-    ensures { (p : i.Parts) → AreParts (length trees.now) parts.now p
+    ensures { (p : initializer_rules.Parts) → AreParts (length trees.now) parts.now p
         → IfOk result (λ r. judged_of items_of r (scope_of scope.new)
-        ≡ squeezed_part (i.judge_items is_static p
+        ≡ squeezed_part (initializer_rules.judge_items is_static p
         (units.initializers_from (map units.initializer_of trees.now)) (scope_of scope.old))) }
 {
     let mut list = mc_statements::no_items(alloc);

@@ -3,14 +3,14 @@
 //! Where a part may fail after another was found, the found one is handed on with the part's result
 //! (`steps`): an exit that lets it go here would make the proof of the walk twice as long.
 ghost use Rattle.std.specs.Prelude.{◌≡◌, IfOk, map, option_copied, option_map};
-ghost use Rattle.mc_tree.specs.Tree as t;
+ghost use Rattle.mc_tree.specs.Tree as source_tree;
 ghost use Rattle.mc_tree.specs.Units as units;
 ghost use Rattle.mc_tree.specs.Views.{expression_of, expressions_from};
 ghost use Rattle.mc_typed.specs.Views.{effect_of, start_of};
-ghost use Rattle.mc_typing.specs.Scopes as s;
-ghost use Rattle.mc_typing.specs.Judgement as j;
-ghost use Rattle.mc_typing.specs.Statements as w;
-ghost use Rattle.mc_typing.specs.Bodies as b;
+ghost use Rattle.mc_typing.specs.Scopes as scopes;
+ghost use Rattle.mc_typing.specs.Judgement as judgement;
+ghost use Rattle.mc_typing.specs.Statements as statement_rules;
+ghost use Rattle.mc_typing.specs.Bodies as bodies;
 ghost use Rattle.mc_scopes.specs.Blocks as blocks;
 ghost use Rattle.mc_scopes.specs.Views.{scope_of};
 ghost use Rattle.mc_scopes.specs.Found.{judged_of};
@@ -41,7 +41,7 @@ pub(crate) fn statement<'a>(
     tree: &Statement<'a>,
 ) -> Result<Judged<Vec<typed::Statement>>, AllocError>
     ensures { IfOk result (λ r. judged_of statements_of r (scope_of scope.new)
-        ≡ squeezed_part (b.judge_statement (around_of around) (units.statement_of tree.now)
+        ≡ squeezed_part (bodies.judge_statement (around_of around) (units.statement_of tree.now)
         (scope_of scope.old))) }
 {
     match tree {
@@ -135,8 +135,9 @@ fn inner<'a>(
     tree: &Statement<'a>,
 ) -> Result<Judged<Vec<typed::Statement>>, AllocError>
     ensures { IfOk result (λ r. judged_of statements_of r (scope_of scope.new)
-        ≡ squeezed_part (w.closed (scope_of scope.old) (b.judge_statement (around_of around)
-        (units.statement_of tree.now) (s.block (scope_of scope.old))))) }
+        ≡ squeezed_part (statement_rules.closed (scope_of scope.old)
+        (bodies.judge_statement (around_of around)
+        (units.statement_of tree.now) (scopes.block (scope_of scope.old))))) }
 {
     let outer = scope.enter(None);
     let found = statement(alloc, scope, around, tree);
@@ -153,7 +154,7 @@ pub(crate) fn block<'a>(
     trees: &[BlockItem<'a>],
 ) -> Result<Judged<Vec<typed::Statement>>, AllocError>
     ensures { IfOk result (λ r. judged_of statements_of r (scope_of scope.new)
-        ≡ squeezed_part (b.judge_block (around_of around)
+        ≡ squeezed_part (bodies.judge_block (around_of around)
         (units.block_from (map units.block_item_of trees.now)) (scope_of scope.old))) }
 {
     let mut list = mc_statements::no_statements(alloc);
@@ -193,9 +194,10 @@ fn expression_statement<'a>(
     tree: &Expression<'a>,
     span: Span,
 ) -> Result<Judged<Vec<typed::Statement>>, AllocError>
-    ensures { (a : w.Around) → IfOk result (λ r. judged_of statements_of r (scope_of scope.new)
-        ≡ squeezed_part (b.judge_statement a
-        (t.ExpressionStatement (expression_of tree.now) span) (scope_of scope.old))) }
+    ensures { (a : statement_rules.Around)
+        → IfOk result (λ r. judged_of statements_of r (scope_of scope.new)
+        ≡ squeezed_part (bodies.judge_statement a
+        (source_tree.ExpressionStatement (expression_of tree.now) span) (scope_of scope.old))) }
 {
     match effect(alloc, scope, tree) {
         Ok(found) => mc_statements::effect_statement(alloc, span, found),
@@ -212,7 +214,8 @@ fn case_label<'a>(
 ) -> Result<Judged<Vec<typed::Statement>>, AllocError>
     ensures { let e = expression_of tree.now in
         IfOk result (λ r. judged_of statements_of r (scope_of scope.new) ≡ squeezed_part
-        (w.case_judged label (t.span_of e).start (j.judge e (scope_of scope.old)))) }
+        (statement_rules.case_judged label (source_tree.span_of e).start
+        (judgement.judge e (scope_of scope.old)))) }
 {
     match expression(alloc, scope, tree) {
         Ok(found) => mc_jumps::case_label(alloc, scope, label, tree.span().start, found),
@@ -229,8 +232,8 @@ fn return_statement<'a>(
     span: Span,
 ) -> Result<Judged<Vec<typed::Statement>>, AllocError>
     ensures { IfOk result (λ r. judged_of statements_of r (scope_of scope.new)
-        ≡ squeezed_part (b.judge_statement (around_of around)
-        (t.Return (units.option_of value.now) span) (scope_of scope.old))) }
+        ≡ squeezed_part (bodies.judge_statement (around_of around)
+        (source_tree.Return (units.option_of value.now) span) (scope_of scope.old))) }
 {
     match value {
         Some(tree) => match expression(alloc, scope, tree) {
@@ -250,7 +253,7 @@ fn effect<'a>(
     tree: &Expression<'a>,
 ) -> Result<Judged<Effect>, AllocError>
     ensures { IfOk result (λ r. judged_of effect_of r (scope_of scope.new)
-        ≡ squeezed_part (b.judge_effect (expression_of tree.now) (scope_of scope.old))) }
+        ≡ squeezed_part (bodies.judge_effect (expression_of tree.now) (scope_of scope.old))) }
 {
     match expression(alloc, scope, tree) {
         Ok(found) => Ok(mc_statements::effect(tree, found)),
@@ -265,7 +268,7 @@ fn clauses<'a>(
     trees: &[Expression<'a>],
 ) -> Result<Judged<Vec<Effect>>, AllocError>
     ensures { IfOk result (λ r. judged_of effects_of r (scope_of scope.new)
-        ≡ squeezed_part (b.judge_clauses (expressions_from (map expression_of trees.now))
+        ≡ squeezed_part (bodies.judge_clauses (expressions_from (map expression_of trees.now))
         (scope_of scope.old))) }
 {
     let mut list = mc_statements::no_clauses(alloc);
@@ -308,7 +311,7 @@ fn part<'a>(
     tree: &Expression<'a>,
 ) -> Result<Judged<Vec<Effect>>, AllocError>
     ensures { IfOk result (λ r. judged_of effects_of r (scope_of scope.new)
-        ≡ squeezed_part (b.judge_part (expression_of tree.now) (scope_of scope.old))) }
+        ≡ squeezed_part (bodies.judge_part (expression_of tree.now) (scope_of scope.old))) }
 {
     match operands(tree) {
         Some(all) => clauses(alloc, scope, all),
@@ -325,7 +328,8 @@ fn optional_part<'a>(
     tree: &Option<Box<Expression<'a>>>,
 ) -> Result<Judged<Vec<Effect>>, AllocError>
     ensures { IfOk result (λ r. judged_of effects_of r (scope_of scope.new)
-        ≡ squeezed_part (b.judge_optional_part (units.option_of tree.now) (scope_of scope.old))) }
+        ≡ squeezed_part (bodies.judge_optional_part (units.option_of tree.now)
+        (scope_of scope.old))) }
 {
     match tree {
         Some(tree) => part(alloc, scope, tree),
@@ -339,7 +343,7 @@ fn for_start<'a>(
     tree: &ForStart<'a>,
 ) -> Result<Judged<typed::ForStart>, AllocError>
     ensures { IfOk result (λ r. judged_of start_of r (scope_of scope.new)
-        ≡ squeezed_part (b.judge_start (units.start_of tree.now) (scope_of scope.old))) }
+        ≡ squeezed_part (bodies.judge_start (units.start_of tree.now) (scope_of scope.old))) }
 {
     match tree {
         ForStart::Local { declaration: local } => match declaration(alloc, scope, local) {
@@ -361,7 +365,7 @@ fn optional_test<'a>(
     tree: &Option<Box<Expression<'a>>>,
 ) -> Result<Judged<Option<typed::Expression>>, AllocError>
     ensures { IfOk result (λ r. judged_of test_of r (scope_of scope.new)
-        ≡ squeezed_part (b.judge_test at (units.option_of tree.now) (scope_of scope.old))) }
+        ≡ squeezed_part (bodies.judge_test at (units.option_of tree.now) (scope_of scope.old))) }
 {
     match tree {
         Some(tree) => match expression(alloc, scope, tree) {
@@ -404,7 +408,7 @@ fn for_heading<'a>(
         (scope_of scope.old)) }
     ensures parts { IfOk result (λ r. ArePartsOf at (units.start_of start.now)
         (units.option_of test.now) (units.option_of step.now) r.parts
-        (s.block (scope_of scope.old)) (scope_of scope.new)) }
+        (scopes.block (scope_of scope.old)) (scope_of scope.new)) }
 {
     let outer = scope.enter(None);
     match for_parts(alloc, scope, at, start, test, step) {

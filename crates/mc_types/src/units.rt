@@ -1,13 +1,13 @@
 //! Units (C17 6.9).
 ghost use Rattle.std.specs.Prelude.{◌≡◌, IfOk, IfErr, map};
 ghost use Rattle.mc_span.specs.declared.span.Span.{Span};
-ghost use Rattle.mc_tree.specs.Tree as t;
+ghost use Rattle.mc_tree.specs.Tree as source_tree;
 ghost use Rattle.mc_tree.specs.Units as units;
 ghost use Rattle.mc_tree.specs.Views.{name_of, parameter_of, parameters_from, specifier_of, specifiers_from};
 ghost use Rattle.mc_typed.specs.Views.{program_of};
 ghost use Rattle.mc_soundness.specs.Laws.{IsAccepted};
-ghost use Rattle.mc_typing.specs.Scopes as s;
-ghost use Rattle.mc_typing.specs.Typing as y;
+ghost use Rattle.mc_typing.specs.Scopes as scopes;
+ghost use Rattle.mc_typing.specs.Typing as typing_rules;
 ghost use Rattle.mc_scopes.specs.Views.{scope_of};
 ghost use Rattle.mc_scopes.specs.Found.{judged_of};
 ghost use Rattle.mc_declarations.specs.Declarations.{functions_of};
@@ -36,8 +36,8 @@ fn definition<'a>(
     span: Span,
 ) -> Result<Judged<Vec<Function<'a>>>, AllocError>
     ensures { (at : Span) → IfOk result (λ r. judged_of functions_of r (scope_of scope.new)
-        ≡ squeezed_part (y.judge_definition (specifiers_from (map specifier_of all.now))
-        (name_of name.now) (t.Listed (parameters_from (map parameter_of list.now)) at)
+        ≡ squeezed_part (typing_rules.judge_definition (specifiers_from (map specifier_of all.now))
+        (name_of name.now) (source_tree.Listed (parameters_from (map parameter_of list.now)) at)
         (units.block_from (map units.block_item_of body.now)) span (scope_of scope.old))) }
 {
     let of = typed(alloc, scope, span.start, false, all)?;
@@ -60,7 +60,7 @@ fn item<'a>(
     tree: &Item<'a>,
 ) -> Result<Judged<Vec<Function<'a>>>, AllocError>
     ensures { IfOk result (λ r. judged_of functions_of r (scope_of scope.new)
-        ≡ squeezed_part (y.judge_item (units.item_of tree.now) (scope_of scope.old))) }
+        ≡ squeezed_part (typing_rules.judge_item (units.item_of tree.now) (scope_of scope.old))) }
 {
     match tree {
         Item::Declared { declaration: one } => {
@@ -93,7 +93,7 @@ fn items<'a>(
     trees: &[Item<'a>],
 ) -> Result<Judged<Vec<Function<'a>>>, AllocError>
     ensures { IfOk result (λ r. judged_of functions_of r (scope_of scope.new)
-        ≡ squeezed_part (y.judge_unit (units.items_of trees.now) (scope_of scope.old))) }
+        ≡ squeezed_part (typing_rules.judge_unit (units.items_of trees.now) (scope_of scope.old))) }
 {
     let mut list = mc_declarations::no_functions(alloc);
     for tree in trees {
@@ -112,10 +112,10 @@ fn program<'a>(
     functions: Vec<Function<'a>>,
 ) -> Result<Program<'a>, AllocError>
     requires accepted { IsAccepted (units.items_of unit.now.items.items) }
-    requires typed { y.IsTypingOf (units.items_of unit.now.items.items)
-        (y.program_from (scope_of scope.old) (functions_of functions)) }
+    requires typed { typing_rules.IsTypingOf (units.items_of unit.now.items.items)
+        (typing_rules.program_from (scope_of scope.old) (functions_of functions)) }
     ensures { IfOk result (λ p.
-        y.IsTypingOf (units.items_of unit.now.items.items) (program_of p)) }
+        typing_rules.IsTypingOf (units.items_of unit.now.items.items) (program_of p)) }
 {
     match structure_types(alloc, &scope.structures) {
         Ok(structures) => {
@@ -137,9 +137,9 @@ fn program_in<'a>(
 ) -> Result<Program<'a>, TypeFault>
     requires accepted { IsAccepted (units.items_of unit.now.items.items) }
     requires begins { let items = units.items_of unit.now.items.items in
-        scope_of scope.old ≡ s.file_scope (y.bodies_of items) }
+        scope_of scope.old ≡ scopes.file_scope (typing_rules.bodies_of items) }
     ensures typing { IfOk result (λ p.
-        y.IsTypingOf (units.items_of unit.now.items.items) (program_of p)) }
+        typing_rules.IsTypingOf (units.items_of unit.now.items.items) (program_of p)) }
     ensures refused { IfErr result (IsRefused (units.items_of unit.now.items.items)) }
 {
     let found = items(alloc, scope, &unit.items)?;
@@ -163,7 +163,7 @@ fn program_in<'a>(
 pub fn type_unit<'a>(alloc: Global, unit: &Unit<'a>) -> Result<Program<'a>, TypeFault>
     requires accepted { IsAccepted (units.items_of unit.now.items.items) }
     ensures typing { IfOk result (λ p.
-        y.IsTypingOf (units.items_of unit.now.items.items) (program_of p)) }
+        typing_rules.IsTypingOf (units.items_of unit.now.items.items) (program_of p)) }
     ensures refused { IfErr result (IsRefused (units.items_of unit.now.items.items)) }
 {
     let bodies = mc_declarations::bodies_of(alloc, &unit.items)?;

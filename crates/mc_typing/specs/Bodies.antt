@@ -4,7 +4,7 @@ use Rattle.mc_span.specs.declared.span.Span.{Span}
 use Rattle.mc_tree.specs.Tree.{Expression, Expressions, Declaration, Statement, BlockItems, ForStart, span_of}
 use Rattle.mc_tree.specs.Tree as tree
 use Rattle.mc_typed.specs.Tree.{Effect, Statements}
-use Rattle.mc_typed.specs.Tree as t
+use Rattle.mc_typed.specs.Tree as typed
 use Rattle.mc_faults.specs.declared.fault.FaultKind.TheVariants.{Mismatch}
 use Rattle.mc_faults.specs.Faults.{fault}
 use Rattle.mc_typing.specs.Scopes.{Scope, block}
@@ -35,18 +35,18 @@ abbrev pub judge_optional_part : Option Expression → Scope → Judged (List Ef
 judge_optional_part None s = judged [] (Some []) s
 judge_optional_part (Some e) s = judge_part e s
 
-abbrev pub judge_start : ForStart → Scope → Judged t.ForStart
+abbrev pub judge_start : ForStart → Scope → Judged typed.ForStart
 judge_start (tree.StartsLocal d) s = declaration_start (judge_declaration d s)
 judge_start (tree.StartsExpression e) s = effects_start (judge_optional_part e s)
 
 -- the controlling expression of a statement that starts at `at`
-abbrev pub judge_test : ℕ → Option Expression → Scope → Judged (Option t.Expression)
+abbrev pub judge_test : ℕ → Option Expression → Scope → Judged (Option typed.Expression)
 judge_test at None s = judged [] (Some None) s
 judge_test at (Some e) s = test_judged at (judge e s)
 
 -- a `while` starts with nothing and has no step
-abbrev pub no_start : Scope → Judged t.ForStart
-no_start s = judged [] (Some (t.StartEffects [])) s
+abbrev pub no_start : Scope → Judged typed.ForStart
+no_start s = judged [] (Some (typed.StartEffects [])) s
 
 abbrev pub no_step : Scope → Judged (List Effect)
 no_step s = judged [] (Some []) s
@@ -60,7 +60,7 @@ abbrev mutual
   pub judge_statement : Around → Statement → Scope → Judged Statements
   judge_statement w (tree.Compound items span) s =
       compound_judged span (closed s (judge_block (inside w) items (compound_scope w s)))
-  judge_statement w (tree.Null span) s = leaf [] (t.Null span) s
+  judge_statement w (tree.Null span) s = leaf [] (typed.Null span) s
   judge_statement w (tree.ExpressionStatement e span) s =
       effect_statement_judged span (judge_effect e s)
   judge_statement w (tree.If e one span) s =
@@ -107,7 +107,7 @@ abbrev mutual
 
   -- the items of a compound statement
   pub judge_block : Around → BlockItems → Scope → Judged Statements
-  judge_block w tree.no_block_items s = judged [] (Some t.no_statements) s
+  judge_block w tree.no_block_items s = judged [] (Some typed.no_statements) s
   judge_block w (tree.local d rest) s =
       let x = declaration_judged (span_of_declaration d) (judge_declaration d s) in
       followed_judged x (judge_block w rest x.scope)

@@ -5,7 +5,7 @@ use Rattle.mc_tree.specs.Tree.{Name, Expressions}
 use Rattle.mc_tree.specs.Tree as tree
 use Rattle.mc_typed.specs.Layout.{ObjectType}
 use Rattle.mc_typed.specs.Tree.{Place, Argument, Arguments}
-use Rattle.mc_typed.specs.Tree as t
+use Rattle.mc_typed.specs.Tree as typed
 use Rattle.mc_faults.specs.declared.fault.Fault.{Fault}
 use Rattle.mc_faults.specs.declared.fault.FaultKind.TheVariants.{Undeclared, Mismatch, NoBody}
 use Rattle.mc_faults.specs.Faults.{fault, fault_if}
@@ -35,21 +35,21 @@ argument_faults at (Some p) k = fault_if (fails (argument_fits p) k) Mismatch at
 abbrev pub stored_array : CType → Place → CType → List ℕ → Option Argument
 stored_array u place v [] = None
 stored_array u place v (n ∷ ns) =
-    if array_fits u (record v { lengths = ns }) then Some (t.ArrayArgument place n) else None
+    if array_fits u (record v { lengths = ns }) then Some (typed.ArrayArgument place n) else None
 
 abbrev pub array_argument : CType → Value → Option Argument
 array_argument u (Stored place v) = stored_array u place v v.lengths
 array_argument u (Borrowed array v span) =
-    if array_fits u v then Some (t.AgainArgument array span) else None
+    if array_fits u v then Some (typed.AgainArgument array span) else None
 array_argument u _ = None
 
 -- an integer is converted to the parameter's type (C17 6.5.2.2p7); a structure is copied to an
 -- object of its own
 abbrev pub argument_of : Scope → ParameterKind → Value → Option Argument
 argument_of s (ByValue (Integer a)) v =
-    option_map (λ e. t.NumberArgument (convert_to a e)) (number_in v)
+    option_map (λ e. typed.NumberArgument (convert_to a e)) (number_in v)
 argument_of s (ByValue (Tagged k)) v =
-    option_map (λ w. t.StructureArgument w (next_slot s)) (structure_in k v)
+    option_map (λ w. typed.StructureArgument w (next_slot s)) (structure_in k v)
 argument_of s (ByValue Void) v = None
 argument_of s (ByArray u) v = array_argument u v
 
@@ -93,12 +93,12 @@ rest_of (p ∷ ps) = ps
 
 -- no more arguments, for these parameters
 abbrev pub no_more : List ParameterKind → Option Arguments
-no_more [] = Some t.no_arguments
+no_more [] = Some typed.no_arguments
 no_more (p ∷ ps) = None
 
 abbrev pub arguments_judged : Given Argument → Given Arguments → Given Arguments
 arguments_judged x y =
-    judged_given (x.faults ++ y.faults) (lift2 t.arguments x.value y.value)
+    judged_given (x.faults ++ y.faults) (lift2 typed.arguments x.value y.value)
     (x.copied + y.copied) y.scope
 
 -- ---- calls
@@ -135,20 +135,21 @@ callee_faults name at count s (Some (Function signature has_body)) =
 callee_faults name at count s (Some _) = fault Mismatch at
 
 abbrev pub output_of : Span → Arguments → Option Value
-output_of span (t.arguments (t.NumberArgument e) t.no_arguments) = Some (Done (t.Output e span))
+output_of span (typed.arguments (typed.NumberArgument e) typed.no_arguments) = Some
+    (Done (typed.Output e span))
 output_of span _ = None
 
 abbrev pub returned : Scope → ℕ → Arguments → Span → Base → Option Value
-returned s f given span Void = Some (Done (t.CallEffect (t.call f given None span)))
-returned s f given span (Integer a) = Some (Number (t.Call (t.call f given None span) a))
+returned s f given span Void = Some (Done (typed.CallEffect (typed.call f given None span)))
+returned s f given span (Integer a) = Some (Number (typed.Call (typed.call f given None span) a))
 returned s f given span (Tagged k) =
     if is_complete s.structures (Tagged k)
-    then Some (Returned (t.call f given (Some (next_slot s)) span) k)
+    then Some (Returned (typed.call f given (Some (next_slot s)) span) k)
     else None
 
 abbrev pub called : Name → Span → Scope → Base → Arguments → Option Value
 called name span s result given =
-    if is_input name then Some (Number (t.Input span))
+    if is_input name then Some (Number (typed.Input span))
     else if is_output name then output_of span given
     else option_and_then (λ f. returned s f given span result) (function_number name s)
 

@@ -5,7 +5,7 @@ use Rattle.mc_value.specs.declared.int_type.IntType.TheVariants as the
 use Rattle.mc_value.specs.IntTypes.{in_range}
 use Rattle.mc_value.specs.Conversions.{is_zero}
 use Rattle.mc_typed.specs.Constants.{constant_value}
-use Rattle.mc_typed.specs.Tree as t
+use Rattle.mc_typed.specs.Tree as typed
 use Rattle.mc_faults.specs.declared.fault.Fault.{Fault}
 use Rattle.mc_faults.specs.declared.fault.FaultKind.TheVariants.{NotConstant}
 use Rattle.mc_faults.specs.Faults.{fault_if}
@@ -38,18 +38,18 @@ type_of_constant v decimal unsigned longs =
 -- ---- values
 
 -- the value of an integer constant expression
-abbrev pub value_of_constant : Bool → Option t.Expression → Option ℤ
+abbrev pub value_of_constant : Bool → Option typed.Expression → Option ℤ
 value_of_constant constant e = if constant then option_and_then constant_value e else None
 
 abbrev pub constant_found : Found → Option ℤ
 constant_found x = value_of_constant x.constant (number_found x)
 
-abbrev pub traps : Option t.Expression → Bool
+abbrev pub traps : Option typed.Expression → Bool
 traps None = false
 traps (Some e) = is_none (constant_value e)
 
 -- it is surely built as none, or its value traps
-abbrev pub constant_faults : ℕ → Bool → Option t.Expression → List Fault
+abbrev pub constant_faults : ℕ → Bool → Option typed.Expression → List Fault
 constant_faults at constant e = fault_if (not constant || traps e) NotConstant at
 
 abbrev pub is_zero_constant : Option ℤ → Bool

@@ -7,7 +7,7 @@ use Rattle.mc_value.specs.declared.int_type.IntType.TheVariants as the
 use Rattle.mc_typed.specs.declared.expressions.Slot.{Slot}
 use Rattle.mc_typed.specs.Layout.{ObjectType, cells}
 use Rattle.mc_typed.specs.Tree.{Declarator}
-use Rattle.mc_typed.specs.Tree as t
+use Rattle.mc_typed.specs.Tree as typed
 use Rattle.mc_faults.specs.declared.fault.Fault.{Fault}
 use Rattle.mc_faults.specs.declared.fault.FaultKind.TheVariants.{Redeclared, Mismatch}
 use Rattle.mc_faults.specs.Faults.{fault, fault_if, unless_faulty}
@@ -46,7 +46,7 @@ count_listed _ = None
 
 -- an initializer, where there is one
 abbrev pub judge_optional_initializer : Bool → Option CType → Option Initializer → Scope
-    → Judged (Option t.Initializer)
+    → Judged (Option typed.Initializer)
 judge_optional_initializer static u None s = judged [] (Some None) s
 judge_optional_initializer static u (Some i) s =
     let x = judge_initializer static u i s in judged x.faults (option_map Some x.value) x.scope
@@ -76,7 +76,7 @@ abbrev pub counted_after : List Fault → ℕ → Scope → Scope
 counted_after [] n s = s
 counted_after (f ∷ fs) n s = uncounted n s
 
-abbrev pub declarator_value : Slot → Option ObjectType → Option (Option t.Initializer)
+abbrev pub declarator_value : Slot → Option ObjectType → Option (Option typed.Initializer)
     → Option (List Declarator)
 declarator_value slot (Some layout) (Some value) =
     Some (record { slot = slot; cells = cells layout; value = value } ∷ [])
@@ -102,21 +102,21 @@ automatic_judged faults name lengths base u value s =
     }
 
 -- the values of all cells, 0 without an initializer (C17 6.7.9p10)
-abbrev pub initial_values : ObjectType → Option t.Initializer → List ℤ
+abbrev pub initial_values : ObjectType → Option typed.Initializer → List ℤ
 initial_values layout None = filled (cells layout) []
 initial_values layout (Some i) = values_of i
 
 -- an object without a fault counts among those with static storage duration
-abbrev pub static_faults_with : ℕ → Option ObjectType → Option (Option t.Initializer) → Scope
+abbrev pub static_faults_with : ℕ → Option ObjectType → Option (Option typed.Initializer) → Scope
     → List Fault
 static_faults_with at (Some layout) (Some value) s = static_limit_faults s.static_cells layout at
 static_faults_with at _ _ s = []
 
-abbrev pub static_scope : Option ObjectType → Option (Option t.Initializer) → Scope → Scope
+abbrev pub static_scope : Option ObjectType → Option (Option typed.Initializer) → Scope → Scope
 static_scope (Some layout) (Some value) s = with_static layout (initial_values layout value) s
 static_scope _ _ s = s
 
-abbrev pub static_value : Option ObjectType → Option (Option t.Initializer)
+abbrev pub static_value : Option ObjectType → Option (Option typed.Initializer)
     → Option (List Declarator)
 static_value (Some layout) (Some value) = Some []
 static_value _ _ = None

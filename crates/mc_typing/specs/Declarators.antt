@@ -6,7 +6,7 @@ use Rattle.mc_tree.specs.Tree.{Name, ArrayLengths}
 use Rattle.mc_tree.specs.Tree as tree
 use Rattle.mc_value.specs.declared.int_type.IntType.TheVariants as the
 use Rattle.mc_value.specs.IntTypes.{in_range}
-use Rattle.mc_typed.specs.Tree as t
+use Rattle.mc_typed.specs.Tree as typed
 use Rattle.mc_typed.specs.Layout.{cells_all, members_from}
 use Rattle.mc_faults.specs.declared.fault.Fault.{Fault}
 use Rattle.mc_faults.specs.declared.fault.FaultKind.TheVariants.{Undeclared, Redeclared, Mismatch}
@@ -200,7 +200,7 @@ abbrev pub is_no_length : Option ℤ → Bool
 is_no_length None = false
 is_no_length (Some v) = is_none (length_of v)
 
-abbrev pub length_faults : ℕ → Bool → Option t.Expression → List Fault
+abbrev pub length_faults : ℕ → Bool → Option typed.Expression → List Fault
 length_faults at constant e =
     constant_faults at constant e
     ++ fault_if (is_no_length (value_of_constant constant e)) Mismatch at

@@ -25,7 +25,7 @@ use Rattle.mc_typed.specs.declared.operators.LogicOperator.TheVariants.{And, Or}
 use Rattle.mc_typed.specs.Layout.{Members, cells, members_from, start}
 use Rattle.mc_typed.specs.Sound.{type_of}
 use Rattle.mc_typed.specs.Tree.{Place, Effect}
-use Rattle.mc_typed.specs.Tree as t
+use Rattle.mc_typed.specs.Tree as typed
 use Rattle.mc_faults.specs.declared.fault.Fault.{Fault}
 use Rattle.mc_faults.specs.declared.fault.FaultKind.TheVariants.{Undeclared, Mismatch}
 use Rattle.mc_faults.specs.Faults.{fault, fault_if}
@@ -38,15 +38,15 @@ use Rattle.mc_typing.specs.Constants.{type_of_constant}
 -- ---- conversions (C17 6.3.1)
 
 -- converted where it has another type
-abbrev pub convert_to : IntType → t.Expression → t.Expression
-convert_to a e = if same_integer (type_of e) a then e else t.Convert a false e (t.span_of e)
+abbrev pub convert_to : IntType → typed.Expression → typed.Expression
+convert_to a e = if same_integer (type_of e) a then e else typed.Convert a false e (typed.span_of e)
 
 -- the integer promotions (C17 6.3.1.1p2)
-abbrev pub promote : t.Expression → t.Expression
+abbrev pub promote : typed.Expression → typed.Expression
 promote e = convert_to (promoted (type_of e)) e
 
 -- the usual arithmetic conversions (C17 6.3.1.8)
-abbrev pub common_type : t.Expression → t.Expression → IntType
+abbrev pub common_type : typed.Expression → typed.Expression → IntType
 common_type e f = common_of (type_of e) (type_of f)
 
 -- ---- names and constants (C17 6.5.1)
@@ -70,10 +70,10 @@ name_faults (Some (Typedef u)) at = fault Mismatch at
 name_faults (Some _) at = []
 
 abbrev pub value_of_name : Span → Meaning → Option Value
-value_of_name span (Automatic slot u) = option_map (Stored (t.Local slot span)) u
-value_of_name span (scope.Stored slot u) = option_map (Stored (t.Static slot span)) u
+value_of_name span (Automatic slot u) = option_map (Stored (typed.Local slot span)) u
+value_of_name span (scope.Stored slot u) = option_map (Stored (typed.Static slot span)) u
 value_of_name span (scope.Borrowed array element) = Some (Borrowed array element span)
-value_of_name span (Constant v) = option_map (λ w. Number (t.Constant w the.Int span)) v
+value_of_name span (Constant v) = option_map (λ w. Number (typed.Constant w the.Int span)) v
 value_of_name span (Function signature has_body) = Some Designator
 value_of_name span (Typedef u) = None
 
@@ -90,7 +90,7 @@ name_found name s = record {
 abbrev pub literal : ℤ → Option IntType → Span → Scope → Found
 literal v a span s = record {
   faults = fault_if (is_none a) Mismatch span.start;
-  value = option_map (λ b. Number (t.Constant v b span)) a;
+  value = option_map (λ b. Number (typed.Constant v b span)) a;
   place = false;
   constant = true;
   scope = s;
@@ -113,20 +113,20 @@ abbrev pub index_faults : ℕ → Bool → Option Kind → Option Kind → List 
 index_faults at place k l =
     fault_if (not place || fails is_array k || fails is_integer l) Mismatch at
 
-abbrev pub stored_element : List Structure → Place → CType → List ℕ → t.Expression → Span
+abbrev pub stored_element : List Structure → Place → CType → List ℕ → typed.Expression → Span
     → Option Value
 stored_element all place u [] e span = None
 stored_element all place u (n ∷ ns) e span =
     let element = record u { lengths = ns } in
-    Some (Stored (t.Item place n (cells (layout_of all element)) e span) element)
+    Some (Stored (typed.Item place n (cells (layout_of all element)) e span) element)
 
-abbrev pub element_of : List Structure → Span → Value → t.Expression → Option Value
+abbrev pub element_of : List Structure → Span → Value → typed.Expression → Option Value
 element_of all span (Stored place u) e = stored_element all place u u.lengths e span
 element_of all span (Borrowed array u name) e =
-    Some (Stored (t.Parameter array (cells (layout_of all u)) e span) u)
+    Some (Stored (typed.Parameter array (cells (layout_of all u)) e span) u)
 element_of all span _ e = None
 
-abbrev pub index_value : List Structure → Span → Option Value → Option t.Expression
+abbrev pub index_value : List Structure → Span → Option Value → Option typed.Expression
     → Option Value
 index_value all span v e =
     option_and_then (λ w. option_and_then (element_of all span w) e) v
@@ -170,7 +170,7 @@ layouts_of members = members_from (map (λ m. m.layout) members)
 abbrev pub member_at : List Member → Place → Bool → Span → Selected → Option Value
 member_at members place b span one =
     option_map
-    (λ u. Stored (t.Member place one.number
+    (λ u. Stored (typed.Member place one.number
     (start (layouts_of members) one.number) span) (member_type b u))
     one.member.member_type
 
@@ -195,14 +195,14 @@ member_found name span x =
 -- ---- unary operators (C17 6.5.3.3)
 
 -- `+`, `-` and `~` promote their operand
-abbrev pub promoting : UnOp → Span → t.Expression → t.Expression
-promoting operator span e = t.Unary operator (type_of (promote e)) (promote e) span
+abbrev pub promoting : UnOp → Span → typed.Expression → typed.Expression
+promoting operator span e = typed.Unary operator (type_of (promote e)) (promote e) span
 
-abbrev pub unary_of : UnaryOperator → Span → t.Expression → Option t.Expression
+abbrev pub unary_of : UnaryOperator → Span → typed.Expression → Option typed.Expression
 unary_of unary.Plus span e = Some (promoting un.Plus span e)
 unary_of unary.Minus span e = Some (promoting un.Minus span e)
 unary_of unary.Complement span e = Some (promoting un.Flip span e)
-unary_of unary.Not span e = Some (t.Not e span)
+unary_of unary.Not span e = Some (typed.Not e span)
 unary_of unary.Dereference span e = None
 unary_of unary.Address span e = None
 
@@ -246,9 +246,9 @@ cast_faults at e k (Some u) = cast_faults_to at e k (cast_base u u.lengths)
 
 abbrev pub cast_value_to : Span → Value → Option Base → Option Value
 cast_value_to span v (Some Void) =
-    option_map (λ effect. Done (t.Discard effect span)) (discarded_in v)
+    option_map (λ effect. Done (typed.Discard effect span)) (discarded_in v)
 cast_value_to span v (Some (Integer a)) =
-    option_map (λ e. Number (t.Convert a true e span)) (number_in v)
+    option_map (λ e. Number (typed.Convert a true e span)) (number_in v)
 cast_value_to span v _ = None
 
 abbrev pub cast_value : Span → Option CType → Option Value → Option Value
@@ -274,16 +274,18 @@ cast_found span type e x =
 -- ---- binary operators (C17 6.5.5 to 6.5.14)
 
 -- both operands are converted to their common type
-abbrev pub in_common_type : BinOp → Span → t.Expression → t.Expression → t.Expression
+abbrev pub in_common_type : BinOp → Span → typed.Expression → typed.Expression → typed.Expression
 in_common_type operator span e f =
     let a = common_type e f in
-    t.Binary (Binary operator) a (convert_to a e) (convert_to a f) span
+    typed.Binary (Binary operator) a (convert_to a e) (convert_to a f) span
 
 -- each operand of a shift is promoted (C17 6.5.7p3)
-abbrev pub shifting : Operator → Span → t.Expression → t.Expression → t.Expression
-shifting operator span e f = t.Binary operator (type_of (promote e)) (promote e) (promote f) span
+abbrev pub shifting : Operator → Span → typed.Expression → typed.Expression → typed.Expression
+shifting operator span e f = typed.Binary operator (type_of (promote e)) (promote e) (promote f)
+    span
 
-abbrev pub binary_of : BinaryOperator → Span → t.Expression → t.Expression → t.Expression
+abbrev pub binary_of : BinaryOperator → Span → typed.Expression → typed.Expression
+    → typed.Expression
 binary_of binary.Multiply = in_common_type op.Mul
 binary_of binary.Divide = in_common_type op.Div
 binary_of binary.Remainder = in_common_type op.Rem
@@ -300,8 +302,8 @@ binary_of binary.Unequal = in_common_type op.Ne
 binary_of binary.BitAnd = in_common_type op.And
 binary_of binary.BitXor = in_common_type op.Xor
 binary_of binary.BitOr = in_common_type op.Or
-binary_of binary.And = λ span e f. t.Logic And e f span
-binary_of binary.Or = λ span e f. t.Logic Or e f span
+binary_of binary.And = λ span e f. typed.Logic And e f span
+binary_of binary.Or = λ span e f. typed.Logic Or e f span
 
 abbrev pub operands_faults : ℕ → Option Kind → Option Kind → List Fault
 operands_faults at k l = fault_if (fails is_integer k || fails is_integer l) Mismatch at
@@ -334,18 +336,18 @@ arms_fail None l = fails is_arm l
 abbrev pub conditional_faults : ℕ → Option Kind → Option Kind → Option Kind → List Fault
 conditional_faults at k l m = fault_if (fails is_integer k || arms_fail l m) Mismatch at
 
-abbrev pub choice_of : Span → t.Expression → t.Expression → t.Expression → Value
+abbrev pub choice_of : Span → typed.Expression → typed.Expression → typed.Expression → Value
 choice_of span e f g =
-    let a = common_type f g in Number (t.Choice e (convert_to a f) (convert_to a g) a span)
+    let a = common_type f g in Number (typed.Choice e (convert_to a f) (convert_to a g) a span)
 
-abbrev pub choice_of_effects : Span → t.Expression → Effect → Effect → Value
-choice_of_effects span e a b = Done (t.ChoiceEffect e a b span)
+abbrev pub choice_of_effects : Span → typed.Expression → Effect → Effect → Value
+choice_of_effects span e a b = Done (typed.ChoiceEffect e a b span)
 
-abbrev pub arms_value : Span → t.Expression → Value → Value → Option Value
+abbrev pub arms_value : Span → typed.Expression → Value → Value → Option Value
 arms_value span e (Done a) (Done b) = Some (choice_of_effects span e a b)
 arms_value span e v w = lift2 (choice_of span e) (number_in v) (number_in w)
 
-abbrev pub conditional_value : Span → Option t.Expression → Option Value → Option Value
+abbrev pub conditional_value : Span → Option typed.Expression → Option Value → Option Value
     → Option Value
 conditional_value span e v w =
     option_and_then
@@ -397,21 +399,22 @@ update_faults at place v l =
 
 abbrev pub assign_effect : List Structure → Span → Value → Place → Base → List ℕ → Option Effect
 assign_effect all span v place (Integer a) [] =
-    option_map (λ e. t.Assign place a (convert_to a e) span) (number_in v)
+    option_map (λ e. typed.Assign place a (convert_to a e) span) (number_in v)
 assign_effect all span v place (Tagged k) [] =
     option_map
-    (λ value. t.Copy place value (cells (layout_of all (plain (Tagged k)))) span)
+    (λ value. typed.Copy place value (cells (layout_of all (plain (Tagged k)))) span)
     (structure_in k v)
 assign_effect all span v place _ _ = None
 
 -- the operator of a compound assignment works in the common type of the sides, a shift in the
 -- promoted type of the left one
-abbrev pub update_in_common_type : BinOp → Place → IntType → t.Expression → Span → Effect
+abbrev pub update_in_common_type : BinOp → Place → IntType → typed.Expression → Span → Effect
 update_in_common_type operator place a e span =
     let b = common_of a (type_of e) in
-    t.Update place a (Binary operator) b (convert_to b e) span
+    typed.Update place a (Binary operator) b (convert_to b e) span
 
-abbrev pub update_of : AssignmentOperator → Place → IntType → t.Expression → Span → Option Effect
+abbrev pub update_of : AssignmentOperator → Place → IntType → typed.Expression → Span
+    → Option Effect
 update_of assign.Assign place a e span = None
 update_of assign.Multiply place a e span = Some (update_in_common_type op.Mul place a e span)
 update_of assign.Divide place a e span = Some (update_in_common_type op.Div place a e span)
@@ -419,9 +422,9 @@ update_of assign.Remainder place a e span = Some (update_in_common_type op.Rem p
 update_of assign.Add place a e span = Some (update_in_common_type op.Add place a e span)
 update_of assign.Subtract place a e span = Some (update_in_common_type op.Sub place a e span)
 update_of assign.ShiftLeft place a e span =
-    Some (t.Update place a (Shift shift.Left) (promoted a) (promote e) span)
+    Some (typed.Update place a (Shift shift.Left) (promoted a) (promote e) span)
 update_of assign.ShiftRight place a e span =
-    Some (t.Update place a (Shift shift.Right) (promoted a) (promote e) span)
+    Some (typed.Update place a (Shift shift.Right) (promoted a) (promote e) span)
 update_of assign.BitAnd place a e span = Some (update_in_common_type op.And place a e span)
 update_of assign.BitXor place a e span = Some (update_in_common_type op.Xor place a e span)
 update_of assign.BitOr place a e span = Some (update_in_common_type op.Or place a e span)

@@ -4,7 +4,7 @@ use Rattle.mc_tree.specs.Tree.{Expression, Initializer, Initializers, span_of}
 use Rattle.mc_tree.specs.Tree as tree
 use Rattle.mc_typed.specs.Constants.{constant_value}
 use Rattle.mc_typed.specs.Layout.{cells}
-use Rattle.mc_typed.specs.Tree as t
+use Rattle.mc_typed.specs.Tree as typed
 use Rattle.mc_faults.specs.declared.fault.Fault.{Fault}
 use Rattle.mc_faults.specs.declared.fault.FaultKind.TheVariants.{Mismatch}
 use Rattle.mc_faults.specs.Faults.{fault, fault_if}
@@ -79,25 +79,26 @@ item_faults static (StructureTarget n members) at k =
     fault_if (static || fails (is_kind n) k) Mismatch at
 
 -- an object with static storage duration takes integer constant expressions (C17 6.7.9p4)
-abbrev pub static_faults : Bool → ℕ → Bool → Option t.Expression → List Fault
+abbrev pub static_faults : Bool → ℕ → Bool → Option typed.Expression → List Fault
 static_faults true at constant e = constant_faults at constant e
 static_faults false at constant e = []
 
 abbrev pub cells_of : List Structure → CType → ℕ
 cells_of all u = cells (layout_of all u)
 
-abbrev pub scalar_value : Base → Value → Option t.Initializer
-scalar_value (Integer a) v = option_map (λ e. t.NumberInitializer (convert_to a e)) (number_in v)
+abbrev pub scalar_value : Base → Value → Option typed.Initializer
+scalar_value (Integer a) v = option_map (λ e. typed.NumberInitializer (convert_to a e))
+    (number_in v)
 scalar_value _ v = None
 
-abbrev pub item_value : List Structure → Option CType → Target → Value → Option t.Initializer
+abbrev pub item_value : List Structure → Option CType → Target → Value → Option typed.Initializer
 item_value all (Some u) (ScalarTarget w) v = scalar_value w.base v
 item_value all (Some u) (StructureTarget k members) v =
-    option_map (λ w. t.StructureInitializer w (cells_of all u)) (structure_in k v)
+    option_map (λ w. typed.StructureInitializer w (cells_of all u)) (structure_in k v)
 item_value all _ _ v = None
 
 -- an expression that starts here, for an object of this type
-abbrev pub single_judged : Bool → Option CType → ℕ → Found → Judged t.Initializer
+abbrev pub single_judged : Bool → Option CType → ℕ → Found → Judged typed.Initializer
 single_judged static u at x =
     let target = target_of x.scope.structures u in
     judged_one
@@ -132,43 +133,44 @@ count_faults at count target =
     fault_if (is_below (room_of target) count || lacks_item target count) Mismatch at
 
 -- the items as a whole: that of a scalar is its one item
-abbrev pub only_item : t.Initializers → Option t.Initializer
-only_item (t.initializers i t.no_initializers) = Some i
+abbrev pub only_item : typed.Initializers → Option typed.Initializer
+only_item (typed.initializers i typed.no_initializers) = Some i
 only_item _ = None
 
-abbrev pub list_value : List Structure → Option CType → Target → t.Initializers
-    → Option t.Initializer
+abbrev pub list_value : List Structure → Option CType → Target → typed.Initializers
+    → Option typed.Initializer
 list_value all (Some u) (ScalarTarget v) items = only_item items
-list_value all (Some u) (ArrayTarget n v) items = Some (t.ListInitializer items (cells_of all u))
+list_value all (Some u) (ArrayTarget n v) items = Some
+    (typed.ListInitializer items (cells_of all u))
 list_value all (Some u) (StructureTarget k members) items =
-    Some (t.ListInitializer items (cells_of all u))
+    Some (typed.ListInitializer items (cells_of all u))
 list_value all _ _ items = None
 
 -- The list {E}, where E is an integer constant expression of value 0, sets all of an object to 0,
 -- whatever the type of E: no conversion is written.
-abbrev pub zero_value : List Structure → Option CType → Option t.Expression
-    → Option t.Initializer
-zero_value all u e = lift2 (λ v f. t.ZeroInitializer f (cells_of all v)) u e
+abbrev pub zero_value : List Structure → Option CType → Option typed.Expression
+    → Option typed.Initializer
+zero_value all u e = lift2 (λ v f. typed.ZeroInitializer f (cells_of all v)) u e
 
 abbrev pub is_zero : Option Found → Bool
 is_zero None = false
 is_zero (Some x) = is_zero_constant (constant_found x)
 
-abbrev pub zero_judged : Option CType → Option Found → Scope → Judged t.Initializer
+abbrev pub zero_judged : Option CType → Option Found → Scope → Judged typed.Initializer
 zero_judged u None s = judged [] None s
 zero_judged u (Some x) s =
     judged x.faults (zero_value x.scope.structures u (number_found x)) x.scope
 
 -- a list that starts here with so many items
-abbrev pub list_judged : Option CType → ℕ → ℕ → Judged t.Initializers → Judged t.Initializer
+abbrev pub list_judged : Option CType → ℕ → ℕ → Judged typed.Initializers → Judged typed.Initializer
 list_judged u at count x =
     let target = target_of x.scope.structures u in
     judged_one (count_faults at count target)
     (option_and_then (list_value x.scope.structures u target) x.value) x
 
 -- by what is found of its item, where it has one only and this is an expression
-abbrev pub braced_judged : Option CType → ℕ → ℕ → Option Found → Judged t.Initializers → Scope
-    → Judged t.Initializer
+abbrev pub braced_judged : Option CType → ℕ → ℕ → Option Found → Judged typed.Initializers → Scope
+    → Judged typed.Initializer
 braced_judged u at count only x s =
     if is_zero only then zero_judged u only s else list_judged u at count x
 
@@ -176,13 +178,14 @@ abbrev pub only_expression : Initializers → Option Expression
 only_expression (tree.initializers (tree.Single e) tree.no_initializers) = Some e
 only_expression _ = None
 
-abbrev pub items_judged : Judged t.Initializer → Judged t.Initializers → Judged t.Initializers
-items_judged x y = judged_two [] (lift2 t.initializers x.value y.value) x y
+abbrev pub items_judged : Judged typed.Initializer → Judged typed.Initializers
+    → Judged typed.Initializers
+items_judged x y = judged_two [] (lift2 typed.initializers x.value y.value) x y
 
 -- An initializer of an object of this type, and the items of a list. `static` says that the object
 -- has static storage duration.
 abbrev mutual
-  pub judge_initializer : Bool → Option CType → Initializer → Scope → Judged t.Initializer
+  pub judge_initializer : Bool → Option CType → Initializer → Scope → Judged typed.Initializer
   judge_initializer static u (tree.Single e) s =
       single_judged static u (span_of e).start (judge e s)
   judge_initializer static u (tree.Braced items span) s =
@@ -190,8 +193,8 @@ abbrev mutual
       (option_map (λ e. judge e s) (only_expression items))
       (judge_items static (parts_of (target_of s.structures u)) items s) s
 
-  pub judge_items : Bool → Parts → Initializers → Scope → Judged t.Initializers
-  judge_items static parts tree.no_initializers s = judged [] (Some t.no_initializers) s
+  pub judge_items : Bool → Parts → Initializers → Scope → Judged typed.Initializers
+  judge_items static parts tree.no_initializers s = judged [] (Some typed.no_initializers) s
   judge_items static parts (tree.initializers one rest) s =
       let x = judge_initializer static (first_part parts) one s in
       items_judged x (judge_items static (later_parts parts) rest x.scope)
@@ -204,12 +207,12 @@ filled n vs = vs ++ replicate (n - length vs) (pos 0)
 
 -- the values of the cells of an object with static storage duration, converted already
 abbrev mutual
-  pub values_of : t.Initializer → List ℤ
-  values_of (t.NumberInitializer e) = unwrap_or (constant_value e) (pos 0) ∷ []
-  values_of (t.StructureInitializer value n) = []
-  values_of (t.ListInitializer items n) = filled n (values_of_items items)
-  values_of (t.ZeroInitializer e n) = filled n []
+  pub values_of : typed.Initializer → List ℤ
+  values_of (typed.NumberInitializer e) = unwrap_or (constant_value e) (pos 0) ∷ []
+  values_of (typed.StructureInitializer value n) = []
+  values_of (typed.ListInitializer items n) = filled n (values_of_items items)
+  values_of (typed.ZeroInitializer e n) = filled n []
 
-  pub values_of_items : t.Initializers → List ℤ
-  values_of_items t.no_initializers = []
-  values_of_items (t.initializers i rest) = values_of i ++ values_of_items rest
+  pub values_of_items : typed.Initializers → List ℤ
+  values_of_items typed.no_initializers = []
+  values_of_items (typed.initializers i rest) = values_of i ++ values_of_items rest

@@ -9,7 +9,7 @@ use Rattle.mc_value.specs.Arithmetic.{are_equal}
 use Rattle.mc_typed.specs.Layout.{cells}
 use Rattle.mc_typed.specs.Sound.{type_of}
 use Rattle.mc_typed.specs.Tree.{Declarator, Effect, ForStart, ReturnValue, Statement, Statements}
-use Rattle.mc_typed.specs.Tree as t
+use Rattle.mc_typed.specs.Tree as typed
 use Rattle.mc_faults.specs.declared.fault.Fault.{Fault}
 use Rattle.mc_faults.specs.declared.fault.FaultKind.TheVariants.{Mismatch, DuplicateLabel}
 use Rattle.mc_faults.specs.Faults.{fault, fault_if}
@@ -53,16 +53,16 @@ compound_scope w s = if w.is_body then entered s.labels s else block s
 -- ---- lists of typed statements
 
 abbrev pub alone : Statement → Statements
-alone one = t.statements one t.no_statements
+alone one = typed.statements one typed.no_statements
 
 -- a statement that is no label stands alone
 abbrev pub only : Statements → Option Statement
-only (t.statements one t.no_statements) = Some one
+only (typed.statements one typed.no_statements) = Some one
 only _ = None
 
 abbrev pub followed : Statements → Statements → Statements
-followed t.no_statements more = more
-followed (t.statements one rest) more = t.statements one (followed rest more)
+followed typed.no_statements more = more
+followed (typed.statements one rest) more = typed.statements one (followed rest more)
 
 abbrev pub followed_judged : Judged Statements → Judged Statements → Judged Statements
 followed_judged x y = judged_two [] (lift2 followed x.value y.value) x y
@@ -82,11 +82,11 @@ keyword size span = record { start = span.start; end = min (span.start + size) s
 
 abbrev pub compound_judged : Span → Judged Statements → Judged Statements
 compound_judged span x =
-    judged_one [] (option_map (λ items. alone (t.Compound items span)) x.value) x
+    judged_one [] (option_map (λ items. alone (typed.Compound items span)) x.value) x
 
 abbrev pub declaration_judged : Span → Judged (List Declarator) → Judged Statements
 declaration_judged span x =
-    judged_one [] (option_map (λ ds. alone (t.Declaration ds span)) x.value) x
+    judged_one [] (option_map (λ ds. alone (typed.Declaration ds span)) x.value) x
 
 -- a whole expression statement or a clause of a `for`
 abbrev pub effect_judged : Expression → Found → Judged Effect
@@ -96,21 +96,21 @@ effect_judged e x =
 
 abbrev pub effect_statement_judged : Span → Judged Effect → Judged Statements
 effect_statement_judged span x =
-    judged_one [] (option_map (λ effect. alone (t.EffectStatement effect span)) x.value) x
+    judged_one [] (option_map (λ effect. alone (typed.EffectStatement effect span)) x.value) x
 
 -- ---- selection statements (C17 6.8.4)
 
 abbrev pub if_judged : Span → Found → Judged Statements → Judged Statements
 if_judged span x y =
     judged_two (integer_faults span.start (kind_found x))
-    (lift2 (λ e one. alone (t.If e one (keyword 2 span) span)) (number_found x)
+    (lift2 (λ e one. alone (typed.If e one (keyword 2 span) span)) (number_found x)
     (statement_found y)) (part x) y
 
 abbrev pub if_else_judged : Span → Found → Judged Statements → Judged Statements
     → Judged Statements
 if_else_judged span x y z =
     judged_three (integer_faults span.start (kind_found x))
-    (lift3 (λ e one other. alone (t.IfElse e one other (keyword 2 span) span)) (number_found x)
+    (lift3 (λ e one other. alone (typed.IfElse e one other (keyword 2 span) span)) (number_found x)
     (statement_found y) (statement_found z)) (part x) y z
 
 -- the labels of a `switch` have the promoted type of its controlling expression (C17 6.8.4.2p5)
@@ -122,7 +122,7 @@ switch_scope x =
     entered (Some (record { value_type = label_type x; values = []; has_default = false })) x.scope
 
 abbrev pub items_of : Statement → Option Statements
-items_of (t.Compound items span) = Some items
+items_of (typed.Compound items span) = Some items
 items_of _ = None
 
 -- a body that is no compound statement is an outside form
@@ -136,7 +136,7 @@ switch_faults at body k = fault_if (fails is_integer k || not (is_compound body)
 abbrev pub switch_judged : Span → tree.Statement → Found → Judged Statements → Judged Statements
 switch_judged span body x y =
     judged_two (switch_faults span.start body (kind_found x))
-    (lift2 (λ e items. alone (t.Switch (promote e) items (keyword 6 span) span))
+    (lift2 (λ e items. alone (typed.Switch (promote e) items (keyword 6 span) span))
     (number_found x) (option_and_then items_of (statement_found y))) (part x) y
 
 -- ---- labels of a `switch` (C17 6.8.1, 6.8.4.2)
@@ -167,7 +167,7 @@ with_label None s = s
 with_label (Some v) s = record s { labels = option_map (with_value v) s.labels }
 
 -- a `case` label that stands here, from its expression, which starts at `at`
-abbrev pub case_faults : Span → ℕ → Bool → Option t.Expression → Option Labels → List Fault
+abbrev pub case_faults : Span → ℕ → Bool → Option typed.Expression → Option Labels → List Fault
 case_faults label at constant e labels =
     constant_faults at constant e
     ++ (place_faults labels label.start
@@ -179,7 +179,7 @@ case_judged label at x =
     let v = label_value x.scope.labels (constant_found x) in
     with_scope (with_label v x.scope)
     (judged_one (case_faults label at x.constant (number_found x) x.scope.labels)
-    (option_map (λ w. alone (t.Label (Some w) label)) v) (part x))
+    (option_map (λ w. alone (typed.Label (Some w) label)) v) (part x))
 
 abbrev pub has_default_label : Option Labels → Bool
 has_default_label None = false
@@ -196,24 +196,24 @@ default_judged label s =
     leaf
     (place_faults s.labels label.start
     ++ fault_if (has_default_label s.labels) DuplicateLabel label.start)
-    (t.Label None label) (with_default s)
+    (typed.Label None label) (with_default s)
 
 -- ---- iteration statements (C17 6.8.5)
 
 -- a controlling expression of a loop, where there is one
-abbrev pub test_judged : ℕ → Found → Judged (Option t.Expression)
+abbrev pub test_judged : ℕ → Found → Judged (Option typed.Expression)
 test_judged at x =
     judged_one (integer_faults at (kind_found x)) (option_map Some (number_found x)) (part x)
 
 abbrev pub do_judged : Span → Judged Statements → Found → Judged Statements
 do_judged span x y =
     judged_two (integer_faults span.start (kind_found y))
-    (lift2 (λ one e. alone (t.DoWhile one e (keyword 2 span) span)) (statement_found x)
+    (lift2 (λ one e. alone (typed.DoWhile one e (keyword 2 span) span)) (statement_found x)
     (number_found y)) x (part y)
 
-abbrev pub loop : ℕ → Span → ForStart → Option t.Expression → List Effect → Statement
+abbrev pub loop : ℕ → Span → ForStart → Option typed.Expression → List Effect → Statement
     → Statements
-loop size span start test step one = alone (t.For start test step one (keyword size span) span)
+loop size span start test step one = alone (typed.For start test step one (keyword size span) span)
 
 abbrev pub lift4 : {A B C D E : Type 0} → (A → B → C → D → E) → Option A → Option B → Option C
     → Option D → Option E
@@ -221,16 +221,16 @@ lift4 f (Some a) b c d = lift3 (f a) b c d
 lift4 f None b c d = None
 
 -- a `for`, and a `while`, which has nothing but a test
-abbrev pub loop_judged : ℕ → Span → Judged ForStart → Judged (Option t.Expression)
+abbrev pub loop_judged : ℕ → Span → Judged ForStart → Judged (Option typed.Expression)
     → Judged (List Effect) → Judged Statements → Judged Statements
 loop_judged size span x y z w =
     judged_four [] (lift4 (loop size span) x.value y.value z.value (statement_found w)) x y z w
 
 abbrev pub effects_start : Judged (List Effect) → Judged ForStart
-effects_start x = judged_one [] (option_map t.StartEffects x.value) x
+effects_start x = judged_one [] (option_map typed.StartEffects x.value) x
 
 abbrev pub declaration_start : Judged (List Declarator) → Judged ForStart
-declaration_start x = judged_one [] (option_map t.StartDeclaration x.value) x
+declaration_start x = judged_one [] (option_map typed.StartDeclaration x.value) x
 
 -- ---- jump statements (C17 6.8.6)
 
@@ -241,7 +241,7 @@ return_nothing_faults (Some _) at = fault Mismatch at
 
 abbrev pub return_nothing_judged : Option Base → Span → Scope → Judged Statements
 return_nothing_judged result span s =
-    leaf (return_nothing_faults result span.start) (t.Return t.ReturnNothing span) s
+    leaf (return_nothing_faults result span.start) (typed.Return typed.ReturnNothing span) s
 
 -- what a function that gives this may return: an integer for an integer, a structure for the same
 abbrev pub fits : Base → Kind → Bool
@@ -257,21 +257,21 @@ return_faults (Some b) at k = fault_if (fails (fits b) k) Mismatch at
 
 abbrev pub return_value : List Structure → Option Base → Value → Option ReturnValue
 return_value all (Some (Integer a)) v =
-    option_map (λ e. t.ReturnNumber (convert_to a e)) (number_in v)
+    option_map (λ e. typed.ReturnNumber (convert_to a e)) (number_in v)
 return_value all (Some (Tagged k)) v =
-    option_map (λ w. t.ReturnStructure w (cells (layout_of all (plain (Tagged k)))))
+    option_map (λ w. typed.ReturnStructure w (cells (layout_of all (plain (Tagged k)))))
     (structure_in k v)
 return_value all _ v = None
 
 abbrev pub return_judged : Option Base → Span → Found → Judged Statements
 return_judged result span x =
     judged_one (return_faults result span.start (kind_found x))
-    (option_map (λ v. alone (t.Return v span))
+    (option_map (λ v. alone (typed.Return v span))
     (option_and_then (return_value x.scope.structures result) x.value)) (part x)
 
 abbrev pub break_judged : Around → Span → Scope → Judged Statements
-break_judged w span s = leaf (fault_if (not w.breaks) Mismatch span.start) (t.Break span) s
+break_judged w span s = leaf (fault_if (not w.breaks) Mismatch span.start) (typed.Break span) s
 
 abbrev pub continue_judged : Around → Span → Scope → Judged Statements
 continue_judged w span s =
-    leaf (fault_if (not w.continues) Mismatch span.start) (t.Continue span) s
+    leaf (fault_if (not w.continues) Mismatch span.start) (typed.Continue span) s

@@ -4,7 +4,7 @@ use Rattle.mc_span.specs.declared.span.Span.{Span}
 use Rattle.mc_tree.specs.Tree.{Name, Specifiers, Declarator, Parameters, ParameterList, Parameter, BlockItems, Item}
 use Rattle.mc_tree.specs.Tree as tree
 use Rattle.mc_typed.specs.Tree.{Statements, ParameterType, ResultType, Program}
-use Rattle.mc_typed.specs.Tree as t
+use Rattle.mc_typed.specs.Tree as typed
 use Rattle.mc_faults.specs.declared.fault.Fault.{Fault}
 use Rattle.mc_faults.specs.declared.fault.FaultKind.TheVariants.{Redeclared, Mismatch}
 use Rattle.mc_faults.specs.Faults.{fault, fault_if, IsFirst, least_of}
@@ -44,20 +44,20 @@ definition_faults name result s =
     ++ fault_if (has_body (meaning_here name s) || is_external name) Redeclared name.span.start
 
 abbrev pub parameter_type : List Structure → ParameterKind → ParameterType
-parameter_type all (ByValue (Integer a)) = t.NumberParameter a
-parameter_type all (ByValue b) = t.StructureParameter (layout_of all (plain b))
-parameter_type all (ByArray u) = t.ArrayParameter (layout_of all u)
+parameter_type all (ByValue (Integer a)) = typed.NumberParameter a
+parameter_type all (ByValue b) = typed.StructureParameter (layout_of all (plain b))
+parameter_type all (ByArray u) = typed.ArrayParameter (layout_of all u)
 
 abbrev pub result_type : List Structure → Base → ResultType
-result_type all Void = t.NoResult
-result_type all (Integer a) = t.NumberResult a
-result_type all (Tagged k) = t.StructureResult (layout_of all (plain (Tagged k)))
+result_type all Void = typed.NoResult
+result_type all (Integer a) = typed.NumberResult a
+result_type all (Tagged k) = typed.StructureResult (layout_of all (plain (Tagged k)))
 
 -- the closing brace of a definition
 abbrev pub closing : Span → Span
 closing span = record { start = span.end - 1; end = span.end }
 
-abbrev pub function_from : Name → Span → Scope → Signature → Statements → t.Function
+abbrev pub function_from : Name → Span → Scope → Signature → Statements → typed.Function
 function_from name span s f body = record {
   name = name.text;
   name_span = name.span;
@@ -73,13 +73,13 @@ abbrev pub with_function : Name → Option Signature → Scope → Scope
 with_function name f s = with_name name (Function f true) s
 
 abbrev pub function_listed : Name → Span → Option Signature → Judged Statements
-    → Option (List t.Function)
+    → Option (List typed.Function)
 function_listed name span f x =
     lift2 (λ g body. function_from name span x.scope g body ∷ []) f x.value
 
 -- A definition: its specifiers, its parameters and its body. Its frame holds all its objects.
 abbrev pub judge_definition : Specifiers → Name → Parameters → BlockItems → Span → Scope
-    → Judged (List t.Function)
+    → Judged (List typed.Function)
 judge_definition all name parameters body span s =
     let x = typed_by span.start all (judge_specifiers false all s) in
     let y = judge_parameters parameters (prototype x.scope) in
@@ -101,7 +101,7 @@ judge_definition all name parameters body span s =
 abbrev pub declared_only : {A B : Type 0} → Judged A → Judged (List B)
 declared_only x = judged x.faults (option_map (λ ds. []) x.value) x.scope
 
-abbrev pub judge_item : Item → Scope → Judged (List t.Function)
+abbrev pub judge_item : Item → Scope → Judged (List typed.Function)
 judge_item (tree.Declared d) s = declared_only (judge_declaration d s)
 judge_item (tree.Defined all (tree.function stars name parameters at) body span) s =
     judge_definition all name parameters body span s
@@ -109,7 +109,7 @@ judge_item (tree.Defined all (tree.function stars name parameters at) body span)
 judge_item (tree.Defined all (tree.object stars name all_lengths at) body span) s =
     judged (fault Mismatch span.start) None s
 
-abbrev pub judge_unit : List Item → Scope → Judged (List t.Function)
+abbrev pub judge_unit : List Item → Scope → Judged (List typed.Function)
 judge_unit [] s = judged [] (Some []) s
 judge_unit (i ∷ rest) s = let x = judge_item i s in both_lists x (judge_unit rest x.scope)
 
@@ -119,7 +119,7 @@ bodies_of [] = []
 bodies_of (tree.Declared d ∷ rest) = bodies_of rest
 bodies_of (tree.Defined all d body span ∷ rest) = (tree.name_of d).text ∷ bodies_of rest
 
-abbrev pub found_of : List Item → Judged (List t.Function)
+abbrev pub found_of : List Item → Judged (List typed.Function)
 found_of items = judge_unit items (file_scope (bodies_of items))
 
 -- ---- what is said of a unit
@@ -132,7 +132,7 @@ faults_of items = (found_of items).faults
 abbrev pub HasTyping : List Item → Type 0
 HasTyping items = faults_of items ≡ []
 
-abbrev pub program_from : Scope → List t.Function → Program
+abbrev pub program_from : Scope → List typed.Function → Program
 program_from s functions = record {
   functions = functions;
   statics = s.statics;

@@ -5,7 +5,7 @@ use Rattle.mc_span.specs.declared.span.Span.{Span}
 use Rattle.mc_tree.specs.Tree.{Expression, Parenthesized}
 use Rattle.mc_tree.specs.Tree as tree
 use Rattle.mc_typed.specs.Tree.{Place, StructureValue, FunctionCall, Effect}
-use Rattle.mc_typed.specs.Tree as t
+use Rattle.mc_typed.specs.Tree as typed
 use Rattle.mc_faults.specs.declared.fault.Fault.{Fault}
 use Rattle.mc_faults.specs.declared.fault.FaultKind.TheVariants.{Mismatch}
 use Rattle.mc_faults.specs.Faults.{fault_if}
@@ -41,7 +41,7 @@ lift3 f None b c = None
 -- an expression with a type
 pub data Value : Type 0 where
   -- an integer that is not stored in an object
-  Number : t.Expression → Value
+  Number : typed.Expression → Value
   -- an object or a part of one, and its type
   Stored : Place → CType → Value
   -- the array that an array parameter names: its number, the type of its elements
@@ -165,30 +165,30 @@ integer_faults at k = fault_if (fails is_integer k) Mismatch at
 -- ---- parts of the typed tree
 
 -- the value of an object (C17 6.3.2.1p2)
-abbrev pub number_stored : Place → Base → List ℕ → Option t.Expression
-number_stored place (Integer a) [] = Some (t.Read place a)
+abbrev pub number_stored : Place → Base → List ℕ → Option typed.Expression
+number_stored place (Integer a) [] = Some (typed.Read place a)
 number_stored place _ _ = None
 
-abbrev pub number_in : Value → Option t.Expression
+abbrev pub number_in : Value → Option typed.Expression
 number_in (Number e) = Some e
 number_in (Stored place u) = number_stored place u.base u.lengths
 number_in _ = None
 
 abbrev pub structure_stored : ℕ → Place → Base → List ℕ → Option StructureValue
-structure_stored k place (Tagged j) [] = if j == k then Some (t.Stored place) else None
+structure_stored k place (Tagged j) [] = if j == k then Some (typed.Stored place) else None
 structure_stored k place _ _ = None
 
 -- a structure of the type with this number
 abbrev pub structure_in : ℕ → Value → Option StructureValue
 structure_in k (Stored place u) = structure_stored k place u.base u.lengths
-structure_in k (Returned c j) = if j == k then Some (t.Returned c) else None
+structure_in k (Returned c j) = if j == k then Some (typed.Returned c) else None
 structure_in k _ = None
 
 abbrev pub any_structure_in : Kind → Value → Option StructureValue
 any_structure_in (IsStructure k) v = structure_in k v
 any_structure_in _ v = None
 
-abbrev pub number_found : Found → Option t.Expression
+abbrev pub number_found : Found → Option typed.Expression
 number_found x = option_and_then number_in x.value
 
 abbrev pub structure_found : ℕ → Found → Option StructureValue
@@ -196,9 +196,9 @@ structure_found k x = option_and_then (structure_in k) x.value
 
 -- ---- expressions that are evaluated for their effects (C17 6.8.3)
 
-abbrev pub value_effect : Option t.Expression → Option StructureValue → Option Effect
-value_effect (Some e) value = Some (t.NumberEffect e false)
-value_effect None (Some value) = Some (t.StructureEffect value false)
+abbrev pub value_effect : Option typed.Expression → Option StructureValue → Option Effect
+value_effect (Some e) value = Some (typed.NumberEffect e false)
+value_effect None (Some value) = Some (typed.StructureEffect value false)
 value_effect None None = None
 
 abbrev pub discarded_in : Value → Option Effect
@@ -212,15 +212,15 @@ effect_in v = discarded_in v
 -- As a whole expression statement or clause of a `for`, perhaps under casts to void, an effect does
 -- not use the value of a call.
 abbrev pub whole : Effect → Effect
-whole (t.NumberEffect e b) = t.NumberEffect e true
-whole (t.StructureEffect value b) = t.StructureEffect value true
-whole (t.Discard effect span) = t.Discard (whole effect) span
-whole (t.Assign target a e span) = t.Assign target a e span
-whole (t.Update target a operator common e span) = t.Update target a operator common e span
-whole (t.Copy target value n span) = t.Copy target value n span
-whole (t.CallEffect c) = t.CallEffect c
-whole (t.Output e span) = t.Output e span
-whole (t.ChoiceEffect e a b span) = t.ChoiceEffect e a b span
+whole (typed.NumberEffect e b) = typed.NumberEffect e true
+whole (typed.StructureEffect value b) = typed.StructureEffect value true
+whole (typed.Discard effect span) = typed.Discard (whole effect) span
+whole (typed.Assign target a e span) = typed.Assign target a e span
+whole (typed.Update target a operator common e span) = typed.Update target a operator common e span
+whole (typed.Copy target value n span) = typed.Copy target value n span
+whole (typed.CallEffect c) = typed.CallEffect c
+whole (typed.Output e span) = typed.Output e span
+whole (typed.ChoiceEffect e a b span) = typed.ChoiceEffect e a b span
 
 -- where an expression starts inside the parentheses round it
 abbrev pub bare_start : Expression → ℕ

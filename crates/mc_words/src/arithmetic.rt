@@ -5,8 +5,7 @@ ghost use Rattle.mc_value.specs.Conversions.{promoted, wrapped};
 ghost use Rattle.mc_value.specs.Arithmetic.{divided, fitted, quotient, remainder};
 ghost use Rattle.mc_words.specs.Words.{number_of, result_of, Holds};
 
-use crate::words::is_signed;
-use mc_value::{IntType, Trap};
+use mc_value::{IntType, Trap, is_signed};
 
 /// The word of a result in a signed type, or `Overflow` (C17 6.5p5).
 #[inline]

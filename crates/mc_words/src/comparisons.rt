@@ -4,8 +4,7 @@ ghost use Rattle.mc_value.specs.Arithmetic.{binary_of, truth};
 ghost use Rattle.mc_typed.specs.Sound.{compares};
 ghost use Rattle.mc_words.specs.Words.{number_of};
 
-use crate::words::is_signed;
-use mc_value::{BinOp, IntType};
+use mc_value::{BinOp, IntType, is_signed};
 
 /// Whether a comparison of two values of a type holds.
 #[inline(always)]

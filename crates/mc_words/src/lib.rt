@@ -14,4 +14,4 @@ pub use comparisons::compare;
 pub use conversions::convert;
 pub use operators::{binary, operate, unary};
 pub use shifts::shift;
-pub use words::{is_signed, number, word};
+pub use words::{number, word};

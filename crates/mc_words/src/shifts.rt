@@ -7,8 +7,7 @@ ghost use Rattle.mc_value.specs.Shifts.{shift_of, shifted_left, shifted_right};
 ghost use Rattle.mc_words.specs.Words.{number_of, result_of, Holds};
 
 use crate::arithmetic::wrap;
-use crate::words::is_signed;
-use mc_value::{IntType, ShiftOp, Trap};
+use mc_value::{IntType, ShiftOp, Trap, is_signed};
 
 /// What a shift of a value of the promoted type `of` gives, or its trap. The amount may have any
 /// type.

@@ -1,29 +1,9 @@
 //! Numbers and words.
 ghost use Rattle.std.specs.Prelude.{◌≡◌};
-ghost use Rattle.mc_value.specs.IntTypes.{InRange, signed_of};
+ghost use Rattle.mc_value.specs.IntTypes.{InRange};
 ghost use Rattle.mc_words.specs.Words.{number_of};
 
-use mc_value::IntType;
-
-/// Whether the type has negative values.
-pub fn is_signed(of: IntType) -> bool
-    ensures { result ≡ signed_of of }
-{
-    match of {
-        IntType::Char
-        | IntType::SChar
-        | IntType::Short
-        | IntType::Int
-        | IntType::Long
-        | IntType::LLong => true,
-        IntType::Bool
-        | IntType::UChar
-        | IntType::UShort
-        | IntType::UInt
-        | IntType::ULong
-        | IntType::ULLong => false,
-    }
-}
+use mc_value::{IntType, is_signed};
 
 /// The number that a word stands for in a type.
 pub fn number(of: IntType, word: u64) -> i128

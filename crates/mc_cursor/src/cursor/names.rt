@@ -1,7 +1,7 @@
 //! Names of typedefs.
 ghost use Rattle.std.specs.Prelude.{◌≡◌, ◌<◌, ◌^◌, ◌||◌, ℕ, All, Bool, IfOk, List, OnOk, length};
 ghost use Rattle.std.specs.Str.{bytes_eq};
-ghost use Rattle.mc_tree.specs.Tree as t;
+ghost use Rattle.mc_tree.specs.Tree as tree;
 ghost use Rattle.mc_tree.specs.Views.{declarator_of, name_of};
 ghost use Rattle.mc_lex.specs.Tokens.{toks_of};
 ghost use Rattle.mc_grammar.specs.Statements.{after};
@@ -26,7 +26,7 @@ fn add<'a>(names: &mut BTreeSet<&'a [u8]>, name: &'a [u8]) -> Result<(), AllocEr
 
 /// The name that a declarator declares.
 fn name<'a>(declarator: &Declarator<'a>) -> Identifier<'a>
-    ensures { name_of result ≡ t.name_of (declarator_of declarator.now) }
+    ensures { name_of result ≡ tree.name_of (declarator_of declarator.now) }
 {
     match declarator {
         Declarator::Object { name, .. }

@@ -1,7 +1,7 @@
 //! Roots in effects.
 ghost use Rattle.std.specs.Prelude.{◌≡◌, map, IfOk};
 ghost use Rattle.mc_typed.specs.Views.{effect_of};
-ghost use Rattle.mc_roots.specs.Nodes as n;
+ghost use Rattle.mc_roots.specs.Nodes as nodes;
 ghost use Rattle.mc_gather.specs.steps.Gathering.{gathered_of, inside_parts, visited};
 
 use crate::roots::expressions::{call, place, structure, value};
@@ -13,7 +13,7 @@ use std::alloc::AllocError;
 /// Adds the roots in an effect.
 pub(super) fn effect(found: &mut Gathered, tree: &Effect) -> Result<(), AllocError>
     ensures { IfOk result (λ _. gathered_of found.new
-        ≡ visited Role.Plain (n.effect (effect_of tree.now)) (gathered_of found.old)) }
+        ≡ visited Role.Plain (nodes.effect (effect_of tree.now)) (gathered_of found.old)) }
 {
     match tree {
         Effect::Assign {
@@ -59,7 +59,7 @@ pub(super) fn effect(found: &mut Gathered, tree: &Effect) -> Result<(), AllocErr
 /// Adds the roots in effects that follow each other.
 pub(super) fn effects(found: &mut Gathered, trees: &[Effect]) -> Result<(), AllocError>
     ensures { IfOk result (λ _. gathered_of found.new
-        ≡ inside_parts (n.effects (map effect_of trees.now)) (gathered_of found.old)) }
+        ≡ inside_parts (nodes.effects (map effect_of trees.now)) (gathered_of found.old)) }
 {
     for tree in trees {
         effect(found, tree)?;

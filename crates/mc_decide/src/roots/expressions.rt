@@ -1,7 +1,7 @@
 //! Roots in expressions.
 ghost use Rattle.std.specs.Prelude.{◌≡◌, ◌&&◌, map, IfOk};
 ghost use Rattle.mc_typed.specs.Views.{expression_of, place_of, structure_of, call_of, argument_of, arguments_from};
-ghost use Rattle.mc_roots.specs.Nodes as n;
+ghost use Rattle.mc_roots.specs.Nodes as nodes;
 ghost use Rattle.mc_roots.specs.Roots.{is_constant};
 ghost use Rattle.mc_gather.specs.steps.Gathering.{gathered_of, inside, inside_parts, visited};
 
@@ -18,10 +18,10 @@ pub(super) fn expression(
     tree: &Expression,
 ) -> Result<bool, AllocError>
     ensures found { IfOk result (λ _. gathered_of found.new
-        ≡ visited role (n.expression (expression_of tree.now))
+        ≡ visited role (nodes.expression (expression_of tree.now))
         (gathered_of found.old)) }
     ensures constant { IfOk result (λ constant.
-        constant ≡ is_constant (n.expression (expression_of tree.now))) }
+        constant ≡ is_constant (nodes.expression (expression_of tree.now))) }
 {
     let before = mark_of(found);
     enter(found, role, tree)?;
@@ -34,10 +34,10 @@ pub(super) fn expression(
 #[cycle(walk)]
 fn operands(found: &mut Gathered, tree: &Expression) -> Result<bool, AllocError>
     ensures found { IfOk result (λ _. gathered_of found.new
-        ≡ inside (n.expression (expression_of tree.now))
+        ≡ inside (nodes.expression (expression_of tree.now))
         (gathered_of found.old)) }
     ensures constant { IfOk result (λ constant.
-        constant ≡ is_constant (n.expression (expression_of tree.now))) }
+        constant ≡ is_constant (nodes.expression (expression_of tree.now))) }
 {
     match tree {
         Expression::Constant { .. } => Ok(true),
@@ -85,9 +85,9 @@ fn further(
     tree: &Expression,
 ) -> Result<bool, AllocError>
     ensures found { IfOk result (λ _. gathered_of found.new
-        ≡ visited role (n.expression (expression_of tree.now)) (gathered_of found.old)) }
+        ≡ visited role (nodes.expression (expression_of tree.now)) (gathered_of found.old)) }
     ensures constant { IfOk result (λ constant.
-        constant ≡ (before && is_constant (n.expression (expression_of tree.now)))) }
+        constant ≡ (before && is_constant (nodes.expression (expression_of tree.now)))) }
 {
     let constant = expression(found, role, tree)?;
     Ok(before && constant)
@@ -97,7 +97,7 @@ fn further(
 #[cycle(walk)]
 pub(super) fn value(found: &mut Gathered, role: Role, tree: &Expression) -> Result<(), AllocError>
     ensures { IfOk result (λ _. gathered_of found.new
-        ≡ visited role (n.expression (expression_of tree.now)) (gathered_of found.old)) }
+        ≡ visited role (nodes.expression (expression_of tree.now)) (gathered_of found.old)) }
 {
     expression(found, role, tree)?;
     Ok(())
@@ -107,7 +107,7 @@ pub(super) fn value(found: &mut Gathered, role: Role, tree: &Expression) -> Resu
 #[cycle(walk)]
 pub(super) fn place(found: &mut Gathered, tree: &Place) -> Result<(), AllocError>
     ensures { IfOk result (λ _. gathered_of found.new
-        ≡ visited Role.Plain (n.place (place_of tree.now))
+        ≡ visited Role.Plain (nodes.place (place_of tree.now))
         (gathered_of found.old)) }
 {
     match tree {
@@ -128,7 +128,7 @@ pub(super) fn place(found: &mut Gathered, tree: &Place) -> Result<(), AllocError
 #[cycle(walk)]
 pub(super) fn structure(found: &mut Gathered, tree: &Structure) -> Result<(), AllocError>
     ensures { IfOk result (λ _. gathered_of found.new
-        ≡ visited Role.Plain (n.structure (structure_of tree.now))
+        ≡ visited Role.Plain (nodes.structure (structure_of tree.now))
         (gathered_of found.old)) }
 {
     match tree {
@@ -141,7 +141,7 @@ pub(super) fn structure(found: &mut Gathered, tree: &Structure) -> Result<(), Al
 #[cycle(walk)]
 pub(super) fn call(found: &mut Gathered, tree: &FunctionCall) -> Result<(), AllocError>
     ensures { IfOk result (λ _. gathered_of found.new
-        ≡ inside_parts (n.call_parts (call_of tree.now))
+        ≡ inside_parts (nodes.call_parts (call_of tree.now))
         (gathered_of found.old)) }
 {
     arguments(found, call_parts(tree))
@@ -150,7 +150,7 @@ pub(super) fn call(found: &mut Gathered, tree: &FunctionCall) -> Result<(), Allo
 #[cycle(walk)]
 fn argument(found: &mut Gathered, tree: &Argument) -> Result<(), AllocError>
     ensures { IfOk result (λ _. gathered_of found.new
-        ≡ visited Role.Plain (n.argument (argument_of tree.now))
+        ≡ visited Role.Plain (nodes.argument (argument_of tree.now))
         (gathered_of found.old)) }
 {
     match tree {
@@ -164,7 +164,7 @@ fn argument(found: &mut Gathered, tree: &Argument) -> Result<(), AllocError>
 #[cycle(walk)]
 fn arguments(found: &mut Gathered, trees: &[Argument]) -> Result<(), AllocError>
     ensures { IfOk result (λ _. gathered_of found.new
-        ≡ inside_parts (n.arguments (arguments_from (map argument_of trees.now)))
+        ≡ inside_parts (nodes.arguments (arguments_from (map argument_of trees.now)))
         (gathered_of found.old)) }
 {
     for tree in trees {

@@ -1,7 +1,7 @@
 //! Roots in initializers.
 ghost use Rattle.std.specs.Prelude.{◌≡◌, map, option_map, IfOk};
 ghost use Rattle.mc_typed.specs.Views.{declarator_of, initializer_of, initializers_from};
-ghost use Rattle.mc_roots.specs.Nodes as n;
+ghost use Rattle.mc_roots.specs.Nodes as nodes;
 ghost use Rattle.mc_gather.specs.steps.Gathering.{gathered_of, inside_parts, visited};
 
 use crate::roots::expressions::{structure, value};
@@ -14,7 +14,8 @@ use std::alloc::AllocError;
 #[cycle(initializer)]
 fn initializer(found: &mut Gathered, tree: &Initializer) -> Result<(), AllocError>
     ensures { IfOk result (λ _. gathered_of found.new
-        ≡ visited Role.Plain (n.initializer (initializer_of tree.now)) (gathered_of found.old)) }
+        ≡ visited Role.Plain (nodes.initializer (initializer_of tree.now))
+        (gathered_of found.old)) }
 {
     match tree {
         Initializer::Number { value: number } | Initializer::Zero { value: number, .. } => {
@@ -28,7 +29,7 @@ fn initializer(found: &mut Gathered, tree: &Initializer) -> Result<(), AllocErro
 #[cycle(initializer)]
 fn initializers(found: &mut Gathered, trees: &[Initializer]) -> Result<(), AllocError>
     ensures { IfOk result (λ _. gathered_of found.new
-        ≡ inside_parts (n.initializers (initializers_from (map initializer_of trees.now)))
+        ≡ inside_parts (nodes.initializers (initializers_from (map initializer_of trees.now)))
         (gathered_of found.old)) }
 {
     for tree in trees {
@@ -39,7 +40,7 @@ fn initializers(found: &mut Gathered, trees: &[Initializer]) -> Result<(), Alloc
 
 fn initial(found: &mut Gathered, tree: &Option<Initializer>) -> Result<(), AllocError>
     ensures { IfOk result (λ _. gathered_of found.new
-        ≡ visited Role.Plain (n.initial (option_map initializer_of tree.now))
+        ≡ visited Role.Plain (nodes.initial (option_map initializer_of tree.now))
         (gathered_of found.old)) }
 {
     match tree {
@@ -51,7 +52,7 @@ fn initial(found: &mut Gathered, tree: &Option<Initializer>) -> Result<(), Alloc
 /// Adds the roots in the initializers of a declaration.
 pub(super) fn declarators(found: &mut Gathered, trees: &[Declarator]) -> Result<(), AllocError>
     ensures { IfOk result (λ _. gathered_of found.new
-        ≡ inside_parts (n.declarators (map declarator_of trees.now)) (gathered_of found.old)) }
+        ≡ inside_parts (nodes.declarators (map declarator_of trees.now)) (gathered_of found.old)) }
 {
     for tree in trees {
         initial(found, &tree.value)?;

@@ -1,7 +1,7 @@
 //! Roots in statements.
 ghost use Rattle.std.specs.Prelude.{◌≡◌, map, option_map, IfOk};
 ghost use Rattle.mc_typed.specs.Views.{effect_of, expression_of, return_value_of, start_of, statement_of, statements_from};
-ghost use Rattle.mc_roots.specs.Nodes as n;
+ghost use Rattle.mc_roots.specs.Nodes as nodes;
 ghost use Rattle.mc_gather.specs.steps.Gathering.{gathered_of, inside_parts, visited};
 
 use crate::roots::effects::{effect, effects};
@@ -14,7 +14,7 @@ use std::alloc::AllocError;
 
 fn optional_test(found: &mut Gathered, tree: &Option<Expression>) -> Result<(), AllocError>
     ensures { IfOk result (λ _. gathered_of found.new
-        ≡ visited Role.Plain (n.optional_test (option_map expression_of tree.now))
+        ≡ visited Role.Plain (nodes.optional_test (option_map expression_of tree.now))
         (gathered_of found.old)) }
 {
     match tree {
@@ -25,7 +25,7 @@ fn optional_test(found: &mut Gathered, tree: &Option<Expression>) -> Result<(), 
 
 fn start(found: &mut Gathered, tree: &ForStart) -> Result<(), AllocError>
     ensures { IfOk result (λ _. gathered_of found.new
-        ≡ visited Role.Plain (n.start (start_of tree.now)) (gathered_of found.old)) }
+        ≡ visited Role.Plain (nodes.start (start_of tree.now)) (gathered_of found.old)) }
 {
     match tree {
         ForStart::Effects { effects: clauses } => effects(found, clauses),
@@ -43,9 +43,9 @@ fn parts(
     step: &[Effect],
 ) -> Result<(), AllocError>
     ensures { IfOk result (λ _. gathered_of found.new
-        ≡ inside_parts (n.effects (map effect_of step.now))
-        (visited Role.Plain (n.optional_test (option_map expression_of test.now))
-        (visited Role.Plain (n.start (start_of first.now)) (gathered_of found.old)))) }
+        ≡ inside_parts (nodes.effects (map effect_of step.now))
+        (visited Role.Plain (nodes.optional_test (option_map expression_of test.now))
+        (visited Role.Plain (nodes.start (start_of first.now)) (gathered_of found.old)))) }
 {
     start(found, first)?;
     optional_test(found, test)?;
@@ -54,7 +54,8 @@ fn parts(
 
 fn return_value(found: &mut Gathered, tree: &ReturnValue) -> Result<(), AllocError>
     ensures { IfOk result (λ _. gathered_of found.new
-        ≡ visited Role.Plain (n.return_value (return_value_of tree.now)) (gathered_of found.old)) }
+        ≡ visited Role.Plain (nodes.return_value (return_value_of tree.now))
+        (gathered_of found.old)) }
 {
     match tree {
         ReturnValue::Nothing => Ok(()),
@@ -67,7 +68,7 @@ fn return_value(found: &mut Gathered, tree: &ReturnValue) -> Result<(), AllocErr
 #[cycle(statement)]
 fn statement(found: &mut Gathered, tree: &Statement) -> Result<(), AllocError>
     ensures { IfOk result (λ _. gathered_of found.new
-        ≡ visited Role.Plain (n.statement (statement_of tree.now)) (gathered_of found.old)) }
+        ≡ visited Role.Plain (nodes.statement (statement_of tree.now)) (gathered_of found.old)) }
 {
     match tree {
         Statement::Compound { items, .. } => statements(found, items),
@@ -124,7 +125,7 @@ fn statement(found: &mut Gathered, tree: &Statement) -> Result<(), AllocError>
 #[cycle(statement)]
 pub(super) fn statements(found: &mut Gathered, trees: &[Statement]) -> Result<(), AllocError>
     ensures { IfOk result (λ _. gathered_of found.new
-        ≡ inside_parts (n.statements (statements_from (map statement_of trees.now)))
+        ≡ inside_parts (nodes.statements (statements_from (map statement_of trees.now)))
         (gathered_of found.old)) }
 {
     for tree in trees {

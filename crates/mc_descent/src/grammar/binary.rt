@@ -1,6 +1,6 @@
 //! Operators between operands (C17 6.5.5 to 6.5.17).
 ghost use Rattle.std.specs.Prelude.{◌≡◌, ◌≤◌, ◌+◌, IfOk, List, max, map, Some};
-ghost use Rattle.mc_tree.specs.Tree as t;
+ghost use Rattle.mc_tree.specs.Tree as source_tree;
 ghost use Rattle.mc_tree.specs.Tree.{span_of};
 ghost use Rattle.mc_tree.specs.Views.{expression_of, expressions_from};
 ghost use Rattle.mc_grammar.specs.Places as places;
@@ -32,7 +32,7 @@ fn made_binary<'a>(
     right: Read<'a>,
 ) -> Result<Read<'a>, Fault>
     requires small { (left.height ≤ 1000) × (right.height ≤ 1000) }
-    ensures { GivesMade (t.Binary operator (tree_of left.entry) (tree_of right.entry)
+    ensures { GivesMade (source_tree.Binary operator (tree_of left.entry) (tree_of right.entry)
         (places.to (span_of (tree_of left.entry)) (span_of (tree_of right.entry))))
         (max left.entry.height right.entry.height + 1) result }
 {
@@ -55,7 +55,7 @@ fn made_conditional<'a>(
     other: Read<'a>,
 ) -> Result<Read<'a>, Fault>
     requires small { (test.height ≤ 1000) × (chosen.height ≤ 1000) × (other.height ≤ 1000) }
-    ensures { GivesMade (t.Conditional (tree_of test.entry) (tree_of chosen.entry)
+    ensures { GivesMade (source_tree.Conditional (tree_of test.entry) (tree_of chosen.entry)
         (tree_of other.entry)
         (places.to (span_of (tree_of test.entry)) (span_of (tree_of other.entry))))
         (max test.entry.height (max chosen.entry.height other.entry.height) + 1) result }
@@ -91,7 +91,8 @@ fn made_assignment<'a>(
     value: Read<'a>,
 ) -> Result<Read<'a>, Fault>
     requires small { (target.height ≤ 1000) × (value.height ≤ 1000) }
-    ensures { GivesMade (t.Assignment operator (tree_of target.entry) (tree_of value.entry)
+    ensures { GivesMade (source_tree.Assignment operator (tree_of target.entry)
+        (tree_of value.entry)
         (places.to (span_of (tree_of target.entry)) (span_of (tree_of value.entry))))
         (max target.entry.height value.entry.height + 1) result }
 {
@@ -110,7 +111,7 @@ fn made_assignment<'a>(
 fn made_comma<'a>(alloc: Global, start: Span, all: ReadAll<'a>) -> Result<Read<'a>, Fault>
     requires small { all.height ≤ 1000 }
     ensures { GivesMade
-        (t.Comma (expressions_from (trees_of all.entry))
+        (source_tree.Comma (expressions_from (trees_of all.entry))
         (places.to start
         (places.end_of_expressions start (expressions_from (trees_of all.entry)))))
         (all.entry.height + 1) result }

@@ -1,7 +1,7 @@
 //! Declarators and their parts (C17 6.7.6).
 ghost use Rattle.std.specs.Prelude.{◌≡◌, ◌≤◌, ◌+◌, ◌-◌, IfOk, [], map};
 ghost use Rattle.mc_lex.specs.Tokens.{tok_of};
-ghost use Rattle.mc_tree.specs.Tree as t;
+ghost use Rattle.mc_tree.specs.Tree as tree;
 ghost use Rattle.mc_tree.specs.Views.{tag_of};
 ghost use Rattle.mc_tree.specs.Height.{height_declarator, height_parameter, height_specifiers};
 ghost use Rattle.mc_grammar.specs.Words.{lexeme_of};
@@ -77,7 +77,7 @@ fn empty_function<'a>(
 ) -> Result<Box<Declarator<'a>>, Fault>
     requires short { IsShort name.now }
     ensures { view.IsMade view.boxed_declarator
-        (t.function stars (name_at (lexeme_of (tok_of name.now))) (t.Empty list_span)
+        (tree.function stars (name_at (lexeme_of (tok_of name.now))) (tree.Empty list_span)
         (places.to start list_span)) result }
 {
     on_heap(

@@ -1,7 +1,7 @@
 //! Members of structures and constants of enumerations (C17 6.7.2.1, 6.7.2.2).
 ghost use Rattle.std.specs.Prelude.{◌≡◌, ◌≤◌, ◌+◌, ◌-◌, IfOk, [], map, max};
 ghost use Rattle.mc_lex.specs.Tokens.{tok_of};
-ghost use Rattle.mc_tree.specs.Tree as t;
+ghost use Rattle.mc_tree.specs.Tree as tree;
 ghost use Rattle.mc_tree.specs.Height.{height_enumerator, height_member};
 ghost use Rattle.mc_grammar.specs.Words.{lexeme_of, sees_specifiers};
 ghost use Rattle.mc_grammar.specs.Places.{name_at};
@@ -62,7 +62,7 @@ fn member_end<'a>(
 fn bare_enumerator<'a>(alloc: Global, name: &Token<'a>) -> Result<Box<Enumerator<'a>>, Fault>
     requires short { IsShort name.now }
     ensures { view.IsMade view.boxed_enumerator
-        (t.enumerator (name_at (lexeme_of (tok_of name.now)))) result }
+        (tree.enumerator (name_at (lexeme_of (tok_of name.now)))) result }
 {
     let name = identifier(name);
     on_heap(alloc, Enumerator::Bare { name })
@@ -78,7 +78,7 @@ fn valued_enumerator<'a>(
 ) -> Result<Box<Enumerator<'a>>, Fault>
     requires short { IsShort name.now }
     ensures enumerator { view.IsMade view.boxed_enumerator
-        (t.valued_enumerator (name_at (lexeme_of (tok_of name.now))) (tree_of value.entry))
+        (tree.valued_enumerator (name_at (lexeme_of (tok_of name.now))) (tree_of value.entry))
         result }
     ensures tallest { tallest.new ≡ max tallest.old value.entry.height }
 {

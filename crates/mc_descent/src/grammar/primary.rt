@@ -4,7 +4,7 @@ ghost use Rattle.mc_lex.specs.Tokens.{tok_of};
 ghost use Rattle.mc_lex.specs.declared.token.TokenKind.TheVariants as kind;
 ghost use Rattle.mc_grammar.specs.Words.{lexeme_of};
 ghost use Rattle.mc_grammar.specs.Places.{at, name_at};
-ghost use Rattle.mc_tree.specs.Tree as t;
+ghost use Rattle.mc_tree.specs.Tree as source_tree;
 ghost use Rattle.mc_reading.specs.Expressions as spec;
 ghost use Rattle.mc_reading.specs.Rooms.{reading};
 ghost use Rattle.mc_cursor.specs.Cursors.{left_of};
@@ -83,7 +83,7 @@ fn call_end<'a>(
 #[inline(never)]
 fn made_name<'a>(alloc: Global, name: &Token<'a>) -> Result<Read<'a>, Fault>
     requires short { IsShort name.now }
-    ensures { GivesMade (t.Named (name_at (lexeme_of (tok_of name.now)))) 1 result }
+    ensures { GivesMade (source_tree.Named (name_at (lexeme_of (tok_of name.now)))) 1 result }
 {
     let name = identifier(name);
     boxed(alloc, Expression::Name { name }, 1)

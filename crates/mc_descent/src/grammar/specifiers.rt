@@ -1,7 +1,7 @@
 //! Specifiers (C17 6.7.1 to 6.7.3).
 ghost use Rattle.std.specs.Prelude.{◌≡◌, ◌≤◌, ◌+◌, ◌||◌, IfOk};
 ghost use Rattle.mc_lex.specs.Tokens.{tok_of};
-ghost use Rattle.mc_tree.specs.Tree as t;
+ghost use Rattle.mc_tree.specs.Tree as tree;
 ghost use Rattle.mc_tree.specs.Views.{name_of, specifier_of, tag_of};
 ghost use Rattle.mc_tree.specs.Height.{height_specifier};
 ghost use Rattle.mc_grammar.specs.Places as places;
@@ -136,7 +136,7 @@ fn enumeration_tag<'a>(
 ) -> Result<Box<Specifier<'a>>, Fault>
     requires short { IsShort first.now }
     ensures { view.IsMadeSpecifier
-        (t.EnumerationTag (name_of tag.entry)
+        (tree.EnumerationTag (name_of tag.entry)
         (places.to (at (lexeme_of (tok_of first.now))) tag.entry.span)) result }
 {
     let span = to(place(first), tag.span);
@@ -153,7 +153,7 @@ fn structure_tag<'a>(
 ) -> Result<Box<Specifier<'a>>, Fault>
     requires short { IsShort first.now }
     ensures { view.IsMadeSpecifier
-        (t.StructureTag (name_of tag.entry)
+        (tree.StructureTag (name_of tag.entry)
         (places.to (at (lexeme_of (tok_of first.now))) tag.entry.span)) result }
 {
     let span = to(place(first), tag.span);

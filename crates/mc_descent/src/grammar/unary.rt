@@ -1,6 +1,6 @@
 //! Operators before their operand, and casts (C17 6.5.3, 6.5.4).
 ghost use Rattle.std.specs.Prelude.{◌≡◌, ◌≤◌, ◌+◌, IfOk, max, map, Some};
-ghost use Rattle.mc_tree.specs.Tree as t;
+ghost use Rattle.mc_tree.specs.Tree as source_tree;
 ghost use Rattle.mc_tree.specs.Tree.{span_of};
 ghost use Rattle.mc_tree.specs.Height.{height_specifiers};
 ghost use Rattle.mc_grammar.specs.Places as places;
@@ -85,7 +85,7 @@ fn made_cast<'a>(
 ) -> Result<Read<'a>, Fault>
     requires small { (name.height ≤ 1000) × (operand.height ≤ 1000) }
     ensures { GivesMade
-        (t.Cast (type_of name.entry) (tree_of operand.entry)
+        (source_tree.Cast (type_of name.entry) (tree_of operand.entry)
         (places.to first (span_of (tree_of operand.entry))))
         (max name.entry.height operand.entry.height + 1) result }
 {
@@ -119,7 +119,7 @@ fn made_prefix_step<'a>(
 ) -> Result<Read<'a>, Fault>
     requires small { operand.height ≤ 1000 }
     ensures { GivesMade
-        (t.PrefixStep operator (tree_of operand.entry)
+        (source_tree.PrefixStep operator (tree_of operand.entry)
         (places.to first (span_of (tree_of operand.entry)))) (operand.entry.height + 1) result }
 {
     let Read {
@@ -144,7 +144,7 @@ fn made_unary<'a>(
 ) -> Result<Read<'a>, Fault>
     requires small { operand.height ≤ 1000 }
     ensures { GivesMade
-        (t.Unary operator (tree_of operand.entry)
+        (source_tree.Unary operator (tree_of operand.entry)
         (places.to first (span_of (tree_of operand.entry)))) (operand.entry.height + 1) result }
 {
     let Read {

@@ -7,7 +7,7 @@ use Rattle.mc_typed.specs.declared.operators.Operator.{Operator}
 use Rattle.mc_typed.specs.declared.operators.Operator.TheVariants.{Binary, Shift}
 use Rattle.mc_typed.specs.Sound.{type_of}
 use Rattle.mc_typed.specs.Tree.{Effect, Expression, Place}
-use Rattle.mc_typed.specs.Tree as t
+use Rattle.mc_typed.specs.Tree as typed
 use Rattle.mc_faults.specs.declared.fault.FaultKind.TheVariants.{Mismatch}
 use Rattle.mc_faults.specs.Faults.{fault_if}
 use Rattle.mc_typing.specs.Types.{Base}
@@ -30,13 +30,14 @@ value_type (Shift operator) a b = promoted b
 abbrev pub updated : Operator → Place → IntType → Expression → Span → Effect
 updated operator place a e span =
     let b = type_of e in
-    t.Update place a operator (working_type operator a b) (convert_to (value_type operator a b) e)
+    typed.Update place a operator (working_type operator a b)
+    (convert_to (value_type operator a b) e)
     span
 
 -- the effect on an object of an integer type
 abbrev pub number_by : Making → Place → IntType → Span → Option Expression → Option Effect
 number_by (making.Assign structures) place a span =
-    option_map (λ e. t.Assign place a (convert_to a e) span)
+    option_map (λ e. typed.Assign place a (convert_to a e) span)
 number_by (making.Update operator) place a span =
     option_and_then (λ e. update_of operator place a e span)
 

@@ -1,7 +1,7 @@
 -- The walk that gathers decisions, as functions on nodes.
 use Rattle.std.specs.Prelude.{ℕ, ◌+◌, Bool, true, false, nat_lt, List, [], ◌∷◌, ◌++◌, map, take, Option, Some, None}
 use Rattle.mc_limits.specs.Limits.{most_conditions}
-use Rattle.mc_typed.specs.Tree as t
+use Rattle.mc_typed.specs.Tree as typed
 use Rattle.mc_typed.specs.Levels.{limited}
 use Rattle.mc_roots.specs.declared.role.Role.{Role}
 use Rattle.mc_roots.specs.declared.role.Role.TheVariants.{Test, Inner, Plain}
@@ -9,7 +9,7 @@ use Rattle.mc_roots.specs.declared.fault.DecideFault.{DecideFault}
 use Rattle.mc_roots.specs.declared.fault.DecideFault.TheVariants.{TooManyConditions}
 use Rattle.mc_gather.specs.declared.gathered.Gathered as code
 use Rattle.mc_roots.specs.Nodes.{Node, Constant, Not, Logic, Expression, Whole, Parts, no_parts, part, test}
-use Rattle.mc_roots.specs.Nodes as n
+use Rattle.mc_roots.specs.Nodes as nodes
 use Rattle.mc_roots.specs.Roots.{is_constant, is_candidate}
 use Rattle.mc_roots.specs.Conditions.{width}
 use Rattle.mc_roots.specs.Decisions.{Decision}
@@ -50,7 +50,7 @@ stopped at count g = record {
 }
 
 abbrev pub sized : Bool → Node → Gathered → Gathered
-sized true a g = stopped (n.span_of a).start (limited (width a)) g
+sized true a g = stopped (nodes.span_of a).start (limited (width a)) g
 sized false a g = grown a g
 
 abbrev pub added : Option DecideFault → Node → Gathered → Gathered
@@ -108,6 +108,6 @@ abbrev pub in_function : ℕ → Gathered → Gathered
 in_function k g = record { function = k; decisions = g.decisions; fault = g.fault }
 
 -- in functions that are numbered from k on
-abbrev pub in_functions : ℕ → List t.Function → Gathered → Gathered
+abbrev pub in_functions : ℕ → List typed.Function → Gathered → Gathered
 in_functions k [] g = g
-in_functions k (f ∷ fs) g = in_functions (k + 1) fs (inside (n.function f) (in_function k g))
+in_functions k (f ∷ fs) g = in_functions (k + 1) fs (inside (nodes.function f) (in_function k g))

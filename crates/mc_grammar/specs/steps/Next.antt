@@ -10,7 +10,7 @@ use Rattle.mc_tree.specs.declared.declarations.specifier_word.SpecifierWord.TheV
 use Rattle.mc_grammar.specs.Words.{Lexeme, is_keyword, is_punctuator}
 use Rattle.mc_grammar.specs.Operators.{assignment_at}
 use Rattle.mc_grammar.specs.Nonterminal.{Level}
-use Rattle.mc_grammar.specs.Nonterminal as n
+use Rattle.mc_grammar.specs.Nonterminal as nonterminal
 
 abbrev pub ended : List Lexeme → Bool
 ended [] = true
@@ -61,19 +61,26 @@ word_next (x ∷ ts) = word_at x
 
 -- from the level that binds closest
 abbrev pub up_to : Level → List Level
-up_to n.product = n.product ∷ []
-up_to n.sum = n.product ∷ n.sum ∷ []
-up_to n.shift = n.product ∷ n.sum ∷ n.shift ∷ []
-up_to n.relation = n.product ∷ n.sum ∷ n.shift ∷ n.relation ∷ []
-up_to n.equality = n.product ∷ n.sum ∷ n.shift ∷ n.relation ∷ n.equality ∷ []
-up_to n.bit_and = n.product ∷ n.sum ∷ n.shift ∷ n.relation ∷ n.equality ∷ n.bit_and ∷ []
-up_to n.bit_xor =
-    n.product ∷ n.sum ∷ n.shift ∷ n.relation ∷ n.equality ∷ n.bit_and ∷ n.bit_xor ∷ []
-up_to n.bit_or =
-    n.product ∷ n.sum ∷ n.shift ∷ n.relation ∷ n.equality ∷ n.bit_and ∷ n.bit_xor ∷ n.bit_or ∷ []
-up_to n.land =
-    n.product ∷ n.sum ∷ n.shift ∷ n.relation ∷ n.equality ∷ n.bit_and ∷ n.bit_xor ∷ n.bit_or
-    ∷ n.land ∷ []
-up_to n.lor =
-    n.product ∷ n.sum ∷ n.shift ∷ n.relation ∷ n.equality ∷ n.bit_and ∷ n.bit_xor ∷ n.bit_or
-    ∷ n.land ∷ n.lor ∷ []
+up_to nonterminal.product = nonterminal.product ∷ []
+up_to nonterminal.sum = nonterminal.product ∷ nonterminal.sum ∷ []
+up_to nonterminal.shift = nonterminal.product ∷ nonterminal.sum ∷ nonterminal.shift ∷ []
+up_to nonterminal.relation = nonterminal.product ∷ nonterminal.sum ∷ nonterminal.shift
+    ∷ nonterminal.relation ∷ []
+up_to nonterminal.equality = nonterminal.product ∷ nonterminal.sum ∷ nonterminal.shift
+    ∷ nonterminal.relation ∷ nonterminal.equality ∷ []
+up_to nonterminal.bit_and = nonterminal.product ∷ nonterminal.sum ∷ nonterminal.shift
+    ∷ nonterminal.relation ∷ nonterminal.equality ∷ nonterminal.bit_and ∷ []
+up_to nonterminal.bit_xor =
+    nonterminal.product ∷ nonterminal.sum ∷ nonterminal.shift ∷ nonterminal.relation
+    ∷ nonterminal.equality ∷ nonterminal.bit_and ∷ nonterminal.bit_xor ∷ []
+up_to nonterminal.bit_or =
+    nonterminal.product ∷ nonterminal.sum ∷ nonterminal.shift ∷ nonterminal.relation
+    ∷ nonterminal.equality ∷ nonterminal.bit_and ∷ nonterminal.bit_xor ∷ nonterminal.bit_or ∷ []
+up_to nonterminal.land =
+    nonterminal.product ∷ nonterminal.sum ∷ nonterminal.shift ∷ nonterminal.relation
+    ∷ nonterminal.equality ∷ nonterminal.bit_and ∷ nonterminal.bit_xor ∷ nonterminal.bit_or
+    ∷ nonterminal.land ∷ []
+up_to nonterminal.lor =
+    nonterminal.product ∷ nonterminal.sum ∷ nonterminal.shift ∷ nonterminal.relation
+    ∷ nonterminal.equality ∷ nonterminal.bit_and ∷ nonterminal.bit_xor ∷ nonterminal.bit_or
+    ∷ nonterminal.land ∷ nonterminal.lor ∷ []

@@ -1,7 +1,7 @@
 -- Counters of bits and registers.
 use Rattle.std.specs.Prelude.{◌≡◌, ℕ, ◌+◌, ◌==◌, if◌then◌else◌, List, [], ◌∷◌}
 use Rattle.mc_typed.specs.Tree.{Statements}
-use Rattle.mc_roots.specs.Nodes as n
+use Rattle.mc_roots.specs.Nodes as nodes
 use Rattle.mc_roots.specs.Counts.{roots_in}
 use Rattle.mc_steps.specs.Points.{Points, points_of_all}
 use Rattle.mc_probe.specs.Maps.{Map, Mapped, exit_bit, label_bit, statement_bit}
@@ -26,7 +26,7 @@ module _ (m : Map) (first : ℕ) where
     exit = at.exit + (points_of_all items).exits;
     statement = at.statement + (points_of_all items).statements;
     label = at.label + (points_of_all items).labels;
-    decision = at.decision + roots_in (n.statements items);
+    decision = at.decision + roots_in (nodes.statements items);
     switch = at.switch + switches_all items;
   }
 

@@ -2,7 +2,7 @@
 ghost use Rattle.std.specs.Prelude.{◌≡◌, ◌+◌, map, IfOk};
 ghost use Rattle.mc_typed.specs.Views as plain;
 ghost use Rattle.mc_roots.specs.Counts.{roots, roots_in};
-ghost use Rattle.mc_roots.specs.Nodes as n;
+ghost use Rattle.mc_roots.specs.Nodes as nodes;
 ghost use Rattle.mc_roots.specs.declared.role.Role.TheVariants as role;
 ghost use Rattle.mc_probe.specs.BitMaps.{map_of};
 ghost use Rattle.mc_probe.specs.Table.{put_effect, put_effects};
@@ -19,7 +19,7 @@ pub(crate) fn effect(walk: &Walk<'_>, next: &mut u32, tree: &Effect) -> Result<E
         ≡ put_effect (map_of walk.now.map.now) walk.now.first next.old
         (plain.effect_of tree.now)) }
     ensures next { IfOk result (λ _. next.new
-        ≡ next.old + roots role.Plain (n.effect (plain.effect_of tree.now))) }
+        ≡ next.old + roots role.Plain (nodes.effect (plain.effect_of tree.now))) }
 {
     match tree {
         Effect::Assign {
@@ -129,7 +129,7 @@ pub(crate) fn effects(
         ≡ put_effects (map_of walk.now.map.now) walk.now.first next.old
         (map plain.effect_of trees.now)) }
     ensures next { IfOk result (λ _. next.new
-        ≡ next.old + roots_in (n.effects (map plain.effect_of trees.now))) }
+        ≡ next.old + roots_in (nodes.effects (map plain.effect_of trees.now))) }
 {
     let mut copies = Vec::new(walk.alloc);
     for tree in trees {

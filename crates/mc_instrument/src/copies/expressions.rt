@@ -3,12 +3,12 @@ ghost use Rattle.std.specs.Prelude.{◌≡◌, ◌+◌, map, IfOk};
 ghost use Rattle.mc_typed.specs.Views as plain;
 ghost use Rattle.mc_roots.specs.Conditions.{width};
 ghost use Rattle.mc_roots.specs.Counts.{roots, roots_in};
-ghost use Rattle.mc_roots.specs.Nodes as n;
+ghost use Rattle.mc_roots.specs.Nodes as nodes;
 ghost use Rattle.mc_roots.specs.declared.role.Role.TheVariants as role;
 ghost use Rattle.mc_probe.specs.BitMaps.{map_of};
 ghost use Rattle.mc_probe.specs.Table.{InTree, Loose, put, put_argument, put_arguments, put_call, put_place, put_structure};
 ghost use Rattle.mc_probe.specs.Views as probed;
-ghost use Rattle.mc_instrument.specs.steps.Inside as i;
+ghost use Rattle.mc_instrument.specs.steps.Inside as inside_rules;
 
 use crate::copies::walk::{Walk, with_probe};
 use mc_map::{count, is_root, is_root_as_test};
@@ -28,7 +28,7 @@ pub(crate) fn test(
         ≡ put (map_of walk.now.map.now) walk.now.first (Loose role.Test) next.old
         (plain.expression_of tree.now)) }
     ensures next { IfOk result (λ _. next.new
-        ≡ next.old + roots role.Test (n.expression (plain.expression_of tree.now))) }
+        ≡ next.old + roots role.Test (nodes.expression (plain.expression_of tree.now))) }
 {
     if is_root_as_test(tree) {
         root(walk, next, tree)
@@ -49,7 +49,7 @@ pub(crate) fn expression(
         ≡ put (map_of walk.now.map.now) walk.now.first (Loose role.Plain) next.old
         (plain.expression_of tree.now)) }
     ensures next { IfOk result (λ _. next.new
-        ≡ next.old + roots role.Plain (n.expression (plain.expression_of tree.now))) }
+        ≡ next.old + roots role.Plain (nodes.expression (plain.expression_of tree.now))) }
 {
     if is_root(tree) {
         root(walk, next, tree)
@@ -62,10 +62,10 @@ pub(crate) fn expression(
 #[cycle(put)]
 fn root(walk: &Walk<'_>, next: &mut u32, tree: &Expression) -> Result<Expression, AllocError>
     ensures copy { IfOk result (λ c. probed.expression_of c
-        ≡ i.root (map_of walk.now.map.now) walk.now.first next.old
+        ≡ inside_rules.root (map_of walk.now.map.now) walk.now.first next.old
         (plain.expression_of tree.now)) }
     ensures next { IfOk result (λ _. next.new
-        ≡ next.old + 1 + roots role.Inner (n.expression (plain.expression_of tree.now))) }
+        ≡ next.old + 1 + roots role.Inner (nodes.expression (plain.expression_of tree.now))) }
 {
     let register = count(next)?;
     let base = walk.base(register);
@@ -87,9 +87,9 @@ fn in_tree(
         ≡ put (map_of walk.now.map.now) walk.now.first (InTree k condition.old) next.old
         (plain.expression_of tree.now)) }
     ensures next { IfOk result (λ _. next.new
-        ≡ next.old + roots role.Inner (n.expression (plain.expression_of tree.now))) }
+        ≡ next.old + roots role.Inner (nodes.expression (plain.expression_of tree.now))) }
     ensures condition { IfOk result (λ _. condition.new
-        ≡ condition.old + width (n.expression (plain.expression_of tree.now))) }
+        ≡ condition.old + width (nodes.expression (plain.expression_of tree.now))) }
 {
     match tree {
         Expression::Not { operand, span } => {
@@ -137,10 +137,10 @@ fn one_condition(
     tree: &Expression,
 ) -> Result<Expression, AllocError>
     ensures copy { IfOk result (λ c. probed.expression_of c
-        ≡ i.condition (map_of walk.now.map.now) walk.now.first k condition.old next.old
+        ≡ inside_rules.condition (map_of walk.now.map.now) walk.now.first k condition.old next.old
         (plain.expression_of tree.now)) }
     ensures next { IfOk result (λ _. next.new
-        ≡ next.old + i.inner_roots (n.expression (plain.expression_of tree.now))) }
+        ≡ next.old + inside_rules.inner_roots (nodes.expression (plain.expression_of tree.now))) }
     ensures condition { IfOk result (λ _. condition.new ≡ condition.old + 1) }
 {
     let number = count(condition)?;
@@ -158,10 +158,10 @@ fn one_condition(
 #[cycle(put)]
 fn inside(walk: &Walk<'_>, next: &mut u32, tree: &Expression) -> Result<Expression, AllocError>
     ensures copy { IfOk result (λ c. probed.expression_of c
-        ≡ i.inside (map_of walk.now.map.now) walk.now.first next.old
+        ≡ inside_rules.inside (map_of walk.now.map.now) walk.now.first next.old
         (plain.expression_of tree.now)) }
     ensures next { IfOk result (λ _. next.new
-        ≡ next.old + i.inner_roots (n.expression (plain.expression_of tree.now))) }
+        ≡ next.old + inside_rules.inner_roots (nodes.expression (plain.expression_of tree.now))) }
 {
     match tree {
         Expression::Constant { value, of, span } => Ok(Expression::Constant {
@@ -273,7 +273,7 @@ pub(crate) fn place(walk: &Walk<'_>, next: &mut u32, tree: &Place) -> Result<Pla
     ensures copy { IfOk result (λ c. probed.place_of c
         ≡ put_place (map_of walk.now.map.now) walk.now.first next.old (plain.place_of tree.now)) }
     ensures next { IfOk result (λ _. next.new
-        ≡ next.old + roots role.Plain (n.place (plain.place_of tree.now))) }
+        ≡ next.old + roots role.Plain (nodes.place (plain.place_of tree.now))) }
 {
     match tree {
         Place::Local { slot, span } => Ok(Place::Local {
@@ -343,7 +343,7 @@ pub(crate) fn structure(
         ≡ put_structure (map_of walk.now.map.now) walk.now.first next.old
         (plain.structure_of tree.now)) }
     ensures next { IfOk result (λ _. next.new
-        ≡ next.old + roots role.Plain (n.structure (plain.structure_of tree.now))) }
+        ≡ next.old + roots role.Plain (nodes.structure (plain.structure_of tree.now))) }
 {
     match tree {
         Structure::Stored { place: object } => {
@@ -367,7 +367,7 @@ pub(crate) fn call(
     ensures copy { IfOk result (λ c. probed.call_of c
         ≡ put_call (map_of walk.now.map.now) walk.now.first next.old (plain.call_of tree.now)) }
     ensures next { IfOk result (λ _. next.new
-        ≡ next.old + roots_in (n.call_parts (plain.call_of tree.now))) }
+        ≡ next.old + roots_in (nodes.call_parts (plain.call_of tree.now))) }
 {
     let arguments = arguments(walk, next, &tree.arguments)?;
     Ok(FunctionCall {
@@ -384,7 +384,7 @@ fn argument(walk: &Walk<'_>, next: &mut u32, tree: &Argument) -> Result<Argument
         ≡ put_argument (map_of walk.now.map.now) walk.now.first next.old
         (plain.argument_of tree.now)) }
     ensures next { IfOk result (λ _. next.new
-        ≡ next.old + roots role.Plain (n.argument (plain.argument_of tree.now))) }
+        ≡ next.old + roots role.Plain (nodes.argument (plain.argument_of tree.now))) }
 {
     match tree {
         Argument::Number { value } => {
@@ -423,7 +423,7 @@ fn arguments(
         (plain.arguments_from (map plain.argument_of trees.now))) }
     ensures next { IfOk result (λ _. next.new
         ≡ next.old
-        + roots_in (n.arguments (plain.arguments_from (map plain.argument_of trees.now)))) }
+        + roots_in (nodes.arguments (plain.arguments_from (map plain.argument_of trees.now)))) }
 {
     let mut copies = Vec::new(walk.alloc);
     for tree in trees {

@@ -2,7 +2,7 @@
 ghost use Rattle.std.specs.Prelude.{◌≡◌, ◌+◌, map, option_map, IfOk};
 ghost use Rattle.mc_typed.specs.Views as plain;
 ghost use Rattle.mc_roots.specs.Counts.{roots, roots_in};
-ghost use Rattle.mc_roots.specs.Nodes as n;
+ghost use Rattle.mc_roots.specs.Nodes as nodes;
 ghost use Rattle.mc_roots.specs.declared.role.Role.TheVariants as role;
 ghost use Rattle.mc_probe.specs.Bare.{bare_expression};
 ghost use Rattle.mc_probe.specs.BitMaps.{map_of};
@@ -25,7 +25,7 @@ fn initializer(
         ≡ put_initializer (map_of walk.now.map.now) walk.now.first next.old
         (plain.initializer_of tree.now)) }
     ensures next { IfOk result (λ _. next.new
-        ≡ next.old + roots role.Plain (n.initializer (plain.initializer_of tree.now))) }
+        ≡ next.old + roots role.Plain (nodes.initializer (plain.initializer_of tree.now))) }
 {
     match tree {
         Initializer::Number { value } => {
@@ -65,7 +65,7 @@ fn without_probes(
     ensures copy { IfOk result (λ c. probed.expression_of c
         ≡ bare_expression (plain.expression_of tree.now)) }
     ensures next { IfOk result (λ _. next.new
-        ≡ next.old + roots role.Plain (n.expression (plain.expression_of tree.now))) }
+        ≡ next.old + roots role.Plain (nodes.expression (plain.expression_of tree.now))) }
 {
     let numbered = expression(walk, next, tree)?;
     drop(numbered);
@@ -83,7 +83,7 @@ fn initializers(
         (plain.initializers_from (map plain.initializer_of trees.now))) }
     ensures next { IfOk result (λ _. next.new
         ≡ next.old
-        + roots_in (n.initializers
+        + roots_in (nodes.initializers
         (plain.initializers_from (map plain.initializer_of trees.now)))) }
 {
     let mut copies = Vec::new(walk.alloc);
@@ -103,7 +103,7 @@ fn initial(
         ≡ put_initial (map_of walk.now.map.now) walk.now.first next.old
         (option_map plain.initializer_of tree.now)) }
     ensures next { IfOk result (λ _. next.new
-        ≡ next.old + roots role.Plain (n.initial (option_map plain.initializer_of tree.now))) }
+        ≡ next.old + roots role.Plain (nodes.initial (option_map plain.initializer_of tree.now))) }
 {
     match tree {
         Some(value) => {
@@ -123,7 +123,7 @@ fn declarator(walk: &Walk<'_>, next: &mut u32, tree: &Declarator) -> Result<Decl
     }) }
     ensures next { IfOk result (λ _. next.new
         ≡ next.old
-        + roots role.Plain (n.initial (option_map plain.initializer_of tree.now.value))) }
+        + roots role.Plain (nodes.initial (option_map plain.initializer_of tree.now.value))) }
 {
     let value = initial(walk, next, &tree.value)?;
     Ok(Declarator {
@@ -143,7 +143,7 @@ pub(crate) fn declarators(
         ≡ put_declarators (map_of walk.now.map.now) walk.now.first next.old
         (map plain.declarator_of trees.now)) }
     ensures next { IfOk result (λ _. next.new
-        ≡ next.old + roots_in (n.declarators (map plain.declarator_of trees.now))) }
+        ≡ next.old + roots_in (nodes.declarators (map plain.declarator_of trees.now))) }
 {
     let mut copies = Vec::new(walk.alloc);
     for tree in trees {

@@ -2,7 +2,7 @@
 ghost use Rattle.std.specs.Prelude.{◌≡◌, ◌+◌, map, option_map, IfOk};
 ghost use Rattle.mc_typed.specs.Views as plain;
 ghost use Rattle.mc_roots.specs.Counts.{roots, roots_in};
-ghost use Rattle.mc_roots.specs.Nodes as n;
+ghost use Rattle.mc_roots.specs.Nodes as nodes;
 ghost use Rattle.mc_roots.specs.declared.role.Role.TheVariants as role;
 ghost use Rattle.mc_steps.specs.Points.{points_of, points_of_all};
 ghost use Rattle.mc_probe.specs.BitMaps.{map_of};
@@ -34,7 +34,7 @@ fn start(walk: &Walk<'_>, next: &mut u32, tree: &ForStart) -> Result<ForStart, A
     ensures copy { IfOk result (λ c. probed.start_of c
         ≡ put_start (map_of walk.now.map.now) walk.now.first next.old (plain.start_of tree.now)) }
     ensures next { IfOk result (λ _. next.new
-        ≡ next.old + roots role.Plain (n.start (plain.start_of tree.now))) }
+        ≡ next.old + roots role.Plain (nodes.start (plain.start_of tree.now))) }
 {
     match tree {
         ForStart::Effects { effects: clauses } => {
@@ -60,7 +60,7 @@ fn optional(
         (option_map plain.expression_of tree.now)) }
     ensures next { IfOk result (λ _. next.new
         ≡ next.old
-        + roots role.Plain (n.optional_test (option_map plain.expression_of tree.now))) }
+        + roots role.Plain (nodes.optional_test (option_map plain.expression_of tree.now))) }
 {
     match tree {
         Some(value) => {
@@ -80,7 +80,7 @@ fn return_value(
         ≡ put_return (map_of walk.now.map.now) walk.now.first next.old
         (plain.return_value_of tree.now)) }
     ensures next { IfOk result (λ _. next.new
-        ≡ next.old + roots role.Plain (n.return_value (plain.return_value_of tree.now))) }
+        ≡ next.old + roots role.Plain (nodes.return_value (plain.return_value_of tree.now))) }
 {
     match tree {
         ReturnValue::Nothing => Ok(ReturnValue::Nothing),
@@ -119,17 +119,17 @@ fn for_head(
         (plain.start_of first.now)) }
     ensures test { IfOk result (λ h. option_map probed.expression_of h.test
         ≡ put_optional (map_of walk.now.map.now) walk.now.first
-        (next.old + roots role.Plain (n.start (plain.start_of first.now)))
+        (next.old + roots role.Plain (nodes.start (plain.start_of first.now)))
         (option_map plain.expression_of test.now)) }
     ensures step { IfOk result (λ h. map probed.effect_of h.step.items
         ≡ put_effects (map_of walk.now.map.now) walk.now.first
-        (next.old + roots role.Plain (n.start (plain.start_of first.now))
-        + roots role.Plain (n.optional_test (option_map plain.expression_of test.now)))
+        (next.old + roots role.Plain (nodes.start (plain.start_of first.now))
+        + roots role.Plain (nodes.optional_test (option_map plain.expression_of test.now)))
         (map plain.effect_of step.now)) }
     ensures next { IfOk result (λ _. next.new ≡ next.old
-        + (roots role.Plain (n.start (plain.start_of first.now))
-        + roots role.Plain (n.optional_test (option_map plain.expression_of test.now))
-        + roots_in (n.effects (map plain.effect_of step.now)))) }
+        + (roots role.Plain (nodes.start (plain.start_of first.now))
+        + roots role.Plain (nodes.optional_test (option_map plain.expression_of test.now))
+        + roots_in (nodes.effects (map plain.effect_of step.now)))) }
 {
     let start = start(walk, next, first)?;
     let test = optional(walk, next, test)?;
@@ -156,7 +156,7 @@ fn statement(
     ensures label { IfOk result (λ _. at.new.label
         ≡ at.old.label + (points_of (plain.statement_of tree.now)).labels) }
     ensures decision { IfOk result (λ _. at.new.decision
-        ≡ at.old.decision + roots role.Plain (n.statement (plain.statement_of tree.now))) }
+        ≡ at.old.decision + roots role.Plain (nodes.statement (plain.statement_of tree.now))) }
     ensures switch { IfOk result (λ _. at.new.switch
         ≡ at.old.switch + switches (plain.statement_of tree.now)) }
 {
@@ -354,7 +354,7 @@ pub(crate) fn statements(
     ensures label { IfOk result (λ _. at.new.label ≡ at.old.label
         + (points_of_all (plain.statements_from (map plain.statement_of trees.now))).labels) }
     ensures decision { IfOk result (λ _. at.new.decision ≡ at.old.decision
-        + roots_in (n.statements (plain.statements_from (map plain.statement_of trees.now)))) }
+        + roots_in (nodes.statements (plain.statements_from (map plain.statement_of trees.now)))) }
     ensures switch { IfOk result (λ _. at.new.switch ≡ at.old.switch
         + switches_all (plain.statements_from (map plain.statement_of trees.now))) }
 {

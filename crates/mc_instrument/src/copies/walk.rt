@@ -4,7 +4,7 @@ ghost use Rattle.mc_cond.specs.Tree.{tree_of};
 ghost use Rattle.mc_paths.specs.Paths.{increments};
 ghost use Rattle.mc_probe.specs.BitMaps.{map_of};
 ghost use Rattle.mc_probe.specs.Table.{base_of, increment_of, mapped};
-ghost use Rattle.mc_probe.specs.Tree as p;
+ghost use Rattle.mc_probe.specs.Tree as probed_tree;
 ghost use Rattle.mc_probe.specs.Views as probed;
 
 use mc_paths::Numbering;
@@ -59,7 +59,7 @@ pub(crate) fn with_probe(
     operand: Expression,
 ) -> Result<Expression, AllocError>
     ensures { IfOk result (λ c.
-        probed.expression_of c ≡ p.Probe probe (probed.expression_of operand)) }
+        probed.expression_of c ≡ probed_tree.Probe probe (probed.expression_of operand)) }
 {
     let operand = Box::new(alloc, operand)?;
     Ok(Expression::Probe { probe, operand })

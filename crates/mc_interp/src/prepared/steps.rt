@@ -3,7 +3,7 @@ ghost use Rattle.std.specs.Prelude.{◌≡◌, ◌++◌, drop, map, IfOk, IfSome
 ghost use Rattle.mc_value.specs.declared.int_type.IntType.TheVariants.{Int};
 ghost use Rattle.mc_value.specs.declared.operators.BinOp.TheVariants.{Add};
 ghost use Rattle.mc_typed.specs.declared.operators.Operator.TheVariants.{Binary};
-ghost use Rattle.mc_probe.specs.Tree as p;
+ghost use Rattle.mc_probe.specs.Tree as probed;
 ghost use Rattle.mc_probe.specs.Views as view;
 ghost use Rattle.mc_interp.specs.Views.{effect_of, leaf_of};
 
@@ -78,7 +78,7 @@ impl<'p> Drop for Step<'p> {
 
 /// The object of the activation that a place is, and where it stands.
 fn local(place: &Place) -> Option<(Slot, Span)>
-    ensures { IfSome result (λ found. view.place_of place.now ≡ p.Local found.0 found.1) }
+    ensures { IfSome result (λ found. view.place_of place.now ≡ probed.Local found.0 found.1) }
 {
     match place {
         Place::Local { slot, span } => Some((*slot, *span)),
@@ -110,7 +110,7 @@ fn updated<'p>(
     span: Span,
 ) -> Step<'p>
     ensures { effect_of result
-        ≡ p.Update (p.Local slot place) of operator common (leaf_of right) span }
+        ≡ probed.Update (probed.Local slot place) of operator common (leaf_of right) span }
 {
     if adds_ints(of, operator, common) {
         Step::Add {

@@ -2,7 +2,7 @@
 use Rattle.std.specs.Prelude.{map, Box}
 use Rattle.std.specs.declared.alloc.Global.{Global}
 use Rattle.mc_span.specs.declared.span.Span.{Span}
-use Rattle.mc_tree.specs.Tree as t
+use Rattle.mc_tree.specs.Tree as tree
 use Rattle.mc_tree.specs.declared.statements.for_start.ForStart.{ForStart}
 use Rattle.mc_tree.specs.Views.{name_of}
 use Rattle.mc_tree.specs.declared.units.item.Item.{Item}
@@ -34,15 +34,15 @@ abbrev pub opening_of : Box code.Opening Global → Opening
 opening_of one = seen_opening one.value
 
 -- the first part of a `for` on the heap
-abbrev pub heap_start_of : Box ForStart Global → t.ForStart
+abbrev pub heap_start_of : Box ForStart Global → tree.ForStart
 heap_start_of start = start_of start.value
 
-abbrev pub seen_test : Tested → t.Expression × Span
+abbrev pub seen_test : Tested → tree.Expression × Span
 seen_test tested = (value_of tested.test, tested.last)
 
-abbrev pub seen_head : Headed → Span × t.Expression
+abbrev pub seen_head : Headed → Span × tree.Expression
 seen_head head = (head.first, value_of head.test)
 
 -- an external declaration on the heap
-abbrev pub heap_item_of : Box Item Global → t.Item
+abbrev pub heap_item_of : Box Item Global → tree.Item
 heap_item_of one = item_of one.value

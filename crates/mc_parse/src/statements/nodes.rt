@@ -1,7 +1,7 @@
 //! Makers of statements, one for each kind: a statement is dear to prove where it is made in a
 //! branch or handed on at once.
 ghost use Rattle.std.specs.Prelude.{◌≡◌, map};
-ghost use Rattle.mc_tree.specs.Tree as t;
+ghost use Rattle.mc_tree.specs.Tree as tree;
 ghost use Rattle.mc_tree.specs.Tree.{span_of_statement};
 ghost use Rattle.mc_tree.specs.Views.{name_of};
 ghost use Rattle.mc_tree.specs.Units.{block_from, block_item_of, option_of, start_of, statement_of, value_of};
@@ -23,7 +23,8 @@ pub fn compound<'a>(
     items: Vec<BlockItem<'a>>,
     span: Span,
 ) -> Result<Box<Statement<'a>>, Fault>
-    ensures { IsMade (t.Compound (block_from (map block_item_of items.entry.items)) span) result }
+    ensures { IsMade (tree.Compound (block_from (map block_item_of items.entry.items)) span)
+        result }
 {
     on_heap(alloc, Statement::Compound { items, span })
 }
@@ -33,7 +34,7 @@ pub fn switch<'a>(
     value: Box<Expression<'a>>,
     body: Box<Statement<'a>>,
 ) -> Statement<'a>
-    ensures { statement_of result ≡ t.Switch (value_of value.entry) (body_of body.entry)
+    ensures { statement_of result ≡ tree.Switch (value_of value.entry) (body_of body.entry)
         (places.to first (span_of_statement (body_of body.entry))) }
 {
     let span = to(first, place_of(&body));
@@ -45,7 +46,7 @@ pub fn while_loop<'a>(
     test: Box<Expression<'a>>,
     body: Box<Statement<'a>>,
 ) -> Statement<'a>
-    ensures { statement_of result ≡ t.While (value_of test.entry) (body_of body.entry)
+    ensures { statement_of result ≡ tree.While (value_of test.entry) (body_of body.entry)
         (places.to first (span_of_statement (body_of body.entry))) }
 {
     let span = to(first, place_of(&body));
@@ -57,7 +58,7 @@ pub fn do_while<'a>(
     body: Box<Statement<'a>>,
     test: Box<Expression<'a>>,
 ) -> Statement<'a>
-    ensures { statement_of result ≡ t.DoWhile (body_of body.entry) (value_of test.entry) span }
+    ensures { statement_of result ≡ tree.DoWhile (body_of body.entry) (value_of test.entry) span }
 {
     Statement::DoWhile { body, test, span }
 }
@@ -69,7 +70,7 @@ pub fn for_loop<'a>(
     step: Option<Box<Expression<'a>>>,
     body: Box<Statement<'a>>,
 ) -> Statement<'a>
-    ensures { statement_of result ≡ t.For (start_of start.entry.value) (option_of test.entry)
+    ensures { statement_of result ≡ tree.For (start_of start.entry.value) (option_of test.entry)
         (option_of step.entry) (body_of body.entry)
         (places.to first (span_of_statement (body_of body.entry))) }
 {
@@ -84,7 +85,7 @@ pub fn for_loop<'a>(
 }
 
 pub fn case<'a>(label: Span, value: Box<Expression<'a>>, body: Box<Statement<'a>>) -> Statement<'a>
-    ensures { statement_of result ≡ t.Case (value_of value.entry) label (body_of body.entry)
+    ensures { statement_of result ≡ tree.Case (value_of value.entry) label (body_of body.entry)
         (places.to label (span_of_statement (body_of body.entry))) }
 {
     let span = to(label, place_of(&body));
@@ -97,7 +98,7 @@ pub fn case<'a>(label: Span, value: Box<Expression<'a>>, body: Box<Statement<'a>
 }
 
 pub fn default<'a>(label: Span, body: Box<Statement<'a>>) -> Statement<'a>
-    ensures { statement_of result ≡ t.Default label (body_of body.entry)
+    ensures { statement_of result ≡ tree.Default label (body_of body.entry)
         (places.to label (span_of_statement (body_of body.entry))) }
 {
     let span = to(label, place_of(&body));
@@ -105,7 +106,7 @@ pub fn default<'a>(label: Span, body: Box<Statement<'a>>) -> Statement<'a>
 }
 
 pub fn labeled<'a>(name: Identifier<'a>, body: Box<Statement<'a>>) -> Statement<'a>
-    ensures { statement_of result ≡ t.Label (name_of name.entry) (body_of body.entry)
+    ensures { statement_of result ≡ tree.Label (name_of name.entry) (body_of body.entry)
         (places.to name.entry.span (span_of_statement (body_of body.entry))) }
 {
     let span = to(name.span, place_of(&body));
@@ -113,19 +114,19 @@ pub fn labeled<'a>(name: Identifier<'a>, body: Box<Statement<'a>>) -> Statement<
 }
 
 pub fn goto<'a>(name: Identifier<'a>, span: Span) -> Statement<'a>
-    ensures { statement_of result ≡ t.Goto (name_of name.entry) span }
+    ensures { statement_of result ≡ tree.Goto (name_of name.entry) span }
 {
     Statement::Goto { name, span }
 }
 
 pub fn return_from<'a>(value: Option<Box<Expression<'a>>>, span: Span) -> Statement<'a>
-    ensures { statement_of result ≡ t.Return (option_of value.entry) span }
+    ensures { statement_of result ≡ tree.Return (option_of value.entry) span }
 {
     Statement::Return { value, span }
 }
 
 pub fn expression<'a>(value: Box<Expression<'a>>, span: Span) -> Statement<'a>
-    ensures { statement_of result ≡ t.ExpressionStatement (value_of value.entry) span }
+    ensures { statement_of result ≡ tree.ExpressionStatement (value_of value.entry) span }
 {
     Statement::Expression { value, span }
 }

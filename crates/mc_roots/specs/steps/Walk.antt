@@ -1,11 +1,11 @@
 -- The walk that collects roots, as functions on nodes.
 use Rattle.std.specs.Prelude.{ℕ, ◌+◌, Bool, true, false, List, [], ◌∷◌, ◌++◌, map}
 use Rattle.mc_span.specs.declared.span.Span.{Span}
-use Rattle.mc_typed.specs.Tree as t
+use Rattle.mc_typed.specs.Tree as typed
 use Rattle.mc_roots.specs.declared.role.Role.{Role}
 use Rattle.mc_roots.specs.declared.role.Role.TheVariants.{Test, Inner, Plain}
 use Rattle.mc_roots.specs.Nodes.{Node, Constant, Not, Logic, Expression, Whole, Parts, no_parts, part, test}
-use Rattle.mc_roots.specs.Nodes as n
+use Rattle.mc_roots.specs.Nodes as nodes
 use Rattle.mc_roots.specs.Roots.{is_constant, is_candidate}
 use Rattle.mc_roots.specs.Conditions.{tree_from}
 use Rattle.mc_roots.specs.declared.fault.DecideFault.{DecideFault}
@@ -52,20 +52,20 @@ spans (Constant span) = span ∷ []
 spans (Not a span) = spans a
 spans (Logic operator a b span) = spans a ++ spans b
 spans (Expression top ps span) = span ∷ []
-spans (Whole ps) = n.span_of (Whole ps) ∷ []
+spans (Whole ps) = nodes.span_of (Whole ps) ∷ []
 
 abbrev pub decision : ℕ → Node → Decision
 decision function a = record {
-  root = n.span_of a;
+  root = nodes.span_of a;
   function = function;
   tree = tree_from 0 a;
   conditions = spans a;
 }
 
 -- the decisions of functions that are numbered from k on
-abbrev pub decided : ℕ → List t.Function → List Decision
+abbrev pub decided : ℕ → List typed.Function → List Decision
 decided k [] = []
-decided k (f ∷ fs) = map (decision k) (inside (n.function f) []) ++ decided (k + 1) fs
+decided k (f ∷ fs) = map (decision k) (inside (nodes.function f) []) ++ decided (k + 1) fs
 
 -- the fault of the first that is not small
 abbrev pub IsLargeAmong : List Decision → DecideFault → Type 0

@@ -1,10 +1,10 @@
 //! Items of a list.
 ghost use Rattle.std.specs.Prelude.{◌≡◌, [], Some, IfOk, map, option_map};
-ghost use Rattle.mc_typed.specs.Tree as t;
+ghost use Rattle.mc_typed.specs.Tree as typed;
 ghost use Rattle.mc_typed.specs.Views.{initializer_of};
-ghost use Rattle.mc_typing.specs.Scopes as s;
+ghost use Rattle.mc_typing.specs.Scopes as scopes;
 ghost use Rattle.mc_typing.specs.Values.{judged, lift2};
-ghost use Rattle.mc_typing.specs.Initializers as i;
+ghost use Rattle.mc_typing.specs.Initializers as initializers;
 ghost use Rattle.mc_scopes.specs.Found.{judged_of};
 ghost use Rattle.mc_statements.specs.Items.{items_of, then_item, item_then};
 ghost use Rattle.mc_scopes.specs.steps.Squeezed.{squeezed_part};
@@ -17,7 +17,8 @@ use std::alloc::{AllocError, Global};
 
 /// No items. Takes no memory.
 pub fn no_items(alloc: Global) -> Judged<Vec<Initializer>>
-    ensures { (s : s.Scope) → judged_of items_of result s ≡ judged [] (Some t.no_initializers) s }
+    ensures { (s : scopes.Scope) → judged_of items_of result s
+        ≡ judged [] (Some typed.no_initializers) s }
 {
     Judged {
         fault: None,
@@ -56,7 +57,7 @@ pub fn more_items(
     list: Judged<Vec<Initializer>>,
     one: Judged<Initializer>,
 ) -> Result<Judged<Vec<Initializer>>, AllocError>
-    ensures { IfOk result (λ r. (s : s.Scope) → judged_of items_of r s
+    ensures { IfOk result (λ r. (s : scopes.Scope) → judged_of items_of r s
         ≡ squeezed_part (item_then (judged_of items_of list s) (judged_of initializer_of one s))) }
 {
     let fault = joined::of_two(list.fault, one.fault);

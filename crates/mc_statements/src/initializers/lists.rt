@@ -1,9 +1,9 @@
 //! Lists as initializers (C17 6.7.9).
 ghost use Rattle.std.specs.Prelude.{◌≡◌, [], Some, IfOk, option_copied, option_map, option_and_then};
-ghost use Rattle.mc_typed.specs.Tree as t;
+ghost use Rattle.mc_typed.specs.Tree as typed;
 ghost use Rattle.mc_typed.specs.Views.{expression_of, initializer_of};
 ghost use Rattle.mc_typing.specs.Values.{judged};
-ghost use Rattle.mc_typing.specs.Initializers as i;
+ghost use Rattle.mc_typing.specs.Initializers as initializer_rules;
 ghost use Rattle.mc_scopes.specs.Types.{type_of};
 ghost use Rattle.mc_scopes.specs.Views.{scope_of};
 ghost use Rattle.mc_scopes.specs.Found.{found_of, judged_of};
@@ -29,8 +29,8 @@ fn list_of(
     items: Vec<Initializer>,
 ) -> Result<Option<Initializer>, AllocError>
     ensures { IfOk result (λ r. option_map initializer_of r
-        ≡ Some (t.ListInitializer (items_of items)
-        (i.cells_of (scope_of scope.now).structures (type_of of.now)))) }
+        ≡ Some (typed.ListInitializer (items_of items)
+        (initializer_rules.cells_of (scope_of scope.now).structures (type_of of.now)))) }
 {
     match cells(&scope.structures, of) {
         Ok(cells) => Ok(Some(Initializer::List { items, cells })),
@@ -49,7 +49,7 @@ fn list_value(
     items: Option<Vec<Initializer>>,
 ) -> Result<Option<Initializer>, AllocError>
     ensures { IfOk result (λ r. option_map initializer_of r
-        ≡ option_and_then (i.list_value (scope_of scope.now).structures
+        ≡ option_and_then (initializer_rules.list_value (scope_of scope.now).structures
         (option_map type_of (option_copied of.entry)) (target_of target.entry))
         (option_map items_of items)) }
 {
@@ -82,7 +82,8 @@ pub fn list_initializer(
     items: Judged<Vec<Initializer>>,
 ) -> Result<Judged<Initializer>, AllocError>
     ensures { IfOk result (λ r. judged_of initializer_of r (scope_of scope.now)
-        ≡ squeezed_part (i.list_judged (option_map type_of (option_copied of.entry)) at count
+        ≡ squeezed_part (initializer_rules.list_judged
+        (option_map type_of (option_copied of.entry)) at count
         (judged_of items_of items (scope_of scope.now)))) }
 {
     let target = target_for(scope, of);
@@ -102,8 +103,8 @@ fn zero_of(
     value: Expression,
 ) -> Result<Option<Initializer>, AllocError>
     ensures { IfOk result (λ r. option_map initializer_of r
-        ≡ Some (t.ZeroInitializer (expression_of value)
-        (i.cells_of (scope_of scope.now).structures (type_of of.now)))) }
+        ≡ Some (typed.ZeroInitializer (expression_of value)
+        (initializer_rules.cells_of (scope_of scope.now).structures (type_of of.now)))) }
 {
     match cells(&scope.structures, of) {
         Ok(cells) => Ok(Some(Initializer::Zero { value, cells })),
@@ -120,7 +121,7 @@ fn zero_value(
     value: Option<Expression>,
 ) -> Result<Option<Initializer>, AllocError>
     ensures { IfOk result (λ r. option_map initializer_of r
-        ≡ i.zero_value (scope_of scope.now).structures
+        ≡ initializer_rules.zero_value (scope_of scope.now).structures
         (option_map type_of (option_copied of.entry)) (option_map expression_of value)) }
 {
     match of {
@@ -143,7 +144,7 @@ fn zero_initializer(
     only: Found,
 ) -> Result<Judged<Initializer>, AllocError>
     ensures { IfOk result (λ r. judged_of initializer_of r (scope_of scope.now)
-        ≡ squeezed_part (i.zero_judged (option_map type_of (option_copied of.entry))
+        ≡ squeezed_part (initializer_rules.zero_judged (option_map type_of (option_copied of.entry))
         (Some (found_of only (scope_of scope.now))) (scope_of scope.now))) }
 {
     let fault = only.fault;
@@ -164,8 +165,9 @@ fn list_of_one(
     one: Judged<Initializer>,
 ) -> Result<Judged<Initializer>, AllocError>
     ensures { IfOk result (λ r. judged_of initializer_of r (scope_of scope.now)
-        ≡ squeezed_part (i.list_judged (option_map type_of (option_copied of.entry)) at 1
-        (squeezed_part (item_then (judged [] (Some t.no_initializers) (scope_of scope.now))
+        ≡ squeezed_part (initializer_rules.list_judged
+        (option_map type_of (option_copied of.entry)) at 1
+        (squeezed_part (item_then (judged [] (Some typed.no_initializers) (scope_of scope.now))
         (judged_of initializer_of one (scope_of scope.now)))))) }
 {
     match more_items(no_items(alloc), one) {
@@ -186,10 +188,12 @@ fn list_of_expression(
     found: Found,
 ) -> Result<Judged<Initializer>, AllocError>
     ensures { IfOk result (λ r. judged_of initializer_of r (scope_of scope.now)
-        ≡ squeezed_part (i.list_judged (option_map type_of (option_copied of.entry)) at 1
-        (i.items_judged (i.single_judged is_static (option_map type_of (option_copied item.entry))
+        ≡ squeezed_part (initializer_rules.list_judged
+        (option_map type_of (option_copied of.entry)) at 1
+        (initializer_rules.items_judged
+        (initializer_rules.single_judged is_static (option_map type_of (option_copied item.entry))
         start (found_of found (scope_of scope.now)))
-        (judged [] (Some t.no_initializers) (scope_of scope.now))))) }
+        (judged [] (Some typed.no_initializers) (scope_of scope.now))))) }
 {
     match single_initializer(alloc, is_static, scope, item, start, found) {
         Ok(one) => list_of_one(alloc, scope, of, at, one),
@@ -210,11 +214,13 @@ pub fn braced_expression(
     found: Found,
 ) -> Result<Judged<Initializer>, AllocError>
     ensures { IfOk result (λ r. judged_of initializer_of r (scope_of scope.now)
-        ≡ squeezed_part (i.braced_judged (option_map type_of (option_copied of.entry)) at 1
+        ≡ squeezed_part (initializer_rules.braced_judged
+        (option_map type_of (option_copied of.entry)) at 1
         (Some (found_of found (scope_of scope.now)))
-        (i.items_judged (i.single_judged is_static (option_map type_of (option_copied item.entry))
+        (initializer_rules.items_judged
+        (initializer_rules.single_judged is_static (option_map type_of (option_copied item.entry))
         start (found_of found (scope_of scope.now)))
-        (judged [] (Some t.no_initializers) (scope_of scope.now))) (scope_of scope.now))) }
+        (judged [] (Some typed.no_initializers) (scope_of scope.now))) (scope_of scope.now))) }
 {
     let zero = is_zero_found(&found);
     if zero {

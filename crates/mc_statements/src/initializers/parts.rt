@@ -1,6 +1,6 @@
 //! What the items of a list are for.
 ghost use Rattle.std.specs.Prelude.{◌≡◌, ◌+◌, ◌<◌, [], ℕ, IfOk, OnOk, map, take, option_copied, option_map};
-ghost use Rattle.mc_typing.specs.Initializers as i;
+ghost use Rattle.mc_typing.specs.Initializers as initializer_rules;
 ghost use Rattle.mc_scopes.specs.Listed.{listed_of};
 ghost use Rattle.mc_scopes.specs.Types.{base_of, type_of};
 ghost use Rattle.mc_scopes.specs.Views.{scope_of};
@@ -149,7 +149,8 @@ fn elements(alloc: Global, base: Base, is_const: bool, lengths: &[u32]) -> Resul
 #[tactic(auto, using(crate::proofs::ItemParts::first_of_members))]
 fn parts_of(alloc: Global, target: Target<'_, '_>, count: usize) -> Result<PartTypes, AllocError>
     ensures { IfOk result (λ r. (n : ℕ) → n < count
-        → part_at r n ≡ i.first_part (parts_from n (i.parts_of (target_of target.entry)))) }
+        → part_at r n ≡ initializer_rules.first_part
+        (parts_from n (initializer_rules.parts_of (target_of target.entry)))) }
 {
     match target {
         Target::Missing => Ok(PartTypes::Missing),
@@ -180,8 +181,9 @@ pub fn parts(
     of: Option<&CType>,
     count: usize,
 ) -> Result<PartTypes, AllocError>
-    ensures { IfOk result (λ r. (n : ℕ) → n < count → part_at r n ≡ i.first_part (parts_from n
-        (i.parts_of (i.target_of (scope_of scope.now).structures
+    ensures { IfOk result (λ r. (n : ℕ) → n < count → part_at r n
+        ≡ initializer_rules.first_part (parts_from n
+        (initializer_rules.parts_of (initializer_rules.target_of (scope_of scope.now).structures
         (option_map type_of (option_copied of.entry)))))) }
 {
     parts_of(alloc, target_for(scope, of), count)

@@ -1,12 +1,12 @@
 //! Expressions as initializers (C17 6.7.9p4, p11, p13).
 ghost use Rattle.std.specs.Prelude.{◌≡◌, ◌++◌, Some, IfOk, option_copied, option_map, option_and_then};
-ghost use Rattle.mc_typed.specs.Tree as t;
+ghost use Rattle.mc_typed.specs.Tree as typed;
 ghost use Rattle.mc_typed.specs.Views.{expression_of, structure_of, initializer_of};
 ghost use Rattle.mc_faults.specs.Faults.{least_of};
-ghost use Rattle.mc_typing.specs.Scopes as s;
-ghost use Rattle.mc_typing.specs.Values as v;
+ghost use Rattle.mc_typing.specs.Scopes as scopes;
+ghost use Rattle.mc_typing.specs.Values as judged;
 ghost use Rattle.mc_typing.specs.Expressions as expressions;
-ghost use Rattle.mc_typing.specs.Initializers as i;
+ghost use Rattle.mc_typing.specs.Initializers as initializer_rules;
 ghost use Rattle.mc_scopes.specs.Types.{base_of, type_of};
 ghost use Rattle.mc_scopes.specs.Views.{scope_of};
 ghost use Rattle.mc_scopes.specs.Found.{found_of, judged_of, kind_of, value_of};
@@ -27,7 +27,8 @@ use mc_value::IntType;
 use std::alloc::{AllocError, Global};
 
 fn fails_kind(number: u32, kind: Option<Kind<'_>>) -> bool
-    ensures { result ≡ v.fails (i.is_kind number) (option_map kind_of kind.entry) }
+    ensures { result ≡ judged.fails (initializer_rules.is_kind number)
+        (option_map kind_of kind.entry) }
 {
     match kind {
         Some(kind) => !is_kind(number, kind),
@@ -43,7 +44,8 @@ fn item_fault(
     kind: Option<Kind<'_>>,
 ) -> Option<Fault>
     ensures { result ≡ least_of
-        (i.item_faults is_static (target_of target.entry) at (option_map kind_of kind.entry)) }
+        (initializer_rules.item_faults is_static (target_of target.entry) at
+        (option_map kind_of kind.entry)) }
 {
     match target {
         Target::Missing => None,
@@ -66,7 +68,7 @@ fn number_value(
     number: Option<Expression>,
 ) -> Result<Option<Initializer>, AllocError>
     ensures { IfOk result (λ r. option_map initializer_of r
-        ≡ option_map (λ e. t.NumberInitializer (expressions.convert_to to e))
+        ≡ option_map (λ e. typed.NumberInitializer (expressions.convert_to to e))
         (option_map expression_of number)) }
 {
     match number {
@@ -82,7 +84,7 @@ fn number_value(
 
 fn scalar_value(alloc: Global, of: &CType, value: Value) -> Result<Option<Initializer>, AllocError>
     ensures { IfOk result (λ r. option_map initializer_of r
-        ≡ i.scalar_value (type_of of.now).base (value_of value)) }
+        ≡ initializer_rules.scalar_value (type_of of.now).base (value_of value)) }
 {
     match of.base {
         Base::Integer(to) => number_value(alloc, to, value.into_number()),
@@ -104,8 +106,8 @@ fn structure_value(
 ) -> Result<Option<Initializer>, AllocError>
     ensures { IfOk result (λ r. option_map initializer_of r
         ≡ option_map
-        (λ w. t.StructureInitializer w
-        (i.cells_of (scope_of scope.now).structures (type_of of.now)))
+        (λ w. typed.StructureInitializer w
+        (initializer_rules.cells_of (scope_of scope.now).structures (type_of of.now)))
         (option_map structure_of value)) }
 {
     match value {
@@ -130,7 +132,7 @@ fn item_value(
     value: Option<Value>,
 ) -> Result<Option<Initializer>, AllocError>
     ensures { IfOk result (λ r. option_map initializer_of r
-        ≡ option_and_then (i.item_value (scope_of scope.now).structures
+        ≡ option_and_then (initializer_rules.item_value (scope_of scope.now).structures
         (option_map type_of (option_copied of.entry)) (target_of target.entry))
         (option_map value_of value)) }
 {
@@ -161,8 +163,8 @@ fn item_value(
 
 // An object with static storage duration takes integer constant expressions.
 fn static_fault(is_static: bool, at: u32, found: &Found) -> Option<Fault>
-    ensures { (s : s.Scope) → result ≡ least_of (i.static_faults is_static at
-        found.now.constant (v.number_found (found_of found.now s))) }
+    ensures { (s : scopes.Scope) → result ≡ least_of (initializer_rules.static_faults is_static at
+        found.now.constant (judged.number_found (found_of found.now s))) }
 {
     if is_static {
         fault_of_constant(at, found)
@@ -173,10 +175,11 @@ fn static_fault(is_static: bool, at: u32, found: &Found) -> Option<Fault>
 
 // The fault of the initializer itself.
 fn own_fault(is_static: bool, target: Target<'_, '_>, at: u32, found: &Found) -> Option<Fault>
-    ensures { (s : s.Scope) → result ≡ least_of
-        (i.item_faults is_static (target_of target.entry) at (v.kind_found (found_of found.now s))
-        ++ i.static_faults is_static at found.now.constant
-        (v.number_found (found_of found.now s))) }
+    ensures { (s : scopes.Scope) → result ≡ least_of
+        (initializer_rules.item_faults is_static (target_of target.entry) at
+        (judged.kind_found (found_of found.now s))
+        ++ initializer_rules.static_faults is_static at found.now.constant
+        (judged.number_found (found_of found.now s))) }
 {
     let item = item_fault(is_static, target, at, kind_found(&found.value));
     let constant = static_fault(is_static, at, found);
@@ -193,7 +196,8 @@ pub fn single_initializer(
     found: Found,
 ) -> Result<Judged<Initializer>, AllocError>
     ensures { IfOk result (λ r. judged_of initializer_of r (scope_of scope.now)
-        ≡ squeezed_part (i.single_judged is_static (option_map type_of (option_copied of.entry)) at
+        ≡ squeezed_part (initializer_rules.single_judged is_static
+        (option_map type_of (option_copied of.entry)) at
         (found_of found (scope_of scope.now)))) }
 {
     let target = target_for(scope, of);

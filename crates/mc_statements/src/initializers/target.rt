@@ -1,7 +1,7 @@
 //! What is initialized.
 ghost use Rattle.std.specs.Prelude.{◌≡◌, ◌||◌, length, slice_get, Some, option_copied, option_map};
 ghost use Rattle.mc_typing.specs.Types.{members_of};
-ghost use Rattle.mc_typing.specs.Initializers as i;
+ghost use Rattle.mc_typing.specs.Initializers as initializers;
 ghost use Rattle.mc_scopes.specs.Types.{type_of};
 ghost use Rattle.mc_scopes.specs.Views.{scope_of, structure_of};
 ghost use Rattle.mc_statements.specs.Initializers.{members_in, target_of};
@@ -49,7 +49,7 @@ fn members_at<'t, 'a>(scope: &'t Scope<'a>, number: u32) -> Option<&'t Complete<
 }
 
 fn target_of_base<'t, 'a>(scope: &'t Scope<'a>, of: &'t CType) -> Target<'t, 'a>
-    ensures { target_of result ≡ i.target_of_base (scope_of scope.now).structures
+    ensures { target_of result ≡ initializers.target_of_base (scope_of scope.now).structures
         (type_of of.now) (type_of of.now).base }
 {
     match of.base {
@@ -63,7 +63,7 @@ fn target_of_base<'t, 'a>(scope: &'t Scope<'a>, of: &'t CType) -> Target<'t, 'a>
 }
 
 fn target_of_type<'t, 'a>(scope: &'t Scope<'a>, of: &'t CType) -> Target<'t, 'a>
-    ensures { target_of result ≡ i.target_of_object (scope_of scope.now).structures
+    ensures { target_of result ≡ initializers.target_of_object (scope_of scope.now).structures
         (type_of of.now) (type_of of.now).lengths }
 {
     match of.lengths.as_slice() {
@@ -79,7 +79,7 @@ fn target_of_type<'t, 'a>(scope: &'t Scope<'a>, of: &'t CType) -> Target<'t, 'a>
 
 /// An object of this type, where it has one.
 pub fn target_for<'t, 'a>(scope: &'t Scope<'a>, of: Option<&'t CType>) -> Target<'t, 'a>
-    ensures { target_of result ≡ i.target_of (scope_of scope.now).structures
+    ensures { target_of result ≡ initializers.target_of (scope_of scope.now).structures
         (option_map type_of (option_copied of.entry)) }
 {
     match of {
@@ -101,8 +101,8 @@ fn count_of_members(members: Option<&Complete<'_>>) -> usize
 
 /// Whether a list with so many items has too many of them, or none for a scalar.
 pub(crate) fn fails_count(target: Target<'_, '_>, count: usize) -> bool
-    ensures { result ≡ (i.is_below (i.room_of (target_of target.entry)) count
-        || i.lacks_item (target_of target.entry) count) }
+    ensures { result ≡ (initializers.is_below (initializers.room_of (target_of target.entry)) count
+        || initializers.lacks_item (target_of target.entry) count) }
 {
     match target {
         Target::Missing => false,

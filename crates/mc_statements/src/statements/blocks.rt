@@ -1,12 +1,12 @@
 //! Compound statements, local declarations and expression statements (C17 6.8.2, 6.8.3).
 ghost use Rattle.std.specs.Prelude.{◌≡◌, [], ◌∷◌, ◌++◌, None, Some, IfOk, option_map};
-ghost use Rattle.mc_typed.specs.Tree as t;
+ghost use Rattle.mc_typed.specs.Tree as typed;
 ghost use Rattle.mc_typed.specs.Views.{effect_of, statement_of};
 ghost use Rattle.mc_faults.specs.declared.fault.FaultKind.TheVariants.{Mismatch};
 ghost use Rattle.mc_faults.specs.Faults.{fault, least_of};
-ghost use Rattle.mc_typing.specs.Scopes as s;
+ghost use Rattle.mc_typing.specs.Scopes as scopes;
 ghost use Rattle.mc_typing.specs.Values.{judged};
-ghost use Rattle.mc_typing.specs.Statements as w;
+ghost use Rattle.mc_typing.specs.Statements as statement_rules;
 ghost use Rattle.mc_scopes.specs.Found.{judged_of};
 ghost use Rattle.mc_scopes.specs.Statements.{statements_of, declarators_of};
 ghost use Rattle.mc_faults.specs.Kept.{listed};
@@ -27,7 +27,7 @@ fn compound_of(
     items: Option<Vec<Statement>>,
 ) -> Result<Option<Vec<Statement>>, AllocError>
     ensures { IfOk result (λ r. option_map statements_of r
-        ≡ option_map (λ items. w.alone (t.Compound items span))
+        ≡ option_map (λ items. statement_rules.alone (typed.Compound items span))
         (option_map statements_of items)) }
 {
     match items {
@@ -42,8 +42,8 @@ pub fn compound_statement(
     span: Span,
     items: Judged<Vec<Statement>>,
 ) -> Result<Judged<Vec<Statement>>, AllocError>
-    ensures { IfOk result (λ r. (s : s.Scope) → judged_of statements_of r s
-        ≡ squeezed_part (w.compound_judged span (judged_of statements_of items s))) }
+    ensures { IfOk result (λ r. (s : scopes.Scope) → judged_of statements_of r s
+        ≡ squeezed_part (statement_rules.compound_judged span (judged_of statements_of items s))) }
 {
     let fault = joined::of_one(items.fault);
     match compound_of(alloc, span, items.value) {
@@ -58,7 +58,7 @@ fn declaration_of(
     declarators: Option<Vec<Declarator>>,
 ) -> Result<Option<Vec<Statement>>, AllocError>
     ensures { IfOk result (λ r. option_map statements_of r
-        ≡ option_map (λ ds. w.alone (t.Declaration ds span))
+        ≡ option_map (λ ds. statement_rules.alone (typed.Declaration ds span))
         (option_map declarators_of declarators)) }
 {
     match declarators {
@@ -80,8 +80,9 @@ pub fn declaration_statement(
     span: Span,
     declarators: Judged<Vec<Declarator>>,
 ) -> Result<Judged<Vec<Statement>>, AllocError>
-    ensures { IfOk result (λ r. (s : s.Scope) → judged_of statements_of r s
-        ≡ squeezed_part (w.declaration_judged span (judged_of declarators_of declarators s))) }
+    ensures { IfOk result (λ r. (s : scopes.Scope) → judged_of statements_of r s
+        ≡ squeezed_part (statement_rules.declaration_judged span
+        (judged_of declarators_of declarators s))) }
 {
     let fault = joined::of_one(declarators.fault);
     match declaration_of(alloc, span, declarators.value) {
@@ -96,7 +97,7 @@ fn effect_statement_of(
     effect: Option<Effect>,
 ) -> Result<Option<Vec<Statement>>, AllocError>
     ensures { IfOk result (λ r. option_map statements_of r
-        ≡ option_map (λ effect. w.alone (t.EffectStatement effect span))
+        ≡ option_map (λ effect. statement_rules.alone (typed.EffectStatement effect span))
         (option_map effect_of effect)) }
 {
     match effect {
@@ -118,8 +119,9 @@ pub fn effect_statement(
     span: Span,
     effect: Judged<Effect>,
 ) -> Result<Judged<Vec<Statement>>, AllocError>
-    ensures { IfOk result (λ r. (s : s.Scope) → judged_of statements_of r s
-        ≡ squeezed_part (w.effect_statement_judged span (judged_of effect_of effect s))) }
+    ensures { IfOk result (λ r. (s : scopes.Scope) → judged_of statements_of r s
+        ≡ squeezed_part (statement_rules.effect_statement_judged span
+        (judged_of effect_of effect s))) }
 {
     let fault = joined::of_one(effect.fault);
     match effect_statement_of(alloc, span, effect.value) {
@@ -130,16 +132,16 @@ pub fn effect_statement(
 
 /// A null statement.
 pub fn null_statement(alloc: Global, span: Span) -> Result<Judged<Vec<Statement>>, AllocError>
-    ensures { IfOk result (λ r. (s : s.Scope) → judged_of statements_of r s
-        ≡ squeezed_part (w.leaf [] (t.Null span) s)) }
+    ensures { IfOk result (λ r. (s : scopes.Scope) → judged_of statements_of r s
+        ≡ squeezed_part (statement_rules.leaf [] (typed.Null span) s)) }
 {
     leaf(alloc, None, Statement::Null { span, bit: None })
 }
 
 /// No statements. Takes no memory.
 pub fn no_statements(alloc: Global) -> Judged<Vec<Statement>>
-    ensures { (s : s.Scope) → judged_of statements_of result s
-        ≡ judged [] (Some t.no_statements) s }
+    ensures { (s : scopes.Scope) → judged_of statements_of result s
+        ≡ judged [] (Some typed.no_statements) s }
 {
     Judged {
         fault: None,
@@ -159,7 +161,7 @@ fn first_of(fault: Fault, rest: Option<Fault>) -> Option<Fault>
 
 /// A statement with an ordinary label, which is an outside form.
 pub fn named_label(span: Span, body: Judged<Vec<Statement>>) -> Judged<Vec<Statement>>
-    ensures { (s : s.Scope) → judged_of statements_of result s
+    ensures { (s : scopes.Scope) → judged_of statements_of result s
         ≡ squeezed_part (judged
         (fault Mismatch span.start ++ (judged_of statements_of body s).faults) None s) }
 {
@@ -177,7 +179,7 @@ pub fn named_label(span: Span, body: Judged<Vec<Statement>>) -> Judged<Vec<State
 
 /// A `goto`, which is an outside form.
 pub fn goto_statement(span: Span) -> Judged<Vec<Statement>>
-    ensures { (s : s.Scope) → judged_of statements_of result s
+    ensures { (s : scopes.Scope) → judged_of statements_of result s
         ≡ judged (fault Mismatch span.start) None s }
 {
     let fault = Fault {

@@ -1,11 +1,11 @@
 //! Clauses of a `for`, and the declarators of a declaration, as lists.
 ghost use Rattle.std.specs.Prelude.{◌≡◌, [], ◌∷◌, None, Some, IfOk, option_map};
-ghost use Rattle.mc_typed.specs.Tree as t;
+ghost use Rattle.mc_typed.specs.Tree as typed;
 ghost use Rattle.mc_typed.specs.Views.{effect_of, start_of};
-ghost use Rattle.mc_typing.specs.Scopes as s;
+ghost use Rattle.mc_typing.specs.Scopes as scopes;
 ghost use Rattle.mc_typing.specs.Values.{judged};
 ghost use Rattle.mc_typing.specs.Declarations.{both_lists};
-ghost use Rattle.mc_typing.specs.Bodies as b;
+ghost use Rattle.mc_typing.specs.Bodies as bodies;
 ghost use Rattle.mc_scopes.specs.Found.{judged_of};
 ghost use Rattle.mc_scopes.specs.Statements.{declarators_of, effects_of, test_of};
 ghost use Rattle.mc_scopes.specs.steps.Squeezed.{squeezed_part};
@@ -19,7 +19,7 @@ use std::alloc::{AllocError, Global};
 
 /// No clauses. Takes no memory.
 pub fn no_clauses(alloc: Global) -> Judged<Vec<Effect>>
-    ensures { (s : s.Scope) → judged_of effects_of result s ≡ b.no_step s }
+    ensures { (s : scopes.Scope) → judged_of effects_of result s ≡ bodies.no_step s }
 {
     Judged {
         fault: None,
@@ -29,7 +29,7 @@ pub fn no_clauses(alloc: Global) -> Judged<Vec<Effect>>
 
 /// The first part of a `while`, which has none. Takes no memory.
 pub fn no_start(alloc: Global) -> Judged<ForStart>
-    ensures { (s : s.Scope) → judged_of start_of result s ≡ b.no_start s }
+    ensures { (s : scopes.Scope) → judged_of start_of result s ≡ bodies.no_start s }
 {
     Judged {
         fault: None,
@@ -41,7 +41,7 @@ pub fn no_start(alloc: Global) -> Judged<ForStart>
 
 /// A test that is absent.
 pub fn no_test() -> Judged<Option<Expression>>
-    ensures { (s : s.Scope) → judged_of test_of result s ≡ judged [] (Some None) s }
+    ensures { (s : scopes.Scope) → judged_of test_of result s ≡ judged [] (Some None) s }
 {
     Judged {
         fault: None,
@@ -66,8 +66,8 @@ fn clause_of(alloc: Global, effect: Option<Effect>) -> Result<Option<Vec<Effect>
 
 /// One clause.
 pub fn clause(alloc: Global, effect: Judged<Effect>) -> Result<Judged<Vec<Effect>>, AllocError>
-    ensures { IfOk result (λ r. (s : s.Scope) → judged_of effects_of r s
-        ≡ b.listed (judged_of effect_of effect s)) }
+    ensures { IfOk result (λ r. (s : scopes.Scope) → judged_of effects_of r s
+        ≡ bodies.listed (judged_of effect_of effect s)) }
 {
     match clause_of(alloc, effect.value) {
         Ok(value) => Ok(Judged {
@@ -83,7 +83,7 @@ pub fn more_clauses(
     list: Judged<Vec<Effect>>,
     more: Judged<Vec<Effect>>,
 ) -> Result<Judged<Vec<Effect>>, AllocError>
-    ensures { IfOk result (λ r. (s : s.Scope) → judged_of effects_of r s
+    ensures { IfOk result (λ r. (s : scopes.Scope) → judged_of effects_of r s
         ≡ squeezed_part (both_lists
         (judged_of effects_of list s) (judged_of effects_of more s))) }
 {
@@ -94,7 +94,7 @@ pub fn more_clauses(
 
 /// No declarators. Takes no memory.
 pub fn no_declarators(alloc: Global) -> Judged<Vec<Declarator>>
-    ensures { (s : s.Scope) → judged_of declarators_of result s ≡ judged [] (Some []) s }
+    ensures { (s : scopes.Scope) → judged_of declarators_of result s ≡ judged [] (Some []) s }
 {
     Judged {
         fault: None,
@@ -107,7 +107,7 @@ pub fn more_declarators(
     list: Judged<Vec<Declarator>>,
     more: Judged<Vec<Declarator>>,
 ) -> Result<Judged<Vec<Declarator>>, AllocError>
-    ensures { IfOk result (λ r. (s : s.Scope) → judged_of declarators_of r s
+    ensures { IfOk result (λ r. (s : scopes.Scope) → judged_of declarators_of r s
         ≡ squeezed_part (both_lists
         (judged_of declarators_of list s) (judged_of declarators_of more s))) }
 {

@@ -2,9 +2,9 @@
 ghost use Rattle.std.specs.Prelude.{◌≡◌, option_map, option_and_then};
 ghost use Rattle.mc_tree.specs.Views as tree;
 ghost use Rattle.mc_typed.specs.Views.{effect_of};
-ghost use Rattle.mc_typing.specs.Scopes as s;
-ghost use Rattle.mc_typing.specs.Values as v;
-ghost use Rattle.mc_typing.specs.Statements as w;
+ghost use Rattle.mc_typing.specs.Scopes as scopes;
+ghost use Rattle.mc_typing.specs.Values as values;
+ghost use Rattle.mc_typing.specs.Statements as statement_rules;
 ghost use Rattle.mc_scopes.specs.Found.{found_of, judged_of, value_of};
 ghost use Rattle.mc_scopes.specs.steps.Squeezed.{squeezed_part};
 
@@ -17,7 +17,7 @@ use mc_tree::Expression;
 use mc_typed::Effect;
 
 fn whole(effect: Option<Effect>) -> Option<Effect>
-    ensures { option_map effect_of result ≡ option_map v.whole (option_map effect_of effect) }
+    ensures { option_map effect_of result ≡ option_map values.whole (option_map effect_of effect) }
 {
     match effect {
         Some(mut effect) => {
@@ -30,7 +30,7 @@ fn whole(effect: Option<Effect>) -> Option<Effect>
 
 fn effect_in(value: Option<Value>) -> Option<Effect>
     ensures { option_map effect_of result
-        ≡ option_and_then v.effect_in (option_map value_of value) }
+        ≡ option_and_then values.effect_in (option_map value_of value) }
 {
     match value {
         Some(value) => value.into_effect(),
@@ -40,8 +40,8 @@ fn effect_in(value: Option<Value>) -> Option<Effect>
 
 /// A whole expression statement or a clause of a `for`, from what is found of the expression.
 pub fn effect(expression: &Expression<'_>, found: Found) -> Judged<Effect>
-    ensures { (s : s.Scope) → judged_of effect_of result s ≡ squeezed_part
-        (w.effect_judged (tree.expression_of expression.now) (found_of found s)) }
+    ensures { (s : scopes.Scope) → judged_of effect_of result s ≡ squeezed_part
+        (statement_rules.effect_judged (tree.expression_of expression.now) (found_of found s)) }
 {
     let own = effect_fault(expression, kind_found(&found.value));
     let fault = after(found.fault, own);

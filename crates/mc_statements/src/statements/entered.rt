@@ -1,7 +1,7 @@
 //! Blocks that statements begin (C17 6.8.2p1, 6.8.4p3).
 ghost use Rattle.std.specs.Prelude.{◌≡◌, IfOk};
-ghost use Rattle.mc_typing.specs.Scopes as s;
-ghost use Rattle.mc_typing.specs.Statements as w;
+ghost use Rattle.mc_typing.specs.Scopes as scopes;
+ghost use Rattle.mc_typing.specs.Statements as statement_rules;
 ghost use Rattle.mc_scopes.specs.Blocks as blocks;
 ghost use Rattle.mc_scopes.specs.Views.{scope_of};
 ghost use Rattle.mc_scopes.specs.Found.{found_of};
@@ -27,8 +27,8 @@ fn same_labels(labels: &Option<Labels>) -> Result<Option<Labels>, AllocError>
 
 // The labels that stand in a compound statement.
 fn labels_inside(scope: &Scope<'_>, around: Around) -> Result<Option<Labels>, AllocError>
-    ensures { IfOk result (λ r. s.entered r (scope_of scope.now)
-        ≡ w.compound_scope (around_of around) (scope_of scope.now)) }
+    ensures { IfOk result (λ r. scopes.entered r (scope_of scope.now)
+        ≡ statement_rules.compound_scope (around_of around) (scope_of scope.now)) }
 {
     if around.is_body {
         same_labels(&scope.labels)
@@ -41,7 +41,7 @@ fn labels_inside(scope: &Scope<'_>, around: Around) -> Result<Option<Labels>, Al
 pub fn enter_compound(scope: &mut Scope<'_>, around: Around) -> Result<Block, AllocError>
     ensures block { IfOk result (λ b. blocks.around_of b ≡ blocks.around (scope_of scope.old)) }
     ensures entered { IfOk result (λ _. scope_of scope.new
-        ≡ w.compound_scope (around_of around) (scope_of scope.old)) }
+        ≡ statement_rules.compound_scope (around_of around) (scope_of scope.old)) }
 {
     match labels_inside(scope, around) {
         Ok(labels) => Ok(scope.enter(labels)),
@@ -53,7 +53,7 @@ pub fn enter_compound(scope: &mut Scope<'_>, around: Around) -> Result<Block, Al
 pub fn enter_switch(alloc: Global, scope: &mut Scope<'_>, value: &Found) -> Block
     ensures block { blocks.around_of result ≡ blocks.around (scope_of scope.old) }
     ensures entered { scope_of scope.new
-        ≡ w.switch_scope (found_of value.now (scope_of scope.old)) }
+        ≡ statement_rules.switch_scope (found_of value.now (scope_of scope.old)) }
 {
     let labels = Labels::new(alloc, label_type(value));
     scope.enter(Some(labels))

@@ -1,8 +1,8 @@
 //! Lists of typed statements.
 ghost use Rattle.std.specs.Prelude.{◌≡◌, Some, IfOk, option_map, option_and_then};
 ghost use Rattle.mc_typed.specs.Views.{statement_of};
-ghost use Rattle.mc_typing.specs.Scopes as s;
-ghost use Rattle.mc_typing.specs.Statements as w;
+ghost use Rattle.mc_typing.specs.Scopes as scopes;
+ghost use Rattle.mc_typing.specs.Statements as statements;
 ghost use Rattle.mc_scopes.specs.Found.{judged_of};
 ghost use Rattle.mc_scopes.specs.Statements.{statements_of};
 ghost use Rattle.mc_scopes.specs.steps.Squeezed.{squeezed_part};
@@ -20,7 +20,7 @@ use std::alloc::{AllocError, Global};
 #[tactic(auto, using(crate::proofs::Lists::only_statement))]
 pub(crate) fn only_in(list: Option<Vec<Statement>>) -> Option<Statement>
     ensures { option_map statement_of result
-        ≡ option_and_then w.only (option_map statements_of list) }
+        ≡ option_and_then statements.only (option_map statements_of list) }
 {
     match list {
         Some(list) => only(list),
@@ -34,7 +34,7 @@ pub(crate) fn only_boxed(
     list: Option<Vec<Statement>>,
 ) -> Result<Option<Box<Statement>>, AllocError>
     ensures { IfOk result (λ r. option_map boxed_of r
-        ≡ option_and_then w.only (option_map statements_of list)) }
+        ≡ option_and_then statements.only (option_map statements_of list)) }
 {
     match list {
         Some(list) => values::only_boxed(alloc, list),
@@ -47,8 +47,8 @@ pub fn followed(
     list: Judged<Vec<Statement>>,
     more: Judged<Vec<Statement>>,
 ) -> Result<Judged<Vec<Statement>>, AllocError>
-    ensures { IfOk result (λ r. (s : s.Scope) → judged_of statements_of r s
-        ≡ squeezed_part (w.followed_judged
+    ensures { IfOk result (λ r. (s : scopes.Scope) → judged_of statements_of r s
+        ≡ squeezed_part (statements.followed_judged
         (judged_of statements_of list s) (judged_of statements_of more s))) }
 {
     joined_lists(list, more)
@@ -57,7 +57,7 @@ pub fn followed(
 /// A list of one statement, which is known.
 pub(crate) fn listed(alloc: Global, one: Statement) -> Result<Option<Vec<Statement>>, AllocError>
     ensures { IfOk result (λ r. option_map statements_of r
-        ≡ Some (w.alone (statement_of one))) }
+        ≡ Some (statements.alone (statement_of one))) }
 {
     match alone(alloc, one) {
         Ok(list) => Ok(Some(list)),
@@ -67,7 +67,7 @@ pub(crate) fn listed(alloc: Global, one: Statement) -> Result<Option<Vec<Stateme
 
 /// The word with which a statement begins, of so many bytes. Takes no memory.
 pub(crate) fn first_word(size: u32, span: Span) -> Span
-    ensures { result ≡ w.keyword size span }
+    ensures { result ≡ statements.keyword size span }
 {
     Span {
         start: span.start,

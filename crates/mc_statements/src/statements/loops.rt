@@ -1,10 +1,10 @@
 //! Iteration statements (C17 6.8.5).
 ghost use Rattle.std.specs.Prelude.{◌≡◌, Some, IfOk, option_map};
-ghost use Rattle.mc_typed.specs.Tree as t;
+ghost use Rattle.mc_typed.specs.Tree as typed;
 ghost use Rattle.mc_typed.specs.Views.{expression_of, start_of};
-ghost use Rattle.mc_typing.specs.Scopes as s;
+ghost use Rattle.mc_typing.specs.Scopes as scopes;
 ghost use Rattle.mc_typing.specs.Values.{lift2};
-ghost use Rattle.mc_typing.specs.Statements as w;
+ghost use Rattle.mc_typing.specs.Statements as statement_rules;
 ghost use Rattle.mc_scopes.specs.Found.{found_of, judged_of};
 ghost use Rattle.mc_scopes.specs.Statements.{statements_of, effects_of, declarators_of, test_of};
 ghost use Rattle.mc_scopes.specs.steps.Squeezed.{squeezed_part};
@@ -29,8 +29,8 @@ fn test_found(number: Option<Expression>) -> Option<Option<Expression>>
 
 /// The controlling expression of a loop that starts here.
 pub fn loop_test(at: u32, test: Found) -> Judged<Option<Expression>>
-    ensures { (s : s.Scope) → judged_of test_of result s
-        ≡ squeezed_part (w.test_judged at (found_of test s)) }
+    ensures { (s : scopes.Scope) → judged_of test_of result s
+        ≡ squeezed_part (statement_rules.test_judged at (found_of test s)) }
 {
     let wrong = fails_integer(&test.value);
     let fault = or_fault(test.fault, wrong, FaultKind::Mismatch, at);
@@ -44,8 +44,9 @@ fn do_alone(
     body: Box<Statement>,
     test: Expression,
 ) -> Result<Option<Vec<Statement>>, AllocError>
-    ensures { IfOk result (λ r. option_map statements_of r ≡ Some (w.alone
-        (t.DoWhile (boxed_of body) (expression_of test) (w.keyword 2 span) span))) }
+    ensures { IfOk result (λ r. option_map statements_of r ≡ Some (statement_rules.alone
+        (typed.DoWhile (boxed_of body) (expression_of test) (statement_rules.keyword 2 span)
+        span))) }
 {
     let keyword = first_word(2, span);
     listed(
@@ -67,7 +68,8 @@ fn do_of(
     test: Option<Expression>,
 ) -> Result<Option<Vec<Statement>>, AllocError>
     ensures { IfOk result (λ r. option_map statements_of r
-        ≡ lift2 (λ one e. w.alone (t.DoWhile one e (w.keyword 2 span) span))
+        ≡ lift2 (λ one e. statement_rules.alone
+        (typed.DoWhile one e (statement_rules.keyword 2 span) span))
         (option_map boxed_of body) (option_map expression_of test)) }
 {
     match body {
@@ -92,8 +94,9 @@ pub fn do_statement(
     body: Judged<Vec<Statement>>,
     test: Found,
 ) -> Result<Judged<Vec<Statement>>, AllocError>
-    ensures { IfOk result (λ r. (s : s.Scope) → judged_of statements_of r s
-        ≡ squeezed_part (w.do_judged span (judged_of statements_of body s) (found_of test s))) }
+    ensures { IfOk result (λ r. (s : scopes.Scope) → judged_of statements_of r s
+        ≡ squeezed_part (statement_rules.do_judged span (judged_of statements_of body s)
+        (found_of test s))) }
 {
     let wrong = fails_integer(&test.value);
     let fault = two_or_fault(
@@ -116,7 +119,7 @@ pub fn do_statement(
 
 fn start_with_effects(effects: Option<Vec<Effect>>) -> Option<ForStart>
     ensures { option_map start_of result
-        ≡ option_map t.StartEffects (option_map effects_of effects) }
+        ≡ option_map typed.StartEffects (option_map effects_of effects) }
 {
     match effects {
         Some(effects) => Some(ForStart::Effects { effects }),
@@ -126,8 +129,8 @@ fn start_with_effects(effects: Option<Vec<Effect>>) -> Option<ForStart>
 
 /// The first part of a `for`, from its clauses.
 pub fn effects_start(effects: Judged<Vec<Effect>>) -> Judged<ForStart>
-    ensures { (s : s.Scope) → judged_of start_of result s
-        ≡ squeezed_part (w.effects_start (judged_of effects_of effects s)) }
+    ensures { (s : scopes.Scope) → judged_of start_of result s
+        ≡ squeezed_part (statement_rules.effects_start (judged_of effects_of effects s)) }
 {
     let fault = joined::of_one(effects.fault);
     let value = start_with_effects(effects.value);
@@ -136,7 +139,7 @@ pub fn effects_start(effects: Judged<Vec<Effect>>) -> Judged<ForStart>
 
 fn start_with_declarators(declarators: Option<Vec<Declarator>>) -> Option<ForStart>
     ensures { option_map start_of result
-        ≡ option_map t.StartDeclaration (option_map declarators_of declarators) }
+        ≡ option_map typed.StartDeclaration (option_map declarators_of declarators) }
 {
     match declarators {
         Some(declarators) => Some(ForStart::Declaration { declarators }),
@@ -146,8 +149,9 @@ fn start_with_declarators(declarators: Option<Vec<Declarator>>) -> Option<ForSta
 
 /// The first part of a `for`, from its declaration.
 pub fn declaration_start(declarators: Judged<Vec<Declarator>>) -> Judged<ForStart>
-    ensures { (s : s.Scope) → judged_of start_of result s
-        ≡ squeezed_part (w.declaration_start (judged_of declarators_of declarators s)) }
+    ensures { (s : scopes.Scope) → judged_of start_of result s
+        ≡ squeezed_part (statement_rules.declaration_start
+        (judged_of declarators_of declarators s)) }
 {
     let fault = joined::of_one(declarators.fault);
     let value = start_with_declarators(declarators.value);
@@ -169,7 +173,7 @@ fn loop_alone(
     head: Head,
     body: Box<Statement>,
 ) -> Result<Option<Vec<Statement>>, AllocError>
-    ensures { IfOk result (λ r. option_map statements_of r ≡ Some (w.loop size span
+    ensures { IfOk result (λ r. option_map statements_of r ≡ Some (statement_rules.loop size span
         (start_of head.start) (test_of head.test) (effects_of head.step) (boxed_of body))) }
 {
     let keyword = first_word(size, span);
@@ -196,7 +200,8 @@ fn loop_of(
     step: Option<Vec<Effect>>,
     body: Option<Box<Statement>>,
 ) -> Result<Option<Vec<Statement>>, AllocError>
-    ensures { IfOk result (λ r. option_map statements_of r ≡ w.lift4 (w.loop size span)
+    ensures { IfOk result (λ r. option_map statements_of r
+        ≡ statement_rules.lift4 (statement_rules.loop size span)
         (option_map start_of start) (option_map test_of test) (option_map effects_of step)
         (option_map boxed_of body)) }
 {
@@ -248,8 +253,8 @@ pub fn loop_statement(
     step: Judged<Vec<Effect>>,
     body: Judged<Vec<Statement>>,
 ) -> Result<Judged<Vec<Statement>>, AllocError>
-    ensures { IfOk result (λ r. (s : s.Scope) → judged_of statements_of r s
-        ≡ squeezed_part (w.loop_judged size span (judged_of start_of start s)
+    ensures { IfOk result (λ r. (s : scopes.Scope) → judged_of statements_of r s
+        ≡ squeezed_part (statement_rules.loop_judged size span (judged_of start_of start s)
         (judged_of test_of test s) (judged_of effects_of step s)
         (judged_of statements_of body s))) }
 {

@@ -2,14 +2,14 @@
 ghost use Rattle.std.specs.Prelude.{◌≡◌, Some, IfOk, option_map, option_and_then};
 ghost use Rattle.mc_value.specs.Conversions.{promoted};
 ghost use Rattle.mc_typed.specs.Sound.{type_of};
-ghost use Rattle.mc_typed.specs.Tree as t;
+ghost use Rattle.mc_typed.specs.Tree as typed;
 ghost use Rattle.mc_typed.specs.Views.{expression_of, statement_of};
 ghost use Rattle.mc_tree.specs.Units as units;
-ghost use Rattle.mc_typing.specs.Scopes as s;
-ghost use Rattle.mc_typing.specs.Values as v;
+ghost use Rattle.mc_typing.specs.Scopes as scopes;
+ghost use Rattle.mc_typing.specs.Values as values;
 ghost use Rattle.mc_typing.specs.Values.{lift2, lift3};
 ghost use Rattle.mc_typing.specs.Expressions.{promote};
-ghost use Rattle.mc_typing.specs.Statements as w;
+ghost use Rattle.mc_typing.specs.Statements as statement_rules;
 ghost use Rattle.mc_scopes.specs.Types.{base_of};
 ghost use Rattle.mc_scopes.specs.Found.{found_of, judged_of, value_of};
 ghost use Rattle.mc_scopes.specs.Statements.{statements_of};
@@ -33,8 +33,8 @@ fn if_alone(
     test: Expression,
     chosen: Box<Statement>,
 ) -> Result<Option<Vec<Statement>>, AllocError>
-    ensures { IfOk result (λ r. option_map statements_of r ≡ Some (w.alone
-        (t.If (expression_of test) (boxed_of chosen) (w.keyword 2 span) span))) }
+    ensures { IfOk result (λ r. option_map statements_of r ≡ Some (statement_rules.alone
+        (typed.If (expression_of test) (boxed_of chosen) (statement_rules.keyword 2 span) span))) }
 {
     let keyword = first_word(2, span);
     listed(
@@ -56,7 +56,8 @@ fn if_of(
     chosen: Option<Box<Statement>>,
 ) -> Result<Option<Vec<Statement>>, AllocError>
     ensures { IfOk result (λ r. option_map statements_of r
-        ≡ lift2 (λ e one. w.alone (t.If e one (w.keyword 2 span) span))
+        ≡ lift2 (λ e one. statement_rules.alone
+        (typed.If e one (statement_rules.keyword 2 span) span))
         (option_map expression_of test) (option_map boxed_of chosen)) }
 {
     match test {
@@ -81,8 +82,9 @@ pub fn if_statement(
     test: Found,
     chosen: Judged<Vec<Statement>>,
 ) -> Result<Judged<Vec<Statement>>, AllocError>
-    ensures { IfOk result (λ r. (s : s.Scope) → judged_of statements_of r s
-        ≡ squeezed_part (w.if_judged span (found_of test s) (judged_of statements_of chosen s))) }
+    ensures { IfOk result (λ r. (s : scopes.Scope) → judged_of statements_of r s
+        ≡ squeezed_part (statement_rules.if_judged span (found_of test s)
+        (judged_of statements_of chosen s))) }
 {
     let wrong = fails_integer(&test.value);
     let fault = two_or_fault(
@@ -110,9 +112,9 @@ fn if_else_alone(
     chosen: Box<Statement>,
     other: Box<Statement>,
 ) -> Result<Option<Vec<Statement>>, AllocError>
-    ensures { IfOk result (λ r. option_map statements_of r ≡ Some (w.alone
-        (t.IfElse (expression_of test) (boxed_of chosen) (boxed_of other)
-        (w.keyword 2 span) span))) }
+    ensures { IfOk result (λ r. option_map statements_of r ≡ Some (statement_rules.alone
+        (typed.IfElse (expression_of test) (boxed_of chosen) (boxed_of other)
+        (statement_rules.keyword 2 span) span))) }
 {
     let keyword = first_word(2, span);
     listed(
@@ -136,7 +138,8 @@ fn if_else_of(
     other: Option<Box<Statement>>,
 ) -> Result<Option<Vec<Statement>>, AllocError>
     ensures { IfOk result (λ r. option_map statements_of r
-        ≡ lift3 (λ e one other. w.alone (t.IfElse e one other (w.keyword 2 span) span))
+        ≡ lift3 (λ e one other. statement_rules.alone
+        (typed.IfElse e one other (statement_rules.keyword 2 span) span))
         (option_map expression_of test) (option_map boxed_of chosen)
         (option_map boxed_of other)) }
 {
@@ -172,8 +175,8 @@ pub fn if_else_statement(
     chosen: Judged<Vec<Statement>>,
     other: Judged<Vec<Statement>>,
 ) -> Result<Judged<Vec<Statement>>, AllocError>
-    ensures { IfOk result (λ r. (s : s.Scope) → judged_of statements_of r s
-        ≡ squeezed_part (w.if_else_judged span (found_of test s)
+    ensures { IfOk result (λ r. (s : scopes.Scope) → judged_of statements_of r s
+        ≡ squeezed_part (statement_rules.if_else_judged span (found_of test s)
         (judged_of statements_of chosen s) (judged_of statements_of other s))) }
 {
     let wrong = fails_integer(&test.value);
@@ -206,8 +209,8 @@ pub fn if_else_statement(
 
 // The promoted type of an integer in an object of this type.
 fn promoted_in(of: &CType) -> Option<IntType>
-    ensures { (place : t.Place) → result ≡ option_map (λ e. promoted (type_of e))
-        (v.number_stored place (base_of of.now.base) of.now.lengths.items) }
+    ensures { (place : typed.Place) → result ≡ option_map (λ e. promoted (type_of e))
+        (values.number_stored place (base_of of.now.base) of.now.lengths.items) }
 {
     match of.base {
         Base::Integer(integer) => if of.lengths.is_empty() {
@@ -222,7 +225,8 @@ fn promoted_in(of: &CType) -> Option<IntType>
 
 /// The promoted type of an integer.
 fn promoted_type(value: &Value) -> Option<IntType>
-    ensures { result ≡ option_map (λ e. promoted (type_of e)) (v.number_in (value_of value.now)) }
+    ensures { result ≡ option_map (λ e. promoted (type_of e))
+        (values.number_in (value_of value.now)) }
 {
     match value {
         Value::Number(number) => Some(mc_value::promote(number.integer_type())),
@@ -238,7 +242,7 @@ fn promoted_type(value: &Value) -> Option<IntType>
 /// The type of the labels of a `switch` on this expression (C17 6.8.4.2p5).
 pub fn label_type(value: &Found) -> Option<IntType>
     ensures { result ≡ option_map (λ e. promoted (type_of e))
-        (option_and_then v.number_in (option_map value_of value.now.value)) }
+        (option_and_then values.number_in (option_map value_of value.now.value)) }
 {
     match &value.value {
         Some(value) => promoted_type(value),
@@ -248,7 +252,7 @@ pub fn label_type(value: &Found) -> Option<IntType>
 
 // The items of a compound statement, taken out of it.
 fn items_of(alloc: Global, body: &mut Statement) -> Option<Vec<Statement>>
-    ensures { option_map statements_of result ≡ w.items_of (statement_of body.old) }
+    ensures { option_map statements_of result ≡ statement_rules.items_of (statement_of body.old) }
 {
     match body {
         Statement::Compound { items, .. } => Some(std::mem::replace(items, Vec::new(alloc))),
@@ -269,7 +273,7 @@ fn items_of(alloc: Global, body: &mut Statement) -> Option<Vec<Statement>>
 
 fn items_in(alloc: Global, body: Option<Statement>) -> Option<Vec<Statement>>
     ensures { option_map statements_of result
-        ≡ option_and_then w.items_of (option_map statement_of body) }
+        ≡ option_and_then statement_rules.items_of (option_map statement_of body) }
 {
     match body {
         Some(mut body) => {
@@ -282,7 +286,7 @@ fn items_in(alloc: Global, body: Option<Statement>) -> Option<Vec<Statement>>
 }
 
 fn is_compound(tree: &Tree<'_>) -> bool
-    ensures { result ≡ w.is_compound (units.statement_of tree.now) }
+    ensures { result ≡ statement_rules.is_compound (units.statement_of tree.now) }
 {
     matches!(tree, Tree::Compound { .. })
 }
@@ -294,8 +298,8 @@ fn switch_with(
     value: Expression,
     items: Vec<Statement>,
 ) -> Result<Option<Vec<Statement>>, AllocError>
-    ensures { IfOk result (λ r. option_map statements_of r ≡ Some (w.alone
-        (t.Switch (promote (expression_of value)) (statements_of items) keyword span))) }
+    ensures { IfOk result (λ r. option_map statements_of r ≡ Some (statement_rules.alone
+        (typed.Switch (promote (expression_of value)) (statements_of items) keyword span))) }
 {
     match conversions::promote(alloc, value) {
         Ok(value) => listed(
@@ -322,9 +326,9 @@ fn switch_alone(
     value: Expression,
     items: Vec<Statement>,
 ) -> Result<Option<Vec<Statement>>, AllocError>
-    ensures { IfOk result (λ r. option_map statements_of r ≡ Some (w.alone
-        (t.Switch (promote (expression_of value)) (statements_of items)
-        (w.keyword 6 span) span))) }
+    ensures { IfOk result (λ r. option_map statements_of r ≡ Some (statement_rules.alone
+        (typed.Switch (promote (expression_of value)) (statements_of items)
+        (statement_rules.keyword 6 span) span))) }
 {
     let keyword = first_word(6, span);
     switch_with(alloc, span, keyword, value, items)
@@ -337,7 +341,8 @@ fn switch_of(
     items: Option<Vec<Statement>>,
 ) -> Result<Option<Vec<Statement>>, AllocError>
     ensures { IfOk result (λ r. option_map statements_of r
-        ≡ lift2 (λ e items. w.alone (t.Switch (promote e) items (w.keyword 6 span) span))
+        ≡ lift2 (λ e items. statement_rules.alone
+        (typed.Switch (promote e) items (statement_rules.keyword 6 span) span))
         (option_map expression_of value) (option_map statements_of items)) }
 {
     match value {
@@ -363,8 +368,8 @@ pub fn switch_statement(
     value: Found,
     body: Judged<Vec<Statement>>,
 ) -> Result<Judged<Vec<Statement>>, AllocError>
-    ensures { IfOk result (λ r. (s : s.Scope) → judged_of statements_of r s
-        ≡ squeezed_part (w.switch_judged span (units.statement_of tree.now)
+    ensures { IfOk result (λ r. (s : scopes.Scope) → judged_of statements_of r s
+        ≡ squeezed_part (statement_rules.switch_judged span (units.statement_of tree.now)
         (found_of value s) (judged_of statements_of body s))) }
 {
     let wrong = fails_integer(&value.value) || !is_compound(tree);

@@ -1,7 +1,7 @@
 //! The height of initializers and declarations.
 ghost use Rattle.std.specs.Prelude.{◌≡◌, ◌≤◌, map};
 ghost use Rattle.mc_tree.specs.Units.{initializer_of, initializers_from, init_declarator_of, declaration_of, option_of, start_of};
-ghost use Rattle.mc_tree.specs.Height as h;
+ghost use Rattle.mc_tree.specs.Height as height;
 
 use crate::declarations::declaration::Declaration;
 use crate::declarations::init_declarator::InitDeclarator;
@@ -12,8 +12,8 @@ use crate::statements::for_start::ForStart;
 use std::cmp::max;
 
 fn initializer(tree: &Initializer<'_>) -> u32
-    requires { h.height_initializer (initializer_of tree.now) ≤ 800 }
-    ensures { result ≡ h.height_initializer (initializer_of tree.now) }
+    requires { height.height_initializer (initializer_of tree.now) ≤ 800 }
+    ensures { result ≡ height.height_initializer (initializer_of tree.now) }
 {
     match tree {
         Initializer::Single { value } => expression(value) + 1,
@@ -28,8 +28,8 @@ fn initializer(tree: &Initializer<'_>) -> u32
 }
 
 fn init_declarator(tree: &InitDeclarator<'_>) -> u32
-    requires { h.height_init_declarator (init_declarator_of tree.now) ≤ 800 }
-    ensures { result ≡ h.height_init_declarator (init_declarator_of tree.now) }
+    requires { height.height_init_declarator (init_declarator_of tree.now) ≤ 800 }
+    ensures { result ≡ height.height_init_declarator (init_declarator_of tree.now) }
 {
     match tree {
         InitDeclarator::Bare {
@@ -43,8 +43,8 @@ fn init_declarator(tree: &InitDeclarator<'_>) -> u32
 }
 
 fn init_declarators(trees: &[InitDeclarator<'_>]) -> u32
-    requires { h.height_init_declarators (map init_declarator_of trees.now) ≤ 800 }
-    ensures { result ≡ h.height_init_declarators (map init_declarator_of trees.now) }
+    requires { height.height_init_declarators (map init_declarator_of trees.now) ≤ 800 }
+    ensures { result ≡ height.height_init_declarators (map init_declarator_of trees.now) }
 {
     let mut tallest = 0;
     for tree in trees {
@@ -54,8 +54,8 @@ fn init_declarators(trees: &[InitDeclarator<'_>]) -> u32
 }
 
 pub(crate) fn declaration(tree: &Declaration<'_>) -> u32
-    requires { h.height_declaration (declaration_of tree.now) ≤ 800 }
-    ensures { result ≡ h.height_declaration (declaration_of tree.now) }
+    requires { height.height_declaration (declaration_of tree.now) ≤ 800 }
+    ensures { result ≡ height.height_declaration (declaration_of tree.now) }
 {
     max(
         specifiers(&tree.specifiers),
@@ -64,8 +64,8 @@ pub(crate) fn declaration(tree: &Declaration<'_>) -> u32
 }
 
 pub(crate) fn optional(tree: &Option<Box<Expression<'_>>>) -> u32
-    requires { h.height_optional (option_of tree.now) ≤ 800 }
-    ensures { result ≡ h.height_optional (option_of tree.now) }
+    requires { height.height_optional (option_of tree.now) ≤ 800 }
+    ensures { result ≡ height.height_optional (option_of tree.now) }
 {
     match tree {
         Some(value) => expression(value),
@@ -74,8 +74,8 @@ pub(crate) fn optional(tree: &Option<Box<Expression<'_>>>) -> u32
 }
 
 pub(crate) fn for_start(tree: &ForStart<'_>) -> u32
-    requires { h.height_start (start_of tree.now) ≤ 800 }
-    ensures { result ≡ h.height_start (start_of tree.now) }
+    requires { height.height_start (start_of tree.now) ≤ 800 }
+    ensures { result ≡ height.height_start (start_of tree.now) }
 {
     match tree {
         ForStart::Local { declaration: local } => declaration(local),

@@ -1,7 +1,7 @@
 //! The height of statements and blocks.
 ghost use Rattle.std.specs.Prelude.{◌≡◌, ◌≤◌, map};
 ghost use Rattle.mc_tree.specs.Units.{statement_of, block_item_of, block_from};
-ghost use Rattle.mc_tree.specs.Height as h;
+ghost use Rattle.mc_tree.specs.Height as tree_height;
 
 use crate::heights::declarations::{declaration, for_start, optional};
 use crate::heights::syntax::expression;
@@ -11,8 +11,8 @@ use std::cmp::max;
 
 #[cycle(height)]
 fn statement(tree: &Statement<'_>) -> u32
-    requires { h.height_statement (statement_of tree.now) ≤ 800 }
-    ensures { result ≡ h.height_statement (statement_of tree.now) }
+    requires { tree_height.height_statement (statement_of tree.now) ≤ 800 }
+    ensures { result ≡ tree_height.height_statement (statement_of tree.now) }
 {
     match tree {
         Statement::Compound { items, .. } => block(items) + 1,
@@ -50,8 +50,8 @@ fn statement(tree: &Statement<'_>) -> u32
 
 #[cycle(height)]
 pub(crate) fn block(trees: &[BlockItem<'_>]) -> u32
-    requires { h.height_block (block_from (map block_item_of trees.now)) ≤ 800 }
-    ensures { result ≡ h.height_block (block_from (map block_item_of trees.now)) }
+    requires { tree_height.height_block (block_from (map block_item_of trees.now)) ≤ 800 }
+    ensures { result ≡ tree_height.height_block (block_from (map block_item_of trees.now)) }
 {
     let mut tallest = 0;
     for tree in trees {

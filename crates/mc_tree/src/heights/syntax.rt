@@ -1,7 +1,7 @@
 //! The height of expressions, specifiers and declarators.
 ghost use Rattle.std.specs.Prelude.{◌≡◌, ◌≤◌, map};
 ghost use Rattle.mc_tree.specs.Views.{expression_of, expressions_from, specifier_of, specifiers_from, member_of, members_from, enumerator_of, enumerators_from, declarator_of, declarators_from, array_length_of, lengths_from, parameter_of, parameters_from};
-ghost use Rattle.mc_tree.specs.Height as h;
+ghost use Rattle.mc_tree.specs.Height as heights;
 
 use crate::declarations::array_length::ArrayLength;
 use crate::declarations::declarator::Declarator;
@@ -14,8 +14,8 @@ use std::cmp::max;
 
 #[cycle(height)]
 pub(crate) fn expression(tree: &Expression<'_>) -> u32
-    requires { h.height (expression_of tree.now) ≤ 800 }
-    ensures { result ≡ h.height (expression_of tree.now) }
+    requires { heights.height (expression_of tree.now) ≤ 800 }
+    ensures { result ≡ heights.height (expression_of tree.now) }
 {
     match tree {
         Expression::Name { .. } | Expression::Constant { .. } | Expression::Character { .. } => 1,
@@ -48,8 +48,8 @@ pub(crate) fn expression(tree: &Expression<'_>) -> u32
 
 #[cycle(height)]
 fn expressions(trees: &[Expression<'_>]) -> u32
-    requires { h.tallest (expressions_from (map expression_of trees.now)) ≤ 800 }
-    ensures { result ≡ h.tallest (expressions_from (map expression_of trees.now)) }
+    requires { heights.tallest (expressions_from (map expression_of trees.now)) ≤ 800 }
+    ensures { result ≡ heights.tallest (expressions_from (map expression_of trees.now)) }
 {
     let mut tallest = 0;
     for tree in trees {
@@ -60,8 +60,8 @@ fn expressions(trees: &[Expression<'_>]) -> u32
 
 #[cycle(height)]
 pub(crate) fn specifiers(trees: &[Specifier<'_>]) -> u32
-    requires { h.height_specifiers (specifiers_from (map specifier_of trees.now)) ≤ 800 }
-    ensures { result ≡ h.height_specifiers (specifiers_from (map specifier_of trees.now)) }
+    requires { heights.height_specifiers (specifiers_from (map specifier_of trees.now)) ≤ 800 }
+    ensures { result ≡ heights.height_specifiers (specifiers_from (map specifier_of trees.now)) }
 {
     let mut tallest = 0;
     for tree in trees {
@@ -72,8 +72,8 @@ pub(crate) fn specifiers(trees: &[Specifier<'_>]) -> u32
 
 #[cycle(height)]
 fn specifier(tree: &Specifier<'_>) -> u32
-    requires { h.height_specifier (specifier_of tree.now) ≤ 800 }
-    ensures { result ≡ h.height_specifier (specifier_of tree.now) }
+    requires { heights.height_specifier (specifier_of tree.now) ≤ 800 }
+    ensures { result ≡ heights.height_specifier (specifier_of tree.now) }
 {
     match tree {
         Specifier::Structure { members: list, .. } => members(list) + 1,
@@ -90,8 +90,8 @@ fn specifier(tree: &Specifier<'_>) -> u32
 
 #[cycle(height)]
 fn members(trees: &[Member<'_>]) -> u32
-    requires { h.height_members (members_from (map member_of trees.now)) ≤ 800 }
-    ensures { result ≡ h.height_members (members_from (map member_of trees.now)) }
+    requires { heights.height_members (members_from (map member_of trees.now)) ≤ 800 }
+    ensures { result ≡ heights.height_members (members_from (map member_of trees.now)) }
 {
     let mut tallest = 0;
     for tree in trees {
@@ -103,8 +103,8 @@ fn members(trees: &[Member<'_>]) -> u32
 
 #[cycle(height)]
 fn enumerators(trees: &[Enumerator<'_>]) -> u32
-    requires { h.height_enumerators (enumerators_from (map enumerator_of trees.now)) ≤ 800 }
-    ensures { result ≡ h.height_enumerators (enumerators_from (map enumerator_of trees.now)) }
+    requires { heights.height_enumerators (enumerators_from (map enumerator_of trees.now)) ≤ 800 }
+    ensures { result ≡ heights.height_enumerators (enumerators_from (map enumerator_of trees.now)) }
 {
     let mut tallest = 0;
     for tree in trees {
@@ -117,8 +117,8 @@ fn enumerators(trees: &[Enumerator<'_>]) -> u32
 
 #[cycle(height)]
 fn declarators(trees: &[Declarator<'_>]) -> u32
-    requires { h.height_declarators (declarators_from (map declarator_of trees.now)) ≤ 800 }
-    ensures { result ≡ h.height_declarators (declarators_from (map declarator_of trees.now)) }
+    requires { heights.height_declarators (declarators_from (map declarator_of trees.now)) ≤ 800 }
+    ensures { result ≡ heights.height_declarators (declarators_from (map declarator_of trees.now)) }
 {
     let mut tallest = 0;
     for tree in trees {
@@ -129,8 +129,8 @@ fn declarators(trees: &[Declarator<'_>]) -> u32
 
 #[cycle(height)]
 pub(crate) fn declarator(tree: &Declarator<'_>) -> u32
-    requires { h.height_declarator (declarator_of tree.now) ≤ 800 }
-    ensures { result ≡ h.height_declarator (declarator_of tree.now) }
+    requires { heights.height_declarator (declarator_of tree.now) ≤ 800 }
+    ensures { result ≡ heights.height_declarator (declarator_of tree.now) }
 {
     match tree {
         Declarator::Object { lengths: list, .. } => lengths(list),
@@ -144,8 +144,8 @@ pub(crate) fn declarator(tree: &Declarator<'_>) -> u32
 
 #[cycle(height)]
 fn lengths(trees: &[ArrayLength<'_>]) -> u32
-    requires { h.height_lengths (lengths_from (map array_length_of trees.now)) ≤ 800 }
-    ensures { result ≡ h.height_lengths (lengths_from (map array_length_of trees.now)) }
+    requires { heights.height_lengths (lengths_from (map array_length_of trees.now)) ≤ 800 }
+    ensures { result ≡ heights.height_lengths (lengths_from (map array_length_of trees.now)) }
 {
     let mut tallest = 0;
     for tree in trees {
@@ -158,8 +158,9 @@ fn lengths(trees: &[ArrayLength<'_>]) -> u32
 
 #[cycle(height)]
 fn parameters(trees: &[Parameter<'_>]) -> u32
-    requires { h.height_parameter_list (parameters_from (map parameter_of trees.now)) ≤ 800 }
-    ensures { result ≡ h.height_parameter_list (parameters_from (map parameter_of trees.now)) }
+    requires { heights.height_parameter_list (parameters_from (map parameter_of trees.now)) ≤ 800 }
+    ensures { result ≡ heights.height_parameter_list
+        (parameters_from (map parameter_of trees.now)) }
 {
     let mut tallest = 0;
     for tree in trees {

@@ -1,14 +1,14 @@
 //! Specifiers, members, enumerators, lengths and parameters (C17 6.7.2, 6.7.6).
 ghost use Rattle.std.specs.Prelude.{◌≡◌, ℕ, ℤ, Bool, IfOk, List, [], Option, false, map, option_map};
 ghost use Rattle.mc_span.specs.declared.span.Span.{Span};
-ghost use Rattle.mc_tree.specs.Tree as t;
+ghost use Rattle.mc_tree.specs.Tree as source_tree;
 ghost use Rattle.mc_tree.specs.Views.{expression_of, lengths_from, array_length_of, name_of, parameter_of, specifier_of, specifiers_from};
 ghost use Rattle.mc_names.specs.Tables.{Named};
 ghost use Rattle.mc_typing.specs.Types as types;
-ghost use Rattle.mc_typing.specs.Scopes as s;
-ghost use Rattle.mc_typing.specs.Values as v;
-ghost use Rattle.mc_typing.specs.Declarators as d;
-ghost use Rattle.mc_typing.specs.Judgement as j;
+ghost use Rattle.mc_typing.specs.Scopes as scopes;
+ghost use Rattle.mc_typing.specs.Values as values;
+ghost use Rattle.mc_typing.specs.Declarators as declarators;
+ghost use Rattle.mc_typing.specs.Judgement as judgement;
 ghost use Rattle.mc_scopes.specs.declared.member.Member.{Member};
 ghost use Rattle.mc_scopes.specs.Types.{type_of};
 ghost use Rattle.mc_scopes.specs.Listed.{listed_of};
@@ -32,7 +32,7 @@ pub(crate) fn specifiers(
     found: Judged<CType>,
     more: Result<Judged<CType>, AllocError>,
 ) -> Result<Judged<CType>, AllocError>
-    ensures { (x : v.Judged types.CType) (first last : s.Scope)
+    ensures { (x : values.Judged types.CType) (first last : scopes.Scope)
         → IfOk more (λ y. judged_of type_of y last ≡ squeezed_part x)
         → IfOk result (λ r. TakesSpecifier x found first r last) }
 {
@@ -53,13 +53,15 @@ pub(crate) fn structure<'a>(
     fault: Result<Option<Fault>, AllocError>,
     members: Members<'a>,
 ) -> Result<Judged<CType>, AllocError>
-    ensures { (alone : Bool) (tag : Option t.Name) (all : t.Members) (span : Span)
-        (first next : s.Scope)
-        → opened_of opened next ≡ d.opened tag first
+    ensures { (alone : Bool) (tag : Option source_tree.Name) (all : source_tree.Members)
+        (span : Span)
+        (first next : scopes.Scope)
+        → opened_of opened next ≡ declarators.opened tag first
         → IfOk fault (λ f. listed_members f members.entry (scope_of scope.old)
-        ≡ squeezed_listed (j.judge_members all [] next))
+        ≡ squeezed_listed (judgement.judge_members all [] next))
         → IfOk result (λ r. judged_of type_of r (scope_of scope.new)
-        ≡ squeezed_part (j.judge_specifier alone (t.Structure tag all span) first)) }
+        ≡ squeezed_part (judgement.judge_specifier alone (source_tree.Structure tag all span)
+        first)) }
 {
     match fault {
         Ok(fault) => mc_declarations::close_structure(alloc, scope, opened, fault, members),
@@ -76,14 +78,17 @@ pub(crate) fn member(
     of: Judged<CType>,
     fault: Result<Option<Fault>, AllocError>,
 ) -> Result<Option<Fault>, AllocError>
-    ensures { (all : t.Specifiers) (list : t.Declarators) (span : Span)
-        (before : List types.Member) (members : List (Named Member)) (first next last : s.Scope)
+    ensures { (all : source_tree.Specifiers) (list : source_tree.Declarators) (span : Span)
+        (before : List types.Member) (members : List (Named Member))
+        (first next last : scopes.Scope)
         → judged_of type_of of next
-        ≡ squeezed_part (j.typed_by span.start all (j.judge_specifiers false all first))
+        ≡ squeezed_part (judgement.typed_by span.start all
+        (judgement.judge_specifiers false all first))
         → IfOk fault (λ f. listed_members f members last ≡ squeezed_listed
-        (j.judge_declarators (option_map type_of of.value) list before next))
+        (judgement.judge_declarators (option_map type_of of.value) list before next))
         → IfOk result (λ r. listed_members r members last
-        ≡ squeezed_listed (j.judge_member (t.member all list span) before first)) }
+        ≡ squeezed_listed (judgement.judge_member (source_tree.member all list span) before
+        first)) }
 {
     let before = of.fault;
     drop(of);
@@ -101,13 +106,15 @@ pub(crate) fn function_member<'a>(
     found: Result<Parameters, AllocError>,
     members: &mut Members<'a>,
 ) -> Result<Option<Fault>, AllocError>
-    ensures { (base : Option types.CType) (stars : ℕ) (all : t.Parameters) (span : Span)
-        (first : s.Scope)
-        → IfOk found (λ y. (u : s.Scope) → listed_parameters y u
-        ≡ squeezed_listed (record (j.judge_parameters all (s.prototype first)) { scope = u }))
+    ensures { (base : Option types.CType) (stars : ℕ) (all : source_tree.Parameters) (span : Span)
+        (first : scopes.Scope)
+        → IfOk found (λ y. (u : scopes.Scope) → listed_parameters y u
+        ≡ squeezed_listed (record (judgement.judge_parameters all (scopes.prototype first))
+        { scope = u }))
         → IfOk found (λ _. scope_of scope.now ≡ first)
         → IfOk result (λ r. listed_members r members.new (scope_of scope.now)
-        ≡ squeezed_listed (j.judge_declarator base (t.function stars (name_of name.now) all span)
+        ≡ squeezed_listed (judgement.judge_declarator base
+        (source_tree.function stars (name_of name.now) all span)
         (map listed_of members.old) first)) }
 {
     match found {
@@ -127,11 +134,12 @@ pub(crate) fn valued_enumerator<'a>(
     tree: &Expression<'_>,
     found: Result<Found, AllocError>,
 ) -> Result<Judged<i128>, AllocError>
-    ensures { (value : Option ℤ) (first : s.Scope)
+    ensures { (value : Option ℤ) (first : scopes.Scope)
         → IfOk found (λ y. found_of y (scope_of scope.old)
-        ≡ squeezed (j.judge (expression_of tree.now) first))
-        → IfOk result (λ r. number_judged r (scope_of scope.new) ≡ squeezed_part (j.judge_enumerator
-        (t.valued_enumerator (name_of name.now) (expression_of tree.now)) value first)) }
+        ≡ squeezed (judgement.judge (expression_of tree.now) first))
+        → IfOk result (λ r. number_judged r (scope_of scope.new)
+        ≡ squeezed_part (judgement.judge_enumerator
+        (source_tree.valued_enumerator (name_of name.now) (expression_of tree.now)) value first)) }
 {
     match found {
         Ok(found) => {
@@ -150,10 +158,11 @@ pub(crate) fn more_lengths(
     tree: &Expression<'_>,
     found: Result<Found, AllocError>,
 ) -> Result<Judged<Vec<u32>>, AllocError>
-    ensures { (first last : s.Scope)
-        → IfOk found (λ y. found_of y last ≡ squeezed (j.judge (expression_of tree.now) first))
+    ensures { (first last : scopes.Scope)
+        → IfOk found (λ y. found_of y last
+        ≡ squeezed (judgement.judge (expression_of tree.now) first))
         → IfOk result (λ r.
-        TakesLength (t.given_length (expression_of tree.now)) list first r last) }
+        TakesLength (source_tree.given_length (expression_of tree.now)) list first r last) }
 {
     match found {
         Ok(found) => {
@@ -173,7 +182,7 @@ pub(crate) fn parameters(
     list: Parameters,
     more: Result<Parameters, AllocError>,
 ) -> Result<Parameters, AllocError>
-    ensures { (x : d.Listed (Option types.ParameterKind)) (first last : s.Scope)
+    ensures { (x : declarators.Listed (Option types.ParameterKind)) (first last : scopes.Scope)
         → IfOk more (λ y. listed_parameters y last ≡ squeezed_listed x)
         → IfOk result (λ r. TakesParameter x list first r last) }
 {
@@ -197,14 +206,15 @@ pub(crate) fn parameter<'a>(
 ) -> Result<Parameters, AllocError>
     ensures { let all = specifiers_from (map specifier_of tree.now.specifiers.items) in
         let list = lengths_from (map array_length_of tree.now.lengths.items) in
-        (first next : s.Scope)
+        (first next : scopes.Scope)
         → counted_of before ≡ counted first
         → judged_of type_of of next
-        ≡ squeezed_part (j.typed_by tree.now.span.start all (j.judge_specifiers false all first))
+        ≡ squeezed_part (judgement.typed_by tree.now.span.start all
+        (judgement.judge_specifiers false all first))
         → IfOk given (λ y. judged_of lengths_in y (scope_of scope.old)
-        ≡ squeezed_part (j.judge_lengths list next))
+        ≡ squeezed_part (judgement.judge_lengths list next))
         → IfOk result (λ r. listed_parameters r (scope_of scope.new)
-        ≡ squeezed_listed (j.judge_parameter (parameter_of tree.now) first)) }
+        ≡ squeezed_listed (judgement.judge_parameter (parameter_of tree.now) first)) }
 {
     match given {
         Ok(given) => {

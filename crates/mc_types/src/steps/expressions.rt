@@ -1,11 +1,11 @@
 //! Expressions, from what is found of their operands (C17 6.5).
 ghost use Rattle.std.specs.Prelude.{◌≡◌, ℕ, IfOk, [], false, option_copied, option_map};
-ghost use Rattle.mc_tree.specs.Tree as t;
+ghost use Rattle.mc_tree.specs.Tree as source_tree;
 ghost use Rattle.mc_tree.specs.Views.{expression_of, name_of};
 ghost use Rattle.mc_typed.specs.Tree.{Arguments};
-ghost use Rattle.mc_typing.specs.Scopes as s;
-ghost use Rattle.mc_typing.specs.Calls as c;
-ghost use Rattle.mc_typing.specs.Judgement as j;
+ghost use Rattle.mc_typing.specs.Scopes as scopes;
+ghost use Rattle.mc_typing.specs.Calls as calls;
+ghost use Rattle.mc_typing.specs.Judgement as judgement;
 ghost use Rattle.mc_scopes.specs.Given.{arguments_of, given_of};
 ghost use Rattle.mc_scopes.specs.Types.{kind_of, type_of};
 ghost use Rattle.mc_scopes.specs.Views.{scope_of};
@@ -34,9 +34,9 @@ pub(crate) fn argument(
     tree: &Expression<'_>,
     found: Result<Found, AllocError>,
 ) -> Result<Given<Vec<Argument>>, AllocError>
-    ensures { (first : s.Scope)
+    ensures { (first : scopes.Scope)
         → IfOk found (λ y. found_of y (scope_of scope.old)
-        ≡ squeezed (j.judge (expression_of tree.now) first))
+        ≡ squeezed (judgement.judge (expression_of tree.now) first))
         → IfOk result (λ r. TakesArgument (option_map kind_of (option_copied parameter.entry))
         (expression_of tree.now) given first r (scope_of scope.new)) }
 {
@@ -67,17 +67,17 @@ pub(crate) fn call(
     callee: Callee,
     given: Result<Given<Vec<Argument>>, AllocError>,
 ) -> Result<Found, AllocError>
-    ensures { (all : t.Expressions) (first : s.Scope)
-        → count ≡ c.count_of all
-        → c.parameters_of (meaning_of_callee callee)
-        ≡ c.parameters_of (s.meaning_of (name_of name.now) first)
-        → ((n : t.Name) (k : ℕ) (at : Span) (x : c.Given Arguments)
-        → c.call_found n k at (meaning_of_callee callee) x
-        ≡ c.call_found n k at (s.meaning_of (name_of name.now) first) x)
+    ensures { (all : source_tree.Expressions) (first : scopes.Scope)
+        → count ≡ calls.count_of all
+        → calls.parameters_of (meaning_of_callee callee)
+        ≡ calls.parameters_of (scopes.meaning_of (name_of name.now) first)
+        → ((n : source_tree.Name) (k : ℕ) (at : Span) (x : calls.Given Arguments)
+        → calls.call_found n k at (meaning_of_callee callee) x
+        ≡ calls.call_found n k at (scopes.meaning_of (name_of name.now) first) x)
         → IfOk given (λ y. given_of arguments_of y (scope_of scope.old) ≡ squeezed_given
-        (j.judge_arguments all (c.parameters_of (meaning_of_callee callee)) first))
+        (judgement.judge_arguments all (calls.parameters_of (meaning_of_callee callee)) first))
         → IfOk result (λ r. found_of r (scope_of scope.new)
-        ≡ squeezed (j.judge (t.Call (name_of name.now) all span) first)) }
+        ≡ squeezed (judgement.judge (source_tree.Call (name_of name.now) all span) first)) }
 {
     match given {
         Ok(given) => {
@@ -100,11 +100,11 @@ pub(crate) fn index(
     first: Found,
     second: Result<Found, AllocError>,
 ) -> Result<Found, AllocError>
-    ensures { (a b : t.Expression) (start next : s.Scope)
-        → found_of first next ≡ squeezed (j.judge a start)
-        → IfOk second (λ y. found_of y (scope_of scope.now) ≡ squeezed (j.judge b next))
+    ensures { (a b : source_tree.Expression) (start next : scopes.Scope)
+        → found_of first next ≡ squeezed (judgement.judge a start)
+        → IfOk second (λ y. found_of y (scope_of scope.now) ≡ squeezed (judgement.judge b next))
         → IfOk result (λ r. found_of r (scope_of scope.now)
-        ≡ squeezed (j.judge (t.Index a b span) start)) }
+        ≡ squeezed (judgement.judge (source_tree.Index a b span) start)) }
 {
     match second {
         Ok(second) => mc_expressions::index(alloc, scope, span, first, second),
@@ -123,10 +123,10 @@ pub(crate) fn member(
     span: Span,
     found: Result<Found, AllocError>,
 ) -> Result<Found, AllocError>
-    ensures { (a : t.Expression) (first : s.Scope)
-        → IfOk found (λ y. found_of y (scope_of scope.now) ≡ squeezed (j.judge a first))
+    ensures { (a : source_tree.Expression) (first : scopes.Scope)
+        → IfOk found (λ y. found_of y (scope_of scope.now) ≡ squeezed (judgement.judge a first))
         → IfOk result (λ r. found_of r (scope_of scope.now)
-        ≡ squeezed (j.judge (t.Member a (name_of name.now) span) first)) }
+        ≡ squeezed (judgement.judge (source_tree.Member a (name_of name.now) span) first)) }
 {
     match found {
         Ok(object) => mc_expressions::member(alloc, scope, name, span, object),
@@ -141,10 +141,10 @@ pub(crate) fn postfix_step(
     span: Span,
     found: Result<Found, AllocError>,
 ) -> Result<Found, AllocError>
-    ensures { (a : t.Expression) (first last : s.Scope)
-        → IfOk found (λ y. found_of y last ≡ squeezed (j.judge a first))
+    ensures { (a : source_tree.Expression) (first last : scopes.Scope)
+        → IfOk found (λ y. found_of y last ≡ squeezed (judgement.judge a first))
         → IfOk result (λ r. found_of r last
-        ≡ squeezed (j.judge (t.PostfixStep operator a span) first)) }
+        ≡ squeezed (judgement.judge (source_tree.PostfixStep operator a span) first)) }
 {
     match found {
         Ok(operand) => mc_expressions::postfix_step(alloc, operator, span, operand),
@@ -159,10 +159,10 @@ pub(crate) fn prefix_step(
     span: Span,
     found: Result<Found, AllocError>,
 ) -> Result<Found, AllocError>
-    ensures { (a : t.Expression) (first last : s.Scope)
-        → IfOk found (λ y. found_of y last ≡ squeezed (j.judge a first))
+    ensures { (a : source_tree.Expression) (first last : scopes.Scope)
+        → IfOk found (λ y. found_of y last ≡ squeezed (judgement.judge a first))
         → IfOk result (λ r. found_of r last
-        ≡ squeezed (j.judge (t.PrefixStep operator a span) first)) }
+        ≡ squeezed (judgement.judge (source_tree.PrefixStep operator a span) first)) }
 {
     match found {
         Ok(operand) => mc_expressions::prefix_step(alloc, operator, span, operand),
@@ -177,10 +177,10 @@ pub(crate) fn unary(
     span: Span,
     found: Result<Found, AllocError>,
 ) -> Result<Found, AllocError>
-    ensures { (a : t.Expression) (first last : s.Scope)
-        → IfOk found (λ y. found_of y last ≡ squeezed (j.judge a first))
+    ensures { (a : source_tree.Expression) (first last : scopes.Scope)
+        → IfOk found (λ y. found_of y last ≡ squeezed (judgement.judge a first))
         → IfOk result (λ r. found_of r last
-        ≡ squeezed (j.judge (t.Unary operator a span) first)) }
+        ≡ squeezed (judgement.judge (source_tree.Unary operator a span) first)) }
 {
     match found {
         Ok(operand) => mc_expressions::unary(alloc, operator, span, operand),
@@ -193,10 +193,11 @@ pub(crate) fn comma(
     span: Span,
     given: Result<Given<Vec<Argument>>, AllocError>,
 ) -> Result<Found, AllocError>
-    ensures { (all : t.Expressions) (first last : s.Scope)
+    ensures { (all : source_tree.Expressions) (first last : scopes.Scope)
         → IfOk given (λ y. given_of arguments_of y last
-        ≡ squeezed_given (j.judge_arguments all [] first))
-        → IfOk result (λ r. found_of r last ≡ squeezed (j.judge (t.Comma all span) first)) }
+        ≡ squeezed_given (judgement.judge_arguments all [] first))
+        → IfOk result (λ r. found_of r last
+        ≡ squeezed (judgement.judge (source_tree.Comma all span) first)) }
 {
     match given {
         Ok(given) => Ok(mc_expressions::comma(span.start, given)),
@@ -212,13 +213,16 @@ pub(crate) fn cast(
     operand: &Expression<'_>,
     found: Result<Found, AllocError>,
 ) -> Result<Found, AllocError>
-    ensures { (all : t.Specifiers) (stars : ℕ) (at : Span) (first next last : s.Scope)
+    ensures { (all : source_tree.Specifiers) (stars : ℕ) (at : Span)
+        (first next last : scopes.Scope)
         → judged_of type_of of next
-        ≡ squeezed_part (j.typed_by at.start all (j.judge_specifiers false all first))
+        ≡ squeezed_part (judgement.typed_by at.start all
+        (judgement.judge_specifiers false all first))
         → IfOk found (λ y. found_of y last
-        ≡ squeezed (j.judge (expression_of operand.now) next))
-        → IfOk result (λ r. found_of r last ≡ squeezed (j.judge
-        (t.Cast (t.type_name all stars at) (expression_of operand.now) span) first)) }
+        ≡ squeezed (judgement.judge (expression_of operand.now) next))
+        → IfOk result (λ r. found_of r last ≡ squeezed (judgement.judge
+        (source_tree.Cast (source_tree.type_name all stars at) (expression_of operand.now) span)
+        first)) }
 {
     match found {
         Ok(found) => mc_expressions::cast(alloc, span, of, operand, found),
@@ -237,11 +241,11 @@ pub(crate) fn binary(
     first: Found,
     second: Result<Found, AllocError>,
 ) -> Result<Found, AllocError>
-    ensures { (a b : t.Expression) (start next last : s.Scope)
-        → found_of first next ≡ squeezed (j.judge a start)
-        → IfOk second (λ y. found_of y last ≡ squeezed (j.judge b next))
+    ensures { (a b : source_tree.Expression) (start next last : scopes.Scope)
+        → found_of first next ≡ squeezed (judgement.judge a start)
+        → IfOk second (λ y. found_of y last ≡ squeezed (judgement.judge b next))
         → IfOk result (λ r. found_of r last
-        ≡ squeezed (j.judge (t.Binary operator a b span) start)) }
+        ≡ squeezed (judgement.judge (source_tree.Binary operator a b span) start)) }
 {
     match second {
         Ok(second) => mc_expressions::binary(alloc, operator, span, first, second),
@@ -260,12 +264,12 @@ pub(crate) fn conditional(
     chosen: Found,
     other: Result<Found, AllocError>,
 ) -> Result<Found, AllocError>
-    ensures { (a b c : t.Expression) (start next last end : s.Scope)
-        → found_of test next ≡ squeezed (j.judge a start)
-        → found_of chosen last ≡ squeezed (j.judge b next)
-        → IfOk other (λ y. found_of y end ≡ squeezed (j.judge c last))
+    ensures { (a b c : source_tree.Expression) (start next last end : scopes.Scope)
+        → found_of test next ≡ squeezed (judgement.judge a start)
+        → found_of chosen last ≡ squeezed (judgement.judge b next)
+        → IfOk other (λ y. found_of y end ≡ squeezed (judgement.judge c last))
         → IfOk result (λ r. found_of r end
-        ≡ squeezed (j.judge (t.Conditional a b c span) start)) }
+        ≡ squeezed (judgement.judge (source_tree.Conditional a b c span) start)) }
 {
     match other {
         Ok(other) => mc_expressions::conditional(alloc, span, test, chosen, other),
@@ -286,11 +290,11 @@ pub(crate) fn assignment(
     first: Found,
     second: Result<Found, AllocError>,
 ) -> Result<Found, AllocError>
-    ensures { (a b : t.Expression) (start next : s.Scope)
-        → found_of first next ≡ squeezed (j.judge a start)
-        → IfOk second (λ y. found_of y (scope_of scope.now) ≡ squeezed (j.judge b next))
+    ensures { (a b : source_tree.Expression) (start next : scopes.Scope)
+        → found_of first next ≡ squeezed (judgement.judge a start)
+        → IfOk second (λ y. found_of y (scope_of scope.now) ≡ squeezed (judgement.judge b next))
         → IfOk result (λ r. found_of r (scope_of scope.now)
-        ≡ squeezed (j.judge (t.Assignment operator a b span) start)) }
+        ≡ squeezed (judgement.judge (source_tree.Assignment operator a b span) start)) }
 {
     match second {
         Ok(second) => mc_expressions::assignment(alloc, scope, operator, span, first, second),

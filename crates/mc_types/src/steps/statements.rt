@@ -1,13 +1,13 @@
 //! Statements of several parts (C17 6.8).
 ghost use Rattle.std.specs.Prelude.{◌≡◌, IfOk, Ok, Option};
-ghost use Rattle.mc_tree.specs.Tree as t;
+ghost use Rattle.mc_tree.specs.Tree as source_tree;
 ghost use Rattle.mc_tree.specs.Units.{statement_of};
 ghost use Rattle.mc_typed.specs.Tree.{Statements};
-ghost use Rattle.mc_typing.specs.Scopes as s;
-ghost use Rattle.mc_typing.specs.Values as v;
-ghost use Rattle.mc_typing.specs.Judgement as j;
-ghost use Rattle.mc_typing.specs.Statements as w;
-ghost use Rattle.mc_typing.specs.Bodies as b;
+ghost use Rattle.mc_typing.specs.Scopes as scopes;
+ghost use Rattle.mc_typing.specs.Values as values;
+ghost use Rattle.mc_typing.specs.Judgement as judgement;
+ghost use Rattle.mc_typing.specs.Statements as statement_rules;
+ghost use Rattle.mc_typing.specs.Bodies as bodies;
 ghost use Rattle.mc_scopes.specs.Blocks as blocks;
 ghost use Rattle.mc_scopes.specs.Views.{scope_of};
 ghost use Rattle.mc_scopes.specs.Found.{found_of, judged_of};
@@ -29,11 +29,14 @@ pub(crate) fn compound(
     span: Span,
     found: Result<Judged<Vec<Statement>>, AllocError>,
 ) -> Result<Judged<Vec<Statement>>, AllocError>
-    ensures { (a : w.Around) (items : t.BlockItems) (first last : s.Scope)
-        → IfOk found (λ y. judged_of statements_of y last ≡ squeezed_part (w.closed first
-        (b.judge_block (w.inside a) items (w.compound_scope a first))))
+    ensures { (a : statement_rules.Around) (items : source_tree.BlockItems)
+        (first last : scopes.Scope)
+        → IfOk found (λ y. judged_of statements_of y last
+        ≡ squeezed_part (statement_rules.closed first
+        (bodies.judge_block (statement_rules.inside a) items
+        (statement_rules.compound_scope a first))))
         → IfOk result (λ r. judged_of statements_of r last
-        ≡ squeezed_part (b.judge_statement a (t.Compound items span) first)) }
+        ≡ squeezed_part (bodies.judge_statement a (source_tree.Compound items span) first)) }
 {
     match found {
         Ok(found) => mc_statements::compound_statement(alloc, span, found),
@@ -48,12 +51,14 @@ pub(crate) fn if_then(
     test: Found,
     chosen: Result<Judged<Vec<Statement>>, AllocError>,
 ) -> Result<Judged<Vec<Statement>>, AllocError>
-    ensures { (a : w.Around) (e : t.Expression) (one : t.Statement) (first next last : s.Scope)
-        → found_of test next ≡ squeezed (j.judge e first)
-        → IfOk chosen (λ y. judged_of statements_of y last ≡ squeezed_part (w.closed next
-        (b.judge_statement (w.inside a) one (s.block next))))
+    ensures { (a : statement_rules.Around) (e : source_tree.Expression)
+        (one : source_tree.Statement) (first next last : scopes.Scope)
+        → found_of test next ≡ squeezed (judgement.judge e first)
+        → IfOk chosen (λ y. judged_of statements_of y last
+        ≡ squeezed_part (statement_rules.closed next
+        (bodies.judge_statement (statement_rules.inside a) one (scopes.block next))))
         → IfOk result (λ r. judged_of statements_of r last
-        ≡ squeezed_part (b.judge_statement a (t.If e one span) first)) }
+        ≡ squeezed_part (bodies.judge_statement a (source_tree.If e one span) first)) }
 {
     match chosen {
         Ok(chosen) => mc_statements::if_statement(alloc, span, test, chosen),
@@ -95,15 +100,17 @@ pub(crate) fn if_else(
     tested: Branch,
     other: Result<Judged<Vec<Statement>>, AllocError>,
 ) -> Result<Judged<Vec<Statement>>, AllocError>
-    ensures { (a : w.Around) (e : t.Expression) (one two : t.Statement)
-        (first next last end : s.Scope)
-        → found_of tested.test next ≡ squeezed (j.judge e first)
-        → judged_of statements_of tested.chosen last ≡ squeezed_part (w.closed next
-        (b.judge_statement (w.inside a) one (s.block next)))
-        → IfOk other (λ y. judged_of statements_of y end ≡ squeezed_part (w.closed last
-        (b.judge_statement (w.inside a) two (s.block last))))
+    ensures { (a : statement_rules.Around) (e : source_tree.Expression)
+        (one two : source_tree.Statement)
+        (first next last end : scopes.Scope)
+        → found_of tested.test next ≡ squeezed (judgement.judge e first)
+        → judged_of statements_of tested.chosen last ≡ squeezed_part (statement_rules.closed next
+        (bodies.judge_statement (statement_rules.inside a) one (scopes.block next)))
+        → IfOk other (λ y. judged_of statements_of y end
+        ≡ squeezed_part (statement_rules.closed last
+        (bodies.judge_statement (statement_rules.inside a) two (scopes.block last))))
         → IfOk result (λ r. judged_of statements_of r end
-        ≡ squeezed_part (b.judge_statement a (t.IfElse e one two span) first)) }
+        ≡ squeezed_part (bodies.judge_statement a (source_tree.IfElse e one two span) first)) }
 {
     match other {
         Ok(other) => {
@@ -125,13 +132,16 @@ pub(crate) fn switch_on(
     value: Found,
     found: Result<Judged<Vec<Statement>>, AllocError>,
 ) -> Result<Judged<Vec<Statement>>, AllocError>
-    ensures { (a : w.Around) (e : t.Expression) (first next last : s.Scope)
-        → found_of value next ≡ squeezed (j.judge e first)
-        → IfOk found (λ y. judged_of statements_of y last ≡ squeezed_part (w.closed next
-        (b.judge_statement (w.in_switch a) (statement_of body.now)
-        (w.switch_scope (found_of value next)))))
+    ensures { (a : statement_rules.Around) (e : source_tree.Expression)
+        (first next last : scopes.Scope)
+        → found_of value next ≡ squeezed (judgement.judge e first)
+        → IfOk found (λ y. judged_of statements_of y last
+        ≡ squeezed_part (statement_rules.closed next
+        (bodies.judge_statement (statement_rules.in_switch a) (statement_of body.now)
+        (statement_rules.switch_scope (found_of value next)))))
         → IfOk result (λ r. judged_of statements_of r last
-        ≡ squeezed_part (b.judge_statement a (t.Switch e (statement_of body.now) span) first)) }
+        ≡ squeezed_part (bodies.judge_statement a
+        (source_tree.Switch e (statement_of body.now) span) first)) }
 {
     match found {
         Ok(found) => mc_statements::switch_statement(alloc, span, body, value, found),
@@ -149,12 +159,14 @@ pub(crate) fn while_loop(
     test: Found,
     body: Result<Judged<Vec<Statement>>, AllocError>,
 ) -> Result<Judged<Vec<Statement>>, AllocError>
-    ensures { (a : w.Around) (e : t.Expression) (one : t.Statement) (first next last : s.Scope)
-        → found_of test next ≡ squeezed (j.judge e first)
-        → IfOk body (λ y. judged_of statements_of y last ≡ squeezed_part (w.closed next
-        (b.judge_statement (w.in_loop a) one (s.block next))))
+    ensures { (a : statement_rules.Around) (e : source_tree.Expression)
+        (one : source_tree.Statement) (first next last : scopes.Scope)
+        → found_of test next ≡ squeezed (judgement.judge e first)
+        → IfOk body (λ y. judged_of statements_of y last
+        ≡ squeezed_part (statement_rules.closed next
+        (bodies.judge_statement (statement_rules.in_loop a) one (scopes.block next))))
         → IfOk result (λ r. judged_of statements_of r last
-        ≡ squeezed_part (b.judge_statement a (t.While e one span) first)) }
+        ≡ squeezed_part (bodies.judge_statement a (source_tree.While e one span) first)) }
 {
     match body {
         Ok(body) => {
@@ -177,12 +189,13 @@ pub(crate) fn do_loop(
     body: Judged<Vec<Statement>>,
     test: Result<Found, AllocError>,
 ) -> Result<Judged<Vec<Statement>>, AllocError>
-    ensures { (a : w.Around) (e : t.Expression) (one : t.Statement) (first next last : s.Scope)
-        → judged_of statements_of body next ≡ squeezed_part (w.closed first
-        (b.judge_statement (w.in_loop a) one (s.block first)))
-        → IfOk test (λ y. found_of y last ≡ squeezed (j.judge e next))
+    ensures { (a : statement_rules.Around) (e : source_tree.Expression)
+        (one : source_tree.Statement) (first next last : scopes.Scope)
+        → judged_of statements_of body next ≡ squeezed_part (statement_rules.closed first
+        (bodies.judge_statement (statement_rules.in_loop a) one (scopes.block first)))
+        → IfOk test (λ y. found_of y last ≡ squeezed (judgement.judge e next))
         → IfOk result (λ r. judged_of statements_of r last
-        ≡ squeezed_part (b.judge_statement a (t.DoWhile one e span) first)) }
+        ≡ squeezed_part (bodies.judge_statement a (source_tree.DoWhile one e span) first)) }
 {
     match test {
         Ok(test) => mc_statements::do_statement(alloc, span, body, test),
@@ -216,14 +229,17 @@ pub(crate) fn for_loop(
     heading: ForBegun,
     body: Result<Judged<Vec<Statement>>, AllocError>,
 ) -> Result<Judged<Vec<Statement>>, AllocError>
-    ensures { (a : w.Around) (start : t.ForStart) (test step : Option t.Expression)
-        (one : t.Statement) (first next : s.Scope)
+    ensures { (a : statement_rules.Around) (start : source_tree.ForStart)
+        (test step : Option source_tree.Expression)
+        (one : source_tree.Statement) (first next : scopes.Scope)
         → blocks.around_of heading.outer ≡ blocks.around first
-        → ArePartsOf span.start start test step heading.parts (s.block first) next
+        → ArePartsOf span.start start test step heading.parts (scopes.block first) next
         → IfOk body (λ y. judged_of statements_of y (scope_of scope.old) ≡ squeezed_part
-        (w.closed next (b.judge_statement (w.in_loop a) one (s.block next))))
+        (statement_rules.closed next (bodies.judge_statement (statement_rules.in_loop a) one
+        (scopes.block next))))
         → IfOk result (λ r. judged_of statements_of r (scope_of scope.new)
-        ≡ squeezed_part (b.judge_statement a (t.For start test step one span) first)) }
+        ≡ squeezed_part (bodies.judge_statement a (source_tree.For start test step one span)
+        first)) }
 {
     match body {
         Ok(body) => {
@@ -243,10 +259,10 @@ pub(crate) fn followed(
     list: Judged<Vec<Statement>>,
     rest: Result<Judged<Vec<Statement>>, AllocError>,
 ) -> Result<Judged<Vec<Statement>>, AllocError>
-    ensures { (x : v.Judged Statements) (last : s.Scope)
+    ensures { (x : values.Judged Statements) (last : scopes.Scope)
         → IfOk rest (λ y. judged_of statements_of y last ≡ x)
         → IfOk result (λ r. judged_of statements_of r last
-        ≡ squeezed_part (w.followed_judged (judged_of statements_of list last) x)) }
+        ≡ squeezed_part (statement_rules.followed_judged (judged_of statements_of list last) x)) }
 {
     match rest {
         Ok(rest) => mc_statements::followed(list, rest),
@@ -262,7 +278,8 @@ pub(crate) fn with_item(
     list: Judged<Vec<Statement>>,
     one: Result<Judged<Vec<Statement>>, AllocError>,
 ) -> Result<Judged<Vec<Statement>>, AllocError>
-    ensures { (a : w.Around) (f : t.BlockItems → t.BlockItems) (first last : s.Scope)
+    ensures { (a : statement_rules.Around) (f : source_tree.BlockItems → source_tree.BlockItems)
+        (first last : scopes.Scope)
         → IfOk one (λ y. TakesItem a f first y last)
         → IfOk result (λ r. FollowsItem a f list first r last) }
 {

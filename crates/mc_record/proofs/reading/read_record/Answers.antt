@@ -1,5 +1,6 @@
 use Rattle.std.proofs.Common.{◌≡◌, ◌≤◌, ℕ, List, sym}
 use Rattle.std.specs.Prelude.{Result, Ok, Err, IfOk}
+use Rattle.mc_limits.specs.Limits.{most_bits, most_tests, most_words}
 use Rattle.mc_core.specs.Shape.{word_count}
 use Rattle.mc_core.specs.declared.shape.Shape.{Shape}
 use Rattle.mc_record.specs.Kept.{IsKept}
@@ -10,7 +11,7 @@ use Rattle.mc_record.specs.declared.kept.Record as code
 use Rattle.mc_record.proofs.Accepted.{body_is_kept, head_small}
 use Rattle.mc_record.proofs.reading.read_record.Goals as goal
 
-kept_where_read : (digest : List ℕ) (shape : Shape) (text : List ℕ) (r : Result code.Record RecordFault) → shape.bits ≤ 65536 → shape.tests ≤ 4096 → word_count shape ≤ 1048576
+kept_where_read : (digest : List ℕ) (shape : Shape) (text : List ℕ) (r : Result code.Record RecordFault) → shape.bits ≤ most_bits → shape.tests ≤ most_tests → word_count shape ≤ most_words
     → IfOk r (λ x. body_in digest shape text ≡ Ok (kept_of x)) → IfOk r (λ x. IsKept (kept_of x))
 kept_where_read digest shape text (Ok x) few_bits few_tests few_words is = body_is_kept digest shape text (kept_of x) few_bits few_tests few_words is
 kept_where_read digest shape text (Err e) few_bits few_tests few_words is = tt
