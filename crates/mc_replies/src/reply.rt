@@ -58,7 +58,7 @@ impl<'a> Reply<'a> {
     /// The text of an instrumented program for the output. `tokens` are those of its source.
     pub fn of_program(alloc: Global, tokens: Vec<Token<'a>>, tree: Instrumented<'a>) -> Reply<'a>
         ensures { seen_reply result
-            ≡ written 0 (program_pieces (toks_of tokens.items) (tree_of tree)) }
+            ≡ written 0 (program_pieces (toks_of tokens.entry.items) (tree_of tree.entry)) }
     {
         Reply {
             status: Status::written(0),
