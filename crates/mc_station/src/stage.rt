@@ -88,7 +88,7 @@ pub fn first_stage<'a>(alloc: Global, line: &'a [&'a str]) -> Result<Stage<'a>, 
 }
 
 // What the command of a run tells of its tests.
-fn tested<R: Threads + Sync, G: Gate, C: Closer>(
+fn tested<'a, R: Threads + Sync, G: Gate, C: Closer>(
     alloc: Global,
     means: Means<'_, R, G, C>,
     run: Run<'_>,
@@ -96,7 +96,7 @@ fn tested<R: Threads + Sync, G: Gate, C: Closer>(
     plans: &[TestPlan],
     opened: Opened,
     justifications: &[Justification],
-) -> Result<Reply<'static>, AllocError>
+) -> Result<Reply<'a>, AllocError>
     requires range { RunIsInRange run }
     requires instrumented { IsInstrumented accepted }
     requires planned { ArePlanned accepted plans.now }
@@ -116,13 +116,13 @@ fn tested<R: Threads + Sync, G: Gate, C: Closer>(
 }
 
 // The reply of a command whose files are accepted.
-fn finished<R: Threads + Sync, G: Gate, C: Closer>(
+fn finished<'a, R: Threads + Sync, G: Gate, C: Closer>(
     alloc: Global,
     means: Means<'_, R, G, C>,
     accepted: Accepted<'_>,
     basis: Basis<'_>,
     justifications: &[Justification],
-) -> Result<Reply<'static>, AllocError>
+) -> Result<Reply<'a>, AllocError>
     requires instrumented { IsInstrumented accepted }
     requires basis { IsBasis accepted basis }
     requires reasons { AreReasons accepted justifications.now }

@@ -23,13 +23,13 @@ use mc_typed::TestPlan;
 use std::alloc::{AllocError, Global};
 
 // The report on a run of the tests.
-fn reported(
+fn reported<'a>(
     alloc: Global,
     asked: Report<'_>,
     accepted: Accepted<'_>,
     ran: Ran,
     justifications: &[Justification],
-) -> Result<Reply<'static>, AllocError>
+) -> Result<Reply<'a>, AllocError>
     requires instrumented { IsInstrumented accepted }
     requires told { AreTold (seen_accepted accepted) ran.matrix (seen_ran ran) }
     requires reasons { AreReasons accepted justifications.now }
@@ -52,14 +52,14 @@ fn reported(
 }
 
 /// The reply of a task on the tests that were run. `plans` are the tests.
-pub fn tell(
+pub fn tell<'a>(
     alloc: Global,
     task: Task<'_>,
     accepted: Accepted<'_>,
     plans: &[TestPlan],
     ran: Ran,
     justifications: &[Justification],
-) -> Result<Reply<'static>, AllocError>
+) -> Result<Reply<'a>, AllocError>
     requires instrumented { IsInstrumented accepted }
     requires told { AreTold (seen_accepted accepted) ran.matrix (seen_ran ran) }
     requires kept { IsKept (kept_in accepted.source.now ran) }

@@ -16,13 +16,13 @@ use mc_replies::Reply;
 use std::alloc::{AllocError, Global};
 
 /// The reply of `analyse`: a report on the events that a record of the source has.
-pub fn analyse(
+pub fn analyse<'a>(
     alloc: Global,
     asked: Report<'_>,
     accepted: Accepted<'_>,
     kept: Record,
     justifications: &[Justification],
-) -> Result<Reply<'static>, AllocError>
+) -> Result<Reply<'a>, AllocError>
     requires instrumented { IsInstrumented accepted }
     requires of_source { IsRecordIn accepted kept }
     requires reasons { AreReasons accepted justifications.now }

@@ -9,7 +9,7 @@ use mc_replies::Reply;
 use std::alloc::Global;
 
 /// The reply of `merge`: the record of two records.
-pub fn merge(alloc: Global, both: Record) -> Reply<'static>
+pub fn merge<'a>(alloc: Global, both: Record) -> Reply<'a>
     requires { IsKept (kept_of both) }
     ensures { Merges (kept_of both) (seen_reply result) }
 {

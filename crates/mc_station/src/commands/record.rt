@@ -16,7 +16,7 @@ use mc_replies::Reply;
 use std::alloc::Global;
 
 /// The reply of `record`: what is kept of the tests that were run on the source.
-pub fn record(alloc: Global, source: &[u8], ran: Ran) -> Reply<'static>
+pub fn record<'a>(alloc: Global, source: &[u8], ran: Ran) -> Reply<'a>
     requires { IsKept (kept_in source.now ran) }
     ensures reply { seen_reply result ≡ written (status_where ran.states.items)
         (record_lines (kept_in source.now ran)) }

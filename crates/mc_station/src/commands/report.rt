@@ -44,11 +44,11 @@ fn mode_of(mode: Independence) -> Mode
 }
 
 // The reply with the lines of a report in a form, and its status.
-fn written_report(
+fn written_report<'a>(
     alloc: Global,
     form: Form,
     report: Report<'_>,
-) -> Result<Reply<'static>, AllocError>
+) -> Result<Reply<'a>, AllocError>
     requires report { IsReport (report_of report) }
     requires names { All IsUtf8 (report_of report).names }
     ensures { IfOk result (λ reply. let r = report_of report.entry in
@@ -97,14 +97,14 @@ pub fn report_on<'a>(
 }
 
 /// The reply of `report`, and of each command that reports on tests: on the events of a matrix.
-pub fn report(
+pub fn report<'a>(
     alloc: Global,
     asked: Asked<'_>,
     accepted: Accepted<'_>,
     matrix: &Matrix,
     tests: Tested,
     justifications: &[Justification],
-) -> Result<Reply<'static>, AllocError>
+) -> Result<Reply<'a>, AllocError>
     requires instrumented { IsInstrumented accepted }
     requires told { AreTold (seen_accepted accepted) matrix.now (seen_tested tests) }
     requires reasons { AreReasons accepted justifications.now }

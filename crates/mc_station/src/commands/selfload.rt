@@ -40,12 +40,12 @@ pub struct Load {
 }
 
 // The summary of a run of the tests.
-fn summary(
+fn summary<'a>(
     alloc: Global,
     count: u32,
     accepted: Accepted<'_>,
     ran: Ran,
-) -> Result<Reply<'static>, AllocError>
+) -> Result<Reply<'a>, AllocError>
     requires instrumented { IsInstrumented accepted }
     requires told { AreTold (seen_accepted accepted) ran.matrix (seen_ran ran) }
     ensures { IfOk result (λ reply. let a = seen_accepted accepted.entry in
@@ -70,14 +70,14 @@ fn summary(
 }
 
 // Runs the tests, for which there are shared words, and sums up.
-fn opened<R: Threads + Sync, G: Gate, C: Closer>(
+fn opened<'a, R: Threads + Sync, G: Gate, C: Closer>(
     alloc: Global,
     means: Means<'_, R, G, C>,
     load: Load,
     accepted: Accepted<'_>,
     plans: &[TestPlan],
     opened: Opened,
-) -> Result<Reply<'static>, AllocError>
+) -> Result<Reply<'a>, AllocError>
     requires workers { IsWithin 1 most_workers load.workers }
     requires instrumented { IsInstrumented accepted }
     requires planned { ArePlanned accepted plans.now }
@@ -95,13 +95,13 @@ fn opened<R: Threads + Sync, G: Gate, C: Closer>(
 }
 
 // What the tests lead to.
-fn planned<R: Threads + Sync, G: Gate, C: Closer>(
+fn planned<'a, R: Threads + Sync, G: Gate, C: Closer>(
     alloc: Global,
     means: Means<'_, R, G, C>,
     load: Load,
     accepted: Accepted<'_>,
     plans: &[TestPlan],
-) -> Result<Reply<'static>, AllocError>
+) -> Result<Reply<'a>, AllocError>
     requires workers { IsWithin 1 most_workers load.workers }
     requires instrumented { IsInstrumented accepted }
     requires planned { ArePlanned accepted plans.now }
@@ -120,13 +120,13 @@ fn planned<R: Threads + Sync, G: Gate, C: Closer>(
 }
 
 // What the source and its tests lead to.
-fn loaded<R: Threads + Sync, G: Gate, C: Closer>(
+fn loaded<'a, R: Threads + Sync, G: Gate, C: Closer>(
     alloc: Global,
     means: Means<'_, R, G, C>,
     load: Load,
     accepted: Accepted<'_>,
     tests: &[u8],
-) -> Result<Reply<'static>, AllocError>
+) -> Result<Reply<'a>, AllocError>
     requires workers { IsWithin 1 most_workers load.workers }
     requires instrumented { IsInstrumented accepted }
     ensures { IfOk result (λ reply. let a = seen_accepted accepted.entry in
@@ -145,11 +145,11 @@ fn loaded<R: Threads + Sync, G: Gate, C: Closer>(
 }
 
 /// The reply of `selfload`: a source and its tests are made, and what comes of them is summed up.
-pub fn selfload<R: Threads + Sync, G: Gate, C: Closer>(
+pub fn selfload<'a, R: Threads + Sync, G: Gate, C: Closer>(
     alloc: Global,
     means: Means<'_, R, G, C>,
     load: Load,
-) -> Result<Reply<'static>, AllocError>
+) -> Result<Reply<'a>, AllocError>
     requires count { IsWithin 1 most_functions load.count }
     requires workers { IsWithin 1 most_workers load.workers }
     ensures { IfOk result (λ reply. Loads (C.skipped means.entry.closer.now) load.count

@@ -15,7 +15,7 @@ use mc_report::vectors_lines;
 use std::alloc::{AllocError, Global};
 
 // The reply of `vectors`, from a source that is lent.
-fn listed(alloc: Global, accepted: &Accepted<'_>, ran: &Ran) -> Result<Reply<'static>, AllocError>
+fn listed<'a>(alloc: Global, accepted: &Accepted<'_>, ran: &Ran) -> Result<Reply<'a>, AllocError>
     requires instrumented { IsInstrumented accepted.now }
     requires told { AreTold (seen_accepted accepted.now) ran.now.matrix (seen_ran ran.now) }
     ensures { IfOk result (λ reply. let a = seen_accepted accepted.now in
@@ -36,11 +36,11 @@ fn listed(alloc: Global, accepted: &Accepted<'_>, ran: &Ran) -> Result<Reply<'st
 }
 
 /// The reply of `vectors`.
-pub fn vectors(
+pub fn vectors<'a>(
     alloc: Global,
     accepted: Accepted<'_>,
     ran: &Ran,
-) -> Result<Reply<'static>, AllocError>
+) -> Result<Reply<'a>, AllocError>
     requires instrumented { IsInstrumented accepted }
     requires told { AreTold (seen_accepted accepted) ran.now.matrix (seen_ran ran.now) }
     ensures { IfOk result (λ reply. let a = seen_accepted accepted.entry in
