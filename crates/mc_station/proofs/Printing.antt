@@ -16,7 +16,8 @@ one_text accepted r q (tokens, lexes, is) (others, also, other) =
     is ∙ ap (λ (ts : List Tok). written 0 (program_pieces ts (instrumented accepted.map accepted.program))) same ∙ sym other
 
 pub text_keeps : (accepted : Accepted) (r : Reply) → Instruments accepted r → IsLater r
-text_keeps accepted r (tokens, lexes, is) = subst IsLater (sym is) (written_later _ _)
+text_keeps accepted r (tokens, lexes, is) =
+    subst IsLater (sym is) (written_later 0 (program_pieces tokens (instrumented accepted.map accepted.program)))
 
 -- a source that is accepted has tokens
 pub has_tokens : (bytes : List ℕ) (a : Accepted) → JudgesSource bytes (Ok a) → (tokens : List Tok) × Lexes a.source (Ok tokens)
