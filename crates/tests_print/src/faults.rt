@@ -16,41 +16,37 @@ fn stops(alloc: Global, number: u32, before: &[u8], takes: u32) -> Result<bool, 
     )
 }
 
-/// How many bytes the token at the front has.
-fn word_length(text: &[u8]) -> usize {
-    let mut count = 0;
-    let mut left = text;
-    while let [byte, later @ ..] = left {
-        if *byte == b' ' || *byte == b'\n' {
-            break;
+/// Where the token that starts at a place ends.
+fn token_end(text: &[u8], start: usize) -> usize {
+    for place in start..text.len() {
+        if let Some(b' ' | b'\n') = text.get(place) {
+            return place;
         }
-        count += 1;
-        left = later;
     }
-    count
+    text.len()
 }
 
 /// Whether each put of the text fails in turn: that of a token once at once and once after a byte,
 /// and that of what stands after it at once. Gives how many puts there are.
 fn each_stops(alloc: Global, text: &[u8]) -> Result<Option<u32>, Fail> {
     let mut done = 0;
-    let mut number = 1;
-    for _word in 0..text.len() {
-        if done >= text.len() || number > 1000 {
+    let mut puts = 0;
+    for _token in 0..text.len() {
+        if done >= text.len() || puts > 1000 {
             break;
         }
-        let after = done + word_length(&text[done..]);
+        let after = token_end(text, done);
         if after >= text.len()
-            || !stops(alloc, number, &text[..done], 0)?
-            || !stops(alloc, number, &text[..done + 1], 1)?
-            || !stops(alloc, number + 1, &text[..after], 0)?
+            || !stops(alloc, puts + 1, &text[..done], 0)?
+            || !stops(alloc, puts + 1, &text[..done + 1], 1)?
+            || !stops(alloc, puts + 2, &text[..after], 0)?
         {
             return Ok(None);
         }
         done = after + 1;
-        number += 2;
+        puts += 2;
     }
-    Ok(Some(number - 1))
+    Ok(Some(puts))
 }
 
 // A token is one put, and so is the blank or the line feed after it: 71 of each.
