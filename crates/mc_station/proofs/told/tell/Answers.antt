@@ -14,6 +14,6 @@ pub returns-in-Vectors : goal.returns-in-Vectors
 returns-in-Vectors c = rw c.in-Vectors.is (λ skipped run.
     run_lists skipped (seen_accepted c.args.accepted) (seen_plans c.args.plans.now) c.args.ran c.args.justifications.now run c.vectors.result c.vectors.ensures)
 
-pub returns-in-Record : goal.returns-in-Record
-returns-in-Record c = rw c.in-Record.is (λ skipped run.
+pub returns : goal.returns
+returns c = rw c.in-Record.is (λ skipped run.
     run_records skipped (seen_accepted c.args.accepted) (seen_plans c.args.plans.now) c.args.ran (seen_reply c.record-reply.result) run c.record-reply.ensures.words c.record-reply.ensures.reply)
