@@ -12,10 +12,10 @@ use Rattle.mc_value.specs.declared.operators.ShiftOp.TheVariants.{Left}
 use Rattle.mc_value.specs.declared.operators.UnOp.TheVariants.{Minus}
 use Rattle.mc_typed.specs.declared.operators.Operator.TheVariants.{Binary, Shift}
 use Rattle.mc_typed.specs.Tree.{Expression, Effect}
-use Rattle.mc_typed.specs.Tree as t
+use Rattle.mc_typed.specs.Tree as typed
 use Rattle.mc_typing.specs.Judgement.{judge}
 use Rattle.mc_typing.specs.Statements.{label_type}
-use Rattle.laws_types.specs.Written.{here, types, named, typed, done, scope, object, read, read_as}
+use Rattle.laws_types.specs.Written.{here, types, named, judged, done, scope, object, read, read_as}
 
 -- ---- the integer promotions: what int holds becomes int, the other types stay (C17 6.3.1.1p2)
 
@@ -83,7 +83,7 @@ sum_written x = tree.Binary binary.Add (named x.left) (named x.right) here
 abbrev pub sum_typed : Two → Expression
 sum_typed x =
     let c = common_of_two x in
-    t.Binary (Binary Add) c (read_as c x.left) (read_as c x.right) here
+    typed.Binary (Binary Add) c (read_as c x.left) (read_as c x.right) here
 
 -- x ? y : z with arms of these types
 abbrev pub choice_written : Two → tree.Expression
@@ -92,7 +92,7 @@ choice_written x = tree.Conditional (named the.Int) (named x.left) (named x.righ
 abbrev pub choice_typed : Two → Expression
 choice_typed x =
     let c = common_of_two x in
-    t.Choice (read the.Int) (read_as c x.left) (read_as c x.right) c here
+    typed.Choice (read the.Int) (read_as c x.left) (read_as c x.right) c here
 
 -- a shift has the promoted type of its left operand, and each operand its own (C17 6.5.7p3)
 abbrev pub shift_written : Two → tree.Expression
@@ -100,7 +100,7 @@ shift_written x = tree.Binary binary.ShiftLeft (named x.left) (named x.right) he
 
 abbrev pub shift_typed : Two → Expression
 shift_typed x =
-    t.Binary (Shift Left) (promotion x.left) (read_as (promotion x.left) x.left)
+    typed.Binary (Shift Left) (promotion x.left) (read_as (promotion x.left) x.left)
     (read_as (promotion x.right) x.right) here
 
 -- the right side of an assignment has the type of the left one (C17 6.5.16.1p2)
@@ -108,7 +108,7 @@ abbrev pub assigned_written : Two → tree.Expression
 assigned_written x = tree.Assignment assign.Assign (named x.left) (named x.right) here
 
 abbrev pub assigned_typed : Two → Effect
-assigned_typed x = t.Assign (object x.left) x.left (read_as x.left x.right) here
+assigned_typed x = typed.Assign (object x.left) x.left (read_as x.left x.right) here
 
 -- a compound one works in the common type, a shift in the promoted one of the left side
 abbrev pub added_written : Two → tree.Expression
@@ -117,20 +117,20 @@ added_written x = tree.Assignment assign.Add (named x.left) (named x.right) here
 abbrev pub added_typed : Two → Effect
 added_typed x =
     let c = common_of_two x in
-    t.Update (object x.left) x.left (Binary Add) c (read_as c x.right) here
+    typed.Update (object x.left) x.left (Binary Add) c (read_as c x.right) here
 
 abbrev pub moved_written : Two → tree.Expression
 moved_written x = tree.Assignment assign.ShiftLeft (named x.left) (named x.right) here
 
 abbrev pub moved_typed : Two → Effect
 moved_typed x =
-    t.Update (object x.left) x.left (Shift Left) (promotion x.left)
+    typed.Update (object x.left) x.left (Shift Left) (promotion x.left)
     (read_as (promotion x.right) x.right) here
 
 -- ---- the laws
 
 abbrev pub Stand : (Two → tree.Expression) → (Two → Expression) → Type 0
-Stand written meant = map (λ x. typed (written x)) pairs ≡ map (λ x. Some (meant x)) pairs
+Stand written meant = map (λ x. judged (written x)) pairs ≡ map (λ x. Some (meant x)) pairs
 
 abbrev pub Act : (Two → tree.Expression) → (Two → Effect) → Type 0
 Act written meant = map (λ x. done (written x)) pairs ≡ map (λ x. Some (meant x)) pairs
@@ -147,8 +147,8 @@ AssignedIsConverted =
 
 abbrev pub OneIsPromoted : Type 0
 OneIsPromoted =
-    map (λ a. typed (tree.Unary unary.Minus (named a) here)) types
-    ≡ map (λ a. Some (t.Unary Minus (promotion a) (read_as (promotion a) a) here)) types
+    map (λ a. judged (tree.Unary unary.Minus (named a) here)) types
+    ≡ map (λ a. Some (typed.Unary Minus (promotion a) (read_as (promotion a) a) here)) types
 
 -- the labels of a `switch` have the promoted type of its expression (C17 6.8.4.2p5)
 abbrev pub LabelsArePromoted : Type 0

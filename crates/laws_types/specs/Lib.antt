@@ -3,3 +3,4 @@ pub mod Operators
 pub mod Conversions
 pub mod Constants
 pub mod Heights
+pub mod Exact

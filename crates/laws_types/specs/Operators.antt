@@ -13,8 +13,8 @@ use Rattle.mc_value.specs.declared.operators.ShiftOp.TheVariants as shift
 use Rattle.mc_value.specs.declared.operators.UnOp.TheVariants as un
 use Rattle.mc_typed.specs.declared.operators.Operator.TheVariants.{Binary, Shift}
 use Rattle.mc_typed.specs.declared.operators.LogicOperator.TheVariants as logic
-use Rattle.mc_typed.specs.Tree as t
-use Rattle.laws_types.specs.Written.{here, named, digit, typed, done, object, read, read_as}
+use Rattle.mc_typed.specs.Tree as typed
+use Rattle.laws_types.specs.Written.{here, named, digit, judged, done, object, read, read_as}
 
 -- ---- two operands: an int and a long
 
@@ -27,15 +27,15 @@ binaries = map (λ o. tree.Binary o (named Int) (named Long) here)
 
 -- those of arithmetic, comparison and bits have both operands in the common type, a shift has each
 -- in its own, and `&&` and `||` have them as they are
-abbrev pub of_binaries : List t.Expression
+abbrev pub of_binaries : List typed.Expression
 of_binaries =
-    map (λ o. t.Binary (Binary o) Long (read_as Long Int) (read Long) here)
+    map (λ o. typed.Binary (Binary o) Long (read_as Long Int) (read Long) here)
     (op.Mul ∷ op.Div ∷ op.Rem ∷ op.Add ∷ op.Sub ∷ op.Lt ∷ op.Gt ∷ op.Le ∷ op.Ge ∷ op.Eq ∷ op.Ne
     ∷ op.And ∷ op.Xor ∷ op.Or ∷ [])
-    ++ t.Binary (Shift shift.Left) Int (read Int) (read Long) here
-    ∷ t.Binary (Shift shift.Right) Int (read Int) (read Long) here
-    ∷ t.Logic logic.And (read Int) (read Long) here
-    ∷ t.Logic logic.Or (read Int) (read Long) here ∷ []
+    ++ typed.Binary (Shift shift.Left) Int (read Int) (read Long) here
+    ∷ typed.Binary (Shift shift.Right) Int (read Int) (read Long) here
+    ∷ typed.Logic logic.And (read Int) (read Long) here
+    ∷ typed.Logic logic.Or (read Int) (read Long) here ∷ []
 
 -- ---- one operand
 
@@ -43,10 +43,10 @@ abbrev pub unaries : List tree.Expression
 unaries = map (λ o. tree.Unary o (named Char) here)
     (unary.Plus ∷ unary.Minus ∷ unary.Complement ∷ unary.Not ∷ [])
 
-abbrev pub of_unaries : List t.Expression
+abbrev pub of_unaries : List typed.Expression
 of_unaries =
-    map (λ o. t.Unary o Int (read_as Int Char) here) (un.Plus ∷ un.Minus ∷ un.Flip ∷ [])
-    ++ t.Not (read Char) here ∷ []
+    map (λ o. typed.Unary o Int (read_as Int Char) here) (un.Plus ∷ un.Minus ∷ un.Flip ∷ [])
+    ++ typed.Not (read Char) here ∷ []
 
 -- ---- assignments of a long to an int: `=`, and then each compound one
 
@@ -56,13 +56,13 @@ assignments = map (λ o. tree.Assignment o (named Int) (named Long) here)
     ∷ assign.Subtract ∷ assign.BitAnd ∷ assign.BitXor ∷ assign.BitOr ∷ assign.ShiftLeft
     ∷ assign.ShiftRight ∷ [])
 
-abbrev pub of_assignments : List t.Effect
+abbrev pub of_assignments : List typed.Effect
 of_assignments =
-    t.Assign (object Int) Int (read_as Int Long) here
-    ∷ map (λ o. t.Update (object Int) Int (Binary o) Long (read Long) here)
+    typed.Assign (object Int) Int (read_as Int Long) here
+    ∷ map (λ o. typed.Update (object Int) Int (Binary o) Long (read Long) here)
     (op.Mul ∷ op.Div ∷ op.Rem ∷ op.Add ∷ op.Sub ∷ op.And ∷ op.Xor ∷ op.Or ∷ [])
-    ++ t.Update (object Int) Int (Shift shift.Left) Int (read Long) here
-    ∷ t.Update (object Int) Int (Shift shift.Right) Int (read Long) here ∷ []
+    ++ typed.Update (object Int) Int (Shift shift.Left) Int (read Long) here
+    ∷ typed.Update (object Int) Int (Shift shift.Right) Int (read Long) here ∷ []
 
 -- ---- steps: 1 is added or subtracted, and stands where the two bytes of the operator stand
 
@@ -73,18 +73,18 @@ steps =
     ∷ tree.PrefixStep step.Increment (named Char) here
     ∷ tree.PrefixStep step.Decrement (named Char) here ∷ []
 
-abbrev pub after : t.Expression
-after = t.Constant (pos 1) Int (record { start = 18; end = 20 })
+abbrev pub after : typed.Expression
+after = typed.Constant (pos 1) Int (record { start = 18; end = 20 })
 
-abbrev pub before : t.Expression
-before = t.Constant (pos 1) Int (record { start = 10; end = 12 })
+abbrev pub before : typed.Expression
+before = typed.Constant (pos 1) Int (record { start = 10; end = 12 })
 
-abbrev pub of_steps : List t.Effect
+abbrev pub of_steps : List typed.Effect
 of_steps =
-    t.Update (object Char) Char (Binary op.Add) Int after here
-    ∷ t.Update (object Char) Char (Binary op.Sub) Int after here
-    ∷ t.Update (object Char) Char (Binary op.Add) Int before here
-    ∷ t.Update (object Char) Char (Binary op.Sub) Int before here ∷ []
+    typed.Update (object Char) Char (Binary op.Add) Int after here
+    ∷ typed.Update (object Char) Char (Binary op.Sub) Int after here
+    ∷ typed.Update (object Char) Char (Binary op.Add) Int before here
+    ∷ typed.Update (object Char) Char (Binary op.Sub) Int before here ∷ []
 
 -- ---- `?:`, casts, and parentheses
 
@@ -103,22 +103,22 @@ others =
 
 -- the test of `?:` stays as it is, and its arms have a common type; a cast that is written stands
 -- there, also where it changes nothing
-abbrev pub of_others : List t.Expression
+abbrev pub of_others : List typed.Expression
 of_others =
-    t.Choice (read Char) (read_as Long UInt) (read Long) Long here
-    ∷ t.Choice (read Long) (read_as Int Char) (read_as Int Char) Int here
-    ∷ t.Convert Char true (read Int) here
-    ∷ t.Convert Char true (read Char) here
+    typed.Choice (read Char) (read_as Long UInt) (read Long) Long here
+    ∷ typed.Choice (read Long) (read_as Int Char) (read_as Int Char) Int here
+    ∷ typed.Convert Char true (read Int) here
+    ∷ typed.Convert Char true (read Char) here
     ∷ read Int
-    ∷ t.Binary (Binary op.Sub) Int (t.Constant (pos 5) Int here) (t.Constant (pos 3) Int here) here
+    ∷ typed.Binary (Binary op.Sub) Int (typed.Constant (pos 5) Int here) (typed.Constant (pos 3) Int here) here
     ∷ []
 
 -- ---- the laws
 
-abbrev pub Kept : List tree.Expression → List t.Expression → Type 0
-Kept es xs = map typed es ≡ map Some xs
+abbrev pub Kept : List tree.Expression → List typed.Expression → Type 0
+Kept es xs = map judged es ≡ map Some xs
 
-abbrev pub AreDone : List tree.Expression → List t.Effect → Type 0
+abbrev pub AreDone : List tree.Expression → List typed.Effect → Type 0
 AreDone es xs = map done es ≡ map Some xs
 
 abbrev pub OperatorsAreKept : Type 0

@@ -7,7 +7,7 @@ use Rattle.mc_value.specs.declared.int_type.IntType.{IntType}
 use Rattle.mc_value.specs.declared.int_type.IntType.TheVariants as the
 use Rattle.mc_typed.specs.declared.expressions.Slot.{Slot}
 use Rattle.mc_typed.specs.Tree.{Place, Expression, Effect}
-use Rattle.mc_typed.specs.Tree as t
+use Rattle.mc_typed.specs.Tree as typed
 use Rattle.mc_typing.specs.Types.{Integer, plain}
 use Rattle.mc_typing.specs.Scopes.{Entry, Scope, Automatic, file_scope}
 use Rattle.mc_typing.specs.Values.{number_found, effect_in}
@@ -67,18 +67,18 @@ digit n = tree.Constant n true false 0 here
 
 -- ---- what it stands for
 
-abbrev pub typed : tree.Expression → Option Expression
-typed e = number_found (judge e scope)
+abbrev pub judged : tree.Expression → Option Expression
+judged e = number_found (judge e scope)
 
 abbrev pub done : tree.Expression → Option Effect
 done e = option_and_then effect_in (judge e scope).value
 
 abbrev pub object : IntType → Place
-object a = t.Local (slot_of a) here
+object a = typed.Local (slot_of a) here
 
 abbrev pub read : IntType → Expression
-read a = t.Read (object a) a
+read a = typed.Read (object a) a
 
 -- the value of an object, converted where it has another type
 abbrev pub read_as : IntType → IntType → Expression
-read_as b a = if is_same a b then read a else t.Convert b false (read a) here
+read_as b a = if is_same a b then read a else typed.Convert b false (read a) here

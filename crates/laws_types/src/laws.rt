@@ -1,6 +1,7 @@
 //! The functions do nothing: each has a law as its contract.
 ghost use Rattle.laws_types.specs.Constants.{ConstantsHaveTheirTypes, NarrowWords, WideWords};
 ghost use Rattle.laws_types.specs.Conversions.{AssignedIsConverted, LabelsArePromoted, OneIsPromoted, OperandsAreConverted};
+ghost use Rattle.laws_types.specs.Exact.{UnitsAreExact};
 ghost use Rattle.laws_types.specs.Heights.{ExpressionsHaveLevels, StatementsHaveLevels};
 ghost use Rattle.laws_types.specs.Operators.{AssignmentsAreKept, OperatorsAreKept};
 
@@ -28,6 +29,12 @@ pub fn assigned_is_converted()
 /// The operand of a unary operator, of each type, is promoted.
 pub fn one_is_promoted()
     ensures { OneIsPromoted }
+{}
+
+/// In the typed program of every unit the conversions that C implies are the usual arithmetic ones,
+/// the promotions and those of assignments, and none leads to the type that is there.
+pub fn units_are_exact()
+    ensures { UnitsAreExact }
 {}
 
 /// The labels of a `switch` have the promoted type of its expression.

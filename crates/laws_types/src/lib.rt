@@ -7,5 +7,5 @@ mod laws;
 pub use laws::{
     assigned_is_converted, assignments_are_kept, constants_have_their_types,
     expressions_have_levels, labels_are_promoted, one_is_promoted, operands_are_converted,
-    operators_are_kept, statements_have_levels, words_have_their_types,
+    operators_are_kept, statements_have_levels, units_are_exact, words_have_their_types,
 };

@@ -6,7 +6,7 @@ use Rattle.mc_value.specs.declared.int_type.IntType.TheVariants.{Int, Char}
 use Rattle.mc_value.specs.declared.operators.BinOp.TheVariants.{Div}
 use Rattle.mc_value.specs.declared.operators.UnOp.TheVariants.{Minus}
 use Rattle.mc_typed.specs.Tree.{Expression, Statement}
-use Rattle.mc_typed.specs.Tree as t
+use Rattle.mc_typed.specs.Tree as typed
 use Rattle.mc_steps.specs.Events.{Entered, Exited, Started}
 use Rattle.tests_meaning.specs.Words.{here, int, var, num, two, conj, disj, choice, gives, when, while, plain, with_number, declares, function, of_ints, ints, program, block, select, case, default, stop}
 use Rattle.tests_meaning.specs.Seen.{Row, calls, gave}
@@ -14,17 +14,17 @@ use Rattle.tests_meaning.specs.Seen.{Row, calls, gave}
 -- ---- statements in short
 
 abbrev pub null : Statement
-null = t.Null here
+null = typed.Null here
 
 -- return;
 abbrev pub leaves : Statement
-leaves = t.Return t.ReturnNothing here
+leaves = typed.Return typed.ReturnNothing here
 
 abbrev pub again : Statement
-again = t.Continue here
+again = typed.Continue here
 
 abbrev pub either : Statement → Statement → Statement
-either a b = t.IfElse (var 0) a b here here
+either a b = typed.IfElse (var 0) a b here here
 
 abbrev pub if_n : Statement → Statement
 if_n a = when (var 0) a
@@ -37,10 +37,10 @@ endless a = while (num 1) a
 
 -- for(;;)
 abbrev pub for_ever : Statement → Statement
-for_ever a = t.For (t.StartEffects []) None [] a here here
+for_ever a = typed.For (typed.StartEffects []) None [] a here here
 
 abbrev pub do_while : Statement → Expression → Statement
-do_while a e = t.DoWhile a e here here
+do_while a e = typed.DoWhile a e here here
 
 -- ---- a body, and how many statements and exits it has
 
@@ -54,7 +54,7 @@ shape body statements exits = record { body = body; statements = statements; exi
 
 abbrev pub row_of : Shape → Row
 row_of x = calls
-    (program (function (ints 1) t.NoResult (int ∷ int ∷ []) x.body
+    (program (function (ints 1) typed.NoResult (int ∷ int ∷ []) x.body
     ∷ of_ints 0 0 (gives (num 3) ∷ []) ∷ [])) 1 []
     (gave (pos 3) 98 (Entered 1 ∷ Started x.statements ∷ Exited x.exits ∷ []))
 
@@ -121,9 +121,9 @@ abbrev pub tests : List Shape
 tests =
     tested (num 0) 1
     ∷ tested (num 7) 0
-    ∷ tested (t.Unary Minus Int (num 1) here) 0
-    ∷ tested (t.Not (num 0) here) 0
-    ∷ tested (t.Not (num 5) here) 1
+    ∷ tested (typed.Unary Minus Int (num 1) here) 0
+    ∷ tested (typed.Not (num 0) here) 0
+    ∷ tested (typed.Not (num 5) here) 1
     ∷ tested (conj (num 1) (num 1)) 0
     ∷ tested (conj (num 1) (num 0)) 1
     ∷ tested (disj (num 0) (num 1)) 0
@@ -135,8 +135,8 @@ tests =
     ∷ tested (choice (num 1) (num 2) (var 0)) 1
     ∷ tested (choice (num 1) (var 0) (num 2)) 1
     -- (char)256 is 0, (char)257 is 1
-    ∷ tested (t.Convert Char true (num 256) here) 1
-    ∷ tested (t.Convert Char true (num 257) here) 0
+    ∷ tested (typed.Convert Char true (num 256) here) 1
+    ∷ tested (typed.Convert Char true (num 257) here) 0
     -- one that traps is not other than 0
     ∷ tested (two Div (num 1) (num 0)) 1
     ∷ shape (do_while null (two Div (num 1) (num 0)) ∷ []) 2 1

@@ -9,7 +9,7 @@ use Rattle.mc_typed.specs.declared.plans.TestState.{TestState}
 use Rattle.mc_typed.specs.declared.plans.TestState.TheVariants.{Pass, Fail, Ended}
 use Rattle.mc_typed.specs.Layout.{Scalar, Array}
 use Rattle.mc_typed.specs.Tree.{Expression, Effect, FunctionCall, Function, Object, Program, Statement, StaticObject}
-use Rattle.mc_typed.specs.Tree as t
+use Rattle.mc_typed.specs.Tree as typed
 use Rattle.mc_typed.specs.Plans.{Call, Plan}
 use Rattle.mc_steps.specs.Runs.{State, stops}
 use Rattle.mc_steps.specs.Runs as runs
@@ -24,50 +24,50 @@ use Rattle.tests_meaning.specs.Seen.{Row, calls, one_call, gave, stopped, trappe
 
 -- struct S g(int n){struct S s={1,2};if(n)return s;}
 abbrev pub g : Function
-g = function (ints 1) (t.StructureResult pair) (int ∷ object pair ∷ [])
+g = function (ints 1) (typed.StructureResult pair) (int ∷ object pair ∷ [])
     (declares (record {
       slot = slot 1;
       cells = 2;
-      value = Some (t.ListInitializer (t.initializers (t.NumberInitializer (num 1))
-          (t.initializers (t.NumberInitializer (num 2)) t.no_initializers)) 2);
+      value = Some (typed.ListInitializer (typed.initializers (typed.NumberInitializer (num 1))
+          (typed.initializers (typed.NumberInitializer (num 2)) typed.no_initializers)) 2);
     } ∷ [])
-    ∷ when (var 0) (t.Return (t.ReturnStructure (t.Stored (local 1)) 2) here) ∷ [])
+    ∷ when (var 0) (typed.Return (typed.ReturnStructure (typed.Stored (local 1)) 2) here) ∷ [])
 
 -- g(n), whose structure the object with number 1 takes
 abbrev pub g_of : ℕ → FunctionCall
-g_of n = t.call 0 (args (nums (num n ∷ []))) (Some (slot 1)) here
+g_of n = typed.call 0 (args (nums (num n ∷ []))) (Some (slot 1)) here
 
 -- int h(struct S p){return p.b;} and f as it is given, with two structures
 abbrev pub with_g : List Statement → Program
 with_g statements = with_pairs (g
-    ∷ function (t.StructureParameter pair ∷ []) (t.NumberResult Int) (object pair ∷ [])
+    ∷ function (typed.StructureParameter pair ∷ []) (typed.NumberResult Int) (object pair ∷ [])
     (gives (read (member (local 0) 1)) ∷ [])
-    ∷ function [] (t.NumberResult Int) (object pair ∷ object pair ∷ object pair ∷ []) statements
+    ∷ function [] (typed.NumberResult Int) (object pair ∷ object pair ∷ object pair ∷ []) statements
     ∷ [])
 
 -- the whole effect of a call of g, or one under `?:`
 abbrev pub drops : ℕ → Effect
-drops n = t.StructureEffect (t.Returned (g_of n)) true
+drops n = typed.StructureEffect (typed.Returned (g_of n)) true
 
 abbrev pub uses : ℕ → Effect
-uses n = t.Discard (t.StructureEffect (t.Returned (g_of n)) false) here
+uses n = typed.Discard (typed.StructureEffect (typed.Returned (g_of n)) false) here
 
 -- int f(void){struct S t;t=g(n);return t.b;}
 abbrev pub copied : ℕ → Program
 copied n = with_g (declares (plain 0 2 ∷ [])
-    ∷ does (t.Copy (local 0) (t.Returned (g_of n)) 2 here) ∷ gives (read (member (local 0) 1)) ∷ [])
+    ∷ does (typed.Copy (local 0) (typed.Returned (g_of n)) 2 here) ∷ gives (read (member (local 0) 1)) ∷ [])
 
 -- int f(void){return h(g(n));}
 abbrev pub given : ℕ → Program
-given n = with_g (gives (t.Call (call 1
-    (t.StructureArgument (t.Returned (g_of n)) (slot 2) ∷ [])) Int) ∷ [])
+given n = with_g (gives (typed.Call (call 1
+    (typed.StructureArgument (typed.Returned (g_of n)) (slot 2) ∷ [])) Int) ∷ [])
 
 -- int f(void){struct S t=g(n);return t.b;}
 abbrev pub initial : ℕ → Program
 initial n = with_g (declares (record {
   slot = slot 0;
   cells = 2;
-  value = Some (t.StructureInitializer (t.Returned (g_of n)) 2);
+  value = Some (typed.StructureInitializer (typed.Returned (g_of n)) 2);
 } ∷ []) ∷ gives (read (member (local 0) 1)) ∷ [])
 
 abbrev pub then_7 : Effect → Program
@@ -87,7 +87,7 @@ f_calls more = Entered 2 ∷ Started 4 ∷ more
 -- int k(int n){if(n)return k(0);}: its value is used in its own `return`
 abbrev pub inner_use : Program
 inner_use = program (of_ints 1 1
-    (when (var 0) (gives (t.Call (call 0 (nums (num 0 ∷ []))) Int)) ∷ []) ∷ [])
+    (when (var 0) (gives (typed.Call (call 0 (nums (num 0 ∷ []))) Int)) ∷ []) ∷ [])
 
 -- ---- loops whose test traps
 
@@ -97,11 +97,11 @@ one_by_zero = two Div (num 1) (num 0)
 -- void f(void){do;while(1/0);} and void f(void){for(;1/0;);}
 abbrev pub do_trap : Program
 do_trap = program
-    (function [] t.NoResult [] (t.DoWhile (t.Null here) one_by_zero here here ∷ []) ∷ [])
+    (function [] typed.NoResult [] (typed.DoWhile (typed.Null here) one_by_zero here here ∷ []) ∷ [])
 
 abbrev pub for_trap : Program
-for_trap = program (function [] t.NoResult []
-    (t.For (t.StartEffects []) (Some one_by_zero) [] (t.Null here) here here ∷ []) ∷ [])
+for_trap = program (function [] typed.NoResult []
+    (typed.For (typed.StartEffects []) (Some one_by_zero) [] (typed.Null here) here here ∷ []) ∷ [])
 
 -- ---- a `default` that is absent is chosen where no label is, and nowhere else
 
@@ -118,24 +118,24 @@ broken = program (of_ints 1 1 (select (var 0) (case 1 ∷ stop ∷ []) ∷ gives
 abbrev pub continued : Program
 continued = program (of_ints 1 1
     (while (var 0) (block
-    (select (var 0) (case 1 ∷ does (set (local 0) (num 0)) ∷ t.Continue here ∷ [])
+    (select (var 0) (case 1 ∷ does (set (local 0) (num 0)) ∷ typed.Continue here ∷ [])
     ∷ does (set (local 0) (num 1)) ∷ [])) ∷ gives (var 0) ∷ []) ∷ [])
 
 -- int f(int n){switch(n){case 1:;default:n=2;case 3:n=n+1;}return n;}: a `default` between labels
 abbrev pub default_between : Program
 default_between = program (of_ints 1 1
-    (select (var 0) (case 1 ∷ t.Null here ∷ default ∷ does (set (local 0) (num 2))
+    (select (var 0) (case 1 ∷ typed.Null here ∷ default ∷ does (set (local 0) (num 2))
     ∷ case 3 ∷ does (add (local 0) (num 1)) ∷ []) ∷ gives (var 0) ∷ []) ∷ [])
 
 -- ---- fuel comes before what follows it
 
 -- int f(void){return mcdc_in();}
 abbrev pub input : Program
-input = program (of_ints 0 0 (gives (t.Input here) ∷ []) ∷ [])
+input = program (of_ints 0 0 (gives (typed.Input here) ∷ []) ∷ [])
 
 -- int f(void){while(1/0);return 1;}: without a unit the test is not evaluated
 abbrev pub while_trap : Program
-while_trap = program (of_ints 0 0 (while one_by_zero (t.Null here) ∷ gives (num 1) ∷ []) ∷ [])
+while_trap = program (of_ints 0 0 (while one_by_zero (typed.Null here) ∷ gives (num 1) ∷ []) ∷ [])
 
 -- ---- cells of activations and of objects with static storage duration
 
@@ -145,7 +145,7 @@ array n = object (Array n (Scalar Int))
 -- int f(void){int t[n];return 1;}
 abbrev pub large : ℕ → List StaticObject → Program
 large n statics = record {
-  functions = function [] (t.NumberResult Int) (array n ∷ [])
+  functions = function [] (typed.NumberResult Int) (array n ∷ [])
       (declares (plain 0 n ∷ []) ∷ gives (num 1) ∷ []) ∷ [];
   statics = statics;
   structures = [];
@@ -168,9 +168,9 @@ rows =
     ∷ calls (initial 0) 2 [] (trapped trap.NoReturn 95 (f_calls g_falls))
     ∷ calls (then_7 (drops 0)) 2 [] (gave (pos 7) 94 (f_calls (g_falls ++ Started 5 ∷ Exited 3
     ∷ [])))
-    ∷ calls (then_7 (t.Discard (drops 0) here)) 2 [] (gave (pos 7) 94 (f_calls (g_falls ++ Started 5
+    ∷ calls (then_7 (typed.Discard (drops 0) here)) 2 [] (gave (pos 7) 94 (f_calls (g_falls ++ Started 5
     ∷ Exited 3 ∷ [])))
-    ∷ calls (then_7 (t.ChoiceEffect (num 1) (uses 0) (uses 0) here)) 2 []
+    ∷ calls (then_7 (typed.ChoiceEffect (num 1) (uses 0) (uses 0) here)) 2 []
     (trapped trap.NoReturn 95 (f_calls g_falls))
     ∷ calls inner_use 0 (pos 1 ∷ []) (trapped trap.NoReturn 95 (begun ++ evaluated 0 (T ∷ []) true
     ∷ Started 1 ∷ begun ++ evaluated 0 (F ∷ []) false ∷ Exited 1 ∷ []))
@@ -234,8 +234,8 @@ FuelComesFirst =
 
 -- int f(int a){mcdc_out(a);mcdc_out(a+1);return a;}
 abbrev pub two_outputs : Program
-two_outputs = program (of_ints 1 1 (does (t.Output (var 0) here)
-    ∷ does (t.Output (two Add (var 0) (num 1)) here) ∷ gives (var 0) ∷ []) ∷ [])
+two_outputs = program (of_ints 1 1 (does (typed.Output (var 0) here)
+    ∷ does (typed.Output (two Add (var 0) (num 1)) here) ∷ gives (var 0) ∷ []) ∷ [])
 
 abbrev pub expecting : Option ℤ → Option (List ℤ) → ℤ → Call
 expecting v output a = record { function = 0; arguments = a ∷ []; expect = v; output = output }

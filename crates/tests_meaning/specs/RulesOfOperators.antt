@@ -11,7 +11,7 @@ use Rattle.mc_typed.specs.declared.operators.Operator.TheVariants as operator
 use Rattle.mc_typed.specs.declared.plans.Ending.TheVariants as ending
 use Rattle.mc_typed.specs.Layout.{Scalar}
 use Rattle.mc_typed.specs.Tree.{Expression, Program, Statement}
-use Rattle.mc_typed.specs.Tree as t
+use Rattle.mc_typed.specs.Tree as typed
 use Rattle.mc_steps.specs.Events.{Event, Entered, Exited, Started}
 use Rattle.tests_meaning.specs.Words.{here, local, object, int, var, num, two, does, gives, function, of_ints, program}
 use Rattle.tests_meaning.specs.Seen.{Row, calls, one_call, gave, trapped, evaluated, T, F}
@@ -20,26 +20,26 @@ use Rattle.tests_meaning.specs.Seen.{Row, calls, one_call, gave, trapped, evalua
 
 -- mcdc_out(e);
 abbrev pub out : Expression → Statement
-out e = does (t.Output e here)
+out e = does (typed.Output e here)
 
 abbrev pub shift : ShiftOp → Expression → Expression → Expression
-shift s e f = t.Binary (operator.Shift s) Int e f here
+shift s e f = typed.Binary (operator.Shift s) Int e f here
 
 -- void f(int a,int b){mcdc_out(a*b);mcdc_out(a/b);mcdc_out(a%b);mcdc_out(a+b);mcdc_out(a-b);
 -- mcdc_out(a&b);mcdc_out(a^b);mcdc_out(a|b);mcdc_out(a<<2);mcdc_out(a>>1);mcdc_out(b>>1);
 -- mcdc_out(+b);mcdc_out(-b);mcdc_out(~b);}
 abbrev pub each_operator : Program
-each_operator = program (function (t.NumberParameter Int ∷ t.NumberParameter Int ∷ []) t.NoResult
+each_operator = program (function (typed.NumberParameter Int ∷ typed.NumberParameter Int ∷ []) typed.NoResult
     (int ∷ int ∷ [])
     (map (λ o. out (two o (var 0) (var 1)))
     (Mul ∷ Div ∷ Rem ∷ Add ∷ Sub ∷ And ∷ Xor ∷ Or ∷ [])
     ++ out (shift Left (var 0) (num 2)) ∷ out (shift Right (var 0) (num 1))
     ∷ out (shift Right (var 1) (num 1))
-    ∷ map (λ o. out (t.Unary o Int (var 1) here)) (Plus ∷ Minus ∷ Flip ∷ [])) ∷ [])
+    ∷ map (λ o. out (typed.Unary o Int (var 1) here)) (Plus ∷ Minus ∷ Flip ∷ [])) ∷ [])
 
 -- int f(int a){return -a;}
 abbrev pub negative : Program
-negative = program (of_ints 1 1 (gives (t.Unary Minus Int (var 0) here) ∷ []) ∷ [])
+negative = program (of_ints 1 1 (gives (typed.Unary Minus Int (var 0) here) ∷ []) ∷ [])
 
 -- int f(int a,int b){return a%b;}
 abbrev pub remainder : Program
@@ -49,17 +49,17 @@ remainder = program (of_ints 2 2 (gives (two Rem (var 0) (var 1)) ∷ []) ∷ []
 
 -- a f(a x,b y){return x OP y;}
 abbrev pub shifting : ShiftOp → IntType → IntType → Program
-shifting s a b = program (function (t.NumberParameter a ∷ t.NumberParameter b ∷ [])
-    (t.NumberResult a) (object (Scalar a) ∷ object (Scalar b) ∷ [])
-    (gives (t.Binary (operator.Shift s) a (t.Read (local 0) a) (t.Read (local 1) b) here) ∷ [])
+shifting s a b = program (function (typed.NumberParameter a ∷ typed.NumberParameter b ∷ [])
+    (typed.NumberResult a) (object (Scalar a) ∷ object (Scalar b) ∷ [])
+    (gives (typed.Binary (operator.Shift s) a (typed.Read (local 0) a) (typed.Read (local 1) b) here) ∷ [])
     ∷ [])
 
 -- a f(a x,b y){x OP= y;return x;}
 abbrev pub shifted : ShiftOp → IntType → IntType → Program
-shifted s a b = program (function (t.NumberParameter a ∷ t.NumberParameter b ∷ [])
-    (t.NumberResult a) (object (Scalar a) ∷ object (Scalar b) ∷ [])
-    (does (t.Update (local 0) a (operator.Shift s) a (t.Read (local 1) b) here)
-    ∷ gives (t.Read (local 0) a) ∷ []) ∷ [])
+shifted s a b = program (function (typed.NumberParameter a ∷ typed.NumberParameter b ∷ [])
+    (typed.NumberResult a) (object (Scalar a) ∷ object (Scalar b) ∷ [])
+    (does (typed.Update (local 0) a (operator.Shift s) a (typed.Read (local 1) b) here)
+    ∷ gives (typed.Read (local 0) a) ∷ []) ∷ [])
 
 -- ---- comparisons as values (C17 6.5.8p6, 6.5.9p3)
 
@@ -82,16 +82,16 @@ compared outcomes = Entered 0 ∷ Started 0 ∷ outcomes ++ Exited 0 ∷ []
 -- int f(int x){return (int)(a)x;}
 abbrev pub through : IntType → Program
 through a = program (of_ints 1 1
-    (gives (t.Convert Int false (t.Convert a true (var 0) here) here) ∷ []) ∷ [])
+    (gives (typed.Convert Int false (typed.Convert a true (var 0) here) here) ∷ []) ∷ [])
 
 -- int f(int x){a y=x;y=y+1;return y;}: the sum is an int, and then it is converted
 abbrev pub stored : IntType → Program
-stored a = program (function (t.NumberParameter Int ∷ []) (t.NumberResult Int)
+stored a = program (function (typed.NumberParameter Int ∷ []) (typed.NumberResult Int)
     (int ∷ object (Scalar a) ∷ [])
-    (does (t.Assign (local 1) a (t.Convert a false (var 0) here) here)
-    ∷ does (t.Assign (local 1) a (t.Convert a false
-    (two Add (t.Convert Int false (t.Read (local 1) a) here) (num 1)) here) here)
-    ∷ gives (t.Convert Int false (t.Read (local 1) a) here) ∷ []) ∷ [])
+    (does (typed.Assign (local 1) a (typed.Convert a false (var 0) here) here)
+    ∷ does (typed.Assign (local 1) a (typed.Convert a false
+    (two Add (typed.Convert Int false (typed.Read (local 1) a) here) (num 1)) here) here)
+    ∷ gives (typed.Convert Int false (typed.Read (local 1) a) here) ∷ []) ∷ [])
 
 abbrev pub begun : List Event
 begun = Entered 0 ∷ Started 0 ∷ []

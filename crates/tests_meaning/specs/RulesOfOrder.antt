@@ -7,7 +7,7 @@ use Rattle.mc_value.specs.declared.operators.BinOp.TheVariants.{Sub, Lt, Gt}
 use Rattle.mc_typed.specs.declared.plans.Ending.TheVariants as ending
 use Rattle.mc_typed.specs.Layout.{Scalar, Array}
 use Rattle.mc_typed.specs.Tree.{Expression, Function, Program}
-use Rattle.mc_typed.specs.Tree as t
+use Rattle.mc_typed.specs.Tree as typed
 use Rattle.mc_steps.specs.Events.{Event, Entered, Exited, Started, Chosen}
 use Rattle.tests_meaning.specs.Words.{here, slot, local, object, int, read, var, num, two, choice, item, member, call, called, does, set, add, value, gives, when, plain, with_list, declares, function, of_ints, ints, program, select, case, default}
 use Rattle.tests_meaning.specs.RulesOfValues.{pair, with_pairs}
@@ -16,7 +16,7 @@ use Rattle.tests_meaning.specs.Seen.{Row, Seen, calls, one_call, gave, trapped, 
 -- ---- what is put out shows the order
 
 abbrev pub g : Function
-g = of_ints 1 1 (does (t.Output (var 0) here) ∷ gives (var 0) ∷ [])
+g = of_ints 1 1 (does (typed.Output (var 0) here) ∷ gives (var 0) ∷ [])
 
 -- g(v)
 abbrev pub g_of : ℕ → Expression
@@ -46,8 +46,8 @@ arguments = program (g ∷ of_ints 2 2 (gives (two Sub (var 0) (var 1)) ∷ [])
 
 -- int f(void){int t[2]={0};t[g(1)]=g(7);return t[1];}: the place comes before the right side
 abbrev pub assigned : Program
-assigned = program (g ∷ function [] (t.NumberResult Int) (object (Array 2 (Scalar Int)) ∷ [])
-    (declares (with_list 0 2 (t.NumberInitializer (num 0) ∷ []) ∷ [])
+assigned = program (g ∷ function [] (typed.NumberResult Int) (object (Array 2 (Scalar Int)) ∷ [])
+    (declares (with_list 0 2 (typed.NumberInitializer (num 0) ∷ []) ∷ [])
     ∷ does (set (item (local 0) 2 (g_of 1)) (g_of 7))
     ∷ gives (read (item (local 0) 2 (num 1))) ∷ []) ∷ [])
 
@@ -55,26 +55,26 @@ assigned = program (g ∷ function [] (t.NumberResult Int) (object (Array 2 (Sca
 -- int f(void){struct S t[2];t[g(1)]=h();return t[1].b;}: of a structure too
 abbrev pub copied : Program
 copied = with_pairs (g
-    ∷ function [] (t.StructureResult pair) (object pair ∷ [])
+    ∷ function [] (typed.StructureResult pair) (object pair ∷ [])
     (declares (with_list 0 2
-    (t.NumberInitializer (g_of 8) ∷ t.NumberInitializer (num 9) ∷ []) ∷ [])
-    ∷ t.Return (t.ReturnStructure (t.Stored (local 0)) 2) here ∷ [])
-    ∷ function [] (t.NumberResult Int) (object (Array 2 pair) ∷ object pair ∷ [])
+    (typed.NumberInitializer (g_of 8) ∷ typed.NumberInitializer (num 9) ∷ []) ∷ [])
+    ∷ typed.Return (typed.ReturnStructure (typed.Stored (local 0)) 2) here ∷ [])
+    ∷ function [] (typed.NumberResult Int) (object (Array 2 pair) ∷ object pair ∷ [])
     (declares (plain 0 4 ∷ [])
-    ∷ does (t.Copy (t.Item (local 0) 2 2 (g_of 1) here)
-    (t.Returned (t.call 1 t.no_arguments (Some (slot 1)) here)) 2 here)
-    ∷ gives (read (member (t.Item (local 0) 2 2 (num 1) here) 1)) ∷ [])
+    ∷ does (typed.Copy (typed.Item (local 0) 2 2 (g_of 1) here)
+    (typed.Returned (typed.call 1 typed.no_arguments (Some (slot 1)) here)) 2 here)
+    ∷ gives (read (member (typed.Item (local 0) 2 2 (num 1) here) 1)) ∷ [])
     ∷ [])
 
 -- int f(void){int t[2][2]={{1,2},{3,4}};return t[g(1)][g(0)];}: the outer index first
 abbrev pub indexes : Program
-indexes = program (g ∷ function [] (t.NumberResult Int)
+indexes = program (g ∷ function [] (typed.NumberResult Int)
     (object (Array 2 (Array 2 (Scalar Int))) ∷ [])
-    (declares (with_list 0 4 (t.ListInitializer (t.initializers (t.NumberInitializer (num 1))
-    (t.initializers (t.NumberInitializer (num 2)) t.no_initializers)) 2
-    ∷ t.ListInitializer (t.initializers (t.NumberInitializer (num 3))
-    (t.initializers (t.NumberInitializer (num 4)) t.no_initializers)) 2 ∷ []) ∷ [])
-    ∷ gives (read (item (t.Item (local 0) 2 2 (g_of 1) here) 2 (g_of 0))) ∷ []) ∷ [])
+    (declares (with_list 0 4 (typed.ListInitializer (typed.initializers (typed.NumberInitializer (num 1))
+    (typed.initializers (typed.NumberInitializer (num 2)) typed.no_initializers)) 2
+    ∷ typed.ListInitializer (typed.initializers (typed.NumberInitializer (num 3))
+    (typed.initializers (typed.NumberInitializer (num 4)) typed.no_initializers)) 2 ∷ []) ∷ [])
+    ∷ gives (read (item (typed.Item (local 0) 2 2 (g_of 1) here) 2 (g_of 0))) ∷ []) ∷ [])
 
 -- int f(int a){return a?g(2):g(3);}: one arm alone
 abbrev pub arms : Program
@@ -82,7 +82,7 @@ arms = program (g ∷ of_ints 1 1 (gives (choice (var 0) (g_of 2) (g_of 3)) ∷ 
 
 -- int f(void){return mcdc_in()-mcdc_in();}
 abbrev pub inputs : Program
-inputs = program (of_ints 0 0 (gives (two Sub (t.Input here) (t.Input here)) ∷ []) ∷ [])
+inputs = program (of_ints 0 0 (gives (two Sub (typed.Input here) (typed.Input here)) ∷ []) ∷ [])
 
 -- ---- the numbers of decisions
 
@@ -98,15 +98,15 @@ in_arms = program
 -- test, the step, and then the body
 abbrev pub in_loop : Program
 in_loop = program (of_ints 3 4 (declares (plain 3 1 ∷ [])
-    ∷ t.For (t.StartEffects (set (local 3) (less 0 1) ∷ [])) (Some (less 3 2))
+    ∷ typed.For (typed.StartEffects (set (local 3) (less 0 1) ∷ [])) (Some (less 3 2))
     (add (local 3) (less 0 2) ∷ []) (when (less 1 2) (does (set (local 0) (var 0)))) here here
     ∷ gives (var 3) ∷ []) ∷ [])
 
 -- int f(int a,int b){int t[2]={0};t[a<b]+=a>b;return t[1];}: the place, then the right side
 abbrev pub in_update : Program
-in_update = program (function (ints 2) (t.NumberResult Int)
+in_update = program (function (ints 2) (typed.NumberResult Int)
     (int ∷ int ∷ object (Array 2 (Scalar Int)) ∷ [])
-    (declares (record { slot = slot 2; cells = 2; value = Some (t.ZeroInitializer (num 0) 2) } ∷ [])
+    (declares (record { slot = slot 2; cells = 2; value = Some (typed.ZeroInitializer (num 0) 2) } ∷ [])
     ∷ does (add (item (local 2) 2 (less 0 1)) (two Gt (var 0) (var 1)))
     ∷ gives (read (item (local 2) 2 (num 1))) ∷ []) ∷ [])
 
@@ -131,11 +131,11 @@ in_arguments = program (of_ints 2 2 (gives (var 0) ∷ [])
 
 -- void h(struct S p){p.a=9;}int f(void){struct S s={1,2};h(s);return s.a;}: a parameter is a copy
 abbrev pub by_value : Program
-by_value = with_pairs (function (t.StructureParameter pair ∷ []) t.NoResult (object pair ∷ [])
+by_value = with_pairs (function (typed.StructureParameter pair ∷ []) typed.NoResult (object pair ∷ [])
     (does (set (member (local 0) 0) (num 9)) ∷ [])
-    ∷ function [] (t.NumberResult Int) (object pair ∷ object pair ∷ [])
-    (declares (with_list 0 2 (t.NumberInitializer (num 1) ∷ t.NumberInitializer (num 2) ∷ []) ∷ [])
-    ∷ does (t.CallEffect (call 0 (t.StructureArgument (t.Stored (local 0)) (slot 1) ∷ [])))
+    ∷ function [] (typed.NumberResult Int) (object pair ∷ object pair ∷ [])
+    (declares (with_list 0 2 (typed.NumberInitializer (num 1) ∷ typed.NumberInitializer (num 2) ∷ []) ∷ [])
+    ∷ does (typed.CallEffect (call 0 (typed.StructureArgument (typed.Stored (local 0)) (slot 1) ∷ [])))
     ∷ gives (read (member (local 0) 0)) ∷ []) ∷ [])
 
 abbrev pub rows : List Row

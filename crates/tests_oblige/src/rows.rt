@@ -24,9 +24,10 @@ const MET: VerdictState = VerdictState::Met;
 const MISSING: VerdictState = VerdictState::Missing;
 
 /// The decision `a && b`, whose paths have the bits 4 (both true), 5 (the second false) and 6 (the
-/// first false). Bit 3 is that of a label. In the first row all is met, in the fourth nothing is.
-/// In the last row the arguments count (0, 0), (1, 0), (0, 1), (1, 1), twice.
-static ONE_AND: [Row<'static>; 5] = [
+/// first false). Bit 3 is that of a label. In the first row all is met, in the fourth nothing is. In
+/// the fifth the entry, the statement, the label and the exit stand each under a test of its own. In
+/// the last row the arguments count (0, 0), (1, 0), (0, 1), (1, 1), twice.
+static ONE_AND: [Row<'static>; 6] = [
     Row {
         tests: &[&[0, 2, 4, 1], &[0, 2, 3, 5, 1], &[0, 2, 3, 6, 1]],
         named: None,
@@ -77,6 +78,20 @@ static ONE_AND: [Row<'static>; 5] = [
             (MISSING, &[]),
             (MISSING, &[]),
             (VerdictState::Justified, &[]),
+            (MISSING, &[]),
+            (MISSING, &[]),
+            (MISSING, &[]),
+            (MISSING, &[]),
+        ],
+    },
+    Row {
+        tests: &[&[0], &[2], &[3], &[1]],
+        named: None,
+        verdicts: &[
+            (MET, &[0]),
+            (MET, &[3]),
+            (MET, &[1]),
+            (MET, &[2]),
             (MISSING, &[]),
             (MISSING, &[]),
             (MISSING, &[]),

@@ -26,37 +26,37 @@ use Rattle.mc_value.specs.declared.int_type.IntType.TheVariants.{Int}
 use Rattle.mc_value.specs.declared.operators.BinOp.{BinOp}
 use Rattle.mc_value.specs.declared.operators.BinOp.TheVariants.{Add, Sub, Lt, Gt}
 use Rattle.mc_cond.specs.Tree.{Leaf}
-use Rattle.mc_cond.specs.Tree as c
+use Rattle.mc_cond.specs.Tree as cond
 use Rattle.mc_typed.specs.declared.operators.Operator.TheVariants.{Binary}
 use Rattle.mc_typed.specs.declared.operators.LogicOperator.TheVariants.{And, Or}
 use Rattle.mc_typed.specs.declared.probes.Mark.{Mark}
 use Rattle.mc_typed.specs.declared.probes.Probe.TheVariants as probe
 use Rattle.mc_typed.specs.Examples.{at, slot, local, constant, scalar}
 use Rattle.mc_typed.specs.Tree.{Program, Object}
-use Rattle.mc_typed.specs.Tree as t
+use Rattle.mc_typed.specs.Tree as typed
 use Rattle.mc_probe.specs.Tree.{Tree}
-use Rattle.mc_probe.specs.Tree as p
+use Rattle.mc_probe.specs.Tree as probed
 use Rattle.mc_probe.specs.Maps.{Map, Mapped}
 use Rattle.mc_probe.specs.Table.{instrumented}
 use Rattle.tests_probe.specs.Followed.{map_of}
 
 -- ---- the typed program
 
-abbrev pub place : ℕ → Span → t.Place
-place k span = t.Local (slot k k) span
+abbrev pub place : ℕ → Span → typed.Place
+place k span = typed.Local (slot k k) span
 
-abbrev pub two : BinOp → t.Expression → t.Expression → Span → t.Expression
-two operator e f span = t.Binary (Binary operator) Int e f span
+abbrev pub two : BinOp → typed.Expression → typed.Expression → Span → typed.Expression
+two operator e f span = typed.Binary (Binary operator) Int e f span
 
-abbrev pub body : List t.Statement → t.Statements
-body [] = t.no_statements
-body (s ∷ rest) = t.statements s (body rest)
+abbrev pub body : List typed.Statement → typed.Statements
+body [] = typed.no_statements
+body (s ∷ rest) = typed.statements s (body rest)
 
-abbrev pub set : ℕ → Span → t.Expression → Span → t.Effect
-set k name e span = t.Assign (place k name) Int e span
+abbrev pub set : ℕ → Span → typed.Expression → Span → typed.Effect
+set k name e span = typed.Assign (place k name) Int e span
 
-abbrev pub changed : BinOp → ℕ → Span → t.Expression → Span → t.Effect
-changed operator k name e span = t.Update (place k name) Int (Binary operator) Int e span
+abbrev pub changed : BinOp → ℕ → Span → typed.Expression → Span → typed.Effect
+changed operator k name e span = typed.Update (place k name) Int (Binary operator) Int e span
 
 abbrev pub objects : List Object
 objects = scalar 0 ∷ scalar 1 ∷ scalar 2 ∷ scalar 3 ∷ []
@@ -67,62 +67,62 @@ program = record {
       record {
         name = 103 ∷ [];
         name_span = at 4 5;
-        parameters = t.NumberParameter Int ∷ t.NumberParameter Int ∷ [];
-        result = t.NumberResult Int;
+        parameters = typed.NumberParameter Int ∷ typed.NumberParameter Int ∷ [];
+        result = typed.NumberResult Int;
         objects = scalar 0 ∷ scalar 1 ∷ [];
-        body = body (t.Return (t.ReturnNumber
-            (t.Logic And (local 0 (at 26 27)) (local 1 (at 29 30)) (at 26 30))) (at 19 31) ∷ []);
+        body = body (typed.Return (typed.ReturnNumber
+            (typed.Logic And (local 0 (at 26 27)) (local 1 (at 29 30)) (at 26 30))) (at 19 31) ∷ []);
         closing = at 31 32;
       }
       ∷ record {
         name = 102 ∷ [];
         name_span = at 37 38;
-        parameters = t.NumberParameter Int ∷ [];
-        result = t.NoResult;
+        parameters = typed.NumberParameter Int ∷ [];
+        result = typed.NoResult;
         objects = objects;
         body = body
-            (t.Declaration (record {
+            (typed.Declaration (record {
               slot = slot 1 1;
               cells = 1;
-              value = Some (t.NumberInitializer
+              value = Some (typed.NumberInitializer
                   (two Lt (local 0 (at 52 53)) (constant 1 (at 54 55)) (at 52 55)));
             } ∷ []) (at 46 56)
-            ∷ t.Declaration (record { slot = slot 2 2; cells = 1; value = None } ∷ []) (at 56 62)
-            ∷ t.Null (at 62 63)
-            ∷ t.For (t.StartDeclaration (record {
+            ∷ typed.Declaration (record { slot = slot 2 2; cells = 1; value = None } ∷ []) (at 56 62)
+            ∷ typed.Null (at 62 63)
+            ∷ typed.For (typed.StartDeclaration (record {
               slot = slot 3 3;
               cells = 1;
-              value = Some (t.NumberInitializer (constant 0 (at 73 74)));
+              value = Some (typed.NumberInitializer (constant 0 (at 73 74)));
             } ∷ [])) (Some (two Lt (local 3 (at 75 76)) (constant 2 (at 77 78)) (at 75 78)))
             (changed Add 3 (at 79 80) (constant 1 (at 82 83)) (at 79 83) ∷ [])
-            (t.Compound (body (t.IfElse (local 0 (at 88 89)) (t.Continue (at 90 99))
-            (t.Break (at 104 110)) (at 85 87) (at 85 110) ∷ [])) (at 84 111))
+            (typed.Compound (body (typed.IfElse (local 0 (at 88 89)) (typed.Continue (at 90 99))
+            (typed.Break (at 104 110)) (at 85 87) (at 85 110) ∷ [])) (at 84 111))
             (at 63 66) (at 63 111)
-            ∷ t.Switch (local 0 (at 118 119)) (body
-            (t.Label (Some (pos 1)) (at 121 128)
-            ∷ t.EffectStatement (set 1 (at 128 129) (constant 2 (at 130 131)) (at 128 131))
+            ∷ typed.Switch (local 0 (at 118 119)) (body
+            (typed.Label (Some (pos 1)) (at 121 128)
+            ∷ typed.EffectStatement (set 1 (at 128 129) (constant 2 (at 130 131)) (at 128 131))
             (at 128 132)
-            ∷ t.Break (at 132 138)
-            ∷ t.Label (Some (pos 2)) (at 138 145)
-            ∷ t.Switch (local 1 (at 152 153)) (body (t.Label (Some (pos 7)) (at 155 162)
-            ∷ t.Null (at 162 163) ∷ [])) (at 145 151) (at 145 164)
-            ∷ t.Label (Some (pos 3)) (at 164 171)
-            ∷ t.EffectStatement (set 2 (at 171 172) (constant 3 (at 173 174)) (at 171 174))
+            ∷ typed.Break (at 132 138)
+            ∷ typed.Label (Some (pos 2)) (at 138 145)
+            ∷ typed.Switch (local 1 (at 152 153)) (body (typed.Label (Some (pos 7)) (at 155 162)
+            ∷ typed.Null (at 162 163) ∷ [])) (at 145 151) (at 145 164)
+            ∷ typed.Label (Some (pos 3)) (at 164 171)
+            ∷ typed.EffectStatement (set 2 (at 171 172) (constant 3 (at 173 174)) (at 171 174))
             (at 171 175) ∷ []))
             (at 111 117) (at 111 176)
-            ∷ t.DoWhile (t.EffectStatement
+            ∷ typed.DoWhile (typed.EffectStatement
             (changed Sub 1 (at 179 180) (constant 1 (at 182 183)) (at 179 183)) (at 179 184))
             (two Gt (local 1 (at 190 191)) (constant 0 (at 192 193)) (at 190 193))
             (at 176 178) (at 176 195)
-            ∷ t.For (t.StartEffects []) (Some (t.Not (t.Logic Or (local 0 (at 203 204))
+            ∷ typed.For (typed.StartEffects []) (Some (typed.Not (typed.Logic Or (local 0 (at 203 204))
             (local 1 (at 206 207)) (at 203 207)) (at 201 208))) []
-            (t.EffectStatement (t.NumberEffect (t.Call (t.call 0
-            (t.arguments (t.NumberArgument (local 1 (at 211 212)))
-            (t.arguments (t.NumberArgument (local 2 (at 213 214))) t.no_arguments)) None
+            (typed.EffectStatement (typed.NumberEffect (typed.Call (typed.call 0
+            (typed.arguments (typed.NumberArgument (local 1 (at 211 212)))
+            (typed.arguments (typed.NumberArgument (local 2 (at 213 214))) typed.no_arguments)) None
             (at 209 215)) Int) true) (at 209 216))
             (at 195 200) (at 195 216)
-            ∷ t.Switch (local 1 (at 223 224)) (body (t.Label None (at 226 234)
-            ∷ t.Return t.ReturnNothing (at 234 241) ∷ [])) (at 216 222) (at 216 242)
+            ∷ typed.Switch (local 1 (at 223 224)) (body (typed.Label None (at 226 234)
+            ∷ typed.Return typed.ReturnNothing (at 234 241) ∷ [])) (at 216 222) (at 216 242)
             ∷ []);
         closing = at 242 243;
       }
@@ -130,9 +130,9 @@ program = record {
         name = 104 ∷ [];
         name_span = at 248 249;
         parameters = [];
-        result = t.NoResult;
+        result = typed.NoResult;
         objects = [];
-        body = t.no_statements;
+        body = typed.no_statements;
         closing = at 256 257;
       }
       ∷ [];
@@ -163,7 +163,7 @@ map = record {
         decision = record {
           root = at 26 30;
           function = 0;
-          tree = c.And (Leaf 0) (Leaf 1);
+          tree = cond.And (Leaf 0) (Leaf 1);
           conditions = at 26 27 ∷ at 29 30 ∷ [];
         };
         base = 32;
@@ -176,7 +176,7 @@ map = record {
         decision = record {
           root = at 201 208;
           function = 1;
-          tree = c.Not (c.Or (Leaf 0) (Leaf 1));
+          tree = cond.Not (cond.Or (Leaf 0) (Leaf 1));
           conditions = at 203 204 ∷ at 206 207 ∷ [];
         };
         base = 43;
@@ -187,38 +187,38 @@ map = record {
 
 -- ---- its tree with probes
 
-abbrev pub var : ℕ → Span → p.Expression
-var k span = p.Read (p.Local (slot k k) span) Int
+abbrev pub var : ℕ → Span → probed.Expression
+var k span = probed.Read (probed.Local (slot k k) span) Int
 
-abbrev pub number : ℕ → Span → p.Expression
-number n span = p.Constant (pos n) Int span
+abbrev pub number : ℕ → Span → probed.Expression
+number n span = probed.Constant (pos n) Int span
 
-abbrev pub binary : BinOp → p.Expression → p.Expression → Span → p.Expression
-binary operator e f span = p.Binary (Binary operator) Int e f span
+abbrev pub binary : BinOp → probed.Expression → probed.Expression → Span → probed.Expression
+binary operator e f span = probed.Binary (Binary operator) Int e f span
 
 -- MCDC_D(r,base,e), MCDC_C(r,0,false,e) and a decision that is one condition
-abbrev pub decision : ℕ → ℕ → p.Expression → p.Expression
-decision r base e = p.Probe (probe.Decision r base) e
+abbrev pub decision : ℕ → ℕ → probed.Expression → probed.Expression
+decision r base e = probed.Probe (probe.Decision r base) e
 
-abbrev pub condition : ℕ → ℕ → p.Expression → p.Expression
-condition r on_false e = p.Probe (probe.Condition r 0 on_false) e
+abbrev pub condition : ℕ → ℕ → probed.Expression → probed.Expression
+condition r on_false e = probed.Probe (probe.Condition r 0 on_false) e
 
-abbrev pub alone : ℕ → ℕ → p.Expression → p.Expression
+abbrev pub alone : ℕ → ℕ → probed.Expression → probed.Expression
 alone r base e = decision r base (condition r 1 e)
 
-abbrev pub items : List p.Statement → p.Statements
-items [] = p.no_statements
-items (s ∷ rest) = p.statements s (items rest)
+abbrev pub items : List probed.Statement → probed.Statements
+items [] = probed.no_statements
+items (s ∷ rest) = probed.statements s (items rest)
 
 abbrev pub mark : ℕ → ℕ → Mark
 mark r bit = record { register = r; bit = bit }
 
-abbrev pub stored : ℕ → Span → p.Expression → Span → p.Effect
-stored k name e span = p.Assign (p.Local (slot k k) name) Int e span
+abbrev pub stored : ℕ → Span → probed.Expression → Span → probed.Effect
+stored k name e span = probed.Assign (probed.Local (slot k k) name) Int e span
 
-abbrev pub updated : BinOp → ℕ → Span → p.Expression → Span → p.Effect
+abbrev pub updated : BinOp → ℕ → Span → probed.Expression → Span → probed.Effect
 updated operator k name e span =
-    p.Update (p.Local (slot k k) name) Int (Binary operator) Int e span
+    probed.Update (probed.Local (slot k k) name) Int (Binary operator) Int e span
 
 abbrev pub tree : Tree
 tree = record {
@@ -227,10 +227,10 @@ tree = record {
         record {
           name = 103 ∷ [];
           name_span = at 4 5;
-          parameters = t.NumberParameter Int ∷ t.NumberParameter Int ∷ [];
-          result = t.NumberResult Int;
+          parameters = typed.NumberParameter Int ∷ typed.NumberParameter Int ∷ [];
+          result = typed.NumberResult Int;
           objects = scalar 0 ∷ scalar 1 ∷ [];
-          body = items (p.Return (p.ReturnNumber (decision 0 32 (p.Logic And
+          body = items (probed.Return (probed.ReturnNumber (decision 0 32 (probed.Logic And
               (condition 0 2 (var 0 (at 26 27))) (condition 0 1 (var 1 (at 29 30))) (at 26 30))))
               (at 19 31) (Some 6) (Some 3) ∷ []);
           closing = at 31 32;
@@ -241,60 +241,60 @@ tree = record {
         ∷ record {
           name = 102 ∷ [];
           name_span = at 37 38;
-          parameters = t.NumberParameter Int ∷ [];
-          result = t.NoResult;
+          parameters = typed.NumberParameter Int ∷ [];
+          result = typed.NoResult;
           objects = objects;
           body = items
-              (p.Declaration (record {
+              (probed.Declaration (record {
                 slot = slot 1 1;
                 cells = 1;
-                value = Some (p.NumberInitializer (alone 0 35
+                value = Some (probed.NumberInitializer (alone 0 35
                     (binary Lt (var 0 (at 52 53)) (number 1 (at 54 55)) (at 52 55))));
               } ∷ []) (at 46 56) (Some 7)
-              ∷ p.Declaration (record { slot = slot 2 2; cells = 1; value = None } ∷ [])
+              ∷ probed.Declaration (record { slot = slot 2 2; cells = 1; value = None } ∷ [])
               (at 56 62) None
-              ∷ p.Null (at 62 63) (Some 8)
-              ∷ p.For (p.StartDeclaration (record {
+              ∷ probed.Null (at 62 63) (Some 8)
+              ∷ probed.For (probed.StartDeclaration (record {
                 slot = slot 3 3;
                 cells = 1;
-                value = Some (p.NumberInitializer (number 0 (at 73 74)));
+                value = Some (probed.NumberInitializer (number 0 (at 73 74)));
               } ∷ []))
               (Some (alone 1 37 (binary Lt (var 3 (at 75 76)) (number 2 (at 77 78)) (at 75 78))))
               (updated Add 3 (at 79 80) (number 1 (at 82 83)) (at 79 83) ∷ [])
-              (p.Compound (items (p.IfElse (alone 2 39 (var 0 (at 88 89)))
-              (p.Continue (at 90 99) (Some 11)) (p.Break (at 104 110) (Some 12)) (at 85 87)
+              (probed.Compound (items (probed.IfElse (alone 2 39 (var 0 (at 88 89)))
+              (probed.Continue (at 90 99) (Some 11)) (probed.Break (at 104 110) (Some 12)) (at 85 87)
               (at 85 110) (Some 10) ∷ [])) (at 84 111))
               (at 63 66) (at 63 111) (Some 9)
-              ∷ p.Switch (p.Probe (probe.Switch 5) (var 0 (at 118 119))) (items
-              (p.Label (Some (pos 1)) (at 121 128) (Some (mark 5 26))
-              ∷ p.EffectStatement (stored 1 (at 128 129) (number 2 (at 130 131)) (at 128 131))
+              ∷ probed.Switch (probed.Probe (probe.Switch 5) (var 0 (at 118 119))) (items
+              (probed.Label (Some (pos 1)) (at 121 128) (Some (mark 5 26))
+              ∷ probed.EffectStatement (stored 1 (at 128 129) (number 2 (at 130 131)) (at 128 131))
               (at 128 132) (Some 14)
-              ∷ p.Break (at 132 138) (Some 15)
-              ∷ p.Label (Some (pos 2)) (at 138 145) (Some (mark 5 27))
-              ∷ p.Switch (p.Probe (probe.Switch 6) (var 1 (at 152 153))) (items
-              (p.Label (Some (pos 7)) (at 155 162) (Some (mark 6 29))
-              ∷ p.Null (at 162 163) (Some 17) ∷ [])) (at 145 151) (at 145 164) (Some 16)
+              ∷ probed.Break (at 132 138) (Some 15)
+              ∷ probed.Label (Some (pos 2)) (at 138 145) (Some (mark 5 27))
+              ∷ probed.Switch (probed.Probe (probe.Switch 6) (var 1 (at 152 153))) (items
+              (probed.Label (Some (pos 7)) (at 155 162) (Some (mark 6 29))
+              ∷ probed.Null (at 162 163) (Some 17) ∷ [])) (at 145 151) (at 145 164) (Some 16)
               (Some (mark 6 28))
-              ∷ p.Label (Some (pos 3)) (at 164 171) (Some (mark 5 30))
-              ∷ p.EffectStatement (stored 2 (at 171 172) (number 3 (at 173 174)) (at 171 174))
+              ∷ probed.Label (Some (pos 3)) (at 164 171) (Some (mark 5 30))
+              ∷ probed.EffectStatement (stored 2 (at 171 172) (number 3 (at 173 174)) (at 171 174))
               (at 171 175) (Some 18) ∷ []))
               (at 111 117) (at 111 176) (Some 13) (Some (mark 5 25))
-              ∷ p.DoWhile (p.EffectStatement
+              ∷ probed.DoWhile (probed.EffectStatement
               (updated Sub 1 (at 179 180) (number 1 (at 182 183)) (at 179 183)) (at 179 184)
               (Some 20))
               (alone 3 41 (binary Gt (var 1 (at 190 191)) (number 0 (at 192 193)) (at 190 193)))
               (at 176 178) (at 176 195) (Some 19)
-              ∷ p.For (p.StartEffects []) (Some (decision 4 43 (p.Not (p.Logic Or
+              ∷ probed.For (probed.StartEffects []) (Some (decision 4 43 (probed.Not (probed.Logic Or
               (condition 4 1 (var 0 (at 203 204))) (condition 4 1 (var 1 (at 206 207)))
               (at 203 207)) (at 201 208)))) []
-              (p.EffectStatement (p.NumberEffect (p.Call (p.call 0
-              (p.arguments (p.NumberArgument (var 1 (at 211 212)))
-              (p.arguments (p.NumberArgument (var 2 (at 213 214))) p.no_arguments)) None
+              (probed.EffectStatement (probed.NumberEffect (probed.Call (probed.call 0
+              (probed.arguments (probed.NumberArgument (var 1 (at 211 212)))
+              (probed.arguments (probed.NumberArgument (var 2 (at 213 214))) probed.no_arguments)) None
               (at 209 215)) Int) true) (at 209 216) (Some 22))
               (at 195 200) (at 195 216) (Some 21)
-              ∷ p.Switch (p.Probe (probe.Switch 7) (var 1 (at 223 224))) (items
-              (p.Label None (at 226 234) (Some (mark 7 31))
-              ∷ p.Return p.ReturnNothing (at 234 241) (Some 24) (Some 4) ∷ []))
+              ∷ probed.Switch (probed.Probe (probe.Switch 7) (var 1 (at 223 224))) (items
+              (probed.Label None (at 226 234) (Some (mark 7 31))
+              ∷ probed.Return probed.ReturnNothing (at 234 241) (Some 24) (Some 4) ∷ []))
               (at 216 222) (at 216 242) (Some 23) None
               ∷ []);
           closing = at 242 243;
@@ -306,9 +306,9 @@ tree = record {
           name = 104 ∷ [];
           name_span = at 248 249;
           parameters = [];
-          result = t.NoResult;
+          result = typed.NoResult;
           objects = [];
-          body = p.no_statements;
+          body = probed.no_statements;
           closing = at 256 257;
           registers = 0;
           entry = Some 2;

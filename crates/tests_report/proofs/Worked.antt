@@ -10,6 +10,7 @@ use Rattle.tests_report.specs.Exits.{exits_asked, loops, plain, switches}
 use Rattle.tests_report.specs.Forms.{AllMetCsv, AllMetJson, Fields, LongName, ReasonsCsv, ReasonsJson, TestsJson}
 use Rattle.tests_report.specs.Flap.{Reasoned, Unreasoned}
 use Rattle.tests_report.specs.Places.{TwoFunctions, counted_bodies, labelled_bodies, labels_asked, statements_asked}
+use Rattle.tests_report.specs.Whole.{InCsv, InJson, InText, InTextOfRecord, Vectors}
 use Rattle.tests_report.specs.Rows.{AllMet, Failed, Ids, Limits, Negated, NoneRun, Reasons, Settled, States, SummedUp, TestLines, TwoAnds, TwoOrs}
 
 pub all_met : AllMet
@@ -119,3 +120,23 @@ long_name = refl
 pub tests_json : TestsJson
 unfolding digits serde_json_on_literals
 tests_json = (refl, refl)
+
+pub in_text : InText
+unfolding digits serde_json_on_literals lines_in_form
+in_text = refl
+
+pub in_text_of_record : InTextOfRecord
+unfolding digits serde_json_on_literals lines_in_form
+in_text_of_record = refl
+
+pub in_csv : InCsv
+unfolding digits escaped fields_text is_blank lines_in_form
+in_csv = refl
+
+pub in_json : InJson
+unfolding digits serde_json_on_literals lines_in_form json_data
+in_json = refl
+
+pub vectors : Vectors
+unfolding digits
+vectors = refl

@@ -5,3 +5,4 @@ pub mod Bodies
 pub mod Exits
 pub mod Places
 pub mod Forms
+pub mod Whole

@@ -6,6 +6,7 @@ ghost use Rattle.tests_report.specs.Flap.{Reasoned, Unreasoned};
 ghost use Rattle.tests_report.specs.Forms.{AllMetCsv, AllMetJson, Fields, LongName, ReasonsCsv, ReasonsJson, TestsJson};
 ghost use Rattle.tests_report.specs.Places.{TwoFunctions, counted_bodies, labelled_bodies, labels_asked, statements_asked};
 ghost use Rattle.tests_report.specs.Rows.{AllMet, Failed, Ids, Limits, Negated, NoneRun, Reasons, Settled, States, SummedUp, TestLines, TwoAnds, TwoOrs};
+ghost use Rattle.tests_report.specs.Whole.{InCsv, InJson, InText, InTextOfRecord, Vectors};
 
 /// A whole report where all is met, by either kind of independence.
 pub fn all_met()
@@ -129,4 +130,18 @@ pub fn fields()
 /// Tests as JSON, of a run and of a record.
 pub fn tests_as_json()
     ensures { TestsJson }
+{}
+
+/// A whole report with each verdict, on a source of two lines: as text, from a run and from a
+/// record, as rows of comma-separated fields, and as JSON.
+pub fn not_all_met()
+    ensures text { InText }
+    ensures record_text { InTextOfRecord }
+    ensures csv { InCsv }
+    ensures json { InJson }
+{}
+
+/// The lines of the vectors that tests evaluate, of two decisions.
+pub fn vectors()
+    ensures { Vectors }
 {}

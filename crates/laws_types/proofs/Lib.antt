@@ -1,0 +1,4 @@
+mod IntTypes
+mod ExactValues
+mod ExactInitializers
+mod ExactUnits
