@@ -143,7 +143,8 @@ both_exact e f h k =
     let y = convert_exact (common_type e f) f k in (
       ap (λ a. common_of a (type_of f)) (sym x.own)
           ∙ ap (common_of (own_type (convert_to (common_type e f) e))) (sym y.own),
-      (x.operand, y.operand),
+      x.operand,
+      y.operand,
     )
 
 stored_number : (place : Place) (b : Base) (ls : List ℕ) → IsExactPlace place
@@ -322,7 +323,7 @@ shifted_exact : (e f : typed.Expression) → IsTested e → IsTested f
 shifted_exact e f h k =
     let x = promote_exact e h in
     let y = promote_exact f k in
-    ((x.is, y.is), (x.operand, y.operand))
+    ((x.is, y.is), x.operand, y.operand)
 
 binary_exact : (operator : BinaryOperator) (span : Span) (e f : typed.Expression) → IsTested e → IsTested f
     → IsTested (binary_of operator span e f)
@@ -351,7 +352,7 @@ number_arms : (span : Span) (e : typed.Expression) (v w : Value) → IsTested e 
     → WhereSome IsExactValue (lift2 (choice_of span e) (number_in v) (number_in w))
 number_arms span e v w h p q =
     lift_where IsTested IsTested IsExactValue (choice_of span e) (number_in v) (number_in w)
-    (λ f g k l. (tt, (h, both_exact f g k l)))
+    (λ f g k l. let both = both_exact f g k l in (tt, (h, both.0, both.1, both.2)))
     (number_exact v p) (number_exact w q)
 
 arms_exact : (span : Span) (e : typed.Expression) (v w : Value) → IsTested e → IsExactValue v → IsExactValue w
@@ -405,7 +406,7 @@ assign_exact : (all : List Structure) (span : Span) (v : Value) (place : Place) 
     → IsExactValue v → IsExactPlace place → WhereSome IsExactEffect (assign_effect all span v place b ls)
 assign_exact all span v place (Integer a) [] h k =
     map_where IsTested IsExactEffect (λ e. typed.Assign place a (convert_to a e) span) (number_in v)
-    (λ e p. let x = convert_exact a e p in (k, (x.type, x.operand))) (number_exact v h)
+    (λ e p. let x = convert_exact a e p in (k, x.type, x.operand)) (number_exact v h)
 assign_exact all span v place (Tagged n) [] h k =
     map_where IsExactStructure IsExactEffect
     (λ w. typed.Copy place w (cells (layout_of all (plain (Tagged n)))) span) (structure_in n v) (λ w p. (k, p)) (structure_exact n v h)
@@ -426,16 +427,16 @@ moved_exact a e h = let x = promote_exact e h in ((refl, x.is), x.operand)
 update_of_exact : (operator : AssignmentOperator) (place : Place) (a : IntType) (e : typed.Expression)
     (span : Span) → IsExactPlace place → IsTested e → WhereSome IsExactEffect (update_of operator place a e span)
 update_of_exact assign.Assign place a e span h k = tt
-update_of_exact assign.Multiply place a e span h k = (h, sides_exact a e k)
-update_of_exact assign.Divide place a e span h k = (h, sides_exact a e k)
-update_of_exact assign.Remainder place a e span h k = (h, sides_exact a e k)
-update_of_exact assign.Add place a e span h k = (h, sides_exact a e k)
-update_of_exact assign.Subtract place a e span h k = (h, sides_exact a e k)
-update_of_exact assign.ShiftLeft place a e span h k = (h, moved_exact a e k)
-update_of_exact assign.ShiftRight place a e span h k = (h, moved_exact a e k)
-update_of_exact assign.BitAnd place a e span h k = (h, sides_exact a e k)
-update_of_exact assign.BitXor place a e span h k = (h, sides_exact a e k)
-update_of_exact assign.BitOr place a e span h k = (h, sides_exact a e k)
+update_of_exact assign.Multiply place a e span h k = let x = sides_exact a e k in (h, x.0, x.1)
+update_of_exact assign.Divide place a e span h k = let x = sides_exact a e k in (h, x.0, x.1)
+update_of_exact assign.Remainder place a e span h k = let x = sides_exact a e k in (h, x.0, x.1)
+update_of_exact assign.Add place a e span h k = let x = sides_exact a e k in (h, x.0, x.1)
+update_of_exact assign.Subtract place a e span h k = let x = sides_exact a e k in (h, x.0, x.1)
+update_of_exact assign.ShiftLeft place a e span h k = let x = moved_exact a e k in (h, x.0, x.1)
+update_of_exact assign.ShiftRight place a e span h k = let x = moved_exact a e k in (h, x.0, x.1)
+update_of_exact assign.BitAnd place a e span h k = let x = sides_exact a e k in (h, x.0, x.1)
+update_of_exact assign.BitXor place a e span h k = let x = sides_exact a e k in (h, x.0, x.1)
+update_of_exact assign.BitOr place a e span h k = let x = sides_exact a e k in (h, x.0, x.1)
 
 update_exact : (operator : AssignmentOperator) (span : Span) (v : Value) (place : Place) (b : Base)
     (ls : List ℕ) → IsExactValue v → IsExactPlace place
