@@ -4,3 +4,5 @@ pub mod Conversions
 pub mod Constants
 pub mod Heights
 pub mod Exact
+pub mod Places
+pub mod Statements

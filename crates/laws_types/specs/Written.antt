@@ -1,5 +1,5 @@
 -- Expressions as they are written, in a scope with an object of each integer type, and what they
--- stand for. Where they stand in a text plays no part: all is between the bytes 10 and 20.
+-- stand for. Names and constants stand at the bytes 10 to 20, and what is made of them at 30 to 40.
 use Rattle.std.specs.Prelude.{ℕ, ◌+◌, ◌==◌, Bool, true, false, if◌then◌else◌, List, [], ◌∷◌, Option, Some, option_and_then}
 use Rattle.mc_span.specs.declared.span.Span.{Span}
 use Rattle.mc_tree.specs.Tree as tree
@@ -15,6 +15,9 @@ use Rattle.mc_typing.specs.Judgement.{judge}
 
 abbrev pub here : Span
 here = record { start = 10; end = 20 }
+
+abbrev pub there : Span
+there = record { start = 30; end = 40 }
 
 -- ---- the integer types (C17 6.2.5), and which two are one
 

@@ -4,6 +4,8 @@ ghost use Rattle.laws_types.specs.Conversions.{AssignedIsConverted, LabelsArePro
 ghost use Rattle.laws_types.specs.Exact.{UnitsAreExact};
 ghost use Rattle.laws_types.specs.Heights.{ExpressionsHaveLevels, StatementsHaveLevels};
 ghost use Rattle.laws_types.specs.Operators.{AssignmentsAreKept, OperatorsAreKept};
+ghost use Rattle.laws_types.specs.Places.{CallsAreResolved, NamesAreResolved};
+ghost use Rattle.laws_types.specs.Statements.{StatementsAreKept};
 
 /// Each operator of the source is the same one in the typed program, with its operands in order.
 pub fn operators_are_kept()
@@ -61,4 +63,15 @@ pub fn expressions_have_levels()
 /// Each part of each effect, declaration and statement the highest once.
 pub fn statements_have_levels()
     ensures { StatementsHaveLevels }
+{}
+
+/// Names, elements, members and calls: which object, which part, which function.
+pub fn names_are_resolved()
+    ensures values { NamesAreResolved }
+    ensures effects { CallsAreResolved }
+{}
+
+/// Each statement is the same one in the typed program, with its parts in order and its keyword.
+pub fn statements_are_kept()
+    ensures { StatementsAreKept }
 {}

@@ -6,6 +6,7 @@ mod laws;
 
 pub use laws::{
     assigned_is_converted, assignments_are_kept, constants_have_their_types,
-    expressions_have_levels, labels_are_promoted, one_is_promoted, operands_are_converted,
-    operators_are_kept, statements_have_levels, units_are_exact, words_have_their_types,
+    expressions_have_levels, labels_are_promoted, names_are_resolved, one_is_promoted,
+    operands_are_converted, operators_are_kept, statements_are_kept, statements_have_levels,
+    units_are_exact, words_have_their_types,
 };

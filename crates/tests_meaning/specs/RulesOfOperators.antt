@@ -61,6 +61,12 @@ shifted s a b = program (function (typed.NumberParameter a ∷ typed.NumberParam
     (does (typed.Update (local 0) a (operator.Shift s) a (typed.Read (local 1) b) here)
     ∷ gives (typed.Read (local 0) a) ∷ []) ∷ [])
 
+-- int f(int x){x/=2u;return x;}: the old value becomes unsigned before the division
+abbrev pub halved : Program
+halved = program (of_ints 1 1
+    (does (typed.Update (local 0) Int (operator.Binary Div) UInt (typed.Constant (pos 2) UInt here)
+    here) ∷ gives (var 0) ∷ []) ∷ [])
+
 -- ---- comparisons as values (C17 6.5.8p6, 6.5.9p3)
 
 -- int f(int a,int b){return (a<b)+2*(a>b)+4*(a<=b)+8*(a>=b)+16*(a==b)+32*(a!=b);}: each of them is a
@@ -143,6 +149,7 @@ rows =
     ∷ calls (shifted Right Int Long) 0 (negsuc 7 ∷ pos 2 ∷ [])
     (gave (negsuc 1) 97 (begun ++ Started 1 ∷ Exited 0 ∷ []))
     ∷ calls (shifted Right Int Long) 0 (pos 1 ∷ pos 4294967296 ∷ []) (trapped trap.Shift 98 begun)
+    ∷ calls halved 0 (negsuc 1 ∷ []) (gave (pos 2147483647) 97 (begun ++ Started 1 ∷ Exited 0 ∷ []))
     ∷ calls comparisons 0 (pos 1 ∷ pos 2 ∷ []) (gave (pos 37) 98 (compared
     (evaluated 0 (T ∷ []) true ∷ evaluated 1 (F ∷ []) false ∷ evaluated 2 (T ∷ []) true
     ∷ evaluated 3 (F ∷ []) false ∷ evaluated 4 (F ∷ []) false ∷ evaluated 5 (T ∷ []) true ∷ [])))
