@@ -1,6 +1,6 @@
 -- Conversions that C implies, of operands of all types: which there are, and that there is none
 -- where a type is the right one already (C17 6.3.1.1, 6.3.1.8, 6.5.16.1).
-use Rattle.std.specs.Prelude.{◌≡◌, List, [], map, flat_map, Some}
+use Rattle.std.specs.Prelude.{◌≡◌, List, map, flat_map, Some}
 use Rattle.mc_tree.specs.declared.expressions.unary_operator.UnaryOperator.TheVariants as unary
 use Rattle.mc_tree.specs.declared.expressions.binary_operator.BinaryOperator.TheVariants as binary
 use Rattle.mc_tree.specs.declared.expressions.assignment_operator.AssignmentOperator.TheVariants as assign
