@@ -1,6 +1,7 @@
 pub mod Views
 pub mod Stores
 pub mod Frames
+pub mod Keeps
 pub mod Typed
 pub mod Calls
 pub mod Truths

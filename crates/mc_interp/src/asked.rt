@@ -11,9 +11,10 @@ ghost use Rattle.mc_probe.specs.Expressions as does;
 ghost use Rattle.mc_probe.specs.Tree as probed;
 ghost use Rattle.mc_probe.specs.WellFormed.{Fits};
 ghost use Rattle.mc_interp.specs.Calls.{Invokes};
-ghost use Rattle.mc_interp.specs.Frames.{activation_of, scope_in, IsKept, IsReady};
-ghost use Rattle.mc_interp.specs.Stores.{limits_of, state_of, told, Did};
+ghost use Rattle.mc_interp.specs.Frames.{activation_of, scope_in, IsReady};
+ghost use Rattle.mc_interp.specs.Stores.{state_of, told, Did};
 ghost use Rattle.mc_interp.specs.Views as prepared;
+ghost use Rattle.mc_interp.specs.Keeps.{KeepsBits, KeepsLimits, KeepsRows};
 
 use crate::expressions::truth;
 use crate::frame::{Called, Frame};
@@ -36,9 +37,8 @@ pub(crate) fn leaf(one: &Leaf, frame: &Frame<'_, '_, '_>, store: &mut Store) -> 
         (state_of store.old) ≡ told (option_map
         (number_of (type_of (erase_expression (prepared.leaf_of one.now)))) result) store.new }
     ensures typed { IfSome result (Holds (type_of (erase_expression (prepared.leaf_of one.now)))) }
-    ensures kept { IfSome result (λ _. IsKept (scope_in frame.now) (activation_of frame.now)
-        store.old store.new) }
-    ensures limits { limits_of store.new ≡ limits_of store.old }
+    ensures kept { KeepsRows frame.now result store.old store.new }
+    ensures limits { KeepsLimits store.old store.new }
 {
     match one {
         Leaf::Local { slot, of, .. } => store.read(frame.base + slot.start, *of),
@@ -68,9 +68,8 @@ fn related(
         (activation_of frame.now) (probed.Binary (Binary (prepared.operator_of relation)) of
         (prepared.leaf_of left.now) (prepared.leaf_of right.now) span)) (state_of store.old)
         ≡ told result store.new }
-    ensures kept { IfSome result (λ _. IsKept (scope_in frame.now) (activation_of frame.now)
-        store.old store.new) }
-    ensures limits { limits_of store.new ≡ limits_of store.old }
+    ensures kept { KeepsRows frame.now result store.old store.new }
+    ensures limits { KeepsLimits store.old store.new }
 {
     let first = leaf(left, frame, store)?;
     let second = leaf(right, frame, store)?;
@@ -88,9 +87,8 @@ fn answer(question: &Question, frame: &Frame<'_, '_, '_>, store: &mut Store) -> 
     requires ready { IsReady frame.now store.old frame.now.program.now.bits }
     ensures ran { steps.as_does steps.is_true (does.value_of (activation_of frame.now)
         (prepared.question_of question.now)) (state_of store.old) ≡ told result store.new }
-    ensures kept { IfSome result (λ _. IsKept (scope_in frame.now) (activation_of frame.now)
-        store.old store.new) }
-    ensures limits { limits_of store.new ≡ limits_of store.old }
+    ensures kept { KeepsRows frame.now result store.old store.new }
+    ensures limits { KeepsLimits store.old store.new }
 {
     match question {
         Question::Compared {
@@ -132,9 +130,8 @@ fn negated(operand: &Question, frame: &Frame<'_, '_, '_>, store: &mut Store) -> 
     ensures ran { (span : Span) → steps.as_does steps.is_true (does.value_of
         (activation_of frame.now) (probed.Not (prepared.question_of operand.now) span))
         (state_of store.old) ≡ told result store.new }
-    ensures kept { IfSome result (λ _. IsKept (scope_in frame.now) (activation_of frame.now)
-        store.old store.new) }
-    ensures limits { limits_of store.new ≡ limits_of store.old }
+    ensures kept { KeepsRows frame.now result store.old store.new }
+    ensures limits { KeepsLimits store.old store.new }
 {
     let holds = answer(operand, frame, store)?;
     Some(!holds)
@@ -161,9 +158,8 @@ fn joined(
     ensures ran { (span : Span) → steps.as_does steps.is_true (does.value_of
         (activation_of frame.now) (probed.Logic operator (prepared.question_of left.now)
         (prepared.question_of right.now) span)) (state_of store.old) ≡ told result store.new }
-    ensures kept { IfSome result (λ _. IsKept (scope_in frame.now) (activation_of frame.now)
-        store.old store.new) }
-    ensures limits { limits_of store.new ≡ limits_of store.old }
+    ensures kept { KeepsRows frame.now result store.old store.new }
+    ensures limits { KeepsLimits store.old store.new }
 {
     let holds = answer(left, frame, store)?;
     if goes_on(operator, holds) {
@@ -190,10 +186,9 @@ pub(crate) fn tested<P: Probe, F: Fn(Called<'_, '_, '_>, &mut Store, &mut P) -> 
     requires invokes { Invokes frame.now P.bits P.leads (F.pre invoke) (F.post invoke) }
     ensures did { Did P.leads (steps.as_does steps.is_true (does.value_of (activation_of frame.now)
         (prepared.test_of test.now)) (state_of store.old)) result store.new probe.old probe.new }
-    ensures kept { IfSome result (λ _. IsKept (scope_in frame.now) (activation_of frame.now)
-        store.old store.new) }
-    ensures bits { P.bits probe.new ≡ P.bits probe.old }
-    ensures limits { limits_of store.new ≡ limits_of store.old }
+    ensures kept { KeepsRows frame.now result store.old store.new }
+    ensures bits { KeepsBits P.bits probe.old probe.new }
+    ensures limits { KeepsLimits store.old store.new }
 {
     match test {
         Test::Asked {

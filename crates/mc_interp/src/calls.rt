@@ -12,9 +12,10 @@ ghost use Rattle.mc_probe.specs.WellFormed.{FitStatements};
 ghost use Rattle.mc_interp.specs.Bodies.{flow_of, IsGivenFor, IsReturned};
 ghost use Rattle.mc_interp.specs.Calls.{callee_of, CallDid, CallKeeps, Invokes, IsCalled, IsResultOf};
 ghost use Rattle.mc_interp.specs.Entries.{inside_of, HasLeft, IntoRoom, IsOpened};
-ghost use Rattle.mc_interp.specs.Frames.{activation_of, scope_in, IsKept, IsReady};
-ghost use Rattle.mc_interp.specs.Stores.{given_of, lent_of, limits_of, passed_of, state_of, told, Did};
+ghost use Rattle.mc_interp.specs.Frames.{activation_of, scope_in, IsReady};
+ghost use Rattle.mc_interp.specs.Stores.{given_of, lent_of, passed_of, state_of, told, Did};
 ghost use Rattle.mc_interp.specs.Views as prepared;
+ghost use Rattle.mc_interp.specs.Keeps.{KeepsBits, KeepsLimits, KeepsRowsForAll};
 
 use crate::entries::{lend, levels_with, pass};
 use crate::flow::{Seek, has_left};
@@ -36,9 +37,9 @@ fn close<P: Probe>(flow: Flow, frame: &Frame<'_, '_, '_>, store: &mut Store, pro
         (Some (given_of store.new.given)) store.new probe.old probe.new }
     ensures typed { (c : Scope) (w : Activation) → IsReturned c w flow store.old.given →
         IsGivenFor c w c.result store.new.given }
-    ensures kept { (c : Scope) (w : Activation) → IsKept c w store.old store.new }
-    ensures bits { P.bits probe.new ≡ P.bits probe.old }
-    ensures limits { limits_of store.new ≡ limits_of store.old }
+    ensures kept { KeepsRowsForAll store.old store.new }
+    ensures bits { KeepsBits P.bits probe.old probe.new }
+    ensures limits { KeepsLimits store.old store.new }
 {
     if !has_left(flow) {
         hit_some(frame.function.exit, frame, store, probe);
@@ -69,8 +70,8 @@ fn body<P: Probe, F: Fn(Called<'_, '_, '_>, &mut Store, &mut P) -> Option<()> + 
     ensures given { IfSome result (λ _. IsResultOf into (scope_in frame.now).result
         store.new.given) }
     ensures left { IfSome result (λ _. HasLeft frame.now into store.old store.new) }
-    ensures bits { P.bits probe.new ≡ P.bits probe.old }
-    ensures limits { limits_of store.new ≡ limits_of store.old }
+    ensures bits { KeepsBits P.bits probe.old probe.new }
+    ensures limits { KeepsLimits store.old store.new }
 {
     let flow = statements(items, Seek::Running, frame, invoke, store, probe)?;
     close(flow, frame, store, probe);
@@ -99,7 +100,7 @@ fn begin<'f, 'a, 'p>(
     ensures stopped { IfNone result (calls (tree_of called.entry.program.now) called.entry.depth
         called.entry.levels called.entry.function called.entry.into
         (map passed_of called.entry.passed.now) (state_of store.old) ≡ told None store.new) }
-    ensures limits { limits_of store.new ≡ limits_of store.old }
+    ensures limits { KeepsLimits store.old store.new }
 {
     let function = called.program.program().function(called.function);
     let shape = shape_at(called.shapes, called.function);
@@ -141,8 +142,8 @@ pub(crate) fn invoke<P: Probe>(
     ensures given { IfSome result (λ _. IsResultOf called.entry.into
         (result_at (callee_of called.entry)) store.new.given) }
     ensures keeps { IfSome result (λ _. CallKeeps called.entry store.old store.new) }
-    ensures bits { P.bits probe.new ≡ P.bits probe.old }
-    ensures limits { limits_of store.new ≡ limits_of store.old }
+    ensures bits { KeepsBits P.bits probe.old probe.new }
+    ensures limits { KeepsLimits store.old store.new }
 {
     if called.depth == 0 {
         return store.too_deep();

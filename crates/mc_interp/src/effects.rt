@@ -1,24 +1,25 @@
 //! Effects: what is evaluated for what it does (C17 6.5.16, 6.8.3).
-ghost use Rattle.std.specs.Prelude.{◌≡◌, ◌<◌, ◌≤◌, Some, length, map, option_map, IfSome};
+ghost use Rattle.std.specs.Prelude.{◌≡◌, ◌<◌, ◌≤◌, Some, length, map, option_map};
 ghost use Rattle.mc_limits.specs.Limits.{most_run_outputs};
 ghost use Rattle.mc_typed.specs.Layout.{Scalar, cells as cells_of};
 ghost use Rattle.mc_typed.specs.Views as plain;
-ghost use Rattle.mc_typed.specs.Sound.{Scope, place_type, structure_type, type_of, HasOperands, IsExpression, IsPlace, IsStructure};
+ghost use Rattle.mc_typed.specs.Sound.{place_type, structure_type, type_of, HasOperands, IsExpression, IsPlace, IsStructure};
 ghost use Rattle.mc_value.specs.declared.int_type.IntType.{IntType};
 ghost use Rattle.mc_words.specs.Words.{number_of, Holds};
 ghost use Rattle.mc_steps.specs.Expressions as steps;
 ghost use Rattle.mc_steps.specs.Runs.{spends};
-ghost use Rattle.mc_probe.specs.Flat.{flat, Activation};
+ghost use Rattle.mc_probe.specs.Flat.{flat};
 ghost use Rattle.mc_probe.specs.Tree as tree;
 ghost use Rattle.mc_probe.specs.Expressions as does;
 ghost use Rattle.mc_probe.specs.Statements as effects;
 ghost use Rattle.mc_probe.specs.Views as view;
 ghost use Rattle.mc_probe.specs.WellFormed.{Fits, FitEffects, FitsCall, FitsEffect, FitsPlace, FitsStructure};
-ghost use Rattle.mc_interp.specs.Stores.{limits_of, state_of, told, Did};
+ghost use Rattle.mc_interp.specs.Stores.{state_of, told, Did};
 ghost use Rattle.mc_interp.specs.Effects.{appends, AreAnyEffects, IsAnyEffect};
-ghost use Rattle.mc_interp.specs.Frames.{activation_of, scope_in, IsReady, IsKept};
+ghost use Rattle.mc_interp.specs.Frames.{activation_of, scope_in, IsReady};
 ghost use Rattle.mc_interp.specs.Calls.{Invokes};
 ghost use Rattle.mc_interp.specs.Typed.{IsAnyCall};
+ghost use Rattle.mc_interp.specs.Keeps.{KeepsBits, KeepsLimits, KeepsRows, KeepsRowsForAll};
 
 use crate::expressions::{call, place, structure, truth, value};
 use crate::frame::{Called, Frame};
@@ -51,10 +52,9 @@ fn assign<P: Probe, F: Fn(Called<'_, '_, '_>, &mut Store, &mut P) -> Option<()> 
         (does.place_of (activation_of frame.now) (view.place_of target.now))
         (does.value_of (activation_of frame.now) (view.expression_of right.now))
         (state_of store.old)) result store.new probe.old probe.new }
-    ensures kept { IfSome result (λ _. IsKept (scope_in frame.now) (activation_of frame.now)
-        store.old store.new) }
-    ensures bits { P.bits probe.new ≡ P.bits probe.old }
-    ensures limits { limits_of store.new ≡ limits_of store.old }
+    ensures kept { KeepsRows frame.now result store.old store.new }
+    ensures bits { KeepsBits P.bits probe.old probe.new }
+    ensures limits { KeepsLimits store.old store.new }
 {
     let at = place(target, frame, invoke, store, probe)?;
     let word = value(right, frame, invoke, store, probe)?;
@@ -88,10 +88,9 @@ fn update<P: Probe, F: Fn(Called<'_, '_, '_>, &mut Store, &mut P) -> Option<()> 
         (does.place_of (activation_of frame.now) (view.place_of target.now))
         (does.value_of (activation_of frame.now) (view.expression_of right.now))
         (state_of store.old)) result store.new probe.old probe.new }
-    ensures kept { IfSome result (λ _. IsKept (scope_in frame.now) (activation_of frame.now)
-        store.old store.new) }
-    ensures bits { P.bits probe.new ≡ P.bits probe.old }
-    ensures limits { limits_of store.new ≡ limits_of store.old }
+    ensures kept { KeepsRows frame.now result store.old store.new }
+    ensures bits { KeepsBits P.bits probe.old probe.new }
+    ensures limits { KeepsLimits store.old store.new }
 {
     let at = place(target, frame, invoke, store, probe)?;
     let word = value(right, frame, invoke, store, probe)?;
@@ -123,10 +122,9 @@ fn copy<P: Probe, F: Fn(Called<'_, '_, '_>, &mut Store, &mut P) -> Option<()> + 
         (does.place_of (activation_of frame.now) (view.place_of target.now))
         (does.structure_of (activation_of frame.now) (view.structure_of right.now))
         (state_of store.old)) result store.new probe.old probe.new }
-    ensures kept { IfSome result (λ _. IsKept (scope_in frame.now) (activation_of frame.now)
-        store.old store.new) }
-    ensures bits { P.bits probe.new ≡ P.bits probe.old }
-    ensures limits { limits_of store.new ≡ limits_of store.old }
+    ensures kept { KeepsRows frame.now result store.old store.new }
+    ensures bits { KeepsBits P.bits probe.old probe.new }
+    ensures limits { KeepsLimits store.old store.new }
 {
     let at = place(target, frame, invoke, store, probe)?;
     let from = structure(right, frame, invoke, store, probe)?;
@@ -149,10 +147,9 @@ fn drop_value<P: Probe, F: Fn(Called<'_, '_, '_>, &mut Store, &mut P) -> Option<
     ensures did { Did P.leads (steps.drop_does
         (does.value_of (activation_of frame.now) (view.expression_of e.now))
         (state_of store.old)) result store.new probe.old probe.new }
-    ensures kept { IfSome result (λ _. IsKept (scope_in frame.now) (activation_of frame.now)
-        store.old store.new) }
-    ensures bits { P.bits probe.new ≡ P.bits probe.old }
-    ensures limits { limits_of store.new ≡ limits_of store.old }
+    ensures kept { KeepsRows frame.now result store.old store.new }
+    ensures bits { KeepsBits P.bits probe.old probe.new }
+    ensures limits { KeepsLimits store.old store.new }
 {
     value(e, frame, invoke, store, probe)?;
     Some(())
@@ -174,10 +171,9 @@ fn drop_structure<P: Probe, F: Fn(Called<'_, '_, '_>, &mut Store, &mut P) -> Opt
     ensures did { Did P.leads (steps.drop_does
         (does.structure_of (activation_of frame.now) (view.structure_of source.now))
         (state_of store.old)) result store.new probe.old probe.new }
-    ensures kept { IfSome result (λ _. IsKept (scope_in frame.now) (activation_of frame.now)
-        store.old store.new) }
-    ensures bits { P.bits probe.new ≡ P.bits probe.old }
-    ensures limits { limits_of store.new ≡ limits_of store.old }
+    ensures kept { KeepsRows frame.now result store.old store.new }
+    ensures bits { KeepsBits P.bits probe.old probe.new }
+    ensures limits { KeepsLimits store.old store.new }
 {
     structure(source, frame, invoke, store, probe)?;
     Some(())
@@ -198,10 +194,9 @@ fn drop_call<P: Probe, F: Fn(Called<'_, '_, '_>, &mut Store, &mut P) -> Option<(
     ensures did { Did P.leads (steps.drop_does
         (does.call_of (activation_of frame.now) (view.call_of made.now))
         (state_of store.old)) result store.new probe.old probe.new }
-    ensures kept { IfSome result (λ _. IsKept (scope_in frame.now) (activation_of frame.now)
-        store.old store.new) }
-    ensures bits { P.bits probe.new ≡ P.bits probe.old }
-    ensures limits { limits_of store.new ≡ limits_of store.old }
+    ensures kept { KeepsRows frame.now result store.old store.new }
+    ensures bits { KeepsBits P.bits probe.old probe.new }
+    ensures limits { KeepsLimits store.old store.new }
 {
     call(made, frame, invoke, store, probe)
 }
@@ -222,10 +217,9 @@ fn number_effect<P: Probe, F: Fn(Called<'_, '_, '_>, &mut Store, &mut P) -> Opti
     ensures did { Did P.leads (effects.effect_of (activation_of frame.now)
         (tree.NumberEffect (view.expression_of e.now) whole) (state_of store.old)) result
         store.new probe.old probe.new }
-    ensures kept { IfSome result (λ _. IsKept (scope_in frame.now) (activation_of frame.now)
-        store.old store.new) }
-    ensures bits { P.bits probe.new ≡ P.bits probe.old }
-    ensures limits { limits_of store.new ≡ limits_of store.old }
+    ensures kept { KeepsRows frame.now result store.old store.new }
+    ensures bits { KeepsBits P.bits probe.old probe.new }
+    ensures limits { KeepsLimits store.old store.new }
 {
     match e {
         Expression::Call { call: made, .. } if whole => {
@@ -262,10 +256,9 @@ fn structure_effect<P: Probe, F: Fn(Called<'_, '_, '_>, &mut Store, &mut P) -> O
     ensures did { Did P.leads (effects.effect_of (activation_of frame.now)
         (tree.StructureEffect (view.structure_of source.now) whole) (state_of store.old)) result
         store.new probe.old probe.new }
-    ensures kept { IfSome result (λ _. IsKept (scope_in frame.now) (activation_of frame.now)
-        store.old store.new) }
-    ensures bits { P.bits probe.new ≡ P.bits probe.old }
-    ensures limits { limits_of store.new ≡ limits_of store.old }
+    ensures kept { KeepsRows frame.now result store.old store.new }
+    ensures bits { KeepsBits P.bits probe.old probe.new }
+    ensures limits { KeepsLimits store.old store.new }
 {
     match source {
         Structure::Returned { call: made } if whole => {
@@ -285,8 +278,8 @@ impl Store {
         requires typed { Holds IntType.Int number }
         ensures ran { appends (number_of IntType.Int number) (state_of self.old)
             ≡ told result self.new }
-        ensures kept { (c : Scope) (w : Activation) → IsKept c w self.old self.new }
-        ensures limits { limits_of self.new ≡ limits_of self.old }
+        ensures kept { KeepsRowsForAll self.old self.new }
+        ensures limits { KeepsLimits self.old self.new }
     {
         if self.output.len() < MOST_RUN_OUTPUTS as usize {
             self.output.push(number.cast_signed() as i32);
@@ -304,8 +297,8 @@ impl Store {
         requires typed { Holds IntType.Int number }
         ensures ran { spends (appends (number_of IntType.Int number)) (state_of self.old)
             ≡ told result self.new }
-        ensures kept { (c : Scope) (w : Activation) → IsKept c w self.old self.new }
-        ensures limits { limits_of self.new ≡ limits_of self.old }
+        ensures kept { KeepsRowsForAll self.old self.new }
+        ensures limits { KeepsLimits self.old self.new }
     {
         self.spend()?;
         self.append(number)
@@ -328,10 +321,9 @@ fn output<P: Probe, F: Fn(Called<'_, '_, '_>, &mut Store, &mut P) -> Option<()> 
     ensures did { Did P.leads (steps.output_does
         (does.value_of (activation_of frame.now) (view.expression_of e.now))
         (state_of store.old)) result store.new probe.old probe.new }
-    ensures kept { IfSome result (λ _. IsKept (scope_in frame.now) (activation_of frame.now)
-        store.old store.new) }
-    ensures bits { P.bits probe.new ≡ P.bits probe.old }
-    ensures limits { limits_of store.new ≡ limits_of store.old }
+    ensures kept { KeepsRows frame.now result store.old store.new }
+    ensures bits { KeepsBits P.bits probe.old probe.new }
+    ensures limits { KeepsLimits store.old store.new }
 {
     let word = value(e, frame, invoke, store, probe)?;
     store.output(word)
@@ -351,10 +343,9 @@ pub(crate) fn effect<P: Probe, F: Fn(Called<'_, '_, '_>, &mut Store, &mut P) -> 
     requires invokes { Invokes frame.now P.bits P.leads (F.pre invoke) (F.post invoke) }
     ensures did { Did P.leads (effects.effect_of (activation_of frame.now)
         (view.effect_of whole.now) (state_of store.old)) result store.new probe.old probe.new }
-    ensures kept { IfSome result (λ _. IsKept (scope_in frame.now) (activation_of frame.now)
-        store.old store.new) }
-    ensures bits { P.bits probe.new ≡ P.bits probe.old }
-    ensures limits { limits_of store.new ≡ limits_of store.old }
+    ensures kept { KeepsRows frame.now result store.old store.new }
+    ensures bits { KeepsBits P.bits probe.old probe.new }
+    ensures limits { KeepsLimits store.old store.new }
 {
     match whole {
         Effect::Assign {
@@ -418,10 +409,9 @@ pub(crate) fn effects<P: Probe, F: Fn(Called<'_, '_, '_>, &mut Store, &mut P) ->
     ensures did { Did P.leads (effects.effects_of (activation_of frame.now)
         (map view.effect_of all.now) (state_of store.old)) result store.new
         probe.old probe.new }
-    ensures kept { IfSome result (λ _. IsKept (scope_in frame.now) (activation_of frame.now)
-        store.old store.new) }
-    ensures bits { P.bits probe.new ≡ P.bits probe.old }
-    ensures limits { limits_of store.new ≡ limits_of store.old }
+    ensures kept { KeepsRows frame.now result store.old store.new }
+    ensures bits { KeepsBits P.bits probe.old probe.new }
+    ensures limits { KeepsLimits store.old store.new }
 {
     for whole in all {
         effect(whole, frame, invoke, store, probe)?;

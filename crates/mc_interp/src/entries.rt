@@ -6,7 +6,7 @@ ghost use Rattle.mc_limits.specs.Limits.{most_levels, most_parameters, most_run_
 ghost use Rattle.mc_value.specs.declared.int_type.IntType.{IntType};
 ghost use Rattle.mc_typed.specs.declared.plans.Ending.{Ending};
 ghost use Rattle.mc_typed.specs.Levels.{limited};
-ghost use Rattle.mc_typed.specs.Sound.{Scope, values_of};
+ghost use Rattle.mc_typed.specs.Sound.{values_of};
 ghost use Rattle.mc_typed.specs.Tree.{ParameterType};
 ghost use Rattle.mc_typed.specs.Views as plain;
 ghost use Rattle.mc_steps.specs.Runs.{changes, spends, stops};
@@ -15,12 +15,12 @@ ghost use Rattle.mc_steps.specs.Calls as steps;
 ghost use Rattle.mc_cells.specs.Rows.{with_cells};
 ghost use Rattle.mc_stack.specs.Rooms.{with_values};
 ghost use Rattle.mc_probe.specs.Calls.{left, targets};
-ghost use Rattle.mc_probe.specs.Flat.{Activation, flat};
+ghost use Rattle.mc_probe.specs.Flat.{flat};
 ghost use Rattle.mc_interp.specs.Calls.{ArePassed, IsPassed};
 ghost use Rattle.mc_interp.specs.Entries.{enters, handed, handed_on, left_after, passed_one, CanHandOn, HasEntered, IsHandedOn, IsPassing, StandAll};
-ghost use Rattle.mc_interp.specs.Stores.{given_of, lent_of, limits_of, passed_of, state_of, told};
+ghost use Rattle.mc_interp.specs.Stores.{given_of, lent_of, passed_of, state_of, told};
 ghost use Rattle.mc_interp.specs.Typed.{HasTypes};
-ghost use Rattle.mc_interp.specs.Frames.{IsKept};
+ghost use Rattle.mc_interp.specs.Keeps.{KeepsLimits, KeepsRowsForAll};
 
 use crate::store::Store;
 use crate::values::{Given, Lent, MOST_PASSED, Passed};
@@ -41,8 +41,8 @@ impl Store {
     /// What a call gives is kept.
     pub(crate) fn keep(&mut self, given: Given)
         ensures given { self.new ≡ record self.old { given = given } }
-        ensures kept { (c : Scope) (w : Activation) → IsKept c w self.old self.new }
-        ensures limits { limits_of self.new ≡ limits_of self.old }
+        ensures kept { KeepsRowsForAll self.old self.new }
+        ensures limits { KeepsLimits self.old self.new }
     {
         self.given = given;
     }
@@ -52,7 +52,7 @@ impl Store {
         ensures ran { spends (stops Ending.Levels) (state_of self.old)
             ≡ told (option_map (λ _. given_of self.new.given) result) self.new }
         ensures none { result ≡ None }
-        ensures limits { limits_of self.new ≡ limits_of self.old }
+        ensures limits { KeepsLimits self.old self.new }
     {
         self.spend()?;
         self.ending = Ending::Levels;
@@ -66,7 +66,7 @@ impl Store {
         ensures ran { enters levels cells (state_of self.old) ≡ told result self.new }
         ensures entered { IfSome result (λ base. HasEntered base cells self.old self.new) }
         ensures levels { IfSome result (λ base. levels ≤ most_levels) }
-        ensures limits { limits_of self.new ≡ limits_of self.old }
+        ensures limits { KeepsLimits self.old self.new }
     {
         self.spend()?;
         if levels > MOST_LEVELS {
@@ -89,7 +89,7 @@ impl Store {
           registers = with_values self.old.registers
               (self.old.registers.items ++ replicate registers 0);
         } }
-        ensures limits { limits_of self.new ≡ limits_of self.old }
+        ensures limits { KeepsLimits self.old self.new }
     {
         self.registers.enter(registers as usize, 0);
     }
@@ -101,7 +101,7 @@ impl Store {
           cells = with_cells self.old.cells (take base self.old.cells.cells);
           registers = with_values self.old.registers (take first self.old.registers.items);
         } }
-        ensures limits { limits_of self.new ≡ limits_of self.old }
+        ensures limits { KeepsLimits self.old self.new }
     {
         self.cells.leave(base);
         self.registers.leave(first);
@@ -118,7 +118,7 @@ impl Store {
         ensures cells { length self.new.cells.cells ≡ length self.old.cells.cells }
         ensures registers { self.new.registers.items ≡ self.old.registers.items }
         ensures fuel { self.new.fuel ≡ self.old.fuel }
-        ensures limits { limits_of self.new ≡ limits_of self.old }
+        ensures limits { KeepsLimits self.old self.new }
     {
         if let Given::Structure { at, cells } = self.given {
             match into {
@@ -146,7 +146,7 @@ impl Store {
         ensures cells { length self.new.cells.cells ≡ base }
         ensures registers { length self.new.registers.items ≡ first }
         ensures fuel { self.new.fuel ≡ self.old.fuel }
-        ensures limits { limits_of self.new ≡ limits_of self.old }
+        ensures limits { KeepsLimits self.old self.new }
     {
         self.hand_on(into);
         self.leave(base, first);
@@ -179,7 +179,7 @@ fn pass_one<'o>(given: Passed, objects: &'o [Object], base: u32, store: &mut Sto
     ensures cells { length store.new.cells.cells ≡ length store.old.cells.cells }
     ensures registers { store.new.registers.items ≡ store.old.registers.items }
     ensures fuel { store.new.fuel ≡ store.old.fuel }
-    ensures limits { limits_of store.new ≡ limits_of store.old }
+    ensures limits { KeepsLimits store.old store.new }
 {
     match given {
         Passed::Array(_) => objects,
@@ -206,7 +206,7 @@ pub(crate) fn pass(passed: &[Passed], objects: &[Object], base: u32, store: &mut
     ensures cells { length store.new.cells.cells ≡ length store.old.cells.cells }
     ensures registers { store.new.registers.items ≡ store.old.registers.items }
     ensures fuel { store.new.fuel ≡ store.old.fuel }
-    ensures limits { limits_of store.new ≡ limits_of store.old }
+    ensures limits { KeepsLimits store.old store.new }
 {
     let mut left = objects;
     for given in passed {

@@ -9,11 +9,12 @@ ghost use Rattle.mc_words.specs.Words.{number_of, Holds};
 ghost use Rattle.mc_probe.specs.Expressions as does;
 ghost use Rattle.mc_probe.specs.Views as view;
 ghost use Rattle.mc_probe.specs.WellFormed.{Fits, FitsPlace, FitsStructure, FitsCall, FitArguments, FitsArgument};
-ghost use Rattle.mc_interp.specs.Stores.{given_of, limits_of, passed_of, state_of, Did};
+ghost use Rattle.mc_interp.specs.Stores.{given_of, passed_of, state_of, Did};
 ghost use Rattle.mc_interp.specs.Typed.{into_of, result_in, AreSomeArguments, AreTyped, ArePassedFor, IsAnyCall, IsPassedFor, IsPlaced, IsSomeArgument};
-ghost use Rattle.mc_interp.specs.Frames.{activation_of, scope_in, IsReady, IsKept};
+ghost use Rattle.mc_interp.specs.Frames.{activation_of, scope_in, IsReady};
 ghost use Rattle.mc_interp.specs.Calls.{Invokes, IsResultOf};
 ghost use Rattle.mc_interp.specs.Truths as truths;
+ghost use Rattle.mc_interp.specs.Keeps.{KeepsBits, KeepsLimits, KeepsRows};
 ghost use Rattle.mc_steps.specs.Expressions as steps;
 
 use crate::frame::{Called, Frame};
@@ -89,10 +90,9 @@ pub(crate) fn value<P: Probe, F: Fn(Called<'_, '_, '_>, &mut Store, &mut P) -> O
         (state_of store.old)) (option_map (number_of (type_of (plain.expression_of e.now))) result)
         store.new probe.old probe.new }
     ensures typed { IfSome result (Holds (type_of (plain.expression_of e.now))) }
-    ensures kept { IfSome result (λ _. IsKept (scope_in frame.now) (activation_of frame.now)
-        store.old store.new) }
-    ensures bits { P.bits probe.new ≡ P.bits probe.old }
-    ensures limits { limits_of store.new ≡ limits_of store.old }
+    ensures kept { KeepsRows frame.now result store.old store.new }
+    ensures bits { KeepsBits P.bits probe.old probe.new }
+    ensures limits { KeepsLimits store.old store.new }
 {
     if is_logical(e) {
         let holds = truth(e, frame, invoke, store, probe)?;
@@ -117,10 +117,9 @@ pub(crate) fn truth<P: Probe, F: Fn(Called<'_, '_, '_>, &mut Store, &mut P) -> O
     requires invokes { Invokes frame.now P.bits P.leads (F.pre invoke) (F.post invoke) }
     ensures did { Did P.leads (steps.as_does steps.is_true (does.value_of (activation_of frame.now)
         (view.expression_of e.now)) (state_of store.old)) result store.new probe.old probe.new }
-    ensures kept { IfSome result (λ _. IsKept (scope_in frame.now) (activation_of frame.now)
-        store.old store.new) }
-    ensures bits { P.bits probe.new ≡ P.bits probe.old }
-    ensures limits { limits_of store.new ≡ limits_of store.old }
+    ensures kept { KeepsRows frame.now result store.old store.new }
+    ensures bits { KeepsBits P.bits probe.old probe.new }
+    ensures limits { KeepsLimits store.old store.new }
 {
     match e {
         Expression::Not { operand, .. } => {
@@ -215,10 +214,9 @@ fn other<P: Probe, F: Fn(Called<'_, '_, '_>, &mut Store, &mut P) -> Option<()> +
         (state_of store.old)) (option_map (number_of (type_of (plain.expression_of e.now))) result)
         store.new probe.old probe.new }
     ensures typed { IfSome result (Holds (type_of (plain.expression_of e.now))) }
-    ensures kept { IfSome result (λ _. IsKept (scope_in frame.now) (activation_of frame.now)
-        store.old store.new) }
-    ensures bits { P.bits probe.new ≡ P.bits probe.old }
-    ensures limits { limits_of store.new ≡ limits_of store.old }
+    ensures kept { KeepsRows frame.now result store.old store.new }
+    ensures bits { KeepsBits P.bits probe.old probe.new }
+    ensures limits { KeepsLimits store.old store.new }
 {
     match e {
         Expression::Constant { value, of, .. } => Some(word(*of, *value)),
@@ -261,10 +259,9 @@ fn inner<P: Probe, F: Fn(Called<'_, '_, '_>, &mut Store, &mut P) -> Option<()> +
         (state_of store.old)) (option_map (number_of (type_of (plain.expression_of e.now))) result)
         store.new probe.old probe.new }
     ensures typed { IfSome result (Holds (type_of (plain.expression_of e.now))) }
-    ensures kept { IfSome result (λ _. IsKept (scope_in frame.now) (activation_of frame.now)
-        store.old store.new) }
-    ensures bits { P.bits probe.new ≡ P.bits probe.old }
-    ensures limits { limits_of store.new ≡ limits_of store.old }
+    ensures kept { KeepsRows frame.now result store.old store.new }
+    ensures bits { KeepsBits P.bits probe.old probe.new }
+    ensures limits { KeepsLimits store.old store.new }
 {
     match e {
         Expression::Constant { value, of, .. } => Some(word(*of, *value)),
@@ -349,10 +346,9 @@ pub(crate) fn place<P: Probe, F: Fn(Called<'_, '_, '_>, &mut Store, &mut P) -> O
         (state_of store.old)) result store.new probe.old probe.new }
     ensures placed { IfSome result (λ k. IsPlaced (scope_in frame.now) (activation_of frame.now) k
         (place_type (scope_in frame.now) (plain.place_of object.now))) }
-    ensures kept { IfSome result (λ _. IsKept (scope_in frame.now) (activation_of frame.now)
-        store.old store.new) }
-    ensures bits { P.bits probe.new ≡ P.bits probe.old }
-    ensures limits { limits_of store.new ≡ limits_of store.old }
+    ensures kept { KeepsRows frame.now result store.old store.new }
+    ensures bits { KeepsBits P.bits probe.old probe.new }
+    ensures limits { KeepsLimits store.old store.new }
 {
     match object {
         Place::Local { slot, .. } => Some(frame.base + slot.start),
@@ -410,10 +406,9 @@ pub(crate) fn structure<
         probe.old probe.new }
     ensures placed { IfSome result (λ k. IsPlaced (scope_in frame.now) (activation_of frame.now) k
         (structure_type (scope_in frame.now) (plain.structure_of source.now))) }
-    ensures kept { IfSome result (λ _. IsKept (scope_in frame.now) (activation_of frame.now)
-        store.old store.new) }
-    ensures bits { P.bits probe.new ≡ P.bits probe.old }
-    ensures limits { limits_of store.new ≡ limits_of store.old }
+    ensures kept { KeepsRows frame.now result store.old store.new }
+    ensures bits { KeepsBits P.bits probe.old probe.new }
+    ensures limits { KeepsLimits store.old store.new }
 {
     match source {
         Structure::Stored { place: object } => place(object, frame, invoke, store, probe),
@@ -443,10 +438,9 @@ pub(crate) fn call<P: Probe, F: Fn(Called<'_, '_, '_>, &mut Store, &mut P) -> Op
     ensures given { IfSome result (λ _. IsResultOf
         (into_of (activation_of frame.now) (plain.call_of made.now))
         (result_in (scope_in frame.now) (plain.call_of made.now)) store.new.given) }
-    ensures kept { IfSome result (λ _. IsKept (scope_in frame.now) (activation_of frame.now)
-        store.old store.new) }
-    ensures bits { P.bits probe.new ≡ P.bits probe.old }
-    ensures limits { limits_of store.new ≡ limits_of store.old }
+    ensures kept { KeepsRows frame.now result store.old store.new }
+    ensures bits { KeepsBits P.bits probe.old probe.new }
+    ensures limits { KeepsLimits store.old store.new }
 {
     let mut passed = ArrayVec::new();
     arguments(&made.arguments, frame, invoke, &mut passed, store, probe)?;
@@ -488,10 +482,9 @@ fn arguments<P: Probe, F: Fn(Called<'_, '_, '_>, &mut Store, &mut P) -> Option<(
         AreTyped (scope_in frame.now) (activation_of frame.now) types →
         ArePassedFor (scope_in frame.now) types passed.new.items
         (plain.arguments_from (map plain.argument_of trees.now))) }
-    ensures kept { IfSome result (λ _. IsKept (scope_in frame.now) (activation_of frame.now)
-        store.old store.new) }
-    ensures bits { P.bits probe.new ≡ P.bits probe.old }
-    ensures limits { limits_of store.new ≡ limits_of store.old }
+    ensures kept { KeepsRows frame.now result store.old store.new }
+    ensures bits { KeepsBits P.bits probe.old probe.new }
+    ensures limits { KeepsLimits store.old store.new }
 {
     for tree in trees {
         let given = argument(tree, frame, invoke, store, probe)?;
@@ -519,10 +512,9 @@ fn argument<P: Probe, F: Fn(Called<'_, '_, '_>, &mut Store, &mut P) -> Option<()
     ensures typed { IfSome result (λ x. (types : List IntType) →
         AreTyped (scope_in frame.now) (activation_of frame.now) types →
         IsPassedFor (scope_in frame.now) types x (plain.argument_of tree.now)) }
-    ensures kept { IfSome result (λ _. IsKept (scope_in frame.now) (activation_of frame.now)
-        store.old store.new) }
-    ensures bits { P.bits probe.new ≡ P.bits probe.old }
-    ensures limits { limits_of store.new ≡ limits_of store.old }
+    ensures kept { KeepsRows frame.now result store.old store.new }
+    ensures bits { KeepsBits P.bits probe.old probe.new }
+    ensures limits { KeepsLimits store.old store.new }
 {
     match tree {
         Argument::Number { value: e } => {

@@ -11,9 +11,10 @@ ghost use Rattle.mc_steps.specs.Expressions.{with_index};
 ghost use Rattle.mc_words.specs.Words.{number_of};
 ghost use Rattle.mc_probe.specs.Expressions.{target};
 ghost use Rattle.mc_interp.specs.Typed.{IsPlaced};
-ghost use Rattle.mc_interp.specs.Stores.{lent_of, limits_of, state_of, told, Did};
+ghost use Rattle.mc_interp.specs.Stores.{lent_of, state_of, told, Did};
 ghost use Rattle.mc_interp.specs.Truths.{path_does};
 ghost use Rattle.mc_interp.specs.Frames.{activation_of, scope_in, IsKept};
+ghost use Rattle.mc_interp.specs.Keeps.{KeepsBits, KeepsLimits, KeepsRowsForAll};
 
 use crate::store::Store;
 use crate::values::{Lent, Passed, Shape};
@@ -59,7 +60,7 @@ impl<'f, 'a, 'p> Frame<'f, 'a, 'p> {
         ensures ran { sets (activation_of self.now) register 0 (state_of store.old)
             ≡ told (Some tt) store.new }
         ensures kept { IsKept (scope_in self.now) (activation_of self.now) store.old store.new }
-        ensures limits { limits_of store.new ≡ limits_of store.old }
+        ensures limits { KeepsLimits store.old store.new }
     {
         store.set_register(self.first, register, 0);
     }
@@ -70,8 +71,8 @@ impl<'f, 'a, 'p> Frame<'f, 'a, 'p> {
         requires small { length store.old.registers.items ≤ 2 ^ 42 }
         ensures ran { sets (activation_of self.now) register 1 (state_of store.old)
             ≡ told (Some tt) store.new }
-        ensures kept { (c : Scope) (w : Activation) → IsKept c w store.old store.new }
-        ensures limits { limits_of store.new ≡ limits_of store.old }
+        ensures kept { KeepsRowsForAll store.old store.new }
+        ensures limits { KeepsLimits store.old store.new }
     {
         store.set_register(self.first, register, 1);
     }
@@ -89,8 +90,8 @@ impl<'f, 'a, 'p> Frame<'f, 'a, 'p> {
         requires small { length store.old.registers.items ≤ 2 ^ 42 }
         ensures ran { adds (activation_of self.now) register (if holds then on_true else on_false)
             (state_of store.old) ≡ told (Some tt) store.new }
-        ensures kept { (c : Scope) (w : Activation) → IsKept c w store.old store.new }
-        ensures limits { limits_of store.new ≡ limits_of store.old }
+        ensures kept { KeepsRowsForAll store.old store.new }
+        ensures limits { KeepsLimits store.old store.new }
     {
         let more = if holds { on_true } else { on_false };
         store.add_to_register(self.first, register, more);
@@ -111,7 +112,7 @@ impl<'f, 'a, 'p> Frame<'f, 'a, 'p> {
         requires bits { self.now.program.now.bits ≤ P.bits probe.old }
         ensures did { Did P.leads (path_does (activation_of self.now) register base outcome
             (state_of store.now)) (Some tt) store.now probe.old probe.new }
-        ensures bits { P.bits probe.new ≡ P.bits probe.old }
+        ensures bits { KeepsBits P.bits probe.old probe.new }
     {
         let bits = self.program.bits();
         hit_path(
@@ -142,8 +143,8 @@ impl<'f, 'a, 'p> Frame<'f, 'a, 'p> {
             ≡ told result store.new }
         ensures index { IfSome (slice_get self.now.arrays.now array) (λ l. IfSome result
             (λ k. (i : ℕ) × (i < l.length) × (k ≡ l.base + i * stride))) }
-        ensures kept { (c : Scope) (w : Activation) → IsKept c w store.old store.new }
-        ensures limits { limits_of store.new ≡ limits_of store.old }
+        ensures kept { KeepsRowsForAll store.old store.new }
+        ensures limits { KeepsLimits store.old store.new }
     {
         let lent = self.arrays[array as usize];
         store.item(lent.base, lent.length, stride, index)
@@ -192,7 +193,7 @@ impl<'f, 'a, 'p> Frame<'f, 'a, 'p> {
             (target (activation_of self.now) copy).cells ≡ cells u →
             IsPlaced c w from (Some u) → IsPlaced c w (self.now.base + copy.start) (Some u) →
             IsKept c w store.old store.new }
-        ensures limits { limits_of store.new ≡ limits_of store.old }
+        ensures limits { KeepsLimits store.old store.new }
     {
         let cells = self.cells_of(copy.object);
         let to = self.base + copy.start;

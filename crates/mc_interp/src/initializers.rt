@@ -1,5 +1,5 @@
 //! Initial values of objects with automatic storage duration (C17 6.7.9).
-ghost use Rattle.std.specs.Prelude.{◌≡◌, ◌+◌, ◌≤◌, Some, length, map, option_map, IfSome};
+ghost use Rattle.std.specs.Prelude.{◌≡◌, ◌+◌, ◌≤◌, Some, length, map, option_map};
 ghost use Rattle.mc_typed.specs.Layout.{Scalar, cells as cells_of};
 ghost use Rattle.mc_typed.specs.Sound.{structure_type, type_of, AreDeclarators, IsDeclarator, IsExpression, IsStructure};
 ghost use Rattle.mc_typed.specs.Views as plain;
@@ -9,11 +9,12 @@ ghost use Rattle.mc_probe.specs.Flat.{flat, Activation};
 ghost use Rattle.mc_probe.specs.Statements as statements;
 ghost use Rattle.mc_probe.specs.Views as view;
 ghost use Rattle.mc_probe.specs.WellFormed.{Fits, FitDeclarators, FitInitializers, FitsInitial, FitsInitializer, FitsStructure};
-ghost use Rattle.mc_interp.specs.Stores.{limits_of, state_of, Did};
+ghost use Rattle.mc_interp.specs.Stores.{state_of, Did};
 ghost use Rattle.mc_interp.specs.Effects.{declarator_does, width, InitializeAll, Initializes, InitializesSome, IsBlock};
 ghost use Rattle.mc_interp.specs.Typed.{IsPlaced};
-ghost use Rattle.mc_interp.specs.Frames.{activation_of, scope_in, IsReady, IsKept};
+ghost use Rattle.mc_interp.specs.Frames.{activation_of, scope_in, IsReady};
 ghost use Rattle.mc_interp.specs.Calls.{Invokes};
+ghost use Rattle.mc_interp.specs.Keeps.{KeepsBits, KeepsLimits, KeepsRows};
 
 use crate::expressions::{structure, value};
 use crate::frame::{Called, Frame};
@@ -53,10 +54,9 @@ fn store_value<P: Probe, F: Fn(Called<'_, '_, '_>, &mut Store, &mut P) -> Option
     ensures did { Did P.leads (steps.store_does flat at
         (does.value_of (activation_of frame.now) (view.expression_of e.now))
         (state_of store.old)) result store.new probe.old probe.new }
-    ensures kept { IfSome result (λ _. IsKept (scope_in frame.now) (activation_of frame.now)
-        store.old store.new) }
-    ensures bits { P.bits probe.new ≡ P.bits probe.old }
-    ensures limits { limits_of store.new ≡ limits_of store.old }
+    ensures kept { KeepsRows frame.now result store.old store.new }
+    ensures bits { KeepsBits P.bits probe.old probe.new }
+    ensures limits { KeepsLimits store.old store.new }
 {
     let word = value(e, frame, invoke, store, probe)?;
     store.write(at, e.integer_type(), word);
@@ -85,10 +85,9 @@ fn store_structure<P: Probe, F: Fn(Called<'_, '_, '_>, &mut Store, &mut P) -> Op
     ensures did { Did P.leads (steps.store_structure_does flat at cells
         (does.structure_of (activation_of frame.now) (view.structure_of source.now))
         (state_of store.old)) result store.new probe.old probe.new }
-    ensures kept { IfSome result (λ _. IsKept (scope_in frame.now) (activation_of frame.now)
-        store.old store.new) }
-    ensures bits { P.bits probe.new ≡ P.bits probe.old }
-    ensures limits { limits_of store.new ≡ limits_of store.old }
+    ensures kept { KeepsRows frame.now result store.old store.new }
+    ensures bits { KeepsBits P.bits probe.old probe.new }
+    ensures limits { KeepsLimits store.old store.new }
 {
     let from = structure(source, frame, invoke, store, probe)?;
     store.copy(from, at, cells);
@@ -114,10 +113,9 @@ fn initializer<P: Probe, F: Fn(Called<'_, '_, '_>, &mut Store, &mut P) -> Option
     ensures did { Did P.leads (statements.initializer_of (activation_of frame.now)
         (view.initializer_of tree.now) at (state_of store.old)) result store.new
         probe.old probe.new }
-    ensures kept { IfSome result (λ _. IsKept (scope_in frame.now) (activation_of frame.now)
-        store.old store.new) }
-    ensures bits { P.bits probe.new ≡ P.bits probe.old }
-    ensures limits { limits_of store.new ≡ limits_of store.old }
+    ensures kept { KeepsRows frame.now result store.old store.new }
+    ensures bits { KeepsBits P.bits probe.old probe.new }
+    ensures limits { KeepsLimits store.old store.new }
 {
     match tree {
         Initializer::Number { value } => store_value(value, at, frame, invoke, store, probe),
@@ -156,10 +154,9 @@ fn items<P: Probe, F: Fn(Called<'_, '_, '_>, &mut Store, &mut P) -> Option<()> +
     ensures did { Did P.leads (statements.items_of (activation_of frame.now)
         (view.initializers_from (map view.initializer_of trees.now)) at 0 0 cells
         (state_of store.old)) result store.new probe.old probe.new }
-    ensures kept { IfSome result (λ _. IsKept (scope_in frame.now) (activation_of frame.now)
-        store.old store.new) }
-    ensures bits { P.bits probe.new ≡ P.bits probe.old }
-    ensures limits { limits_of store.new ≡ limits_of store.old }
+    ensures kept { KeepsRows frame.now result store.old store.new }
+    ensures bits { KeepsBits P.bits probe.old probe.new }
+    ensures limits { KeepsLimits store.old store.new }
 {
     let mut offset = 0;
     for tree in trees {
@@ -188,10 +185,9 @@ fn initial<P: Probe, F: Fn(Called<'_, '_, '_>, &mut Store, &mut P) -> Option<()>
     ensures did { Did P.leads (statements.initial_of (activation_of frame.now)
         (option_map view.initializer_of tree.now) at (state_of store.old)) result store.new
         probe.old probe.new }
-    ensures kept { IfSome result (λ _. IsKept (scope_in frame.now) (activation_of frame.now)
-        store.old store.new) }
-    ensures bits { P.bits probe.new ≡ P.bits probe.old }
-    ensures limits { limits_of store.new ≡ limits_of store.old }
+    ensures kept { KeepsRows frame.now result store.old store.new }
+    ensures bits { KeepsBits P.bits probe.old probe.new }
+    ensures limits { KeepsLimits store.old store.new }
 {
     match tree {
         Some(value) => initializer(value, at, frame, invoke, store, probe),
@@ -215,10 +211,9 @@ fn declarator<P: Probe, F: Fn(Called<'_, '_, '_>, &mut Store, &mut P) -> Option<
     ensures did { Did P.leads (declarator_does (activation_of frame.now)
         (view.declarator_of tree.now) (state_of store.old)) result store.new
         probe.old probe.new }
-    ensures kept { IfSome result (λ _. IsKept (scope_in frame.now) (activation_of frame.now)
-        store.old store.new) }
-    ensures bits { P.bits probe.new ≡ P.bits probe.old }
-    ensures limits { limits_of store.new ≡ limits_of store.old }
+    ensures kept { KeepsRows frame.now result store.old store.new }
+    ensures bits { KeepsBits P.bits probe.old probe.new }
+    ensures limits { KeepsLimits store.old store.new }
 {
     let at = frame.base + tree.slot.start;
     store.unset(at, tree.cells);
@@ -244,10 +239,9 @@ pub(crate) fn declarators<
     ensures did { Did P.leads (statements.declarators_of (activation_of frame.now)
         (map view.declarator_of trees.now) (state_of store.old)) result store.new
         probe.old probe.new }
-    ensures kept { IfSome result (λ _. IsKept (scope_in frame.now) (activation_of frame.now)
-        store.old store.new) }
-    ensures bits { P.bits probe.new ≡ P.bits probe.old }
-    ensures limits { limits_of store.new ≡ limits_of store.old }
+    ensures kept { KeepsRows frame.now result store.old store.new }
+    ensures bits { KeepsBits P.bits probe.old probe.new }
+    ensures limits { KeepsLimits store.old store.new }
 {
     for tree in trees {
         declarator(tree, frame, invoke, store, probe)?;

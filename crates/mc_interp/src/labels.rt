@@ -9,9 +9,10 @@ ghost use Rattle.mc_probe.specs.Views as view;
 ghost use Rattle.mc_probe.specs.WellFormed.{FitsMark};
 ghost use Rattle.mc_interp.specs.Bodies.{flow_of, labels_in, label_runs, seek_of};
 ghost use Rattle.mc_interp.specs.Bodies as bodies;
-ghost use Rattle.mc_interp.specs.Stores.{limits_of, state_of, Did};
+ghost use Rattle.mc_interp.specs.Stores.{state_of, Did};
 ghost use Rattle.mc_interp.specs.Frames.{activation_of, scope_in, IsKept, IsReady};
 ghost use Rattle.mc_interp.specs.Views as prepared;
+ghost use Rattle.mc_interp.specs.Keeps.{KeepsBits, KeepsLimits};
 
 use crate::flow::{Label, Seek, ends_switch, is_running, label_of};
 use crate::frame::Frame;
@@ -102,8 +103,8 @@ pub(crate) fn mark<P: Probe>(
     ensures did { (chosen : Bool) → Did P.leads (mark_does (activation_of frame.now) mark chosen
         (state_of store.old)) (Some tt) store.new probe.old probe.new }
     ensures kept { IsKept (scope_in frame.now) (activation_of frame.now) store.old store.new }
-    ensures bits { P.bits probe.new ≡ P.bits probe.old }
-    ensures limits { limits_of store.new ≡ limits_of store.old }
+    ensures bits { KeepsBits P.bits probe.old probe.new }
+    ensures limits { KeepsLimits store.old store.new }
 {
     if let Some(set) = mark {
         if take(&mut store.registers, frame.first, set.register) {
@@ -125,8 +126,8 @@ pub(crate) fn at_label<P: Probe>(
     ensures did { Did P.leads (label_runs (activation_of frame.now) label (seek_of seek)
         (state_of store.old)) (Some (seek_of result)) store.new probe.old probe.new }
     ensures kept { IsKept (scope_in frame.now) (activation_of frame.now) store.old store.new }
-    ensures bits { P.bits probe.new ≡ P.bits probe.old }
-    ensures limits { limits_of store.new ≡ limits_of store.old }
+    ensures bits { KeepsBits P.bits probe.old probe.new }
+    ensures limits { KeepsLimits store.old store.new }
 {
     let next = seek_at(label.value, seek);
     if is_running(next) {
@@ -151,8 +152,8 @@ pub(crate) fn switch_ends<P: Probe>(
     ensures typed { (c : Scope) (w : Activation) → bodies.IsReturned c w flow store.old.given →
         bodies.IsReturned c w result store.new.given }
     ensures kept { IsKept (scope_in frame.now) (activation_of frame.now) store.old store.new }
-    ensures bits { P.bits probe.new ≡ P.bits probe.old }
-    ensures limits { limits_of store.new ≡ limits_of store.old }
+    ensures bits { KeepsBits P.bits probe.old probe.new }
+    ensures limits { KeepsLimits store.old store.new }
 {
     if ends_switch(flow) {
         mark(absent, frame, store, probe);

@@ -1,22 +1,23 @@
 //! The parts of statements that hold no statements.
 ghost use Rattle.std.specs.Prelude.{◌≡◌, ◌+◌, ◌≤◌, Some, map, option_map, IfSome};
-ghost use Rattle.mc_typed.specs.Sound.{AreDeclarators, IsReturn, IsTest, Scope};
+ghost use Rattle.mc_typed.specs.Sound.{AreDeclarators, IsReturn, IsTest};
 ghost use Rattle.mc_typed.specs.Views as plain;
 ghost use Rattle.mc_steps.specs.Points.{initializes};
 ghost use Rattle.mc_steps.specs.Runs.{spends};
 ghost use Rattle.mc_steps.specs.Statements as steps;
 ghost use Rattle.mc_probe.specs.Erase.{erase_declarator, erase_effect, erase_expression};
-ghost use Rattle.mc_probe.specs.Flat.{Activation, hits_some};
+ghost use Rattle.mc_probe.specs.Flat.{hits_some};
 ghost use Rattle.mc_probe.specs.Statements as does;
 ghost use Rattle.mc_probe.specs.Views as view;
 ghost use Rattle.mc_probe.specs.WellFormed.{FitDeclarators, FitsEffect, FitsReturn, FitsStart, FitsTest};
 ghost use Rattle.mc_interp.specs.Bodies.{counts_of, flow_of, IsAnyStart, IsGivenFor, IsReturned};
 ghost use Rattle.mc_interp.specs.Bodies as bodies;
 ghost use Rattle.mc_interp.specs.Effects.{IsAnyEffect};
-ghost use Rattle.mc_interp.specs.Stores.{given_of, limits_of, state_of, Did};
-ghost use Rattle.mc_interp.specs.Frames.{activation_of, scope_in, IsKept, IsReady};
+ghost use Rattle.mc_interp.specs.Stores.{given_of, state_of, Did};
+ghost use Rattle.mc_interp.specs.Frames.{activation_of, scope_in, IsReady};
 ghost use Rattle.mc_interp.specs.Calls.{Invokes};
 ghost use Rattle.mc_interp.specs.Views as prepared;
+ghost use Rattle.mc_interp.specs.Keeps.{KeepsBits, KeepsLimits, KeepsRows, KeepsRowsForAll};
 
 use crate::asked::tested;
 use crate::effects::effects;
@@ -84,7 +85,7 @@ pub(crate) fn hit_some<P: Probe>(
     requires bits { frame.now.program.now.bits ≤ P.bits probe.old }
     ensures did { Did P.leads (hits_some (activation_of frame.now) bit (state_of store.now))
         (Some tt) store.now probe.old probe.new }
-    ensures bits { P.bits probe.new ≡ P.bits probe.old }
+    ensures bits { KeepsBits P.bits probe.old probe.new }
 {
     let _ = store;
     if let Some(there) = bit {
@@ -104,9 +105,9 @@ pub(crate) fn counted<P: Probe>(
     requires bits { frame.now.program.now.bits ≤ P.bits probe.old }
     ensures did { Did P.leads (counts_of (activation_of frame.now) count (state_of store.old))
         result store.new probe.old probe.new }
-    ensures kept { (c : Scope) (w : Activation) → IsKept c w store.old store.new }
-    ensures bits { P.bits probe.new ≡ P.bits probe.old }
-    ensures limits { limits_of store.new ≡ limits_of store.old }
+    ensures kept { KeepsRowsForAll store.old store.new }
+    ensures bits { KeepsBits P.bits probe.old probe.new }
+    ensures limits { KeepsLimits store.old store.new }
 {
     match count {
         Some(bit) => {
@@ -142,10 +143,9 @@ pub(crate) fn declaration<
         (option_map (λ flow. flow_of flow store.new) result) store.new probe.old probe.new }
     ensures typed { IfSome result (λ flow. IsReturned (scope_in frame.now)
         (activation_of frame.now) flow store.new.given) }
-    ensures kept { IfSome result (λ _. IsKept (scope_in frame.now) (activation_of frame.now)
-        store.old store.new) }
-    ensures bits { P.bits probe.new ≡ P.bits probe.old }
-    ensures limits { limits_of store.new ≡ limits_of store.old }
+    ensures kept { KeepsRows frame.now result store.old store.new }
+    ensures bits { KeepsBits P.bits probe.old probe.new }
+    ensures limits { KeepsLimits store.old store.new }
 {
     declarators(trees, frame, invoke, store, probe)?;
     Some(Flow::Completed)
@@ -172,10 +172,9 @@ pub(crate) fn effect_statement<
         (option_map (λ flow. flow_of flow store.new) result) store.new probe.old probe.new }
     ensures typed { IfSome result (λ flow. IsReturned (scope_in frame.now)
         (activation_of frame.now) flow store.new.given) }
-    ensures kept { IfSome result (λ _. IsKept (scope_in frame.now) (activation_of frame.now)
-        store.old store.new) }
-    ensures bits { P.bits probe.new ≡ P.bits probe.old }
-    ensures limits { limits_of store.new ≡ limits_of store.old }
+    ensures kept { KeepsRows frame.now result store.old store.new }
+    ensures bits { KeepsBits P.bits probe.old probe.new }
+    ensures limits { KeepsLimits store.old store.new }
 {
     perform(step, frame, invoke, store, probe)?;
     Some(Flow::Completed)
@@ -198,10 +197,9 @@ pub(crate) fn for_start<
     requires invokes { Invokes frame.now P.bits P.leads (F.pre invoke) (F.post invoke) }
     ensures did { Did P.leads (does.start_of (activation_of frame.now) (view.start_of tree.now)
         (state_of store.old)) result store.new probe.old probe.new }
-    ensures kept { IfSome result (λ _. IsKept (scope_in frame.now) (activation_of frame.now)
-        store.old store.new) }
-    ensures bits { P.bits probe.new ≡ P.bits probe.old }
-    ensures limits { limits_of store.new ≡ limits_of store.old }
+    ensures kept { KeepsRows frame.now result store.old store.new }
+    ensures bits { KeepsBits P.bits probe.old probe.new }
+    ensures limits { KeepsLimits store.old store.new }
 {
     match tree {
         ForStart::Effects { effects: clauses } => effects(clauses, frame, invoke, store, probe),
@@ -239,10 +237,9 @@ fn test_of<P: Probe, F: Fn(Called<'_, '_, '_>, &mut Store, &mut P) -> Option<()>
     ensures did { Did P.leads (does.test_of (activation_of frame.now)
         (option_map (λ e. prepared.test_of e.now) test.entry) (state_of store.old)) result
         store.new probe.old probe.new }
-    ensures kept { IfSome result (λ _. IsKept (scope_in frame.now) (activation_of frame.now)
-        store.old store.new) }
-    ensures bits { P.bits probe.new ≡ P.bits probe.old }
-    ensures limits { limits_of store.new ≡ limits_of store.old }
+    ensures kept { KeepsRows frame.now result store.old store.new }
+    ensures bits { KeepsBits P.bits probe.old probe.new }
+    ensures limits { KeepsLimits store.old store.new }
 {
     match test {
         Some(asked) => tested(asked, frame, invoke, store, probe),
@@ -271,10 +268,9 @@ pub(crate) fn turn_begins<
         (option_map (λ e. prepared.test_of e.now) test.entry)) (state_of store.old)) result
         store.new probe.old probe.new }
     ensures less { IfSome result (λ _. store.new.fuel + 1 ≤ store.old.fuel) }
-    ensures kept { IfSome result (λ _. IsKept (scope_in frame.now) (activation_of frame.now)
-        store.old store.new) }
-    ensures bits { P.bits probe.new ≡ P.bits probe.old }
-    ensures limits { limits_of store.new ≡ limits_of store.old }
+    ensures kept { KeepsRows frame.now result store.old store.new }
+    ensures bits { KeepsBits P.bits probe.old probe.new }
+    ensures limits { KeepsLimits store.old store.new }
 {
     store.spend()?;
     test_of(test, frame, invoke, store, probe)
@@ -298,10 +294,9 @@ fn return_value<P: Probe, F: Fn(Called<'_, '_, '_>, &mut Store, &mut P) -> Optio
         (option_map (λ _. given_of store.new.given) result) store.new probe.old probe.new }
     ensures typed { IfSome result (λ _. IsGivenFor (scope_in frame.now) (activation_of frame.now)
         (scope_in frame.now).result store.new.given) }
-    ensures kept { IfSome result (λ _. IsKept (scope_in frame.now) (activation_of frame.now)
-        store.old store.new) }
-    ensures bits { P.bits probe.new ≡ P.bits probe.old }
-    ensures limits { limits_of store.new ≡ limits_of store.old }
+    ensures kept { KeepsRows frame.now result store.old store.new }
+    ensures bits { KeepsBits P.bits probe.old probe.new }
+    ensures limits { KeepsLimits store.old store.new }
 {
     match tree {
         ReturnValue::Nothing => {
@@ -350,10 +345,9 @@ pub(crate) fn return_statement<
         probe.old probe.new }
     ensures typed { IfSome result (λ flow. IsReturned (scope_in frame.now)
         (activation_of frame.now) flow store.new.given) }
-    ensures kept { IfSome result (λ _. IsKept (scope_in frame.now) (activation_of frame.now)
-        store.old store.new) }
-    ensures bits { P.bits probe.new ≡ P.bits probe.old }
-    ensures limits { limits_of store.new ≡ limits_of store.old }
+    ensures kept { KeepsRows frame.now result store.old store.new }
+    ensures bits { KeepsBits P.bits probe.old probe.new }
+    ensures limits { KeepsLimits store.old store.new }
 {
     let outcome = return_value(tree, frame, invoke, store, probe);
     hit_after(outcome.is_some(), frame.program.bits(), exit, probe);

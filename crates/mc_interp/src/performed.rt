@@ -1,14 +1,15 @@
 //! Expression statements and third parts of `for` (C17 6.8.3, 6.8.5.3). Assignments of a leaf to an
 //! object of the activation need no walk of the tree.
-ghost use Rattle.std.specs.Prelude.{◌≡◌, map, IfSome};
+ghost use Rattle.std.specs.Prelude.{map};
 ghost use Rattle.mc_probe.specs.Erase.{erase_effect};
 ghost use Rattle.mc_probe.specs.Statements as does;
 ghost use Rattle.mc_probe.specs.WellFormed.{FitEffects, FitsEffect};
 ghost use Rattle.mc_interp.specs.Calls.{Invokes};
 ghost use Rattle.mc_interp.specs.Effects.{AreAnyEffects, IsAnyEffect};
-ghost use Rattle.mc_interp.specs.Frames.{activation_of, scope_in, IsKept, IsReady};
-ghost use Rattle.mc_interp.specs.Stores.{limits_of, state_of, Did};
+ghost use Rattle.mc_interp.specs.Frames.{activation_of, scope_in, IsReady};
+ghost use Rattle.mc_interp.specs.Stores.{state_of, Did};
 ghost use Rattle.mc_interp.specs.Views as prepared;
+ghost use Rattle.mc_interp.specs.Keeps.{KeepsBits, KeepsLimits, KeepsRows};
 
 use crate::asked::leaf;
 use crate::effects::effect;
@@ -35,10 +36,9 @@ pub(crate) fn perform<P: Probe, F: Fn(Called<'_, '_, '_>, &mut Store, &mut P) ->
     requires invokes { Invokes frame.now P.bits P.leads (F.pre invoke) (F.post invoke) }
     ensures did { Did P.leads (does.effect_of (activation_of frame.now)
         (prepared.effect_of step.now) (state_of store.old)) result store.new probe.old probe.new }
-    ensures kept { IfSome result (λ _. IsKept (scope_in frame.now) (activation_of frame.now)
-        store.old store.new) }
-    ensures bits { P.bits probe.new ≡ P.bits probe.old }
-    ensures limits { limits_of store.new ≡ limits_of store.old }
+    ensures kept { KeepsRows frame.now result store.old store.new }
+    ensures bits { KeepsBits P.bits probe.old probe.new }
+    ensures limits { KeepsLimits store.old store.new }
 {
     match step {
         Step::Add { slot, right, .. } => {
@@ -96,10 +96,9 @@ pub(crate) fn perform_all<
     ensures did { Did P.leads (does.effects_of (activation_of frame.now)
         (map prepared.effect_of steps.now) (state_of store.old)) result store.new probe.old
         probe.new }
-    ensures kept { IfSome result (λ _. IsKept (scope_in frame.now) (activation_of frame.now)
-        store.old store.new) }
-    ensures bits { P.bits probe.new ≡ P.bits probe.old }
-    ensures limits { limits_of store.new ≡ limits_of store.old }
+    ensures kept { KeepsRows frame.now result store.old store.new }
+    ensures bits { KeepsBits P.bits probe.old probe.new }
+    ensures limits { KeepsLimits store.old store.new }
 {
     for step in steps {
         perform(step, frame, invoke, store, probe)?;

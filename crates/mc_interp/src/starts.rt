@@ -5,8 +5,9 @@ ghost use Rattle.std.specs.Prelude.{◌≡◌, ◌+◌, ◌≤◌, ◌++◌, ◌
 ghost use Rattle.mc_typed.specs.Views as plain;
 ghost use Rattle.mc_cells.specs.Rows.{with_cells};
 ghost use Rattle.mc_stack.specs.Rooms.{with_values};
-ghost use Rattle.mc_interp.specs.Stores.{limits_of, state_of};
+ghost use Rattle.mc_interp.specs.Stores.{state_of};
 ghost use Rattle.mc_interp.specs.Machines.{initial_of, state_at};
+ghost use Rattle.mc_interp.specs.Keeps.{KeepsLimits};
 
 use crate::store::Store;
 use mc_cells::Cells;
@@ -64,7 +65,7 @@ impl Store {
         requires inputs_few { length inputs.now ≤ self.old.inputs.limit }
         ensures state { state_of self.new
             ≡ state_at (map plain.static_of statics.now) inputs.now fuel }
-        ensures limits { limits_of self.new ≡ limits_of self.old }
+        ensures limits { KeepsLimits self.old self.new }
     {
         self.cells.leave(0);
         put_statics(statics, &mut self.cells);

@@ -1,5 +1,5 @@
 //! Statements (C17 6.8).
-ghost use Rattle.std.specs.Prelude.{◌≡◌, ◌+◌, ◌≤◌, map, option_map, IfSome};
+ghost use Rattle.std.specs.Prelude.{◌+◌, ◌≤◌, map, option_map, IfSome};
 ghost use Rattle.mc_typed.specs.Sound.{IsTest};
 ghost use Rattle.mc_steps.specs.Statements.{loop_does};
 ghost use Rattle.mc_probe.specs.Erase.{erase_effect, erase_expression, erase_statement, erase_statements};
@@ -8,10 +8,11 @@ ghost use Rattle.mc_probe.specs.Views as view;
 ghost use Rattle.mc_probe.specs.WellFormed.{FitEffects, FitStatements, FitsStatement, FitsTest};
 ghost use Rattle.mc_interp.specs.Bodies.{act_of, end_of, flow_of, item_of, next_of, seek_of, turn_of, AreAnyStatements, IsAnyStatement, IsEnd, IsNext, IsReturned};
 ghost use Rattle.mc_interp.specs.Effects.{AreAnyEffects};
-ghost use Rattle.mc_interp.specs.Stores.{limits_of, state_of, Did};
-ghost use Rattle.mc_interp.specs.Frames.{activation_of, scope_in, IsKept, IsReady};
+ghost use Rattle.mc_interp.specs.Stores.{state_of, Did};
+ghost use Rattle.mc_interp.specs.Frames.{activation_of, scope_in, IsReady};
 ghost use Rattle.mc_interp.specs.Calls.{Invokes};
 ghost use Rattle.mc_interp.specs.Views as prepared;
+ghost use Rattle.mc_interp.specs.Keeps.{KeepsBits, KeepsLimits, KeepsRows};
 
 use crate::asked::tested;
 use crate::expressions::value;
@@ -61,10 +62,9 @@ fn repeat<P: Probe, F: Fn(Called<'_, '_, '_>, &mut Store, &mut P) -> Option<()> 
         (option_map (λ flow. flow_of flow store.new) result) store.new probe.old probe.new }
     ensures typed { IfSome result (λ flow. IsReturned (scope_in frame.now)
         (activation_of frame.now) flow store.new.given) }
-    ensures kept { IfSome result (λ _. IsKept (scope_in frame.now) (activation_of frame.now)
-        store.old store.new) }
-    ensures bits { P.bits probe.new ≡ P.bits probe.old }
-    ensures limits { limits_of store.new ≡ limits_of store.old }
+    ensures kept { KeepsRows frame.now result store.old store.new }
+    ensures bits { KeepsBits P.bits probe.old probe.new }
+    ensures limits { KeepsLimits store.old store.new }
 {
     loop {
         let turned = turn(body, test, step, frame, invoke, store, probe)?;
@@ -109,10 +109,9 @@ fn turn<P: Probe, F: Fn(Called<'_, '_, '_>, &mut Store, &mut P) -> Option<()> + 
     ensures typed { IfSome result (λ end. IsEnd (scope_in frame.now) (activation_of frame.now) end
         store.new.given) }
     ensures less { IfSome result (λ _. store.new.fuel + 1 ≤ store.old.fuel) }
-    ensures kept { IfSome result (λ _. IsKept (scope_in frame.now) (activation_of frame.now)
-        store.old store.new) }
-    ensures bits { P.bits probe.new ≡ P.bits probe.old }
-    ensures limits { limits_of store.new ≡ limits_of store.old }
+    ensures kept { KeepsRows frame.now result store.old store.new }
+    ensures bits { KeepsBits P.bits probe.old probe.new }
+    ensures limits { KeepsLimits store.old store.new }
 {
     let goes_on = turn_begins(test, frame, invoke, store, probe)?;
     if !goes_on {
@@ -148,10 +147,9 @@ fn statement<P: Probe, F: Fn(Called<'_, '_, '_>, &mut Store, &mut P) -> Option<(
         (option_map (λ flow. flow_of flow store.new) result) store.new probe.old probe.new }
     ensures typed { IfSome result (λ flow. IsReturned (scope_in frame.now)
         (activation_of frame.now) flow store.new.given) }
-    ensures kept { IfSome result (λ _. IsKept (scope_in frame.now) (activation_of frame.now)
-        store.old store.new) }
-    ensures bits { P.bits probe.new ≡ P.bits probe.old }
-    ensures limits { limits_of store.new ≡ limits_of store.old }
+    ensures kept { KeepsRows frame.now result store.old store.new }
+    ensures bits { KeepsBits P.bits probe.old probe.new }
+    ensures limits { KeepsLimits store.old store.new }
 {
     match tree {
         Prepared::Effect { step, bit, .. } => {
@@ -187,10 +185,9 @@ fn other<P: Probe, F: Fn(Called<'_, '_, '_>, &mut Store, &mut P) -> Option<()> +
         (option_map (λ flow. flow_of flow store.new) result) store.new probe.old probe.new }
     ensures typed { IfSome result (λ flow. IsReturned (scope_in frame.now)
         (activation_of frame.now) flow store.new.given) }
-    ensures kept { IfSome result (λ _. IsKept (scope_in frame.now) (activation_of frame.now)
-        store.old store.new) }
-    ensures bits { P.bits probe.new ≡ P.bits probe.old }
-    ensures limits { limits_of store.new ≡ limits_of store.old }
+    ensures kept { KeepsRows frame.now result store.old store.new }
+    ensures bits { KeepsBits P.bits probe.old probe.new }
+    ensures limits { KeepsLimits store.old store.new }
 {
     counted(count_of(tree), frame, store, probe)?;
     act(tree, frame, invoke, store, probe)
@@ -216,10 +213,9 @@ fn act<P: Probe, F: Fn(Called<'_, '_, '_>, &mut Store, &mut P) -> Option<()> + C
         (option_map (λ flow. flow_of flow store.new) result) store.new probe.old probe.new }
     ensures typed { IfSome result (λ flow. IsReturned (scope_in frame.now)
         (activation_of frame.now) flow store.new.given) }
-    ensures kept { IfSome result (λ _. IsKept (scope_in frame.now) (activation_of frame.now)
-        store.old store.new) }
-    ensures bits { P.bits probe.new ≡ P.bits probe.old }
-    ensures limits { limits_of store.new ≡ limits_of store.old }
+    ensures kept { KeepsRows frame.now result store.old store.new }
+    ensures bits { KeepsBits P.bits probe.old probe.new }
+    ensures limits { KeepsLimits store.old store.new }
 {
     match tree {
         Prepared::Compound { items, .. } => {
@@ -313,10 +309,9 @@ pub(crate) fn statements<
         (option_map (λ flow. flow_of flow store.new) result) store.new probe.old probe.new }
     ensures typed { IfSome result (λ flow. IsReturned (scope_in frame.now)
         (activation_of frame.now) flow store.new.given) }
-    ensures kept { IfSome result (λ _. IsKept (scope_in frame.now) (activation_of frame.now)
-        store.old store.new) }
-    ensures bits { P.bits probe.new ≡ P.bits probe.old }
-    ensures limits { limits_of store.new ≡ limits_of store.old }
+    ensures kept { KeepsRows frame.now result store.old store.new }
+    ensures bits { KeepsBits P.bits probe.old probe.new }
+    ensures limits { KeepsLimits store.old store.new }
 {
     let mut sought = seek;
     for tree in trees {
@@ -350,10 +345,9 @@ fn item<P: Probe, F: Fn(Called<'_, '_, '_>, &mut Store, &mut P) -> Option<()> + 
         (option_map (λ next. next_of next store.new) result) store.new probe.old probe.new }
     ensures typed { IfSome result (λ next. IsNext (scope_in frame.now) (activation_of frame.now)
         next store.new.given) }
-    ensures kept { IfSome result (λ _. IsKept (scope_in frame.now) (activation_of frame.now)
-        store.old store.new) }
-    ensures bits { P.bits probe.new ≡ P.bits probe.old }
-    ensures limits { limits_of store.new ≡ limits_of store.old }
+    ensures kept { KeepsRows frame.now result store.old store.new }
+    ensures bits { KeepsBits P.bits probe.old probe.new }
+    ensures limits { KeepsLimits store.old store.new }
 {
     if let Some(label) = label_of(tree) {
         return Some(Next::Item(at_label(label, seek, frame, store, probe)));

@@ -16,9 +16,10 @@ ghost use Rattle.mc_words.specs.Words.{number_of, result_of, Holds, IsRight, IsR
 ghost use Rattle.mc_value.specs.Conversions.{converted, promoted};
 ghost use Rattle.mc_probe.specs.Flat.{Activation, flat, value_in, with_register, wrapped_sum};
 ghost use Rattle.mc_probe.specs.Flat.{register as register_at};
-ghost use Rattle.mc_interp.specs.Stores.{limits_of, state_of, told, given_of, IsNumber, IsStructureAt};
+ghost use Rattle.mc_interp.specs.Stores.{state_of, told, given_of, IsNumber, IsStructureAt};
 ghost use Rattle.mc_interp.specs.Typed.{IsPlaced};
 ghost use Rattle.mc_interp.specs.Frames.{IsKept};
+ghost use Rattle.mc_interp.specs.Keeps.{KeepsLimits, KeepsRowsForAll};
 
 use crate::store::Store;
 use crate::values::Given;
@@ -33,8 +34,8 @@ impl Store {
     #[inline(never)]
     fn trap(&mut self, trap: Trap)
         ensures ending { self.new ≡ record self.old { ending = Ending.Trap trap } }
-        ensures kept { (c : Scope) (w : Activation) → IsKept c w self.old self.new }
-        ensures limits { limits_of self.new ≡ limits_of self.old }
+        ensures kept { KeepsRowsForAll self.old self.new }
+        ensures limits { KeepsLimits self.old self.new }
     {
         self.ending = Ending::Trap(trap);
     }
@@ -43,8 +44,8 @@ impl Store {
     pub(crate) fn spend(&mut self) -> Option<()>
         ensures ran { spends (gives tt) (state_of self.old) ≡ told result self.new }
         ensures less { IfSome result (λ _. self.new.fuel + 1 ≡ self.old.fuel) }
-        ensures kept { (c : Scope) (w : Activation) → IsKept c w self.old self.new }
-        ensures limits { limits_of self.new ≡ limits_of self.old }
+        ensures kept { KeepsRowsForAll self.old self.new }
+        ensures limits { KeepsLimits self.old self.new }
     {
         if self.fuel == 0 {
             self.ending = Ending::Fuel;
@@ -60,8 +61,8 @@ impl Store {
         ensures ran { (t : IntType) → with_result (result_of t outcome) gives (state_of self.old)
             ≡ told (option_map (number_of t) result) self.new }
         ensures same { IfSome result (λ w. outcome ≡ Ok w) }
-        ensures kept { (c : Scope) (w : Activation) → IsKept c w self.old self.new }
-        ensures limits { limits_of self.new ≡ limits_of self.old }
+        ensures kept { KeepsRowsForAll self.old self.new }
+        ensures limits { KeepsLimits self.old self.new }
     {
         match outcome {
             Ok(word) => Some(word),
@@ -99,8 +100,8 @@ impl Store {
         ensures ran { with_some Trap.Unset (flat.read at (state_of self.old).memory) gives
             (state_of self.old) ≡ told (option_map (number_of of) result) self.new }
         ensures typed { IfSome result (Holds of) }
-        ensures kept { (c : Scope) (w : Activation) → IsKept c w self.old self.new }
-        ensures limits { limits_of self.new ≡ limits_of self.old }
+        ensures kept { KeepsRowsForAll self.old self.new }
+        ensures limits { KeepsLimits self.old self.new }
     {
         match self.word_at(at, of) {
             Some(word) => Some(word),
@@ -136,7 +137,7 @@ impl Store {
             ≡ told (Some tt) self.new }
         ensures kept { (c : Scope) (w : Activation) → IsPlaced c w at (Some (Scalar of)) →
             IsKept c w self.old self.new }
-        ensures limits { limits_of self.new ≡ limits_of self.old }
+        ensures limits { KeepsLimits self.old self.new }
     {
         self.put(at, of, word);
     }
@@ -163,7 +164,7 @@ impl Store {
             (state_of self.old) ≡ told result self.new }
         ensures kept { (c : Scope) (w : Activation) → IsPlaced c w at (Some (Scalar of)) →
             IfSome result (λ _. IsKept c w self.old self.new) }
-        ensures limits { limits_of self.new ≡ limits_of self.old }
+        ensures limits { KeepsLimits self.old self.new }
     {
         let old = self.read(at, of)?;
         let sum = self.give(operate(operator, common, convert(common, old), right))?;
@@ -180,7 +181,7 @@ impl Store {
         ensures kept { (c : Scope) (w : Activation) (u : ObjectType) → count ≡ cells_of u →
             IsPlaced c w from (Some u) → IsPlaced c w to (Some u) →
             IsKept c w self.old self.new }
-        ensures limits { limits_of self.new ≡ limits_of self.old }
+        ensures limits { KeepsLimits self.old self.new }
     {
         self.cells.copy(from, to, count);
     }
@@ -190,8 +191,8 @@ impl Store {
         requires { at + count ≤ length self.old.cells.cells }
         ensures ran { changes (flat.put at count None) (state_of self.old)
             ≡ told (Some tt) self.new }
-        ensures kept { (c : Scope) (w : Activation) → IsKept c w self.old self.new }
-        ensures limits { limits_of self.new ≡ limits_of self.old }
+        ensures kept { KeepsRowsForAll self.old self.new }
+        ensures limits { KeepsLimits self.old self.new }
     {
         self.cells.fill(at, count, None);
     }
@@ -201,8 +202,8 @@ impl Store {
         requires { at + count ≤ length self.old.cells.cells }
         ensures ran { changes (flat.put at count (Some (pos 0))) (state_of self.old)
             ≡ told (Some tt) self.new }
-        ensures kept { (c : Scope) (w : Activation) → IsKept c w self.old self.new }
-        ensures limits { limits_of self.new ≡ limits_of self.old }
+        ensures kept { KeepsRowsForAll self.old self.new }
+        ensures limits { KeepsLimits self.old self.new }
     {
         self.cells.fill(at, count, Some(0));
     }
@@ -213,8 +214,8 @@ impl Store {
         ensures ran { (u : IntType) → steps.with_index (number_of u index) length
             (λ i s. gives (base + i * stride) s) (state_of self.old) ≡ told result self.new }
         ensures index { IfSome result (λ k. (i : ℕ) × (i < length) × (k ≡ base + i * stride)) }
-        ensures kept { (c : Scope) (w : Activation) → IsKept c w self.old self.new }
-        ensures limits { limits_of self.new ≡ limits_of self.old }
+        ensures kept { KeepsRowsForAll self.old self.new }
+        ensures limits { KeepsLimits self.old self.new }
     {
         match item(base, length, stride, index) {
             Some(at) => Some(at),
@@ -231,8 +232,8 @@ impl Store {
         requires small { length self.old.registers.items ≤ 2 ^ 42 }
         ensures ran { changes (with_register (first + register) value) (state_of self.old)
             ≡ told (Some tt) self.new }
-        ensures kept { (c : Scope) (w : Activation) → IsKept c w self.old self.new }
-        ensures limits { limits_of self.new ≡ limits_of self.old }
+        ensures kept { KeepsRowsForAll self.old self.new }
+        ensures limits { KeepsLimits self.old self.new }
     {
         set(&mut self.registers, first, register, value);
     }
@@ -244,8 +245,8 @@ impl Store {
         ensures ran { changes (with_register (first + register) (wrapped_sum
             (register_at (first + register) (state_of self.old).memory) value))
             (state_of self.old) ≡ told (Some tt) self.new }
-        ensures kept { (c : Scope) (w : Activation) → IsKept c w self.old self.new }
-        ensures limits { limits_of self.new ≡ limits_of self.old }
+        ensures kept { KeepsRowsForAll self.old self.new }
+        ensures limits { KeepsLimits self.old self.new }
     {
         add(&mut self.registers, first, register, value);
     }
@@ -256,8 +257,8 @@ impl Store {
             number_given (given_of self.old.given) (state_of self.old)
             ≡ told (option_map (number_of t) result) self.new }
         ensures typed { (t : IntType) → IsNumber t self.old.given → IfSome result (Holds t) }
-        ensures kept { (c : Scope) (w : Activation) → IsKept c w self.old self.new }
-        ensures limits { limits_of self.new ≡ limits_of self.old }
+        ensures kept { KeepsRowsForAll self.old self.new }
+        ensures limits { KeepsLimits self.old self.new }
     {
         match self.given {
             Given::Number { word, .. } => Some(word),
@@ -273,8 +274,8 @@ impl Store {
         ensures ran { structure_given (given_of self.old.given) (state_of self.old)
             ≡ told result self.new }
         ensures placed { IfSome result (λ at. IsStructureAt at self.old.given) }
-        ensures kept { (c : Scope) (w : Activation) → IsKept c w self.old self.new }
-        ensures limits { limits_of self.new ≡ limits_of self.old }
+        ensures kept { KeepsRowsForAll self.old self.new }
+        ensures limits { KeepsLimits self.old self.new }
     {
         match self.given {
             Given::Structure { at, .. } => Some(at),
@@ -290,8 +291,8 @@ impl Store {
         ensures ran { steps.input_does (state_of self.old)
             ≡ told (option_map (number_of IntType.Int) result) self.new }
         ensures typed { IfSome result (Holds IntType.Int) }
-        ensures kept { (c : Scope) (w : Activation) → IsKept c w self.old self.new }
-        ensures limits { limits_of self.new ≡ limits_of self.old }
+        ensures kept { KeepsRowsForAll self.old self.new }
+        ensures limits { KeepsLimits self.old self.new }
     {
         self.spend()?;
         if self.next < self.inputs.len() {

@@ -13,7 +13,8 @@ ghost use Rattle.mc_probe.specs.Tests as definition;
 ghost use Rattle.mc_probe.specs.Trees.{tree_of};
 ghost use Rattle.mc_interp.specs.Calls.{ArePassed, IsPassed, IsResultOf};
 ghost use Rattle.mc_interp.specs.Machines.{done_of, AreReady, GivesNumber, RanTo};
-ghost use Rattle.mc_interp.specs.Stores.{given_of, limits_of, passed_of, state_of, told, Did};
+ghost use Rattle.mc_interp.specs.Stores.{given_of, passed_of, state_of, told, Did};
+ghost use Rattle.mc_interp.specs.Keeps.{KeepsBits, KeepsLimits};
 
 use crate::call_done::CallDone;
 use crate::calls::invoke;
@@ -71,7 +72,7 @@ fn value_given(kind: &ResultType, store: &mut Store) -> Option<Option<i128>>
     requires number { GivesNumber (plain.result_of kind.now) }
     ensures ran { steps.value_given (plain.result_of kind.now) (given_of store.old.given)
         (state_of store.old) ≡ told result store.new }
-    ensures limits { limits_of store.new ≡ limits_of store.old }
+    ensures limits { KeepsLimits store.old store.new }
 {
     match kind {
         ResultType::Void => Some(None),
@@ -98,8 +99,8 @@ fn test_call<P: Probe>(
         (state_of store.old)) result store.new probe.old probe.new }
     ensures ready { IfSome result
         (λ _. AreReady program.now shapes.now store.new (P.bits probe.new)) }
-    ensures bits { P.bits probe.new ≡ P.bits probe.old }
-    ensures limits { limits_of store.new ≡ limits_of store.old }
+    ensures bits { KeepsBits P.bits probe.old probe.new }
+    ensures limits { KeepsLimits store.old store.new }
 {
     let function = program.program().function(call.function);
     let mut passed = ArrayVec::new();
@@ -134,8 +135,8 @@ pub(crate) fn test_calls<P: Probe>(
         (map plan_call_of calls.now)) (state_of store.old)) result (map done_of done.new.items)
         store.new probe.old probe.new }
     ensures done_limit { done.new.limit ≡ done.old.limit }
-    ensures bits { P.bits probe.new ≡ P.bits probe.old }
-    ensures limits { limits_of store.new ≡ limits_of store.old }
+    ensures bits { KeepsBits P.bits probe.old probe.new }
+    ensures limits { KeepsLimits store.old store.new }
 {
     for call in calls {
         match test_call(call, program, shapes, store, probe) {
