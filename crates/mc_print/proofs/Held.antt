@@ -1,5 +1,5 @@
 -- What is held after a token, and after several.
-use Rattle.std.proofs.Common.{◌≡◌, ◌∙◌, refl, sym, ap, subst, ℕ, zero, suc, ◌≤◌, Bool, true, false, List, [], ◌∷◌, ◌++◌, Option, if◌then◌else◌, append_assoc, take, drop, map, arith}
+use Rattle.std.proofs.Common.{◌≡◌, ◌∙◌, refl, sym, ap, subst, ℕ, zero, suc, ◌≤◌, Bool, true, false, List, [], ◌∷◌, ◌++◌, Option, if◌then◌else◌, append_assoc, take, drop, arith}
 use Rattle.std.specs.Prelude.{Result, Some, None, Ok, Err}
 use Rattle.std.specs.Result.{result_err}
 use Rattle.mc_span.specs.declared.span.Span.{Span}

@@ -1,5 +1,5 @@
 -- One after the other: what is written of a list.
-use Rattle.std.proofs.Common.{◌≡◌, ◌∙◌, refl, sym, ap, ℕ, ◌+◌, ◌<◌, ◌≤◌, Bool, true, false, List, [], ◌∷◌, ◌++◌, Option, map, length, get_or, drop, if◌then◌else◌, append_assoc, zero, suc, arith}
+use Rattle.std.proofs.Common.{◌≡◌, ◌∙◌, refl, sym, ap, ℕ, ◌+◌, ◌<◌, ◌≤◌, Bool, true, false, List, [], ◌∷◌, ◌++◌, Option, map, length, get_or, drop, if◌then◌else◌, zero, suc, arith}
 use Rattle.std.proofs.lemmas.List.{drop_more, drop_all, append-nil}
 use Rattle.mc_typed.specs.declared.expressions.Argument.{Argument}
 use Rattle.mc_typed.specs.declared.effects.Effect.{Effect}
@@ -8,11 +8,11 @@ use Rattle.mc_typed.specs.declared.statements.Statement.{Statement}
 use Rattle.mc_typed.specs.declared.statements.Declarator.{Declarator}
 use Rattle.mc_typed.specs.declared.functions.Function.{Function}
 use Rattle.mc_lex.specs.declared.token.Token.{Token}
-use Rattle.mc_lex.specs.Tokens.{Tok, tok_of, toks_of}
+use Rattle.mc_lex.specs.Tokens.{tok_of, toks_of}
 use Rattle.mc_probe.specs.Views.{argument_of, arguments_from, declarator_of, effect_of, function_of, initializer_of, initializers_from, statement_of, statements_from}
 use Rattle.mc_print.specs.declared.pen.Pen.{Pen as CodePen}
 use Rattle.mc_print.specs.declared.pieces.Piece.{Piece}
-use Rattle.mc_print.specs.Pens.{Pen, ◌▸◌, nothing, put, texts_of, type_words}
+use Rattle.mc_print.specs.Pens.{Pen, put, texts_of, type_words}
 use Rattle.mc_print.specs.Texts.{write_argument, write_arguments, write_effect, write_effects, write_initial, write_initializer, write_initializers, write_declarators, write_statement, write_statements, write_function, write_functions}
 use Rattle.mc_print.specs.steps.Holds.{Holds, Writes}
 use Rattle.mc_print.specs.steps.Pieces.{text_of}

@@ -1,10 +1,10 @@
 -- The beginning and the end of a text.
-use Rattle.std.proofs.Common.{◌≡◌, ◌∙◌, refl, sym, ap, subst, ℕ, ◌≤◌, List, [], ◌∷◌, ◌++◌, Option, length, suc, arith}
+use Rattle.std.proofs.Common.{◌≡◌, ◌∙◌, refl, sym, ap, subst, ℕ, ◌≤◌, List, [], ◌∷◌, Option, length, suc, arith}
 use Rattle.std.specs.Prelude.{Result, Some, None, Ok, Err}
 use Rattle.std.specs.Io.KnownBytes.{Appends}
 use Rattle.std.proofs.lemmas.List.{append-nil}
 use Rattle.mc_lex.specs.declared.token.Token.{Token}
-use Rattle.mc_lex.specs.Tokens.{Tok, tok_of, toks_of}
+use Rattle.mc_lex.specs.Tokens.{toks_of}
 use Rattle.mc_port.specs.Sink.{Puts}
 use Rattle.mc_port.specs.declared.sink.PutFault.{PutFault}
 use Rattle.mc_port.proofs.Puts.{puts_then, puts_stops}

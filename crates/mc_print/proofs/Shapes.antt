@@ -1,5 +1,5 @@
 -- What is written of each expression and of each of its parts.
-use Rattle.std.proofs.Common.{◌≡◌, ◌∙◌, refl, sym, ap, ℕ, ℤ, Bool, List, [], ◌∷◌, map, Box, codes}
+use Rattle.std.proofs.Common.{◌≡◌, ◌∙◌, sym, ap, ℕ, ℤ, Bool, [], ◌∷◌, Box, codes}
 use Rattle.std.specs.Global.{Global}
 use Rattle.mc_span.specs.declared.span.Span.{Span}
 use Rattle.mc_value.specs.declared.int_type.IntType.{IntType}

@@ -1,5 +1,5 @@
 -- What is written of each effect, initializer and statement.
-use Rattle.std.proofs.Common.{◌≡◌, ◌∙◌, refl, sym, ap, ℕ, ℤ, Bool, List, [], ◌∷◌, map, Box, Vec, Option}
+use Rattle.std.proofs.Common.{◌≡◌, ◌∙◌, sym, ap, ℕ, ℤ, Bool, List, map, Box, Vec, Option}
 use Rattle.std.specs.Prelude.{option_map}
 use Rattle.std.specs.Global.{Global}
 use Rattle.mc_span.specs.declared.span.Span.{Span}

@@ -1,12 +1,11 @@
 -- A worked text: `int f(int a,int b){return a&&b;}` with its probes.
-use Rattle.std.specs.Prelude.{◌≡◌, ℕ, ◌+◌, List, [], ◌∷◌, ◌++◌, Option, Some, None, codes}
+use Rattle.std.specs.Prelude.{◌≡◌, ℕ, ◌+◌, List, [], ◌∷◌, ◌++◌, Some, None, codes}
 use Rattle.std.specs.List.{concat}
 use Rattle.mc_span.specs.declared.span.Span.{Span}
 use Rattle.mc_value.specs.declared.int_type.IntType.TheVariants as int_type
 use Rattle.mc_lex.specs.Tokens.{Tok}
 use Rattle.mc_lex.specs.declared.token.TokenKind.TheVariants.{Identifier, Keyword, Punctuator}
 use Rattle.mc_typed.specs.Tree.{NumberParameter, NumberResult}
-use Rattle.mc_typed.specs.declared.expressions.Slot.{Slot}
 use Rattle.mc_typed.specs.declared.operators.LogicOperator.TheVariants as logic
 use Rattle.mc_typed.specs.declared.probes.Probe.TheVariants as probe
 use Rattle.mc_probe.specs.Tree as p

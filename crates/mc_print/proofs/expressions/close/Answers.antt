@@ -1,6 +1,6 @@
 use Rattle.std.proofs.Common.{◌∷◌, [], ap, codes}
 use Rattle.mc_span.specs.declared.span.Span.{Span}
-use Rattle.mc_print.specs.Insertions.{at, opening}
+use Rattle.mc_print.specs.Insertions.{at}
 use Rattle.mc_print.proofs.Held.{at_pen, extent_is}
 use Rattle.mc_print.proofs.expressions.close.Goals as goal
 

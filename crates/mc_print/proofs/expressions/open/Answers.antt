@@ -1,4 +1,4 @@
-use Rattle.std.proofs.Common.{◌∷◌, [], ap, codes}
+use Rattle.std.proofs.Common.{ap}
 use Rattle.mc_span.specs.declared.span.Span.{Span}
 use Rattle.mc_print.specs.Insertions.{at, opening}
 use Rattle.mc_print.proofs.Held.{at_pen, extent_is}

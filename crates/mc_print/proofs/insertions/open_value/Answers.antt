@@ -1,4 +1,3 @@
-use Rattle.std.proofs.Common.{refl}
 use Rattle.mc_print.proofs.Held.{holds_moved}
 use Rattle.mc_print.proofs.insertions.open_value.Goals as goal
 

@@ -1,5 +1,4 @@
 use Rattle.std.proofs.Common.{◌∙◌, sym, ap, ℕ, length}
-use Rattle.mc_lex.specs.Tokens.{Tok}
 use Rattle.mc_print.specs.Pens.{copy}
 use Rattle.mc_print.proofs.Held.{at_pen}
 use Rattle.mc_print.proofs.Printed.{length_toks}

@@ -1,4 +1,3 @@
-use Rattle.std.proofs.Common.{refl}
 use Rattle.mc_print.specs.steps.Holds.{gap_bytes}
 use Rattle.mc_print.proofs.Printed.{ends_none, ends_some}
 use Rattle.mc_print.proofs.printing.finish.Goals as goal
