@@ -78,7 +78,8 @@ lines =
     line (codes "int f ( int a , int b ) {") ∷ line (codes "unsigned mcdc_r [ 1 ] ;")
     ∷ line (codes "MCDC_H ( 0 ) ;") ∷ line (codes "{") ∷ line (codes "MCDC_H ( 2 ) ;")
     ∷ line (codes "{")
-    ∷ line (codes "int mcdc_v = MCDC_D ( 0 , 3 , MCDC_C ( 0 , 0 , 2 , a ) && MCDC_C ( 0 , 0 , 1 , b ) ) ;")
+    ∷ line (codes "int mcdc_v = MCDC_D ( 0 , 3 , MCDC_C ( 0 , 0 , 2 , a ) "
+    ++ codes "&& MCDC_C ( 0 , 0 , 1 , b ) ) ;")
     ∷ line (codes "MCDC_H ( 1 ) ;") ∷ line (codes "return mcdc_v ;") ∷ line (codes "}")
     ∷ line (codes "}") ∷ line (codes "}") ∷ []
 

@@ -35,13 +35,15 @@ outcome None = Ok tt
 outcome (Some e) = Err e
 
 -- a piece more, unless there was a fault before
-abbrev pub PutsMore : Option PutFault → Option (List ℕ) → Option (List ℕ) → ℕ → ℕ → List ℕ → Option PutFault → Type 0
+abbrev pub PutsMore : Option PutFault → Option (List ℕ) → Option (List ℕ) → ℕ → ℕ → List ℕ
+    → Option PutFault → Type 0
 PutsMore None old new before now piece fault = Puts old new before now piece (outcome fault)
 PutsMore (Some e) old new before now piece fault =
     (new ≡ old) × (now ≡ before) × (fault ≡ Some e)
 
 -- the sink had `start` and so many faults at first, and then the pen wrote
-pub record Holds (start : Option (List ℕ)) (first : ℕ) (pen : Pen) (known : Option (List ℕ)) (count : ℕ) (now : CodePen) : Type 0 where
+pub record Holds (start : Option (List ℕ)) (first : ℕ) (pen : Pen) (known : Option (List ℕ))
+    (count : ℕ) (now : CodePen) : Type 0 where
   pub left : pen.left ≡ toks_of now.left.now
   pub specifiers : pen.specifiers ≡ toks_of now.specifiers.now
   pub gap : gap_bytes now.gap ≡ pending pen.written
@@ -49,7 +51,8 @@ pub record Holds (start : Option (List ℕ)) (first : ℕ) (pen : Pen) (known : 
   pub bytes : Puts start known first count (unfinished pen.written) (outcome now.fault)
 
 -- from what was held before to what is held then, whatever the pen wrote before
-abbrev pub Writes : (Pen → Pen) → Option (List ℕ) → ℕ → CodePen → Option (List ℕ) → ℕ → CodePen → Type 0
+abbrev pub Writes : (Pen → Pen) → Option (List ℕ) → ℕ → CodePen → Option (List ℕ) → ℕ → CodePen
+    → Type 0
 Writes act old before from new now to =
     (start : Option (List ℕ)) (first : ℕ) (pen : Pen) → Holds start first pen old before from
     → Holds start first (act pen) new now to
