@@ -9,6 +9,7 @@ use mathlib.Core.Option.{none}
 use mathlib.Core.Logic.{dite}
 use Rattle.atomic_table.specs.Table.{Me, step, keeps, Allows, stepped}
 use Rattle.atomic_table.proofs.Lists.{set_here}
+use Rattle.mc_limits.specs.Limits.{most_workers}
 use Rattle.mc_core.specs.declared.shape.Shape.{Shape}
 use Rattle.mc_core.specs.Shape.{rows}
 use Rattle.mc_core.specs.Matrix.{bit_of}
@@ -118,7 +119,7 @@ module _ (k : Shape) (s : Shared) (kept : IsKept k s) (id : ℕ) (v : View) (at 
       (λ no. subst K (sym (is_end v n0 (omega arith))) (kept_ended (omega arith)))
 
 -- the number of draws stays far from wrapping
-pub draws_small : (k : Shape) (s : Shared) → IsKept k s → draws s.words ≤ k.tests + 64
+pub draws_small : (k : Shape) (s : Shared) → IsKept k s → draws s.words ≤ k.tests + most_workers
 draws_small k s kept = let a = kept.over in let b = kept.running in let c = kept.forks in omega arith
 
 -- the claims of one view are different numbers below the number of tests

@@ -8,6 +8,7 @@ use mathlib.Core.Option.{some, some-injective}
 use lib.ListN.{get_elem?}
 use Rattle.atomic_table.specs.Table.{Splits, Joins}
 use Rattle.atomic_table.proofs.Lists.{at_snoc, set_else}
+use Rattle.mc_limits.specs.Limits.{most_workers}
 use Rattle.mc_core.specs.declared.shape.Shape.{Shape}
 use Rattle.mc_core.specs.Counts.{marks, times}
 use Rattle.mc_cover.specs.declared.view.View.{View}
@@ -23,7 +24,7 @@ use Rattle.mc_cover.proofs.Ends.{forks_is}
 each_push : (P : View → Type 0) (views : List View) (w : View) → P w → ((j : ℕ) (v : View) → get_elem? views j ≡ some v → P v) → (j : ℕ) (v : View) → get_elem? (views ++ w ∷ []) j ≡ some v → P v
 each_push P views w mine all j v at = ⊎_elim (λ (x : get_elem? views j ≡ some v). all j v x) (λ (e : w ≡ v). subst P e mine) (at_snoc views w v j at)
 
-pub kept_fork : (k : Shape) (s : Shared) → IsKept k s → (id : ℕ) (v : View) → HasView s id v → v.role ≡ Opener → v.forks < 64 → IsKept k (forked s id v)
+pub kept_fork : (k : Shape) (s : Shared) → IsKept k s → (id : ℕ) (v : View) → HasView s id v → v.role ≡ Opener → v.forks < most_workers → IsKept k (forked s id v)
 kept_fork k s kept id v at is_opener few =
     let l : View = after_fork v in
     let r : View = worker v in
@@ -47,7 +48,7 @@ kept_fork k s kept id v at is_opener few =
           (record { hits = mine.hits; seen = mine.seen; shape = mine.shape; worker = λ e. let x = sym is_opener ∙ e in cc; empty = λ e. absurd (live e) }) kept.each);
     }
 
-pub forks : (k : Shape) (id : ℕ) (v : View) → v.role ≡ Opener → v.forks < 64 → Splits (IsKept k) id v (after_fork v) (worker v)
+pub forks : (k : Shape) (id : ℕ) (v : View) → v.role ≡ Opener → v.forks < most_workers → Splits (IsKept k) id v (after_fork v) (worker v)
 forks k id v is_opener few s kept at = kept_fork k s kept id v at is_opener few
 
 pub kept_join : (k : Shape) (s : Shared) → IsKept k s → (id : ℕ) (v : View) (other : ℕ) (w : View) → HasView s id v → HasView s other w → v.role ≡ Opener → w.role ≡ Worker → IsKept k (joined s id v other w)

@@ -3,6 +3,7 @@
 -- changes a word.
 use Rattle.std.specs.Prelude.{◌≡◌, ◌≢◌, ℕ, ◌+◌, ◌%◌, ◌^◌, ◌<◌, [], ◌∷◌, ◌++◌, slice_index, slice_set, bit_or, replicate, Contains}
 use Rattle.atomic_table.specs.Table.{keeps, stepped}
+use Rattle.mc_limits.specs.Limits.{most_workers}
 use Rattle.mc_core.specs.declared.shape.Shape.{Shape}
 use Rattle.mc_core.specs.Shape.{word_count, place}
 use Rattle.mc_core.specs.Steps.{draws_after, words_after}
@@ -53,7 +54,7 @@ joined s id v other w =
 
 -- each step keeps the rule, where its conditions are met
 pub record StepsKeep (k : Shape) (s : Shared) : Type 0 where
-  pub fork : (id : ℕ) (v : View) → HasView s id v → v.role ≡ Opener → v.forks < 64 →
+  pub fork : (id : ℕ) (v : View) → HasView s id v → v.role ≡ Opener → v.forks < most_workers →
       IsKept k (forked s id v)
   pub claim : (id : ℕ) (v : View) → HasView s id v → v.role ≡ Worker → v.over ≡ 0 →
       IsKept k (drawn s id v)

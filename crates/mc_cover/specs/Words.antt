@@ -60,4 +60,4 @@ pub record IsRuled (k : Shape) (s : Shared) : Type 0 where
   pub opener : OfOne s (λ v. v.role ≡ Opener)
   pub counts : (id : ℕ) (v : View) → HasView s id v → v.role ≡ Opener → OpenerCounts s v
   -- so word 0 never wraps
-  pub small : draws s.words ≤ k.tests + 64
+  pub small : draws s.words ≤ k.tests + most_workers

@@ -1,5 +1,6 @@
 //! The calls of passes on shared words.
 ghost use Rattle.std.specs.Prelude.{◌≡◌, ℕ, ◌+◌, ◌<◌, ◌≤◌, ◌↔◌, [], length, Contains, IfSome, IfNone, vec_len};
+ghost use Rattle.mc_limits.specs.Limits.{most_workers};
 ghost use Rattle.mc_core.specs.Shape.{word_count};
 ghost use Rattle.mc_core.specs.Matrix.{Holds};
 ghost use Rattle.mc_cover.specs.Views.{worker, after_fork, with_claim, ended, after_hit, after_join};
@@ -17,7 +18,7 @@ use mc_core::Matrix;
 pub fn fork(cover: &Cover, pass: &mut Pass) -> Pass
     requires own { pass.old.cover ≡ cover.now.cover }
     requires opener { pass.old.view.role ≡ Role.Opener }
-    requires forks { pass.old.view.forks < 64 }
+    requires forks { pass.old.view.forks < most_workers }
     ensures own { (pass.new.cover ≡ pass.old.cover) × (result.cover ≡ pass.old.cover) }
     ensures opener { pass.new.view ≡ after_fork pass.old.view }
     ensures worker { result.view ≡ worker pass.old.view }

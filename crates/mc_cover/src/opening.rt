@@ -16,7 +16,7 @@ use thiserror::Error;
 /// Why there are no shared words.
 #[derive(Clone, Copy, Debug, PartialEq, Eq, Error)]
 pub enum OpenFault {
-    /// The matrix would need more than 1,048,576 words; this many.
+    /// The matrix would need more than `MOST_WORDS` words; this many.
     #[error("matrix needs {words} words")]
     TooLarge { words: u64 },
     /// Memory has run out.

@@ -1,5 +1,6 @@
 //! The work of one worker.
 ghost use Rattle.std.specs.Prelude.{◌≡◌, ◌<◌, ◌≤◌, All, length, map, IfOk};
+ghost use Rattle.mc_limits.specs.Limits.{most_workers};
 ghost use Rattle.mc_cover.specs.Model.{IsOf};
 ghost use Rattle.mc_cover.specs.Views.{after_fork};
 ghost use Rattle.mc_crew.specs.Recorder.{Leads, bits_of, pass_of};
@@ -42,7 +43,7 @@ impl<'c, 'p, 'a> Job<'c, 'p, 'a> {
     ) -> Result<Job<'c, 'p, 'a>, AllocError>
         requires own { IsOf cover.now pass.old }
         requires opener { pass.old.view.role ≡ Role.Opener }
-        requires forks { pass.old.view.forks < 64 }
+        requires forks { pass.old.view.forks < most_workers }
         requires shape { shape ≡ cover.now.shape }
         ensures own { pass.new.cover ≡ pass.old.cover }
         ensures opener { IfOk result (λ _. pass.new.view ≡ after_fork pass.old.view) }
