@@ -1,0 +1,6 @@
+pub mod Fronts
+pub mod Figures
+pub mod TestLines
+pub mod BitLines
+pub mod Heads
+pub mod Wholes
