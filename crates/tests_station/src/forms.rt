@@ -215,6 +215,38 @@ fn reports_in_both_forms(rt: HostRuntime) -> Result<(), Fail> {
     Ok(())
 }
 
+/// The same by so many workers.
+fn is_written_by<R: Threads + Sync>(
+    rt: &R,
+    alloc: Global,
+    words: &str,
+    workers: u32,
+    source: &str,
+    tests: &str,
+    want: (u8, &str),
+) -> Result<bool, Fail> {
+    let words = format!(in alloc; "{words}|--workers|{workers}")?;
+    let is_wanted = is_written(rt, alloc, words.as_str(), source, tests, want);
+    drop(words);
+    is_wanted
+}
+
+#[test]
+fn one_worker_or_many_report_in_both_forms(rt: HostRuntime) -> Result<(), Fail> {
+    for (words, source, tests, status, written) in &REPORTS {
+        let want = (*status, *written);
+        assert!(rt;
+            is_written_by(&rt, rt.alloc(), words, 1, source, tests, want)?,
+            "{words} {source}"
+        );
+        assert!(rt;
+            is_written_by(&rt, rt.alloc(), words, 64, source, tests, want)?,
+            "{words} {source}"
+        );
+    }
+    Ok(())
+}
+
 #[test]
 fn the_object_is_read_again(rt: HostRuntime) -> Result<(), Fail> {
     let mut setting = plain(SOURCE.as_bytes(), TESTS.as_bytes());

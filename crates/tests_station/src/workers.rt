@@ -23,6 +23,14 @@ fn one_worker_or_some_write_each_row(rt: HostRuntime) -> Result<(), Fail> {
 }
 
 #[test]
+fn many_workers_write_each_row(rt: HostRuntime) -> Result<(), Fail> {
+    for row in worked::ROWS.split('~') {
+        assert!(rt; is_written_by(&rt, rt.alloc(), row, MOST)?, "{row}");
+    }
+    Ok(())
+}
+
+#[test]
 fn one_worker_or_many_end_each_test(rt: HostRuntime) -> Result<(), Fail> {
     for row in endings::ROWS.split('~') {
         assert!(rt; is_written_by(&rt, rt.alloc(), row, 1)?, "{row}");
