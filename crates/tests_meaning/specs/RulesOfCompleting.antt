@@ -137,7 +137,12 @@ tests =
     -- (char)256 is 0, (char)257 is 1
     ∷ tested (typed.Convert Char true (num 256) here) 1
     ∷ tested (typed.Convert Char true (num 257) here) 0
+    -- what is not evaluated makes nothing trap (C17 6.5.14p4, 6.5.15p4)
+    ∷ tested (disj (num 1) (two Div (num 1) (num 0))) 0
+    ∷ tested (choice (num 1) (num 2) (two Div (num 1) (num 0))) 0
+    ∷ tested (choice (num 0) (two Div (num 1) (num 0)) (num 2)) 0
     -- one that traps is not other than 0
+    ∷ tested (disj (num 0) (two Div (num 1) (num 0))) 1
     ∷ tested (two Div (num 1) (num 0)) 1
     ∷ shape (do_while null (two Div (num 1) (num 0)) ∷ []) 2 1
     ∷ []

@@ -5,11 +5,11 @@ use Rattle.mc_value.specs.declared.int_type.IntType.TheVariants.{Int, UInt, Long
 use Rattle.mc_value.specs.declared.operators.BinOp.TheVariants.{Sub, Lt}
 use Rattle.mc_value.specs.declared.operators.ShiftOp.TheVariants.{Left}
 use Rattle.mc_typed.specs.declared.operators.Operator.TheVariants as operator
-use Rattle.mc_typed.specs.Layout.{Scalar, Array}
-use Rattle.mc_typed.specs.Tree.{Program}
+use Rattle.mc_typed.specs.Layout.{ObjectType, Scalar, Array, Structure, no_members, members}
+use Rattle.mc_typed.specs.Tree.{Place, Program}
 use Rattle.mc_typed.specs.Tree as t
 use Rattle.mc_steps.specs.Events.{Entered, Exited, Started}
-use Rattle.tests_meaning.specs.Words.{here, slot, local, static, object, int, read, var, num, two, item, member, does, set, add, gives, plain, declares, function, of_ints, ints, program}
+use Rattle.tests_meaning.specs.Words.{here, slot, local, static, object, int, read, var, num, two, choice, item, member, does, set, add, gives, plain, declares, function, of_ints, ints, program}
 use Rattle.tests_meaning.specs.Seen.{Row, calls, gave, trapped, evaluated, T, F}
 use Rattle.tests_meaning.specs.RulesOfValues.{pair, with_pairs}
 use Rattle.tests_meaning.specs.RulesOfStatements.{for}
@@ -20,6 +20,12 @@ all_zero = program (function (ints 1) (t.NumberResult Int)
     (int ∷ object (Array 3 (Scalar Int)) ∷ [])
     (declares (record { slot = slot 1; cells = 3; value = Some (t.ZeroInitializer (num 0) 3) } ∷ [])
     ∷ gives (read (item (local 1) 3 (var 0))) ∷ []) ∷ [])
+
+-- int f(void){int x={0};return x;}: also of a scalar
+abbrev pub zero_scalar : Program
+zero_scalar = program (of_ints 0 1
+    (declares (record { slot = slot 0; cells = 1; value = Some (t.ZeroInitializer (num 0) 1) } ∷ [])
+    ∷ gives (read (local 0)) ∷ []) ∷ [])
 
 -- struct S{int a;int b;};int f(void){struct S s;s.b=3;struct S t=s;return t.b;}, or with the member
 -- a: a structure is copied with what is unset in it
@@ -52,6 +58,26 @@ inner_static = record {
   structures = [];
 }
 
+-- struct S{int a[2];int b;};static struct S t[2]={{{1,2},3},{{4,5},6}};
+-- int f(int i,int j){return j<2?t[i].a[j]:t[i].b;}: parts of different sizes, one after the other
+abbrev pub array_and_int : ObjectType
+array_and_int = Structure 0 (members (Array 2 (Scalar Int)) (members (Scalar Int) no_members))
+
+abbrev pub chosen : Place
+chosen = t.Item (static 0) 2 3 (var 0) here
+
+abbrev pub static_structures : Program
+static_structures = record {
+  functions = of_ints 2 2 (gives (choice (two Lt (var 1) (num 2))
+      (read (item (t.Member chosen 0 0 here) 2 (var 1))) (read (t.Member chosen 1 2 here))) ∷ [])
+      ∷ [];
+  statics = record {
+    object = object (Array 2 array_and_int);
+    initial = pos 1 ∷ pos 2 ∷ pos 3 ∷ pos 4 ∷ pos 5 ∷ pos 6 ∷ [];
+  } ∷ [];
+  structures = array_and_int ∷ [];
+}
+
 -- int f(int a){a<<=2L;return a;}: the number of places is not converted
 abbrev pub shifted : Program
 shifted = program (of_ints 1 1
@@ -69,6 +95,7 @@ abbrev pub rows : List Row
 rows =
     calls all_zero 0 (pos 2 ∷ []) (gave (pos 0) 97 (Entered 0 ∷ Started 0 ∷ Started 1
     ∷ Exited 0 ∷ []))
+    ∷ calls zero_scalar 0 [] (gave (pos 0) 97 (Entered 0 ∷ Started 0 ∷ Started 1 ∷ Exited 0 ∷ []))
     ∷ calls (from_structure 1) 0 [] (gave (pos 3) 96 (Entered 0 ∷ Started 0 ∷ Started 1 ∷ Started 2
     ∷ Exited 0 ∷ []))
     ∷ calls (from_structure 0) 0 [] (trapped Unset 96 (Entered 0 ∷ Started 0 ∷ Started 1
@@ -80,6 +107,14 @@ rows =
     ∷ Exited 0 ∷ []))
     ∷ calls inner_static 0 (pos 0 ∷ pos 1 ∷ []) (gave (pos 2) 98 (Entered 0 ∷ Started 0
     ∷ Exited 0 ∷ []))
+    ∷ calls static_structures 0 (pos 0 ∷ pos 1 ∷ []) (gave (pos 2) 98 (Entered 0 ∷ Started 0
+    ∷ evaluated 0 (T ∷ []) true ∷ Exited 0 ∷ []))
+    ∷ calls static_structures 0 (pos 1 ∷ pos 0 ∷ []) (gave (pos 4) 98 (Entered 0 ∷ Started 0
+    ∷ evaluated 0 (T ∷ []) true ∷ Exited 0 ∷ []))
+    ∷ calls static_structures 0 (pos 0 ∷ pos 2 ∷ []) (gave (pos 3) 98 (Entered 0 ∷ Started 0
+    ∷ evaluated 0 (F ∷ []) false ∷ Exited 0 ∷ []))
+    ∷ calls static_structures 0 (pos 1 ∷ pos 2 ∷ []) (gave (pos 6) 98 (Entered 0 ∷ Started 0
+    ∷ evaluated 0 (F ∷ []) false ∷ Exited 0 ∷ []))
     ∷ calls shifted 0 (pos 3 ∷ []) (gave (pos 12) 97 (Entered 0 ∷ Started 0 ∷ Started 1
     ∷ Exited 0 ∷ []))
     ∷ calls wrapped 0 (pos 0 ∷ []) (gave (pos 4294967295) 97 (Entered 0 ∷ Started 0 ∷ Started 1

@@ -13,7 +13,7 @@ use Rattle.mc_typed.specs.Layout.{Scalar}
 use Rattle.mc_typed.specs.Tree.{Expression, Program, Statement}
 use Rattle.mc_typed.specs.Tree as typed
 use Rattle.mc_steps.specs.Events.{Event, Entered, Exited, Started}
-use Rattle.tests_meaning.specs.Words.{here, local, object, int, var, num, two, does, gives, function, of_ints, program}
+use Rattle.tests_meaning.specs.Words.{here, local, object, int, var, num, two, conj, disj, does, gives, function, of_ints, program}
 use Rattle.tests_meaning.specs.Seen.{Row, calls, one_call, gave, trapped, evaluated, T, F}
 
 -- ---- operators of arithmetic, of bits, and shifts (C17 6.5.3.3, 6.5.5 to 6.5.7, 6.5.10 to 6.5.12)
@@ -82,6 +82,15 @@ comparisons = program (of_ints 2 2 (gives
 
 abbrev pub compared : List Event → List Event
 compared outcomes = Entered 0 ∷ Started 0 ∷ outcomes ++ Exited 0 ∷ []
+
+-- ---- `||`, `&&` and `!` as values: 0 or 1, whatever their operands are (C17 6.5.3.3p5, 6.5.13p3,
+-- 6.5.14p3)
+
+-- int f(int a,int b){return (a||b)+2*(a&&b)+4*!a;}
+abbrev pub logic : Program
+logic = program (of_ints 2 2 (gives
+    (two Add (two Add (disj (var 0) (var 1)) (two Mul (num 2) (conj (var 0) (var 1))))
+    (two Mul (num 4) (typed.Not (var 0) here))) ∷ []) ∷ [])
 
 -- ---- conversions (C17 6.3.1.2, 6.3.1.3)
 
@@ -159,6 +168,18 @@ rows =
     ∷ calls comparisons 0 (pos 2 ∷ pos 2 ∷ []) (gave (pos 28) 98 (compared
     (evaluated 0 (F ∷ []) false ∷ evaluated 1 (F ∷ []) false ∷ evaluated 2 (T ∷ []) true
     ∷ evaluated 3 (T ∷ []) true ∷ evaluated 4 (T ∷ []) true ∷ evaluated 5 (F ∷ []) false ∷ [])))
+    ∷ calls logic 0 (pos 5 ∷ pos 7 ∷ []) (gave (pos 3) 98 (compared
+    (evaluated 0 (T ∷ None ∷ []) true ∷ evaluated 1 (T ∷ T ∷ []) true ∷ evaluated 2 (T ∷ []) false
+    ∷ [])))
+    ∷ calls logic 0 (pos 0 ∷ pos 7 ∷ []) (gave (pos 5) 98 (compared
+    (evaluated 0 (F ∷ T ∷ []) true ∷ evaluated 1 (F ∷ None ∷ []) false ∷ evaluated 2 (F ∷ []) true
+    ∷ [])))
+    ∷ calls logic 0 (pos 5 ∷ pos 0 ∷ []) (gave (pos 1) 98 (compared
+    (evaluated 0 (T ∷ None ∷ []) true ∷ evaluated 1 (T ∷ F ∷ []) false ∷ evaluated 2 (T ∷ []) false
+    ∷ [])))
+    ∷ calls logic 0 (pos 0 ∷ pos 0 ∷ []) (gave (pos 4) 98 (compared
+    (evaluated 0 (F ∷ F ∷ []) false ∷ evaluated 1 (F ∷ None ∷ []) false ∷ evaluated 2 (F ∷ []) true
+    ∷ [])))
     ∷ calls (through Bool) 0 (pos 256 ∷ []) (gave (pos 1) 98 (begun ++ Exited 0 ∷ []))
     ∷ calls (through UChar) 0 (negsuc 0 ∷ []) (gave (pos 255) 98 (begun ++ Exited 0 ∷ []))
     ∷ calls (through SChar) 0 (pos 200 ∷ []) (gave (negsuc 55) 98 (begun ++ Exited 0 ∷ []))

@@ -2,14 +2,14 @@
 -- runs.
 use Rattle.std.specs.Prelude.{◌≡◌, ℕ, suc, ℤ, pos, negsuc, true, false, List, [], ◌∷◌, ◌++◌, replicate, Option, Some, None}
 use Rattle.mc_value.specs.declared.trap.Trap.TheVariants.{Division}
-use Rattle.mc_value.specs.declared.operators.BinOp.TheVariants.{Div, Lt, Gt, Eq}
+use Rattle.mc_value.specs.declared.operators.BinOp.TheVariants.{Add, Div, Lt, Gt, Eq}
 use Rattle.mc_typed.specs.declared.plans.Ending.TheVariants as ending
 use Rattle.mc_typed.specs.declared.plans.TestState.{TestState}
 use Rattle.mc_typed.specs.declared.plans.TestState.TheVariants.{Pass, Fail, Ended}
-use Rattle.mc_typed.specs.Tree.{Expression, Effect, Statement, Function, Program}
+use Rattle.mc_typed.specs.Tree.{Expression, Effect, Statement, Program}
 use Rattle.mc_typed.specs.Tree as t
 use Rattle.mc_typed.specs.Plans.{Call, Plan}
-use Rattle.mc_steps.specs.Runs.{State, Run, Acts, stops}
+use Rattle.mc_steps.specs.Runs.{State, Acts, stops}
 use Rattle.mc_steps.specs.Runs as runs
 use Rattle.mc_steps.specs.Expressions.{output_does}
 use Rattle.mc_steps.specs.Statements.{Given}
@@ -96,6 +96,14 @@ abbrev pub left_by_break : Program
 left_by_break = program (function [] t.NoResult [] (while (num 1) stop ∷ [])
     ∷ of_ints 0 0 (gives (num 3) ∷ []) ∷ [])
 
+-- int f(int n){while(n){n=7;break;}return n+1;}, and with `do` and the test at its end: after a
+-- `break` the statement after the loop is the next one
+abbrev pub then_more : Statement → Program
+then_more loop = program (of_ints 1 1 (loop ∷ gives (two Add (var 0) (num 1)) ∷ []) ∷ [])
+
+abbrev pub seven_and_stop : Statement
+seven_and_stop = block (does (set (local 0) (num 7)) ∷ stop ∷ [])
+
 -- ---- declarations
 
 -- int f(void){int x,y=1,z=y;int u;return z;}: several objects of one declaration take one unit and
@@ -166,6 +174,10 @@ rows =
     ∷ calls constant_trap 1 [] (gave (pos 3) 98 (Entered 1 ∷ Started 2 ∷ Exited 1 ∷ []))
     ∷ calls left_by_break 0 [] (ended 96 (begun ++ Started 1 ∷ Exited 0 ∷ []))
     ∷ calls left_by_break 1 [] (gave (pos 3) 98 (Entered 1 ∷ Started 2 ∷ Exited 1 ∷ []))
+    ∷ calls (then_more (while (var 0) seven_and_stop)) 0 (pos 3 ∷ []) (gave (pos 8) 94 (begun
+    ++ evaluated 0 (T ∷ []) true ∷ Started 1 ∷ Started 2 ∷ Started 3 ∷ Exited 0 ∷ []))
+    ∷ calls (then_more (do_while seven_and_stop (var 0))) 0 (pos 3 ∷ []) (gave (pos 8) 95 (begun
+    ++ Started 1 ∷ Started 2 ∷ Started 3 ∷ Exited 0 ∷ []))
     ∷ calls several_objects 0 [] (gave (pos 1) 97 (begun ++ Started 1 ∷ Exited 0 ∷ []))
     ∷ calls negated 0 (pos 0 ∷ pos 2 ∷ []) (gave (pos 2) 98 (begun
     ++ evaluated 0 (F ∷ T ∷ []) false ∷ Exited 0 ∷ []))
