@@ -328,3 +328,70 @@ MapIsThat = map_of program ≡ map
 
 abbrev pub TreeIsThat : Type 0
 TreeIsThat = instrumented map program ≡ tree
+
+-- ---- a text of one function
+
+-- `int f(int a,int b){return a&&b;}`: its entry has the bit 0, its exit 1, its statement 2, and the
+-- paths TT, TF and F- of `a&&b` have 3 to 5
+abbrev pub short : Program
+short = record {
+  functions = record {
+    name = 102 ∷ [];
+    name_span = at 4 5;
+    parameters = typed.NumberParameter Int ∷ typed.NumberParameter Int ∷ [];
+    result = typed.NumberResult Int;
+    objects = scalar 0 ∷ scalar 1 ∷ [];
+    body = body (typed.Return (typed.ReturnNumber
+        (typed.Logic And (local 0 (at 26 27)) (local 1 (at 29 30)) (at 26 30))) (at 19 31) ∷ []);
+    closing = at 31 32;
+  } ∷ [];
+  statics = [];
+  structures = [];
+}
+
+abbrev pub short_map : Map
+short_map = record {
+  entries = at 4 5 ∷ [];
+  exits = at 19 31 ∷ [];
+  statements = at 19 31 ∷ [];
+  labels = [];
+  decisions = record {
+    decision = record {
+      root = at 26 30;
+      function = 0;
+      tree = cond.And (Leaf 0) (Leaf 1);
+      conditions = at 26 27 ∷ at 29 30 ∷ [];
+    };
+    base = 3;
+  } ∷ [];
+  bits = 6;
+}
+
+abbrev pub short_tree : Tree
+short_tree = record {
+  program = record {
+    functions = record {
+      name = 102 ∷ [];
+      name_span = at 4 5;
+      parameters = typed.NumberParameter Int ∷ typed.NumberParameter Int ∷ [];
+      result = typed.NumberResult Int;
+      objects = scalar 0 ∷ scalar 1 ∷ [];
+      body = items (probed.Return (probed.ReturnNumber (decision 0 3 (probed.Logic And
+          (condition 0 2 (var 0 (at 26 27))) (condition 0 1 (var 1 (at 29 30))) (at 26 30))))
+          (at 19 31) (Some 2) (Some 1) ∷ []);
+      closing = at 31 32;
+      registers = 1;
+      entry = Some 0;
+      exit = None;
+    } ∷ [];
+    statics = [];
+    structures = [];
+  };
+  bits = 6;
+}
+
+abbrev pub ShortMapIsThat : Type 0
+ShortMapIsThat = map_of short ≡ short_map
+
+abbrev pub ShortTreeIsThat : Type 0
+ShortTreeIsThat = instrumented short_map short ≡ short_tree

@@ -4,3 +4,4 @@ pub mod Bits
 pub mod Counting
 pub mod Formed
 pub mod ByHand
+pub mod Places

@@ -1,6 +1,6 @@
 //! Bits that were counted by hand, and trees with other probes than a program's own.
 ghost use Rattle.tests_probe.specs.Counting as counting;
-ghost use Rattle.tests_probe.specs.ByHand.{MapIsThat, TreeIsThat};
+ghost use Rattle.tests_probe.specs.ByHand.{MapIsThat, ShortMapIsThat, ShortTreeIsThat, TreeIsThat};
 ghost use Rattle.tests_probe.specs.Bits.{Again, Anywhere, Compared, Cut, InBits, Nested, OfLong, Wraps, WrapsInside};
 
 /// The order of the bits, and a decision that a trap cuts.
@@ -43,4 +43,10 @@ pub fn activations_have_registers()
 pub fn tree_by_hand()
     ensures map { MapIsThat }
     ensures tree { TreeIsThat }
+{}
+
+/// So were those of a function that has one decision.
+pub fn short_tree_by_hand()
+    ensures map { ShortMapIsThat }
+    ensures tree { ShortTreeIsThat }
 {}
