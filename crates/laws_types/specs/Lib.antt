@@ -6,3 +6,4 @@ pub mod Heights
 pub mod Exact
 pub mod Places
 pub mod Statements
+pub mod Silence

@@ -3,6 +3,7 @@
 #![tactic(auto)]
 
 mod laws;
+mod silence;
 
 pub use laws::{
     assigned_is_converted, assignments_are_kept, constants_have_their_types,
@@ -10,3 +11,4 @@ pub use laws::{
     operands_are_converted, operators_are_kept, statements_are_kept, statements_have_levels,
     units_are_exact, words_have_their_types,
 };
+pub use silence::{missing_is_spared, values_have_no_fault};
