@@ -1,0 +1,6 @@
+pub mod Lines
+pub mod Marks
+pub mod Listing
+pub mod Laws
+pub mod Seen
+pub mod steps

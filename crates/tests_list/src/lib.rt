@@ -1,0 +1,6 @@
+//! Tests of `mc_list`.
+#![tactic(auto)]
+
+pub mod laws;
+#[cfg(test)]
+mod rows;
