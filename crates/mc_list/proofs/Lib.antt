@@ -4,3 +4,4 @@ pub mod Joining
 pub mod Stripping
 pub mod Numbering
 pub mod Putting
+pub mod Worst

@@ -1,5 +1,5 @@
 -- Marks by their ranks, and the worst mark of places that follow each other.
-use Rattle.std.proofs.Common.{◌≡◌, ◌∙◌, ◌+◌, ◌-◌, ◌≤◌, ℕ, zero, suc, max, Bool, true, false, List, [], ◌∷◌, take, drop, get_or, refl, sym, ap, subst, arith}
+use Rattle.std.proofs.Common.{◌≡◌, ◌∙◌, ◌+◌, ◌-◌, ◌<◌, ◌≤◌, ℕ, zero, suc, max, Bool, true, false, List, [], ◌∷◌, take, drop, get_or, refl, sym, ap, subst, arith}
 use Rattle.std.specs.Prelude.{nat_le, nat_lt, ◌&&◌, if◌then◌else◌}
 use Rattle.std.proofs.lemmas.Bool.Decides.{nat_tests}
 use Rattle.std.proofs.lemmas.List.{drop_more}
@@ -26,10 +26,10 @@ at_rank Justified = refl
 at_rank Stale = refl
 at_rank Missing = refl
 
-pub same_mark : (a b : Mark) → rank_of a ≡ rank_of b → a ≡ b
+same_mark : (a b : Mark) → rank_of a ≡ rank_of b → a ≡ b
 same_mark a b e = sym (at_rank a) ∙ ap mark_at e ∙ at_rank b
 
-pub rank_worse : (a b : Mark) → rank_of (worse_of a b) ≡ max (rank_of a) (rank_of b)
+rank_worse : (a b : Mark) → rank_of (worse_of a b) ≡ max (rank_of a) (rank_of b)
 rank_worse Clear Clear = refl
 rank_worse Clear Met = refl
 rank_worse Clear Justified = refl
@@ -58,22 +58,25 @@ rank_worse Missing Missing = refl
 
 -- ---- the mark of one obligation
 
-abbrev own_rank : ℕ → ℕ → ℕ → ℕ → ℕ
+abbrev pub own_rank : ℕ → ℕ → ℕ → ℕ → ℕ
 own_rank from to at rank = if nat_le from at && nat_lt at to then rank else 0
 
 rank_if : (t : Bool) (m : Mark) → rank_of (if t then m else Clear) ≡ (if t then rank_of m else 0)
 rank_if true m = refl
 rank_if false m = refl
 
-pub rank_own : (from to at : ℕ) (m : Mark) → rank_of (own_mark from to at m) ≡ own_rank from to at (rank_of m)
+rank_own : (from to at : ℕ) (m : Mark) → rank_of (own_mark from to at m) ≡ own_rank from to at (rank_of m)
 rank_own from to at m = rank_if (nat_le from at && nat_lt at to) m
+
+pub own_inside : (from to at rank : ℕ) → from ≤ at → at < to → own_rank from to at rank ≡ rank
+own_inside from to at rank low high = grind (arith, nat_tests)
 
 own_joined : (x y z at rank : ℕ) → x ≤ y → y ≤ z → own_rank x z at rank ≡ max (own_rank x y at rank) (own_rank y z at rank)
 own_joined x y z at rank h k = grind (arith, nat_tests)
 
 -- ---- the worst mark of some places
 
-first_more : (x y : ℕ) (o : Obligation) (v : Verdict) (os : List Obligation) (vs : List Verdict) → rank_of (mark_within x y (o ∷ os) (v ∷ vs))
+pub first_more : (x y : ℕ) (o : Obligation) (v : Verdict) (os : List Obligation) (vs : List Verdict) → rank_of (mark_within x y (o ∷ os) (v ∷ vs))
     ≡ max (own_rank x y o.span.start (rank_of (mark_of v.state))) (rank_of (mark_within x y os vs))
 first_more x y o v os vs =
     rank_worse (own_mark x y o.span.start (mark_of v.state)) (mark_within x y os vs)

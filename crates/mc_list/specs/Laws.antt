@@ -8,6 +8,9 @@ use Rattle.mc_oblige.specs.declared.obligation.Obligation.{Obligation}
 use Rattle.mc_oblige.specs.declared.verdict.Verdict.{Verdict}
 use Rattle.mc_list.specs.Lines.{Placed, lines_of, placed_lines, stripped}
 use Rattle.mc_list.specs.Listing.{listing}
+use Rattle.mc_list.specs.Marks.{rank_of, mark_of, mark_on}
+use Rattle.mc_list.specs.declared.mark.Mark.{Mark}
+use Rattle.mc_list.specs.declared.mark.Mark.TheVariants.{Clear}
 
 -- LF is the last byte, and stands nowhere else
 abbrev pub IsEnded : List ℕ → Type 0
@@ -54,3 +57,26 @@ PlacesAreOnLines =
     (source : List ℕ) (line : Placed) (at : ℕ) → Contains (placed_lines source) line →
     at < length source →
     ((line.start ≤ at) × (at < line.start + length line.bytes)) ↔ (line_of source at ≡ line.number)
+
+-- the lists have this obligation and its verdict
+abbrev pub IsJudged : List Obligation → List Verdict → Obligation → Verdict → Type 0
+IsJudged (p ∷ os) (w ∷ vs) o v = ((p ≡ o) × (w ≡ v)) ⊎ IsJudged os vs o v
+IsJudged _ _ o v = ⊥
+
+-- no verdict on what starts on the line is worse than the mark, and it is that of one of them; or it
+-- is the space, where nothing starts on the line
+pub record IsWorst (os : List Obligation) (vs : List Verdict) (line : Placed) (mark : Mark)
+    : Type 0 where
+  pub none_worse : (o : Obligation) (v : Verdict) → IsJudged os vs o v →
+      line.start ≤ o.span.start → o.span.start < line.start + length line.bytes →
+      rank_of (mark_of v.state) ≤ rank_of mark
+  pub one : (mark ≡ Clear) ⊎ ((o : Obligation) × (v : Verdict) × IsJudged os vs o v
+      × (line.start ≤ o.span.start)
+      × (o.span.start < line.start + length line.bytes)
+      × (mark_of v.state ≡ mark))
+
+-- a line has the mark of the worst verdict
+abbrev pub MarksAreWorst : Type 0
+MarksAreWorst =
+    (os : List Obligation) (vs : List Verdict) (line : Placed) →
+    IsWorst os vs line (mark_on os vs line)

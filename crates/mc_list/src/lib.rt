@@ -13,7 +13,9 @@ mod mark;
 mod table;
 
 pub use iterators::{lines, strip};
-pub use laws::{lines_are_one, listing_has_source, places_are_on_lines, text_has_lines};
+pub use laws::{
+    lines_are_one, listing_has_source, marks_are_worst, places_are_on_lines, text_has_lines,
+};
 pub use line::{Line, Lines};
 pub use listing::write_listing;
 pub use margins::Strip;

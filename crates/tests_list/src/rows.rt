@@ -106,18 +106,21 @@ fn is_stripped(text: &[u8], source: &[u8]) -> bool
     left.is_empty()
 }
 
-/// Whether the lines are those of the source.
+/// Whether the lines are numbered from 1, and follow each other up to the end of the source.
 fn are_lines(source: &[u8]) -> bool
     requires { length source.now ≤ 1048576 }
 {
-    let mut at = 0;
+    let mut number: u32 = 1;
+    let mut left = source;
     for line in lines(source) {
-        if line.start != at {
+        let end = (line.start as usize).saturating_add(left.len());
+        if line.number != number || end != source.len() || !left.starts_with(line.bytes) {
             return false;
         }
-        at = line.start.saturating_add(line.bytes.len() as u32);
+        left = &left[line.bytes.len().min(left.len())..];
+        number = number.saturating_add(1);
     }
-    at as usize == source.len()
+    left.is_empty()
 }
 
 fn check(rt: &impl Abort, alloc: Global, row: &Row<'_>) -> Result<(), Fail> {
