@@ -1,7 +1,6 @@
 -- Listings that were written out by hand.
 use Rattle.std.specs.Prelude.{◌≡◌, ℕ, List, [], ◌∷◌, codes}
 use Rattle.std.specs.List.{concat}
-use Rattle.mc_oblige.specs.declared.verdict.VerdictState.{VerdictState}
 use Rattle.mc_oblige.specs.declared.verdict.VerdictState.TheVariants.{Met, Justified, Stale, Missing}
 use Rattle.mc_list.specs.Lines.{stripped}
 use Rattle.tests_list.specs.Words.{IsListed}

@@ -1,12 +1,10 @@
 -- Listings written shortly.
 use Rattle.std.specs.Prelude.{◌≡◌, ℕ, List, map, None}
-use Rattle.mc_span.specs.declared.span.Span.{Span}
 use Rattle.mc_oblige.specs.declared.obligation.Obligation.{Obligation}
 use Rattle.mc_oblige.specs.declared.obligation.ObligationId.TheVariants.{Entry}
 use Rattle.mc_oblige.specs.declared.verdict.Evidence.TheVariants.{Absent}
 use Rattle.mc_oblige.specs.declared.verdict.Verdict.{Verdict}
 use Rattle.mc_oblige.specs.declared.verdict.VerdictState.{VerdictState}
-use Rattle.mc_list.specs.Lines.{stripped}
 use Rattle.mc_list.specs.Listing.{listing}
 
 -- an obligation that starts at this byte; no more of it plays a part
