@@ -1,0 +1,17 @@
+pub mod Showing
+pub mod Keeping
+pub mod Bridging
+pub mod Positions
+pub mod Counting
+pub mod Seeing
+pub mod Losing
+pub mod Turning
+pub mod Tallies
+pub mod Steps
+pub mod Rising
+pub mod Deciding
+pub mod Alike
+pub mod Ascending
+pub mod Judging
+pub mod Trees
+pub mod Known

@@ -1,0 +1,4 @@
+pub mod Shown
+pub mod Kept
+pub mod Laws
+pub mod steps

@@ -1,0 +1,4 @@
+-- What the proofs need between the definitions and the code. No public clause rests on it.
+pub mod Bits
+pub mod Counts
+pub mod Loss
