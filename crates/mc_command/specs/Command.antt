@@ -13,6 +13,11 @@ pub record Report : Type 0 where
   pub form : Form
   pub justify : Option (List ℕ)
 
+-- a listing of the source: how independence is to be shown, and the file of justifications
+pub record Listing : Type 0 where
+  pub mode : Independence
+  pub justify : Option (List ℕ)
+
 -- what is written of a run of the tests
 pub data Task : Type 0 where
   -- `report`: the coverage of the source
@@ -21,6 +26,10 @@ pub data Task : Type 0 where
   vectors : Task
   -- `record`: the matrix of what was evaluated, to be kept in a file
   recorded : Task
+  -- `reduce`: tests that show what all of them show, and none of which can go
+  reduced : Independence → Task
+  -- `list`: the lines of the source, each with the mark of its worst verdict
+  listed : Listing → Task
 
 -- a run of the tests: the name of their file, how many workers share them, the fuel of each, and
 -- what is written of it
@@ -32,7 +41,7 @@ pub record Run : Type 0 where
 
 -- what is done with a source
 pub data Action : Type 0 where
-  -- its tests are run: `report`, `vectors`, `record`
+  -- its tests are run: `report`, `vectors`, `record`, `reduce`, `list`
   run : Run → Action
   -- `instrument`: its program is written with the probes
   instrument : Action
@@ -59,11 +68,21 @@ report_with mode form justify = None
 abbrev pub report_in : List Row → Option Report
 report_in values = report_with (mode_in values) (form_in values) (first_of (codes "justify") values)
 
+abbrev pub listing_with : Option Independence → Option Text → Option Listing
+listing_with (Some mode) justify = Some (record { mode = mode; justify = justify })
+listing_with None justify = None
+
+-- `[--mode M] [--justify NAME]`
+abbrev pub listing_in : List Row → Option Listing
+listing_in values = listing_with (mode_in values) (first_of (codes "justify") values)
+
 abbrev pub task_in : (name : Text) → List Row → Option Task
 task_in name values =
     if bytes_eq name (codes "report") then option_map report (report_in values)
     else if bytes_eq name (codes "vectors") then Some vectors
     else if bytes_eq name (codes "record") then Some recorded
+    else if bytes_eq name (codes "reduce") then option_map reduced (mode_in values)
+    else if bytes_eq name (codes "list") then option_map listed (listing_in values)
     else None
 
 abbrev pub run_with : Task → Option Text → Option ℕ → Option ℕ → Option Run

@@ -1,11 +1,12 @@
 -- What clauses see of commands.
 use Rattle.std.specs.Prelude.{◌≤◌, ℕ, ⊤, option_map}
 use Rattle.mc_limits.specs.Limits.{most_fuel, most_functions, most_workers}
-use Rattle.mc_command.specs.Command.{Action, Command, Report, Run, Task, analyse, instrument, merge, on_source, recorded, report, run, selfload, vectors}
+use Rattle.mc_command.specs.Command.{Action, Command, Listing, Report, Run, Task, analyse, instrument, listed, merge, on_source, recorded, reduced, report, run, selfload, vectors}
 use Rattle.mc_command.specs.declared.action.Action.{Action as ActionGiven}
 use Rattle.mc_command.specs.declared.action.Action.TheVariants as action
 use Rattle.mc_command.specs.declared.command.Command.{Command as Given}
 use Rattle.mc_command.specs.declared.command.Command.TheVariants as command
+use Rattle.mc_command.specs.declared.listing.Listing.{Listing as ListingGiven}
 use Rattle.mc_command.specs.declared.report.Report.{Report as ReportGiven}
 use Rattle.mc_command.specs.declared.run.Run.{Run as RunGiven}
 use Rattle.mc_command.specs.declared.task.Task.{Task as TaskGiven}
@@ -15,10 +16,15 @@ abbrev pub seen_report : ReportGiven → Report
 seen_report r =
     record { mode = r.mode; form = r.form; justify = option_map (λ name. name.now) r.justify }
 
+abbrev pub seen_listing : ListingGiven → Listing
+seen_listing l = record { mode = l.mode; justify = option_map (λ name. name.now) l.justify }
+
 abbrev pub seen_task : TaskGiven → Task
 seen_task (task.Report r) = report (seen_report r)
 seen_task task.Vectors = vectors
 seen_task task.Record = recorded
+seen_task (task.Reduce mode) = reduced mode
+seen_task (task.List l) = listed (seen_listing l)
 
 abbrev pub seen_run : RunGiven → Run
 seen_run r =

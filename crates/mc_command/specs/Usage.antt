@@ -43,6 +43,16 @@ run_app name = with_rules (files_app name (codes "tests")) run_rules
 abbrev pub report_app : App
 report_app = with_rules (run_app (codes "report")) report_rules
 
+-- `reduce SOURCE TESTS [--workers N] [--fuel N] [--mode M]`
+abbrev pub reduce_app : App
+reduce_app = with_rule (run_app (codes "reduce")) (option_rule (codes "mode"))
+
+-- `list SOURCE TESTS [--workers N] [--fuel N] [--mode M] [--justify NAME]`
+abbrev pub list_app : App
+list_app =
+    with_rules (run_app (codes "list"))
+    (option_rule (codes "mode") ∷ option_rule (codes "justify") ∷ [])
+
 -- `instrument SOURCE`
 abbrev pub instrument_app : App
 instrument_app = with_rule (new_app (codes "instrument")) (positional_rule (codes "source"))
@@ -71,6 +81,11 @@ with_run_commands line =
     (with_subcommand (with_subcommand line report_app.top) (run_app (codes "vectors")).top)
     (run_app (codes "record")).top
 
+-- the commands that run the tests of a source to choose among them, and to list it
+abbrev pub with_tester_commands : App → App
+with_tester_commands line =
+    with_subcommand (with_subcommand line reduce_app.top) list_app.top
+
 -- the commands on records
 abbrev pub with_record_commands : App → App
 with_record_commands line =
@@ -83,4 +98,5 @@ with_other_commands line =
 
 abbrev pub line_app : App
 line_app =
-    with_other_commands (with_record_commands (with_run_commands (new_app (codes "mcdc"))))
+    with_other_commands
+    (with_record_commands (with_tester_commands (with_run_commands (new_app (codes "mcdc")))))

@@ -4,6 +4,8 @@ ghost use Rattle.clap.specs.Words.{found_of, rows_of};
 ghost use Rattle.mc_command.specs.Command.{task_in};
 ghost use Rattle.mc_command.specs.Seen.{seen_task};
 
+use crate::independence::{Independence, read_mode};
+use crate::listing::{Listing, read_listing};
 use crate::report::{Report, read_report};
 use clap::ArgMatches;
 
@@ -16,6 +18,13 @@ pub enum Task<'w> {
     Vectors,
     /// The matrix of what was evaluated, to be kept in a file: `record`
     Record,
+    /// Tests that show what all of them show, and none of which can go: `reduce`
+    Reduce {
+        /// How the independence of conditions is to be shown.
+        mode: Independence,
+    },
+    /// The lines of the source, each with the mark of its worst verdict: `list`
+    List(Listing<'w>),
 }
 
 /// The task of the command with this name.
@@ -29,6 +38,14 @@ pub fn read_task<'w>(name: &str, values: &ArgMatches<'w>) -> Option<Task<'w>>
         }
         "vectors" => Some(Task::Vectors),
         "record" => Some(Task::Record),
+        "reduce" => {
+            let mode = read_mode(values)?;
+            Some(Task::Reduce { mode })
+        }
+        "list" => {
+            let listing = read_listing(values)?;
+            Some(Task::List(listing))
+        }
         _ => None,
     }
 }

@@ -2,7 +2,7 @@
 ghost use Rattle.std.specs.Prelude.{◌≡◌, IfOk, codes, false};
 ghost use Rattle.clap.specs.declared.builder.command.Command.TheViews.{out-Command as fields_of};
 ghost use Rattle.clap.specs.Words.{app_of, new_app, rule_of};
-ghost use Rattle.mc_command.specs.Usage.{analyse_app, files_app, instrument_app, line_app, merge_app, option_rule, positional_rule, report_app, report_rules, run_app, selfload_app, with_other_commands, with_record_commands, with_rules, with_run_commands};
+ghost use Rattle.mc_command.specs.Usage.{analyse_app, files_app, instrument_app, line_app, list_app, merge_app, option_rule, positional_rule, reduce_app, report_app, report_rules, run_app, selfload_app, with_other_commands, with_record_commands, with_rules, with_run_commands, with_tester_commands};
 
 use clap::{Arg, Command};
 use std::alloc::{AllocError, Global};
@@ -80,6 +80,26 @@ fn recorded<'w>(alloc: Global) -> Result<Command<'w>, AllocError>
     run(alloc, "record")
 }
 
+// `reduce SOURCE TESTS [--workers N] [--fuel N] [--mode M]`
+fn reduce<'w>(alloc: Global) -> Result<Command<'w>, AllocError>
+    ensures app { IfOk result (λ c. app_of c ≡ reduce_app) }
+    ensures local { IfOk result (λ c. (fields_of c).has_globals ≡ false) }
+{
+    let command = run(alloc, "reduce")?;
+    command.arg(option(alloc, "mode"))
+}
+
+// `list SOURCE TESTS [--workers N] [--fuel N] [--mode M] [--justify NAME]`
+fn list<'w>(alloc: Global) -> Result<Command<'w>, AllocError>
+    ensures app { IfOk result (λ c. app_of c ≡ list_app) }
+    ensures local { IfOk result (λ c. (fields_of c).has_globals ≡ false) }
+{
+    let command = run(alloc, "list")?;
+    command
+        .arg(option(alloc, "mode"))?
+        .arg(option(alloc, "justify"))
+}
+
 // `instrument SOURCE`
 fn instrument<'w>(alloc: Global) -> Result<Command<'w>, AllocError>
     ensures app { IfOk result (λ c. app_of c ≡ instrument_app) }
@@ -125,6 +145,15 @@ fn with_run_commands<'w>(alloc: Global, line: Command<'w>) -> Result<Command<'w>
         .subcommand(recorded)
 }
 
+// The commands that run the tests of a source to choose among them, and to list it.
+fn with_tester_commands<'w>(alloc: Global, line: Command<'w>) -> Result<Command<'w>, AllocError>
+    ensures { IfOk result (λ c. app_of c ≡ with_tester_commands (app_of line.entry)) }
+{
+    let reduce = reduce(alloc)?;
+    let list = list(alloc)?;
+    line.subcommand(reduce)?.subcommand(list)
+}
+
 // The commands on records.
 fn with_record_commands<'w>(alloc: Global, line: Command<'w>) -> Result<Command<'w>, AllocError>
     ensures { IfOk result (λ c. app_of c ≡ with_record_commands (app_of line.entry)) }
@@ -148,6 +177,7 @@ pub fn line_command<'w>(alloc: Global) -> Result<Command<'w>, AllocError>
     ensures { IfOk result (λ c. app_of c ≡ line_app) }
 {
     let line = with_run_commands(alloc, Command::new(alloc, "mcdc"))?;
+    let line = with_tester_commands(alloc, line)?;
     let line = with_record_commands(alloc, line)?;
     with_other_commands(alloc, line)
 }

@@ -8,7 +8,7 @@ use Rattle.mc_probe.specs.Trees.{tree_of}
 use Rattle.mc_record.specs.Lines.{record_lines}
 use Rattle.mc_record.specs.Seen.{kept_of}
 use Rattle.mc_replies.specs.Files.{File as AskedFile}
-use Rattle.mc_replies.specs.Reply.{Reply as CalledFor, longer, out_of_memory, program_pieces, refusal}
+use Rattle.mc_replies.specs.Reply.{Reply as CalledFor, listing_pieces, longer, out_of_memory, program_pieces, refusal}
 use Rattle.mc_replies.specs.Texts.{bits_line, entry_line, form_line, justifications_line, kept_line, many_line, many_tests_line, matrix_line, place_line, quote_line, same_test_line, tests_line}
 use Rattle.mc_replies.specs.declared.file.File.{File}
 use Rattle.mc_replies.specs.declared.output.Output.{Output}
@@ -55,6 +55,7 @@ abbrev pub pieces_of : Output → List (List ℕ)
 pieces_of (output.Lines lines) = bytes_of lines.items
 pieces_of (output.Record writable) = record_lines (kept_of writable.kept)
 pieces_of (output.Program p) = program_pieces (toks_of p.tokens.items) (tree_of p.tree)
+pieces_of (output.Listing l) = listing_pieces l.source.now l.obligations.items l.verdicts.items
 
 -- a reply of the program; where there is none, memory did not suffice
 abbrev pub seen_reply : Reply → CalledFor

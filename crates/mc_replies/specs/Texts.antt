@@ -24,7 +24,11 @@ usage_text =
     ∷ codes "       mcdc merge SOURCE LEFT RIGHT" ∷ newline
     ∷ codes "       mcdc analyse SOURCE RECORD [--mode unique|masking] [--justify NAME]"
     ∷ codes " [--format text|csv|json]" ∷ newline
-    ∷ codes "       mcdc selfload N [--workers N]" ∷ newline ∷ [])
+    ∷ codes "       mcdc selfload N [--workers N]" ∷ newline
+    ∷ codes "       mcdc reduce SOURCE TESTS [--mode unique|masking] [--workers N] [--fuel N]"
+    ∷ newline
+    ∷ codes "       mcdc list SOURCE TESTS [--mode unique|masking] [--workers N] [--fuel N]"
+    ∷ codes " [--justify NAME]" ∷ newline ∷ [])
 
 abbrev pub cannot_read_line : List ℕ → List ℕ
 cannot_read_line name = concat (codes "mcdc: cannot read " ∷ name ∷ newline ∷ [])

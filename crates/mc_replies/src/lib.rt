@@ -3,6 +3,7 @@
 #![tactic(auto)]
 
 mod file;
+mod listed;
 mod output;
 mod printable;
 mod refusal;

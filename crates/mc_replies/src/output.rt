@@ -4,8 +4,10 @@ ghost use Rattle.std.specs.List.{concat};
 ghost use Rattle.mc_port.specs.Sink.{Puts};
 ghost use Rattle.mc_replies.specs.Seen.{pieces_of};
 
+use crate::listed::Listed;
 use crate::printable::Printable;
 use crate::writable::Writable;
+use mc_list::write_listing;
 use mc_port::{PutFault, Sink, put_lines};
 use mc_print::print;
 use mc_record::write_record;
@@ -19,6 +21,8 @@ pub enum Output<'a> {
     Record(Writable),
     /// The text of an instrumented program.
     Program(Printable<'a>),
+    /// The lines of a source, each after a margin.
+    Listing(Listed<'a>),
 }
 
 impl Output<'_> {
@@ -32,6 +36,9 @@ impl Output<'_> {
             Output::Lines(lines) => put_lines(lines, out),
             Output::Record(writable) => write_record(&writable.kept, out),
             Output::Program(printable) => print(&printable.tokens, &printable.tree, out),
+            Output::Listing(listed) => {
+                write_listing(listed.source, &listed.obligations, &listed.verdicts, out)
+            }
         }
     }
 }

@@ -1,16 +1,18 @@
 //! Replies.
-ghost use Rattle.std.specs.Prelude.{◌≡◌, IfOk};
+ghost use Rattle.std.specs.Prelude.{◌≡◌, ◌≤◌, IfOk, length};
 ghost use Rattle.mc_lex.specs.Tokens.{toks_of};
+ghost use Rattle.mc_limits.specs.Limits.{most_source_bytes};
 ghost use Rattle.mc_port.specs.Lines.{bytes_of};
 ghost use Rattle.mc_probe.specs.Trees.{tree_of};
 ghost use Rattle.mc_record.specs.Kept.{IsKept};
 ghost use Rattle.mc_record.specs.Lines.{record_lines};
 ghost use Rattle.mc_record.specs.Seen.{kept_of};
-ghost use Rattle.mc_replies.specs.Reply.{cannot_read, program_pieces, written};
+ghost use Rattle.mc_replies.specs.Reply.{cannot_read, listing_pieces, program_pieces, written};
 ghost use Rattle.mc_replies.specs.Reply as spec;
 ghost use Rattle.mc_replies.specs.Seen.{IsReplyTo, reply_to, seen_file, seen_reply};
 
 use crate::file::File;
+use crate::listed::Listed;
 use crate::output::Output;
 use crate::printable::Printable;
 use crate::refusal::Refusal;
@@ -19,6 +21,7 @@ use crate::stop::Stop;
 use crate::text::{cannot_read_line, refusal_line};
 use crate::writable::Writable;
 use mc_lex::Token;
+use mc_oblige::{Obligation, Verdict};
 use mc_probe::Instrumented;
 use mc_record::Record;
 use std::alloc::{AllocError, Global};
@@ -64,6 +67,30 @@ impl<'a> Reply<'a> {
             status: Status::written(0),
             diag: Vec::new(alloc),
             out: Output::Program(Printable { tokens, tree }),
+        }
+    }
+
+    /// The listing of a source for the output. Something is missing where the number is not 0.
+    pub fn of_listing(
+        alloc: Global,
+        number: u8,
+        source: &'a [u8],
+        obligations: Vec<Obligation>,
+        verdicts: Vec<Verdict>,
+    ) -> Reply<'a>
+        requires short { length source.now ≤ most_source_bytes }
+        requires same { length obligations.items ≡ length verdicts.items }
+        ensures { seen_reply result ≡ written number
+            (listing_pieces source.now obligations.items verdicts.items) }
+    {
+        Reply {
+            status: Status::written(number),
+            diag: Vec::new(alloc),
+            out: Output::Listing(Listed {
+                source,
+                obligations,
+                verdicts,
+            }),
         }
     }
 

@@ -23,10 +23,12 @@ use Rattle.mc_station.specs.Stages.{Ends, Judges, Stage, Tells, after_source, af
 use Rattle.mc_station.specs.Tests.{names, results, stands, states, tested_of}
 use Rattle.mc_station.specs.commands.Analyse.{tested_in}
 use Rattle.mc_station.proofs.Joining.{merge_keeps}
+use Rattle.mc_station.proofs.Lines.{listing_keeps}
 use Rattle.mc_station.proofs.Listing.{list_keeps}
 use Rattle.mc_station.proofs.Loading.{load_keeps}
 use Rattle.mc_station.proofs.Printing.{text_keeps}
 use Rattle.mc_station.proofs.Recording.{record_keeps}
+use Rattle.mc_station.proofs.Reducing.{reduction_keeps}
 use Rattle.mc_station.proofs.Reporting.{report_keeps}
 use Rattle.mc_station.proofs.Unique.{no_fault, no_file}
 use Rattle.mc_station.proofs.Refusing.{IsRefused, reasons_later, refuses_first, refuses_kept, refuses_left, refuses_reasons, refuses_right, refuses_tests, tests_later}
@@ -37,6 +39,8 @@ tells_keep : (skipped : List ℕ) (task : Task) (accepted : Accepted) (plans : L
 tells_keep skipped (command.report asked) accepted plans js r tells = report_keeps (stands skipped accepted plans) asked accepted (tested_of accepted.program plans) js r tells
 tells_keep skipped command.vectors accepted plans js r tells = list_keeps (stands skipped accepted plans) accepted (names plans) (states accepted.program plans) (results accepted.program plans) r tells
 tells_keep skipped command.recorded accepted plans js r tells = record_keeps skipped accepted plans r tells
+tells_keep skipped (command.reduced mode) accepted plans js r tells = reduction_keeps (stands skipped accepted plans) mode accepted (names plans) (states accepted.program plans) r tells
+tells_keep skipped (command.listed asked) accepted plans js r tells = listing_keeps (stands skipped accepted plans) asked accepted (tested_of accepted.program plans) js r tells
 
 -- the replies that a stage may lead to, if nothing fails
 abbrev May : Stage → Reply → Type 0

@@ -1,8 +1,9 @@
 -- What an instrumented program keeps of its source.
-use Rattle.std.proofs.Common.{◌≡◌, ◌∙◌, ◌<◌, ◌^◌, List, [], ◌∷◌, length, sym, ap, subst}
+use Rattle.std.proofs.Common.{◌≡◌, ◌≤◌, ◌∙◌, List, [], ◌∷◌, length, sym, ap, subst}
 use Rattle.std.specs.Prelude.{All}
 use Rattle.std.proofs.lemmas.List.{length-map}
 use Rattle.std.proofs.lemmas.List.Elements.{All-nil, All-cons}
+use Rattle.mc_limits.specs.Limits.{most_source_bytes}
 use Rattle.mc_core.specs.declared.shape.Shape.{Shape}
 use Rattle.mc_typed.specs.Plans.{Fits, Plan, plan_of}
 use Rattle.mc_typed.specs.Sound.{IsSound}
@@ -29,7 +30,7 @@ module _ (a : Accepted) (p : Program) (erases : erase (tree_of a.tree).program �
   pub accepted_is : seen_accepted a ≡ record { source = a.source.now; program = p; map = map_of a.map }
   accepted_is = λ i. record { source = a.source.now; program = program_is i; map = map_of a.map }
 
-  pub instrumented : length a.source.now < 2 ^ 31 → IsSound (erase (tree_of a.tree).program) → table.IsInstrumented p (map_of a.map) (tree_of a.tree) → IsInstrumented a
+  pub instrumented : length a.source.now ≤ most_source_bytes → IsSound (erase (tree_of a.tree).program) → table.IsInstrumented p (map_of a.map) (tree_of a.tree) → IsInstrumented a
   instrumented short sound is =
       let P : Program → Type 0 = λ q. table.IsInstrumented q (map_of a.map) (tree_of a.tree) in
       record { short = short; sound = subst IsSound (programs_erase a.tree.program) sound; tree = subst P (sym program_is) is }

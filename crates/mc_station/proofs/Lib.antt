@@ -8,6 +8,7 @@ pub mod Joining
 pub mod Judging
 pub mod Kept
 pub mod Leading
+pub mod Lines
 pub mod Listing
 pub mod Loading
 pub mod Mapped
@@ -19,6 +20,7 @@ pub mod Places
 pub mod Printing
 pub mod Recorded
 pub mod Recording
+pub mod Reducing
 pub mod Refusing
 pub mod Reported
 pub mod Reporting

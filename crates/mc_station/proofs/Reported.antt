@@ -34,12 +34,16 @@ use Rattle.mc_replies.specs.Seen.{seen_reply}
 use Rattle.mc_replies.specs.declared.reply.Reply.{Reply as Given}
 use Rattle.mc_station.specs.Ran.{AreTold, IsRun, seen_ran}
 use Rattle.mc_station.specs.Tests.{Tested, names, results, stands, states, status_where, tested_of}
+use Rattle.mc_station.specs.commands.List.{Listing, ListingOn}
+use Rattle.mc_station.specs.commands.Reduce.{Reduces, ReducesOn}
 use Rattle.mc_station.specs.commands.Report.{Reports, ReportsOn, form_of, mode_of, report}
 use Rattle.mc_station.specs.commands.Selfload.{Sums, SumsOn}
 use Rattle.mc_station.specs.commands.Vectors.{Lists, ListsOn}
 use Rattle.mc_station.specs.Source.{Accepted}
 use Rattle.mc_station.specs.declared.ran.Ran.{Ran}
+use Rattle.mc_station.proofs.Lines.{also_listing}
 use Rattle.mc_station.proofs.Listing.{also_lists}
+use Rattle.mc_station.proofs.Reducing.{also_reduces}
 use Rattle.mc_station.proofs.Summing.{also_sums}
 use Rattle.mc_station.proofs.Named.{names_are_texts}
 use Rattle.mc_station.proofs.Reporting.{also_reports}
@@ -146,6 +150,23 @@ module _ (skipped : List ℕ) (accepted : Accepted) (plans : List Plan) (ran : R
       (subst (λ (ss : List TestState). ListsOn (stands skipped accepted plans) accepted (names plans) ss (map told_of ran.results.items) (seen_reply reply)) run.states
       (subst (λ (ns : List (List ℕ)). ListsOn (stands skipped accepted plans) accepted ns ran.states.items (map told_of ran.results.items) (seen_reply reply)) run.names stood))
   run_lists (Err e) lists = tt
+
+-- the tests that are kept of a run
+pub run_reduces : (skipped : List ℕ) (accepted : Accepted) (plans : List Plan) (ran : Ran) → IsRun skipped accepted plans ran → (mode : Independence) (given : Result Given AllocError)
+    → IfOk given (λ reply. ReducesOn (HasEvent accepted.map ran.matrix) mode accepted ran.names.items ran.states.items (seen_reply reply)) → IfOk given (λ reply. Reduces skipped mode accepted plans (seen_reply reply))
+run_reduces skipped accepted plans ran run mode (Ok reply) reduces =
+    let stood = also_reduces (HasEvent accepted.map ran.matrix) mode accepted ran.names.items ran.states.items (stands skipped accepted plans) (seen_reply reply) run.events reduces in
+    subst (λ (ss : List TestState). ReducesOn (stands skipped accepted plans) mode accepted (names plans) ss (seen_reply reply)) run.states
+    (subst (λ (ns : List (List ℕ)). ReducesOn (stands skipped accepted plans) mode accepted ns ran.states.items (seen_reply reply)) run.names stood)
+run_reduces skipped accepted plans ran run mode (Err e) reduces = tt
+
+-- the listing after a run
+pub run_listing : (skipped : List ℕ) (accepted : Accepted) (plans : List Plan) (ran : Ran) (js : List Justification) → IsRun skipped accepted plans ran → (asked : command.Listing) (given : Result Given AllocError)
+    → IfOk given (λ reply. ListingOn (HasEvent accepted.map ran.matrix) asked accepted (seen_ran ran) js (seen_reply reply)) → IfOk given (λ reply. Listing skipped asked accepted plans js (seen_reply reply))
+run_listing skipped accepted plans ran js run asked (Ok reply) listing =
+    let stood = also_listing (HasEvent accepted.map ran.matrix) asked accepted (seen_ran ran) js (stands skipped accepted plans) (seen_reply reply) run.events listing in
+    subst (λ (tests : Tested). ListingOn (stands skipped accepted plans) asked accepted tests js (seen_reply reply)) (told_is skipped accepted plans ran run) stood
+run_listing skipped accepted plans ran js run asked (Err e) listing = tt
 
 -- the summary of a run
 pub run_sums : (skipped : List ℕ) (accepted : Accepted) (plans : List Plan) (ran : Ran) → IsRun skipped accepted plans ran → (count : ℕ) (given : Result Given AllocError)

@@ -1,10 +1,10 @@
 -- The source that the program makes itself is short.
-use Rattle.std.proofs.Common.{◌≡◌, ◌≤◌, ◌<◌, ◌+◌, ◌*◌, ◌^◌, ◌%◌, ◌++◌, ℕ, zero, suc, List, [], ◌∷◌, length, codes, refl, arith, length-append}
+use Rattle.std.proofs.Common.{◌≡◌, ◌≤◌, ◌+◌, ◌*◌, ◌%◌, ◌++◌, ℕ, zero, suc, List, [], ◌∷◌, length, codes, refl, arith, length-append}
 use Rattle.std.specs.Prelude.{slice_index_or}
 use Rattle.std.specs.Fmt.{decimal}
 use Rattle.std.specs.List.{flat_map, range_with_len}
 use Rattle.std.proofs.lemmas.Fmt.{length-decimal-le_succ}
-use Rattle.mc_limits.specs.Limits.{most_functions}
+use Rattle.mc_limits.specs.Limits.{most_functions, most_source_bytes}
 use Rattle.mc_gen.specs.Source.{condition_of, conditions, function_line, source_text}
 
 condition_short : (m : ℕ) → length (slice_index_or conditions m []) ≤ 16
@@ -38,7 +38,7 @@ lines_short a (suc n) fits =
     let all = length-append (function_line a) (flat_map function_line (range_with_len (a + 1) n)) in
     omega (arith, line, more, all)
 
-pub source_short : (n : ℕ) → n ≤ most_functions → length (source_text n) < 2 ^ 31
+pub source_short : (n : ℕ) → n ≤ most_functions → length (source_text n) ≤ most_source_bytes
 source_short n few =
     let lines = lines_short 1 n (omega (arith, few)) in
     omega (arith, few, lines)

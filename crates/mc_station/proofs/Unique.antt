@@ -21,7 +21,9 @@ use Rattle.mc_station.specs.Source.{Accepted}
 use Rattle.mc_station.specs.Stages as stages
 use Rattle.mc_station.specs.Stages.{Ends, Judges, Stage, Tells, after_source, after_tests, file_of, first_stage, justified_by}
 use Rattle.mc_station.specs.Tests.{names, results, stands, states, tested_of}
+use Rattle.mc_station.proofs.Lines.{one_listing}
 use Rattle.mc_station.proofs.Listing.{one_list}
+use Rattle.mc_station.proofs.Reducing.{one_reduction}
 use Rattle.mc_station.proofs.Reporting.{one_report}
 use Rattle.mc_oblige.specs.Shown.{HasEvent}
 use Rattle.mc_station.specs.commands.Analyse.{tested_in}
@@ -60,6 +62,8 @@ one_told : WordsFollowFromPairs → (skipped : List ℕ) (task : Task) (accepted
 one_told law skipped (command.report asked) accepted plans js r q tells others = one_report (stands skipped accepted plans) asked accepted (tested_of accepted.program plans) js r q tells others
 one_told law skipped command.vectors accepted plans js r q tells others = one_list (stands skipped accepted plans) accepted (names plans) (states accepted.program plans) (results accepted.program plans) r q tells others
 one_told law skipped command.recorded accepted plans js r q tells others = one_record skipped accepted plans law r q tells others
+one_told law skipped (command.reduced mode) accepted plans js r q tells others = one_reduction (stands skipped accepted plans) mode accepted (names plans) (states accepted.program plans) r q tells others
+one_told law skipped (command.listed asked) accepted plans js r q tells others = one_listing (stands skipped accepted plans) asked accepted (tested_of accepted.program plans) js r q tells others
 
 -- a stage ends with one reply
 one_end_reply : WordsFollowFromPairs → (skipped : List ℕ) (s : Stage) (r q : Reply) → Ends skipped s r → Ends skipped s q → AreOne r q

@@ -1,5 +1,5 @@
 -- What the tests gave when they were run, for the proofs alone.
-use Rattle.std.specs.Prelude.{◌≡◌, ℕ, ◌↔◌, All, IsUtf8, List, Some, length, map}
+use Rattle.std.specs.Prelude.{◌≡◌, ℕ, ◌<◌, ◌↔◌, All, IsUtf8, List, [], ◌∷◌, Some, length, map, ⊤}
 use Rattle.sha2.specs.Sha256.{sha256}
 use Rattle.mc_core.specs.Matrix.{Holds, MatrixView}
 use Rattle.mc_steps.specs.Events.{Event}
@@ -41,6 +41,13 @@ kept_in source ran = record {
   states = ran.states.items;
   matrix = ran.matrix;
 }
+
+-- each of these tests is one of so many, and beside it is the position of one of so many obligations
+abbrev pub AreIn : (tests obligations : ℕ) → (kept lost : List ℕ) → Type 0
+AreIn n k [] [] = ⊤
+AreIn n k (test ∷ kept) (position ∷ lost) =
+    (test < n) × ((position < k) × AreIn n k kept lost)
+AreIn n k _ _ = ⊥
 
 -- a matrix of a source, and what is told of its tests, belong together
 pub record AreTold (accepted : Accepted) (matrix : MatrixView) (tests : Tested) : Type 0 where

@@ -18,7 +18,7 @@ use Rattle.mc_probe.specs.Table as table
 use Rattle.mc_oblige.specs.Obligations.{obligations_of}
 use Rattle.mc_oblige.specs.declared.justification.Justification.{Justification}
 use Rattle.mc_justify.specs.Returned.{AreFit}
-use Rattle.mc_limits.specs.Limits.{most_functions, most_tests, most_words, most_workers}
+use Rattle.mc_limits.specs.Limits.{most_functions, most_source_bytes, most_tests, most_words, most_workers}
 use Rattle.mc_record.specs.Kept.{IsKept}
 use Rattle.mc_record.specs.Seen.{kept_of}
 use Rattle.mc_record.specs.declared.kept.Record.{Record}
@@ -74,7 +74,7 @@ seen_tested t = record {
 
 -- the tree is the instrumented program of its plain program and the map
 pub record IsInstrumented (a : Accepted) : Type 0 where
-  pub short : length a.source.now < 2 ^ 31
+  pub short : length a.source.now ≤ most_source_bytes
   pub sound : IsSound (program_of a.tree.program)
   pub tree : table.IsInstrumented (program_of a.tree.program) (map_of a.map) (tree_of a.tree)
 

@@ -21,8 +21,10 @@ use Rattle.mc_station.specs.Source.{Accepted, JudgesSource}
 use Rattle.mc_station.specs.Tests.{Fits, JudgesTests}
 use Rattle.mc_station.specs.commands.Analyse.{Analyses}
 use Rattle.mc_station.specs.commands.Instrument.{Instruments}
+use Rattle.mc_station.specs.commands.List.{Listing}
 use Rattle.mc_station.specs.commands.Merge.{Joins, Merges}
 use Rattle.mc_station.specs.commands.Record.{Records}
+use Rattle.mc_station.specs.commands.Reduce.{Reduces}
 use Rattle.mc_station.specs.commands.Report.{Reports}
 use Rattle.mc_station.specs.commands.Selfload.{Loads}
 use Rattle.mc_station.specs.commands.Vectors.{Lists}
@@ -77,6 +79,8 @@ abbrev pub justified_by : Task → Option (List ℕ)
 justified_by (command.report report) = report.justify
 justified_by command.vectors = None
 justified_by command.recorded = None
+justified_by (command.reduced mode) = None
+justified_by (command.listed listing) = listing.justify
 
 -- the file that a stage asks for
 abbrev pub file_of : Stage → Option File
@@ -188,6 +192,8 @@ abbrev pub Tells : (skipped : List ℕ) → Task → Accepted → List Plan → 
 Tells skipped (command.report report) accepted plans js = Reports skipped report accepted plans js
 Tells skipped command.vectors accepted plans js = Lists skipped accepted plans
 Tells skipped command.recorded accepted plans js = Records skipped accepted plans
+Tells skipped (command.reduced mode) accepted plans js = Reduces skipped mode accepted plans
+Tells skipped (command.listed listing) accepted plans js = Listing skipped listing accepted plans js
 
 -- the reply of a stage that asks for no file
 abbrev pub Ends : (skipped : List ℕ) → Stage → Reply → Type 0

@@ -5,3 +5,5 @@ pub mod Merge
 pub mod Analyse
 pub mod Instrument
 pub mod Selfload
+pub mod Reduce
+pub mod List

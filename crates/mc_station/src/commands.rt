@@ -2,8 +2,10 @@
 
 pub mod analyse;
 pub mod instrument;
+pub mod list;
 pub mod merge;
 pub mod record;
+pub mod reduce;
 pub mod report;
 pub mod selfload;
 pub mod vectors;

@@ -113,7 +113,8 @@ fn justified_by(task: Task<'_>) -> Option<&str>
 {
     match task {
         Task::Report(report) => report.justify,
-        Task::Vectors | Task::Record => None,
+        Task::List(listing) => listing.justify,
+        Task::Vectors | Task::Record | Task::Reduce { .. } => None,
     }
 }
 

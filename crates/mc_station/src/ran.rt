@@ -3,12 +3,13 @@ ghost use Rattle.std.specs.Prelude.{◌≡◌, ◌≤◌, IfOk, map};
 ghost use Rattle.mc_limits.specs.Limits.{most_workers};
 ghost use Rattle.mc_tests.specs.Seen.{seen_plans};
 ghost use Rattle.mc_station.specs.Tests.{names, status_where};
-ghost use Rattle.mc_station.specs.Seen.{ArePlanned, IsInstrumented, IsOpened, seen_accepted};
-ghost use Rattle.mc_station.specs.Ran.{IsRun};
+ghost use Rattle.mc_station.specs.Seen.{ArePlanned, IsInstrumented, IsOpened, seen_accepted, seen_tested};
+ghost use Rattle.mc_station.specs.Ran.{IsRun, seen_ran};
 
 use crate::accepted::Accepted;
 use crate::means::Means;
 use crate::opened::Opened;
+use crate::tested::Tested;
 use mc_core::Matrix;
 use mc_cover::Closer;
 use mc_meaning::TestResult;
@@ -26,6 +27,27 @@ pub struct Ran {
     pub names: Vec<Name>,
     pub states: Vec<TestState>,
     pub results: Vec<TestResult>,
+}
+
+impl Ran {
+    /// The matrix, and what is told of the tests.
+    pub fn into_parts(self) -> (Matrix, Tested)
+        ensures matrix { result.0 ≡ self.matrix }
+        ensures tests { seen_tested result.1 ≡ seen_ran self }
+    {
+        let Ran {
+            matrix,
+            names,
+            states,
+            results,
+        } = self;
+        let tests = Tested {
+            names,
+            states,
+            results: Some(results),
+        };
+        (matrix, tests)
+    }
 }
 
 // The names of the tests.

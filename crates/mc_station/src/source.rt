@@ -1,5 +1,6 @@
 //! Which sources are accepted: by phases, of which the first with a fault answers.
 ghost use Rattle.std.specs.Prelude.{[], ◌∷◌, ◌≡◌, ◌≤◌, ◌<◌, ◌^◌, All, IfOk, None, drop, length, map};
+ghost use Rattle.mc_limits.specs.Limits.{most_source_bytes};
 ghost use Rattle.mc_lex.specs.Lines.{column_of, line_of};
 ghost use Rattle.mc_lex.specs.Returned.{IsSlice};
 ghost use Rattle.mc_lex.specs.Tokens.{toks_of};
@@ -152,7 +153,7 @@ fn mapped<'a>(
     program: &Program<'a>,
     decisions: Vec<Decision>,
 ) -> Result<Accepted<'a>, Stop<'a>>
-    requires short { length source.now < 2 ^ 31 }
+    requires short { length source.now ≤ most_source_bytes }
     requires decisions { AreDecisions (program_of program.now).functions
         (map decision_of decisions.items) }
     requires numbered { All (λ d. IsNumbered (tree_of d.tree)) decisions.items }
@@ -178,7 +179,7 @@ fn mapped<'a>(
 
 /// What a source is accepted as: the first phase with a fault refuses it.
 pub fn judge_source<'a>(alloc: Global, source: &'a [u8]) -> Result<Accepted<'a>, Stop<'a>>
-    requires { length source.now < 2 ^ 31 }
+    requires { length source.now ≤ most_source_bytes }
     ensures judges { Gives seen_accepted (JudgesSource source.now) result }
     ensures instrumented { IfOk result IsInstrumented }
 {

@@ -92,7 +92,7 @@ fn tested<'a, R: Threads + Sync, G: Gate, C: Closer>(
     alloc: Global,
     means: Means<'_, R, G, C>,
     run: Run<'_>,
-    accepted: Accepted<'_>,
+    accepted: Accepted<'a>,
     plans: &[TestPlan],
     opened: Opened,
     justifications: &[Justification],
@@ -119,7 +119,7 @@ fn tested<'a, R: Threads + Sync, G: Gate, C: Closer>(
 fn finished<'a, R: Threads + Sync, G: Gate, C: Closer>(
     alloc: Global,
     means: Means<'_, R, G, C>,
-    accepted: Accepted<'_>,
+    accepted: Accepted<'a>,
     basis: Basis<'_>,
     justifications: &[Justification],
 ) -> Result<Reply<'a>, AllocError>

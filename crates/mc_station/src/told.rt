@@ -1,6 +1,6 @@
 //! What the command of a run tells of its tests.
 ghost use Rattle.std.specs.Prelude.{ℕ, IfOk, List};
-ghost use Rattle.mc_command.specs.Seen.{seen_report, seen_task};
+ghost use Rattle.mc_command.specs.Seen.{seen_listing, seen_report, seen_task};
 ghost use Rattle.mc_oblige.specs.Shown.{HasEvent};
 ghost use Rattle.mc_tests.specs.Seen.{seen_plans};
 ghost use Rattle.mc_record.specs.Kept.{IsKept};
@@ -8,15 +8,17 @@ ghost use Rattle.mc_replies.specs.Seen.{seen_reply};
 ghost use Rattle.mc_station.specs.Ran.{AreTold, IsRun, kept_in, seen_ran};
 ghost use Rattle.mc_station.specs.Seen.{AreReasons, IsInstrumented, seen_accepted};
 ghost use Rattle.mc_station.specs.Stages.{Tells};
+ghost use Rattle.mc_station.specs.commands.List.{ListingOn};
 ghost use Rattle.mc_station.specs.commands.Report.{ReportsOn};
 
 use crate::accepted::Accepted;
+use crate::commands::list::list;
 use crate::commands::record::record;
+use crate::commands::reduce::reduce;
 use crate::commands::report::report;
 use crate::commands::vectors::vectors;
 use crate::ran::Ran;
-use crate::tested::Tested;
-use mc_command::{Report, Task};
+use mc_command::{Listing, Report, Task};
 use mc_oblige::Justification;
 use mc_replies::Reply;
 use mc_typed::TestPlan;
@@ -37,25 +39,34 @@ fn reported<'a>(
         ReportsOn (HasEvent a.map ran.matrix) (seen_report asked.entry) a
         (seen_ran ran) justifications.now (seen_reply reply)) }
 {
-    let Ran {
-        matrix,
-        names,
-        states,
-        results,
-    } = ran;
-    let tests = Tested {
-        names,
-        states,
-        results: Some(results),
-    };
+    let (matrix, tests) = ran.into_parts();
     report(alloc, asked, accepted, &matrix, tests, justifications)
+}
+
+// The listing after a run of the tests.
+fn listed<'a>(
+    alloc: Global,
+    asked: Listing<'_>,
+    accepted: Accepted<'a>,
+    ran: Ran,
+    justifications: &[Justification],
+) -> Result<Reply<'a>, AllocError>
+    requires instrumented { IsInstrumented accepted }
+    requires told { AreTold (seen_accepted accepted) ran.matrix (seen_ran ran) }
+    requires reasons { AreReasons accepted justifications.now }
+    ensures { IfOk result (λ reply. let a = seen_accepted accepted.entry in
+        ListingOn (HasEvent a.map ran.matrix) (seen_listing asked.entry) a
+        (seen_ran ran) justifications.now (seen_reply reply)) }
+{
+    let (matrix, tests) = ran.into_parts();
+    list(alloc, asked, accepted, &matrix, tests, justifications)
 }
 
 /// The reply of a task on the tests that were run. `plans` are the tests.
 pub fn tell<'a>(
     alloc: Global,
     task: Task<'_>,
-    accepted: Accepted<'_>,
+    accepted: Accepted<'a>,
     plans: &[TestPlan],
     ran: Ran,
     justifications: &[Justification],
@@ -72,6 +83,8 @@ pub fn tell<'a>(
     match task {
         Task::Report(asked) => reported(alloc, asked, accepted, ran, justifications),
         Task::Vectors => vectors(alloc, accepted, &ran),
+        Task::Reduce { mode } => reduce(alloc, mode, accepted, &ran),
+        Task::List(asked) => listed(alloc, asked, accepted, ran, justifications),
         Task::Record => {
             let reply = record(alloc, accepted.source, ran);
             drop(accepted);

@@ -3,7 +3,7 @@
 #![tactic(auto, unfolding(mc_command::specs::Command::command_of, clap::proofs::OnLiterals::clap_on_literals))]
 
 ghost use Rattle.std.specs.Prelude.{◌∷◌, [], None, Some, codes};
-ghost use Rattle.mc_command.specs.Command.{instrument, merge, on_source, recorded, selfload, vectors};
+ghost use Rattle.mc_command.specs.Command.{instrument, listed, merge, on_source, recorded, reduced, selfload, vectors};
 ghost use Rattle.mc_command.specs.declared.form.Form.TheVariants.{Csv, Json, Text};
 ghost use Rattle.mc_command.specs.declared.independence.Independence.TheVariants.{UniqueCause, Masking};
 ghost use Rattle.tests_command.specs.Lines.{AreAll, Is, analysis, justified_by, plain_report, report_by, run_by, run_of, vectors_by, vectors_of, vectors_shared};
@@ -88,6 +88,21 @@ pub fn other_commands()
     ensures selfload_least { Is (codes "selfload 1") (selfload 1 4) }
     ensures selfload_most { AreAll (selfload 200 64) (codes "selfload 200 --workers 64"
         ∷ codes "selfload --workers=64 200" ∷ []) }
+{}
+
+/// Tests that are enough, and listings.
+pub fn commands_of_testers()
+    ensures reduced { AreAll (run_of (codes "a.c") (codes "a.csv") 8 (reduced UniqueCause))
+        (codes "reduce a.c a.csv --fuel 8" ∷ codes "reduce a.c a.csv --mode unique --fuel 8"
+        ∷ []) }
+    ensures reduced_by_masking { Is (codes "reduce --mode=masking a.c a.csv --workers 64 --fuel 8")
+        (run_by (codes "a.c") (codes "a.csv") 64 8 (reduced Masking)) }
+    ensures listed { Is (codes "list a.c a.csv --fuel 8")
+        (run_of (codes "a.c") (codes "a.csv") 8
+        (listed (record { mode = UniqueCause; justify = None }))) }
+    ensures listed_with { Is (codes "list a.c a.csv --justify j.json --mode masking --fuel 8")
+        (run_of (codes "a.c") (codes "a.csv") 8
+        (listed (record { mode = Masking; justify = Some (codes "j.json") }))) }
 {}
 
 /// The options of a report of a record.

@@ -23,6 +23,10 @@ record a.c a.csv --fuel 8 --workers 2@a.c|a.csv|2|8|record
 merge a.c a.rec b.rec@a.c|merge|a.rec|b.rec
 analyse a.c a.rec --mode masking@a.c|analyse|a.rec|report|masking|text
 selfload 200@selfload|200|4
+reduce a.c a.csv@a.c|a.csv|4|1000000|reduce|unique
+reduce a.c --mode masking a.csv --workers 64 --fuel 8@a.c|a.csv|64|8|reduce|masking
+list a.c a.csv@a.c|a.csv|4|1000000|list|unique
+list --justify j.json a.c a.csv --mode=masking --workers 1@a.c|a.csv|1|1000000|list|masking|j.json
 selfload 1 --workers 64@selfload|1|64
 vectors \u{e9}.c \u{4e2d}.csv@\u{e9}.c|\u{4e2d}.csv|4|1000000|vectors
 @
@@ -50,6 +54,9 @@ analyse a.c a.rec --fuel 8@
 selfload 0@
 selfload 201@
 selfload 5 --workers 65@
+reduce a.c a.csv --justify j.json@
+reduce a.c a.csv --mode both@
+list a.c a.csv --format text@
 ";
 
 fn push_words(words: &mut Words, line: &str) -> Result<(), AllocError> {

@@ -91,6 +91,11 @@ pub fn other_commands()
     ensures analyse { AreNone (codes "analyse a.c" ∷ codes "analyse a.c a.rec b.rec"
         ∷ codes "analyse a.c a.rec --fuel 8" ∷ codes "analyse a.c a.rec --workers 4"
         ∷ codes "analyse a.c a.rec --mode both" ∷ []) }
+    ensures reduced { AreNone (codes "reduce a.c" ∷ codes "reduce a.c a.csv --mode both"
+        ∷ codes "reduce a.c a.csv --workers 65" ∷ codes "reduce a.c a.csv --justify j.json"
+        ∷ []) }
+    ensures listed { AreNone (codes "list a.c" ∷ codes "list a.c a.csv --format text"
+        ∷ codes "list a.c a.csv --workers 0" ∷ []) }
     ensures selfload { AreNone (codes "selfload" ∷ codes "selfload 0" ∷ codes "selfload 201"
         ∷ codes "selfload 05" ∷ codes "selfload +5" ∷ codes "selfload 5 6"
         ∷ codes "selfload 5 --fuel 8" ∷ codes "selfload 5 --workers 65" ∷ codes "selfload a.c"

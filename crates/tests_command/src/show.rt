@@ -1,6 +1,6 @@
 //! What a command is, as text.
 
-use mc_command::{Action, Command, Form, Independence, Report, Run, Task};
+use mc_command::{Action, Command, Form, Independence, Listing, Report, Run, Task};
 use std::alloc::{AllocError, Global};
 
 fn mode_word(mode: Independence) -> &'static str {
@@ -18,12 +18,8 @@ fn form_word(form: Form) -> &'static str {
     }
 }
 
-fn push_report(text: &mut String, report: Report<'_>) -> Result<(), AllocError> {
-    text.push_str("report|")?;
-    text.push_str(mode_word(report.mode))?;
-    text.push_str("|")?;
-    text.push_str(form_word(report.form))?;
-    match report.justify {
+fn push_justify(text: &mut String, justify: Option<&str>) -> Result<(), AllocError> {
+    match justify {
         Some(name) => {
             text.push_str("|")?;
             text.push_str(name)
@@ -32,11 +28,30 @@ fn push_report(text: &mut String, report: Report<'_>) -> Result<(), AllocError> 
     }
 }
 
+fn push_report(text: &mut String, report: Report<'_>) -> Result<(), AllocError> {
+    text.push_str("report|")?;
+    text.push_str(mode_word(report.mode))?;
+    text.push_str("|")?;
+    text.push_str(form_word(report.form))?;
+    push_justify(text, report.justify)
+}
+
+fn push_listing(text: &mut String, listing: Listing<'_>) -> Result<(), AllocError> {
+    text.push_str("list|")?;
+    text.push_str(mode_word(listing.mode))?;
+    push_justify(text, listing.justify)
+}
+
 fn push_task(text: &mut String, task: Task<'_>) -> Result<(), AllocError> {
     match task {
         Task::Report(report) => push_report(text, report),
         Task::Vectors => text.push_str("vectors"),
         Task::Record => text.push_str("record"),
+        Task::Reduce { mode } => {
+            text.push_str("reduce|")?;
+            text.push_str(mode_word(mode))
+        }
+        Task::List(listing) => push_listing(text, listing),
     }
 }
 

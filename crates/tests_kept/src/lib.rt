@@ -1,5 +1,5 @@
-//! Tests of the commands that keep records, join and report on them, and of the large program: what
-//! no clause says. Runs succeed with ample memory, and the definitions are the ones meant.
+//! Tests of the commands that keep records, join and report on them, that choose among tests and list
+//! a source, and of the large program: what no clause says. Runs succeed with ample memory, and the definitions are the ones meant.
 #![tactic(auto)]
 
 #[cfg(test)]
@@ -19,9 +19,13 @@ mod generated;
 #[cfg(test)]
 mod large;
 #[cfg(test)]
+mod listed;
+#[cfg(test)]
 mod merges;
 #[cfg(test)]
 mod records;
+#[cfg(test)]
+mod reduced;
 #[cfg(test)]
 mod run;
 #[cfg(test)]

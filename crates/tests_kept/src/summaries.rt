@@ -79,6 +79,9 @@ usage: mcdc report SOURCE TESTS [--mode unique|masking] [--workers N] [--fuel N]
        mcdc analyse SOURCE RECORD [--mode unique|masking] [--justify NAME] \
 [--format text|csv|json]
        mcdc selfload N [--workers N]
+       mcdc reduce SOURCE TESTS [--mode unique|masking] [--workers N] [--fuel N]
+       mcdc list SOURCE TESTS [--mode unique|masking] [--workers N] [--fuel N] \
+[--justify NAME]
 ";
 
 /// Words, and the summary. The status is 0 whatever is missing.

@@ -13,7 +13,10 @@ const USAGE: &str = "usage: mcdc report SOURCE TESTS [--mode unique|masking] [--
     \x20      mcdc merge SOURCE LEFT RIGHT\n\
     \x20      mcdc analyse SOURCE RECORD [--mode unique|masking] [--justify NAME] \
     [--format text|csv|json]\n\
-    \x20      mcdc selfload N [--workers N]\n";
+    \x20      mcdc selfload N [--workers N]\n\
+    \x20      mcdc reduce SOURCE TESTS [--mode unique|masking] [--workers N] [--fuel N]\n\
+    \x20      mcdc list SOURCE TESTS [--mode unique|masking] [--workers N] [--fuel N] \
+    [--justify NAME]\n";
 
 /// Words with `|` between each two; the first line has none.
 const NOT_A_COMMAND: &str = "\n\

@@ -33,8 +33,8 @@ fn form_of(form: AskedForm) -> Form
     }
 }
 
-// The kind of independence that an option names.
-fn mode_of(mode: Independence) -> Mode
+/// The kind of independence that an option names.
+pub fn mode_of(mode: Independence) -> Mode
     ensures { result ≡ mode_of mode }
 {
     match mode {

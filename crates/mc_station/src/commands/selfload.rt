@@ -20,7 +20,6 @@ use crate::means::Means;
 use crate::opened::Opened;
 use crate::ran::{Ran, run_all};
 use crate::source::judge_source;
-use crate::tested::Tested;
 use mc_command::Independence;
 use mc_cover::Closer;
 use mc_gen::generate;
@@ -52,17 +51,7 @@ fn summary<'a>(
         SumsOn (HasEvent a.map ran.matrix) count a (seen_ran ran)
         (seen_reply reply)) }
 {
-    let Ran {
-        matrix,
-        names,
-        states,
-        results,
-    } = ran;
-    let tests = Tested {
-        names,
-        states,
-        results: Some(results),
-    };
+    let (matrix, tests) = ran.into_parts();
     let report = report_on(alloc, Independence::Masking, accepted, &matrix, tests, &[])?;
     let lines = summary_lines(alloc, count, &report);
     drop(report);

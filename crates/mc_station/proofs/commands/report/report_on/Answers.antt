@@ -1,4 +1,4 @@
-use Rattle.std.proofs.Common.{refl, subst}
+use Rattle.std.proofs.Common.{arith, refl, subst}
 use Rattle.mc_oblige.specs.Shown.{HasEvent}
 use Rattle.mc_oblige.specs.Verdicts.{AreVerdicts}
 use Rattle.mc_oblige.specs.declared.mode.Mode.{Mode}
@@ -27,7 +27,7 @@ returns-clause-whole c =
     let are : AreVerdicts shown a.map (mode_of c.args.independence) js vs = subst (λ (m : Mode). AreVerdicts shown a.map m js vs) c.mode_of-mode.ensures c.in_ok-verdicts.ensures in
     can_be_written c.args.independence a tests js _ vs c.args.matrix.now
     (report_is shown c.args.independence a tests js _ vs refl c.digest_of.ensures c.mode_of-mode.ensures refl refl refl refl c.in_ok-obligations.ensures refl)
-    c.requires.instrumented.short c.requires.told c.requires.reasons.text are
+    (omega (arith, (let short = c.requires.instrumented.short in short))) c.requires.told c.requires.reasons.text are
 
 pub returns-clause-texts : goal.returns-clause-texts
 returns-clause-texts c = c.requires.told.texts

@@ -1,4 +1,5 @@
-use Rattle.std.proofs.Common.{◌<◌, ◌^◌, ◌∙◌, ℕ, List, length, subst, sym}
+use Rattle.std.proofs.Common.{◌≤◌, ◌∙◌, ℕ, List, length, subst, sym}
+use Rattle.mc_limits.specs.Limits.{most_source_bytes}
 use Rattle.mc_station.specs.Seen.{seen_accepted}
 use Rattle.mc_station.proofs.Loading.{loads_not, loads_on}
 use Rattle.mc_station.proofs.Short.{source_short}
@@ -6,7 +7,7 @@ use Rattle.mc_station.proofs.commands.selfload.selfload.Goals as goal
 
 pub judge_source-requires : goal.judge_source-requires
 judge_source-requires g c =
-    subst (λ (text : List ℕ). length text < 2 ^ 31) (sym (c.deref.ensures.value ∙ c.in_ok-source.ensures.source)) (source_short c.args.load.count c.requires.count.1)
+    subst (λ (text : List ℕ). length text ≤ most_source_bytes) (sym (c.deref.ensures.value ∙ c.in_ok-source.ensures.source)) (source_short c.args.load.count c.requires.count.1)
 
 pub returns-in-Ok : goal.returns-in-Ok
 returns-in-Ok g c =

@@ -9,4 +9,4 @@ pub returns : goal.returns
 returns c =
     let r = report_of c.in_ok-report.report in
     let lines : bytes_of c.in_ok-lines.field-0.items ≡ summary_lines c.args.count r = c.in_ok-lines.ensures in
-    (r, c.in_ok-report.ensures.made, c.of_lines.ensures ∙ (λ i. written 0 (lines i)))
+    (r, rw (c.into_parts-matrix.ensures.matrix, c.into_parts-matrix.ensures.tests) at c.in_ok-report.ensures.made, c.of_lines.ensures ∙ (λ i. written 0 (lines i)))
