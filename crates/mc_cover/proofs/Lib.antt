@@ -7,6 +7,7 @@ pub mod Claims
 pub mod Joins
 pub mod Ends
 pub mod Words
+pub mod Looks
 pub mod Keeping
 pub mod Closed
 pub mod Clears

@@ -9,7 +9,7 @@ use Rattle.mc_core.specs.Shape.{word_count, place}
 use Rattle.mc_core.specs.Steps.{draws_after, words_after}
 use Rattle.mc_cover.specs.declared.view.View.{View}
 use Rattle.mc_cover.specs.declared.view.Role.TheVariants.{Opener, Worker, Spent}
-use Rattle.mc_cover.specs.Views.{opener, worker, spent, after_fork, after_claim, after_hit, after_join}
+use Rattle.mc_cover.specs.Views.{opener, worker, spent, after_fork, after_claim, after_hit, after_join, after_look}
 use Rattle.mc_cover.specs.Rule.{Shared, HasView, draws, coverage, IsKept}
 
 -- all words are 0, and the first view is the opener's
@@ -52,6 +52,15 @@ joined s id v other w =
       views = slice_set (slice_set s.views id (after_join v w)) other spent;
     }
 
+-- v looks at the coverage word of this index
+abbrev pub looked : Shared → ℕ → View → ℕ → Shared
+looked s id v index =
+    record {
+      words = s.words;
+      homes = s.homes;
+      views = slice_set s.views id (after_look v index (slice_index (coverage s.words) index));
+    }
+
 -- each step keeps the rule, where its conditions are met
 pub record StepsKeep (k : Shape) (s : Shared) : Type 0 where
   pub fork : (id : ℕ) (v : View) → HasView s id v → v.role ≡ Opener → v.forks < most_workers →
@@ -62,6 +71,8 @@ pub record StepsKeep (k : Shape) (s : Shared) : Type 0 where
       b < k.bits → Contains v.claims t → IsKept k (marked k s id v b t)
   pub join : (id : ℕ) (v : View) (other : ℕ) (w : View) → HasView s id v → HasView s other w →
       v.role ≡ Opener → w.role ≡ Worker → IsKept k (joined s id v other w)
+  pub look : (id : ℕ) (v : View) (index : ℕ) → HasView s id v → v.role ≢ Spent →
+      index < word_count k → IsKept k (looked s id v index)
 
 -- what a fetch_add of 1 writes to word 0
 abbrev pub one_more : Shared → ℕ

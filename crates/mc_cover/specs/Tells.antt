@@ -7,7 +7,7 @@ use Rattle.mc_core.specs.Shape.{rows, place}
 use Rattle.mc_core.specs.Counts.{times, once_below}
 use Rattle.mc_cover.specs.declared.view.View.{View}
 use Rattle.mc_cover.specs.declared.view.Role.TheVariants.{Opener}
-use Rattle.mc_cover.specs.Views.{after_claim, after_hit}
+use Rattle.mc_cover.specs.Views.{after_claim, after_hit, after_look}
 
 abbrev pub Told : Type 1
 Told = Step (Unit {0}) → Me (Unit {0}) View → ℕ → Me (Unit {0}) View → Type 0
@@ -44,3 +44,13 @@ claim_is st m found n =
 -- a look at word 0 after a join
 abbrev pub settle_is : Told
 settle_is st m found n = (n ≡ m) × (m.0.role ≡ Opener → m.0.forks ≡ m.0.joined → IsSettled m.0)
+
+-- a look: whatever coverage word the word is, the view has the value found there, which has each
+-- bit that the view saw or hit in that word
+abbrev pub look_is : Told
+look_is st m found n =
+    (n.1 ≡ m.1)
+    × ((index : ℕ) → st.word ≡ index + 1 → (n.0 ≡ after_look m.0 index found)
+    × All (λ x. x.0 ≡ index → (i : ℕ) → bit_at x.1 i ≤ bit_at found i) m.0.seen
+    × ((b t : ℕ) → Contains m.0.hits (b, t) → place m.0.shape b t ≡ index →
+    bit_at found (t % 64) ≡ 1))

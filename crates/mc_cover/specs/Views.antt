@@ -69,6 +69,10 @@ ended v = record v { over = 1 }
 abbrev pub after_hit : View → ℕ → ℕ → View
 after_hit v b t = record v { hits = v.hits ++ (b, t) ∷ [] }
 
+-- what a look found in the coverage word of this index
+abbrev pub after_look : View → ℕ → ℕ → View
+after_look v index value = record v { seen = v.seen ++ (index, value) ∷ [] }
+
 -- the opener's, which gains all that the worker's had
 abbrev pub after_join : View → View → View
 after_join v w =

@@ -1,16 +1,17 @@
 //! The calls of passes on shared words.
-ghost use Rattle.std.specs.Prelude.{◌≡◌, ℕ, ◌+◌, ◌<◌, ◌≤◌, ◌↔◌, [], length, Contains, IfSome, IfNone, vec_len};
+ghost use Rattle.std.specs.Prelude.{◌≡◌, ℕ, ◌+◌, ◌%◌, ◌<◌, ◌≤◌, ◌↔◌, [], length, All, Contains, IfSome, IfNone, vec_len};
+ghost use Rattle.std.specs.Int.{bit_at};
 ghost use Rattle.mc_limits.specs.Limits.{most_workers};
-ghost use Rattle.mc_core.specs.Shape.{word_count};
+ghost use Rattle.mc_core.specs.Shape.{word_count, place};
 ghost use Rattle.mc_core.specs.Matrix.{Holds};
-ghost use Rattle.mc_cover.specs.Views.{worker, after_fork, with_claim, ended, after_hit, after_join};
+ghost use Rattle.mc_cover.specs.Views.{worker, after_fork, with_claim, ended, after_hit, after_join, after_look};
 ghost use Rattle.mc_cover.specs.Tells.{AreDifferentBelow, IsSettled, SeenIsHit};
 ghost use Rattle.mc_cover.specs.Model.{IsOf, Draws};
 ghost use Rattle.mc_cover.specs.Closed.{HasHits, AreInRange};
 
 use crate::cover::Cover;
 use crate::pass::Pass;
-use crate::rule::{Claims, Forks, Hits, Joins, Settles};
+use crate::rule::{Claims, Forks, Hits, Joins, Looks, Settles};
 use crate::view::Role;
 use mc_core::Matrix;
 
@@ -65,6 +66,24 @@ pub fn hit(cover: &Cover, pass: &mut Pass, bit: u32, test: u32)
         .table
         .shared
         .fetch_or::<Hits>(&mut pass.seat, word, mask);
+}
+
+/// Loads the coverage word of this index, and gives the value found there. It has each bit that the
+/// pass has seen or hit in that word.
+pub fn look(cover: &Cover, pass: &mut Pass, index: u32) -> u64
+    requires own { IsOf cover.now pass.old }
+    requires in_range { index < word_count cover.now.shape }
+    ensures own { pass.new.cover ≡ pass.old.cover }
+    ensures seen { pass.new.view ≡ after_look pass.old.view index result }
+    ensures no_less { All (λ x. x.0 ≡ index → (i : ℕ) → bit_at x.1 i ≤ bit_at result i)
+        pass.old.view.seen }
+    ensures hits { (b t : ℕ) → Contains pass.old.view.hits (b, t) →
+        place cover.now.shape b t ≡ index → bit_at result (t % 64) ≡ 1 }
+{
+    cover
+        .table
+        .shared
+        .load::<Looks>(&mut pass.seat, index as usize + 1)
 }
 
 /// Brings a worker's pass back to the opener's.

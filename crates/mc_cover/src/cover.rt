@@ -1,4 +1,7 @@
 //! The shared words.
+ghost use Rattle.std.specs.Prelude.{◌≡◌, ◌≤◌};
+ghost use Rattle.mc_limits.specs.Limits.{most_words};
+ghost use Rattle.mc_core.specs.Shape.{word_count};
 
 use crate::rule::Rule;
 use crate::view::View;
@@ -27,4 +30,14 @@ impl Model for Cover {
 
     ghost invariant = { λ c.
         IsSized c.table.shared.table_id c.table.shared.key c.shape (vec_len c.room) };
+}
+
+impl Cover {
+    /// How many coverage words there are.
+    pub fn words(&self) -> u32
+        ensures is { result ≡ word_count self.now.shape }
+        ensures few { result ≤ most_words }
+    {
+        self.room.len() as u32
+    }
 }

@@ -2,8 +2,9 @@
 //! atomic step each.
 //!
 //! `open` makes the words and the opener's pass, `fork` a pass for each worker. A worker calls
-//! `claim` until it gives no test, and `hit` for each bit of its test. `join` brings a worker's
-//! pass back, and `close` gives the matrix. No call waits, and none but `open` takes memory.
+//! `claim` until it gives no test, and `hit` for each bit of its test. With `look` a pass sees a
+//! word meanwhile. `join` brings a worker's pass back, and `close` gives the matrix. No call waits,
+//! and none but `open` takes memory.
 #![tactic(auto)]
 
 mod calls;
@@ -15,7 +16,7 @@ mod pass;
 mod rule;
 mod view;
 
-pub use calls::{claim, close, fork, hit, join};
+pub use calls::{claim, close, fork, hit, join, look};
 pub use closer::{Closer, PlainCloser, SkippingCloser};
 pub use cover::Cover;
 pub use laws::the_rule_is_kept;

@@ -45,6 +45,15 @@ impl Play<(), View> for Hits {
     ghost then = { hit_is };
 }
 
+/// A look at a coverage word.
+pub(crate) struct Looks;
+
+impl Play<(), View> for Looks {
+    ghost use Rattle.mc_cover.specs.Tells.{look_is};
+
+    ghost then = { look_is };
+}
+
 /// The opener's pass takes in a worker's.
 pub(crate) struct Joins;
 
