@@ -1,0 +1,4 @@
+pub mod SoMany
+pub mod Ones
+pub mod Sets
+pub mod Looks
