@@ -1,6 +1,8 @@
-//! Tests of `mc_core` and `mc_cover`.
+//! Tests of `mc_core`, `mc_cover` and `mc_watch`.
 #![tactic(auto)]
 
+#[cfg(test)]
+mod looks;
 #[cfg(test)]
 mod matrices;
 #[cfg(test)]
