@@ -7,3 +7,5 @@ pub mod Exact
 pub mod Places
 pub mod Statements
 pub mod Silence
+pub mod ConstantExpressions
+pub mod WholeEffects

@@ -1,11 +1,13 @@
 //! The functions do nothing: each has a law as its contract.
 ghost use Rattle.laws_types.specs.Constants.{ConstantsHaveTheirTypes, NarrowWords, WideWords};
+ghost use Rattle.laws_types.specs.ConstantExpressions.{ConstantExpressionsAreTold};
 ghost use Rattle.laws_types.specs.Conversions.{AssignedIsConverted, LabelsArePromoted, OneIsPromoted, OperandsAreConverted};
 ghost use Rattle.laws_types.specs.Exact.{UnitsAreExact};
 ghost use Rattle.laws_types.specs.Heights.{ExpressionsHaveLevels, StatementsHaveLevels};
 ghost use Rattle.laws_types.specs.Operators.{AssignmentsAreKept, OperatorsAreKept};
 ghost use Rattle.laws_types.specs.Places.{CallsAreResolved, NamesAreResolved};
 ghost use Rattle.laws_types.specs.Statements.{StatementsAreKept};
+ghost use Rattle.laws_types.specs.WholeEffects.{WholeEffectsUseNoValue};
 
 /// Each operator of the source is the same one in the typed program, with its operands in order.
 pub fn operators_are_kept()
@@ -74,4 +76,14 @@ pub fn names_are_resolved()
 /// Each statement is the same one in the typed program, with its parts in order and its keyword.
 pub fn statements_are_kept()
     ensures { StatementsAreKept }
+{}
+
+/// Which expressions are built as integer constant expressions, evaluated or not.
+pub fn constant_expressions_are_told()
+    ensures { ConstantExpressionsAreTold }
+{}
+
+/// Whole statements and clauses use no value, also under casts to void; the arms of `?:` do.
+pub fn whole_effects_use_no_value()
+    ensures { WholeEffectsUseNoValue }
 {}
