@@ -9,6 +9,7 @@ use Rattle.mc_steps.specs.Events.{Event}
 use Rattle.mc_probe.specs.Maps.{Map}
 use Rattle.mc_oblige.specs.Obligations.{obligations_of}
 use Rattle.mc_oblige.specs.declared.mode.Mode.{Mode}
+use Rattle.mc_oblige.specs.declared.obligation.Obligation.{Obligation}
 use Rattle.mc_reduce.specs.Kept.{IsFirstLost, IsReduced}
 use Rattle.mc_reduce.proofs.Alike.{same_reduced}
 use Rattle.mc_reduce.proofs.Ascending.{kept_ascend}
@@ -45,12 +46,15 @@ module _ (shown : Event → ℕ → Type 0) (m : Map) (mode : Mode) (n : ℕ) (w
   each_in (t ∷ kept) [] below zip = absurd zip
   each_in (t ∷ kept) (p ∷ lost) below zip =
       let first = zip.0 in (
-        below t (0, (omega arith, refl)),
+        below t (0, omega arith, refl),
         (
           slice_get_within (obligations_of m) p first.obligation first.at,
-          each_in kept lost (λ u h. below u (suc h.0, ((let lt = h.1 in omega (arith, lt)), h.2))) zip.1,
+          each_in kept lost (λ u h. below u (suc h.0, (let lt = h.1 in omega (arith, lt)), h.2)) zip.1,
         ),
       )
 
-pub are_in : (shown : Event → ℕ → Type 0) (m : Map) (mode : Mode) (n : ℕ) (kept lost : List ℕ) → IsReduced shown m mode n kept lost → AreIn n (length (obligations_of m)) kept lost
-are_in shown m mode n kept lost reduced = each_in shown m mode n kept kept lost (kept_ascend shown m mode n kept reduced.are_kept).1 reduced.are_lost
+pub are_in : (shown : Event → ℕ → Type 0) (m : Map) (mode : Mode) (tests : ℕ) (kept lost : List ℕ) (names : List (List ℕ)) (os : List Obligation) → IsReduced shown m mode tests kept lost
+    → tests ≡ length names → os ≡ obligations_of m → AreIn (length names) (length os) kept lost
+are_in shown m mode tests kept lost names os reduced many all =
+    let inside : AreIn tests (length (obligations_of m)) kept lost = each_in shown m mode tests kept kept lost (kept_ascend shown m mode tests kept reduced.are_kept).1 reduced.are_lost in
+    subst (λ n. AreIn n (length os) kept lost) many (subst (λ (xs : List Obligation). AreIn tests (length xs) kept lost) (sym all) inside)
