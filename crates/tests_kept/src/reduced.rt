@@ -131,7 +131,8 @@ fn is_written<R: Threads + Sync>(
 #[test]
 fn reduced(rt: HostRuntime) -> Result<(), Fail> {
     for row in &ROWS {
-        assert!(rt; is_written(&rt, rt.alloc(), row)?, "{row.0} {row.4}");
+        let (words, _, _, _, out) = *row;
+        assert!(rt; is_written(&rt, rt.alloc(), row)?, "{words} {out}");
     }
     Ok(())
 }
