@@ -34,26 +34,22 @@ const MET: &str = "      1 + | int f(int a,int b){return a&&b;}";
 
 const MISSING: &str = "      1 ! | int f(int a,int b){return a&&b;}";
 
-const JUSTIFIED: &str = "\
-      1 + | int f(int a,int b){
+const JUSTIFIED: &str = "      1 + | int f(int a,int b){
       2 + | return a
       3 j | &&b;}
 ";
 
-const STALE: &str = "\
-      1 + | int f(int a,int b){
+const STALE: &str = "      1 + | int f(int a,int b){
       2 + | return a
       3 ~ | &&b;}
 ";
 
-const NOT_JUSTIFIED: &str = "\
-      1 + | int f(int a,int b){
+const NOT_JUSTIFIED: &str = "      1 + | int f(int a,int b){
       2 + | return a
       3 ! | &&b;}
 ";
 
-const UNTESTED: &str = "\
-      1 ! | int f(int a,int b){
+const UNTESTED: &str = "      1 ! | int f(int a,int b){
       2 ! | return a
       3 ! | &&b;}
 ";
@@ -81,8 +77,7 @@ static ROWS: [(&str, &str, &str, u8, &str); 11] = [
         LINES,
         TESTS,
         0,
-        "\
-      1 + | int f(int a,int b){
+        "      1 + | int f(int a,int b){
       2 + | return a
       3 + | &&b;}
 ",
