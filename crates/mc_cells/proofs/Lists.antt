@@ -42,6 +42,12 @@ begun xs ys n k e h = grind (arith, common_steps, gets)
 pub length_begun : {A : Type 0} (xs : List A) (n : ℕ) → n ≤ length xs → length (take n xs) ≡ n
 length_begun xs n h = grind (arith, common_steps, gets)
 
+pub take_front : {A : Type 0} (xs ys : List A) (n : ℕ) → n ≤ length xs → take n (xs ++ ys) ≡ take n xs
+take_front xs ys n h = grind (arith, common_steps, gets)
+
+pub length_more : {A : Type 0} (xs : List A) (x : A) (n : ℕ) → length (xs ++ replicate n x) ≡ length xs + n
+length_more xs x n = grind (arith, common_steps, gets)
+
 pub length_part : {A : Type 0} (xs : List A) (from k : ℕ) → from + k ≤ length xs →
     length (take k (drop from xs)) ≡ k
 length_part xs from k h = grind (arith, common_steps, gets)

@@ -4,7 +4,7 @@ use Rattle.std.proofs.lemmas.List.{length-map}
 use Rattle.mc_cells.specs.Rows.{Row, with_cells, filled, moved, left, fits, entered}
 use Rattle.mc_cells.specs.steps.Kept.{number_of}
 use Rattle.mc_cells.specs.declared.cell.Cell.{Cell}
-use Rattle.mc_cells.proofs.Lists.{length_begun, seen_set, seen_filled, seen_moved, seen_entered, seen_left}
+use Rattle.mc_cells.proofs.Lists.{length_begun, length_more, take_front, seen_set, seen_filled, seen_moved, seen_entered, seen_left}
 
 abbrev pub row_of : List Cell → ℕ → ℕ → Row
 row_of cells used limit = record { cells = map number_of (take used cells); limit = limit }
@@ -79,18 +79,30 @@ leave_row cells used limit base row h e l =
     (seen_left number_of cells used base (subst (λ k. base ≤ k) n l))
     ∙ ap (λ (r : Row). left r base) e
 
+-- with more cells at the end
+further : (cells : List Cell) (used limit more : ℕ) (cell : Cell) (row : Row) →
+    used ≤ length cells → row_of cells used limit ≡ row →
+    row_of (cells ++ replicate more cell) used limit ≡ row
+further cells used limit more cell row h e =
+    ap (λ (xs : List Cell). record { cells = map number_of xs; limit = limit })
+    (take_front cells (replicate more cell) used h)
+    ∙ e
+
 -- where the cells fit
-pub enter_row : (cells new : List Cell) (used limit count : ℕ) (cell : Cell) (row : Row) →
-    length cells ≡ limit → used + count ≤ limit → row_of cells used limit ≡ row →
-    number_of cell ≡ None → new ≡ filled used count cell cells →
+pub enter_row : (cells new : List Cell) (used limit count more : ℕ) (cell : Cell) (row : Row) →
+    used ≤ length cells → used + count ≤ limit → used + count ≤ length cells + more →
+    row_of cells used limit ≡ row → number_of cell ≡ None →
+    new ≡ filled used count cell (cells ++ replicate more cell) →
     row_of new (used + count) limit ≡ entered row count
-enter_row cells new used limit count cell row all h e v made =
-    let n = in_use cells used limit row (omega (arith, h, all)) e in
-    let fit : fits row count ≡ true =
+enter_row cells new used limit count more cell row h fit long e v made =
+    let n = in_use cells used limit row h e in
+    let fits_in : fits row count ≡ true =
     ap (λ k. nat_le (k + count) row.limit) n
     ∙ ap (λ (r : Row). nat_le (used + count) r.limit) (sym e)
-    ∙ le-leb (used + count) limit h
+    ∙ le-leb (used + count) limit fit
     in
+    let all = length_more cells cell more in
     ap (λ xs. row_of xs (used + count) limit) made
-    ∙ grown cells used limit count cell row (omega (arith, h, all)) e v
-    ∙ ap (λ b. if b then with_cells row (row.cells ++ replicate count None) else row) (sym fit)
+    ∙ grown (cells ++ replicate more cell) used limit count cell row (omega (arith, long, all))
+    (further cells used limit more cell row h e) v
+    ∙ ap (λ b. if b then with_cells row (row.cells ++ replicate count None) else row) (sym fits_in)

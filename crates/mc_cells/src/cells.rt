@@ -1,5 +1,5 @@
 //! The cells in use, lowest first.
-ghost use Rattle.std.specs.Prelude.{◌≡◌, ℕ, ◌+◌, ◌<◌, ◌≤◌, [], pos, length, slice_get, slice_set, Some, None, option_map, IfSome, IfOk};
+ghost use Rattle.std.specs.Prelude.{◌≡◌, ℕ, ◌+◌, ◌-◌, ◌<◌, ◌≤◌, ◌++◌, [], pos, length, replicate, slice_get, slice_set, Some, None, option_map, IfSome, IfOk, vec_len, vec_capacity};
 ghost use Rattle.mc_cells.specs.Rows.{Row, base_of, entered, filled, moved, left, with_cells, IsSigned, IsUnsigned};
 
 use crate::cell::{Cell, UNSET};
@@ -7,15 +7,18 @@ use std::alloc::{AllocError, Global};
 use std::marker::Model;
 
 /// The cells of a run, seen as the list of those in use, each a number or unset, and the limit that
-/// their count does not pass. Places are counted from 0. All memory is taken when they are made.
+/// their count does not pass. Places are counted from 0. All memory is taken when they are made, and
+/// written where cells come in use for the first time.
 #[derive(Drop)]
 pub struct Cells {
+    /// Those in use, and after them those that were in use before.
     cells: Vec<Cell>,
     used: usize,
+    limit: usize,
 }
 
 impl Model for Cells {
-    ghost use Rattle.std.specs.Prelude.{◌≤◌, ◌^◌, ◌<◌, map, take, vec_len};
+    ghost use Rattle.std.specs.Prelude.{◌≤◌, ◌^◌, ◌<◌, map, take, vec_len, vec_capacity};
     ghost use Rattle.mc_cells.specs.Rows.{Row};
     ghost use Rattle.mc_cells.specs.steps.Kept.{number_of};
 
@@ -23,10 +26,12 @@ impl Model for Cells {
 
     ghost view = { λ c. record {
       cells = map number_of (take c.used c.cells.items);
-      limit = vec_len c.cells;
+      limit = c.limit;
     } };
 
-    ghost invariant = { λ c. (c.used ≤ vec_len c.cells) × (vec_len c.cells < 2 ^ 32) };
+    ghost invariant = { λ c.
+        (c.used ≤ vec_len c.cells) × (c.used ≤ c.limit)
+        × (c.limit ≤ vec_capacity c.cells) × (c.limit < 2 ^ 32) };
 }
 
 impl Cells {
@@ -34,8 +39,12 @@ impl Cells {
     pub fn with(alloc: Global, limit: u32) -> Result<Cells, AllocError>
         ensures { IfOk result (λ c. c ≡ record { cells = []; limit = limit }) }
     {
-        let cells = vec![in alloc; UNSET; limit as usize]?;
-        Ok(Cells { cells, used: 0 })
+        let cells = Vec::with_capacity(alloc, limit as usize)?;
+        Ok(Cells {
+            cells,
+            used: 0,
+            limit: limit as usize,
+        })
     }
 
     /// What stands in the cell. Takes no memory.
@@ -118,11 +127,13 @@ impl Cells {
         ensures cells { self.new ≡ entered self.old count }
     {
         let base = self.used;
-        if self.cells.len() - base < count as usize {
+        if self.limit - base < count as usize {
             return None;
         }
+        let end = base + count as usize;
+        reach(&mut self.cells, end, UNSET);
         fill(&mut self.cells, base, count as usize, UNSET);
-        self.used = base + count as usize;
+        self.used = end;
         Some(base as u32)
     }
 
@@ -132,6 +143,19 @@ impl Cells {
         ensures { self.new ≡ left self.old base }
     {
         self.used = base as usize;
+    }
+}
+
+/// Puts one cell at the end until as many stand there as are wanted.
+fn reach(cells: &mut Vec<Cell>, wanted: usize, cell: Cell)
+    requires { wanted ≤ vec_capacity cells.old }
+    ensures cells { cells.new.items
+        ≡ cells.old.items ++ replicate (wanted - vec_len cells.old) cell }
+    ensures capacity { vec_capacity cells.new ≡ vec_capacity cells.old }
+{
+    let lacking = wanted.saturating_sub(cells.len());
+    for _more in 0..lacking {
+        cells.push_reserved(cell);
     }
 }
 

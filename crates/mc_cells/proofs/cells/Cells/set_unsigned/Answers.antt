@@ -4,7 +4,7 @@ use Rattle.mc_cells.proofs.cells.Cells.set_unsigned.Goals as goal
 
 pub returns : goal.returns
 returns c =
-    set_row c.self.inside.cells.items c.self.inside.used c.self.inside.cells.len c.args.at
+    set_row c.self.inside.cells.items c.self.inside.used c.self.inside.limit c.args.at
     c.of_unsigned.result (Some (pos c.args.value)) c.args.self.now
     (subst (λ (n : ℕ). c.self.inside.used ≤ n) c.self.inside.cells.ok.0 c.self.invariant.0)
     c.self.view_is c.of_unsigned.ensures c.requires
