@@ -5,7 +5,8 @@ use Rattle.std.proofs.lemmas.List.{append-nil}
 use Rattle.std.proofs.lemmas.List.Elements.{Contains-append_left, Contains-append_right, Contains-append_cases, Contains-push}
 use Rattle.mc_core.specs.Counts.{times, once_below}
 use Rattle.mc_cover.specs.declared.view.View.{View}
-use Rattle.mc_cover.specs.Model.{CoverView, PassView}
+use Rattle.mc_cover.specs.Model.{CoverView, PassView, IsOf}
+use Rattle.mc_cover.specs.declared.view.Role.TheVariants.{Opener}
 use Rattle.mc_cover.specs.Tells.{IsSettled}
 use Rattle.mc_cover.specs.Views.{after_join}
 use Rattle.mc_cover.proofs.Counts.{contains_of_times, times_of_contains, once_in, below_of_once}
@@ -80,23 +81,27 @@ gathered_more does c seen forks joined p worker new is worked own e = record {
   hits = subst (AreHits does) (sym e) (both_hit does p.view worker.view is.hits worked.hits);
 }
 
--- at the end it has all
-pub all_claimed : (does : ℕ → ℕ → Type 0) (c : CoverView) (seen : List (ℕ × ℕ)) (forks : ℕ) (p : PassView) → IsGathered does c seen forks forks p → 0 < forks → IsSettled p.view → HasAll does c p
-all_claimed does c seen forks p is some settled =
-    let tests = ap (λ s. s.tests) is.own.1 in
+-- Once all are joined, of which one at least has ended, the opener's pass has all.
+pub all_settled : (does : ℕ → ℕ → Type 0) (c : CoverView) (p : PassView) → IsOf c p → p.view.role ≡ Opener → p.view.forks ≡ p.view.joined → 0 < p.view.over → AreHits does p.view → IsSettled p.view → HasAll does c p
+all_settled does c p own opener joined some hits settled =
+    let tests = ap (λ s. s.tests) own.1 in
     let once : (n : ℕ) → times n p.view.claims ≡ once_below n c.shape.tests =
-    λ n. settled.claims (subst (λ (k : ℕ). 0 < k) (sym is.over) some) n ∙ ap (once_below n) tests in
+    λ n. settled.claims some n ∙ ap (once_below n) tests in
     record {
-      own = is.own;
-      opener = is.opener;
-      joined = is.forks ∙ sym is.joined;
+      own = own;
+      opener = opener;
+      joined = joined;
       claims = once;
       hits = λ b t. (
-        λ h. let both = (is.hits b t).0 h in
+        λ h. let both = (hits b t).0 h in
             let some = times_of_contains t p.view.claims both.0 in
             (below_of_once t c.shape.tests (subst (λ (n : ℕ). 0 < n) (once t) some), both.1),
         λ h. let one = once_in t c.shape.tests h.0 in
             let e = once t in
-            (is.hits b t).1 (contains_of_times t p.view.claims (omega arith), h.1),
+            (hits b t).1 (contains_of_times t p.view.claims (omega arith), h.1),
       );
     }
+
+pub all_claimed : (does : ℕ → ℕ → Type 0) (c : CoverView) (seen : List (ℕ × ℕ)) (forks : ℕ) (p : PassView) → IsGathered does c seen forks forks p → 0 < forks → IsSettled p.view → HasAll does c p
+all_claimed does c seen forks p is some settled =
+    all_settled does c p is.own is.opener (is.forks ∙ sym is.joined) (subst (λ (k : ℕ). 0 < k) (sym is.over) some) is.hits settled
