@@ -2,8 +2,9 @@
 use Rattle.std.specs.Prelude.{ℕ, List, ◌∷◌, Option, Some, None, if◌then◌else◌, codes, option_and_then, option_map}
 use Rattle.std.specs.Str.{bytes_eq}
 use Rattle.clap.specs.Walk.{Row, Text, first_of}
+use Rattle.mc_limits.specs.Limits.{most_workers}
 use Rattle.mc_command.specs.Line.{matches_on}
-use Rattle.mc_command.specs.Values.{count_in, form_in, fuel_in, mode_in, workers_in}
+use Rattle.mc_command.specs.Values.{count_in, form_in, fuel_in, looks_in, mode_in, most_watched_workers, workers_in}
 use Rattle.mc_command.specs.declared.form.Form.{Form}
 use Rattle.mc_command.specs.declared.independence.Independence.{Independence}
 
@@ -26,6 +27,8 @@ pub data Task : Type 0 where
   vectors : Task
   -- `record`: the matrix of what was evaluated, to be kept in a file
   recorded : Task
+  -- `watch`: how many bits are recorded, looked at so often while the tests run
+  watched : (looks : ℕ) → Task
   -- `reduce`: tests that show what all of them show, and none of which can go
   reduced : Independence → Task
   -- `list`: the lines of the source, each with the mark of its worst verdict
@@ -41,7 +44,7 @@ pub record Run : Type 0 where
 
 -- what is done with a source
 pub data Action : Type 0 where
-  -- its tests are run: `report`, `vectors`, `record`, `reduce`, `list`
+  -- its tests are run: `report`, `vectors`, `record`, `watch`, `reduce`, `list`
   run : Run → Action
   -- `instrument`: its program is written with the probes
   instrument : Action
@@ -81,9 +84,15 @@ task_in name values =
     if bytes_eq name (codes "report") then option_map report (report_in values)
     else if bytes_eq name (codes "vectors") then Some vectors
     else if bytes_eq name (codes "record") then Some recorded
+    else if bytes_eq name (codes "watch") then option_map watched (looks_in values)
     else if bytes_eq name (codes "reduce") then option_map reduced (mode_in values)
     else if bytes_eq name (codes "list") then option_map listed (listing_in values)
     else None
+
+-- a watcher stands beside the workers of a run that is watched
+abbrev pub most_workers_of : Task → ℕ
+most_workers_of (watched looks) = most_watched_workers
+most_workers_of task = most_workers
 
 abbrev pub run_with : Task → Option Text → Option ℕ → Option ℕ → Option Run
 run_with task (Some tests) (Some workers) (Some fuel) =
@@ -93,7 +102,8 @@ run_with task tests workers fuel = None
 -- `TESTS [--workers N] [--fuel N]`
 abbrev pub run_in : Task → List Row → Option Run
 run_in task values =
-    run_with task (first_of (codes "tests") values) (workers_in values) (fuel_in values)
+    run_with task (first_of (codes "tests") values) (workers_in (most_workers_of task) values)
+    (fuel_in values)
 
 -- `TESTS [--workers N] [--fuel N]`, with the options of the task that has this name
 abbrev pub run_action_in : (name : Text) → List Row → Option Action
@@ -138,7 +148,7 @@ selfload_with count workers = None
 
 -- `N [--workers N]`
 abbrev pub selfload_in : List Row → Option Command
-selfload_in values = selfload_with (count_in values) (workers_in values)
+selfload_in values = selfload_with (count_in values) (workers_in most_workers values)
 
 abbrev pub command_in : Text × List Row → Option Command
 command_in (name, values) =

@@ -1,7 +1,8 @@
 -- What clauses see of commands.
 use Rattle.std.specs.Prelude.{◌≤◌, ℕ, ⊤, option_map}
 use Rattle.mc_limits.specs.Limits.{most_fuel, most_functions, most_workers}
-use Rattle.mc_command.specs.Command.{Action, Command, Listing, Report, Run, Task, analyse, instrument, listed, merge, on_source, recorded, reduced, report, run, selfload, vectors}
+use Rattle.mc_command.specs.Command.{Action, Command, Listing, Report, Run, Task, analyse, instrument, listed, merge, on_source, recorded, reduced, report, run, selfload, vectors, watched}
+use Rattle.mc_command.specs.Values.{most_looks, most_watched_workers}
 use Rattle.mc_command.specs.declared.action.Action.{Action as ActionGiven}
 use Rattle.mc_command.specs.declared.action.Action.TheVariants as action
 use Rattle.mc_command.specs.declared.command.Command.{Command as Given}
@@ -23,6 +24,7 @@ abbrev pub seen_task : TaskGiven → Task
 seen_task (task.Report r) = report (seen_report r)
 seen_task task.Vectors = vectors
 seen_task task.Record = recorded
+seen_task (task.Watch looks) = watched looks
 seen_task (task.Reduce mode) = reduced mode
 seen_task (task.List l) = listed (seen_listing l)
 
@@ -44,9 +46,22 @@ seen_command (command.Selfload count workers) = selfload count workers
 abbrev pub IsWithin : (least most : ℕ) → ℕ → Type 0
 IsWithin least most n = (least ≤ n) × (n ≤ most)
 
--- the workers of a run, and the fuel of each test, are in range
-abbrev pub RunIsInRange : RunGiven → Type 0
-RunIsInRange r = IsWithin 1 most_workers r.workers × IsWithin 1 most_fuel r.fuel
+-- the number of a task, where it has one, is in range
+abbrev pub TaskIsInRange : TaskGiven → Type 0
+TaskIsInRange (task.Watch looks) = IsWithin 1 most_looks looks
+TaskIsInRange given = ⊤
+
+-- the workers of a run are few enough for its task
+abbrev pub AreFewFor : TaskGiven → (workers : ℕ) → Type 0
+AreFewFor (task.Watch looks) workers = workers ≤ most_watched_workers
+AreFewFor given workers = ⊤
+
+-- the workers of a run, the fuel of each test, and the number of its task are in range
+pub record RunIsInRange (r : RunGiven) : Type 0 where
+  pub workers : IsWithin 1 most_workers r.workers
+  pub fuel : IsWithin 1 most_fuel r.fuel
+  pub task : TaskIsInRange r.task
+  pub few : AreFewFor r.task r.workers
 
 -- the numbers of its run, where it has one, are in range
 abbrev pub ActionIsInRange : ActionGiven → Type 0

@@ -43,6 +43,10 @@ run_app name = with_rules (files_app name (codes "tests")) run_rules
 abbrev pub report_app : App
 report_app = with_rules (run_app (codes "report")) report_rules
 
+-- `watch SOURCE TESTS [--workers N] [--fuel N] [--looks N]`
+abbrev pub watch_app : App
+watch_app = with_rule (run_app (codes "watch")) (option_rule (codes "looks"))
+
 -- `reduce SOURCE TESTS [--workers N] [--fuel N] [--mode M]`
 abbrev pub reduce_app : App
 reduce_app = with_rule (run_app (codes "reduce")) (option_rule (codes "mode"))
@@ -81,10 +85,11 @@ with_run_commands line =
     (with_subcommand (with_subcommand line report_app.top) (run_app (codes "vectors")).top)
     (run_app (codes "record")).top
 
--- the commands that run the tests of a source to choose among them, and to list it
+-- the commands that run the tests of a source to look at them, to choose among them, and to list it
 abbrev pub with_tester_commands : App → App
 with_tester_commands line =
-    with_subcommand (with_subcommand line reduce_app.top) list_app.top
+    with_subcommand (with_subcommand (with_subcommand line watch_app.top) reduce_app.top)
+    list_app.top
 
 -- the commands on records
 abbrev pub with_record_commands : App → App

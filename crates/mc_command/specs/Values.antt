@@ -1,5 +1,5 @@
 -- What the values of options stand for.
-use Rattle.std.specs.Prelude.{ℕ, Bool, false, not, List, [], ◌∷◌, Option, Some, None, if◌then◌else◌, ◌==◌, ◌&&◌, nat_le, codes, option_and_then}
+use Rattle.std.specs.Prelude.{ℕ, ◌-◌, Bool, false, not, List, [], ◌∷◌, Option, Some, None, if◌then◌else◌, ◌==◌, ◌&&◌, nat_le, codes, option_and_then}
 use Rattle.std.specs.Char.{is_ascii_digit}
 use Rattle.std.specs.List.{list_all}
 use Rattle.std.specs.Str.{bytes_eq}
@@ -55,14 +55,30 @@ number_within least most value =
 abbrev pub usual_workers : ℕ
 usual_workers = 4
 
+-- the most workers beside whom a watcher looks, who counts as one more
+abbrev pub most_watched_workers : ℕ
+most_watched_workers = most_workers - 1
+
+-- how often the words are looked at while workers run, where the command does not say, and at most
+abbrev pub usual_looks : ℕ
+usual_looks = 10
+
+abbrev pub most_looks : ℕ
+most_looks = 100
+
 -- `N`, the functions of a source that the program makes itself, from 1 on
 abbrev pub count_in : List Row → Option ℕ
 count_in values = option_and_then (number_within 1 most_functions) (first_of (codes "count") values)
 
--- `[--workers N]`, from 1 on: without it, the usual number
-abbrev pub workers_in : List Row → Option ℕ
-workers_in values =
-    or_default usual_workers (number_within 1 most_workers) (first_of (codes "workers") values)
+-- `[--workers N]`, from 1 to `most`: without it, the usual number
+abbrev pub workers_in : (most : ℕ) → List Row → Option ℕ
+workers_in most values =
+    or_default usual_workers (number_within 1 most) (first_of (codes "workers") values)
+
+-- `[--looks N]`, from 1 on: without it, the usual number
+abbrev pub looks_in : List Row → Option ℕ
+looks_in values =
+    or_default usual_looks (number_within 1 most_looks) (first_of (codes "looks") values)
 
 -- `[--fuel N]`, from 1 on: without it, the usual fuel
 abbrev pub fuel_in : List Row → Option ℕ

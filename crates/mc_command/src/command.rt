@@ -13,7 +13,7 @@ use crate::number::read_number;
 use crate::run::read_workers;
 use crate::values::text_at;
 use clap::ArgMatches;
-use mc_limits::MOST_FUNCTIONS;
+use mc_limits::{MOST_FUNCTIONS, MOST_WORKERS};
 use std::alloc::{AllocError, Global};
 
 /// What a command line asks for, with the names of its files as they stand there.
@@ -61,7 +61,7 @@ fn read_selfload<'w>(values: &ArgMatches<'w>) -> Option<Command<'w>>
     ensures in_range { IfSome result IsInRange }
 {
     let count = read_count(values)?;
-    let workers = read_workers(values)?;
+    let workers = read_workers(values, MOST_WORKERS)?;
     Some(Command::Selfload { count, workers })
 }
 

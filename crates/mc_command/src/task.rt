@@ -1,11 +1,12 @@
 //! What the tests are run for.
-ghost use Rattle.std.specs.Prelude.{◌≡◌, option_map};
+ghost use Rattle.std.specs.Prelude.{◌≡◌, IfSome, option_map};
 ghost use Rattle.clap.specs.Words.{found_of, rows_of};
 ghost use Rattle.mc_command.specs.Command.{task_in};
-ghost use Rattle.mc_command.specs.Seen.{seen_task};
+ghost use Rattle.mc_command.specs.Seen.{TaskIsInRange, seen_task};
 
 use crate::independence::{Independence, read_mode};
 use crate::listing::{Listing, read_listing};
+use crate::looks::read_looks;
 use crate::report::{Report, read_report};
 use clap::ArgMatches;
 
@@ -18,6 +19,11 @@ pub enum Task<'w> {
     Vectors,
     /// The matrix of what was evaluated, to be kept in a file: `record`
     Record,
+    /// How many bits are recorded while the tests run: `watch`
+    Watch {
+        /// How often the words are looked at, from 1 to `MOST_LOOKS`.
+        looks: u32,
+    },
     /// Tests that show what all of them show, and none of which can go: `reduce`
     Reduce {
         /// How the independence of conditions is to be shown.
@@ -27,9 +33,11 @@ pub enum Task<'w> {
     List(Listing<'w>),
 }
 
-/// The task of the command with this name.
+/// The task of the command with this name. Its number is in range.
 pub fn read_task<'w>(name: &str, values: &ArgMatches<'w>) -> Option<Task<'w>>
-    ensures { option_map seen_task result ≡ task_in name.now (rows_of (found_of values.now)) }
+    ensures value { option_map seen_task result
+        ≡ task_in name.now (rows_of (found_of values.now)) }
+    ensures in_range { IfSome result TaskIsInRange }
 {
     match name {
         "report" => {
@@ -38,6 +46,10 @@ pub fn read_task<'w>(name: &str, values: &ArgMatches<'w>) -> Option<Task<'w>>
         }
         "vectors" => Some(Task::Vectors),
         "record" => Some(Task::Record),
+        "watch" => {
+            let looks = read_looks(values)?;
+            Some(Task::Watch { looks })
+        }
         "reduce" => {
             let mode = read_mode(values)?;
             Some(Task::Reduce { mode })

@@ -2,7 +2,7 @@
 ghost use Rattle.std.specs.Prelude.{◌≡◌, IfOk, codes, false};
 ghost use Rattle.clap.specs.declared.builder.command.Command.TheViews.{out-Command as fields_of};
 ghost use Rattle.clap.specs.Words.{app_of, new_app, rule_of};
-ghost use Rattle.mc_command.specs.Usage.{analyse_app, files_app, instrument_app, line_app, list_app, merge_app, option_rule, positional_rule, reduce_app, report_app, report_rules, run_app, selfload_app, with_other_commands, with_record_commands, with_rules, with_run_commands, with_tester_commands};
+ghost use Rattle.mc_command.specs.Usage.{analyse_app, files_app, instrument_app, line_app, list_app, merge_app, option_rule, positional_rule, reduce_app, report_app, report_rules, run_app, selfload_app, watch_app, with_other_commands, with_record_commands, with_rules, with_run_commands, with_tester_commands};
 
 use clap::{Arg, Command};
 use std::alloc::{AllocError, Global};
@@ -80,6 +80,15 @@ fn recorded<'w>(alloc: Global) -> Result<Command<'w>, AllocError>
     run(alloc, "record")
 }
 
+// `watch SOURCE TESTS [--workers N] [--fuel N] [--looks N]`
+fn watch<'w>(alloc: Global) -> Result<Command<'w>, AllocError>
+    ensures app { IfOk result (λ c. app_of c ≡ watch_app) }
+    ensures local { IfOk result (λ c. (fields_of c).has_globals ≡ false) }
+{
+    let command = run(alloc, "watch")?;
+    command.arg(option(alloc, "looks"))
+}
+
 // `reduce SOURCE TESTS [--workers N] [--fuel N] [--mode M]`
 fn reduce<'w>(alloc: Global) -> Result<Command<'w>, AllocError>
     ensures app { IfOk result (λ c. app_of c ≡ reduce_app) }
@@ -145,13 +154,14 @@ fn with_run_commands<'w>(alloc: Global, line: Command<'w>) -> Result<Command<'w>
         .subcommand(recorded)
 }
 
-// The commands that run the tests of a source to choose among them, and to list it.
+// The commands that run the tests of a source to look at them, to choose among them, and to list it.
 fn with_tester_commands<'w>(alloc: Global, line: Command<'w>) -> Result<Command<'w>, AllocError>
     ensures { IfOk result (λ c. app_of c ≡ with_tester_commands (app_of line.entry)) }
 {
+    let watch = watch(alloc)?;
     let reduce = reduce(alloc)?;
     let list = list(alloc)?;
-    line.subcommand(reduce)?.subcommand(list)
+    line.subcommand(watch)?.subcommand(reduce)?.subcommand(list)
 }
 
 // The commands on records.

@@ -3,7 +3,7 @@
 #![tactic(auto, unfolding(mc_command::specs::Command::command_of, clap::proofs::OnLiterals::clap_on_literals))]
 
 ghost use Rattle.std.specs.Prelude.{◌∷◌, [], None, Some, codes};
-ghost use Rattle.mc_command.specs.Command.{instrument, listed, merge, on_source, recorded, reduced, selfload, vectors};
+ghost use Rattle.mc_command.specs.Command.{instrument, listed, merge, on_source, recorded, reduced, selfload, vectors, watched};
 ghost use Rattle.mc_command.specs.declared.form.Form.TheVariants.{Csv, Json, Text};
 ghost use Rattle.mc_command.specs.declared.independence.Independence.TheVariants.{UniqueCause, Masking};
 ghost use Rattle.tests_command.specs.Lines.{AreAll, Is, analysis, justified_by, plain_report, report_by, run_by, run_of, vectors_by, vectors_of, vectors_shared};
@@ -90,8 +90,15 @@ pub fn other_commands()
         ∷ codes "selfload --workers=64 200" ∷ []) }
 {}
 
-/// Tests that are enough, and listings.
+/// Looks at running workers, tests that are enough, and listings.
 pub fn commands_of_testers()
+    ensures watched { AreAll (run_of (codes "a.c") (codes "a.csv") 8 (watched 10))
+        (codes "watch a.c a.csv --fuel 8" ∷ codes "watch --fuel=8 a.c a.csv --workers 4" ∷ []) }
+    ensures watched_most { AreAll (run_by (codes "a.c") (codes "a.csv") 63 8 (watched 100))
+        (codes "watch a.c a.csv --workers 63 --fuel 8 --looks 100"
+        ∷ codes "watch --looks=100 --workers=63 --fuel=8 -- a.c a.csv" ∷ []) }
+    ensures watched_least { Is (codes "watch a.c a.csv --workers 1 --fuel 8 --looks 1")
+        (run_by (codes "a.c") (codes "a.csv") 1 8 (watched 1)) }
     ensures reduced { AreAll (run_of (codes "a.c") (codes "a.csv") 8 (reduced UniqueCause))
         (codes "reduce a.c a.csv --fuel 8" ∷ codes "reduce a.c a.csv --mode unique --fuel 8"
         ∷ []) }

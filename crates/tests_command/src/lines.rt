@@ -23,6 +23,9 @@ record a.c a.csv --fuel 8 --workers 2@a.c|a.csv|2|8|record
 merge a.c a.rec b.rec@a.c|merge|a.rec|b.rec
 analyse a.c a.rec --mode masking@a.c|analyse|a.rec|report|masking|text
 selfload 200@selfload|200|4
+watch a.c a.csv@a.c|a.csv|4|1000000|watch|10
+watch a.c a.csv --looks 100 --workers 63@a.c|a.csv|63|1000000|watch|100
+watch --looks=1 a.c a.csv --workers=1 --fuel 8@a.c|a.csv|1|8|watch|1
 reduce a.c a.csv@a.c|a.csv|4|1000000|reduce|unique
 reduce a.c --mode masking a.csv --workers 64 --fuel 8@a.c|a.csv|64|8|reduce|masking
 list a.c a.csv@a.c|a.csv|4|1000000|list|unique
@@ -54,6 +57,12 @@ analyse a.c a.rec --fuel 8@
 selfload 0@
 selfload 201@
 selfload 5 --workers 65@
+watch a.c a.csv --looks 0@
+watch a.c a.csv --looks 101@
+watch a.c a.csv --looks 01@
+watch a.c a.csv --workers 64@
+watch a.c a.csv --mode unique@
+vectors a.c a.csv --looks 1@
 reduce a.c a.csv --justify j.json@
 reduce a.c a.csv --mode both@
 list a.c a.csv --format text@

@@ -91,6 +91,11 @@ pub fn other_commands()
     ensures analyse { AreNone (codes "analyse a.c" ∷ codes "analyse a.c a.rec b.rec"
         ∷ codes "analyse a.c a.rec --fuel 8" ∷ codes "analyse a.c a.rec --workers 4"
         ∷ codes "analyse a.c a.rec --mode both" ∷ []) }
+    ensures watched { AreNone (codes "watch a.c" ∷ codes "watch a.c a.csv --looks 0"
+        ∷ codes "watch a.c a.csv --looks 101" ∷ codes "watch a.c a.csv --looks 01"
+        ∷ codes "watch a.c a.csv --workers 64" ∷ codes "watch a.c a.csv --mode unique"
+        ∷ codes "watch a.c a.csv --looks 1 --looks 1" ∷ codes "vectors a.c a.csv --looks 1"
+        ∷ []) }
     ensures reduced { AreNone (codes "reduce a.c" ∷ codes "reduce a.c a.csv --mode both"
         ∷ codes "reduce a.c a.csv --workers 65" ∷ codes "reduce a.c a.csv --justify j.json"
         ∷ []) }

@@ -42,11 +42,15 @@ fn push_listing(text: &mut String, listing: Listing<'_>) -> Result<(), AllocErro
     push_justify(text, listing.justify)
 }
 
-fn push_task(text: &mut String, task: Task<'_>) -> Result<(), AllocError> {
+fn push_task(alloc: Global, text: &mut String, task: Task<'_>) -> Result<(), AllocError> {
     match task {
         Task::Report(report) => push_report(text, report),
         Task::Vectors => text.push_str("vectors"),
         Task::Record => text.push_str("record"),
+        Task::Watch { looks } => {
+            text.push_str("watch|")?;
+            push_number(alloc, text, looks)
+        }
         Task::Reduce { mode } => {
             text.push_str("reduce|")?;
             text.push_str(mode_word(mode))
@@ -69,7 +73,7 @@ fn push_run(alloc: Global, text: &mut String, run: Run<'_>) -> Result<(), AllocE
     text.push_str("|")?;
     push_number(alloc, text, run.fuel)?;
     text.push_str("|")?;
-    push_task(text, run.task)
+    push_task(alloc, text, run.task)
 }
 
 fn push_action(alloc: Global, text: &mut String, action: Action<'_>) -> Result<(), AllocError> {
