@@ -83,7 +83,7 @@ fn push_typed<'a>(
         (Some (type_of of)) (map listed_of members.old) (map structure_of structures.now)) }
 {
     let count = cells(structures, &of)?;
-    let nesting = counted_nesting(structures, &of)?;
+    let nesting = counted_nesting(structures, &of);
     let layout = layout(alloc, structures, &of)?;
     members.push(name.text, Some(of), Some(layout), count, nesting)
 }

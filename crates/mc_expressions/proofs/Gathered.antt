@@ -1,15 +1,16 @@
 -- Arguments that are gathered one after another are those that are judged from the last one.
-use Rattle.std.proofs.Common.{◌≡◌, ◌∙◌, ℕ, ◌+◌, List, [], ◌∷◌, ◌++◌, Option, Some, None, refl, ap, append_assoc, arith}
+use Rattle.std.proofs.Common.{◌≡◌, ◌∙◌, ℕ, List, [], ◌∷◌, ◌++◌, Option, Some, None, refl, ap, append_assoc}
 use Rattle.mc_typed.specs.Tree.{Argument, Arguments, arguments}
 use Rattle.mc_typed.specs.Tree.{no_arguments}
 use Rattle.mc_typed.specs.Views.{arguments_from}
 use Rattle.mc_faults.specs.declared.fault.Fault.{Fault}
-use Rattle.mc_typing.specs.Scopes.{Scope}
+use Rattle.mc_typing.specs.Profile.{sum_of}
 use Rattle.mc_typing.specs.Values.{lift2}
 use Rattle.mc_typing.specs.Types.{ParameterKind}
 use Rattle.mc_typing.specs.Values.{Found}
 use Rattle.mc_typing.specs.Calls.{Given, judged_given, argument_judged, arguments_judged}
 use Rattle.mc_faults.specs.Kept.{least}
+use Rattle.mc_typing.proofs.Sums.{sums}
 use Rattle.mc_scopes.specs.steps.Squeezed.{squeezed}
 use Rattle.mc_expressions.specs.steps.Gathered.{squeezed_given, before, gathered, with_last, extended}
 use Rattle.mc_scopes.proofs.Squeezed.{least_front, least_back}
@@ -27,15 +28,12 @@ lift_last (Some x) None y = refl
 lift_last (Some x) (Some a) None = refl
 lift_last (Some x) (Some a) (Some y) = ap (λ (r : Arguments). Some r) (before_last x a y)
 
-sums : (a b c : ℕ) → (a + b) + c ≡ a + (b + c)
-sums a b c = omega arith
-
 pub gathered_step : (x : Given (List Argument)) (one : Given Argument) (y : Given Arguments)
     → squeezed_given (gathered (squeezed_given (extended x one)) y) ≡ squeezed_given (gathered x (arguments_judged one y))
 gathered_step x one y =
-    ap (λ (fs : List Fault). judged_given fs (lift2 before (lift2 with_last x.value one.value) y.value) ((x.copied + one.copied) + y.copied) y.scope)
+    ap (λ (fs : List Fault). judged_given fs (lift2 before (lift2 with_last x.value one.value) y.value) (sum_of (sum_of x.copied one.copied) y.copied) y.scope)
     (least_front (x.faults ++ one.faults) y.faults ∙ ap least (append_assoc x.faults one.faults y.faults))
-    ∙ ap (λ (v : Option Arguments). judged_given (least (x.faults ++ (one.faults ++ y.faults))) v ((x.copied + one.copied) + y.copied) y.scope)
+    ∙ ap (λ (v : Option Arguments). judged_given (least (x.faults ++ (one.faults ++ y.faults))) v (sum_of (sum_of x.copied one.copied) y.copied) y.scope)
     (lift_last x.value one.value y.value)
     ∙ ap (λ (n : ℕ). judged_given (least (x.faults ++ (one.faults ++ y.faults))) (lift2 before x.value (lift2 arguments one.value y.value)) n y.scope)
     (sums x.copied one.copied y.copied)
@@ -43,7 +41,7 @@ gathered_step x one y =
 squeezed_inside : (x : Given (List Argument)) (a : Given Argument) (y : Given Arguments)
     → squeezed_given (gathered x (arguments_judged (squeezed_given a) y)) ≡ squeezed_given (gathered x (arguments_judged a y))
 squeezed_inside x a y =
-    ap (λ (fs : List Fault). judged_given fs (lift2 before x.value (lift2 arguments a.value y.value)) (x.copied + (a.copied + y.copied)) y.scope)
+    ap (λ (fs : List Fault). judged_given fs (lift2 before x.value (lift2 arguments a.value y.value)) (sum_of x.copied (sum_of a.copied y.copied)) y.scope)
     (least_back x.faults (least a.faults ++ y.faults) (a.faults ++ y.faults) (least_front a.faults y.faults))
 
 -- one more argument, of an expression
@@ -57,19 +55,7 @@ gathered_argument at p f x g one y is_one is_g =
     ∙ ap (λ (a : Given Argument). squeezed_given (gathered x (arguments_judged a y))) (is_one ∙ argument_node at p f)
     ∙ squeezed_inside x (argument_judged at p f) y
 
--- ---- no arguments so far, and all arguments
-
-lift_none : (y : Option Arguments) → lift2 before (Some []) y ≡ y
-lift_none None = refl
-lift_none (Some y) = refl
-
-none_more : (n : ℕ) → 0 + n ≡ n
-none_more n = omega arith
-
-pub gathered_none : (s : Scope) (y : Given Arguments) → gathered (judged_given [] (Some []) 0 s) y ≡ y
-gathered_none s y =
-    ap (λ (v : Option Arguments). judged_given y.faults v (0 + y.copied) y.scope) (lift_none y.value)
-    ∙ ap (λ (n : ℕ). judged_given y.faults y.value n y.scope) (none_more y.copied)
+-- ---- all arguments
 
 pub before_none : (given : List Argument) → before given no_arguments ≡ arguments_from given
 before_none [] = refl

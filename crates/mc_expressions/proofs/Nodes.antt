@@ -1,6 +1,6 @@
 -- What is found at a node of parts of which the least faults alone are kept, is the same with the
 -- least fault alone. The scope of a part before the last one does not count.
-use Rattle.std.proofs.Common.{◌≡◌, ◌∙◌, ℕ, ◌+◌, List, pos, false, ◌&&◌, Option, Some, None, ap, option_map, option_and_then}
+use Rattle.std.proofs.Common.{◌≡◌, ◌∙◌, ℕ, List, pos, false, ◌&&◌, Option, Some, None, ap, option_map, option_and_then}
 use Rattle.mc_span.specs.declared.span.Span.{Span}
 use Rattle.mc_tree.specs.declared.expressions.unary_operator.UnaryOperator.{UnaryOperator}
 use Rattle.mc_tree.specs.declared.expressions.step_operator.StepOperator.{StepOperator}
@@ -17,6 +17,7 @@ use Rattle.mc_typing.specs.Expressions.{literal, index_faults, index_value, inde
 use Rattle.mc_typing.specs.Types.{ParameterKind}
 use Rattle.mc_typing.specs.Scopes.{Meaning, cells_counted, with_counted}
 use Rattle.mc_typing.specs.Values.{judged}
+use Rattle.mc_typing.specs.Profile.{sum_of}
 use Rattle.mc_typing.specs.Calls.{Given, judged_given, argument_faults, argument_value, copy_of, argument_judged, arguments_judged, callee_faults, call_value, after_call, call_found, comma_found}
 use Rattle.mc_faults.specs.Faults.{fault}
 use Rattle.mc_faults.specs.declared.fault.FaultKind.TheVariants.{Mismatch}
@@ -124,7 +125,7 @@ pub arguments_node : (x : Given Argument) (y : Given Arguments) (s : Scope)
     → squeezed_given (arguments_judged (record (squeezed_given x) { scope = s }) (squeezed_given y))
     ≡ squeezed_given (arguments_judged x y)
 arguments_node x y s =
-    ap (λ (fs : List Fault). judged_given fs (lift2 t.arguments x.value y.value) (x.copied + y.copied) y.scope)
+    ap (λ (fs : List Fault). judged_given fs (lift2 t.arguments x.value y.value) (sum_of x.copied y.copied) y.scope)
     (least_front x.faults (least y.faults) ∙ least_back x.faults (least y.faults) y.faults (ap listed (least_least y.faults)))
 
 pub call_node : (name : Name) (count : ℕ) (span : Span) (meaning : Option Meaning) (x : Given Arguments)

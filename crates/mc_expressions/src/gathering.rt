@@ -16,6 +16,7 @@ use mc_faults::{Fault, lesser};
 use mc_scopes::ParameterKind;
 use mc_scopes::found::Given;
 use mc_scopes::lists::{unused, with_last};
+use mc_scopes::sums::sum_of;
 use mc_typed::Argument;
 use std::alloc::{AllocError, Global};
 
@@ -55,28 +56,22 @@ fn push_argument(
     }
 }
 
-// Arguments, where they could be made and their cells counted.
+// Arguments, where they could be made.
 fn with_cells(
     fault: Option<Fault>,
     value: Result<Option<Vec<Argument>>, AllocError>,
-    copied: Option<u64>,
+    copied: u64,
 ) -> Result<Given<Vec<Argument>>, AllocError>
     ensures fault { IfOk result (λ r. r.fault ≡ fault) }
     ensures value { IfOk result (λ r. value ≡ Ok r.value) }
-    ensures copied { IfOk result (λ r. copied ≡ Some r.copied) }
+    ensures copied { IfOk result (λ r. r.copied ≡ copied) }
 {
     match value {
-        Ok(value) => match copied {
-            Some(copied) => Ok(Given {
-                fault,
-                value,
-                copied,
-            }),
-            None => {
-                drop(value);
-                Err(AllocError)
-            }
-        },
+        Ok(value) => Ok(Given {
+            fault,
+            value,
+            copied,
+        }),
         Err(error) => Err(error),
     }
 }
@@ -90,7 +85,7 @@ pub fn gather(
         ≡ squeezed_given (extended (given_of items_of given s) (given_of argument_of one u))) }
 {
     let fault = join(given.fault, one.fault);
-    let copied = given.copied.checked_add(one.copied);
+    let copied = sum_of(given.copied, one.copied);
     let value = push_argument(given.value, one.value);
     with_cells(fault, value, copied)
 }

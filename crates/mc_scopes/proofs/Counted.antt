@@ -1,9 +1,9 @@
 -- Cells as far as they are counted.
-use Rattle.std.proofs.Common.{◌≡◌, ◌∙◌, ◌<◌, ◌≤◌, ◌⊎◌, ◌*◌, ◌+◌, ℕ, zero, suc, min, ◌&&◌, nat_le, nat_lt, List, [], ◌∷◌, length, drop, drop-cons, get_or, refl, sym, ap, subst, arith, inl, inr}
+use Rattle.std.proofs.Common.{◌≡◌, ◌∙◌, ◌<◌, ◌≤◌, ◌⊎◌, ◌*◌, ◌+◌, ℕ, zero, suc, min, ◌&&◌, nat_le, nat_lt, true, false, List, [], ◌∷◌, length, drop, drop-cons, get_or, refl, sym, ap, subst, arith, inl, inr}
 use Rattle.std.proofs.Math.Nat.{le-mul_of_pos_right, mul_assoc, mul_comm, mul_left_comm, mul-zero}
 use Rattle.std.proofs.lemmas.Bool.{cases_lt}
 use Rattle.std.proofs.lemmas.List.{drop_all}
-use Rattle.std.proofs.lemmas.Bool.Decides.{Decides-ltb, Decides-like, same_from_decides}
+use Rattle.std.proofs.lemmas.Bool.Decides.{Decides-ltb, Decides-like, leb_tells, same_from_decides}
 use Rattle.mc_value.specs.ObjectTypes.{most_cells}
 use Rattle.mc_typed.specs.Layout.{ObjectType, cells, nesting}
 use Rattle.mc_typing.specs.Types.{arrays_of}
@@ -38,7 +38,31 @@ pub nesting_of_arrays : (ns : List ℕ) (u : ObjectType) → nesting (arrays_of 
 nesting_of_arrays [] u = omega arith
 nesting_of_arrays (n ∷ ns) u = omega (arith, nesting_of_arrays ns u)
 
--- more cells than the limit are counted as more
+-- in one structure more
+pub deeper_counted : (n : ℕ) → min (min n most_counted + 1) most_counted ≡ min (n + 1) most_counted
+deeper_counted n = omega arith
+
+-- of arrays with such a base
+pub nesting_counted : (ns : List ℕ) (u : ObjectType) (base : ℕ)
+    → min base most_counted ≡ min (nesting u) most_counted
+    → min (length ns + base) most_counted ≡ min (nesting (arrays_of ns u)) most_counted
+nesting_counted ns u base h =
+    let e = nesting_of_arrays ns u in omega (arith, e, h)
+
+-- what stands inside one structure more
+pub deep_counted : (k n : ℕ) → k < most_counted → nat_le k (min n most_counted) ≡ nat_lt k (n + 1)
+deep_counted k n h = go (leb_tells k (min n most_counted)) (leb_tells (suc k) (n + 1))
+  where
+    go : ((nat_le k (min n most_counted) ≡ true) × (k ≤ min n most_counted))
+        ⊎ ((nat_le k (min n most_counted) ≡ false) × (min n most_counted < k))
+        → ((nat_le (suc k) (n + 1) ≡ true) × (suc k ≤ n + 1)) ⊎ ((nat_le (suc k) (n + 1) ≡ false) × (n + 1 < suc k))
+        → nat_le k (min n most_counted) ≡ nat_lt k (n + 1)
+    go (inl p) (inl q) = p.0 ∙ sym q.0
+    go (inl p) (inr q) = absurd (omega (arith, p.1, q.1))
+    go (inr p) (inl q) = absurd (omega (arith, p.1, q.1, h))
+    go (inr p) (inr q) = p.0 ∙ sym q.0
+
+-- more than the limit are counted as more
 pub many_counted : (k n : ℕ) → k < most_counted → nat_lt k (min n most_counted) ≡ nat_lt k n
 many_counted k n h =
     same_from_decides (nat_lt k (min n most_counted)) (nat_lt k n)

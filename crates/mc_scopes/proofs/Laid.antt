@@ -1,5 +1,5 @@
 -- Members and where they begin.
-use Rattle.std.proofs.Common.{◌≡◌, ◌∙◌, ◌<◌, ◌≤◌, ◌⊎◌, ◌+◌, ℕ, zero, suc, max, Bool, true, false, ◌||◌, List, [], ◌∷◌, ◌++◌, map, length, take, slice_get, Option, Some, None, is_some, IfSome, option_map, refl, sym, ap, arith, inl, inr, subst, if◌then◌else◌}
+use Rattle.std.proofs.Common.{◌≡◌, ◌∙◌, ◌<◌, ◌≤◌, ◌⊎◌, ◌+◌, ℕ, zero, suc, max, min, Bool, true, false, ◌||◌, List, [], ◌∷◌, ◌++◌, map, length, take, slice_get, Option, Some, None, is_some, IfSome, option_map, refl, sym, ap, arith, inl, inr, subst, if◌then◌else◌}
 use Rattle.std.specs.Str.{bytes_eq}
 use Rattle.std.proofs.lemmas.List.{map_push, length_push}
 use Rattle.std.proofs.lemmas.Option.{slice_get_within}
@@ -11,6 +11,7 @@ use Rattle.mc_typing.specs.Declarators.{has_member}
 use Rattle.mc_typing.specs.Expressions.{Selected, selected, layouts_of}
 use Rattle.mc_names.specs.Tables.{Named, last_of, later_or, last_place_of}
 use Rattle.mc_scopes.specs.Listed.{layout_of, listed_of, selected_of, found_member, member_at, AreLaid}
+use Rattle.mc_scopes.specs.Counted.{most_counted}
 use Rattle.mc_scopes.specs.declared.member.Member.{Member}
 
 -- ---- one more layout
@@ -67,16 +68,20 @@ at_more (z ∷ xs) x y (suc k) e = go (at_more xs x y k e)
     go (inl h) = inl (h.0, omega (arith, h.1))
     go (inr h) = inr (omega (arith, h.0), h.1)
 
+max_counted : (l a b : ℕ) → max (min a l) (min b l) ≡ min (max a b) l
+max_counted l a b = omega arith
+
 pub laid_none : AreLaid [] 0 0
 laid_none = record {
   cells = refl;
-  nesting = refl;
+  nesting = omega arith;
   offsets = λ k m e. absurd (omega (arith, slice_get_within [] k m e));
   few = omega arith;
 }
 
 pub laid_more : (ms : List (Named Member)) (m : Named Member) (total nested c d : ℕ) → AreLaid ms total nested
-    → m.meaning.offset ≡ total → c ≡ cells (layout_of m.meaning.layout) → d ≡ nesting (layout_of m.meaning.layout)
+    → m.meaning.offset ≡ total → c ≡ cells (layout_of m.meaning.layout)
+    → d ≡ min (nesting (layout_of m.meaning.layout)) most_counted
     → length ms < 4294967295 → AreLaid (ms ++ (m ∷ [])) (total + c) (max nested d)
 laid_more ms m total nested c d h place has deep few = record {
   cells =
@@ -85,10 +90,12 @@ laid_more ms m total nested c d h place has deep few = record {
       ap (λ us. cells_all (members_from us)) (lays_more ms m) ∙ cells_more (lays ms) (layout_of m.meaning.layout) in
       ap (λ n. n + c) old ∙ ap (λ n. cells_all (members_from (lays ms)) + n) has ∙ sym new;
   nesting =
-      let old : nested ≡ nesting_all (members_from (lays ms)) = h.nesting in
+      let old : nested ≡ min (nesting_all (members_from (lays ms))) most_counted = h.nesting in
       let new : nesting_all (members_from (lays (ms ++ (m ∷ [])))) ≡ max (nesting_all (members_from (lays ms))) (nesting (layout_of m.meaning.layout)) =
       ap (λ us. nesting_all (members_from us)) (lays_more ms m) ∙ nesting_more (lays ms) (layout_of m.meaning.layout) in
-      ap (λ n. max n d) old ∙ ap (λ n. max (nesting_all (members_from (lays ms))) n) deep ∙ sym new;
+      ap (λ n. max n d) old ∙ ap (λ n. max (min (nesting_all (members_from (lays ms))) most_counted) n) deep
+      ∙ max_counted most_counted (nesting_all (members_from (lays ms))) (nesting (layout_of m.meaning.layout))
+      ∙ ap (λ n. min n most_counted) (sym new);
   offsets = λ k n e. begins k n (at_more ms m n k e);
   few = omega (arith, few, length_push ms m);
 }

@@ -1,5 +1,6 @@
 //! Layouts of types (C17 6.2.5), and the limits of objects.
 ghost use Rattle.std.specs.Prelude.{◌≡◌, ◌+◌, ◌*◌, ◌<◌, ◌≤◌, ◌||◌, ◌^◌, ◌∷◌, ◌++◌, nat_lt, min, [], length, map, slice_get, Some, IfOk, OnOk, OnErr};
+ghost use Rattle.mc_limits.specs.Limits.{most_nesting};
 ghost use Rattle.mc_value.specs.ObjectTypes.{most_cells};
 ghost use Rattle.mc_typed.specs.Layout as layout;
 ghost use Rattle.mc_typed.specs.Layout.{object_type_of};
@@ -302,11 +303,12 @@ pub fn cells(structures: &[Structure<'_>], of: &CType) -> Result<u32, AllocError
 // ---- limits
 
 // How many arrays and structures stand inside one another in the members of the structure type with
-// this number.
+// this number, as far as 32 bits count them.
 #[tactic(auto, using(crate::proofs::Arrays::structure_at))]
 fn nesting_at(structures: &[Structure<'_>], number: u32) -> u32
-    ensures { result ≡ layout.nesting_all
-        (layouts_of (type_rules.members_of (slice_get (map structure_of structures.now) number))) }
+    ensures { result ≡ min (layout.nesting_all
+        (layouts_of (type_rules.members_of (slice_get (map structure_of structures.now) number))))
+        most_counted }
 {
     match structures.get(number as usize) {
         Some(structure) => structure.nesting(),
@@ -314,11 +316,14 @@ fn nesting_at(structures: &[Structure<'_>], number: u32) -> u32
     }
 }
 
-// How many arrays and structures stand inside one another in a base.
+// How many arrays and structures stand inside one another in a base. In a structure they are counted
+// as far as 32 bits count those in its members.
+#[tactic(auto, using(crate::proofs::Counted::deeper_counted))]
 fn nesting_of_base(structures: &[Structure<'_>], base: Base) -> u64
-    ensures exact { result
-        ≡ layout.nesting (type_rules.layout_of_base (map structure_of structures.now)
-        (base_of base)) }
+    ensures counted { min result most_counted
+        ≡ min (layout.nesting (type_rules.layout_of_base (map structure_of structures.now)
+        (base_of base)))
+        most_counted }
     ensures few { result < 2 ^ 33 }
 {
     match base {
@@ -328,29 +333,17 @@ fn nesting_of_base(structures: &[Structure<'_>], base: Base) -> u64
     }
 }
 
-// How many arrays and structures stand inside one another in a type.
-#[tactic(auto, using(crate::proofs::Counted::nesting_of_arrays))]
-fn nesting(structures: &[Structure<'_>], of: &CType) -> u64
+/// How many arrays and structures stand inside one another in an object of the type, as far as 32
+/// bits count them. Takes no memory.
+#[tactic(auto, using(crate::proofs::Counted::nesting_counted))]
+pub fn counted_nesting(structures: &[Structure<'_>], of: &CType) -> u32
     ensures { result
-        ≡ layout.nesting (type_rules.layout_of (map structure_of structures.now) (type_of of.now)) }
+        ≡ min (layout.nesting (type_rules.layout_of (map structure_of structures.now)
+        (type_of of.now)))
+        most_counted }
 {
-    of.lengths.len() as u64 + nesting_of_base(structures, of.base)
-}
-
-/// How many arrays and structures stand inside one another in an object of the type.
-///
-/// # Errors
-///
-/// `AllocError` where 32 bits do not count them. Takes no memory.
-pub fn counted_nesting(structures: &[Structure<'_>], of: &CType) -> Result<u32, AllocError>
-    ensures { IfOk result (λ n. n
-        ≡ layout.nesting (type_rules.layout_of (map structure_of structures.now)
-        (type_of of.now))) }
-{
-    match u32::try_from(nesting(structures, of)) {
-        Ok(count) => Ok(count),
-        Err(_) => Err(AllocError),
-    }
+    let total = of.lengths.len() as u64 + nesting_of_base(structures, of.base);
+    total.min(u32::MAX as u64) as u32
 }
 
 // Whether an object of the type has too many cells.
@@ -362,13 +355,21 @@ fn has_many_cells(structures: &[Structure<'_>], of: &CType) -> bool
     counted_cells(structures, of) > MOST_CELLS
 }
 
+// Whether an object of the type nests too deep.
+#[tactic(auto, using(crate::proofs::Counted::many_counted))]
+fn nests_deep(structures: &[Structure<'_>], of: &CType) -> bool
+    ensures { result ≡ nat_lt most_nesting
+        (layout.nesting (type_rules.layout_of (map structure_of structures.now)
+        (type_of of.now))) }
+{
+    counted_nesting(structures, of) > MOST_NESTING
+}
+
 /// Whether an object of the type passes a limit: its cells, its nesting, or a length of an array.
 pub fn is_too_large(structures: &[Structure<'_>], of: &CType) -> bool
     ensures { result ≡ limit.is_too_large (map structure_of structures.now) (type_of of.now) }
 {
-    of.is_long()
-        || has_many_cells(structures, of)
-        || nesting(structures, of) > u64::from(MOST_NESTING)
+    of.is_long() || has_many_cells(structures, of) || nests_deep(structures, of)
 }
 
 /// Whether so many cells are within this limit, but with so many more they pass it.
@@ -387,12 +388,20 @@ fn is_passed_by(before: u32, structures: &[Structure<'_>], of: &CType) -> bool
     is_passed_with(MOST_CELLS, before as u64, counted_cells(structures, of))
 }
 
+// Whether a structure with a member of the type nests too deep.
+#[tactic(auto, using(crate::proofs::Counted::deep_counted))]
+fn nests_deep_inside(structures: &[Structure<'_>], of: &CType) -> bool
+    ensures { result ≡ nat_lt most_nesting
+        (layout.nesting (type_rules.layout_of (map structure_of structures.now)
+        (type_of of.now)) + 1) }
+{
+    counted_nesting(structures, of) >= MOST_NESTING
+}
+
 /// Whether a member of the type, after members with so many cells, passes a limit of its structure.
 pub fn is_large_member(before: u32, structures: &[Structure<'_>], of: &CType) -> bool
     ensures { result ≡ (limit.is_long of.now.lengths.items || limit.is_large_member before
         (type_rules.layout_of (map structure_of structures.now) (type_of of.now))) }
 {
-    of.is_long()
-        || is_passed_by(before, structures, of)
-        || nesting(structures, of) >= u64::from(MOST_NESTING)
+    of.is_long() || is_passed_by(before, structures, of) || nests_deep_inside(structures, of)
 }

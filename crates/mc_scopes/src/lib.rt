@@ -24,6 +24,7 @@ pub mod parts;
 mod prototypes;
 mod scope;
 pub mod structures;
+pub mod sums;
 mod types;
 pub mod value;
 pub mod values;

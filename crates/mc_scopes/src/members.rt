@@ -1,11 +1,12 @@
 //! Members of structures (C17 6.7.2.1).
-ghost use Rattle.std.specs.Prelude.{◌≡◌, ◌+◌, ◌<◌, ◌^◌, ◌∷◌, ◌++◌, [], List, map, length, slice_get, Some, option_map, option_copied, IfSome, IfOk, OnOk, OnErr};
+ghost use Rattle.std.specs.Prelude.{◌≡◌, ◌+◌, ◌<◌, ◌^◌, min, ◌∷◌, ◌++◌, [], List, map, length, slice_get, Some, option_map, option_copied, IfSome, IfOk, OnOk, OnErr};
 ghost use Rattle.mc_typed.specs.Layout as sizes;
 ghost use Rattle.mc_typed.specs.Layout.{object_type_of};
 ghost use Rattle.mc_typing.specs.Types as type_rules;
 ghost use Rattle.mc_typing.specs.Declarators.{has_member, cells_of_members};
 ghost use Rattle.mc_typing.specs.Expressions.{selected, layouts_of};
 ghost use Rattle.mc_scopes.specs.Types.{type_of};
+ghost use Rattle.mc_scopes.specs.Counted.{most_counted};
 ghost use Rattle.mc_scopes.specs.Listed.{layout_of, listed_of, selected_of, found_member, member_at};
 ghost use Rattle.mc_scopes.specs.Views.{complete_in, structure_of};
 
@@ -135,15 +136,17 @@ impl<'a> Members<'a> {
         self.table.at(place)
     }
 
-    // How many arrays and structures stand inside one another in the members.
+    // How many arrays and structures stand inside one another in the members, as far as 32 bits
+    // count them.
     fn nesting(&self) -> u32
-        ensures { result ≡ sizes.nesting_all (layouts_of (map listed_of self.now)) }
+        ensures { result
+            ≡ min (sizes.nesting_all (layouts_of (map listed_of self.now))) most_counted }
     {
         self.nesting
     }
 
     /// One more member, after the others. Its layout has so many cells, and so many arrays and
-    /// structures inside one another.
+    /// structures inside one another, as far as 32 bits count these.
     ///
     /// # Errors
     ///
@@ -158,7 +161,7 @@ impl<'a> Members<'a> {
         nesting: u32,
     ) -> Result<(), AllocError>
         requires cells { cells ≡ sizes.cells (layout_of layout) }
-        requires nesting { nesting ≡ sizes.nesting (layout_of layout) }
+        requires nesting { nesting ≡ min (sizes.nesting (layout_of layout)) most_counted }
         ensures ok { OnOk result (map listed_of self.new
             ≡ map listed_of self.old ++ record {
               name = name.now;
@@ -280,9 +283,11 @@ impl<'a> Complete<'a> {
         self.members.at(place)
     }
 
-    /// How many arrays and structures stand inside one another in its members. Takes no memory.
+    /// How many arrays and structures stand inside one another in its members, as far as 32 bits
+    /// count them. Takes no memory.
     pub fn nesting(&self) -> u32
-        ensures { result ≡ sizes.nesting_all (layouts_of (map listed_of self.now)) }
+        ensures { result
+            ≡ min (sizes.nesting_all (layouts_of (map listed_of self.now))) most_counted }
     {
         self.members.nesting()
     }
@@ -341,11 +346,12 @@ impl<'a> Structure<'a> {
         }
     }
 
-    // How many arrays and structures stand inside one another in its members.
+    // How many arrays and structures stand inside one another in its members, as far as 32 bits
+    // count them.
     pub(crate) fn nesting(&self) -> u32
         ensures { result
-            ≡ sizes.nesting_all (layouts_of
-            (type_rules.members_of (Some (structure_of self.now)))) }
+            ≡ min (sizes.nesting_all (layouts_of
+            (type_rules.members_of (Some (structure_of self.now))))) most_counted }
     {
         match self {
             Structure::Complete(complete) => complete.nesting(),

@@ -11,6 +11,7 @@ use crate::labels::Labels;
 use crate::lists::push;
 use crate::meanings::{Meaning, TagMeaning};
 use crate::members::Structure;
+use crate::sums::sum_of;
 use mc_limits::{MOST_FRAME_CELLS, MOST_STATIC_CELLS};
 use mc_names::Table;
 use mc_tree::Identifier;
@@ -191,22 +192,14 @@ impl<'a> Scope<'a> {
             ≡ scopes.with_object (object_type_of object_type) (scope_of self.old)) }
     {
         let start = start_at(MOST_FRAME_CELLS, self.frame);
-        match self.frame.checked_add(u64::from(count)) {
-            Some(frame) => {
-                let object = Object {
-                    object_type,
-                    cells: count,
-                    start,
-                };
-                push(&mut self.objects, object)?;
-                self.frame = frame;
-                Ok(())
-            }
-            None => {
-                drop(object_type);
-                Err(AllocError)
-            }
-        }
+        let object = Object {
+            object_type,
+            cells: count,
+            start,
+        };
+        push(&mut self.objects, object)?;
+        self.frame = sum_of(self.frame, u64::from(count));
+        Ok(())
     }
 
     /// So many cells of the frame count no more.
@@ -228,24 +221,15 @@ impl<'a> Scope<'a> {
             ≡ scopes.with_static (object_type_of object_type) initial.items (scope_of self.old)) }
     {
         let start = start_at(MOST_STATIC_CELLS, self.static_cells);
-        match self.static_cells.checked_add(u64::from(count)) {
-            Some(cells) => {
-                let object = StaticObject {
-                    object_type,
-                    cells: count,
-                    start,
-                    initial,
-                };
-                push(&mut self.statics, object)?;
-                self.static_cells = cells;
-                Ok(())
-            }
-            None => {
-                drop(object_type);
-                drop(initial);
-                Err(AllocError)
-            }
-        }
+        let object = StaticObject {
+            object_type,
+            cells: count,
+            start,
+            initial,
+        };
+        push(&mut self.statics, object)?;
+        self.static_cells = sum_of(self.static_cells, u64::from(count));
+        Ok(())
     }
 
     /// One more array parameter.

@@ -23,6 +23,7 @@ use Rattle.mc_typing.specs.Judgement.{judge_parameters}
 use Rattle.mc_typing.specs.Statements.{outermost}
 use Rattle.mc_typing.specs.Bodies.{judge_block}
 use Rattle.mc_typing.specs.Typing.{parameter_type, result_type, is_incomplete, function_from, with_function}
+use Rattle.mc_typing.proofs.Sums.{summed_within}
 use Rattle.mc_soundness.specs.Growth.{Begins, Kept, AreBelow}
 use Rattle.mc_soundness.specs.Blocks.{BlockHasNoFunction}
 use Rattle.mc_soundness.specs.Fits.{World, objects_of, Completes, StructureFits, StructuresFit, SignatureFits, NamesFit, AreLaid, total, Fits, Ends, LabelsFit, IsRun, arrays_in, base_of_kind, AreComplete, AreParametersFound}
@@ -485,7 +486,8 @@ function_sound end p name span g parameters body s b d kept statics bodies names
     let count : length y.scope.objects ≡ length (sound.values_of fn.parameters) =
     sym (length-map y.scope.objects (λ (o : Object). o.object_type)) ∙ ap length object_types in
     let room : total z.scope.objects ≤ most_frame_cells =
-    subst (λ n. n ≤ most_frame_cells) run.fits.frame (frame_small z.scope.frame name.span.start d.frame) in
+    summed_within most_frame_cells (total z.scope.objects) (omega arith)
+    (subst (λ n. n ≤ most_frame_cells) run.fits.frame (frame_small z.scope.frame name.span.start d.frame)) in
     let room_from : 0 + total z.scope.objects ≤ most_frame_cells = omega (arith, room) in
     let number : length fn.parameters ≡ length y.items =
     length-map g.parameters (parameter_type z.scope.structures)

@@ -9,10 +9,11 @@ use Rattle.mc_typed.specs.Layout as layout
 use Rattle.mc_typed.specs.Tree.{Object, StaticObject}
 use Rattle.mc_typed.specs.Sound.{IsSlotOf, IsObjectType, AreInRange, AreInitial, slots_from}
 use Rattle.mc_limits.specs.Limits.{most_frame_cells, most_static_cells}
-use Rattle.mc_typing.specs.Profile.{start_at}
+use Rattle.mc_typing.specs.Profile.{start_at, most_summed, sum_of}
 use Rattle.mc_typing.specs.Types.{Base, Void, Integer, Tagged, CType, plain, Member, Structure, Incomplete, Complete, Faulty, members_of, is_complete_structure, is_complete, layout_of_base, arrays_of, layout_of, structure_from, structures_from}
 use Rattle.mc_typing.specs.Scopes.{Entry, Meaning, Automatic, Constant, Function, Typedef, Scope, TagMeaning, later_or, named, with_name, with_tag, with_structure, with_structure_at, with_object, with_static}
 use Rattle.mc_typing.specs.Scopes as scope
+use Rattle.mc_typing.proofs.Sums.{start_summed, sum_more, sum_within}
 use Rattle.mc_soundness.specs.Growth.{Begins, Kept, Grown, Extended, Passed}
 use Rattle.mc_soundness.specs.Fits.{World, FileScopeFits, objects_of, Completes, MemberFits, MembersFit, StructureFits, StructuresFit, MeaningFits, NamesFit, AreLaid, total, Fits, Ends, Made}
 use Rattle.mc_soundness.proofs.Grows.{grown_refl}
@@ -211,18 +212,23 @@ pub fits_object : (w : World) (s : Scope) (u : ObjectType) → Fits w s
 fits_object w s u fit h =
     let o : Object = record { object_type = u; cells = cells u; start = start_at most_frame_cells s.frame } in
     let start : o.start ≡ start_at most_frame_cells (0 + total s.objects) =
-    ap (start_at most_frame_cells) (fit.frame ∙ zero_plus (total s.objects)) in
+    ap (start_at most_frame_cells) fit.frame ∙ start_summed most_frame_cells (total s.objects) frame_below
+    ∙ ap (start_at most_frame_cells) (zero_plus (total s.objects)) in
     record {
       names = fit.names;
       structures = fit.structures;
       laid = laid_append most_frame_cells w 0 s.objects o fit.laid (h, refl, start, tt);
-      frame = ap (λ n. n + cells u) fit.frame ∙ sym (total_append s.objects o);
+      frame = ap (λ n. sum_of n (cells u)) fit.frame ∙ sum_more (total s.objects) (cells u)
+          ∙ ap (start_at most_summed) (sym (total_append s.objects o));
       statics = fit.statics;
       bodies = fit.bodies;
     }
   where
     zero_plus : (n : ℕ) → n ≡ 0 + n
     zero_plus n = omega arith
+
+    frame_below : most_frame_cells ≤ most_summed
+    frame_below = omega arith
 
 map_last : (os : List StaticObject) (o : StaticObject)
     → map (λ o. o.object) (os ++ (o ∷ [])) ≡ map (λ o. o.object) os ++ (o.object ∷ [])
@@ -245,6 +251,8 @@ fits_static w s u vs fit h room values =
     let os = map (λ o. o.object) s.statics in
     let start : start_at most_static_cells s.static_cells ≡ start_at most_static_cells (0 + total os) =
     ap (start_at most_static_cells) (fit.statics.cells ∙ zero_plus (total os)) in
+    let sum : sum_of s.static_cells (cells u) ≡ s.static_cells + cells u =
+    sum_within s.static_cells (cells u) (omega (arith, room)) in
     record {
       names = fit.names;
       structures = fit.structures;
@@ -253,9 +261,9 @@ fits_static w s u vs fit h room values =
       statics = record {
         laid = subst (AreLaid most_static_cells w 0) (sym (map_last s.statics o))
             (laid_append most_static_cells w 0 os o.object fit.statics.laid (h, refl, start, tt));
-        cells = ap (λ n. n + cells u) fit.statics.cells ∙ sym (total_append os o.object)
+        cells = sum ∙ ap (λ n. n + cells u) fit.statics.cells ∙ sym (total_append os o.object)
             ∙ ap total (sym (map_last s.statics o));
-        room = room;
+        room = subst (λ n. n ≤ most_static_cells) (sym sum) room;
         initial = initial_append s.statics o fit.statics.initial (values, tt);
       };
       bodies = fit.bodies;

@@ -14,7 +14,7 @@ use Rattle.mc_typed.specs.Sound.{IsSlotOf, place_type, structure_type, IsPlace, 
 use Rattle.mc_typed.specs.Sound as sound
 use Rattle.mc_limits.specs.Limits.{most_frame_cells, most_nesting, most_static_cells}
 use Rattle.mc_value.specs.ObjectTypes.{most_cells}
-use Rattle.mc_typing.specs.Profile.{start_at}
+use Rattle.mc_typing.specs.Profile.{start_at, most_summed}
 use Rattle.mc_typing.specs.Types.{Base, Tagged, CType, plain, Member, Structure, Incomplete, Complete, Faulty, is_complete, layout_of, structures_from, ParameterKind, ByValue, ByArray, Signature}
 use Rattle.mc_typing.specs.Scopes.{Entry, Labels, Meaning, Automatic, Constant, Function, Typedef, Scope, file_scope, place_from, is_input, is_output}
 use Rattle.mc_typing.specs.Scopes as scope
@@ -132,7 +132,7 @@ pub record Fits (w : World) (s : Scope) : Type 0 where
   pub names : NamesFit w s.structures s.names
   pub structures : StructuresFit w s.structures
   pub laid : AreLaid most_frame_cells w 0 s.objects
-  pub frame : s.frame ≡ total s.objects
+  pub frame : s.frame ≡ start_at most_summed (total s.objects)
   pub statics : StaticsFit w s.statics s.static_cells
   pub bodies : s.bodies ≡ w.bodies
 

@@ -1,6 +1,6 @@
 -- What is found at a node, from what is found of its parts one after another: of the faults of each
 -- the least alone is kept.
-use Rattle.std.proofs.Common.{◌≡◌, ◌∙◌, ℕ, ◌+◌, false, List, [], ◌∷◌, length, map, Option, Some, None, refl, sym, ap, arith}
+use Rattle.std.proofs.Common.{◌≡◌, ◌≤◌, ◌∙◌, ℕ, ◌+◌, false, List, [], ◌∷◌, length, map, Option, Some, None, refl, sym, ap, arith}
 use Rattle.mc_span.specs.declared.span.Span.{Span}
 use Rattle.mc_tree.specs.declared.expressions.unary_operator.UnaryOperator.{UnaryOperator}
 use Rattle.mc_tree.specs.declared.expressions.step_operator.StepOperator.{StepOperator}
@@ -12,6 +12,7 @@ use Rattle.mc_tree.specs.Tree.{span_of}
 use Rattle.mc_tree.specs.Tree as t
 use Rattle.mc_typed.specs.Tree.{Argument, Arguments}
 use Rattle.mc_faults.specs.declared.fault.Fault.{Fault}
+use Rattle.mc_typing.specs.Profile.{most_summed, sum_of}
 use Rattle.mc_typing.specs.Types.{CType, ParameterKind}
 use Rattle.mc_typing.specs.Scopes.{Meaning, Scope, meaning_of}
 use Rattle.mc_typing.specs.Values.{Judged, Found, lift2}
@@ -19,6 +20,7 @@ use Rattle.mc_typing.specs.Calls.{Given, judged_given, argument_judged, first_of
 use Rattle.mc_typing.specs.Expressions.{operator_after, operator_before, index_found, member_found, step_found, unary_found, cast_found, binary_found, conditional_found, assignment_found}
 use Rattle.mc_typing.specs.Judgement.{judge, judge_arguments, judge_specifiers, typed_by}
 use Rattle.mc_faults.specs.Kept.{listed, least}
+use Rattle.mc_typing.proofs.Sums.{start_most, sum_first}
 use Rattle.mc_scopes.specs.steps.Squeezed.{squeezed, squeezed_part}
 use Rattle.mc_expressions.specs.steps.Gathered.{squeezed_given, before, gathered, with_last, extended}
 use Rattle.mc_expressions.proofs.Nodes.{index_node, member_node, step_node, unary_node, cast_node, binary_node, conditional_node, assignment_node, argument_node, call_node, comma_node}
@@ -189,7 +191,7 @@ extended_node : (x : Given (List Argument)) (y : Given Argument) (s : Scope)
     ≡ squeezed_given (extended x y)
 extended_node x y s =
     ap (λ (fs : List Fault).
-    judged_given fs (lift2 with_last x.value y.value) (x.copied + y.copied) y.scope)
+    judged_given fs (lift2 with_last x.value y.value) (sum_of x.copied y.copied) y.scope)
     (least_back x.faults (least y.faults) y.faults (ap listed (least_least y.faults)))
 
 pub argument_turn : (p : Option ParameterKind) (e : t.Expression) (s u : Scope) (f : Found)
@@ -217,16 +219,20 @@ before_none : (v : Option Arguments) → lift2 before (Some []) v ≡ v
 before_none None = refl
 before_none (Some given) = refl
 
-none_more : (n : ℕ) → 0 + n ≡ n
-none_more n = omega arith
+pub copied_few : (es : t.Expressions) (ps : List ParameterKind) (s : Scope)
+    → (judge_arguments es ps s).copied ≤ most_summed
+copied_few t.no_expressions ps s = omega arith
+copied_few (t.expressions e rest) ps s =
+    let x = argument_judged (span_of e).start (first_of ps) (judge e s) in
+    start_most most_summed (x.copied + (judge_arguments rest (rest_of ps) x.scope).copied)
 
 -- no arguments before these
-pub none_before : (s : Scope) (y : Given Arguments)
+pub none_before : (s : Scope) (y : Given Arguments) → y.copied ≤ most_summed
     → squeezed_given (gathered (judged_given [] (Some []) 0 s) y) ≡ squeezed_given y
-none_before s y =
-    ap (λ (v : Option Arguments). judged_given (least y.faults) v (0 + y.copied) y.scope)
+none_before s y few =
+    ap (λ (v : Option Arguments). judged_given (least y.faults) v (sum_of 0 y.copied) y.scope)
     (before_none y.value)
-    ∙ ap (λ (n : ℕ). judged_given (least y.faults) y.value n y.scope) (none_more y.copied)
+    ∙ ap (λ (n : ℕ). judged_given (least y.faults) y.value n y.scope) (sum_first y.copied few)
 
 pub count_listed : (all : List written.Expression)
     → length all ≡ count_of (expressions_from (map expression_of all))

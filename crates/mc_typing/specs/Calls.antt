@@ -9,6 +9,7 @@ use Rattle.mc_typed.specs.Tree as typed
 use Rattle.mc_faults.specs.declared.fault.Fault.{Fault}
 use Rattle.mc_faults.specs.declared.fault.FaultKind.TheVariants.{Undeclared, Mismatch, NoBody}
 use Rattle.mc_faults.specs.Faults.{fault, fault_if}
+use Rattle.mc_typing.specs.Profile.{sum_of}
 use Rattle.mc_typing.specs.Types.{Base, Void, Integer, Tagged, CType, plain, Structure, is_complete, layout_of, same_unqualified, ParameterKind, ByValue, ByArray, Signature}
 use Rattle.mc_typing.specs.Scopes.{Meaning, Function, Scope, function_number, is_input, is_output, is_external, next_slot, with_object, with_counted, cells_counted, uncounted}
 use Rattle.mc_typing.specs.Values.{judged, Value, Number, Stored, Borrowed, Returned, Done, Kind, IsStructure, IsArray, Found, kind_found, is_integer, fails, number_in, structure_in, lift2, found}
@@ -99,7 +100,7 @@ no_more (p ∷ ps) = None
 abbrev pub arguments_judged : Given Argument → Given Arguments → Given Arguments
 arguments_judged x y =
     judged_given (x.faults ++ y.faults) (lift2 typed.arguments x.value y.value)
-    (x.copied + y.copied) y.scope
+    (sum_of x.copied y.copied) y.scope
 
 -- ---- calls
 

@@ -1,7 +1,7 @@
 -- The numbers of this profile of which only the rules of names and types speak. The others stand in
 -- mc_limits, and the cells of an object in mc_value. An implementation may have such limits, but C17
 -- 5.2.4.1 asks for 127 parameters.
-use Rattle.std.specs.Prelude.{ℕ, ◌+◌, nat_le, if◌then◌else◌}
+use Rattle.std.specs.Prelude.{◌≡◌, ℕ, ◌+◌, ◌<◌, nat_le, if◌then◌else◌}
 use Rattle.mc_limits.specs.Limits.{most_nesting}
 use Rattle.mc_value.specs.ObjectTypes.{most_cells}
 
@@ -17,3 +17,15 @@ most_kept = most_cells + 1
 -- Where an object starts: after the limit none stands, since no unit that passes it has a typing.
 abbrev pub start_at : ℕ → ℕ → ℕ
 start_at most before = if nat_le before most then before else most
+
+-- Cells in all are counted up to 2 ^ 64 - 1, for the same reason.
+abbrev pub most_summed : ℕ
+most_summed = 18446744073709551615
+
+abbrev pub sum_of : ℕ → ℕ → ℕ
+sum_of before more = start_at most_summed (before + more)
+
+-- below that, a sum is exact
+abbrev pub SumsAreExact : Type 0
+SumsAreExact =
+    (before more : ℕ) → sum_of before more < most_summed → sum_of before more ≡ before + more

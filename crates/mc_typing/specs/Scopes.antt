@@ -6,7 +6,7 @@ use Rattle.mc_value.specs.declared.int_type.IntType.{IntType}
 use Rattle.mc_typed.specs.declared.expressions.Slot.{Slot}
 use Rattle.mc_typed.specs.Layout.{ObjectType, cells}
 use Rattle.mc_typed.specs.Tree.{Object, StaticObject}
-use Rattle.mc_typing.specs.Profile.{start_at}
+use Rattle.mc_typing.specs.Profile.{start_at, sum_of}
 use Rattle.mc_typing.specs.Types.{CType, Structure, Signature}
 
 -- ---- what names mean
@@ -168,7 +168,7 @@ with_object u s = record s {
     cells = cells u;
     start = start_at most_frame_cells s.frame;
   } ∷ []);
-  frame = s.frame + cells u;
+  frame = sum_of s.frame (cells u);
 }
 
 abbrev pub with_counted : Option ObjectType → Scope → Scope
@@ -193,7 +193,7 @@ with_static u initial s = record s {
     object = record { object_type = u; cells = cells u; start = start_at most_static_cells s.static_cells };
     initial = initial;
   } ∷ []);
-  static_cells = s.static_cells + cells u;
+  static_cells = sum_of s.static_cells (cells u);
 }
 
 abbrev pub with_array : Scope → Scope

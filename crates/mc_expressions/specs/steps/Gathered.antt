@@ -1,6 +1,7 @@
 -- Arguments that are gathered one after another.
-use Rattle.std.specs.Prelude.{◌+◌, List, [], ◌∷◌, ◌++◌}
+use Rattle.std.specs.Prelude.{List, [], ◌∷◌, ◌++◌}
 use Rattle.mc_typed.specs.Tree.{Argument, Arguments, arguments}
+use Rattle.mc_typing.specs.Profile.{sum_of}
 use Rattle.mc_typing.specs.Values.{lift2}
 use Rattle.mc_typing.specs.Calls.{Given, judged_given}
 use Rattle.mc_faults.specs.Kept.{least}
@@ -15,7 +16,7 @@ before (a ∷ given) rest = arguments a (before given rest)
 -- what is found of some arguments, and of those after them
 abbrev pub gathered : Given (List Argument) → Given Arguments → Given Arguments
 gathered x y =
-    judged_given (x.faults ++ y.faults) (lift2 before x.value y.value) (x.copied + y.copied) y.scope
+    judged_given (x.faults ++ y.faults) (lift2 before x.value y.value) (sum_of x.copied y.copied) y.scope
 
 abbrev pub with_last : List Argument → Argument → List Argument
 with_last given a = given ++ (a ∷ [])
@@ -23,5 +24,5 @@ with_last given a = given ++ (a ∷ [])
 -- what is found of some arguments, and of one more
 abbrev pub extended : Given (List Argument) → Given Argument → Given (List Argument)
 extended x y =
-    judged_given (x.faults ++ y.faults) (lift2 with_last x.value y.value) (x.copied + y.copied)
+    judged_given (x.faults ++ y.faults) (lift2 with_last x.value y.value) (sum_of x.copied y.copied)
     y.scope

@@ -25,7 +25,7 @@ use Rattle.mc_declarations.proofs.DeclarationNodes.{lengths_end, parameters_end,
 use Rattle.mc_types.proofs.Exits.{at_ok, found_as}
 use Rattle.mc_types.proofs.Trees.{array_length_of-Absent, array_length_of-Given, declarator_of-EmptyFunction, declarator_of-Function, declarator_of-VoidFunction, declarator_of-Object, enumerator_of-Bare, enumerator_of-Valued, expression_of-Assignment, expression_of-Binary, expression_of-Call, expression_of-Cast, expression_of-Character, expression_of-Constant, expression_of-Comma, expression_of-Conditional, expression_of-Index, expression_of-Member, expression_of-Name, expression_of-Parenthesized, expression_of-PostfixStep, expression_of-PrefixStep, expression_of-Unary, member_of-parts, specifier_of-Enumeration, specifier_of-EnumerationTag, specifier_of-Structure, specifier_of-StructureTag, specifier_of-TypedefName, specifier_of-Word}
 use Rattle.mc_types.proofs.Falls.{assignment_target, assignment_value, binary_left, binary_right, conditional_chosen, conditional_other, conditional_test, from_later, index_array, index_index, member_object, parenthesized_inner, postfix_operand, prefix_operand, to_later, to_operand, unary_operand}
-use Rattle.mc_types.proofs.Arms.{count_listed, none_before}
+use Rattle.mc_types.proofs.Arms.{copied_few, count_listed, none_before}
 use Rattle.mc_types.proofs.Declarators.{in_prototype, prototype_ends, in_enumeration, in_object_member, in_typed}
 use Rattle.mc_types.proofs.Turns.{last_turn, next_turn}
 use Rattle.mc_types.proofs.Parts.{joined_first, judged_last, judged_turn, listed_turn, lists_first, specifiers_first, squeezed_judged, squeezed_last, squeezed_parameters}
@@ -137,6 +137,7 @@ arguments-loop-tree-init t c =
     let all = judge_arguments (expressions_from (map expression_of c.args.trees.now)) (map kind_of c.args.parameters.now) s in
     ap (λ (x : Given (List Argument)). squeezed_given (gathered x all)) (c.none_given-given.ensures s)
     ∙ none_before s all
+    (copied_few (expressions_from (map expression_of c.args.trees.now)) (map kind_of c.args.parameters.now) s)
 
 pub arguments-loop-tree-preserved : goal.arguments-loop-tree-preserved
 arguments-loop-tree-preserved t c =
