@@ -40,10 +40,23 @@ pub fn where_done<T: Drop>(done: Result<(), AllocError>, one: T) -> Result<T, Al
     }
 }
 
+// Room for exactly one value, where there is none yet: most lists keep one value, and std's list
+// would begin with room for four.
+fn room_for_one<T: Drop>(all: &mut Vec<T>) -> Result<(), AllocError>
+    ensures { all.new.items ≡ all.old.items }
+{
+    if all.is_empty() {
+        all.reserve_exact(1)
+    } else {
+        Ok(())
+    }
+}
+
 /// Puts a value at the end.
 pub fn push<T: Drop>(all: &mut Vec<T>, one: T) -> Result<(), AllocError>
     ensures { OnOk result (all.new.items ≡ all.old.items ++ one ∷ []) }
 {
+    room_for_one(all)?;
     all.push(one)?;
     Ok(())
 }
@@ -53,7 +66,7 @@ pub fn with_last<T: Drop>(list: Vec<T>, one: T) -> Result<Vec<T>, AllocError>
     ensures { IfOk result (λ r. r.items ≡ list.items ++ one ∷ []) }
 {
     let mut list = list;
-    list.push(one)?;
+    push(&mut list, one)?;
     Ok(list)
 }
 
@@ -64,14 +77,27 @@ pub fn list_of<T: Drop>(alloc: Global, one: T) -> Result<Vec<T>, AllocError>
     with_last(Vec::new(alloc), one)
 }
 
-/// The one list after the other.
-pub fn joined<T: Drop>(list: Vec<T>, more: Vec<T>) -> Result<Vec<T>, AllocError>
+// Moves the values of the one list to the end of the other.
+fn appended<T: Drop>(list: Vec<T>, more: Vec<T>) -> Result<Vec<T>, AllocError>
     ensures { IfOk result (λ r. r.items ≡ list.items ++ more.items) }
 {
     let mut list = list;
     let mut more = more;
     list.append(&mut more)?;
     Ok(list)
+}
+
+/// The one list after the other. Takes no memory where the first one is empty: the room is then that
+/// of the second one.
+pub fn joined<T: Drop>(list: Vec<T>, more: Vec<T>) -> Result<Vec<T>, AllocError>
+    ensures { IfOk result (λ r. r.items ≡ list.items ++ more.items) }
+{
+    if list.is_empty() {
+        drop(list);
+        Ok(more)
+    } else {
+        appended(list, more)
+    }
 }
 
 fn joined_values<T: Drop>(
