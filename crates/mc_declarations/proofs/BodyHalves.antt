@@ -29,7 +29,7 @@ halves : (name : Name) (parameters : Parameters) (span : Span) (x : Judged CType
     → judged (x.faults ++ (y.faults ++ (names_faults parameters
     ++ (repeated_faults (meaning_here name x.scope) (signature_listed x.value y) name.span.start
     ++ (function_faults name x.value (length y.items) (signature_listed x.value y)
-    ++ (definition_faults name (result_of x.value) x.scope ++ (z.faults ++ frame_faults z.scope.frame name.span.start)))))))
+    ++ (definition_faults name (result_of x.value) x.scope ++ (z.faults ++ frame_faults z.scope.frame (length z.scope.objects) name.span.start)))))))
     (function_listed name span (signature_listed x.value y) z)
     (left_function (with_function name (signature_listed x.value y) x.scope) z.scope)
     ≡ definition_ended name span (definition_begun name parameters x y)
@@ -39,7 +39,7 @@ halves name parameters span x y z =
     ap (λ (fs : List Fault). judged fs (function_listed name span f z) (left_function (with_function name f x.scope) z.scope))
     (regrouped x.faults y.faults (names_faults parameters) (repeated_faults (meaning_here name x.scope) f name.span.start)
     (function_faults name x.value (length y.items) f) (definition_faults name (result_of x.value) x.scope)
-    z.faults (frame_faults z.scope.frame name.span.start))
+    z.faults (frame_faults z.scope.frame (length z.scope.objects) name.span.start))
 
 pub definition_halves : (all : Specifiers) (name : Name) (parameters : Parameters) (body : BlockItems) (span : Span) (s : Scope)
     → (x : Judged CType) → x ≡ typed_by span.start all (judge_specifiers false all s)
@@ -72,4 +72,4 @@ pub definition_ended_node : (name : Name) (span : Span) (b : BodyBegun) (a : Aro
     ≡ squeezed_part (definition_ended name span b a z)
 definition_ended_node name span b a z =
     let e = definition_ended name span b a z in
-    ap (λ (fs : List Fault). judged fs e.value e.scope) (least_two b.faults z.faults (frame_faults z.scope.frame name.span.start))
+    ap (λ (fs : List Fault). judged fs e.value e.scope) (least_two b.faults z.faults (frame_faults z.scope.frame (length z.scope.objects) name.span.start))

@@ -62,7 +62,8 @@ listed_function name span f body s = lift2 (λ g b. function_from name span s g 
 abbrev pub definition_ended : Name → Span → BodyBegun → Around → Judged Statements
     → Judged (List typed.Function)
 definition_ended name span b file z = record {
-  faults = b.faults ++ (z.faults ++ frame_faults z.scope.frame name.span.start);
+  faults = b.faults ++ (z.faults
+      ++ frame_faults z.scope.frame (length z.scope.objects) name.span.start);
   value = listed_function name span b.signature z.value z.scope;
   scope = function_left_by file z.scope;
 }

@@ -468,11 +468,13 @@ fn function_listed<'a>(
     }
 }
 
-// The fault of an activation with so many cells.
-fn frame_fault(cells: u64, at: u32) -> Option<Fault>
-    ensures { result ≡ least_of (limit.frame_faults cells at) }
+// The fault of an activation with too many cells, or with objects that have no number.
+fn frame_fault(scope: &Scope<'_>, at: u32) -> Option<Fault>
+    ensures { result ≡ least_of (limit.frame_faults (scope_of scope.now).frame
+        (length (scope_of scope.now).objects) at) }
 {
-    fault_where(cells > MOST_FRAME_CELLS as u64, FaultKind::Limit, at)
+    let large = scope.frame > MOST_FRAME_CELLS as u64;
+    fault_where(large || scope.has_unnumbered(), FaultKind::Limit, at)
 }
 
 /// The end of a definition whose body is known. Its frame holds all its objects.
@@ -488,7 +490,7 @@ pub fn end_definition<'a>(
         ≡ squeezed_part (definition_ended (name_of name.now) span (body_of body u)
         (around_of body.block) (judged_of statements_of statements (scope_of scope.old)))) }
 {
-    let frame = frame_fault(scope.frame, name.span.start);
+    let frame = frame_fault(scope, name.span.start);
     let fault = after_two(body.fault, statements.fault, frame);
     let value = function_listed(alloc, scope, name, span, &body.signature, statements.value);
     scope.leave_function(alloc, body.block);

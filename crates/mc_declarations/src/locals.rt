@@ -90,9 +90,7 @@ fn declare_automatic<'a>(
         → scope_of scope.new ≡ scopes.with_name (name_of name.now)
         (scopes.Automatic r (unless_faulty fs (option_map type_of of.now))) (scope_of scope.old)) }
 {
-    let Ok(slot) = scope.next_slot() else {
-        return Err(AllocError);
-    };
+    let slot = scope.next_slot();
     let Ok(of) = copy_unless(fault, of) else {
         return Err(AllocError);
     };

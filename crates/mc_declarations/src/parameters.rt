@@ -189,9 +189,7 @@ fn automatic_meaning(scope: &Scope<'_>, of: &Option<CType>) -> Result<Meaning, A
     ensures { IfOk result (λ r. meaning_of r
         ≡ scopes.Automatic (scopes.next_slot (scope_of scope.now)) (option_map type_of of.now)) }
 {
-    let Ok(slot) = scope.next_slot() else {
-        return Err(AllocError);
-    };
+    let slot = scope.next_slot();
     match copy_of(of) {
         Ok(of) => Ok(Meaning::Automatic { slot, of }),
         Err(error) => Err(error),
@@ -265,7 +263,10 @@ fn add_parameter(
 {
     match kind {
         Some(kind) => match kind {
-            ParameterKind::Array(_) => scope.add_array(),
+            ParameterKind::Array(_) => {
+                scope.add_array();
+                Ok(())
+            }
             ParameterKind::Value(_) => add_value(alloc, scope, of),
         },
         None => Ok(()),

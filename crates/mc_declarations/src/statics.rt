@@ -1,10 +1,11 @@
 //! Objects with static storage duration (C17 6.2.4p3).
-ghost use Rattle.std.specs.Prelude.{◌≡◌, ◌++◌, [], IfOk, OnOk, Some, None, option_map};
+ghost use Rattle.std.specs.Prelude.{◌≡◌, ◌++◌, [], ◌||◌, nat_le, length, IfOk, OnOk, Some, None, option_map};
 ghost use Rattle.mc_tree.specs.Views.{name_of};
 ghost use Rattle.mc_limits.specs.Limits.{most_static_cells};
 ghost use Rattle.mc_typed.specs.Layout as sizes;
 ghost use Rattle.mc_faults.specs.declared.fault.FaultKind.TheVariants.{Limit};
 ghost use Rattle.mc_typing.specs.Declarations as declarations;
+ghost use Rattle.mc_typing.specs.Profile.{most_numbered};
 ghost use Rattle.mc_faults.specs.Faults.{fault_if};
 ghost use Rattle.mc_typing.specs.Limits as limit;
 ghost use Rattle.mc_typing.specs.Scopes as scopes;
@@ -58,9 +59,7 @@ pub fn begin_static<'a>(
 {
     let own = object_fault(scope, name, lengths, count, base, of);
     let fault = after(faults, own);
-    let Ok(slot) = scope.next_static() else {
-        return Err(AllocError);
-    };
+    let slot = scope.next_static();
     let Ok(of) = copy_unless(fault, of) else {
         return Err(AllocError);
     };
@@ -115,14 +114,14 @@ fn add_static(
     }
 }
 
-// The fault of an object with so many cells that passes the limit of all of them.
+// The fault of an object with so many cells that passes the limit of all of them, or has no number.
 fn sum_fault(scope: &Scope<'_>, at: u32, count: u32) -> Option<Fault>
     ensures { listed result ≡ fault_if
-        (limit.is_passed_with most_static_cells (scope_of scope.now).static_cells count) Limit
-        at }
+        (limit.is_passed_with most_static_cells (scope_of scope.now).static_cells count
+        || nat_le most_numbered (length (scope_of scope.now).statics)) Limit at }
 {
     let passed = is_passed_with(MOST_STATIC_CELLS, scope.static_cells, count);
-    fault_where(passed, FaultKind::Limit, at)
+    fault_where(passed || scope.is_full_of_statics(), FaultKind::Limit, at)
 }
 
 /// The first fault of an object whose type and initializer have none, but perhaps its cells; the

@@ -99,25 +99,17 @@ fn number_argument(
     }
 }
 
-fn structure_argument(
-    scope: &Scope<'_>,
-    value: Option<mc_typed::Structure>,
-) -> Result<Option<Argument>, AllocError>
-    ensures { IfOk result (λ r. option_map argument_of r
+fn structure_argument(scope: &Scope<'_>, value: Option<mc_typed::Structure>) -> Option<Argument>
+    ensures { option_map argument_of result
         ≡ option_map (λ w. typed_tree.StructureArgument w (scopes.next_slot (scope_of scope.now)))
-        (option_map typed.structure_of value)) }
+        (option_map typed.structure_of value) }
 {
     match value {
         Some(value) => {
-            match scope.next_slot() {
-                Ok(copy) => Ok(Some(Argument::Structure { value, copy })),
-                Err(error) => {
-                    drop(value);
-                    Err(error)
-                }
-            }
+            let copy = scope.next_slot();
+            Some(Argument::Structure { value, copy })
         }
-        None => Ok(None),
+        None => None,
     }
 }
 
@@ -195,7 +187,7 @@ fn argument_value(
                     }
                     Base::Integer(to) => number_argument(alloc, to, value.into_number()),
                     Base::Tagged(number) => {
-                        structure_argument(scope, value.into_structure(number))
+                        Ok(structure_argument(scope, value.into_structure(number)))
                     }
                 },
                 ParameterKind::Array(of) => Ok(array_argument(of, value)),

@@ -221,16 +221,9 @@ fn returned(
                 drop(arguments);
                 return Ok(None);
             }
-            match scope.next_slot() {
-                Ok(slot) => {
-                    let call = function_call(function, arguments, Some(slot), span);
-                    Ok(Some(Value::Returned(call, number)))
-                }
-                Err(error) => {
-                    drop(arguments);
-                    Err(error)
-                }
-            }
+            let slot = scope.next_slot();
+            let call = function_call(function, arguments, Some(slot), span);
+            Ok(Some(Value::Returned(call, number)))
         }
     }
 }

@@ -1,5 +1,5 @@
 //! What is in scope, and what has been declared so far (C17 6.2.1 to 6.2.4).
-ghost use Rattle.std.specs.Prelude.{◌≡◌, Some, option_map, option_copied, IfOk, ◌<◌, length};
+ghost use Rattle.std.specs.Prelude.{◌≡◌, Some, option_map, option_copied, IfOk, ◌<◌, length, nat_le, nat_lt};
 ghost use Rattle.mc_tree.specs.Views.{name_of};
 ghost use Rattle.mc_typed.specs.Layout.{cells, object_type_of};
 ghost use Rattle.mc_typing.specs.Profile as profile;
@@ -159,30 +159,38 @@ impl<'a> Scope<'a> {
         }
     }
 
-    /// Where the next object of the function stands.
-    pub fn next_slot(&self) -> Result<Slot, AllocError>
-        ensures { IfOk result (λ slot. slot ≡ scopes.next_slot (scope_of self.now)) }
+    /// Where the next object of the function stands. Takes no memory.
+    pub fn next_slot(&self) -> Slot
+        ensures { result ≡ scopes.next_slot (scope_of self.now) }
     {
-        let Ok(object) = u32::try_from(self.objects.len()) else {
-            return Err(AllocError);
-        };
-        Ok(Slot {
-            object,
+        Slot {
+            object: start_at(u32::MAX, self.objects.len() as u64),
             start: start_at(MOST_FRAME_CELLS, self.frame),
-        })
+        }
     }
 
-    /// Where the next object with static storage duration stands.
-    pub fn next_static(&self) -> Result<Slot, AllocError>
-        ensures { IfOk result (λ slot. slot ≡ scopes.next_static (scope_of self.now)) }
+    /// Whether the function has more objects than have numbers. Takes no memory.
+    pub fn has_unnumbered(&self) -> bool
+        ensures { result ≡ nat_lt profile.most_numbered (length (scope_of self.now).objects) }
     {
-        let Ok(object) = u32::try_from(self.statics.len()) else {
-            return Err(AllocError);
-        };
-        Ok(Slot {
-            object,
+        self.objects.len() > u32::MAX as usize
+    }
+
+    /// Where the next object with static storage duration stands. Takes no memory.
+    pub fn next_static(&self) -> Slot
+        ensures { result ≡ scopes.next_static (scope_of self.now) }
+    {
+        Slot {
+            object: start_at(u32::MAX, self.statics.len() as u64),
             start: start_at(MOST_STATIC_CELLS, self.static_cells),
-        })
+        }
+    }
+
+    /// Whether there is no number for one more object with static storage duration. Takes no memory.
+    pub fn is_full_of_statics(&self) -> bool
+        ensures { result ≡ nat_le profile.most_numbered (length (scope_of self.now).statics) }
+    {
+        self.statics.len() >= u32::MAX as usize
     }
 
     /// One more object of the function, with so many cells.
@@ -232,11 +240,10 @@ impl<'a> Scope<'a> {
         Ok(())
     }
 
-    /// One more array parameter.
-    pub fn add_array(&mut self) -> Result<(), AllocError>
-        ensures { IfOk result (λ _. scope_of self.new ≡ scopes.with_array (scope_of self.old)) }
+    /// One more array parameter. Takes no memory.
+    pub fn add_array(&mut self)
+        ensures { scope_of self.new ≡ scopes.with_array (scope_of self.old) }
     {
-        self.arrays = self.arrays.checked_add(1).ok_or(AllocError)?;
-        Ok(())
+        self.arrays = self.arrays.saturating_add(1);
     }
 }

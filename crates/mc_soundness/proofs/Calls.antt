@@ -25,7 +25,7 @@ use Rattle.mc_soundness.specs.Fits.{World, Completes, FunctionFits, SignatureFit
 use Rattle.mc_soundness.proofs.Lists.{right_nil, get_next, get_begun}
 use Rattle.mc_soundness.proofs.Tests.{nil_left, nil_right, no_fault, or_left, or_right, not_false, and_left, and_right, false_true, and_then_some}
 use Rattle.mc_soundness.proofs.IntTypes.{same_integers}
-use Rattle.mc_soundness.proofs.Fitting.{layout_kept, fits_object, structure_type_fits, made_as, made_two, made_object}
+use Rattle.mc_soundness.proofs.Fitting.{layout_kept, fits_object, structure_type_fits, made_as, made_two, next_numbered, made_object}
 use Rattle.mc_soundness.proofs.Values.{converts, numbers, structures, kind_itself, known_kind}
 use Rattle.mc_soundness.proofs.Expressions.{array_object, array_layout}
 
@@ -70,8 +70,9 @@ pub next_there : (w : World) (s : Scope) (u : ObjectType) → Ends w (with_objec
     → IsSlotOf w.scope.objects (next_slot s) u
 next_there w s u e =
     let o : Object = record { object_type = u; cells = cells u; start = start_at most_frame_cells s.frame } in
-    let here : slice_get w.scope.objects (length s.objects) ≡ Some o =
-    get_begun Object (s.objects ++ (o ∷ [])) w.scope.objects (length s.objects) o e.objects
+    let here : slice_get w.scope.objects (next_slot s).object ≡ Some o =
+    ap (slice_get w.scope.objects) (next_numbered w s u e)
+    ∙ get_begun Object (s.objects ++ (o ∷ [])) w.scope.objects (length s.objects) o e.objects
     (get_next s.objects o []) in
     (ap (option_map (λ x. x.start)) here, ap (option_map (λ x. x.object_type)) here)
 
@@ -82,8 +83,8 @@ record IsPassed (w : World) (s : Scope) (p : ParameterKind) (v : Value) : Type 0
   is : argument_of s p v ≡ Some argument
   sound : Ends w (with_counted (copy_of s (Some p) (Some argument)) s)
       → IsArgument argument (parameter_type w.structures p) w.scope
-  made : (r : Scope) → Made r s (slots_of v)
-      → Made r (with_counted (copy_of s (Some p) (Some argument)) s) (slots_argument argument)
+  made : Ends w (with_counted (copy_of s (Some p) (Some argument)) s) → (r : Scope)
+      → Made r s (slots_of v) → Made r (with_counted (copy_of s (Some p) (Some argument)) s) (slots_argument argument)
   fits : Fits w (with_counted (copy_of s (Some p) (Some argument)) s)
 
 number_passed : (w : World) (s : Scope) (a : IntType) (v : Value) → is_integer (kind_of v) ≡ true
@@ -95,7 +96,7 @@ number_passed w s a v k fit h =
       argument = t.NumberArgument (convert_to a n.number);
       is = ap (option_map (λ e. t.NumberArgument (convert_to a e))) n.is;
       sound = λ e. (p.sound, p.type);
-      made = λ r m. made_as r s _ _ (sym (p.slots ∙ n.slots)) m;
+      made = λ e r m. made_as r s _ _ (sym (p.slots ∙ n.slots)) m;
       fits = fit;
     }
 
@@ -112,8 +113,8 @@ structure_passed w s k v q fit kept h =
       is = ap (option_map (λ x. t.StructureArgument x (next_slot s))) n.is;
       sound = λ e. subst (λ x. IsArgument (t.StructureArgument n.structure (next_slot s)) (t.StructureParameter x) w.scope)
           same (n.sound, n.type, next_there w s u e);
-      made = λ r m. made_two r s (with_object u s) _ _ (made_as r s _ _ (sym n.slots) m)
-          (made_object s u);
+      made = λ e r m. made_two r s (with_object u s) _ _ (made_as r s _ _ (sym n.slots) m)
+          (made_object w s u e);
       fits = fits_object w s u fit (structure_type_fits w s.structures k fit.structures c n.complete);
     }
 
@@ -148,7 +149,7 @@ array_passed w s p (Stored place u) q fit kept h =
         h.1 ∙ ap Some (array_layout s.structures u shape.0 shape.1 shape.2)
             ∙ ap (λ x. Some (Array shape.0 x)) layout,
       );
-      made = λ r m. m;
+      made = λ e r m. m;
       fits = fit;
     }
   where
@@ -168,7 +169,7 @@ array_passed w s p (Borrowed array u span) q fit kept h =
       is = ap (λ b. if b then Some (t.AgainArgument array span) else None) q;
       sound = λ e. h.0 ∙ ap Some (layout_kept s.structures w.structures u c h.1
           ∙ sym (same_layout w.structures p u (and_left (same_unqualified p u) _ q)));
-      made = λ r m. m;
+      made = λ e r m. m;
       fits = fit;
     }
 array_passed w s p (Number e) q fit kept h = absurd (cc)
@@ -228,7 +229,7 @@ argument_well w s at p x wx kept ends h =
       value = a.argument;
       is = is;
       sound = a.sound (subst (Ends w) after ends);
-      made = subst (λ r. Made s r (slots_argument a.argument)) (sym after) (a.made s wx.made);
+      made = subst (λ r. Made s r (slots_argument a.argument)) (sym after) (a.made (subst (Ends w) after ends) s wx.made);
       fits = subst (Fits w) (sym after) a.fits;
     }
 
@@ -239,7 +240,7 @@ record IsCalled (w : World) (r s : Scope) (v : Option Value) (n : ℕ) (l : List
   value : Value
   is : v ≡ Some value
   sound : Ends w (after_call (Some value) n s) → IsSoundValue w s.structures value
-  made : (r : Scope) → Made r s l → Made r (after_call (Some value) n s) (slots_of value)
+  made : Ends w (after_call (Some value) n s) → (r : Scope) → Made r s l → Made r (after_call (Some value) n s) (slots_of value)
   fits : Fits w (after_call (Some value) n s)
   kept : (after_call (Some value) n s).structures ≡ s.structures
 
@@ -256,7 +257,7 @@ called_by_number w r s f k n given span fun g fit kept h Void e =
       value = Done (t.CallEffect (t.call k given None span));
       is = refl;
       sound = λ ends. ((fun.there, args, tt, result), (fun.there, args, tt, result), tt, tt);
-      made = λ r m. made_as r s _ _ (sym (right_nil (slots_arguments given))) m;
+      made = λ e r m. made_as r s _ _ (sym (right_nil (slots_arguments given))) m;
       fits = fit;
       kept = refl;
     }
@@ -267,7 +268,7 @@ called_by_number w r s f k n given span fun g fit kept h (Integer a) e =
       value = Number (t.Call (t.call k given None span) a);
       is = refl;
       sound = λ ends. (fun.there, args, tt, result);
-      made = λ r m. made_as r s _ _ (sym (right_nil (slots_arguments given))) m;
+      made = λ e r m. made_as r s _ _ (sym (right_nil (slots_arguments given))) m;
       fits = fit;
       kept = refl;
     }
@@ -296,7 +297,7 @@ called_by_number w r s f k n given span fun g fit kept h (Tagged j) e =
         type,
         complete,
       );
-      made = λ r m. made_two r s (with_object u s) _ _ m (made_object s u);
+      made = λ e r m. made_two r s (with_object u s) _ _ m (made_object w s u e);
       fits = fits_object w s u fit (structure_type_fits w s.structures j fit.structures c complete);
       kept = refl;
     }
@@ -351,7 +352,7 @@ calls w r s name f n given span sig g body fit kept h =
           value = Done (t.Output one.number span);
           is = refl;
           sound = λ ends. ((one.sound, one.type), (one.sound, one.type), tt, tt);
-          made = λ r m. made_as r s _ _ (right_nil (slots one.number)) m;
+          made = λ e r m. made_as r s _ _ (right_nil (slots one.number)) m;
           fits = fit;
           kept = refl;
         })
@@ -374,7 +375,7 @@ calls w r s name f n given span sig g body fit kept h =
           value = Number (t.Input span);
           is = refl;
           sound = λ ends. tt;
-          made = λ r m. made_as r s _ _ (ap slots_arguments none) m;
+          made = λ e r m. made_as r s _ _ (ap slots_arguments none) m;
           fits = fit;
           kept = refl;
         }
@@ -412,7 +413,7 @@ call_well w s name count span f b x sig wx kept ends h =
       is = is;
       sound = subst (λ t. IsSoundValue w t.structures r.value) (sym after)
           (subst (λ l. IsSoundValue w l r.value) (sym r.kept) (r.sound (subst (Ends w) after ends)));
-      made = subst (λ t. Made s t (slots_of r.value)) (sym after) (r.made s wx.made);
+      made = subst (λ t. Made s t (slots_of r.value)) (sym after) (r.made (subst (Ends w) after ends) s wx.made);
       fits = subst (Fits w) (sym after) r.fits;
       place = λ q. false_true q;
       constant = λ q. false_true q;

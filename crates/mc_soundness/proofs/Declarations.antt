@@ -1,5 +1,5 @@
 -- Declarations of objects and typedef names: what is found of them is well where they have no fault.
-use Rattle.std.proofs.Common.{◌≡◌, ℕ, zero, suc, ◌+◌, ◌≤◌, ◌<◌, nat_lt, Bool, true, false, not, ◌&&◌, ◌||◌, if◌then◌else◌, List, [], ◌∷◌, ◌++◌, map, length, slice_get, Option, Some, None, option_map, is_none, refl, ap, sym, ◌∙◌, subst, arith, ℤ}
+use Rattle.std.proofs.Common.{◌≡◌, ℕ, zero, suc, ◌+◌, ◌≤◌, ◌<◌, nat_lt, nat_le, Bool, true, false, not, ◌&&◌, ◌||◌, if◌then◌else◌, List, [], ◌∷◌, ◌++◌, map, length, slice_get, Option, Some, None, option_map, is_none, refl, ap, sym, ◌∙◌, subst, arith, ℤ}
 use Rattle.std.proofs.lemmas.List.{map-append, length-map, length-append}
 use Rattle.mc_tree.specs.Tree.{Name, ArrayLengths, Initializer}
 use Rattle.mc_tree.specs.Tree as tree
@@ -14,19 +14,20 @@ use Rattle.mc_faults.specs.declared.fault.FaultKind.TheVariants.{Mismatch, Limit
 use Rattle.mc_faults.specs.Faults.{unless_faulty}
 use Rattle.mc_limits.specs.Limits.{most_frame_cells, most_nesting, most_static_cells}
 use Rattle.mc_value.specs.ObjectTypes.{most_cells}
-use Rattle.mc_typing.specs.Profile.{most_lengths, start_at}
+use Rattle.mc_typing.specs.Profile.{most_lengths, most_numbered, start_at}
 use Rattle.mc_typing.specs.Types.{CType, Structure, Incomplete, Complete, Faulty, is_complete, layout_of}
 use Rattle.mc_typing.specs.Scopes.{Entry, Meaning, Automatic, Stored, Borrowed, Constant, Function, Typedef, Scope, with_name, with_counted, cells_counted, with_object, with_static, next_slot, next_static}
 use Rattle.mc_typing.specs.Values.{Judged, lift3}
-use Rattle.mc_typing.specs.Limits.{is_long, is_too_large, object_limit_faults}
+use Rattle.mc_typing.specs.Limits.{is_long, is_too_large, object_limit_faults, is_passed_with}
 use Rattle.mc_typing.specs.Declarators.{redeclared_faults, misnamed_faults, is_first_absent, is_later_absent, leading, array_of, declared_type, absent_faults, incomplete_faults}
 use Rattle.mc_typing.specs.Declarations.{at_least_one, count_listed, judge_optional_initializer, object_faults, layout_counted, after_initializer, counted_after, declarator_value, automatic_judged, initial_values, static_faults_with, static_scope, static_value, static_judged}
+use Rattle.mc_typing.proofs.Sums.{start_small, start_least}
 use Rattle.mc_soundness.specs.Growth.{Begins, IsBelow, AreBelow}
 use Rattle.mc_soundness.specs.Fits.{World, objects_of, Completes, ArePositive, StructureFits, StructuresFit, MeaningFits, NamesFit, AreLaid, Fits, Ends, Made, IsDeclared}
 use Rattle.mc_soundness.proofs.Lists.{right_nil, get_next, get_begun, slice_get-before}
 use Rattle.mc_soundness.proofs.Tests.{nil_left, nil_right, no_fault, or_left, or_right, not_false}
 use Rattle.mc_soundness.proofs.Grows.{below_append}
-use Rattle.mc_soundness.proofs.Fitting.{kept_completes, layout_kept, fits_name, fits_object, fits_static, made_none, made_as, made_two, made_object, ends_back, ends_before}
+use Rattle.mc_soundness.proofs.Fitting.{kept_completes, layout_kept, fits_name, fits_object, fits_static, made_none, made_as, made_two, next_numbered, made_object, ends_back, ends_before}
 use Rattle.mc_soundness.proofs.Calls.{next_there}
 use Rattle.mc_soundness.proofs.Members.{positive_append, positive_take, formed_type, fits_in}
 use Rattle.mc_soundness.proofs.Constants.{filled_within, none_first}
@@ -187,11 +188,11 @@ optional_well w static u (Some i) s fit k ends h =
 
 -- the object that is made next
 object_there : (w : World) (s : Scope) (u : ObjectType) → Ends w (with_object u s)
-    → cells_at w.scope.objects (length s.objects) ≡ Some (cells u)
+    → cells_at w.scope.objects (next_slot s).object ≡ Some (cells u)
 object_there w s u e =
     let o : Object = record { object_type = u; cells = cells u; start = start_at most_frame_cells s.frame } in
     ap (option_map (λ x. x.cells))
-    (get_begun Object (s.objects ++ (o ∷ [])) w.scope.objects (length s.objects) o e.objects
+    (ap (slice_get w.scope.objects) (next_numbered w s u e) ∙ get_begun Object (s.objects ++ (o ∷ [])) w.scope.objects (length s.objects) o e.objects
     (get_next s.objects o []))
 
 -- the name and the object of a declarator with this type
@@ -236,7 +237,7 @@ automatic_at w s name u value fit below complete object ends h =
         tt,
       );
       made = made_as s x.scope _ _ (ap (λ z. next_slot s ∷ z) (sym (right_nil (slots_value i.value))))
-          (made_two s d x.scope _ _ (made_from s named d refl (made_object named l)) i.made);
+          (made_two s d x.scope _ _ (made_from s named d refl (made_object w named l ends_d)) i.made);
       fits = i.fits;
       below = subst (λ n. AreBelow n x.scope.names) (ap length (sym g.statics))
           (g.below (length s.statics) (below_append (length s.statics) s.names _ below (tt, tt)));
@@ -294,16 +295,16 @@ named_at name u s = with_name name (Stored (next_static s) u) s
 
 -- the object that is made next with static storage duration
 static_there : (w : World) (s t : Scope) (u : ObjectType) (vs : List ℤ) → t.statics ≡ s.statics
-    → t.static_cells ≡ s.static_cells → Ends w (with_static u vs t)
+    → t.static_cells ≡ s.static_cells → length s.statics ≤ most_numbered → Ends w (with_static u vs t)
     → IsSlotOf w.scope.statics (next_static s) u
-static_there w s t u vs same cells_same e =
+static_there w s t u vs same cells_same few e =
     let o : Object = record { object_type = u; cells = cells u; start = start_at most_static_cells t.static_cells } in
     let os = map (λ x. x.object) t.statics in
     let last : Begins Object (os ++ (o ∷ [])) w.scope.statics =
     subst (λ l. Begins Object l w.scope.statics) (map-append (λ x. x.object) t.statics (record { object = o; initial = vs } ∷ [])) e.statics in
     let count : length os ≡ length s.statics = length-map t.statics (λ x. x.object) ∙ ap length same in
-    let here : slice_get w.scope.statics (length s.statics) ≡ Some o =
-    ap (slice_get w.scope.statics) (sym count)
+    let here : slice_get w.scope.statics (next_static s).object ≡ Some o =
+    ap (slice_get w.scope.statics) (start_small most_numbered (length s.statics) few ∙ sym count)
     ∙ get_begun Object (os ++ (o ∷ [])) w.scope.statics (length os) o last (get_next os o []) in (
       ap (option_map (λ x. x.start)) here ∙ ap (λ n. Some (start_at most_static_cells n)) cells_same,
       ap (option_map (λ x. x.object_type)) here,
@@ -320,9 +321,6 @@ below_wider n (e ∷ es) h = (by_meaning e.meaning h.0, below_wider n es h.1)
     by_meaning (Constant v) k = tt
     by_meaning (Function f b) k = tt
     by_meaning (Typedef u) k = tt
-
-less : (n : ℕ) → n < suc n
-less n = omega arith
 
 below_more : (xs ys : List t.StaticObject) (y : t.StaticObject) (es : List Entry) → ys ≡ xs
     → AreBelow (suc (length xs)) es → AreBelow (length (ys ++ (y ∷ []))) es
@@ -392,6 +390,7 @@ fits_move w os s n same below fit = record {
     laid = laid_move most_static_cells w os 0 (map (λ o. o.object) s.statics) fit.statics.laid;
     cells = fit.statics.cells;
     room = fit.statics.room;
+    few = fit.statics.few;
     initial = fit.statics.initial;
   };
   bodies = fit.bodies;
@@ -418,8 +417,9 @@ static_value_there w s name u value fit below complete ends none =
     subst (λ l. Begins Object (map (λ z. z.object) l) w.scope.statics) g.statics ends.statics in
     let fit_s = fits_move w os s (length s.statics)
     (λ k b. same_before old o w.scope.statics first k (subst (λ n. k < n) (sym count) b)) below fit in
-    let here : slice_get os (length s.statics) ≡ Some o =
-    ap (slice_get os) (sym count) ∙ get_next old o [] in
+    let here : slice_get os (next_static s).object ≡ Some o =
+    ap (slice_get os) (start_small most_numbered (length s.statics) fit.statics.few ∙ sym count)
+    ∙ get_next old o [] in
     let slot : IsSlotOf os (next_static s) l =
     (ap (option_map (λ z. z.start)) here, ap (option_map (λ z. z.object_type)) here) in
     let fit_named = fits_name v s name (Stored (next_static s) (Some u)) fit_s (slot, complete) in
@@ -458,24 +458,34 @@ static_at w s name u value i fit below complete object none is sum ends =
     let e = scope_extends (Some l) (Some i) x.scope in
     let ends_x = ends_before w x.scope (with_static l vs x.scope) e ends in
     let slot = subst (λ z. IsSlotOf w.scope.statics (next_static s) z) (sym same)
-    (static_there w s x.scope l vs g.statics g.static_cells ends) in
+    (static_there w s x.scope l vs g.statics g.static_cells fit.statics.few ends) in
     let fit_named = fits_name w s name (Stored (next_static s) (Some u)) fit (slot, complete) in
     let o = optional_well w true u value named fit_named complete ends_x none in
     let v = o.values refl in
     let value_same : o.value ≡ i = some_same o.value i (sym o.is ∙ is) in
-    let room = fits_in most_static_cells x.scope.static_cells (cells l) o.fits.statics.room (no_fault _ Limit name.span.start sum) in
+    let passes = is_passed_with most_static_cells x.scope.static_cells (cells l) in
+    let many = nat_le most_numbered (length x.scope.statics) in
+    let within : (passes || many) ≡ false = no_fault (passes || many) Limit name.span.start sum in
+    let room = fits_in most_static_cells x.scope.static_cells (cells l) o.fits.statics.room (or_left passes many within) in
+    let few : length x.scope.statics < most_numbered = fewer (length x.scope.statics) (or_right passes many within) in
     record {
       declared = [];
       is = refl;
       sound = tt;
       made = ([], v.0 ∙ sym (right_nil s.objects), refl);
-      fits = fits_static w x.scope l vs o.fits (subst (IsObjectType (objects_of w)) same object) room
+      fits = fits_static w x.scope l vs o.fits (subst (IsObjectType (objects_of w)) same object) room few
           (subst (λ z. AreInRange (scalars l) (initial_values l z)) value_same v.1);
       below = below_more s.statics x.scope.statics _ x.scope.names g.statics
           (g.below (suc (length s.statics)) (below_append (suc (length s.statics)) s.names _
-          (below_wider (length s.statics) s.names below) (less (length s.statics), tt)));
+          (below_wider (length s.statics) s.names below) (next_less, tt)));
     }
   where
+    fewer : (n : ℕ) → nat_le most_numbered n ≡ false → n < most_numbered
+    fewer n h = grind (arith, h)
+
+    next_less : (next_static s).object < suc (length s.statics)
+    next_less = let e = start_least most_numbered (length s.statics) in omega (arith, e)
+
     some_same : (a b : Option t.Initializer) → Some a ≡ Some b → a ≡ b
     some_same a b h = cc
 

@@ -14,7 +14,7 @@ use Rattle.mc_typed.specs.Sound.{AreStatements, AreLaidOut, AreObjectTypes, AreP
 use Rattle.mc_typed.specs.Sound as sound
 use Rattle.mc_faults.specs.declared.fault.FaultKind.TheVariants.{Limit}
 use Rattle.mc_limits.specs.Limits.{most_frame_cells, most_parameters, most_static_cells}
-use Rattle.mc_typing.specs.Profile.{start_at}
+use Rattle.mc_typing.specs.Profile.{most_numbered, start_at}
 use Rattle.mc_typing.specs.Types.{Base, Void, Integer, Tagged, plain, Structure, Incomplete, Complete, Faulty, is_complete, layout_of, structures_from, ParameterKind, ByValue, ByArray, Signature}
 use Rattle.mc_typing.specs.Scopes.{Entry, Scope, prototype, body_scope, left_function}
 use Rattle.mc_typing.specs.Values.{Judged}
@@ -26,13 +26,14 @@ use Rattle.mc_typing.specs.Typing.{parameter_type, result_type, is_incomplete, f
 use Rattle.mc_typing.proofs.Sums.{summed_within}
 use Rattle.mc_soundness.specs.Growth.{Begins, Kept, AreBelow}
 use Rattle.mc_soundness.specs.Blocks.{BlockHasNoFunction}
-use Rattle.mc_soundness.specs.Fits.{World, objects_of, Completes, StructureFits, StructuresFit, SignatureFits, NamesFit, AreLaid, total, Fits, Ends, LabelsFit, IsRun, arrays_in, base_of_kind, AreComplete, AreParametersFound}
+use Rattle.mc_soundness.specs.Fits.{World, AreNumbered, objects_of, Completes, StructureFits, StructuresFit, SignatureFits, NamesFit, AreLaid, total, Fits, Ends, LabelsFit, IsRun, arrays_in, base_of_kind, AreComplete, AreParametersFound}
 use Rattle.mc_soundness.proofs.Lists.{right_nil, begins_trans, begins_refl, begins_with, cut_back}
-use Rattle.mc_soundness.proofs.Tests.{no_fault}
+use Rattle.mc_soundness.proofs.Tests.{no_fault, or_left, or_right}
 use Rattle.mc_soundness.proofs.Grows.{below_append}
 use Rattle.mc_soundness.proofs.Fitting.{kept_completes, complete_kept, layout_kept, names_kept, names_append, structure_type_fits, slots_append, begins_map}
 use Rattle.mc_soundness.proofs.Passes.{names_take, below_take, block_passes}
 use Rattle.mc_soundness.proofs.Parameters.{kinds_kept, parameters_well, parameters_labels}
+use Rattle.mc_soundness.proofs.Numbered.{count_small, arrays_numbered}
 use Rattle.mc_soundness.proofs.Bodies.{block_run}
 use Rattle.mc_soundness.proofs.Agreeing.{function_entry, among_last, Agree}
 use Rattle.mc_soundness.proofs.Stages.{FunctionsFit, functions_before, stage, stage_ends, stage_functions, Stands, Later, later_trans, stands_before}
@@ -166,12 +167,17 @@ definition_runs w name g parameters body s none st ends bodies fun arrays result
 
 -- ---- the same program with the objects of another function
 
-abbrev located : World → List Object → List ObjectType → ResultType → World
-located w os us r = record w { scope = record w.scope { objects = os; arrays = us; result = r } }
+abbrev located : World → (os : List Object) → (us : List ObjectType) → ResultType → AreNumbered os us → World
+located w os us r few = record {
+  scope = record w.scope { objects = os; arrays = us; result = r };
+  structures = w.structures;
+  bodies = w.bodies;
+  few = few;
+}
 
-functions_located : (w : World) (os : List Object) (us : List ObjectType) (r : ResultType) (es : List Entry)
-    → FunctionsFit w es → FunctionsFit (located w os us r) es
-functions_located w os us r es fun name f b h =
+functions_located : (w : World) (os : List Object) (us : List ObjectType) (r : ResultType)
+    (few : AreNumbered os us) (es : List Entry) → FunctionsFit w es → FunctionsFit (located w os us r few) es
+functions_located w os us r few es fun name f b h =
     let x = fun name f b h in
     record {
       defined = λ k p.
@@ -180,27 +186,32 @@ functions_located w os us r es fun name f b h =
       output = x.output;
     }
 
-structures_back : (w : World) (os : List Object) (us : List ObjectType) (r : ResultType) (all : List Structure)
-    → StructuresFit (located w os us r) all → StructuresFit w all
-structures_back w os us r all fit k x h = by_structure x (fit k x h)
+structures_back : (w : World) (os : List Object) (us : List ObjectType) (r : ResultType)
+    (few : AreNumbered os us) (all : List Structure)
+    → StructuresFit (located w os us r few) all → StructuresFit w all
+structures_back w os us r few all fit k x h = by_structure x (fit k x h)
   where
-    by_structure : (x : Structure) → StructureFits (located w os us r) all x → StructureFits w all x
+    by_structure : (x : Structure) → StructureFits (located w os us r few) all x → StructureFits w all x
     by_structure (Incomplete b) f = tt
     by_structure (Complete ms) f = record { types = f.types; formed = f.formed; small = f.small; flat = f.flat }
     by_structure Faulty f = f
 
-laid_back : (most : ℕ) (w : World) (os : List Object) (us : List ObjectType) (r : ResultType) (n : ℕ)
-    (xs : List Object) → AreLaid most (located w os us r) n xs → AreLaid most w n xs
-laid_back most w os us r n [] h = tt
-laid_back most w os us r n (x ∷ xs) h = (h.0, h.1, h.2, laid_back most w os us r (n + x.cells) xs h.3)
+laid_back : (most : ℕ) (w : World) (os : List Object) (us : List ObjectType) (r : ResultType)
+    (few : AreNumbered os us) (n : ℕ) (xs : List Object) → AreLaid most (located w os us r few) n xs
+    → AreLaid most w n xs
+laid_back most w os us r few n [] h = tt
+laid_back most w os us r few n (x ∷ xs) h =
+    (h.0, h.1, h.2, laid_back most w os us r few (n + x.cells) xs h.3)
 
 -- ---- after a definition
 
 pub definition_stands : (name : Name) (g : Signature) (parameters : Parameters) (body : BlockItems) (s : Scope)
     → BlockHasNoFunction body → Stands s → Stands (with_function name (Some g) s)
     → (judge_parameters parameters (prototype s)).faults ≡ [] → (body_of name g parameters body s).faults ≡ []
+    → length (body_of name g parameters body s).scope.objects ≤ most_numbered
+    → parameter_count_faults (length (judge_parameters parameters (prototype s)).items) name.span.start ≡ []
     → Stands (left_function (with_function name (Some g) s) (body_of name g parameters body s).scope)
-definition_stands name g parameters body s none st stf y_nil z_nil =
+definition_stands name g parameters body s none st stf y_nil z_nil objects_few count =
     let file = with_function name (Some g) s in
     let y = judge_parameters parameters (prototype s) in
     let z = body_of name g parameters body s in
@@ -209,14 +220,16 @@ definition_stands name g parameters body s none st stf y_nil z_nil =
     cut_back Entry file.names z.scope.names later.names in
     let arrays = arrays_in z.scope.structures y.items in
     let result = result_type z.scope.structures g.result in
-    let v = stage file.names z.scope arrays result in
-    let v_runs = definition_runs v name g parameters body s none st (stage_ends file.names z.scope arrays result) refl
-    (stage_functions file.names z.scope arrays result stf.agree) refl refl y_nil z_nil in
+    let v_few : AreNumbered z.scope.objects arrays = (objects_few, arrays_numbered z.scope.structures y.items name.span.start count) in
+    let v = stage file.names z.scope arrays result v_few in
+    let v_runs = definition_runs v name g parameters body s none st (stage_ends file.names z.scope arrays result v_few) refl
+    (stage_functions file.names z.scope arrays result v_few stf.agree) refl refl y_nil z_nil in
     record {
       fits = λ w ends bodies fun.
           let us = arrays_in w.structures y.items in
           let r = result_type w.structures g.result in
-          let here = located w z.scope.objects us r in
+          let few : AreNumbered z.scope.objects us = (objects_few, arrays_numbered w.structures y.items name.span.start count) in
+          let here = located w z.scope.objects us r few in
           let fun_file = subst (FunctionsFit w) cut fun in
           let ends_here : Ends here z.scope = record {
             structures = ends.structures;
@@ -224,7 +237,7 @@ definition_stands name g parameters body s none st stf y_nil z_nil =
             statics = ends.statics;
           } in
           let runs = definition_runs here name g parameters body s none st ends_here bodies
-          (functions_located w z.scope.objects us r file.names fun_file) refl refl y_nil z_nil in
+          (functions_located w z.scope.objects us r few file.names fun_file) refl refl y_nil z_nil in
           let fit = runs.run.fits in
           let fit_file = stf.fits w
           (record {
@@ -237,13 +250,14 @@ definition_stands name g parameters body s none st stf y_nil z_nil =
             names = subst (NamesFit w z.scope.structures) (sym cut)
                 (names_kept w file.structures z.scope.structures file.names
                 (kept_completes file.structures z.scope.structures later.structures) fit_file.names);
-            structures = structures_back w z.scope.objects us r z.scope.structures fit.structures;
+            structures = structures_back w z.scope.objects us r few z.scope.structures fit.structures;
             laid = tt;
             frame = refl;
             statics = record {
-              laid = laid_back most_static_cells w z.scope.objects us r 0 (map (λ o. o.object) z.scope.statics) fit.statics.laid;
+              laid = laid_back most_static_cells w z.scope.objects us r few 0 (map (λ o. o.object) z.scope.statics) fit.statics.laid;
               cells = fit.statics.cells;
               room = fit.statics.room;
+              few = fit.statics.few;
               initial = fit.statics.initial;
             };
             bodies = fit.bodies;
@@ -258,8 +272,9 @@ definition_stands name g parameters body s none st stf y_nil z_nil =
 -- ---- functions of a program
 
 -- a program that has what is declared in this scope
-abbrev pub world_of : Scope → Program → List Object → List ObjectType → ResultType → World
-world_of end p os us r = record {
+abbrev pub world_of : Scope → Program → (os : List Object) → (us : List ObjectType) → ResultType
+    → AreNumbered os us → World
+world_of end p os us r few = record {
   scope = record {
     functions = p.functions;
     statics = map (λ o. o.object) p.statics;
@@ -269,13 +284,14 @@ world_of end p os us r = record {
   };
   structures = end.structures;
   bodies = end.bodies;
+  few = few;
 }
 
 pub record IsIn (end : Scope) (p : Program) : Type 0 where
   pub structures : p.structures ≡ structures_from 0 end.structures
   pub statics : p.statics ≡ end.statics
-  pub functions : (os : List Object) (us : List ObjectType) (r : ResultType)
-      → FunctionsFit (world_of end p os us r) end.names
+  pub functions : (os : List Object) (us : List ObjectType) (r : ResultType) (few : AreNumbered os us)
+      → FunctionsFit (world_of end p os us r few) end.names
 
 pub parameter_types_kept : (all more : List Structure) (ks : List ParameterKind) → Completes all more
     → AreComplete all ks → map (parameter_type all) ks ≡ map (parameter_type more) ks
@@ -378,16 +394,18 @@ slots_after xs ys =
     zero_plus : (n : ℕ) → 0 + n ≡ n
     zero_plus n = omega arith
 
-frame_small : (n at : ℕ) → frame_faults n at ≡ [] → n ≤ most_frame_cells
-frame_small n at h = within (no_fault (nat_lt most_frame_cells n) Limit at h)
+frame_small : (n count at : ℕ) → frame_faults n count at ≡ [] → n ≤ most_frame_cells
+frame_small n count at h =
+    within (or_left (nat_lt most_frame_cells n) (nat_lt most_numbered count) (no_fault _ Limit at h))
   where
     within : nat_lt most_frame_cells n ≡ false → n ≤ most_frame_cells
     within h = grind (arith, h)
 
-count_small : (n at : ℕ) → parameter_count_faults n at ≡ [] → n ≤ most_parameters
-count_small n at h = within (no_fault (nat_lt most_parameters n) Limit at h)
+pub frame_numbered : (n count at : ℕ) → frame_faults n count at ≡ [] → count ≤ most_numbered
+frame_numbered n count at h =
+    within (or_right (nat_lt most_frame_cells n) (nat_lt most_numbered count) (no_fault _ Limit at h))
   where
-    within : nat_lt most_parameters n ≡ false → n ≤ most_parameters
+    within : nat_lt most_numbered count ≡ false → count ≤ most_numbered
     within h = grind (arith, h)
 
 is_result : (w : World) (all : List Structure) (b : Base) → StructuresFit w all → Completes all w.structures
@@ -421,7 +439,8 @@ pub record IsDefined (name : Name) (g : Signature) (parameters : Parameters) (bo
   pub items : (judge_parameters parameters (prototype s)).items ≡ map Some g.parameters
   pub found : (judge_parameters parameters (prototype s)).faults ≡ []
   pub typed : (body_of name g parameters body s).faults ≡ []
-  pub frame : frame_faults (body_of name g parameters body s).scope.frame name.span.start ≡ []
+  pub frame : frame_faults (body_of name g parameters body s).scope.frame
+      (length (body_of name g parameters body s).scope.objects) name.span.start ≡ []
   pub few : parameter_count_faults (length (judge_parameters parameters (prototype s)).items) name.span.start ≡ []
   pub result : is_incomplete s.structures (Some g.result) ≡ false
 
@@ -455,14 +474,18 @@ function_sound end p name span g parameters body s b d kept statics bodies names
     let fn = function_from name span z.scope g b in
     let us = arrays_in end.structures y.items in
     let r = result_type end.structures g.result in
-    let w = world_of end p z.scope.objects us r in
+    let few : AreNumbered z.scope.objects us = (
+      frame_numbered z.scope.frame (length z.scope.objects) name.span.start d.frame,
+      arrays_numbered end.structures y.items name.span.start d.few,
+    ) in
+    let w = world_of end p z.scope.objects us r few in
     let ends : Ends w z.scope = record {
       structures = λ k ms h. kept k (Complete ms) h tt;
       objects = begins_refl Object z.scope.objects;
       statics = subst (λ l. Begins Object (map (λ o. o.object) z.scope.statics) (map (λ o. o.object) l))
           (sym inside.statics) (begins_map (λ o. o.object) z.scope.statics end.statics statics);
     } in
-    let fun = functions_before w file.names end.names names (inside.functions z.scope.objects us r) in
+    let fun = functions_before w file.names end.names names (inside.functions z.scope.objects us r few) in
     let runs = definition_runs w name g parameters body s d.none d.stands ends (sym bodies) fun refl refl d.found d.typed in
     let run = runs.run in
     let c : Completes z.scope.structures end.structures = kept_completes z.scope.structures end.structures kept in
@@ -487,7 +510,7 @@ function_sound end p name span g parameters body s b d kept statics bodies names
     sym (length-map y.scope.objects (λ (o : Object). o.object_type)) ∙ ap length object_types in
     let room : total z.scope.objects ≤ most_frame_cells =
     summed_within most_frame_cells (total z.scope.objects) (omega arith)
-    (subst (λ n. n ≤ most_frame_cells) run.fits.frame (frame_small z.scope.frame name.span.start d.frame)) in
+    (subst (λ n. n ≤ most_frame_cells) run.fits.frame (frame_small z.scope.frame (length z.scope.objects) name.span.start d.frame)) in
     let room_from : 0 + total z.scope.objects ≤ most_frame_cells = omega (arith, room) in
     let number : length fn.parameters ≡ length y.items =
     length-map g.parameters (parameter_type z.scope.structures)

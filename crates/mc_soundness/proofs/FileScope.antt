@@ -15,6 +15,7 @@ use Rattle.mc_faults.specs.Faults.{fault, fault_if, unless_faulty}
 use Rattle.mc_typing.specs.Types.{CType, has, ParameterKind, Signature}
 use Rattle.mc_typing.specs.Scopes.{Entry, Meaning, Stored, Function, Typedef, Scope, named, meaning_here, with_name, next_static, prototype}
 use Rattle.mc_typing.specs.Values.{Judged}
+use Rattle.mc_typing.specs.Limits.{parameter_count_faults}
 use Rattle.mc_typing.specs.Declarators.{Listed, declared_type}
 use Rattle.mc_typing.specs.Judgement.{typed_by, judge_specifiers, judge_lengths, judge_parameters}
 use Rattle.mc_typing.specs.Declarations.{Storage, TypedefStorage, StaticStorage, AutomaticStorage, storage_of, count_listed, judge_optional_initializer, object_faults, layout_counted, after_initializer, typedef_faults, static_faults_with, static_scope, static_value, object_judged, all_of, result_of_lengths, result_of, has_lengths, is_array_type, signature_of, has_body, repeated_faults, external_faults, function_faults, signature_listed, function_form_faults, again_faults, judge_init, judge_init_declarator, judge_init_declarators, append, is_tag_alone, empty_faults, judge_declaration}
@@ -31,6 +32,7 @@ use Rattle.mc_soundness.proofs.Passes.{passed_by, below_grown}
 use Rattle.mc_soundness.proofs.Extends.{optional_grows, init_extends}
 use Rattle.mc_soundness.proofs.Declared.{init_well}
 use Rattle.mc_soundness.proofs.Parameters.{parameters_well, parameters_pass}
+use Rattle.mc_soundness.proofs.Numbered.{IsOfFile, init_still, none_numbered, parameters_numbered}
 use Rattle.mc_soundness.proofs.Agreeing.{function_entry, among_last, agree_more, agree_function}
 use Rattle.mc_soundness.proofs.Stages.{functions_before, stage, stage_ends, stage_functions, Stands, Later, later_passed, stands_before}
 
@@ -66,9 +68,10 @@ type_known alone all at s st h =
     let g = specifiers_grow alone all s in
     let z_nil = nil_left z.faults _ h in
     let agree = agree_more s.names z.scope.names g.functions st.agree in
-    let w = stage z.scope.names z.scope [] t.NoResult in
-    let ends = stage_ends z.scope.names z.scope [] t.NoResult in
-    let fun = stage_functions z.scope.names z.scope [] t.NoResult agree in
+    let few = none_numbered z.scope (specifiers_still alone all s z_nil ∙ st.none) in
+    let w = stage z.scope.names z.scope [] t.NoResult few in
+    let ends = stage_ends z.scope.names z.scope [] t.NoResult few in
+    let fun = stage_functions z.scope.names z.scope [] t.NoResult few agree in
     let fit = stands_before w s z.scope z.scope.names st (later_passed s z.scope (passed_by s z.scope g)) g.names ends refl fun in
     let r = type_typed w s at all z (specifiers_well w alone all s fit ends z_nil) h in
     record { type = r.value; is = r.is; positive = r.positive }
@@ -94,15 +97,17 @@ pub record AreKnown (s : Scope) (all : Parameters) : Type 0 where
   pub kinds : List ParameterKind
   pub are : (judge_parameters all (prototype s)).items ≡ map Some kinds
 
-pub parameters_known : (all : Parameters) (s : Scope) → Stands s
-    → (judge_parameters all (prototype s)).faults ≡ [] → AreKnown s all
-parameters_known all s st h =
+pub parameters_known : (all : Parameters) (s : Scope) (at : ℕ) → Stands s
+    → (judge_parameters all (prototype s)).faults ≡ []
+    → parameter_count_faults (length (judge_parameters all (prototype s)).items) at ≡ [] → AreKnown s all
+parameters_known all s at st h count =
     let y = judge_parameters all (prototype s) in
     let arrays = arrays_in y.scope.structures y.items in
-    let w = stage s.names y.scope arrays t.NoResult in
-    let ends = stage_ends s.names y.scope arrays t.NoResult in
+    let few = parameters_numbered all s at y.scope.structures count in
+    let w = stage s.names y.scope arrays t.NoResult few in
+    let ends = stage_ends s.names y.scope arrays t.NoResult few in
     let fit = stands_before w s y.scope s.names st (parameters_later all s) (begins_refl Entry s.names) ends refl
-    (stage_functions s.names y.scope arrays t.NoResult st.agree) in
+    (stage_functions s.names y.scope arrays t.NoResult few st.agree) in
     let p = parameters_well w all (prototype s) (fits_prototype w s fit) st.below ends
     (record { before = []; more = []; count = refl; are = sym (right_nil arrays) }) h in
     record { kinds = p.kinds; are = p.are }
@@ -157,12 +162,6 @@ pub record IsStood (x : Judged (List Declarator)) : Type 0 where
   pub value : List Declarator
   pub is : x.value ≡ Some value
 
--- a declaration at file scope declares no object with automatic storage duration
-abbrev pub IsOfFile : Storage → Type 0
-IsOfFile TypedefStorage = Unit {0}
-IsOfFile StaticStorage = Unit {0}
-IsOfFile AutomaticStorage = ⊥
-
 function_stands : (storage : Storage) (b : CType) (stars : ℕ) (name : Name) (all : Parameters) (span : Span)
     (value : Option Initializer) (s : Scope) → IsOfFile storage → Stands s
     → (judge_init storage (Some b) (tree.function stars name all span) value s).faults ≡ []
@@ -196,7 +195,8 @@ function_stands StaticStorage b stars name all span None s of st h =
     let own = again ++ (functions ++ function_form_faults StaticStorage None at) in
     let own_nil = nil_left own [] (nil_right y.faults _ h) in
     let functions_nil = nil_left functions _ (nil_right again _ own_nil) in
-    let ps = parameters_known all s st (nil_left y.faults _ h) in
+    let count = nil_right (fault_if (is_array_type (Some b)) Mismatch at) _ (nil_right (external_faults name f) _ functions_nil) in
+    let ps = parameters_known all s at st (nil_left y.faults _ h) count in
     let g : Signature = record { result = b.base; parameters = ps.kinds } in
     let f_is : f ≡ Some g = signature_known b y ps.kinds at ps.are
     (nil_left (fault_if (is_array_type (Some b)) Mismatch at) _ (nil_right (external_faults name f) _ functions_nil)) in
@@ -282,9 +282,10 @@ object_stands storage b stars name lengths span value s of pb st h =
     let adds = adds_both s.names l.scope.names x.scope.names (lengths_grow lengths s).functions
     (object_adds storage l.faults name lengths (Some b) u value l.scope of) in
     let agree = agree_more s.names x.scope.names adds st.agree in
-    let v = stage x.scope.names x.scope [] t.NoResult in
-    let v_ends = stage_ends x.scope.names x.scope [] t.NoResult in
-    let v_fun = stage_functions x.scope.names x.scope [] t.NoResult agree in
+    let few = none_numbered x.scope (init_still storage b stars name lengths span value s of h ∙ st.none) in
+    let v = stage x.scope.names x.scope [] t.NoResult few in
+    let v_ends = stage_ends x.scope.names x.scope [] t.NoResult few in
+    let v_fun = stage_functions x.scope.names x.scope [] t.NoResult few agree in
     let v_fit = stands_before v s x.scope x.scope.names st (later_passed s x.scope (passed s x.scope e)) e.names v_ends refl v_fun in
     let r = init_well v storage b d value s tt pb v_fit st.below v_ends h in
     let empty = none_automatic storage l.faults name lengths (Some b) u value l.scope r.declared of r.is in

@@ -1,5 +1,5 @@
 -- How a scope that fits goes on fitting.
-use Rattle.std.proofs.Common.{◌≡◌, ℕ, zero, suc, ◌+◌, ◌≤◌, ℤ, Bool, true, false, if◌then◌else◌, List, [], ◌∷◌, ◌++◌, length, map, slice_get, Option, Some, None, refl, ap, sym, ◌∙◌, subst, arith, bytes_eq, append_assoc, inl, inr}
+use Rattle.std.proofs.Common.{◌≡◌, ℕ, zero, suc, ◌+◌, ◌≤◌, ◌<◌, ℤ, Bool, true, false, if◌then◌else◌, List, [], ◌∷◌, ◌++◌, length, map, slice_get, Option, Some, None, refl, ap, sym, ◌∙◌, subst, arith, bytes_eq, append_assoc, inl, inr}
 use Rattle.std.proofs.lemmas.Slice.Eq.{bytes_eq-Decides}
 use Rattle.std.proofs.lemmas.List.{length-append, map-append}
 use Rattle.mc_tree.specs.Tree.{Name}
@@ -9,11 +9,11 @@ use Rattle.mc_typed.specs.Layout as layout
 use Rattle.mc_typed.specs.Tree.{Object, StaticObject}
 use Rattle.mc_typed.specs.Sound.{IsSlotOf, IsObjectType, AreInRange, AreInitial, slots_from}
 use Rattle.mc_limits.specs.Limits.{most_frame_cells, most_static_cells}
-use Rattle.mc_typing.specs.Profile.{start_at, most_summed, sum_of}
+use Rattle.mc_typing.specs.Profile.{most_numbered, start_at, most_summed, sum_of}
 use Rattle.mc_typing.specs.Types.{Base, Void, Integer, Tagged, CType, plain, Member, Structure, Incomplete, Complete, Faulty, members_of, is_complete_structure, is_complete, layout_of_base, arrays_of, layout_of, structure_from, structures_from}
 use Rattle.mc_typing.specs.Scopes.{Entry, Meaning, Automatic, Constant, Function, Typedef, Scope, TagMeaning, later_or, named, with_name, with_tag, with_structure, with_structure_at, with_object, with_static}
 use Rattle.mc_typing.specs.Scopes as scope
-use Rattle.mc_typing.proofs.Sums.{start_summed, sum_more, sum_within}
+use Rattle.mc_typing.proofs.Sums.{start_small, start_summed, sum_more, sum_within}
 use Rattle.mc_soundness.specs.Growth.{Begins, Kept, Grown, Extended, Passed}
 use Rattle.mc_soundness.specs.Fits.{World, FileScopeFits, objects_of, Completes, MemberFits, MembersFit, StructureFits, StructuresFit, MeaningFits, NamesFit, AreLaid, total, Fits, Ends, Made}
 use Rattle.mc_soundness.proofs.Grows.{grown_refl}
@@ -242,8 +242,8 @@ initial_append (x ∷ os) o h k = (h.0, initial_append os o h.1 k)
 -- one more with static storage duration
 pub fits_static : (w : World) (s : Scope) (u : ObjectType) (vs : List ℤ) → Fits w s
     → IsObjectType (objects_of w) u → s.static_cells + cells u ≤ most_static_cells
-    → AreInRange (scalars u) vs → Fits w (with_static u vs s)
-fits_static w s u vs fit h room values =
+    → length s.statics < most_numbered → AreInRange (scalars u) vs → Fits w (with_static u vs s)
+fits_static w s u vs fit h room few values =
     let o : StaticObject = record {
       object = record { object_type = u; cells = cells u; start = start_at most_static_cells s.static_cells };
       initial = vs;
@@ -264,6 +264,7 @@ fits_static w s u vs fit h room values =
         cells = sum ∙ ap (λ n. n + cells u) fit.statics.cells ∙ sym (total_append os o.object)
             ∙ ap total (sym (map_last s.statics o));
         room = subst (λ n. n ≤ most_static_cells) (sym sum) room;
+        few = let e = length-append s.statics (o ∷ []) in omega (arith, e, few);
         initial = initial_append s.statics o fit.statics.initial (values, tt);
       };
       bodies = fit.bodies;
@@ -328,10 +329,27 @@ made_two s t u l m p q = (
       ∙ sym (slots_append (length s.objects) p.0 q.0),
 )
 
-pub made_object : (s : Scope) (u : ObjectType)
+-- the object that is made next has a number
+pub next_numbered : (w : World) (s : Scope) (u : ObjectType) → Ends w (with_object u s)
+    → start_at most_numbered (length s.objects) ≡ length s.objects
+next_numbered w s u e =
+    let o : Object = record { object_type = u; cells = cells u; start = start_at most_frame_cells s.frame } in
+    let all : length w.scope.objects ≡ length s.objects + 1 + length e.objects.0 =
+    ap length e.objects.1 ∙ length-append (s.objects ++ (o ∷ [])) e.objects.0
+    ∙ ap (λ n. n + length e.objects.0) (length-append s.objects (o ∷ [])) in
+    let few = w.few.0 in
+    start_small most_numbered (length s.objects) (omega (arith, all, few))
+
+pub made_object : (w : World) (s : Scope) (u : ObjectType) → Ends w (with_object u s)
     → Made s (with_object u s) (scope.next_slot s ∷ [])
-made_object s u =
-    (record { object_type = u; cells = cells u; start = start_at most_frame_cells s.frame } ∷ [], refl, refl)
+made_object w s u e = (
+  record { object_type = u; cells = cells u; start = start_at most_frame_cells s.frame } ∷ [],
+  refl,
+  ap (λ n. slot_at n ∷ []) (next_numbered w s u e),
+)
+  where
+    slot_at : ℕ → Slot
+    slot_at n = record { object = n; start = start_at most_frame_cells s.frame }
 
 -- ---- what the program has
 
@@ -408,7 +426,7 @@ file_scope_fits w = record {
   structures = λ k x h. none_here k x h;
   laid = tt;
   frame = refl;
-  statics = record { laid = tt; cells = refl; room = omega arith; initial = tt };
+  statics = record { laid = tt; cells = refl; room = omega arith; few = omega arith; initial = tt };
   bodies = refl;
 }
   where

@@ -19,6 +19,7 @@ pub mod Passes
 pub mod Statements
 pub mod Bodies
 pub mod Stills
+pub mod Numbered
 pub mod Parameters
 pub mod Agreeing
 pub mod Stages

@@ -25,7 +25,8 @@ use Rattle.mc_soundness.proofs.Tests.{nil_left, nil_right, no_fault, or_left}
 use Rattle.mc_soundness.proofs.Grows.{adds_both, specifiers_grow, lengths_grow}
 use Rattle.mc_soundness.proofs.Passes.{block_passes}
 use Rattle.mc_soundness.proofs.Extends.{init_extends}
-use Rattle.mc_soundness.proofs.FileScope.{IsOfFile, object_adds, storage_of_file}
+use Rattle.mc_soundness.proofs.Numbered.{IsOfFile}
+use Rattle.mc_soundness.proofs.FileScope.{object_adds, storage_of_file}
 
 -- ---- what a name means last
 

@@ -1,5 +1,5 @@
 -- Parameters: what is found of them is well where they have no fault.
-use Rattle.std.proofs.Common.{◌≡◌, ℕ, ◌+◌, ◌≤◌, Bool, true, false, not, ◌&&◌, if◌then◌else◌, List, [], ◌∷◌, ◌++◌, map, length, slice_get, Option, Some, None, refl, ap, sym, ◌∙◌, subst, arith, append_assoc}
+use Rattle.std.proofs.Common.{◌≡◌, ℕ, suc, ◌+◌, ◌≤◌, Bool, true, false, not, ◌&&◌, if◌then◌else◌, List, [], ◌∷◌, ◌++◌, map, length, slice_get, Option, Some, None, refl, ap, sym, ◌∙◌, subst, arith, append_assoc}
 use Rattle.std.proofs.lemmas.List.{map-append, length-append}
 use Rattle.mc_tree.specs.Tree.{Name, ArrayLengths, Parameter, ParameterList, Parameters}
 use Rattle.mc_tree.specs.Tree as tree
@@ -11,12 +11,13 @@ use Rattle.mc_typed.specs.Sound as sound
 use Rattle.mc_faults.specs.declared.fault.FaultKind.TheVariants.{Mismatch}
 use Rattle.mc_faults.specs.Faults.{fault_if, unless_faulty}
 use Rattle.mc_limits.specs.Limits.{most_frame_cells}
-use Rattle.mc_typing.specs.Profile.{start_at}
+use Rattle.mc_typing.specs.Profile.{most_numbered, start_at}
 use Rattle.mc_typing.specs.Types.{Base, Void, Integer, Tagged, CType, plain, Structure, is_complete, layout_of_base, arrays_of, layout_of, ParameterKind, ByValue, ByArray}
 use Rattle.mc_typing.specs.Scopes.{Entry, Meaning, Automatic, Borrowed, Scope, next_slot, with_name, with_object, with_array, with_objects_of}
 use Rattle.mc_typing.specs.Declarators.{Listed, is_later_absent, is_first_absent, declared_type, incomplete_faults, adjusted, parameter_kind, parameter_limit_faults, parameter_name_faults, parameter_faults, parameter_meaning, with_parameter_name, with_parameter, declared_parameter, name_start, listed_none}
 use Rattle.mc_typing.specs.Judgement.{typed_by, judge_specifiers, judge_lengths, judge_parameter, judge_parameter_list, judge_parameters}
 use Rattle.mc_typing.specs.Typing.{parameter_type}
+use Rattle.mc_typing.proofs.Sums.{start_small}
 use Rattle.mc_soundness.specs.Growth.{Begins, AreBelow, Grown, Passed}
 use Rattle.mc_soundness.specs.Fits.{World, objects_of, Completes, ArePositive, Fits, Ends, arrays_in, ArraysEnd, base_of_kind, AreComplete, AreParametersFound}
 use Rattle.mc_soundness.proofs.Lists.{right_nil, begins_refl, get_next}
@@ -180,6 +181,16 @@ array_there w s e c complete a =
     ∙ get_next a.before (layout_of w.structures e) a.more
     ∙ ap Some (sym (layout_kept s.structures w.structures e c complete))
 
+array_numbered : (w : World) (s : Scope) (e : CType) → ArraysEnd w s (Some (ByArray e) ∷ [])
+    → (with_array s).arrays ≡ s.arrays + 1
+array_numbered w s e a =
+    let l = layout_of w.structures e in
+    let all : length w.scope.arrays ≡ length a.before + suc (length a.more) =
+    ap length a.are ∙ length-append a.before (l ∷ a.more) in
+    let few = w.few.1 in
+    let count = a.count in
+    start_small most_numbered (s.arrays + 1) (omega (arith, all, few, count))
+
 parameter_array : (w : World) (name : Option Name) (v e : CType) (s : Scope) → Fits w s
     → AreBelow (length s.statics) s.names → is_complete s.structures e.base ≡ true
     → Completes s.structures w.structures → IsObjectType (objects_of w) (layout_of s.structures e)
@@ -190,7 +201,7 @@ parameter_array w None v e s fit below complete c object a = record {
   are = refl;
   complete = (complete, tt);
   objects = ([], sym (right_nil s.objects), refl);
-  arrays = refl;
+  arrays = array_numbered w s e a;
   elements = (subst (IsObjectType (objects_of w)) (layout_kept s.structures w.structures e c complete) object, tt);
   fits = with_array_fits w s fit;
   below = below;
@@ -202,7 +213,7 @@ parameter_array w (Some name) v e s fit below complete c object a =
       are = refl;
       complete = (complete, tt);
       objects = ([], sym (right_nil s.objects), refl);
-      arrays = refl;
+      arrays = array_numbered w s e a;
       elements = (subst (IsObjectType (objects_of w)) (layout_kept s.structures w.structures e c complete) object, tt);
       fits = with_array_fits w n (fits_name w s name (Borrowed s.arrays e) fit (array_there w s e c complete a, complete));
       below = below_append (length s.statics) s.names _ below (tt, tt);

@@ -11,7 +11,7 @@ use Rattle.mc_typing.specs.Scopes.{Entry, Meaning, Function, Scope, place_from}
 use Rattle.mc_typing.specs.Scopes as scope
 use Rattle.mc_typing.specs.Typing.{parameter_type, result_type}
 use Rattle.mc_soundness.specs.Growth.{Begins, Kept, AreBelow, Passed}
-use Rattle.mc_soundness.specs.Fits.{World, FunctionFits, SignatureFits, Fits, Ends}
+use Rattle.mc_soundness.specs.Fits.{World, AreNumbered, FunctionFits, SignatureFits, Fits, Ends}
 use Rattle.mc_soundness.proofs.Lists.{begins_refl, begins_trans}
 use Rattle.mc_soundness.proofs.Fitting.{begins_map}
 use Rattle.mc_soundness.proofs.Agreeing.{entry, function_entry, Among, among_left, Agree}
@@ -115,8 +115,9 @@ abbrev pub shape_in : List Structure → List Entry → List ℕ → t.Function
 shape_in all names name = shape all name (signature_in name names)
 
 -- with functions of the types that these names say, and all else as in this scope
-abbrev pub stage : List Entry → Scope → List ObjectType → ResultType → World
-stage names s arrays result = record {
+abbrev pub stage : List Entry → (s : Scope) → (arrays : List ObjectType) → ResultType
+    → AreNumbered s.objects arrays → World
+stage names s arrays result few = record {
   scope = record {
     functions = map (shape_in s.structures names) s.bodies;
     statics = map (λ o. o.object) s.statics;
@@ -126,11 +127,12 @@ stage names s arrays result = record {
   };
   structures = s.structures;
   bodies = s.bodies;
+  few = few;
 }
 
 pub stage_ends : (names : List Entry) (s : Scope) (arrays : List ObjectType) (result : ResultType)
-    → Ends (stage names s arrays result) s
-stage_ends names s arrays result = record {
+    (few : AreNumbered s.objects arrays) → Ends (stage names s arrays result few) s
+stage_ends names s arrays result few = record {
   structures = λ k ms h. h;
   objects = begins_refl Object s.objects;
   statics = begins_refl Object (map (λ o. o.object) s.statics);
@@ -194,14 +196,14 @@ first_there name f b (e ∷ es) (inr r) =
     }
 
 pub stage_functions : (names : List Entry) (s : Scope) (arrays : List ObjectType) (result : ResultType)
-    → Agree names → FunctionsFit (stage names s arrays result) names
-stage_functions names s arrays result a name f b h = record {
+    (few : AreNumbered s.objects arrays) → Agree names → FunctionsFit (stage names s arrays result few) names
+stage_functions names s arrays result few a name f b h = record {
   defined = λ k p. defined k (place_of name s.bodies k p);
   input = λ n e q. a.input name f b n h e q;
   output = λ n e q. a.output name f b n h e q;
 }
   where
-    defined : (k : ℕ) → slice_get s.bodies k ≡ Some name → FunctionFits (stage names s arrays result) f k
+    defined : (k : ℕ) → slice_get s.bodies k ≡ Some name → FunctionFits (stage names s arrays result few) f k
     defined k there =
         let first = first_there name f b names h in
         let same : first.signature ≡ f =

@@ -38,7 +38,7 @@ step_never : (operator : StepOperator) (at span : Span) (x : Found)
 step_never step.Increment at span x = refl
 step_never step.Decrement at span x = refl
 
-is_constant : (x : Found) (at : ℕ) → constant_faults at x.constant (number_found x) ≡ [] → x.constant ≡ true
+pub is_constant : (x : Found) (at : ℕ) → constant_faults at x.constant (number_found x) ≡ [] → x.constant ≡ true
 is_constant x at h = not_false x.constant (or_left (not x.constant) _ (no_fault _ NotConstant at h))
 
 typedef_still : (name : Name) (s : Scope) (m : Option Meaning) → (typedef_type name s m).scope.objects ≡ s.objects

@@ -26,7 +26,7 @@ use Rattle.mc_subset.specs.Forms.{first_outside}
 use Rattle.mc_soundness.specs.Growth.{Begins}
 use Rattle.mc_soundness.specs.Blocks.{BlockHasNoFunction}
 use Rattle.mc_soundness.specs.Laws.{IsFew, UnitsAreTyped, UnitsAreSound}
-use Rattle.mc_soundness.specs.Fits.{World, objects_of, StructureFits, FunctionFits, total, Fits, Ends, arrays_in}
+use Rattle.mc_soundness.specs.Fits.{World, AreNumbered, objects_of, StructureFits, FunctionFits, total, Fits, Ends, arrays_in}
 use Rattle.mc_soundness.proofs.Lists.{right_nil, begins_refl, begins_with, cut_back}
 use Rattle.mc_soundness.proofs.Tests.{nil_left, nil_right, no_fault, lift2_some}
 use Rattle.mc_soundness.proofs.Fitting.{kept_completes, get_structure, file_scope_fits, passed}
@@ -37,7 +37,8 @@ use Rattle.mc_soundness.proofs.Agreeing.{function_entry, Among, among_left, amon
 use Rattle.mc_soundness.proofs.Stages.{place_of, get_within, stage, stage_ends, stage_functions, Stands, Later, later_refl, later_trans, later_passed}
 use Rattle.mc_soundness.proofs.FileScope.{specifiers_stand, type_known, parameters_known, signature_known, result_known, function_named, declaration_stands}
 use Rattle.mc_soundness.proofs.Accepted.{body_inside, first_item_inside, later_items_inside}
-use Rattle.mc_soundness.proofs.Defined.{body_of, body_later, definition_runs, definition_stands, world_of, IsIn, parameter_types_kept, result_kept, laid_out, IsDefined, complete_there, incomplete_kept, function_sound}
+use Rattle.mc_soundness.proofs.Numbered.{arrays_numbered}
+use Rattle.mc_soundness.proofs.Defined.{body_of, body_later, definition_runs, definition_stands, frame_numbered, world_of, IsIn, parameter_types_kept, result_kept, laid_out, IsDefined, complete_there, incomplete_kept, function_sound}
 
 -- ---- functions and their types
 
@@ -117,7 +118,8 @@ defined_by name parameters body span type before s f r =
           ++ (repeated_faults (meaning_here name s) f name.span.start
           ++ (function_faults name type (length y.items) f
           ++ (definition_faults name r s
-          ++ (z.faults ++ frame_faults z.scope.frame name.span.start))))));
+          ++ (z.faults
+          ++ frame_faults z.scope.frame (length z.scope.objects) name.span.start))))));
       value = function_listed name span f z;
       scope = left_function file z.scope;
     }
@@ -163,9 +165,11 @@ defined_well name g parameters body span type before s none st items h =
     cut_back Entry file.names z.scope.names later.names in
     let arrays = arrays_in z.scope.structures y.items in
     let result = result_type z.scope.structures g.result in
-    let v = stage file.names z.scope arrays result in
-    let runs = definition_runs v name g parameters body s none st (stage_ends file.names z.scope arrays result) refl
-    (stage_functions file.names z.scope arrays result stf.agree) refl refl y_nil z_nil in
+    let objects_few = frame_numbered z.scope.frame (length z.scope.objects) at d.frame in
+    let few : AreNumbered z.scope.objects arrays = (objects_few, arrays_numbered z.scope.structures y.items at d.few) in
+    let v = stage file.names z.scope arrays result few in
+    let runs = definition_runs v name g parameters body s none st (stage_ends file.names z.scope arrays result few) refl
+    (stage_functions file.names z.scope arrays result few stf.agree) refl refl y_nil z_nil in
     let b = runs.run.value in
     let complete = complete_there v name g parameters body s items runs in
     let result_there = incomplete_kept s.structures z.scope.structures g.result
@@ -173,7 +177,7 @@ defined_well name g parameters body span type before s none st items h =
     let there = λ (end : Scope) (l : Begins Entry (take (length file.names) z.scope.names) end.names).
     subst (λ n. Begins Entry n end.names) cut l in
     record {
-      stands = definition_stands name g parameters body s none st stf y_nil z_nil;
+      stands = definition_stands name g parameters body s none st stf y_nil z_nil objects_few d.few;
       later = record {
         names = subst (Begins Entry s.names) (sym cut)
             (begins_with Entry s.names (function_entry name.text (Some g) true ∷ []));
@@ -221,7 +225,8 @@ definition_well all name parameters body span s none st h =
     let array = nil_left (fault_if (is_array_type x.value) Mismatch at) _ (nil_right (external_faults name f) _ functions) in
     let k = type_known false all span.start s st x_nil in
     let sx = specifiers_stand false all s st (nil_left n.faults _ x_nil) in
-    let ps = parameters_known parameters x.scope sx (nil_left y.faults _ from_y) in
+    let count = nil_right (fault_if (is_array_type x.value) Mismatch at) _ (nil_right (external_faults name f) _ functions) in
+    let ps = parameters_known parameters x.scope at sx (nil_left y.faults _ from_y) count in
     let g : Signature = record { result = k.type.base; parameters = ps.kinds } in
     let plain = subst (λ o. fault_if (is_array_type o) Mismatch at ≡ []) k.is array in
     let f_is : f ≡ Some g =
@@ -324,18 +329,19 @@ program_inside items u =
     record {
       structures = refl;
       statics = refl;
-      functions = λ os us r name f b h. record {
-        defined = λ k q. fits os us r name f b h k (place_of name end.bodies k q);
+      functions = λ os us r few name f b h. record {
+        defined = λ k q. fits os us r few name f b h k (place_of name end.bodies k q);
         input = λ n e q. u.stands.agree.input name f b n h e q;
         output = λ n e q. u.stands.agree.output name f b n h e q;
       };
     }
   where
-    fits : (os : List Object) (us : List ObjectType) (r : ResultType) (name : List ℕ) (f : Signature) (b : Bool)
+    fits : (os : List Object) (us : List ObjectType) (r : ResultType) (few : AreNumbered os us) (name : List ℕ)
+        (f : Signature) (b : Bool)
         → Among (function_entry name (Some f) b) (found_of items).scope.names → (k : ℕ)
         → slice_get (found_of items).scope.bodies k ≡ Some name
-        → FunctionFits (world_of (found_of items).scope (program_from (found_of items).scope u.value) os us r) f k
-    fits os us r name f b h k there =
+        → FunctionFits (world_of (found_of items).scope (program_from (found_of items).scope u.value) os us r few) f k
+    fits os us r few name f b h k there =
         let end = (found_of items).scope in
         let at : slice_get (bodies_of items) k ≡ Some name = ap (λ l. slice_get l k) (sym u.later.bodies) ∙ there in
         let x = shaped_at end (bodies_of items) u.value k name (u.shaped end (later_refl end)) at in
@@ -389,13 +395,14 @@ program_sound items u functions_few statics_few structures_few =
     let end = (found_of items).scope in
     let p = program_from end u.value in
     let inside = program_inside items u in
-    let w = world_of end p [] [] t.NoResult in
+    let few : AreNumbered [] [] = (omega arith, omega arith) in
+    let w = world_of end p [] [] t.NoResult few in
     let ends : Ends w end = record {
       structures = λ k ms h. h;
       objects = ([], sym (right_nil end.objects ∙ u.stands.none));
       statics = begins_refl Object (map (λ o. o.object) end.statics);
     } in
-    let fit = u.stands.fits w ends refl (inside.functions [] [] t.NoResult) in
+    let fit = u.stands.fits w ends refl (inside.functions [] [] t.NoResult few) in
     let statics = map (λ o. o.object) end.statics in
     let room : total statics ≤ most_static_cells =
     subst (λ n. n ≤ most_static_cells) fit.statics.cells fit.statics.room in

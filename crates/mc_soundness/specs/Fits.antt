@@ -14,7 +14,7 @@ use Rattle.mc_typed.specs.Sound.{IsSlotOf, place_type, structure_type, IsPlace, 
 use Rattle.mc_typed.specs.Sound as sound
 use Rattle.mc_limits.specs.Limits.{most_frame_cells, most_nesting, most_static_cells}
 use Rattle.mc_value.specs.ObjectTypes.{most_cells}
-use Rattle.mc_typing.specs.Profile.{start_at, most_summed}
+use Rattle.mc_typing.specs.Profile.{most_numbered, start_at, most_summed}
 use Rattle.mc_typing.specs.Types.{Base, Tagged, CType, plain, Member, Structure, Incomplete, Complete, Faulty, is_complete, layout_of, structures_from, ParameterKind, ByValue, ByArray, Signature}
 use Rattle.mc_typing.specs.Scopes.{Entry, Labels, Meaning, Automatic, Constant, Function, Typedef, Scope, file_scope, place_from, is_input, is_output}
 use Rattle.mc_typing.specs.Scopes as scope
@@ -28,12 +28,17 @@ use Rattle.mc_typing.specs.Statements.{Around, alone, has_value, with_value, def
 use Rattle.mc_typing.specs.Typing.{parameter_type, result_type}
 use Rattle.mc_soundness.specs.Growth.{Begins, AreBelow}
 
+-- the objects of a function and its arrays have numbers
+abbrev pub AreNumbered : List Object → List ObjectType → Type 0
+AreNumbered objects arrays = (length objects ≤ most_numbered) × (length arrays ≤ most_numbered)
+
 -- The program in the end: what the body of one function can name in it, its structure types, and
 -- the names of the functions that have a body.
 pub record World : Type 0 where
   pub scope : sound.Scope
   pub structures : List Structure
   pub bodies : List (List ℕ)
+  pub few : AreNumbered scope.objects scope.arrays
 
 abbrev pub objects_of : World → List ObjectType
 objects_of w = structures_from 0 w.structures
@@ -119,11 +124,13 @@ abbrev pub total : List Object → ℕ
 total [] = 0
 total (o ∷ os) = o.cells + total os
 
--- the same of objects with static storage duration, whose values are those of their types
+-- the same of objects with static storage duration, whose values are those of their types; each has
+-- a number
 pub record StaticsFit (w : World) (objects : List StaticObject) (n : ℕ) : Type 0 where
   pub laid : AreLaid most_static_cells w 0 (map (λ o. o.object) objects)
   pub cells : n ≡ total (map (λ o. o.object) objects)
   pub room : n ≤ most_static_cells
+  pub few : length objects ≤ most_numbered
   pub initial : AreInitial objects
 
 -- ---- scopes

@@ -18,6 +18,13 @@ start_large most n h = go (leb_tells n most)
     go (inl p) = absurd (omega (arith, h, p.1))
     go (inr p) = ap (λ b. if b then n else most) p.0
 
+pub start_least : (most n : ℕ) → start_at most n ≤ n
+start_least most n = go (cases_lt most n)
+  where
+    go : ((most < n) ⊎ (n ≤ most)) → start_at most n ≤ n
+    go (inl more) = let e = start_large most n more in omega (arith, e, more)
+    go (inr few) = let e = start_small most n few in omega (arith, e)
+
 -- to count as far as the greatest sum changes nothing below it
 pub start_summed : (most n : ℕ) → most ≤ most_summed → start_at most (start_at most_summed n) ≡ start_at most n
 start_summed most n below = go (cases_lt most_summed n)

@@ -109,7 +109,8 @@ initial_values layout (Some i) = values_of i
 -- an object without a fault counts among those with static storage duration
 abbrev pub static_faults_with : ℕ → Option ObjectType → Option (Option typed.Initializer) → Scope
     → List Fault
-static_faults_with at (Some layout) (Some value) s = static_limit_faults s.static_cells layout at
+static_faults_with at (Some layout) (Some value) s =
+    static_limit_faults s.static_cells (length s.statics) layout at
 static_faults_with at _ _ s = []
 
 abbrev pub static_scope : Option ObjectType → Option (Option typed.Initializer) → Scope → Scope

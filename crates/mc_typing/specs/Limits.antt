@@ -6,6 +6,7 @@ use Rattle.mc_typed.specs.Layout.{ObjectType, cells, nesting}
 use Rattle.mc_faults.specs.declared.fault.Fault.{Fault}
 use Rattle.mc_faults.specs.declared.fault.FaultKind.TheVariants.{Limit}
 use Rattle.mc_faults.specs.Faults.{fault_if}
+use Rattle.mc_typing.specs.Profile.{most_numbered}
 use Rattle.mc_typing.specs.Types.{CType, Structure, is_complete, layout_of}
 
 -- an array has at most so many elements as an object has cells, whatever they are
@@ -41,13 +42,17 @@ member_limit_faults before all None at = []
 member_limit_faults before all (Some u) at =
     fault_if (is_long u.lengths || is_large_member before (layout_of all u)) Limit at
 
--- the first object with which all objects with static storage duration pass the limit
-abbrev pub static_limit_faults : ℕ → ObjectType → ℕ → List Fault
-static_limit_faults before u at =
-    fault_if (is_passed_with most_static_cells before (cells u)) Limit at
+-- the first object with which all objects with static storage duration pass the limit, and one that
+-- has no number
+abbrev pub static_limit_faults : ℕ → ℕ → ObjectType → ℕ → List Fault
+static_limit_faults before count u at =
+    fault_if (is_passed_with most_static_cells before (cells u) || nat_le most_numbered count)
+    Limit at
 
-abbrev pub frame_faults : ℕ → ℕ → List Fault
-frame_faults frame at = fault_if (nat_lt most_frame_cells frame) Limit at
+-- the cells of a frame, and its objects where some have no number
+abbrev pub frame_faults : ℕ → ℕ → ℕ → List Fault
+frame_faults frame count at =
+    fault_if (nat_lt most_frame_cells frame || nat_lt most_numbered count) Limit at
 
 abbrev pub parameter_count_faults : ℕ → ℕ → List Fault
 parameter_count_faults count at = fault_if (nat_lt most_parameters count) Limit at

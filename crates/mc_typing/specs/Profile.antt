@@ -18,6 +18,10 @@ most_kept = most_cells + 1
 abbrev pub start_at : ℕ → ℕ → ℕ
 start_at most before = if nat_le before most then before else most
 
+-- Objects and array parameters have numbers of 32 bits, and each list of them at most so many.
+abbrev pub most_numbered : ℕ
+most_numbered = 4294967295
+
 -- Cells in all are counted up to 2 ^ 64 - 1, for the same reason.
 abbrev pub most_summed : ℕ
 most_summed = 18446744073709551615

@@ -6,7 +6,7 @@ use Rattle.mc_value.specs.declared.int_type.IntType.{IntType}
 use Rattle.mc_typed.specs.declared.expressions.Slot.{Slot}
 use Rattle.mc_typed.specs.Layout.{ObjectType, cells}
 use Rattle.mc_typed.specs.Tree.{Object, StaticObject}
-use Rattle.mc_typing.specs.Profile.{start_at, sum_of}
+use Rattle.mc_typing.specs.Profile.{most_numbered, start_at, sum_of}
 use Rattle.mc_typing.specs.Types.{CType, Structure, Signature}
 
 -- ---- what names mean
@@ -156,10 +156,16 @@ with_structure_at k structure s = record s { structures = slice_set s.structures
 
 -- where the next object of the function, and the next one with static storage duration, stands
 abbrev pub next_slot : Scope → Slot
-next_slot s = record { object = length s.objects; start = start_at most_frame_cells s.frame }
+next_slot s = record {
+  object = start_at most_numbered (length s.objects);
+  start = start_at most_frame_cells s.frame;
+}
 
 abbrev pub next_static : Scope → Slot
-next_static s = record { object = length s.statics; start = start_at most_static_cells s.static_cells }
+next_static s = record {
+  object = start_at most_numbered (length s.statics);
+  start = start_at most_static_cells s.static_cells;
+}
 
 abbrev pub with_object : ObjectType → Scope → Scope
 with_object u s = record s {
@@ -197,7 +203,7 @@ with_static u initial s = record s {
 }
 
 abbrev pub with_array : Scope → Scope
-with_array s = record s { arrays = s.arrays + 1 }
+with_array s = record s { arrays = start_at most_numbered (s.arrays + 1) }
 
 -- ---- blocks
 

@@ -91,7 +91,8 @@ judge_definition all name parameters body span s =
           ++ (repeated_faults (meaning_here name x.scope) f name.span.start
           ++ (function_faults name x.value (length y.items) f
           ++ (definition_faults name (result_of x.value) x.scope
-          ++ (z.faults ++ frame_faults z.scope.frame name.span.start))))));
+          ++ (z.faults
+          ++ frame_faults z.scope.frame (length z.scope.objects) name.span.start))))));
       value = function_listed name span f z;
       scope = left_function file z.scope;
     }
