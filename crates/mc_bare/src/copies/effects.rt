@@ -115,7 +115,7 @@ pub(super) fn effects(alloc: Global, trees: &[Effect]) -> Result<Vec<Effect>, Al
     ensures { IfOk result (λ c. map probed.effect_of c.items
         ≡ map bare_effect (map plain.effect_of trees.now)) }
 {
-    let mut copies = Vec::new(alloc);
+    let mut copies = Vec::with_capacity(alloc, trees.len())?;
     for tree in trees {
         let copy = effect(alloc, tree)?;
         copies.push(copy)?;

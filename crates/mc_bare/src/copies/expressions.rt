@@ -247,7 +247,7 @@ fn arguments(alloc: Global, trees: &[Argument]) -> Result<Vec<Argument>, AllocEr
     ensures { IfOk result (λ c. probed.arguments_from (map probed.argument_of c.items)
         ≡ bare_arguments (plain.arguments_from (map plain.argument_of trees.now))) }
 {
-    let mut copies = Vec::new(alloc);
+    let mut copies = Vec::with_capacity(alloc, trees.len())?;
     for tree in trees {
         let copy = argument(alloc, tree)?;
         copies.push(copy)?;

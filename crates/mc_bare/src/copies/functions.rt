@@ -30,7 +30,7 @@ pub fn parameters(alloc: Global, trees: &[ParameterType]) -> Result<Vec<Paramete
     ensures { IfOk result (λ c.
         map plain.parameter_of c.items ≡ map plain.parameter_of trees.now) }
 {
-    let mut copies = Vec::new(alloc);
+    let mut copies = Vec::with_capacity(alloc, trees.len())?;
     for tree in trees {
         let copy = parameter(tree)?;
         copies.push(copy)?;
@@ -67,7 +67,7 @@ fn object(tree: &Object) -> Result<Object, AllocError>
 pub fn local_objects(alloc: Global, trees: &[Object]) -> Result<Vec<Object>, AllocError>
     ensures { IfOk result (λ c. map plain.object_of c.items ≡ map plain.object_of trees.now) }
 {
-    let mut copies = Vec::new(alloc);
+    let mut copies = Vec::with_capacity(alloc, trees.len())?;
     for tree in trees {
         let copy = object(tree)?;
         copies.push(copy)?;
@@ -105,7 +105,7 @@ pub(super) fn all_functions<'a>(
     ensures { IfOk result (λ c. map probed.function_of c.items
         ≡ map bare_function (map plain.function_of trees.now)) }
 {
-    let mut copies = Vec::new(alloc);
+    let mut copies = Vec::with_capacity(alloc, trees.len())?;
     for tree in trees {
         let copy = function(alloc, tree)?;
         copies.push(copy)?;

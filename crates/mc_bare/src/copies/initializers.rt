@@ -48,7 +48,7 @@ fn initializers(alloc: Global, trees: &[Initializer]) -> Result<Vec<Initializer>
     ensures { IfOk result (λ c. probed.initializers_from (map probed.initializer_of c.items)
         ≡ bare_initializers (plain.initializers_from (map plain.initializer_of trees.now))) }
 {
-    let mut copies = Vec::new(alloc);
+    let mut copies = Vec::with_capacity(alloc, trees.len())?;
     for tree in trees {
         let copy = initializer(alloc, tree)?;
         copies.push(copy)?;
@@ -89,7 +89,7 @@ pub(super) fn declarators(
     ensures { IfOk result (λ c. map probed.declarator_of c.items
         ≡ map bare_declarator (map plain.declarator_of trees.now)) }
 {
-    let mut copies = Vec::new(alloc);
+    let mut copies = Vec::with_capacity(alloc, trees.len())?;
     for tree in trees {
         let copy = declarator(alloc, tree)?;
         copies.push(copy)?;

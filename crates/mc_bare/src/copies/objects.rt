@@ -11,7 +11,7 @@ fn static_object(alloc: Global, tree: &StaticObject) -> Result<StaticObject, All
     ensures { IfOk result (λ c. plain.static_of c ≡ plain.static_of tree.now) }
 {
     let object_type = share(&tree.object_type)?;
-    let mut initial = Vec::new(alloc);
+    let mut initial = Vec::with_capacity(alloc, tree.initial.len())?;
     initial.extend_from_slice(&tree.initial)?;
     Ok(StaticObject {
         object_type,
@@ -28,7 +28,7 @@ pub fn static_objects(
 ) -> Result<Vec<StaticObject>, AllocError>
     ensures { IfOk result (λ c. map plain.static_of c.items ≡ map plain.static_of trees.now) }
 {
-    let mut copies = Vec::new(alloc);
+    let mut copies = Vec::with_capacity(alloc, trees.len())?;
     for tree in trees {
         let copy = static_object(alloc, tree)?;
         copies.push(copy)?;
@@ -40,7 +40,7 @@ pub fn static_objects(
 pub fn all_structures(alloc: Global, trees: &[ObjType]) -> Result<Vec<ObjType>, AllocError>
     ensures { IfOk result (λ c. map object_type_of c.items ≡ map object_type_of trees.now) }
 {
-    let mut copies = Vec::new(alloc);
+    let mut copies = Vec::with_capacity(alloc, trees.len())?;
     for tree in trees {
         let copy = share(tree)?;
         copies.push(copy)?;

@@ -225,7 +225,7 @@ pub(super) fn statements(alloc: Global, trees: &[Statement]) -> Result<Vec<State
     ensures { IfOk result (λ c. probed.statements_from (map probed.statement_of c.items)
         ≡ bare_statements (plain.statements_from (map plain.statement_of trees.now))) }
 {
-    let mut copies = Vec::new(alloc);
+    let mut copies = Vec::with_capacity(alloc, trees.len())?;
     for tree in trees {
         let copy = statement(alloc, tree)?;
         copies.push(copy)?;

@@ -131,7 +131,7 @@ pub(crate) fn effects(
     ensures next { IfOk result (λ _. next.new
         ≡ next.old + roots_in (nodes.effects (map plain.effect_of trees.now))) }
 {
-    let mut copies = Vec::new(walk.alloc);
+    let mut copies = Vec::with_capacity(walk.alloc, trees.len())?;
     for tree in trees {
         let copy = effect(walk, next, tree)?;
         copies.push(copy)?;

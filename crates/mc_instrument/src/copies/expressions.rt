@@ -425,7 +425,7 @@ fn arguments(
         ≡ next.old
         + roots_in (nodes.arguments (plain.arguments_from (map plain.argument_of trees.now)))) }
 {
-    let mut copies = Vec::new(walk.alloc);
+    let mut copies = Vec::with_capacity(walk.alloc, trees.len())?;
     for tree in trees {
         let copy = argument(walk, next, tree)?;
         copies.push(copy)?;

@@ -152,7 +152,7 @@ pub(crate) fn all_functions<'a>(
 {
     let mut at = beginning(bit_map)?;
     let mut first = 0;
-    let mut copies = Vec::new(alloc);
+    let mut copies = Vec::with_capacity(alloc, trees.len())?;
     for (number, tree) in trees.iter().enumerate() {
         let walk = Walk {
             alloc,

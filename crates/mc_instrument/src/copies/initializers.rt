@@ -86,7 +86,7 @@ fn initializers(
         + roots_in (nodes.initializers
         (plain.initializers_from (map plain.initializer_of trees.now)))) }
 {
-    let mut copies = Vec::new(walk.alloc);
+    let mut copies = Vec::with_capacity(walk.alloc, trees.len())?;
     for tree in trees {
         let copy = initializer(walk, next, tree)?;
         copies.push(copy)?;
@@ -145,7 +145,7 @@ pub(crate) fn declarators(
     ensures next { IfOk result (λ _. next.new
         ≡ next.old + roots_in (nodes.declarators (map plain.declarator_of trees.now))) }
 {
-    let mut copies = Vec::new(walk.alloc);
+    let mut copies = Vec::with_capacity(walk.alloc, trees.len())?;
     for tree in trees {
         let copy = declarator(walk, next, tree)?;
         copies.push(copy)?;

@@ -358,7 +358,7 @@ pub(crate) fn statements(
     ensures switch { IfOk result (λ _. at.new.switch ≡ at.old.switch
         + switches_all (plain.statements_from (map plain.statement_of trees.now))) }
 {
-    let mut copies = Vec::new(walk.alloc);
+    let mut copies = Vec::with_capacity(walk.alloc, trees.len())?;
     for tree in trees {
         let copy = statement(walk, register, at, tree)?;
         copies.push(copy)?;
