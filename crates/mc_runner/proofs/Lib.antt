@@ -5,3 +5,4 @@ pub mod Standing
 pub mod Jobs
 pub mod Gathered
 pub mod Sent
+pub mod Watched

@@ -1,5 +1,6 @@
 -- The jobs of workers that run tests, and what comes of them.
-use Rattle.std.specs.Prelude.{◌≡◌, ℕ, List, Option, Some, All, Contains, length, map, slice_get}
+use Rattle.std.specs.Prelude.{◌≡◌, ◌<◌, ℕ, List, Option, Some, All, Contains, IfOk, Result, length, map, slice_get, slice_index_or}
+use Rattle.std.specs.declared.alloc.AllocError.{AllocError}
 use Rattle.mc_cover.specs.declared.view.View.{View}
 use Rattle.mc_cover.specs.Model.{CoverView}
 use Rattle.mc_cover.specs.Views.{opener}
@@ -66,3 +67,9 @@ pub record HasDone (tree : Tree) (plans : List Plan) (c : CoverView) (d : Done) 
 
 abbrev pub IsDone : List TestPlan → Job → Done → Type 0
 IsDone plans j d = HasDone (tree_of j.machine.program) (map plan_of plans) j.recorder.cover d
+
+-- each of so many jobs is done where it found memory
+abbrev pub AreDone : List TestPlan → ℕ → List Job → List (Result Done AllocError) → Type 0
+AreDone plans count jobs done =
+    (i : ℕ) (j : Job) (d : Result Done AllocError) → i < count →
+    IfOk (slice_index_or done i d) (IsDone plans (slice_index_or jobs i j))

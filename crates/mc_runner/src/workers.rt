@@ -68,7 +68,7 @@ pub fn run_tests<R: Threads + Sync, G: Gate>(
 }
 
 /// The places of the results. What stands in them is told of no test.
-fn untold(alloc: Global, count: usize) -> Result<Vec<TestResult>, AllocError>
+pub(crate) fn untold(alloc: Global, count: usize) -> Result<Vec<TestResult>, AllocError>
     ensures { IfOk result (λ v. vec_len v ≡ count) }
 {
     let mut results = Vec::with_capacity(alloc, count)?;
@@ -84,7 +84,7 @@ fn untold(alloc: Global, count: usize) -> Result<Vec<TestResult>, AllocError>
 }
 
 /// The jobs of so many workers. The cover has this shape.
-fn hire<'c, 'p, 'a>(
+pub(crate) fn hire<'c, 'p, 'a>(
     alloc: Global,
     cover: &'c Cover,
     pass: &mut Pass,
@@ -111,7 +111,7 @@ fn hire<'c, 'p, 'a>(
 }
 
 /// Each job, in a thread of its own where one can be made.
-fn work_all<'c, 'p, 'a, R: Threads + Sync, G: Gate>(
+pub(crate) fn work_all<'c, 'p, 'a, R: Threads + Sync, G: Gate>(
     rt: &R,
     alloc: Global,
     plans: &[TestPlan],

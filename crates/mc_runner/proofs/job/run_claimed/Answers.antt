@@ -1,4 +1,4 @@
-use Rattle.std.proofs.Common.{◌≡◌, ◌∙◌, ◌<◌, ◌++◌, [], ◌∷◌, Some, List, ℕ, length, map, option_map, ap, arith, subst, sym}
+use Rattle.std.proofs.Common.{◌≡◌, ◌∙◌, ◌<◌, Some, List, ℕ, length, map, option_map, ap, subst, sym}
 use Rattle.std.specs.Prelude.{slice_get}
 use Rattle.std.proofs.lemmas.Option.{slice_get-map}
 use Rattle.mc_crew.specs.Recorder.{RecorderView}
@@ -8,7 +8,7 @@ use Rattle.mc_meaning.specs.Seen.{Told, told_of}
 use Rattle.mc_probe.specs.Tests.{run_of}
 use Rattle.mc_probe.specs.Trees.{Instrumented, tree_of}
 use Rattle.mc_typed.specs.Plans.{Plan, plan_of}
-use Rattle.mc_runner.specs.Jobs.{AreTold, does_of, told_all}
+use Rattle.mc_runner.specs.Jobs.{does_of, told_all}
 use Rattle.mc_runner.specs.Recorded.{told_by}
 use Rattle.mc_runner.proofs.Jobs.{claims_after, ends, led_by, planned_at, told_one, works_on}
 use Rattle.mc_runner.proofs.job.run_claimed.Goals as goal

@@ -1,4 +1,4 @@
-use Rattle.std.proofs.Common.{◌≡◌, ◌∙◌, ◌+◌, ◌<◌, [], ◌++◌, List, ℕ, length, map, ap, arith, subst, sym, vec_len}
+use Rattle.std.proofs.Common.{◌≡◌, ◌∙◌, ◌+◌, List, length, map, ap, arith, sym, vec_len}
 use Rattle.std.proofs.lemmas.List.{length-map}
 use Rattle.mc_cover.specs.declared.view.View.{View}
 use Rattle.mc_cover.specs.Views.{opener}
