@@ -25,6 +25,7 @@ usage_text =
     ∷ codes "       mcdc analyse SOURCE RECORD [--mode unique|masking] [--justify NAME]"
     ∷ codes " [--format text|csv|json]" ∷ newline
     ∷ codes "       mcdc selfload N [--workers N]" ∷ newline
+    ∷ codes "       mcdc watch SOURCE TESTS [--workers N] [--fuel N] [--looks N]" ∷ newline
     ∷ codes "       mcdc reduce SOURCE TESTS [--mode unique|masking] [--workers N] [--fuel N]"
     ∷ newline
     ∷ codes "       mcdc list SOURCE TESTS [--mode unique|masking] [--workers N] [--fuel N]"

@@ -23,6 +23,7 @@ pub fn usage_text(alloc: Global) -> Result<Vec<u8>, AllocError>
         mcdc analyse SOURCE RECORD [--mode unique|masking] [--justify NAME] \
         [--format text|csv|json]\n       \
         mcdc selfload N [--workers N]\n       \
+        mcdc watch SOURCE TESTS [--workers N] [--fuel N] [--looks N]\n       \
         mcdc reduce SOURCE TESTS [--mode unique|masking] [--workers N] [--fuel N]\n       \
         mcdc list SOURCE TESTS [--mode unique|masking] [--workers N] [--fuel N] \
         [--justify NAME]\n",

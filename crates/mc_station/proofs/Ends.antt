@@ -31,6 +31,7 @@ use Rattle.mc_station.proofs.Recording.{record_keeps}
 use Rattle.mc_station.proofs.Reducing.{reduction_keeps}
 use Rattle.mc_station.proofs.Reporting.{report_keeps}
 use Rattle.mc_station.proofs.Unique.{no_fault, no_file}
+use Rattle.mc_station.proofs.Watching.{watch_keeps}
 use Rattle.mc_station.proofs.Refusing.{IsRefused, reasons_later, refuses_first, refuses_kept, refuses_left, refuses_reasons, refuses_right, refuses_tests, tests_later}
 
 -- ---- ends
@@ -39,6 +40,7 @@ tells_keep : (skipped : List ℕ) (task : Task) (accepted : Accepted) (plans : L
 tells_keep skipped (command.report asked) accepted plans js r tells = report_keeps (stands skipped accepted plans) asked accepted (tested_of accepted.program plans) js r tells
 tells_keep skipped command.vectors accepted plans js r tells = list_keeps (stands skipped accepted plans) accepted (names plans) (states accepted.program plans) (results accepted.program plans) r tells
 tells_keep skipped command.recorded accepted plans js r tells = record_keeps skipped accepted plans r tells
+tells_keep skipped (command.watched looks) accepted plans js r tells = watch_keeps looks accepted plans r tells
 tells_keep skipped (command.reduced mode) accepted plans js r tells = reduction_keeps (stands skipped accepted plans) mode accepted (names plans) (states accepted.program plans) r tells
 tells_keep skipped (command.listed asked) accepted plans js r tells = listing_keeps (stands skipped accepted plans) asked accepted (tested_of accepted.program plans) js r tells
 

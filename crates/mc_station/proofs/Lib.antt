@@ -27,4 +27,5 @@ pub mod Reporting
 pub mod Short
 pub mod Summing
 pub mod Unique
+pub mod Watching
 pub mod Written

@@ -1,5 +1,5 @@
 -- Words and files call for at most one reply.
-use Rattle.std.proofs.Common.{◌≡◌, ◌∙◌, ℕ, List, length, Option, Some, None, Result, Ok, Err, refl, sym, ap, subst, inl, inr, arith}
+use Rattle.std.proofs.Common.{◌≡◌, ◌∙◌, ◌⊎◌, ℕ, List, length, Option, Some, None, Result, Ok, Err, refl, sym, ap, subst, inl, inr, arith}
 use Rattle.mc_core.specs.Laws.{WordsFollowFromPairs}
 use Rattle.mc_command.specs.Command as command
 use Rattle.mc_command.specs.Command.{Task, command_of}
@@ -17,6 +17,7 @@ use Rattle.mc_replies.proofs.Phases.{one_ok, one_read, one_then}
 use Rattle.mc_station.specs.Calls as calls
 use Rattle.mc_station.specs.Calls.{Answers, Call, CallsFor, Fails, IsKnown, Leads, Requests}
 use Rattle.mc_station.specs.Justified.{reasons_line}
+use Rattle.mc_station.specs.Laws.{IsToWatch, IsWatch}
 use Rattle.mc_station.specs.Source.{Accepted}
 use Rattle.mc_station.specs.Stages as stages
 use Rattle.mc_station.specs.Stages.{Ends, Judges, Stage, Tells, after_source, after_tests, file_of, first_stage, justified_by}
@@ -27,11 +28,13 @@ use Rattle.mc_station.proofs.Reducing.{one_reduction}
 use Rattle.mc_station.proofs.Reporting.{one_report}
 use Rattle.mc_oblige.specs.Shown.{HasEvent}
 use Rattle.mc_station.specs.commands.Analyse.{tested_in}
+use Rattle.mc_station.specs.commands.Watch.{AreOnLooks}
 use Rattle.mc_station.proofs.Joining.{one_join, one_record_in}
 use Rattle.mc_station.proofs.Loading.{one_load}
 use Rattle.mc_station.proofs.Phases.{one_fit, one_source, one_tests}
 use Rattle.mc_station.proofs.Printing.{one_text}
 use Rattle.mc_station.proofs.Recording.{one_record}
+use Rattle.mc_station.proofs.Watching.{IsAt, at_before, at_first, one_watch}
 
 -- ---- stages
 
@@ -58,27 +61,33 @@ one_verdict law (stages.load count workers) bytes = λ u v p q. absurd p
 
 -- ---- ends
 
-one_told : WordsFollowFromPairs → (skipped : List ℕ) (task : Task) (accepted : Accepted) (plans : List Plan) (js : List Justification) (r q : Reply) → Tells skipped task accepted plans js r → Tells skipped task accepted plans js q → r ≡ q
-one_told law skipped (command.report asked) accepted plans js r q tells others = one_report (stands skipped accepted plans) asked accepted (tested_of accepted.program plans) js r q tells others
-one_told law skipped command.vectors accepted plans js r q tells others = one_list (stands skipped accepted plans) accepted (names plans) (states accepted.program plans) (results accepted.program plans) r q tells others
-one_told law skipped command.recorded accepted plans js r q tells others = one_record skipped accepted plans law r q tells others
-one_told law skipped (command.reduced mode) accepted plans js r q tells others = one_reduction (stands skipped accepted plans) mode accepted (names plans) (states accepted.program plans) r q tells others
-one_told law skipped (command.listed asked) accepted plans js r q tells others = one_listing (stands skipped accepted plans) asked accepted (tested_of accepted.program plans) js r q tells others
+-- one reply, or where the tests are watched two on the looks
+abbrev OneIf : Type 0 → Reply → Reply → Type 0
+OneIf watched r q = AreOne r q ⊎ (watched × AreOnLooks r q)
+
+one_told : WordsFollowFromPairs → (skipped : List ℕ) (task : Task) (accepted : Accepted) (plans : List Plan) (js : List Justification) (r q : Reply) → Tells skipped task accepted plans js r → Tells skipped task accepted plans js q
+    → OneIf (IsToWatch task) r q
+one_told law skipped (command.report asked) accepted plans js r q tells others = inl (inl (one_report (stands skipped accepted plans) asked accepted (tested_of accepted.program plans) js r q tells others))
+one_told law skipped command.vectors accepted plans js r q tells others = inl (inl (one_list (stands skipped accepted plans) accepted (names plans) (states accepted.program plans) (results accepted.program plans) r q tells others))
+one_told law skipped command.recorded accepted plans js r q tells others = inl (inl (one_record skipped accepted plans law r q tells others))
+one_told law skipped (command.watched looks) accepted plans js r q tells others = inr (tt, one_watch looks accepted plans r q tells others)
+one_told law skipped (command.reduced mode) accepted plans js r q tells others = inl (inl (one_reduction (stands skipped accepted plans) mode accepted (names plans) (states accepted.program plans) r q tells others))
+one_told law skipped (command.listed asked) accepted plans js r q tells others = inl (inl (one_listing (stands skipped accepted plans) asked accepted (tested_of accepted.program plans) js r q tells others))
 
 -- a stage ends with one reply
-one_end_reply : WordsFollowFromPairs → (skipped : List ℕ) (s : Stage) (r q : Reply) → Ends skipped s r → Ends skipped s q → AreOne r q
-one_end_reply law skipped stages.usage r q is also = inl (is ∙ sym also)
+one_end_reply : WordsFollowFromPairs → (skipped : List ℕ) (s : Stage) (r q : Reply) → Ends skipped s r → Ends skipped s q → OneIf (IsAt s) r q
+one_end_reply law skipped stages.usage r q is also = inl (inl (is ∙ sym also))
 one_end_reply law skipped (stages.source name action) r q ends also = absurd ends
-one_end_reply law skipped (stages.instrumented accepted) r q ends also = inl (one_text accepted r q ends also)
+one_end_reply law skipped (stages.instrumented accepted) r q ends also = inl (inl (one_text accepted r q ends also))
 one_end_reply law skipped (stages.tests run accepted) r q ends also = absurd ends
 one_end_reply law skipped (stages.left name other accepted) r q ends also = absurd ends
 one_end_reply law skipped (stages.right name accepted first) r q ends also = absurd ends
 one_end_reply law skipped (stages.kept name report accepted) r q ends also = absurd ends
 one_end_reply law skipped (stages.reasons name accepted basis) r q ends also = absurd ends
-one_end_reply law skipped (stages.last accepted (stages.tested run plans) js) r q ends also = inl (one_told law skipped run.task accepted plans js r q ends also)
-one_end_reply law skipped (stages.last accepted (stages.recorded asked found) js) r q ends also = inl (one_report (HasEvent accepted.map found.matrix) asked accepted (tested_in found) js r q ends also)
-one_end_reply law skipped (stages.merged both) r q is also = inl (is ∙ sym also)
-one_end_reply law skipped (stages.load count workers) r q ends also = one_load skipped count r q ends also
+one_end_reply law skipped (stages.last accepted (stages.tested run plans) js) r q ends also = one_told law skipped run.task accepted plans js r q ends also
+one_end_reply law skipped (stages.last accepted (stages.recorded asked found) js) r q ends also = inl (inl (one_report (HasEvent accepted.map found.matrix) asked accepted (tested_in found) js r q ends also))
+one_end_reply law skipped (stages.merged both) r q is also = inl (inl (is ∙ sym also))
+one_end_reply law skipped (stages.load count workers) r q ends also = inl (one_load skipped count r q ends also)
 
 -- and then asks for no file
 pub no_file : (skipped : List ℕ) (s : Stage) (r : Reply) (f : File) → Ends skipped s r → file_of s ≡ Some f → ⊥
@@ -119,17 +128,17 @@ module _ (law : WordsFollowFromPairs) (skipped : List ℕ) (files : Files) where
       let file : f ≡ g = cc (p, q) in
       not_both g bytes (subst (λ (x : File). IsLonger (Some files) x.name (limit_of x.kind)) file long) holds
 
-  one_answer : (s : Stage) (a b c d : Requests) (r q : Reply) → Answers skipped (Some files) s a r b → Answers skipped (Some files) s c q d → AreOne r q
+  one_answer : (s : Stage) (a b c d : Requests) (r q : Reply) → Answers skipped (Some files) s a r b → Answers skipped (Some files) s c q d → OneIf (IsAt s) r q
   one_answer s a b c d r q (calls.finished x p) (calls.finished y o) = one_end_reply law skipped s r q p o
   one_answer s a b c d r q (calls.finished x p) (calls.too_long g o long) = absurd (no_file skipped s r g p o)
   one_answer s a b c d r q (calls.finished x p) (calls.refused g bytes y o holds judges) = absurd (no_file skipped s r g p o)
   one_answer s a b c d r q (calls.too_long f p long) (calls.finished y o) = absurd (no_file skipped s q f o p)
-  one_answer s a b c d r q (calls.too_long f p long) (calls.too_long g o also) = let file : f ≡ g = cc (p, o) in inl (ap longer file)
+  one_answer s a b c d r q (calls.too_long f p long) (calls.too_long g o also) = let file : f ≡ g = cc (p, o) in inl (inl (ap longer file))
   one_answer s a b c d r q (calls.too_long f p long) (calls.refused g bytes y o holds judges) = absurd (not_long s f g bytes p o long holds)
   one_answer s a b c d r q (calls.refused f bytes x p holds judges) (calls.finished y o) = absurd (no_file skipped s q f o p)
   one_answer s a b c d r q (calls.refused f bytes x p holds judges) (calls.too_long g o long) = absurd (not_long s g f bytes o p long holds)
   one_answer s a b c d r q (calls.refused f bytes x p holds judges) (calls.refused g text y o also other) =
-      same_verdict s f g bytes text (Err r) (Err q) p o holds also judges other
+      inl (same_verdict s f g bytes text (Err r) (Err q) p o holds also judges other)
 
   no_answer : (s t : Stage) (f : File) (text : List ℕ) (a b : Requests) (r : Reply) → Answers skipped (Some files) s a r b → file_of s ≡ Some f → Holds (Some files) f text → Judges s text (Ok t) → ⊥
   no_answer s t f text a b r (calls.finished x p) is holds judges = no_file skipped s r f p is
@@ -141,7 +150,12 @@ no_fault s a b r (calls.unreadable f is) answer = answer
 no_fault s a b r calls.no_memory answer = answer
 no_fault s a b r (calls.no_memory_after f is) answer = answer
 
-one_end : WordsFollowFromPairs → (skipped : List ℕ) (files : Files) (s : Stage) (a b c d : Requests) (r q : Reply) → Leads skipped (Some files) s a r b → Leads skipped (Some files) s c q d → IsAnswer r.status → IsAnswer q.status → AreOne r q
+-- from a stage to the one before
+back : (W V : Type 0) (r q : Reply) → (W → V) → OneIf W r q → OneIf V r q
+back W V r q before (inl one) = inl one
+back W V r q before (inr (at, looks)) = inr (before at, looks)
+
+one_end : WordsFollowFromPairs → (skipped : List ℕ) (files : Files) (s : Stage) (a b c d : Requests) (r q : Reply) → Leads skipped (Some files) s a r b → Leads skipped (Some files) s c q d → IsAnswer r.status → IsAnswer q.status → OneIf (IsAt s) r q
 one_end law skipped files s a b c d r q (calls.answers _ _ _ _ x) (calls.answers _ _ _ _ y) p o = one_answer law skipped files s a b c d r q x y
 one_end law skipped files s a b c d r q (calls.answers _ _ _ _ x) (calls.fails _ _ _ _ y) p o = absurd (no_fault s c d q y o)
 one_end law skipped files s a b c d r q (calls.answers _ _ _ _ x) (calls.accepted _ t g text _ _ _ is holds judges leads) p o = absurd (no_answer law skipped files s t g text a b r x is holds judges)
@@ -150,7 +164,8 @@ one_end law skipped files s a b c d r q (calls.accepted _ t f bytes _ _ _ is hol
 one_end law skipped files s a b c d r q (calls.accepted _ t f bytes _ _ _ is holds judges leads) (calls.fails _ _ _ _ y) p o = absurd (no_fault s c d q y o)
 one_end law skipped files s a b c d r q (calls.accepted _ t f bytes _ _ _ is holds judges leads) (calls.accepted _ u g text _ _ _ also holds_g judges_g leads_g) p o =
     let same : t ≡ u = same_verdict law skipped files s f g bytes text (Ok t) (Ok u) is also holds holds_g judges judges_g in
-    one_end law skipped files u (and_asked a (request_of f)) b (and_asked c (request_of g)) d r q (subst (λ (x : Stage). Leads skipped (Some files) x (and_asked a (request_of f)) r b) same leads) leads_g p o
+    back (IsAt u) (IsAt s) r q (at_before s u text judges_g)
+    (one_end law skipped files u (and_asked a (request_of f)) b (and_asked c (request_of g)) d r q (subst (λ (x : Stage). Leads skipped (Some files) x (and_asked a (request_of f)) r b) same leads) leads_g p o)
 
 -- ---- calls
 
@@ -162,10 +177,14 @@ ends_alone skipped files s a b r none (calls.answers _ _ _ _ (calls.refused f by
 ends_alone skipped files s a b r none (calls.fails _ _ _ _ x) answer = absurd (no_fault s a b r x answer)
 ends_alone skipped files s a b r none (calls.accepted _ t f bytes _ _ _ is holds judges leads) answer = absurd (cc (none, is))
 
-pub one_reply : WordsFollowFromPairs → (call : Call) (r q : Reply) → IsKnown call → CallsFor call r → CallsFor call q → AreOne r q
+pub one_reply : WordsFollowFromPairs → (call : Call) (r q : Reply) → IsKnown call → CallsFor call r → CallsFor call q → OneIf (IsWatch (command_of call.words)) r q
 one_reply law call r q (inl none) (p, (a, b, leads)) (o, (c, d, also)) =
-    let first = first_stage (command_of call.words) in
-    one_end_reply law call.skipped first r q (ends_alone call.skipped call.files first a b r none leads p) (ends_alone call.skipped call.files first c d q none also o)
+    let given = command_of call.words in
+    let first = first_stage given in
+    back (IsAt first) (IsWatch given) r q (at_first given)
+    (one_end_reply law call.skipped first r q (ends_alone call.skipped call.files first a b r none leads p) (ends_alone call.skipped call.files first c d q none also o))
 one_reply law call r q (inr (files, told)) (p, (a, b, leads)) (o, (c, d, also)) =
-    let first = first_stage (command_of call.words) in
-    one_end law call.skipped files first a b c d r q (subst (λ (f : Option Files). Leads call.skipped f first a r b) told leads) (subst (λ (f : Option Files). Leads call.skipped f first c q d) told also) p o
+    let given = command_of call.words in
+    let first = first_stage given in
+    back (IsAt first) (IsWatch given) r q (at_first given)
+    (one_end law call.skipped files first a b c d r q (subst (λ (f : Option Files). Leads call.skipped f first a r b) told leads) (subst (λ (f : Option Files). Leads call.skipped f first c q d) told also) p o)

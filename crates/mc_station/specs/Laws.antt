@@ -1,6 +1,7 @@
 -- Laws of what calls lead to.
-use Rattle.std.specs.Prelude.{◌≡◌, ◌↔◌, ◌++◌, ℕ, List, [], None, Some, Option, option_map, take}
-use Rattle.mc_command.specs.Command.{command_of}
+use Rattle.std.specs.Prelude.{◌≡◌, ◌⊎◌, ◌↔◌, ◌++◌, ℕ, List, [], None, Some, Option, option_map, take, ⊤}
+use Rattle.mc_command.specs.Command as command
+use Rattle.mc_command.specs.Command.{Command, Task, command_of}
 use Rattle.mc_port.specs.Store.{Request, and_asked}
 use Rattle.mc_typed.specs.Plans.{Plan}
 use Rattle.mc_record.specs.Kept.{Kept}
@@ -14,13 +15,25 @@ use Rattle.mc_station.specs.Calls.{Call, CallsFor, IsKnown, LeadsTo, Requests}
 use Rattle.mc_station.specs.Source.{Accepted}
 use Rattle.mc_station.specs.commands.Merge.{IsJoined}
 use Rattle.mc_station.specs.commands.Record.{IsRecordOf}
+use Rattle.mc_station.specs.commands.Watch.{AreOnLooks}
 use Rattle.mc_station.specs.Stages.{file_of, first_stage, requests_left}
 
+-- the tests are watched while they run
+abbrev pub IsToWatch : Task → Type 0
+IsToWatch (command.watched looks) = ⊤
+IsToWatch task = ⊥
+
+-- the words are the command `watch`
+abbrev pub IsWatch : Option Command → Type 0
+IsWatch (Some (command.on_source name (command.run run))) = IsToWatch run.task
+IsWatch given = ⊥
+
 -- where all that the words ask for is told, they call for at most one reply, but for the place of
--- a fault of the syntax
+-- a fault of the syntax, and for what the looks of `watch` count
 abbrev pub OneReply : Type 0
 OneReply =
-    (call : Call) (r s : Reply) → IsKnown call → CallsFor call r → CallsFor call s → AreOne r s
+    (call : Call) (r s : Reply) → IsKnown call → CallsFor call r → CallsFor call s
+    → AreOne r s ⊎ (IsWatch (command_of call.words) × AreOnLooks r s)
 
 -- a reply that neither the outside nor memory decides has status 2 exactly where the words are not
 -- a command

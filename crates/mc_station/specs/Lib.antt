@@ -13,3 +13,4 @@ pub mod Outcome
 pub mod Seen
 -- What the tests gave, for the proofs alone.
 pub mod Ran
+pub mod Looked

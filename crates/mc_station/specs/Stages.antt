@@ -28,6 +28,7 @@ use Rattle.mc_station.specs.commands.Reduce.{Reduces}
 use Rattle.mc_station.specs.commands.Report.{Reports}
 use Rattle.mc_station.specs.commands.Selfload.{Loads}
 use Rattle.mc_station.specs.commands.Vectors.{Lists}
+use Rattle.mc_station.specs.commands.Watch.{Watches}
 
 -- what the last stage of a command stands on, beside its source
 pub data Basis : Type 0 where
@@ -79,6 +80,7 @@ abbrev pub justified_by : Task → Option (List ℕ)
 justified_by (command.report report) = report.justify
 justified_by command.vectors = None
 justified_by command.recorded = None
+justified_by (command.watched looks) = None
 justified_by (command.reduced mode) = None
 justified_by (command.listed listing) = listing.justify
 
@@ -192,6 +194,7 @@ abbrev pub Tells : (skipped : List ℕ) → Task → Accepted → List Plan → 
 Tells skipped (command.report report) accepted plans js = Reports skipped report accepted plans js
 Tells skipped command.vectors accepted plans js = Lists skipped accepted plans
 Tells skipped command.recorded accepted plans js = Records skipped accepted plans
+Tells skipped (command.watched looks) accepted plans js = Watches looks accepted plans
 Tells skipped (command.reduced mode) accepted plans js = Reduces skipped mode accepted plans
 Tells skipped (command.listed listing) accepted plans js = Listing skipped listing accepted plans js
 

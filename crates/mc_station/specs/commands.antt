@@ -7,3 +7,4 @@ pub mod Instrument
 pub mod Selfload
 pub mod Reduce
 pub mod List
+pub mod Watch

@@ -9,3 +9,4 @@ pub mod reduce;
 pub mod report;
 pub mod selfload;
 pub mod vectors;
+pub mod watch;

@@ -114,7 +114,7 @@ fn justified_by(task: Task<'_>) -> Option<&str>
     match task {
         Task::Report(report) => report.justify,
         Task::List(listing) => listing.justify,
-        Task::Vectors | Task::Record | Task::Reduce { .. } => None,
+        Task::Vectors | Task::Record | Task::Watch { .. } | Task::Reduce { .. } => None,
     }
 }
 

@@ -3,7 +3,8 @@ ghost use Rattle.mc_station.specs.Laws as laws;
 
 use mc_core::words_follow_from_pairs;
 
-/// Words and files call for at most one reply, but for the place of a fault of the syntax.
+/// Words and files call for at most one reply, but for the place of a fault of the syntax, and for
+/// what the looks of `watch` count.
 pub fn one_reply()
     ensures { laws.OneReply }
 {

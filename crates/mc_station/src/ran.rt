@@ -107,8 +107,8 @@ pub fn run_all<R: Threads + Sync, G: Gate, C: Closer>(
     }
 }
 
-// What the tests gave, with their names and states.
-fn gathered(
+/// What the tests gave, with their names and states.
+pub fn gathered(
     alloc: Global,
     matrix: Matrix,
     plans: &[TestPlan],

@@ -5,6 +5,7 @@ ghost use Rattle.mc_command.specs.Line.{words_of};
 ghost use Rattle.mc_command.specs.Seen.{RunIsInRange, seen_run};
 ghost use Rattle.mc_tests.specs.Seen.{seen_plans};
 ghost use Rattle.mc_replies.specs.Seen.{seen_file, seen_reply};
+ghost use Rattle.mc_station.specs.Looked.{IsOnMatrix};
 ghost use Rattle.mc_station.specs.Seen.{ArePlanned, AreReasons, IsBasis, IsInstrumented, IsOpened, IsReady, seen_accepted, seen_basis, seen_stage};
 ghost use Rattle.mc_station.specs.Stages.{Ends, Tells, after_tests, file_of, first_stage, last};
 
@@ -14,11 +15,12 @@ use crate::commands::analyse::analyse;
 use crate::commands::instrument::instrument;
 use crate::commands::merge::merge;
 use crate::commands::selfload::{Load, selfload};
+use crate::commands::watch::watch;
 use crate::means::Means;
 use crate::opened::Opened;
 use crate::ran::run_all;
 use crate::told::tell;
-use mc_command::{Action, Command, Report, Run, read_command};
+use mc_command::{Action, Command, Report, Run, Task, read_command};
 use mc_cover::Closer;
 use mc_oblige::Justification;
 use mc_port::Gate;
@@ -87,8 +89,37 @@ pub fn first_stage<'a>(alloc: Global, line: &'a [&'a str]) -> Result<Stage<'a>, 
     }
 }
 
-// What the command of a run tells of its tests.
+// What the command of a run tells of its tests once all of them have run.
 fn tested<'a, R: Threads + Sync, G: Gate, C: Closer>(
+    alloc: Global,
+    means: Means<'_, R, G, C>,
+    run: Run<'_>,
+    accepted: Accepted<'a>,
+    plans: &[TestPlan],
+    opened: Opened,
+    justifications: &[Justification],
+) -> Result<Reply<'a>, AllocError>
+    requires range { RunIsInRange run }
+    requires task { IsOnMatrix run.task }
+    requires instrumented { IsInstrumented accepted }
+    requires planned { ArePlanned accepted plans.now }
+    requires opened { IsOpened accepted plans.now opened }
+    requires reasons { AreReasons accepted justifications.now }
+    ensures { IfOk result (λ reply. Tells (C.skipped means.entry.closer.now)
+        (seen_run run.entry).task (seen_accepted accepted.entry) (seen_plans plans.now)
+        justifications.now (seen_reply reply)) }
+{
+    match run_all(alloc, means, run.workers, &accepted, plans, opened) {
+        Ok(ran) => tell(alloc, run.task, accepted, plans, ran, justifications),
+        Err(error) => {
+            drop(accepted);
+            Err(error)
+        }
+    }
+}
+
+// What the command of a run tells of its tests.
+fn run_for<'a, R: Threads + Sync, G: Gate, C: Closer>(
     alloc: Global,
     means: Means<'_, R, G, C>,
     run: Run<'_>,
@@ -106,11 +137,10 @@ fn tested<'a, R: Threads + Sync, G: Gate, C: Closer>(
         (seen_run run.entry).task (seen_accepted accepted.entry) (seen_plans plans.now)
         justifications.now (seen_reply reply)) }
 {
-    match run_all(alloc, means, run.workers, &accepted, plans, opened) {
-        Ok(ran) => tell(alloc, run.task, accepted, plans, ran, justifications),
-        Err(error) => {
-            drop(accepted);
-            Err(error)
+    match run.task {
+        Task::Watch { looks } => watch(alloc, means, run.workers, looks, accepted, plans, opened),
+        Task::Report(_) | Task::Vectors | Task::Record | Task::Reduce { .. } | Task::List(_) => {
+            tested(alloc, means, run, accepted, plans, opened, justifications)
         }
     }
 }
@@ -132,7 +162,7 @@ fn finished<'a, R: Threads + Sync, G: Gate, C: Closer>(
 {
     match basis {
         Basis::Tested(run, plans, opened) => {
-            tested(alloc, means, run, accepted, &plans, opened, justifications)
+            run_for(alloc, means, run, accepted, &plans, opened, justifications)
         }
         Basis::Recorded(asked, kept) => analyse(alloc, asked, accepted, kept, justifications),
     }

@@ -5,6 +5,7 @@ ghost use Rattle.mc_oblige.specs.Shown.{HasEvent};
 ghost use Rattle.mc_tests.specs.Seen.{seen_plans};
 ghost use Rattle.mc_record.specs.Kept.{IsKept};
 ghost use Rattle.mc_replies.specs.Seen.{seen_reply};
+ghost use Rattle.mc_station.specs.Looked.{IsOnMatrix};
 ghost use Rattle.mc_station.specs.Ran.{AreTold, IsRun, kept_in, seen_ran};
 ghost use Rattle.mc_station.specs.Seen.{AreReasons, IsInstrumented, seen_accepted};
 ghost use Rattle.mc_station.specs.Stages.{Tells};
@@ -62,7 +63,7 @@ fn listed<'a>(
     list(alloc, asked, accepted, &matrix, tests, justifications)
 }
 
-/// The reply of a task on the tests that were run. `plans` are the tests.
+/// The reply of a task on the matrix of the tests that were run. `plans` are the tests.
 pub fn tell<'a>(
     alloc: Global,
     task: Task<'_>,
@@ -71,6 +72,7 @@ pub fn tell<'a>(
     ran: Ran,
     justifications: &[Justification],
 ) -> Result<Reply<'a>, AllocError>
+    requires task { IsOnMatrix task }
     requires instrumented { IsInstrumented accepted }
     requires told { AreTold (seen_accepted accepted) ran.matrix (seen_ran ran) }
     requires kept { IsKept (kept_in accepted.source.now ran) }
@@ -83,6 +85,7 @@ pub fn tell<'a>(
     match task {
         Task::Report(asked) => reported(alloc, asked, accepted, ran, justifications),
         Task::Vectors => vectors(alloc, accepted, &ran),
+        Task::Watch { .. } => unreachable!(),
         Task::Reduce { mode } => reduce(alloc, mode, accepted, &ran),
         Task::List(asked) => listed(alloc, asked, accepted, ran, justifications),
         Task::Record => {

@@ -79,6 +79,7 @@ usage: mcdc report SOURCE TESTS [--mode unique|masking] [--workers N] [--fuel N]
        mcdc analyse SOURCE RECORD [--mode unique|masking] [--justify NAME] \
 [--format text|csv|json]
        mcdc selfload N [--workers N]
+       mcdc watch SOURCE TESTS [--workers N] [--fuel N] [--looks N]
        mcdc reduce SOURCE TESTS [--mode unique|masking] [--workers N] [--fuel N]
        mcdc list SOURCE TESTS [--mode unique|masking] [--workers N] [--fuel N] \
 [--justify NAME]

@@ -37,6 +37,8 @@ mod text;
 #[cfg(test)]
 mod truth_tables;
 #[cfg(test)]
+mod watched;
+#[cfg(test)]
 mod worked;
 #[cfg(test)]
 mod workers;

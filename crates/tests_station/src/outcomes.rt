@@ -14,6 +14,7 @@ const USAGE: &str = "usage: mcdc report SOURCE TESTS [--mode unique|masking] [--
     \x20      mcdc analyse SOURCE RECORD [--mode unique|masking] [--justify NAME] \
     [--format text|csv|json]\n\
     \x20      mcdc selfload N [--workers N]\n\
+    \x20      mcdc watch SOURCE TESTS [--workers N] [--fuel N] [--looks N]\n\
     \x20      mcdc reduce SOURCE TESTS [--mode unique|masking] [--workers N] [--fuel N]\n\
     \x20      mcdc list SOURCE TESTS [--mode unique|masking] [--workers N] [--fuel N] \
     [--justify NAME]\n";
@@ -61,6 +62,11 @@ vectors|-s.c|t.csv
 vectors|s.c|-t.csv
 vectors|s.c|--
 vectors|--|s.c|t.csv|--fuel|8
+watch|s.c|t.csv|--looks|0
+watch|s.c|t.csv|--looks|101
+watch|s.c|t.csv|--looks|01
+watch|s.c|t.csv|--workers|64
+watch|s.c
 instrument
 instrument|s.c|t.csv
 instrument|s.c|--fuel|8

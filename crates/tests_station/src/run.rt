@@ -187,6 +187,24 @@ pub fn gives<R: Threads + Sync>(
     gives_by(rt, alloc, setting, &OpenGate::new(), &PlainCloser, want)
 }
 
+/// What a run through this gate and by this closer writes, where it gives this status and nothing
+/// goes to the errors' sink.
+pub fn output_by<R: Threads + Sync, G: Gate, C: Closer>(
+    rt: &R,
+    alloc: Global,
+    setting: &Setting<'_>,
+    gate: &G,
+    closer: &C,
+    status: u8,
+) -> Result<Vec<u8>, Fail> {
+    let given = run_by(rt, alloc, setting, gate, closer)?;
+    let is_wanted = given.status == status && given.diag.bytes().is_empty();
+    let out = given.out.bytes().to_vec(alloc);
+    drop(given);
+    let out = out?;
+    if is_wanted { Ok(out) } else { Err(Fail) }
+}
+
 /// Whether a run with a tests file of no test refuses this source with a line that ends so.
 pub fn is_refused<R: Threads + Sync>(
     rt: &R,

@@ -3,10 +3,10 @@ use Rattle.mc_station.specs.Calls.{call_of}
 use Rattle.mc_replies.specs.Reply.{out_of_memory}
 use Rattle.mc_replies.specs.Seen.{seen_reply}
 use Rattle.mc_replies.specs.Status.{number_of}
-use Rattle.mc_replies.proofs.Phases.{same_status}
 use Rattle.mc_replies.proofs.Statuses.{is_answer, seven}
 use Rattle.mc_station.proofs.Parts.{nothing_put}
 use Rattle.mc_station.proofs.Ends.{never_unwritten}
+use Rattle.mc_station.proofs.Watching.{same_status}
 use Rattle.mc_station.proofs.top.station.Goals as goal
 
 pub returns-in-Ok-put-clause-unwritten : goal.returns-in-Ok-put-clause-unwritten
@@ -20,7 +20,7 @@ returns-in-Ok-put-clause-complete g c = λ reply known calls no_store no_out no_
     let given = seen_reply c.in-Ok.reply in
     let leads = c.in-Ok.ensures.leads in
     let answer = is_answer given.status (λ is. no_store (c.in-Ok.ensures.unreadable is)) (never_unwritten _ _ _ _ _ given leads) c.in-Ok.ensures.texts in
-    let same = same_status given reply (c.one_reply.ensures call given reply known (answer, (_, _, leads)) calls) in
+    let same = same_status _ given reply (c.one_reply.ensures call given reply known (answer, (_, _, leads)) calls) in
     inl (c.number.ensures ∙ ap number_of same)
 
 pub returns-clause-told : goal.returns-clause-told

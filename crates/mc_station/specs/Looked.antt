@@ -1,0 +1,19 @@
+-- What a watcher found while the tests were run, for the proofs alone.
+use Rattle.std.specs.Prelude.{◌≡◌, ◌≤◌, ℕ, List, All, length, ⊤}
+use Rattle.std.specs.List.Sorted.{IsNonDecreasing}
+use Rattle.mc_command.specs.declared.task.Task.{Task}
+use Rattle.mc_command.specs.declared.task.Task.TheVariants as task
+use Rattle.mc_core.specs.Matrix.{Holds, MatrixView}
+use Rattle.mc_watch.specs.Watched.{AreSoMany}
+
+-- so many looks at what was recorded: none counts less than the one before, and none more than all
+-- pairs of the matrix
+pub record IsLooked (looks : ℕ) (matrix : MatrixView) (counts : List ℕ) : Type 0 where
+  pub as_many : length counts ≡ looks
+  pub rising : IsNonDecreasing counts
+  pub within : (n : ℕ) → AreSoMany (Holds matrix) n → All (λ count. count ≤ n) counts
+
+-- a task that stands on what was recorded at the end alone
+abbrev pub IsOnMatrix : Task → Type 0
+IsOnMatrix (task.Watch looks) = ⊥
+IsOnMatrix given = ⊤
