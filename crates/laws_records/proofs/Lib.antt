@@ -4,3 +4,4 @@ pub mod TestLines
 pub mod BitLines
 pub mod Heads
 pub mod Wholes
+pub mod FirstLines

@@ -14,7 +14,7 @@ use Rattle.mc_replies.specs.Reply.{Reply, refusal}
 use Rattle.mc_replies.specs.declared.status.Status.TheVariants.{TestsRefused}
 use Rattle.mc_replies.proofs.Phases.{one_read}
 use Rattle.mc_station.specs.Laws.{IsLater}
-use Rattle.mc_station.specs.Records.{JudgesRecord, record_line}
+use Rattle.mc_station.specs.Records.{JudgesRecord, old_rules_hold, record_line}
 use Rattle.mc_station.specs.Source.{Accepted}
 use Rattle.mc_station.specs.commands.Merge.{Joins, Merges, pair_reply}
 use Rattle.mc_station.proofs.Written.{written_later}
@@ -30,7 +30,7 @@ same_kept law a b digest named state shape words others pairs =
     λ i. record { digest = digest i; names = named i; states = state i; matrix = record { shape = shape i; words = word i } }
 
 pub one_record_in : (accepted : Accepted) (name bytes : List ℕ) → IsOne (JudgesRecord accepted name bytes)
-one_record_in accepted name bytes = one_read (record_of (sha256 accepted.source) accepted.map.bits true bytes) (λ fault. refusal TestsRefused (record_line name fault))
+one_record_in accepted name bytes = one_read (record_of (sha256 accepted.source) accepted.map.bits (old_rules_hold accepted) bytes) (λ fault. refusal TestsRefused (record_line name fault))
 
 pub one_join : WordsFollowFromPairs → (left right : Kept) → IsOne (Joins left right)
 one_join law left right (Ok a) (Ok b) p q =

@@ -1,5 +1,5 @@
 -- Which bytes are a record of a source.
-use Rattle.std.specs.Prelude.{◌≡◌, true, ⊤, ℕ, List, [], codes, Option, Some, Result, Err}
+use Rattle.std.specs.Prelude.{◌≡◌, ⊤, ℕ, Bool, true, List, [], codes, Option, Some, Result, Err}
 use Rattle.sha2.specs.Sha256.{sha256}
 use Rattle.mc_record.specs.Kept.{Kept}
 use Rattle.mc_record.specs.Reading.{record_of}
@@ -25,10 +25,15 @@ record_line name (fault.Ending line) = kept_line name line (codes "ending")
 record_line name (fault.OldRules line) = kept_line name line (codes "old rules")
 record_line name fault.OutOfMemory = []
 
--- the record of a file that is accepted, or its first fault; one of version 1 is accepted, too
+-- A source none of whose decisions has an operator that is evaluated in full. No decision has one
+-- yet, so this holds of each source.
+abbrev pub old_rules_hold : Accepted → Bool
+old_rules_hold accepted = true
+
+-- the record of a file that is accepted, or its first fault
 abbrev pub JudgesRecord : Accepted → (name : List ℕ) → List ℕ → Result Kept Reply → Type 0
 JudgesRecord accepted name bytes =
-    Reads (record_of (sha256 accepted.source) accepted.map.bits true bytes)
+    Reads (record_of (sha256 accepted.source) accepted.map.bits (old_rules_hold accepted) bytes)
     (λ fault. refusal TestsRefused (record_line name fault))
 
 -- the fault, unless memory ran out

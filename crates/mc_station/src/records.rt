@@ -11,7 +11,7 @@ ghost use Rattle.mc_replies.specs.Seen.{Gives};
 ghost use Rattle.mc_replies.specs.declared.refusal.Refusal.TheVariants as why;
 ghost use Rattle.mc_replies.specs.declared.status.Status.TheVariants.{TestsRefused};
 ghost use Rattle.mc_replies.specs.declared.stop.Stop.TheVariants as stop;
-ghost use Rattle.mc_station.specs.Records.{GivesFault, GivesPair, JudgesRecord, record_line};
+ghost use Rattle.mc_station.specs.Records.{GivesFault, GivesPair, JudgesRecord, old_rules_hold, record_line};
 ghost use Rattle.mc_station.specs.Seen.{IsInstrumented, IsReady, IsRecordIn, seen_accepted, seen_stage};
 ghost use Rattle.mc_station.specs.Stages.{Judges, kept, left, right};
 ghost use Rattle.mc_station.specs.commands.Merge.{Joins};
@@ -65,7 +65,14 @@ fn pair_stop<'a>(fault: PairFault) -> Stop<'a>
     }
 }
 
-// The record of the source that the bytes are. A record of version 1 is one, too.
+// Whether a record of version 1 has the bits of this source.
+fn old_rules_hold(_accepted: &Accepted<'_>) -> bool
+    ensures { result ≡ old_rules_hold (seen_accepted _accepted.now) }
+{
+    true
+}
+
+// The record of the source that the bytes are.
 fn judge_record<'a>(
     alloc: Global,
     accepted: &Accepted<'_>,
@@ -78,7 +85,8 @@ fn judge_record<'a>(
     ensures of_source { IfOk result (IsRecordIn accepted.now) }
 {
     let digest = digest_of(accepted.source);
-    match read_record(alloc, bytes, &digest, accepted.map.bits, true) {
+    let old_rules = old_rules_hold(accepted);
+    match read_record(alloc, bytes, &digest, accepted.map.bits, old_rules) {
         Ok(record) => Ok(record),
         Err(fault) => Err(stop_of(name, fault)),
     }

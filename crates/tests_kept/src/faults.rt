@@ -34,10 +34,11 @@ const SHORT_DIGEST: &str =
     "source 8200d2384991a90c0fb5f6a208a7f0176cae5c6443e46177ef6bfd44c40d4ca\n";
 
 /// The number of a line, the text in its place, the line of the fault and its word.
-static EDITS: [(usize, &str, usize, &str); 42] = [
+static EDITS: [(usize, &str, usize, &str); 43] = [
     (1, "mcdc-record 3\n", 1, "header"),
     (1, "mcdc-record 2\r\n", 1, "header"),
     (1, "mcdc-record 2", 1, "header"),
+    (1, "mcdc-record 1\r\n", 1, "header"),
     (1, "", 1, "header"),
     (2, UPPER_DIGEST, 2, "header"),
     (2, SHORT_DIGEST, 2, "header"),

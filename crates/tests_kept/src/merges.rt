@@ -96,15 +96,25 @@ bit 5 0000000000000004
 end
 ";
 
-/// The records left and right, and that of both, each from the number of tests on.
-static ROWS: [(&str, &str, &str); 7] = [
-    (FIRST, LAST_TWO, BODY),
-    (FIRST_TWO, LAST, BODY),
-    (LAST_TWO, FIRST, LAST_TWO_AND_FIRST),
-    (FIRST_FAILS, LAST_TWO, FAIL_AND_LAST_TWO),
-    (EMPTY, BODY, BODY),
-    (BODY, EMPTY, BODY),
-    (EMPTY, EMPTY, EMPTY),
+/// The first lines of a record of an earlier version, which has the same lines else.
+const EARLIER: &str = "\
+mcdc-record 1
+source 8200d2384991a90c0fb5f6a208a7f0176cae5c6443e46177ef6bfd44c40d4caf
+bits 6
+";
+
+/// The records left and right, with their first lines, and that of both from the number of tests on.
+static ROWS: [((&str, &str), (&str, &str), &str); 10] = [
+    ((HEAD, FIRST), (HEAD, LAST_TWO), BODY),
+    ((HEAD, FIRST_TWO), (HEAD, LAST), BODY),
+    ((HEAD, LAST_TWO), (HEAD, FIRST), LAST_TWO_AND_FIRST),
+    ((HEAD, FIRST_FAILS), (HEAD, LAST_TWO), FAIL_AND_LAST_TWO),
+    ((HEAD, EMPTY), (HEAD, BODY), BODY),
+    ((HEAD, BODY), (HEAD, EMPTY), BODY),
+    ((HEAD, EMPTY), (HEAD, EMPTY), EMPTY),
+    ((EARLIER, FIRST), (HEAD, LAST_TWO), BODY),
+    ((HEAD, FIRST_TWO), (EARLIER, LAST), BODY),
+    ((EARLIER, LAST_TWO), (EARLIER, FIRST), LAST_TWO_AND_FIRST),
 ];
 
 const MERGE: &str = "merge|s.c|LEFT|RIGHT";
@@ -133,13 +143,13 @@ fn gives_both<R: Threads + Sync>(
 fn is_joined<R: Threads + Sync>(
     rt: &R,
     alloc: Global,
-    left: &str,
-    right: &str,
+    left: (&str, &str),
+    right: (&str, &str),
     both: &str,
 ) -> Result<bool, Fail> {
     let out = format!(in alloc; "{HEAD}{both}")?;
     let want = (0, out.as_str(), "");
-    let is_wanted = gives_both(rt, alloc, (HEAD, left), (HEAD, right), want);
+    let is_wanted = gives_both(rt, alloc, left, right, want);
     drop(out);
     is_wanted
 }
@@ -147,10 +157,7 @@ fn is_joined<R: Threads + Sync>(
 #[test]
 fn both_records(rt: HostRuntime) -> Result<(), Fail> {
     for (left, right, both) in &ROWS {
-        assert!(rt;
-            is_joined(&rt, rt.alloc(), left, right, both)?,
-            "{left} {right}"
-        );
+        assert!(rt; is_joined(&rt, rt.alloc(), *left, *right, both)?, "{both}");
     }
     Ok(())
 }
@@ -159,13 +166,6 @@ fn both_records(rt: HostRuntime) -> Result<(), Fail> {
 const OTHER: &str = "\
 mcdc-record 2
 source 5dc9193b78b2e85c049ce64ed00b85b45b97627669d0ac22334e5d8c4934e720
-bits 6
-";
-
-/// The first lines of a record of an earlier version, which has the same lines else.
-const EARLIER: &str = "\
-mcdc-record 1
-source 8200d2384991a90c0fb5f6a208a7f0176cae5c6443e46177ef6bfd44c40d4caf
 bits 6
 ";
 

@@ -16,6 +16,9 @@ record line 1: header@1@$
 record line 1: header@1@mcdc-record 0$
 record line 1: header@1@mcdc-record 3$
 record line 1: header@1@mcdc-record 22$
+record line 1: header@1@mcdc-record 11$
+record line 1: header@1@mcdc-record 12$
+record line 1: header@1@mcdc-record 21$
 record line 1: header@1@mcdc-record 02$
 record line 1: header@1@mcdc-record 2 $
 record line 1: header@1@ mcdc-record 2$
