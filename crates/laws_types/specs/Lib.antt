@@ -9,3 +9,6 @@ pub mod Statements
 pub mod Silence
 pub mod ConstantExpressions
 pub mod WholeEffects
+pub mod Source
+pub mod SourceUnits
+pub mod Decided

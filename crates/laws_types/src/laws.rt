@@ -2,12 +2,25 @@
 ghost use Rattle.laws_types.specs.Constants.{ConstantsHaveTheirTypes, NarrowWords, WideWords};
 ghost use Rattle.laws_types.specs.ConstantExpressions.{ConstantExpressionsAreTold};
 ghost use Rattle.laws_types.specs.Conversions.{AssignedIsConverted, LabelsArePromoted, OneIsPromoted, OperandsAreConverted};
+ghost use Rattle.laws_types.specs.Decided.{DecisionsStandInTheSource};
 ghost use Rattle.laws_types.specs.Exact.{UnitsAreExact};
 ghost use Rattle.laws_types.specs.Heights.{ExpressionsHaveLevels, StatementsHaveLevels};
 ghost use Rattle.laws_types.specs.Operators.{AssignmentsAreKept, OperatorsAreKept};
 ghost use Rattle.laws_types.specs.Places.{CallsAreResolved, NamesAreResolved};
+ghost use Rattle.laws_types.specs.SourceUnits.{ProgramsHaveTheirSource};
 ghost use Rattle.laws_types.specs.Statements.{StatementsAreKept};
 ghost use Rattle.laws_types.specs.WholeEffects.{WholeEffectsUseNoValue};
+
+/// The typed program of every unit has the operators of its source, in their order and with the
+/// same operands, and each node stands where that of the source stands.
+pub fn programs_have_their_source()
+    ensures { ProgramsHaveTheirSource }
+{}
+
+/// Roots of decisions and their conditions stand where expressions of the source stand.
+pub fn decisions_stand_in_the_source()
+    ensures { DecisionsStandInTheSource }
+{}
 
 /// Each operator of the source is the same one in the typed program, with its operands in order.
 pub fn operators_are_kept()

@@ -10,7 +10,7 @@ one_line = (refl, refl)
 
 pub marked : Marked
 unfolding digits
-marked = (refl, refl, refl)
+marked = (refl, refl, refl, refl)
 
 pub line_ends : LineEnds
 unfolding digits

@@ -19,7 +19,8 @@ OneLine =
     ((4, Met) ∷ (19, Met) ∷ (19, Met) ∷ (26, Met) ∷ (26, Met) ∷ (26, Met) ∷ (29, Missing) ∷ [])
     (codes "      1 ! | int f(int a,int b){return a&&b;}")
 
--- a line on which nothing starts, then one with each verdict, and with worse ones on the same line
+-- a line on which nothing starts, then one with each verdict, and with worse ones on the same line,
+-- after it and before it
 abbrev pub Marked : Type 0
 Marked =
     IsListed (codes "a\nbc\nd\nef\ng\n")
@@ -28,6 +29,9 @@ Marked =
     × IsListed (codes "a\nbc\nd\nef\ng\n")
     ((3, Met) ∷ (2, Justified) ∷ (5, Justified) ∷ (5, Stale) ∷ (8, Stale) ∷ (7, Missing) ∷ [])
     (codes "      1   | a\n      2 j | bc\n      3 ~ | d\n      4 ! | ef\n      5   | g\n")
+    × IsListed (codes "a\nbc\n")
+    ((0, Stale) ∷ (0, Justified) ∷ (2, Missing) ∷ (3, Met) ∷ [])
+    (codes "      1 ~ | a\n      2 ! | bc\n")
     × IsListed [] [] []
 
 -- CR LF, a line without bytes but LF, no last LF, and bytes above 127

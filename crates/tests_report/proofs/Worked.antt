@@ -11,7 +11,7 @@ use Rattle.tests_report.specs.Forms.{AllMetCsv, AllMetJson, Fields, LongName, Re
 use Rattle.tests_report.specs.Flap.{Reasoned, Unreasoned}
 use Rattle.tests_report.specs.Places.{TwoFunctions, counted_bodies, labelled_bodies, labels_asked, statements_asked}
 use Rattle.tests_report.specs.Whole.{InCsv, InJson, InText, InTextOfRecord, Vectors}
-use Rattle.tests_report.specs.Rows.{AllMet, Failed, Ids, Limits, Negated, NoneRun, Reasons, Settled, States, SummedUp, TestLines, TwoAnds, TwoOrs}
+use Rattle.tests_report.specs.Rows.{AllMet, Escaped, Failed, Ids, Limits, Negated, NoneRun, Reasons, Settled, States, SummedUp, TestLines, TwoAnds, TwoOrs}
 
 pub all_met : AllMet
 unfolding digits
@@ -28,6 +28,10 @@ none_run = refl
 pub reasons : Reasons
 unfolding digits serde_json_on_literals
 reasons = refl
+
+pub escaped_reason : Escaped
+unfolding digits serde_json_on_literals
+escaped_reason = refl
 
 pub settled : Settled
 settled = (refl, refl, refl)

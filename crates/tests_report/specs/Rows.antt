@@ -11,6 +11,7 @@ use Rattle.mc_oblige.specs.declared.mode.Mode.{Mode}
 use Rattle.mc_oblige.specs.declared.mode.Mode.TheVariants.{Unique, Masking}
 use Rattle.mc_oblige.specs.declared.obligation.ObligationId.TheVariants.{Entry, Exit, Statement, Label, Outcome, Condition}
 use Rattle.mc_oblige.specs.declared.verdict.Verdict.{Verdict}
+use Rattle.mc_oblige.specs.declared.verdict.VerdictState.TheVariants.{Stale}
 use Rattle.mc_report.specs.Words.{id_text, state_word}
 use Rattle.mc_report.specs.Report.{Report}
 use Rattle.mc_report.specs.Lines.{kept_lines, run_lines, verdict_lines}
@@ -139,6 +140,31 @@ Reasons =
     ∷ codes "D1F 1:27 met by t2"
     ∷ codes "D1C1 1:27 met TT=T by t1 F-=F by t2"
     ∷ codes "D1C2 1:30 justified \"b is stuck\""
+    ∷ [])
+
+-- a reason with characters that JSON escapes, and a condition that has a pair and a reason
+abbrev pub escaped : Report
+escaped =
+    record reasons {
+      verdicts = met 0 ∷ met 0 ∷ met 0 ∷ met 0 ∷ met 1
+          ∷ record (paired 0 0 2 1) {
+            state = Stale;
+            reason = Some (codes "say \"a\",\n\\" ++ 1 ∷ []);
+          }
+          ∷ missing
+          ∷ [];
+    }
+
+abbrev pub Escaped : Type 0
+Escaped =
+    verdict_lines escaped escaped.obligations escaped.verdicts ≡ lines (
+    codes "E1 1:5 met by t1"
+    ∷ codes "X1 1:20 met by t1"
+    ∷ codes "S1 1:20 met by t1"
+    ∷ codes "D1T 1:27 met by t1"
+    ∷ codes "D1F 1:27 met by t2"
+    ∷ codes "D1C1 1:27 stale TT=T by t1 F-=F by t2 \"say \\\"a\\\",\\n\\\\\\u0001\""
+    ∷ codes "D1C2 1:30 missing"
     ∷ [])
 
 -- of the two reports with one kind of reason each

@@ -5,7 +5,7 @@ ghost use Rattle.tests_report.specs.Exits.{exits_asked, loops, plain, switches};
 ghost use Rattle.tests_report.specs.Flap.{Reasoned, Unreasoned};
 ghost use Rattle.tests_report.specs.Forms.{AllMetCsv, AllMetJson, Fields, LongName, ReasonsCsv, ReasonsJson, TestsJson};
 ghost use Rattle.tests_report.specs.Places.{TwoFunctions, counted_bodies, labelled_bodies, labels_asked, statements_asked};
-ghost use Rattle.tests_report.specs.Rows.{AllMet, Failed, Ids, Limits, Negated, NoneRun, Reasons, Settled, States, SummedUp, TestLines, TwoAnds, TwoOrs};
+ghost use Rattle.tests_report.specs.Rows.{AllMet, Escaped, Failed, Ids, Limits, Negated, NoneRun, Reasons, Settled, States, SummedUp, TestLines, TwoAnds, TwoOrs};
 ghost use Rattle.tests_report.specs.Whole.{InCsv, InJson, InText, InTextOfRecord, Vectors};
 
 /// A whole report where all is met, by either kind of independence.
@@ -32,6 +32,11 @@ pub fn flap_controller()
 /// Reasons of justifications.
 pub fn reasons()
     ensures { Reasons }
+{}
+
+/// A reason with characters that are escaped, on a condition that has a pair too.
+pub fn escaped()
+    ensures { Escaped }
 {}
 
 /// Justified obligations leave the status 0; stale and missing ones do not.

@@ -91,6 +91,24 @@ D1 TT=T by t1
 D1 TF=F by t2
 D1 F-=F by t3
 @~
+the vectors of two decisions@vectors|s.c|t.csv@\
+int f(int a,int b){return (a&&b)+(a||b);}@\
+test,call,arguments,inputs,expect,output
+t1,f,0 1,,,
+t2,f,1 1,,,
+t3,f,1 0,,,
+t4,f,0 1,,,
+@0@\
+test t1 pass values 1 output
+test t2 pass values 2 output
+test t3 pass values 1 output
+test t4 pass values 1 output
+D1 TT=T by t2
+D1 TF=F by t3
+D1 F-=F by t1
+D2 T-=T by t2
+D2 FT=T by t1
+@~
 a condition without a pair@report|s.c|t.csv@\
 int f(int a,int b){return a&&b;}@\
 test,call,arguments,inputs,expect,output
