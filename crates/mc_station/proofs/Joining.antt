@@ -56,7 +56,7 @@ same : (o : Option (ℕ × ℕ)) (later : Option PairFault) → later ≢ Some p
 same (Some (left, right)) later none is = cc is
 same None later none is = none is
 
-no_memory : (left right : Kept) → pair_fault left right ≢ Some pair.OutOfMemory
+pub no_memory : (left right : Kept) → pair_fault left right ≢ Some pair.OutOfMemory
 no_memory left right = same (same_test left.names right.names) (size_fault left right) (size _ _ _ (large _ _))
 
 pair_later : (left right : Kept) (fault : PairFault) → pair_fault left right ≡ Some fault → IsLater (pair_reply fault)

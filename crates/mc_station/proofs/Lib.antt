@@ -1,4 +1,6 @@
 pub mod Both
+pub mod Calling
+pub mod Causes
 pub mod Decided
 pub mod Ends
 pub mod Few
@@ -25,6 +27,7 @@ pub mod Refusing
 pub mod Reported
 pub mod Reporting
 pub mod Short
+pub mod Silence
 pub mod Summing
 pub mod Unique
 pub mod Watching

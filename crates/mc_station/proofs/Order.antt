@@ -138,15 +138,15 @@ few_requests (Some (command.on_source name (command.analyse record_name report))
 
 -- ---- what was asked
 
-none_more : (asked : Requests) → asked ≡ and_all asked []
+pub none_more : (asked : Requests) → asked ≡ and_all asked []
 none_more None = refl
 none_more (Some rs) = ap Some (sym (append-nil rs))
 
-one_more : (asked : Requests) (r : Request) → and_asked asked r ≡ and_all asked (r ∷ [])
+pub one_more : (asked : Requests) (r : Request) → and_asked asked r ≡ and_all asked (r ∷ [])
 one_more None r = refl
 one_more (Some rs) r = refl
 
-and_more : (asked : Requests) (r : Request) (rs : List Request) → and_all (and_asked asked r) rs ≡ and_all asked (r ∷ rs)
+pub and_more : (asked : Requests) (r : Request) (rs : List Request) → and_all (and_asked asked r) rs ≡ and_all asked (r ∷ rs)
 and_more None r rs = refl
 and_more (Some qs) r rs = ap Some (append_assoc qs (r ∷ []) rs)
 

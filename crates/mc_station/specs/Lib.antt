@@ -7,6 +7,8 @@ pub mod Justified
 pub mod Stages
 pub mod Calls
 pub mod Laws
+pub mod Causes
+pub mod Statuses
 -- What the top call leaves.
 pub mod Outcome
 -- What clauses see of the program's types.

@@ -14,6 +14,7 @@ mod records;
 mod run;
 mod source;
 mod stage;
+pub mod statuses;
 mod tested;
 mod told;
 mod top;
