@@ -1,0 +1,13 @@
+pub mod Past
+pub mod Decided
+pub mod Listed
+pub mod Numbered
+pub mod Chosen
+pub mod Picked
+pub mod Holding
+pub mod Made
+pub mod Sound
+pub mod Mutated
+pub mod Small
+pub mod OneRoots
+pub mod Rooted

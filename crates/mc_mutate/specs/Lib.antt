@@ -1,0 +1,7 @@
+pub mod Changes
+pub mod Mutants
+pub mod Told
+pub mod Kills
+pub mod Worked
+pub mod Laws
+pub mod steps

@@ -1,0 +1,12 @@
+//! Mutants of decisions: programs that differ from a program in one node or one condition of a
+//! decision.
+#![tactic(auto)]
+
+mod changes;
+mod laws;
+mod numbers;
+mod search;
+
+pub use changes::{Change, MutantKind};
+pub use laws::{changes_are_of_roots, counts_are_small, mutants_are_sound, worked_mutants};
+pub use numbers::{change, count_mutants};

@@ -1,0 +1,94 @@
+//! The search in one decision.
+ghost use Rattle.std.specs.Prelude.{◌≡◌};
+ghost use Rattle.mc_typed.specs.Views.{expression_of};
+ghost use Rattle.mc_roots.specs.Nodes as nodes;
+ghost use Rattle.mc_mutate.specs.steps.Search as search;
+
+use crate::changes::MutantKind;
+use crate::search::constants::is_root;
+use crate::search::sought::{Sought, pass};
+use mc_roots::{Role, is_boolean};
+use mc_typed::{Expression, Span};
+
+/// Goes on in the decision with this root, where the expression is one.
+pub(super) fn own(sought: Sought, role: Role, tree: &Expression) -> Sought
+    ensures { result ≡ search.own role (nodes.expression (expression_of tree.now)) sought }
+{
+    if is_root(role, tree) {
+        in_decision(sought, tree)
+    } else {
+        sought
+    }
+}
+
+/// Goes on in the decision with this root: in its nodes, and then in its conditions.
+fn in_decision(sought: Sought, tree: &Expression) -> Sought
+    ensures { result ≡ search.in_decision (nodes.expression (expression_of tree.now)) sought }
+{
+    in_conditions(in_nodes(sought, tree), tree)
+}
+
+/// Goes on in the nodes from this one down.
+pub(crate) fn in_nodes(sought: Sought, tree: &Expression) -> Sought
+    ensures { result ≡ search.in_nodes (nodes.expression (expression_of tree.now)) sought }
+{
+    match tree {
+        Expression::Not { operand, .. } | Expression::Probe { operand, .. } => {
+            in_nodes(sought, operand)
+        }
+        Expression::Logic {
+            left,
+            right,
+            span,
+            ..
+        } => {
+            let state = in_nodes(pass(sought, MutantKind::Exchanged, *span), left);
+            in_nodes(state, right)
+        }
+        Expression::Constant { .. }
+        | Expression::Read { .. }
+        | Expression::Unary { .. }
+        | Expression::Convert { .. }
+        | Expression::Binary { .. }
+        | Expression::Choice { .. }
+        | Expression::Call { .. }
+        | Expression::Input { .. } => sought,
+    }
+}
+
+/// Goes on in the conditions from this node down.
+fn in_conditions(sought: Sought, tree: &Expression) -> Sought
+    ensures { result ≡ search.in_conditions (nodes.expression (expression_of tree.now)) sought }
+{
+    match tree {
+        Expression::Not { operand, .. } | Expression::Probe { operand, .. } => {
+            in_conditions(sought, operand)
+        }
+        Expression::Logic { left, right, .. } => {
+            let state = in_conditions(sought, left);
+            in_conditions(state, right)
+        }
+        Expression::Constant { .. }
+        | Expression::Read { .. }
+        | Expression::Unary { .. }
+        | Expression::Convert { .. }
+        | Expression::Binary { .. }
+        | Expression::Choice { .. }
+        | Expression::Call { .. }
+        | Expression::Input { .. } => in_condition(sought, is_boolean(tree), tree.span()),
+    }
+}
+
+/// Goes on in a condition. `compares` says that its top operator is a relation or an equality.
+pub(crate) fn in_condition(sought: Sought, compares: bool, span: Span) -> Sought
+    ensures { result ≡ search.in_condition compares span sought }
+{
+    let state = pass(sought, MutantKind::Negated, span);
+    let state = pass(state, MutantKind::FixedTrue, span);
+    let state = pass(state, MutantKind::FixedFalse, span);
+    if compares {
+        pass(state, MutantKind::Shifted, span)
+    } else {
+        state
+    }
+}
