@@ -68,11 +68,6 @@ module _ (a : Given) (plans : List TestPlan) (opened : Opened) (pass : PassView)
         are.within n (so_many_same (Holds matrix) (λ b t. Contains pass.view.hits (b, t)) n pairs made);
   }
 
-  pub few_words : IsOpened a plans opened → word_count ran.matrix.shape ≤ most_words
-  few_words fresh =
-      let shapes : ran.matrix.shape ≡ opened.cover.shape = ap (λ (m : MatrixView). m.shape) same ∙ shape in
-      subst (λ (k : Shape). word_count k ≤ most_words) (sym shapes) fresh.small
-
 -- all pairs of a bit and a test are fewer than 2^32
 pub few_pairs : (k : Shape) → word_count k ≤ most_words → k.bits * k.tests < 2 ^ 32
 few_pairs k small =
