@@ -7,8 +7,8 @@ pub fn texts_are_read()
     ensures { TextsAreRead }
 {}
 
-/// A text has the fault `OldRules` exactly where line 1 is that of version 1 and the caller says that
-/// its rules do not hold.
+/// A text has the fault `OldRules` exactly where line 1 is that of version 1 and the caller says
+/// that its rules do not hold.
 pub fn old_texts_are_refused()
     ensures { OldTextsAreRefused }
 {}

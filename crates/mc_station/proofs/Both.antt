@@ -1,10 +1,9 @@
 -- The record of two records is that of the tests of both.
-use Rattle.std.proofs.Common.{◌≡◌, ◌∙◌, ◌+◌, ◌-◌, ◌<◌, ◌≤◌, ℕ, zero, suc, List, [], ◌∷◌, ◌++◌, length, None, Some, refl, sym, ap, subst, inl, inr, arith, length-append}
-use Rattle.std.specs.Prelude.{◌↔◌, Contains, slice_get}
+use Rattle.std.proofs.Common.{◌≡◌, ◌∙◌, ◌+◌, ◌-◌, ◌<◌, ◌≤◌, ℕ, zero, suc, List, [], ◌∷◌, ◌++◌, length, None, Some, sym, ap, subst, inl, inr, arith, length-append}
+use Rattle.std.specs.Prelude.{Contains, slice_get}
 use Rattle.std.proofs.lemmas.List.{map-append}
 use native.Mathlib.Decide.{dec_lt}
 use mathlib.Core.Logic.{dite}
-use Rattle.mc_core.specs.Matrix.{Holds}
 use Rattle.mc_core.specs.Merged.{HoldsEither}
 use Rattle.mc_core.specs.declared.shape.Shape.{Shape}
 use Rattle.mc_typed.specs.Plans.{Plan}

@@ -10,7 +10,7 @@ use Rattle.mc_replies.specs.declared.status.Status.{Status}
 use Rattle.mc_replies.specs.declared.status.Status.TheVariants as status
 use Rattle.mc_station.specs.Calls as calls
 use Rattle.mc_station.specs.Calls.{Call, CallsFor, Leads, Requests}
-use Rattle.mc_station.specs.Causes.{AsksReasons, Cause, MatrixIsRefusedAfter, TestsOrRecordsAreRefusedAfter, IsOfRefusal, MatrixIsRefused, PairIsRefused, ReasonsAreRefused, SourceIsRefused, TestsOrRecordsAreRefused, FileIsRefused, SourceIs}
+use Rattle.mc_station.specs.Causes.{AsksReasons, MatrixIsRefusedAfter, TestsOrRecordsAreRefusedAfter, IsOfRefusal, MatrixIsRefused, PairIsRefused, ReasonsAreRefused, SourceIsRefused, TestsOrRecordsAreRefused, FileIsRefused, SourceIs}
 use Rattle.mc_station.specs.Records.{JudgesRecord}
 use Rattle.mc_station.specs.Source.{Accepted, JudgesSource}
 use Rattle.mc_station.specs.Stages as stages

@@ -1,5 +1,5 @@
 -- A program has fewer than 2^31 obligations.
-use Rattle.std.proofs.Common.{◌≡◌, ◌+◌, ◌*◌, ◌<◌, ◌≤◌, ◌^◌, ◌++◌, ℕ, List, [], ◌∷◌, length, refl, ap, arith}
+use Rattle.std.proofs.Common.{◌≡◌, ◌+◌, ◌*◌, ◌<◌, ◌≤◌, ◌^◌, ◌++◌, ℕ, List, [], ◌∷◌, length, refl, arith}
 use Rattle.std.proofs.lemmas.List.{length-append}
 use Rattle.mc_span.specs.declared.span.Span.{Span}
 use Rattle.mc_probe.specs.Maps.{ArePlaced, IsMap, Map, Mapped, first_path}

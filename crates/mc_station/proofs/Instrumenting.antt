@@ -4,7 +4,6 @@ use Rattle.std.specs.Prelude.{All}
 use Rattle.std.proofs.lemmas.List.{length-map}
 use Rattle.std.proofs.lemmas.List.Elements.{All-nil, All-cons}
 use Rattle.mc_limits.specs.Limits.{most_source_bytes}
-use Rattle.mc_core.specs.declared.shape.Shape.{Shape}
 use Rattle.mc_typed.specs.Plans.{Fits, Plan, plan_of}
 use Rattle.mc_typed.specs.Sound.{IsSound}
 use Rattle.mc_typed.specs.Tree.{Program}

@@ -1,5 +1,5 @@
 -- The names of tests are text.
-use Rattle.std.proofs.Common.{◌≡◌, ◌<◌, ℕ, zero, suc, Bool, true, false, ◌&&◌, List, [], ◌∷◌, map, refl, arith}
+use Rattle.std.proofs.Common.{◌≡◌, ◌<◌, ℕ, zero, suc, Bool, true, false, ◌&&◌, List, [], ◌∷◌, refl, arith}
 use Rattle.std.specs.Prelude.{All, IsUtf8}
 use Rattle.std.specs.List.{list_all}
 use Rattle.std.specs.Str.{IsAscii}
@@ -8,7 +8,6 @@ use Rattle.std.proofs.lemmas.Str.{IsUtf8-from_ascii}
 use Rattle.mc_typed.specs.Plans.{Plan}
 use Rattle.mc_rows.specs.Names.{is_name, is_name_byte}
 use Rattle.mc_tests.specs.File.{AreNamed}
-use Rattle.mc_tests.specs.Tests.{names_of}
 use Rattle.mc_station.specs.Tests.{names}
 
 both : (x y : Bool) → (x && y) ≡ true → (x ≡ true) × (y ≡ true)

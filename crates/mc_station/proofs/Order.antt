@@ -1,5 +1,5 @@
 -- Files are asked for in the order of their command.
-use Rattle.std.proofs.Common.{◌≡◌, ◌∙◌, ◌++◌, ◌<◌, ◌≤◌, ℕ, suc, arith, length, List, [], ◌∷◌, Option, Some, None, Ok, Err, refl, sym, ap, subst, take, option_map, append_assoc}
+use Rattle.std.proofs.Common.{◌≡◌, ◌∙◌, ◌<◌, ◌≤◌, ℕ, suc, arith, length, List, [], ◌∷◌, Option, Some, None, Ok, refl, sym, ap, subst, take, append_assoc}
 use Rattle.std.proofs.lemmas.List.{append-nil}
 use Rattle.mc_command.specs.Command as command
 use Rattle.mc_command.specs.Command.{command_of}

@@ -1,5 +1,5 @@
 -- What was put of a piece is a first part of it.
-use Rattle.std.proofs.Common.{◌≡◌, ℕ, List, [], length, take, Option, sym, subst, arith, ◌≤◌, Result, Ok, Err, Some, None}
+use Rattle.std.proofs.Common.{ℕ, List, [], length, Option, sym, subst, arith, Result, Ok, Err, Some, None}
 use Rattle.std.proofs.lemmas.List.{append-nil, take_all}
 use Rattle.std.specs.Io.KnownBytes.{Appends}
 use Rattle.mc_port.specs.Sink.{AppendsPart, Puts}

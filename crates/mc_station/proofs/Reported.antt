@@ -1,5 +1,5 @@
 -- What the parts of the text of a command are, from what the tests gave.
-use Rattle.std.proofs.Common.{◌≡◌, ◌∙◌, ◌<◌, ◌^◌, ℕ, List, [], ◌∷◌, Some, Result, Ok, Err, length, map, refl, sym, ap, subst, arith}
+use Rattle.std.proofs.Common.{◌≡◌, ◌∙◌, ◌<◌, ◌^◌, ℕ, List, [], ◌∷◌, Some, Result, Ok, Err, length, map, refl, sym, ap, subst}
 use Rattle.std.specs.Prelude.{All, IfOk, IsUtf8}
 use Rattle.std.specs.declared.alloc.AllocError.{AllocError}
 use Rattle.std.proofs.lemmas.List.{length-map}
@@ -24,8 +24,6 @@ use Rattle.mc_oblige.specs.declared.evaluated.EvaluatedPath.{EvaluatedPath}
 use Rattle.mc_oblige.specs.declared.verdict.Verdict.{Verdict}
 use Rattle.mc_report.specs.Report as text
 use Rattle.mc_report.specs.Report.{AreJudged, IsReport}
-use Rattle.mc_report.specs.Status.{status_of}
-use Rattle.mc_report.specs.Forms.{lines_in_form}
 use Rattle.mc_report.specs.VectorsText.{IsPresent, vectors_lines}
 use Rattle.mc_report.proofs.Judging.{reported}
 use Rattle.mc_report.proofs.Present.{present}
@@ -36,7 +34,7 @@ use Rattle.mc_station.specs.Ran.{AreTold, IsRun, seen_ran}
 use Rattle.mc_station.specs.Tests.{Tested, names, results, stands, states, status_where, tested_of}
 use Rattle.mc_station.specs.commands.List.{Listing, ListingOn}
 use Rattle.mc_station.specs.commands.Reduce.{Reduces, ReducesOn}
-use Rattle.mc_station.specs.commands.Report.{Reports, ReportsOn, form_of, mode_of, report}
+use Rattle.mc_station.specs.commands.Report.{Reports, ReportsOn, mode_of, report}
 use Rattle.mc_station.specs.commands.Selfload.{Sums, SumsOn}
 use Rattle.mc_station.specs.commands.Vectors.{Lists, ListsOn}
 use Rattle.mc_station.specs.Source.{Accepted}

@@ -1,5 +1,5 @@
 -- The summary of `selfload`.
-use Rattle.std.proofs.Common.{◌≡◌, ◌↔◌, ◌∙◌, ℕ, List, [], sym, ap, subst}
+use Rattle.std.proofs.Common.{◌≡◌, ◌↔◌, ◌∙◌, ℕ, [], sym, ap, subst}
 use Rattle.mc_command.specs.declared.independence.Independence.TheVariants.{Masking}
 use Rattle.mc_steps.specs.Events.{Event}
 use Rattle.mc_report.specs.Report as text

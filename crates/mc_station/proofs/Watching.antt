@@ -1,7 +1,6 @@
 -- The command `watch`: what its looks counted, and its replies, of which there is one but for these counts.
-use Rattle.std.proofs.Common.{◌≡◌, ◌∙◌, ◌*◌, ◌^◌, ◌<◌, ◌≤◌, ◌⊎◌, ℕ, List, [], length, map, Option, Some, None, Result, Ok, ap, inl, inr, subst, sym, arith}
+use Rattle.std.proofs.Common.{◌≡◌, ◌∙◌, ◌*◌, ◌^◌, ◌<◌, ◌≤◌, ◌⊎◌, ℕ, List, [], length, map, Option, Some, None, Ok, ap, inl, inr, subst, sym, arith}
 use Rattle.std.specs.Prelude.{◌↔◌, Contains, Vec}
-use Rattle.std.specs.declared.alloc.AllocError.{AllocError}
 use Rattle.std.specs.declared.alloc.Global.{Global}
 use Rattle.std.proofs.Math.Nat.{mul-le-mul_left}
 use Rattle.mc_limits.specs.Limits.{most_words}
@@ -11,7 +10,6 @@ use Rattle.mc_core.specs.Matrix.{Holds, MatrixView}
 use Rattle.mc_core.specs.Shape.{rows, word_count}
 use Rattle.mc_core.specs.declared.shape.Shape.{Shape}
 use Rattle.mc_cover.specs.Model.{PassView}
-use Rattle.mc_cover.specs.declared.view.View.{View}
 use Rattle.mc_crew.specs.Crew.{HasAll}
 use Rattle.mc_meaning.specs.Seen.{told_of}
 use Rattle.mc_meaning.specs.declared.result.TestResult.{TestResult}
@@ -35,7 +33,7 @@ use Rattle.mc_station.specs.Seen.{ArePlanned, IsInstrumented, IsOpened, seen_acc
 use Rattle.mc_station.specs.Source.{Accepted}
 use Rattle.mc_station.specs.Stages as stages
 use Rattle.mc_station.specs.Stages.{Basis, Judges, Stage, after_source, after_tests, first_stage, justified_by}
-use Rattle.mc_station.specs.Tests.{names, shape_of, states, status_where}
+use Rattle.mc_station.specs.Tests.{names, states, status_where}
 use Rattle.mc_station.specs.commands.Record.{marked}
 use Rattle.mc_station.specs.commands.Watch.{AreOnLooks, Watches, watch_lines}
 use Rattle.mc_station.specs.declared.accepted.Accepted.{Accepted as Given}

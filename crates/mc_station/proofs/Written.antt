@@ -1,6 +1,6 @@
 -- A text that is written whole is an answer.
 use Rattle.std.proofs.Common.{ℕ, List}
-use Rattle.mc_replies.specs.Reply.{Reply, written}
+use Rattle.mc_replies.specs.Reply.{written}
 use Rattle.mc_replies.proofs.Phases.{written_answers, written_silent}
 use Rattle.mc_station.specs.Laws.{IsLater}
 

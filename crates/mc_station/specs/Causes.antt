@@ -117,7 +117,8 @@ TestsOrRecordsAreRefusedAfter files (command.analyse kept report) accepted r =
 abbrev pub TestsOrRecordsAreRefused : Option Files → Option Command → Reply → Type 0
 TestsOrRecordsAreRefused files None r = ⊥
 TestsOrRecordsAreRefused files (Some (command.on_source name action)) r =
-    (accepted : Accepted) × SourceIs files name accepted × TestsOrRecordsAreRefusedAfter files action accepted r
+    (accepted : Accepted) × SourceIs files name accepted
+    × TestsOrRecordsAreRefusedAfter files action accepted r
 TestsOrRecordsAreRefused files (Some (command.selfload count workers)) r =
     (accepted : Accepted) × JudgesSource (source_text count) (Ok accepted)
     × JudgesTests accepted.program usual_fuel (tests_text count) (Err r)
@@ -134,7 +135,8 @@ MatrixIsRefusedAfter files (command.analyse kept report) accepted r = ⊥
 abbrev pub MatrixIsRefused : Option Files → Option Command → Reply → Type 0
 MatrixIsRefused files None r = ⊥
 MatrixIsRefused files (Some (command.on_source name action)) r =
-    (accepted : Accepted) × SourceIs files name accepted × MatrixIsRefusedAfter files action accepted r
+    (accepted : Accepted) × SourceIs files name accepted
+    × MatrixIsRefusedAfter files action accepted r
 MatrixIsRefused files (Some (command.selfload count workers)) r =
     (accepted : Accepted) × JudgesSource (source_text count) (Ok accepted)
     × ((plans : List Plan) × JudgesTests accepted.program usual_fuel (tests_text count) (Ok plans)
@@ -151,7 +153,8 @@ ReasonsAreRefused files (Some (command.selfload count workers)) r = ⊥
 
 -- ---- each status
 
--- why a reply has this status, which is that of a refusal or of a failure; nothing is said of others
+-- why a reply has this status, which is that of a refusal or of a failure; of others nothing is
+-- said
 abbrev pub Cause : Option Files → Option Command → Reply → Status → Type 0
 Cause files given r Done = ⊥
 Cause files given r Incomplete = ⊥

@@ -1,5 +1,5 @@
 -- What clauses see of accepted sources and of stages.
-use Rattle.std.specs.Prelude.{◌≡◌, ◌≤◌, ◌<◌, ◌^◌, List, Ok, length, map, option_map, ⊤}
+use Rattle.std.specs.Prelude.{◌≡◌, ◌≤◌, List, Ok, length, map, option_map, ⊤}
 use Rattle.sha2.specs.Sha256.{sha256}
 use Rattle.mc_command.specs.Seen.{ActionIsInRange, IsWithin, RunIsInRange, seen_action, seen_report, seen_run}
 use Rattle.mc_core.specs.Shape.{word_count}

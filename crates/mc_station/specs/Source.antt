@@ -1,6 +1,6 @@
 -- Which sources are accepted: by phases, of which the first with a fault answers. The length comes
 -- before them: a source that is longer than its limit has no phases.
-use Rattle.std.specs.Prelude.{◌≡◌, ◌⊎◌, ◌≤◌, ◌<◌, ◌-◌, ◌^◌, min, ℕ, List, [], length, Some, None, Result, Ok, Err, All}
+use Rattle.std.specs.Prelude.{◌≡◌, ◌≤◌, ◌<◌, ◌-◌, ◌^◌, min, ℕ, List, [], length, Some, None, Result, Ok, Err, All}
 use Rattle.mc_lex.specs.declared.token.Dialect.TheVariants.{Plain}
 use Rattle.mc_lex.specs.declared.fault.LexFault.{LexFault}
 use Rattle.mc_lex.specs.Scans.{Scans}

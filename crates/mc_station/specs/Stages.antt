@@ -1,6 +1,6 @@
 -- The stages of the commands. A stage asks for a file and accepts it, which leads to the next
 -- stage, or refuses it; the last stage of a command asks for none and makes the texts.
-use Rattle.std.specs.Prelude.{◌≡◌, ◌≤◌, ℕ, List, [], ◌∷◌, Option, Some, None, Result, Ok, Err}
+use Rattle.std.specs.Prelude.{◌≡◌, ◌≤◌, ℕ, List, [], ◌∷◌, Option, Some, None, Result, Ok}
 use Rattle.mc_command.specs.Command as command
 use Rattle.mc_command.specs.Command.{Action, Command, Report, Run, Task}
 use Rattle.mc_port.specs.Store.{Request}

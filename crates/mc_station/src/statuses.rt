@@ -2,9 +2,9 @@
 ghost use Rattle.mc_station.specs.Statuses as laws;
 
 /// A status other than 0 and 1 comes only where it has its cause: with 2 the words are no command,
-/// with 3 the source is refused, with 4 the tests, a record or a pair of records, after a source that
-/// is accepted, with 5 the justifications, after what goes before them, with 6 a file cannot be read
-/// that is asked for, and with 9 a matrix does not fit.
+/// with 3 the source is refused, with 4 the tests, a record or a pair of records, after a source
+/// that is accepted, with 5 the justifications, after what goes before them, with 6 a file that is
+/// asked for cannot be read, and with 9 a matrix does not fit.
 pub fn statuses_have_causes()
     ensures { laws.StatusesHaveCauses }
 {}
@@ -26,8 +26,8 @@ pub fn asked_in_turn()
     ensures { laws.AskedInTurn }
 {}
 
-/// Nothing is written on the output but with 0 and 1, and with 7 where the text of 0 or 1 was put in
-/// part. With 8 nothing is put on the errors' sink either.
+/// Nothing is written on the output but with 0 and 1, and with 7 where the text of 0 or 1 was put
+/// in part. With 8 nothing is put on the errors' sink either.
 pub fn refusals_write_nothing()
     ensures output { laws.RefusalsWriteNothing }
     ensures part { laws.PartsWriteNothing }

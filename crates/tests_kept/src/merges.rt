@@ -103,7 +103,8 @@ source 8200d2384991a90c0fb5f6a208a7f0176cae5c6443e46177ef6bfd44c40d4caf
 bits 6
 ";
 
-/// The records left and right, with their first lines, and that of both from the number of tests on.
+/// The records left and right, with their first lines, and that of both from the number of tests
+/// on.
 static ROWS: [((&str, &str), (&str, &str), &str); 10] = [
     ((HEAD, FIRST), (HEAD, LAST_TWO), BODY),
     ((HEAD, FIRST_TWO), (HEAD, LAST), BODY),

@@ -1,5 +1,5 @@
 -- The command `analyse`: the verdicts of the events that a record has, each under its test.
-use Rattle.std.specs.Prelude.{ℕ, List, None}
+use Rattle.std.specs.Prelude.{List, None}
 use Rattle.mc_command.specs.Command as command
 use Rattle.mc_oblige.specs.Shown.{HasEvent}
 use Rattle.mc_oblige.specs.declared.justification.Justification.{Justification}

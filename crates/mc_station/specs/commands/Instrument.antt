@@ -1,5 +1,5 @@
 -- The command `instrument`: the tokens of the source with what the probes of its program insert.
-use Rattle.std.specs.Prelude.{◌≡◌, ℕ, List, Ok}
+use Rattle.std.specs.Prelude.{◌≡◌, List, Ok}
 use Rattle.mc_lex.specs.Tokens.{Tok}
 use Rattle.mc_probe.specs.Table.{instrumented}
 use Rattle.mc_replies.specs.Reply.{Reply, program_pieces, written}

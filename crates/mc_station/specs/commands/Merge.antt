@@ -1,5 +1,5 @@
 -- The command `merge`: the record of the tests of two records.
-use Rattle.std.specs.Prelude.{◌≡◌, ℕ, List, Some, None, Result, Ok, Err}
+use Rattle.std.specs.Prelude.{◌≡◌, Some, None, Result, Ok, Err}
 use Rattle.mc_core.specs.Laws.{AreWords}
 use Rattle.mc_record.specs.Kept.{Kept}
 use Rattle.mc_record.specs.Lines.{record_lines}

@@ -1,4 +1,4 @@
-use Rattle.std.proofs.Common.{◌≡◌, ◌∙◌, ℕ, List, [], subst}
+use Rattle.std.proofs.Common.{◌≡◌, ◌∙◌, [], subst}
 use Rattle.mc_command.specs.declared.independence.Independence.TheVariants.{Masking}
 use Rattle.mc_core.specs.Matrix.{MatrixView}
 use Rattle.mc_oblige.specs.Shown.{HasEvent}
