@@ -4,7 +4,6 @@ ghost use Rattle.mc_typed.specs.Views.{function_of};
 ghost use Rattle.mc_roots.specs.Nodes as nodes;
 ghost use Rattle.mc_mutate.specs.steps.Search.{inside_parts};
 
-mod constants;
 mod decision;
 mod effects;
 mod expressions;

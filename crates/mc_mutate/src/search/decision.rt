@@ -2,13 +2,25 @@
 ghost use Rattle.std.specs.Prelude.{◌≡◌};
 ghost use Rattle.mc_typed.specs.Views.{expression_of};
 ghost use Rattle.mc_roots.specs.Nodes as nodes;
+ghost use Rattle.mc_roots.specs.Roots as roots;
 ghost use Rattle.mc_mutate.specs.steps.Search as search;
 
 use crate::changes::MutantKind;
-use crate::search::constants::is_root;
 use crate::search::sought::{Sought, pass};
+use mc_map::is_root_as_test;
 use mc_roots::{Role, is_boolean};
 use mc_typed::{Expression, Span};
+
+/// Whether an expression that stands so in what is around it is the root of a decision.
+fn is_root(role: Role, tree: &Expression) -> bool
+    ensures { result ≡ roots.is_root role (nodes.expression (expression_of tree.now)) }
+{
+    match role {
+        Role::Test => is_root_as_test(tree),
+        Role::Inner => false,
+        Role::Plain => mc_map::is_root(tree),
+    }
+}
 
 /// Goes on in the decision with this root, where the expression is one.
 pub(super) fn own(sought: Sought, role: Role, tree: &Expression) -> Sought
