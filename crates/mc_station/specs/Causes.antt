@@ -1,5 +1,5 @@
 -- Why a status comes: what is accepted before, and what is refused.
-use Rattle.std.specs.Prelude.{◌≡◌, ◌⊎◌, ◌≤◌, ℕ, List, Option, Some, None, Result, Ok, Err}
+use Rattle.std.specs.Prelude.{◌≡◌, ◌⊎◌, ◌≤◌, ⊤, ℕ, List, Option, Some, None, Result, Ok, Err}
 use Rattle.mc_limits.specs.Limits.{most_words, usual_fuel}
 use Rattle.mc_command.specs.Command as command
 use Rattle.mc_command.specs.Command.{Action, Command, Run}
@@ -171,19 +171,19 @@ Cause files given r TooLarge = MatrixIsRefused files given r
 abbrev pub IsOfRefusal : Status → Type 0
 IsOfRefusal Done = ⊥
 IsOfRefusal Incomplete = ⊥
-IsOfRefusal NoCommand = Unit {0}
-IsOfRefusal SourceRefused = Unit {0}
-IsOfRefusal TestsRefused = Unit {0}
-IsOfRefusal JustificationsRefused = Unit {0}
+IsOfRefusal NoCommand = ⊤
+IsOfRefusal SourceRefused = ⊤
+IsOfRefusal TestsRefused = ⊤
+IsOfRefusal JustificationsRefused = ⊤
 IsOfRefusal CannotRead = ⊥
 IsOfRefusal CannotWrite = ⊥
 IsOfRefusal OutOfMemory = ⊥
-IsOfRefusal TooLarge = Unit {0}
+IsOfRefusal TooLarge = ⊤
 
 -- a status that is told with all that a command writes
 abbrev pub IsOfText : Status → Type 0
-IsOfText Done = Unit {0}
-IsOfText Incomplete = Unit {0}
+IsOfText Done = ⊤
+IsOfText Incomplete = ⊤
 IsOfText NoCommand = ⊥
 IsOfText SourceRefused = ⊥
 IsOfText TestsRefused = ⊥
