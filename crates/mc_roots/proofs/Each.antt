@@ -121,7 +121,7 @@ no_root candidate false e h = sym e
 no_root true true e h = sym h
 no_root false true e h = sym h
 
-not_constant : (p : Place) (s u : Standing) (constant : Bool) → is_constant s.node ≡ constant → IsAt s p u → IsTrue (is_root u.role u.node) → constant ≡ false
+pub not_constant : (p : Place) (s u : Standing) (constant : Bool) → is_constant s.node ≡ constant → IsAt s p u → IsTrue (is_root u.role u.node) → constant ≡ false
 not_constant p s u false c at root = refl
 not_constant p s u true c at root =
     let always : is_constant u.node ≡ true = constant_at p s u c at in

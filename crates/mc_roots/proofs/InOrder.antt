@@ -1,5 +1,5 @@
 -- Where nodes stand as in a text, decisions are in the order of their starts.
-use Rattle.std.proofs.Common.{◌≡◌, ◌∙◌, refl, sym, ap, subst, ℕ, zero, suc, ◌<◌, ◌≤◌, ◌⊎◌, inl, inr, Bool, true, false, ◌||◌, if◌then◌else◌, IsTrue, List, [], ◌∷◌, All, Some, arith}
+use Rattle.std.proofs.Common.{◌≡◌, ◌∙◌, refl, sym, ap, subst, ℕ, zero, suc, ◌<◌, ◌≤◌, ◌⊎◌, inl, inr, Bool, true, false, not, ◌&&◌, ◌||◌, if◌then◌else◌, IsTrue, List, [], ◌∷◌, All, Some, arith}
 use Rattle.std.proofs.lemmas.List.Elements.{All-nil, All-cons, All-head, All-tail}
 use Rattle.std.proofs.lemmas.Bool.{cases_lt}
 use Rattle.mc_span.specs.declared.span.Span.{Span}
@@ -7,9 +7,10 @@ use Rattle.mc_typed.specs.Tree.{Function}
 use Rattle.mc_roots.specs.declared.role.Role.{Role}
 use Rattle.mc_roots.specs.declared.role.Role.TheVariants.{Test, Inner, Plain}
 use Rattle.mc_roots.specs.Nodes.{Node, Constant, Not, Logic, Expression, Whole, Parts, no_parts, part, test, span_of, program}
-use Rattle.mc_roots.specs.Roots.{Place, Standing, standing, Found, is_root, is_inner, operand_role, part_at, step, IsAt, IsRoot}
+use Rattle.mc_roots.specs.Roots.{Place, Standing, standing, Found, is_constant, is_candidate, is_root, is_inner, operand_role, part_at, step, IsAt, IsRoot}
 use Rattle.mc_roots.specs.Decisions.{Decision, Tells, AreTold, IsBefore, IsAscending}
 use Rattle.mc_roots.specs.Laws.{IsBetween, StandsIn, StandIn, IsExpression, IsInOrder, AreInOrder, StartsAreInOrder}
+use Rattle.mc_roots.proofs.Each.{not_constant}
 
 -- only an expression is a test
 abbrev FitsRole : Role → Node → Type 0
@@ -66,21 +67,23 @@ region_parts (test a ps) zero u low high (m, lm, mh, ea, sa, sp) e =
 region_parts (test a ps) (suc i) u low high (m, lm, mh, ea, sa, sp) e =
     wider low high m high u lm (omega arith) (region_parts ps i u m high sp e)
 
-region : (role : Role) (a : Node) (i : ℕ) (u : Standing) (low high : ℕ) → StandsIn low high a → step role a i ≡ Some u → Region (low_of low a) (high_of high a) u
-region role (Constant span) i u low high s e = absurd (cc)
-region role (Not a span) zero u low high (between, sa) e =
+region : (role : Role) (a : Node) (i : ℕ) (u : Standing) (low high : ℕ) → is_constant a ≡ false → StandsIn low high a → step role a i ≡ Some u → Region (low_of low a) (high_of high a) u
+region role (Constant span) i u low high c s e = absurd (cc)
+region role (Not a span) zero u low high c s e =
     at_some (standing (operand_role role (Not a span)) a) u span.start span.end e
-    (span.start, span.end, omega arith, omega arith, record { node = sa; fits = no_test role (Not a span) a })
-region role (Not a span) (suc i) u low high s e = absurd (cc)
-region role (Logic operator a b span) zero u low high (between, m, lm, mh, sa, sb) e =
+    (span.start, span.end, omega arith, omega arith, record { node = (s c).1; fits = no_test role (Not a span) a })
+region role (Not a span) (suc i) u low high c s e = absurd (cc)
+region role (Logic operator a b span) zero u low high c s e =
+    let (between, m, lm, mh, sa, sb) = s c in
     at_some (standing (operand_role role (Logic operator a b span)) a) u span.start span.end e
     (span.start, m, omega arith, mh, record { node = sa; fits = no_test role (Logic operator a b span) a })
-region role (Logic operator a b span) (suc zero) u low high (between, m, lm, mh, sa, sb) e =
+region role (Logic operator a b span) (suc zero) u low high c s e =
+    let (between, m, lm, mh, sa, sb) = s c in
     at_some (standing (operand_role role (Logic operator a b span)) b) u span.start span.end e
     (m, span.end, lm, omega arith, record { node = sb; fits = no_test role (Logic operator a b span) b })
-region role (Logic operator a b span) (suc (suc i)) u low high s e = absurd (cc)
-region role (Expression top ps span) i u low high (between, sp) e = region_parts ps i u span.start span.end sp e
-region role (Whole ps) i u low high sp e = region_parts ps i u low high sp e
+region role (Logic operator a b span) (suc (suc i)) u low high c s e = absurd (cc)
+region role (Expression top ps span) i u low high c s e = region_parts ps i u span.start span.end (s c).1 e
+region role (Whole ps) i u low high c sp e = region_parts ps i u low high sp e
 
 -- of two parts, the first ends before the second begins
 abbrev Apart : ℕ → ℕ → Standing → Standing → Type 0
@@ -106,29 +109,37 @@ apart_parts (test a ps) (suc i) (suc j) u v low high (m, lm, mh, ea, sa, sp) e f
     let (k, r, t) = apart_parts ps i j u v m high sp e f (omega (arith, lt)) in
     (k, wider low k m k u lm (omega arith) r, t)
 
-apart : (role : Role) (a : Node) (i j : ℕ) (u v : Standing) (low high : ℕ) → StandsIn low high a → step role a i ≡ Some u → step role a j ≡ Some v → i < j → Apart (low_of low a) (high_of high a) u v
-apart role (Constant span) i j u v low high s e f lt = absurd (cc)
-apart role (Not a span) i zero u v low high s e f lt = absurd (omega (arith, lt))
-apart role (Not a span) i (suc j) u v low high s e f lt = absurd (cc)
-apart role (Logic operator a b span) i zero u v low high s e f lt = absurd (omega (arith, lt))
-apart role (Logic operator a b span) zero (suc zero) u v low high (between, m, lm, mh, sa, sb) e f lt = (
-  m,
-  at_some (standing (operand_role role (Logic operator a b span)) a) u span.start m e
-      (span.start, m, omega arith, omega arith, record { node = sa; fits = no_test role (Logic operator a b span) a }),
-  at_some (standing (operand_role role (Logic operator a b span)) b) v m span.end f
-      (m, span.end, omega arith, omega arith, record { node = sb; fits = no_test role (Logic operator a b span) b }),
-)
-apart role (Logic operator a b span) (suc i) (suc zero) u v low high s e f lt = absurd (omega (arith, lt))
-apart role (Logic operator a b span) i (suc (suc j)) u v low high s e f lt = absurd (cc)
-apart role (Expression top ps span) i j u v low high (between, sp) e f lt = apart_parts ps i j u v span.start span.end sp e f lt
-apart role (Whole ps) i j u v low high sp e f lt = apart_parts ps i j u v low high sp e f lt
+apart : (role : Role) (a : Node) (i j : ℕ) (u v : Standing) (low high : ℕ) → is_constant a ≡ false → StandsIn low high a → step role a i ≡ Some u → step role a j ≡ Some v → i < j → Apart (low_of low a) (high_of high a) u v
+apart role (Constant span) i j u v low high c s e f lt = absurd (cc)
+apart role (Not a span) i zero u v low high c s e f lt = absurd (omega (arith, lt))
+apart role (Not a span) i (suc j) u v low high c s e f lt = absurd (cc)
+apart role (Logic operator a b span) i zero u v low high c s e f lt = absurd (omega (arith, lt))
+apart role (Logic operator a b span) zero (suc zero) u v low high c s e f lt =
+    let (between, m, lm, mh, sa, sb) = s c in (
+      m,
+      at_some (standing (operand_role role (Logic operator a b span)) a) u span.start m e
+          (span.start, m, omega arith, omega arith, record { node = sa; fits = no_test role (Logic operator a b span) a }),
+      at_some (standing (operand_role role (Logic operator a b span)) b) v m span.end f
+          (m, span.end, omega arith, omega arith, record { node = sb; fits = no_test role (Logic operator a b span) b }),
+    )
+apart role (Logic operator a b span) (suc i) (suc zero) u v low high c s e f lt = absurd (omega (arith, lt))
+apart role (Logic operator a b span) i (suc (suc j)) u v low high c s e f lt = absurd (cc)
+apart role (Expression top ps span) i j u v low high c s e f lt = apart_parts ps i j u v span.start span.end (s c).1 e f lt
+apart role (Whole ps) i j u v low high c sp e f lt = apart_parts ps i j u v low high sp e f lt
 
 -- ---- where a root stands
 
-never_constant : (role : Role) (span : Span) → IsTrue (is_root role (Constant span)) → ⊥
-never_constant Test span h = absurd (cc)
-never_constant Inner span h = absurd (cc)
-never_constant Plain span h = absurd (cc)
+varies : (candidate constant : Bool) → IsTrue (candidate && not constant) → constant ≡ false
+varies candidate false root = refl
+varies true true root = absurd (cc)
+varies false true root = absurd (cc)
+
+-- a root is no constant
+root_varies : (role : Role) (a : Node) → IsTrue (is_root role a) → is_constant a ≡ false
+root_varies role a root = varies (is_candidate role a) (is_constant a) root
+
+never_constant : (span : Span) → is_constant (Constant span) ≡ false → ⊥
+never_constant span c = absurd (cc)
 
 never_whole : (role : Role) (ps : Parts) → FitsRole role (Whole ps) → IsTrue (is_root role (Whole ps)) → ⊥
 never_whole Test ps fits h = fits
@@ -141,19 +152,19 @@ record OwnPlace (low high : ℕ) (a : Node) : Type 0 where
   first : (span_of a).start ≡ low_of low a
   last : (span_of a).end ≡ high_of high a
 
-own_place : (role : Role) (a : Node) (low high : ℕ) → StandsIn low high a → FitsRole role a → IsTrue (is_root role a) → OwnPlace low high a
-own_place role (Constant span) low high s fits root = absurd (never_constant role span root)
-own_place role (Not a span) low high (between, sa) fits root = record { between = between; first = refl; last = refl }
-own_place role (Logic operator a b span) low high s fits root = record { between = s.0; first = refl; last = refl }
-own_place role (Expression top ps span) low high (between, sp) fits root = record { between = between; first = refl; last = refl }
-own_place role (Whole ps) low high s fits root = absurd (never_whole role ps fits root)
+own_place : (role : Role) (a : Node) (low high : ℕ) → is_constant a ≡ false → StandsIn low high a → FitsRole role a → IsTrue (is_root role a) → OwnPlace low high a
+own_place role (Constant span) low high c s fits root = absurd (never_constant span c)
+own_place role (Not a span) low high c s fits root = record { between = (s c).0; first = refl; last = refl }
+own_place role (Logic operator a b span) low high c s fits root = record { between = (s c).0; first = refl; last = refl }
+own_place role (Expression top ps span) low high c s fits root = record { between = (s c).0; first = refl; last = refl }
+own_place role (Whole ps) low high c s fits root = absurd (never_whole role ps fits root)
 
-bounds : (a : Node) (low high : ℕ) → StandsIn low high a → (low ≤ low_of low a) × (high_of high a ≤ high)
-bounds (Constant span) low high s = (omega arith, omega arith)
-bounds (Not a span) low high ((x, y, z), sa) = (x, z)
-bounds (Logic operator a b span) low high s = (s.0.0, s.0.2)
-bounds (Expression top ps span) low high ((x, y, z), sp) = (x, z)
-bounds (Whole ps) low high s = (omega arith, omega arith)
+bounds : (a : Node) (low high : ℕ) → is_constant a ≡ false → StandsIn low high a → (low ≤ low_of low a) × (high_of high a ≤ high)
+bounds (Constant span) low high c s = (omega arith, omega arith)
+bounds (Not a span) low high c s = let (x, y, z) = (s c).0 in (x, z)
+bounds (Logic operator a b span) low high c s = let (x, y, z) = (s c).0 in (x, z)
+bounds (Expression top ps span) low high c s = let (x, y, z) = (s c).0 in (x, z)
+bounds (Whole ps) low high c s = (omega arith, omega arith)
 
 between_wider : (low high l h : ℕ) (span : Span) → low ≤ l → h ≤ high → IsBetween l h span → IsBetween low high span
 between_wider low high l h span a b (x, y, z) = (omega (arith, a, x), y, omega (arith, b, z))
@@ -161,14 +172,23 @@ between_wider low high l h span a b (x, y, z) = (omega (arith, a, x), y, omega (
 abbrev Root : Standing → Type 0
 Root u = IsTrue (is_root u.role u.node)
 
+-- so nothing around a root is constant
+around_varies : (p : Place) (s u : Standing) → IsAt s p u → Root u → is_constant s.node ≡ false
+around_varies p s u at root = not_constant p s u (is_constant s.node) refl at root
+
+own_of : (s u : Standing) (low high : ℕ) → Stands low high s → s ≡ u → Root u → OwnPlace low high s.node
+own_of s u low high st e root =
+    let here : Root s = subst Root (sym e) root in
+    own_place s.role s.node low high (root_varies s.role s.node here) st.node st.fits here
+
 within : (p : Place) (s u : Standing) (low high : ℕ) → Stands low high s → IsAt s p u → Root u → IsBetween low high (span_of u.node)
 within [] s u low high st e root =
-    let own = own_place s.role s.node low high st.node st.fits (subst Root (sym e) root) in
-    subst (λ (w : Standing). IsBetween low high (span_of w.node)) e own.between
+    subst (λ (w : Standing). IsBetween low high (span_of w.node)) e (own_of s u low high st e root).between
 within (i ∷ p) s u low high st (v, e, at) root =
-    let (l, h, a, b, sv) = region s.role s.node i v low high st.node e in
-    let (c, d) = bounds s.node low high st.node in
-    between_wider low high l h (span_of u.node) (omega (arith, a, c)) (omega (arith, b, d)) (within p v u l h sv at root)
+    let c = around_varies (i ∷ p) s u (v, e, at) root in
+    let (l, h, a, b, sv) = region s.role s.node i v low high c st.node e in
+    let (d, f) = bounds s.node low high c st.node in
+    between_wider low high l h (span_of u.node) (omega (arith, a, d)) (omega (arith, b, f)) (within p v u l h sv at root)
 
 -- the order of two roots
 abbrev Precedes : Span → Span → Type 0
@@ -188,18 +208,21 @@ in_region p v u low high (l, h, a, b, sv) at root =
 ordered : (p q : Place) (s u v : Standing) (low high : ℕ) → Stands low high s → IsAt s p u → IsAt s q v → Root u → Root v → IsBefore p q → Precedes (span_of u.node) (span_of v.node)
 ordered [] [] s u v low high st e f ru rv h = absurd h
 ordered [] (j ∷ q) s u v low high st e (w, f, at) ru rv h =
-    let own = own_place s.role s.node low high st.node st.fits (subst Root (sym e) ru) in
-    let inner = in_region q w v (low_of low s.node) (high_of high s.node) (region s.role s.node j w low high st.node f) at rv in
+    let own = own_of s u low high st e ru in
+    let c = around_varies (j ∷ q) s v (w, f, at) rv in
+    let inner = in_region q w v (low_of low s.node) (high_of high s.node) (region s.role s.node j w low high c st.node f) at rv in
     subst (λ (x : Standing). Precedes (span_of x.node) (span_of v.node)) e
     (around (span_of s.node) (span_of v.node) (low_of low s.node) (high_of high s.node)
     (omega (arith, own.first)) (omega (arith, own.last)) inner (cases_lt (span_of s.node).start (span_of v.node).start))
 ordered (i ∷ p) [] s u v low high st e f ru rv h = absurd h
 ordered (i ∷ p) (j ∷ q) s u v low high st (x, e, at) (y, f, bt) ru rv (inl lt) =
-    let (m, r, t) = apart s.role s.node i j x y low high st.node e f lt in
+    let c = around_varies (i ∷ p) s u (x, e, at) ru in
+    let (m, r, t) = apart s.role s.node i j x y low high c st.node e f lt in
     apart_spans (span_of u.node) (span_of v.node) (low_of low s.node) m (high_of high s.node)
     (in_region p x u (low_of low s.node) m r at ru) (in_region q y v m (high_of high s.node) t bt rv)
 ordered (i ∷ p) (j ∷ q) s u v low high st (x, e, at) (y, f, bt) ru rv (inr (same, h)) =
-    let (l, k, a, b, sx) = region s.role s.node i x low high st.node e in
+    let c = around_varies (i ∷ p) s u (x, e, at) ru in
+    let (l, k, a, b, sx) = region s.role s.node i x low high c st.node e in
     let one : Some x ≡ Some y = sym e ∙ (ap (step s.role s.node) same ∙ f) in
     let both : x ≡ y = cc in
     ordered p q x u v l k sx at (subst (λ (w : Standing). IsAt w q v) (sym both) bt) ru rv h

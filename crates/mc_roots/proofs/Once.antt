@@ -8,10 +8,15 @@ use Rattle.mc_typed.specs.declared.operators.LogicOperator.{LogicOperator}
 use Rattle.mc_typed.specs.Tree.{Function}
 use Rattle.mc_cond.specs.Tree.{Tree}
 use Rattle.mc_roots.specs.Laws.{OneList}
-use Rattle.mc_roots.specs.Nodes.{Node, Constant, Not, Logic, Expression, Whole}
-use Rattle.mc_roots.specs.Roots.{Place, Found, IsRoot}
+use Rattle.mc_roots.specs.declared.role.Role.TheVariants.{Plain}
+use Rattle.mc_roots.specs.Nodes.{Node, Constant, Not, Logic, Expression, Whole, program}
+use Rattle.mc_roots.specs.Roots.{Place, Found, IsRoot, standing}
 use Rattle.mc_roots.specs.Conditions.{width, IsCondition, is_operator, itself, under_not, in_left, in_right}
-use Rattle.mc_roots.specs.Decisions.{Decision, Tells, AreTold, IsBefore, IsAscending}
+use Rattle.mc_roots.specs.Decisions.{Decision, AreDecisions, Tells, AreTold, IsBefore, IsAscending}
+use Rattle.mc_roots.proofs.Listed.{in_node}
+use Rattle.mc_roots.proofs.Only.{node_only}
+use Rattle.mc_roots.proofs.Each.{each}
+use Rattle.mc_roots.proofs.Ordered.{ascending}
 
 -- ---- the order is strict
 
@@ -58,7 +63,7 @@ only_later x y z xs ys a e h (inr k) = k
 only_later x y z xs ys a e h (inl f) =
     absurd (never_itself x.place (subst (λ (w : Found). IsBefore x.place w.place) (sym (e ∙ f)) (after x xs z a h)))
 
-same_lists : (xs ys : List Found) → IsAscending xs → IsAscending ys → ((z : Found) → Contains xs z → Contains ys z) → ((z : Found) → Contains ys z → Contains xs z) → xs ≡ ys
+pub same_lists : (xs ys : List Found) → IsAscending xs → IsAscending ys → ((z : Found) → Contains xs z → Contains ys z) → ((z : Found) → Contains ys z → Contains xs z) → xs ≡ ys
 same_lists [] [] a b there back = refl
 same_lists [] (y ∷ ys) a b there back = absurd (in_empty y (back y (at_front y ys)))
 same_lists (x ∷ xs) [] a b there back = absurd (in_empty x (there x (at_front x xs)))
@@ -133,6 +138,17 @@ all_same (f ∷ fs) (d ∷ ds) (e ∷ es) (td, a) (te, b) =
 
 contained : (fs : List Function) (xs ys : List Found) → All (IsRoot fs) xs → ((f : Found) → IsRoot fs f → Contains ys f) → (z : Found) → Contains xs z → Contains ys z
 contained fs xs ys only each z h = each z (All-contains (IsRoot fs) xs z only h)
+
+-- ---- the roots are those that are listed
+
+listed : (fs : List Function) (f : Found) → IsRoot fs f → Contains (in_node (program fs)) f
+listed fs f (role, at, root) = each f.place (standing Plain (program fs)) (standing role f.node) at root
+
+pub same_roots : (fs : List Function) (ds : List Decision) (h : AreDecisions fs ds) → in_node (program fs) ≡ h.roots
+same_roots fs ds h =
+    same_lists (in_node (program fs)) h.roots (ascending (program fs)) h.in_order
+    (contained fs (in_node (program fs)) h.roots (node_only (program fs) Plain refl) h.each)
+    (contained fs h.roots (in_node (program fs)) h.only (listed fs))
 
 pub one_list : OneList
 one_list fs ds es a b =

@@ -1,8 +1,9 @@
 -- What follows from the definitions.
-use Rattle.std.specs.Prelude.{◌≡◌, ℕ, ◌<◌, ◌≤◌, ◌⊎◌, List, [], ◌∷◌, All}
+use Rattle.std.specs.Prelude.{◌≡◌, ℕ, ◌<◌, ◌≤◌, ◌⊎◌, false, List, [], ◌∷◌, All}
 use Rattle.mc_span.specs.declared.span.Span.{Span}
 use Rattle.mc_typed.specs.Tree.{Function}
 use Rattle.mc_roots.specs.Nodes.{Node, Constant, Not, Logic, Expression, Whole, Parts, no_parts, part, test, program}
+use Rattle.mc_roots.specs.Roots.{is_constant}
 use Rattle.mc_roots.specs.Decisions.{Decision, AreDecisions}
 
 -- a program has one list of decisions
@@ -24,16 +25,21 @@ IsExpression (Expression top ps span) = Unit {0}
 IsExpression (Whole ps) = ⊥
 
 -- As in a text: a node stands between two bytes, its parts stand within it, and each part ends
--- before the next one begins. Where constants stand does not matter: no decision is in them.
+-- before the next one begins. Nothing is asked of an integer constant expression, whose parts are
+-- constant too: no decision is in it, and the 1 that `++x` adds stands at the `++`.
 abbrev mutual
   pub StandsIn : ℕ → ℕ → Node → Type 0
   StandsIn low high (Constant span) = Unit {0}
-  StandsIn low high (Not a span) = IsBetween low high span × StandsIn span.start span.end a
+  StandsIn low high (Not a span) =
+      is_constant (Not a span) ≡ false →
+      IsBetween low high span × StandsIn span.start span.end a
   StandsIn low high (Logic operator a b span) =
+      is_constant (Logic operator a b span) ≡ false →
       IsBetween low high span
       × (middle : ℕ) × (span.start ≤ middle) × (middle ≤ span.end)
       × StandsIn span.start middle a × StandsIn middle span.end b
   StandsIn low high (Expression top ps span) =
+      is_constant (Expression top ps span) ≡ false →
       IsBetween low high span × StandIn span.start span.end ps
   StandsIn low high (Whole ps) = StandIn low high ps
 
