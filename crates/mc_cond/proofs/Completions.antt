@@ -1,9 +1,9 @@
 -- Completions of vectors.
-use Rattle.std.proofs.Common.{◌≡◌, ℕ, zero, suc, ◌+◌, Bool, true, false, not, Option, Some, None, List, [], ◌∷◌, ◌++◌, length, replicate, refl, sym, ap, ◌∙◌, subst, arith}
+use Rattle.std.proofs.Common.{◌≡◌, ℕ, zero, suc, ◌+◌, Bool, true, false, not, ◌&&◌, ◌||◌, Option, Some, None, List, [], ◌∷◌, ◌++◌, length, replicate, refl, sym, ap, ◌∙◌, subst, arith}
 use Rattle.std.specs.Prelude.{slice_get}
-use Rattle.mc_cond.specs.Tree.{Tree, Leaf, Not, And, Or, size, IsNumberedFrom}
-use Rattle.mc_cond.specs.Vectors.{Row, Evaluation, truth_of, skipped, followed_where, evaluated, IsVector, IsCompletion}
-use Rattle.mc_cond.proofs.Rows.{length_answers, outcome_is_truth}
+use Rattle.mc_cond.specs.Tree.{Tree, Leaf, Not, And, Or, FullAnd, FullOr, FullXor, size, IsNumberedFrom}
+use Rattle.mc_cond.specs.Vectors.{Row, Evaluation, truth_of, xor, skipped, followed_where, evaluated_both, evaluated, IsVector, IsCompletion}
+use Rattle.mc_cond.proofs.Rows.{both_same, length_answers, outcome_is_truth}
 
 -- one answer in a row that agrees with it
 abbrev pub FitsAt : Option Bool → Bool → Type 0
@@ -62,11 +62,17 @@ own_followed : (o : Bool) (x : Evaluation) (r : Tree) (y : Evaluation) (first n 
 own_followed true x r y first n row e f g = fits_both x.answers y.answers first row f (at_same y.answers (first + n) (first + length x.answers) row (omega (arith, e)) g)
 own_followed false x r y first n row e f g = fits_both x.answers (skipped r) first row f (fits_none (size r) (first + length x.answers) row)
 
+own_both : (xs ys : List (Option Bool)) (first n : ℕ) (row : Row) → length xs ≡ n → Fits first xs row → Fits (first + n) ys row → Fits first (xs ++ ys) row
+own_both xs ys first n row e f g = fits_both xs ys first row f (at_same ys (first + n) (first + length xs) row (omega (arith, e)) g)
+
 pub own_fits : (t : Tree) (first : ℕ) (row : Row) → IsNumberedFrom first t → Fits first (evaluated t row).answers row
 own_fits (Leaf k) first row n = (ap row (sym n), tt)
 own_fits (Not a) first row n = own_fits a first row n
 own_fits (And a b) first row n = own_followed (evaluated a row).outcome (evaluated a row) b (evaluated b row) first (size a) row (length_answers a row) (own_fits a first row n.0) (own_fits b (first + size a) row n.1)
 own_fits (Or a b) first row n = own_followed (not (evaluated a row).outcome) (evaluated a row) b (evaluated b row) first (size a) row (length_answers a row) (own_fits a first row n.0) (own_fits b (first + size a) row n.1)
+own_fits (FullAnd a b) first row n = own_both (evaluated a row).answers (evaluated b row).answers first (size a) row (length_answers a row) (own_fits a first row n.0) (own_fits b (first + size a) row n.1)
+own_fits (FullOr a b) first row n = own_both (evaluated a row).answers (evaluated b row).answers first (size a) row (length_answers a row) (own_fits a first row n.0) (own_fits b (first + size a) row n.1)
+own_fits (FullXor a b) first row n = own_both (evaluated a row).answers (evaluated b row).answers first (size a) row (length_answers a row) (own_fits a first row n.0) (own_fits b (first + size a) row n.1)
 
 -- a row that fits an evaluation is evaluated to it
 first_fits : (o : Bool) (x : Evaluation) (r : Tree) (y : Evaluation) (first : ℕ) (row : Row) → Fits first (followed_where o x r y).answers row → Fits first x.answers row
@@ -78,6 +84,12 @@ second_again true x r y z first n row e again f =
     let P : Evaluation → Evaluation = λ w. followed_where true x r w in
     ap P (again (at_same y.answers (first + length x.answers) (first + n) row (omega (arith, e)) (fits_right x.answers y.answers first row f)))
 second_again false x r y z first n row e again f = refl
+
+both_again : (op : Bool → Bool → Bool) (x y z w : Evaluation) (first n : ℕ) (row : Row) → length x.answers ≡ n → (Fits first x.answers row → z ≡ x) → (Fits (first + n) y.answers row → w ≡ y)
+    → Fits first (x.answers ++ y.answers) row → evaluated_both op z w ≡ evaluated_both op x y
+both_again op x y z w first n row e left right f =
+    both_same op z w x y (left (fits_left x.answers y.answers first row f))
+    (right (at_same y.answers (first + length x.answers) (first + n) row (omega (arith, e)) (fits_right x.answers y.answers first row f)))
 
 pub again : (t : Tree) (first : ℕ) (a row : Row) → IsNumberedFrom first t → Fits first (evaluated t a).answers row → evaluated t row ≡ evaluated t a
 again (Leaf k) first a row n f =
@@ -96,6 +108,15 @@ again (Or l r) first a row n f =
     let o : Bool = not (evaluated l a).outcome in
     ap P (again l first a row n.0 (first_fits o (evaluated l a) r (evaluated r a) first row f))
     ∙ second_again o (evaluated l a) r (evaluated r a) (evaluated r row) first (size l) row (length_answers l a) (again r (first + size l) a row n.1) f
+again (FullAnd l r) first a row n f =
+    both_again (λ x y. x && y) (evaluated l a) (evaluated r a) (evaluated l row) (evaluated r row) first (size l) row (length_answers l a)
+    (again l first a row n.0) (again r (first + size l) a row n.1) f
+again (FullOr l r) first a row n f =
+    both_again (λ x y. x || y) (evaluated l a) (evaluated r a) (evaluated l row) (evaluated r row) first (size l) row (length_answers l a)
+    (again l first a row n.0) (again r (first + size l) a row n.1) f
+again (FullXor l r) first a row n f =
+    both_again xor (evaluated l a) (evaluated r a) (evaluated l row) (evaluated r row) first (size l) row (length_answers l a)
+    (again l first a row n.0) (again r (first + size l) a row n.1) f
 
 -- at a whole decision
 completion_fits : (v : Evaluation) (row : Row) → IsCompletion v row → Fits 0 v.answers row

@@ -1,8 +1,8 @@
 -- The answers of a node by those of its operands, place by place.
-use Rattle.std.proofs.Common.{◌≡◌, ℕ, zero, suc, ◌+◌, ◌-◌, ◌<◌, ◌≤◌, Bool, true, false, not, Some, None, List, [], ◌∷◌, ◌++◌, length, replicate, refl, sym, ap, ◌∙◌, arith, inl, inr}
+use Rattle.std.proofs.Common.{◌≡◌, ℕ, zero, suc, ◌+◌, ◌-◌, ◌<◌, ◌≤◌, Bool, true, false, not, Option, Some, None, List, [], ◌∷◌, ◌++◌, length, replicate, refl, sym, ap, ◌∙◌, arith, inl, inr}
 use Rattle.std.specs.Prelude.{slice_get}
 use Rattle.std.proofs.lemmas.Bool.{cases_lt}
-use Rattle.mc_cond.specs.Tree.{Tree, Leaf, Not, And, Or, size, IsNumberedFrom}
+use Rattle.mc_cond.specs.Tree.{Tree, Leaf, Not, And, Or, FullAnd, FullOr, FullXor, size, IsNumberedFrom}
 use Rattle.mc_cond.specs.Vectors.{Row, Evaluation, skipped, followed_where, evaluated}
 use Rattle.mc_cond.proofs.Rows.{Agree, same_evaluation, length_answers}
 
@@ -58,6 +58,15 @@ module _ (f : Bool → Bool) (a b : Tree) (first n : ℕ) (r s : Row) (is : IsNu
             ∙ ap (λ e. slice_get e.answers j) (ap P same))
       ]
 
+alike_both : (xs ys us vs : List (Option Bool)) (m n : ℕ) → length xs ≡ m → length us ≡ m
+    → ((j : ℕ) → j < n → slice_get xs j ≡ slice_get us j) → ((j : ℕ) → m + j < n → slice_get ys j ≡ slice_get vs j)
+    → (j : ℕ) → j < n → slice_get (xs ++ ys) j ≡ slice_get (us ++ vs) j
+alike_both xs ys us vs m n e f left right j lt =
+    elim (cases_lt j m) [
+      | inl low ↦ get_left xs ys j (omega (arith, e, low)) ∙ left j lt ∙ sym (get_left us vs j (omega (arith, f, low)))
+      | inr high ↦ get_right xs ys m j e high ∙ right (j - m) (omega (arith, high, lt)) ∙ sym (get_right us vs m j f high)
+    ]
+
 pub alike_before : (t : Tree) (first n : ℕ) (r s : Row) → IsNumberedFrom first t → Agree first n r s
     → (j : ℕ) → j < n → slice_get (evaluated t r).answers j ≡ slice_get (evaluated t s).answers j
 unfolding node
@@ -69,4 +78,16 @@ alike_before (And a b) first n r s is g j lt =
     (λ i low. alike_before b (first + size a) (n - size a) r s is.1 (λ k above below. g k (omega arith) (omega (arith, below, low))) i (omega (arith, low))) j lt
 alike_before (Or a b) first n r s is g j lt =
     alike_node not a b first n r s is.0 g (alike_before a first n r s is.0 g)
+    (λ i low. alike_before b (first + size a) (n - size a) r s is.1 (λ k above below. g k (omega arith) (omega (arith, below, low))) i (omega (arith, low))) j lt
+alike_before (FullAnd a b) first n r s is g j lt =
+    alike_both (evaluated a r).answers (evaluated b r).answers (evaluated a s).answers (evaluated b s).answers (size a) n (length_answers a r) (length_answers a s)
+    (alike_before a first n r s is.0 g)
+    (λ i low. alike_before b (first + size a) (n - size a) r s is.1 (λ k above below. g k (omega arith) (omega (arith, below, low))) i (omega (arith, low))) j lt
+alike_before (FullOr a b) first n r s is g j lt =
+    alike_both (evaluated a r).answers (evaluated b r).answers (evaluated a s).answers (evaluated b s).answers (size a) n (length_answers a r) (length_answers a s)
+    (alike_before a first n r s is.0 g)
+    (λ i low. alike_before b (first + size a) (n - size a) r s is.1 (λ k above below. g k (omega arith) (omega (arith, below, low))) i (omega (arith, low))) j lt
+alike_before (FullXor a b) first n r s is g j lt =
+    alike_both (evaluated a r).answers (evaluated b r).answers (evaluated a s).answers (evaluated b s).answers (size a) n (length_answers a r) (length_answers a s)
+    (alike_before a first n r s is.0 g)
     (λ i low. alike_before b (first + size a) (n - size a) r s is.1 (λ k above below. g k (omega arith) (omega (arith, below, low))) i (omega (arith, low))) j lt

@@ -1,6 +1,6 @@
 -- What follows from the definitions of vectors, their completions and influence.
 use Rattle.std.specs.Prelude.{◌≡◌, ℕ, Bool, true, false, not, Some, None, slice_get}
-use Rattle.mc_cond.specs.Tree.{Tree, IsNumbered, IsNumberedFrom}
+use Rattle.mc_cond.specs.Tree.{Tree, IsNumbered, IsNumberedFrom, IsShort}
 use Rattle.mc_cond.specs.Vectors.{Row, Evaluation, truth_of, flipped, evaluated, IsVector, IsCompletion}
 use Rattle.mc_cond.specs.Influence.{HasInfluence}
 
@@ -34,9 +34,10 @@ InfluenceIsEvaluated =
     (influence : HasInfluence t k v) → slice_get v.answers k ≡ Some (Some (influence.row k))
 
 -- Each condition stands once in a tree of AND, OR and NOT, so it moves the outcome one way alone.
--- Operators such as XOR, which move it both ways, do not have this law.
+-- XOR moves it both ways, so the law is one of trees without operators that are evaluated in full.
 abbrev pub InfluenceTurns : Type 0
 InfluenceTurns =
-    (t : Tree) (k : ℕ) (v w : Evaluation) → IsNumbered t → IsVector t v → IsVector t w →
+    (t : Tree) (k : ℕ) (v w : Evaluation) → IsShort t → IsNumbered t →
+    IsVector t v → IsVector t w →
     slice_get v.answers k ≡ Some (Some true) → slice_get w.answers k ≡ Some (Some false) →
     HasInfluence t k v → HasInfluence t k w → v.outcome ≡ not w.outcome

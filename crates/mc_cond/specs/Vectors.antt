@@ -1,7 +1,7 @@
--- Vectors: what short-circuit evaluation of a decision gives.
+-- Vectors: what evaluation of a decision gives.
 use Rattle.std.specs.Prelude.{◌≡◌, ℕ, Bool, true, false, if◌then◌else◌, not, ◌&&◌, ◌||◌, ◌==◌, Some, None, List, [], ◌∷◌, ◌++◌, replicate, slice_get, unwrap_or}
 use Rattle.std.specs.Int.{bit_at}
-use Rattle.mc_cond.specs.Tree.{Tree, Leaf, Not, And, Or, size}
+use Rattle.mc_cond.specs.Tree.{Tree, Leaf, Not, And, Or, FullAnd, FullOr, FullXor, size}
 use Rattle.mc_cond.specs.Order.{Answer}
 
 -- a row of the truth table: which conditions are true
@@ -20,12 +20,20 @@ row_in word k = bit_at word k == 1
 abbrev pub flipped : ℕ → Row → Row
 flipped k row j = if j == k then not (row j) else row j
 
--- the decision's outcome on a row, by AND, OR and NOT
+-- XOR: true where the two differ
+abbrev pub xor : Bool → Bool → Bool
+xor true y = not y
+xor false y = y
+
+-- the decision's outcome on a row, by AND, OR, XOR and NOT
 abbrev pub truth_of : Tree → Row → Bool
 truth_of (Leaf k) row = row k
 truth_of (Not a) row = not (truth_of a row)
 truth_of (And a b) row = truth_of a row && truth_of b row
 truth_of (Or a b) row = truth_of a row || truth_of b row
+truth_of (FullAnd a b) row = truth_of a row && truth_of b row
+truth_of (FullOr a b) row = truth_of a row || truth_of b row
+truth_of (FullXor a b) row = xor (truth_of a row) (truth_of b row)
 
 -- an evaluation: the answer of each condition, and the decision's outcome
 pub record Evaluation : Type 0 where
@@ -44,9 +52,18 @@ followed_where true first right second =
 followed_where false first right second =
     record { answers = first.answers ++ skipped right; outcome = first.outcome }
 
--- Short-circuit evaluation on a row. `!` turns the outcome round (C17 6.5.3.3). The second operand
+-- both operands are evaluated, and an operator gives the outcome of their outcomes
+abbrev pub evaluated_both : (Bool → Bool → Bool) → Evaluation → Evaluation → Evaluation
+evaluated_both op first second =
+    record {
+      answers = first.answers ++ second.answers;
+      outcome = op first.outcome second.outcome;
+    }
+
+-- Evaluation on a row. `!` turns the outcome round (C17 6.5.3.3). The second operand
 -- of `&&` is evaluated only where the first is true (C17 6.5.13), and that of `||` only where the
--- first is false (C17 6.5.14).
+-- first is false (C17 6.5.14). `&`, `|` and `^` evaluate both, and leave out nothing (C17 6.5.10 to
+-- 6.5.12).
 abbrev pub evaluated : Tree → Row → Evaluation
 evaluated (Leaf k) row = record { answers = Some (row k) ∷ []; outcome = row k }
 evaluated (Not a) row =
@@ -55,8 +72,11 @@ evaluated (And a b) row =
     followed_where (evaluated a row).outcome (evaluated a row) b (evaluated b row)
 evaluated (Or a b) row =
     followed_where (not (evaluated a row).outcome) (evaluated a row) b (evaluated b row)
+evaluated (FullAnd a b) row = evaluated_both (λ x y. x && y) (evaluated a row) (evaluated b row)
+evaluated (FullOr a b) row = evaluated_both (λ x y. x || y) (evaluated a row) (evaluated b row)
+evaluated (FullXor a b) row = evaluated_both xor (evaluated a row) (evaluated b row)
 
--- a vector of a tree is what short-circuit evaluation of some row gives
+-- a vector of a tree is what evaluation of some row gives
 abbrev pub IsVector : Tree → Evaluation → Type 0
 IsVector t v = (row : Row) × (evaluated t row ≡ v)
 

@@ -1,14 +1,14 @@
-//! Short-circuit evaluation of a decision.
+//! Evaluation of a decision.
 
 ghost use Rattle.std.specs.Prelude.{◌≡◌, ◌+◌, ◌≤◌, ◌++◌, length};
 ghost use Rattle.mc_cond.specs.Tree.{tree_of, size, IsNumbered, IsNumberedFrom};
 ghost use Rattle.mc_cond.specs.Vectors.{evaluated, row_of};
 
 use crate::answers::Answers;
-use crate::tree::{CondTree, conditions_in};
+use crate::tree::{CondTree, conditions_in, differ};
 use crate::vector::Vector;
 
-/// Evaluates a decision whose conditions have these answers, condition 0 first (C17 6.5.13,
+/// Evaluates a decision whose conditions have these answers, condition 0 first (C17 6.5.10 to
 /// 6.5.14).
 pub fn walk(tree: &CondTree, answers: &[bool]) -> Vector
     requires tree { IsNumbered (tree_of tree.now) }
@@ -55,6 +55,21 @@ fn evaluate(tree: &CondTree, answers: &[bool], seen: &mut Answers) -> bool
             } else {
                 evaluate(right, answers, seen)
             }
+        }
+        CondTree::FullAnd(left, right) => {
+            let first = evaluate(left, answers, seen);
+            let second = evaluate(right, answers, seen);
+            first && second
+        }
+        CondTree::FullOr(left, right) => {
+            let first = evaluate(left, answers, seen);
+            let second = evaluate(right, answers, seen);
+            first || second
+        }
+        CondTree::FullXor(left, right) => {
+            let one = evaluate(left, answers, seen);
+            let other = evaluate(right, answers, seen);
+            differ(one, other)
         }
     }
 }

@@ -1,13 +1,13 @@
 //! Which conditions can change the outcome of an evaluation.
 
-ghost use Rattle.std.specs.Prelude.{◌≡◌, ℕ, ◌<◌, ◌≤◌, ◌↔◌, if◌then◌else◌, Bool, true, length};
+ghost use Rattle.std.specs.Prelude.{◌≡◌, ℕ, ◌<◌, ◌≤◌, ◌↔◌, if◌then◌else◌, Bool, true, ◌&&◌, length};
 ghost use Rattle.std.specs.Int.{bit_at};
 ghost use Rattle.mc_cond.specs.Tree.{tree_of, IsNumbered, AreBelow};
 ghost use Rattle.mc_cond.specs.Vectors.{IsVector, truth_of};
 ghost use Rattle.mc_cond.specs.Influence.{HasInfluence};
-ghost use Rattle.mc_cond.specs.steps.Reach.{reaches, shown_where, filled};
+ghost use Rattle.mc_cond.specs.steps.Reach.{reaches, shown_where, shown_both, filled};
 
-use crate::tree::CondTree;
+use crate::tree::{CondTree, differ};
 use crate::vector::Vector;
 
 /// The conditions with influence on the outcome of a vector: bit k is set exactly where some
@@ -65,6 +65,30 @@ fn effect_of(tree: &CondTree, vector: &Vector) -> Effect
                 followed_by(first, second, !second.outcome)
             }
         }
+        CondTree::FullAnd(left, right) => {
+            let first = effect_of(left, vector);
+            let second = effect_of(right, vector);
+            Effect {
+                outcome: first.outcome && second.outcome,
+                influence: beside(first, second, second.outcome, first.outcome),
+            }
+        }
+        CondTree::FullOr(left, right) => {
+            let first = effect_of(left, vector);
+            let second = effect_of(right, vector);
+            Effect {
+                outcome: first.outcome || second.outcome,
+                influence: beside(first, second, !second.outcome, !first.outcome),
+            }
+        }
+        CondTree::FullXor(left, right) => {
+            let first = effect_of(left, vector);
+            let second = effect_of(right, vector);
+            Effect {
+                outcome: differ(first.outcome, second.outcome),
+                influence: beside(first, second, true, true),
+            }
+        }
     }
 }
 
@@ -84,4 +108,22 @@ fn followed_by(first: Effect, second: Effect, lets_through: bool) -> Effect
     } else {
         second
     }
+}
+
+/// The influence under an operator that is evaluated in full. Each operand masks the other unless
+/// it has the value that lets a change through.
+fn beside(first: Effect, second: Effect, shows_first: bool, shows_second: bool) -> u64
+    ensures { (k : ℕ) (x y : Bool) → bit_at first.influence k ≡ (if x then 1 else 0)
+        → bit_at second.influence k ≡ (if y then 1 else 0)
+        → bit_at result k ≡ (if shown_both shows_first shows_second x y then 1 else 0) }
+{
+    shown(first.influence, shows_first) | shown(second.influence, shows_second)
+}
+
+/// The mask, or none of it.
+fn shown(mask: u64, shows: bool) -> u64
+    ensures { (k : ℕ) (x : Bool) → bit_at mask k ≡ (if x then 1 else 0)
+        → bit_at result k ≡ (if shows && x then 1 else 0) }
+{
+    if shows { mask } else { 0 }
 }

@@ -43,7 +43,7 @@ pub fn influence_evaluated()
 {}
 
 /// Two vectors in which a condition has influence, true in the one and false in the other, have
-/// other outcomes.
+/// other outcomes, in a decision without operators that are evaluated in full.
 pub fn influence_turns()
     ensures { InfluenceTurns }
 {}

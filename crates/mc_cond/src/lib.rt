@@ -1,4 +1,4 @@
-//! Decisions as trees of conditions, their truth, and the vectors of short-circuit evaluation.
+//! Decisions as trees of conditions, their truth, and the vectors of their evaluation.
 #![tactic(auto)]
 
 mod answers;
@@ -15,5 +15,5 @@ pub use laws::{
     completion_has_outcome, completion_has_vector, flip_stays, influence_evaluated,
     influence_turns, operand_takes_either, vector_has_completion,
 };
-pub use tree::{CondTree, conditions, conditions_in, truth};
+pub use tree::{CondTree, conditions, conditions_in, is_short, truth};
 pub use vector::Vector;

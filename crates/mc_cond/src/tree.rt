@@ -1,10 +1,10 @@
 //! The tree of a decision.
 
-ghost use Rattle.std.specs.Prelude.{◌≡◌, ◌≤◌};
-ghost use Rattle.mc_cond.specs.Tree.{tree_of, size, IsNumbered, AreBelow};
-ghost use Rattle.mc_cond.specs.Vectors.{truth_of, row_in};
+ghost use Rattle.std.specs.Prelude.{◌≡◌, ◌≤◌, ◌↔◌, IsTrue};
+ghost use Rattle.mc_cond.specs.Tree.{tree_of, size, IsNumbered, IsShort, AreBelow};
+ghost use Rattle.mc_cond.specs.Vectors.{truth_of, row_in, xor};
 
-/// A decision: conditions under NOT, AND and OR (DO-178C, glossary).
+/// A decision: conditions under Boolean operators (DO-178C, glossary).
 /// Conditions are numbered from 0 on in the order of the text, and there are at most 64 of them:
 /// each call that takes a tree asks for this. Each call goes down the tree by recursion, so the
 /// stack that it takes grows with the height of the tree, long chains of NOT included.
@@ -18,6 +18,12 @@ pub enum CondTree {
     And(Box<CondTree>, Box<CondTree>),
     /// `||` of C17 6.5.14.
     Or(Box<CondTree>, Box<CondTree>),
+    /// `&` of C17 6.5.10 between Boolean operands. Both are evaluated.
+    FullAnd(Box<CondTree>, Box<CondTree>),
+    /// `|` of C17 6.5.12 between Boolean operands. Both are evaluated.
+    FullOr(Box<CondTree>, Box<CondTree>),
+    /// `^` of C17 6.5.11 between Boolean operands. Both are evaluated.
+    FullXor(Box<CondTree>, Box<CondTree>),
 }
 
 /// How many conditions a decision has.
@@ -36,8 +42,23 @@ pub fn conditions_in(tree: &CondTree) -> u32
     match tree {
         CondTree::Leaf(_) => 1,
         CondTree::Not(operand) => conditions_in(operand),
-        CondTree::And(left, right) | CondTree::Or(left, right) => conditions_in(left)
-            + conditions_in(right),
+        CondTree::And(left, right)
+        | CondTree::Or(left, right)
+        | CondTree::FullAnd(left, right)
+        | CondTree::FullOr(left, right)
+        | CondTree::FullXor(left, right) => conditions_in(left) + conditions_in(right),
+    }
+}
+
+/// Whether no operator of a decision is evaluated in full.
+pub fn is_short(tree: &CondTree) -> bool
+    ensures { IsTrue result ↔ IsShort (tree_of tree.now) }
+{
+    match tree {
+        CondTree::Leaf(_) => true,
+        CondTree::Not(operand) => is_short(operand),
+        CondTree::And(left, right) | CondTree::Or(left, right) => is_short(left) && is_short(right),
+        CondTree::FullAnd(_, _) | CondTree::FullOr(_, _) | CondTree::FullXor(_, _) => false,
     }
 }
 
@@ -58,7 +79,19 @@ fn holds(tree: &CondTree, row: u64) -> bool
     match tree {
         CondTree::Leaf(k) => (row >> *k) & 1 == 1,
         CondTree::Not(operand) => !holds(operand, row),
-        CondTree::And(left, right) => holds(left, row) && holds(right, row),
-        CondTree::Or(left, right) => holds(left, row) || holds(right, row),
+        CondTree::And(left, right) | CondTree::FullAnd(left, right) => {
+            holds(left, row) && holds(right, row)
+        }
+        CondTree::Or(left, right) | CondTree::FullOr(left, right) => {
+            holds(left, row) || holds(right, row)
+        }
+        CondTree::FullXor(left, right) => differ(holds(left, row), holds(right, row)),
     }
+}
+
+/// The exclusive OR of two outcomes.
+pub(crate) fn differ(first: bool, second: bool) -> bool
+    ensures { result ≡ xor first second }
+{
+    first != second
 }

@@ -5,7 +5,7 @@ use mathlib.Core.Logic.{dite}
 use native.Mathlib.Decide.{dec_lt}
 use Rattle.std.proofs.lemmas.List.Elements.{Contains-append_left, Contains-append_right, Contains-append_cases, Contains-get_or}
 use Rattle.std.proofs.lemmas.List.Quantifiers.{all_pairs_push}
-use Rattle.mc_cond.specs.Tree.{Tree, IsNumberedFrom}
+use Rattle.mc_cond.specs.Tree.{Tree, IsShort, IsNumberedFrom}
 use Rattle.mc_cond.specs.Order.{IsBefore}
 use Rattle.mc_cond.specs.Vectors.{Evaluation, IsVector}
 use Rattle.mc_paths.specs.Paths.{count_of, increments, path_of, IsPath}
@@ -55,17 +55,17 @@ module _ (t : Tree) (n : ℕ) (vs : List Evaluation) (v : Evaluation) (old : Are
         let P : Evaluation → Type 0 = λ u. Contains (v ∷ []) u in
         Contains-append_right vs (v ∷ []) w (subst P same (0, omega arith, refl))
 
-pub first_vectors : (t : Tree) → IsNumberedFrom 0 t → (n : ℕ) → n ≤ count_of t → (vs : List Evaluation) × AreBelow t n vs
-first_vectors t is zero le =
+pub first_vectors : (t : Tree) → IsShort t → IsNumberedFrom 0 t → (n : ℕ) → n ≤ count_of t → (vs : List Evaluation) × AreBelow t n vs
+first_vectors t short is zero le =
     ([], record { many = refl; ordered = λ i j d lt within. absurd (omega (arith, within)); exact = λ w. (λ c. absurd (in_none w c), λ h. absurd (omega (arith, h.1))) })
-first_vectors t is (suc n) le =
-    let before = first_vectors t is n (omega (arith, le)) in
+first_vectors t short is (suc n) le =
+    let before = first_vectors t short is n (omega (arith, le)) in
     let v = seen (descent t (increments t) n) in
-    (before.0 ++ v ∷ [], one_more t n before.0 v before.1 (descent_path t n is (omega (arith, le))))
+    (before.0 ++ v ∷ [], one_more t n before.0 v before.1 (descent_path t n short is (omega (arith, le))))
 
-pub vectors_before : (t : Tree) (v : Evaluation) → IsNumberedFrom 0 t → IsVector t v → (vs : List Evaluation) × AreBefore t v vs × (length vs ≡ path_of t v)
-vectors_before t v is vector =
-    let (vs, h) = first_vectors t is (path_of t v) (omega (arith, vector_below t v vector)) in (
+pub vectors_before : (t : Tree) (v : Evaluation) → IsShort t → IsNumberedFrom 0 t → IsVector t v → (vs : List Evaluation) × AreBefore t v vs × (length vs ≡ path_of t v)
+vectors_before t v short is vector =
+    let (vs, h) = first_vectors t short is (path_of t v) (omega (arith, vector_below t v vector)) in (
       vs,
       record {
         ordered = h.ordered;

@@ -2,6 +2,8 @@ pub mod Counting
 pub mod Ordering
 pub mod Reaching
 pub mod Numbers
+pub mod Increments
+pub mod AllFalse
 pub mod Along
 pub mod Before
 pub mod Setting

@@ -1,17 +1,17 @@
 -- Decisions that differ in chains of NOT alone.
-use Rattle.std.proofs.Common.{◌≡◌, ℕ, ◌+◌, ◌≤◌, Bool, true, false, not, None, List, ◌++◌, replicate, refl, sym, ap, ◌∙◌, subst}
-use Rattle.std.specs.Prelude.{Result, Ok, Err, IfOk}
-use Rattle.mc_cond.specs.Tree.{Tree, Not, And, Or, size, IsNumbered, IsNumberedFrom}
-use Rattle.mc_cond.specs.Vectors.{Row, Evaluation, truth_of, flipped, evaluated, followed_where}
+use Rattle.std.proofs.Common.{◌≡◌, ℕ, ◌+◌, ◌≤◌, Bool, true, false, not, ◌&&◌, ◌||◌, Option, Some, None, List, ◌++◌, replicate, refl, sym, ap, ◌∙◌, subst}
+use Rattle.std.specs.Prelude.{Result, Ok, Err, IfOk, max}
+use Rattle.mc_cond.specs.Tree.{Tree, Not, And, Or, FullAnd, FullOr, FullXor, size, IsNumbered, IsNumberedFrom}
+use Rattle.mc_cond.specs.Vectors.{Row, Evaluation, truth_of, xor, flipped, evaluated, followed_where, evaluated_both}
 use Rattle.mc_cond.specs.Influence.{HasInfluence}
-use Rattle.mc_cond.proofs.Rows.{outcome_is_truth}
-use Rattle.mc_paths.specs.Paths.{paths, false_edges, sum_along, count_of, increments, IsPath}
+use Rattle.mc_cond.proofs.Rows.{both_same, outcome_is_truth}
+use Rattle.mc_paths.specs.Paths.{room, false_edges, sum_along, increments, IsPath, IsInUse}
 use Rattle.mc_paths.specs.declared.masks.Masks.{Masks}
-use Rattle.mc_paths.specs.steps.Masked.{AreMasks, AreMasked}
+use Rattle.mc_paths.specs.steps.Masked.{AreMasks, IsEntry, AreMasked}
 use Rattle.mc_paths.specs.steps.Same.{AreSame, turned_where}
 
 pub same_self : (t : Tree) → AreSame t t
-same_self t = record { vectors = λ row. refl; sizes = refl; numbers = λ first n. n; counts = λ x y. refl; edges = λ x y. refl }
+same_self t = record { vectors = λ row. refl; sizes = refl; numbers = λ first n. n; rooms = λ x y. refl; edges = λ x y. refl }
 
 opposite : Evaluation → Evaluation
 opposite v = record { answers = v.answers; outcome = not v.outcome }
@@ -23,7 +23,7 @@ same_not s t h =
       vectors = λ row. ap opposite (h.vectors row);
       sizes = h.sizes;
       numbers = h.numbers;
-      counts = λ x y. h.counts y x;
+      rooms = λ x y. h.rooms y x;
       edges = λ x y. h.edges y x;
     }
 
@@ -40,7 +40,7 @@ same_twice s t h =
       vectors = λ row. h.vectors row ∙ twice (evaluated t row);
       sizes = h.sizes;
       numbers = h.numbers;
-      counts = h.counts;
+      rooms = h.rooms;
       edges = h.edges;
     }
 
@@ -69,12 +69,12 @@ module _ (a b c d : Tree) (p : AreSame a c) (q : AreSame b d) where
         vectors = λ row. node_same (λ o. o) a b c d row p q;
         sizes = sizes_same;
         numbers = λ first n. (p.numbers first n.0, numbers_same first n.0 n.1);
-        counts = λ x y. (let P : ℕ → ℕ = λ n. paths a n y in ap P (q.counts x y) ∙ p.counts (paths d x y) y);
+        rooms = λ x y. (let P : ℕ → ℕ = λ n. room a n y in ap P (q.rooms x y) ∙ p.rooms (room d x y) y);
         edges = λ x y.
             (let P : ℕ → List ℕ = λ n. false_edges a n y ++ false_edges b x y in
             let Q : List ℕ → List ℕ = λ l. l ++ false_edges b x y in
-            let R : List ℕ → List ℕ = λ l. false_edges c (paths d x y) y ++ l in
-            ap P (q.counts x y) ∙ ap Q (p.edges (paths d x y) y) ∙ ap R (q.edges x y));
+            let R : List ℕ → List ℕ = λ l. false_edges c (room d x y) y ++ l in
+            ap P (q.rooms x y) ∙ ap Q (p.edges (room d x y) y) ∙ ap R (q.edges x y));
       }
 
   pub same_or : AreSame (Or a b) (Or c d)
@@ -83,12 +83,53 @@ module _ (a b c d : Tree) (p : AreSame a c) (q : AreSame b d) where
         vectors = λ row. node_same not a b c d row p q;
         sizes = sizes_same;
         numbers = λ first n. (p.numbers first n.0, numbers_same first n.0 n.1);
-        counts = λ x y. (let P : ℕ → ℕ = λ n. paths a x n in ap P (q.counts x y) ∙ p.counts x (paths d x y));
+        rooms = λ x y. (let P : ℕ → ℕ = λ n. room a x n in ap P (q.rooms x y) ∙ p.rooms x (room d x y));
         edges = λ x y.
             (let P : ℕ → List ℕ = λ n. false_edges a x n ++ false_edges b x y in
             let Q : List ℕ → List ℕ = λ l. l ++ false_edges b x y in
-            let R : List ℕ → List ℕ = λ l. false_edges c x (paths d x y) ++ l in
-            ap P (q.counts x y) ∙ ap Q (p.edges x (paths d x y)) ∙ ap R (q.edges x y));
+            let R : List ℕ → List ℕ = λ l. false_edges c x (room d x y) ++ l in
+            ap P (q.rooms x y) ∙ ap Q (p.edges x (room d x y)) ∙ ap R (q.edges x y));
+      }
+
+  -- operators that are evaluated in full, with p and q as the rooms after the second operand
+  rooms_both : (x y : ℕ) → room a (room b x y) (room b x y) ≡ room c (room d x y) (room d x y)
+  rooms_both x y = let P : ℕ → ℕ = λ n. room a n n in ap P (q.rooms x y) ∙ p.rooms (room d x y) (room d x y)
+
+  edges_both : (x y : ℕ) → false_edges a (room b x y) (room b x y) ++ false_edges b x y ≡ false_edges c (room d x y) (room d x y) ++ false_edges d x y
+  edges_both x y =
+      let P : ℕ → List ℕ = λ n. false_edges a n n ++ false_edges b x y in
+      let Q : List ℕ → List ℕ = λ l. l ++ false_edges b x y in
+      let R : List ℕ → List ℕ = λ l. false_edges c (room d x y) (room d x y) ++ l in
+      ap P (q.rooms x y) ∙ ap Q (p.edges (room d x y) (room d x y)) ∙ ap R (q.edges x y)
+
+  pub same_full_and : AreSame (FullAnd a b) (FullAnd c d)
+  same_full_and =
+      record {
+        vectors = λ row. both_same (λ (o : Bool) (p : Bool). o && p) (evaluated a row) (evaluated b row) (evaluated c row) (evaluated d row) (p.vectors row) (q.vectors row);
+        sizes = sizes_same;
+        numbers = λ first n. (p.numbers first n.0, numbers_same first n.0 n.1);
+        rooms = λ x y. rooms_both (max x y) y;
+        edges = λ x y. edges_both (max x y) y;
+      }
+
+  pub same_full_or : AreSame (FullOr a b) (FullOr c d)
+  same_full_or =
+      record {
+        vectors = λ row. both_same (λ (o : Bool) (p : Bool). o || p) (evaluated a row) (evaluated b row) (evaluated c row) (evaluated d row) (p.vectors row) (q.vectors row);
+        sizes = sizes_same;
+        numbers = λ first n. (p.numbers first n.0, numbers_same first n.0 n.1);
+        rooms = λ x y. rooms_both x (max x y);
+        edges = λ x y. edges_both x (max x y);
+      }
+
+  pub same_full_xor : AreSame (FullXor a b) (FullXor c d)
+  same_full_xor =
+      record {
+        vectors = λ row. both_same xor (evaluated a row) (evaluated b row) (evaluated c row) (evaluated d row) (p.vectors row) (q.vectors row);
+        sizes = sizes_same;
+        numbers = λ first n. (p.numbers first n.0, numbers_same first n.0 n.1);
+        rooms = λ x y. rooms_both (max x y) (max x y);
+        edges = λ x y. edges_both (max x y) (max x y);
       }
 
 -- under a NOT or not
@@ -130,16 +171,18 @@ module _ (s t : Tree) (h : AreSame s t) where
   pub same_edges : (on_false : List ℕ) → on_false ≡ increments t → on_false ≡ increments s
   same_edges on_false e = e ∙ sym (h.edges 1 1)
 
-  pub same_counted : (count : ℕ) → count ≡ count_of t → count ≡ count_of s
-  same_counted count e = e ∙ sym (h.counts 1 1)
+  back_path : (path : ℕ) (v : Evaluation) → IsPath t path v → IsPath s path v
+  back_path path v p =
+      let P : List ℕ → ℕ = λ edges. sum_along v.answers edges in
+      record { vector = (p.vector.0, h.vectors p.vector.0 ∙ p.vector.1); number = ap P (h.edges 1 1) ∙ p.number }
 
-  pub same_masked : (count : ℕ) (list : List Masks) → AreMasked s count list → AreMasked t count list
-  same_masked count list all =
-      record {
-        many = all.many;
-        each = λ path m e v is. same_masks v m (all.each path m e v (record { vector = (is.vector.0, h.vectors is.vector.0 ∙ is.vector.1); number = (let P : List ℕ → ℕ = λ edges. sum_along v.answers edges in ap P (h.edges 1 1) ∙ is.number) }));
-      }
+  same_entry : (path : ℕ) (entry : Option Masks) → IsEntry s path entry → IsEntry t path entry
+  same_entry path (Some m) e = ((e.0.0, same_path path e.0.0 e.0.1), λ v is. same_masks v m (e.1 v (back_path path v is)))
+  same_entry path None idle = λ used. idle (used.0, back_path path used.0 used.1)
 
-  pub masked_by : {A E : Type 0} (result : Result A E) (items : A → List Masks) (count : ℕ) → IfOk result (λ m. AreMasked s count (items m)) → IfOk result (λ m. AreMasked t count (items m))
+  pub same_masked : (count : ℕ) (list : List (Option Masks)) → AreMasked s count list → AreMasked t count list
+  same_masked count list all = record { many = all.many; each = λ path entry e. same_entry path entry (all.each path entry e) }
+
+  pub masked_by : {A E : Type 0} (result : Result A E) (items : A → List (Option Masks)) (count : ℕ) → IfOk result (λ m. AreMasked s count (items m)) → IfOk result (λ m. AreMasked t count (items m))
   masked_by (Ok m) items count all = same_masked count (items m) all
   masked_by (Err e) items count all = tt

@@ -1,7 +1,8 @@
 -- The short-circuit graph of a decision (C17 6.5.13, 6.5.14): what is evaluated after a condition,
--- where it is true and where it is false.
+-- where it is true and where it is false. Where an operator is evaluated in full, that is not all
+-- that matters of a condition, so a tree with such operators has no graph, and no law speaks of it.
 use Rattle.std.specs.Prelude.{◌≡◌, ℕ, ◌+◌, Bool, true, false, if◌then◌else◌, Some, List, [], ◌∷◌, ◌++◌, slice_get}
-use Rattle.mc_cond.specs.Tree.{Tree, Leaf, Not, And, Or}
+use Rattle.mc_cond.specs.Tree.{Tree, Leaf, Not, And, Or, FullAnd, FullOr, FullXor}
 use Rattle.mc_cond.specs.Order.{Answer}
 
 -- a place of the graph: a condition, by its number, or the decision's outcome
@@ -20,6 +21,9 @@ first_of (Leaf k) = k
 first_of (Not a) = first_of a
 first_of (And a b) = first_of a
 first_of (Or a b) = first_of a
+first_of (FullAnd a b) = first_of a
+first_of (FullOr a b) = first_of a
+first_of (FullXor a b) = first_of a
 
 -- the successors of the conditions of a tree, in the order of the text, where the tree leads to
 -- `on_true` where it is true, and to `on_false` where it is false
@@ -31,6 +35,9 @@ successors (And a b) on_true on_false =
     successors a (Condition (first_of b)) on_false ++ successors b on_true on_false
 successors (Or a b) on_true on_false =
     successors a on_true (Condition (first_of b)) ++ successors b on_true on_false
+successors (FullAnd a b) on_true on_false = []
+successors (FullOr a b) on_true on_false = []
+successors (FullXor a b) on_true on_false = []
 
 -- a decision leads to its outcome
 abbrev pub graph_of : Tree → List Successors

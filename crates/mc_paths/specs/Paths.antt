@@ -1,32 +1,52 @@
--- Paths of a decision: their number, and the number of each.
-use Rattle.std.specs.Prelude.{◌≡◌, ℕ, ◌+◌, Bool, true, false, Option, Some, None, List, [], ◌∷◌, ◌++◌}
-use Rattle.mc_cond.specs.Tree.{Tree, Leaf, Not, And, Or}
-use Rattle.mc_cond.specs.Vectors.{Evaluation, IsVector}
+-- Paths of a decision: the number of each.
+use Rattle.std.specs.Prelude.{◌≡◌, ℕ, ◌+◌, max, Bool, true, false, Option, Some, None, List, [], ◌∷◌, ◌++◌}
+use Rattle.mc_cond.specs.Tree.{Tree, Leaf, Not, And, Or, FullAnd, FullOr, FullXor}
+use Rattle.mc_cond.specs.Vectors.{Evaluation, evaluated, IsVector}
 
--- how many paths of the graph lead from a tree's first condition to an outcome, where `after_true`
--- lead on from where the tree is true, and `after_false` from where it is false
-abbrev pub paths : Tree → ℕ → ℕ → ℕ
-paths (Leaf k) after_true after_false = after_true + after_false
-paths (Not a) after_true after_false = paths a after_false after_true
-paths (And a b) after_true after_false = paths a (paths b after_true after_false) after_false
-paths (Or a b) after_true after_false = paths a after_true (paths b after_true after_false)
+-- the room that the numbers of a tree take, where `after_true` is the room of what comes after it
+-- where it is true, and `after_false` where it is false
+-- An operator that is evaluated in full has one room after either value of its first operand. For
+-- what comes after its second operand it has the greater of the two where the first one decides.
+abbrev pub room : Tree → ℕ → ℕ → ℕ
+room (Leaf k) after_true after_false = after_true + after_false
+room (Not a) after_true after_false = room a after_false after_true
+room (And a b) after_true after_false = room a (room b after_true after_false) after_false
+room (Or a b) after_true after_false = room a after_true (room b after_true after_false)
+room (FullAnd a b) after_true after_false =
+    room a (room b (max after_true after_false) after_false)
+    (room b (max after_true after_false) after_false)
+room (FullOr a b) after_true after_false =
+    room a (room b after_true (max after_true after_false))
+    (room b after_true (max after_true after_false))
+room (FullXor a b) after_true after_false =
+    room a (room b (max after_true after_false) (max after_true after_false))
+    (room b (max after_true after_false) (max after_true after_false))
 
--- for each condition the number of paths from its true successor, which its false edge adds
+-- for each condition the room after its true edge, which its false edge adds
 -- a true edge adds 0
 abbrev pub false_edges : Tree → ℕ → ℕ → List ℕ
 false_edges (Leaf k) after_true after_false = after_true ∷ []
 false_edges (Not a) after_true after_false = false_edges a after_false after_true
 false_edges (And a b) after_true after_false =
-    false_edges a (paths b after_true after_false) after_false
+    false_edges a (room b after_true after_false) after_false
     ++ false_edges b after_true after_false
 false_edges (Or a b) after_true after_false =
-    false_edges a after_true (paths b after_true after_false)
+    false_edges a after_true (room b after_true after_false)
     ++ false_edges b after_true after_false
+false_edges (FullAnd a b) after_true after_false =
+    false_edges a (room b (max after_true after_false) after_false)
+    (room b (max after_true after_false) after_false)
+    ++ false_edges b (max after_true after_false) after_false
+false_edges (FullOr a b) after_true after_false =
+    false_edges a (room b after_true (max after_true after_false))
+    (room b after_true (max after_true after_false))
+    ++ false_edges b after_true (max after_true after_false)
+false_edges (FullXor a b) after_true after_false =
+    false_edges a (room b (max after_true after_false) (max after_true after_false))
+    (room b (max after_true after_false) (max after_true after_false))
+    ++ false_edges b (max after_true after_false) (max after_true after_false)
 
--- a decision ends at either outcome, by one path from there
-abbrev pub count_of : Tree → ℕ
-count_of t = paths t 1 1
-
+-- a decision ends at either outcome, which takes one number
 abbrev pub increments : Tree → List ℕ
 increments t = false_edges t 1 1
 
@@ -42,7 +62,19 @@ sum_along (answer ∷ answers) [] = 0
 abbrev pub path_of : Tree → Evaluation → ℕ
 path_of t v = sum_along v.answers (increments t)
 
+-- the vector in which each condition that is evaluated is false
+abbrev pub all_false : Tree → Evaluation
+all_false t = evaluated t (λ k. false)
+
+-- one more than the number of this vector
+abbrev pub count_of : Tree → ℕ
+count_of t = path_of t (all_false t) + 1
+
 -- the vector of a path
 pub record IsPath (t : Tree) (path : ℕ) (v : Evaluation) : Type 0 where
   pub vector : IsVector t v
   pub number : path_of t v ≡ path
+
+-- A number is in use where a vector has it. A number below the count that no vector has is idle.
+abbrev pub IsInUse : Tree → ℕ → Type 0
+IsInUse t path = (v : Evaluation) × IsPath t path v

@@ -1,23 +1,27 @@
 //! Following a path by its number.
 
-ghost use Rattle.std.specs.Prelude.{◌≡◌, ◌+◌, ◌<◌, ◌≤◌, ◌++◌, length};
+ghost use Rattle.std.specs.Prelude.{◌≡◌, ◌+◌, ◌≤◌, ◌++◌, length, IfSome, IfNone};
 ghost use Rattle.mc_cond.specs.Tree.{tree_of, size, IsNumbered, AreBelow};
-ghost use Rattle.mc_paths.specs.Paths.{count_of, increments, IsPath};
+ghost use Rattle.mc_paths.specs.Paths.{increments, IsPath, IsInUse};
 ghost use Rattle.mc_paths.specs.steps.Descent.{descent};
 
 use mc_cond::{Answers, CondTree, Vector, conditions_in};
 
-/// The vector of a path.
-pub(crate) fn vector_at(tree: &CondTree, on_false: &[u32], path: u32) -> Vector
+/// The vector of a path, or nothing where no vector has its number.
+pub(crate) fn vector_at(tree: &CondTree, on_false: &[u32], path: u32) -> Option<Vector>
     requires numbered { IsNumbered (tree_of tree.now) }
     requires edges { on_false.now ≡ increments (tree_of tree.now) }
-    requires path { path < count_of (tree_of tree.now) }
-    ensures { IsPath (tree_of tree.now) path result }
+    ensures found { IfSome result (λ v. IsPath (tree_of tree.now) path v) }
+    ensures idle { IfNone result (IsInUse (tree_of tree.now) path → ⊥) }
 {
     let mut seen = Answers::new();
     let mut left = path;
     let outcome = follow(tree, on_false, &mut left, &mut seen);
-    Vector::new(seen, outcome)
+    if left == 0 {
+        Some(Vector::new(seen, outcome))
+    } else {
+        None
+    }
 }
 
 /// Follows the path with number `left` through a part of a decision: adds the answers of its
@@ -57,6 +61,21 @@ fn follow(tree: &CondTree, on_false: &[u32], left: &mut u32, seen: &mut Answers)
             } else {
                 follow(second, on_false, left, seen)
             }
+        }
+        CondTree::FullAnd(first, second) => {
+            let one = follow(first, on_false, left, seen);
+            let other = follow(second, on_false, left, seen);
+            one && other
+        }
+        CondTree::FullOr(first, second) => {
+            let one = follow(first, on_false, left, seen);
+            let other = follow(second, on_false, left, seen);
+            one || other
+        }
+        CondTree::FullXor(first, second) => {
+            let here = follow(first, on_false, left, seen);
+            let there = follow(second, on_false, left, seen);
+            if here { !there } else { there }
         }
     }
 }

@@ -1,6 +1,6 @@
 //! What follows from the definitions of paths. The functions do nothing: each has a law as its
-//! contract. The first four say that the numbers below the count and the vectors correspond one to
-//! one, order kept.
+//! contract. The first three say that numbers and vectors correspond one to one, order kept. The
+//! others are of decisions without operators that are evaluated in full.
 
 ghost use Rattle.mc_paths.specs.Laws.{
   CountIsOfGraph,
@@ -23,15 +23,15 @@ pub fn number_once()
     ensures { NumberIsOnce }
 {}
 
-/// Each number below the count is that of a vector.
-pub fn number_taken()
-    ensures { NumberIsTaken }
-{}
-
 /// The order of numbers is the order of vectors: conditions from the first, true before false
 /// before not evaluated.
 pub fn number_order()
     ensures { NumberKeepsOrder }
+{}
+
+/// Each number below the count is that of a vector: none is idle.
+pub fn number_taken()
+    ensures { NumberIsTaken }
 {}
 
 /// The number of a vector is how many vectors stand before it.

@@ -3,11 +3,12 @@
 
 mod descent;
 mod fault;
-mod graph;
 mod laws;
 mod masks;
 mod numbering;
+mod rooms;
 mod simple;
+pub mod worked;
 
 pub use fault::NumberFault;
 pub use laws::{

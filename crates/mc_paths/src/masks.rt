@@ -4,8 +4,8 @@ ghost use Rattle.std.specs.Prelude.{◌≡◌, ℕ, ◌<◌, ◌≤◌, ◌↔�
 ghost use Rattle.std.specs.Int.{bit_at};
 ghost use Rattle.mc_cond.specs.Tree.{tree_of, IsNumbered};
 ghost use Rattle.mc_cond.specs.Vectors.{IsVector};
-ghost use Rattle.mc_paths.specs.Paths.{count_of, increments};
-ghost use Rattle.mc_paths.specs.steps.Masked.{AreMasks, AreMasked};
+ghost use Rattle.mc_paths.specs.Paths.{increments};
+ghost use Rattle.mc_paths.specs.steps.Masked.{AreMasks, IsEntry, AreMasked};
 
 use crate::descent::vector_at;
 use mc_cond::{CondTree, Vector, influence_on};
@@ -22,25 +22,35 @@ pub(crate) struct Masks {
     pub influence: u64,
 }
 
-/// The words of each path, in the order of the paths.
+/// The words of each path in use, in the order of the numbers.
 #[tactic(auto, using(crate::proofs::Masking::none_masked))]
 pub(crate) fn all_masks(
     alloc: Global,
     tree: &CondTree,
     on_false: &[u32],
     count: u32,
-) -> Result<Vec<Masks>, AllocError>
+) -> Result<Vec<Option<Masks>>, AllocError>
     requires numbered { IsNumbered (tree_of tree.now) }
     requires edges { on_false.now ≡ increments (tree_of tree.now) }
-    requires count { count ≡ count_of (tree_of tree.now) }
     ensures { IfOk result (λ m. AreMasked (tree_of tree.now) count m.items) }
 {
     let mut masks = Vec::new(alloc);
     for path in 0..count {
-        let vector = vector_at(tree, on_false, path);
-        masks.push(masks_of(tree, &vector))?;
+        masks.push(masks_at(tree, on_false, path))?;
     }
     Ok(masks)
+}
+
+/// The words of a path, or nothing where it is idle.
+fn masks_at(tree: &CondTree, on_false: &[u32], path: u32) -> Option<Masks>
+    requires numbered { IsNumbered (tree_of tree.now) }
+    requires edges { on_false.now ≡ increments (tree_of tree.now) }
+    ensures { IsEntry (tree_of tree.now) path result }
+{
+    match vector_at(tree, on_false, path) {
+        Some(vector) => Some(masks_of(tree, &vector)),
+        None => None,
+    }
 }
 
 /// The words of a vector of the decision.

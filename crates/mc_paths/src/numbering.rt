@@ -1,25 +1,25 @@
 //! The path numbers of a decision.
 
-ghost use Rattle.std.specs.Prelude.{◌≡◌, ℕ, ◌<◌, ◌≤◌, length, slice_get, Some, Err, IfOk};
+ghost use Rattle.std.specs.Prelude.{◌≡◌, ℕ, ◌<◌, ◌≤◌, length, ◌↔◌, slice_get, Some, Err, IfOk, IsTrue};
 ghost use Rattle.mc_limits.specs.Limits.{most_paths};
 ghost use Rattle.mc_cond.specs.Tree.{tree_of, size, IsNumbered};
 ghost use Rattle.mc_cond.specs.Vectors.{Evaluation};
 ghost use Rattle.mc_cond.specs.Influence.{HasInfluence};
-ghost use Rattle.mc_paths.specs.Paths.{count_of, increments, IsPath};
+ghost use Rattle.mc_paths.specs.Paths.{count_of, increments, IsPath, IsInUse};
 ghost use Rattle.mc_paths.specs.Masks.{IsMaskOf, IsEvaluated, IsOn};
 ghost use Rattle.mc_paths.specs.steps.Masked.{AreMasks, AreMasked};
 
 use crate::descent::vector_at;
 use crate::fault::NumberFault;
-use crate::graph::{add_false_edges, copied, paths};
 use crate::masks::{Masks, all_masks};
-use crate::simple::simplified;
+use crate::rooms::{add_false_edges, count};
+use crate::simple::{copied, simplified};
 use mc_cond::{CondTree, Vector};
 use mc_limits::MOST_PATHS;
 use std::alloc::{AllocError, Global};
 use std::marker::Model;
 
-/// How many paths a decision has at most.
+/// The greatest count of a decision.
 const MOST: u128 = MOST_PATHS as u128;
 
 /// What a true edge adds to a path's number.
@@ -31,7 +31,7 @@ pub struct Numbering {
     tree: CondTree,
     on_false: Vec<u32>,
     count: u32,
-    masks: Vec<Masks>,
+    masks: Vec<Option<Masks>>,
 }
 
 impl Model for Numbering {
@@ -51,7 +51,7 @@ impl Model for Numbering {
 }
 
 /// Numbers the paths of a decision.
-/// The fault is `TooManyPaths` exactly where there are more than 4,096.
+/// The fault is `TooManyPaths` exactly where the count passes 4,096.
 pub fn number(alloc: Global, tree: &CondTree) -> Result<Numbering, NumberFault>
     requires { IsNumbered (tree_of tree.now) }
     ensures tree { IfOk result (λ n. tree_of n ≡ tree_of tree.now) }
@@ -61,7 +61,7 @@ pub fn number(alloc: Global, tree: &CondTree) -> Result<Numbering, NumberFault>
     ensures only { (count : ℕ) → result ≡ Err (NumberFault.TooManyPaths count)
         → (most_paths < count) × (count ≡ count_of (tree_of tree.now)) }
 {
-    let count = paths(tree, 1, 1);
+    let count = count(tree);
     if count > MOST {
         return Err(NumberFault::TooManyPaths { count });
     }
@@ -71,7 +71,7 @@ pub fn number(alloc: Global, tree: &CondTree) -> Result<Numbering, NumberFault>
     }
 }
 
-/// The numbering of a decision that has not too many paths.
+/// The numbering of a decision whose count is small.
 fn kept(alloc: Global, tree: &CondTree, count: u32) -> Result<Numbering, AllocError>
     requires numbered { IsNumbered (tree_of tree.now) }
     requires count { count ≡ count_of (tree_of tree.now) }
@@ -90,17 +90,16 @@ fn kept(alloc: Global, tree: &CondTree, count: u32) -> Result<Numbering, AllocEr
     })
 }
 
-/// The words of each path, which are followed in the decision without its chains of NOT.
-#[tactic(auto, using(crate::proofs::Simplifying::same_numbered, crate::proofs::Simplifying::same_edges, crate::proofs::Simplifying::same_counted))]
+/// The words of each path in use, which are followed in the decision without its chains of NOT.
+#[tactic(auto, using(crate::proofs::Simplifying::same_numbered, crate::proofs::Simplifying::same_edges))]
 fn simple_masks(
     alloc: Global,
     tree: &CondTree,
     on_false: &[u32],
     count: u32,
-) -> Result<Vec<Masks>, AllocError>
+) -> Result<Vec<Option<Masks>>, AllocError>
     requires numbered { IsNumbered (tree_of tree.now) }
     requires edges { on_false.now ≡ increments (tree_of tree.now) }
-    requires count { count ≡ count_of (tree_of tree.now) }
     ensures { IfOk result (λ m. AreMasked (tree_of tree.now) count m.items) }
 {
     let simple = simplified(alloc, tree, false)?;
@@ -108,7 +107,7 @@ fn simple_masks(
 }
 
 impl Numbering {
-    /// How many paths the decision has, at most 4,096. Their numbers are those below it.
+    /// One more than the greatest number of a path. It is at most 4,096.
     pub fn count(&self) -> u32
         ensures count { result ≡ count_of (tree_of self.now) }
         ensures few { result ≤ most_paths }
@@ -132,8 +131,8 @@ impl Numbering {
         ON_TRUE
     }
 
-    /// What condition `k` adds to the number of a path where it is false: the number of paths from
-    /// its true successor.
+    /// What condition `k` adds to the number of a path where it is false: the room that what comes
+    /// after it takes where it is true.
     pub fn on_false(&self, k: u32) -> u32
         requires { k < size (tree_of self.now) }
         ensures { slice_get (increments (tree_of self.now)) k ≡ Some result }
@@ -142,17 +141,30 @@ impl Numbering {
         edges[k as usize]
     }
 
+    /// Whether a vector has this number. A number below the count that none has is idle, and only
+    /// a decision with operators that are evaluated in full has such numbers.
+    pub fn in_use(&self, path: u32) -> bool
+        ensures { IsTrue result ↔ IsInUse (tree_of self.now) path }
+    {
+        let masks = self.masks.as_slice();
+        if path < self.count {
+            masks[path as usize].is_some()
+        } else {
+            false
+        }
+    }
+
     /// The vector of a path.
     pub fn vector_of(&self, path: u32) -> Vector
-        requires { path < count_of (tree_of self.now) }
+        requires { IsInUse (tree_of self.now) path }
         ensures { IsPath (tree_of self.now) path result }
     {
-        vector_at(&self.tree, &self.on_false, path)
+        vector_at(&self.tree, &self.on_false, path).unwrap()
     }
 
     /// The outcome of a path's vector.
     pub fn outcome_of(&self, path: u32) -> bool
-        requires { path < count_of (tree_of self.now) }
+        requires { IsInUse (tree_of self.now) path }
         ensures { (v : Evaluation) → IsPath (tree_of self.now) path v → result ≡ v.outcome }
     {
         self.vector_of(path).outcome()
@@ -160,7 +172,7 @@ impl Numbering {
 
     /// The conditions evaluated in a path's vector: bit k is set exactly where condition k is.
     pub fn evaluated(&self, path: u32) -> u64
-        requires { path < count_of (tree_of self.now) }
+        requires { IsInUse (tree_of self.now) path }
         ensures { (v : Evaluation) → IsPath (tree_of self.now) path v
             → IsMaskOf result (IsEvaluated v) }
     {
@@ -170,7 +182,7 @@ impl Numbering {
     /// The conditions that are true in a path's vector: bit k is set exactly where condition k is
     /// evaluated and true.
     pub fn value(&self, path: u32) -> u64
-        requires { path < count_of (tree_of self.now) }
+        requires { IsInUse (tree_of self.now) path }
         ensures { (v : Evaluation) → IsPath (tree_of self.now) path v → IsMaskOf result (IsOn v) }
     {
         self.masks(path).value
@@ -179,7 +191,7 @@ impl Numbering {
     /// The conditions with influence on a path's outcome: bit k is set exactly where some
     /// completion of the path's vector changes its outcome when condition k alone is flipped.
     pub fn influence(&self, path: u32) -> u64
-        requires { path < count_of (tree_of self.now) }
+        requires { IsInUse (tree_of self.now) path }
         ensures { (v : Evaluation) → IsPath (tree_of self.now) path v
             → IsMaskOf result (λ k. HasInfluence (tree_of self.now) k v) }
     {
@@ -188,11 +200,11 @@ impl Numbering {
 
     /// The words of a path's vector.
     fn masks(&self, path: u32) -> Masks
-        requires { path < count_of (tree_of self.now) }
+        requires { IsInUse (tree_of self.now) path }
         ensures { (v : Evaluation) → IsPath (tree_of self.now) path v
             → AreMasks (tree_of self.now) v result }
     {
         let masks = self.masks.as_slice();
-        masks[path as usize]
+        masks[path as usize].unwrap()
     }
 }

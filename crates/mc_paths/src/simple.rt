@@ -1,11 +1,49 @@
-//! Decisions without chains of NOT.
+//! Copies of decisions, with their chains of NOT and without.
 
-ghost use Rattle.std.specs.Prelude.{IfOk};
+ghost use Rattle.std.specs.Prelude.{◌≡◌, IfOk};
 ghost use Rattle.mc_cond.specs.Tree.{Tree, tree_of};
 ghost use Rattle.mc_paths.specs.steps.Same.{AreSame, turned_where};
 
 use mc_cond::CondTree;
 use std::alloc::{AllocError, Global};
+
+/// A copy of a tree.
+pub(crate) fn copied(alloc: Global, tree: &CondTree) -> Result<CondTree, AllocError>
+    ensures { IfOk result (λ t. tree_of t ≡ tree_of tree.now) }
+{
+    match tree {
+        CondTree::Leaf(k) => Ok(CondTree::Leaf(*k)),
+        CondTree::Not(operand) => {
+            let operand = Box::new(alloc, copied(alloc, operand)?)?;
+            Ok(CondTree::Not(operand))
+        }
+        CondTree::And(left, right) => {
+            let left = Box::new(alloc, copied(alloc, left)?)?;
+            let right = Box::new(alloc, copied(alloc, right)?)?;
+            Ok(CondTree::And(left, right))
+        }
+        CondTree::Or(left, right) => {
+            let left = Box::new(alloc, copied(alloc, left)?)?;
+            let right = Box::new(alloc, copied(alloc, right)?)?;
+            Ok(CondTree::Or(left, right))
+        }
+        CondTree::FullAnd(left, right) => {
+            let left = Box::new(alloc, copied(alloc, left)?)?;
+            let right = Box::new(alloc, copied(alloc, right)?)?;
+            Ok(CondTree::FullAnd(left, right))
+        }
+        CondTree::FullOr(left, right) => {
+            let left = Box::new(alloc, copied(alloc, left)?)?;
+            let right = Box::new(alloc, copied(alloc, right)?)?;
+            Ok(CondTree::FullOr(left, right))
+        }
+        CondTree::FullXor(left, right) => {
+            let left = Box::new(alloc, copied(alloc, left)?)?;
+            let right = Box::new(alloc, copied(alloc, right)?)?;
+            Ok(CondTree::FullXor(left, right))
+        }
+    }
+}
 
 /// The same decision with at most one NOT above each node, negated where `negated` says so. To
 /// follow a path takes the time of its conditions then, however many NOTs there are.
@@ -29,6 +67,21 @@ pub(crate) fn simplified(
             let left = Box::new(alloc, simplified(alloc, left, false)?)?;
             let right = Box::new(alloc, simplified(alloc, right, false)?)?;
             turned(alloc, CondTree::Or(left, right), negated)
+        }
+        CondTree::FullAnd(left, right) => {
+            let left = Box::new(alloc, simplified(alloc, left, false)?)?;
+            let right = Box::new(alloc, simplified(alloc, right, false)?)?;
+            turned(alloc, CondTree::FullAnd(left, right), negated)
+        }
+        CondTree::FullOr(left, right) => {
+            let left = Box::new(alloc, simplified(alloc, left, false)?)?;
+            let right = Box::new(alloc, simplified(alloc, right, false)?)?;
+            turned(alloc, CondTree::FullOr(left, right), negated)
+        }
+        CondTree::FullXor(left, right) => {
+            let left = Box::new(alloc, simplified(alloc, left, false)?)?;
+            let right = Box::new(alloc, simplified(alloc, right, false)?)?;
+            turned(alloc, CondTree::FullXor(left, right), negated)
         }
     }
 }

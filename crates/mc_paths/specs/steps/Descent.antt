@@ -1,8 +1,8 @@
 -- A step of the proofs: it follows the code, and no public clause rests on it.
 -- A path followed through a tree by its number.
-use Rattle.std.specs.Prelude.{ℕ, ◌-◌, Bool, true, false, if◌then◌else◌, not, nat_lt, Option, Some, List, [], ◌∷◌, ◌++◌, slice_index}
-use Rattle.mc_cond.specs.Tree.{Tree, Leaf, Not, And, Or}
-use Rattle.mc_cond.specs.Vectors.{skipped}
+use Rattle.std.specs.Prelude.{ℕ, ◌-◌, Bool, true, false, if◌then◌else◌, not, ◌&&◌, ◌||◌, nat_lt, Option, Some, List, [], ◌∷◌, ◌++◌, slice_index}
+use Rattle.mc_cond.specs.Tree.{Tree, Leaf, Not, And, Or, FullAnd, FullOr, FullXor}
+use Rattle.mc_cond.specs.Vectors.{skipped, xor}
 
 -- the answers of the conditions passed, the outcome that is come to, and what is left of the number
 pub record Descent : Type 0 where
@@ -23,6 +23,15 @@ descended_where false first right second =
       answers = first.answers ++ skipped right;
       outcome = first.outcome;
       left = first.left;
+    }
+
+-- both operands, and the outcome of their outcomes
+abbrev pub descended_both : (Bool → Bool → Bool) → Descent → Descent → Descent
+descended_both op first second =
+    record {
+      answers = first.answers ++ second.answers;
+      outcome = op first.outcome second.outcome;
+      left = second.left;
     }
 
 -- at a condition: true where the number is below what its false edge adds, else false, and that is
@@ -47,3 +56,12 @@ descent (And a b) on_false path =
 descent (Or a b) on_false path =
     descended_where (not (descent a on_false path).outcome)
     (descent a on_false path) b (descent b on_false (descent a on_false path).left)
+descent (FullAnd a b) on_false path =
+    descended_both (λ x y. x && y)
+    (descent a on_false path) (descent b on_false (descent a on_false path).left)
+descent (FullOr a b) on_false path =
+    descended_both (λ x y. x || y)
+    (descent a on_false path) (descent b on_false (descent a on_false path).left)
+descent (FullXor a b) on_false path =
+    descended_both xor
+    (descent a on_false path) (descent b on_false (descent a on_false path).left)

@@ -5,4 +5,4 @@ use Rattle.mc_paths.proofs.Reaching.{seen}
 use Rattle.mc_paths.proofs.laws.number_taken.Goals as goal
 
 pub returns : goal.returns
-returns c = λ t path n lt. (seen (descent t (increments t) path), descent_path t path n.in_order lt)
+returns c = λ t path short n lt. (seen (descent t (increments t) path), descent_path t path short n.in_order lt)
