@@ -1,2 +1,3 @@
 pub mod Masking
 pub mod Laws
+pub mod Samples

@@ -1,15 +1,14 @@
 //! Masking pairs.
 
-ghost use Rattle.std.specs.Prelude.{◌≡◌, ℕ, ◌<◌, All, Contains, IfSome, IfNone};
+ghost use Rattle.std.specs.Prelude.{◌≡◌, ◌<◌, All, IfSome, IfNone};
 ghost use Rattle.std.specs.List.Sorted.{IsStrictlyIncreasing};
 ghost use Rattle.mc_cond.specs.Tree.{tree_of, size, IsNumbered};
 ghost use Rattle.mc_paths.specs.Paths.{count_of};
-ghost use Rattle.mc_pairs.specs.Pairs.{NonePaired, IsChosen, HasInfluenceAs};
+ghost use Rattle.mc_pairs.specs.Pairs.{NonePaired, IsChosen};
 ghost use Rattle.mc_masking.specs.Masking.{IsMaskingPair};
-ghost use Rattle.mc_masking.specs.Laws.{IsLeastSeen};
 
+use crate::least::{has_influence_to, least, least_to};
 use mc_cond::CondTree;
-use mc_pairs::has_influence_as;
 use mc_paths::Numbering;
 
 /// The chosen masking pair of seen paths for condition `k`: `k` is true in the first and false in
@@ -33,23 +32,14 @@ pub fn masking_pair(
 {
     let first = least(numbering, seen, k, true)?;
     let second = least(numbering, seen, k, false)?;
-    Some((first, second))
-}
-
-/// The least seen path in which condition `k` has this value, and influence on the outcome.
-fn least(numbering: &Numbering, seen: &[u32], k: u32, value: bool) -> Option<u32>
-    requires numbered { IsNumbered (tree_of numbering.now) }
-    requires ascending { IsStrictlyIncreasing seen.now }
-    requires paths { All (λ path. path < count_of (tree_of numbering.now)) seen.now }
-    requires condition { k < size (tree_of numbering.now) }
-    ensures some { IfSome result (IsLeastSeen (tree_of numbering.now) seen.now k value) }
-    ensures none { IfNone result ((path : ℕ) → Contains seen.now path
-        → ¬ HasInfluenceAs (tree_of numbering.now) k value path) }
-{
-    for path in seen {
-        if has_influence_as(numbering, *path, k, value) {
-            return Some(*path);
-        }
+    let outcome = numbering.outcome_of(first);
+    if has_influence_to(numbering, second, k, false, !outcome) {
+        return Some((first, second));
     }
-    None
+    // Both have the same outcome, which operators that are evaluated in full alone can give.
+    if let Some(other_second) = least_to(numbering, seen, k, false, !outcome) {
+        return Some((first, other_second));
+    }
+    let other_first = least_to(numbering, seen, k, true, !outcome)?;
+    Some((other_first, second))
 }

@@ -6,10 +6,8 @@ use Rattle.mc_cond.specs.Tree.{Tree, IsNumbered}
 use Rattle.mc_cond.specs.Vectors.{Evaluation}
 use Rattle.mc_cond.specs.Influence.{HasInfluence}
 use Rattle.mc_cond.proofs.Flips.{evaluated_with}
-use Rattle.mc_paths.specs.Paths.{count_of, increments, IsPath}
-use Rattle.mc_paths.specs.steps.Descent.{descent}
-use Rattle.mc_paths.proofs.Numbers.{vector_once, descent_path}
-use Rattle.mc_paths.proofs.Reaching.{seen}
+use Rattle.mc_paths.specs.Paths.{IsPath, IsInUse}
+use Rattle.mc_paths.proofs.Numbers.{vector_once}
 use Rattle.mc_pairs.specs.Pairs.{HasInfluenceAs}
 
 -- a test that says exactly where an answer is true, of an answer that is known
@@ -19,15 +17,18 @@ value_is true false answer exact is = let f : Some (Some false) ≡ Some (Some t
 value_is false true answer exact is = let f : false ≡ true = exact.1 is in cc
 value_is false false answer exact is = refl
 
-beq_same : (x y : Bool) → IsTrue (beq x y) ↔ (x ≡ y)
+pub beq_same : (x y : Bool) → IsTrue (beq x y) ↔ (x ≡ y)
 beq_same true true = (λ e. refl, λ e. refl)
 beq_same false false = (λ e. refl, λ e. refl)
 beq_same true false = (λ e. cc, λ e. cc)
 beq_same false true = (λ e. cc, λ e. cc)
 
--- the vector of a path
-pub vector_at : (t : Tree) (path : ℕ) → IsNumbered t → path < count_of t → (v : Evaluation) × IsPath t path v
-vector_at t path n below = (seen (descent t (increments t) path), descent_path t path n.in_order below)
+-- a path in which a condition has influence is in use
+pub used : (t : Tree) (k path : ℕ) (x : Bool) → HasInfluenceAs t k x path → IsInUse t path
+used t k path x p = (p.v, p.is_path)
+
+pub idle_value : (t : Tree) (k path : ℕ) → ¬ IsInUse t path → (x : Bool) → IsTrue false ↔ HasInfluenceAs t k x path
+idle_value t k path idle x = (λ e. cc, λ p. absurd (idle (used t k path x p)))
 
 module _ (t : Tree) (k path : ℕ) (v : Evaluation) (n : IsNumbered t) (is : IsPath t path v) where
   own_vector : (w : Evaluation) → IsPath t path w → w ≡ v

@@ -1,5 +1,5 @@
 -- Pairs of paths, for a relation between vectors: the kind of independence that their vectors are
--- to show.
+-- to show. A number that is idle has no vector, so it is in no pair.
 use Rattle.std.specs.Prelude.{◌≡◌, ℕ, ◌<◌, ◌≤◌, ◌⊎◌, Bool, true, false, Some, List, slice_get, Contains}
 use Rattle.mc_cond.specs.Tree.{Tree}
 use Rattle.mc_cond.specs.Vectors.{Evaluation}
@@ -38,6 +38,12 @@ pub record IsChosen (shows : Evaluation → Evaluation → Type 0) (t : Tree) (s
   pub paired : ArePaired (turned k shows) t first second
   pub least : (p q : ℕ) → Contains seen p → Contains seen q → ArePaired (turned k shows) t p q →
       (first < p) ⊎ ((first ≡ p) × (second ≤ q))
+
+-- of the seen paths of which a fact holds, the least
+pub record IsLeastWhere (holds : ℕ → Type 0) (seen : List ℕ) (path : ℕ) : Type 0 where
+  pub among : Contains seen path
+  pub fits : holds path
+  pub least : (other : ℕ) → Contains seen other → holds other → path ≤ other
 
 -- condition k is evaluated with this value in the path's vector, and has influence on its outcome
 pub record HasInfluenceAs (t : Tree) (k : ℕ) (value : Bool) (path : ℕ) : Type 0 where

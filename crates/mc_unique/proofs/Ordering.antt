@@ -5,13 +5,14 @@ use Rattle.std.proofs.lemmas.Bool.{cases_lt}
 use Rattle.mc_cond.specs.Tree.{Tree, IsNumbered}
 use Rattle.mc_cond.specs.Order.{Answer, rank, IsBefore}
 use Rattle.mc_cond.specs.Vectors.{Evaluation}
-use Rattle.mc_paths.specs.Paths.{IsPath, path_of}
+use Rattle.mc_paths.specs.Paths.{IsPath, IsInUse, path_of}
 use Rattle.mc_paths.proofs.Numbers.{vector_once, vector_order}
 use Rattle.mc_pairs.specs.Pairs.{ArePaired, HasInfluenceAs, turned}
+use Rattle.mc_pairs.proofs.Influential.{used}
 use Rattle.mc_unique.specs.Laws.{AlikeBefore}
 use Rattle.mc_unique.specs.Unique.{IsUniquePair}
 use Rattle.mc_unique.specs.steps.Prefixes.{AreAlike}
-use Rattle.mc_unique.proofs.Pairs.{pair_prefix, pair_of, first_influence, second_influence}
+use Rattle.mc_unique.proofs.Pairs.{pair_prefix, first_influence, second_influence}
 
 -- equal answers before place k
 Alike : ℕ → List Answer → List Answer → Type 0
@@ -61,7 +62,7 @@ lists_ahead (x ∷ xs) (y ∷ ys) (suc k) f g e =
     inr (same, lists_ahead xs ys k f g (λ j lt. e (suc j) (omega (arith, lt))))
 
 module _ (t : Tree) (k : ℕ) where
-  only : (path : ℕ) (v w : Evaluation) → IsPath t path v → IsPath t path w → v ≡ w
+  pub only : (path : ℕ) (v w : Evaluation) → IsPath t path v → IsPath t path w → v ≡ w
   only path v w p q = vector_once t v w p.vector q.vector (p.number ∙ sym q.number)
 
   -- in the order of the paths
@@ -75,18 +76,18 @@ module _ (t : Tree) (k : ℕ) where
       let more : AlikeBefore k x.w y.w = subst P same y.alike in
       record { v = x.v; w = y.w; first_path = x.first_path; second_path = y.second_path; alike = λ j lt. x.alike j lt ∙ more j lt }
 
-  pub alike_between : (p q r : ℕ) → HasInfluenceAs t k true q → p ≤ q → q ≤ r → AreAlike t k p r → AreAlike t k p q
+  pub between_used : (p q r : ℕ) → IsInUse t q → p ≤ q → q ≤ r → AreAlike t k p r → AreAlike t k p q
   unfolding Alike
-  alike_between p q r on low high x =
+  between_used p q r (v, is) low high x =
       elim (cases_lt p q) [
         | inl less ↦ elim (cases_lt q r) [
           | inl more ↦
               record {
                 v = x.v;
-                w = on.v;
+                w = v;
                 first_path = x.first_path;
-                second_path = on.is_path;
-                alike = lists_between x.v.answers on.v.answers x.w.answers k (before p q x.v on.v x.first_path on.is_path less) (before q r on.v x.w on.is_path x.second_path more) x.alike;
+                second_path = is;
+                alike = lists_between x.v.answers v.answers x.w.answers k (before p q x.v v x.first_path is less) (before q r v x.w is x.second_path more) x.alike;
               }
           | inr not_less ↦ (let P : ℕ → Type 0 = λ n. AreAlike t k p n in let same : r ≡ q = omega (arith, high, not_less) in subst P same x)
         ]
@@ -95,6 +96,9 @@ module _ (t : Tree) (k : ℕ) where
             let P : ℕ → Type 0 = λ n. IsPath t n x.v in
             record { v = x.v; w = x.v; first_path = x.first_path; second_path = subst P same x.first_path; alike = λ j lt. refl })
       ]
+
+  pub alike_between : (p q r : ℕ) → HasInfluenceAs t k true q → p ≤ q → q ≤ r → AreAlike t k p r → AreAlike t k p q
+  alike_between p q r on low high x = between_used p q r (used t k q true on) low high x
 
   pub alike_ahead : (p q : ℕ) → HasInfluenceAs t k true p → HasInfluenceAs t k false q → AreAlike t k p q → p < q
   unfolding Alike
@@ -107,21 +111,6 @@ module _ (t : Tree) (k : ℕ) where
       omega (arith, less, x.first_path.number, x.second_path.number)
 
   -- pairs of paths
-  pub paired : IsNumbered t → (p q : ℕ) → HasInfluenceAs t k true p → HasInfluenceAs t k false q → AreAlike t k p q → ArePaired (turned k (IsUniquePair t k)) t p q
-  paired n p q on off x =
-      let first : x.v ≡ on.v = only p x.v on.v x.first_path on.is_path in
-      let second : x.w ≡ off.v = only q x.w off.v x.second_path off.is_path in
-      let P : Evaluation → Type 0 = λ u. AlikeBefore k u x.w in
-      let Q : Evaluation → Type 0 = λ u. AlikeBefore k on.v u in
-      let alike : AlikeBefore k on.v off.v = subst Q second (subst P first x.alike) in
-      record {
-        v = on.v;
-        w = off.v;
-        first_path = on.is_path;
-        second_path = off.is_path;
-        shown = (on.answer, off.answer, pair_of t k on.v off.v n on.is_path.vector off.is_path.vector on.answer off.answer alike on.influence off.influence);
-      }
-
   module _ (n : IsNumbered t) (p q : ℕ) (x : ArePaired (turned k (IsUniquePair t k)) t p q) where
     pub first_of : HasInfluenceAs t k true p
     first_of = record { v = x.v; is_path = x.first_path; answer = x.shown.0; influence = first_influence t k x.v x.w n x.first_path.vector x.second_path.vector x.shown.2 }

@@ -4,7 +4,7 @@ use Rattle.std.specs.Prelude.{slice_get, if◌then◌else◌}
 use Rattle.std.proofs.lemmas.Bool.{cases_lt}
 use Rattle.std.proofs.lemmas.Option.{slice_get_within}
 use Rattle.std.proofs.lemmas.Bool.Decides.{eqb_tells}
-use Rattle.mc_cond.specs.Tree.{Tree, size, IsNumbered}
+use Rattle.mc_cond.specs.Tree.{Tree, size, IsNumbered, IsShort}
 use Rattle.mc_cond.specs.Vectors.{Row, Evaluation, flipped, evaluated, IsVector, IsCompletion}
 use Rattle.mc_cond.specs.Influence.{HasInfluence}
 use Rattle.mc_cond.proofs.Rows.{Agree, same_truth}
@@ -18,7 +18,7 @@ use Rattle.mc_cond.proofs.Lengths.{length_vector}
 use Rattle.mc_cond.proofs.Evaluated.{evaluated_where}
 use Rattle.mc_pairs.proofs.Turned.{AreOpposed}
 use Rattle.mc_unique.specs.Unique.{IsUniquePair}
-use Rattle.mc_unique.specs.Laws.{AlikeBefore}
+use Rattle.mc_unique.specs.Laws.{AlikeBefore, AlikeBehind}
 use Rattle.mc_unique.specs.steps.Agreement.{AreCompatible, AgreeElsewhere}
 
 pub turns : (t : Tree) (k : ℕ) (v w : Evaluation) → IsUniquePair t k v w → IsUniquePair t k w v
@@ -165,21 +165,32 @@ same_compatible (Some x) (Some y) e = cc
 same_compatible (Some x) None e = cc
 same_compatible None y e = tt
 
-never_compatible : (x y : Option Bool) → ((a b : Bool) → x ≡ Some a → y ≡ Some b → ⊥) → AreCompatible x y
-never_compatible (Some x) (Some y) never = absurd (never x y refl refl)
-never_compatible (Some x) None never = tt
-never_compatible None y never = tt
+pub pair_behind : (t : Tree) (k : ℕ) (v w : Evaluation) → IsVector t v → IsUniquePair t k v w → AlikeBehind k v w
+pair_behind t k v w is_v p j x y after e f =
+    same_of x y (pair_agrees t k v w is_v p j (λ same. let g : ⊥ = omega (arith, after, same) in g) (Some x) (Some y) e f) where
+      same_of : (x y : Bool) → AreCompatible (Some x) (Some y) → x ≡ y
+      same_of x y h = h
 
-pub pair_of : (t : Tree) (k : ℕ) (v w : Evaluation) → IsNumbered t → IsVector t v → IsVector t w
-    → slice_get v.answers k ≡ Some (Some true) → slice_get w.answers k ≡ Some (Some false)
-    → AlikeBefore k v w → HasInfluence t k v → HasInfluence t k w → IsUniquePair t k v w
-pair_of t k v w n is_v is_w on off alike x y =
-    pair_by t k v w n is_v is_w on off
-    (λ e. never_own w.outcome (sym e ∙ outcome_turns t k v w n is_v is_w false on off x y))
-    (λ j other a b e f.
+-- equal answers before k, and behind it wherever both were evaluated
+pub agree_by : (k : ℕ) (v w : Evaluation) → AlikeBefore k v w → AlikeBehind k v w → AgreeElsewhere k v.answers w.answers
+agree_by k v w before behind j other a b e f =
     elim (cases_lt j k) [
-      | inl low ↦ (let g : Some a ≡ Some b = sym e ∙ alike j low ∙ f in same_compatible a b (cc))
-      | inr high ↦ never_compatible a b (λ c d h i. behind_apart t k v w n is_v is_w false on off x y j c d
+      | inl low ↦ (let g : Some a ≡ Some b = sym e ∙ before j low ∙ f in same_compatible a b (cc))
+      | inr high ↦ behind_compatible a b (λ c d h i. behind j c d
           (let apart : j ≢ k = other in elim (cases_lt k j) [ inl less ↦ less | inr more ↦ (let same : j ≡ k = omega (arith, high, more) in absurd (apart same)) ])
           (e ∙ ap Some h) (f ∙ ap Some i))
-    ])
+    ]
+  where
+    behind_compatible : (x y : Option Bool) → ((c d : Bool) → x ≡ Some c → y ≡ Some d → c ≡ d) → AreCompatible x y
+    behind_compatible (Some x) (Some y) same = same x y refl refl
+    behind_compatible (Some x) None same = tt
+    behind_compatible None y same = tt
+
+-- in a decision without operators that are evaluated in full
+pub pair_of : (t : Tree) (k : ℕ) (v w : Evaluation) → IsShort t → IsNumbered t → IsVector t v → IsVector t w
+    → slice_get v.answers k ≡ Some (Some true) → slice_get w.answers k ≡ Some (Some false)
+    → AlikeBefore k v w → HasInfluence t k v → HasInfluence t k w → IsUniquePair t k v w
+pair_of t k v w short n is_v is_w on off alike x y =
+    pair_by t k v w n is_v is_w on off
+    (λ e. never_own w.outcome (sym e ∙ outcome_turns t k v w short n is_v is_w false on off x y))
+    (agree_by k v w alike (λ j c d after e f. absurd (behind_apart t k v w short n is_v is_w false on off x y j c d after e f)))

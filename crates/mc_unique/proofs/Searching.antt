@@ -12,7 +12,7 @@ some_is a b e = cc
 pub same_some : (first : Option ℕ) (a b : ℕ) → first ≡ Some a → first ≡ Some b → a ≡ b
 same_some first a b e f = let g : Some a ≡ Some b = sym e ∙ f in some_is a b g
 
--- an element stands before the next, or is it, or stands behind it
+-- an element stands before the next, or is it, or stands after it
 compare : (p f : ℕ) → (p < f) ⊎ ((p ≡ f) ⊎ (f < p))
 compare p f = elim (cases_lt p f) [ inl less ↦ inl less | inr more ↦ elim (cases_lt f p) [ inl less ↦ inr (inr less) | inr also ↦ inr (inl (omega (arith, more, also))) ] ]
 

@@ -3,7 +3,7 @@ use Rattle.std.proofs.Common.{◌≡◌, ◌≢◌, ℕ, ◌-◌, ◌*◌, ◌%�
 use Rattle.std.specs.Prelude.{◌↔◌, IsTrue, slice_get, bit_and, bit_xor, get_or}
 use Rattle.std.specs.Int.{bit_at}
 use Rattle.std.proofs.lemmas.Option.{slice_get-get_or}
-use Rattle.std.proofs.lemmas.Nat.Bits.{bit_at_and, bit_at_xor, bit_at-lt, bit_at-zero, bit_at_ones, bit_at_ones_above, same_from_bits}
+use Rattle.std.proofs.lemmas.Nat.Bits.{bit_at_and, bit_at_xor, bit_at-lt, bit_at-zero, bit_at_ones, bit_at_ones_above, bit_at-pow_same, bit_at-pow_other, same_from_bits}
 use Rattle.std.proofs.lemmas.Nat.{one_shl}
 use Rattle.std.proofs.lemmas.Bool.Decides.{Decides-eqb}
 use Rattle.std.proofs.lemmas.Bool.{cases_lt}
@@ -42,12 +42,32 @@ bits_below m n k few =
     let same : bit_and (bit_xor m n) (1 * 2 ^ k % 2 ^ 64 - 1) ≡ bit_and (bit_xor m n) (2 ^ k - 1) = ap P (one_shl k 64 few) in
     (λ h. below_zero m n k (sym same ∙ decides.0 h), λ h. decides.1 (same ∙ zero_below m n k h))
 
--- ---- equal answers by equal bits
+-- ---- one bit alone
 
 same_bit : (m n j : ℕ) → (bit_at m j ≡ 1 → bit_at n j ≡ 1) → (bit_at n j ≡ 1 → bit_at m j ≡ 1) → bit_at m j ≡ bit_at n j
 same_bit m n j f g =
     dite (ℕ_discrete (bit_at m j) 1) (λ e. e ∙ sym (f e))
     (λ unset. dite (ℕ_discrete (bit_at n j) 1) (λ e. absurd (unset (g e))) (λ nor. omega (arith, unset, nor, bit_at-lt m j, bit_at-lt n j)))
+
+power_mask : (w k : ℕ) → w ≡ 2 ^ k → IsMaskOf w (λ j. j ≡ k)
+power_mask w k e j =
+    let P : ℕ → ℕ = λ x. bit_at x j in
+    let at : bit_at w j ≡ bit_at (2 ^ k) j = ap P e in (
+      λ h. dite (ℕ_discrete j k) (λ same. same) (λ other. absurd (omega (arith, h, at, bit_at-pow_other k j other))),
+      λ same. let R : ℕ → Type 0 = λ i. bit_at (2 ^ k) i ≡ 1 in at ∙ subst R (sym same) (bit_at-pow_same k),
+    )
+
+mask_power : (w k : ℕ) → IsMaskOf w (λ j. j ≡ k) → w ≡ 2 ^ k
+mask_power w k mask =
+    same_from_bits w (2 ^ k) (λ j. let own = power_mask (2 ^ k) k refl j in same_bit w (2 ^ k) j (λ h. own.1 ((mask j).0 h)) (λ h. (mask j).1 (own.0 h)))
+
+pub bit_alone : (w k : ℕ) → k < 64 → IsTrue (w == 1 * 2 ^ k % 2 ^ 64) ↔ IsMaskOf w (λ j. j ≡ k)
+bit_alone w k few =
+    let decides = Decides-eqb w (1 * 2 ^ k % 2 ^ 64) in
+    let same : 1 * 2 ^ k % 2 ^ 64 ≡ 2 ^ k = one_shl k 64 few in
+    (λ h. power_mask w k (decides.0 h ∙ same), λ h. decides.1 (mask_power w k h ∙ sym same))
+
+-- ---- equal answers by equal bits
 
 same_answer : (x y : Option Bool) → ((a : Bool) → x ≡ Some a → (b : Bool) × (y ≡ Some b)) → ((b : Bool) → y ≡ Some b → (a : Bool) × (x ≡ Some a)) → (x ≡ Some true → y ≡ Some true) → (y ≡ Some true → x ≡ Some true) → x ≡ y
 same_answer None None f g on back = refl

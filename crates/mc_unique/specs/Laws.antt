@@ -1,6 +1,6 @@
 -- What follows from the definition of unique-cause pairs.
-use Rattle.std.specs.Prelude.{◌≡◌, ◌≢◌, ℕ, ◌<◌, ◌↔◌, true, false, Some, slice_get, bit_and, bit_xor}
-use Rattle.mc_cond.specs.Tree.{Tree, IsNumbered}
+use Rattle.std.specs.Prelude.{◌≡◌, ◌≢◌, ℕ, ◌<◌, ◌↔◌, Bool, true, false, Some, slice_get, bit_and, bit_xor}
+use Rattle.mc_cond.specs.Tree.{Tree, IsNumbered, IsShort}
 use Rattle.mc_cond.specs.Vectors.{Evaluation, IsVector}
 use Rattle.mc_cond.specs.Influence.{HasInfluence}
 use Rattle.mc_paths.specs.Masks.{IsMaskOf, IsEvaluated, IsOn}
@@ -20,14 +20,29 @@ PairTurns = (t : Tree) (k : ℕ) (v w : Evaluation) → IsUniquePair t k v w →
 abbrev pub AlikeBefore : ℕ → Evaluation → Evaluation → Type 0
 AlikeBefore k v w = (j : ℕ) → j < k → slice_get v.answers j ≡ slice_get w.answers j
 
+-- the two vectors have equal answers wherever both evaluated a condition behind k
+abbrev pub AlikeBehind : ℕ → Evaluation → Evaluation → Type 0
+AlikeBehind k v w =
+    (j : ℕ) (x y : Bool) → k < j → slice_get v.answers j ≡ Some (Some x) →
+    slice_get w.answers j ≡ Some (Some y) → x ≡ y
+
 -- Two vectors, with condition k true in the first and false in the second, are a pair exactly where
--- their answers before k are equal and k has influence in both. By short-circuit evaluation no
--- condition after k is then evaluated in both, and the outcomes differ. Operators that evaluate
--- both operands keep the equal answers before k, and not the rest: there the answers are equal
--- wherever both vectors evaluated another condition, and the outcomes are compared too.
+-- their answers before k are equal, and behind k wherever both evaluated a condition, and their
+-- outcomes differ.
+abbrev pub PairIsOfAnswers : Type 0
+PairIsOfAnswers =
+    (t : Tree) (k : ℕ) (v w : Evaluation) → IsNumbered t → IsVector t v → IsVector t w →
+    slice_get v.answers k ≡ Some (Some true) → slice_get w.answers k ≡ Some (Some false) →
+    IsUniquePair t k v w
+    ↔ (AlikeBefore k v w × AlikeBehind k v w × (v.outcome ≢ w.outcome))
+
+-- In a decision without operators that are evaluated in full they are a pair exactly where their
+-- answers before k are equal and k has influence in both. By short-circuit evaluation no condition
+-- behind k is then evaluated in both, and the outcomes differ.
 abbrev pub PairIsOfPrefix : Type 0
 PairIsOfPrefix =
-    (t : Tree) (k : ℕ) (v w : Evaluation) → IsNumbered t → IsVector t v → IsVector t w →
+    (t : Tree) (k : ℕ) (v w : Evaluation) → IsShort t → IsNumbered t →
+    IsVector t v → IsVector t w →
     slice_get v.answers k ≡ Some (Some true) → slice_get w.answers k ≡ Some (Some false) →
     IsUniquePair t k v w ↔ (AlikeBefore k v w × HasInfluence t k v × HasInfluence t k w)
 

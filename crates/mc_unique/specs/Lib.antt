@@ -1,3 +1,4 @@
 pub mod Unique
 pub mod Laws
+pub mod Samples
 pub mod steps

@@ -3,6 +3,7 @@
 
 ghost use Rattle.mc_unique.specs.Laws.{
   PairIsEvaluated,
+  PairIsOfAnswers,
   PairIsOfMasks,
   PairIsOfPrefix,
   PairTurns,
@@ -19,7 +20,14 @@ pub fn pair_turns()
 {}
 
 /// Two vectors with the condition true in the first and false in the second are a pair exactly
-/// where their answers before it are equal, and it has influence in both.
+/// where their answers before it are equal, and after it wherever both evaluated a condition, and
+/// their outcomes differ.
+pub fn pair_of_answers()
+    ensures { PairIsOfAnswers }
+{}
+
+/// Without operators that are evaluated in full they are a pair exactly where their answers before
+/// it are equal, and it has influence in both.
 pub fn pair_of_prefix()
     ensures { PairIsOfPrefix }
 {}

@@ -1,14 +1,34 @@
 //! Unique-cause pairs.
 
-ghost use Rattle.std.specs.Prelude.{◌≡◌, ℕ, ◌<◌, All, IfSome, IfNone, Some, true, false};
+ghost use Rattle.std.specs.Prelude.{
+  ◌≡◌,
+  ℕ,
+  ◌<◌,
+  ◌≤◌,
+  length,
+  get_or,
+  All,
+  Contains,
+  IfSome,
+  IfNone,
+  true,
+  false,
+};
 ghost use Rattle.std.specs.List.Sorted.{IsStrictlyIncreasing};
 ghost use Rattle.mc_cond.specs.Tree.{tree_of, size, IsNumbered};
 ghost use Rattle.mc_paths.specs.Paths.{count_of};
-ghost use Rattle.mc_pairs.specs.Pairs.{NonePaired, IsChosen, HasInfluenceAs};
+ghost use Rattle.mc_pairs.specs.Pairs.{
+  NonePaired,
+  IsChosen,
+  ArePaired,
+  HasInfluenceAs,
+  IsLeastWhere,
+  turned,
+};
 ghost use Rattle.mc_unique.specs.Unique.{IsUniquePair};
-ghost use Rattle.mc_unique.specs.steps.Prefixes.{AreAlike, IsNext};
 
-use crate::prefix::are_alike;
+use crate::candidates::candidates;
+use crate::compare::{are_alike, are_paired};
 use mc_cond::CondTree;
 use mc_pairs::has_influence_as;
 use mc_paths::Numbering;
@@ -32,60 +52,89 @@ pub fn unique_pair(
     ensures none { IfNone result (NonePaired (IsUniquePair (tree_of tree.now) k)
         (tree_of tree.now) seen.now) }
 {
-    // Paths with equal answers before `k` stand side by side, those with `k` true first.
-    let mut first = None;
-    for path in seen {
-        if let Some(least) = partner(numbering, k, first, *path) {
-            return Some((least, *path));
+    // Without operators that are evaluated in full the first candidates always are a pair.
+    let pair = candidates(numbering, seen, k)?;
+    if are_paired(numbering, k, pair.0, pair.1) {
+        return Some(pair);
+    }
+    each_compared(numbering, seen, k)
+}
+
+/// The chosen pair, by comparison of each path that has `k` true with those that have it false, of
+/// the same answers before `k`. So no two paths are compared for more than one condition.
+fn each_compared(numbering: &Numbering, seen: &[u32], k: u32) -> Option<(u32, u32)>
+    requires numbered { IsNumbered (tree_of numbering.now) }
+    requires ascending { IsStrictlyIncreasing seen.now }
+    requires condition { k < size (tree_of numbering.now) }
+    ensures chosen { IfSome result (λ pair. IsChosen (IsUniquePair (tree_of numbering.now) k)
+        (tree_of numbering.now) seen.now k pair.0 pair.1) }
+    ensures none { IfNone result (NonePaired (IsUniquePair (tree_of numbering.now) k)
+        (tree_of numbering.now) seen.now) }
+{
+    let mut off = 0;
+    for at in 0..seen.len() {
+        off = next_off(numbering, seen, k, at, off);
+        let first = seen[at];
+        if has_influence_as(numbering, first, k, true) {
+            if let Some(second) = least_partner(numbering, seen, k, at, off) {
+                return Some((first, second));
+            }
         }
-        first = first_alike(numbering, k, first, *path);
     }
     None
 }
 
-/// The kept path, where the next one makes a pair with it: `k` is false there with influence, and
-/// the answers before it are the same.
-fn partner(numbering: &Numbering, k: u32, first: Option<u32>, path: u32) -> Option<u32>
+/// The first place from `at` on of a path with `k` false and influence, or the end of the list.
+/// Up to `off` there is none.
+fn next_off(numbering: &Numbering, seen: &[u32], k: u32, at: usize, off: usize) -> usize
     requires numbered { IsNumbered (tree_of numbering.now) }
     requires condition { k < size (tree_of numbering.now) }
-    requires first { IfSome first (λ p. p < count_of (tree_of numbering.now)) }
-    requires path { path < count_of (tree_of numbering.now) }
-    ensures kept { IfSome result (λ p. first ≡ Some p) }
-    ensures off { IfSome result (λ p. HasInfluenceAs (tree_of numbering.now) k false path) }
-    ensures alike { IfSome result (λ p. AreAlike (tree_of numbering.now) k p path) }
-    ensures none { IfNone result ((p : ℕ) → first ≡ Some p
-        → HasInfluenceAs (tree_of numbering.now) k false path
-        → ¬ AreAlike (tree_of numbering.now) k p path) }
+    requires at { at < length seen.now }
+    requires passed { (m : ℕ) → at ≤ m → m < off
+        → ¬ HasInfluenceAs (tree_of numbering.now) k false (get_or seen.now m 0) }
+    ensures later { at ≤ result }
+    ensures passed { (m : ℕ) → at ≤ m → m < result
+        → ¬ HasInfluenceAs (tree_of numbering.now) k false (get_or seen.now m 0) }
 {
-    let least = first?;
-    if !has_influence_as(numbering, path, k, false) {
-        return None;
-    }
-    if are_alike(numbering, k, least, path) {
-        Some(least)
-    } else {
-        None
-    }
-}
-
-/// What is kept after a path: the first with its answers before `k`, of those with `k` true and
-/// with influence.
-fn first_alike(numbering: &Numbering, k: u32, first: Option<u32>, path: u32) -> Option<u32>
-    requires numbered { IsNumbered (tree_of numbering.now) }
-    requires condition { k < size (tree_of numbering.now) }
-    requires first { IfSome first (λ p. p < count_of (tree_of numbering.now)) }
-    requires path { path < count_of (tree_of numbering.now) }
-    ensures few { IfSome result (λ p. p < count_of (tree_of numbering.now)) }
-    ensures next { IsNext (HasInfluenceAs (tree_of numbering.now) k true path)
-        (λ p. AreAlike (tree_of numbering.now) k p path) path first result }
-{
-    if !has_influence_as(numbering, path, k, true) {
-        return first;
-    }
-    if let Some(least) = first {
-        if are_alike(numbering, k, least, path) {
-            return Some(least);
+    for next in off..seen.len() {
+        if at <= next {
+            if has_influence_as(numbering, seen[next], k, false) {
+                return next;
+            }
         }
     }
-    Some(path)
+    seen.len()
+}
+
+/// The least seen path that makes a pair with the one at `at`. Those with the same answers before
+/// `k` stand side by side, and up to `off` none has `k` false and influence.
+fn least_partner(numbering: &Numbering, seen: &[u32], k: u32, at: usize, off: usize) -> Option<u32>
+    requires numbered { IsNumbered (tree_of numbering.now) }
+    requires ascending { IsStrictlyIncreasing seen.now }
+    requires condition { k < size (tree_of numbering.now) }
+    requires at { at < length seen.now }
+    requires first { HasInfluenceAs (tree_of numbering.now) k true (get_or seen.now at 0) }
+    requires later { at ≤ off }
+    requires passed { (m : ℕ) → at ≤ m → m < off
+        → ¬ HasInfluenceAs (tree_of numbering.now) k false (get_or seen.now m 0) }
+    ensures some { IfSome result (IsLeastWhere (ArePaired
+        (turned k (IsUniquePair (tree_of numbering.now) k)) (tree_of numbering.now)
+        (get_or seen.now at 0)) seen.now) }
+    ensures none { IfNone result ((path : ℕ) → Contains seen.now path
+        → ¬ ArePaired (turned k (IsUniquePair (tree_of numbering.now) k)) (tree_of numbering.now)
+        (get_or seen.now at 0) path) }
+{
+    let first = seen[at];
+    for next in off..seen.len() {
+        let second = seen[next];
+        if numbering.in_use(second) {
+            if !are_alike(numbering, k, first, second) {
+                return None;
+            }
+            if are_paired(numbering, k, first, second) {
+                return Some(second);
+            }
+        }
+    }
+    None
 }

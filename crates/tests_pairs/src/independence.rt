@@ -3,7 +3,9 @@
 ghost use Rattle.std.specs.Prelude.{◌≡◌};
 ghost use Rattle.mc_cond.specs.Tree.{tree_of, IsNumbered};
 
-use crate::trees::{are_paths, many_ands, negated_and, one_and, two_ands, two_ors};
+use crate::trees::{
+    are_paths, many_ands, negated_and, one_and, one_full_and, two_ands, two_ors, xor_then_and,
+};
 use mc_cond::{CondTree, conditions};
 use mc_masking::masking_pair;
 use mc_paths::{Numbering, number};
@@ -87,13 +89,58 @@ static TWO_ORS: [Row<'static>; 1] = [Row {
     masking: &[None, None, Some((0, 5)), None],
 }];
 
+/// The numbers are 0 `TT=T`, 1 `TF=F`, 2 `FT=F`, 3 `FF=F`.
+static FULL_AND: [Row<'static>; 3] = [
+    Row {
+        seen: &[0, 1, 2, 3],
+        unique: &[Some((0, 2)), Some((0, 1))],
+        masking: &[Some((0, 2)), Some((0, 1))],
+    },
+    Row {
+        seen: &[0, 3],
+        unique: &[None, None],
+        masking: &[None, None],
+    },
+    Row {
+        seen: &[1, 2, 3],
+        unique: &[None, None],
+        masking: &[None, None],
+    },
+];
+
+/// The numbers are 0 `TT-=F`, 2 `TFT=T`, 3 `TFF=F`, 4 `FTT=T`, 5 `FTF=F`, 6 `FF-=F`, and 1 is idle.
+static XOR_THEN_AND: [Row<'static>; 4] = [
+    Row {
+        seen: &[0, 2, 5, 6],
+        unique: &[Some((2, 6)), Some((0, 2)), None],
+        masking: &[Some((2, 6)), Some((0, 2)), Some((2, 5))],
+    },
+    Row {
+        seen: &[0, 1, 2, 3, 4, 5, 6],
+        unique: &[Some((0, 4)), Some((0, 2)), Some((2, 3))],
+        masking: &[Some((0, 4)), Some((0, 2)), Some((2, 3))],
+    },
+    Row {
+        seen: &[0, 1, 5, 6],
+        unique: &[None, None, None],
+        masking: &[None, None, None],
+    },
+    Row {
+        seen: &[1],
+        unique: &[None, None, None],
+        masking: &[None, None, None],
+    },
+];
+
 #[test]
 fn small_decisions_have_pairs(rt: HostRuntime) -> Result<(), Fail> {
     let alloc = rt.alloc();
     check_rows(&rt, alloc, &one_and(alloc)?, &ONE_AND)?;
     check_rows(&rt, alloc, &negated_and(alloc)?, &NEGATED_AND)?;
     check_rows(&rt, alloc, &two_ands(alloc)?, &TWO_ANDS)?;
-    check_rows(&rt, alloc, &two_ors(alloc)?, &TWO_ORS)
+    check_rows(&rt, alloc, &two_ors(alloc)?, &TWO_ORS)?;
+    check_rows(&rt, alloc, &one_full_and(alloc)?, &FULL_AND)?;
+    check_rows(&rt, alloc, &xor_then_and(alloc)?, &XOR_THEN_AND)
 }
 
 /// 64 conditions joined by `&&`: condition k is shown by the path on which all are true, and that

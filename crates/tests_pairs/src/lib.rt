@@ -4,7 +4,11 @@
 #[cfg(test)]
 mod brute_force;
 #[cfg(test)]
+mod every;
+#[cfg(test)]
 mod independence;
+#[cfg(test)]
+mod numbers;
 #[cfg(test)]
 mod trees;
 #[cfg(test)]

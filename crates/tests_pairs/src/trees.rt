@@ -2,7 +2,16 @@
 
 ghost use Rattle.std.specs.Prelude.{◌≡◌, ◌+◌, ◌*◌, ◌<◌, ◌≤◌, All, IfOk, IsTrue};
 ghost use Rattle.std.specs.List.Sorted.{IsStrictlyIncreasing};
-ghost use Rattle.mc_cond.specs.Tree.{Leaf, Not, And, Or, tree_of, IsNumbered};
+ghost use Rattle.mc_cond.specs.Tree.{
+  Leaf,
+  Not,
+  And,
+  Or,
+  FullAnd,
+  FullXor,
+  tree_of,
+  IsNumbered,
+};
 
 use mc_cond::{CondTree, Vector};
 use std::alloc::{AllocError, Global};
@@ -34,6 +43,22 @@ fn or(alloc: Global, left: CondTree, right: CondTree) -> Result<CondTree, AllocE
     let left = Box::new(alloc, left)?;
     let right = Box::new(alloc, right)?;
     Ok(CondTree::Or(left, right))
+}
+
+fn full_and(alloc: Global, left: CondTree, right: CondTree) -> Result<CondTree, AllocError>
+    ensures { IfOk result (λ t. tree_of t ≡ FullAnd (tree_of left) (tree_of right)) }
+{
+    let left = Box::new(alloc, left)?;
+    let right = Box::new(alloc, right)?;
+    Ok(CondTree::FullAnd(left, right))
+}
+
+fn full_xor(alloc: Global, left: CondTree, right: CondTree) -> Result<CondTree, AllocError>
+    ensures { IfOk result (λ t. tree_of t ≡ FullXor (tree_of left) (tree_of right)) }
+{
+    let left = Box::new(alloc, left)?;
+    let right = Box::new(alloc, right)?;
+    Ok(CondTree::FullXor(left, right))
 }
 
 /// `a && b`
@@ -70,6 +95,21 @@ pub(crate) fn two_ors(alloc: Global) -> Result<CondTree, AllocError>
     and(alloc, first, second)
 }
 
+/// `a & b`
+pub(crate) fn one_full_and(alloc: Global) -> Result<CondTree, AllocError>
+    ensures { IfOk result (λ t. IsNumbered (tree_of t)) }
+{
+    full_and(alloc, leaf(0), leaf(1))
+}
+
+/// `(a ^ b) && c`
+pub(crate) fn xor_then_and(alloc: Global) -> Result<CondTree, AllocError>
+    ensures { IfOk result (λ t. IsNumbered (tree_of t)) }
+{
+    let one = full_xor(alloc, leaf(0), leaf(1))?;
+    and(alloc, one, leaf(2))
+}
+
 /// So many times `a || b`, joined by `&&`.
 pub(crate) fn many_ors(alloc: Global, count: u32) -> Result<CondTree, AllocError>
     requires least { 1 ≤ count }
@@ -95,6 +135,32 @@ pub(crate) fn many_ands(alloc: Global, count: u32) -> Result<CondTree, AllocErro
         tree = and(alloc, tree, leaf(at))?;
     }
     Ok(tree)
+}
+
+/// So many conditions, joined by `^`.
+pub(crate) fn many_xors(alloc: Global, count: u32) -> Result<CondTree, AllocError>
+    requires least { 1 ≤ count }
+    requires most { count ≤ 64 }
+    ensures { IfOk result (λ t. IsNumbered (tree_of t)) }
+{
+    let mut tree = leaf(0);
+    for at in 1..count {
+        tree = full_xor(alloc, tree, leaf(at))?;
+    }
+    Ok(tree)
+}
+
+/// `a && (b ^ c ^ ..)`, with so many conditions after the first.
+pub(crate) fn and_then_xors(alloc: Global, count: u32) -> Result<CondTree, AllocError>
+    requires least { 1 ≤ count }
+    requires most { count ≤ 63 }
+    ensures { IfOk result (λ t. IsNumbered (tree_of t)) }
+{
+    let mut right = leaf(1);
+    for at in 1..count {
+        right = full_xor(alloc, right, leaf(at + 1))?;
+    }
+    and(alloc, leaf(0), right)
 }
 
 /// Whether a vector is written so: `T`, `F` or `-` for each condition, then `=` and the outcome.

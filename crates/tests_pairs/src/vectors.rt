@@ -3,9 +3,12 @@
 
 ghost use Rattle.mc_cond.specs.Tree.{tree_of, IsNumbered};
 
-use crate::trees::{is_written, many_ands, many_ors, negated_and, two_ands};
+use crate::trees::{
+    and_then_xors, is_written, many_ands, many_ors, many_xors, negated_and, one_full_and, two_ands,
+    xor_then_and,
+};
 use mc_cond::{CondTree, conditions, truth, walk};
-use mc_paths::{NumberFault, number};
+use mc_paths::{NumberFault, Numbering, number};
 use std::alloc::Global;
 use std::process::Abort;
 use std::test::Fail;
@@ -44,6 +47,7 @@ fn check_paths(
     assert_eq!(rt; texts.len(), numbering.count() as usize);
     assert_eq!(rt; masks.len(), numbering.count() as usize);
     for path in 0..numbering.count() {
+        assert!(rt; numbering.in_use(path));
         let vector = numbering.vector_of(path);
         assert!(rt; is_written(&vector, texts[path as usize]), "path {path}");
         assert_eq!(rt; vector.outcome(), numbering.outcome_of(path));
@@ -62,7 +66,39 @@ fn check_paths(
     Ok(())
 }
 
-/// How many paths a decision has, also where they are too many; 0 where memory has run out.
+/// Checks which numbers are in use, the vector of each, and what each false edge adds.
+fn check_numbers(
+    rt: &impl Abort,
+    alloc: Global,
+    tree: &CondTree,
+    texts: &[Option<&str>],
+    edges: &[u32],
+) -> Result<(), Fail>
+    requires { IsNumbered (tree_of tree.now) }
+{
+    let numbering = number(alloc, tree)?;
+    assert_eq!(rt; texts.len(), numbering.count() as usize);
+    for path in 0..numbering.count() {
+        check_number(rt, &numbering, path, texts[path as usize]);
+    }
+    assert_eq!(rt; edges.len(), numbering.conditions() as usize);
+    for k in 0..numbering.conditions() {
+        assert_eq!(rt; numbering.on_false(k), edges[k as usize]);
+    }
+    Ok(())
+}
+
+/// Checks that a number has this vector, or none.
+fn check_number(rt: &impl Abort, numbering: &Numbering, path: u32, text: Option<&str>) {
+    assert_eq!(rt; numbering.in_use(path), text.is_some(), "number {path}");
+    if let Some(text) = text {
+        if numbering.in_use(path) {
+            assert!(rt; is_written(&numbering.vector_of(path), text), "{text}");
+        }
+    }
+}
+
+/// The count of a decision, also where it is too great; 0 where memory has run out.
 fn count_of_paths(alloc: Global, tree: &CondTree) -> u128
     requires { IsNumbered (tree_of tree.now) }
 {
@@ -136,6 +172,52 @@ fn small_decisions_are_evaluated(rt: HostRuntime) -> Result<(), Fail> {
     )
 }
 
+/// What C gives for `(a ^ b) && c` on some answers.
+static XOR_THEN_AND: [(&[bool], &str); 4] = [
+    (&[true, true, true], "TT-=F"),
+    (&[true, false, true], "TFT=T"),
+    (&[false, true, false], "FTF=F"),
+    (&[false, false, true], "FF-=F"),
+];
+
+static XOR_THEN_AND_NUMBERS: [Option<&str>; 7] = [
+    Some("TT-=F"),
+    None,
+    Some("TFT=T"),
+    Some("TFF=F"),
+    Some("FTT=T"),
+    Some("FTF=F"),
+    Some("FF-=F"),
+];
+
+/// What C gives for `a & b`.
+static FULL_AND: [(&[bool], &str); 4] = [
+    (&[true, true], "TT=T"),
+    (&[true, false], "TF=F"),
+    (&[false, true], "FT=F"),
+    (&[false, false], "FF=F"),
+];
+
+static FULL_AND_NUMBERS: [Option<&str>; 4] = [
+    Some("TT=T"),
+    Some("TF=F"),
+    Some("FT=F"),
+    Some("FF=F"),
+];
+
+#[test]
+fn full_operators_are_evaluated(rt: HostRuntime) -> Result<(), Fail> {
+    let alloc = rt.alloc();
+    let tree = xor_then_and(alloc)?;
+    check_truth(&rt, &tree, "FFFFFTTF");
+    check_walks(&rt, &tree, &XOR_THEN_AND);
+    check_numbers(&rt, alloc, &tree, &XOR_THEN_AND_NUMBERS, &[4, 2, 1])?;
+    let tree = one_full_and(alloc)?;
+    check_truth(&rt, &tree, "FFFT");
+    check_walks(&rt, &tree, &FULL_AND);
+    check_numbers(&rt, alloc, &tree, &FULL_AND_NUMBERS, &[2, 1])
+}
+
 #[test]
 fn paths_are_counted(rt: HostRuntime) -> Result<(), Fail> {
     let alloc = rt.alloc();
@@ -145,5 +227,26 @@ fn paths_are_counted(rt: HostRuntime) -> Result<(), Fail> {
         assert_eq!(rt; number(alloc, &tree).is_ok(), paths <= 4_096);
     }
     assert_eq!(rt; count_of_paths(alloc, &many_ands(alloc, 64)?), 65);
+    Ok(())
+}
+
+#[test]
+fn paths_of_full_operators_are_counted(rt: HostRuntime) -> Result<(), Fail> {
+    let alloc = rt.alloc();
+    for (count, paths) in [
+        (1, 2),
+        (12, 4_096),
+        (13, 8_192),
+        (64, 18_446_744_073_709_551_616),
+    ] {
+        let tree = many_xors(alloc, count)?;
+        assert_eq!(rt; count_of_paths(alloc, &tree), paths);
+        assert_eq!(rt; number(alloc, &tree).is_ok(), paths <= 4_096);
+    }
+    for (count, paths) in [(11, 2_049), (12, 4_097)] {
+        let tree = and_then_xors(alloc, count)?;
+        assert_eq!(rt; count_of_paths(alloc, &tree), paths);
+        assert_eq!(rt; number(alloc, &tree).is_ok(), paths <= 4_096);
+    }
     Ok(())
 }

@@ -1,9 +1,10 @@
 -- A step of the proofs: it follows the code, and no public clause rests on it.
 -- Paths with equal answers before a condition, and the first of them.
-use Rattle.std.specs.Prelude.{◌≡◌, ℕ, ◌<◌, Option, Some, None, List, get_or}
+use Rattle.std.specs.Prelude.{◌≡◌, ℕ, ◌<◌, ◌≤◌, ◌⊎◌, true, false, Option, Some, None, List, Contains, get_or}
 use Rattle.mc_cond.specs.Tree.{Tree}
 use Rattle.mc_cond.specs.Vectors.{Evaluation}
 use Rattle.mc_paths.specs.Paths.{IsPath}
+use Rattle.mc_pairs.specs.Pairs.{HasInfluenceAs}
 use Rattle.mc_unique.specs.Laws.{AlikeBefore}
 
 -- the answers before condition k are equal in the vectors of the two paths
@@ -13,6 +14,17 @@ pub record AreAlike (t : Tree) (k one other : ℕ) : Type 0 where
   pub first_path : IsPath t one v
   pub second_path : IsPath t other w
   pub alike : AlikeBefore k v w
+
+-- The first two seen paths with equal answers before condition k, and with influence of k, which is
+-- true in the one and false in the other: the least first path, and then the least second.
+pub record AreCandidates (t : Tree) (k : ℕ) (seen : List ℕ) (first second : ℕ) : Type 0 where
+  pub first_seen : Contains seen first
+  pub second_seen : Contains seen second
+  pub on : HasInfluenceAs t k true first
+  pub off : HasInfluenceAs t k false second
+  pub alike : AreAlike t k first second
+  pub least : (p q : ℕ) → Contains seen p → Contains seen q → HasInfluenceAs t k true p →
+      HasInfluenceAs t k false q → AreAlike t k p q → (first < p) ⊎ ((first ≡ p) × (second ≤ q))
 
 -- What is kept after a path, of what was kept before it: the first path of the present prefix, of
 -- those that are on.

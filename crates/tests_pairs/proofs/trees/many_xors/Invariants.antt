@@ -1,0 +1,6 @@
+use Rattle.std.proofs.Common.{◌≡◌}
+use Rattle.mc_cond.specs.Tree.{tree_of, size, IsNumberedFrom}
+use Rattle.tests_pairs.proofs.trees.many_xors.Given as goal
+
+abbrev pub invariant-loop-at : goal.invariant-loop-at
+invariant-loop-at l = (IsNumberedFrom 0 (tree_of l.tree)) × (size (tree_of l.tree) ≡ l.at)
