@@ -1,6 +1,6 @@
 -- Evaluated paths speak of the events that stand, and of nothing else; and there is one list of them.
-use Rattle.std.proofs.Common.{◌≡◌, ℕ, ◌<◌, ◌≤◌, List, [], ◌∷◌, length, get_or, sym, ap, subst, ◌∙◌, refl, arith, inl, inr, ◌⊎◌, Some, None}
-use Rattle.std.specs.Prelude.{◌↔◌, suc, zero, slice_get, Contains, AllPairs}
+use Rattle.std.proofs.Common.{◌≡◌, ℕ, ◌<◌, List, [], ◌∷◌, length, sym, subst, ◌∙◌, refl, arith, inl, inr, ◌⊎◌}
+use Rattle.std.specs.Prelude.{◌↔◌, suc, zero, Contains, AllPairs}
 use Rattle.mc_cond.specs.Tree.{Tree}
 use Rattle.mc_steps.specs.Events.{Event}
 use Rattle.mc_probe.specs.Maps.{Map}

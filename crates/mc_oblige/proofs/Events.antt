@@ -5,7 +5,7 @@ use Rattle.std.proofs.lemmas.Bool.{cases_lt}
 use Rattle.mc_cond.specs.Tree.{Tree}
 use Rattle.mc_cond.specs.Vectors.{Evaluation}
 use Rattle.mc_core.specs.Matrix.{MatrixView, Holds}
-use Rattle.mc_paths.specs.Paths.{count_of, path_of, IsPath}
+use Rattle.mc_paths.specs.Paths.{count_of, path_of, IsPath, IsInUse}
 use Rattle.mc_paths.proofs.Numbers.{vector_below}
 use Rattle.mc_steps.specs.Events.{Event, Entered, Exited, Started, Chosen, Evaluated}
 use Rattle.mc_probe.specs.Maps.{Mapped, Map, image, path_bit, entry_bit, exit_bit, statement_bit, label_bit}
@@ -16,7 +16,7 @@ use Rattle.mc_oblige.specs.declared.verdict.Evidence.{Evidence}
 use Rattle.mc_oblige.specs.declared.verdict.Evidence.TheVariants.{Absent, One, Pair}
 use Rattle.mc_oblige.specs.Shown.{IsEvent, IsVectorOf, Shows, HasEvent}
 use Rattle.mc_oblige.specs.Evidence.{IsLeast, IsShown, IsEvaluated, AreSeen, IsTestEvidence, IsConditionEvidence}
-use Rattle.mc_oblige.specs.steps.Table.{IsLeastIf, evidence_of, IsAt, HasOutcome, AreSeenBelow}
+use Rattle.mc_oblige.specs.steps.Table.{IsLeastIf, evidence_of, IsAt, IsTestOf, HasOutcome, AreSeenBelow}
 use Rattle.mc_oblige.specs.steps.Found.{IsFoundOutcome, IsFoundCondition}
 
 -- ---- least tests
@@ -67,13 +67,9 @@ module _ (m : Map) (x : MatrixView) where
 
   -- ---- a decision
 
-  module _ (d : ℕ) (mapped : Mapped) (known : slice_get m.decisions d ≡ Some mapped) (tests : List (Option ℕ)) (whole : length tests ≡ count_of mapped.decision.tree)
-      (least : (p : ℕ) → p < length tests → IsLeastIf (Holds x (mapped.base + p)) (get_or tests p None)) where
+  module _ (d : ℕ) (mapped : Mapped) (known : slice_get m.decisions d ≡ Some mapped) where
     abbrev tree : Tree
     tree = mapped.decision.tree
-
-    below : (p : ℕ) (v : Evaluation) → IsPath tree p v → p < length tests
-    below p v is = let h = vector_below tree v is.vector in let n = is.number in omega (arith, h, n, whole)
 
     held : (p t : ℕ) (v : Evaluation) → IsPath tree p v → stands (Evaluated d v) t → Holds x (mapped.base + p) t
     held p t v is h =
@@ -88,62 +84,71 @@ module _ (m : Map) (x : MatrixView) where
         let R : Option Mapped → Type 0 = λ o. IsVectorOf o v in
         record { event = subst R (sym known) is.vector; held = subst P (sym known) (subst Q (sym is.number) h) }
 
-    -- the test of a path under which its vector is evaluated
-    found : (p t : ℕ) → p < length tests → Holds x (mapped.base + p) t → (u : ℕ) × IsAt tests p u × (u ≤ t)
-    found p t lt h = least_at (Holds x (mapped.base + p)) (get_or tests p None) (least p lt) t h
-
-    at : (p t : ℕ) → p < length tests → IsAt tests p t → IsLeast (Holds x (mapped.base + p)) t
-    at p t lt e = some_is (get_or tests p None) t (Holds x (mapped.base + p)) e (least p lt)
-
-    -- ---- outcomes
-
-    shown_path : (o : Bool) (t : ℕ) → IsShown stands (Outcome d o) t → (p : ℕ) × (p < length tests) × HasOutcome tree o p × Holds x (mapped.base + p) t
-    shown_path o t h =
-        let v : Evaluation = h.shows.0 in
-        let P : Event → Type 0 = λ e. HasEvent m x e t in
-        let u : HasEvent m x (Evaluated d v) t = subst P h.shows.1.0 h.under in
-        let R : Option Mapped → Type 0 = λ q. IsVectorOf q v in
-        let is : IsPath tree (path_of tree v) v = record { vector = subst R known u.event; number = refl } in
-        (path_of tree v, below (path_of tree v) v is, record { vector = v; is_path = is; same = h.shows.1.1 }, held (path_of tree v) t v is u)
-
-    path_shown : (o : Bool) (p t : ℕ) → HasOutcome tree o p → Holds x (mapped.base + p) t → IsShown stands (Outcome d o) t
-    path_shown o p t h at = record { event = Evaluated d h.vector; shows = (h.vector, (refl, h.same)); under = has p t h.vector h.is_path at }
-
-    pub outcome : (o : Bool) (e : Evidence) → IsFoundOutcome tree tests o e → IsTestEvidence stands (Outcome d o) e
-    outcome o Absent none = λ t shown.
-        let s = shown_path o t shown in
-        let f = found s.0 t s.1 s.3 in
-        none s.0 f.0 s.1 (f.1, s.2)
-    outcome o (One test) best = record {
-      so = (let b = best.0 in path_shown o b.0 test b.2.1 (at b.0 test b.1 b.2.0).so);
-      none_before = λ u less shown.
-          (let s = shown_path o u shown in
-          let f = found s.0 u s.1 s.3 in
-          let le = best.1 s.0 f.0 s.1 (f.1, s.2) in
-          let up = f.2 in
-          omega arith);
-    }
-    outcome o (Pair first first_test second second_test) h = absurd h
-
-    -- ---- conditions
-
-    evaluated : (p t : ℕ) → p < length tests → (v : Evaluation) → IsPath tree p v → Holds x (mapped.base + p) t ↔ IsEvaluated stands d tree p t
-    evaluated p t lt v is = (
+    evaluated : (p t : ℕ) (v : Evaluation) → IsPath tree p v → Holds x (mapped.base + p) t ↔ IsEvaluated stands d tree p t
+    evaluated p t v is = (
       λ h. record { vector = v; is_path = is; under = has p t v is h },
       λ h. held p t h.vector h.is_path h.under,
     )
 
-    evaluated_below : (p t : ℕ) → IsEvaluated stands d tree p t → p < length tests
-    evaluated_below p t h = below p h.vector h.is_path
+    -- the test of a number is the least one under which its vector is evaluated; that of an idle one is none
+    pub least_of_path : (p : ℕ) (bit test : Option ℕ) → IsTestOf tree p bit test → IsLeastIf (Holds x (mapped.base + p)) bit → IsLeastIf (IsEvaluated stands d tree p) test
+    least_of_path p bit test of least =
+        let P : Option ℕ → Type 0 = λ o. IsLeastIf (IsEvaluated stands d tree p) o in
+        elim of [
+          | inl used ↦
+              (let v : IsInUse tree p = used.0 in
+              subst P (sym used.1) (least_if_by (Holds x (mapped.base + p)) (IsEvaluated stands d tree p) bit (λ t. evaluated p t v.0 v.1) least))
+          | inr idle ↦
+              (let none : IsLeastIf (IsEvaluated stands d tree p) None = λ t h. idle.0 (h.vector, h.is_path) in
+              subst P (sym idle.1) none)
+        ]
 
-    evaluated_at : (p t : ℕ) → IsEvaluated stands d tree p t → (u : ℕ) × IsAt tests p u × (u ≤ t)
-    evaluated_at p t h = found p t (evaluated_below p t h) (held p t h.vector h.is_path h.under)
+    module _ (tests : List (Option ℕ)) (whole : length tests ≡ count_of tree) (least : (p : ℕ) → p < length tests → IsLeastIf (IsEvaluated stands d tree p) (get_or tests p None)) where
+      below : (p : ℕ) (v : Evaluation) → IsPath tree p v → p < length tests
+      below p v is = let h = vector_below tree v is.vector in let n = is.number in omega (arith, h, n, whole)
 
-    module _ (vectors : (p : ℕ) → p < length tests → (v : Evaluation) × IsPath tree p v) where
+      evaluated_below : (p t : ℕ) → IsEvaluated stands d tree p t → p < length tests
+      evaluated_below p t h = below p h.vector h.is_path
+
+      -- the test of a path whose vector is evaluated
+      evaluated_at : (p t : ℕ) → IsEvaluated stands d tree p t → (u : ℕ) × IsAt tests p u × (u ≤ t)
+      evaluated_at p t h = least_at (IsEvaluated stands d tree p) (get_or tests p None) (least p (evaluated_below p t h)) t h
+
       least_evaluated : (p t : ℕ) → p < length tests → IsAt tests p t → IsLeast (IsEvaluated stands d tree p) t
-      least_evaluated p t lt e =
-          let v = vectors p lt in
-          least_by (Holds x (mapped.base + p)) (IsEvaluated stands d tree p) t (λ u. evaluated p u lt v.0 v.1) (at p t lt e)
+      least_evaluated p t lt e = some_is (get_or tests p None) t (IsEvaluated stands d tree p) e (least p lt)
+
+      -- ---- outcomes
+
+      shown_path : (o : Bool) (t : ℕ) → IsShown stands (Outcome d o) t → (p : ℕ) × HasOutcome tree o p × IsEvaluated stands d tree p t
+      shown_path o t h =
+          let v : Evaluation = h.shows.0 in
+          let P : Event → Type 0 = λ e. HasEvent m x e t in
+          let u : HasEvent m x (Evaluated d v) t = subst P h.shows.1.0 h.under in
+          let R : Option Mapped → Type 0 = λ q. IsVectorOf q v in
+          let is : IsPath tree (path_of tree v) v = record { vector = subst R known u.event; number = refl } in
+          (path_of tree v, record { vector = v; is_path = is; same = h.shows.1.1 }, record { vector = v; is_path = is; under = u })
+
+      path_shown : (o : Bool) (p t : ℕ) → HasOutcome tree o p → IsEvaluated stands d tree p t → IsShown stands (Outcome d o) t
+      path_shown o p t h e =
+          record { event = Evaluated d h.vector; shows = (h.vector, (refl, h.same)); under = has p t h.vector h.is_path (held p t e.vector e.is_path e.under) }
+
+      pub outcome : (o : Bool) (e : Evidence) → IsFoundOutcome tree tests o e → IsTestEvidence stands (Outcome d o) e
+      outcome o Absent none = λ t shown.
+          let s = shown_path o t shown in
+          let f = evaluated_at s.0 t s.2 in
+          none s.0 f.0 (evaluated_below s.0 t s.2) (f.1, s.1)
+      outcome o (One test) best = record {
+        so = (let b = best.0 in path_shown o b.0 test b.2.1 (least_evaluated b.0 test b.1 b.2.0).so);
+        none_before = λ u less shown.
+            (let s = shown_path o u shown in
+            let f = evaluated_at s.0 u s.2 in
+            let le = best.1 s.0 f.0 (evaluated_below s.0 u s.2) (f.1, s.1) in
+            let up = f.2 in
+            omega arith);
+      }
+      outcome o (Pair first first_test second second_test) h = absurd h
+
+      -- ---- conditions
 
       seen : (paths : List ℕ) → AreSeenBelow tests (length tests) paths → AreSeen stands d tree paths
       seen paths h = record {
@@ -170,10 +175,3 @@ module _ (m : Map) (x : MatrixView) where
             first_least = least_evaluated first first_test one.0 h.first_at;
             second_least = least_evaluated second second_test other.0 h.second_at;
           }
-
-      -- ---- evaluated paths
-
-      pub least_path : (p : ℕ) → p < length tests → IsLeastIf (IsEvaluated stands d tree p) (get_or tests p None)
-      least_path p lt =
-          let v = vectors p lt in
-          least_if_by (Holds x (mapped.base + p)) (IsEvaluated stands d tree p) (get_or tests p None) (λ u. evaluated p u lt v.0 v.1) (least p lt)

@@ -4,10 +4,8 @@ use Rattle.std.specs.Prelude.{slice_get, suc}
 use Rattle.std.proofs.lemmas.List.{get_or-drop, get_or-take, get_or-map, length-drop, length-take-le, length-map, append-nil}
 use Rattle.std.proofs.lemmas.Option.{slice_get_within, get_or_from_slice_get}
 use Rattle.mc_span.specs.declared.span.Span.{Span}
-use Rattle.mc_cond.specs.Vectors.{Evaluation}
 use Rattle.mc_core.specs.Matrix.{MatrixView, Holds}
-use Rattle.mc_paths.specs.Paths.{count_of, IsPath}
-use Rattle.mc_pairs.proofs.Influential.{vector_at}
+use Rattle.mc_paths.specs.Paths.{count_of}
 use Rattle.mc_steps.specs.Events.{Event}
 use Rattle.mc_probe.specs.Maps.{Mapped, Map, IsMap, IsPlaced, first_path, exit_bit, statement_bit, label_bit}
 use Rattle.mc_oblige.specs.declared.mode.Mode.{Mode}
@@ -19,11 +17,11 @@ use Rattle.mc_oblige.specs.declared.verdict.Evidence.TheVariants.{Absent}
 use Rattle.mc_oblige.specs.Obligations.{numbered, of_places, of_decision, of_decisions}
 use Rattle.mc_oblige.specs.Shown.{HasEvent}
 use Rattle.mc_oblige.specs.Evidence.{IsEvaluated, IsConditionEvidence, IsEvidence}
-use Rattle.mc_oblige.specs.steps.Table.{IsLeastIf, AreLeast, evidence_of}
+use Rattle.mc_oblige.specs.steps.Table.{IsLeastIf, AreLeast, evidence_of, AreTestsOf}
 use Rattle.mc_oblige.specs.steps.Found.{IsFoundCondition, AreFound, AreEvidence}
 use Rattle.mc_oblige.proofs.Listed.{decisions_more}
 use Rattle.mc_oblige.proofs.Bounds.{starts_low, based_end, placed_at}
-use Rattle.mc_oblige.proofs.Events.{entry, exit, statement, label, outcome, condition, least_path}
+use Rattle.mc_oblige.proofs.Events.{entry, exit, statement, label, outcome, condition, least_of_path}
 
 -- ---- lists
 
@@ -118,23 +116,20 @@ module _ (m : Map) (x : MatrixView) (mode : Mode) where
 
   -- one decision
   module _ (d : ℕ) (mapped : Mapped) (known : slice_get m.decisions d ≡ Some mapped) (placed : IsPlaced mapped.decision) (tests : List (Option ℕ)) (whole : length tests ≡ count_of mapped.decision.tree)
-      (least : AreLeast x mapped.base tests) where
-    vectors : (p : ℕ) → p < length tests → (v : Evaluation) × IsPath mapped.decision.tree p v
-    vectors p lt = vector_at mapped.decision.tree p placed.numbered (omega (arith, whole))
-
+      (least : (p : ℕ) → p < length tests → IsLeastIf (IsEvaluated (HasEvent m x) d mapped.decision.tree p) (get_or tests p None)) where
     one_condition : (k : ℕ) (e : Evidence) → IsFoundCondition mode mapped.decision.tree tests k e → IsEvidence (HasEvent m x) m mode (Condition d (0 + k)) e
     one_condition k e h =
         let P : Option Mapped → Type 0 = λ o. IsConditionEvidence (HasEvent m x) mode d k o e in
         let Q : ℕ → Type 0 = λ j. IsEvidence (HasEvent m x) m mode (Condition d j) e in
-        subst Q (sym (zero-add k)) (subst P (sym known) (condition m x d mapped known tests whole least.each vectors mode k e h))
+        subst Q (sym (zero-add k)) (subst P (sym known) (condition m x d mapped known tests whole least mode k e h))
 
     pub decision : (es : List Evidence) → AreFound mode mapped.decision.tree tests es → Are (of_decision d mapped.decision) es
     decision [] h = absurd h
     decision (e ∷ []) h = absurd h
     decision (e ∷ f ∷ es) h = (
-      outcome m x d mapped known tests whole least.each true e h.0,
+      outcome m x d mapped known tests whole least true e h.0,
       (
-        outcome m x d mapped known tests whole least.each false f h.1,
+        outcome m x d mapped known tests whole least false f h.1,
         numbered_only (HasEvent m x) m mode (Condition d) 0 mapped.decision.conditions es (h.2.count ∙ sym placed.places)
             (λ k lt. one_condition k (get_or es k Absent) (h.2.each k (let s = placed.places in omega arith))),
       ),
@@ -170,36 +165,28 @@ module _ (m : Map) (x : MatrixView) (mode : Mode) where
       abbrev paths : ℕ
       paths = count_of mapped.decision.tree
 
-      abbrev part : List (Option ℕ)
-      part = take paths (drop mapped.base table)
+      abbrev bits_of_paths : List (Option ℕ)
+      bits_of_paths = drop mapped.base table
 
       pub inside : mapped.base + paths ≤ length table
       inside = omega (arith, based_end m.decisions (first_path m) m.bits i mapped is.based known)
 
-      part_count : length part ≡ paths
-      part_count =
+      bit_least : (p : ℕ) → p < paths → IsLeastIf (Holds x (mapped.base + p)) (get_or bits_of_paths p None)
+      bit_least p lt =
           let h = inside in
-          length-take-le paths (drop mapped.base table) (omega (arith, length-drop mapped.base table))
+          let P : ℕ → Type 0 = λ b. IsLeastIf (Holds x b) (get_or table (mapped.base + p) None) in
+          let Q : Option ℕ → Type 0 = λ o. IsLeastIf (Holds x (mapped.base + p)) o in
+          subst Q (sym (get_or-drop mapped.base table p None)) (subst P (zero-add (mapped.base + p)) (least.each (mapped.base + p) (omega arith)))
 
-      part_least : AreLeast x mapped.base part
-      part_least = record {
-        each = λ k lt.
-            (let n = part_count in
-            let h = inside in
-            let same : get_or part k None ≡ get_or table (mapped.base + k) None =
-            get_or-take paths (drop mapped.base table) k None (omega arith) ∙ get_or-drop mapped.base table k None in
-            let P : ℕ → Type 0 = λ b. IsLeastIf (Holds x b) (get_or table (mapped.base + k) None) in
-            let Q : Option ℕ → Type 0 = λ o. IsLeastIf (Holds x (mapped.base + k)) o in
-            subst Q (sym same) (subst P (zero-add (mapped.base + k)) (least.each (mapped.base + k) (omega arith))));
-      }
+      module _ (tests : List (Option ℕ)) (of : AreTestsOf mapped.decision.tree bits_of_paths paths tests) where
+        -- the least tests of the decision's paths
+        pub least_paths : (p : ℕ) → p < length tests → IsLeastIf (IsEvaluated (HasEvent m x) i mapped.decision.tree p) (get_or tests p None)
+        least_paths p lt =
+            let count = of.count in
+            let within : p < paths = omega (arith, lt, count) in
+            least_of_path m x i mapped known p (get_or bits_of_paths p None) (get_or tests p None) (of.each p within) (bit_least p within)
 
-      pub next : (es own : List Evidence) → AreFound mode mapped.decision.tree part own → Are (so_far i) es → Are (so_far (i + 1)) (es ++ own)
-      next es own found h =
-          decisions_next i mapped es own known h
-          (decision i mapped known (placed_at m.decisions i mapped is.placed known) part part_count part_least own found)
-
-      -- the least tests of the decision's paths
-      pub least_paths : (p : ℕ) → p < length part → IsLeastIf (IsEvaluated (HasEvent m x) i mapped.decision.tree p) (get_or part p None)
-      least_paths p lt =
-          least_path m x i mapped known part part_count part_least.each
-          (vectors i mapped known (placed_at m.decisions i mapped is.placed known) part part_count part_least) p lt
+        pub next : (es own : List Evidence) → AreFound mode mapped.decision.tree tests own → Are (so_far i) es → Are (so_far (i + 1)) (es ++ own)
+        next es own found h =
+            decisions_next i mapped es own known h
+            (decision i mapped known (placed_at m.decisions i mapped is.placed known) tests of.count least_paths own found)

@@ -1,13 +1,12 @@
 -- Steps of the loops that find least tests and seen paths.
 use mathlib.Core.Bool.{beq}
 use Rattle.std.proofs.Common.{◌≡◌, Bool, true, false, ℕ, ◌+◌, ◌<◌, ◌++◌, min, Option, Some, None, List, [], ◌∷◌, length, get_or, sym, subst, ◌∙◌, refl, arith, inl, inr, ◌⊎◌}
-use Rattle.std.specs.Prelude.{◌↔◌, Contains, All, IfSome, IsNone}
+use Rattle.std.specs.Prelude.{◌↔◌, Contains, All}
 use Rattle.std.specs.List.Sorted.{IsStrictlyIncreasing}
 use Rattle.std.proofs.lemmas.Bool.{cases_lt}
 use Rattle.std.proofs.lemmas.List.{get_or_append_left, get_or_past, get_or_push, length_push}
 use Rattle.std.proofs.lemmas.List.Elements.{Contains-push, Contains-push_cases, Contains-append_left, All-push}
-use Rattle.mc_core.specs.Matrix.{MatrixView, Holds}
-use Rattle.mc_oblige.specs.steps.Table.{IsLeastIf, AreLeast, IsAt, IsLeastBelow, lesser_of, AreSeenBelow, seen_with}
+use Rattle.mc_oblige.specs.steps.Table.{IsAt, IsLeastBelow, lesser_of, AreSeenBelow, seen_with}
 
 next : (p n : ℕ) → p < n + 1 → (p < n) ⊎ (p ≡ n)
 next p n h = elim (cases_lt p n) [ inl less ↦ inl less | inr more ↦ inr (omega (arith, h, more)) ]

@@ -4,6 +4,7 @@ pub mod Naming
 pub mod Events
 pub mod Judged
 pub mod Least
+pub mod InUse
 pub mod Alike
 pub mod Single
 pub mod Pairs

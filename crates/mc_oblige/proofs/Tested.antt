@@ -1,6 +1,6 @@
 -- The loops that list evaluated paths: one path more, one decision more.
-use Rattle.std.proofs.Common.{◌≡◌, ℕ, ◌+◌, ◌<◌, ◌≤◌, ◌++◌, Option, Some, None, List, [], ◌∷◌, length, get_or, drop, sym, ap, subst, ◌∙◌, refl, arith, inl, inr, ◌⊎◌, append_assoc, add-zero}
-use Rattle.std.specs.Prelude.{◌↔◌, suc, zero, slice_get, Contains, AllPairs}
+use Rattle.std.proofs.Common.{◌≡◌, ℕ, ◌+◌, ◌<◌, ◌++◌, Option, Some, None, List, [], ◌∷◌, length, get_or, drop, sym, ap, subst, ◌∙◌, refl, arith, inl, inr, ◌⊎◌, append_assoc, add-zero}
+use Rattle.std.specs.Prelude.{suc, slice_get, Contains}
 use Rattle.std.proofs.lemmas.Bool.{cases_lt}
 use Rattle.std.proofs.lemmas.List.{append-nil, drop_more}
 use Rattle.std.proofs.lemmas.List.Elements.{Contains-push, Contains-push_cases, Contains-append_left, Contains-get_or}

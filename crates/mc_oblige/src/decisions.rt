@@ -3,6 +3,7 @@ ghost use Rattle.std.specs.Prelude.{◌≡◌, ◌≤◌, length, IfOk};
 ghost use Rattle.mc_limits.specs.Limits.{most_paths};
 ghost use Rattle.mc_cond.specs.Tree.{tree_of};
 ghost use Rattle.mc_paths.specs.Paths.{count_of};
+ghost use Rattle.mc_oblige.specs.steps.Table.{AreInUse};
 ghost use Rattle.mc_oblige.specs.steps.Found.{AreFound};
 
 use crate::conditions::condition_evidence;
@@ -22,6 +23,7 @@ pub(crate) fn decision_evidence(
 ) -> Result<Vec<Evidence>, AllocError>
     requires count { length tests.now ≡ count_of (tree_of mapped.now.decision.tree) }
     requires few { length tests.now ≤ most_paths }
+    requires used { AreInUse (tree_of mapped.now.decision.tree) tests.now }
     ensures { IfOk result (λ v.
         AreFound mode (tree_of mapped.now.decision.tree) tests.now v.items) }
 {

@@ -6,7 +6,7 @@ ghost use Rattle.mc_oblige.specs.Shown.{HasEvent};
 ghost use Rattle.mc_oblige.specs.Evaluated.{AreEvaluated};
 ghost use Rattle.mc_oblige.specs.steps.Tested.{tested_at, tested};
 
-use crate::evidence::path_tests;
+use crate::paths::path_tests;
 use crate::table::least_tests;
 use mc_core::Matrix;
 use mc_probe::BitMap;
@@ -35,7 +35,8 @@ pub fn evaluated_paths(
     let tests = least_tests(alloc, matrix)?;
     let mut found = Vec::new(alloc);
     for (d, mapped) in map.decisions.iter().enumerate() {
-        add_paths(&mut found, d as u32, path_tests(mapped, &tests))?;
+        let paths = path_tests(alloc, mapped, &tests)?;
+        add_paths(&mut found, d as u32, &paths)?;
     }
     Ok(found)
 }

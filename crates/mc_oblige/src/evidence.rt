@@ -1,8 +1,5 @@
 //! The evidence of all obligations.
-ghost use Rattle.std.specs.Prelude.{◌≡◌, ◌+◌, ◌≤◌, length, take, drop, IfOk};
-ghost use Rattle.mc_limits.specs.Limits.{most_paths};
-ghost use Rattle.mc_cond.specs.Tree.{tree_of};
-ghost use Rattle.mc_paths.specs.Paths.{count_of};
+ghost use Rattle.std.specs.Prelude.{◌≡◌, IfOk};
 ghost use Rattle.mc_probe.specs.BitMaps.{map_of};
 ghost use Rattle.mc_probe.specs.Maps as maps;
 ghost use Rattle.mc_oblige.specs.Obligations.{obligations_of};
@@ -11,10 +8,11 @@ ghost use Rattle.mc_oblige.specs.steps.Found.{AreEvidence};
 
 use crate::decisions::decision_evidence;
 use crate::mode::Mode;
+use crate::paths::path_tests;
 use crate::table::{least_tests, test_evidence};
 use crate::verdict::Evidence;
 use mc_core::Matrix;
-use mc_probe::{BitMap, MappedDecision};
+use mc_probe::BitMap;
 use std::alloc::{AllocError, Global};
 
 /// The evidence of each obligation of the map, in order.
@@ -31,23 +29,11 @@ pub(crate) fn all_evidence(
     let tests = least_tests(alloc, matrix)?;
     let mut found = test_evidence(alloc, &tests[..first_path(map)])?;
     for mapped in &map.decisions {
-        let own = decision_evidence(alloc, mapped, path_tests(mapped, &tests), mode)?;
+        let paths = path_tests(alloc, mapped, &tests)?;
+        let own = decision_evidence(alloc, mapped, &paths, mode)?;
         found.extend_from_slice(&own)?;
     }
     Ok(found)
-}
-
-/// The least tests of the paths of a decision, in those of all bits.
-pub(crate) fn path_tests<'a>(mapped: &MappedDecision, tests: &'a [Option<u32>]) -> &'a [Option<u32>]
-    requires { mapped.now.base + count_of (tree_of mapped.now.decision.tree) ≤ length tests.now }
-    ensures part { result.now
-        ≡ take (count_of (tree_of mapped.now.decision.tree)) (drop mapped.now.base tests.now) }
-    ensures count { length result.now ≡ count_of (tree_of mapped.now.decision.tree) }
-    ensures few { length result.now ≤ most_paths }
-{
-    let count = mapped.numbering.count() as usize;
-    let later = &tests[mapped.base as usize..];
-    &later[..count]
 }
 
 /// The bit of the first path.

@@ -13,6 +13,7 @@ mod listing;
 mod mode;
 mod obligation;
 mod outcomes;
+mod paths;
 mod places;
 mod seen;
 mod table;

@@ -1,8 +1,8 @@
 //! The evidence of a decision's outcomes.
-ghost use Rattle.std.specs.Prelude.{◌≡◌, ℕ, ◌<◌, ◌↔◌, Some, length};
-ghost use Rattle.mc_cond.specs.Tree.{tree_of, IsNumbered};
-ghost use Rattle.mc_paths.specs.Paths.{count_of};
-ghost use Rattle.mc_oblige.specs.steps.Table.{HasOutcome, HasTest, IsLeastBelow, lesser_of};
+ghost use Rattle.std.specs.Prelude.{◌≡◌, ℕ, ◌↔◌, Some, length};
+ghost use Rattle.mc_cond.specs.Tree.{tree_of};
+ghost use Rattle.mc_paths.specs.Paths.{count_of, IsInUse};
+ghost use Rattle.mc_oblige.specs.steps.Table.{AreInUse, HasOutcome, HasTest, IsLeastBelow, lesser_of};
 ghost use Rattle.mc_oblige.specs.steps.Found.{IsFoundOutcome};
 
 use crate::table::one_or_absent;
@@ -15,16 +15,16 @@ pub(crate) fn outcome_evidence(
     tests: &[Option<u32>],
     outcome: bool,
 ) -> Evidence
-    requires numbered { IsNumbered (tree_of numbering.now) }
     requires count { length tests.now ≡ count_of (tree_of numbering.now) }
+    requires used { AreInUse (tree_of numbering.now) tests.now }
     ensures { IsFoundOutcome (tree_of numbering.now) tests.now outcome result }
 {
     one_or_absent(least_with(numbering, tests, outcome))
 }
 
 fn least_with(numbering: &Numbering, tests: &[Option<u32>], outcome: bool) -> Option<u32>
-    requires numbered { IsNumbered (tree_of numbering.now) }
     requires count { length tests.now ≡ count_of (tree_of numbering.now) }
+    requires used { AreInUse (tree_of numbering.now) tests.now }
     ensures { IsLeastBelow (HasTest (tree_of numbering.now) tests.now outcome) (length tests.now)
         result }
 {
@@ -41,8 +41,7 @@ fn least_with(numbering: &Numbering, tests: &[Option<u32>], outcome: bool) -> Op
 
 /// The test of the path, where the path has this outcome.
 fn test_with(numbering: &Numbering, path: u32, test: Option<u32>, outcome: bool) -> Option<u32>
-    requires numbered { IsNumbered (tree_of numbering.now) }
-    requires path { path < count_of (tree_of numbering.now) }
+    requires { (t : ℕ) → test ≡ Some t → IsInUse (tree_of numbering.now) path }
     ensures { (t : ℕ) → (result ≡ Some t)
         ↔ ((test ≡ Some t) × HasOutcome (tree_of numbering.now) outcome path) }
 {

@@ -21,7 +21,7 @@ pub(crate) fn obligation_count(mapped: &MappedDecision) -> u32
     2 + mapped.numbering.conditions()
 }
 
-/// How many paths a decision has.
+/// How many numbers the paths of a decision have. Some may be idle.
 pub(crate) fn path_count(mapped: &MappedDecision) -> u32
     ensures { result ≡ count_of (tree_of mapped.now.decision.tree) }
 {
@@ -45,7 +45,6 @@ pub(crate) fn is_shown(mapped: &MappedDecision, seen: &[u32], mode: Mode, at: u3
 }
 
 fn has_outcome(mapped: &MappedDecision, seen: &[u32], outcome: bool) -> bool
-    requires { All (λ path. path < count_of (tree_of mapped.now.decision.tree)) seen.now }
     ensures { IsTrue result
         ↔ HasOutcomeOn (Contains seen.now) (tree_of mapped.now.decision.tree) outcome }
 {
@@ -57,12 +56,14 @@ fn has_outcome(mapped: &MappedDecision, seen: &[u32], outcome: bool) -> bool
     false
 }
 
-/// Whether the path has this outcome.
+/// Whether the path has this outcome. A number that is idle is no path, and has none.
 fn is_outcome_of(mapped: &MappedDecision, path: u32, outcome: bool) -> bool
-    requires { path < count_of (tree_of mapped.now.decision.tree) }
     ensures { IsTrue result
         ↔ HasOutcome (tree_of mapped.now.decision.tree) outcome path }
 {
+    if !mapped.numbering.in_use(path) {
+        return false;
+    }
     mapped.numbering.outcome_of(path) == outcome
 }
 

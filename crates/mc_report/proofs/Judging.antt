@@ -2,8 +2,7 @@
 use Rattle.std.proofs.Common.{◌≡◌, ◌<◌, ℕ, suc, List, [], ◌∷◌, Some, None, Option, true, false, refl, sym, subst, arith}
 use Rattle.std.specs.Prelude.{All, IsUtf8, slice_get, ◌==◌, if◌then◌else◌}
 use Rattle.mc_cond.specs.Tree.{Tree}
-use Rattle.mc_paths.specs.Paths.{count_of}
-use Rattle.mc_paths.proofs.Numbers.{vector_below}
+use Rattle.mc_paths.specs.Paths.{IsInUse}
 use Rattle.mc_steps.specs.Events.{Event}
 use Rattle.mc_probe.specs.Maps.{Map, Mapped}
 use Rattle.mc_oblige.specs.declared.mode.Mode.{Mode}
@@ -21,10 +20,9 @@ use Rattle.mc_oblige.specs.Verdicts.{IsVerdict, AreVerdictsFrom, reason_for}
 use Rattle.mc_report.specs.Laws.{VerdictsAreReported}
 use Rattle.mc_report.specs.Report.{HasPath, IsOfKind, IsReason, IsJudged, AreJudged}
 
-pub path_below : (t : Tree) (path : ℕ) → (d test : ℕ) (stands : Event → ℕ → Type 0) → IsEvaluated stands d t path test → path < count_of t
-path_below t path d test stands is =
-    let P : ℕ → Type 0 = λ n. n < count_of t in
-    subst P is.is_path.number (vector_below t is.vector is.is_path.vector)
+-- a path that is evaluated is in use
+pub path_used : (t : Tree) (path : ℕ) → (d test : ℕ) (stands : Event → ℕ → Type 0) → IsEvaluated stands d t path test → IsInUse t path
+path_used t path d test stands is = (is.vector, is.is_path)
 
 reason_is_text : (named : List Justification) (at : ℕ) → All (λ j. IsUtf8 j.reason) named → IsReason (reason_for at named)
 reason_is_text [] at texts = tt
@@ -43,8 +41,8 @@ module _ (stands : Event → ℕ → Type 0) (m : Map) (mode : Mode) (tests : �
   condition_of_kind d k (Some x) (Pair first s second t) there is =
       let P : Option Mapped → Type 0 = λ o. HasPath o first × HasPath o second × (s < tests) × (t < tests) in
       subst P (sym there) (
-        path_below x.decision.tree first d s stands is.first_least.so,
-        path_below x.decision.tree second d t stands is.second_least.so,
+        path_used x.decision.tree first d s stands is.first_least.so,
+        path_used x.decision.tree second d t stands is.second_least.so,
         few _ s is.first_least.so.under,
         few _ t is.second_least.so.under,
       )

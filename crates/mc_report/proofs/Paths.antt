@@ -4,8 +4,9 @@ use Rattle.std.proofs.lemmas.List.{append-nil}
 use Rattle.std.specs.Prelude.{slice_get}
 use Rattle.mc_cond.specs.Tree.{Tree, IsNumbered, tree_of}
 use Rattle.mc_cond.specs.Vectors.{Evaluation}
-use Rattle.mc_paths.specs.Paths.{count_of, IsPath}
-use Rattle.mc_paths.proofs.Numbers.{descent_path, vector_once}
+use Rattle.mc_paths.specs.Paths.{IsPath, IsInUse}
+use Rattle.mc_paths.specs.steps.Descent.{Descent}
+use Rattle.mc_paths.proofs.Numbers.{descent_of, descent_used, vector_once}
 use Rattle.mc_probe.specs.declared.mapped.MappedDecision.{MappedDecision}
 use Rattle.mc_probe.specs.Mapped.{mapped_of}
 use Rattle.mc_probe.specs.Maps.{Mapped}
@@ -15,13 +16,16 @@ use Rattle.mc_report.specs.Report.{HasPath}
 use Rattle.mc_report.specs.Lines.{path_text, path_vector}
 use Rattle.mc_report.specs.Words.{vector_text}
 
-pub vector_has_path : (t : Tree) (path : ℕ) → IsNumbered t → path < count_of t → IsPath t path (vector_at t path)
-vector_has_path t path numbered less = descent_path t path numbered.in_order less
+-- nothing is left of a number in use when it is followed
+pub vector_has_path : (t : Tree) (path : ℕ) → IsNumbered t → IsInUse t path → IsPath t path (vector_at t path)
+vector_has_path t path numbered (v, is) =
+    let left : Descent → ℕ = λ d. d.left in
+    descent_used t path numbered.in_order (ap left (descent_of t path v numbered.in_order is))
 
 -- a path has one vector
-pub vector_is : (t : Tree) (path : ℕ) (v : Evaluation) → IsNumbered t → path < count_of t → IsPath t path v → v ≡ vector_at t path
-vector_is t path v numbered less is =
-    let own = vector_has_path t path numbered less in
+pub vector_is : (t : Tree) (path : ℕ) (v : Evaluation) → IsNumbered t → IsPath t path v → v ≡ vector_at t path
+vector_is t path v numbered is =
+    let own = vector_has_path t path numbered (v, is) in
     vector_once t v (vector_at t path) is.vector own.vector (is.number ∙ sym own.number)
 
 -- a decision that has a path is there
@@ -36,7 +40,7 @@ decision_there (x ∷ ds) zero m less is = ap (λ (y : MappedDecision). Some (ma
 decision_there (x ∷ ds) (suc d) m less is = decision_there ds d m (omega (arith, less)) is
 
 -- the decision at a place, by its numbering
-pub path_in : (ds : List MappedDecision) (d path : ℕ) (m : MappedDecision) → m ≡ get_or ds d m → HasPath (slice_get (map mapped_of ds) d) path → path < count_of (tree_of m.decision.tree)
+pub path_in : (ds : List MappedDecision) (d path : ℕ) (m : MappedDecision) → m ≡ get_or ds d m → HasPath (slice_get (map mapped_of ds) d) path → IsInUse (tree_of m.decision.tree) path
 path_in ds d path m is h =
     let at = decision_there ds d m (is_there ds d path h) is in
     let P : Option Mapped → Type 0 = λ o. HasPath o path in
@@ -45,10 +49,10 @@ path_in ds d path m is h =
 pub same_tree : (m : MappedDecision) → tree_of m.numbering ≡ tree_of m.decision.tree
 same_tree m = (equal_trees (tree_of m.numbering) (tree_of m.decision.tree)).0 m.same
 
-pub path_numbered : (ds : List MappedDecision) (d path : ℕ) (m : MappedDecision) → m ≡ get_or ds d m → HasPath (slice_get (map mapped_of ds) d) path → path < count_of (tree_of (get_or ds d m).numbering)
+pub path_numbered : (ds : List MappedDecision) (d path : ℕ) (m : MappedDecision) → m ≡ get_or ds d m → HasPath (slice_get (map mapped_of ds) d) path → IsInUse (tree_of (get_or ds d m).numbering) path
 path_numbered ds d path m is h =
-    let P : MappedDecision → Type 0 = λ x. path < count_of (tree_of x.numbering) in
-    let Q : Tree → Type 0 = λ t. path < count_of t in
+    let P : MappedDecision → Type 0 = λ x. IsInUse (tree_of x.numbering) path in
+    let Q : Tree → Type 0 = λ t. IsInUse t path in
     subst P is (subst Q (sym (same_tree m)) (path_in ds d path m is h))
 
 -- the vector that a decision's numbering gives for a path is the one with its number
@@ -57,7 +61,7 @@ path_is ds d path m v is h gives =
     let P : MappedDecision → Type 0 = λ x. IsPath (tree_of x.numbering) path v in
     let Q : Tree → Type 0 = λ t. IsPath t path v in
     let own = subst Q (same_tree m) (subst P (sym is) gives) in
-    vector_is (tree_of m.decision.tree) path v m.placed.numbered (path_in ds d path m is h) own
+    vector_is (tree_of m.decision.tree) path v m.placed.numbered own
 
 pub vector_written : (ds : List MappedDecision) (d path : ℕ) (m : MappedDecision) (v : Evaluation) → m ≡ get_or ds d m → HasPath (slice_get (map mapped_of ds) d) path → IsPath (tree_of (get_or ds d m).numbering) path v → path_vector (slice_get (map mapped_of ds) d) path ≡ vector_text v
 vector_written ds d path m v is h gives =

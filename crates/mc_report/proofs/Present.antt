@@ -9,13 +9,13 @@ use Rattle.mc_oblige.specs.Evaluated.{IsEvaluatedPath}
 use Rattle.mc_report.specs.Laws.{EvaluatedArePresent}
 use Rattle.mc_report.specs.Report.{HasPath}
 use Rattle.mc_report.specs.VectorsText.{IsPresent}
-use Rattle.mc_report.proofs.Judging.{path_below}
+use Rattle.mc_report.proofs.Judging.{path_used}
 
 one_present : (m : Map) (x : MatrixView) (e : EvaluatedPath) → IsEvaluatedPath (HasEvent m x) m e → IsPresent x.shape.tests m.decisions e
 one_present m x e is =
     let P : Option Mapped → Type 0 = λ o. HasPath o e.path in
     record {
-      path = subst P (sym is.known) (path_below is.mapped.decision.tree e.path e.decision e.test (HasEvent m x) is.least.so);
+      path = subst P (sym is.known) (path_used is.mapped.decision.tree e.path e.decision e.test (HasEvent m x) is.least.so);
       test = is.least.so.under.held.1;
     }
 

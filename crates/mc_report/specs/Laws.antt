@@ -2,7 +2,7 @@
 use Rattle.std.specs.Prelude.{◌≡◌, ℕ, ◌<◌, false, List, All, IsUtf8}
 use Rattle.serde_json.specs.Written.{has_float}
 use Rattle.mc_cond.specs.Tree.{Tree, IsNumbered}
-use Rattle.mc_paths.specs.Paths.{count_of, IsPath}
+use Rattle.mc_paths.specs.Paths.{IsPath, IsInUse}
 use Rattle.mc_core.specs.Matrix.{MatrixView}
 use Rattle.mc_probe.specs.Maps.{Map}
 use Rattle.mc_oblige.specs.declared.mode.Mode.{Mode}
@@ -21,7 +21,7 @@ use Rattle.mc_report.specs.VectorsText.{IsPresent}
 -- the vector that is written for a path is the one with its number
 abbrev pub VectorIsOfPath : Type 0
 VectorIsOfPath =
-    (t : Tree) (path : ℕ) → IsNumbered t → path < count_of t → IsPath t path (vector_at t path)
+    (t : Tree) (path : ℕ) → IsNumbered t → IsInUse t path → IsPath t path (vector_at t path)
 
 -- the verdicts on a map's obligations by a matrix can be reported with the tests of the matrix,
 -- where each reason is text

@@ -1,6 +1,6 @@
 -- What a report is made from, and when its parts belong together.
 use Rattle.std.specs.Prelude.{◌≡◌, ℕ, ◌<◌, ◌^◌, Option, Some, None, List, [], ◌∷◌, length, slice_get, IsUtf8}
-use Rattle.mc_paths.specs.Paths.{count_of}
+use Rattle.mc_paths.specs.Paths.{IsInUse}
 use Rattle.mc_typed.specs.declared.plans.TestState.{TestState}
 use Rattle.mc_meaning.specs.Seen.{Told}
 use Rattle.mc_probe.specs.Maps.{Mapped}
@@ -28,7 +28,7 @@ pub record Report : Type 0 where
 -- the decision has a path of this number
 abbrev pub HasPath : Option Mapped → ℕ → Type 0
 HasPath None path = ⊥
-HasPath (Some m) path = path < count_of m.decision.tree
+HasPath (Some m) path = IsInUse m.decision.tree path
 
 -- The evidence is of the obligation's kind, and the tests and paths that it names are there: of
 -- `tests` tests, and of these decisions.

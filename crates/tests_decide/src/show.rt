@@ -63,6 +63,21 @@ fn show_tree(shown: &mut String, tree: &CondTree) -> Result<(), AllocError> {
             show_operand(shown, "|", right)?;
             shown.push_str(")")
         }
+        CondTree::FullAnd(left, right) => {
+            show_operand(shown, "(", left)?;
+            show_operand(shown, " and ", right)?;
+            shown.push_str(")")
+        }
+        CondTree::FullOr(left, right) => {
+            show_operand(shown, "(", left)?;
+            show_operand(shown, " or ", right)?;
+            shown.push_str(")")
+        }
+        CondTree::FullXor(left, right) => {
+            show_operand(shown, "(", left)?;
+            show_operand(shown, " xor ", right)?;
+            shown.push_str(")")
+        }
     }
 }
 
@@ -92,7 +107,9 @@ fn show_numbering(shown: &mut String, numbering: &Numbering) -> Result<(), Alloc
         return write!(shown, "{count};");
     }
     for path in 0..count {
-        show_vector(shown, &numbering.vector_of(path))?;
+        if numbering.in_use(path) {
+            show_vector(shown, &numbering.vector_of(path))?;
+        }
     }
     Ok(())
 }

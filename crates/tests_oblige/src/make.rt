@@ -1,6 +1,6 @@
 //! Maps of programs with one function and one decision, and matrices.
 ghost use Rattle.std.specs.Prelude.{◌≡◌, ◌+◌, ◌*◌, ◌≤◌, length, IfOk};
-ghost use Rattle.mc_cond.specs.Tree.{And, IsNumbered, Leaf, Or, tree_of};
+ghost use Rattle.mc_cond.specs.Tree.{And, FullXor, IsNumbered, Leaf, Or, tree_of};
 
 use mc_cond::{CondTree, conditions};
 use mc_core::{Matrix, Shape};
@@ -28,6 +28,14 @@ fn or(alloc: Global, left: CondTree, right: CondTree) -> Result<CondTree, AllocE
     Ok(CondTree::Or(left, right))
 }
 
+fn xor(alloc: Global, left: CondTree, right: CondTree) -> Result<CondTree, AllocError>
+    ensures { IfOk result (λ t. tree_of t ≡ FullXor (tree_of left) (tree_of right)) }
+{
+    let left = Box::new(alloc, left)?;
+    let right = Box::new(alloc, right)?;
+    Ok(CondTree::FullXor(left, right))
+}
+
 /// `a && b`
 pub(crate) fn one_and(alloc: Global) -> Result<CondTree, AllocError>
     ensures { IfOk result (λ t. IsNumbered (tree_of t)) }
@@ -42,6 +50,14 @@ pub(crate) fn two_ands(alloc: Global) -> Result<CondTree, AllocError>
     let first = and(alloc, CondTree::Leaf(0), CondTree::Leaf(1))?;
     let second = and(alloc, CondTree::Leaf(2), CondTree::Leaf(3))?;
     or(alloc, first, second)
+}
+
+/// `(a ^ b) && c`, where `^` is evaluated in full. No vector has the number 1.
+pub(crate) fn xor_before_and(alloc: Global) -> Result<CondTree, AllocError>
+    ensures { IfOk result (λ t. IsNumbered (tree_of t)) }
+{
+    let first = xor(alloc, CondTree::Leaf(0), CondTree::Leaf(1))?;
+    and(alloc, first, CondTree::Leaf(2))
 }
 
 /// So many times `a || b`, joined by `&&`.

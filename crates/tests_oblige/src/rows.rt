@@ -1,10 +1,11 @@
 //! Verdicts on small programs, made by hand from the definitions.
 ghost use Rattle.std.specs.Prelude.{◌≡◌};
 
-use crate::make::{many_ors, map, matrix, one_and, two_ands};
+use crate::make::{many_ors, map, matrix, one_and, two_ands, xor_before_and};
 use mc_core::Matrix;
 use mc_oblige::{
-    Evidence, Justification, Mode, ObligationId, Reason, Verdict, VerdictState, judge, obligations,
+    EvaluatedPath, Evidence, Justification, Mode, ObligationId, Reason, Verdict, VerdictState,
+    evaluated_paths, judge, obligations,
 };
 use mc_probe::BitMap;
 use std::alloc::Global;
@@ -159,6 +160,68 @@ const TWO_ANDS_MASKING: Row<'static> = Row {
     ],
 };
 
+/// The decision `(a ^ b) && c`, under (1, 0, 1), (1, 1, 1), (0, 1, 0) and (0, 0, 1): paths 2, 0, 5
+/// and 6. Number 1 is idle. Its bit, which is 5, is set in the first test, and passed over. The two
+/// kinds of independence differ in the third condition.
+const XOR_TESTS: [&[u32]; 4] = [
+    &[0, 2, 5, 6, 1],
+    &[0, 2, 4, 1],
+    &[0, 2, 9, 1],
+    &[0, 2, 10, 1],
+];
+
+const XOR_UNIQUE: Row<'static> = Row {
+    tests: &XOR_TESTS,
+    named: None,
+    verdicts: &[
+        (MET, &[0]),
+        (MET, &[0]),
+        (MET, &[0]),
+        (MISSING, &[]),
+        (MET, &[0]),
+        (MET, &[1]),
+        (MET, &[2, 0, 6, 3]),
+        (MET, &[0, 1, 2, 0]),
+        (MISSING, &[]),
+    ],
+};
+
+const XOR_MASKING: Row<'static> = Row {
+    tests: &XOR_TESTS,
+    named: None,
+    verdicts: &[
+        (MET, &[0]),
+        (MET, &[0]),
+        (MET, &[0]),
+        (MISSING, &[]),
+        (MET, &[0]),
+        (MET, &[1]),
+        (MET, &[2, 0, 6, 3]),
+        (MET, &[0, 1, 2, 0]),
+        (MET, &[2, 0, 5, 2]),
+    ],
+};
+
+/// Where the idle number's bit alone is set, nothing is shown.
+static XOR_IDLE: [Row<'static>; 1] = [Row {
+    tests: &[&[5]],
+    named: None,
+    verdicts: &[
+        (MISSING, &[]),
+        (MISSING, &[]),
+        (MISSING, &[]),
+        (MISSING, &[]),
+        (MISSING, &[]),
+        (MISSING, &[]),
+        (MISSING, &[]),
+        (MISSING, &[]),
+        (MISSING, &[]),
+    ],
+}];
+
+/// The paths that the four tests evaluate, each with its test.
+static XOR_PATHS: [(u32, u32); 4] = [(0, 1), (2, 0), (5, 2), (6, 3)];
+
 /// Eleven times `a || b`, joined by `&&`: 22 conditions and 4,095 paths. The arguments are (0, 0),
 /// (1, 0), (0, 1) and (1, 1). Only the first two conditions have a pair, the same by both kinds:
 /// where the outcome is false no other one is evaluated.
@@ -272,6 +335,39 @@ fn verdicts_that_differ(rt: HostRuntime) -> Result<(), Fail> {
     let alloc = rt.alloc();
     let map = map(alloc, two_ands(alloc)?)?;
     let checked = check_two_ands(&rt, alloc, &map);
+    drop(map);
+    checked
+}
+
+fn check_evaluated(rt: &impl Abort, alloc: Global, map: &BitMap) -> Result<(), Fail> {
+    assert!(rt; map.bits <= 65536);
+    let matrix = matrix(rt, alloc, map.bits, &XOR_TESTS)?;
+    assert_eq!(rt; matrix.shape().bits, map.bits);
+    let evaluated = evaluated_paths(alloc, map, &matrix)?;
+    assert_eq!(rt; evaluated.len(), XOR_PATHS.len());
+    for (found, (path, test)) in evaluated.iter().zip(&XOR_PATHS) {
+        let wanted = EvaluatedPath {
+            decision: 0,
+            path: *path,
+            test: *test,
+        };
+        assert_eq!(rt; *found, wanted);
+    }
+    Ok(())
+}
+
+fn check_idle(rt: &impl Abort, alloc: Global, map: &BitMap) -> Result<(), Fail> {
+    check(rt, alloc, map, Mode::Unique, &XOR_UNIQUE)?;
+    check(rt, alloc, map, Mode::Masking, &XOR_MASKING)?;
+    check_by_both(rt, alloc, map, &XOR_IDLE)?;
+    check_evaluated(rt, alloc, map)
+}
+
+#[test]
+fn idle_number_is_passed_over(rt: HostRuntime) -> Result<(), Fail> {
+    let alloc = rt.alloc();
+    let map = map(alloc, xor_before_and(alloc)?)?;
+    let checked = check_idle(&rt, alloc, &map);
     drop(map);
     checked
 }

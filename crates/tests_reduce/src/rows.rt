@@ -2,7 +2,7 @@
 //! that is not a part of the repository, over truth tables.
 ghost use Rattle.std.specs.Prelude.{◌≡◌};
 
-use crate::make::{map, matrix, one_and, two_ands};
+use crate::make::{map, matrix, one_and, two_ands, xor_before_and};
 use mc_oblige::Mode;
 use mc_probe::BitMap;
 use mc_reduce::reduce;
@@ -89,6 +89,14 @@ static TWO_ANDS_MASKING: [Row<'static>; 3] = [
     },
 ];
 
+/// The decision `(a ^ b) && c`. Number 1 is idle, and its bit is 4. The test that has it alone shows
+/// no outcome, so the last test is kept for the false one. This row was worked out by hand.
+static XOR_BEFORE_AND: [Row<'static>; 1] = [Row {
+    tests: &[&[0, 1, 2, 5], &[4], &[0, 1, 2, 3]],
+    kept: &[0, 2],
+    lost: &[3, 4],
+}];
+
 fn check(rt: &impl Abort, alloc: Global, map: &BitMap, mode: Mode, row: &Row) -> Result<(), Fail> {
     assert!(rt; map.bits <= 65536);
     let matrix = matrix(rt, alloc, map.bits, row.tests)?;
@@ -126,4 +134,12 @@ fn suites_of_two_ands(rt: HostRuntime) -> Result<(), Fail> {
     let map = map(alloc, two_ands(alloc)?)?;
     check_all(&rt, alloc, &map, Mode::Unique, &TWO_ANDS_UNIQUE)?;
     check_all(&rt, alloc, &map, Mode::Masking, &TWO_ANDS_MASKING)
+}
+
+#[test]
+fn suite_with_an_idle_number(rt: HostRuntime) -> Result<(), Fail> {
+    let alloc = rt.alloc();
+    let map = map(alloc, xor_before_and(alloc)?)?;
+    check_all(&rt, alloc, &map, Mode::Unique, &XOR_BEFORE_AND)?;
+    check_all(&rt, alloc, &map, Mode::Masking, &XOR_BEFORE_AND)
 }

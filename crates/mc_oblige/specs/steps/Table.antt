@@ -1,9 +1,9 @@
 -- Lists of least tests, by the numbers of bits or of paths.
-use Rattle.std.specs.Prelude.{◌≡◌, ℕ, ◌+◌, ◌<◌, ◌≤◌, ◌↔◌, min, Bool, Option, Some, None, List, [], ◌∷◌, ◌++◌, length, slice_index_or, All, Contains}
+use Rattle.std.specs.Prelude.{◌≡◌, ℕ, ◌+◌, ◌<◌, ◌≤◌, ◌↔◌, ◌⊎◌, min, Bool, Option, Some, None, List, [], ◌∷◌, ◌++◌, length, slice_index_or, All, Contains}
 use Rattle.std.specs.List.Sorted.{IsStrictlyIncreasing}
 use Rattle.mc_cond.specs.Tree.{Tree}
 use Rattle.mc_cond.specs.Vectors.{Evaluation}
-use Rattle.mc_paths.specs.Paths.{IsPath}
+use Rattle.mc_paths.specs.Paths.{IsPath, IsInUse}
 use Rattle.mc_core.specs.Matrix.{MatrixView, Holds}
 use Rattle.mc_oblige.specs.declared.verdict.Evidence.{Evidence}
 use Rattle.mc_oblige.specs.declared.verdict.Evidence.TheVariants.{Absent, One}
@@ -26,6 +26,22 @@ evidence_of (Some test) = One test
 -- the list has this test at the place
 abbrev pub IsAt : List (Option ℕ) → ℕ → ℕ → Type 0
 IsAt tests path test = slice_index_or tests path None ≡ Some test
+
+-- the test of a number: that of its bit where the number is in use, and none where it is idle
+abbrev pub IsTestOf : Tree → ℕ → Option ℕ → Option ℕ → Type 0
+IsTestOf t path bit test =
+    (IsInUse t path × (test ≡ bit)) ⊎ ((¬ IsInUse t path) × (test ≡ None))
+
+-- those of the first n numbers, from those of their bits
+pub record AreTestsOf (t : Tree) (bits : List (Option ℕ)) (n : ℕ) (tests : List (Option ℕ))
+    : Type 0 where
+  pub count : length tests ≡ n
+  pub each : (path : ℕ) → path < n →
+      IsTestOf t path (slice_index_or bits path None) (slice_index_or tests path None)
+
+-- each number that has a test is in use
+abbrev pub AreInUse : Tree → List (Option ℕ) → Type 0
+AreInUse t tests = (path test : ℕ) → IsAt tests path test → IsInUse t path
 
 -- the vector of the path has this outcome
 pub record HasOutcome (t : Tree) (outcome : Bool) (path : ℕ) : Type 0 where

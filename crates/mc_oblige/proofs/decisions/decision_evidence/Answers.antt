@@ -1,32 +1,33 @@
 use Rattle.std.proofs.Common.{◌≡◌, true, false, List, ◌∷◌, ◌++◌, sym, ap, subst, ◌∙◌}
-use Rattle.mc_cond.specs.Tree.{Tree, tree_of, IsNumbered}
+use Rattle.mc_cond.specs.Tree.{Tree, tree_of}
 use Rattle.mc_paths.specs.Paths.{count_of}
 use Rattle.mc_probe.proofs.Kept.{equal_trees}
 use Rattle.mc_oblige.specs.declared.verdict.Evidence.{Evidence}
+use Rattle.mc_oblige.specs.steps.Table.{AreInUse}
 use Rattle.mc_oblige.specs.steps.Found.{IsFoundOutcome, AreFound}
 use Rattle.mc_oblige.proofs.decisions.decision_evidence.Goals as goal
-
-pub outcome_evidence-on_true-requires-clause-numbered : goal.outcome_evidence-on_true-requires-clause-numbered
-outcome_evidence-on_true-requires-clause-numbered c =
-    let same = (equal_trees (tree_of c.args.mapped.now.numbering) (tree_of c.args.mapped.now.decision.tree)).0 c.args.mapped.now.same in
-    let P : Tree → Type 0 = λ t. IsNumbered t in
-    subst P (sym same) c.args.mapped.now.placed.numbered
 
 pub outcome_evidence-on_true-requires-clause-count : goal.outcome_evidence-on_true-requires-clause-count
 outcome_evidence-on_true-requires-clause-count c =
     let same = (equal_trees (tree_of c.args.mapped.now.numbering) (tree_of c.args.mapped.now.decision.tree)).0 c.args.mapped.now.same in
     c.requires.count ∙ ap count_of (sym same)
 
-pub outcome_evidence-on_false-requires-clause-numbered : goal.outcome_evidence-on_false-requires-clause-numbered
-outcome_evidence-on_false-requires-clause-numbered c =
+pub outcome_evidence-on_true-requires-clause-used : goal.outcome_evidence-on_true-requires-clause-used
+outcome_evidence-on_true-requires-clause-used c =
     let same = (equal_trees (tree_of c.args.mapped.now.numbering) (tree_of c.args.mapped.now.decision.tree)).0 c.args.mapped.now.same in
-    let P : Tree → Type 0 = λ t. IsNumbered t in
-    subst P (sym same) c.args.mapped.now.placed.numbered
+    let P : Tree → Type 0 = λ t. AreInUse t c.args.tests.now in
+    subst P (sym same) c.requires.used
 
 pub outcome_evidence-on_false-requires-clause-count : goal.outcome_evidence-on_false-requires-clause-count
 outcome_evidence-on_false-requires-clause-count c =
     let same = (equal_trees (tree_of c.args.mapped.now.numbering) (tree_of c.args.mapped.now.decision.tree)).0 c.args.mapped.now.same in
     c.requires.count ∙ ap count_of (sym same)
+
+pub outcome_evidence-on_false-requires-clause-used : goal.outcome_evidence-on_false-requires-clause-used
+outcome_evidence-on_false-requires-clause-used c =
+    let same = (equal_trees (tree_of c.args.mapped.now.numbering) (tree_of c.args.mapped.now.decision.tree)).0 c.args.mapped.now.same in
+    let P : Tree → Type 0 = λ t. AreInUse t c.args.tests.now in
+    subst P (sym same) c.requires.used
 
 pub returns : goal.returns
 returns c =

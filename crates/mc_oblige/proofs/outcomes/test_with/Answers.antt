@@ -1,12 +1,13 @@
 use Rattle.std.proofs.Common.{sym, ◌∙◌}
-use Rattle.mc_cond.specs.Tree.{tree_of}
-use Rattle.mc_pairs.proofs.Influential.{vector_at}
 use Rattle.mc_oblige.proofs.Least.{beq_is}
 use Rattle.mc_oblige.proofs.outcomes.test_with.Goals as goal
 
+pub outcome_of-requires : goal.outcome_of-requires
+outcome_of-requires c = c.requires c.in_ok-own.own c.in_ok-own.was
+
 pub returns-then-outcome_of-outcome : goal.returns-then-outcome_of-outcome
 returns-then-outcome_of-outcome c =
-    let v = vector_at (tree_of c.args.numbering.now) c.args.path c.requires.numbered c.requires.path in
+    let v = c.requires c.in_ok-own.own c.in_ok-own.was in
     λ t. (
       λ e. (
         c.in_ok-own.was ∙ e,

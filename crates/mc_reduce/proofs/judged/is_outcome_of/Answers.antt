@@ -1,14 +1,13 @@
-use Rattle.std.proofs.Common.{◌≡◌, ◌<◌, sym, subst, ◌∙◌}
+use Rattle.std.proofs.Common.{◌≡◌, true, false, sym, subst, ◌∙◌}
 use Rattle.mc_cond.specs.Tree.{Tree, tree_of}
 use Rattle.mc_cond.specs.Vectors.{Evaluation}
-use Rattle.mc_paths.specs.Paths.{count_of, IsPath}
-use Rattle.mc_pairs.proofs.Influential.{vector_at}
+use Rattle.mc_paths.specs.Paths.{IsPath, IsInUse}
 use Rattle.mc_oblige.proofs.Least.{beq_is}
 use Rattle.mc_reduce.proofs.Trees.{same_tree, beq_same}
 use Rattle.mc_reduce.proofs.judged.is_outcome_of.Goals as goal
 
 pub outcome_of-requires : goal.outcome_of-requires
-outcome_of-requires c = subst (λ (t : Tree). c.args.path < count_of t) (sym (same_tree c.args.mapped.now)) c.requires
+outcome_of-requires c = c.in_use.ensures.0 c.if-not-in_use.false
 
 pub returns : goal.returns
 returns c =
@@ -16,7 +15,16 @@ returns c =
     let tree = tree_of m.decision.tree in
     let told : (v : Evaluation) → IsPath tree c.args.path v → c.outcome_of.result ≡ v.outcome =
     subst (λ (t : Tree). (v : Evaluation) → IsPath t c.args.path v → c.outcome_of.result ≡ v.outcome) (same_tree m) c.outcome_of.ensures in
-    let v = vector_at tree c.args.path m.placed.numbered c.requires in (
+    let v : IsInUse tree c.args.path = subst (λ (t : Tree). IsInUse t c.args.path) (same_tree m) (c.in_use.ensures.0 c.if-not-in_use.false) in (
       λ e. record { vector = v.0; is_path = v.1; same = sym (told v.0 v.1) ∙ beq_is c.outcome_of.result c.args.outcome e },
       λ h. beq_same c.outcome_of.result c.args.outcome (told h.vector h.is_path ∙ h.same),
+    )
+
+pub returns-then-not-in_use : goal.returns-then-not-in_use
+returns-then-not-in_use c =
+    let m = c.args.mapped.now in
+    let own : IsInUse (tree_of m.decision.tree) c.args.path → IsInUse (tree_of m.numbering) c.args.path =
+    subst (λ (t : Tree). IsInUse t c.args.path) (sym (same_tree m)) in (
+      λ e. cc,
+      λ h. (let f : true ≡ false = sym (c.in_use.ensures.1 (own (h.vector, h.is_path))) ∙ c.if-not-in_use.true in cc),
     )
