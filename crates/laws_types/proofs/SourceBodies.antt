@@ -1,9 +1,12 @@
 -- Initializers, declarations, statements and units: what is found of them has the operators and
 -- operands of the source.
-use Rattle.std.proofs.Common.{◌≡◌, ℕ, refl, ℤ, Bool, true, false, if◌then◌else◌, List, [], ◌∷◌, ◌++◌, Option, Some, None, option_map, option_and_then, subst, sym, ap}
+use Rattle.std.proofs.Common.{◌≡◌, ℕ, ◌+◌, refl, ℤ, Bool, true, false, ◌||◌, if◌then◌else◌, nat_lt, arith, List, [], ◌∷◌, ◌++◌, Option, Some, None, option_map, option_and_then, subst, sym, ap}
+use Rattle.std.proofs.lemmas.Bool.Decides.{nat_tests}
 use Rattle.mc_span.specs.declared.span.Span.{Span}
 use Rattle.mc_tree.specs.Tree.{Name, Expression, Expressions, ArrayLengths, Initializer, Initializers, InitDeclarator, Declaration, Statement, BlockItems, ForStart, Item, span_of}
 use Rattle.mc_tree.specs.Tree as tree
+use Rattle.mc_tree.specs.declared.declarations.specifier_word.SpecifierWord.TheVariants as word
+use Rattle.mc_grammar.specs.WordSets.{some_word}
 use Rattle.mc_value.specs.declared.int_type.IntType.{IntType}
 use Rattle.mc_value.specs.Conversions.{converted}
 use Rattle.mc_typed.specs.declared.expressions.Slot.{Slot}
@@ -13,7 +16,7 @@ use Rattle.mc_typed.specs.Tree.{Declarator, Effect, Statements}
 use Rattle.mc_typed.specs.Tree as typed
 use Rattle.mc_faults.specs.declared.fault.Fault.{Fault}
 use Rattle.mc_faults.specs.Faults.{unless_faulty}
-use Rattle.mc_typing.specs.Types.{Base, Void, Integer, Tagged, CType, plain, Structure, layout_of, Signature}
+use Rattle.mc_typing.specs.Types.{Base, Void, Integer, Tagged, CType, plain, Structure, layout_of, Signature, count, has}
 use Rattle.mc_typing.specs.Scopes.{Automatic, Labels, Scope, next_slot, next_static, with_name, with_counted, block, prototype, body_scope, file_scope}
 use Rattle.mc_typing.specs.Scopes as scope
 use Rattle.mc_typing.specs.Values.{Judged, Value, Number, Stored, Borrowed, Returned, Done, Assigned, Designator, number_in, structure_in, number_found, effect_in, whole, lift2, lift3}
@@ -29,7 +32,7 @@ use Rattle.mc_typing.specs.Bodies.{listed, judge_effect, judge_clauses, judge_pa
 use Rattle.mc_typing.specs.Typing.{function_from, with_function, judge_item, judge_unit, bodies_of, found_of, program_from}
 use Rattle.laws_types.specs.Source.{IsNumberOf, IsStructureOf, IsEffectOf}
 use Rattle.laws_types.specs.Source as of
-use Rattle.laws_types.specs.SourceUnits.{IsInitializerOf, AreInitializersOf, AreObjectsOf, AreDeclaredBy, AreClausesOf, ArePartOf, IsStartOf, IsTestOf, IsReturnOf, AreStatementsOf, AreItemsOf, AreFunctionsOf, ProgramsHaveTheirSource}
+use Rattle.laws_types.specs.SourceUnits.{IsInitializerOf, AreInitializersOf, AreObjectsOf, AreDeclaredBy, AreClausesOf, ArePartOf, IsStartOf, IsTestOf, IsReturnOf, AreStatementsOf, AreItemsOf, AreFunctionsOf, ProgramsHaveTheirSource, keeps_apart, DeclarationsMakeObjects}
 use Rattle.laws_types.specs.SourceUnits as of_units
 use Rattle.laws_types.proofs.ExactValues.{WhereSome, map_where, then_where, lift_where}
 use Rattle.laws_types.proofs.SourceValues.{IsValueOf, convert_of, promote_of, number_of, number_found_of, structure_of, discarded_of}
@@ -269,6 +272,57 @@ declaration_of (tree.declaration all ds span) s =
     let storage = storage_of all s.is_file in
     declared_by storage all ds span (judge_init_declarators storage x.value ds x.scope).value
     (init_declarators_of storage x.value ds x.scope)
+
+-- ---- which declarations make objects
+
+one_more : (n : ℕ) → nat_lt 0 (n + 1) ≡ true
+one_more n = grind (arith, nat_tests)
+
+or_true : (b : Bool) → (b || true) ≡ true
+or_true true = refl
+or_true false = refl
+
+kept_words : (all : tree.Specifiers) → some_word keeps_apart all ≡ (has word.Static all || has word.Typedef all)
+kept_words tree.no_specifiers = refl
+kept_words (tree.specifiers (tree.Word word.Static span) rest) = rw (one_more (count word.Static rest)) refl
+kept_words (tree.specifiers (tree.Word word.Typedef span) rest) =
+    rw (one_more (count word.Typedef rest), or_true (has word.Static rest)) refl
+kept_words (tree.specifiers (tree.Word word.Extern span) rest) = kept_words rest
+kept_words (tree.specifiers (tree.Word word.Const span) rest) = kept_words rest
+kept_words (tree.specifiers (tree.Word word.Void span) rest) = kept_words rest
+kept_words (tree.specifiers (tree.Word word.Bool span) rest) = kept_words rest
+kept_words (tree.specifiers (tree.Word word.Char span) rest) = kept_words rest
+kept_words (tree.specifiers (tree.Word word.Short span) rest) = kept_words rest
+kept_words (tree.specifiers (tree.Word word.Int span) rest) = kept_words rest
+kept_words (tree.specifiers (tree.Word word.Long span) rest) = kept_words rest
+kept_words (tree.specifiers (tree.Word word.Signed span) rest) = kept_words rest
+kept_words (tree.specifiers (tree.Word word.Unsigned span) rest) = kept_words rest
+kept_words (tree.specifiers (tree.TypedefName name) rest) = kept_words rest
+kept_words (tree.specifiers (tree.StructureTag tag span) rest) = kept_words rest
+kept_words (tree.specifiers (tree.Structure tag all span) rest) = kept_words rest
+kept_words (tree.specifiers (tree.EnumerationTag tag span) rest) = kept_words rest
+kept_words (tree.specifiers (tree.Enumeration tag all span) rest) = kept_words rest
+
+-- what is made, where some words are among them or not
+abbrev AreMadeWhere : Bool → List InitDeclarator → List Declarator → Type 0
+AreMadeWhere kept ds all = (kept ≡ false → AreObjectsOf ds all) × (kept ≡ true → all ≡ [])
+
+made_where : (typedef static : Bool) (ds : List InitDeclarator) (all : List Declarator)
+    → AreAllMade (if typedef then TypedefStorage else if static then StaticStorage else AutomaticStorage) ds all
+    → AreMadeWhere (static || typedef) ds all
+made_where true true ds all h = (λ q. absurd (cc), λ q. h)
+made_where true false ds all h = (λ q. absurd (cc), λ q. h)
+made_where false true ds all h = (λ q. absurd (cc), λ q. h)
+made_where false false ds all h = (λ q. h, λ q. absurd (cc))
+
+pub declarations_make_objects : DeclarationsMakeObjects
+declarations_make_objects words ds span s all file e =
+    let x = typed_by span.start words (judge_specifiers (is_tag_alone words ds) words s) in
+    let some = init_declarators_of (storage_of words s.is_file) x.value ds x.scope in
+    let made = subst (λ (o : Option (List Declarator)). WhereSome (AreAllMade (storage_of words s.is_file) ds) o) e some in
+    let here = subst (λ (b : Bool). AreAllMade (storage_of words b) ds all) file made in
+    subst (λ (b : Bool). AreMadeWhere b ds all) (sym (kept_words words))
+    (made_where (has word.Typedef words) (has word.Static words) ds all here)
 
 -- ---- the parts of a statement
 

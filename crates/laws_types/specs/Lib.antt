@@ -12,3 +12,4 @@ pub mod WholeEffects
 pub mod Source
 pub mod SourceUnits
 pub mod Decided
+pub mod InTheText

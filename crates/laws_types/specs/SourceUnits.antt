@@ -1,6 +1,8 @@
 -- What a typed program has of its source, from initializers to whole units.
-use Rattle.std.specs.Prelude.{◌≡◌, ℕ, ◌+◌, ◌-◌, min, ℤ, List, [], ◌∷◌, Option, Some, None}
+use Rattle.std.specs.Prelude.{◌≡◌, ℕ, ◌+◌, ◌-◌, min, ℤ, Bool, true, false, List, [], ◌∷◌, Option, Some, None}
 use Rattle.mc_span.specs.declared.span.Span.{Span}
+use Rattle.mc_tree.specs.declared.declarations.specifier_word.SpecifierWord.{SpecifierWord}
+use Rattle.mc_tree.specs.declared.declarations.specifier_word.SpecifierWord.TheVariants as specifier_word
 use Rattle.mc_tree.specs.Tree.{Name, Expression, Expressions, ArrayLengths, Parameters, Specifiers, InitDeclarator, Declaration, BlockItems, Item}
 use Rattle.mc_tree.specs.Tree as tree
 use Rattle.mc_value.specs.declared.int_type.IntType.{IntType}
@@ -8,6 +10,9 @@ use Rattle.mc_value.specs.Conversions.{converted}
 use Rattle.mc_typed.specs.Constants.{constant_value}
 use Rattle.mc_typed.specs.Tree.{StructureValue, Effect, Declarator, Statement, Statements, Function, Program}
 use Rattle.mc_typed.specs.Tree as typed
+use Rattle.mc_grammar.specs.WordSets.{some_word}
+use Rattle.mc_typing.specs.Scopes.{Scope}
+use Rattle.mc_typing.specs.Declarations.{judge_declaration}
 use Rattle.mc_typing.specs.Typing.{typing_of}
 use Rattle.laws_types.specs.Source.{IsNumberOf, IsOperandOf, IsStructureOf, IsEffectOf}
 
@@ -201,7 +206,23 @@ pub data AreFunctionsOf : List Item → List Function → Type 0 where
       → AreFunctionsOf (tree.Defined words (tree.function stars name given at) body span ∷ rest)
       (f ∷ fs)
 
--- ---- the law
+-- ---- the laws
+
+-- with such a word a declaration makes no object with automatic storage duration (C17 6.2.4p3, p5,
+-- 6.7.8p3)
+abbrev pub keeps_apart : SpecifierWord → Bool
+keeps_apart specifier_word.Static = true
+keeps_apart specifier_word.Typedef = true
+keeps_apart _ = false
+
+-- In a block each declaration without such a word makes its objects, and one with it makes none.
+abbrev pub DeclarationsMakeObjects : Type 0
+DeclarationsMakeObjects =
+    (words : Specifiers) (ds : List InitDeclarator) (span : Span) (s : Scope)
+    (all : List Declarator)
+    → s.is_file ≡ false → (judge_declaration (tree.declaration words ds span) s).value ≡ Some all
+    → (some_word keeps_apart words ≡ false → AreObjectsOf ds all)
+    × (some_word keeps_apart words ≡ true → all ≡ [])
 
 -- of every unit that has a typed program
 abbrev pub ProgramsHaveTheirSource : Type 0

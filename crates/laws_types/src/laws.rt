@@ -4,10 +4,11 @@ ghost use Rattle.laws_types.specs.ConstantExpressions.{ConstantExpressionsAreTol
 ghost use Rattle.laws_types.specs.Conversions.{AssignedIsConverted, LabelsArePromoted, OneIsPromoted, OperandsAreConverted};
 ghost use Rattle.laws_types.specs.Decided.{DecisionsStandInTheSource};
 ghost use Rattle.laws_types.specs.Exact.{UnitsAreExact};
+ghost use Rattle.laws_types.specs.InTheText.{DecisionsAreInOrder, ProgramsStandInTheirText};
 ghost use Rattle.laws_types.specs.Heights.{ExpressionsHaveLevels, StatementsHaveLevels};
 ghost use Rattle.laws_types.specs.Operators.{AssignmentsAreKept, OperatorsAreKept};
 ghost use Rattle.laws_types.specs.Places.{CallsAreResolved, NamesAreResolved};
-ghost use Rattle.laws_types.specs.SourceUnits.{ProgramsHaveTheirSource};
+ghost use Rattle.laws_types.specs.SourceUnits.{DeclarationsMakeObjects, ProgramsHaveTheirSource};
 ghost use Rattle.laws_types.specs.Statements.{StatementsAreKept};
 ghost use Rattle.laws_types.specs.WholeEffects.{WholeEffectsUseNoValue};
 
@@ -17,9 +18,23 @@ pub fn programs_have_their_source()
     ensures { ProgramsHaveTheirSource }
 {}
 
+/// In a block each declaration without `static` and `typedef` makes the objects of its declarators,
+/// and one with such a word makes none.
+pub fn declarations_make_objects()
+    ensures { DeclarationsMakeObjects }
+{}
+
 /// Roots of decisions and their conditions stand where expressions of the source stand.
 pub fn decisions_stand_in_the_source()
     ensures { DecisionsStandInTheSource }
+{}
+
+/// The typed program of every accepted source stands as its text does: each node between two bytes
+/// of the source, its parts within it and one after the other. So its decisions are in the order of
+/// the starts of their roots, and of two that start together the outer one comes first.
+pub fn programs_stand_in_their_text()
+    ensures nodes { ProgramsStandInTheirText }
+    ensures decisions { DecisionsAreInOrder }
 {}
 
 /// Each operator of the source is the same one in the typed program, with its operands in order.
