@@ -1,5 +1,5 @@
 -- The functions that are left are copied after those before.
-use Rattle.std.proofs.Common.{◌≡◌, ◌∙◌, refl, sym, ap, subst, ℕ, suc, ◌+◌, ◌<◌, ◌≤◌, Bool, true, false, if◌then◌else◌, eqb, eq-eqb, List, [], ◌∷◌, ◌++◌, map, length, get_or, drop, append_assoc, arith}
+use Rattle.std.proofs.Common.{◌≡◌, ◌∙◌, refl, sym, ap, subst, ℕ, suc, ◌+◌, ◌<◌, ◌≤◌, ◌^◌, Bool, true, false, if◌then◌else◌, eqb, eq-eqb, List, [], ◌∷◌, ◌++◌, map, length, get_or, drop, append_assoc, arith}
 use Rattle.std.proofs.lemmas.List.{append-nil, drop_all, drop-drop, drop-map, length-append, length-map, map_push}
 use Rattle.std.proofs.lemmas.Bool.Decides.{nat_tests}
 use Rattle.mc_cond.specs.Tree.{Tree}
@@ -17,12 +17,14 @@ use Rattle.mc_roots.proofs.Told.{are_decisions}
 use Rattle.mc_meaning.proofs.Decided.{decided_trees}
 use Rattle.mc_meaning.proofs.Numbered.{trees, trees_length}
 use Rattle.mc_steps.specs.Points.{Points, ◌⊕◌, no_points, points_of_function}
-use Rattle.mc_probe.specs.Maps.{Map, Mapped}
+use Rattle.mc_probe.specs.Laws.{AreCounted}
+use Rattle.mc_probe.specs.Maps.{Map, Mapped, IsMap}
 use Rattle.mc_probe.specs.Table.{decisions_in, put_function, put_functions}
 use Rattle.mc_probe.specs.Tree as p
 use Rattle.mc_probe.specs.Views as probed
 use Rattle.mc_instrument.specs.declared.copies.statements.At as code
-use Rattle.mc_instrument.specs.steps.Counters.{leading, StandsAt}
+use Rattle.mc_instrument.specs.steps.Counters.{all_points, leading, taken_by_function, StandsAt}
+use Rattle.mc_instrument.proofs.Room.{Ends, ends_begin, ends_next, few_leads, function_fits}
 use Rattle.mc_map.proofs.Each.{split}
 
 -- ---- how many decisions a function has
@@ -90,19 +92,28 @@ pub record FunctionsLeft (m : Map) (trees copies : List Function) (i first : ℕ
   pub stands : StandsAt m points at
   pub decisions : map (λ (d : Mapped). d.decision) (drop first m.decisions) ≡ decided i (map plain.function_of (drop i trees))
   pub copied : map probed.function_of copies ++ put_functions m i first points (map plain.function_of (drop i trees)) ≡ put_functions m 0 0 no_points (map plain.function_of trees)
+  pub ends : Ends m points (map plain.function_of (drop i trees))
 
-pub begins : (m : Map) (trees copies : List Function) (at : code.At) → copies ≡ [] → StandsAt m no_points at → AreDecisions (map plain.function_of trees) (map (λ (d : Mapped). d.decision) m.decisions) → FunctionsLeft m trees copies 0 0 at
-begins m trees copies at none stands are = record {
+pub begins : (m : Map) (trees copies : List Function) (at : code.At) → copies ≡ [] → StandsAt m no_points at → AreDecisions (map plain.function_of trees) (map (λ (d : Mapped). d.decision) m.decisions) → AreCounted m.statements m.exits m.labels (all_points (map plain.function_of trees)) → FunctionsLeft m trees copies 0 0 at
+begins m trees copies at none stands are counted = record {
   points = no_points;
   stands = stands;
   decisions = one_list (map plain.function_of trees) _ _ are (are_decisions (map plain.function_of trees));
   copied = ap (λ (zs : List Function). map probed.function_of zs ++ put_functions m 0 0 no_points (map plain.function_of trees)) none;
+  ends = ends_begin m (map plain.function_of trees) counted;
 }
 
 pub leads : (m : Map) (trees copies : List Function) (x : Function) (i first : ℕ) (at : code.At) → i < length trees → x ≡ get_or trees i x → FunctionsLeft m trees copies i first at → leading i (drop first m.decisions) ≡ decisions_in (plain.function_of x)
 leads m trees copies x i first at lt is left =
     first_leads i (plain.function_of x) (map plain.function_of (drop (i + 1) trees)) (drop first m.decisions)
     (left.decisions ∙ ap (λ (zs : List Function). decided i (map plain.function_of zs)) (split trees i x lt is))
+
+pub fits : (m : Map) (trees copies : List Function) (x : Function) (i first : ℕ) (at : code.At) → IsMap m → first ≤ length m.decisions → i < length trees → x ≡ get_or trees i x → FunctionsLeft m trees copies i first at → at.exit + at.statement + at.label + taken_by_function (plain.function_of x) < 2 ^ 32
+fits m trees copies x i first at kept low lt is left =
+    let rest : List t.Function = map plain.function_of (drop (i + 1) trees) in
+    function_fits m left.points (plain.function_of x) rest at first kept left.stands
+    (subst (λ (zs : List Function). Ends m left.points (map plain.function_of zs)) (split trees i x lt is) left.ends)
+    (few_leads m.decisions i first (decisions_in (plain.function_of x)) (decisions_in (plain.function_of x)) low (leads m trees copies x i first at lt is left) refl)
 
 pub next : (m : Map) (trees copies new : List Function) (x y : Function) (i first later : ℕ) (at after : code.At) → i < length trees → x ≡ get_or trees i x → new ≡ copies ++ y ∷ [] → ((q : Points) → StandsAt m q at → probed.function_of y ≡ put_function m i first q (plain.function_of x)) → ((q : Points) → StandsAt m q at → StandsAt m (q ⊕ points_of_function (plain.function_of x)) after) → later ≡ first + decisions_in (plain.function_of x) → FunctionsLeft m trees copies i first at → FunctionsLeft m trees new (i + 1) later after
 next m trees copies new x y i first later at after lt is pushed copied past counted left =
@@ -124,6 +135,7 @@ next m trees copies new x y i first later at after lt is pushed copied past coun
           ∙ (ap (λ (z : p.Function). map probed.function_of copies ++ z ∷ put_functions m (i + 1) later r rest) (copied q left.stands)
           ∙ (ap (λ (k : ℕ). map probed.function_of copies ++ put_function m i first q (plain.function_of x) ∷ put_functions m (i + 1) k r rest) counted
           ∙ (ap (λ (zs : List Function). map probed.function_of copies ++ put_functions m i first q (map plain.function_of zs)) (sym cut) ∙ left.copied)))));
+      ends = ends_next m q (plain.function_of x) rest (subst (λ (zs : List Function). Ends m q (map plain.function_of zs)) cut left.ends);
     }
 
 pub all_copied : (m : Map) (trees copies : List Function) (i first : ℕ) (at : code.At) → length trees ≤ i → FunctionsLeft m trees copies i first at → map probed.function_of copies ≡ put_functions m 0 0 no_points (map plain.function_of trees)

@@ -1,8 +1,10 @@
 pub mod Lists
 pub mod Puts
 pub mod Rooted
+pub mod Counted
 pub mod Leading
 pub mod Edges
+pub mod Room
 pub mod Done
 pub mod OneFunction
 pub mod Functions

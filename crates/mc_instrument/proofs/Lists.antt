@@ -27,6 +27,11 @@ module _ {S T Q C : Type 0} (put : S → T → Q) (after : T → S → S) (plain
     counted = refl;
   }
 
+  -- what the rest goes on to from the next item on is what all go on to
+  pub before_last : (copies trees : List C) (x : C) (i : ℕ) (s start : S) → i < length trees → x ≡ get_or trees i x → Left copies s trees i start → last put after (after (plain x) s) (map plain (drop (i + 1) trees)) ≡ last put after start (map plain trees)
+  before_last copies trees x i s start lt is left =
+      ap (λ (zs : List C). last put after s (map plain zs)) (sym (split trees i x lt is)) ∙ left.counted
+
   pub next : (copies new trees : List C) (x y : C) (i : ℕ) (s e start : S) → i < length trees → x ≡ get_or trees i x → new ≡ copies ++ y ∷ [] → probed y ≡ put s (plain x) → e ≡ after (plain x) s → Left copies s trees i start → Left new e trees (i + 1) start
   next copies new trees x y i s e start lt is pushed copied counted left =
       let cut = split trees i x lt is in

@@ -1,5 +1,5 @@
 -- A copy of one function.
-use Rattle.std.proofs.Common.{◌≡◌, ◌∙◌, refl, sym, ap, ℕ, ◌+◌, Bool, true, false, if◌then◌else◌, List, Option, Some, None, arith}
+use Rattle.std.proofs.Common.{◌≡◌, ◌∙◌, refl, sym, ap, ℕ, ◌+◌, ◌<◌, ◌^◌, Bool, true, false, if◌then◌else◌, List, Option, Some, None, arith}
 use Rattle.mc_typed.specs.Tree as t
 use Rattle.mc_steps.specs.Points.{Points, ◌⊕◌, all_complete, points_of_all, points_of_function, where_completes}
 use Rattle.mc_probe.specs.Maps.{Map, exit_bit}
@@ -7,7 +7,7 @@ use Rattle.mc_probe.specs.Switches.{switches_all}
 use Rattle.mc_probe.specs.Table.{At, decisions_in, put_function, put_statements}
 use Rattle.mc_probe.specs.Tree as p
 use Rattle.mc_instrument.specs.declared.copies.statements.At as code
-use Rattle.mc_instrument.specs.steps.Counters.{at_of, past_all, StandsAt}
+use Rattle.mc_instrument.specs.steps.Counters.{at_of, past_all, taken_by_function, StandsAt}
 use Rattle.mc_instrument.proofs.Puts.{same_at}
 
 -- the counters as the body begins
@@ -79,3 +79,7 @@ module _ (m : Map) (first number : ℕ) (q : Points) (f : t.Function) (old mid :
         statement = omega (arith, s, two, no, a);
         label = omega (arith, l, three, none, b);
       }
+
+-- there is room for the exit at the closing brace
+pub closing_fits : (f : t.Function) (old : code.At) (mid : ℕ) → old.exit + old.statement + old.label + taken_by_function f < 2 ^ 32 → mid ≡ old.exit + (points_of_all f.body).exits → mid + (where_completes (all_complete f.body)).exits < 2 ^ 32
+closing_fits f old mid room is = omega (arith, room, is)

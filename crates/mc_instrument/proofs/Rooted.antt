@@ -1,5 +1,5 @@
 -- The probes of a root, and of an expression that is none.
-use Rattle.std.proofs.Common.{◌≡◌, ◌∙◌, refl, sym, ap, ℕ, ◌+◌, Bool, true, false, ◌||◌, if◌then◌else◌, arith}
+use Rattle.std.proofs.Common.{◌≡◌, ◌∙◌, refl, sym, ap, ℕ, ◌+◌, ◌<◌, ◌^◌, Bool, true, false, ◌||◌, if◌then◌else◌, arith}
 use Rattle.mc_typed.specs.declared.probes.Probe.TheVariants as probe
 use Rattle.mc_typed.specs.Tree as t
 use Rattle.mc_roots.specs.declared.role.Role.{Role}
@@ -137,6 +137,14 @@ inside_copied m first role d e x b is fails h = h ∙ sym (inside_put m first ro
 pub root_counted : (role : Role) (d f : ℕ) (a : Node) (b : Bool) → b ≡ is_root role a → b ≡ true → f ≡ d + 1 + roots Inner a → f ≡ d + roots role a
 root_counted role d f a b is holds h =
     let more = root_roots role a (sym is ∙ holds) in omega (arith, h, more)
+
+pub root_fits : (role : Role) (d : ℕ) (a : Node) (b : Bool) → b ≡ is_root role a → b ≡ true → d + roots role a < 2 ^ 32 → d + 1 + roots Inner a < 2 ^ 32
+root_fits role d a b is holds h =
+    let more = root_roots role a (sym is ∙ holds) in omega (arith, h, more)
+
+pub inside_fits : (role : Role) (d : ℕ) (a : Node) (b : Bool) → is_inner role ≡ false → b ≡ is_root role a → b ≡ false → d + roots role a < 2 ^ 32 → d + inner_roots a < 2 ^ 32
+inside_fits role d a b plain is fails h =
+    let more = inside_roots role a plain (sym is ∙ fails) in omega (arith, h, more)
 
 pub inside_counted : (role : Role) (d f : ℕ) (a : Node) (b : Bool) → is_inner role ≡ false → b ≡ is_root role a → b ≡ false → f ≡ d + inner_roots a → f ≡ d + roots role a
 inside_counted role d f a b plain is fails h =

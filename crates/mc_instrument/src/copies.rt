@@ -1,5 +1,6 @@
 //! Copies of a program and its parts, with their probes.
 
+pub(crate) mod counters;
 pub(crate) mod effects;
 pub(crate) mod expressions;
 pub(crate) mod functions;

@@ -9,6 +9,7 @@ ghost use Rattle.mc_roots.specs.Seen.{decision_of};
 ghost use Rattle.mc_meaning.specs.Tests.{plain_run};
 ghost use Rattle.mc_probe.specs.BitMaps.{map_of};
 ghost use Rattle.mc_probe.specs.Erase.{erase};
+ghost use Rattle.mc_probe.specs.Maps.{IsMapOf};
 ghost use Rattle.mc_probe.specs.Table.{instrumented, IsInstrumented};
 ghost use Rattle.mc_probe.specs.Tests.{run_of};
 ghost use Rattle.mc_probe.specs.Trees.{tree_of};
@@ -66,8 +67,7 @@ fn with_probes<'a>(
     program: &Program<'a>,
     bit_map: &BitMap,
 ) -> Result<Instrumented<'a>, AllocError>
-    requires { AreDecisions (program_of program.now).functions
-        (map (λ d. d.decision) (map_of bit_map.now).decisions) }
+    requires { IsMapOf (program_of program.now) (map_of bit_map.now) }
     ensures tree { IfOk result (λ c. tree_of c
         ≡ instrumented (map_of bit_map.now) (program_of program.now)) }
     ensures sound { IfOk result (λ _. IsSound (program_of program.now)) }

@@ -1,12 +1,13 @@
 -- Counters of bits and registers.
-use Rattle.std.specs.Prelude.{◌≡◌, ℕ, ◌+◌, ◌==◌, if◌then◌else◌, List, [], ◌∷◌}
-use Rattle.mc_typed.specs.Tree.{Statements}
+use Rattle.std.specs.Prelude.{◌≡◌, ℕ, ◌+◌, ◌==◌, if◌then◌else◌, List, [], ◌∷◌, length}
+use Rattle.mc_typed.specs.Tree.{Statement, Statements, Function}
+use Rattle.mc_roots.specs.declared.role.Role.TheVariants.{Plain}
 use Rattle.mc_roots.specs.Nodes as nodes
-use Rattle.mc_roots.specs.Counts.{roots_in}
-use Rattle.mc_steps.specs.Points.{Points, points_of_all}
+use Rattle.mc_roots.specs.Counts.{roots, roots_in}
+use Rattle.mc_steps.specs.Points.{Points, points_of, points_of_all, points_of_function, points_before}
 use Rattle.mc_probe.specs.Maps.{Map, Mapped, exit_bit, label_bit, statement_bit}
-use Rattle.mc_probe.specs.Table.{At}
-use Rattle.mc_probe.specs.Switches.{switches_all}
+use Rattle.mc_probe.specs.Table.{At, decisions_in}
+use Rattle.mc_probe.specs.Switches.{switches, switches_all}
 use Rattle.mc_instrument.specs.declared.copies.statements.At as code
 
 module _ (m : Map) (first : ℕ) where
@@ -29,6 +30,31 @@ module _ (m : Map) (first : ℕ) where
     decision = at.decision + roots_in (nodes.statements items);
     switch = at.switch + switches_all items;
   }
+
+-- how many numbers the counters gave, all together
+abbrev pub given : code.At → ℕ
+given at = at.exit + at.statement + at.label + at.decision + at.switch
+
+-- and how many a statement takes
+abbrev pub taken : Statement → ℕ
+taken s =
+    (points_of s).exits + (points_of s).statements + (points_of s).labels
+    + roots Plain (nodes.statement s) + switches s
+
+abbrev pub taken_by_all : Statements → ℕ
+taken_by_all items =
+    (points_of_all items).exits + (points_of_all items).statements + (points_of_all items).labels
+    + roots_in (nodes.statements items) + switches_all items
+
+-- its decisions have the first registers of a function
+abbrev pub taken_by_function : Function → ℕ
+taken_by_function f =
+    (points_of_function f).exits + (points_of_function f).statements
+    + (points_of_function f).labels + decisions_in f + decisions_in f + switches_all f.body
+
+-- the points of all functions of a list
+abbrev pub all_points : List Function → Points
+all_points fs = points_before fs (length fs)
 
 -- how many decisions at the head of a list are those of a function
 abbrev pub leading : ℕ → List Mapped → ℕ

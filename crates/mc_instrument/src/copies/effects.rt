@@ -1,5 +1,5 @@
 //! Effects with their probes.
-ghost use Rattle.std.specs.Prelude.{◌≡◌, ◌+◌, map, IfOk};
+ghost use Rattle.std.specs.Prelude.{◌≡◌, ◌+◌, ◌<◌, ◌^◌, map, IfOk};
 ghost use Rattle.mc_typed.specs.Views as plain;
 ghost use Rattle.mc_roots.specs.Counts.{roots, roots_in};
 ghost use Rattle.mc_roots.specs.Nodes as nodes;
@@ -15,6 +15,7 @@ use std::alloc::AllocError;
 
 /// A copy of an effect.
 pub(crate) fn effect(walk: &Walk<'_>, next: &mut u32, tree: &Effect) -> Result<Effect, AllocError>
+    requires { next.now + roots role.Plain (nodes.effect (plain.effect_of tree.now)) < 2 ^ 32 }
     ensures copy { IfOk result (λ c. probed.effect_of c
         ≡ put_effect (map_of walk.now.map.now) walk.now.first next.old
         (plain.effect_of tree.now)) }
@@ -125,6 +126,7 @@ pub(crate) fn effects(
     next: &mut u32,
     trees: &[Effect],
 ) -> Result<Vec<Effect>, AllocError>
+    requires { next.now + roots_in (nodes.effects (map plain.effect_of trees.now)) < 2 ^ 32 }
     ensures copy { IfOk result (λ c. map probed.effect_of c.items
         ≡ put_effects (map_of walk.now.map.now) walk.now.first next.old
         (map plain.effect_of trees.now)) }

@@ -1,5 +1,5 @@
 //! Expressions with their probes.
-ghost use Rattle.std.specs.Prelude.{◌≡◌, ◌+◌, map, IfOk};
+ghost use Rattle.std.specs.Prelude.{◌≡◌, ◌+◌, ◌-◌, ◌<◌, ◌^◌, map, min, IfOk};
 ghost use Rattle.mc_typed.specs.Views as plain;
 ghost use Rattle.mc_roots.specs.Conditions.{width};
 ghost use Rattle.mc_roots.specs.Counts.{roots, roots_in};
@@ -10,20 +10,23 @@ ghost use Rattle.mc_probe.specs.Table.{InTree, Loose, put, put_argument, put_arg
 ghost use Rattle.mc_probe.specs.Views as probed;
 ghost use Rattle.mc_instrument.specs.steps.Inside as inside_rules;
 
+use crate::copies::counters::count;
 use crate::copies::walk::{Walk, with_probe};
-use mc_map::{count, is_root, is_root_as_test};
+use mc_map::{is_root, is_root_as_test};
 use mc_typed::{Argument, Expression, FunctionCall, Place, Probe, Structure};
 use std::alloc::AllocError;
 
 /// A copy of a controlling expression, or of the first operand of `?:`. `next` is the number of the
 /// next decision of the function.
 #[cycle(put)]
-#[tactic(auto, using(crate::proofs::Rooted::root_copied, crate::proofs::Rooted::inside_copied, crate::proofs::Rooted::root_counted, crate::proofs::Rooted::inside_counted))]
+#[tactic(auto, using(crate::proofs::Rooted::root_copied, crate::proofs::Rooted::inside_copied, crate::proofs::Rooted::root_counted, crate::proofs::Rooted::inside_counted, crate::proofs::Rooted::root_fits, crate::proofs::Rooted::inside_fits))]
 pub(crate) fn test(
     walk: &Walk<'_>,
     next: &mut u32,
     tree: &Expression,
 ) -> Result<Expression, AllocError>
+    requires { next.now
+        + roots role.Test (nodes.expression (plain.expression_of tree.now)) < 2 ^ 32 }
     ensures copy { IfOk result (λ c. probed.expression_of c
         ≡ put (map_of walk.now.map.now) walk.now.first (Loose role.Test) next.old
         (plain.expression_of tree.now)) }
@@ -39,12 +42,14 @@ pub(crate) fn test(
 
 /// A copy of another expression that stands loose.
 #[cycle(put)]
-#[tactic(auto, using(crate::proofs::Rooted::root_copied, crate::proofs::Rooted::inside_copied, crate::proofs::Rooted::root_counted, crate::proofs::Rooted::inside_counted))]
+#[tactic(auto, using(crate::proofs::Rooted::root_copied, crate::proofs::Rooted::inside_copied, crate::proofs::Rooted::root_counted, crate::proofs::Rooted::inside_counted, crate::proofs::Rooted::root_fits, crate::proofs::Rooted::inside_fits))]
 pub(crate) fn expression(
     walk: &Walk<'_>,
     next: &mut u32,
     tree: &Expression,
 ) -> Result<Expression, AllocError>
+    requires { next.now
+        + roots role.Plain (nodes.expression (plain.expression_of tree.now)) < 2 ^ 32 }
     ensures copy { IfOk result (λ c. probed.expression_of c
         ≡ put (map_of walk.now.map.now) walk.now.first (Loose role.Plain) next.old
         (plain.expression_of tree.now)) }
@@ -61,21 +66,25 @@ pub(crate) fn expression(
 /// A copy of the root of a decision.
 #[cycle(put)]
 fn root(walk: &Walk<'_>, next: &mut u32, tree: &Expression) -> Result<Expression, AllocError>
+    requires { next.now + 1
+        + roots role.Inner (nodes.expression (plain.expression_of tree.now)) < 2 ^ 32 }
     ensures copy { IfOk result (λ c. probed.expression_of c
         ≡ inside_rules.root (map_of walk.now.map.now) walk.now.first next.old
         (plain.expression_of tree.now)) }
     ensures next { IfOk result (λ _. next.new
         ≡ next.old + 1 + roots role.Inner (nodes.expression (plain.expression_of tree.now))) }
 {
-    let register = count(next)?;
+    let register = count(next);
     let base = walk.base(register);
     let mut condition = 0;
     let operand = in_tree(walk, next, register, &mut condition, tree)?;
     with_probe(walk.alloc, Probe::Decision { register, base }, operand)
 }
 
-/// A copy of a part of the tree of decision `k`, which begins with a condition.
+/// A copy of a part of the tree of decision `k`, which begins with a condition. Its number goes on
+/// as far as its type: no decision of the map has so many.
 #[cycle(put)]
+#[tactic(auto, using(crate::proofs::Room::logic_counted))]
 fn in_tree(
     walk: &Walk<'_>,
     next: &mut u32,
@@ -83,13 +92,16 @@ fn in_tree(
     condition: &mut u32,
     tree: &Expression,
 ) -> Result<Expression, AllocError>
+    requires { next.now
+        + roots role.Inner (nodes.expression (plain.expression_of tree.now)) < 2 ^ 32 }
     ensures copy { IfOk result (λ c. probed.expression_of c
         ≡ put (map_of walk.now.map.now) walk.now.first (InTree k condition.old) next.old
         (plain.expression_of tree.now)) }
     ensures next { IfOk result (λ _. next.new
         ≡ next.old + roots role.Inner (nodes.expression (plain.expression_of tree.now))) }
     ensures condition { IfOk result (λ _. condition.new
-        ≡ condition.old + width (nodes.expression (plain.expression_of tree.now))) }
+        ≡ min (condition.old + width (nodes.expression (plain.expression_of tree.now)))
+        (2 ^ 32 - 1)) }
 {
     match tree {
         Expression::Not { operand, span } => {
@@ -136,14 +148,17 @@ fn one_condition(
     condition: &mut u32,
     tree: &Expression,
 ) -> Result<Expression, AllocError>
+    requires { next.now
+        + inside_rules.inner_roots (nodes.expression (plain.expression_of tree.now)) < 2 ^ 32 }
     ensures copy { IfOk result (λ c. probed.expression_of c
         ≡ inside_rules.condition (map_of walk.now.map.now) walk.now.first k condition.old next.old
         (plain.expression_of tree.now)) }
     ensures next { IfOk result (λ _. next.new
         ≡ next.old + inside_rules.inner_roots (nodes.expression (plain.expression_of tree.now))) }
-    ensures condition { IfOk result (λ _. condition.new ≡ condition.old + 1) }
+    ensures condition { IfOk result (λ _.
+        condition.new ≡ min (condition.old + 1) (2 ^ 32 - 1)) }
 {
-    let number = count(condition)?;
+    let number = mc_map::count(condition);
     let on_false = walk.increment(k, number);
     let operand = inside(walk, next, tree)?;
     let probe = Probe::Condition {
@@ -157,6 +172,8 @@ fn one_condition(
 /// A copy of an expression with the probes of its parts.
 #[cycle(put)]
 fn inside(walk: &Walk<'_>, next: &mut u32, tree: &Expression) -> Result<Expression, AllocError>
+    requires { next.now
+        + inside_rules.inner_roots (nodes.expression (plain.expression_of tree.now)) < 2 ^ 32 }
     ensures copy { IfOk result (λ c. probed.expression_of c
         ≡ inside_rules.inside (map_of walk.now.map.now) walk.now.first next.old
         (plain.expression_of tree.now)) }
@@ -270,6 +287,7 @@ fn inside(walk: &Walk<'_>, next: &mut u32, tree: &Expression) -> Result<Expressi
 /// A copy of a place.
 #[cycle(put)]
 pub(crate) fn place(walk: &Walk<'_>, next: &mut u32, tree: &Place) -> Result<Place, AllocError>
+    requires { next.now + roots role.Plain (nodes.place (plain.place_of tree.now)) < 2 ^ 32 }
     ensures copy { IfOk result (λ c. probed.place_of c
         ≡ put_place (map_of walk.now.map.now) walk.now.first next.old (plain.place_of tree.now)) }
     ensures next { IfOk result (λ _. next.new
@@ -339,6 +357,8 @@ pub(crate) fn structure(
     next: &mut u32,
     tree: &Structure,
 ) -> Result<Structure, AllocError>
+    requires { next.now
+        + roots role.Plain (nodes.structure (plain.structure_of tree.now)) < 2 ^ 32 }
     ensures copy { IfOk result (λ c. probed.structure_of c
         ≡ put_structure (map_of walk.now.map.now) walk.now.first next.old
         (plain.structure_of tree.now)) }
@@ -364,6 +384,7 @@ pub(crate) fn call(
     next: &mut u32,
     tree: &FunctionCall,
 ) -> Result<FunctionCall, AllocError>
+    requires { next.now + roots_in (nodes.call_parts (plain.call_of tree.now)) < 2 ^ 32 }
     ensures copy { IfOk result (λ c. probed.call_of c
         ≡ put_call (map_of walk.now.map.now) walk.now.first next.old (plain.call_of tree.now)) }
     ensures next { IfOk result (λ _. next.new
@@ -380,6 +401,7 @@ pub(crate) fn call(
 
 #[cycle(put)]
 fn argument(walk: &Walk<'_>, next: &mut u32, tree: &Argument) -> Result<Argument, AllocError>
+    requires { next.now + roots role.Plain (nodes.argument (plain.argument_of tree.now)) < 2 ^ 32 }
     ensures copy { IfOk result (λ c. probed.argument_of c
         ≡ put_argument (map_of walk.now.map.now) walk.now.first next.old
         (plain.argument_of tree.now)) }
@@ -418,6 +440,9 @@ fn arguments(
     next: &mut u32,
     trees: &[Argument],
 ) -> Result<Vec<Argument>, AllocError>
+    requires { next.now
+        + roots_in (nodes.arguments (plain.arguments_from (map plain.argument_of trees.now)))
+        < 2 ^ 32 }
     ensures copy { IfOk result (λ c. probed.arguments_from (map probed.argument_of c.items)
         ≡ put_arguments (map_of walk.now.map.now) walk.now.first next.old
         (plain.arguments_from (map plain.argument_of trees.now))) }

@@ -5,14 +5,15 @@ ghost use Rattle.mc_roots.specs.Decisions.{AreDecisions};
 ghost use Rattle.mc_steps.specs.Points.{◌⊕◌};
 ghost use Rattle.mc_steps.specs.Points as points;
 ghost use Rattle.mc_probe.specs.BitMaps.{map_of};
+ghost use Rattle.mc_probe.specs.Laws.{AreCounted};
 ghost use Rattle.mc_probe.specs.Mapped.{mapped_of};
 ghost use Rattle.mc_probe.specs.Table.{decisions_in, put_function, put_functions};
 ghost use Rattle.mc_probe.specs.Views as probed;
-ghost use Rattle.mc_instrument.specs.steps.Counters.{leading, StandsAt};
+ghost use Rattle.mc_instrument.specs.steps.Counters.{all_points, leading, taken_by_function, StandsAt};
 
 use crate::copies::statements::{At, statements};
 use crate::copies::walk::Walk;
-use mc_map::{closing_exit, count};
+use mc_map::closing_exit;
 use mc_probe::{BitMap, MappedDecision};
 use mc_typed::{Function, Span};
 use std::alloc::{AllocError, Global};
@@ -24,30 +25,24 @@ fn stands_in(mapped: &MappedDecision, function: u32) -> bool
 }
 
 /// How many decisions from `first` on are those of the function with this number.
-#[tactic(auto, using(crate::proofs::Leading::from))]
-fn decisions_of(bit_map: &BitMap, first: u32, function: u32) -> Result<u32, AllocError>
-    ensures { IfOk result (λ k.
-        k ≡ leading function (drop first (map_of bit_map.now).decisions)) }
+fn decisions_of(bit_map: &BitMap, first: u32, function: u32) -> u32
+    ensures { result ≡ leading function (drop first (map_of bit_map.now).decisions) }
 {
     let list = decisions_from(&bit_map.decisions, first as usize);
-    let count = leading_decisions(list, function)?;
-    Ok(count)
+    leading_decisions(list, function) as u32
 }
 
 /// How many decisions at the head of a list are those of a function.
 #[tactic(auto, using(crate::proofs::Leading::begin, crate::proofs::Leading::stops, crate::proofs::Leading::goes_on, crate::proofs::Leading::ends))]
-fn leading_decisions(list: &[MappedDecision], function: u32) -> Result<u32, AllocError>
-    ensures { IfOk result (λ k. k ≡ leading function (map mapped_of list.now)) }
+fn leading_decisions(list: &[MappedDecision], function: u32) -> usize
+    ensures { result ≡ leading function (map mapped_of list.now) }
 {
-    let mut found = 0;
-    for mapped in list {
-        if stands_in(mapped, function) {
-            count(&mut found)?;
-        } else {
-            return Ok(found);
+    for (found, mapped) in list.iter().enumerate() {
+        if !stands_in(mapped, function) {
+            return found;
         }
     }
-    Ok(found)
+    list.len()
 }
 
 fn decisions_from(decisions: &[MappedDecision], first: usize) -> &[MappedDecision]
@@ -67,8 +62,10 @@ fn function<'a>(
     at: &mut At,
     tree: &Function<'a>,
 ) -> Result<Function<'a>, AllocError>
-    requires { leading number (drop walk.now.first (map_of walk.now.map.now).decisions)
+    requires decisions { leading number (drop walk.now.first (map_of walk.now.map.now).decisions)
         ≡ decisions_in (plain.function_of tree.now) }
+    requires room { at.now.exit + at.now.statement + at.now.label
+        + taken_by_function (plain.function_of tree.now) < 2 ^ 32 }
     ensures copy { IfOk result (λ c. (q : points.Points) → let m = map_of walk.now.map.now in
         StandsAt m q at.old
         → probed.function_of c
@@ -79,14 +76,14 @@ fn function<'a>(
     ensures decisions { IfOk result (λ _.
         at.new.decision ≡ decisions_in (plain.function_of tree.now)) }
 {
-    let decisions = decisions_of(walk.map, walk.first, number)?;
+    let decisions = decisions_of(walk.map, walk.first, number);
     at.decision = 0;
     at.switch = decisions;
     let parameters = mc_bare::parameters(walk.alloc, &tree.parameters)?;
     let result = mc_bare::result_type(&tree.result)?;
     let objects = mc_bare::local_objects(walk.alloc, &tree.objects)?;
     let body = statements(walk, 0, at, &tree.body)?;
-    let exit = closing_exit(&mut at.exit, &tree.body)?;
+    let exit = closing_exit(&mut at.exit, &tree.body);
     Ok(Function {
         name: tree.name,
         name_span: tree.name_span,
@@ -101,40 +98,28 @@ fn function<'a>(
     })
 }
 
-/// A sum of counters.
-fn sum(first: u32, second: u32) -> Result<u32, AllocError>
-    ensures { IfOk result (λ n. n ≡ first + second) }
-{
-    match first.checked_add(second) {
-        Some(sum) => Ok(sum),
-        None => Err(AllocError),
-    }
-}
-
 /// The bit after those of these places, of which `first` is the first.
-fn bit_after(first: u32, places: &[Span]) -> Result<u32, AllocError>
-    ensures { IfOk result (λ n. n ≡ first + length places.now) }
+fn bit_after(first: u32, places: &[Span]) -> u32
+    requires { first + length places.now < 2 ^ 32 }
+    ensures { result ≡ first + length places.now }
 {
-    match u32::try_from(places.len()) {
-        Ok(count) => sum(first, count),
-        Err(_) => Err(AllocError),
-    }
+    first + places.len() as u32
 }
 
 /// Where the bits of exits, counted statements and labels begin.
-fn beginning(bit_map: &BitMap) -> Result<At, AllocError>
-    ensures { IfOk result (StandsAt (map_of bit_map.now) points.no_points) }
+fn beginning(bit_map: &BitMap) -> At
+    ensures { StandsAt (map_of bit_map.now) points.no_points result }
 {
-    let exit = bit_after(0, &bit_map.entries)?;
-    let statement = bit_after(exit, &bit_map.exits)?;
-    let label = bit_after(statement, &bit_map.statements)?;
-    Ok(At {
+    let exit = bit_after(0, &bit_map.entries);
+    let statement = bit_after(exit, &bit_map.exits);
+    let label = bit_after(statement, &bit_map.statements);
+    At {
         exit,
         statement,
         label,
         decision: 0,
         switch: 0,
-    })
+    }
 }
 
 /// Copies of all functions.
@@ -146,11 +131,13 @@ pub(crate) fn all_functions<'a>(
     requires few { length trees.now < 2 ^ 31 }
     requires decisions { AreDecisions (map plain.function_of trees.now)
         (map (λ d. d.decision) (map_of bit_map.now).decisions) }
+    requires counted { AreCounted (map_of bit_map.now).statements (map_of bit_map.now).exits
+        (map_of bit_map.now).labels (all_points (map plain.function_of trees.now)) }
     ensures { IfOk result (λ c. map probed.function_of c.items
         ≡ put_functions (map_of bit_map.now) 0 0 points.no_points
         (map plain.function_of trees.now)) }
 {
-    let mut at = beginning(bit_map)?;
+    let mut at = beginning(bit_map);
     let mut first = 0;
     let mut copies = Vec::with_capacity(alloc, trees.len())?;
     for (number, tree) in trees.iter().enumerate() {
@@ -161,7 +148,7 @@ pub(crate) fn all_functions<'a>(
         };
         let copy = function(&walk, number as u32, &mut at, tree)?;
         copies.push(copy)?;
-        first = sum(first, at.decision)?;
+        first += at.decision;
     }
     Ok(copies)
 }

@@ -1,5 +1,5 @@
 //! Initializers with their probes.
-ghost use Rattle.std.specs.Prelude.{◌≡◌, ◌+◌, map, option_map, IfOk};
+ghost use Rattle.std.specs.Prelude.{◌≡◌, ◌+◌, ◌<◌, ◌^◌, map, option_map, IfOk};
 ghost use Rattle.mc_typed.specs.Views as plain;
 ghost use Rattle.mc_roots.specs.Counts.{roots, roots_in};
 ghost use Rattle.mc_roots.specs.Nodes as nodes;
@@ -21,6 +21,8 @@ fn initializer(
     next: &mut u32,
     tree: &Initializer,
 ) -> Result<Initializer, AllocError>
+    requires { next.now
+        + roots role.Plain (nodes.initializer (plain.initializer_of tree.now)) < 2 ^ 32 }
     ensures copy { IfOk result (λ c. probed.initializer_of c
         ≡ put_initializer (map_of walk.now.map.now) walk.now.first next.old
         (plain.initializer_of tree.now)) }
@@ -62,6 +64,8 @@ fn without_probes(
     next: &mut u32,
     tree: &Expression,
 ) -> Result<Expression, AllocError>
+    requires { next.now
+        + roots role.Plain (nodes.expression (plain.expression_of tree.now)) < 2 ^ 32 }
     ensures copy { IfOk result (λ c. probed.expression_of c
         ≡ bare_expression (plain.expression_of tree.now)) }
     ensures next { IfOk result (λ _. next.new
@@ -78,6 +82,9 @@ fn initializers(
     next: &mut u32,
     trees: &[Initializer],
 ) -> Result<Vec<Initializer>, AllocError>
+    requires { next.now
+        + roots_in (nodes.initializers
+        (plain.initializers_from (map plain.initializer_of trees.now))) < 2 ^ 32 }
     ensures copy { IfOk result (λ c. probed.initializers_from (map probed.initializer_of c.items)
         ≡ put_initializers (map_of walk.now.map.now) walk.now.first next.old
         (plain.initializers_from (map plain.initializer_of trees.now))) }
@@ -99,6 +106,8 @@ fn initial(
     next: &mut u32,
     tree: &Option<Initializer>,
 ) -> Result<Option<Initializer>, AllocError>
+    requires { next.now
+        + roots role.Plain (nodes.initial (option_map plain.initializer_of tree.now)) < 2 ^ 32 }
     ensures copy { IfOk result (λ c. option_map probed.initializer_of c
         ≡ put_initial (map_of walk.now.map.now) walk.now.first next.old
         (option_map plain.initializer_of tree.now)) }
@@ -115,6 +124,8 @@ fn initial(
 }
 
 fn declarator(walk: &Walk<'_>, next: &mut u32, tree: &Declarator) -> Result<Declarator, AllocError>
+    requires { next.now
+        + roots role.Plain (nodes.initial (option_map plain.initializer_of tree.now.value)) < 2 ^ 32 }
     ensures copy { IfOk result (λ c. probed.declarator_of c ≡ record {
       slot = tree.now.slot;
       cells = tree.now.cells;
@@ -139,6 +150,8 @@ pub(crate) fn declarators(
     next: &mut u32,
     trees: &[Declarator],
 ) -> Result<Vec<Declarator>, AllocError>
+    requires { next.now
+        + roots_in (nodes.declarators (map plain.declarator_of trees.now)) < 2 ^ 32 }
     ensures copy { IfOk result (λ c. map probed.declarator_of c.items
         ≡ put_declarators (map_of walk.now.map.now) walk.now.first next.old
         (map plain.declarator_of trees.now)) }

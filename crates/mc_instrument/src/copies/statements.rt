@@ -1,5 +1,5 @@
 //! Statements with their probes.
-ghost use Rattle.std.specs.Prelude.{◌≡◌, ◌+◌, map, option_map, IfOk};
+ghost use Rattle.std.specs.Prelude.{◌≡◌, ◌+◌, ◌<◌, ◌^◌, map, option_map, IfOk};
 ghost use Rattle.mc_typed.specs.Views as plain;
 ghost use Rattle.mc_roots.specs.Counts.{roots, roots_in};
 ghost use Rattle.mc_roots.specs.Nodes as nodes;
@@ -9,13 +9,13 @@ ghost use Rattle.mc_probe.specs.BitMaps.{map_of};
 ghost use Rattle.mc_probe.specs.Switches.{switches, switches_all};
 ghost use Rattle.mc_probe.specs.Table.{put_effects, put_optional, put_return, put_start, put_statement, put_statements};
 ghost use Rattle.mc_probe.specs.Views as probed;
-ghost use Rattle.mc_instrument.specs.steps.Counters.{at_of};
+ghost use Rattle.mc_instrument.specs.steps.Counters.{at_of, given, taken, taken_by_all};
 
+use crate::copies::counters::{absent_mark, count, declaration_bit};
 use crate::copies::effects::{effect, effects};
 use crate::copies::expressions::{expression, structure, test};
 use crate::copies::initializers::declarators;
 use crate::copies::walk::{Walk, with_probe};
-use mc_map::{absent_mark, count, declaration_bit};
 use mc_typed::{Effect, Expression, ForStart, Mark, Probe, ReturnValue, Statement};
 use std::alloc::AllocError;
 
@@ -31,6 +31,7 @@ pub(crate) struct At {
 }
 
 fn start(walk: &Walk<'_>, next: &mut u32, tree: &ForStart) -> Result<ForStart, AllocError>
+    requires { next.now + roots role.Plain (nodes.start (plain.start_of tree.now)) < 2 ^ 32 }
     ensures copy { IfOk result (λ c. probed.start_of c
         ≡ put_start (map_of walk.now.map.now) walk.now.first next.old (plain.start_of tree.now)) }
     ensures next { IfOk result (λ _. next.new
@@ -55,6 +56,9 @@ fn optional(
     next: &mut u32,
     tree: &Option<Expression>,
 ) -> Result<Option<Expression>, AllocError>
+    requires { next.now
+        + roots role.Plain (nodes.optional_test (option_map plain.expression_of tree.now))
+        < 2 ^ 32 }
     ensures copy { IfOk result (λ c. option_map probed.expression_of c
         ≡ put_optional (map_of walk.now.map.now) walk.now.first next.old
         (option_map plain.expression_of tree.now)) }
@@ -76,6 +80,8 @@ fn return_value(
     next: &mut u32,
     tree: &ReturnValue,
 ) -> Result<ReturnValue, AllocError>
+    requires { next.now
+        + roots role.Plain (nodes.return_value (plain.return_value_of tree.now)) < 2 ^ 32 }
     ensures copy { IfOk result (λ c. probed.return_value_of c
         ≡ put_return (map_of walk.now.map.now) walk.now.first next.old
         (plain.return_value_of tree.now)) }
@@ -114,6 +120,10 @@ fn for_head(
     test: &Option<Expression>,
     step: &[Effect],
 ) -> Result<Head, AllocError>
+    requires { next.now
+        + (roots role.Plain (nodes.start (plain.start_of first.now))
+        + roots role.Plain (nodes.optional_test (option_map plain.expression_of test.now))
+        + roots_in (nodes.effects (map plain.effect_of step.now))) < 2 ^ 32 }
     ensures start { IfOk result (λ h. probed.start_of h.start
         ≡ put_start (map_of walk.now.map.now) walk.now.first next.old
         (plain.start_of first.now)) }
@@ -145,6 +155,7 @@ fn statement(
     at: &mut At,
     tree: &Statement,
 ) -> Result<Statement, AllocError>
+    requires { given at.now + taken (plain.statement_of tree.now) < 2 ^ 32 }
     ensures copy { IfOk result (λ c. let m = map_of walk.now.map.now in
         probed.statement_of c
         ≡ put_statement m walk.now.first register (at_of m walk.now.first at.old)
@@ -166,7 +177,7 @@ fn statement(
             Ok(Statement::Compound { items, span: *span })
         }
         Statement::Label { value, span, .. } => {
-            let bit = count(&mut at.label)?;
+            let bit = count(&mut at.label);
             Ok(Statement::Label {
                 value: *value,
                 span: *span,
@@ -178,7 +189,7 @@ fn statement(
             span,
             ..
         } => {
-            let bit = declaration_bit(&mut at.statement, declared)?;
+            let bit = declaration_bit(&mut at.statement, declared);
             let declarators = declarators(walk, &mut at.decision, declared)?;
             Ok(Statement::Declaration {
                 declarators,
@@ -187,7 +198,7 @@ fn statement(
             })
         }
         Statement::Null { span, .. } => {
-            let bit = count(&mut at.statement)?;
+            let bit = count(&mut at.statement);
             Ok(Statement::Null {
                 span: *span,
                 bit: Some(bit),
@@ -198,7 +209,7 @@ fn statement(
             span,
             ..
         } => {
-            let bit = count(&mut at.statement)?;
+            let bit = count(&mut at.statement);
             let effect = effect(walk, &mut at.decision, whole)?;
             Ok(Statement::Effect {
                 effect,
@@ -213,7 +224,7 @@ fn statement(
             span,
             ..
         } => {
-            let bit = count(&mut at.statement)?;
+            let bit = count(&mut at.statement);
             let test = test(walk, &mut at.decision, first)?;
             let chosen = Box::new(walk.alloc, statement(walk, register, at, chosen)?)?;
             Ok(Statement::If {
@@ -232,7 +243,7 @@ fn statement(
             span,
             ..
         } => {
-            let bit = count(&mut at.statement)?;
+            let bit = count(&mut at.statement);
             let test = test(walk, &mut at.decision, first)?;
             let chosen = Box::new(walk.alloc, statement(walk, register, at, chosen)?)?;
             let other = Box::new(walk.alloc, statement(walk, register, at, other)?)?;
@@ -252,9 +263,9 @@ fn statement(
             span,
             ..
         } => {
-            let bit = count(&mut at.statement)?;
-            let own = count(&mut at.switch)?;
-            let absent = absent_mark(&mut at.label, own, items)?;
+            let bit = count(&mut at.statement);
+            let own = count(&mut at.switch);
+            let absent = absent_mark(&mut at.label, own, items);
             let value = expression(walk, &mut at.decision, value)?;
             let value = with_probe(walk.alloc, Probe::Switch { register: own }, value)?;
             let items = statements(walk, own, at, items)?;
@@ -276,7 +287,7 @@ fn statement(
             span,
             ..
         } => {
-            let bit = count(&mut at.statement)?;
+            let bit = count(&mut at.statement);
             let head = for_head(walk, &mut at.decision, first, test, step)?;
             let body = Box::new(walk.alloc, statement(walk, register, at, body)?)?;
             Ok(Statement::For {
@@ -296,7 +307,7 @@ fn statement(
             span,
             ..
         } => {
-            let bit = count(&mut at.statement)?;
+            let bit = count(&mut at.statement);
             let body = Box::new(walk.alloc, statement(walk, register, at, body)?)?;
             let test = test(walk, &mut at.decision, last)?;
             Ok(Statement::DoWhile {
@@ -308,22 +319,22 @@ fn statement(
             })
         }
         Statement::Break { span, .. } => {
-            let bit = count(&mut at.statement)?;
+            let bit = count(&mut at.statement);
             Ok(Statement::Break {
                 span: *span,
                 bit: Some(bit),
             })
         }
         Statement::Continue { span, .. } => {
-            let bit = count(&mut at.statement)?;
+            let bit = count(&mut at.statement);
             Ok(Statement::Continue {
                 span: *span,
                 bit: Some(bit),
             })
         }
         Statement::Return { value, span, .. } => {
-            let bit = count(&mut at.statement)?;
-            let exit = count(&mut at.exit)?;
+            let bit = count(&mut at.statement);
+            let exit = count(&mut at.exit);
             let value = return_value(walk, &mut at.decision, value)?;
             Ok(Statement::Return {
                 value,
@@ -343,6 +354,8 @@ pub(crate) fn statements(
     at: &mut At,
     trees: &[Statement],
 ) -> Result<Vec<Statement>, AllocError>
+    requires { given at.now
+        + taken_by_all (plain.statements_from (map plain.statement_of trees.now)) < 2 ^ 32 }
     ensures copy { IfOk result (λ c. let m = map_of walk.now.map.now in
         probed.statements_from (map probed.statement_of c.items)
         ≡ put_statements m walk.now.first register (at_of m walk.now.first at.old)

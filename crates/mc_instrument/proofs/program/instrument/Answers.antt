@@ -9,7 +9,7 @@ use Rattle.mc_simulation.proofs.Tests.{simulated}
 use Rattle.mc_instrument.proofs.program.instrument.Goals as goal
 
 pub with_probes-requires : goal.with_probes-requires
-with_probes-requires c = c.in-Ok.ensures.is_map.decisions
+with_probes-requires c = c.in-Ok.ensures.is_map
 
 pub returns-clause-instrumented : goal.returns-clause-instrumented
 returns-clause-instrumented c = record {

@@ -6,10 +6,15 @@ use Rattle.mc_probe.specs.BitMaps.{map_of}
 use Rattle.mc_steps.specs.Points.{no_points}
 use Rattle.mc_probe.specs.Table.{put_functions}
 use Rattle.mc_instrument.proofs.Programs.{Copies, IsFit, copied_fits, copied_sound, copied_tree, parts_copied}
+use Rattle.mc_instrument.proofs.Room.{all_counted}
 use Rattle.mc_instrument.proofs.program.with_probes.Goals as goal
 
 pub all_functions-requires-clause-decisions : goal.all_functions-requires-clause-decisions
-all_functions-requires-clause-decisions c = rw c.functions.ensures.functions c.requires
+all_functions-requires-clause-decisions c = rw c.functions.ensures.functions c.requires.decisions
+
+pub all_functions-requires-clause-counted : goal.all_functions-requires-clause-counted
+all_functions-requires-clause-counted c =
+    rw c.functions.ensures.functions (all_counted (program_of c.args.program.now) (map_of c.args.bit_map.now) c.requires)
 
 pub new-copy-requires : goal.new-copy-requires
 new-copy-requires c =

@@ -1,12 +1,17 @@
-use Rattle.mc_instrument.proofs.Rooted.{root_counted}
+use denote.Param.Weighed.{at_most}
+use Rattle.mc_instrument.proofs.Rooted.{root_counted, root_fits}
+use Rattle.mc_instrument.proofs.Room.{logic_copied, plain_logic, probed_logic}
 use Rattle.mc_roots.specs.declared.role.Role.TheVariants as role
 use Rattle.mc_typed.specs.Views as plain
 use Rattle.mc_roots.specs.Nodes as n
 use Rattle.std.proofs.lemmas.Result.{IfOk-weaker}
-use Rattle.std.proofs.Common.{arith, rules}
+use Rattle.std.proofs.Common.{◌∙◌, ap, sym, arith, rules}
+use Rattle.mc_typed.specs.declared.expressions.Argument.{size-Argument}
+use Rattle.mc_probe.specs.Table.{InTree, put}
+use Rattle.mc_probe.specs.Views as probed
 use Rattle.mc_probe.specs.BitMaps.{map_of}
 use Rattle.mc_instrument.proofs.Lists.{begin, next}
-use Rattle.mc_instrument.proofs.Done.{arguments_copied, arguments_counted}
+use Rattle.mc_instrument.proofs.Done.{arguments_copied, arguments_counted, arguments_fit}
 use Rattle.mc_instrument.proofs.copies.expressions.+put.Goals as goal
 
 pub arguments-loop-tree-init : goal.arguments-loop-tree-init
@@ -27,3 +32,27 @@ test-returns-then-is_root_as_test-clause-next t c =
     IfOk-weaker c.root.result _ _
     (λ x h. root_counted role.Test c.args.next.now c.root.new.next (n.expression (plain.expression_of c.args.tree.now)) c.is_root_as_test.result c.is_root_as_test.ensures c.if-is_root_as_test.true h)
     c.root.ensures.next
+
+pub test-root-requires : goal.test-root-requires
+test-root-requires t c = (
+  search rules,
+  root_fits role.Test c.args.next.now (n.expression (plain.expression_of c.args.tree.now)) c.is_root_as_test.result c.is_root_as_test.ensures c.if-is_root_as_test.true c.requires,
+)
+
+pub in_tree-returns-in_ok-right-in-Logic-clause-copy : goal.in_tree-returns-in_ok-right-in-Logic-clause-copy
+in_tree-returns-in_ok-right-in-Logic-clause-copy t c =
+    let first = c.in_ok-in_tree-in-Logic.ensures in
+    let second = c.in_ok-in_tree-in-Logic-2.ensures in
+    probed_logic c.in-Logic.operator c.in_ok-left-in-Logic.left c.in_ok-right-in-Logic.right c.in-Logic.span
+    ∙ (logic_copied c.args.walk.now.map.now c.args.walk.now.first c.args.k c.args.condition.now c.args.next.now _ _ c.in-Logic.operator (plain.expression_of c.in-Logic.left.value) (plain.expression_of c.in-Logic.right.value) c.in-Logic.span _ _
+    (ap probed.expression_of c.in_ok-left-in-Logic.ensures.ok ∙ rw c.deref-in-Logic.ensures at first.copy) (rw c.deref-in-Logic.ensures at first.condition) (rw c.deref-in-Logic.ensures at first.next)
+    (ap probed.expression_of c.in_ok-right-in-Logic.ensures.ok ∙ rw c.deref-in-Logic-2.ensures at second.copy)
+    ∙ ap (put (map_of c.args.walk.now.map.now) c.args.walk.now.first (InTree c.args.k c.args.condition.now) c.args.next.now) (sym (plain_logic c.args.tree.now c.in-Logic.operator c.in-Logic.left c.in-Logic.right c.in-Logic.span c.in-Logic.is)))
+
+pub arguments-argument-requires : goal.arguments-argument-requires
+arguments-argument-requires t c =
+    let low = at_most size-Argument c.args.trees.now c.loop-tree.tree-index c.tree-item.result c.loop-tree-test.true in
+    let same = ap size-Argument c.tree-item.is in (
+      omega (arith, low, same, c.decreases),
+      arguments_fit (map_of c.args.walk.now.map.now) c.args.walk.now.first _ _ _ _ _ _ c.loop-tree-test.true c.tree-item.is c.loop-tree.invariant c.requires,
+    )

@@ -1,11 +1,15 @@
 use Rattle.std.proofs.Common.{arith, rules}
 use Rattle.mc_probe.specs.BitMaps.{map_of}
 use Rattle.mc_instrument.proofs.Lists.{begin, next}
-use Rattle.mc_instrument.proofs.Done.{declarators_copied, declarators_counted}
+use Rattle.mc_instrument.proofs.Done.{declarators_copied, declarators_counted, declarators_fit}
 use Rattle.mc_instrument.proofs.copies.initializers.declarators.Goals as goal
 
 pub loop-tree-init : goal.loop-tree-init
 loop-tree-init c = begin _ _ _ _ _ _ _ (search rules)
+
+pub declarator-requires : goal.declarator-requires
+declarator-requires c =
+    declarators_fit (map_of c.args.walk.now.map.now) c.args.walk.now.first _ _ _ _ _ _ c.loop-tree-test.true c.tree-item.is c.loop-tree.invariant c.requires
 
 pub loop-tree-preserved : goal.loop-tree-preserved
 loop-tree-preserved c =
