@@ -15,11 +15,12 @@ use Rattle.mc_steps.specs.Statements.{Flow, Completed, Broke, Continued, Left, B
 use Rattle.mc_steps.specs.Calls.{store_does, store_structure_does}
 use Rattle.mc_meaning.specs.Stores.{Path, Store, on_places}
 use Rattle.mc_probe.specs.Flat.{Flat, flat, value_in}
-use Rattle.mc_simulation.specs.Laws.{begins, HasParts}
+use Rattle.mc_simulation.specs.Laws.{begins, HasParts, Fills}
 use Rattle.mc_simulation.specs.Follows.{Kept, AreOne, Follows, Does}
 use Rattle.mc_simulation.specs.Activations.{At, IsGiven}
 use Rattle.mc_simulation.proofs.Keep.{same_put, same_zeroed}
-use Rattle.mc_simulation.proofs.Follow.{Equal, SameTruth, stopped, given, next, next_same, changed, some_same, result_same, true_same, spends_same, copy_follows}
+use Rattle.mc_simulation.proofs.Values.{converted_suits, number_fills}
+use Rattle.mc_simulation.proofs.Follow.{Equal, SameTruth, Typed, stopped, given, next, next_same, next_typed, changed, some_same, result_same, true_same, spends_same, copy_follows}
 
 abbrev pub Done : Unit {0} → Unit {0} → Type 0
 Done a b = Unit {0}
@@ -44,19 +45,19 @@ module _ (ms : Members) (rooms : ℕ) (image : Event → List ℕ) (P : ℕ → 
   pub both_follow : (a c : Acts Store Event (Unit {0})) (b d : Acts Flat ℕ (Unit {0})) → Goes Done a b → Goes Done c d → Goes Done (both_do a c) (both_do b d)
   both_follow a c b d h k = next ms rooms image P Done Done a b _ _ h (λ x y r. k)
 
-  pub put_follows : (u : ObjectType) (p : Path) (n j k : ℕ) (x : Option ℤ) → k ≡ cells u → At ms u p n → Goes Done (changes (on_places.put p j x)) (changes (flat.put n k x))
-  put_follows u p n j k x e l =
+  pub put_follows : (u : ObjectType) (p : Path) (n j k : ℕ) (x : Option ℤ) → k ≡ cells u → At ms u p n → Fills u x → Goes Done (changes (on_places.put p j x)) (changes (flat.put n k x))
+  put_follows u p n j k x e l fills =
       changed ms rooms image P (on_places.put p j x) (flat.put n k x) (λ m row r. (one m row r, λ i q. refl))
     where
       one : (m : Store) (row : Flat) → AreOne ms rooms m row → AreOne ms rooms (on_places.put p j x m) (flat.put n k x row)
       one m row r =
           subst (λ (z : ℕ). AreOne ms rooms (on_places.put p j x m) (flat.put n z x row)) (sym e)
-          (record { same = same_put ms m row.cells p u n x r.same l.1; room = r.room })
+          (record { same = same_put ms m row.cells p u n x r.same l.1 fills; room = r.room })
 
-  pub assign_follows : (a : IntType) (target : Acts Store Event Path) (value : Acts Store Event ℤ) (cell : Acts Flat ℕ ℕ) (number : Acts Flat ℕ ℤ) → Goes (At ms (Scalar a)) target cell → Goes Equal value number → Goes Done (assign_does on_places target value) (assign_does flat cell number)
+  pub assign_follows : (a : IntType) (target : Acts Store Event Path) (value : Acts Store Event ℤ) (cell : Acts Flat ℕ ℕ) (number : Acts Flat ℕ ℤ) → Goes (At ms (Scalar a)) target cell → Goes (Typed a) value number → Goes Done (assign_does on_places target value) (assign_does flat cell number)
   assign_follows a target value cell number h k =
       next ms rooms image P (At ms (Scalar a)) Done target cell _ _ h (λ p n l.
-      next_same ms rooms image P Done value number _ _ k (λ x. put_follows (Scalar a) p n 1 1 (Some x) refl l))
+      next_typed ms rooms image P a Done value number _ _ k (λ x i. put_follows (Scalar a) p n 1 1 (Some x) refl l (number_fills a x i)))
 
   abbrev new_value : IntType → Operator → IntType → Path → ℤ → ℤ → Acts Store Event (Unit {0})
   new_value a operator common p y x s =
@@ -72,7 +73,7 @@ module _ (ms : Members) (rooms : ℕ) (image : Event → List ℕ) (P : ℕ → 
       next_same ms rooms image P Done value number _ _ k (λ y s t al.
       subst (λ (o : Option ℤ). Follows ms rooms image (λ a b n. Kept P t.memory n × Done a b) (with_some Unset (s.memory p) (new_value a operator common p y) s) (with_some Unset o (new_cell a operator common n y) t)) (sym (ap value_in (al.memory.same.same p a n l.1)))
       (some_same ms rooms image P Done Unset (s.memory p) (new_value a operator common p y) (new_cell a operator common n y)
-      (λ x. result_same ms rooms image P Done (operated operator common (converted common x) y) _ _ (λ v. put_follows (Scalar a) p n 1 1 (Some (converted a v)) refl l)) s t al)))
+      (λ x. result_same ms rooms image P Done (operated operator common (converted common x) y) _ _ (λ v. put_follows (Scalar a) p n 1 1 (Some (converted a v)) refl l (number_fills a (converted a v) (converted_suits a v)))) s t al)))
 
   pub copied_follows : (u : ObjectType) (k : ℕ) (target value : Acts Store Event Path) (cell number : Acts Flat ℕ ℕ) → k ≡ cells u → Goes (At ms u) target cell → Goes (At ms u) value number → Goes Done (copy_does on_places k target value) (copy_does flat k cell number)
   copied_follows u k target value cell number e h i =
@@ -97,8 +98,8 @@ module _ (ms : Members) (rooms : ℕ) (image : Event → List ℕ) (P : ℕ → 
 
   -- ---- initializers
 
-  pub store_follows : (a : IntType) (p : Path) (n : ℕ) (e : Acts Store Event ℤ) (f : Acts Flat ℕ ℤ) → At ms (Scalar a) p n → Goes Equal e f → Goes Done (store_does on_places p e) (store_does flat n f)
-  store_follows a p n e f l h = next_same ms rooms image P Done e f _ _ h (λ x. put_follows (Scalar a) p n 1 1 (Some x) refl l)
+  pub store_follows : (a : IntType) (p : Path) (n : ℕ) (e : Acts Store Event ℤ) (f : Acts Flat ℕ ℤ) → At ms (Scalar a) p n → Goes (Typed a) e f → Goes Done (store_does on_places p e) (store_does flat n f)
+  store_follows a p n e f l h = next_typed ms rooms image P a Done e f _ _ h (λ x k. put_follows (Scalar a) p n 1 1 (Some x) refl l (number_fills a x k))
 
   pub store_structure_follows : (u : ObjectType) (p : Path) (n k : ℕ) (e : Acts Store Event Path) (f : Acts Flat ℕ ℕ) → k ≡ cells u → At ms u p n → Goes (At ms u) e f → Goes Done (store_structure_does on_places p k e) (store_structure_does flat n k f)
   store_structure_follows u p n k e f is l h =

@@ -1,8 +1,6 @@
 -- The run of a program without probes is the plain run, and hits nothing.
-use Rattle.std.proofs.Common.{◌≡◌, ◌∙◌, refl, sym, ap, subst, ℕ, zero, suc, ◌+◌, ◌<◌, ◌≤◌, ℤ, Bool, true, false, List, [], ◌∷◌, ◌++◌, length, map, sum, take, replicate, flat_map, Option, Some, None, option_map, arith, length-take-le}
-use Rattle.std.specs.Prelude.{slice_get, unwrap_or}
-use Rattle.std.proofs.lemmas.List.{append-nil}
-use Rattle.std.proofs.lemmas.Option.{slice_get_within}
+use Rattle.std.proofs.Common.{◌≡◌, ◌∙◌, refl, sym, ap, subst, ℕ, zero, suc, ◌+◌, ◌<◌, ℤ, List, [], ◌∷◌, ◌++◌, length, map, replicate, Option, Some, None, option_map, arith, length-take-le}
+use Rattle.std.specs.Prelude.{slice_get}
 use Rattle.mc_value.specs.declared.trap.Trap.TheVariants.{NoReturn}
 use Rattle.mc_typed.specs.declared.plans.Ending.TheVariants as ending
 use Rattle.mc_typed.specs.Layout.{ObjectType, Members, cells, cells_all, count, with_last}
@@ -10,9 +8,9 @@ use Rattle.mc_typed.specs.Tree.{ResultType, NoResult, NumberResult, StructureRes
 use Rattle.mc_typed.specs.Sound.{IsSound, IsFunction, scope_of, outermost, result_at, parameters_at}
 use Rattle.mc_typed.specs.Levels.{levels_of}
 use Rattle.mc_typed.specs.Frames.{frame_of}
-use Rattle.mc_typed.specs.Plans.{Call, Plan, CallFits, CallsFit, Fits}
+use Rattle.mc_typed.specs.Plans.{Call, CallFits, CallsFit}
 use Rattle.mc_typed.proofs.Places.{cells_last, count_last}
-use Rattle.mc_steps.specs.Runs.{State, Out, Gave, Stopped, Run, gives, stops, lists, after, with_some}
+use Rattle.mc_steps.specs.Runs.{State, Out, Gave, Stopped, gives, stops, lists, after, with_some}
 use Rattle.mc_steps.specs.Events.{Event, Entered, Exited}
 use Rattle.mc_steps.specs.Statements.{Given, Nothing, Number, Flow, Completed, Broke, Continued, Left, Running}
 use Rattle.mc_steps.specs.Statements as give
@@ -20,21 +18,20 @@ use Rattle.mc_steps.specs.Calls.{Passed, PassedNumber, lent_of, leaves, where_le
 use Rattle.mc_steps.specs.Tests.{TestRun, where_returned, calls_do, value_given}
 use Rattle.mc_steps.specs.Points.{points_before}
 use Rattle.mc_roots.specs.Counts.{roots_before}
-use Rattle.mc_meaning.specs.Stores.{Path, Store, put, on_places, initial}
+use Rattle.mc_meaning.specs.Stores.{Path, Store, put, on_places}
 use Rattle.mc_meaning.specs.Within as plain
 use Rattle.mc_meaning.specs.Within.{Within}
 use Rattle.mc_meaning.specs.Statements.{run_from}
 use Rattle.mc_meaning.specs.Positions.{points_at_end}
 use Rattle.mc_meaning.specs.Calls.{Open, with_one, enter, call_in}
-use Rattle.mc_meaning.specs.Tests.{none_open, call_made, plain_run}
+use Rattle.mc_meaning.specs.Tests.{none_open, call_made}
 use Rattle.mc_probe.specs.Flat.{Flat, Activation, flat, register, hits_some}
 use Rattle.mc_probe.specs.Flat as f
 use Rattle.mc_probe.specs.Tree as p
 use Rattle.mc_probe.specs.Erase.{erase_function}
 use Rattle.mc_probe.specs.Statements as act
 use Rattle.mc_probe.specs.Calls.{entered, left, activation, inside, calls}
-use Rattle.mc_probe.specs.Tests as run
-use Rattle.mc_probe.specs.Tests.{test_call, run_of}
+use Rattle.mc_probe.specs.Tests.{test_call}
 use Rattle.mc_probe.specs.Bare.{bare_function, bare_tree}
 use Rattle.mc_probe.proofs.Backs.{statements_back}
 use Rattle.mc_simulation.specs.Follows.{Kept, Each, AreOne, Alike, Matches, Follows, Does}
@@ -224,7 +221,7 @@ module _ (q : Program) (sound : IsSound q) where
       leave_none r s5 t5 a (Some x) None = record { told = refl; out = (end_alike s5 t5 a, (kept_end s5 t5 a, tt)) }
       leave_none r s5 t5 a (Some x) (Some y) = record { told = refl; out = (end_alike s5 t5 a, (kept_end s5 t5 a, tt)) }
 
-      leave_number : (r : ResultType) (x y : ℤ) → x ≡ y → (s5 : State Store) (t5 : State Flat) → Alike new 0 s5 t5 → (into : Option Path) (to : Option ℕ) → Leaves r (Number x) (Number y) s5 t5 into to
+      leave_number : (r : ResultType) (x y : ℤ) → IsGiven ms r (Number x) (Number y) → (s5 : State Store) (t5 : State Flat) → Alike new 0 s5 t5 → (into : Option Path) (to : Option ℕ) → Leaves r (Number x) (Number y) s5 t5 into to
       leave_number r x y l s5 t5 a None None = record { told = refl; out = (end_alike s5 t5 a, (kept_end s5 t5 a, l)) }
       leave_number r x y l s5 t5 a None (Some j) = record { told = refl; out = (end_alike s5 t5 a, (kept_end s5 t5 a, l)) }
       leave_number r x y l s5 t5 a (Some i) None = record { told = refl; out = (end_alike s5 t5 a, (kept_end s5 t5 a, l)) }

@@ -2,13 +2,14 @@
 use Rattle.std.proofs.Common.{◌≡◌, ◌∙◌, refl, sym, ap, subst, ℕ, zero, suc, ◌+◌, ◌*◌, ◌<◌, ◌≤◌, ◌⊎◌, inl, inr, pos, Bool, true, false, if◌then◌else◌, List, [], ◌∷◌, ◌++◌, Option, Some, None, arith}
 use Rattle.std.specs.Prelude.{slice_get, option_map}
 use Rattle.std.proofs.lemmas.Bool.{cases_lt}
+use Rattle.mc_value.specs.declared.int_type.IntType.{IntType}
 use Rattle.mc_cond.specs.Tree.{Tree}
 use Rattle.mc_typed.specs.declared.probes.Probe as code
 use Rattle.mc_typed.specs.declared.probes.Probe.TheVariants.{Decision}
 use Rattle.mc_typed.specs.Layout.{ObjectType, Scalar, Array, Structure, Members, no_members, members, cells, cells_all, member, start}
 use Rattle.mc_typed.specs.Tree.{Place, Expression, StructureValue, FunctionCall, Effect, Initializer, Initializers, Declarator, ResultType, Object}
 use Rattle.mc_typed.specs.Tree as t
-use Rattle.mc_typed.specs.Sound.{Scope, IsSlotOf, object_type_at, place_type, structure_type, structure_result, IsStructureType, result_at, Takes, IsPlace, IsExpression, IsStructure, IsEffect, AreClauses, IsInitializer, AreElements, AreMembers, IsInitial, AreDeclarators, count_of}
+use Rattle.mc_typed.specs.Sound.{Scope, IsSlotOf, object_type_at, place_type, structure_type, structure_result, IsStructureType, result_at, type_of, Takes, IsPlace, IsExpression, IsStructure, IsEffect, AreClauses, IsInitializer, AreElements, AreMembers, IsInitial, AreDeclarators, count_of}
 use Rattle.mc_typed.proofs.Places.{here, begins, joined, block_fits}
 use Rattle.mc_roots.specs.declared.role.Role.TheVariants.{Test, Plain}
 use Rattle.mc_roots.specs.Nodes.{Node}
@@ -37,9 +38,10 @@ use Rattle.mc_simulation.specs.Related.{whole}
 use Rattle.mc_simulation.specs.Activations.{At}
 use Rattle.mc_simulation.specs.Activations as given_by
 use Rattle.mc_simulation.specs.Expressions.{bit_of, IsValue, Spared}
-use Rattle.mc_simulation.proofs.Follow.{Equal, SameTruth, some_same_value, inside_part, given, keeps_less, choice_follows}
+use Rattle.mc_simulation.proofs.Values.{none_fills, zero_fills}
+use Rattle.mc_simulation.proofs.Follow.{Equal, SameTruth, Typed, some_same_value, inside_part, given, keeps_less, choice_follows}
 use Rattle.mc_simulation.proofs.Decisions.{Goes, spared_more}
-use Rattle.mc_simulation.proofs.Expressions.{Agreed, IsHere, here_left, here_past, none_some, place_follows, number_follows, test_follows, value_tells, structure_follows, call_follows, slot_at}
+use Rattle.mc_simulation.proofs.Expressions.{Agreed, IsHere, here_left, here_past, none_some, place_follows, number_follows, typed_follows, test_follows, value_tells, structure_follows, call_follows, slot_at}
 use Rattle.mc_simulation.proofs.Acts.{Done, drop_follows, both_follow, put_follows, assign_follows, update_follows, copied_follows, output_follows, store_follows, store_structure_follows, rest_follows}
 
 -- ---- parts of objects
@@ -98,6 +100,9 @@ module _ (ms : Members) (rooms : ℕ) (m : Map) (first count : ℕ) (v : Activat
 
   number : (e : Expression) (w : Within) (d : ℕ) → There w → IsExpression e c → Here w.decisions d (trees Plain (n.expression e)) → Acted d Equal (value (value_of e Plain w)) (run.value_of v (put m first (Loose Plain) d e))
   number e w d g k h = number_follows ms rooms m first count v c is room bits e w d g k h
+
+  typed_number : (e : Expression) (a : IntType) (w : Within) (d : ℕ) → There w → IsExpression e c → type_of e ≡ a → Here w.decisions d (trees Plain (n.expression e)) → Acted d (Typed a) (value (value_of e Plain w)) (run.value_of v (put m first (Loose Plain) d e))
+  typed_number e a w d g k same h = typed_follows ms rooms m first count v c is room bits e a w d g k same h
 
   test : (e : Expression) (w : Within) (d : ℕ) → There w → IsExpression e c → Here w.decisions d (trees Test (n.expression e)) → Acted d SameTruth (value (value_of e Test w)) (run.value_of v (put m first (Loose Test) d e))
   test e w d g k h = test_follows ms rooms m first count v c is room bits e w d g k h
@@ -172,8 +177,8 @@ module _ (ms : Members) (rooms : ℕ) (m : Map) (first count : ℕ) (v : Activat
       let rest : List Tree = trees Plain (n.expression e) ++ [] in
       assign_follows ms rooms (bit_of m) (Sparing d) a (place_of q w) (value (value_of e Plain u)) (run.place_of v (put_place m first d q)) (run.value_of v (put m first (Loose Plain) y e))
       (place q (Scalar a) w d g k.1 k.2 (left w.decisions d (trees Plain (n.place q)) rest h))
-      (less d y Equal (value (value_of e Plain u)) (run.value_of v (put m first (Loose Plain) y e)) le
-      (number e u y g k.3 (left u.decisions y (trees Plain (n.expression e)) [] (later w.decisions d (n.place q) rest h))))
+      (less d y (Typed a) (value (value_of e Plain u)) (run.value_of v (put m first (Loose Plain) y e)) le
+      (typed_number e a u y g k.3 k.4 (left u.decisions y (trees Plain (n.expression e)) [] (later w.decisions d (n.place q) rest h))))
   effect_follows (t.Update q a operator common e span) b w d g k h =
       let u : Within = past Plain (n.place q) w in
       let y : ℕ = d + roots Plain (n.place q) in
@@ -264,7 +269,7 @@ module _ (ms : Members) (rooms : ℕ) (m : Map) (first count : ℕ) (v : Activat
   mutual
     initialize_follows : (x : Initializer) (u : ObjectType) (q : Path) (l : ℕ) (w : Within) (d : ℕ) → There w → IsInitializer x u c → At ms u q l → Here w.decisions d (trees Plain (n.initializer x)) → Acted d Done (initialize x q w) (act.initializer_of v (put_initializer m first d x) l)
     initialize_follows (t.NumberInitializer e) (Scalar a) q l w d g k at h =
-        store_follows ms rooms (bit_of m) (Sparing d) a q l (value (value_of e Plain w)) (run.value_of v (put m first (Loose Plain) d e)) at (number e w d g k.0 h)
+        store_follows ms rooms (bit_of m) (Sparing d) a q l (value (value_of e Plain w)) (run.value_of v (put m first (Loose Plain) d e)) at (typed_number e a w d g k.0 k.1 h)
     initialize_follows (t.NumberInitializer e) (Array i u) q l w d g k at h = absurd k
     initialize_follows (t.NumberInitializer e) (Structure i us) q l w d g k at h = absurd k
     initialize_follows (t.StructureInitializer x i) u q l w d g k at h =
@@ -275,7 +280,7 @@ module _ (ms : Members) (rooms : ℕ) (m : Map) (first count : ℕ) (v : Activat
     initialize_follows (t.ListInitializer items i) (Structure j us) q l w d g k at h =
         members_follow items us j us 0 0 0 i q l w d g k.1 (λ b. ap (member us) (omega arith)) (first_begins us) k.0 at h
     initialize_follows (t.ZeroInitializer e i) u q l w d g k at h =
-        put_follows ms rooms (bit_of m) (Sparing d) u q l i i (Some (pos 0)) k.0 at
+        put_follows ms rooms (bit_of m) (Sparing d) u q l i i (Some (pos 0)) k.0 at (zero_fills u)
 
     elements_follow : (items : Initializers) (u : ObjectType) (j i o offset whole' : ℕ) (q : Path) (l : ℕ) (w : Within) (d : ℕ) → There w → AreElements items u c → i + count_of items ≤ j → offset ≡ i * cells u → whole' ≡ cells (Array j u) → At ms (Array j u) q l → Here w.decisions d (trees_in (n.initializers items)) → Acted d Done (initialize_from items q i w) (act.items_of v (put_initializers m first d items) l o offset whole')
     elements_follow t.no_initializers u j i o offset size q l w d g k few at_offset is at h =
@@ -342,7 +347,7 @@ module _ (ms : Members) (rooms : ℕ) (m : Map) (first count : ℕ) (v : Activat
           let size : x.cells ≡ cells u = sym (some_same_value o.cells x.cells b) ∙ g.sizes x.slot.object o e in
           let has : IsInitial x.value (Some u) c = subst (λ (i : Option ObjectType). IsInitial x.value i c) typed k.0.2 in
           both_follow ms rooms (bit_of m) (Sparing d) (unset_does on_places q x.cells) (both_do (initialize_where x.value q w) (declare rest y)) (unset_does flat l x.cells) (both_do (act.initial_of v (put_initial m first d x.value) l) (act.declarators_of v (put_declarators m first z rest)))
-          (put_follows ms rooms (bit_of m) (Sparing d) u q l x.cells x.cells None size at)
+          (put_follows ms rooms (bit_of m) (Sparing d) u q l x.cells x.cells None size at (none_fills u))
           (both_follow ms rooms (bit_of m) (Sparing d) (initialize_where x.value q w) (declare rest y) (act.initial_of v (put_initial m first d x.value) l) (act.declarators_of v (put_declarators m first z rest))
           (initial_follows x.value u q l w d g has at (left w.decisions d (trees Plain (n.initial x.value)) (trees_in (n.declarators rest)) h))
           (less d z Done (declare rest y) (act.declarators_of v (put_declarators m first z rest)) le others))

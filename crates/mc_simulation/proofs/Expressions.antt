@@ -2,6 +2,7 @@
 use Rattle.std.proofs.Common.{◌≡◌, ◌∙◌, refl, sym, ap, subst, ℕ, zero, suc, ◌+◌, ◌<◌, ◌≤◌, ℤ, Bool, true, false, List, [], ◌∷◌, ◌++◌, length, map, Option, Some, None, arith, length-append, append-nil}
 use Rattle.std.specs.Prelude.{slice_get, unwrap_or, option_map}
 use Rattle.mc_value.specs.declared.int_type.IntType.{IntType}
+use Rattle.mc_value.specs.declared.int_type.IntType.TheVariants.{Int}
 use Rattle.mc_value.specs.declared.operators.BinOp.{BinOp}
 use Rattle.mc_value.specs.declared.operators.BinOp.TheVariants as bin
 use Rattle.mc_value.specs.Arithmetic.{truth, binary_of}
@@ -14,7 +15,7 @@ use Rattle.mc_typed.specs.declared.operators.Operator.TheVariants.{Binary, Shift
 use Rattle.mc_typed.specs.Layout.{ObjectType, Scalar, Array, Structure, Members, cells, member, start}
 use Rattle.mc_typed.specs.Tree.{Place, Expression, StructureValue, FunctionCall, Argument, Arguments, ParameterType, NumberParameter, StructureParameter, ArrayParameter, ResultType, NoResult, NumberResult, StructureResult, Object}
 use Rattle.mc_typed.specs.Tree as t
-use Rattle.mc_typed.specs.Sound.{Scope, IsSlotOf, cells_at, place_type, structure_type, structure_result, element_of, length_of, member_of, offset_of, result_at, parameters_at, Takes, IsPlace, IsExpression, IsStructure, IsCall, IsStructureCall, IsArgument, AreArguments}
+use Rattle.mc_typed.specs.Sound.{Scope, IsSlotOf, cells_at, place_type, structure_type, structure_result, element_of, length_of, member_of, offset_of, operator_type, result_at, parameters_at, type_of, Takes, IsPlace, IsExpression, IsStructure, IsCall, IsStructureCall, IsArgument, AreArguments}
 use Rattle.mc_roots.specs.declared.role.Role.{Role}
 use Rattle.mc_roots.specs.declared.role.Role.TheVariants.{Test, Inner, Plain}
 use Rattle.mc_roots.specs.Nodes.{Node, Parts, is_comparison}
@@ -22,7 +23,7 @@ use Rattle.mc_roots.specs.Nodes as n
 use Rattle.mc_roots.specs.Roots.{is_root, is_boolean, operand_role}
 use Rattle.mc_roots.specs.Conditions.{width, tree_from, is_operator}
 use Rattle.mc_roots.specs.Counts.{one_where, roots}
-use Rattle.mc_steps.specs.Runs.{gives, after, with_result}
+use Rattle.mc_steps.specs.Runs.{State, gives, after, with_result}
 use Rattle.mc_steps.specs.Memories.{Lent}
 use Rattle.mc_steps.specs.Events.{Event}
 use Rattle.mc_steps.specs.Expressions.{operated, lent_item_does, read_does, unary_does, binary_does, logic_does, choice_does, as_does, input_does}
@@ -34,7 +35,7 @@ use Rattle.mc_meaning.specs.Within.{Within, local, static, target}
 use Rattle.mc_meaning.specs.Positions.{past, into}
 use Rattle.mc_meaning.specs.Decisions.{Judged, value, as_condition, negated, holds, first_alone, both}
 use Rattle.mc_meaning.specs.Expressions.{place_of, value_of, structure_of, call_of, argument_of, arguments_of}
-use Rattle.mc_meaning.proofs.Runs.{Gives, given_then}
+use Rattle.mc_meaning.proofs.Runs.{IsGiven, Gives, given_then}
 use Rattle.mc_meaning.proofs.Vectors.{not_gives, logic_gives, value_is}
 use Rattle.mc_meaning.proofs.Numbered.{own, trees, trees_in, trees_length, own_length, StandsAt, stands_left, stands_right}
 use Rattle.mc_probe.specs.Flat.{Flat, Activation, flat}
@@ -43,11 +44,13 @@ use Rattle.mc_probe.specs.Tree as p
 use Rattle.mc_probe.specs.Expressions as run
 use Rattle.mc_probe.specs.Maps.{Mapped, Map, IsMap, AreBased, first_path}
 use Rattle.mc_probe.specs.Table.{Stand, Loose, InTree, role_of, operand, beside, inner, round, put, put_place, put_structure, put_call, put_argument, put_arguments}
-use Rattle.mc_simulation.specs.Follows.{Kept, Each}
+use Rattle.mc_simulation.specs.Related.{Suits}
+use Rattle.mc_simulation.specs.Follows.{Kept, Each, Alike}
 use Rattle.mc_simulation.specs.Activations.{At, AreLent, IsPassed, ArePassed, IsInto, Agrees}
 use Rattle.mc_simulation.specs.Activations as act
 use Rattle.mc_simulation.specs.Expressions.{bit_of, IsValue, Stands, Spared}
-use Rattle.mc_simulation.proofs.Follow.{Equal, SameTruth, some_same_value, plain_as, keeps_less, given, next, item_follows, lent_item_follows, member_follows, read_follows, unary_follows, convert_follows, binary_follows, choice_follows, input_follows, number_argument_follows, structure_argument_follows, array_argument_follows, again_argument_follows, arguments_follow, number_given_follows, structure_given_follows}
+use Rattle.mc_simulation.proofs.Values.{ranged_suits, promoted_suits, operator_suits, all_given, condition_given, value_given, converted_given}
+use Rattle.mc_simulation.proofs.Follow.{Equal, SameTruth, Typed, Suited, some_same_value, plain_as, keeps_less, given, next, typed, read_suits, call_suits, item_follows, lent_item_follows, member_follows, read_follows, unary_follows, convert_follows, binary_follows, choice_follows, input_follows, number_argument_follows, structure_argument_follows, array_argument_follows, again_argument_follows, arguments_follow, number_given_follows, structure_given_follows}
 use Rattle.mc_simulation.proofs.Decisions.{IsBit, truth_true, no_root, Shows, Goes, IsRootOf, spared_more, not_tells, logic_tells, inner_is, role_same, stands_inside, operator_wraps, condition_wraps, negated_flag, logic_flag, any_given}
 
 -- ---- what soundness says of options
@@ -280,8 +283,19 @@ module _ (ms : Members) (rooms : ℕ) (m : Map) (first count : ℕ) (v : Activat
     made_structure : (k : FunctionCall) → IsStructureCall k c → IsMade k
     made_structure (t.call called given' result span) h = (h.0, h.1, h.3)
 
+    made_gives : (k : FunctionCall) (r : ResultType) → IsCall k c r → gives_of k ≡ r
+    made_gives (t.call called given' result span) r h = h.3
+
     structure_given_by : (k : FunctionCall) (u : ObjectType) → structure_type c (t.Returned k) ≡ Some u → structure_result (gives_of k) ≡ Some u
     structure_given_by (t.call called given' result span) u e = e
+
+    -- an operand that is no test, and suits its type
+    typed_number : (e : Expression) (a : IntType) (w : Within) (d : ℕ) → type_of e ≡ a → Seen (Loose Plain) d (width (n.expression e)) (value_of e Plain w) (run.value_of v (put m first (Loose Plain) d e)) → ((s : State Store) (z : State Flat) → Alike ms rooms s z → IsGiven (λ j. Suits (type_of e) j.value) (value_of e Plain w s).out) → Acted d (Typed a) (value (value_of e Plain w)) (run.value_of v (put m first (Loose Plain) d e))
+    typed_number e a w d same k suits =
+        typed ms rooms (bit_of m) (Spared ms rooms m first count v d) a (value (value_of e Plain w)) (run.value_of v (put m first (Loose Plain) d e))
+        (plain_number d (width (n.expression e)) (value_of e Plain w) (run.value_of v (put m first (Loose Plain) d e)) k)
+        (subst (λ (b : IntType). Suited ms rooms (bit_of m) b (value (value_of e Plain w))) same
+        (λ s z al. value_given (Suits (type_of e)) (value_of e Plain w) s (suits s z al)))
 
     mutual
       pub place_follows : (q : Place) (u : ObjectType) (w : Within) (d : ℕ) → Agreed w → IsPlace q c → place_type c q ≡ Some u → IsHere w.decisions d (trees Plain (n.place q)) → Acted d (At ms u) (place_of q w) (run.place_of v (put_place m first d q))
@@ -420,6 +434,42 @@ module _ (ms : Members) (rooms : ℕ) (m : Map) (first count : ℕ) (v : Activat
           one_condition st d (t.Input span) w (λ w. input_does) (p.Input span) [] refl (λ k. refl) ok h (λ e. no_root e)
           (λ h. input_follows ms rooms (bit_of m) (Spared ms rooms m first count v (inner st d (n.expression (t.Input span)))))
 
+      -- what an expression gives suits its type
+      pub value_suits : (e : Expression) (st : Stand) (w : Within) (d : ℕ) → Agreed w → IsExpression e c → IsHere w.decisions d (trees (role_of st) (n.expression e)) → (s : State Store) (z : State Flat) → Alike ms rooms s z → IsGiven (λ j. Suits (type_of e) j.value) (value_of e (role_of st) w s).out
+      value_suits (t.Constant x a span) st w d g k h s z al =
+          condition_given (Suits a) (role_of st) (t.Constant x a span) w (λ w. gives x) s (ranged_suits a x k)
+      value_suits (t.Read place a) st w d g k h s z al =
+          let b : Node = n.expression (t.Read place a) in
+          let y : ℕ = inner st d b in
+          let x : Within = into (role_of st) (t.Read place a) w in
+          condition_given (Suits a) (role_of st) (t.Read place a) w (λ w. read_does on_places (place_of place w)) s
+          (read_suits ms rooms (bit_of m) (Spared ms rooms m first count v y) a (place_of place x) (run.place_of v (put_place m first y place))
+          (place_follows place (Scalar a) x y g k.0 k.1 (here_left x.decisions y (trees Plain (n.place place)) [] (here_inside st w.decisions d b (trees Plain (n.place place) ++ []) h))) s z al)
+      value_suits (t.Unary operator a e span) st w d g k h s z al =
+          all_given (λ j. Suits a j.value) (value_of (t.Unary operator a e span) (role_of st) w s).out (λ j. promoted_suits a j.value k.1)
+      value_suits (t.Convert a written e span) st w d g k h s z al =
+          let x : Within = into (role_of st) (t.Convert a written e span) w in
+          condition_given (Suits a) (role_of st) (t.Convert a written e span) w (λ w. as_does (converted a) (value (value_of e Plain w))) s
+          (converted_given a (value (value_of e Plain x)) s)
+      value_suits (t.Not e span) st w d g k h s z al =
+          all_given (λ j. Suits Int j.value) (value_of (t.Not e span) (role_of st) w s).out (λ j. tt)
+      value_suits (t.Binary operator a e i span) st w d g k h s z al =
+          all_given (λ j. Suits (operator_type operator a) j.value) (value_of (t.Binary operator a e i span) (role_of st) w s).out
+          (λ j. operator_suits operator a (type_of e) (type_of i) j.value k.2)
+      value_suits (t.Logic operator e i span) st w d g k h s z al =
+          all_given (λ j. Suits Int j.value) (value_of (t.Logic operator e i span) (role_of st) w s).out (λ j. tt)
+      value_suits (t.Choice e i j a span) st w d g k h s z al =
+          all_given (λ j. Suits a j.value) (value_of (t.Choice e i j a span) (role_of st) w s).out (λ j. promoted_suits a j.value k.3)
+      value_suits (t.Call i a) st w d g k h s z al =
+          let b : Node = n.expression (t.Call i a) in
+          let y : ℕ = inner st d b in
+          let x : Within = into (role_of st) (t.Call i a) w in
+          condition_given (Suits a) (role_of st) (t.Call i a) w (λ w s. after (call_of i w s) number_given) s
+          (call_suits ms rooms (bit_of m) (Spared ms rooms m first count v y) a (gives_of i) (call_of i x) (run.call_of v (put_call m first y i)) (made_gives i (NumberResult a) k)
+          (call_follows i x y g (made_call i (NumberResult a) k) (here_inside st w.decisions d b (trees_in (n.call_parts i)) h)) s z al)
+      value_suits (t.Input span) st w d g k h s z al =
+          all_given (λ j. Suits Int j.value) (value_of (t.Input span) (role_of st) w s).out (λ j. tt)
+
       pub structure_follows : (q : StructureValue) (u : ObjectType) (w : Within) (d : ℕ) → Agreed w → IsStructure q c → structure_type c q ≡ Some u → IsHere w.decisions d (trees Plain (n.structure q)) → Acted d (At ms u) (structure_of q w) (run.structure_of v (put_structure m first d q))
       structure_follows (t.Stored place) u w d g k e h = place_follows place u w d g k.0 e h
       structure_follows (t.Returned i) u w d g k e h =
@@ -440,7 +490,8 @@ module _ (ms : Members) (rooms : ℕ) (m : Map) (first count : ℕ) (v : Activat
 
       argument_tells : (q : Argument) (a : ParameterType) (w : Within) (d : ℕ) → Agreed w → IsArgument q a c → IsHere w.decisions d (trees Plain (n.argument q)) → Acted d (IsPassed ms a) (argument_of q w) (run.argument_of v (put_argument m first d q))
       argument_tells (t.NumberArgument e) (NumberParameter a) w d g k h =
-          number_argument_follows ms rooms (bit_of m) (Spared ms rooms m first count v d) a (value (value_of e Plain w)) (run.value_of v (put m first (Loose Plain) d e)) (plain_number d (width (n.expression e)) (value_of e Plain w) (run.value_of v (put m first (Loose Plain) d e)) (value_tells e (Loose Plain) w d g k.0 tt h))
+          number_argument_follows ms rooms (bit_of m) (Spared ms rooms m first count v d) a (value (value_of e Plain w)) (run.value_of v (put m first (Loose Plain) d e))
+          (typed_number e a w d k.1 (value_tells e (Loose Plain) w d g k.0 tt h) (value_suits e (Loose Plain) w d g k.0 h))
       argument_tells (t.NumberArgument e) (StructureParameter u) w d g k h = absurd k
       argument_tells (t.NumberArgument e) (ArrayParameter u) w d g k h = absurd k
       argument_tells (t.StructureArgument q copy) (StructureParameter u) w d g k h =
@@ -477,6 +528,11 @@ module _ (ms : Members) (rooms : ℕ) (m : Map) (first count : ℕ) (v : Activat
     pub number_follows : (e : Expression) (w : Within) (d : ℕ) → Agreed w → IsExpression e c → IsHere w.decisions d (trees Plain (n.expression e)) → Acted d Equal (value (value_of e Plain w)) (run.value_of v (put m first (Loose Plain) d e))
     number_follows e w d g k h =
         plain_number d (width (n.expression e)) (value_of e Plain w) (run.value_of v (put m first (Loose Plain) d e)) (value_tells e (Loose Plain) w d g k tt h)
+
+    -- the same, as a number of its type
+    pub typed_follows : (e : Expression) (a : IntType) (w : Within) (d : ℕ) → Agreed w → IsExpression e c → type_of e ≡ a → IsHere w.decisions d (trees Plain (n.expression e)) → Acted d (Typed a) (value (value_of e Plain w)) (run.value_of v (put m first (Loose Plain) d e))
+    typed_follows e a w d g k same h =
+        typed_number e a w d same (value_tells e (Loose Plain) w d g k tt h) (value_suits e (Loose Plain) w d g k h)
 
     pub test_follows : (e : Expression) (w : Within) (d : ℕ) → Agreed w → IsExpression e c → IsHere w.decisions d (trees Test (n.expression e)) → Acted d SameTruth (value (value_of e Test w)) (run.value_of v (put m first (Loose Test) d e))
     test_follows e w d g k h =

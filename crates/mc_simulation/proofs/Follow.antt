@@ -19,10 +19,11 @@ use Rattle.mc_steps.specs.Memories.{Lent}
 use Rattle.mc_steps.specs.Events.{Event}
 use Rattle.mc_steps.specs.Expressions.{operated, is_true, where_true, with_index, item_does, lent_item_does, read_does, unary_does, binary_does, goes_on, logic_does, choice_does, as_does, with_input, input_does}
 use Rattle.mc_steps.specs.Calls.{Passed, PassedNumber, PassedStructure, PassedArray, Target, structure_argument_does, again_argument_does, arguments_do, number_given, structure_given}
-use Rattle.mc_typed.specs.Tree.{ParameterType, NumberParameter, StructureParameter, ArrayParameter, ResultType}
+use Rattle.mc_typed.specs.Tree.{ParameterType, NumberParameter, StructureParameter, ArrayParameter, ResultType, NumberResult}
 use Rattle.mc_meaning.specs.Stores.{Path, Store, on_places}
+use Rattle.mc_meaning.proofs.Runs as outs
 use Rattle.mc_probe.specs.Flat.{Flat, flat, value_in}
-use Rattle.mc_simulation.specs.Related.{whole}
+use Rattle.mc_simulation.specs.Related.{whole, Suits, MayHold}
 use Rattle.mc_simulation.specs.Follows.{Kept, AreOne, Alike, Matches, Follows, Does}
 use Rattle.mc_typed.specs.Sound.{structure_result}
 use Rattle.mc_steps.specs.Statements.{Given, Nothing, Number}
@@ -35,6 +36,10 @@ Equal x y = y ≡ x
 
 abbrev pub SameTruth : ℤ → ℤ → Type 0
 SameTruth x y = is_true y ≡ is_true x
+
+-- the same number, which suits the type
+abbrev pub Typed : IntType → ℤ → ℤ → Type 0
+Typed a x y = (y ≡ x) × Suits a x
 
 pub some_same_value : {A : Type 0} (x y : A) → Some x ≡ Some y → x ≡ y
 some_same_value x y e = cc
@@ -93,6 +98,10 @@ module _ (ms : Members) (rooms : ℕ) (image : Event → List ℕ) where
       weaker (λ a b n. Kept P t.memory n × v a b) (λ a b n. Kept Q t.memory n × v a b) (f s) (g t)
       (λ a b n l. ((λ r q. l.0 r (k r q)), l.1)) (h s t a)
 
+  -- what is given suits the type, from each two states that are alike
+  abbrev pub Suited : IntType → Acts Store Event ℤ → Type 0
+  Suited a f = (s : State Store) (t : State Flat) → Alike ms rooms s t → outs.IsGiven (Suits a) (f s).out
+
   module _ (P : ℕ → Type 0) where
     abbrev Goes : {A B : Type 0} → (A → B → Type 0) → Acts Store Event A → Acts Flat ℕ B → Type 0
     Goes v f g = Does ms rooms image P v f g
@@ -117,6 +126,51 @@ module _ (ms : Members) (rooms : ℕ) (image : Event → List ℕ) where
     pub next_same : {A C D : Type 0} (w : C → D → Type 0) (f : Acts Store Event A) (g : Acts Flat ℕ A) (x : A → Acts Store Event C) (y : A → Acts Flat ℕ D) → Goes Equal f g → ((a : A) → Goes w (x a) (y a)) → Goes w (λ s. after (f s) x) (λ t. after (g t) y)
     next_same w f g x y h k =
         next Equal w f g x y h (λ a b e. subst (λ z. Goes w (x a) (y z)) (sym e) (k a))
+
+    -- ---- numbers that suit a type
+
+    typed_out : (a : IntType) (old : Flat) (o : Out Store ℤ) (q : Out Flat ℤ) → outs.IsGiven (Suits a) o → Matches ms rooms (λ x y n. Kept P old n × Equal x y) o q → Matches ms rooms (λ x y n. Kept P old n × Typed a x y) o q
+    typed_out a old (Gave x s) (Gave y t) g h = (h.0, (h.1.0, (h.1.1, g)))
+    typed_out a old (Stopped e s) (Stopped x t) g h = h
+    typed_out a old (Gave x s) (Stopped e t) g h = h
+    typed_out a old (Stopped e s) (Gave y t) g h = h
+
+    pub typed : (a : IntType) (f : Acts Store Event ℤ) (g : Acts Flat ℕ ℤ) → Goes Equal f g → Suited a f → Goes (Typed a) f g
+    typed a f g h k s t al =
+        let r = h s t al in
+        record { told = r.told; out = typed_out a t.memory (f s).out (g t).out (k s t al) r.out }
+
+    pub next_typed : {C D : Type 0} (a : IntType) (w : C → D → Type 0) (f : Acts Store Event ℤ) (g : Acts Flat ℕ ℤ) (x : ℤ → Acts Store Event C) (y : ℤ → Acts Flat ℕ D) → Goes (Typed a) f g → ((v : ℤ) → Suits a v → Goes w (x v) (y v)) → Goes w (λ s. after (f s) x) (λ t. after (g t) y)
+    next_typed a w f g x y h k =
+        next (Typed a) w f g x y h (λ v u e. subst (λ z. Goes w (x v) (y z)) (sym e.0) (k v e.1))
+
+    held_suits : (a : IntType) (o : Option ℤ) (s : State Store) → MayHold a o → outs.IsGiven (Suits a) (with_some {E = Event} Unset o gives s).out
+    held_suits a None s h = tt
+    held_suits a (Some v) s h = h
+
+    read_out : (a : IntType) (old : Flat) (o : Out Store Path) (q : Out Flat ℕ) → Matches ms rooms (λ p n z. Kept P old z × At ms (Scalar a) p n) o q → outs.IsGiven (Suits a) (go_on {E = Event} o (λ p s. with_some Unset (s.memory p) gives s)).out
+    read_out a old (Gave p s) (Gave n t) h = held_suits a (s.memory p) s (h.0.memory.same.held p a n h.1.1.1)
+    read_out a old (Gave p s) (Stopped e t) h = absurd h
+    read_out a old (Stopped e s) q h = tt
+
+    -- a scalar that is read
+    pub read_suits : (a : IntType) (place : Acts Store Event Path) (cell : Acts Flat ℕ ℕ) → Goes (At ms (Scalar a)) place cell → Suited a (read_does on_places place)
+    read_suits a place cell h s t al = read_out a t.memory (place s).out (cell t).out (h s t al).out
+
+    call_out : (a : IntType) (old : Flat) (o : Out Store (Given Path)) (q : Out Flat (Given ℕ)) → Matches ms rooms (λ x y z. Kept P old z × IsGiven ms (NumberResult a) x y) o q → outs.IsGiven (Suits a) (go_on {E = Event} o number_given).out
+    call_out a old (Gave Nothing s) q h = tt
+    call_out a old (Gave (give.Structure p k) s) q h = tt
+    call_out a old (Gave (Number x) s) (Gave (Number y) t) h = h.1.1.1
+    call_out a old (Gave (Number x) s) (Gave Nothing t) h = absurd h.1.1
+    call_out a old (Gave (Number x) s) (Gave (give.Structure n l) t) h = absurd h.1.1
+    call_out a old (Gave (Number x) s) (Stopped e t) h = absurd h
+    call_out a old (Stopped e s) q h = tt
+
+    -- what a function gives
+    pub call_suits : (a : IntType) (r : ResultType) (call : Acts Store Event (Given Path)) (cell : Acts Flat ℕ (Given ℕ)) → r ≡ NumberResult a → Goes (IsGiven ms r) call cell → Suited a (λ s. after (call s) number_given)
+    call_suits a r call cell e h s t al =
+        call_out a t.memory (call s).out (cell t).out
+        (subst (λ (r : ResultType). Goes (IsGiven ms r) call cell) e h s t al).out
 
     pub changed : (f : Store → Store) (g : Flat → Flat) → ((m : Store) (n : Flat) → AreOne ms rooms m n → AreOne ms rooms (f m) (g n) × Kept P n (g n)) → Goes (λ a b. Unit {0}) (changes f) (changes g)
     changed f g k s t h =
@@ -236,9 +290,9 @@ module _ (ms : Members) (rooms : ℕ) (image : Event → List ℕ) where
 
     -- ---- arguments
 
-    pub number_argument_follows : (a : IntType) (e : Acts Store Event ℤ) (f : Acts Flat ℕ ℤ) → Goes Equal e f → Goes (IsPassed ms (NumberParameter a)) (as_does PassedNumber e) (as_does PassedNumber f)
+    pub number_argument_follows : (a : IntType) (e : Acts Store Event ℤ) (f : Acts Flat ℕ ℤ) → Goes (Typed a) e f → Goes (IsPassed ms (NumberParameter a)) (as_does PassedNumber e) (as_does PassedNumber f)
     number_argument_follows a e f h =
-        next_same (IsPassed ms (NumberParameter a)) e f _ _ h (λ x. given (IsPassed ms (NumberParameter a)) (PassedNumber x) (PassedNumber x) refl)
+        next_typed a (IsPassed ms (NumberParameter a)) e f _ _ h (λ x k. given (IsPassed ms (NumberParameter a)) (PassedNumber x) (PassedNumber x) (refl, k))
 
     copied_is_one : (u : ObjectType) (o p : Path) (from to k : ℕ) → k ≡ cells u → At ms u o from → At ms u p to → (m : Store) (n : Flat) → AreOne ms rooms m n → AreOne ms rooms (on_places.copy o p 0 m) (flat.copy from to k n)
     copied_is_one u o p from to k e g h m n r =
@@ -274,7 +328,7 @@ module _ (ms : Members) (rooms : ℕ) (image : Event → List ℕ) where
 
     pub number_given_follows : (r : ResultType) (a : Given Path) (b : Given ℕ) → IsGiven ms r a b → Goes Equal (number_given a) (number_given b)
     number_given_follows r Nothing Nothing h = stopped Equal _
-    number_given_follows r (Number x) (Number y) h = given Equal x y (sym h)
+    number_given_follows r (Number x) (Number y) h = given Equal x y (sym h.0)
     number_given_follows r (give.Structure p k) (give.Structure n l) h = stopped Equal _
     number_given_follows r Nothing (Number y) h = absurd h
     number_given_follows r Nothing (give.Structure n l) h = absurd h

@@ -16,6 +16,7 @@ use Rattle.mc_probe.specs.Flat.{Flat, flat}
 use Rattle.mc_probe.specs.Calls.{targets}
 use Rattle.mc_simulation.specs.Follows.{AreOne}
 use Rattle.mc_simulation.specs.Activations.{At, AreLent, IsPassed, ArePassed}
+use Rattle.mc_simulation.proofs.Values.{number_fills}
 use Rattle.mc_simulation.proofs.Keep.{same_put, same_copy, same_enter}
 use Rattle.mc_simulation.proofs.Rows.{get_old, get_take}
 use Rattle.mc_simulation.proofs.Follow.{some_same_value}
@@ -125,8 +126,8 @@ module _ (new : Members) (rooms activation base : ℕ) where
   bound (NumberParameter a ∷ ps) (o ∷ os) k (PassedNumber v ∷ xs) (PassedNumber w ∷ ys) m n s b h r =
       let f = first_at k o os (Scalar a) s b.0 in
       let one : AreOne new rooms (on_places.put (activation ∷ k ∷ []) 1 (Some v) m) (flat.put (base + o.start) 1 (Some w) n) =
-      subst (λ (z : ℤ). AreOne new rooms (on_places.put (activation ∷ k ∷ []) 1 (Some v) m) (flat.put (base + o.start) 1 (Some z) n)) h.0
-      (record { same = same_put new m n.cells (activation ∷ k ∷ []) (Scalar a) (base + o.start) (Some v) r.same f.0.1; room = r.room }) in
+      subst (λ (z : ℤ). AreOne new rooms (on_places.put (activation ∷ k ∷ []) 1 (Some v) m) (flat.put (base + o.start) 1 (Some z) n)) h.0.0
+      (record { same = same_put new m n.cells (activation ∷ k ∷ []) (Scalar a) (base + o.start) (Some v) r.same f.0.1 (number_fills a v h.0.1); room = r.room }) in
       bound ps os (suc k) xs ys _ _ (next_stand k o os s) b.1 h.1 one
   bound (NumberParameter a ∷ ps) (o ∷ os) k (PassedNumber v ∷ xs) (PassedStructure w ∷ ys) m n s b h r = absurd h.0
   bound (NumberParameter a ∷ ps) (o ∷ os) k (PassedNumber v ∷ xs) (PassedArray w ∷ ys) m n s b h r = absurd h.0

@@ -10,8 +10,9 @@ use Rattle.mc_typed.specs.Laws.{GoesThroughLast}
 use Rattle.mc_typed.proofs.Places.{same_refl, false_true, not_array, not_struct, block_fits, within, within_in, apart, split, joined, cells_last, still_in, last_or}
 use Rattle.mc_cells.specs.Rows.{filled, moved}
 use Rattle.mc_meaning.specs.Stores.{Store, put, starts_from, zeroed, copied}
-use Rattle.mc_simulation.specs.Related.{whole, Same}
-use Rattle.mc_simulation.specs.Laws.{begins, HasParts, StoresAreKept}
+use Rattle.mc_simulation.specs.Related.{whole, MayHold, Same}
+use Rattle.mc_simulation.specs.Laws.{begins, HasParts, Fills, StoresAreKept}
+use Rattle.mc_simulation.proofs.Values.{zero_fills}
 use Rattle.mc_simulation.proofs.Rows.{length_filled, get_filled_in, get_filled_under, get_filled_over, get_moved_in, get_moved_under, get_moved_over, length_moved, get_new, get_old, get_take}
 
 -- ---- what stands at a place after a change
@@ -40,9 +41,15 @@ zeroed_is : (p q : List ℕ) (i : ℕ) (m : Store) (c : Bool) → (is_below p q 
 zeroed_is p q i m c e = ap (zero_where m q) e
 
 -- one value in a whole object: a write, a declaration
-pub same_put : (ms : Members) (m : Store) (row : List (Option ℤ)) (p : List ℕ) (u : ObjectType) (n : ℕ) (x : Option ℤ) → Same ms m row → Leads (whole ms) p u n → Same ms (put p x m) (filled n (cells u) x row)
-same_put ms m row p u n x h l = record { room = length_filled x n (cells u) row room ∙ h.room; same = each }
+pub same_put : (ms : Members) (m : Store) (row : List (Option ℤ)) (p : List ℕ) (u : ObjectType) (n : ℕ) (x : Option ℤ) → Same ms m row → Leads (whole ms) p u n → Fills u x → Same ms (put p x m) (filled n (cells u) x row)
+same_put ms m row p u n x h l fills = record { room = length_filled x n (cells u) row room ∙ h.room; same = each; held = λ q a k g. suits q a k g (cases_Bool (is_below p q)) }
   where
+    suits : (q : List ℕ) (a : IntType) (k : ℕ) → Leads (whole ms) q (Scalar a) k → (is_below p q ≡ true) ⊎ (is_below p q ≡ false) → MayHold a (put p x m q)
+    suits q a k g (inl b) =
+        let z = split (whole ms) p u n q a k l g b in
+        subst (λ (o : Option ℤ). MayHold a o) (sym (put_in p q x m b)) (fills (rest p q) a z.0 z.1)
+    suits q a k g (inr b) = subst (λ (o : Option ℤ). MayHold a o) (sym (put_out p q x m b)) (h.held q a k g)
+
     room : n + cells u ≤ length row
     room = omega (arith, within (whole ms) p u n l, h.room)
 
@@ -71,8 +78,20 @@ below_one i j p c e = ap (λ (d : Bool). if d then true else false) e
 
 -- one more object, unset
 pub same_enter : (ms : Members) (t : ObjectType) (m : Store) (row : List (Option ℤ)) → Same ms m row → Same (with_last ms t) (put (count ms ∷ []) None m) (row ++ replicate (cells t) None)
-same_enter ms t m row h = record { room = long; same = each }
+same_enter ms t m row h = record { room = long; same = each; held = holds }
   where
+    suits : (i : ℕ) (p : List ℕ) (a : IntType) (n : ℕ) → GoesThroughLast ms t i p (Scalar a) n → MayHold a (put (count ms ∷ []) None m (i ∷ p))
+    suits i p a n (inl b) =
+        subst (λ (o : Option ℤ). MayHold a o) (sym (put_out (count ms ∷ []) (i ∷ p) None m (below_one (count ms) i p false (not_same (count ms) i b.0)))) (h.held (i ∷ p) a n b.1)
+    suits i p a n (inr b) =
+        let s : same (count ms) i ≡ true = subst (λ (l : ℕ). same (count ms) l ≡ true) (sym b.0) (same_refl (count ms)) in
+        let none : Option ℤ = None in
+        subst (λ (o : Option ℤ). MayHold a o) (sym (put_in (count ms ∷ []) (i ∷ p) none m (below_one (count ms) i p true s))) tt
+
+    holds : (p : List ℕ) (a : IntType) (n : ℕ) → Leads (whole (with_last ms t)) p (Scalar a) n → MayHold a (put (count ms ∷ []) None m p)
+    holds [] a n l = not_struct 0 (with_last ms t) a l.0
+    holds (i ∷ p) a n l = suits i p a n (last_or ms t i p (Scalar a) n l)
+
     long : length (row ++ replicate (cells t) None) ≡ cells_all (with_last ms t)
     long = let none : Option ℤ = None in length-append row (replicate (cells t) none) ∙ omega (arith, length-replicate (cells t) none, h.room, cells_last ms t)
 
@@ -94,8 +113,12 @@ same_enter ms t m row h = record { room = long; same = each }
 
 -- the last object is over
 pub same_leave : (ms : Members) (t : ObjectType) (m : Store) (row : List (Option ℤ)) (k : ℕ) → k ≡ cells_all ms → Same (with_last ms t) m row → Same ms m (take k row)
-same_leave ms t m row k e h = record { room = length-take-le k row (omega (arith, e, h.room, cells_last ms t)) ∙ e; same = each }
+same_leave ms t m row k e h = record { room = length-take-le k row (omega (arith, e, h.room, cells_last ms t)) ∙ e; same = each; held = holds }
   where
+    holds : (p : List ℕ) (a : IntType) (n : ℕ) → Leads (whole ms) p (Scalar a) n → MayHold a (m p)
+    holds [] a n l = not_struct 0 ms a l.0
+    holds (i ∷ p) a n l = h.held (i ∷ p) a n (still_in ms t i p (Scalar a) n l)
+
     each : (p : List ℕ) (a : IntType) (n : ℕ) → Leads (whole ms) p (Scalar a) n → slice_get (take k row) n ≡ Some (m p)
     each [] a n l = not_struct 0 ms a l.0
     each (i ∷ p) a n l =
@@ -104,8 +127,14 @@ same_leave ms t m row k e h = record { room = length-take-le k row (omega (arith
 
 -- a copy of a whole object
 pub same_copy : (ms : Members) (m : Store) (row : List (Option ℤ)) (o p : List ℕ) (u : ObjectType) (f n : ℕ) → Same ms m row → Leads (whole ms) o u f → Leads (whole ms) p u n → Same ms (copied o p m) (moved f n (cells u) row)
-same_copy ms m row o p u f n h k l = record { room = length_moved f n (cells u) row room_f room_n ∙ h.room; same = λ q a i g. go q a i g (cases_Bool (is_below p q)) }
+same_copy ms m row o p u f n h k l = record { room = length_moved f n (cells u) row room_f room_n ∙ h.room; same = λ q a i g. go q a i g (cases_Bool (is_below p q)); held = λ q a i g. suits q a i g (cases_Bool (is_below p q)) }
   where
+    suits : (q : List ℕ) (a : IntType) (i : ℕ) → Leads (whole ms) q (Scalar a) i → (is_below p q ≡ true) ⊎ (is_below p q ≡ false) → MayHold a (copied o p m q)
+    suits q a i g (inl b) =
+        let z = split (whole ms) p u n q a i l g b in
+        subst (λ (x : Option ℤ). MayHold a x) (sym (copied_in o p q m b)) (h.held (o ++ rest p q) a (f + z.0) (joined (whole ms) o u f (rest p q) (Scalar a) z.0 k z.1))
+    suits q a i g (inr b) = subst (λ (x : Option ℤ). MayHold a x) (sym (copied_out o p q m b)) (h.held q a i g)
+
     room_n : n + cells u ≤ length row
     room_n = omega (arith, within (whole ms) p u n l, h.room)
 
@@ -167,8 +196,12 @@ no_scalar (Structure k ts) a n h l = not_struct k ts a l.0
 
 -- the rest of a list
 pub same_zeroed : (ms : Members) (m : Store) (row : List (Option ℤ)) (p : List ℕ) (u : ObjectType) (n i : ℕ) → Same ms m row → Leads (whole ms) p u n → HasParts u → begins u i ≤ cells u → Same ms (zeroed p i m) (filled (n + begins u i) (cells u - begins u i) (Some (pos 0)) row)
-same_zeroed ms m row p u n i h l parts fits = record { room = length_filled zero_cell at size row room ∙ h.room; same = λ q a k g. go q a k g (cases_Bool (is_below p q)) }
+same_zeroed ms m row p u n i h l parts fits = record { room = length_filled zero_cell at size row room ∙ h.room; same = λ q a k g. go q a k g (cases_Bool (is_below p q)); held = λ q a k g. suits q a k g (cases_Bool (is_below p q && starts_from i (rest p q))) }
   where
+    suits : (q : List ℕ) (a : IntType) (k : ℕ) → Leads (whole ms) q (Scalar a) k → ((is_below p q && starts_from i (rest p q)) ≡ true) ⊎ ((is_below p q && starts_from i (rest p q)) ≡ false) → MayHold a (zeroed p i m q)
+    suits q a k g (inl c) = subst (λ (x : Option ℤ). MayHold a x) (sym (zeroed_is p q i m true c)) (zero_fills (whole ms) q a k g)
+    suits q a k g (inr c) = subst (λ (x : Option ℤ). MayHold a x) (sym (zeroed_is p q i m false c)) (h.held q a k g)
+
     zero_cell : Option ℤ
     zero_cell = Some (pos 0)
 

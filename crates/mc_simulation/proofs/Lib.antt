@@ -1,4 +1,5 @@
 pub mod Rows
+pub mod Values
 pub mod Keep
 pub mod Erased
 pub mod Follow

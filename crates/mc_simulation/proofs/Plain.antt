@@ -1,22 +1,24 @@
 -- Expressions without probes follow those of the program, and hit nothing.
 use Rattle.std.proofs.Common.{◌≡◌, ◌∙◌, refl, sym, ap, subst, ℕ, ◌+◌, ◌<◌, ℤ, Bool, true, false, List, [], ◌∷◌, length, flat_map, Option, Some, None}
 use Rattle.std.specs.Prelude.{slice_get, unwrap_or, option_map}
+use Rattle.mc_value.specs.declared.int_type.IntType.{IntType}
+use Rattle.mc_value.specs.declared.int_type.IntType.TheVariants.{Int}
 use Rattle.mc_value.specs.Conversions.{is_zero, converted}
 use Rattle.mc_value.specs.Arithmetic.{truth}
 use Rattle.mc_typed.specs.declared.expressions.Slot.{Slot}
 use Rattle.mc_typed.specs.Layout.{ObjectType, Scalar, Array, Structure, Members, cells}
 use Rattle.mc_typed.specs.Tree.{Place, Expression, StructureValue, FunctionCall, Argument, Arguments, ParameterType, NumberParameter, StructureParameter, ArrayParameter, ResultType, NoResult, NumberResult, StructureResult, Object}
 use Rattle.mc_typed.specs.Tree as t
-use Rattle.mc_typed.specs.Sound.{Scope, IsSlotOf, object_type_at, cells_at, place_type, structure_type, structure_result, element_of, result_at, parameters_at, Takes, IsPlace, IsExpression, IsStructure, IsCall, IsStructureCall, IsArgument, AreArguments}
+use Rattle.mc_typed.specs.Sound.{Scope, IsSlotOf, cells_at, place_type, structure_type, structure_result, element_of, operator_type, result_at, parameters_at, type_of, Takes, IsPlace, IsExpression, IsStructure, IsCall, IsStructureCall, IsArgument, AreArguments}
 use Rattle.mc_roots.specs.declared.role.Role.{Role}
 use Rattle.mc_roots.specs.declared.role.Role.TheVariants.{Test, Plain}
 use Rattle.mc_roots.specs.Nodes as n
 use Rattle.mc_roots.specs.Roots.{is_root, operand_role}
-use Rattle.mc_steps.specs.Runs.{State, Out, Gave, Stopped, Run, Acts, gives, after, go_on}
+use Rattle.mc_steps.specs.Runs.{State, Out, Gave, Stopped, gives, after, go_on}
 use Rattle.mc_steps.specs.Memories.{Lent}
 use Rattle.mc_steps.specs.Events.{Event}
-use Rattle.mc_steps.specs.Expressions.{is_true, item_does, lent_item_does, read_does, unary_does, binary_does, logic_does, choice_does, as_does, input_does}
-use Rattle.mc_steps.specs.Calls.{Passed, number_given, structure_given, again_argument_does}
+use Rattle.mc_steps.specs.Expressions.{is_true, lent_item_does, read_does, unary_does, binary_does, logic_does, choice_does, as_does, input_does}
+use Rattle.mc_steps.specs.Calls.{number_given, structure_given, again_argument_does}
 use Rattle.mc_meaning.specs.Stores.{Path, Store, on_places}
 use Rattle.mc_meaning.specs.Within as plain
 use Rattle.mc_meaning.specs.Decisions as decided
@@ -26,15 +28,17 @@ use Rattle.mc_meaning.specs.Decisions.{Judged, value, as_condition, negated, hol
 use Rattle.mc_meaning.specs.Expressions.{place_of, value_of, structure_of, call_of, argument_of, arguments_of}
 use Rattle.mc_probe.specs.Flat.{Flat, Activation, flat}
 use Rattle.mc_probe.specs.Flat as f
-use Rattle.mc_probe.specs.Tree as p
 use Rattle.mc_probe.specs.Expressions as run
 use Rattle.mc_probe.specs.Bare.{bare_place, bare_expression, bare_structure, bare_call, bare_argument, bare_arguments}
-use Rattle.mc_simulation.specs.Follows.{Kept, Each, Alike, Matches, Follows, Does}
+use Rattle.mc_meaning.proofs.Runs.{IsGiven}
+use Rattle.mc_simulation.specs.Related.{Suits}
+use Rattle.mc_simulation.specs.Follows.{Kept, Each, Alike, Matches, Does}
 use Rattle.mc_simulation.specs.Activations.{At, AreLent, IsPassed, ArePassed, IsInto, Agrees}
 use Rattle.mc_simulation.specs.Activations as act
 use Rattle.mc_simulation.specs.Simulation.{nothing}
-use Rattle.mc_simulation.proofs.Follow.{Equal, SameTruth, some_same_value, plain_as, other, given, next, as_follows, logic_follows, item_follows, lent_item_follows, member_follows, read_follows, unary_follows, convert_follows, binary_follows, choice_follows, input_follows, number_argument_follows, structure_argument_follows, array_argument_follows, again_argument_follows, arguments_follow, number_given_follows, structure_given_follows}
-use Rattle.mc_simulation.proofs.Expressions.{none_some, array_type, IsMember, member_type, stride_is}
+use Rattle.mc_simulation.proofs.Values.{ranged_suits, promoted_suits, operator_suits, all_given, condition_given, value_given, converted_given}
+use Rattle.mc_simulation.proofs.Follow.{Equal, SameTruth, Typed, Suited, some_same_value, plain_as, other, given, next, typed, read_suits, call_suits, as_follows, logic_follows, item_follows, lent_item_follows, member_follows, read_follows, unary_follows, convert_follows, binary_follows, choice_follows, input_follows, number_argument_follows, structure_argument_follows, array_argument_follows, again_argument_follows, arguments_follow, number_given_follows, structure_given_follows}
+use Rattle.mc_simulation.proofs.Expressions.{none_some, array_type, member_type, stride_is}
 
 pub nothing_told : (es : List Event) → flat_map nothing es ≡ []
 nothing_told [] = refl
@@ -131,10 +135,20 @@ module _ (ms : Members) (rooms : ℕ) (v : Activation) (c : Scope) where
   pub made_structure_bare : (k : FunctionCall) → IsStructureCall k c → IsMadeBare k
   made_structure_bare (t.call called given' result span) h = (h.0, h.1, h.3)
 
+  made_gives_bare : (k : FunctionCall) (r : ResultType) → IsCall k c r → gives_bare k ≡ r
+  made_gives_bare (t.call called given' result span) r h = h.3
+
   structure_given_bare : (k : FunctionCall) (u : ObjectType) → structure_type c (t.Returned k) ≡ Some u → structure_result (gives_bare k) ≡ Some u
   structure_given_bare (t.call called given' result span) u e = e
 
   -- ---- expressions
+
+  -- the value suits its type
+  typed_only : (e : Expression) (a : IntType) (w : Within) → type_of e ≡ a → Goes Valued (value_of e Plain w) (run.value_of v (bare_expression e)) → ((s : State Store) (z : State Flat) → Alike ms rooms s z → IsGiven (λ j. Suits (type_of e) j.value) (value_of e Plain w s).out) → Goes (Typed a) (value (value_of e Plain w)) (run.value_of v (bare_expression e))
+  typed_only e a w same k suits =
+      typed ms rooms nothing Each a (value (value_of e Plain w)) (run.value_of v (bare_expression e)) (number_only (value_of e Plain w) (run.value_of v (bare_expression e)) k)
+      (subst (λ (b : IntType). Suited ms rooms nothing b (value (value_of e Plain w))) same
+      (λ s z al. value_given (Suits (type_of e)) (value_of e Plain w) s (suits s z al)))
 
   mutual
     pub place_bare : (q : Place) (u : ObjectType) (w : Within) → Bound w → IsPlace q c → place_type c q ≡ Some u → Goes (At ms u) (place_of q w) (run.place_of v (bare_place q))
@@ -209,6 +223,27 @@ module _ (ms : Members) (rooms : ℕ) (v : Activation) (c : Scope) where
         (λ y q l. number_given_follows ms rooms nothing Each (gives_bare i) y q l))
     value_bare (t.Input span) role w g k = condition_bare role (t.Input span) w (λ w. input_does) input_does (input_follows ms rooms nothing Each)
 
+    pub suits_bare : (e : Expression) (role : Role) (w : Within) → Bound w → IsExpression e c → (s : State Store) (z : State Flat) → Alike ms rooms s z → IsGiven (λ j. Suits (type_of e) j.value) (value_of e role w s).out
+    suits_bare (t.Constant x a span) role w g k s z al = condition_given (Suits a) role (t.Constant x a span) w (λ w. gives x) s (ranged_suits a x k)
+    suits_bare (t.Read place a) role w g k s z al =
+        let x : Within = into role (t.Read place a) w in
+        condition_given (Suits a) role (t.Read place a) w (λ w. read_does on_places (place_of place w)) s
+        (read_suits ms rooms nothing Each a (place_of place x) (run.place_of v (bare_place place)) (place_bare place (Scalar a) x g k.0 k.1) s z al)
+    suits_bare (t.Unary operator a e span) role w g k s z al = all_given (λ j. Suits a j.value) (value_of (t.Unary operator a e span) role w s).out (λ j. promoted_suits a j.value k.1)
+    suits_bare (t.Convert a written e span) role w g k s z al =
+        let x : Within = into role (t.Convert a written e span) w in
+        condition_given (Suits a) role (t.Convert a written e span) w (λ w. as_does (converted a) (value (value_of e Plain w))) s (converted_given a (value (value_of e Plain x)) s)
+    suits_bare (t.Not e span) role w g k s z al = all_given (λ j. Suits Int j.value) (value_of (t.Not e span) role w s).out (λ j. tt)
+    suits_bare (t.Binary operator a e i span) role w g k s z al =
+        all_given (λ j. Suits (operator_type operator a) j.value) (value_of (t.Binary operator a e i span) role w s).out (λ j. operator_suits operator a (type_of e) (type_of i) j.value k.2)
+    suits_bare (t.Logic operator e i span) role w g k s z al = all_given (λ j. Suits Int j.value) (value_of (t.Logic operator e i span) role w s).out (λ j. tt)
+    suits_bare (t.Choice e i j a span) role w g k s z al = all_given (λ j. Suits a j.value) (value_of (t.Choice e i j a span) role w s).out (λ j. promoted_suits a j.value k.3)
+    suits_bare (t.Call i a) role w g k s z al =
+        let x : Within = into role (t.Call i a) w in
+        condition_given (Suits a) role (t.Call i a) w (λ w s. after (call_of i w s) number_given) s
+        (call_suits ms rooms nothing Each a (gives_bare i) (call_of i x) (run.call_of v (bare_call i)) (made_gives_bare i (NumberResult a) k) (call_bare i x g (made_bare i (NumberResult a) k)) s z al)
+    suits_bare (t.Input span) role w g k s z al = all_given (λ j. Suits Int j.value) (value_of (t.Input span) role w s).out (λ j. tt)
+
     pub structure_bare : (q : StructureValue) (u : ObjectType) (w : Within) → Bound w → IsStructure q c → structure_type c q ≡ Some u → Goes (At ms u) (structure_of q w) (run.structure_of v (bare_structure q))
     structure_bare (t.Stored place) u w g k e = place_bare place u w g k.0 e
     structure_bare (t.Returned i) u w g k e =
@@ -228,7 +263,7 @@ module _ (ms : Members) (rooms : ℕ) (v : Activation) (c : Scope) where
 
     argument_bare : (q : Argument) (a : ParameterType) (w : Within) → Bound w → IsArgument q a c → Goes (IsPassed ms a) (argument_of q w) (run.argument_of v (bare_argument q))
     argument_bare (t.NumberArgument e) (NumberParameter a) w g k =
-        number_argument_follows ms rooms nothing Each a (value (value_of e Plain w)) (run.value_of v (bare_expression e)) (number_only (value_of e Plain w) (run.value_of v (bare_expression e)) (value_bare e Plain w g k.0))
+        number_argument_follows ms rooms nothing Each a (value (value_of e Plain w)) (run.value_of v (bare_expression e)) (typed_only e a w k.1 (value_bare e Plain w g k.0) (suits_bare e Plain w g k.0))
     argument_bare (t.NumberArgument e) (StructureParameter u) w g k = absurd k
     argument_bare (t.NumberArgument e) (ArrayParameter u) w g k = absurd k
     argument_bare (t.StructureArgument q copy) (StructureParameter u) w g k =
@@ -254,3 +289,6 @@ module _ (ms : Members) (rooms : ℕ) (v : Activation) (c : Scope) where
     arguments_bare (t.arguments a rest) (q ∷ ps) w g k =
         let x : Within = past Plain (n.argument a) w in
         arguments_follow ms rooms nothing Each q ps (argument_of a w) (arguments_of rest x) (run.argument_of v (bare_argument a)) (run.arguments_of v (bare_arguments rest)) (argument_bare a q w g k.0) (arguments_bare rest ps x g k.1)
+
+  pub typed_bare : (e : Expression) (a : IntType) (w : Within) → Bound w → IsExpression e c → type_of e ≡ a → Goes (Typed a) (value (value_of e Plain w)) (run.value_of v (bare_expression e))
+  typed_bare e a w g k same = typed_only e a w same (value_bare e Plain w g k) (suits_bare e Plain w g k)

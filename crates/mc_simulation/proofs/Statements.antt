@@ -41,8 +41,8 @@ use Rattle.mc_simulation.specs.Follows.{Kept, Alike, Follows, Does}
 use Rattle.mc_simulation.specs.Activations.{IsGiven}
 use Rattle.mc_simulation.specs.Activations as act_of
 use Rattle.mc_simulation.specs.Expressions.{bit_of, Spared}
-use Rattle.mc_simulation.proofs.Follow.{Equal, SameTruth, given, next, next_same, keeps_less, weaker, follows_then}
-use Rattle.mc_simulation.proofs.Expressions.{Agreed, IsHere, here_left, here_past, based_up, number_follows, test_follows, structure_follows}
+use Rattle.mc_simulation.proofs.Follow.{Equal, SameTruth, Typed, given, next, next_typed, keeps_less, weaker, follows_then}
+use Rattle.mc_simulation.proofs.Expressions.{Agreed, IsHere, here_left, here_past, based_up, number_follows, typed_follows, test_follows, structure_follows}
 use Rattle.mc_simulation.proofs.Acts.{Done, SameFlow, counted_follows, effect_follows, then_follows, if_follows, loop_follows, do_follows}
 use Rattle.mc_simulation.proofs.Acts as acts
 use Rattle.mc_simulation.proofs.Effects as eff
@@ -240,9 +240,9 @@ module _ (ms : Members) (rooms : ℕ) (m : Map) (first count : ℕ) (v : Activat
   returned_follows t.ReturnNothing (StructureResult u) w d sw g k h = absurd k
   returned_follows (t.ReturnNumber e) NoResult w d sw g k h = absurd k
   returned_follows (t.ReturnNumber e) (NumberResult a) w d sw g k h =
-      next_same ms rooms (bit_of m) (Saves sw) (IsGiven ms (NumberResult a)) (value (value_of e Plain w)) (expr.value_of v (put m first (Loose Plain) d e)) _ _
-      (of_part d sw Equal (value (value_of e Plain w)) (expr.value_of v (put m first (Loose Plain) d e)) (number_follows ms rooms m first count v c is room bits e w d g k.0 h))
-      (λ x. given ms rooms (bit_of m) (Saves sw) (IsGiven ms (NumberResult a)) (Number x) (Number x) refl)
+      next_typed ms rooms (bit_of m) (Saves sw) a (IsGiven ms (NumberResult a)) (value (value_of e Plain w)) (expr.value_of v (put m first (Loose Plain) d e)) _ _
+      (of_part d sw (Typed a) (value (value_of e Plain w)) (expr.value_of v (put m first (Loose Plain) d e)) (typed_follows ms rooms m first count v c is room bits e a w d g k.0 k.1 h))
+      (λ x i. given ms rooms (bit_of m) (Saves sw) (IsGiven ms (NumberResult a)) (Number x) (Number x) (refl, i))
   returned_follows (t.ReturnNumber e) (StructureResult u) w d sw g k h = absurd k
   returned_follows (t.ReturnStructure x i) NoResult w d sw g k h = absurd k
   returned_follows (t.ReturnStructure x i) (NumberResult a) w d sw g k h = absurd k

@@ -6,7 +6,7 @@ use Rattle.std.proofs.lemmas.List.Sums.{sum_by-cons}
 use Rattle.std.proofs.lemmas.List.Concat.{flat_map_single}
 use Rattle.std.proofs.lemmas.Option.{slice_get_within}
 use Rattle.mc_value.specs.declared.int_type.IntType.{IntType}
-use Rattle.mc_typed.specs.Layout.{ObjectType, Scalar, Array, Structure, Members, no_members, members, cells, cells_all, start, scalars, Leads, LeadsIn}
+use Rattle.mc_typed.specs.Layout.{ObjectType, Scalar, Array, Structure, Members, no_members, members, cells, cells_all, start, scalars, scalars_all, IsPart, Leads, LeadsIn}
 use Rattle.mc_typed.specs.Tree.{ParameterType, NumberParameter, StructureParameter, ArrayParameter, ResultType, NoResult, NumberResult, StructureResult, Object, StaticObject, Function, Program}
 use Rattle.mc_typed.specs.Sound.{IsSound, AreInRange, AreInitial, result_at, parameters_at}
 use Rattle.mc_typed.specs.Plans.{Call, Plan, AreValues, IsExpected, CallFits, CallsFit, Fits}
@@ -24,17 +24,19 @@ use Rattle.mc_probe.specs.Flat.{Flat}
 use Rattle.mc_probe.specs.Tree as p
 use Rattle.mc_probe.specs.Erase.{erase_function}
 use Rattle.mc_probe.specs.Calls.{calls}
-use Rattle.mc_probe.specs.Tests as run
 use Rattle.mc_probe.specs.Tests.{test_call, run_of}
 use Rattle.mc_probe.specs.Maps.{Map, IsMapOf, image}
 use Rattle.mc_probe.specs.Table.{instrumented}
-use Rattle.mc_simulation.specs.Related.{whole}
+use Rattle.mc_simulation.specs.Related.{whole, Suits, MayHold}
 use Rattle.mc_simulation.specs.Follows.{Kept, Each, AreOne, Alike, Matches, Does}
 use Rattle.mc_simulation.specs.Activations.{At, ArePassed, IsInto, IsGiven}
 use Rattle.mc_simulation.specs.Expressions.{bit_of}
 use Rattle.mc_simulation.specs.Simulation.{RunsAs, InstrumentedRunsAsPlain}
 use Rattle.mc_simulation.proofs.Erased.{program_away}
-use Rattle.mc_simulation.proofs.Follow.{Equal, given, next, next_same, number_given_follows}
+use Rattle.mc_simulation.proofs.Rows.{get_old}
+use Rattle.mc_simulation.proofs.Values.{ranged_suits}
+use Rattle.mc_simulation.proofs.Follow.{Equal, some_same_value, given, next, next_same, number_given_follows}
+use Rattle.mc_simulation.proofs.Expressions.{none_some}
 use Rattle.mc_simulation.proofs.Frames.{locals_of, frame, laid_start, frame_size, local_member}
 use Rattle.mc_simulation.proofs.Calls.{IsStack, calls_follow}
 
@@ -87,6 +89,51 @@ static_value (s ∷ ss) (suc k) r a l i h =
     let n = initial_length s i.0 in
     some_right s.initial (flat_map (λ o. o.initial) ss) l h.0 (omega (arith, n, h.2)) ∙ static_value ss k r a h.0 i.1 h.1
 
+whole_part : (t : ObjectType) → IsPart (scalars t) 0 t
+whole_part t j lt = ap (λ (k : ℕ). slice_get (scalars t) k) (omega arith)
+
+get_behind : {A : Type 0} (xs ys : List A) (k l : ℕ) → k ≡ length xs + l → slice_get (xs ++ ys) k ≡ slice_get ys l
+get_behind [] ys k l e = ap (λ (i : ℕ). slice_get ys i) (omega (arith, e))
+get_behind (x ∷ xs) ys zero l e = absurd (omega (arith, e))
+get_behind (x ∷ xs) ys (suc k) l e = get_behind xs ys k l (omega (arith, e))
+
+-- the type of the scalar to which a path leads
+mutual
+  type_is : (t : ObjectType) (r : List ℕ) (a : IntType) (k : ℕ) → Leads t r (Scalar a) k → slice_get (scalars t) k ≡ Some a
+  type_is (Scalar b) [] a k h =
+      subst (λ (l : ℕ). slice_get (scalars (Scalar b)) l ≡ Some a) (sym h.1) (ap (λ (u : ObjectType). slice_get (scalars u) 0) h.0)
+  type_is (Scalar b) (i ∷ r) a k h = absurd h
+  type_is (Array n t) [] a k h = not_array n t a h.0
+  type_is (Array n t) (i ∷ r) a k h =
+      let w = within t r (Scalar a) h.0 h.2 in
+      subst (λ (l : ℕ). slice_get (scalars (Array n t)) l ≡ Some a) (omega (arith, h.3))
+      (have_types.item (scalars (Array n t)) 0 n t i (whole_part (Array n t)) h.1 h.0 (omega (arith, w)) ∙ type_is t r a h.0 h.2)
+  type_is (Structure number ts) [] a k h = not_struct number ts a h.0
+  type_is (Structure number ts) (i ∷ r) a k h = type_in ts i r a k h
+
+  type_in : (ts : Members) (i : ℕ) (r : List ℕ) (a : IntType) (k : ℕ) → LeadsIn ts i r (Scalar a) k → slice_get (scalars_all ts) k ≡ Some a
+  type_in no_members i r a k h = absurd h
+  type_in (members t ts) zero r a k h =
+      let w = within t r (Scalar a) k h in
+      let n = have_types.number t in
+      get_old (scalars t) (scalars_all ts) k (omega (arith, w, n)) ∙ type_is t r a k h
+  type_in (members t ts) (suc i) r a k h =
+      let n = have_types.number t in
+      get_behind (scalars t) (scalars_all ts) k h.0 (omega (arith, h.2, n)) ∙ type_in ts i r a h.0 h.1
+
+value_held : (types : List IntType) (vs : List ℤ) (k : ℕ) (a : IntType) → AreInRange types vs → slice_get types k ≡ Some a → MayHold a (slice_get vs k)
+value_held [] vs k a h e = none_some a e
+value_held (x ∷ types) [] k a h e = absurd h
+value_held (x ∷ types) (v ∷ vs) zero a h e = subst (λ (b : IntType). Suits b v) (some_same_value x a e) (ranged_suits x v h.0)
+value_held (x ∷ types) (v ∷ vs) (suc k) a h e = value_held types vs k a h.1 e
+
+static_held : (ss : List StaticObject) (k : ℕ) (r : List ℕ) (a : IntType) (l : ℕ) → AreInitial ss → LeadsIn (locals_of (objects_of ss)) k r (Scalar a) l → MayHold a (initial_in (slice_get ss k) r)
+static_held [] k r a l i h = absurd h
+static_held (s ∷ ss) zero r a l i h =
+    subst (λ (k : ℕ). MayHold a (slice_get s.initial k)) (sym (scalar_is s.object.object_type r a l h))
+    (value_held (scalars s.object.object_type) s.initial l a i.0 (type_is s.object.object_type r a l h))
+static_held (s ∷ ss) (suc k) r a l i h = static_held ss k r a h.0 i.1 h.1
+
 static_room : (ss : List StaticObject) → AreInitial ss → length (flat_map (λ o. o.initial) ss) ≡ cells_all (locals_of (objects_of ss))
 static_room [] i = refl
 static_room (s ∷ ss) i =
@@ -130,11 +177,18 @@ module _ (q : Program) (sound : IsSound q) where
   start_value (zero ∷ k ∷ r) a l h = static_value q.statics k r a l sound.initial h
   start_value (suc i ∷ r) a l h = absurd h.1
 
+  start_held : (r : List ℕ) (a : IntType) (l : ℕ) → Leads (whole below) r (Scalar a) l → MayHold a (initial q r)
+  start_held [] a l h = not_struct 0 below a h.0
+  start_held (zero ∷ []) a l h = not_struct 0 (locals_of (objects_of q.statics)) a h.0
+  start_held (zero ∷ k ∷ r) a l h = static_held q.statics k r a l sound.initial h
+  start_held (suc i ∷ r) a l h = absurd h.1
+
   pub start_one : AreOne below 0 (initial q) at_start
   start_one = record {
     same = record {
       room = length-map (flat_map (λ o. o.initial) q.statics) Some ∙ (static_room q.statics sound.initial ∙ omega arith);
       same = start_value;
+      held = start_held;
     };
     room = refl;
   }
@@ -143,7 +197,7 @@ module _ (q : Program) (sound : IsSound q) where
   values_passed [] [] h = tt
   values_passed [] (a ∷ ps) h = absurd h
   values_passed (v ∷ vs) [] h = absurd h
-  values_passed (v ∷ vs) (NumberParameter a ∷ ps) h = (refl, values_passed vs ps h.1)
+  values_passed (v ∷ vs) (NumberParameter a ∷ ps) h = ((refl, ranged_suits a v h.0), values_passed vs ps h.1)
   values_passed (v ∷ vs) (StructureParameter u ∷ ps) h = absurd h
   values_passed (v ∷ vs) (ArrayParameter u ∷ ps) h = absurd h
 

@@ -1,5 +1,5 @@
 -- Statements without probes follow those of the program, and hit nothing.
-use Rattle.std.proofs.Common.{◌≡◌, ◌∙◌, refl, sym, ap, subst, ℕ, zero, suc, ◌+◌, ◌*◌, ◌<◌, ◌≤◌, ℤ, pos, Bool, true, false, not, ◌||◌, List, [], ◌∷◌, ◌++◌, length, map, Option, Some, None, option_map, arith}
+use Rattle.std.proofs.Common.{◌≡◌, ◌∙◌, refl, sym, ap, subst, ℕ, suc, ◌+◌, ◌*◌, ◌<◌, ◌≤◌, ℤ, pos, Bool, true, false, not, ◌||◌, List, [], ◌∷◌, ◌++◌, map, Option, Some, None, option_map, arith}
 use Rattle.std.specs.Prelude.{slice_get, is_some}
 use Rattle.mc_value.specs.declared.int_type.IntType.{IntType}
 use Rattle.mc_typed.specs.Layout.{ObjectType, Scalar, Array, Structure, Members, no_members, members, cells, member}
@@ -10,9 +10,9 @@ use Rattle.mc_typed.specs.Sound as sound
 use Rattle.mc_typed.proofs.Places.{here, begins, joined}
 use Rattle.mc_roots.specs.declared.role.Role.TheVariants.{Test, Plain}
 use Rattle.mc_roots.specs.Nodes as n
-use Rattle.mc_steps.specs.Runs.{State, gives, lists, after}
-use Rattle.mc_steps.specs.Events.{Event, Exited, Started, Chosen}
-use Rattle.mc_steps.specs.Expressions.{where_true, drop_does, both_do, as_does, choice_does, is_true}
+use Rattle.mc_steps.specs.Runs.{gives, lists, after}
+use Rattle.mc_steps.specs.Events.{Event, Exited, Started}
+use Rattle.mc_steps.specs.Expressions.{where_true, both_do, as_does, choice_does, is_true}
 use Rattle.mc_steps.specs.Statements.{Number, Flow, Completed, Broke, Continued, Left, Seek, Running, For, is_running, at_label, sought, is_absent, effect_does, loop_does, do_does, label_does, item_runs, switch_does, where_switch_ends}
 use Rattle.mc_steps.specs.Statements as give
 use Rattle.mc_steps.specs.Calls.{unset_does}
@@ -27,7 +27,6 @@ use Rattle.mc_meaning.specs.Statements.{effect, effects, initialize, initialize_
 use Rattle.mc_typed.specs.Layout as layout
 use Rattle.mc_probe.specs.Flat.{Activation, flat}
 use Rattle.mc_probe.specs.Flat as f
-use Rattle.mc_probe.specs.Tree as p
 use Rattle.mc_probe.specs.Erase.{erase_statements, erase_declarator, erase_initializer}
 use Rattle.mc_probe.specs.Expressions as expr
 use Rattle.mc_probe.specs.Probes.{mark_does}
@@ -38,11 +37,12 @@ use Rattle.mc_simulation.specs.Related.{whole}
 use Rattle.mc_simulation.specs.Follows.{Each, Does}
 use Rattle.mc_simulation.specs.Activations.{At, IsGiven}
 use Rattle.mc_simulation.specs.Simulation.{nothing}
-use Rattle.mc_simulation.proofs.Follow.{Equal, SameTruth, some_same_value, inside_part, given, next, next_same, true_same, choice_follows}
+use Rattle.mc_simulation.proofs.Values.{none_fills, zero_fills}
+use Rattle.mc_simulation.proofs.Follow.{Equal, SameTruth, Typed, some_same_value, inside_part, given, next, next_same, next_typed, true_same, choice_follows}
 use Rattle.mc_simulation.proofs.Expressions.{none_some}
 use Rattle.mc_simulation.proofs.Effects.{start_within, start_next, first_begins, IsFrom, times}
 use Rattle.mc_simulation.proofs.Acts.{Done, SameFlow, drop_follows, both_follow, put_follows, assign_follows, update_follows, copied_follows, output_follows, store_follows, store_structure_follows, rest_follows, counted_follows, effect_follows, then_follows, if_follows, loop_follows, do_follows, test_follows}
-use Rattle.mc_simulation.proofs.Plain.{Valued, Bound, slot_bare, number_only, truth_only, gives_bare, made_bare, made_structure_bare, place_bare, value_bare, structure_bare, call_bare}
+use Rattle.mc_simulation.proofs.Plain.{Valued, Bound, slot_bare, number_only, truth_only, gives_bare, made_bare, made_structure_bare, place_bare, value_bare, typed_bare, structure_bare, call_bare}
 
 -- ---- what is initialized
 
@@ -67,6 +67,9 @@ module _ (ms : Members) (rooms : ℕ) (v : Activation) (c : Scope) where
   number : (e : Expression) (w : Within) → There w → IsExpression e c → D Equal (value (value_of e Plain w)) (expr.value_of v (bare_expression e))
   number e w g k = number_only ms rooms v c (value_of e Plain w) (expr.value_of v (bare_expression e)) (value_bare ms rooms v c e Plain w g k)
 
+  typed_number : (e : Expression) (a : IntType) (w : Within) → There w → IsExpression e c → type_of e ≡ a → D (Typed a) (value (value_of e Plain w)) (expr.value_of v (bare_expression e))
+  typed_number e a w g k same = typed_bare ms rooms v c e a w g k same
+
   truth_is : (e : Expression) (w : Within) → There w → IsExpression e c → D SameTruth (value (value_of e Test w)) (expr.value_of v (bare_expression e))
   truth_is e w g k = truth_only ms rooms v c (value_of e Test w) (expr.value_of v (bare_expression e)) (value_bare ms rooms v c e Test w g k)
 
@@ -83,7 +86,7 @@ module _ (ms : Members) (rooms : ℕ) (v : Activation) (c : Scope) where
   pub effect_bare : (x : Effect) (b : Bool) (w : Within) → There w → IsEffect x b c → D Done (effect x w) (act.effect_of v (bare_effect x))
   effect_bare (t.Assign q a e span) b w g k =
       let u : Within = past Plain (n.place q) w in
-      assign_follows ms rooms nothing Each a (place_of q w) (value (value_of e Plain u)) (expr.place_of v (bare_place q)) (expr.value_of v (bare_expression e)) (place_bare ms rooms v c q (Scalar a) w g k.1 k.2) (number e u g k.3)
+      assign_follows ms rooms nothing Each a (place_of q w) (value (value_of e Plain u)) (expr.place_of v (bare_place q)) (expr.value_of v (bare_expression e)) (place_bare ms rooms v c q (Scalar a) w g k.1 k.2) (typed_number e a u g k.3 k.4)
   effect_bare (t.Update q a operator common e span) b w g k =
       let u : Within = past Plain (n.place q) w in
       update_follows ms rooms nothing Each a operator common (place_of q w) (value (value_of e Plain u)) (expr.place_of v (bare_place q)) (expr.value_of v (bare_expression e)) (place_bare ms rooms v c q (Scalar a) w g k.1 k.2) (number e u g k.5)
@@ -133,14 +136,14 @@ module _ (ms : Members) (rooms : ℕ) (v : Activation) (c : Scope) where
 
   mutual
     initialize_bare : (x : Initializer) (u : ObjectType) (q : Path) (l : ℕ) (w : Within) → There w → IsInitializer x u c → At ms u q l → D Done (initialize x q w) (act.initializer_of v (bare_initializer x) l)
-    initialize_bare (t.NumberInitializer e) (Scalar a) q l w g k at = store_follows ms rooms nothing Each a q l (value (value_of e Plain w)) (expr.value_of v (bare_expression e)) at (number e w g k.0)
+    initialize_bare (t.NumberInitializer e) (Scalar a) q l w g k at = store_follows ms rooms nothing Each a q l (value (value_of e Plain w)) (expr.value_of v (bare_expression e)) at (typed_number e a w g k.0 k.1)
     initialize_bare (t.NumberInitializer e) (Array i u) q l w g k at = absurd k
     initialize_bare (t.NumberInitializer e) (Structure i us) q l w g k at = absurd k
     initialize_bare (t.StructureInitializer x i) u q l w g k at = store_structure_follows ms rooms nothing Each u q l i (structure_of x w) (expr.structure_of v (bare_structure x)) k.2 at (structure_bare ms rooms v c x u w g k.0 k.1)
     initialize_bare (t.ListInitializer items i) (Scalar a) q l w g k at = absurd k
     initialize_bare (t.ListInitializer items i) (Array j u) q l w g k at = elements_bare items u j 0 0 0 i q l w g k.2 (omega (arith, k.1)) (omega arith) k.0 at
     initialize_bare (t.ListInitializer items i) (Structure j us) q l w g k at = members_bare items us j us 0 0 0 i q l w g k.1 (λ b. ap (member us) (omega arith)) (first_begins us) k.0 at
-    initialize_bare (t.ZeroInitializer e i) u q l w g k at = put_follows ms rooms nothing Each u q l i i (Some (pos 0)) k.0 at
+    initialize_bare (t.ZeroInitializer e i) u q l w g k at = put_follows ms rooms nothing Each u q l i i (Some (pos 0)) k.0 at (zero_fills u)
 
     elements_bare : (items : Initializers) (u : ObjectType) (j i o offset size : ℕ) (q : Path) (l : ℕ) (w : Within) → There w → AreElements items u c → i + count_of items ≤ j → offset ≡ i * cells u → size ≡ cells (Array j u) → At ms (Array j u) q l → D Done (initialize_from items q i w) (act.items_of v (bare_initializers items) l o offset size)
     elements_bare t.no_initializers u j i o offset size q l w g k few at_offset is at =
@@ -197,7 +200,7 @@ module _ (ms : Members) (rooms : ℕ) (v : Activation) (c : Scope) where
           let size : x.cells ≡ cells u = sym (some_same_value o.cells x.cells b) ∙ g.sizes x.slot.object o e in
           let has : IsInitial x.value (Some u) c = subst (λ (i : Option ObjectType). IsInitial x.value i c) typed k.0.2 in
           both_follow ms rooms nothing Each (unset_does on_places q x.cells) (both_do (initialize_where x.value q w) (declare rest y)) (unset_does flat l x.cells) (both_do (act.initial_of v (option_map bare_initializer x.value) l) (act.declarators_of v (map bare_declarator rest)))
-          (put_follows ms rooms nothing Each u q l x.cells x.cells None size at)
+          (put_follows ms rooms nothing Each u q l x.cells x.cells None size at (none_fills u))
           (both_follow ms rooms nothing Each (initialize_where x.value q w) (declare rest y) (act.initial_of v (option_map bare_initializer x.value) l) (act.declarators_of v (map bare_declarator rest)) (initial_bare x.value u q l w g has at) others)
 
   -- ---- marks
@@ -268,8 +271,8 @@ module _ (ms : Members) (rooms : ℕ) (v : Activation) (c : Scope) where
   returned_bare t.ReturnNothing (StructureResult u) w g k = absurd k
   returned_bare (t.ReturnNumber e) NoResult w g k = absurd k
   returned_bare (t.ReturnNumber e) (NumberResult a) w g k =
-      next_same ms rooms nothing Each (IsGiven ms (NumberResult a)) (value (value_of e Plain w)) (expr.value_of v (bare_expression e)) _ _ (number e w g k.0)
-      (λ x. given ms rooms nothing Each (IsGiven ms (NumberResult a)) (Number x) (Number x) refl)
+      next_typed ms rooms nothing Each a (IsGiven ms (NumberResult a)) (value (value_of e Plain w)) (expr.value_of v (bare_expression e)) _ _ (typed_number e a w g k.0 k.1)
+      (λ x i. given ms rooms nothing Each (IsGiven ms (NumberResult a)) (Number x) (Number x) (refl, i))
   returned_bare (t.ReturnNumber e) (StructureResult u) w g k = absurd k
   returned_bare (t.ReturnStructure x i) NoResult w g k = absurd k
   returned_bare (t.ReturnStructure x i) (NumberResult a) w g k = absurd k

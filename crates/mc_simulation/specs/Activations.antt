@@ -1,7 +1,7 @@
 -- What an activation of a function has in common with that of its instrumented function.
-use Rattle.std.specs.Prelude.{◌≡◌, ℕ, ◌+◌, ◌<◌, List, [], ◌∷◌, length, slice_get, Option, Some, None}
+use Rattle.std.specs.Prelude.{◌≡◌, ℕ, ◌+◌, ◌<◌, ℤ, List, [], ◌∷◌, length, slice_get, Option, Some, None}
 use Rattle.mc_typed.specs.Layout.{ObjectType, Array, Members, cells, Leads}
-use Rattle.mc_typed.specs.Tree.{ParameterType, NumberParameter, StructureParameter, ArrayParameter, ResultType, StructureResult, Object}
+use Rattle.mc_typed.specs.Tree.{ParameterType, NumberParameter, StructureParameter, ArrayParameter, ResultType, NumberResult, StructureResult, Object}
 use Rattle.mc_typed.specs.Sound.{Scope, parameters_at, result_at, structure_result}
 use Rattle.mc_steps.specs.Memories.{Lent}
 use Rattle.mc_steps.specs.Events.{Event}
@@ -10,12 +10,17 @@ use Rattle.mc_steps.specs.Calls.{Passed, PassedNumber, PassedStructure, PassedAr
 use Rattle.mc_meaning.specs.Stores.{Path}
 use Rattle.mc_meaning.specs.Within.{Does}
 use Rattle.mc_probe.specs.Flat.{Callee, Activation}
-use Rattle.mc_simulation.specs.Related.{whole}
+use Rattle.mc_simulation.specs.Related.{whole, Suits}
 use Rattle.mc_simulation.specs.Follows as follows
 
 -- what a call of a function does, with the place for a structure and the arguments
 abbrev pub PlainCallee : Type 0
 PlainCallee = ℕ → Option Path → List (Passed Path) → Does (Given Path)
+
+-- a number that a function gives, by what its result type has as values
+abbrev pub SuitsResult : ResultType → ℤ → Type 0
+SuitsResult (NumberResult a) v = Suits a v
+SuitsResult _ v = Unit {0}
 
 -- in one of the objects
 abbrev pub IsInside : Path → Type 0
@@ -34,7 +39,7 @@ module _ (ms : Members) where
 
   -- an argument for a parameter of this type
   abbrev pub IsPassed : ParameterType → Passed Path → Passed ℕ → Type 0
-  IsPassed (NumberParameter a) (PassedNumber v) (PassedNumber w) = v ≡ w
+  IsPassed (NumberParameter a) (PassedNumber v) (PassedNumber w) = (v ≡ w) × Suits a v
   IsPassed (StructureParameter u) (PassedStructure p) (PassedStructure n) = At u p n
   IsPassed (ArrayParameter u) (PassedArray x) (PassedArray y) = AreLent u x y
   IsPassed _ _ _ = ⊥
@@ -54,7 +59,7 @@ module _ (ms : Members) where
   -- what a function gives
   abbrev pub IsGiven : ResultType → Given Path → Given ℕ → Type 0
   IsGiven r Nothing Nothing = Unit {0}
-  IsGiven r (Number v) (Number w) = v ≡ w
+  IsGiven r (Number v) (Number w) = (v ≡ w) × SuitsResult r v
   IsGiven r (Structure p k) (Structure n l) =
       (u : ObjectType) × (structure_result r ≡ Some u) × At u p n × (k ≡ cells u) × (l ≡ cells u)
   IsGiven _ _ _ = ⊥

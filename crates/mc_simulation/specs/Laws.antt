@@ -1,5 +1,6 @@
 -- What keeps places and cells alike.
 use Rattle.std.specs.Prelude.{◌≡◌, ℕ, ◌+◌, ◌-◌, ◌*◌, ◌≤◌, ℤ, pos, List, [], ◌∷◌, ◌++◌, take, replicate, Option, Some, None}
+use Rattle.mc_value.specs.declared.int_type.IntType.{IntType}
 use Rattle.mc_typed.specs.Layout.{ObjectType, Scalar, Array, Structure, Members, cells, cells_all, count, with_last, start, Leads}
 use Rattle.mc_cells.specs.Rows.{filled, moved}
 use Rattle.mc_meaning.specs.Stores.{Store, put, zeroed, copied}
@@ -9,7 +10,7 @@ use Rattle.mc_probe.specs.Erase.{erase}
 use Rattle.mc_probe.specs.Maps.{Map}
 use Rattle.mc_probe.specs.Table.{instrumented}
 use Rattle.mc_probe.specs.WellFormed.{IsWellFormed}
-use Rattle.mc_simulation.specs.Related.{whole, Same}
+use Rattle.mc_simulation.specs.Related.{whole, MayHold, Same}
 
 -- after how many cells of an array or a structure the part with this number begins
 abbrev pub begins : ObjectType → ℕ → ℕ
@@ -22,10 +23,14 @@ HasParts (Scalar a) = ⊥
 HasParts (Array k t) = Unit {0}
 HasParts (Structure k ts) = Unit {0}
 
+-- the value can stand in each scalar of an object of the type
+abbrev pub Fills : ObjectType → Option ℤ → Type 0
+Fills u x = (p : List ℕ) (a : IntType) (n : ℕ) → Leads u p (Scalar a) n → MayHold a x
+
 pub record StoresAreKept : Type 0 where
-  -- a value is put into each scalar of an object
+  -- a value that can stand there is put into each scalar of an object
   pub is_put : (ms : Members) (m : Store) (row : List (Option ℤ)) (p : List ℕ) (u : ObjectType)
-      (n : ℕ) (x : Option ℤ) → Same ms m row → Leads (whole ms) p u n →
+      (n : ℕ) (x : Option ℤ) → Same ms m row → Leads (whole ms) p u n → Fills u x →
       Same ms (put p x m) (filled n (cells u) x row)
   -- an object is copied to another one of its type
   pub is_copied : (ms : Members) (m : Store) (row : List (Option ℤ)) (o p : List ℕ) (u : ObjectType)
