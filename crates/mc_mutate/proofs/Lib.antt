@@ -9,5 +9,14 @@ pub mod Made
 pub mod Sound
 pub mod Mutated
 pub mod Small
-pub mod OneRoots
 pub mod Rooted
+pub mod Replaced
+pub mod Copied
+pub mod Lists
+pub mod Roots
+pub mod Fitted
+pub mod Killing
+pub mod Joined
+pub mod Worked
+pub mod Shared
+pub mod Sent

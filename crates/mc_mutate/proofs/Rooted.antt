@@ -19,7 +19,7 @@ use Rattle.mc_mutate.specs.steps.Search.{pass, passed, past, in_nodes, in_condit
 use Rattle.mc_mutate.proofs.Past.{stays, passes}
 use Rattle.mc_mutate.proofs.Listed.{mutants_found}
 use Rattle.mc_mutate.proofs.Small.{own_still, constant_still, never_in, yes_in, is_one, is_none}
-use Rattle.mc_mutate.proofs.OneRoots.{same_roots}
+use Rattle.mc_roots.proofs.Once.{same_roots}
 
 -- a search that passes these changes
 abbrev along : List Change → Sought → Sought

@@ -3,6 +3,7 @@ use Rattle.std.specs.Prelude.{◌≡◌, ◌≢◌, ℕ, ◌+◌, ◌/◌, ◌%�
 use Rattle.mc_typed.specs.declared.plans.Ending.{Ending}
 use Rattle.mc_typed.specs.Tree.{Program}
 use Rattle.mc_typed.specs.Plans.{Plan}
+use Rattle.mc_steps.specs.Tests.{CallDone}
 use Rattle.mc_meaning.specs.Tests.{plain_run}
 use Rattle.mc_mutate.specs.Mutants.{IsMutant}
 
@@ -12,11 +13,14 @@ pub record Shown : Type 0 where
   pub values : List (Option ℤ)
   pub output : List ℤ
 
+-- of a run that ended so, with these calls that returned and this output
+abbrev pub shown_from : Ending → List CallDone → List ℤ → Shown
+shown_from ending done output =
+    record { ending = ending; values = map (λ d. d.value) done; output = output }
+
 -- of the plain run
 abbrev pub shown : Program → Plan → Shown
-shown p plan =
-    let r = plain_run p plan in
-    record { ending = r.ending; values = map (λ d. d.value) r.done; output = r.state.output }
+shown p plan = let r = plain_run p plan in shown_from r.ending r.done r.state.output
 
 -- a test kills a mutant where the mutant's run shows something else than the program's
 abbrev pub IsKilled : Program → Program → Plan → Type 0
@@ -29,3 +33,11 @@ pub record Kills (p : Program) (plans : List Plan) (item : ℕ) : Type 0 where
   pub plan : Plan
   pub planned : slice_get plans (item % length plans) ≡ Some plan
   pub killed : IsKilled p mutant plan
+
+-- bit 0 is hit under an item that kills, and there is no other bit
+abbrev pub does_of : Program → List Plan → ℕ → ℕ → Type 0
+does_of p plans item bit = (bit ≡ 0) × Kills p plans item
+
+-- the most mutants that tests are run on
+abbrev pub most_mutants : ℕ
+most_mutants = 4096

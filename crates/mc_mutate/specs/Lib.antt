@@ -2,6 +2,8 @@ pub mod Changes
 pub mod Mutants
 pub mod Told
 pub mod Kills
+pub mod Silent
+pub mod Runs
 pub mod Worked
 pub mod Laws
 pub mod steps

@@ -12,7 +12,7 @@ use mc_roots::{Role, is_boolean};
 use mc_typed::{Expression, Span};
 
 /// Whether an expression that stands so in what is around it is the root of a decision.
-fn is_root(role: Role, tree: &Expression) -> bool
+pub(crate) fn is_root(role: Role, tree: &Expression) -> bool
     ensures { result ≡ roots.is_root role (nodes.expression (expression_of tree.now)) }
 {
     match role {
@@ -34,7 +34,7 @@ pub(super) fn own(sought: Sought, role: Role, tree: &Expression) -> Sought
 }
 
 /// Goes on in the decision with this root: in its nodes, and then in its conditions.
-fn in_decision(sought: Sought, tree: &Expression) -> Sought
+pub(crate) fn in_decision(sought: Sought, tree: &Expression) -> Sought
     ensures { result ≡ search.in_decision (nodes.expression (expression_of tree.now)) sought }
 {
     in_conditions(in_nodes(sought, tree), tree)

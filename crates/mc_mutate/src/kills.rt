@@ -1,0 +1,7 @@
+//! Which tests kill which mutants.
+mod original;
+mod runs;
+mod silent;
+mod workers;
+
+pub use workers::run_mutants;
