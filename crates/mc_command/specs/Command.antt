@@ -31,6 +31,8 @@ pub data Task : Type 0 where
   watched : (looks : ℕ) → Task
   -- `reduce`: tests that show what all of them show, and none of which can go
   reduced : Independence → Task
+  -- `mutate`: which changes of the decisions the tests notice
+  mutated : Task
   -- `list`: the lines of the source, each with the mark of its worst verdict
   listed : Listing → Task
 
@@ -44,7 +46,7 @@ pub record Run : Type 0 where
 
 -- what is done with a source
 pub data Action : Type 0 where
-  -- its tests are run: `report`, `vectors`, `record`, `watch`, `reduce`, `list`
+  -- its tests are run: `report`, `vectors`, `record`, `watch`, `reduce`, `mutate`, `list`
   run : Run → Action
   -- `instrument`: its program is written with the probes
   instrument : Action
@@ -86,6 +88,7 @@ task_in name values =
     else if bytes_eq name (codes "record") then Some recorded
     else if bytes_eq name (codes "watch") then option_map watched (looks_in values)
     else if bytes_eq name (codes "reduce") then option_map reduced (mode_in values)
+    else if bytes_eq name (codes "mutate") then Some mutated
     else if bytes_eq name (codes "list") then option_map listed (listing_in values)
     else None
 

@@ -1,7 +1,7 @@
 -- What clauses see of commands.
 use Rattle.std.specs.Prelude.{◌≤◌, ℕ, ⊤, option_map}
 use Rattle.mc_limits.specs.Limits.{most_fuel, most_functions, most_workers}
-use Rattle.mc_command.specs.Command.{Action, Command, Listing, Report, Run, Task, analyse, instrument, listed, merge, on_source, recorded, reduced, report, run, selfload, vectors, watched}
+use Rattle.mc_command.specs.Command.{Action, Command, Listing, Report, Run, Task, analyse, instrument, listed, merge, mutated, on_source, recorded, reduced, report, run, selfload, vectors, watched}
 use Rattle.mc_command.specs.Values.{most_looks, most_watched_workers}
 use Rattle.mc_command.specs.declared.action.Action.{Action as ActionGiven}
 use Rattle.mc_command.specs.declared.action.Action.TheVariants as action
@@ -26,6 +26,7 @@ seen_task task.Vectors = vectors
 seen_task task.Record = recorded
 seen_task (task.Watch looks) = watched looks
 seen_task (task.Reduce mode) = reduced mode
+seen_task task.Mutate = mutated
 seen_task (task.List l) = listed (seen_listing l)
 
 abbrev pub seen_run : RunGiven → Run

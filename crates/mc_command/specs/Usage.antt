@@ -51,6 +51,10 @@ watch_app = with_rule (run_app (codes "watch")) (option_rule (codes "looks"))
 abbrev pub reduce_app : App
 reduce_app = with_rule (run_app (codes "reduce")) (option_rule (codes "mode"))
 
+-- `mutate SOURCE TESTS [--workers N] [--fuel N]`
+abbrev pub mutate_app : App
+mutate_app = run_app (codes "mutate")
+
 -- `list SOURCE TESTS [--workers N] [--fuel N] [--mode M] [--justify NAME]`
 abbrev pub list_app : App
 list_app =
@@ -85,21 +89,23 @@ with_run_commands line =
     (with_subcommand (with_subcommand line report_app.top) (run_app (codes "vectors")).top)
     (run_app (codes "record")).top
 
--- the commands that run the tests of a source to look at them, to choose among them, and to list it
+-- the commands that run the tests of a source to look at them, to choose among them, and to try them
+-- on its mutants
 abbrev pub with_tester_commands : App → App
 with_tester_commands line =
     with_subcommand (with_subcommand (with_subcommand line watch_app.top) reduce_app.top)
-    list_app.top
+    mutate_app.top
 
 -- the commands on records
 abbrev pub with_record_commands : App → App
 with_record_commands line =
     with_subcommand (with_subcommand line merge_app.top) analyse_app.top
 
--- the command on a source alone, and the one on a source that the program makes itself
+-- the commands that write a source out, and the one on a source that the program makes itself
 abbrev pub with_other_commands : App → App
 with_other_commands line =
-    with_subcommand (with_subcommand line instrument_app.top) selfload_app.top
+    with_subcommand (with_subcommand (with_subcommand line list_app.top) instrument_app.top)
+    selfload_app.top
 
 abbrev pub line_app : App
 line_app =

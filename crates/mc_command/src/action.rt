@@ -13,7 +13,7 @@ use clap::ArgMatches;
 /// What is done with a source that is accepted.
 #[derive(Clone, Copy)]
 pub enum Action<'w> {
-    /// Its tests are run: `report`, `vectors`, `record`, `watch`, `reduce`, `list`
+    /// Its tests are run: `report`, `vectors`, `record`, `watch`, `reduce`, `mutate`, `list`
     Run(Run<'w>),
     /// Its program is written with the probes: `instrument`
     Instrument,

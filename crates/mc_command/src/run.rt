@@ -53,9 +53,12 @@ fn most_workers_of(task: Task<'_>) -> u32
 {
     match task {
         Task::Watch { .. } => MOST_WATCHED_WORKERS,
-        Task::Report(_) | Task::Vectors | Task::Record | Task::Reduce { .. } | Task::List(_) => {
-            MOST_WORKERS
-        }
+        Task::Report(_)
+        | Task::Vectors
+        | Task::Record
+        | Task::Reduce { .. }
+        | Task::Mutate
+        | Task::List(_) => MOST_WORKERS,
     }
 }
 

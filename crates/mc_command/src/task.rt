@@ -29,6 +29,8 @@ pub enum Task<'w> {
         /// How the independence of conditions is to be shown.
         mode: Independence,
     },
+    /// Which changes of the decisions the tests notice: `mutate`
+    Mutate,
     /// The lines of the source, each with the mark of its worst verdict: `list`
     List(Listing<'w>),
 }
@@ -54,6 +56,7 @@ pub fn read_task<'w>(name: &str, values: &ArgMatches<'w>) -> Option<Task<'w>>
             let mode = read_mode(values)?;
             Some(Task::Reduce { mode })
         }
+        "mutate" => Some(Task::Mutate),
         "list" => {
             let listing = read_listing(values)?;
             Some(Task::List(listing))

@@ -2,7 +2,7 @@
 ghost use Rattle.std.specs.Prelude.{◌≡◌, IfOk, codes, false};
 ghost use Rattle.clap.specs.declared.builder.command.Command.TheViews.{out-Command as fields_of};
 ghost use Rattle.clap.specs.Words.{app_of, new_app, rule_of};
-ghost use Rattle.mc_command.specs.Usage.{analyse_app, files_app, instrument_app, line_app, list_app, merge_app, option_rule, positional_rule, reduce_app, report_app, report_rules, run_app, selfload_app, watch_app, with_other_commands, with_record_commands, with_rules, with_run_commands, with_tester_commands};
+ghost use Rattle.mc_command.specs.Usage.{analyse_app, files_app, instrument_app, line_app, list_app, merge_app, mutate_app, option_rule, positional_rule, reduce_app, report_app, report_rules, run_app, selfload_app, watch_app, with_other_commands, with_record_commands, with_rules, with_run_commands, with_tester_commands};
 
 use clap::{Arg, Command};
 use std::alloc::{AllocError, Global};
@@ -98,6 +98,14 @@ fn reduce<'w>(alloc: Global) -> Result<Command<'w>, AllocError>
     command.arg(option(alloc, "mode"))
 }
 
+// `mutate SOURCE TESTS [--workers N] [--fuel N]`
+fn mutate<'w>(alloc: Global) -> Result<Command<'w>, AllocError>
+    ensures app { IfOk result (λ c. app_of c ≡ mutate_app) }
+    ensures local { IfOk result (λ c. (fields_of c).has_globals ≡ false) }
+{
+    run(alloc, "mutate")
+}
+
 // `list SOURCE TESTS [--workers N] [--fuel N] [--mode M] [--justify NAME]`
 fn list<'w>(alloc: Global) -> Result<Command<'w>, AllocError>
     ensures app { IfOk result (λ c. app_of c ≡ list_app) }
@@ -154,14 +162,17 @@ fn with_run_commands<'w>(alloc: Global, line: Command<'w>) -> Result<Command<'w>
         .subcommand(recorded)
 }
 
-// The commands that run the tests of a source to look at them, to choose among them, and to list it.
+// The commands that run the tests of a source to look at them, to choose among them, and to try them
+// on its mutants.
 fn with_tester_commands<'w>(alloc: Global, line: Command<'w>) -> Result<Command<'w>, AllocError>
     ensures { IfOk result (λ c. app_of c ≡ with_tester_commands (app_of line.entry)) }
 {
     let watch = watch(alloc)?;
     let reduce = reduce(alloc)?;
-    let list = list(alloc)?;
-    line.subcommand(watch)?.subcommand(reduce)?.subcommand(list)
+    let mutate = mutate(alloc)?;
+    line.subcommand(watch)?
+        .subcommand(reduce)?
+        .subcommand(mutate)
 }
 
 // The commands on records.
@@ -173,13 +184,16 @@ fn with_record_commands<'w>(alloc: Global, line: Command<'w>) -> Result<Command<
     line.subcommand(merge)?.subcommand(analyse)
 }
 
-// The command on a source alone, and the one on a source that the program makes itself.
+// The commands that write a source out, and the one on a source that the program makes itself.
 fn with_other_commands<'w>(alloc: Global, line: Command<'w>) -> Result<Command<'w>, AllocError>
     ensures { IfOk result (λ c. app_of c ≡ with_other_commands (app_of line.entry)) }
 {
+    let list = list(alloc)?;
     let instrument = instrument(alloc)?;
     let selfload = selfload(alloc)?;
-    line.subcommand(instrument)?.subcommand(selfload)
+    line.subcommand(list)?
+        .subcommand(instrument)?
+        .subcommand(selfload)
 }
 
 /// The command line of the program.

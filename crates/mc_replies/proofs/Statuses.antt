@@ -24,6 +24,7 @@ after_source_answers status.CannotRead is = is
 after_source_answers status.CannotWrite is = is
 after_source_answers status.OutOfMemory is = is
 after_source_answers status.TooLarge is = tt
+after_source_answers status.TooManyMutants is = tt
 
 pub seven : (s : Status) → number_of s ≡ 7 → s ≡ status.CannotWrite
 seven status.Done is = absurd (omega arith)
@@ -36,6 +37,7 @@ seven status.CannotRead is = absurd (omega arith)
 seven status.CannotWrite is = refl
 seven status.OutOfMemory is = absurd (omega arith)
 seven status.TooLarge is = absurd (omega arith)
+seven status.TooManyMutants is = absurd (omega arith)
 
 pub is_answer : (s : Status) → s ≢ status.CannotRead → s ≢ status.CannotWrite → s ≢ status.OutOfMemory → IsAnswer s
 is_answer status.Done r w m = tt
@@ -48,3 +50,4 @@ is_answer status.CannotRead r w m = r refl
 is_answer status.CannotWrite r w m = w refl
 is_answer status.OutOfMemory r w m = m refl
 is_answer status.TooLarge r w m = tt
+is_answer status.TooManyMutants r w m = tt

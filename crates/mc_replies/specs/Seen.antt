@@ -9,7 +9,7 @@ use Rattle.mc_record.specs.Lines.{record_lines}
 use Rattle.mc_record.specs.Seen.{kept_of}
 use Rattle.mc_replies.specs.Files.{File as AskedFile}
 use Rattle.mc_replies.specs.Reply.{Reply as CalledFor, listing_pieces, longer, out_of_memory, program_pieces, refusal}
-use Rattle.mc_replies.specs.Texts.{bits_line, entry_line, form_line, justifications_line, kept_line, many_line, many_tests_line, matrix_line, place_line, quote_line, same_test_line, tests_line}
+use Rattle.mc_replies.specs.Texts.{bits_line, entry_line, form_line, justifications_line, kept_line, many_line, many_tests_line, matrix_line, mutants_line, place_line, quote_line, same_test_line, tests_line}
 use Rattle.mc_replies.specs.declared.file.File.{File}
 use Rattle.mc_replies.specs.declared.output.Output.{Output}
 use Rattle.mc_replies.specs.declared.output.Output.TheVariants as output
@@ -18,7 +18,7 @@ use Rattle.mc_replies.specs.declared.refusal.Refusal.TheVariants as why
 use Rattle.mc_replies.specs.declared.stop.Stop.{Stop}
 use Rattle.mc_replies.specs.declared.stop.Stop.TheVariants as stop
 use Rattle.mc_replies.specs.declared.reply.Reply.{Reply}
-use Rattle.mc_replies.specs.declared.status.Status.TheVariants.{SourceRefused, TestsRefused, JustificationsRefused, TooLarge}
+use Rattle.mc_replies.specs.declared.status.Status.TheVariants.{SourceRefused, TestsRefused, JustificationsRefused, TooLarge, TooManyMutants}
 
 abbrev pub seen_file : File → AskedFile
 seen_file f = record { kind = f.kind; name = f.name.now }
@@ -44,6 +44,7 @@ reply_to (why.Entry entry word) = refusal JustificationsRefused (entry_line entr
 reply_to (why.Quote entry kept given) =
     refusal JustificationsRefused (quote_line entry kept.now given.items)
 reply_to (why.TooLarge words) = refusal TooLarge (matrix_line words)
+reply_to (why.TooManyMutants count) = refusal TooManyMutants (mutants_line count)
 
 -- the reply where a phase gives nothing; there is none to memory that does not suffice
 abbrev pub IsReplyTo : Stop → CalledFor → Type 0

@@ -1,7 +1,7 @@
 -- The status of the program.
 use Rattle.std.specs.Prelude.{ℕ, ◌==◌, if◌then◌else◌}
 use Rattle.mc_replies.specs.declared.status.Status.{Status}
-use Rattle.mc_replies.specs.declared.status.Status.TheVariants.{Done, Incomplete, NoCommand, SourceRefused, TestsRefused, JustificationsRefused, CannotRead, CannotWrite, OutOfMemory, TooLarge}
+use Rattle.mc_replies.specs.declared.status.Status.TheVariants.{Done, Incomplete, NoCommand, SourceRefused, TestsRefused, JustificationsRefused, CannotRead, CannotWrite, OutOfMemory, TooLarge, TooManyMutants}
 
 abbrev pub number_of : Status → ℕ
 number_of Done = 0
@@ -14,6 +14,7 @@ number_of CannotRead = 6
 number_of CannotWrite = 7
 number_of OutOfMemory = 8
 number_of TooLarge = 9
+number_of TooManyMutants = 10
 
 -- the status where all was written: the number is 0, or 1 where something is missing
 abbrev pub status_written : ℕ → Status
@@ -31,6 +32,7 @@ IsAnswer CannotRead = ⊥
 IsAnswer CannotWrite = ⊥
 IsAnswer OutOfMemory = ⊥
 IsAnswer TooLarge = Unit {0}
+IsAnswer TooManyMutants = Unit {0}
 
 -- a status of a command whose source is accepted, if nothing fails
 abbrev pub IsAfterSource : Status → Type 0
@@ -44,3 +46,4 @@ IsAfterSource CannotRead = ⊥
 IsAfterSource CannotWrite = ⊥
 IsAfterSource OutOfMemory = ⊥
 IsAfterSource TooLarge = Unit {0}
+IsAfterSource TooManyMutants = Unit {0}

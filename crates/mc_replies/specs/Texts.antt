@@ -28,6 +28,7 @@ usage_text =
     ∷ codes "       mcdc watch SOURCE TESTS [--workers N] [--fuel N] [--looks N]" ∷ newline
     ∷ codes "       mcdc reduce SOURCE TESTS [--mode unique|masking] [--workers N] [--fuel N]"
     ∷ newline
+    ∷ codes "       mcdc mutate SOURCE TESTS [--workers N] [--fuel N]" ∷ newline
     ∷ codes "       mcdc list SOURCE TESTS [--mode unique|masking] [--workers N] [--fuel N]"
     ∷ codes " [--justify NAME]" ∷ newline ∷ [])
 
@@ -150,3 +151,8 @@ quote_line entry kept given =
 abbrev pub matrix_line : (words : ℕ) → List ℕ
 matrix_line words =
     concat (codes "mcdc: matrix needs " ∷ decimal words ∷ codes " words" ∷ newline ∷ [])
+
+-- how many mutants there are of a program that has too many
+abbrev pub mutants_line : (count : ℕ) → List ℕ
+mutants_line count =
+    concat (codes "mcdc: too many mutants " ∷ decimal count ∷ newline ∷ [])

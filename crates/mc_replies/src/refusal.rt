@@ -70,6 +70,10 @@ pub enum Refusal<'a> {
     TooLarge {
         words: u64,
     },
+    /// The program has so many mutants, which are too many.
+    TooManyMutants {
+        count: u32,
+    },
 }
 
 impl Refusal<'_> {
@@ -91,6 +95,7 @@ impl Refusal<'_> {
                 Status::JustificationsRefused
             }
             Refusal::TooLarge { .. } => Status::TooLarge,
+            Refusal::TooManyMutants { .. } => Status::TooManyMutants,
         }
     }
 }

@@ -7,7 +7,8 @@ ghost use Rattle.mc_replies.specs.Status.{number_of, status_written};
 pub enum Status {
     /// All was written, and nothing is missing.
     Done,
-    /// All was written, and an obligation is missing or a test did not pass.
+    /// All was written, and an obligation is missing, a mutant survived, or a test did not
+    /// pass.
     Incomplete,
     /// The words are not a command.
     NoCommand,
@@ -25,6 +26,8 @@ pub enum Status {
     OutOfMemory,
     /// The matrix of all bits under all tests has too many words.
     TooLarge,
+    /// The program has too many mutants.
+    TooManyMutants,
 }
 
 impl Status {
@@ -54,6 +57,7 @@ impl Status {
             Status::CannotWrite => 7,
             Status::OutOfMemory => 8,
             Status::TooLarge => 9,
+            Status::TooManyMutants => 10,
         }
     }
 }

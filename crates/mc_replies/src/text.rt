@@ -1,7 +1,7 @@
 //! The texts on the errors' sink.
 ghost use Rattle.std.specs.Prelude.{◌≡◌, IfOk};
 ghost use Rattle.mc_replies.specs.Seen.{reply_to};
-ghost use Rattle.mc_replies.specs.Texts.{bits_line, cannot_read_line, entry_line, form_line, justifications_line, kept_line, longer_line, many_line, many_tests_line, matrix_line, place_line, quote_line, record_line, same_test_line, tests_line, usage_text};
+ghost use Rattle.mc_replies.specs.Texts.{bits_line, cannot_read_line, entry_line, form_line, justifications_line, kept_line, longer_line, many_line, many_tests_line, matrix_line, mutants_line, place_line, quote_line, record_line, same_test_line, tests_line, usage_text};
 
 use crate::refusal::Refusal;
 use mc_lex::Place;
@@ -25,6 +25,7 @@ pub fn usage_text(alloc: Global) -> Result<Vec<u8>, AllocError>
         mcdc selfload N [--workers N]\n       \
         mcdc watch SOURCE TESTS [--workers N] [--fuel N] [--looks N]\n       \
         mcdc reduce SOURCE TESTS [--mode unique|masking] [--workers N] [--fuel N]\n       \
+        mcdc mutate SOURCE TESTS [--workers N] [--fuel N]\n       \
         mcdc list SOURCE TESTS [--mode unique|masking] [--workers N] [--fuel N] \
         [--justify NAME]\n",
     )?;
@@ -177,6 +178,14 @@ fn matrix_line(alloc: Global, words: u64) -> Result<Vec<u8>, AllocError>
     Ok(text.into_bytes())
 }
 
+// The line on a program with too many mutants.
+fn mutants_line(alloc: Global, count: u32) -> Result<Vec<u8>, AllocError>
+    ensures { IfOk result (λ text. text.items ≡ mutants_line count) }
+{
+    let text = format!(in alloc; "mcdc: too many mutants {count}\n")?;
+    Ok(text.into_bytes())
+}
+
 /// The line of a refusal.
 pub fn refusal_line(alloc: Global, refusal: &Refusal<'_>) -> Result<Vec<u8>, AllocError>
     ensures { IfOk result (λ line. line.items ≡ (reply_to refusal.now).diag) }
@@ -195,5 +204,6 @@ pub fn refusal_line(alloc: Global, refusal: &Refusal<'_>) -> Result<Vec<u8>, All
         Refusal::Entry { entry, word } => entry_line(alloc, *entry, word),
         Refusal::Quote { entry, kept, given } => quote_line(alloc, *entry, kept, given),
         Refusal::TooLarge { words } => matrix_line(alloc, *words),
+        Refusal::TooManyMutants { count } => mutants_line(alloc, *count),
     }
 }

@@ -8,9 +8,11 @@ mod job;
 mod laws;
 mod output;
 mod results;
+mod states;
 mod watching;
 mod workers;
 
 pub use laws::{bits_stand, closed_is_recorded, events_stand, results_are_plain};
+pub use states::test_states;
 pub use watching::watch_tests;
 pub use workers::run_tests;

@@ -44,7 +44,8 @@ fn values_of(alloc: Global, done: &[CallDone]) -> Result<Vec<Option<i128>>, Allo
     Ok(values)
 }
 
-fn state(calls: &[Call], ending: Ending, done: &[CallDone], output: &[i32]) -> TestState
+/// The state of a test whose run ended so.
+pub(crate) fn state(calls: &[Call], ending: Ending, done: &[CallDone], output: &[i32]) -> TestState
     ensures { result
         ≡ state_of (map plan_call_of calls.now) ending (map done_of done.now) output.now }
 {

@@ -10,7 +10,7 @@ use Rattle.mc_replies.specs.declared.status.Status.{Status}
 use Rattle.mc_replies.specs.declared.status.Status.TheVariants as status
 use Rattle.mc_station.specs.Calls as calls
 use Rattle.mc_station.specs.Calls.{Call, CallsFor, Leads, Requests}
-use Rattle.mc_station.specs.Causes.{AsksReasons, MatrixIsRefusedAfter, TestsOrRecordsAreRefusedAfter, IsOfRefusal, MatrixIsRefused, PairIsRefused, ReasonsAreRefused, SourceIsRefused, TestsOrRecordsAreRefused, FileIsRefused, SourceIs}
+use Rattle.mc_station.specs.Causes.{AsksReasons, MatrixIsRefusedAfter, MutantsAreRefusedAfter, TestsOrRecordsAreRefusedAfter, IsOfRefusal, MatrixIsRefused, MutantsAreRefused, PairIsRefused, ReasonsAreRefused, SourceIsRefused, TestsOrRecordsAreRefused, FileIsRefused, SourceIs}
 use Rattle.mc_station.specs.Records.{JudgesRecord}
 use Rattle.mc_station.specs.Source.{Accepted, JudgesSource}
 use Rattle.mc_station.specs.Stages as stages
@@ -18,7 +18,8 @@ use Rattle.mc_station.specs.Stages.{Judges, JudgesReasons, Stage, after_source, 
 use Rattle.mc_station.specs.Statuses.{CausesCall}
 use Rattle.mc_station.specs.Tests.{JudgesTests}
 use Rattle.mc_gen.specs.Source.{source_text}
-use Rattle.mc_station.proofs.Causes.{of_matrix, of_record, of_source}
+use Rattle.mc_station.proofs.Allowing.{allows_matrix, allows_mutants, not_mutated}
+use Rattle.mc_station.proofs.Causes.{of_matrix, of_mutants, of_record, of_source}
 
 module _ (skipped : List ℕ) (files : Option Files) where
   -- a stage leads to the reply, whatever was asked for before
@@ -83,8 +84,8 @@ module _ (skipped : List ℕ) (files : Option Files) where
       λ asked. (asked, calls.answers (stages.load count workers) asked asked r (calls.finished r (inr (accepted, judges, inl cause))))
 
   after_matrix_comes : (action : command.Action) (accepted : Accepted) (r : Reply) → MatrixIsRefusedAfter files action accepted r → Comes (after_source action accepted) r
-  after_matrix_comes (command.run run) accepted r (plans, (bytes, holds, judges), fits) =
-      refused_at (stages.tests run accepted) (stages.tests_named run.tests) bytes r refl holds (inr (plans, judges, inl fits))
+  after_matrix_comes (command.run run) accepted r (plans, (bytes, holds, judges), other, fits) =
+      refused_at (stages.tests run accepted) (stages.tests_named run.tests) bytes r refl holds (inr (plans, judges, inl (allows_matrix accepted plans run.task (Err r) other fits)))
   after_matrix_comes command.instrument accepted r cause = absurd cause
   after_matrix_comes (command.merge left right) accepted r cause = pair_comes left right accepted status.TooLarge r cause
   after_matrix_comes (command.analyse kept report) accepted r cause = absurd cause
@@ -94,6 +95,18 @@ module _ (skipped : List ℕ) (files : Option Files) where
   matrix_comes (Some (command.on_source name action)) r (accepted, source, cause) = from_source name action accepted r source (after_matrix_comes action accepted r cause)
   matrix_comes (Some (command.selfload count workers)) r (accepted, judges, (plans, read, fits)) =
       λ asked. (asked, calls.answers (stages.load count workers) asked asked r (calls.finished r (inr (accepted, judges, inr (plans, read, inl fits)))))
+
+  after_mutants_come : (action : command.Action) (accepted : Accepted) (r : Reply) → MutantsAreRefusedAfter files action accepted r → Comes (after_source action accepted) r
+  after_mutants_come (command.run run) accepted r (plans, (bytes, holds, judges), is, few) =
+      refused_at (stages.tests run accepted) (stages.tests_named run.tests) bytes r refl holds (inr (plans, judges, inl (allows_mutants accepted plans run.task (Err r) is few)))
+  after_mutants_come command.instrument accepted r cause = absurd cause
+  after_mutants_come (command.merge left right) accepted r cause = absurd cause
+  after_mutants_come (command.analyse kept report) accepted r cause = absurd cause
+
+  mutants_come : (given : Option Command) (r : Reply) → MutantsAreRefused files given r → Comes (first_stage given) r
+  mutants_come None r cause = absurd cause
+  mutants_come (Some (command.on_source name action)) r (accepted, source, cause) = from_source name action accepted r source (after_mutants_come action accepted r cause)
+  mutants_come (Some (command.selfload count workers)) r cause = absurd cause
 
   -- ---- justifications
 
@@ -107,7 +120,8 @@ module _ (skipped : List ℕ) (files : Option Files) where
       → FileIsRefused files (stages.reasons_named name) (JudgesReasons accepted) r → Comes (after_source action accepted) r
   after_reasons_come (command.run run) accepted name r (is, (plans, (bytes, holds, judges), few)) cause =
       let basis = stages.tested run plans in
-      accept (stages.tests run accepted) (after_tests (justified_by run.task) accepted basis) (stages.tests_named run.tests) bytes r refl holds (plans, judges, (tt, few, refl))
+      accept (stages.tests run accepted) (after_tests (justified_by run.task) accepted basis) (stages.tests_named run.tests) bytes r refl holds
+      (plans, judges, (tt, allows_matrix accepted plans run.task (Ok tt) (not_mutated run.task name is) few, refl))
       (reasons_at (justified_by run.task) name accepted basis r is cause)
   after_reasons_come command.instrument accepted name r asks cause = absurd asks
   after_reasons_come (command.merge left right) accepted name r asks cause = absurd asks
@@ -154,7 +168,7 @@ module _ (files : Option Files) where
   tests_status (Some (command.selfload count workers)) r (accepted, judges, (fault, read, is)) = ap (λ (x : Reply). x.status) is
 
   after_matrix_status : (action : command.Action) (accepted : Accepted) (r : Reply) → MatrixIsRefusedAfter files action accepted r → r.status ≡ status.TooLarge
-  after_matrix_status (command.run run) accepted r (plans, are, fits) = of_matrix accepted plans r fits
+  after_matrix_status (command.run run) accepted r (plans, are, other, fits) = of_matrix accepted plans r fits
   after_matrix_status command.instrument accepted r cause = absurd cause
   after_matrix_status (command.merge left right) accepted r (first, second, are, (joins, is)) = is
   after_matrix_status (command.analyse kept report) accepted r cause = absurd cause
@@ -163,6 +177,17 @@ module _ (files : Option Files) where
   matrix_status None r cause = absurd cause
   matrix_status (Some (command.on_source name action)) r (accepted, source, cause) = after_matrix_status action accepted r cause
   matrix_status (Some (command.selfload count workers)) r (accepted, judges, (plans, read, fits)) = of_matrix accepted plans r fits
+
+  after_mutants_status : (action : command.Action) (accepted : Accepted) (r : Reply) → MutantsAreRefusedAfter files action accepted r → r.status ≡ status.TooManyMutants
+  after_mutants_status (command.run run) accepted r (plans, are, is, few) = of_mutants accepted r few
+  after_mutants_status command.instrument accepted r cause = absurd cause
+  after_mutants_status (command.merge left right) accepted r cause = absurd cause
+  after_mutants_status (command.analyse kept report) accepted r cause = absurd cause
+
+  mutants_status : (given : Option Command) (r : Reply) → MutantsAreRefused files given r → r.status ≡ status.TooManyMutants
+  mutants_status None r cause = absurd cause
+  mutants_status (Some (command.on_source name action)) r (accepted, source, cause) = after_mutants_status action accepted r cause
+  mutants_status (Some (command.selfload count workers)) r cause = absurd cause
 
   reasons_status : (given : Option Command) (r : Reply) → ReasonsAreRefused files given r → r.status ≡ status.JustificationsRefused
   reasons_status None r cause = absurd cause
@@ -183,6 +208,7 @@ refusal_answers status.CannotRead is = absurd is
 refusal_answers status.CannotWrite is = absurd is
 refusal_answers status.OutOfMemory is = absurd is
 refusal_answers status.TooLarge is = tt
+refusal_answers status.TooManyMutants is = tt
 
 called : (call : Call) (r : Reply) (s : Status) → IsOfRefusal s → r.status ≡ s → Comes call.skipped call.files (first_stage (command_of call.words)) r → CallsFor call r × (r.status ≡ s)
 called call r s refusal is comes =
@@ -209,3 +235,6 @@ causes_call call r status.OutOfMemory refusal cause = absurd refusal
 causes_call call r status.TooLarge refusal cause =
     let given = command_of call.words in
     called call r status.TooLarge refusal (matrix_status call.files given r cause) (matrix_comes call.skipped call.files given r cause)
+causes_call call r status.TooManyMutants refusal cause =
+    let given = command_of call.words in
+    called call r status.TooManyMutants refusal (mutants_status call.files given r cause) (mutants_come call.skipped call.files given r cause)

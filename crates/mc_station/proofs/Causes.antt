@@ -19,7 +19,7 @@ use Rattle.mc_replies.specs.declared.status.Status.TheVariants as status
 use Rattle.mc_replies.proofs.Phases.{refusal_status}
 use Rattle.mc_station.specs.Calls as calls
 use Rattle.mc_station.specs.Calls.{Answers, Fails, Leads, Requests}
-use Rattle.mc_station.specs.Causes.{AsksReasons, Cause, IsAsked, IsOfText, MatrixIsRefused, ReasonsAreRefused, RecordIs, SourceIs, SourceIsRefused, TestsOrRecordsAreRefused}
+use Rattle.mc_station.specs.Causes.{AsksReasons, Cause, IsAsked, IsOfText, MatrixIsRefused, MutantsAreRefused, ReasonsAreRefused, RecordIs, SourceIs, SourceIsRefused, TestsOrRecordsAreRefused}
 use Rattle.mc_station.specs.Laws.{and_all}
 use Rattle.mc_station.specs.Records.{JudgesRecord}
 use Rattle.mc_station.specs.Source.{Accepted, JudgesSource}
@@ -28,7 +28,9 @@ use Rattle.mc_station.specs.Stages.{Ends, Judges, Stage, Tells, after_source, af
 use Rattle.mc_station.specs.Statuses.{AskedInTurn, StatusesHaveCauses, TextsAreAlone}
 use Rattle.mc_station.specs.Tests.{Fits}
 use Rattle.mc_station.specs.commands.Merge.{Joins, pair_reply}
+use Rattle.mc_station.specs.commands.Mutate.{FewMutants}
 use Rattle.mc_station.specs.commands.Selfload.{Loads}
+use Rattle.mc_station.proofs.Allowing.{allowed_fits, asked}
 use Rattle.mc_station.proofs.Joining.{no_memory}
 use Rattle.mc_station.proofs.Order.{and_more, none_more, one_more}
 use Rattle.mc_station.proofs.Refusing.{refuses_source}
@@ -43,6 +45,9 @@ of_record accepted name bytes r (fault, given, is) = ap (λ (x : Reply). x.statu
 
 pub of_matrix : (accepted : Accepted) (plans : List Plan) (r : Reply) → Fits accepted plans (Err r) → r.status ≡ status.TooLarge
 of_matrix accepted plans r (large, is) = ap (λ (x : Reply). x.status) is
+
+pub of_mutants : (accepted : Accepted) (r : Reply) → FewMutants accepted (Err r) → r.status ≡ status.TooManyMutants
+of_mutants accepted r (many, is) = ap (λ (x : Reply). x.status) is
 
 -- a pair is refused with one of two statuses
 abbrev IsOfPair : Status → Type 0
@@ -103,7 +108,7 @@ module _ (files : Option Files) (given : Option Command) where
       let asked = justified_by run.task in
       let same : t ≡ after_tests asked accepted (stages.tested run plans) = cc next in
       let held = held_as f (stages.tests_named run.tests) bytes (cc is) holds in
-      subst At (sym same) (at_reasons asked name (command.run run) accepted (stages.tested run plans) given_is source (λ reasons asks. (asks, (plans, (bytes, held, judges), fits))))
+      subst At (sym same) (at_reasons asked name (command.run run) accepted (stages.tested run plans) given_is source (λ reasons asks. (asks, (plans, (bytes, held, judges), allowed_fits run.task reasons accepted plans u asks fits))))
   goes_on (stages.left name other accepted) t f bytes (source, given_is, from) is holds (first, judges, next) =
       let same : t ≡ stages.right other accepted first = cc next in
       let held = held_as f (stages.record_named name) bytes (cc is) holds in
@@ -154,6 +159,7 @@ module _ (files : Option Files) (given : Option Command) where
   Because r status.CannotWrite = Cause files given r status.CannotWrite
   Because r status.OutOfMemory = Cause files given r status.OutOfMemory
   Because r status.TooLarge = Cause files given r status.TooLarge
+  Because r status.TooManyMutants = Cause files given r status.TooManyMutants
 
   cause_of : (r : Reply) (s : Status) → Because r s → IsOfText s ⊎ Cause files given r s
   cause_of r status.Done because = inl tt
@@ -166,6 +172,7 @@ module _ (files : Option Files) (given : Option Command) where
   cause_of r status.CannotWrite because = inr because
   cause_of r status.OutOfMemory because = inr because
   cause_of r status.TooLarge because = inr because
+  cause_of r status.TooManyMutants because = inr because
 
   alone_in : (r : Reply) (s : Status) → IsOfText s → Because r s → r.diag ≡ []
   alone_in r status.Done is because = because
@@ -178,6 +185,7 @@ module _ (files : Option Files) (given : Option Command) where
   alone_in r status.CannotWrite is because = absurd is
   alone_in r status.OutOfMemory is because = absurd is
   alone_in r status.TooLarge is because = absurd is
+  alone_in r status.TooManyMutants is because = absurd is
 
   -- by the status that it has
   with_status : (s : Status) (r : Reply) → r.status ≡ s → Because r s → Because r r.status
@@ -195,6 +203,7 @@ module _ (files : Option Files) (given : Option Command) where
   tells_cause skipped command.recorded accepted plans js r (kept, of, is) = is_written _ _ r is
   tells_cause skipped (command.watched looks) accepted plans js r (counts, recorded, counted, many, is) = is_written _ _ r is
   tells_cause skipped (command.reduced mode) accepted plans js r (kept, lost, reduced, is) = is_written _ _ r is
+  tells_cause skipped command.mutated accepted plans js r (killers, are, is) = is_written _ _ r is
   tells_cause skipped (command.listed asked) accepted plans js r (made, on, is) = is_written _ _ r is
 
   on_source : (r : Reply) → SourceIsRefused files given r → r.status ≡ status.SourceRefused → Because r r.status
@@ -205,6 +214,9 @@ module _ (files : Option Files) (given : Option Command) where
 
   on_matrix : (r : Reply) → MatrixIsRefused files given r → r.status ≡ status.TooLarge → Because r r.status
   on_matrix r cause is = with_status status.TooLarge r is cause
+
+  on_mutants : (r : Reply) → MutantsAreRefused files given r → r.status ≡ status.TooManyMutants → Because r r.status
+  on_mutants r cause is = with_status status.TooManyMutants r is cause
 
   loads_cause : (skipped : List ℕ) (count workers : ℕ) (r : Reply) → given ≡ Some (command.selfload count workers) → Loads skipped count r → Because r r.status
   loads_cause skipped count workers r at (inl judges) =
@@ -245,8 +257,10 @@ module _ (files : Option Files) (given : Option Command) where
       on_tests r (subst (λ (c : Option Command). TestsOrRecordsAreRefused files c r) (sym at) (accepted, source, inl (long, is))) (ap (λ (x : Reply). x.status) is)
   on_plans run accepted r (name, at, source) (inr (bytes, holds, inl (fault, read, is))) =
       on_tests r (subst (λ (c : Option Command). TestsOrRecordsAreRefused files c r) (sym at) (accepted, source, inr (bytes, holds, (fault, read, is)))) (ap (λ (x : Reply). x.status) is)
-  on_plans run accepted r (name, at, source) (inr (bytes, holds, inr (plans, judges, inl fits))) =
-      on_matrix r (subst (λ (c : Option Command). MatrixIsRefused files c r) (sym at) (accepted, source, (plans, (bytes, holds, judges), fits))) (of_matrix accepted plans r fits)
+  on_plans run accepted r (name, at, source) (inr (bytes, holds, inr (plans, judges, inl refused))) = elim (asked accepted plans run.task (Err r) refused) [
+    | inl matrix ↦ on_matrix r (subst (λ (c : Option Command). MatrixIsRefused files c r) (sym at) (accepted, source, (plans, (bytes, holds, judges), matrix.0, matrix.1))) (of_matrix accepted plans r matrix.1)
+    | inr mutants ↦ on_mutants r (subst (λ (c : Option Command). MutantsAreRefused files c r) (sym at) (accepted, source, (plans, (bytes, holds, judges), mutants.0, mutants.1))) (of_mutants accepted r mutants.1)
+  ]
   on_plans run accepted r (name, at, source) (inr (bytes, holds, inr (plans, judges, inr (u, fits, next)))) = absurd (cc next)
 
   on_left : (name other : List ℕ) (accepted : Accepted) (r : Reply) → At (stages.left name other accepted) → Bad (stages.record_named name) (λ bytes q. Judges (stages.left name other accepted) bytes (Err q)) r → Because r r.status

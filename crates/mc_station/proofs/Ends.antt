@@ -26,6 +26,7 @@ use Rattle.mc_station.proofs.Joining.{merge_keeps}
 use Rattle.mc_station.proofs.Lines.{listing_keeps}
 use Rattle.mc_station.proofs.Listing.{list_keeps}
 use Rattle.mc_station.proofs.Loading.{load_keeps}
+use Rattle.mc_station.proofs.Mutating.{mutation_keeps}
 use Rattle.mc_station.proofs.Printing.{text_keeps}
 use Rattle.mc_station.proofs.Recording.{record_keeps}
 use Rattle.mc_station.proofs.Reducing.{reduction_keeps}
@@ -42,6 +43,7 @@ tells_keep skipped command.vectors accepted plans js r tells = list_keeps (stand
 tells_keep skipped command.recorded accepted plans js r tells = record_keeps skipped accepted plans r tells
 tells_keep skipped (command.watched looks) accepted plans js r tells = watch_keeps looks accepted plans r tells
 tells_keep skipped (command.reduced mode) accepted plans js r tells = reduction_keeps (stands skipped accepted plans) mode accepted (names plans) (states accepted.program plans) r tells
+tells_keep skipped command.mutated accepted plans js r tells = mutation_keeps accepted plans r tells
 tells_keep skipped (command.listed asked) accepted plans js r tells = listing_keeps (stands skipped accepted plans) asked accepted (tested_of accepted.program plans) js r tells
 
 -- the replies that a stage may lead to, if nothing fails

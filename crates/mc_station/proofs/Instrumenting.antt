@@ -36,7 +36,7 @@ module _ (a : Accepted) (p : Program) (erases : erase (tree_of a.tree).program �
 
 -- ---- what running the tests asks for
 
-each_fits : (p : Program) (plans : List TestPlan) → AllFit p (seen_plans plans) → All (λ (plan : TestPlan). Fits (plan_of plan) p) plans
+pub each_fits : (p : Program) (plans : List TestPlan) → AllFit p (seen_plans plans) → All (λ (plan : TestPlan). Fits (plan_of plan) p) plans
 each_fits p [] fit = All-nil (λ (plan : TestPlan). Fits (plan_of plan) p)
 each_fits p (plan ∷ plans) fit = All-cons (λ (x : TestPlan). Fits (plan_of x) p) plan plans fit.0 (each_fits p plans fit.1)
 

@@ -1,6 +1,8 @@
+pub mod Allowing
 pub mod Both
 pub mod Calling
 pub mod Causes
+pub mod Counted
 pub mod Decided
 pub mod Ends
 pub mod Few
@@ -9,11 +11,13 @@ pub mod Instrumenting
 pub mod Joining
 pub mod Judging
 pub mod Kept
+pub mod Killing
 pub mod Leading
 pub mod Lines
 pub mod Listing
 pub mod Loading
 pub mod Mapped
+pub mod Mutating
 pub mod Named
 pub mod Order
 pub mod Parts

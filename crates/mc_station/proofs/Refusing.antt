@@ -4,7 +4,7 @@ use Rattle.mc_command.specs.Command as command
 use Rattle.mc_record.specs.Kept.{Kept}
 use Rattle.mc_replies.specs.Phases.{IsRefusal}
 use Rattle.mc_replies.specs.Reply.{Reply, refusal}
-use Rattle.mc_replies.specs.Texts.{matrix_line, tests_line}
+use Rattle.mc_replies.specs.Texts.{matrix_line, mutants_line, tests_line}
 use Rattle.mc_replies.specs.declared.status.Status.{Status}
 use Rattle.mc_replies.specs.declared.status.Status.TheVariants as status
 use Rattle.mc_station.specs.Justified.{reasons_line}
@@ -14,6 +14,8 @@ use Rattle.mc_station.specs.Source.{Accepted, JudgesSource}
 use Rattle.mc_station.specs.Stages as stages
 use Rattle.mc_station.specs.Stages.{Judges}
 use Rattle.mc_station.specs.Tests.{words_needed}
+use Rattle.mc_mutate.specs.Mutants.{count}
+use Rattle.mc_station.proofs.Allowing.{asked}
 use Rattle.mc_station.proofs.Joining.{join_refuses}
 
 abbrev pub IsRefused : Reply → Type 0
@@ -47,9 +49,15 @@ reasons_later line = (tt, inr (inr refl))
 pub large_later : (line : List ℕ) → IsLater (refusal status.TooLarge line)
 large_later line = (tt, inr (inr refl))
 
+pub many_later : (line : List ℕ) → IsLater (refusal status.TooManyMutants line)
+many_later line = (tt, inr (inr refl))
+
 pub refuses_tests : (run : command.Run) (accepted : Accepted) (bytes : List ℕ) (r : Reply) → Judges (stages.tests run accepted) bytes (Err r) → IsLater r
 refuses_tests run accepted bytes r (inl (fault, given, is)) = later status.TestsRefused (tests_line fault) (tests_later (tests_line fault)) r is
-refuses_tests run accepted bytes r (inr (plans, judges, inl (large, is))) = later status.TooLarge (matrix_line (words_needed accepted plans)) (large_later (matrix_line (words_needed accepted plans))) r is
+refuses_tests run accepted bytes r (inr (plans, judges, inl refused)) = elim (asked accepted plans run.task (Err r) refused) [
+  | inl matrix ↦ later status.TooLarge (matrix_line (words_needed accepted plans)) (large_later (matrix_line (words_needed accepted plans))) r matrix.1.1
+  | inr mutants ↦ later status.TooManyMutants (mutants_line (count accepted.program)) (many_later (mutants_line (count accepted.program))) r mutants.1.1
+]
 refuses_tests run accepted bytes r (inr (plans, judges, inr (u, fits, next))) = absurd (cc next)
 
 pub kept_later : (accepted : Accepted) (name bytes : List ℕ) (r : Reply) → JudgesRecord accepted name bytes (Err r) → IsLater r

@@ -49,6 +49,7 @@ eight status.CannotRead is = absurd (omega arith)
 eight status.CannotWrite is = absurd (omega arith)
 eight status.OutOfMemory is = refl
 eight status.TooLarge is = absurd (omega arith)
+eight status.TooManyMutants is = absurd (omega arith)
 
 is_memory : (files : Option Files) (given : Option Command) (r : Reply) → r.status ≡ status.OutOfMemory → IsOfText r.status ⊎ Cause files given r r.status → r ≡ out_of_memory
 is_memory files given r wanted (inl text) = absurd (subst IsOfText wanted text)

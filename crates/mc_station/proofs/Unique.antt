@@ -29,9 +29,11 @@ use Rattle.mc_station.proofs.Reporting.{one_report}
 use Rattle.mc_oblige.specs.Shown.{HasEvent}
 use Rattle.mc_station.specs.commands.Analyse.{tested_in}
 use Rattle.mc_station.specs.commands.Watch.{AreOnLooks}
+use Rattle.mc_station.proofs.Allowing.{one_allowed}
 use Rattle.mc_station.proofs.Joining.{one_join, one_record_in}
 use Rattle.mc_station.proofs.Loading.{one_load}
-use Rattle.mc_station.proofs.Phases.{one_fit, one_source, one_tests}
+use Rattle.mc_station.proofs.Mutating.{one_mutation}
+use Rattle.mc_station.proofs.Phases.{one_source, one_tests}
 use Rattle.mc_station.proofs.Printing.{one_text}
 use Rattle.mc_station.proofs.Recording.{one_record}
 use Rattle.mc_station.proofs.Watching.{IsAt, at_before, at_first, one_watch}
@@ -45,7 +47,7 @@ one_verdict law (stages.source name action) bytes =
 one_verdict law (stages.instrumented accepted) bytes = λ u v p q. absurd p
 one_verdict law (stages.tests run accepted) bytes =
     one_then _ _ (one_tests accepted.program run.fuel bytes) (λ plans is.
-    one_then _ _ (one_fit accepted plans) (λ u fits. one_ok (after_tests (justified_by run.task) accepted (stages.tested run plans))))
+    one_then _ _ (one_allowed run.task accepted plans) (λ u allows. one_ok (after_tests (justified_by run.task) accepted (stages.tested run plans))))
 one_verdict law (stages.left name other accepted) bytes =
     one_then _ _ (one_record_in accepted name bytes) (λ first is. one_ok (stages.right other accepted first))
 one_verdict law (stages.right name accepted first) bytes =
@@ -72,6 +74,7 @@ one_told law skipped command.vectors accepted plans js r q tells others = inl (i
 one_told law skipped command.recorded accepted plans js r q tells others = inl (inl (one_record skipped accepted plans law r q tells others))
 one_told law skipped (command.watched looks) accepted plans js r q tells others = inr (tt, one_watch looks accepted plans r q tells others)
 one_told law skipped (command.reduced mode) accepted plans js r q tells others = inl (inl (one_reduction (stands skipped accepted plans) mode accepted (names plans) (states accepted.program plans) r q tells others))
+one_told law skipped command.mutated accepted plans js r q tells others = inl (inl (one_mutation accepted plans r q tells others))
 one_told law skipped (command.listed asked) accepted plans js r q tells others = inl (inl (one_listing (stands skipped accepted plans) asked accepted (tested_of accepted.program plans) js r q tells others))
 
 -- a stage ends with one reply

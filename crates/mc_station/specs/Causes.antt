@@ -2,7 +2,7 @@
 use Rattle.std.specs.Prelude.{◌≡◌, ◌⊎◌, ◌≤◌, ⊤, ℕ, List, Option, Some, None, Result, Ok, Err}
 use Rattle.mc_limits.specs.Limits.{most_words, usual_fuel}
 use Rattle.mc_command.specs.Command as command
-use Rattle.mc_command.specs.Command.{Action, Command, Run}
+use Rattle.mc_command.specs.Command.{Action, Command, Run, Task}
 use Rattle.mc_gen.specs.Source.{source_text}
 use Rattle.mc_gen.specs.Tests.{tests_text}
 use Rattle.mc_port.specs.Store.{Files, IsLonger}
@@ -12,12 +12,13 @@ use Rattle.mc_replies.specs.Files.{File, Holds, limit_of}
 use Rattle.mc_replies.specs.Reply.{Reply, cannot_read, longer, out_of_memory, refusal}
 use Rattle.mc_replies.specs.Texts.{usage_text}
 use Rattle.mc_replies.specs.declared.status.Status.{Status}
-use Rattle.mc_replies.specs.declared.status.Status.TheVariants.{Done, Incomplete, NoCommand, SourceRefused, TestsRefused, JustificationsRefused, CannotRead, CannotWrite, OutOfMemory, TooLarge}
+use Rattle.mc_replies.specs.declared.status.Status.TheVariants.{Done, Incomplete, NoCommand, SourceRefused, TestsRefused, JustificationsRefused, CannotRead, CannotWrite, OutOfMemory, TooLarge, TooManyMutants}
 use Rattle.mc_station.specs.Records.{JudgesRecord}
 use Rattle.mc_station.specs.Source.{Accepted, JudgesSource}
 use Rattle.mc_station.specs.Stages.{JudgesReasons, justified_by, reasons_named, record_named, source_named, tests_named}
 use Rattle.mc_station.specs.Tests.{Fits, JudgesTests, words_needed}
 use Rattle.mc_station.specs.commands.Merge.{Joins}
+use Rattle.mc_station.specs.commands.Mutate.{FewMutants}
 
 -- ---- files that are accepted
 
@@ -123,10 +124,16 @@ TestsOrRecordsAreRefused files (Some (command.selfload count workers)) r =
     (accepted : Accepted) × JudgesSource (source_text count) (Ok accepted)
     × JudgesTests accepted.program usual_fuel (tests_text count) (Err r)
 
+-- the task is `mutate`, which has a matrix of its own that always fits
+abbrev pub IsToMutate : Task → Type 0
+IsToMutate command.mutated = ⊤
+IsToMutate task = ⊥
+
 -- after an accepted source, the matrix of accepted tests, or of two accepted records together
 abbrev pub MatrixIsRefusedAfter : Option Files → Action → Accepted → Reply → Type 0
 MatrixIsRefusedAfter files (command.run run) accepted r =
-    (plans : List Plan) × TestsAre files run accepted plans × Fits accepted plans (Err r)
+    (plans : List Plan) × TestsAre files run accepted plans × ¬ IsToMutate run.task
+    × Fits accepted plans (Err r)
 MatrixIsRefusedAfter files command.instrument accepted r = ⊥
 MatrixIsRefusedAfter files (command.merge left right) accepted r =
     PairIsRefused files left right accepted TooLarge r
@@ -141,6 +148,22 @@ MatrixIsRefused files (Some (command.selfload count workers)) r =
     (accepted : Accepted) × JudgesSource (source_text count) (Ok accepted)
     × ((plans : List Plan) × JudgesTests accepted.program usual_fuel (tests_text count) (Ok plans)
     × Fits accepted plans (Err r))
+
+-- after an accepted source and accepted tests, the mutants of the program
+abbrev pub MutantsAreRefusedAfter : Option Files → Action → Accepted → Reply → Type 0
+MutantsAreRefusedAfter files (command.run run) accepted r =
+    (plans : List Plan) × TestsAre files run accepted plans × IsToMutate run.task
+    × FewMutants accepted (Err r)
+MutantsAreRefusedAfter files command.instrument accepted r = ⊥
+MutantsAreRefusedAfter files (command.merge left right) accepted r = ⊥
+MutantsAreRefusedAfter files (command.analyse kept report) accepted r = ⊥
+
+abbrev pub MutantsAreRefused : Option Files → Option Command → Reply → Type 0
+MutantsAreRefused files None r = ⊥
+MutantsAreRefused files (Some (command.on_source name action)) r =
+    (accepted : Accepted) × SourceIs files name accepted
+    × MutantsAreRefusedAfter files action accepted r
+MutantsAreRefused files (Some (command.selfload count workers)) r = ⊥
 
 -- the justifications, after all that goes before them
 abbrev pub ReasonsAreRefused : Option Files → Option Command → Reply → Type 0
@@ -166,8 +189,9 @@ Cause files given r CannotRead = (file : File) × IsAsked files given file × (r
 Cause files given r CannotWrite = ⊥
 Cause files given r OutOfMemory = r ≡ out_of_memory
 Cause files given r TooLarge = MatrixIsRefused files given r
+Cause files given r TooManyMutants = MutantsAreRefused files given r
 
--- the words or a file are refused, or the matrix
+-- the words or a file are refused, or the matrix, or the mutants
 abbrev pub IsOfRefusal : Status → Type 0
 IsOfRefusal Done = ⊥
 IsOfRefusal Incomplete = ⊥
@@ -179,6 +203,7 @@ IsOfRefusal CannotRead = ⊥
 IsOfRefusal CannotWrite = ⊥
 IsOfRefusal OutOfMemory = ⊥
 IsOfRefusal TooLarge = ⊤
+IsOfRefusal TooManyMutants = ⊤
 
 -- a status that is told with all that a command writes
 abbrev pub IsOfText : Status → Type 0
@@ -192,3 +217,4 @@ IsOfText CannotRead = ⊥
 IsOfText CannotWrite = ⊥
 IsOfText OutOfMemory = ⊥
 IsOfText TooLarge = ⊥
+IsOfText TooManyMutants = ⊥

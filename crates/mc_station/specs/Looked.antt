@@ -13,7 +13,8 @@ pub record IsLooked (looks : ℕ) (matrix : MatrixView) (counts : List ℕ) : Ty
   pub rising : IsNonDecreasing counts
   pub within : (n : ℕ) → AreSoMany (Holds matrix) n → All (λ count. count ≤ n) counts
 
--- a task that stands on what was recorded at the end alone
+-- a task that stands on what the tests recorded of the program, at the end alone
 abbrev pub IsOnMatrix : Task → Type 0
 IsOnMatrix (task.Watch looks) = ⊥
+IsOnMatrix task.Mutate = ⊥
 IsOnMatrix given = ⊤

@@ -1,12 +1,19 @@
 -- What clauses see of accepted sources and of stages.
 use Rattle.std.specs.Prelude.{◌≡◌, ◌≤◌, List, Ok, length, map, option_map, ⊤}
 use Rattle.sha2.specs.Sha256.{sha256}
+use Rattle.mc_command.specs.declared.task.Task.{Task}
+use Rattle.mc_command.specs.declared.task.Task.TheVariants as task
 use Rattle.mc_command.specs.Seen.{ActionIsInRange, IsWithin, RunIsInRange, seen_action, seen_report, seen_run}
 use Rattle.mc_core.specs.Shape.{word_count}
 use Rattle.mc_cover.specs.Model.{IsOf}
 use Rattle.mc_cover.specs.Views.{opener}
 use Rattle.mc_lex.specs.Tokens.{Tok}
 use Rattle.mc_meaning.specs.Seen.{told_of}
+use Rattle.mc_mutate.specs.Kills.{most_mutants}
+use Rattle.mc_mutate.specs.Mutants.{count}
+use Rattle.mc_roots.specs.Decisions.{AreDecisions}
+use Rattle.mc_roots.specs.Seen.{decision_of}
+use Rattle.mc_roots.specs.declared.decision.Decision as code
 use Rattle.mc_typed.specs.Sound.{IsSound}
 use Rattle.mc_typed.specs.Views.{program_of}
 use Rattle.mc_typed.specs.declared.plans.TestPlan.{TestPlan}
@@ -43,6 +50,7 @@ seen_accepted a = record {
 
 abbrev pub seen_basis : Basis → BasisOf
 seen_basis (basis.Tested run plans opened) = tested (seen_run run) (seen_plans plans.items)
+seen_basis (basis.Mutated run plans decisions) = tested (seen_run run) (seen_plans plans.items)
 seen_basis (basis.Recorded report r) = recorded (seen_report report) (kept_of r)
 
 abbrev pub seen_stage : Stage → StageOf
@@ -101,10 +109,25 @@ pub record IsRecordIn (accepted : Accepted) (r : Record) : Type 0 where
   pub digest : r.digest ≡ sha256 accepted.source.now
   pub bits : r.matrix.shape.bits ≡ accepted.map.bits
 
--- what the last stage stands on: tests of the program, and shared words for them, or a record
+-- a task that is told from the runs of the tests on the program alone, and not on its mutants
+abbrev pub IsOnProgram : Task → Type 0
+IsOnProgram task.Mutate = ⊥
+IsOnProgram given = ⊤
+
+-- the decisions of the program, which has few enough mutants
+pub record AreMutable (accepted : Accepted) (ds : List code.Decision) : Type 0 where
+  pub decisions : AreDecisions (program_of accepted.tree.program).functions (map decision_of ds)
+  pub few : count (program_of accepted.tree.program) ≤ most_mutants
+
+-- what the last stage stands on: tests of the program, and shared words for them or the decisions
+-- whose mutants they are tried on, or a record
 abbrev pub IsBasis : Accepted → Basis → Type 0
 IsBasis accepted (basis.Tested run plans opened) =
-    RunIsInRange run × (ArePlanned accepted plans.items × IsOpened accepted plans.items opened)
+    RunIsInRange run × (IsOnProgram run.task × (ArePlanned accepted plans.items
+    × IsOpened accepted plans.items opened))
+IsBasis accepted (basis.Mutated run plans decisions) =
+    RunIsInRange run × ((run.task ≡ task.Mutate) × (ArePlanned accepted plans.items
+    × AreMutable accepted decisions.items))
 IsBasis accepted (basis.Recorded report r) = IsRecordIn accepted r
 
 -- the justifications are of the program's obligations

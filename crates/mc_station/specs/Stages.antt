@@ -23,6 +23,7 @@ use Rattle.mc_station.specs.commands.Analyse.{Analyses}
 use Rattle.mc_station.specs.commands.Instrument.{Instruments}
 use Rattle.mc_station.specs.commands.List.{Listing}
 use Rattle.mc_station.specs.commands.Merge.{Joins, Merges}
+use Rattle.mc_station.specs.commands.Mutate.{FewMutants, Mutates}
 use Rattle.mc_station.specs.commands.Record.{Records}
 use Rattle.mc_station.specs.commands.Reduce.{Reduces}
 use Rattle.mc_station.specs.commands.Report.{Reports}
@@ -82,6 +83,7 @@ justified_by command.vectors = None
 justified_by command.recorded = None
 justified_by (command.watched looks) = None
 justified_by (command.reduced mode) = None
+justified_by command.mutated = None
 justified_by (command.listed listing) = listing.justify
 
 -- the file that a stage asks for
@@ -156,11 +158,23 @@ abbrev pub after_tests : Option (List ℕ) → Accepted → Basis → Stage
 after_tests None accepted basis = last accepted basis []
 after_tests (Some name) accepted basis = reasons name accepted basis
 
+-- what a task asks for beside its tests: for `mutate` that there are few enough mutants, for others
+-- that the matrix of all bits under the tests fits
+abbrev pub Allows : Task → Accepted → List Plan → Result (Unit {0}) Reply → Type 0
+Allows command.mutated accepted plans = FewMutants accepted
+Allows task accepted plans = Fits accepted plans
+
 -- the justifications of a file that is accepted, or its first fault
 abbrev pub JudgesReasons : Accepted → List ℕ → Result (List Justification) Reply → Type 0
 JudgesReasons accepted bytes =
     Reads (justifications_of bytes (obligations_of accepted.map) accepted.source)
     (λ fault. refusal JustificationsRefused (reasons_line fault))
+
+-- tests that are accepted lead to another stage, or to a refusal
+abbrev pub AfterPlans : Run → Accepted → List Plan → Result Stage Reply → Type 0
+AfterPlans run accepted plans =
+    Then (Allows run.task accepted plans)
+    (λ u v. v ≡ Ok (after_tests (justified_by run.task) accepted (tested run plans)))
 
 -- the bytes of the file that a stage asks for lead to another stage, or to a refusal
 abbrev pub Judges : Stage → List ℕ → Result Stage Reply → Type 0
@@ -170,8 +184,7 @@ Judges (source name action) bytes =
 Judges (instrumented accepted) bytes = λ verdict. ⊥
 Judges (tests run accepted) bytes =
     Then (JudgesTests accepted.program run.fuel bytes)
-    (λ plans. Then (Fits accepted plans)
-    (λ u v. v ≡ Ok (after_tests (justified_by run.task) accepted (tested run plans))))
+    (AfterPlans run accepted)
 Judges (left name other accepted) bytes =
     Then (JudgesRecord accepted name bytes) (λ first v. v ≡ Ok (right other accepted first))
 Judges (right name accepted first) bytes =
@@ -196,6 +209,7 @@ Tells skipped command.vectors accepted plans js = Lists skipped accepted plans
 Tells skipped command.recorded accepted plans js = Records skipped accepted plans
 Tells skipped (command.watched looks) accepted plans js = Watches looks accepted plans
 Tells skipped (command.reduced mode) accepted plans js = Reduces skipped mode accepted plans
+Tells skipped command.mutated accepted plans js = Mutates accepted plans
 Tells skipped (command.listed listing) accepted plans js = Listing skipped listing accepted plans js
 
 -- the reply of a stage that asks for no file

@@ -2,6 +2,7 @@ pub mod Report
 pub mod Vectors
 pub mod Record
 pub mod Merge
+pub mod Mutate
 pub mod Analyse
 pub mod Instrument
 pub mod Selfload

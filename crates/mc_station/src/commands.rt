@@ -4,6 +4,7 @@ pub mod analyse;
 pub mod instrument;
 pub mod list;
 pub mod merge;
+pub mod mutate;
 pub mod record;
 pub mod reduce;
 pub mod report;

@@ -2,6 +2,7 @@
 ghost use Rattle.std.specs.Prelude.{◌≡◌, ◌≤◌, List, Result, Err, IfOk, length, option_map};
 ghost use Rattle.mc_tests.specs.Seen.{seen_plans};
 ghost use Rattle.mc_command.specs.Seen.{ActionIsInRange, RunIsInRange, seen_action, seen_run, seen_task};
+ghost use Rattle.mc_command.specs.declared.task.Task.TheVariants as task;
 ghost use Rattle.mc_oblige.specs.declared.justification.Justification.{Justification};
 ghost use Rattle.mc_justify.specs.Faults.{Fault};
 ghost use Rattle.mc_justify.specs.Returned.{GivesFault};
@@ -11,25 +12,31 @@ ghost use Rattle.mc_replies.specs.Reply.{refusal};
 ghost use Rattle.mc_replies.specs.Seen.{Gives};
 ghost use Rattle.mc_replies.specs.declared.status.Status.TheVariants.{JustificationsRefused};
 ghost use Rattle.mc_station.specs.Justified.{reasons_line};
-ghost use Rattle.mc_station.specs.Seen.{ArePlanned, AreReasons, HasTokens, IsBasis, IsInstrumented, IsOpened, IsReady, seen_accepted, seen_basis, seen_stage};
-ghost use Rattle.mc_station.specs.Stages.{AsksUpTo, Judges, JudgesReasons, after_source, after_tests, justified_by, reasons, source, tested, tests};
+ghost use Rattle.mc_station.specs.Seen.{AreMutable, ArePlanned, AreReasons, HasTokens, IsBasis, IsInstrumented, IsOnProgram, IsOpened, IsReady, seen_accepted, seen_basis, seen_stage};
+ghost use Rattle.mc_station.specs.Stages.{AfterPlans, AsksUpTo, Judges, JudgesReasons, after_source, after_tests, justified_by, reasons, source, tested, tests};
 ghost use Rattle.mc_station.specs.Tests.{Fits, JudgesTests};
+ghost use Rattle.mc_station.specs.commands.Mutate.{FewMutants};
 
 use crate::accepted::Accepted;
 use crate::basis::Basis;
 use crate::opened::Opened;
 use crate::records::{after_kept, after_left, after_right};
-use crate::source::judge_source;
+use crate::source::{decisions_again, judge_source};
 use crate::stage::{Stage, with_basis};
 use mc_command::{Action, Run, Task};
 use mc_core::Shape;
 use mc_cover::{OpenFault, open};
 use mc_justify::{JustifyFault, read_justifications};
+use mc_mutate::count_mutants;
 use mc_oblige::{Justification, obligations};
 use mc_replies::{Refusal, Stop};
+use mc_roots::Decision;
 use mc_tests::{TestFault, read_tests};
 use mc_typed::TestPlan;
 use std::alloc::Global;
+
+/// How many mutants a program may have for `mutate`.
+const MOST_MUTANTS: u32 = 4_096;
 
 /// The tests of a tests file.
 pub fn judge_tests<'a>(
@@ -49,6 +56,20 @@ pub fn judge_tests<'a>(
         Err(TestFault::OutOfMemory) => Err(Stop::OutOfMemory),
         Err(fault) => Err(Stop::Refused(Refusal::Tests(fault))),
     }
+}
+
+// The decisions of an accepted source, whose mutants are few enough.
+fn few_mutants<'a>(alloc: Global, accepted: &Accepted<'_>) -> Result<Vec<Decision>, Stop<'a>>
+    requires { IsInstrumented accepted.now }
+    ensures judges { Gives (λ decisions. tt) (FewMutants (seen_accepted accepted.now)) result }
+    ensures mutable { IfOk result (λ decisions. AreMutable accepted.now decisions.items) }
+{
+    let decisions = decisions_again(alloc, accepted)?;
+    let count = count_mutants(&decisions, accepted.tree.program());
+    if count > MOST_MUTANTS {
+        return Err(Stop::Refused(Refusal::TooManyMutants { count }));
+    }
+    Ok(decisions)
 }
 
 /// The shared words of all bits under the tests, where they fit.
@@ -114,12 +135,13 @@ fn justified_by(task: Task<'_>) -> Option<&str>
     match task {
         Task::Report(report) => report.justify,
         Task::List(listing) => listing.justify,
-        Task::Vectors | Task::Record | Task::Watch { .. } | Task::Reduce { .. } => None,
+        Task::Vectors | Task::Record | Task::Watch { .. } | Task::Reduce { .. } | Task::Mutate =>
+            None,
     }
 }
 
-// The stage after the tests, for which there are shared words.
-fn with_plans<'a>(
+// The stage after tests that are run on the program, for which there are shared words.
+fn with_opened<'a>(
     alloc: Global,
     run: Run<'a>,
     accepted: Accepted<'a>,
@@ -127,6 +149,7 @@ fn with_plans<'a>(
     opened: Opened,
 ) -> Stage<'a>
     requires range { RunIsInRange run }
+    requires task { IsOnProgram run.task }
     requires instrumented { IsInstrumented accepted }
     requires planned { ArePlanned accepted plans.items }
     requires opened { IsOpened accepted plans.items opened }
@@ -136,6 +159,87 @@ fn with_plans<'a>(
 {
     let name = justified_by(run.task);
     with_basis(alloc, name, accepted, Basis::Tested(run, plans, opened))
+}
+
+// The stage after tests that are run on the program, where their matrix fits.
+#[tactic(auto, using(crate::proofs::Allowing::matrix_allows))]
+fn with_matrix<'a>(
+    alloc: Global,
+    run: Run<'a>,
+    accepted: Accepted<'a>,
+    plans: Vec<TestPlan>,
+) -> Result<Stage<'a>, Stop<'a>>
+    requires range { RunIsInRange run }
+    requires task { IsOnProgram run.task }
+    requires instrumented { IsInstrumented accepted }
+    requires planned { ArePlanned accepted plans.items }
+    ensures judges { Gives seen_stage
+        (AfterPlans (seen_run run.entry) (seen_accepted accepted.entry) (seen_plans plans.items))
+        result }
+    ensures ready { IfOk result IsReady }
+{
+    match open_for(alloc, &accepted, &plans) {
+        Ok(opened) => Ok(with_opened(alloc, run, accepted, plans, opened)),
+        Err(stop) => {
+            drop(accepted);
+            Err(stop)
+        }
+    }
+}
+
+// The stage after tests that are tried on the mutants of the program, where these are few enough.
+#[tactic(auto, using(crate::proofs::Allowing::mutants_allow, crate::proofs::Allowing::none_justified))]
+fn with_mutants<'a>(
+    alloc: Global,
+    run: Run<'a>,
+    accepted: Accepted<'a>,
+    plans: Vec<TestPlan>,
+) -> Result<Stage<'a>, Stop<'a>>
+    requires range { RunIsInRange run }
+    requires task { run.task ≡ task.Mutate }
+    requires instrumented { IsInstrumented accepted }
+    requires planned { ArePlanned accepted plans.items }
+    ensures judges { Gives seen_stage
+        (AfterPlans (seen_run run.entry) (seen_accepted accepted.entry) (seen_plans plans.items))
+        result }
+    ensures ready { IfOk result IsReady }
+{
+    match few_mutants(alloc, &accepted) {
+        Ok(decisions) => {
+            let basis = Basis::Mutated(run, plans, decisions);
+            Ok(Stage::Last(accepted, basis, Vec::new(alloc)))
+        }
+        Err(stop) => {
+            drop(accepted);
+            Err(stop)
+        }
+    }
+}
+
+// The stage after the tests.
+fn with_plans<'a>(
+    alloc: Global,
+    run: Run<'a>,
+    accepted: Accepted<'a>,
+    plans: Vec<TestPlan>,
+) -> Result<Stage<'a>, Stop<'a>>
+    requires range { RunIsInRange run }
+    requires instrumented { IsInstrumented accepted }
+    requires planned { ArePlanned accepted plans.items }
+    ensures judges { Gives seen_stage
+        (AfterPlans (seen_run run.entry) (seen_accepted accepted.entry) (seen_plans plans.items))
+        result }
+    ensures ready { IfOk result IsReady }
+{
+    match run.task {
+        Task::Mutate => with_mutants(alloc, run, accepted, plans),
+        Task::Report(_)
+        | Task::Vectors
+        | Task::Record
+        | Task::Watch { .. }
+        | Task::Reduce { .. }
+        | Task::List(_) => with_matrix(alloc, run, accepted, plans),
+    }
 }
 
 // The stage after the tests file.
@@ -152,13 +256,7 @@ fn after_tests<'a>(
     ensures ready { IfOk result IsReady }
 {
     match judge_tests(alloc, &accepted, run.fuel, bytes) {
-        Ok(plans) => match open_for(alloc, &accepted, &plans) {
-            Ok(opened) => Ok(with_plans(alloc, run, accepted, plans, opened)),
-            Err(stop) => {
-                drop(accepted);
-                Err(stop)
-            }
-        },
+        Ok(plans) => with_plans(alloc, run, accepted, plans),
         Err(stop) => {
             drop(accepted);
             Err(stop)

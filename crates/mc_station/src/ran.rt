@@ -50,8 +50,8 @@ impl Ran {
     }
 }
 
-// The names of the tests.
-fn names(alloc: Global, plans: &[TestPlan]) -> Result<Vec<Name>, AllocError>
+/// The names of the tests.
+pub fn names(alloc: Global, plans: &[TestPlan]) -> Result<Vec<Name>, AllocError>
     ensures { IfOk result (λ all. all.items ≡ names (seen_plans plans.now)) }
 {
     let mut all = Vec::new(alloc);

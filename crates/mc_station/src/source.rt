@@ -27,7 +27,7 @@ use mc_subset::check;
 use mc_tree::Unit;
 use mc_typed::Program;
 use mc_types::type_unit;
-use std::alloc::Global;
+use std::alloc::{AllocError, Global};
 
 // The phase of the tokens.
 fn lexed<'a>(alloc: Global, source: &'a [u8]) -> Result<Vec<Token<'a>>, Stop<'a>>
@@ -48,9 +48,9 @@ fn lexed<'a>(alloc: Global, source: &'a [u8]) -> Result<Vec<Token<'a>>, Stop<'a>
     }
 }
 
-// The place of the byte at an offset, or of the source's end where the offset is greater.
+/// The place of the byte at an offset, or of the source's end where the offset is greater.
 #[tactic(auto, using(std::proofs::lemmas::List::take_min))]
-fn place_within(source: &[u8], at: u32) -> Place
+pub fn place_within(source: &[u8], at: u32) -> Place
     requires { length source.now < 2 ^ 31 }
     ensures line { result.line ≡ line_of source.now at }
     ensures column { result.column ≡ column_of source.now at }
@@ -143,6 +143,19 @@ fn decided<'a>(
             count: count as u128,
         })),
         Err(DecideFault::OutOfMemory) => Err(Stop::OutOfMemory),
+    }
+}
+
+/// The decisions of a source that is accepted, found once more.
+pub fn decisions_again(alloc: Global, accepted: &Accepted<'_>) -> Result<Vec<Decision>, AllocError>
+    requires { IsInstrumented accepted.now }
+    ensures { IfOk result (λ ds. AreDecisions (seen_accepted accepted.now).program.functions
+        (map decision_of ds.items)) }
+{
+    match decisions(alloc, accepted.tree.program()) {
+        Ok(decisions) => Ok(decisions),
+        Err(DecideFault::OutOfMemory) => Err(AllocError),
+        Err(DecideFault::TooManyConditions { .. }) => unreachable!(),
     }
 }
 

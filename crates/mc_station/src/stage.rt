@@ -6,7 +6,7 @@ ghost use Rattle.mc_command.specs.Seen.{RunIsInRange, seen_run};
 ghost use Rattle.mc_tests.specs.Seen.{seen_plans};
 ghost use Rattle.mc_replies.specs.Seen.{seen_file, seen_reply};
 ghost use Rattle.mc_station.specs.Looked.{IsOnMatrix};
-ghost use Rattle.mc_station.specs.Seen.{ArePlanned, AreReasons, IsBasis, IsInstrumented, IsOpened, IsReady, seen_accepted, seen_basis, seen_stage};
+ghost use Rattle.mc_station.specs.Seen.{ArePlanned, AreReasons, IsBasis, IsInstrumented, IsOnProgram, IsOpened, IsReady, seen_accepted, seen_basis, seen_stage};
 ghost use Rattle.mc_station.specs.Stages.{Ends, Tells, after_tests, file_of, first_stage, last};
 
 use crate::accepted::Accepted;
@@ -14,6 +14,7 @@ use crate::basis::Basis;
 use crate::commands::analyse::analyse;
 use crate::commands::instrument::instrument;
 use crate::commands::merge::merge;
+use crate::commands::mutate::mutate;
 use crate::commands::selfload::{Load, selfload};
 use crate::commands::watch::watch;
 use crate::means::Means;
@@ -129,6 +130,7 @@ fn run_for<'a, R: Threads + Sync, G: Gate, C: Closer>(
     justifications: &[Justification],
 ) -> Result<Reply<'a>, AllocError>
     requires range { RunIsInRange run }
+    requires task { IsOnProgram run.task }
     requires instrumented { IsInstrumented accepted }
     requires planned { ArePlanned accepted plans.now }
     requires opened { IsOpened accepted plans.now opened }
@@ -139,6 +141,7 @@ fn run_for<'a, R: Threads + Sync, G: Gate, C: Closer>(
 {
     match run.task {
         Task::Watch { looks } => watch(alloc, means, run.workers, looks, accepted, plans, opened),
+        Task::Mutate => unreachable!(),
         Task::Report(_) | Task::Vectors | Task::Record | Task::Reduce { .. } | Task::List(_) => {
             tested(alloc, means, run, accepted, plans, opened, justifications)
         }
@@ -163,6 +166,9 @@ fn finished<'a, R: Threads + Sync, G: Gate, C: Closer>(
     match basis {
         Basis::Tested(run, plans, opened) => {
             run_for(alloc, means, run, accepted, &plans, opened, justifications)
+        }
+        Basis::Mutated(run, plans, decisions) => {
+            mutate(alloc, means, run.workers, accepted, &plans, &decisions)
         }
         Basis::Recorded(asked, kept) => analyse(alloc, asked, accepted, kept, justifications),
     }

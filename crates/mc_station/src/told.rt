@@ -85,7 +85,7 @@ pub fn tell<'a>(
     match task {
         Task::Report(asked) => reported(alloc, asked, accepted, ran, justifications),
         Task::Vectors => vectors(alloc, accepted, &ran),
-        Task::Watch { .. } => unreachable!(),
+        Task::Watch { .. } | Task::Mutate => unreachable!(),
         Task::Reduce { mode } => reduce(alloc, mode, accepted, &ran),
         Task::List(asked) => listed(alloc, asked, accepted, ran, justifications),
         Task::Record => {

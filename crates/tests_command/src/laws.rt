@@ -3,7 +3,7 @@
 #![tactic(auto, unfolding(mc_command::specs::Command::command_of, clap::proofs::OnLiterals::clap_on_literals))]
 
 ghost use Rattle.std.specs.Prelude.{◌∷◌, [], None, Some, codes};
-ghost use Rattle.mc_command.specs.Command.{instrument, listed, merge, on_source, recorded, reduced, selfload, vectors, watched};
+ghost use Rattle.mc_command.specs.Command.{instrument, listed, merge, mutated, on_source, recorded, reduced, selfload, vectors, watched};
 ghost use Rattle.mc_command.specs.declared.form.Form.TheVariants.{Csv, Json, Text};
 ghost use Rattle.mc_command.specs.declared.independence.Independence.TheVariants.{UniqueCause, Masking};
 ghost use Rattle.tests_command.specs.Lines.{AreAll, Is, analysis, justified_by, plain_report, report_by, run_by, run_of, vectors_by, vectors_of, vectors_shared};
@@ -90,7 +90,7 @@ pub fn other_commands()
         ∷ codes "selfload --workers=64 200" ∷ []) }
 {}
 
-/// Looks at running workers, tests that are enough, and listings.
+/// Looks at running workers, tests that are enough, mutants, and listings.
 pub fn commands_of_testers()
     ensures watched { AreAll (run_of (codes "a.c") (codes "a.csv") 8 (watched 10))
         (codes "watch a.c a.csv --fuel 8" ∷ codes "watch --fuel=8 a.c a.csv --workers 4" ∷ []) }
@@ -104,6 +104,13 @@ pub fn commands_of_testers()
         ∷ []) }
     ensures reduced_by_masking { Is (codes "reduce --mode=masking a.c a.csv --workers 64 --fuel 8")
         (run_by (codes "a.c") (codes "a.csv") 64 8 (reduced Masking)) }
+    ensures mutated { AreAll (run_of (codes "a.c") (codes "a.csv") 8 mutated)
+        (codes "mutate a.c a.csv --fuel 8" ∷ codes "mutate --workers=4 --fuel=8 -- a.c a.csv"
+        ∷ []) }
+    ensures mutated_by_most { Is (codes "mutate --workers 64 a.c a.csv --fuel 8")
+        (run_by (codes "a.c") (codes "a.csv") 64 8 mutated) }
+    ensures mutated_by_one { Is (codes "mutate --workers 1 a.c a.csv --fuel 8")
+        (run_by (codes "a.c") (codes "a.csv") 1 8 mutated) }
     ensures listed { Is (codes "list a.c a.csv --fuel 8")
         (run_of (codes "a.c") (codes "a.csv") 8
         (listed (record { mode = UniqueCause; justify = None }))) }

@@ -28,6 +28,9 @@ watch a.c a.csv --looks 100 --workers 63@a.c|a.csv|63|1000000|watch|100
 watch --looks=1 a.c a.csv --workers=1 --fuel 8@a.c|a.csv|1|8|watch|1
 reduce a.c a.csv@a.c|a.csv|4|1000000|reduce|unique
 reduce a.c --mode masking a.csv --workers 64 --fuel 8@a.c|a.csv|64|8|reduce|masking
+mutate a.c a.csv@a.c|a.csv|4|1000000|mutate
+mutate --fuel=8 a.c a.csv --workers 64@a.c|a.csv|64|8|mutate
+mutate a.c --workers=1 -- a.csv@a.c|a.csv|1|1000000|mutate
 list a.c a.csv@a.c|a.csv|4|1000000|list|unique
 list --justify j.json a.c a.csv --mode=masking --workers 1@a.c|a.csv|1|1000000|list|masking|j.json
 selfload 1 --workers 64@selfload|1|64
@@ -65,6 +68,13 @@ watch a.c a.csv --mode unique@
 vectors a.c a.csv --looks 1@
 reduce a.c a.csv --justify j.json@
 reduce a.c a.csv --mode both@
+mutate a.c@
+mutate a.c a.csv b.csv@
+mutate a.c a.csv --workers 0@
+mutate a.c a.csv --workers 65@
+mutate a.c a.csv --fuel 0@
+mutate a.c a.csv --mode unique@
+mutate a.c a.csv --justify j.json@
 list a.c a.csv --format text@
 ";
 

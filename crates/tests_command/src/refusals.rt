@@ -99,6 +99,10 @@ pub fn other_commands()
     ensures reduced { AreNone (codes "reduce a.c" ∷ codes "reduce a.c a.csv --mode both"
         ∷ codes "reduce a.c a.csv --workers 65" ∷ codes "reduce a.c a.csv --justify j.json"
         ∷ []) }
+    ensures mutated { AreNone (codes "mutate a.c" ∷ codes "mutate a.c a.csv b.csv"
+        ∷ codes "mutate a.c a.csv --workers 0" ∷ codes "mutate a.c a.csv --workers 65"
+        ∷ codes "mutate a.c a.csv --fuel 0" ∷ codes "mutate a.c a.csv --mode unique"
+        ∷ codes "mutate a.c a.csv --looks 1" ∷ codes "mutants a.c a.csv" ∷ []) }
     ensures listed { AreNone (codes "list a.c" ∷ codes "list a.c a.csv --format text"
         ∷ codes "list a.c a.csv --workers 0" ∷ []) }
     ensures selfload { AreNone (codes "selfload" ∷ codes "selfload 0" ∷ codes "selfload 201"

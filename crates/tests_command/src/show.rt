@@ -55,6 +55,7 @@ fn push_task(alloc: Global, text: &mut String, task: Task<'_>) -> Result<(), All
             text.push_str("reduce|")?;
             text.push_str(mode_word(mode))
         }
+        Task::Mutate => text.push_str("mutate"),
         Task::List(listing) => push_listing(text, listing),
     }
 }

@@ -1,5 +1,5 @@
-//! Tests of the commands that keep records, join and report on them, that choose among tests and list
-//! a source, and of the large program: what no clause says. Runs succeed with ample memory, and the definitions are the ones meant.
+//! Tests of the commands that keep records, join and report on them, that choose among tests, try them
+//! on mutants and list a source, and of the large program: what no clause says. Runs succeed with ample memory, and the definitions are the ones meant.
 #![tactic(auto)]
 
 #[cfg(test)]
@@ -22,6 +22,8 @@ mod large;
 mod listed;
 #[cfg(test)]
 mod merges;
+#[cfg(test)]
+mod mutated;
 #[cfg(test)]
 mod records;
 #[cfg(test)]

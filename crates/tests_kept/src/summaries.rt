@@ -81,6 +81,7 @@ usage: mcdc report SOURCE TESTS [--mode unique|masking] [--workers N] [--fuel N]
        mcdc selfload N [--workers N]
        mcdc watch SOURCE TESTS [--workers N] [--fuel N] [--looks N]
        mcdc reduce SOURCE TESTS [--mode unique|masking] [--workers N] [--fuel N]
+       mcdc mutate SOURCE TESTS [--workers N] [--fuel N]
        mcdc list SOURCE TESTS [--mode unique|masking] [--workers N] [--fuel N] \
 [--justify NAME]
 ";

@@ -21,6 +21,7 @@ const ROWS: &str = "\
 4@mcdc: tests record 2: arguments@vectors|s.c|bad.csv
 4@mcdc: tests record 2: arguments@record|s.c|bad.csv
 4@mcdc: tests record 2: arguments@reduce|s.c|bad.csv
+4@mcdc: tests record 2: arguments@mutate|s.c|bad.csv
 4@mcdc: record t.csv line 1: header@merge|s.c|t.csv|RIGHT
 4@mcdc: record t.csv line 1: header@merge|s.c|LEFT|t.csv
 4@mcdc: record t.csv line 1: header@analyse|s.c|t.csv

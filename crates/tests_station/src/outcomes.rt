@@ -16,6 +16,7 @@ const USAGE: &str = "usage: mcdc report SOURCE TESTS [--mode unique|masking] [--
     \x20      mcdc selfload N [--workers N]\n\
     \x20      mcdc watch SOURCE TESTS [--workers N] [--fuel N] [--looks N]\n\
     \x20      mcdc reduce SOURCE TESTS [--mode unique|masking] [--workers N] [--fuel N]\n\
+    \x20      mcdc mutate SOURCE TESTS [--workers N] [--fuel N]\n\
     \x20      mcdc list SOURCE TESTS [--mode unique|masking] [--workers N] [--fuel N] \
     [--justify NAME]\n";
 

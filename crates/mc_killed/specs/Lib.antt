@@ -1,0 +1,5 @@
+pub mod Killers
+pub mod Lines
+pub mod Laws
+pub mod Seen
+pub mod steps
