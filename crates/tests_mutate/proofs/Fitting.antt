@@ -1,5 +1,5 @@
 -- What running tests on mutants asks for, from the tests that were read.
-use Rattle.std.proofs.Common.{◌≡◌, ◌≤◌, ◌<◌, ◌*◌, ℕ, List, [], ◌∷◌, length, All, subst, arith}
+use Rattle.std.proofs.Common.{◌≡◌, ◌≤◌, ◌<◌, ◌*◌, ℕ, List, [], ◌∷◌, length, All, sym, subst, arith}
 use Rattle.std.proofs.Math.Nat.{mul-le-mul_left, mul-le-mul_right}
 use Rattle.std.proofs.lemmas.List.{length-map}
 use Rattle.std.proofs.lemmas.List.Elements.{All-cons, All-nil}
@@ -13,6 +13,12 @@ use Rattle.mc_tests.specs.Seen.{seen_plans}
 pub all_fit : (p : Program) (plans : List TestPlan) → AllFit p (seen_plans plans) → All (λ (plan : TestPlan). Fits (plan_of plan) p) plans
 all_fit p [] fit = All-nil (λ (plan : TestPlan). Fits (plan_of plan) p)
 all_fit p (plan ∷ plans) fit = All-cons (λ (x : TestPlan). Fits (plan_of x) p) plan plans fit.0 (all_fit p plans fit.1)
+
+-- so do those that a slice of them holds
+pub read_fit : (p : Program) (plans read : List TestPlan) → plans ≡ read → AllFit p (seen_plans read)
+    → All (λ (plan : TestPlan). Fits (plan_of plan) p) plans
+read_fit p plans read same fit =
+    subst (λ (l : List TestPlan). All (λ (plan : TestPlan). Fits (plan_of plan) p) l) (sym same) (all_fit p read fit)
 
 pub few_plans : (plans : List TestPlan) (n : ℕ) → length (seen_plans plans) ≤ n → length plans ≤ n
 few_plans plans n few = subst (λ (k : ℕ). k ≤ n) (length-map plans plan_of) few

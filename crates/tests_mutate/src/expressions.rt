@@ -83,14 +83,20 @@ pub fn show_expression(shown: &mut String, tree: &Expression) -> Result<(), Allo
             left,
             right,
             ..
-        } => show_pair(shown, left, symbol(*operator), right),
+        } => {
+            show_after(shown, "(", left)?;
+            show_after(shown, symbol(*operator), right)?;
+            shown.push_str(")")
+        }
         Expression::Logic {
             operator,
             left,
             right,
             span,
         } => {
-            show_pair(shown, left, logic_symbol(*operator), right)?;
+            show_after(shown, "(", left)?;
+            show_after(shown, logic_symbol(*operator), right)?;
+            shown.push_str(")")?;
             show_span(shown, *span)
         }
         Expression::Choice {
@@ -101,8 +107,9 @@ pub fn show_expression(shown: &mut String, tree: &Expression) -> Result<(), Allo
         } => {
             show_after(shown, "(", test)?;
             shown.push_str("?")?;
-            show_pair(shown, chosen, ":", other)?;
-            shown.push_str(")")
+            show_after(shown, "(", chosen)?;
+            show_after(shown, ":", other)?;
+            shown.push_str("))")
         }
         Expression::Call { call, .. } => show_call(shown, call),
         Expression::Probe { .. } => shown.push_str("probe"),
@@ -113,18 +120,6 @@ pub fn show_expression(shown: &mut String, tree: &Expression) -> Result<(), Allo
 fn show_after(shown: &mut String, before: &str, tree: &Expression) -> Result<(), AllocError> {
     shown.push_str(before)?;
     show_expression(shown, tree)
-}
-
-#[cycle(show)]
-fn show_pair(
-    shown: &mut String,
-    left: &Expression,
-    between: &str,
-    right: &Expression,
-) -> Result<(), AllocError> {
-    show_after(shown, "(", left)?;
-    show_after(shown, between, right)?;
-    shown.push_str(")")
 }
 
 #[cycle(show)]

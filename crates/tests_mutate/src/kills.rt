@@ -1,5 +1,6 @@
 //! The items of the mutants of a source that its tests kill, as text.
 ghost use Rattle.std.specs.Prelude.{◌≡◌, ◌≤◌, ◌<◌, ◌+◌, ◌*◌, ◌^◌, length, map, All, IfSome};
+ghost use Rattle.std.specs.Thread.{IsSync};
 ghost use Rattle.mc_limits.specs.Limits.{most_tests, most_workers};
 ghost use Rattle.mc_mutate.specs.Kills.{most_mutants};
 ghost use Rattle.mc_mutate.specs.Mutants.{count};
@@ -103,7 +104,7 @@ fn tell_runs<R: Threads + Sync>(
 }
 
 /// Reads the tests, runs them on the mutants, and adds the killed items as text.
-#[tactic(auto, using(crate::proofs::Fitting::all_fit, crate::proofs::Fitting::few_plans))]
+#[tactic(auto, using(crate::proofs::Fitting::few_plans))]
 fn tell_program<R: Threads + Sync>(
     rt: &R,
     alloc: Global,
@@ -137,7 +138,8 @@ trait Stage {
         alloc: Global,
         text: &mut String,
         runs: Runs<'_>,
-    ) -> Result<(), AllocError>;
+    ) -> Result<(), AllocError>
+        requires { IsSync R.row };
 }
 
 /// Tells of what was read and lets it go, or says why it was not read. For any type: a match that
@@ -217,7 +219,6 @@ fn of_tokens<R: Threads + Sync>(
 
 /// Adds the items of the source's mutants that its tests kill, by so many workers, as text, or why
 /// there are none.
-#[tactic(auto, using(crate::proofs::Short::all_short))]
 pub fn tell_kills<R: Threads + Sync>(
     rt: &R,
     alloc: Global,
