@@ -2,16 +2,19 @@
 use Rattle.std.proofs.Common.{◌≡◌, ℕ, zero, suc, Bool, true, false, if◌then◌else◌, ◌||◌, IsTrue, List, [], ◌∷◌, Option, Some, None, subst, sym, refl, Contains}
 use Rattle.mc_span.specs.declared.span.Span.{Span}
 use Rattle.mc_tree.specs.Tree.{Expression, Expressions, Initializer, Initializers, InitDeclarator, Declaration, ForStart, Statement, BlockItems, Item}
+use Rattle.mc_typed.specs.declared.operators.Operator.{Operator}
 use Rattle.mc_typed.specs.Tree.{Place, FunctionCall, Arguments, Argument, StructureValue, Effect, Declarator, Statements}
 use Rattle.mc_typed.specs.Tree as typed
+use Rattle.mc_roots.specs.declared.operators.FullOperator.{FullOperator}
 use Rattle.mc_roots.specs.declared.role.Role.{Role}
-use Rattle.mc_roots.specs.declared.role.Role.TheVariants.{Test, Inner, Plain}
-use Rattle.mc_roots.specs.Nodes.{Node, Constant, Not, Logic, Whole, Parts, no_parts, part, test, span_of}
+use Rattle.mc_roots.specs.declared.role.Role.TheVariants.{Controlling, Inner, Plain}
+use Rattle.mc_roots.specs.Nodes.{Node, Constant, Not, Logic, Whole, Parts, no_parts, part, controlling, span_of}
 use Rattle.mc_roots.specs.Nodes as nodes
 use Rattle.mc_roots.specs.Roots.{Standing, standing, part_at, step, is_root, is_inner, IsAt}
 use Rattle.mc_roots.specs.Roots as roots
 use Rattle.mc_roots.specs.Conditions.{IsCondition}
 use Rattle.mc_roots.specs.Conditions as conditions
+use Rattle.mc_roots.proofs.Trees.{same_span}
 use Rattle.laws_types.specs.Source.{IsOneAt, IsNumberOf, IsOperandOf, IsPlaceOf, IsCallOf, AreArgumentsOf, IsArgumentOf, IsStructureOf, IsEffectOf}
 use Rattle.laws_types.specs.Source as of
 use Rattle.laws_types.specs.SourceUnits.{IsInitializerOf, AreInitializersOf, AreObjectsOf, AreDeclaredBy, AreClausesOf, ArePartOf, IsStartOf, IsTestOf, IsReturnOf, AreStatementsOf, AreItemsOf, AreFunctionsOf, joined}
@@ -38,7 +41,7 @@ abbrev mutual
   AreHeld : (Span → Type 0) → Parts → Type 0
   AreHeld Has no_parts = Unit {0}
   AreHeld Has (part a ps) = IsHeld Has a × AreHeld Has ps
-  AreHeld Has (test a ps) = Has (span_of a) × IsHeld Has a × AreHeld Has ps
+  AreHeld Has (controlling a ps) = Has (span_of a) × IsHeld Has a × AreHeld Has ps
 
 -- ---- expressions
 
@@ -46,6 +49,14 @@ one_held : (Has : Span → Type 0) {at : Span} {e : typed.Expression} → IsOneA
     → IsHeld Has (nodes.expression e)
 one_held Has of.one = tt
 one_held Has of.converted_one = (λ q. absurd (cc), (tt, tt))
+
+-- an operator that evaluates both of its operands
+both_held : (Has : Span → Type 0) (full : Option FullOperator) (operator : Operator) (a b : Node) (span : Span)
+    → Has span → Has (span_of a) × IsHeld Has a → Has (span_of b) × IsHeld Has b
+    → Has (span_of (nodes.evaluates_both full operator a b span))
+    × IsHeld Has (nodes.evaluates_both full operator a b span)
+both_held Has (Some f) operator a b span own x y = (own, (own, x.0, y.0, x.1, y.1))
+both_held Has None operator a b span own x y = (own, (λ q. own, (x.1, (y.1, tt))))
 
 mutual
   number : (Has : Span → Type 0) {a : Expression} {e : typed.Expression} → IsNumberOf a e → Each Has a
@@ -55,24 +66,27 @@ mutual
   number Has of.constant k = (k, tt)
   number Has of.character k = (k, tt)
   number Has (of.read h) k = let x = place Has h k in (x.0, (x.1, tt))
-  number Has (of.one_operand e h) k = (k.0, (λ q. k.0, (operand Has h k.1, tt)))
+  number Has (of.one_operand e h) k = (k.0, (λ q. k.0, ((operand Has h k.1).1, tt)))
   number Has (of.negation h) k = let x = number Has h k.1 in (k.0, (k.0, x.0, x.1))
   number Has (of.cast h) k = (k.0, (λ q. k.0, ((number Has h k.1).1, tt)))
-  number Has (of.two_operands e h l) k = (k.0, (λ q. k.0, (operand Has h k.1, (operand Has l k.2, tt))))
+  number Has (of.two_operands {o = o} {e = e} {f = f} {span = span} q h l) k =
+      both_held Has (nodes.full_operator o e f) o (nodes.expression e) (nodes.expression f) span k.0
+      (operand Has h k.1) (operand Has l k.2)
   number Has (of.logical e h l) k =
       let x = number Has h k.1 in
       let y = number Has l k.2 in
       (k.0, (k.0, x.0, y.0, x.1, y.1))
   number Has (of.choice h l m) k =
       let x = number Has h k.1 in
-      (k.0, (λ q. k.0, (x.0, x.1, (operand Has l k.2, (operand Has m k.3, tt)))))
+      (k.0, (λ q. k.0, (x.0, x.1, ((operand Has l k.2).1, ((operand Has m k.3).1, tt)))))
   number Has (of.call h) k = let x = call Has h k in (x.0, x.1)
   number Has (of.input e) k = (k.0, tt)
 
   operand : (Has : Span → Type 0) {a : Expression} {e : typed.Expression} → IsOperandOf a e → Each Has a
-      → IsHeld Has (nodes.expression e)
-  operand Has (of.as_it_is h) k = (number Has h k).1
-  operand Has (of.converted h) k = (λ q. absurd (cc), ((number Has h k).1, tt))
+      → Has (span_of (nodes.expression e)) × IsHeld Has (nodes.expression e)
+  operand Has (of.as_it_is h) k = number Has h k
+  operand Has (of.converted {e = e} h) k =
+      let x = number Has h k in (subst Has (sym (same_span e)) x.0, (λ q. absurd (cc), (x.1, tt)))
 
   place : (Has : Span → Type 0) {a : Expression} {p : Place} → IsPlaceOf a p → Each Has a
       → Has (typed.span_of_place p) × IsHeld Has (nodes.place p)
@@ -95,7 +109,7 @@ mutual
 
   argument : (Has : Span → Type 0) {a : Expression} {x : Argument} → IsArgumentOf a x → Each Has a
       → IsHeld Has (nodes.argument x)
-  argument Has (of.number_argument h) k = operand Has h k
+  argument Has (of.number_argument h) k = (operand Has h k).1
   argument Has (of.structure_argument h) k = structure Has h k
   argument Has (of.array_argument h) k = (place Has h k).1
   argument Has (of.again_argument h) k = tt
@@ -108,15 +122,15 @@ mutual
 effect : (Has : Span → Type 0) {a : Expression} {x : Effect} → IsEffectOf a x → Each Has a
     → IsHeld Has (nodes.effect x)
 effect Has (of.effect_inside h) k = effect Has h k
-effect Has (of.assignment h l) k = ((place Has h k.1).1, (operand Has l k.2, tt))
+effect Has (of.assignment h l) k = ((place Has h k.1).1, ((operand Has l k.2).1, tt))
 effect Has (of.copy h l) k = ((place Has h k.1).1, (structure Has l k.2, tt))
-effect Has (of.update e h l) k = ((place Has h k.1).1, (operand Has l k.2, tt))
+effect Has (of.update e h l) k = ((place Has h k.1).1, ((operand Has l k.2).1, tt))
 effect Has (of.step_after h l) k = ((place Has h k.1).1, (one_held Has l, tt))
 effect Has (of.step_before h l) k = ((place Has h k.1).1, (one_held Has l, tt))
 effect Has (of.number_effect h) k = (number Has h k).1
 effect Has (of.structure_effect h) k = structure Has h k
 effect Has (of.call_effect h) k = (call Has h k).1
-effect Has (of.output e h) (own, (k, rest)) = (operand Has h k, tt)
+effect Has (of.output e h) (own, (k, rest)) = ((operand Has h k).1, tt)
 effect Has (of.effect_choice h l m) k =
     let x = number Has h k.1 in (x.0, x.1, (effect Has l k.2, (effect Has m k.3, tt)))
 effect Has (of.discard h) k = (effect Has h k.1, tt)
@@ -126,7 +140,7 @@ effect Has (of.discard h) k = (effect Has h k.1, tt)
 mutual
   initial : (Has : Span → Type 0) {i : Initializer} {x : typed.Initializer} → IsInitializerOf i x
       → EachInitial Has i → IsHeld Has (nodes.initializer x)
-  initial Has (of_units.number_initial h) k = operand Has h k
+  initial Has (of_units.number_initial h) k = (operand Has h k).1
   initial Has (of_units.structure_initial h) k = structure Has h k
   initial Has (of_units.list_initial h) k = initials Has h k
   initial Has (of_units.in_braces h) k = (initials Has h k).0
@@ -185,7 +199,7 @@ tested Has (of_units.one_test h) k = let x = number Has h k in (x.0, x.1, tt)
 returned : (Has : Span → Type 0) {a : Option Expression} {v : typed.ReturnValue} → IsReturnOf a v
     → EachOptional Has a → IsHeld Has (nodes.return_value v)
 returned Has of_units.return_nothing k = tt
-returned Has (of_units.return_number h) k = operand Has h k
+returned Has (of_units.return_number h) k = (operand Has h k).1
 returned Has (of_units.return_structure h) k = structure Has h k
 
 joined_held : (Has : Span → Type 0) (xs ys : Statements) → AreHeld Has (nodes.statements xs)
@@ -204,7 +218,7 @@ mutual
   statement Has (of_units.if_else_statement h l m) k =
       let x = number Has h k.0 in
       ((x.0, x.1, ((statement Has l k.1).0, ((statement Has m k.2).0, tt))), tt)
-  statement Has (of_units.switch_statement h l) k = ((operand Has h k.0, ((statement Has l k.1).0, tt)), tt)
+  statement Has (of_units.switch_statement h l) k = (((operand Has h k.0).1, ((statement Has l k.1).0, tt)), tt)
   statement Has (of_units.while_statement h l) k =
       let x = number Has h k.0 in
       ((tt, ((x.0, x.1, tt), (tt, ((statement Has l k.1).0, tt)))), tt)
@@ -234,11 +248,11 @@ functions Has (of_units.defined h l) k = (items_held Has h.items k.0, functions 
 -- ---- from the program to a root
 
 abbrev HasTested : Role → Type 0 → Type 0
-HasTested Test P = P
+HasTested Controlling P = P
 HasTested Inner P = Unit {0}
 HasTested Plain P = Unit {0}
 
--- a test has it, and the node holds
+-- a controlling expression has it, and the node holds
 abbrev IsGood : (Span → Type 0) → Standing → Type 0
 IsGood Has s = HasTested s.role (Has (span_of s.node)) × IsHeld Has s.node
 
@@ -246,8 +260,8 @@ part_good : (Has : Span → Type 0) (ps : Parts) (i : ℕ) → AreHeld Has ps �
 part_good Has no_parts i h = tt
 part_good Has (part a ps) zero h = (tt, h.0)
 part_good Has (part a ps) (suc i) h = part_good Has ps i h.1
-part_good Has (test a ps) zero h = (h.0, h.1)
-part_good Has (test a ps) (suc i) h = part_good Has ps i h.2
+part_good Has (controlling a ps) zero h = (h.0, h.1)
+part_good Has (controlling a ps) (suc i) h = part_good Has ps i h.2
 
 operand_good : (Has : Span → Type 0) (b : Bool) (a : Node) → IsHeld Has a
     → IsGood Has (standing (if b then Inner else Plain) a)
@@ -276,7 +290,7 @@ walk Has (i ∷ p) s u q h =
 
 root_has : (Has : Span → Type 0) (role : Role) (a : Node) → IsGood Has (standing role a)
     → IsTrue (is_root role a) → Has (span_of a)
-root_has Has Test a h q = h.0
+root_has Has Controlling a h q = h.0
 root_has Has Inner a h q = absurd (cc)
 root_has Has Plain (Constant span) h q = absurd (cc)
 root_has Has Plain (Not a span) (good, (own, first, rest)) q = own

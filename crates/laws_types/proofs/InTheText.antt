@@ -19,7 +19,7 @@ use Rattle.mc_grammar.proofs.Ends.{expression_ends, stars_ends, specifiers_ends,
 use Rattle.mc_grammar.proofs.Extent.{declaration_stands}
 use Rattle.mc_typed.specs.Tree.{Effect, Statements}
 use Rattle.mc_typed.specs.Tree as typed
-use Rattle.mc_roots.specs.Nodes.{Node, Whole, Parts, no_parts, part, test, program}
+use Rattle.mc_roots.specs.Nodes.{Node, Whole, Parts, no_parts, part, controlling, program}
 use Rattle.mc_roots.specs.Nodes as nodes
 use Rattle.mc_roots.specs.Laws.{StandsIn, StandIn}
 use Rattle.mc_roots.proofs.InOrder.{starts_are_in_order}
@@ -78,7 +78,7 @@ empty : {low high : ℕ} {rest : List Span} (ps : Parts) → ReadParts low high 
 empty {low = low} ps r = record { end = r.end; up = r.up; has = (low, omega arith, r.up, tt, r.has); later = r.later }
 
 tested : {low high : ℕ} {x : Span} {mid rest : List Span} (e : typed.Expression) (ps : Parts) → Follow low high (x ∷ mid)
-    → StandsIn x.start x.end (nodes.expression e) → ReadParts x.end high rest ps → ReadParts low high rest (test (nodes.expression e) ps)
+    → StandsIn x.start x.end (nodes.expression e) → ReadParts x.end high rest ps → ReadParts low high rest (controlling (nodes.expression e) ps)
 tested {low = low} {x = x} e ps f h t = record {
   end = t.end;
   up = omega (arith, first f, full f, t.up);
@@ -214,7 +214,7 @@ optional_test : {d : Dialect} {stop : List ℕ} {ts rest : List Lexeme} {a : Opt
 optional_test (s.no_expression q) of_units.no_test f = gathered no_parts (none f)
 optional_test (s.an_expression q p) (of_units.one_test {e = e} g) f =
     let x = expression refl p f in
-    gathered (test (nodes.expression e) no_parts) (tested e no_parts x.0 (number_stands g x.1 (full x.0)) (none (behind x.0)))
+    gathered (controlling (nodes.expression e) no_parts) (tested e no_parts x.0 (number_stands g x.1 (full x.0)) (none (behind x.0)))
 
 returned : {d : Dialect} {stop : List ℕ} {ts rest : List Lexeme} {a : Option Expression} {v : typed.ReturnValue} {low high : ℕ}
     → ReadsOptional d stop ts a rest → IsReturnOf a v → Follow low high (places ts) → ReadNode low high (places rest) (nodes.return_value v)
@@ -245,12 +245,12 @@ joined_read {low = low} xs ys r t = record {
   later = t.later;
 }
 
--- a statement, then the test of its `do`
+-- a statement, then the controlling expression of its `do`
 do_read : {low high : ℕ} {x : Span} {mid rest : List Span} (a : Node) (e : typed.Expression) (r : ReadParts low high mid (part a no_parts))
     → Follow r.end high (x ∷ rest) → StandsIn x.start x.end (nodes.expression e)
-    → ReadParts low high rest (part a (test (nodes.expression e) no_parts))
+    → ReadParts low high rest (part a (controlling (nodes.expression e) no_parts))
 unfolding inner
-do_read a e r f h = let b = inner a r in followed a (test (nodes.expression e) no_parts) b (tested e no_parts f h (none (behind f)))
+do_read a e r f h = let b = inner a r in followed a (controlling (nodes.expression e) no_parts) b (tested e no_parts f h (none (behind f)))
 
 mutual
   statement : {d : Dialect} {ts rest : List Lexeme} {one : Statement} {xs : Statements} {low high : ℕ} → ReadsStatement d ts one rest
@@ -265,15 +265,15 @@ mutual
   statement (s.if_only e p q v) (of_units.if_statement {e = c} {u = u} h k) f =
       let x = test_read p (skip f) in
       let ps = part (nodes.statement u) no_parts in
-      alone (Whole (test (nodes.expression c) ps))
-      (gathered (test (nodes.expression c) ps) (tested c ps x.0 (number_stands h x.1 (full x.0)) (statement q k (behind x.0))))
+      alone (Whole (controlling (nodes.expression c) ps))
+      (gathered (controlling (nodes.expression c) ps) (tested c ps x.0 (number_stands h x.1 (full x.0)) (statement q k (behind x.0))))
   statement (s.if_else e p q v w) (of_units.if_else_statement {e = c} {u = u} {v = y} h k l) f =
       let x = test_read p (skip f) in
       let ps = part (nodes.statement u) (part (nodes.statement y) no_parts) in
       let r = statement q k (behind x.0) in
       let t = joined_read (of_units.alone u) (of_units.alone y) r (statement w l (skip r.later)) in
-      alone (Whole (test (nodes.expression c) ps))
-      (gathered (test (nodes.expression c) ps) (tested c ps x.0 (number_stands h x.1 (full x.0)) t))
+      alone (Whole (controlling (nodes.expression c) ps))
+      (gathered (controlling (nodes.expression c) ps) (tested c ps x.0 (number_stands h x.1 (full x.0)) t))
   statement (s.switch e p q) (of_units.switch_statement {e = c} {all = all} h k) f =
       let x = test_read p (skip f) in
       let ps = part (Whole (nodes.statements all)) no_parts in
@@ -284,15 +284,15 @@ mutual
       let x = test_read p (skip f) in
       let body = part (nodes.statement u) no_parts in
       let ps = part (Whole no_parts) body in
-      let r = gathered (test (nodes.expression c) no_parts) (tested c no_parts x.0 (number_stands h x.1 (full x.0)) (none (behind x.0))) in
-      let all = part (Whole (test (nodes.expression c) no_parts)) ps in
+      let r = gathered (controlling (nodes.expression c) no_parts) (tested c no_parts x.0 (number_stands h x.1 (full x.0)) (none (behind x.0))) in
+      let all = part (Whole (controlling (nodes.expression c) no_parts)) ps in
       alone (Whole (part (Whole no_parts) all))
       (gathered (part (Whole no_parts) all)
-      (empty all (followed (Whole (test (nodes.expression c) no_parts)) ps r (empty body (statement q k r.later)))))
+      (empty all (followed (Whole (controlling (nodes.expression c) no_parts)) ps r (empty body (statement q k r.later)))))
   statement (s.do_while e p v q w) (of_units.do_statement {e = c} {u = u} h k) f =
       let r = statement p h (skip f) in
       let x = test_read q (skip r.later) in
-      let ps = part (nodes.statement u) (test (nodes.expression c) no_parts) in
+      let ps = part (nodes.statement u) (controlling (nodes.expression c) no_parts) in
       dropped (alone (Whole ps) (gathered ps (do_read (nodes.statement u) c r x.0 (number_stands k x.1 (full x.0)))))
   statement (s.for e v p q w y z t) (of_units.for_statement {first = one} {e = c} {step = step} {u = u} h k l m) f =
       let a = start p h (skip (skip f)) in

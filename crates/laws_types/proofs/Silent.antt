@@ -24,8 +24,8 @@ use Rattle.mc_typing.specs.Scopes.{Meaning, Automatic, Constant, Function, Typed
 use Rattle.mc_typing.specs.Scopes as scope
 use Rattle.mc_typing.specs.Values.{Judged, Value, Number, Stored, Borrowed, Returned, Done, Assigned, Designator, Kind, IsVoid, IsAssignment, IsInteger, IsStructure, IsArray, IsFunction, kind_of_base, kind_of_object, kind_of, Found, kind_found, is_integer, is_array, is_discarded, fails, number_stored, number_in, structure_stored, structure_in, any_structure_in, number_found, value_effect, discarded_in, lift2, bare_start, discarded_faults, integer_faults}
 use Rattle.mc_typing.specs.Constants.{type_of_constant}
-use Rattle.mc_typing.specs.Expressions.{name_faults, is_object, value_of_name, literal, stored_element, element_of, index_value, index_faults, Selected, selected, member_faults, layouts_of, member_type, member_at, stored_member, member_of, unary_of, unary_faults, cast_base, cast_faults_to, cast_faults, cast_value_to, cast_value, binary_of, operands_faults, are_arms, arms_fail, conditional_faults, choice_of, arms_value, conditional_value, assignment_value, effect_on, convert_to, assign_effect, update_effect, assignment_found, step_operator, step_found, operator_after, operator_before}
-use Rattle.mc_typing.specs.Calls.{array_fits, argument_fits, argument_faults, stored_array, array_argument, argument_of, argument_value, argument_judged, parameters_of, count_of, gives, callee_faults, output_of, returned, called, call_value}
+use Rattle.mc_typing.specs.Expressions.{name_faults, is_object, value_of_name, literal, stored_element, element_of, index_value, index_faults, Selected, selected, member_faults, layouts_of, member_type, member_at, stored_member, member_of, typed_unary, unary_faults, cast_base, cast_faults_to, cast_faults, cast_value_to, cast_value, typed_binary, operands_faults, are_arms, arms_fail, conditional_faults, choice_of, arms_value, conditional_value, assignment_value, effect_on, convert_to, assign_effect, update_effect, assignment_found, step_operator, step_found, operator_after, operator_before}
+use Rattle.mc_typing.specs.Calls.{array_fits, argument_fits, argument_faults, stored_array, array_argument, argument_of, argument_value, argument_judged, parameters_of, argument_count, gives, callee_faults, output_of, returned, called, call_value}
 use Rattle.mc_typing.specs.Judgement.{judge, judge_arguments, judge_type, judge_specifier, judge_specifiers, judge_members, judge_enumerators, one_of}
 use Rattle.mc_typing.specs.Declarators.{used_type, typedef_type, structure_type, used_structure_tag, used_enumeration_tag, opened, enumeration_scope, enumeration_faults}
 use Rattle.laws_types.proofs.ExactValues.{WhereSome, map_where, then_where, lift_where}
@@ -146,15 +146,15 @@ member_fine all name span x h = by_value x.value h
 
 -- ---- operators
 
-unary_fine : (operator : UnaryOperator) (span : Span) (x : Found) → IsFineFound x → WhereSome (IsFine (x.faults ++ unary_faults operator span.start (kind_found x)) false) (option_map Number (option_and_then (unary_of operator span) (number_found x)))
+unary_fine : (operator : UnaryOperator) (span : Span) (x : Found) → IsFineFound x → WhereSome (IsFine (x.faults ++ unary_faults operator span.start (kind_found x)) false) (option_map Number (option_and_then (typed_unary operator span) (number_found x)))
 unary_fine operator span x h =
-    map_where P (IsFine (x.faults ++ unary_faults operator span.start (kind_found x)) false) Number (option_and_then (unary_of operator span) (number_found x)) (λ e p. p)
-    (then_where (λ e. Both x.faults (fails is_integer (kind_found x))) P (unary_of operator span) (number_found x) (by_operator operator) (numbers x h))
+    map_where P (IsFine (x.faults ++ unary_faults operator span.start (kind_found x)) false) Number (option_and_then (typed_unary operator span) (number_found x)) (λ e p. p)
+    (then_where (λ e. Both x.faults (fails is_integer (kind_found x))) P (typed_unary operator span) (number_found x) (by_operator operator) (numbers x h))
   where
     P : typed.Expression → Type 0
     P e = x.faults ++ unary_faults operator span.start (kind_found x) ≡ []
 
-    by_operator : (o : UnaryOperator) (e : typed.Expression) → Both x.faults (fails is_integer (kind_found x)) → WhereSome (λ e. x.faults ++ unary_faults o span.start (kind_found x) ≡ []) (unary_of o span e)
+    by_operator : (o : UnaryOperator) (e : typed.Expression) → Both x.faults (fails is_integer (kind_found x)) → WhereSome (λ e. x.faults ++ unary_faults o span.start (kind_found x) ≡ []) (typed_unary o span e)
     by_operator unary.Plus e p = λ i. p.0 i ++ fault_if (false || p.1 i) Mismatch span.start
     by_operator unary.Minus e p = λ i. p.0 i ++ fault_if (false || p.1 i) Mismatch span.start
     by_operator unary.Complement e p = λ i. p.0 i ++ fault_if (false || p.1 i) Mismatch span.start
@@ -162,10 +162,10 @@ unary_fine operator span x h =
     by_operator unary.Dereference e p = tt
     by_operator unary.Address e p = tt
 
-binary_fine : (operator : BinaryOperator) (span : Span) (x y : Found) → IsFineFound x → IsFineFound y → WhereSome (IsFine (x.faults ++ (y.faults ++ operands_faults span.start (kind_found x) (kind_found y))) false) (option_map Number (lift2 (binary_of operator span) (number_found x) (number_found y)))
+binary_fine : (operator : BinaryOperator) (span : Span) (x y : Found) → IsFineFound x → IsFineFound y → WhereSome (IsFine (x.faults ++ (y.faults ++ operands_faults span.start (kind_found x) (kind_found y))) false) (option_map Number (lift2 (typed_binary operator span) (number_found x) (number_found y)))
 binary_fine operator span x y h k =
-    map_where P (IsFine (x.faults ++ (y.faults ++ operands_faults span.start (kind_found x) (kind_found y))) false) Number (lift2 (binary_of operator span) (number_found x) (number_found y)) (λ e p. p)
-    (lift_where (λ e. Both x.faults (fails is_integer (kind_found x))) (λ f. Both y.faults (fails is_integer (kind_found y))) P (binary_of operator span) (number_found x) (number_found y)
+    map_where P (IsFine (x.faults ++ (y.faults ++ operands_faults span.start (kind_found x) (kind_found y))) false) Number (lift2 (typed_binary operator span) (number_found x) (number_found y)) (λ e p. p)
+    (lift_where (λ e. Both x.faults (fails is_integer (kind_found x))) (λ f. Both y.faults (fails is_integer (kind_found y))) P (typed_binary operator span) (number_found x) (number_found y)
     (λ e f p q. λ i. p.0 i ++ (q.0 i ++ fault_if (p.1 i || q.1 i) Mismatch span.start)) (numbers x h) (numbers y k))
   where
     P : typed.Expression → Type 0
@@ -549,7 +549,7 @@ mutual
   found_fine (tree.Call name given span) s r =
       let m = meaning_of name s in
       let x = judge_arguments given (parameters_of m) s in
-      call_fine name span m (count_of given) x.scope x.faults x.value r.0 r.1 (arguments_fine given (parameters_of m) s r.2)
+      call_fine name span m (argument_count given) x.scope x.faults x.value r.0 r.1 (arguments_fine given (parameters_of m) s r.2)
   found_fine (tree.Index a b span) s r =
       let x = judge a s in
       let y = judge b x.scope in
@@ -573,15 +573,15 @@ mutual
       let x = judge a s in assignment_fine operator span x (judge b x.scope)
   found_fine (tree.Comma operands span) s r = tt
 
-  pub arguments_fine : (es : Expressions) (ps : List ParameterKind) (s : Scope) → AreRead es → WhereSome (λ a. ((judge_arguments es ps s).faults ≡ []) × (count_of es ≡ length ps)) (judge_arguments es ps s).value
+  pub arguments_fine : (es : Expressions) (ps : List ParameterKind) (s : Scope) → AreRead es → WhereSome (λ a. ((judge_arguments es ps s).faults ≡ []) × (argument_count es ≡ length ps)) (judge_arguments es ps s).value
   arguments_fine tree.no_expressions [] s r = (refl, refl)
   arguments_fine tree.no_expressions (p ∷ ps) s r = tt
   arguments_fine (tree.expressions e rest) [] s r = tt
   arguments_fine (tree.expressions e rest) (p ∷ ps) s r =
       let x = judge e s in
       let one = argument_judged (span_of e).start (Some p) x in
-      lift_where (λ a. one.faults ≡ []) (λ a. ((judge_arguments rest ps one.scope).faults ≡ []) × (count_of rest ≡ length ps))
-      (λ a. (one.faults ++ (judge_arguments rest ps one.scope).faults ≡ []) × (count_of rest + 1 ≡ suc (length ps))) typed.arguments one.value (judge_arguments rest ps one.scope).value
+      lift_where (λ a. one.faults ≡ []) (λ a. ((judge_arguments rest ps one.scope).faults ≡ []) × (argument_count rest ≡ length ps))
+      (λ a. (one.faults ++ (judge_arguments rest ps one.scope).faults ≡ []) × (argument_count rest + 1 ≡ suc (length ps))) typed.arguments one.value (judge_arguments rest ps one.scope).value
       (λ a more h k. (λ i. h i ++ k.0 i, omega (arith, k.1)))
       (argument_fine x.scope (span_of e).start p x.faults x.place x.value (found_fine e s r.0))
       (arguments_fine rest ps one.scope r.1)

@@ -24,7 +24,7 @@ use Rattle.mc_typing.specs.Constants.{value_of_constant}
 use Rattle.mc_typing.specs.Expressions.{convert_to, promote}
 use Rattle.mc_typing.specs.Declarators.{declared_type}
 use Rattle.mc_typing.specs.Judgement.{typed_by, judge, judge_specifiers, judge_lengths, judge_parameters}
-use Rattle.mc_typing.specs.Initializers.{Target, Missing, ScalarTarget, ArrayTarget, StructureTarget, target_of, Parts, parts_of, first_part, later_parts, cells_of, scalar_value, item_value, count_of, only_item, list_value, zero_value, zero_judged, list_judged, braced_judged, only_expression, judge_initializer, judge_items}
+use Rattle.mc_typing.specs.Initializers.{Target, Missing, ScalarTarget, ArrayTarget, StructureTarget, target_of, Parts, parts_of, first_part, later_parts, cells_of, scalar_value, item_value, item_count, only_item, list_value, zero_value, zero_judged, list_judged, braced_judged, only_expression, judge_initializer, judge_items}
 use Rattle.mc_typing.specs.Initializers as initializers
 use Rattle.mc_typing.specs.Declarations.{Storage, TypedefStorage, StaticStorage, AutomaticStorage, storage_of, count_listed, judge_optional_initializer, object_faults, layout_counted, declarator_value, static_value, object_judged, judge_init_declarator, append, judge_init_declarators, is_tag_alone, judge_declaration, result_of, signature_listed}
 use Rattle.mc_typing.specs.Statements.{Around, outermost, inside, in_loop, in_switch, closed, compound_scope, alone, only, followed, statement_found, keyword, declaration_judged, items_of, switch_scope, label_value, case_judged, default_judged, lift4, loop, return_value}
@@ -121,7 +121,7 @@ mutual
       (item_is_of a all u (target_of all u)) (source_values.found_of a s)
   initializer_of static u (tree.Braced items span) s =
       let parts = parts_of (target_of s.structures u) in
-      braced_of items span u span.start (count_of items) (judge_items static parts items s) s
+      braced_of items span u span.start (item_count items) (judge_items static parts items s) s
       (items_are_of static parts items s)
 
   items_are_of : (static : Bool) (parts : Parts) (items : Initializers) (s : Scope)

@@ -24,7 +24,7 @@ use Rattle.mc_typing.specs.Scopes.{Meaning, Automatic, Constant, Function, Typed
 use Rattle.mc_typing.specs.Scopes as scope
 use Rattle.mc_typing.specs.Values.{Value, Number, Stored, Borrowed, Returned, Done, Assigned, Designator, Kind, IsVoid, IsAssignment, IsInteger, IsStructure, IsArray, IsFunction, kind_of, Found, number_stored, number_in, structure_stored, structure_in, any_structure_in, number_found, value_effect, discarded_in, lift2}
 use Rattle.mc_typing.specs.Constants.{type_of_constant}
-use Rattle.mc_typing.specs.Expressions.{convert_to, promote, value_of_name, literal, stored_element, element_of, index_value, Selected, selected, member_type, layouts_of, member_at, stored_member, member_of, unary_of, cast_base, cast_value_to, cast_value, binary_of, choice_of, arms_value, conditional_value, assign_effect, update_of, update_effect, effect_on, assignment_value, update_found, assignment_found, step_found, operator_after, operator_before}
+use Rattle.mc_typing.specs.Expressions.{convert_to, promote, value_of_name, literal, stored_element, element_of, index_value, Selected, selected, member_type, layouts_of, member_at, stored_member, member_of, typed_unary, cast_base, cast_value_to, cast_value, typed_binary, choice_of, arms_value, conditional_value, assign_effect, update_of, update_effect, effect_on, assignment_value, update_found, assignment_found, step_found, operator_after, operator_before}
 use Rattle.mc_typing.specs.Calls.{array_fits, stored_array, array_argument, argument_of, argument_value, argument_judged, first_of, rest_of, no_more, parameters_of, output_of, returned, called, call_value}
 use Rattle.mc_typing.specs.Judgement.{judge, judge_arguments, judge_type}
 use Rattle.laws_types.specs.Source.{IsOneAt, IsNameOf, IsNumberOf, IsOperandOf, IsPlaceOf, IsCallOf, AreArgumentsOf, IsArgumentOf, IsStructureOf, IsEffectOf, last_two, first_two}
@@ -236,7 +236,7 @@ member_is_of a all name span Designator h = tt
 -- ---- operators and casts
 
 unary_is_of : (operator : UnaryOperator) (span : Span) (a : Expression) (e : typed.Expression)
-    → IsNumberOf a e → WhereSome (IsNumberOf (tree.Unary operator a span)) (unary_of operator span e)
+    → IsNumberOf a e → WhereSome (IsNumberOf (tree.Unary operator a span)) (typed_unary operator span e)
 unary_is_of unary.Plus span a e h = of.one_operand refl (promote_of a e h)
 unary_is_of unary.Minus span a e h = of.one_operand refl (promote_of a e h)
 unary_is_of unary.Complement span a e h = of.one_operand refl (promote_of a e h)
@@ -264,14 +264,14 @@ cast_is_of type a span (Some u) v h =
     (λ w p. cast_to_of type a span w (cast_base u u.lengths) p) h
 
 binary_is_of : (operator : BinaryOperator) (span : Span) (a b : Expression) (e f : typed.Expression)
-    → IsNumberOf a e → IsNumberOf b f → IsNumberOf (tree.Binary operator a b span) (binary_of operator span e f)
+    → IsNumberOf a e → IsNumberOf b f → IsNumberOf (tree.Binary operator a b span) (typed_binary operator span e f)
 binary_is_of operator span a b e f h k =
     by_operator operator (convert_of (common_of (type_of e) (type_of f)) a e h)
     (convert_of (common_of (type_of e) (type_of f)) b f k)
   where
     by_operator : (o : BinaryOperator) → IsOperandOf a (convert_to (common_of (type_of e) (type_of f)) e)
         → IsOperandOf b (convert_to (common_of (type_of e) (type_of f)) f)
-        → IsNumberOf (tree.Binary o a b span) (binary_of o span e f)
+        → IsNumberOf (tree.Binary o a b span) (typed_binary o span e f)
     by_operator binary.Multiply p q = of.two_operands refl p q
     by_operator binary.Divide p q = of.two_operands refl p q
     by_operator binary.Remainder p q = of.two_operands refl p q
@@ -615,8 +615,8 @@ mutual
   found_of (tree.Unary operator a span) s =
       let x = judge a s in
       map_where (IsNumberOf (tree.Unary operator a span)) (IsValueOf (tree.Unary operator a span)) Number
-      (option_and_then (unary_of operator span) (number_found x)) (λ e p. p)
-      (then_where (IsNumberOf a) (IsNumberOf (tree.Unary operator a span)) (unary_of operator span)
+      (option_and_then (typed_unary operator span) (number_found x)) (λ e p. p)
+      (then_where (IsNumberOf a) (IsNumberOf (tree.Unary operator a span)) (typed_unary operator span)
       (number_found x) (unary_is_of operator span a) (number_found_of a x (found_of a s)))
   found_of (tree.Cast type a span) s =
       let x = judge_type type s in
@@ -625,9 +625,9 @@ mutual
       let x = judge a s in
       let y = judge b x.scope in
       map_where (IsNumberOf (tree.Binary operator a b span)) (IsValueOf (tree.Binary operator a b span)) Number
-      (lift2 (binary_of operator span) (number_found x) (number_found y)) (λ e p. p)
+      (lift2 (typed_binary operator span) (number_found x) (number_found y)) (λ e p. p)
       (lift_where (IsNumberOf a) (IsNumberOf b) (IsNumberOf (tree.Binary operator a b span))
-      (binary_of operator span) (number_found x) (number_found y) (binary_is_of operator span a b)
+      (typed_binary operator span) (number_found x) (number_found y) (binary_is_of operator span a b)
       (number_found_of a x (found_of a s)) (number_found_of b y (found_of b x.scope)))
   found_of (tree.Conditional a b c span) s =
       let x = judge a s in

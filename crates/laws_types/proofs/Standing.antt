@@ -1,10 +1,12 @@
 -- The typed program of an accepted source stands as in its text.
-use Rattle.std.proofs.Common.{ℕ, ◌<◌, ◌≤◌, false, List, [], ◌∷◌, arith}
+use Rattle.std.proofs.Common.{ℕ, ◌<◌, ◌≤◌, false, List, [], ◌∷◌, Option, Some, None, arith}
 use Rattle.mc_span.specs.declared.span.Span.{Span}
 use Rattle.mc_tree.specs.Tree.{Expression, Expressions, span_of}
+use Rattle.mc_typed.specs.declared.operators.Operator.{Operator}
 use Rattle.mc_typed.specs.Tree.{Place, FunctionCall, Arguments, Argument, StructureValue, Effect, Statements}
 use Rattle.mc_typed.specs.Tree as typed
-use Rattle.mc_roots.specs.Nodes.{Node, Constant, Not, Logic, Whole, Parts, no_parts, part, test}
+use Rattle.mc_roots.specs.declared.operators.FullOperator.{FullOperator}
+use Rattle.mc_roots.specs.Nodes.{Node, Constant, Not, Logic, Whole, Parts, no_parts, part, controlling}
 use Rattle.mc_roots.specs.Nodes as nodes
 use Rattle.mc_roots.specs.Laws.{IsBetween, IsExpression, StandsIn, StandIn}
 use Rattle.laws_types.specs.Source.{IsOneAt, IsNameOf, IsNumberOf, IsOperandOf, IsPlaceOf, IsCallOf, AreArgumentsOf, IsArgumentOf, IsStructureOf, IsEffectOf}
@@ -34,7 +36,7 @@ mutual
   wider_parts no_parts l low high h p q s = tt
   wider_parts (part a ps) l low high h p q (m, d, e, sa, sp) =
       (m, omega (arith, p, d), omega (arith, q, e), wider a l low m m p (omega arith) sa, wider_parts ps m m high h (omega arith) q sp)
-  wider_parts (test a ps) l low high h p q (m, d, e, x, sa, sp) =
+  wider_parts (controlling a ps) l low high h p q (m, d, e, x, sa, sp) =
       (m, omega (arith, p, d), omega (arith, q, e), x, wider a l low m m p (omega arith) sa, wider_parts ps m m high h (omega arith) q sp)
 
 -- a node stands within its own place, and this between two bytes
@@ -59,20 +61,26 @@ first_part : {low high : ℕ} {x : Span} {xs : List Span} (a : Node) (ps : Parts
 first_part {low = low} {x = x} a ps f s k =
     (x.end, omega (arith, first f, full f), ordered (behind f), wider a low x.start x.end x.end (first f) (omega arith) s, k)
 
+both_expression : (full : Option FullOperator) (operator : Operator) (a b : Node) (span : Span)
+    → IsExpression (nodes.evaluates_both full operator a b span)
+both_expression (Some f) operator a b span = tt
+both_expression None operator a b span = tt
+
 pub is_expression : (e : typed.Expression) → IsExpression (nodes.expression e)
 is_expression (typed.Constant v t span) = tt
 is_expression (typed.Read object t) = tt
 is_expression (typed.Unary operator t e span) = tt
 is_expression (typed.Convert t written e span) = tt
 is_expression (typed.Not e span) = tt
-is_expression (typed.Binary operator t e f span) = tt
+is_expression (typed.Binary operator t e f span) =
+    both_expression (nodes.full_operator operator e f) operator (nodes.expression e) (nodes.expression f) span
 is_expression (typed.Logic operator e f span) = tt
 is_expression (typed.Choice e f g t span) = tt
 is_expression (typed.Call k t) = tt
 is_expression (typed.Input span) = tt
 
 first_test : {low high : ℕ} {x : Span} {xs : List Span} (e : typed.Expression) (ps : Parts) → Follow low high (x ∷ xs)
-    → StandsIn x.start x.end (nodes.expression e) → StandIn x.end high ps → StandIn low high (test (nodes.expression e) ps)
+    → StandsIn x.start x.end (nodes.expression e) → StandIn x.end high ps → StandIn low high (controlling (nodes.expression e) ps)
 first_test {low = low} {x = x} e ps f s k = (
   x.end,
   omega (arith, first f, full f),
@@ -90,6 +98,17 @@ only a low high le s = (high, le, omega arith, s, tt)
 made : {span : Span} (top : nodes.Top) (ps : Parts) → span.start < span.end → StandIn span.start span.end ps
     → Stood span.start span.end span (nodes.Expression top ps span)
 made top ps h s = record { bounds = own h; inside = λ c. (own h, s) }
+
+-- an operator that evaluates both of its operands, which part at this byte
+both_made : {span : Span} (full : Option FullOperator) (operator : Operator) (a b : Node) (middle : ℕ)
+    → span.start < span.end → span.start ≤ middle → middle ≤ span.end
+    → StandsIn span.start middle a → StandsIn middle span.end b
+    → Stood span.start span.end span (nodes.evaluates_both full operator a b span)
+both_made (Some f) operator a b middle h low high left right =
+    record { bounds = own h; inside = λ c. (own h, middle, low, high, left, right) }
+both_made {span = span} None operator a b middle h low high left right =
+    made (nodes.Operator (nodes.is_comparison operator)) (part a (part b no_parts)) h
+    (middle, low, high, left, only b middle span.end high right)
 
 -- another node in the same place, with this as its part
 around : {low high : ℕ} {span : Span} {a : Node} (top : nodes.Top) → Stood low high span a
@@ -129,10 +148,11 @@ mutual
   number (of.cast {e = e} g) (w, k) h =
       made (nodes.Operator false) (part (nodes.expression e) no_parts) h
       (first_part (nodes.expression e) no_parts w (fits (number g k (full w))) tt)
-  number (of.two_operands {o = o} {e = e} {f = f} q g i) (w, k, l) h =
-      made (nodes.Operator (nodes.is_comparison o)) (part (nodes.expression e) (part (nodes.expression f) no_parts)) h
-      (first_part (nodes.expression e) (part (nodes.expression f) no_parts) w (fits (operand g k (full w)))
-      (first_part (nodes.expression f) no_parts (behind w) (fits (operand i l (full (behind w)))) tt))
+  number (of.two_operands {o = o} {a = a} {e = e} {f = f} {span = span} q g i) (w, k, l) h =
+      both_made (nodes.full_operator o e f) o (nodes.expression e) (nodes.expression f) (span_of a).end h
+      (omega (arith, first w, full w)) (ordered (behind w))
+      (wider (nodes.expression e) span.start (span_of a).start (span_of a).end (span_of a).end (first w) (omega arith) (fits (operand g k (full w))))
+      (fits (outer (behind w) (operand i l (full (behind w)))))
   number (of.logical {a = a} {b = b} {e = e} {f = f} {span = span} q g i) (w, k, l) h = record {
     bounds = own h;
     inside = λ c. (
@@ -145,7 +165,7 @@ mutual
     );
   }
   number (of.choice {e = e} {f = f} {g = g} i j m) (w, k, l, r) h =
-      made (nodes.Operator false) (test (nodes.expression e) (part (nodes.expression f) (part (nodes.expression g) no_parts))) h
+      made (nodes.Operator false) (controlling (nodes.expression e) (part (nodes.expression f) (part (nodes.expression g) no_parts))) h
       (first_test e (part (nodes.expression f) (part (nodes.expression g) no_parts)) w (fits (number i k (full w)))
       (first_part (nodes.expression f) (part (nodes.expression g) no_parts) (behind w) (fits (operand j l (full (behind w))))
       (first_part (nodes.expression g) no_parts (behind (behind w)) (fits (operand m r (full (behind (behind w))))) tt)))

@@ -7,11 +7,11 @@ use Rattle.mc_cond.specs.Tree.{tree_of, IsNumbered}
 use Rattle.mc_typed.specs.Levels.{limited}
 use Rattle.mc_typed.specs.Tree as t
 use Rattle.mc_roots.specs.declared.role.Role.{Role}
-use Rattle.mc_roots.specs.declared.role.Role.TheVariants.{Test, Inner, Plain}
+use Rattle.mc_roots.specs.declared.role.Role.TheVariants.{Controlling, Inner, Plain}
 use Rattle.mc_roots.specs.declared.decision.Decision as code
 use Rattle.mc_gather.specs.declared.gathered.Gathered as code_gathered
 use Rattle.mc_roots.specs.declared.fault.DecideFault.{DecideFault}
-use Rattle.mc_roots.specs.Nodes.{Node, Constant, Not, Logic, Expression, Whole, Parts, no_parts, part, test}
+use Rattle.mc_roots.specs.Nodes.{Node, Constant, Not, Logic, Expression, Whole, Parts, no_parts, part, controlling}
 use Rattle.mc_roots.specs.Nodes as n
 use Rattle.mc_roots.specs.Roots.{is_constant, is_candidate}
 use Rattle.mc_roots.specs.Conditions.{width}
@@ -74,9 +74,9 @@ mutual
   extends_parts (part a ps) g =
       more g (visited Plain a g) (inside_parts ps (visited Plain a g)) (visits Plain a g (λ h. extends a h))
       (extends_parts ps (visited Plain a g))
-  extends_parts (test a ps) g =
-      more g (visited Test a g) (inside_parts ps (visited Test a g)) (visits Test a g (λ h. extends a h))
-      (extends_parts ps (visited Test a g))
+  extends_parts (controlling a ps) g =
+      more g (visited Controlling a g) (inside_parts ps (visited Controlling a g)) (visits Controlling a g (λ h. extends a h))
+      (extends_parts ps (visited Controlling a g))
 
 cuts : (g h : Gathered) → Extends g h → cut (length g.decisions) g.fault h ≡ g
 cuts g h (f, xs, e) =
@@ -162,9 +162,9 @@ mutual
   shows_parts k before (part a ps) found g h =
       shows_parts k before ps (w.visited Plain a found) (visited Plain a g)
       (one Plain k before a found g (λ ns i. shows k before a ns i) h)
-  shows_parts k before (test a ps) found g h =
-      shows_parts k before ps (w.visited Test a found) (visited Test a g)
-      (one Test k before a found g (λ ns i. shows k before a ns i) h)
+  shows_parts k before (controlling a ps) found g h =
+      shows_parts k before ps (w.visited Controlling a found) (visited Controlling a g)
+      (one Controlling k before a found g (λ ns i. shows k before a ns i) h)
 
 -- ---- functions
 

@@ -22,17 +22,17 @@ effect_node whole span bit =
     ap stands (sym (code.rolls-Effect whole span bit))
     ∙ ap n.statement (fold-roll-Statement t.Statement node_statement (Statement-F.Effect whole span bit))
 
-pub if_node : (e : Expression) (s : Box Statement Global) (keyword span : Span) (bit : Option ℕ) → stands (code.If e s keyword span bit) ≡ n.Whole (n.test (node e) (n.part (stands s.value) n.no_parts))
+pub if_node : (e : Expression) (s : Box Statement Global) (keyword span : Span) (bit : Option ℕ) → stands (code.If e s keyword span bit) ≡ n.Whole (n.controlling (node e) (n.part (stands s.value) n.no_parts))
 if_node e s keyword span bit =
     ap stands (sym (code.rolls-If e s keyword span bit))
     ∙ ap n.statement (fold-roll-Statement t.Statement node_statement (Statement-F.If e s keyword span bit))
 
-pub if_else_node : (e : Expression) (s u : Box Statement Global) (keyword span : Span) (bit : Option ℕ) → stands (code.IfElse e s u keyword span bit) ≡ n.Whole (n.test (node e) (n.part (stands s.value) (n.part (stands u.value) n.no_parts)))
+pub if_else_node : (e : Expression) (s u : Box Statement Global) (keyword span : Span) (bit : Option ℕ) → stands (code.IfElse e s u keyword span bit) ≡ n.Whole (n.controlling (node e) (n.part (stands s.value) (n.part (stands u.value) n.no_parts)))
 if_else_node e s u keyword span bit =
     ap stands (sym (code.rolls-IfElse e s u keyword span bit))
     ∙ ap n.statement (fold-roll-Statement t.Statement node_statement (Statement-F.IfElse e s u keyword span bit))
 
-pub do_while_node : (s : Box Statement Global) (e : Expression) (keyword span : Span) (bit : Option ℕ) → stands (code.DoWhile s e keyword span bit) ≡ n.Whole (n.part (stands s.value) (n.test (node e) n.no_parts))
+pub do_while_node : (s : Box Statement Global) (e : Expression) (keyword span : Span) (bit : Option ℕ) → stands (code.DoWhile s e keyword span bit) ≡ n.Whole (n.part (stands s.value) (n.controlling (node e) n.no_parts))
 do_while_node s e keyword span bit =
     ap stands (sym (code.rolls-DoWhile s e keyword span bit))
     ∙ ap n.statement (fold-roll-Statement t.Statement node_statement (Statement-F.DoWhile s e keyword span bit))

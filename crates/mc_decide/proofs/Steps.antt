@@ -27,10 +27,6 @@ pub both_constant : {E : Type 0} (r : Result Bool E) (x p q : Bool) → x ≡ p 
 both_constant (Ok c) x p q e h = h ∙ ap (λ (b : Bool). b && q) e
 both_constant (Err f) x p q e h = tt
 
-pub two_constant : {E : Type 0} (r : Result Bool E) (x p q : Bool) → x ≡ p → IfOk r (λ c. c ≡ (x && q)) → IfOk r (λ c. c ≡ (p && (q && true)))
-two_constant (Ok c) x p q e h = h ∙ (ap (λ (b : Bool). b && q) e ∙ ap (λ (b : Bool). p && b) (and_true q))
-two_constant (Err f) x p q e h = tt
-
 regroup : (p q s : Bool) → ((p && q) && s) ≡ (p && (q && (s && true)))
 regroup true true true = refl
 regroup true true false = refl

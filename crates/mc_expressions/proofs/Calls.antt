@@ -6,7 +6,7 @@ use Rattle.mc_span.specs.declared.span.Span.{Span}
 use Rattle.mc_typed.specs.declared.expressions.Argument.{Argument}
 use Rattle.mc_typed.specs.Tree as t
 use Rattle.mc_typed.specs.Views.{argument_of, arguments_from}
-use Rattle.mc_typing.specs.Calls.{output_of, count_of}
+use Rattle.mc_typing.specs.Calls.{output_of, argument_count}
 use Rattle.mc_expressions.specs.steps.Callees.{only_argument, output_with}
 
 pub output_of_only : (span : Span) (given : t.Arguments)
@@ -28,6 +28,6 @@ only_none [] other = refl
 only_none (a ∷ []) other = absurd (other refl)
 only_none (a ∷ b ∷ all) other = refl
 
-pub counted : (all : List tree.Expression) → count_of (expressions_from all) ≡ length all
+pub counted : (all : List tree.Expression) → argument_count (expressions_from all) ≡ length all
 counted [] = refl
-counted (e ∷ all) = let h : count_of (expressions_from all) ≡ length all = counted all in omega arith
+counted (e ∷ all) = let h : argument_count (expressions_from all) ≡ length all = counted all in omega arith

@@ -13,7 +13,7 @@ use Rattle.mc_faults.specs.declared.fault.Fault.{Fault}
 use Rattle.mc_typing.specs.Types.{CType}
 use Rattle.mc_typing.specs.Scopes.{Scope}
 use Rattle.mc_typing.specs.Values.{Judged, Number, Found, found, part, kind_found, number_found, lift2}
-use Rattle.mc_typing.specs.Expressions.{literal, index_faults, index_value, index_found, member_faults, member_of, member_found, unary_faults, unary_of, is_arithmetic, unary_found, cast_faults, cast_value, may_cast_to_integer, cast_found, operands_faults, binary_of, binary_found, conditional_faults, conditional_value, conditional_found, assign_faults, assign_effect, assignment_value, assign_found, update_faults, update_effect, update_found, assignment_found, step_operator, step_found}
+use Rattle.mc_typing.specs.Expressions.{literal, index_faults, index_value, index_found, member_faults, member_of, member_found, unary_faults, typed_unary, is_arithmetic, unary_found, cast_faults, cast_value, may_cast_to_integer, cast_found, operands_faults, typed_binary, binary_found, conditional_faults, conditional_value, conditional_found, assign_faults, assign_effect, assignment_value, assign_found, update_faults, update_effect, update_found, assignment_found, step_operator, step_found}
 use Rattle.mc_typing.specs.Types.{ParameterKind}
 use Rattle.mc_typing.specs.Scopes.{Meaning, cells_counted, with_counted}
 use Rattle.mc_typing.specs.Values.{judged}
@@ -33,7 +33,7 @@ pub unary_node : (operator : UnaryOperator) (span : Span) (x : Found)
 unary_node operator span x =
     ap (found false (is_arithmetic operator && x.constant))
     (one_part (unary_faults operator span.start (kind_found x))
-    (option_map Number (option_and_then (unary_of operator span) (number_found x))) (part x))
+    (option_map Number (option_and_then (typed_unary operator span) (number_found x))) (part x))
 
 pub member_node : (name : Name) (span : Span) (x : Found)
     → squeezed (member_found name span (squeezed x)) ≡ squeezed (member_found name span x)
@@ -62,7 +62,7 @@ pub binary_node : (operator : BinaryOperator) (span : Span) (x y : Found) (s : S
 binary_node operator span x y s =
     ap (found false (x.constant && y.constant))
     (two_parts (operands_faults span.start (kind_found x) (kind_found y))
-    (option_map Number (lift2 (binary_of operator span) (number_found x) (number_found y)))
+    (option_map Number (lift2 (typed_binary operator span) (number_found x) (number_found y)))
     (record (part x) { scope = s }) (part y))
 
 pub conditional_node : (span : Span) (x y z : Found) (s u : Scope)

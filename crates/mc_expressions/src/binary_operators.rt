@@ -32,7 +32,7 @@ enum Operation {
 
 fn operation_of(operator: BinaryOperator) -> Operation
     ensures { (span : Span) (l r : typed.Expression)
-        → expressions.binary_of operator span l r ≡ operating result span l r }
+        → expressions.typed_binary operator span l r ≡ operating result span l r }
 {
     match operator {
         BinaryOperator::Multiply => Operation::Common(BinOp::Mul),
@@ -149,7 +149,7 @@ fn binary_value(
     right: Option<Expression>,
 ) -> Result<Option<Value>, AllocError>
     ensures { IfOk result (λ r. option_map value_of r
-        ≡ option_map values.Number (values.lift2 (expressions.binary_of operator span)
+        ≡ option_map values.Number (values.lift2 (expressions.typed_binary operator span)
         (option_map expression_of left) (option_map expression_of right))) }
 {
     match left {

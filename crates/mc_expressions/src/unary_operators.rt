@@ -69,7 +69,7 @@ fn unary_value(
     one: Option<Expression>,
 ) -> Result<Option<Value>, AllocError>
     ensures { IfOk result (λ r. option_map value_of r ≡ option_map values.Number
-        (option_and_then (expressions.unary_of operator span) (option_map expression_of one))) }
+        (option_and_then (expressions.typed_unary operator span) (option_map expression_of one))) }
 {
     let Some(one) = one else {
         return Ok(None);

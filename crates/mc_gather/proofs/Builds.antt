@@ -1,5 +1,5 @@
 -- The tree of a part and the places of its conditions, from those of its operands.
-use Rattle.std.proofs.Common.{◌≡◌, ◌∙◌, sym, ap, ℕ, ◌+◌, false, List, [], ◌∷◌, ◌++◌, append_assoc, Box, Result, Ok, Err, IfOk, arith}
+use Rattle.std.proofs.Common.{◌≡◌, ◌∙◌, sym, ap, ℕ, ◌+◌, false, List, [], ◌∷◌, ◌++◌, append_assoc, Option, Some, Box, Result, Ok, Err, IfOk, arith}
 use Rattle.std.specs.Global.{Global}
 use Rattle.mc_span.specs.declared.span.Span.{Span}
 use Rattle.mc_cond.specs.declared.tree.CondTree.{CondTree}
@@ -9,10 +9,17 @@ use Rattle.mc_typed.specs.declared.operators.LogicOperator.{LogicOperator}
 use Rattle.mc_typed.specs.declared.probes.Probe.{Probe}
 use Rattle.mc_typed.specs.declared.expressions.Expression.{Expression}
 use Rattle.mc_typed.specs.declared.expressions.Expression.TheVariants as code
+use Rattle.mc_value.specs.declared.int_type.IntType.{IntType}
+use Rattle.mc_typed.specs.declared.operators.Operator.{Operator}
+use Rattle.mc_typed.specs.Views.{expression_of}
+use Rattle.mc_roots.specs.declared.operators.FullOperator.{FullOperator}
+use Rattle.mc_roots.specs.declared.operators.Junction.{Junction}
+use Rattle.mc_roots.specs.declared.operators.Junction.TheVariants.{Short, Full}
 use Rattle.mc_roots.specs.Nodes.{Node, Not, Logic, span_of}
+use Rattle.mc_roots.specs.Nodes as n
 use Rattle.mc_roots.specs.Conditions.{is_operator, joined, tree_from, width}
 use Rattle.mc_roots.specs.steps.Walk.{spans}
-use Rattle.mc_gather.proofs.Shapes.{node, not_node, logic_node, probe_node}
+use Rattle.mc_gather.proofs.Shapes.{node, not_node, binary_node, logic_node, probe_node}
 use Rattle.mc_gather.proofs.Leaves.{leaf_tree, leaf_width, leaf_spans}
 
 -- ---- the nodes of operators, by the operands that the code reads
@@ -21,11 +28,18 @@ pub is_not : (e inner : Expression) (x : Box Expression Global) (span : Span) �
 is_not e inner x span is there =
     ap node is ∙ (not_node x span ∙ ap (λ (f : Expression). Not (node f) span) (sym there))
 
-pub is_logic : (e left right : Expression) (operator : LogicOperator) (x y : Box Expression Global) (span : Span) → e ≡ code.Logic operator x y span → left ≡ x.value → right ≡ y.value → node e ≡ Logic operator (node left) (node right) span
+pub is_logic : (e left right : Expression) (operator : LogicOperator) (x y : Box Expression Global) (span : Span) → e ≡ code.Logic operator x y span → left ≡ x.value → right ≡ y.value → node e ≡ Logic (Short operator) (node left) (node right) span
 is_logic e left right operator x y span is there other =
     ap node is ∙ (logic_node operator x y span
-    ∙ (ap (λ (f : Expression). Logic operator (node f) (node y.value) span) (sym there)
-    ∙ ap (λ (f : Expression). Logic operator (node left) (node f) span) (sym other)))
+    ∙ (ap (λ (f : Expression). Logic (Short operator) (node f) (node y.value) span) (sym there)
+    ∙ ap (λ (f : Expression). Logic (Short operator) (node left) (node f) span) (sym other)))
+
+pub is_full : (e left right : Expression) (operator : Operator) (a : IntType) (full : FullOperator) (x y : Box Expression Global) (span : Span) → e ≡ code.Binary operator a x y span → left ≡ x.value → right ≡ y.value → n.full_operator operator (expression_of left) (expression_of right) ≡ Some full → node e ≡ Logic (Full full) (node left) (node right) span
+is_full e left right operator a full x y span is there other some =
+    ap node is ∙ (binary_node operator a x y span
+    ∙ (ap (λ (f : Expression). n.evaluates_both (n.full_operator operator (expression_of f) (expression_of y.value)) operator (node f) (node y.value) span) (sym there)
+    ∙ (ap (λ (f : Expression). n.evaluates_both (n.full_operator operator (expression_of left) (expression_of f)) operator (node left) (node f) span) (sym other)
+    ∙ ap (λ (o : Option FullOperator). n.evaluates_both o operator (node left) (node right) span) some)))
 
 pub is_probe : (e inner : Expression) (probe : Probe) (x : Box Expression Global) → e ≡ code.Probe probe x → inner ≡ x.value → node e ≡ node inner
 is_probe e inner probe x is there = ap node is ∙ (probe_node probe x ∙ ap node (sym there))
@@ -59,20 +73,20 @@ not_tree (Ok t) x first whole a span e there h =
     h ∙ (ap c.Not there ∙ ap (tree_from first) (sym e))
 not_tree (Err f) x first whole a span e there h = tt
 
--- ---- `&&` and `||`
+-- ---- the operators between two operands
 
-pub logic_tree : {E : Type 0} (r : Result CondTree E) (operator : LogicOperator) (x y : CondTree) (first middle : ℕ) (whole a b : Node) (span : Span) → whole ≡ Logic operator a b span → tree_of x ≡ tree_from first a → tree_of y ≡ tree_from middle b → middle ≡ first + width a → IfOk r (λ t. tree_of t ≡ joined operator (tree_of x) (tree_of y)) → IfOk r (λ t. tree_of t ≡ tree_from first whole)
+pub logic_tree : {E : Type 0} (r : Result CondTree E) (operator : Junction) (x y : CondTree) (first middle : ℕ) (whole a b : Node) (span : Span) → whole ≡ Logic operator a b span → tree_of x ≡ tree_from first a → tree_of y ≡ tree_from middle b → middle ≡ first + width a → IfOk r (λ t. tree_of t ≡ joined operator (tree_of x) (tree_of y)) → IfOk r (λ t. tree_of t ≡ tree_from first whole)
 logic_tree (Ok t) operator x y first middle whole a b span e left right between h =
     h ∙ (ap (λ (u : c.Tree). joined operator u (tree_of y)) left
     ∙ (ap (joined operator (tree_from first a)) (right ∙ ap (λ (k : ℕ). tree_from k b) between)
     ∙ ap (tree_from first) (sym e)))
 logic_tree (Err f) operator x y first middle whole a b span e left right between h = tt
 
-pub logic_count : (old middle new : ℕ) (operator : LogicOperator) (whole a b : Node) (span : Span) → whole ≡ Logic operator a b span → middle ≡ old + width a → new ≡ middle + width b → new ≡ old + width whole
+pub logic_count : (old middle new : ℕ) (operator : Junction) (whole a b : Node) (span : Span) → whole ≡ Logic operator a b span → middle ≡ old + width a → new ≡ middle + width b → new ≡ old + width whole
 logic_count old middle new operator whole a b span e left right =
     let wide : width whole ≡ width a + width b = ap width e in omega (arith, left, right, wide)
 
-pub logic_spans : (old middle new : List Span) (operator : LogicOperator) (whole a b : Node) (span : Span) → whole ≡ Logic operator a b span → middle ≡ old ++ spans a → new ≡ middle ++ spans b → new ≡ old ++ spans whole
+pub logic_spans : (old middle new : List Span) (operator : Junction) (whole a b : Node) (span : Span) → whole ≡ Logic operator a b span → middle ≡ old ++ spans a → new ≡ middle ++ spans b → new ≡ old ++ spans whole
 logic_spans old middle new operator whole a b span e left right =
     right ∙ (ap (λ (xs : List Span). xs ++ spans b) left
     ∙ (append_assoc old (spans a) (spans b) ∙ ap (λ (w : Node). old ++ spans w) (sym e)))

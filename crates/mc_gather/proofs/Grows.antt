@@ -2,7 +2,7 @@
 use Rattle.std.proofs.Common.{◌≡◌, ◌∙◌, refl, sym, ap, ℕ, ◌<◌, ◌≤◌, Bool, nat_lt, lt-ltb, le-ltb, Result, Ok, Err, IfOk}
 use Rattle.mc_typed.specs.Levels.{limited}
 use Rattle.mc_roots.specs.declared.role.Role.{Role}
-use Rattle.mc_roots.specs.declared.role.Role.TheVariants.{Test, Inner, Plain}
+use Rattle.mc_roots.specs.declared.role.Role.TheVariants.{Controlling, Inner, Plain}
 use Rattle.mc_roots.specs.Nodes.{Node}
 use Rattle.mc_roots.specs.Nodes as n
 use Rattle.mc_roots.specs.Roots.{is_boolean, is_candidate}
@@ -11,7 +11,7 @@ use Rattle.mc_roots.proofs.Trees.{over, not_over}
 use Rattle.mc_gather.specs.steps.Gathering.{Gathered, grown, stopped, sized, is_taken}
 
 pub taken : (role : Role) (a : Node) → is_taken role (is_boolean a) ≡ is_candidate role a
-taken Test a = refl
+taken Controlling a = refl
 taken Inner a = refl
 taken Plain a = refl
 

@@ -1,5 +1,5 @@
 -- Expressions that are no operators of a decision's tree.
-use Rattle.std.proofs.Common.{◌≡◌, ◌∙◌, refl, sym, ap, ℕ, ℤ, Bool, false, [], ◌∷◌, ◌⊎◌, inl, inr, Box}
+use Rattle.std.proofs.Common.{◌≡◌, ◌∙◌, refl, sym, ap, ℕ, ℤ, Bool, false, [], ◌∷◌, ◌⊎◌, inl, inr, Option, None, Box}
 use Rattle.std.specs.Global.{Global}
 use Rattle.mc_span.specs.declared.span.Span.{Span}
 use Rattle.mc_value.specs.declared.int_type.IntType.{IntType}
@@ -10,6 +10,8 @@ use Rattle.mc_typed.specs.declared.expressions.Expression.TheVariants as code
 use Rattle.mc_typed.specs.declared.expressions.Place.{Place}
 use Rattle.mc_typed.specs.declared.expressions.FunctionCall.{FunctionCall}
 use Rattle.mc_cond.specs.Tree.{Leaf}
+use Rattle.mc_typed.specs.Views.{expression_of}
+use Rattle.mc_roots.specs.declared.operators.FullOperator.{FullOperator}
 use Rattle.mc_roots.specs.Nodes as n
 use Rattle.mc_roots.specs.Roots.{is_boolean}
 use Rattle.mc_roots.specs.Conditions.{is_operator, tree_from, width}
@@ -57,11 +59,6 @@ IsConvert e =
     (a : IntType) × (written : Bool) × (x : Box Expression Global) × (span : Span)
     × (e ≡ code.Convert a written x span)
 
-abbrev IsBinary : Expression → Type 0
-IsBinary e =
-    (operator : Operator) × (a : IntType) × (x : Box Expression Global) × (y : Box Expression Global)
-    × (span : Span) × (e ≡ code.Binary operator a x y span)
-
 abbrev IsChoice : Expression → Type 0
 IsChoice e =
     (x : Box Expression Global) × (y : Box Expression Global) × (z : Box Expression Global)
@@ -73,28 +70,33 @@ IsCall e = (k : FunctionCall) × (a : IntType) × (e ≡ code.Call k a)
 abbrev IsInput : Expression → Type 0
 IsInput e = (span : Span) × (e ≡ code.Input span)
 
-abbrev pub IsLeaf : Expression → Type 0
-IsLeaf e =
-    IsConstant e ⊎ (IsRead e ⊎ (IsUnary e ⊎ (IsConvert e ⊎ (IsBinary e ⊎ (IsChoice e ⊎ (IsCall e ⊎ IsInput e))))))
+abbrev pub IsOther : Expression → Type 0
+IsOther e =
+    IsConstant e ⊎ (IsRead e ⊎ (IsUnary e ⊎ (IsConvert e ⊎ (IsChoice e ⊎ (IsCall e ⊎ IsInput e)))))
 
 seen : (e f : Expression) (a : n.Node) → e ≡ f → node f ≡ a → is_operator a ≡ false → is_operator (node e) ≡ false
 seen e f a is there plain = ap (λ (x : Expression). is_operator (node x)) is ∙ (ap is_operator there ∙ plain)
 
-pub leaf : (e : Expression) → IsLeaf e → is_operator (node e) ≡ false
+pub leaf : (e : Expression) → IsOther e → is_operator (node e) ≡ false
 leaf e (inl (v, a, span, is)) = seen e _ _ is (constant_node v a span) refl
 leaf e (inr (inl (object, a, is))) = seen e _ _ is (read_node object a) refl
 leaf e (inr (inr (inl (operator, a, x, span, is)))) = seen e _ _ is (unary_node operator a x span) refl
 leaf e (inr (inr (inr (inl (a, written, x, span, is))))) = seen e _ _ is (convert_node a written x span) refl
-leaf e (inr (inr (inr (inr (inl (operator, a, x, y, span, is)))))) = seen e _ _ is (binary_node operator a x y span) refl
-leaf e (inr (inr (inr (inr (inr (inl (x, y, z, a, span, is))))))) = seen e _ _ is (choice_node x y z a span) refl
-leaf e (inr (inr (inr (inr (inr (inr (inl (k, a, is)))))))) = seen e _ _ is (call_node k a) refl
-leaf e (inr (inr (inr (inr (inr (inr (inr (span, is)))))))) = seen e _ _ is (input_node span) refl
+leaf e (inr (inr (inr (inr (inl (x, y, z, a, span, is)))))) = seen e _ _ is (choice_node x y z a span) refl
+leaf e (inr (inr (inr (inr (inr (inl (k, a, is))))))) = seen e _ _ is (call_node k a) refl
+leaf e (inr (inr (inr (inr (inr (inr (span, is))))))) = seen e _ _ is (input_node span) refl
+
+-- `&`, `|` and `^` between other operands, and each other operator between two
+pub binary_leaf : (e left right : Expression) (operator : Operator) (a : IntType) (x y : Box Expression Global) (span : Span) → e ≡ code.Binary operator a x y span → left ≡ x.value → right ≡ y.value → n.full_operator operator (expression_of left) (expression_of right) ≡ None → is_operator (node e) ≡ false
+binary_leaf e left right operator a x y span is there other none =
+    seen e _ _ is
+    (binary_node operator a x y span
+    ∙ ap (λ (o : Option FullOperator). n.evaluates_both o operator (node x.value) (node y.value) span)
+    (ap (λ (f : Expression). n.full_operator operator (expression_of f) (expression_of y.value)) (sym there)
+    ∙ (ap (λ (f : Expression). n.full_operator operator (expression_of left) (expression_of f)) (sym other) ∙ none)))
+    refl
 
 -- ---- and which are no operator of decisions at all
-
-abbrev pub IsOther : Expression → Type 0
-IsOther e =
-    IsConstant e ⊎ (IsRead e ⊎ (IsUnary e ⊎ (IsConvert e ⊎ (IsChoice e ⊎ (IsCall e ⊎ IsInput e)))))
 
 unlike : (e f : Expression) (a : n.Node) → e ≡ f → node f ≡ a → false ≡ is_boolean a → false ≡ is_boolean (node e)
 unlike e f a is there plain = plain ∙ sym (ap (λ (x : Expression). is_boolean (node x)) is ∙ ap is_boolean there)

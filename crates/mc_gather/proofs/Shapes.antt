@@ -15,6 +15,7 @@ use Rattle.mc_typed.specs.declared.expressions.Argument.TheOpen.{Expression-F}
 use Rattle.mc_typed.specs.declared.expressions.Argument.TheFolds.{fold-roll-Expression}
 use Rattle.mc_typed.specs.Tree as t
 use Rattle.mc_typed.specs.Views.{call_of, expression_of, node_argument, node_call, node_expression, node_place, node_structure, place_of}
+use Rattle.mc_roots.specs.declared.operators.Junction.TheVariants.{Short}
 use Rattle.mc_roots.specs.Nodes as n
 
 abbrev pub node : Expression → n.Node
@@ -45,17 +46,17 @@ not_node e span =
     ap node (sym (code.rolls-Not e span))
     ∙ ap n.expression (fold-roll-Expression t.Argument t.Expression t.Place t.StructureValue t.FunctionCall node_argument node_expression node_place node_structure node_call (Expression-F.Not e span))
 
-pub binary_node : (operator : Operator) (a : IntType) (e f : Box Expression Global) (span : Span) → node (code.Binary operator a e f span) ≡ n.Expression (n.Operator (n.is_comparison operator)) (n.part (node e.value) (n.part (node f.value) n.no_parts)) span
+pub binary_node : (operator : Operator) (a : IntType) (e f : Box Expression Global) (span : Span) → node (code.Binary operator a e f span) ≡ n.evaluates_both (n.full_operator operator (expression_of e.value) (expression_of f.value)) operator (node e.value) (node f.value) span
 binary_node operator a e f span =
     ap node (sym (code.rolls-Binary operator a e f span))
     ∙ ap n.expression (fold-roll-Expression t.Argument t.Expression t.Place t.StructureValue t.FunctionCall node_argument node_expression node_place node_structure node_call (Expression-F.Binary operator a e f span))
 
-pub logic_node : (operator : LogicOperator) (e f : Box Expression Global) (span : Span) → node (code.Logic operator e f span) ≡ n.Logic operator (node e.value) (node f.value) span
+pub logic_node : (operator : LogicOperator) (e f : Box Expression Global) (span : Span) → node (code.Logic operator e f span) ≡ n.Logic (Short operator) (node e.value) (node f.value) span
 logic_node operator e f span =
     ap node (sym (code.rolls-Logic operator e f span))
     ∙ ap n.expression (fold-roll-Expression t.Argument t.Expression t.Place t.StructureValue t.FunctionCall node_argument node_expression node_place node_structure node_call (Expression-F.Logic operator e f span))
 
-pub choice_node : (e f g : Box Expression Global) (a : IntType) (span : Span) → node (code.Choice e f g a span) ≡ n.Expression (n.Operator false) (n.test (node e.value) (n.part (node f.value) (n.part (node g.value) n.no_parts))) span
+pub choice_node : (e f g : Box Expression Global) (a : IntType) (span : Span) → node (code.Choice e f g a span) ≡ n.Expression (n.Operator false) (n.controlling (node e.value) (n.part (node f.value) (n.part (node g.value) n.no_parts))) span
 choice_node e f g a span =
     ap node (sym (code.rolls-Choice e f g a span))
     ∙ ap n.expression (fold-roll-Expression t.Argument t.Expression t.Place t.StructureValue t.FunctionCall node_argument node_expression node_place node_structure node_call (Expression-F.Choice e f g a span))

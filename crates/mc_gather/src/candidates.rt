@@ -32,7 +32,7 @@ fn is_taken(role: Role, boolean: bool) -> bool
     ensures { result ≡ is_taken role boolean }
 {
     match role {
-        Role::Test => true,
+        Role::Controlling => true,
         Role::Inner => false,
         Role::Plain => boolean,
     }

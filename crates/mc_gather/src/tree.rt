@@ -9,6 +9,7 @@ ghost use Rattle.mc_roots.specs.Conditions.{joined, tree_from, width};
 ghost use Rattle.mc_roots.specs.steps.Walk.{spans};
 
 use mc_cond::CondTree;
+use mc_roots::{FullOperator, Junction, full_operator};
 use mc_typed::{Expression, LogicOperator, Span};
 use std::alloc::{AllocError, Global};
 
@@ -20,11 +21,19 @@ pub(crate) fn conditions(tree: &Expression) -> u32
     match tree {
         Expression::Not { operand, .. } | Expression::Probe { operand, .. } => conditions(operand),
         Expression::Logic { left, right, .. } => conditions(left).saturating_add(conditions(right)),
+        Expression::Binary {
+            operator,
+            left,
+            right,
+            ..
+        } => match full_operator(*operator, left, right) {
+            Some(_) => conditions(left).saturating_add(conditions(right)),
+            None => 1,
+        },
         Expression::Constant { .. }
         | Expression::Read { .. }
         | Expression::Unary { .. }
         | Expression::Convert { .. }
-        | Expression::Binary { .. }
         | Expression::Choice { .. }
         | Expression::Call { .. }
         | Expression::Input { .. } => 1,
@@ -59,14 +68,27 @@ pub(crate) fn build(
         } => {
             let left = build(alloc, left, before)?;
             let right = build(alloc, right, before)?;
-            join(alloc, *operator, left, right)
+            join(alloc, Junction::Short(*operator), left, right)
         }
+        Expression::Binary {
+            operator,
+            left,
+            right,
+            span,
+            ..
+        } => match full_operator(*operator, left, right) {
+            Some(full) => {
+                let left = build(alloc, left, before)?;
+                let right = build(alloc, right, before)?;
+                join(alloc, Junction::Full(full), left, right)
+            }
+            None => condition(*span, before),
+        },
         Expression::Probe { operand, .. } => build(alloc, operand, before),
         Expression::Constant { .. }
         | Expression::Read { .. }
         | Expression::Unary { .. }
         | Expression::Convert { .. }
-        | Expression::Binary { .. }
         | Expression::Choice { .. }
         | Expression::Call { .. }
         | Expression::Input { .. } => condition(tree.span(), before),
@@ -82,17 +104,20 @@ fn negate(alloc: Global, operand: CondTree) -> Result<CondTree, AllocError>
 
 fn join(
     alloc: Global,
-    operator: LogicOperator,
+    junction: Junction,
     left: CondTree,
     right: CondTree,
 ) -> Result<CondTree, AllocError>
-    ensures { IfOk result (λ t. tree_of t ≡ joined operator (tree_of left) (tree_of right)) }
+    ensures { IfOk result (λ t. tree_of t ≡ joined junction (tree_of left) (tree_of right)) }
 {
     let left = Box::new(alloc, left)?;
     let right = Box::new(alloc, right)?;
-    match operator {
-        LogicOperator::And => Ok(CondTree::And(left, right)),
-        LogicOperator::Or => Ok(CondTree::Or(left, right)),
+    match junction {
+        Junction::Short(LogicOperator::And) => Ok(CondTree::And(left, right)),
+        Junction::Short(LogicOperator::Or) => Ok(CondTree::Or(left, right)),
+        Junction::Full(FullOperator::And) => Ok(CondTree::FullAnd(left, right)),
+        Junction::Full(FullOperator::Or) => Ok(CondTree::FullOr(left, right)),
+        Junction::Full(FullOperator::Xor) => Ok(CondTree::FullXor(left, right)),
     }
 }
 

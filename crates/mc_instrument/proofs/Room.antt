@@ -1,10 +1,12 @@
 -- There is room for all numbers that the counters give, since a map has few bits.
-use Rattle.std.proofs.Common.{◌≡◌, ◌∙◌, refl, sym, ap, ℕ, zero, suc, ◌+◌, ◌-◌, ◌<◌, ◌≤◌, ◌^◌, ◌⊎◌, inl, inr, min, Bool, true, false, if◌then◌else◌, eqb, List, [], ◌∷◌, map, length, drop, slice_get, Box, arith}
+use Rattle.std.proofs.Common.{◌≡◌, ◌∙◌, refl, sym, ap, ℕ, zero, suc, ◌+◌, ◌-◌, ◌<◌, ◌≤◌, ◌^◌, ◌⊎◌, inl, inr, min, Bool, true, false, if◌then◌else◌, eqb, List, [], ◌∷◌, map, length, drop, slice_get, Option, Some, None, Box, arith}
 use Rattle.std.specs.Global.{Global}
 use Rattle.std.proofs.lemmas.Bool.{cases_lt}
 use Rattle.std.proofs.lemmas.List.{length-drop, length-map}
 use Rattle.mc_span.specs.declared.span.Span.{Span}
 use Rattle.mc_paths.specs.Paths.{count_of}
+use Rattle.mc_value.specs.declared.int_type.IntType.{IntType}
+use Rattle.mc_typed.specs.declared.operators.Operator.{Operator}
 use Rattle.mc_typed.specs.declared.operators.LogicOperator.{LogicOperator}
 use Rattle.mc_typed.specs.declared.expressions.Expression.{Expression}
 use Rattle.mc_typed.specs.declared.expressions.Expression.TheVariants as code_tree
@@ -13,7 +15,8 @@ use Rattle.mc_typed.specs.declared.expressions.Argument.TheFolds.{fold-roll-Expr
 use Rattle.mc_typed.specs.declared.probes.Probe.TheVariants as probe
 use Rattle.mc_typed.specs.Tree as t
 use Rattle.mc_typed.specs.Views as plain
-use Rattle.mc_roots.specs.declared.role.Role.TheVariants.{Test, Inner, Plain}
+use Rattle.mc_roots.specs.declared.operators.FullOperator.{FullOperator}
+use Rattle.mc_roots.specs.declared.role.Role.TheVariants.{Controlling, Inner, Plain}
 use Rattle.mc_roots.specs.Nodes as n
 use Rattle.mc_roots.specs.Conditions.{width}
 use Rattle.mc_roots.specs.Counts.{roots}
@@ -23,15 +26,18 @@ use Rattle.mc_probe.specs.BitMaps.{map_of}
 use Rattle.mc_probe.specs.Laws.{AreCounted}
 use Rattle.mc_probe.specs.Maps.{Map, Mapped, IsMap, IsMapOf, AreBased, ArePlaced, first_path}
 use Rattle.mc_probe.specs.Switches.{switches, switches_all}
-use Rattle.mc_probe.specs.Table.{Loose, InTree, increment_of, mapped, decisions_in, put, put_place, put_call, plain_roots, test_roots}
+use Rattle.mc_probe.specs.Table.{Loose, InTree, beside, role_of, under, wrap, increment_of, mapped, decisions_in, put, put_place, put_call, plain_roots, test_roots}
 use Rattle.mc_probe.specs.Tree as p
 use Rattle.mc_probe.specs.Views as probed
 use Rattle.mc_probe.proofs.Counted.{events_listed}
 use Rattle.mc_probe.proofs.Kept.{kept}
 use Rattle.mc_map.specs.Faults.{most_bits}
+use Rattle.mc_map.proofs.Operands.{both_node}
 use Rattle.mc_instrument.specs.declared.copies.statements.At as code
+use Rattle.mc_instrument.specs.steps.Inside.{inner_roots}
 use Rattle.mc_instrument.specs.steps.Counters.{all_points, leading, taken_by_function, StandsAt}
 use Rattle.mc_instrument.proofs.Edges.{no_edge}
+use Rattle.mc_instrument.proofs.Rooted.{both_roots}
 
 -- ---- how many decisions a map has, and which numbers its conditions have
 
@@ -153,10 +159,22 @@ function_fits m q f fs at first h stands ends few =
 abbrev pub greatest : ℕ
 greatest = 2 ^ 32 - 1
 
+-- an operator that evaluates both of its operands, in the tree of decision k, by the full operator that it is
+abbrev both_put : (m : Map) (first k c d : ℕ) (operator : Operator) (a : IntType) (e f : t.Expression) (span : Span) → Option FullOperator → p.Expression
+both_put m first k c d operator a e f span full =
+    wrap m first (InTree k c) d (n.evaluates_both full operator (n.expression e) (n.expression f) span)
+    (λ o d. p.Binary operator a (put m first (under full o) d e) (put m first (beside (under full o) (width (n.expression e))) (d + roots (role_of (under full o)) (n.expression e)) f) span)
+
 module _ (m : Map) (first k : ℕ) (none : (c : ℕ) → 64 ≤ c → increment_of (mapped m first k) c ≡ 0) where
   round_beyond : (a b : ℕ) (x : p.Expression) → 64 ≤ a → 64 ≤ b → p.Probe (probe.Condition k 0 (increment_of (mapped m first k) a)) x ≡ p.Probe (probe.Condition k 0 (increment_of (mapped m first k) b)) x
   round_beyond a b x ha hb =
       ap (λ (i : ℕ). p.Probe (probe.Condition k 0 i) x) (none a ha ∙ sym (none b hb))
+
+  -- of an operator that evaluates both of its operands, where both agree
+  both_beyond : (a b d : ℕ) (operator : Operator) (ty : IntType) (e f : t.Expression) (span : Span) (full : Option FullOperator) → 64 ≤ a → 64 ≤ b → put m first (InTree k a) d e ≡ put m first (InTree k b) d e → put m first (InTree k (a + width (n.expression e))) (d + roots Inner (n.expression e)) f ≡ put m first (InTree k (b + width (n.expression e))) (d + roots Inner (n.expression e)) f → both_put m first k a d operator ty e f span full ≡ both_put m first k b d operator ty e f span full
+  both_beyond a b d operator ty e f span (Some which) ha hb left right = λ i. p.Binary operator ty (left i) (right i) span
+  both_beyond a b d operator ty e f span None ha hb left right =
+      round_beyond a b (p.Binary operator ty (put m first (Loose Plain) d e) (put m first (Loose Plain) (d + plain_roots m first e) f) span) ha hb
 
   same_beyond : (a b d : ℕ) (e : t.Expression) → 64 ≤ a → 64 ≤ b → put m first (InTree k a) d e ≡ put m first (InTree k b) d e
   same_beyond a b d (t.Constant v ty span) ha hb = round_beyond a b (p.Constant v ty span) ha hb
@@ -168,14 +186,16 @@ module _ (m : Map) (first k : ℕ) (none : (c : ℕ) → 64 ≤ c → increment_
       round_beyond a b (p.Convert ty written (put m first (Loose Plain) d e) span) ha hb
   same_beyond a b d (t.Not e span) ha hb = ap (λ (x : p.Expression). p.Not x span) (same_beyond a b d e ha hb)
   same_beyond a b d (t.Binary operator ty e f span) ha hb =
-      round_beyond a b (p.Binary operator ty (put m first (Loose Plain) d e) (put m first (Loose Plain) (d + plain_roots m first e) f) span) ha hb
+      let w : ℕ = width (n.expression e) in
+      both_beyond a b d operator ty e f span (n.full_operator operator e f) ha hb (same_beyond a b d e ha hb)
+      (same_beyond (a + w) (b + w) (d + roots Inner (n.expression e)) f (omega (arith, ha)) (omega (arith, hb)))
   same_beyond a b d (t.Logic operator e f span) ha hb =
       let w : ℕ = width (n.expression e) in
       let left = same_beyond a b d e ha hb in
       let right = same_beyond (a + w) (b + w) (d + roots Inner (n.expression e)) f (omega (arith, ha)) (omega (arith, hb)) in
       λ i. p.Logic operator (left i) (right i) span
   same_beyond a b d (t.Choice e f g ty span) ha hb =
-      round_beyond a b (p.Choice (put m first (Loose Test) d e) (put m first (Loose Plain) (d + test_roots m first e) f) (put m first (Loose Plain) (d + test_roots m first e + plain_roots m first f) g) ty span) ha hb
+      round_beyond a b (p.Choice (put m first (Loose Controlling) d e) (put m first (Loose Plain) (d + test_roots m first e) f) (put m first (Loose Plain) (d + test_roots m first e + plain_roots m first f) g) ty span) ha hb
   same_beyond a b d (t.Call callee ty) ha hb =
       round_beyond a b (p.Call (put_call m first d callee) ty) ha hb
   same_beyond a b d (t.Input span) ha hb = round_beyond a b (p.Input span) ha hb
@@ -192,17 +212,27 @@ told m first k c d e h = by_test (cases_lt c greatest)
     by_test (inr high) =
         same_beyond m first k none (min c greatest) c d e (omega (arith, high)) (omega (arith, high))
 
-pub logic_copied : (bits : BitMap) (first k c d after next : ℕ) (operator : LogicOperator) (e f : t.Expression) (span : Span) (x y : p.Expression) → x ≡ put (map_of bits) first (InTree k c) d e → after ≡ min (c + width (n.expression e)) greatest → next ≡ d + roots Inner (n.expression e) → y ≡ put (map_of bits) first (InTree k after) next f → p.Logic operator x y span ≡ put (map_of bits) first (InTree k c) d (t.Logic operator e f span)
-logic_copied bits first k c d after next operator e f span x y left is_after is_next right =
+-- the second operand, with the number of its first condition as the code tells it
+second : (bits : BitMap) (first k c d after next : ℕ) (e f : t.Expression) (y : p.Expression) → after ≡ min (c + width (n.expression e)) greatest → next ≡ d + roots Inner (n.expression e) → y ≡ put (map_of bits) first (InTree k after) next f → y ≡ put (map_of bits) first (InTree k (c + width (n.expression e))) (d + roots Inner (n.expression e)) f
+second bits first k c d after next e f y is_after is_next right =
     let m : Map = map_of bits in
     let w : ℕ = width (n.expression e) in
     let j : ℕ = d + roots Inner (n.expression e) in
-    let moved : y ≡ put m first (InTree k (c + w)) j f =
     right
     ∙ (ap (λ (i : ℕ). put m first (InTree k i) next f) is_after
     ∙ (ap (λ (i : ℕ). put m first (InTree k (min (c + w) greatest)) i f) is_next
-    ∙ told m first k (c + w) j f (kept bits))) in
+    ∙ told m first k (c + w) j f (kept bits)))
+
+pub logic_copied : (bits : BitMap) (first k c d after next : ℕ) (operator : LogicOperator) (e f : t.Expression) (span : Span) (x y : p.Expression) → x ≡ put (map_of bits) first (InTree k c) d e → after ≡ min (c + width (n.expression e)) greatest → next ≡ d + roots Inner (n.expression e) → y ≡ put (map_of bits) first (InTree k after) next f → p.Logic operator x y span ≡ put (map_of bits) first (InTree k c) d (t.Logic operator e f span)
+logic_copied bits first k c d after next operator e f span x y left is_after is_next right =
+    let moved = second bits first k c d after next e f y is_after is_next right in
     λ i. p.Logic operator (left i) (moved i) span
+
+pub full_copied : (bits : BitMap) (first k c d after next : ℕ) (which : FullOperator) (operator : Operator) (a : IntType) (e f : t.Expression) (span : Span) (x y : p.Expression) → n.full_operator operator e f ≡ Some which → x ≡ put (map_of bits) first (InTree k c) d e → after ≡ min (c + width (n.expression e)) greatest → next ≡ d + roots Inner (n.expression e) → y ≡ put (map_of bits) first (InTree k after) next f → p.Binary operator a x y span ≡ put (map_of bits) first (InTree k c) d (t.Binary operator a e f span)
+full_copied bits first k c d after next which operator a e f span x y is left is_after is_next right =
+    let moved = second bits first k c d after next e f y is_after is_next right in
+    let both : p.Binary operator a x y span ≡ both_put (map_of bits) first k c d operator a e f span (Some which) = λ i. p.Binary operator a (left i) (moved i) span in
+    both ∙ ap (both_put (map_of bits) first k c d operator a e f span) (sym is)
 
 pub logic_counted : (c v w after last : ℕ) → after ≡ min (c + v) greatest → last ≡ min (after + w) greatest → last ≡ min (c + (v + w)) greatest
 logic_counted c v w after last is_after is_last = omega (arith, is_after, is_last)
@@ -219,3 +249,20 @@ pub probed_logic : (operator : LogicOperator) (x y : Box Expression Global) (spa
 probed_logic operator x y span =
     ap probed.expression_of (sym (code_tree.rolls-Logic operator x y span))
     ∙ fold-roll-Expression p.Argument p.Expression p.Place p.StructureValue p.FunctionCall probed.node_argument probed.node_expression probed.node_place probed.node_structure probed.node_call (Expression-F.Logic operator x y span)
+
+-- ---- an operator that evaluates both of its operands, as the two views see it
+
+pub probed_binary : (operator : Operator) (a : IntType) (x y : Box Expression Global) (span : Span) → probed.expression_of (code_tree.Binary operator a x y span) ≡ p.Binary operator a (probed.expression_of x.value) (probed.expression_of y.value) span
+probed_binary operator a x y span =
+    ap probed.expression_of (sym (code_tree.rolls-Binary operator a x y span))
+    ∙ fold-roll-Expression p.Argument p.Expression p.Place p.StructureValue p.FunctionCall probed.node_argument probed.node_expression probed.node_place probed.node_structure probed.node_call (Expression-F.Binary operator a x y span)
+
+pub binary_roots : (tree left right : Expression) (operator : Operator) (a : IntType) (x y : Box Expression Global) (span : Span) → tree ≡ code_tree.Binary operator a x y span → left ≡ x.value → right ≡ y.value → inner_roots (n.expression (plain.expression_of tree)) ≡ roots Plain (n.expression (plain.expression_of left)) + roots Plain (n.expression (plain.expression_of right))
+binary_roots tree left right operator a x y span is first second =
+    let e : t.Expression = plain.expression_of x.value in
+    let f : t.Expression = plain.expression_of y.value in
+    let full : Option FullOperator = n.full_operator operator e f in
+    ap inner_roots (both_node tree operator a x y span full is refl)
+    ∙ (both_roots full operator (n.expression e) (n.expression f) span
+    ∙ (ap (λ (g : Expression). roots Plain (n.expression (plain.expression_of g)) + roots Plain (n.expression f)) (sym first)
+    ∙ ap (λ (g : Expression). roots Plain (n.expression (plain.expression_of left)) + roots Plain (n.expression (plain.expression_of g))) (sym second)))

@@ -1,16 +1,19 @@
 -- The probes of a root, and of an expression that is none.
-use Rattle.std.proofs.Common.{◌≡◌, ◌∙◌, refl, sym, ap, ℕ, ◌+◌, ◌<◌, ◌^◌, Bool, true, false, ◌||◌, if◌then◌else◌, arith}
+use Rattle.std.proofs.Common.{◌≡◌, ◌∙◌, refl, sym, ap, ℕ, ◌+◌, ◌<◌, ◌^◌, Bool, true, false, ◌||◌, if◌then◌else◌, Option, Some, None, arith}
+use Rattle.mc_span.specs.declared.span.Span.{Span}
+use Rattle.mc_typed.specs.declared.operators.Operator.{Operator}
 use Rattle.mc_typed.specs.declared.probes.Probe.TheVariants as probe
 use Rattle.mc_typed.specs.Tree as t
+use Rattle.mc_roots.specs.declared.operators.FullOperator.{FullOperator}
 use Rattle.mc_roots.specs.declared.role.Role.{Role}
-use Rattle.mc_roots.specs.declared.role.Role.TheVariants.{Test, Inner, Plain}
+use Rattle.mc_roots.specs.declared.role.Role.TheVariants.{Controlling, Inner, Plain}
 use Rattle.mc_roots.specs.Nodes.{Node, Constant, Not, Logic, Expression, Whole}
 use Rattle.mc_roots.specs.Nodes as n
 use Rattle.mc_roots.specs.Roots.{is_root, is_inner}
 use Rattle.mc_roots.specs.Conditions.{width}
 use Rattle.mc_roots.specs.Counts.{one_where, roots, roots_in}
 use Rattle.mc_probe.specs.Maps.{Map}
-use Rattle.mc_probe.specs.Table.{Stand, Loose, InTree, base_of, mapped, round_condition, wrap, put, put_place, put_call, beside, role_of, plain_roots, test_roots}
+use Rattle.mc_probe.specs.Table.{Stand, Loose, InTree, base_of, mapped, round_condition, wrap, put, put_place, put_call, beside, role_of, under, plain_roots, test_roots}
 use Rattle.mc_probe.specs.Tree as p
 use Rattle.mc_instrument.specs.steps.Inside.{inside, root, inner_roots}
 
@@ -45,7 +48,17 @@ inside_roots role (Expression top ps span) k h =
 inside_roots role (Whole ps) k h =
     ap (λ (b : Bool). one_where b + roots_in ps) h ∙ zero (roots_in ps)
 
+-- both operands of an operator have their roots inside it, whether it is a full operator or none
+pub both_roots : (full : Option FullOperator) (operator : Operator) (a b : Node) (span : Span) → inner_roots (n.evaluates_both full operator a b span) ≡ roots Plain a + roots Plain b
+both_roots (Some f) operator a b span = refl
+both_roots None operator a b span = omega arith
+
 -- ---- which probes
+
+-- the operands of an operator that is no root stand loose, whether it is a full operator or none
+stay_loose : (full : Option FullOperator) → under full (Loose Plain) ≡ Loose Plain
+stay_loose (Some operator) = refl
+stay_loose None = refl
 
 module _ (m : Map) (first : ℕ) (role : Role) (d : ℕ) where
   -- what stands round a node, where it is a root, and where it is none
@@ -79,14 +92,15 @@ module _ (m : Map) (first : ℕ) (role : Role) (d : ℕ) where
       round_root (n.expression (t.Not e span))
       (λ o k. p.Not (put m first o k e) span) h
   root_put (t.Binary operator a e f span) h =
+      let full : Option FullOperator = n.full_operator operator e f in
       round_root (n.expression (t.Binary operator a e f span))
-      (λ o k. p.Binary operator a (put m first (Loose Plain) k e) (put m first (Loose Plain) (k + plain_roots m first e) f) span) h
+      (λ o k. p.Binary operator a (put m first (under full o) k e) (put m first (beside (under full o) (width (n.expression e))) (k + roots (role_of (under full o)) (n.expression e)) f) span) h
   root_put (t.Logic operator e f span) h =
       round_root (n.expression (t.Logic operator e f span))
       (λ o k. p.Logic operator (put m first o k e) (put m first (beside o (width (n.expression e))) (k + roots (role_of o) (n.expression e)) f) span) h
   root_put (t.Choice e f g a span) h =
       round_root (n.expression (t.Choice e f g a span))
-      (λ o k. p.Choice (put m first (Loose Test) k e) (put m first (Loose Plain) (k + test_roots m first e) f) (put m first (Loose Plain) (k + test_roots m first e + plain_roots m first f) g) a span) h
+      (λ o k. p.Choice (put m first (Loose Controlling) k e) (put m first (Loose Plain) (k + test_roots m first e) f) (put m first (Loose Plain) (k + test_roots m first e + plain_roots m first f) g) a span) h
   root_put (t.Call c a) h =
       round_root (n.expression (t.Call c a))
       (λ o k. p.Call (put_call m first k c) a) h
@@ -111,14 +125,17 @@ module _ (m : Map) (first : ℕ) (role : Role) (d : ℕ) where
       round_inside (n.expression (t.Not e span))
       (λ o k. p.Not (put m first o k e) span) h
   inside_put (t.Binary operator a e f span) h =
+      let full : Option FullOperator = n.full_operator operator e f in
+      let both : Stand → p.Expression = λ o. p.Binary operator a (put m first o d e) (put m first (beside o (width (n.expression e))) (d + roots (role_of o) (n.expression e)) f) span in
       round_inside (n.expression (t.Binary operator a e f span))
-      (λ o k. p.Binary operator a (put m first (Loose Plain) k e) (put m first (Loose Plain) (k + plain_roots m first e) f) span) h
+      (λ o k. p.Binary operator a (put m first (under full o) k e) (put m first (beside (under full o) (width (n.expression e))) (k + roots (role_of (under full o)) (n.expression e)) f) span) h
+      ∙ ap both (stay_loose full)
   inside_put (t.Logic operator e f span) h =
       round_inside (n.expression (t.Logic operator e f span))
       (λ o k. p.Logic operator (put m first o k e) (put m first (beside o (width (n.expression e))) (k + roots (role_of o) (n.expression e)) f) span) h
   inside_put (t.Choice e f g a span) h =
       round_inside (n.expression (t.Choice e f g a span))
-      (λ o k. p.Choice (put m first (Loose Test) k e) (put m first (Loose Plain) (k + test_roots m first e) f) (put m first (Loose Plain) (k + test_roots m first e + plain_roots m first f) g) a span) h
+      (λ o k. p.Choice (put m first (Loose Controlling) k e) (put m first (Loose Plain) (k + test_roots m first e) f) (put m first (Loose Plain) (k + test_roots m first e + plain_roots m first f) g) a span) h
   inside_put (t.Call c a) h =
       round_inside (n.expression (t.Call c a))
       (λ o k. p.Call (put_call m first k c) a) h

@@ -170,8 +170,8 @@ pub record ArePassing {P : Type 0} (bits : P → ℕ) (leads : List ℕ → P �
       ArePassedFor (scope_in f) types ys (trees_of later) →
       ArePassedFor (scope_in f) types (given ++ ys) (trees_of trees)
   pub rest : (result : Option (List (steps.Passed ℕ))) (new : Store) (r : P) →
-      Did leads (does.arguments_of (activation_of f) (views_of later) (state_of m)) result new q r →
-      Did leads (does.arguments_of (activation_of f) (views_of trees) (state_of old))
+      Did leads (does.evaluate_arguments (activation_of f) (views_of later) (state_of m)) result new q r →
+      Did leads (does.evaluate_arguments (activation_of f) (views_of trees) (state_of old))
       (option_map (λ xs. map passed_of given ++ xs) result) new o r
 
 module _ {P : Type 0} (bits : P → ℕ) (leads : List ℕ → P → P → Type 0) (stays : (p : P) → leads [] p p)
@@ -195,30 +195,30 @@ module _ {P : Type 0} (bits : P → ℕ) (leads : List ℕ → P → P → Type 
   length_more (z ∷ zs) x = ap suc (length_more zs x)
 
   abbrev first : Argument → Store → Run Flat ℕ (steps.Passed ℕ)
-  first tree m = does.argument_of (activation_of f) (view.argument_of tree) (state_of m)
+  first tree m = does.evaluate_argument (activation_of f) (view.argument_of tree) (state_of m)
 
   abbrev others : List Argument → steps.Passed ℕ → Does (List (steps.Passed ℕ))
-  others later x s = after (does.arguments_of (activation_of f) (views_of later) s) (λ xs s. gives (x ∷ xs) s)
+  others later x s = after (does.evaluate_arguments (activation_of f) (views_of later) s) (λ xs s. gives (x ∷ xs) s)
 
   others_did : (tree : Argument) (later : List Argument) (x : Passed) (m n k : Store) (q r s : P)
       (result : Option (List (steps.Passed ℕ))) →
-      Did leads (does.argument_of (activation_of f) (view.argument_of tree) (state_of m)) (Some (passed_of x)) n q r →
-      Did leads (does.arguments_of (activation_of f) (views_of later) (state_of n)) result k r s →
-      Did leads (does.arguments_of (activation_of f) (views_of (tree ∷ later)) (state_of m))
+      Did leads (does.evaluate_argument (activation_of f) (view.argument_of tree) (state_of m)) (Some (passed_of x)) n q r →
+      Did leads (does.evaluate_arguments (activation_of f) (views_of later) (state_of n)) result k r s →
+      Did leads (does.evaluate_arguments (activation_of f) (views_of (tree ∷ later)) (state_of m))
       (option_map (λ ys. passed_of x ∷ ys) result) k q s
   others_did tree later x m n k q r s None d e =
       did_then leads stays joins (first tree m) (others later) (passed_of x) n k None q r s d
-      (did_end leads stays joins (does.arguments_of (activation_of f) (views_of later) (state_of n)) (λ xs s. gives (passed_of x ∷ xs) s) k r s e)
+      (did_end leads stays joins (does.evaluate_arguments (activation_of f) (views_of later) (state_of n)) (λ xs s. gives (passed_of x ∷ xs) s) k r s e)
   others_did tree later x m n k q r s (Some ys) d e =
       did_then leads stays joins (first tree m) (others later) (passed_of x) n k (Some (passed_of x ∷ ys)) q r s d
-      (did_then leads stays joins (does.arguments_of (activation_of f) (views_of later) (state_of n)) (λ xs s. gives (passed_of x ∷ xs) s) ys k k (Some (passed_of x ∷ ys)) r s s e
+      (did_then leads stays joins (does.evaluate_arguments (activation_of f) (views_of later) (state_of n)) (λ xs s. gives (passed_of x ∷ xs) s) ys k k (Some (passed_of x ∷ ys)) r s s e
       (did_gives leads stays joins (passed_of x ∷ ys) k s))
 
   pub passing_step : (trees later : List Argument) (tree : Argument) (given : List Passed) (x : Passed) (old m n : Store) (o q r : P) →
       ArePassing bits leads f trees (tree ∷ later) given old m o q →
       IsKept (scope_in f) (activation_of f) m n → bits r ≡ bits q → limits_of n ≡ limits_of m →
       ((types : List IntType) → AreTyped (scope_in f) (activation_of f) types → IsPassedFor (scope_in f) types x (plain.argument_of tree)) →
-      Did leads (does.argument_of (activation_of f) (view.argument_of tree) (state_of m)) (Some (passed_of x)) n q r →
+      Did leads (does.evaluate_argument (activation_of f) (view.argument_of tree) (state_of m)) (Some (passed_of x)) n q r →
       ArePassing bits leads f trees later (given ++ x ∷ []) old n o r
   passing_step trees later tree given x old m n o q r h k e same fit d = record {
     ready = ready_kept f m n (bits q) (bits r) h.ready k e;
@@ -230,22 +230,22 @@ module _ {P : Type 0} (bits : P → ℕ) (leads : List ℕ → P → P → Type 
     fits = h.fits.1;
     typed = λ types ok ys g. subst (λ l. ArePassedFor (scope_in f) types l (trees_of trees)) (one_more given x ys) (h.typed types ok (x ∷ ys) (fit types ok, g));
     rest = λ result new s g.
-        subst (λ l. Did leads (does.arguments_of (activation_of f) (views_of trees) (state_of old)) l new o s) (more_before given x result)
+        subst (λ l. Did leads (does.evaluate_arguments (activation_of f) (views_of trees) (state_of old)) l new o s) (more_before given x result)
         (h.rest (option_map (λ ys. passed_of x ∷ ys) result) new s (others_did tree later x m n new q r s result d g));
   }
 
   pub passing_end : (trees later : List Argument) (tree : Argument) (given : List Passed) (old m n : Store) (o q r : P) →
       ArePassing bits leads f trees (tree ∷ later) given old m o q →
-      Did leads (does.argument_of (activation_of f) (view.argument_of tree) (state_of m)) None n q r →
-      Did leads (does.arguments_of (activation_of f) (views_of trees) (state_of old)) None n o r
+      Did leads (does.evaluate_argument (activation_of f) (view.argument_of tree) (state_of m)) None n q r →
+      Did leads (does.evaluate_arguments (activation_of f) (views_of trees) (state_of old)) None n o r
   passing_end trees later tree given old m n o q r h d =
       h.rest None n r (did_end leads stays joins (first tree m) (others later) n q r d)
 
   pub passing_done : (trees : List Argument) (given : List Passed) (old m : Store) (o q : P) →
       ArePassing bits leads f trees [] given old m o q →
-      Did leads (does.arguments_of (activation_of f) (views_of trees) (state_of old)) (Some (map passed_of given)) m o q
+      Did leads (does.evaluate_arguments (activation_of f) (views_of trees) (state_of old)) (Some (map passed_of given)) m o q
   passing_done trees given old m o q h =
-      subst (λ l. Did leads (does.arguments_of (activation_of f) (views_of trees) (state_of old)) (Some l) m o q) (append-nil (map passed_of given))
+      subst (λ l. Did leads (does.evaluate_arguments (activation_of f) (views_of trees) (state_of old)) (Some l) m o q) (append-nil (map passed_of given))
       (h.rest (Some []) m q (did_gives leads stays joins [] m q))
 
   pub passing_typed : (trees : List Argument) (given : List Passed) (old m : Store) (o q : P) →

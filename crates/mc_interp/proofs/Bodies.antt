@@ -5,14 +5,14 @@ use Rattle.mc_steps.specs.Runs.{State, Run, gives, after, spends}
 use Rattle.mc_steps.specs.Expressions.{where_true, as_does, choice_does, is_true}
 use Rattle.mc_steps.specs.Statements.{Flow, Completed, Seek, Running, For, do_does, is_absent, is_running, loop_does, sought, switch_does, turns, where_loop_goes_on, where_switch_ends}
 use Rattle.mc_probe.specs.Flat.{Flat, Does, Runs, Activation}
-use Rattle.mc_probe.specs.Statements.{statement_of, statements_of}
+use Rattle.mc_probe.specs.Statements.{run, run_from}
 use Rattle.mc_probe.specs.Tree as tree
 use Rattle.mc_course.specs.Ends.{loop_end}
 use Rattle.mc_course.specs.declared.ends.Flow as code_flow
 use Rattle.mc_interp.specs.declared.flow.Label.{Label}
 use Rattle.mc_interp.specs.declared.store.Store.{Store}
 use Rattle.mc_interp.specs.Stores.{state_of, Did}
-use Rattle.mc_interp.specs.Bodies.{Next, Item, End, act_of, count_of, counts_of, end_of, flow_of, item_of, where_again, where_ended, label_of, label_runs, next_after, turn_of, turned, where_label, where_turned}
+use Rattle.mc_interp.specs.Bodies.{Next, Item, End, act_of, counted_bit, counts_of, end_of, flow_of, item_of, where_again, where_ended, label_of, label_runs, next_after, turn_of, turned, where_label, where_turned}
 use Rattle.mc_interp.proofs.Nodes.{did_choice, did_choice_end}
 use Rattle.mc_interp.proofs.Runs.{did_gives, did_then, did_end}
 use Rattle.mc_interp.proofs.Equations.{where_next, end_again, end_turned, statement_is, statements_are, turn_is}
@@ -22,16 +22,16 @@ use Rattle.mc_interp.proofs.Equations.{where_next, end_again, end_turned, statem
 module _ {P : Type 0} (leads : List ℕ → P → P → Type 0) (stays : (p : P) → leads [] p p)
     (joins : (xs ys : List ℕ) (p q r : P) → leads xs p q → leads ys q r → leads (xs ++ ys) p r) where
   module _ (w : Activation) (u : tree.Statement) (s : State Flat) where
-    pub did_statement : (m n : Store) (result : Option (Flow ℕ)) (p q r : P) → Did leads (counts_of w (count_of u) s) (Some tt) m p q →
-        Did leads (act_of w u (state_of m)) result n q r → Did leads (statement_of w u s) result n p r
+    pub did_statement : (m n : Store) (result : Option (Flow ℕ)) (p q r : P) → Did leads (counts_of w (counted_bit u) s) (Some tt) m p q →
+        Did leads (act_of w u (state_of m)) result n q r → Did leads (run w u s) result n p r
     did_statement m n result p q r h k =
         subst (λ (x : Run Flat ℕ (Flow ℕ)). Did leads x result n p r) (sym (statement_is w u s))
-        (did_then leads stays joins (counts_of w (count_of u) s) (λ _ s. act_of w u s) tt m n result p q r h k)
+        (did_then leads stays joins (counts_of w (counted_bit u) s) (λ _ s. act_of w u s) tt m n result p q r h k)
 
-    pub did_statement_end : (m : Store) (p q : P) → Did leads (counts_of w (count_of u) s) None m p q → Did leads (statement_of w u s) None m p q
+    pub did_statement_end : (m : Store) (p q : P) → Did leads (counts_of w (counted_bit u) s) None m p q → Did leads (run w u s) None m p q
     did_statement_end m p q h =
         subst (λ (x : Run Flat ℕ (Flow ℕ)). Did leads x None m p q) (sym (statement_is w u s))
-        (did_end leads stays joins (counts_of w (count_of u) s) (λ _ s. act_of w u s) m p q h)
+        (did_end leads stays joins (counts_of w (counted_bit u) s) (λ _ s. act_of w u s) m p q h)
 
     -- an item of a body
     module _ (k : Seek) where
@@ -46,15 +46,15 @@ module _ {P : Type 0} (leads : List ℕ → P → P → Type 0) (stays : (p : P)
           (did_then leads stays joins (label_runs w label k s) (λ l s. gives (Item l) s) j m m (Some (Item j)) p q q h (did_gives leads stays joins (Item j) m q))
 
       plain_ran : (j : Seek) (result : Option (Flow ℕ)) (m : Store) (p q : P) → is_running j ≡ true →
-          Did leads (statement_of w u s) result m p q → Did leads (where_label w None u j s) (option_map next_after result) m p q
+          Did leads (run w u s) result m p q → Did leads (where_label w None u j s) (option_map next_after result) m p q
       plain_ran Running (Some f) m p q e h =
-          did_then leads stays joins (statement_of w u s) (λ f s. gives (next_after f) s) f m m (Some (next_after f)) p q q h
+          did_then leads stays joins (run w u s) (λ f s. gives (next_after f) s) f m m (Some (next_after f)) p q q h
           (did_gives leads stays joins (next_after f) m q)
-      plain_ran Running None m p q e h = did_end leads stays joins (statement_of w u s) (λ f s. gives (next_after f) s) m p q h
+      plain_ran Running None m p q e h = did_end leads stays joins (run w u s) (λ f s. gives (next_after f) s) m p q h
       plain_ran (For l) result m p q e h = absurd (false≢true e)
 
       pub did_item : (result : Option (Flow ℕ)) (m : Store) (p q : P) → label_of u ≡ None → is_running k ≡ true →
-          Did leads (statement_of w u s) result m p q → Did leads (item_of w u k s) (option_map next_after result) m p q
+          Did leads (run w u s) result m p q → Did leads (item_of w u k s) (option_map next_after result) m p q
       did_item result m p q e r h = item_by None (option_map next_after result) m p q e (plain_ran k result m p q r h)
 
   pub did_passed : (w : Activation) (u : tree.Statement) (k : Seek) (m : Store) (p : P) → label_of u ≡ None → is_running k ≡ false →
@@ -68,22 +68,22 @@ module _ {P : Type 0} (leads : List ℕ → P → P → Type 0) (stays : (p : P)
   -- the items of a body
   module _ (w : Activation) (u : tree.Statement) (rest : tree.Statements) (k : Seek) (s : State Flat) where
     abbrev goes : Next → Runs
-    goes n s = where_next n (statements_of w rest) s
+    goes n s = where_next n (run_from w rest) s
 
     items_by : (result : Option (Flow ℕ)) (m : Store) (p q : P) → Did leads (after (item_of w u k s) goes) result m p q →
-        Did leads (statements_of w (tree.statements u rest) k s) result m p q
+        Did leads (run_from w (tree.statements u rest) k s) result m p q
     items_by result m p q h = subst (λ (x : Run Flat ℕ (Flow ℕ)). Did leads x result m p q) (sym (statements_are w u rest k s)) h
 
     pub did_items : (j : Seek) (m n : Store) (result : Option (Flow ℕ)) (p q r : P) → Did leads (item_of w u k s) (Some (Item j)) m p q →
-        Did leads (statements_of w rest j (state_of m)) result n q r → Did leads (statements_of w (tree.statements u rest) k s) result n p r
+        Did leads (run_from w rest j (state_of m)) result n q r → Did leads (run_from w (tree.statements u rest) k s) result n p r
     did_items j m n result p q r h g = items_by result n p r (did_then leads stays joins (item_of w u k s) goes (Item j) m n result p q r h g)
 
     pub did_items_out : (f : Flow ℕ) (m : Store) (p q : P) → Did leads (item_of w u k s) (Some (End f)) m p q →
-        Did leads (statements_of w (tree.statements u rest) k s) (Some f) m p q
+        Did leads (run_from w (tree.statements u rest) k s) (Some f) m p q
     did_items_out f m p q h =
         items_by (Some f) m p q (did_then leads stays joins (item_of w u k s) goes (End f) m m (Some f) p q q h (did_gives leads stays joins f m q))
 
-    pub did_items_end : (m : Store) (p q : P) → Did leads (item_of w u k s) None m p q → Did leads (statements_of w (tree.statements u rest) k s) None m p q
+    pub did_items_end : (m : Store) (p q : P) → Did leads (item_of w u k s) None m p q → Did leads (run_from w (tree.statements u rest) k s) None m p q
     did_items_end m p q h = items_by None m p q (did_end leads stays joins (item_of w u k s) goes m p q h)
 
   -- a turn of a loop

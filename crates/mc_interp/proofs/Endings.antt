@@ -8,7 +8,7 @@ use Rattle.mc_steps.specs.Statements as steps
 use Rattle.mc_steps.specs.Calls.{leaves, where_left}
 use Rattle.mc_probe.specs.Calls.{left}
 use Rattle.mc_probe.specs.Flat.{Flat, Does, Activation, flat, hits_some}
-use Rattle.mc_probe.specs.Statements.{statements_of}
+use Rattle.mc_probe.specs.Statements.{run_from}
 use Rattle.mc_probe.specs.Tree as p
 use Rattle.mc_course.specs.declared.ends.Flow as code_flow
 use Rattle.mc_course.specs.declared.ends.Flow.TheVariants as ends
@@ -68,16 +68,16 @@ module _ {P : Type 0} (leads : List ℕ → P → P → Type 0) (stays : (p : P)
     abbrev leaving : Flow ℕ → Does (Given ℕ)
     leaving flow s = after (where_left flow (hits_some w f.exit) s) (leaves flat into (left w.base w.first))
 
-    pub did_inside_end : (n : Store) (q r : P) → Did leads (statements_of w f.body steps.Running s) None n q r →
+    pub did_inside_end : (n : Store) (q r : P) → Did leads (run_from w f.body steps.Running s) None n q r →
         Did leads (inside_of w f into s) None n q r
-    did_inside_end n q r g = did_end leads stays joins (statements_of w f.body steps.Running s) leaving n q r g
+    did_inside_end n q r g = did_end leads stays joins (run_from w f.body steps.Running s) leaving n q r g
 
     pub did_inside : (n k o : Store) (flow : Flow ℕ) (v u : Given ℕ) (q r t : P) →
-        Did leads (statements_of w f.body steps.Running s) (Some flow) n q r →
+        Did leads (run_from w f.body steps.Running s) (Some flow) n q r →
         Did leads (where_left flow (hits_some w f.exit) (state_of n)) (Some v) k r t →
         leaves flat into (left w.base w.first) v (state_of k) ≡ told (Some u) o → Did leads (inside_of w f into s) (Some u) o q t
     did_inside n k o flow v u q r t g d e =
-        did_then leads stays joins (statements_of w f.body steps.Running s) leaving flow n o (Some u) q r t g
+        did_then leads stays joins (run_from w f.body steps.Running s) leaving flow n o (Some u) q r t g
         (did_then leads stays joins (where_left flow (hits_some w f.exit) (state_of n)) (leaves flat into (left w.base w.first)) v k o (Some u) r t t d
         (did_told leads stays joins (leaves flat into (left w.base w.first) v (state_of k)) (Some u) o t e))
 

@@ -10,7 +10,7 @@ use Rattle.mc_steps.specs.Points.{initializes}
 use Rattle.mc_probe.specs.Erase.{erase_declarator}
 use Rattle.mc_probe.specs.Flat.{Flat, Does, Runs, Activation, hits_some}
 use Rattle.mc_probe.specs.Probes.{mark_does}
-use Rattle.mc_probe.specs.Statements.{statement_of, statements_of}
+use Rattle.mc_probe.specs.Statements.{run, run_from}
 use Rattle.mc_probe.specs.Tree as p
 use Rattle.mc_probe.specs.WellFormed.{FitsAbsent, FitsMark, FitsStatement}
 use Rattle.mc_course.specs.Ends.{loop_end}
@@ -20,7 +20,7 @@ use Rattle.mc_interp.specs.declared.flow.Label.{Label}
 use Rattle.mc_interp.specs.declared.store.Store.{Store}
 use Rattle.mc_interp.specs.declared.values.Given.{Given}
 use Rattle.mc_interp.specs.Effects.{AreAnyEffects, IsAnyEffect}
-use Rattle.mc_interp.specs.Bodies.{Next, Item, End, act_of, code_next_after, count_of, counts_of, end_of, flow_of, item_of, where_again, where_ended, label_of, label_runs, next_after, next_of, turn_of, turned, where_initializes, where_label, where_turned, AreAnyStatements, IsAnyStart, IsAnyStatement, IsReturned, IsNext}
+use Rattle.mc_interp.specs.Bodies.{Next, Item, End, act_of, code_next_after, counted_bit, counts_of, end_of, flow_of, item_of, where_again, where_ended, label_of, label_runs, next_after, next_of, turn_of, turned, where_initializes, where_label, where_turned, AreAnyStatements, IsAnyStart, IsAnyStatement, IsReturned, IsNext}
 use Rattle.mc_interp.proofs.Runs.{after_after}
 use Rattle.mc_interp.proofs.Placed.{none_some, some_eq}
 use Rattle.mc_interp.proofs.Called.{any_call}
@@ -45,7 +45,7 @@ where_counted w true bit act s = counted_is (hits_some w bit) act s.fuel s
 where_counted w false bit act s = refl
 
 pub statement_is : (w : Activation) (u : p.Statement) (s : State Flat) →
-    statement_of w u s ≡ after (counts_of w (count_of u) s) (λ _ s. act_of w u s)
+    run w u s ≡ after (counts_of w (counted_bit u) s) (λ _ s. act_of w u s)
 statement_is w (p.Compound items span) s = refl
 statement_is w (p.Label v span mark) s = refl
 statement_is w (p.Declaration declarators span bit) s =
@@ -78,11 +78,11 @@ ended_by rest (Left v) s = refl
 
 -- an item that is no label
 plain_item : (w : Activation) (u : p.Statement) (k : Seek) (rest : Seek → Runs) (s : State Flat) →
-    item_runs (statement_of w u) k rest s ≡ after (where_label w None u k s) (λ n s. where_next n rest s)
+    item_runs (run w u) k rest s ≡ after (where_label w None u k s) (λ n s. where_next n rest s)
 plain_item w u Running rest s =
-    after_same (statement_of w u s) (λ f s. where_completed f (λ s. rest Running s) s) (λ f s. after (gives (next_after f) s) (λ n s. where_next n rest s))
+    after_same (run w u s) (λ f s. where_completed f (λ s. rest Running s) s) (λ f s. after (gives (next_after f) s) (λ n s. where_next n rest s))
     (λ f s. ended_by rest f s)
-    ∙ sym (after_after (statement_of w u s) (λ f s. gives (next_after f) s) (λ n s. where_next n rest s))
+    ∙ sym (after_after (run w u s) (λ f s. gives (next_after f) s) (λ n s. where_next n rest s))
 plain_item w u (For l) rest s = refl
 
 label_item : (w : Activation) (label : Label) (k : Seek) (rest : Seek → Runs) (s : State Flat) →
@@ -101,20 +101,20 @@ label_item w label k rest s = go (is_running (at_label label.value k))
     go false = refl
 
 pub statements_are : (w : Activation) (u : p.Statement) (rest : p.Statements) (k : Seek) (s : State Flat) →
-    statements_of w (p.statements u rest) k s ≡ after (item_of w u k s) (λ n s. where_next n (statements_of w rest) s)
-statements_are w (p.Compound items span) rest k s = plain_item w (p.Compound items span) k (statements_of w rest) s
-statements_are w (p.Label v span mark) rest k s = label_item w (record { value = v; mark = mark }) k (statements_of w rest) s
-statements_are w (p.Declaration declarators span bit) rest k s = plain_item w (p.Declaration declarators span bit) k (statements_of w rest) s
-statements_are w (p.Null span bit) rest k s = plain_item w (p.Null span bit) k (statements_of w rest) s
-statements_are w (p.EffectStatement effect span bit) rest k s = plain_item w (p.EffectStatement effect span bit) k (statements_of w rest) s
-statements_are w (p.If e u keyword span bit) rest k s = plain_item w (p.If e u keyword span bit) k (statements_of w rest) s
-statements_are w (p.IfElse e u v keyword span bit) rest k s = plain_item w (p.IfElse e u v keyword span bit) k (statements_of w rest) s
-statements_are w (p.Switch e items keyword span bit absent) rest k s = plain_item w (p.Switch e items keyword span bit absent) k (statements_of w rest) s
-statements_are w (p.For start test step u keyword span bit) rest k s = plain_item w (p.For start test step u keyword span bit) k (statements_of w rest) s
-statements_are w (p.DoWhile u e keyword span bit) rest k s = plain_item w (p.DoWhile u e keyword span bit) k (statements_of w rest) s
-statements_are w (p.Break span bit) rest k s = plain_item w (p.Break span bit) k (statements_of w rest) s
-statements_are w (p.Continue span bit) rest k s = plain_item w (p.Continue span bit) k (statements_of w rest) s
-statements_are w (p.Return value span bit exit) rest k s = plain_item w (p.Return value span bit exit) k (statements_of w rest) s
+    run_from w (p.statements u rest) k s ≡ after (item_of w u k s) (λ n s. where_next n (run_from w rest) s)
+statements_are w (p.Compound items span) rest k s = plain_item w (p.Compound items span) k (run_from w rest) s
+statements_are w (p.Label v span mark) rest k s = label_item w (record { value = v; mark = mark }) k (run_from w rest) s
+statements_are w (p.Declaration declarators span bit) rest k s = plain_item w (p.Declaration declarators span bit) k (run_from w rest) s
+statements_are w (p.Null span bit) rest k s = plain_item w (p.Null span bit) k (run_from w rest) s
+statements_are w (p.EffectStatement effect span bit) rest k s = plain_item w (p.EffectStatement effect span bit) k (run_from w rest) s
+statements_are w (p.If e u keyword span bit) rest k s = plain_item w (p.If e u keyword span bit) k (run_from w rest) s
+statements_are w (p.IfElse e u v keyword span bit) rest k s = plain_item w (p.IfElse e u v keyword span bit) k (run_from w rest) s
+statements_are w (p.Switch e items keyword span bit absent) rest k s = plain_item w (p.Switch e items keyword span bit absent) k (run_from w rest) s
+statements_are w (p.For start test step u keyword span bit) rest k s = plain_item w (p.For start test step u keyword span bit) k (run_from w rest) s
+statements_are w (p.DoWhile u e keyword span bit) rest k s = plain_item w (p.DoWhile u e keyword span bit) k (run_from w rest) s
+statements_are w (p.Break span bit) rest k s = plain_item w (p.Break span bit) k (run_from w rest) s
+statements_are w (p.Continue span bit) rest k s = plain_item w (p.Continue span bit) k (run_from w rest) s
+statements_are w (p.Return value span bit exit) rest k s = plain_item w (p.Return value span bit exit) k (run_from w rest) s
 
 pub next_is : (f : code_flow.Flow) (m : Store) → next_of (code_next_after f) m ≡ next_after (flow_of f m)
 next_is ends.Completed m = refl

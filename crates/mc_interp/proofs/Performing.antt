@@ -11,9 +11,9 @@ use Rattle.mc_typed.specs.Sound.{place_type, IsPlace}
 use Rattle.mc_typed.specs.Tree as t
 use Rattle.mc_steps.specs.Runs.{changes, with_result, with_some}
 use Rattle.mc_steps.specs.Expressions.{operated}
-use Rattle.mc_probe.specs.Expressions.{place_of, value_of}
+use Rattle.mc_probe.specs.Expressions.{evaluate_place, evaluate}
 use Rattle.mc_probe.specs.Flat.{Activation, flat}
-use Rattle.mc_probe.specs.Statements.{effect_of}
+use Rattle.mc_probe.specs.Statements.{perform}
 use Rattle.mc_probe.specs.Tree as p
 use Rattle.mc_interp.specs.declared.frame.Frame.{Frame}
 use Rattle.mc_interp.specs.declared.store.Store.{Store}
@@ -42,12 +42,12 @@ scalar_placed f slot place of s e =
 pub did_changed : {P : Type 0} (leads : List ℕ → P → P → Type 0) (stays : (p : P) → leads [] p p)
     (joins : (xs ys : List ℕ) (p q r : P) → leads xs p q → leads ys q r → leads (xs ++ ys) p r) (w : Activation)
     (slot : Slot) (place span : Span) (e : p.Expression) (m n o : Store) (q : P) (of common : IntType) (operator : Operator)
-    (x : ℤ) (result : Option (Unit {0})) → value_of w e (state_of m) ≡ told (Some x) n →
+    (x : ℤ) (result : Option (Unit {0})) → evaluate w e (state_of m) ≡ told (Some x) n →
     with_some Unset (flat.read (w.base + slot.start) (state_of n).memory) (λ y s.
     with_result (operated operator common (converted common y) x) (λ v s. changes (flat.put (w.base + slot.start) 1 (Some (converted of v))) s) s)
     (state_of n) ≡ told result o →
-    Did leads (effect_of w (p.Update (p.Local slot place) of operator common e span) (state_of m)) result o q q
+    Did leads (perform w (p.Update (p.Local slot place) of operator common e span) (state_of m)) result o q q
 did_changed leads stays joins w slot place span e m n o q of common operator x result h put =
-    did_update leads stays joins (place_of w (p.Local slot place)) (value_of w e) (state_of m) (w.base + slot.start) m n q q q
+    did_update leads stays joins (evaluate_place w (p.Local slot place)) (evaluate w e) (state_of m) (w.base + slot.start) m n q q q
     (did_gives leads stays joins (w.base + slot.start) m q) of common operator x o result
-    (did_told leads stays joins (value_of w e (state_of m)) (Some x) n q h) put
+    (did_told leads stays joins (evaluate w e (state_of m)) (Some x) n q h) put

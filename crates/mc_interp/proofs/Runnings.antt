@@ -3,7 +3,7 @@ use Rattle.std.proofs.Common.{◌≡◌, ℕ, suc, ◌≤◌, Bool, List, map, O
 use Rattle.mc_steps.specs.Statements.{Flow, loop_does, turns}
 use Rattle.mc_probe.specs.Erase.{erase_statements}
 use Rattle.mc_probe.specs.Flat.{Does, Runs}
-use Rattle.mc_probe.specs.Statements.{statements_of}
+use Rattle.mc_probe.specs.Statements.{run_from}
 use Rattle.mc_probe.specs.Views as view
 use Rattle.mc_probe.specs.WellFormed.{FitStatements}
 use Rattle.mc_interp.specs.declared.flow.Seek as code_seek
@@ -37,5 +37,5 @@ pub record AreRunning {P : Type 0} (bits : P → ℕ) (leads : List ℕ → P �
   pub sound : AreAnyStatements (erase_statements (view.statements_from (map prepared.statement_of later))) (scope_in f)
   pub fits : FitStatements f.function.now.registers (view.statements_from (map prepared.statement_of later))
   pub rest : (result : Option (Flow ℕ)) (new : Store) (r : P) →
-      Did leads (statements_of (activation_of f) (view.statements_from (map prepared.statement_of later)) (seek_of now) (state_of m)) result new q r →
-      Did leads (statements_of (activation_of f) (view.statements_from (map prepared.statement_of all)) (seek_of first) (state_of old)) result new o r
+      Did leads (run_from (activation_of f) (view.statements_from (map prepared.statement_of later)) (seek_of now) (state_of m)) result new q r →
+      Did leads (run_from (activation_of f) (view.statements_from (map prepared.statement_of all)) (seek_of first) (state_of old)) result new o r

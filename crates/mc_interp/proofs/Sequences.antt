@@ -68,17 +68,17 @@ module _ {P : Type 0} (bits : P → ℕ) (leads : List ℕ → P → P → Type 
 -- `plainly` is what is left without its probes
 pub record AreDoing {P : Type 0} (bits : P → ℕ) (leads : List ℕ → P → P → Type 0) (f : Frame) (all : List p.Effect) (plainly : List t.Effect)
     (later : List p.Effect) (old m : Store) (o q : P) : Type 0 where
-  pub on : IsOn bits leads f (does.effects_of (activation_of f) all (state_of old)) (does.effects_of (activation_of f) later (state_of m)) old m o q
+  pub on : IsOn bits leads f (does.perform_all (activation_of f) all (state_of old)) (does.perform_all (activation_of f) later (state_of m)) old m o q
   pub sound : AreAnyEffects plainly (scope_in f)
   pub fits : FitEffects f.function.now.registers later
 
 module _ {P : Type 0} (bits : P → ℕ) (leads : List ℕ → P → P → Type 0) (stays : (p : P) → leads [] p p)
     (joins : (xs ys : List ℕ) (p q r : P) → leads xs p q → leads ys q r → leads (xs ++ ys) p r) (f : Frame) (all : List p.Effect) where
   abbrev effects_run : List p.Effect → Does (Unit {0})
-  effects_run later s = does.effects_of (activation_of f) later s
+  effects_run later s = does.perform_all (activation_of f) later s
 
   abbrev effect_run : p.Effect → Does (Unit {0})
-  effect_run e s = does.effect_of (activation_of f) e s
+  effect_run e s = does.perform (activation_of f) e s
 
   pub doing_step : (a : t.Effect) (plainly : List t.Effect) (e : p.Effect) (later : List p.Effect) (old m n : Store) (o q r : P) →
       AreDoing bits leads f all (a ∷ plainly) (e ∷ later) old m o q →
@@ -105,8 +105,8 @@ module _ {P : Type 0} (bits : P → ℕ) (leads : List ℕ → P → P → Type 
 pub record AreSetting {P : Type 0} (bits : P → ℕ) (leads : List ℕ → P → P → Type 0) (f : Frame) (all later : List Initializer)
     (at i offset cells : ℕ) (old m : Store) (o q : P) : Type 0 where
   pub on : IsOn bits leads f
-      (does.items_of (activation_of f) (view.initializers_from (map view.initializer_of all)) at 0 0 cells (state_of old))
-      (does.items_of (activation_of f) (view.initializers_from (map view.initializer_of later)) at i offset cells (state_of m))
+      (does.initialize_from (activation_of f) (view.initializers_from (map view.initializer_of all)) at 0 0 cells (state_of old))
+      (does.initialize_from (activation_of f) (view.initializers_from (map view.initializer_of later)) at i offset cells (state_of m))
       old m o q
   pub sound : InitializeAll (scope_in f) (activation_of f) (plain.initializers_from (map plain.initializer_of later)) at offset cells
   pub fits : FitInitializers f.function.now.registers (view.initializers_from (map view.initializer_of later))
@@ -116,10 +116,10 @@ module _ {P : Type 0} (bits : P → ℕ) (leads : List ℕ → P → P → Type 
     (at cells : ℕ) where
   abbrev items_run : List Initializer → ℕ → ℕ → Does (Unit {0})
   items_run later i offset s =
-      does.items_of (activation_of f) (view.initializers_from (map view.initializer_of later)) at i offset cells s
+      does.initialize_from (activation_of f) (view.initializers_from (map view.initializer_of later)) at i offset cells s
 
   abbrev item_run : Initializer → ℕ → Does (Unit {0})
-  item_run x offset s = does.initializer_of (activation_of f) (view.initializer_of x) (at + offset) s
+  item_run x offset s = does.initialize (activation_of f) (view.initializer_of x) (at + offset) s
 
   pub setting_step : (later : List Initializer) (x : Initializer) (i offset k : ℕ) (old m n : Store) (o q r : P) →
       AreSetting bits leads f all (x ∷ later) at i offset cells old m o q →
@@ -152,15 +152,15 @@ module _ {P : Type 0} (bits : P → ℕ) (leads : List ℕ → P → P → Type 
 
 pub record AreDeclaring {P : Type 0} (bits : P → ℕ) (leads : List ℕ → P → P → Type 0) (f : Frame) (all later : List Declarator)
     (old m : Store) (o q : P) : Type 0 where
-  pub on : IsOn bits leads f (does.declarators_of (activation_of f) (map view.declarator_of all) (state_of old))
-      (does.declarators_of (activation_of f) (map view.declarator_of later) (state_of m)) old m o q
+  pub on : IsOn bits leads f (does.declare (activation_of f) (map view.declarator_of all) (state_of old))
+      (does.declare (activation_of f) (map view.declarator_of later) (state_of m)) old m o q
   pub sound : AreDeclarators (map plain.declarator_of later) (scope_in f)
   pub fits : FitDeclarators f.function.now.registers (map view.declarator_of later)
 
 module _ {P : Type 0} (bits : P → ℕ) (leads : List ℕ → P → P → Type 0) (stays : (p : P) → leads [] p p)
     (joins : (xs ys : List ℕ) (p q r : P) → leads xs p q → leads ys q r → leads (xs ++ ys) p r) (f : Frame) (all : List Declarator) where
   abbrev declarators_run : List Declarator → Does (Unit {0})
-  declarators_run later s = does.declarators_of (activation_of f) (map view.declarator_of later) s
+  declarators_run later s = does.declare (activation_of f) (map view.declarator_of later) s
 
   abbrev declarator_run : Declarator → Does (Unit {0})
   declarator_run d s = declarator_does (activation_of f) (view.declarator_of d) s
@@ -171,7 +171,7 @@ module _ {P : Type 0} (bits : P → ℕ) (leads : List ℕ → P → P → Type 
   first_is later d m =
       let w = activation_of f in
       let v = view.declarator_of d in
-      after_after (unset_does flat (w.base + v.slot.start) v.cells (state_of m)) (λ _ s. does.initial_of w v.value (w.base + v.slot.start) s) (λ _ s. declarators_run later s)
+      after_after (unset_does flat (w.base + v.slot.start) v.cells (state_of m)) (λ _ s. does.initialize_where w v.value (w.base + v.slot.start) s) (λ _ s. declarators_run later s)
 
   joined : (later : List Declarator) (d : Declarator) (old m : Store) (o q : P) → AreDeclaring bits leads f all (d ∷ later) old m o q →
       IsOn bits leads f (declarators_run all (state_of old)) (after (declarator_run d (state_of m)) (λ _ s. declarators_run later s)) old m o q

@@ -16,7 +16,7 @@ use Rattle.mc_steps.specs.Expressions.{is_true, where_true, goes_on}
 use Rattle.mc_probe.specs.Flat.{Flat, Activation, sets, adds, hits, register, wrapped_sum}
 use Rattle.mc_probe.specs.Tree.{Expression}
 use Rattle.mc_probe.specs.Tree as p
-use Rattle.mc_probe.specs.Expressions.{value_of}
+use Rattle.mc_probe.specs.Expressions.{evaluate}
 use Rattle.mc_interp.specs.declared.store.Store.{Store}
 use Rattle.mc_interp.specs.Stores.{out_of, Did}
 use Rattle.mc_interp.specs.Truths.{is_logical}
@@ -58,25 +58,25 @@ only_last : (r : Run Flat ℕ (Unit {0})) (b : Bool) → OnlyTruth (after r (λ 
 only_last r b = only_after r (λ u s. gives (truth b) s) (λ u s. only_gives b)
 
 pub only_logical : (w : Activation) (e : Expression) (s : State Flat) → is_logical e ≡ true →
-    OnlyTruth (value_of w e s).out
+    OnlyTruth (evaluate w e s).out
 only_logical w (p.Constant v a span) s h = absurd (false≢true h)
 only_logical w (p.Read place a) s h = absurd (false≢true h)
 only_logical w (p.Unary operator a e span) s h = absurd (false≢true h)
 only_logical w (p.Convert a written e span) s h = absurd (false≢true h)
-only_logical w (p.Not e span) s h = only_after (value_of w e s) _ (λ x s. only_gives (is_zero x))
+only_logical w (p.Not e span) s h = only_after (evaluate w e s) _ (λ x s. only_gives (is_zero x))
 only_logical w (p.Binary operator a e f span) s h = absurd (false≢true h)
 only_logical w (p.Logic operator e f span) s h =
-    only_after (value_of w e s) _ (λ x s. only_where (goes_on operator (is_true x)) _ _ s
-    (only_after (value_of w f s) _ (λ y s. only_gives (is_true y))) (only_gives (is_true x)))
+    only_after (evaluate w e s) _ (λ x s. only_where (goes_on operator (is_true x)) _ _ s
+    (only_after (evaluate w f s) _ (λ y s. only_gives (is_true y))) (only_gives (is_true x)))
 only_logical w (p.Choice e f g a span) s h = absurd (false≢true h)
 only_logical w (p.Call k a) s h = absurd (false≢true h)
 only_logical w (p.Input span) s h = absurd (false≢true h)
 only_logical w (p.Probe (probe.Decision r base) e) s h =
-    only_after (sets w r 0 s) (λ u s. after (value_of w e s) (λ x s. after (hits w (wrapped_sum base (register (w.first + r) s.memory)) s) (λ u s. gives (truth (is_true x)) s)))
-    (λ u s. only_after (value_of w e s) (λ x s. after (hits w (wrapped_sum base (register (w.first + r) s.memory)) s) (λ u s. gives (truth (is_true x)) s))
+    only_after (sets w r 0 s) (λ u s. after (evaluate w e s) (λ x s. after (hits w (wrapped_sum base (register (w.first + r) s.memory)) s) (λ u s. gives (truth (is_true x)) s)))
+    (λ u s. only_after (evaluate w e s) (λ x s. after (hits w (wrapped_sum base (register (w.first + r) s.memory)) s) (λ u s. gives (truth (is_true x)) s))
     (λ x s. only_last (hits w (wrapped_sum base (register (w.first + r) s.memory)) s) (is_true x)))
 only_logical w (p.Probe (probe.Condition r on_true on_false) e) s h =
-    only_after (value_of w e s) (λ x s. after (adds w r (if is_true x then on_true else on_false) s) (λ u s. gives (truth (is_true x)) s))
+    only_after (evaluate w e s) (λ x s. after (adds w r (if is_true x then on_true else on_false) s) (λ u s. gives (truth (is_true x)) s))
     (λ x s. only_last (adds w r (if is_true x then on_true else on_false) s) (is_true x))
 only_logical w (p.Probe (probe.Switch r) e) s h = absurd (false≢true h)
 

@@ -4,7 +4,7 @@ use Rattle.std.proofs.lemmas.List.{at_drop_more, at_drop_all}
 use Rattle.mc_steps.specs.Statements.{Flow, Completed, Seek, loop_does, turns}
 use Rattle.mc_probe.specs.Erase.{erase_statements}
 use Rattle.mc_probe.specs.Flat.{Does, Runs}
-use Rattle.mc_probe.specs.Statements.{statements_of}
+use Rattle.mc_probe.specs.Statements.{run_from}
 use Rattle.mc_probe.specs.Tree as p
 use Rattle.mc_probe.specs.Views as view
 use Rattle.mc_probe.specs.WellFormed.{FitStatements}
@@ -108,12 +108,12 @@ module _ {P : Type 0} (bits : P → ℕ) (leads : List ℕ → P → P → Type 
       }
 
       pub running_out : (flow : Flow ℕ) → Did leads (one (seek_of now) (state_of m)) (Some (End flow)) n q r →
-          Did leads (statements_of (activation_of f) (view.statements_from (map prepared.statement_of all)) (seek_of first) (state_of old)) (Some flow) n o r
+          Did leads (run_from (activation_of f) (view.statements_from (map prepared.statement_of all)) (seek_of first) (state_of old)) (Some flow) n o r
       running_out flow d = h.rest (Some flow) n r
           (did_items_out leads stays joins (activation_of f) (prepared.statement_of u) others (seek_of now) (state_of m) flow n q r d)
 
       pub running_end : Did leads (one (seek_of now) (state_of m)) None n q r →
-          Did leads (statements_of (activation_of f) (view.statements_from (map prepared.statement_of all)) (seek_of first) (state_of old)) None n o r
+          Did leads (run_from (activation_of f) (view.statements_from (map prepared.statement_of all)) (seek_of first) (state_of old)) None n o r
       running_end d = h.rest None n r
           (did_items_end leads stays joins (activation_of f) (prepared.statement_of u) others (seek_of now) (state_of m) n q r d)
 
@@ -127,5 +127,5 @@ module _ {P : Type 0} (bits : P → ℕ) (leads : List ℕ → P → P → Type 
     running_last i now old m o q more h = subst (λ (l : List Prepared). AreRunning bits leads f all l first now old m o q) (drop_end all i more) h
 
     pub running_done : (now : code_seek.Seek) (old m : Store) (o q : P) → AreRunning bits leads f all [] first now old m o q →
-        Did leads (statements_of (activation_of f) (view.statements_from (map prepared.statement_of all)) (seek_of first) (state_of old)) (Some Completed) m o q
+        Did leads (run_from (activation_of f) (view.statements_from (map prepared.statement_of all)) (seek_of first) (state_of old)) (Some Completed) m o q
     running_done now old m o q h = h.rest (Some Completed) m q (did_gives leads stays joins Completed m q)

@@ -12,10 +12,10 @@ use Rattle.mc_steps.specs.Points.{initializes}
 use Rattle.mc_words.specs.Words.{number_of, Holds}
 use Rattle.mc_probe.specs.Calls.{left}
 use Rattle.mc_probe.specs.Erase.{erase_declarator, erase_statements}
-use Rattle.mc_probe.specs.Expressions.{value_of}
+use Rattle.mc_probe.specs.Expressions.{evaluate}
 use Rattle.mc_probe.specs.Flat.{Activation, Does, Runs, flat, hits_some}
 use Rattle.mc_probe.specs.Probes.{mark_does}
-use Rattle.mc_probe.specs.Statements.{declarators_of, effect_of, effects_of, exit_does, return_of, start_of, statement_of, statements_of, test_of}
+use Rattle.mc_probe.specs.Statements.{declare, perform, perform_all, exit_does, returned, start_loop, run, run_from, loop_test}
 use Rattle.mc_probe.specs.Tree as probed
 use Rattle.mc_course.specs.declared.ends.Flow as code_flow
 use Rattle.mc_course.specs.declared.ends.Flow.TheVariants as ends
@@ -167,7 +167,7 @@ module _ (w : Activation) where
   abbrev pub where_label : Option Label → probed.Statement → Seek → Does Next
   where_label (Some label) u k s = after (label_runs label k s) (λ l s. gives (Item l) s)
   where_label None u Running s =
-      after (statement_of w u s) (λ flow s. gives (next_after flow) s)
+      after (run w u s) (λ flow s. gives (next_after flow) s)
   where_label None u (For l) s = gives (Item (For l)) s
 
   -- an item of a body
@@ -181,46 +181,46 @@ module _ (w : Activation) where
 
   -- what a statement does after them
   abbrev pub act_of : probed.Statement → Runs
-  act_of (probed.Compound items span) s = statements_of w items Running s
+  act_of (probed.Compound items span) s = run_from w items Running s
   act_of (probed.Label v span mark) s = gives Completed s
-  act_of (probed.Declaration declarators span bit) s = effect_does (declarators_of w declarators) s
+  act_of (probed.Declaration declarators span bit) s = effect_does (declare w declarators) s
   act_of (probed.Null span bit) s = gives Completed s
-  act_of (probed.EffectStatement effect span bit) s = effect_does (effect_of w effect) s
+  act_of (probed.EffectStatement effect span bit) s = effect_does (perform w effect) s
   act_of (probed.If e u keyword span bit) s =
-      choice_does (value_of w e) (statement_of w u) (gives Completed) s
+      choice_does (evaluate w e) (run w u) (gives Completed) s
   act_of (probed.IfElse e u v keyword span bit) s =
-      choice_does (value_of w e) (statement_of w u) (statement_of w v) s
+      choice_does (evaluate w e) (run w u) (run w v) s
   act_of (probed.Switch e items keyword span bit absent) s =
-      switch_does (value_of w e) (labels_in items) (statements_of w items) (mark_does w absent) s
+      switch_does (evaluate w e) (labels_in items) (run_from w items) (mark_does w absent) s
   act_of (probed.For start test step u keyword span bit) s =
-      after (start_of w start s) (λ _ s.
-      loop_does (test_of w test) (statement_of w u) (effects_of w step) s)
+      after (start_loop w start s) (λ _ s.
+      loop_does (loop_test w test) (run w u) (perform_all w step) s)
   act_of (probed.DoWhile u e keyword span bit) s =
-      do_does (statement_of w u) (as_does is_true (value_of w e)) s
+      do_does (run w u) (as_does is_true (evaluate w e)) s
   act_of (probed.Break span bit) s = gives Broke s
   act_of (probed.Continue span bit) s = gives Continued s
-  act_of (probed.Return value span bit exit) s = exit_does w exit (return_of w value) s
+  act_of (probed.Return value span bit exit) s = exit_does w exit (returned w value) s
 
 abbrev pub where_initializes : Bool → Option ℕ → Option (Option ℕ)
 where_initializes true bit = Some bit
 where_initializes false bit = None
 
 -- the bit of a counted statement, where it has one
-abbrev pub count_of : probed.Statement → Option (Option ℕ)
-count_of (probed.Compound items span) = None
-count_of (probed.Label v span mark) = None
-count_of (probed.Declaration declarators span bit) =
+abbrev pub counted_bit : probed.Statement → Option (Option ℕ)
+counted_bit (probed.Compound items span) = None
+counted_bit (probed.Label v span mark) = None
+counted_bit (probed.Declaration declarators span bit) =
     where_initializes (initializes (map erase_declarator declarators)) bit
-count_of (probed.Null span bit) = Some bit
-count_of (probed.EffectStatement effect span bit) = Some bit
-count_of (probed.If e u keyword span bit) = Some bit
-count_of (probed.IfElse e u v keyword span bit) = Some bit
-count_of (probed.Switch e items keyword span bit absent) = Some bit
-count_of (probed.For start test step u keyword span bit) = Some bit
-count_of (probed.DoWhile u e keyword span bit) = Some bit
-count_of (probed.Break span bit) = Some bit
-count_of (probed.Continue span bit) = Some bit
-count_of (probed.Return value span bit exit) = Some bit
+counted_bit (probed.Null span bit) = Some bit
+counted_bit (probed.EffectStatement effect span bit) = Some bit
+counted_bit (probed.If e u keyword span bit) = Some bit
+counted_bit (probed.IfElse e u v keyword span bit) = Some bit
+counted_bit (probed.Switch e items keyword span bit absent) = Some bit
+counted_bit (probed.For start test step u keyword span bit) = Some bit
+counted_bit (probed.DoWhile u e keyword span bit) = Some bit
+counted_bit (probed.Break span bit) = Some bit
+counted_bit (probed.Continue span bit) = Some bit
+counted_bit (probed.Return value span bit exit) = Some bit
 
 -- ---- loops
 
@@ -255,5 +255,5 @@ where_again (Some f) again s = gives f s
 -- the body of a function in its activation, after its objects are there
 abbrev pub body_of : Activation → probed.Function → Option ℕ → Does (steps.Given ℕ)
 body_of w f into s =
-    after (hits_some w f.entry s) (λ _ s. after (statements_of w f.body Running s) (λ flow s.
+    after (hits_some w f.entry s) (λ _ s. after (run_from w f.body Running s) (λ flow s.
     after (where_left flow (hits_some w f.exit) s) (leaves flat into (left w.base w.first))))

@@ -12,7 +12,7 @@ use Rattle.mc_steps.specs.Runs.{gives, stops}
 use Rattle.mc_steps.specs.Expressions.{both_do, where_true}
 use Rattle.mc_steps.specs.Calls.{unset_does}
 use Rattle.mc_probe.specs.Tree as probed
-use Rattle.mc_probe.specs.Statements.{initial_of}
+use Rattle.mc_probe.specs.Statements.{initialize_where}
 use Rattle.mc_probe.specs.Flat.{Activation, Does, flat}
 use Rattle.mc_interp.specs.Typed.{AreTyped, IsAnyCall, IsPlaced}
 
@@ -82,4 +82,4 @@ module _ (c : Scope) (w : Activation) where
 abbrev pub declarator_does : Activation → probed.Declarator → Does (Unit {0})
 declarator_does w d s =
     both_do (unset_does flat (w.base + d.slot.start) d.cells)
-    (initial_of w d.value (w.base + d.slot.start)) s
+    (initialize_where w d.value (w.base + d.slot.start)) s

@@ -14,7 +14,7 @@ use Rattle.mc_steps.specs.Statements as steps
 use Rattle.mc_steps.specs.Calls.{leaves, where_left, with_room, passed_to, Passed, Target}
 use Rattle.mc_probe.specs.Calls.{calls, left}
 use Rattle.mc_probe.specs.Flat.{Activation, Does, Flat, flat, hits_some}
-use Rattle.mc_probe.specs.Statements.{statements_of}
+use Rattle.mc_probe.specs.Statements.{run_from}
 use Rattle.mc_probe.specs.Tree as probed
 use Rattle.mc_probe.specs.Trees.{tree_of}
 use Rattle.mc_probe.specs.Views as view
@@ -141,7 +141,7 @@ pub record HasLeft (f : Frame) (into : Option ℕ) (old new : Store) : Type 0 wh
 -- a body after its entry
 abbrev pub inside_of : Activation → probed.Function → Option ℕ → Does (steps.Given ℕ)
 inside_of w f into s =
-    after (statements_of w f.body steps.Running s) (λ flow s.
+    after (run_from w f.body steps.Running s) (λ flow s.
     after (where_left flow (hits_some w f.exit) s) (leaves flat into (left w.base w.first)))
 
 -- The activation F of a call has begun, and its parameters have their values: the call is its body

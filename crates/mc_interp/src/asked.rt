@@ -33,7 +33,7 @@ pub(crate) fn leaf(one: &Leaf, frame: &Frame<'_, '_, '_>, store: &mut Store) -> 
     requires sound { IsExpression (erase_expression (prepared.leaf_of one.now))
         (scope_in frame.now) }
     requires ready { IsReady frame.now store.old frame.now.program.now.bits }
-    ensures ran { does.value_of (activation_of frame.now) (prepared.leaf_of one.now)
+    ensures ran { does.evaluate (activation_of frame.now) (prepared.leaf_of one.now)
         (state_of store.old) ≡ told (option_map
         (number_of (type_of (erase_expression (prepared.leaf_of one.now)))) result) store.new }
     ensures typed { IfSome result (Holds (type_of (erase_expression (prepared.leaf_of one.now)))) }
@@ -64,7 +64,7 @@ fn related(
         (type_of (erase_expression (prepared.leaf_of left.now)))
         (type_of (erase_expression (prepared.leaf_of right.now))) }
     requires ready { IsReady frame.now store.old frame.now.program.now.bits }
-    ensures ran { (span : Span) → steps.as_does steps.is_true (does.value_of
+    ensures ran { (span : Span) → steps.as_does steps.is_true (does.evaluate
         (activation_of frame.now) (probed.Binary (Binary (prepared.operator_of relation)) of
         (prepared.leaf_of left.now) (prepared.leaf_of right.now) span)) (state_of store.old)
         ≡ told result store.new }
@@ -85,7 +85,7 @@ fn answer(question: &Question, frame: &Frame<'_, '_, '_>, store: &mut Store) -> 
         (scope_in frame.now) }
     requires fits { Fits frame.now.function.now.registers (prepared.question_of question.now) }
     requires ready { IsReady frame.now store.old frame.now.program.now.bits }
-    ensures ran { steps.as_does steps.is_true (does.value_of (activation_of frame.now)
+    ensures ran { steps.as_does steps.is_true (does.evaluate (activation_of frame.now)
         (prepared.question_of question.now)) (state_of store.old) ≡ told result store.new }
     ensures kept { KeepsRows frame.now result store.old store.new }
     ensures limits { KeepsLimits store.old store.new }
@@ -127,7 +127,7 @@ fn negated(operand: &Question, frame: &Frame<'_, '_, '_>, store: &mut Store) -> 
         (scope_in frame.now) }
     requires fits { Fits frame.now.function.now.registers (prepared.question_of operand.now) }
     requires ready { IsReady frame.now store.old frame.now.program.now.bits }
-    ensures ran { (span : Span) → steps.as_does steps.is_true (does.value_of
+    ensures ran { (span : Span) → steps.as_does steps.is_true (does.evaluate
         (activation_of frame.now) (probed.Not (prepared.question_of operand.now) span))
         (state_of store.old) ≡ told result store.new }
     ensures kept { KeepsRows frame.now result store.old store.new }
@@ -155,7 +155,7 @@ fn joined(
     requires left_fits { Fits frame.now.function.now.registers (prepared.question_of left.now) }
     requires right_fits { Fits frame.now.function.now.registers (prepared.question_of right.now) }
     requires ready { IsReady frame.now store.old frame.now.program.now.bits }
-    ensures ran { (span : Span) → steps.as_does steps.is_true (does.value_of
+    ensures ran { (span : Span) → steps.as_does steps.is_true (does.evaluate
         (activation_of frame.now) (probed.Logic operator (prepared.question_of left.now)
         (prepared.question_of right.now) span)) (state_of store.old) ≡ told result store.new }
     ensures kept { KeepsRows frame.now result store.old store.new }
@@ -184,7 +184,7 @@ pub(crate) fn tested<P: Probe, F: Fn(Called<'_, '_, '_>, &mut Store, &mut P) -> 
     requires fits { Fits frame.now.function.now.registers (prepared.test_of test.now) }
     requires ready { IsReady frame.now store.old (P.bits probe.old) }
     requires invokes { Invokes frame.now P.bits P.leads (F.pre invoke) (F.post invoke) }
-    ensures did { Did P.leads (steps.as_does steps.is_true (does.value_of (activation_of frame.now)
+    ensures did { Did P.leads (steps.as_does steps.is_true (does.evaluate (activation_of frame.now)
         (prepared.test_of test.now)) (state_of store.old)) result store.new probe.old probe.new }
     ensures kept { KeepsRows frame.now result store.old store.new }
     ensures bits { KeepsBits P.bits probe.old probe.new }

@@ -49,8 +49,8 @@ fn assign<P: Probe, F: Fn(Called<'_, '_, '_>, &mut Store, &mut P) -> Option<()> 
     requires ready { IsReady frame.now store.old (P.bits probe.old) }
     requires invokes { Invokes frame.now P.bits P.leads (F.pre invoke) (F.post invoke) }
     ensures did { Did P.leads (steps.assign_does flat
-        (does.place_of (activation_of frame.now) (view.place_of target.now))
-        (does.value_of (activation_of frame.now) (view.expression_of right.now))
+        (does.evaluate_place (activation_of frame.now) (view.place_of target.now))
+        (does.evaluate (activation_of frame.now) (view.expression_of right.now))
         (state_of store.old)) result store.new probe.old probe.new }
     ensures kept { KeepsRows frame.now result store.old store.new }
     ensures bits { KeepsBits P.bits probe.old probe.new }
@@ -85,8 +85,8 @@ fn update<P: Probe, F: Fn(Called<'_, '_, '_>, &mut Store, &mut P) -> Option<()> 
     requires ready { IsReady frame.now store.old (P.bits probe.old) }
     requires invokes { Invokes frame.now P.bits P.leads (F.pre invoke) (F.post invoke) }
     ensures did { Did P.leads (steps.update_does flat of operator common
-        (does.place_of (activation_of frame.now) (view.place_of target.now))
-        (does.value_of (activation_of frame.now) (view.expression_of right.now))
+        (does.evaluate_place (activation_of frame.now) (view.place_of target.now))
+        (does.evaluate (activation_of frame.now) (view.expression_of right.now))
         (state_of store.old)) result store.new probe.old probe.new }
     ensures kept { KeepsRows frame.now result store.old store.new }
     ensures bits { KeepsBits P.bits probe.old probe.new }
@@ -119,8 +119,8 @@ fn copy<P: Probe, F: Fn(Called<'_, '_, '_>, &mut Store, &mut P) -> Option<()> + 
     requires ready { IsReady frame.now store.old (P.bits probe.old) }
     requires invokes { Invokes frame.now P.bits P.leads (F.pre invoke) (F.post invoke) }
     ensures did { Did P.leads (steps.copy_does flat cells
-        (does.place_of (activation_of frame.now) (view.place_of target.now))
-        (does.structure_of (activation_of frame.now) (view.structure_of right.now))
+        (does.evaluate_place (activation_of frame.now) (view.place_of target.now))
+        (does.evaluate_structure (activation_of frame.now) (view.structure_of right.now))
         (state_of store.old)) result store.new probe.old probe.new }
     ensures kept { KeepsRows frame.now result store.old store.new }
     ensures bits { KeepsBits P.bits probe.old probe.new }
@@ -145,7 +145,7 @@ fn drop_value<P: Probe, F: Fn(Called<'_, '_, '_>, &mut Store, &mut P) -> Option<
     requires ready { IsReady frame.now store.old (P.bits probe.old) }
     requires invokes { Invokes frame.now P.bits P.leads (F.pre invoke) (F.post invoke) }
     ensures did { Did P.leads (steps.drop_does
-        (does.value_of (activation_of frame.now) (view.expression_of e.now))
+        (does.evaluate (activation_of frame.now) (view.expression_of e.now))
         (state_of store.old)) result store.new probe.old probe.new }
     ensures kept { KeepsRows frame.now result store.old store.new }
     ensures bits { KeepsBits P.bits probe.old probe.new }
@@ -169,7 +169,7 @@ fn drop_structure<P: Probe, F: Fn(Called<'_, '_, '_>, &mut Store, &mut P) -> Opt
     requires ready { IsReady frame.now store.old (P.bits probe.old) }
     requires invokes { Invokes frame.now P.bits P.leads (F.pre invoke) (F.post invoke) }
     ensures did { Did P.leads (steps.drop_does
-        (does.structure_of (activation_of frame.now) (view.structure_of source.now))
+        (does.evaluate_structure (activation_of frame.now) (view.structure_of source.now))
         (state_of store.old)) result store.new probe.old probe.new }
     ensures kept { KeepsRows frame.now result store.old store.new }
     ensures bits { KeepsBits P.bits probe.old probe.new }
@@ -192,7 +192,7 @@ fn drop_call<P: Probe, F: Fn(Called<'_, '_, '_>, &mut Store, &mut P) -> Option<(
     requires ready { IsReady frame.now store.old (P.bits probe.old) }
     requires invokes { Invokes frame.now P.bits P.leads (F.pre invoke) (F.post invoke) }
     ensures did { Did P.leads (steps.drop_does
-        (does.call_of (activation_of frame.now) (view.call_of made.now))
+        (does.evaluate_call (activation_of frame.now) (view.call_of made.now))
         (state_of store.old)) result store.new probe.old probe.new }
     ensures kept { KeepsRows frame.now result store.old store.new }
     ensures bits { KeepsBits P.bits probe.old probe.new }
@@ -214,7 +214,7 @@ fn number_effect<P: Probe, F: Fn(Called<'_, '_, '_>, &mut Store, &mut P) -> Opti
     requires fits { Fits frame.now.function.now.registers (view.expression_of e.now) }
     requires ready { IsReady frame.now store.old (P.bits probe.old) }
     requires invokes { Invokes frame.now P.bits P.leads (F.pre invoke) (F.post invoke) }
-    ensures did { Did P.leads (effects.effect_of (activation_of frame.now)
+    ensures did { Did P.leads (effects.perform (activation_of frame.now)
         (tree.NumberEffect (view.expression_of e.now) whole) (state_of store.old)) result
         store.new probe.old probe.new }
     ensures kept { KeepsRows frame.now result store.old store.new }
@@ -253,7 +253,7 @@ fn structure_effect<P: Probe, F: Fn(Called<'_, '_, '_>, &mut Store, &mut P) -> O
         (view.structure_of source.now) }
     requires ready { IsReady frame.now store.old (P.bits probe.old) }
     requires invokes { Invokes frame.now P.bits P.leads (F.pre invoke) (F.post invoke) }
-    ensures did { Did P.leads (effects.effect_of (activation_of frame.now)
+    ensures did { Did P.leads (effects.perform (activation_of frame.now)
         (tree.StructureEffect (view.structure_of source.now) whole) (state_of store.old)) result
         store.new probe.old probe.new }
     ensures kept { KeepsRows frame.now result store.old store.new }
@@ -319,7 +319,7 @@ fn output<P: Probe, F: Fn(Called<'_, '_, '_>, &mut Store, &mut P) -> Option<()> 
     requires ready { IsReady frame.now store.old (P.bits probe.old) }
     requires invokes { Invokes frame.now P.bits P.leads (F.pre invoke) (F.post invoke) }
     ensures did { Did P.leads (steps.output_does
-        (does.value_of (activation_of frame.now) (view.expression_of e.now))
+        (does.evaluate (activation_of frame.now) (view.expression_of e.now))
         (state_of store.old)) result store.new probe.old probe.new }
     ensures kept { KeepsRows frame.now result store.old store.new }
     ensures bits { KeepsBits P.bits probe.old probe.new }
@@ -341,7 +341,7 @@ pub(crate) fn effect<P: Probe, F: Fn(Called<'_, '_, '_>, &mut Store, &mut P) -> 
     requires fits { FitsEffect frame.now.function.now.registers (view.effect_of whole.now) }
     requires ready { IsReady frame.now store.old (P.bits probe.old) }
     requires invokes { Invokes frame.now P.bits P.leads (F.pre invoke) (F.post invoke) }
-    ensures did { Did P.leads (effects.effect_of (activation_of frame.now)
+    ensures did { Did P.leads (effects.perform (activation_of frame.now)
         (view.effect_of whole.now) (state_of store.old)) result store.new probe.old probe.new }
     ensures kept { KeepsRows frame.now result store.old store.new }
     ensures bits { KeepsBits P.bits probe.old probe.new }
@@ -406,7 +406,7 @@ pub(crate) fn effects<P: Probe, F: Fn(Called<'_, '_, '_>, &mut Store, &mut P) ->
     requires fits { FitEffects frame.now.function.now.registers (map view.effect_of all.now) }
     requires ready { IsReady frame.now store.old (P.bits probe.old) }
     requires invokes { Invokes frame.now P.bits P.leads (F.pre invoke) (F.post invoke) }
-    ensures did { Did P.leads (effects.effects_of (activation_of frame.now)
+    ensures did { Did P.leads (effects.perform_all (activation_of frame.now)
         (map view.effect_of all.now) (state_of store.old)) result store.new
         probe.old probe.new }
     ensures kept { KeepsRows frame.now result store.old store.new }

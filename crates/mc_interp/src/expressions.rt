@@ -86,7 +86,7 @@ pub(crate) fn value<P: Probe, F: Fn(Called<'_, '_, '_>, &mut Store, &mut P) -> O
     requires fits { Fits frame.now.function.now.registers (view.expression_of e.now) }
     requires ready { IsReady frame.now store.old (P.bits probe.old) }
     requires invokes { Invokes frame.now P.bits P.leads (F.pre invoke) (F.post invoke) }
-    ensures did { Did P.leads (does.value_of (activation_of frame.now) (view.expression_of e.now)
+    ensures did { Did P.leads (does.evaluate (activation_of frame.now) (view.expression_of e.now)
         (state_of store.old)) (option_map (number_of (type_of (plain.expression_of e.now))) result)
         store.new probe.old probe.new }
     ensures typed { IfSome result (Holds (type_of (plain.expression_of e.now))) }
@@ -115,7 +115,7 @@ pub(crate) fn truth<P: Probe, F: Fn(Called<'_, '_, '_>, &mut Store, &mut P) -> O
     requires fits { Fits frame.now.function.now.registers (view.expression_of e.now) }
     requires ready { IsReady frame.now store.old (P.bits probe.old) }
     requires invokes { Invokes frame.now P.bits P.leads (F.pre invoke) (F.post invoke) }
-    ensures did { Did P.leads (steps.as_does steps.is_true (does.value_of (activation_of frame.now)
+    ensures did { Did P.leads (steps.as_does steps.is_true (does.evaluate (activation_of frame.now)
         (view.expression_of e.now)) (state_of store.old)) result store.new probe.old probe.new }
     ensures kept { KeepsRows frame.now result store.old store.new }
     ensures bits { KeepsBits P.bits probe.old probe.new }
@@ -210,7 +210,7 @@ fn other<P: Probe, F: Fn(Called<'_, '_, '_>, &mut Store, &mut P) -> Option<()> +
     requires ready { IsReady frame.now store.old (P.bits probe.old) }
     requires invokes { Invokes frame.now P.bits P.leads (F.pre invoke) (F.post invoke) }
     requires other { truths.is_logical (view.expression_of e.now) ≡ false }
-    ensures did { Did P.leads (does.value_of (activation_of frame.now) (view.expression_of e.now)
+    ensures did { Did P.leads (does.evaluate (activation_of frame.now) (view.expression_of e.now)
         (state_of store.old)) (option_map (number_of (type_of (plain.expression_of e.now))) result)
         store.new probe.old probe.new }
     ensures typed { IfSome result (Holds (type_of (plain.expression_of e.now))) }
@@ -255,7 +255,7 @@ fn inner<P: Probe, F: Fn(Called<'_, '_, '_>, &mut Store, &mut P) -> Option<()> +
     requires ready { IsReady frame.now store.old (P.bits probe.old) }
     requires invokes { Invokes frame.now P.bits P.leads (F.pre invoke) (F.post invoke) }
     requires other { truths.is_logical (view.expression_of e.now) ≡ false }
-    ensures did { Did P.leads (does.value_of (activation_of frame.now) (view.expression_of e.now)
+    ensures did { Did P.leads (does.evaluate (activation_of frame.now) (view.expression_of e.now)
         (state_of store.old)) (option_map (number_of (type_of (plain.expression_of e.now))) result)
         store.new probe.old probe.new }
     ensures typed { IfSome result (Holds (type_of (plain.expression_of e.now))) }
@@ -342,8 +342,9 @@ pub(crate) fn place<P: Probe, F: Fn(Called<'_, '_, '_>, &mut Store, &mut P) -> O
     requires fits { FitsPlace frame.now.function.now.registers (view.place_of object.now) }
     requires ready { IsReady frame.now store.old (P.bits probe.old) }
     requires invokes { Invokes frame.now P.bits P.leads (F.pre invoke) (F.post invoke) }
-    ensures did { Did P.leads (does.place_of (activation_of frame.now) (view.place_of object.now)
-        (state_of store.old)) result store.new probe.old probe.new }
+    ensures did { Did P.leads
+        (does.evaluate_place (activation_of frame.now) (view.place_of object.now) (state_of store.old))
+        result store.new probe.old probe.new }
     ensures placed { IfSome result (λ k. IsPlaced (scope_in frame.now) (activation_of frame.now) k
         (place_type (scope_in frame.now) (plain.place_of object.now))) }
     ensures kept { KeepsRows frame.now result store.old store.new }
@@ -401,7 +402,7 @@ pub(crate) fn structure<
         (view.structure_of source.now) }
     requires ready { IsReady frame.now store.old (P.bits probe.old) }
     requires invokes { Invokes frame.now P.bits P.leads (F.pre invoke) (F.post invoke) }
-    ensures did { Did P.leads (does.structure_of (activation_of frame.now)
+    ensures did { Did P.leads (does.evaluate_structure (activation_of frame.now)
         (view.structure_of source.now) (state_of store.old)) result store.new
         probe.old probe.new }
     ensures placed { IfSome result (λ k. IsPlaced (scope_in frame.now) (activation_of frame.now) k
@@ -432,7 +433,7 @@ pub(crate) fn call<P: Probe, F: Fn(Called<'_, '_, '_>, &mut Store, &mut P) -> Op
     requires fits { FitsCall frame.now.function.now.registers (view.call_of made.now) }
     requires ready { IsReady frame.now store.old (P.bits probe.old) }
     requires invokes { Invokes frame.now P.bits P.leads (F.pre invoke) (F.post invoke) }
-    ensures did { Did P.leads (does.call_of (activation_of frame.now) (view.call_of made.now)
+    ensures did { Did P.leads (does.evaluate_call (activation_of frame.now) (view.call_of made.now)
         (state_of store.old)) (option_map (λ _. given_of store.new.given) result) store.new
         probe.old probe.new }
     ensures given { IfSome result (λ _. IsResultOf
@@ -474,7 +475,7 @@ fn arguments<P: Probe, F: Fn(Called<'_, '_, '_>, &mut Store, &mut P) -> Option<(
     requires none { passed.old.items ≡ [] }
     requires ready { IsReady frame.now store.old (P.bits probe.old) }
     requires invokes { Invokes frame.now P.bits P.leads (F.pre invoke) (F.post invoke) }
-    ensures did { Did P.leads (does.arguments_of (activation_of frame.now)
+    ensures did { Did P.leads (does.evaluate_arguments (activation_of frame.now)
         (view.arguments_from (map view.argument_of trees.now)) (state_of store.old))
         (option_map (λ _. map passed_of passed.new.items) result) store.new
         probe.old probe.new }
@@ -506,7 +507,7 @@ fn argument<P: Probe, F: Fn(Called<'_, '_, '_>, &mut Store, &mut P) -> Option<()
     requires fits { FitsArgument frame.now.function.now.registers (view.argument_of tree.now) }
     requires ready { IsReady frame.now store.old (P.bits probe.old) }
     requires invokes { Invokes frame.now P.bits P.leads (F.pre invoke) (F.post invoke) }
-    ensures did { Did P.leads (does.argument_of (activation_of frame.now)
+    ensures did { Did P.leads (does.evaluate_argument (activation_of frame.now)
         (view.argument_of tree.now) (state_of store.old)) (option_map passed_of result) store.new
         probe.old probe.new }
     ensures typed { IfSome result (λ x. (types : List IntType) →

@@ -52,7 +52,7 @@ fn store_value<P: Probe, F: Fn(Called<'_, '_, '_>, &mut Store, &mut P) -> Option
     requires ready { IsReady frame.now store.old (P.bits probe.old) }
     requires invokes { Invokes frame.now P.bits P.leads (F.pre invoke) (F.post invoke) }
     ensures did { Did P.leads (steps.store_does flat at
-        (does.value_of (activation_of frame.now) (view.expression_of e.now))
+        (does.evaluate (activation_of frame.now) (view.expression_of e.now))
         (state_of store.old)) result store.new probe.old probe.new }
     ensures kept { KeepsRows frame.now result store.old store.new }
     ensures bits { KeepsBits P.bits probe.old probe.new }
@@ -83,7 +83,7 @@ fn store_structure<P: Probe, F: Fn(Called<'_, '_, '_>, &mut Store, &mut P) -> Op
     requires ready { IsReady frame.now store.old (P.bits probe.old) }
     requires invokes { Invokes frame.now P.bits P.leads (F.pre invoke) (F.post invoke) }
     ensures did { Did P.leads (steps.store_structure_does flat at cells
-        (does.structure_of (activation_of frame.now) (view.structure_of source.now))
+        (does.evaluate_structure (activation_of frame.now) (view.structure_of source.now))
         (state_of store.old)) result store.new probe.old probe.new }
     ensures kept { KeepsRows frame.now result store.old store.new }
     ensures bits { KeepsBits P.bits probe.old probe.new }
@@ -110,7 +110,7 @@ fn initializer<P: Probe, F: Fn(Called<'_, '_, '_>, &mut Store, &mut P) -> Option
         (view.initializer_of tree.now) }
     requires ready { IsReady frame.now store.old (P.bits probe.old) }
     requires invokes { Invokes frame.now P.bits P.leads (F.pre invoke) (F.post invoke) }
-    ensures did { Did P.leads (statements.initializer_of (activation_of frame.now)
+    ensures did { Did P.leads (statements.initialize (activation_of frame.now)
         (view.initializer_of tree.now) at (state_of store.old)) result store.new
         probe.old probe.new }
     ensures kept { KeepsRows frame.now result store.old store.new }
@@ -151,7 +151,7 @@ fn items<P: Probe, F: Fn(Called<'_, '_, '_>, &mut Store, &mut P) -> Option<()> +
         (view.initializers_from (map view.initializer_of trees.now)) }
     requires ready { IsReady frame.now store.old (P.bits probe.old) }
     requires invokes { Invokes frame.now P.bits P.leads (F.pre invoke) (F.post invoke) }
-    ensures did { Did P.leads (statements.items_of (activation_of frame.now)
+    ensures did { Did P.leads (statements.initialize_from (activation_of frame.now)
         (view.initializers_from (map view.initializer_of trees.now)) at 0 0 cells
         (state_of store.old)) result store.new probe.old probe.new }
     ensures kept { KeepsRows frame.now result store.old store.new }
@@ -182,7 +182,7 @@ fn initial<P: Probe, F: Fn(Called<'_, '_, '_>, &mut Store, &mut P) -> Option<()>
         (option_map view.initializer_of tree.now) }
     requires ready { IsReady frame.now store.old (P.bits probe.old) }
     requires invokes { Invokes frame.now P.bits P.leads (F.pre invoke) (F.post invoke) }
-    ensures did { Did P.leads (statements.initial_of (activation_of frame.now)
+    ensures did { Did P.leads (statements.initialize_where (activation_of frame.now)
         (option_map view.initializer_of tree.now) at (state_of store.old)) result store.new
         probe.old probe.new }
     ensures kept { KeepsRows frame.now result store.old store.new }
@@ -236,7 +236,7 @@ pub(crate) fn declarators<
         (map view.declarator_of trees.now) }
     requires ready { IsReady frame.now store.old (P.bits probe.old) }
     requires invokes { Invokes frame.now P.bits P.leads (F.pre invoke) (F.post invoke) }
-    ensures did { Did P.leads (statements.declarators_of (activation_of frame.now)
+    ensures did { Did P.leads (statements.declare (activation_of frame.now)
         (map view.declarator_of trees.now) (state_of store.old)) result store.new
         probe.old probe.new }
     ensures kept { KeepsRows frame.now result store.old store.new }

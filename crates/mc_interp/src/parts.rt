@@ -47,7 +47,7 @@ fn initializes(declarators: &[Declarator]) -> bool
 
 /// The bit of a counted statement, where it has one.
 pub(crate) fn count_of(tree: &Prepared<'_>) -> Option<Option<u32>>
-    ensures { result ≡ bodies.count_of (prepared.statement_of tree.now) }
+    ensures { result ≡ bodies.counted_bit (prepared.statement_of tree.now) }
 {
     match tree {
         Prepared::Compound { .. } | Prepared::Label { .. } => None,
@@ -138,7 +138,7 @@ pub(crate) fn declaration<
         (map view.declarator_of trees.now) }
     requires ready { IsReady frame.now store.old (P.bits probe.old) }
     requires invokes { Invokes frame.now P.bits P.leads (F.pre invoke) (F.post invoke) }
-    ensures did { Did P.leads (steps.effect_does (does.declarators_of (activation_of frame.now)
+    ensures did { Did P.leads (steps.effect_does (does.declare (activation_of frame.now)
         (map view.declarator_of trees.now)) (state_of store.old))
         (option_map (λ flow. flow_of flow store.new) result) store.new probe.old probe.new }
     ensures typed { IfSome result (λ flow. IsReturned (scope_in frame.now)
@@ -167,7 +167,7 @@ pub(crate) fn effect_statement<
     requires fits { FitsEffect frame.now.function.now.registers (prepared.effect_of step.now) }
     requires ready { IsReady frame.now store.old (P.bits probe.old) }
     requires invokes { Invokes frame.now P.bits P.leads (F.pre invoke) (F.post invoke) }
-    ensures did { Did P.leads (steps.effect_does (does.effect_of (activation_of frame.now)
+    ensures did { Did P.leads (steps.effect_does (does.perform (activation_of frame.now)
         (prepared.effect_of step.now)) (state_of store.old))
         (option_map (λ flow. flow_of flow store.new) result) store.new probe.old probe.new }
     ensures typed { IfSome result (λ flow. IsReturned (scope_in frame.now)
@@ -195,7 +195,7 @@ pub(crate) fn for_start<
     requires fits { FitsStart frame.now.function.now.registers (view.start_of tree.now) }
     requires ready { IsReady frame.now store.old (P.bits probe.old) }
     requires invokes { Invokes frame.now P.bits P.leads (F.pre invoke) (F.post invoke) }
-    ensures did { Did P.leads (does.start_of (activation_of frame.now) (view.start_of tree.now)
+    ensures did { Did P.leads (does.start_loop (activation_of frame.now) (view.start_of tree.now)
         (state_of store.old)) result store.new probe.old probe.new }
     ensures kept { KeepsRows frame.now result store.old store.new }
     ensures bits { KeepsBits P.bits probe.old probe.new }
@@ -234,7 +234,7 @@ fn test_of<P: Probe, F: Fn(Called<'_, '_, '_>, &mut Store, &mut P) -> Option<()>
         (option_map (λ e. prepared.test_of e.now) test) }
     requires ready { IsReady frame.now store.old (P.bits probe.old) }
     requires invokes { Invokes frame.now P.bits P.leads (F.pre invoke) (F.post invoke) }
-    ensures did { Did P.leads (does.test_of (activation_of frame.now)
+    ensures did { Did P.leads (does.loop_test (activation_of frame.now)
         (option_map (λ e. prepared.test_of e.now) test.entry) (state_of store.old)) result
         store.new probe.old probe.new }
     ensures kept { KeepsRows frame.now result store.old store.new }
@@ -264,7 +264,7 @@ pub(crate) fn turn_begins<
         (option_map (λ e. prepared.test_of e.now) test) }
     requires ready { IsReady frame.now store.old (P.bits probe.old) }
     requires invokes { Invokes frame.now P.bits P.leads (F.pre invoke) (F.post invoke) }
-    ensures did { Did P.leads (spends (does.test_of (activation_of frame.now)
+    ensures did { Did P.leads (spends (does.loop_test (activation_of frame.now)
         (option_map (λ e. prepared.test_of e.now) test.entry)) (state_of store.old)) result
         store.new probe.old probe.new }
     ensures less { IfSome result (λ _. store.new.fuel + 1 ≤ store.old.fuel) }
@@ -289,7 +289,7 @@ fn return_value<P: Probe, F: Fn(Called<'_, '_, '_>, &mut Store, &mut P) -> Optio
     requires fits { FitsReturn frame.now.function.now.registers (view.return_value_of tree.now) }
     requires ready { IsReady frame.now store.old (P.bits probe.old) }
     requires invokes { Invokes frame.now P.bits P.leads (F.pre invoke) (F.post invoke) }
-    ensures did { Did P.leads (does.return_of (activation_of frame.now)
+    ensures did { Did P.leads (does.returned (activation_of frame.now)
         (view.return_value_of tree.now) (state_of store.old))
         (option_map (λ _. given_of store.new.given) result) store.new probe.old probe.new }
     ensures typed { IfSome result (λ _. IsGivenFor (scope_in frame.now) (activation_of frame.now)
@@ -340,7 +340,7 @@ pub(crate) fn return_statement<
     requires ready { IsReady frame.now store.old (P.bits probe.old) }
     requires invokes { Invokes frame.now P.bits P.leads (F.pre invoke) (F.post invoke) }
     ensures did { Did P.leads (does.exit_does (activation_of frame.now) exit
-        (does.return_of (activation_of frame.now) (view.return_value_of tree.now))
+        (does.returned (activation_of frame.now) (view.return_value_of tree.now))
         (state_of store.old)) (option_map (λ flow. flow_of flow store.new) result) store.new
         probe.old probe.new }
     ensures typed { IfSome result (λ flow. IsReturned (scope_in frame.now)

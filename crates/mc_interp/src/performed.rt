@@ -34,7 +34,7 @@ pub(crate) fn perform<P: Probe, F: Fn(Called<'_, '_, '_>, &mut Store, &mut P) ->
     requires fits { FitsEffect frame.now.function.now.registers (prepared.effect_of step.now) }
     requires ready { IsReady frame.now store.old (P.bits probe.old) }
     requires invokes { Invokes frame.now P.bits P.leads (F.pre invoke) (F.post invoke) }
-    ensures did { Did P.leads (does.effect_of (activation_of frame.now)
+    ensures did { Did P.leads (does.perform (activation_of frame.now)
         (prepared.effect_of step.now) (state_of store.old)) result store.new probe.old probe.new }
     ensures kept { KeepsRows frame.now result store.old store.new }
     ensures bits { KeepsBits P.bits probe.old probe.new }
@@ -93,7 +93,7 @@ pub(crate) fn perform_all<
         (map prepared.effect_of steps.now) }
     requires ready { IsReady frame.now store.old (P.bits probe.old) }
     requires invokes { Invokes frame.now P.bits P.leads (F.pre invoke) (F.post invoke) }
-    ensures did { Did P.leads (does.effects_of (activation_of frame.now)
+    ensures did { Did P.leads (does.perform_all (activation_of frame.now)
         (map prepared.effect_of steps.now) (state_of store.old)) result store.new probe.old
         probe.new }
     ensures kept { KeepsRows frame.now result store.old store.new }

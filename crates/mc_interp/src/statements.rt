@@ -54,10 +54,10 @@ fn repeat<P: Probe, F: Fn(Called<'_, '_, '_>, &mut Store, &mut P) -> Option<()> 
         (map prepared.effect_of step.now) }
     requires ready { IsReady frame.now store.old (P.bits probe.old) }
     requires invokes { Invokes frame.now P.bits P.leads (F.pre invoke) (F.post invoke) }
-    ensures did { Did P.leads (loop_does (does.test_of (activation_of frame.now)
+    ensures did { Did P.leads (loop_does (does.loop_test (activation_of frame.now)
         (option_map (λ e. prepared.test_of e.now) test.entry))
-        (does.statement_of (activation_of frame.now) (prepared.statement_of body.now))
-        (does.effects_of (activation_of frame.now) (map prepared.effect_of step.now))
+        (does.run (activation_of frame.now) (prepared.statement_of body.now))
+        (does.perform_all (activation_of frame.now) (map prepared.effect_of step.now))
         (state_of store.old))
         (option_map (λ flow. flow_of flow store.new) result) store.new probe.old probe.new }
     ensures typed { IfSome result (λ flow. IsReturned (scope_in frame.now)
@@ -100,10 +100,10 @@ fn turn<P: Probe, F: Fn(Called<'_, '_, '_>, &mut Store, &mut P) -> Option<()> + 
         (map prepared.effect_of step.now) }
     requires ready { IsReady frame.now store.old (P.bits probe.old) }
     requires invokes { Invokes frame.now P.bits P.leads (F.pre invoke) (F.post invoke) }
-    ensures did { Did P.leads (turn_of (does.test_of (activation_of frame.now)
+    ensures did { Did P.leads (turn_of (does.loop_test (activation_of frame.now)
         (option_map (λ e. prepared.test_of e.now) test.entry))
-        (does.statement_of (activation_of frame.now) (prepared.statement_of body.now))
-        (does.effects_of (activation_of frame.now) (map prepared.effect_of step.now))
+        (does.run (activation_of frame.now) (prepared.statement_of body.now))
+        (does.perform_all (activation_of frame.now) (map prepared.effect_of step.now))
         (state_of store.old))
         (option_map (λ end. end_of end store.new) result) store.new probe.old probe.new }
     ensures typed { IfSome result (λ end. IsEnd (scope_in frame.now) (activation_of frame.now) end
@@ -142,7 +142,7 @@ fn statement<P: Probe, F: Fn(Called<'_, '_, '_>, &mut Store, &mut P) -> Option<(
         (prepared.statement_of tree.now) }
     requires ready { IsReady frame.now store.old (P.bits probe.old) }
     requires invokes { Invokes frame.now P.bits P.leads (F.pre invoke) (F.post invoke) }
-    ensures did { Did P.leads (does.statement_of (activation_of frame.now)
+    ensures did { Did P.leads (does.run (activation_of frame.now)
         (prepared.statement_of tree.now) (state_of store.old))
         (option_map (λ flow. flow_of flow store.new) result) store.new probe.old probe.new }
     ensures typed { IfSome result (λ flow. IsReturned (scope_in frame.now)
@@ -180,7 +180,7 @@ fn other<P: Probe, F: Fn(Called<'_, '_, '_>, &mut Store, &mut P) -> Option<()> +
         (prepared.statement_of tree.now) }
     requires ready { IsReady frame.now store.old (P.bits probe.old) }
     requires invokes { Invokes frame.now P.bits P.leads (F.pre invoke) (F.post invoke) }
-    ensures did { Did P.leads (does.statement_of (activation_of frame.now)
+    ensures did { Did P.leads (does.run (activation_of frame.now)
         (prepared.statement_of tree.now) (state_of store.old))
         (option_map (λ flow. flow_of flow store.new) result) store.new probe.old probe.new }
     ensures typed { IfSome result (λ flow. IsReturned (scope_in frame.now)
@@ -303,7 +303,7 @@ pub(crate) fn statements<
         (view.statements_from (map prepared.statement_of trees.now)) }
     requires ready { IsReady frame.now store.old (P.bits probe.old) }
     requires invokes { Invokes frame.now P.bits P.leads (F.pre invoke) (F.post invoke) }
-    ensures did { Did P.leads (does.statements_of (activation_of frame.now)
+    ensures did { Did P.leads (does.run_from (activation_of frame.now)
         (view.statements_from (map prepared.statement_of trees.now)) (seek_of seek)
         (state_of store.old))
         (option_map (λ flow. flow_of flow store.new) result) store.new probe.old probe.new }

@@ -2,3 +2,4 @@ pub mod Each
 pub mod Last
 pub mod Numbering
 pub mod Maps
+pub mod Operands

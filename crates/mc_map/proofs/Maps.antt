@@ -6,7 +6,7 @@ use Rattle.mc_roots.specs.Decisions.{Decision, AreDecisions}
 use Rattle.mc_probe.specs.declared.mapped.MappedDecision.{MappedDecision}
 use Rattle.mc_probe.specs.Mapped.{mapped_of}
 use Rattle.mc_probe.specs.Maps.{Mapped, IsMapOf, AreBased, ArePlaced}
-use Rattle.mc_probe.specs.Obligations.{entries_of, exits_of, statements_of, labels_of}
+use Rattle.mc_probe.specs.Obligations.{entry_spans, exit_spans, statement_spans, label_spans}
 use Rattle.mc_map.specs.Faults.{most_bits, bits_of, paths_of, places_of, HasFewPaths, IsFault}
 use Rattle.mc_map.specs.declared.fault.InstrumentFault.{InstrumentFault}
 use Rattle.mc_map.specs.declared.fault.InstrumentFault.TheVariants.{TooManyPaths, TooManyBits, OutOfMemory}
@@ -33,10 +33,10 @@ sum_of es xs ss ls = length es + length xs + length ss + length ls
 
 -- the lists of places are those of the program
 pub record Listed (x : t.Program) (es xs ss ls : List Span) : Type 0 where
-  pub entries : es ≡ entries_of x
-  pub exits : xs ≡ exits_of x
-  pub statements : ss ≡ statements_of x
-  pub labels : ls ≡ labels_of x
+  pub entries : es ≡ entry_spans x
+  pub exits : xs ≡ exit_spans x
+  pub statements : ss ≡ statement_spans x
+  pub labels : ls ≡ label_spans x
 
 listed_sum : (x : t.Program) (es xs ss ls : List Span) → Listed x es xs ss ls → sum_of es xs ss ls ≡ places_of x
 listed_sum x es xs ss ls l = λ i. sum_of (l.entries i) (l.exits i) (l.statements i) (l.labels i)

@@ -4,7 +4,7 @@ pub use Rattle.mc_limits.specs.Limits.{most_bits, most_paths}
 use Rattle.mc_paths.specs.Paths.{count_of}
 use Rattle.mc_typed.specs.Tree.{Program}
 use Rattle.mc_roots.specs.Decisions.{Decision}
-use Rattle.mc_probe.specs.Obligations.{entries_of, exits_of, statements_of, labels_of}
+use Rattle.mc_probe.specs.Obligations.{entry_spans, exit_spans, statement_spans, label_spans}
 use Rattle.mc_map.specs.declared.fault.InstrumentFault.{InstrumentFault}
 use Rattle.mc_map.specs.declared.fault.InstrumentFault.TheVariants.{TooManyPaths, TooManyBits, OutOfMemory}
 
@@ -25,7 +25,8 @@ paths_of (d ∷ ds) = count_of d.tree + paths_of ds
 -- the entries, exits, counted statements and labels of a program
 abbrev pub places_of : Program → ℕ
 places_of p =
-    length (entries_of p) + length (exits_of p) + length (statements_of p) + length (labels_of p)
+    length (entry_spans p) + length (exit_spans p)
+    + length (statement_spans p) + length (label_spans p)
 
 -- and the paths of its decisions have each a bit
 abbrev pub bits_of : Program → List Decision → ℕ

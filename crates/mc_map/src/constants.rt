@@ -19,8 +19,8 @@ pub(crate) fn is_constant(tree: &Expression) -> bool
         | Expression::Convert { operand, .. }
         | Expression::Not { operand, .. }
         | Expression::Probe { operand, .. } => is_constant(operand),
-        Expression::Binary { left, right, .. } | Expression::Logic { left, right, .. } =>
-            is_constant(left) && is_constant(right),
+        Expression::Binary { left, right, .. } => is_constant(left) && is_constant(right),
+        Expression::Logic { left, right, .. } => is_constant(left) && is_constant(right),
         Expression::Choice {
             test,
             chosen,

@@ -11,7 +11,7 @@ use mc_typed::Expression;
 
 /// Whether a controlling expression, or the first operand of `?:`, is the root of a decision.
 pub fn is_root_as_test(tree: &Expression) -> bool
-    ensures { result ≡ roots.is_root role.Test (expression (expression_of tree.now)) }
+    ensures { result ≡ roots.is_root role.Controlling (expression (expression_of tree.now)) }
 {
     !is_constant(tree)
 }

@@ -1,7 +1,7 @@
 //! The places of events in the text.
 ghost use Rattle.std.specs.Prelude.{◌≡◌, ◌++◌, ◌∷◌, [], map, if◌then◌else◌, IfOk};
 ghost use Rattle.mc_typed.specs.Views.{declarator_of, function_of, program_of, statement_of, statements_from};
-ghost use Rattle.mc_probe.specs.Obligations.{counted, counted_all, entries_of, exits, exits_of, labels, labels_all, labels_of, returns, returns_all, statements_of};
+ghost use Rattle.mc_probe.specs.Obligations.{counted_spans, counted_spans_all, entry_spans, exits, exit_spans, labels, labels_all, label_spans, returns, returns_all, statement_spans};
 
 use crate::completes::{all_complete, has_default, initializes};
 use mc_typed::{Function, Program, Span, Statement};
@@ -19,11 +19,11 @@ pub(crate) struct Places {
 
 /// The places of a program.
 pub(crate) fn list_places(alloc: Global, program: &Program<'_>) -> Result<Places, AllocError>
-    ensures entries { IfOk result (λ p. p.entries.items ≡ entries_of (program_of program.now)) }
-    ensures exits { IfOk result (λ p. p.exits.items ≡ exits_of (program_of program.now)) }
+    ensures entries { IfOk result (λ p. p.entries.items ≡ entry_spans (program_of program.now)) }
+    ensures exits { IfOk result (λ p. p.exits.items ≡ exit_spans (program_of program.now)) }
     ensures statements { IfOk result (λ p.
-        p.statements.items ≡ statements_of (program_of program.now)) }
-    ensures labels { IfOk result (λ p. p.labels.items ≡ labels_of (program_of program.now)) }
+        p.statements.items ≡ statement_spans (program_of program.now)) }
+    ensures labels { IfOk result (λ p. p.labels.items ≡ label_spans (program_of program.now)) }
 {
     let mut places = Places {
         entries: Vec::new(alloc),
@@ -71,7 +71,7 @@ fn add_function(places: &mut Places, tree: &Function<'_>) -> Result<(), AllocErr
     ensures exits { IfOk result (λ _. places.new.exits.items
         ≡ places.old.exits.items ++ exits (function_of tree.now)) }
     ensures statements { IfOk result (λ _. places.new.statements.items
-        ≡ places.old.statements.items ++ counted_all (function_of tree.now).body) }
+        ≡ places.old.statements.items ++ counted_spans_all (function_of tree.now).body) }
     ensures labels { IfOk result (λ _. places.new.labels.items
         ≡ places.old.labels.items ++ labels_all (function_of tree.now).body) }
 {
@@ -124,7 +124,7 @@ fn add_exits(list: &mut Vec<Span>, trees: &[Statement]) -> Result<(), AllocError
 #[cycle(counted)]
 fn add_counted(list: &mut Vec<Span>, tree: &Statement) -> Result<(), AllocError>
     ensures { IfOk result (λ _. list.new.items
-        ≡ list.old.items ++ counted (statement_of tree.now)) }
+        ≡ list.old.items ++ counted_spans (statement_of tree.now)) }
 {
     match tree {
         Statement::Compound { items, .. } => add_all_counted(list, items),
@@ -172,7 +172,7 @@ fn add_counted(list: &mut Vec<Span>, tree: &Statement) -> Result<(), AllocError>
 #[cycle(counted)]
 fn add_all_counted(list: &mut Vec<Span>, trees: &[Statement]) -> Result<(), AllocError>
     ensures { IfOk result (λ _. list.new.items
-        ≡ list.old.items ++ counted_all (statements_from (map statement_of trees.now))) }
+        ≡ list.old.items ++ counted_spans_all (statements_from (map statement_of trees.now))) }
 {
     for tree in trees {
         add_counted(list, tree)?;

@@ -4,8 +4,8 @@ use Rattle.std.proofs.lemmas.List.{map-append}
 use Rattle.mc_cond.specs.Tree.{Tree}
 use Rattle.mc_typed.specs.Tree.{Function}
 use Rattle.mc_roots.specs.declared.role.Role.{Role}
-use Rattle.mc_roots.specs.declared.role.Role.TheVariants.{Test, Inner, Plain}
-use Rattle.mc_roots.specs.Nodes.{Node, Constant, Not, Logic, Expression, Whole, Parts, no_parts, part, test, function, functions, statements}
+use Rattle.mc_roots.specs.declared.role.Role.TheVariants.{Controlling, Inner, Plain}
+use Rattle.mc_roots.specs.Nodes.{Node, Constant, Not, Logic, Expression, Whole, Parts, no_parts, part, controlling, function, functions, statements}
 use Rattle.mc_roots.specs.Nodes as n
 use Rattle.mc_roots.specs.Roots.{Found, is_constant, are_constant, is_candidate, operand_role}
 use Rattle.mc_roots.specs.Conditions.{tree_from}
@@ -54,8 +54,8 @@ mutual
   none_in no_parts h = refl
   none_in (part a ps) h =
       nothing _ _ (none Plain a (and_left (is_constant a) (are_constant ps) h)) (none_in ps (and_right (is_constant a) (are_constant ps) h))
-  none_in (test a ps) h =
-      nothing _ _ (none Test a (and_left (is_constant a) (are_constant ps) h)) (none_in ps (and_right (is_constant a) (are_constant ps) h))
+  none_in (controlling a ps) h =
+      nothing _ _ (none Controlling a (and_left (is_constant a) (are_constant ps) h)) (none_in ps (and_right (is_constant a) (are_constant ps) h))
 
 -- ---- elsewhere the lists are the same
 
@@ -110,10 +110,10 @@ mutual
       of_append (map (under i) (whole Plain a (in_node a))) (in_parts (suc i) ps)
       ∙ (ap (λ (xs : List Tree). xs ++ of (in_parts (suc i) ps)) (of_under i (whole Plain a (in_node a)) ∙ linked Plain a)
       ∙ ap (λ (xs : List Tree). trees Plain a ++ xs) (linked_in (suc i) ps))
-  linked_in i (test a ps) =
-      of_append (map (under i) (whole Test a (in_node a))) (in_parts (suc i) ps)
-      ∙ (ap (λ (xs : List Tree). xs ++ of (in_parts (suc i) ps)) (of_under i (whole Test a (in_node a)) ∙ linked Test a)
-      ∙ ap (λ (xs : List Tree). trees Test a ++ xs) (linked_in (suc i) ps))
+  linked_in i (controlling a ps) =
+      of_append (map (under i) (whole Controlling a (in_node a))) (in_parts (suc i) ps)
+      ∙ (ap (λ (xs : List Tree). xs ++ of (in_parts (suc i) ps)) (of_under i (whole Controlling a (in_node a)) ∙ linked Controlling a)
+      ∙ ap (λ (xs : List Tree). trees Controlling a ++ xs) (linked_in (suc i) ps))
 
 -- ---- the decisions of functions
 

@@ -3,8 +3,8 @@ use Rattle.std.proofs.Common.{◌≡◌, ◌∙◌, refl, subst, ℕ, ◌+◌, B
 use Rattle.std.specs.Prelude.{slice_get}
 use Rattle.mc_cond.specs.Tree.{Tree}
 use Rattle.mc_roots.specs.declared.role.Role.{Role}
-use Rattle.mc_roots.specs.declared.role.Role.TheVariants.{Test, Plain}
-use Rattle.mc_roots.specs.Nodes.{Node, Constant, Not, Logic, Expression, Whole, Parts, no_parts, part, test}
+use Rattle.mc_roots.specs.declared.role.Role.TheVariants.{Controlling, Plain}
+use Rattle.mc_roots.specs.Nodes.{Node, Constant, Not, Logic, Expression, Whole, Parts, no_parts, part, controlling}
 use Rattle.mc_roots.specs.Roots.{is_root, operand_role}
 use Rattle.mc_roots.specs.Conditions.{tree_from}
 use Rattle.mc_roots.specs.Counts.{one_where, roots, roots_in}
@@ -29,7 +29,7 @@ abbrev mutual
   pub trees_in : Parts → List Tree
   trees_in no_parts = []
   trees_in (part a ps) = trees Plain a ++ trees_in ps
-  trees_in (test a ps) = trees Test a ++ trees_in ps
+  trees_in (controlling a ps) = trees Controlling a ++ trees_in ps
 
 pub own_length : (b : Bool) (a : Node) → length (own b a) ≡ one_where b
 own_length true a = refl
@@ -63,9 +63,9 @@ mutual
   trees_in_length (part a ps) =
       let one = trees_length Plain a in let rest = trees_in_length ps in
       length-append (trees Plain a) (trees_in ps) ∙ omega (arith, one, rest)
-  trees_in_length (test a ps) =
-      let one = trees_length Test a in let rest = trees_in_length ps in
-      length-append (trees Test a) (trees_in ps) ∙ omega (arith, one, rest)
+  trees_in_length (controlling a ps) =
+      let one = trees_length Controlling a in let rest = trees_in_length ps in
+      length-append (trees Controlling a) (trees_in ps) ∙ omega (arith, one, rest)
 
 -- ---- a part of a list
 

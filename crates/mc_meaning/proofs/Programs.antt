@@ -28,7 +28,7 @@ use Rattle.mc_meaning.specs.Within.{Does, Within}
 use Rattle.mc_meaning.specs.Statements.{run_from}
 use Rattle.mc_meaning.specs.Positions.{points_at_end}
 use Rattle.mc_meaning.specs.Calls.{Open, with_one, enter, call_in}
-use Rattle.mc_meaning.specs.Tests.{none_open, call_made, start, plain_run}
+use Rattle.mc_meaning.specs.Tests.{none_open, call_made, first_state, plain_run}
 use Rattle.mc_meaning.specs.Laws.{IsOfDecision, EvaluationsAreOfDecisions}
 use Rattle.mc_meaning.proofs.Numbered.{trees, trees_in, StandsAt, stands_left}
 use Rattle.mc_meaning.proofs.Decided.{decided_trees}
@@ -159,4 +159,4 @@ evaluations_are_of_decisions p plan ds a =
     (one_list p.functions (decided 0 p.functions) ds (are_decisions p.functions) a)
     (all_of (decided 0 p.functions) (plain_run p plan).events
     (subst (λ (ts : List Tree). l.Each (IsFine ts) (plain_run p plan).events) (sym (decided_trees 0 p.functions))
-    (calls_are_fine p plan.calls (start p plan))))
+    (calls_are_fine p plan.calls (first_state p plan))))

@@ -5,7 +5,7 @@ use Rattle.mc_typed.specs.Tree.{Expression, Effect, Initializer, Initializers, D
 use Rattle.mc_typed.specs.Tree as t
 use Rattle.mc_typed.specs.Sound.{labels_of}
 use Rattle.mc_roots.specs.declared.role.Role.{Role}
-use Rattle.mc_roots.specs.declared.role.Role.TheVariants.{Test, Plain}
+use Rattle.mc_roots.specs.declared.role.Role.TheVariants.{Controlling, Plain}
 use Rattle.mc_roots.specs.Nodes.{Node}
 use Rattle.mc_roots.specs.Nodes as n
 use Rattle.mc_steps.specs.Runs.{gives, lists, after}
@@ -18,7 +18,7 @@ use Rattle.mc_steps.specs.Events.{Exited, Started}
 use Rattle.mc_meaning.specs.Within.{Does, Within, local}
 use Rattle.mc_meaning.specs.Positions.{past, past_statement, into_statement, past_start, past_test, past_step, in_switch}
 use Rattle.mc_meaning.specs.Decisions.{value, choose}
-use Rattle.mc_meaning.specs.Expressions.{place_of, value_of, structure_of, call_of}
+use Rattle.mc_meaning.specs.Expressions.{evaluate_place, evaluate, evaluate_structure, evaluate_call}
 use Rattle.mc_meaning.specs.Statements.{effect, effects, initialize, initialize_from, initialize_where, declare, counted, where_initializes, start, loop_test, returned, leave, run, run_from}
 use Rattle.mc_meaning.proofs.Numbered.{trees, trees_in, StandsAt, stands_left}
 use Rattle.mc_meaning.proofs.Evaluations.{IsFine, Fine, CallsAreFine, past_node, value_only, place_is_fine, value_is_fine, structure_is_fine, call_is_fine}
@@ -28,8 +28,8 @@ module _ (all : List Tree) where
   first : (k : ℕ) (role : Role) (a : Node) (rest : List Tree) → StandsAt all k (trees role a ++ rest) → StandsAt all k (trees role a)
   first k role a rest h = stands_left all k (trees role a) rest h
 
-  number : (e : Expression) (role : Role) (w : Within) → CallsAreFine all w → StandsAt all w.decisions (trees role (n.expression e)) → Fine all (value (value_of e role w))
-  number e role w c h = value_only all (value_of e role w) (value_is_fine all e role w c h)
+  number : (e : Expression) (role : Role) (w : Within) → CallsAreFine all w → StandsAt all w.decisions (trees role (n.expression e)) → Fine all (value (evaluate e role w))
+  number e role w c h = value_only all (evaluate e role w) (value_is_fine all e role w c h)
 
   -- ---- effects
 
@@ -37,41 +37,41 @@ module _ (all : List Tree) where
   effect_is_fine (t.Assign place a e span) w c h =
       let v : Within = past Plain (n.place place) w in
       let rest : List Tree = trees Plain (n.expression e) ++ [] in
-      l.assign_keeps (IsFine all) on_places (place_of place w) (value (value_of e Plain v))
+      l.assign_keeps (IsFine all) on_places (evaluate_place place w) (value (evaluate e Plain v))
       (place_is_fine all place w c (first w.decisions Plain (n.place place) rest h))
       (number e Plain v c (first v.decisions Plain (n.expression e) [] (past_node all w.decisions Plain (n.place place) rest h)))
   effect_is_fine (t.Update place a operator common e span) w c h =
       let v : Within = past Plain (n.place place) w in
       let rest : List Tree = trees Plain (n.expression e) ++ [] in
-      l.update_keeps (IsFine all) on_places a operator common (place_of place w) (value (value_of e Plain v))
+      l.update_keeps (IsFine all) on_places a operator common (evaluate_place place w) (value (evaluate e Plain v))
       (place_is_fine all place w c (first w.decisions Plain (n.place place) rest h))
       (number e Plain v c (first v.decisions Plain (n.expression e) [] (past_node all w.decisions Plain (n.place place) rest h)))
   effect_is_fine (t.Copy place structure k span) w c h =
       let v : Within = past Plain (n.place place) w in
       let rest : List Tree = trees Plain (n.structure structure) ++ [] in
-      l.copy_keeps (IsFine all) on_places k (place_of place w) (structure_of structure v)
+      l.copy_keeps (IsFine all) on_places k (evaluate_place place w) (evaluate_structure structure v)
       (place_is_fine all place w c (first w.decisions Plain (n.place place) rest h))
       (structure_is_fine all structure v c (first v.decisions Plain (n.structure structure) [] (past_node all w.decisions Plain (n.place place) rest h)))
   effect_is_fine (t.NumberEffect (t.Call k a) true) w c h =
-      l.drop_keeps (IsFine all) (call_of k w) (call_is_fine all k w c h)
+      l.drop_keeps (IsFine all) (evaluate_call k w) (call_is_fine all k w c h)
   effect_is_fine (t.NumberEffect e whole) w c h =
-      l.drop_keeps (IsFine all) (value_of e Plain w) (value_is_fine all e Plain w c h)
+      l.drop_keeps (IsFine all) (evaluate e Plain w) (value_is_fine all e Plain w c h)
   effect_is_fine (t.StructureEffect (t.Returned k) true) w c h =
-      l.drop_keeps (IsFine all) (call_of k w) (call_is_fine all k w c h)
+      l.drop_keeps (IsFine all) (evaluate_call k w) (call_is_fine all k w c h)
   effect_is_fine (t.StructureEffect structure whole) w c h =
-      l.drop_keeps (IsFine all) (structure_of structure w) (structure_is_fine all structure w c h)
+      l.drop_keeps (IsFine all) (evaluate_structure structure w) (structure_is_fine all structure w c h)
   effect_is_fine (t.CallEffect k) w c h =
-      l.drop_keeps (IsFine all) (call_of k w) (call_is_fine all k w c h)
+      l.drop_keeps (IsFine all) (evaluate_call k w) (call_is_fine all k w c h)
   effect_is_fine (t.Output e span) w c h =
-      l.output_keeps (IsFine all) (value (value_of e Plain w)) (number e Plain w c (first w.decisions Plain (n.expression e) [] h))
+      l.output_keeps (IsFine all) (value (evaluate e Plain w)) (number e Plain w c (first w.decisions Plain (n.expression e) [] h))
   effect_is_fine (t.ChoiceEffect e a b span) w c h =
-      let v : Within = past Test (n.expression e) w in
+      let v : Within = past Controlling (n.expression e) w in
       let u : Within = past Plain (n.effect a) v in
       let last : List Tree = trees Plain (n.effect b) ++ [] in
       let rest : List Tree = trees Plain (n.effect a) ++ last in
-      let later = past_node all w.decisions Test (n.expression e) rest h in
-      l.choice_keeps (IsFine all) (value (value_of e Test w)) (effect a v) (effect b u)
-      (number e Test w c (first w.decisions Test (n.expression e) rest h))
+      let later = past_node all w.decisions Controlling (n.expression e) rest h in
+      l.choice_keeps (IsFine all) (value (evaluate e Controlling w)) (effect a v) (effect b u)
+      (number e Controlling w c (first w.decisions Controlling (n.expression e) rest h))
       (effect_is_fine a v c (first v.decisions Plain (n.effect a) last later))
       (effect_is_fine b u c (first u.decisions Plain (n.effect b) [] (past_node all v.decisions Plain (n.effect a) last later)))
   effect_is_fine (t.Discard a span) w c h = effect_is_fine a w c (first w.decisions Plain (n.effect a) [] h)
@@ -89,9 +89,9 @@ module _ (all : List Tree) where
   mutual
     initialize_is_fine : (i : Initializer) (p : Path) (w : Within) → CallsAreFine all w → StandsAt all w.decisions (trees Plain (n.initializer i)) → Fine all (initialize i p w)
     initialize_is_fine (t.NumberInitializer e) p w c h =
-        l.store_keeps (IsFine all) on_places p (value (value_of e Plain w)) (number e Plain w c h)
+        l.store_keeps (IsFine all) on_places p (value (evaluate e Plain w)) (number e Plain w c h)
     initialize_is_fine (t.StructureInitializer structure k) p w c h =
-        l.store_structure_keeps (IsFine all) on_places p k (structure_of structure w) (structure_is_fine all structure w c h)
+        l.store_structure_keeps (IsFine all) on_places p k (evaluate_structure structure w) (structure_is_fine all structure w c h)
     initialize_is_fine (t.ListInitializer items k) p w c h = λ s. items_are_fine items p 0 w c h s
     initialize_is_fine (t.ZeroInitializer e k) p w c h = λ s. tt
 
@@ -140,14 +140,14 @@ module _ (all : List Tree) where
   test_is_fine : (o : Option Expression) (w : Within) → CallsAreFine all w → StandsAt all w.decisions (trees Plain (n.optional_test o)) → Fine all (loop_test o w)
   test_is_fine None w c h = λ s. tt
   test_is_fine (Some e) w c h =
-      l.as_keeps (IsFine all) is_true (value (value_of e Test w)) (number e Test w c (first w.decisions Test (n.expression e) [] h))
+      l.as_keeps (IsFine all) is_true (value (evaluate e Controlling w)) (number e Controlling w c (first w.decisions Controlling (n.expression e) [] h))
 
   returned_is_fine : (r : ReturnValue) (w : Within) → CallsAreFine all w → StandsAt all w.decisions (trees Plain (n.return_value r)) → Fine all (returned r w)
   returned_is_fine t.ReturnNothing w c h = λ s. tt
   returned_is_fine (t.ReturnNumber e) w c h = λ s.
-      l.after_keeps (IsFine all) (value (value_of e Plain w) s) (λ v s. gives (Number v) s) (number e Plain w c h s) (λ v s. tt)
+      l.after_keeps (IsFine all) (value (evaluate e Plain w) s) (λ v s. gives (Number v) s) (number e Plain w c h s) (λ v s. tt)
   returned_is_fine (t.ReturnStructure structure k) w c h = λ s.
-      l.after_keeps (IsFine all) (structure_of structure w s) (λ p s. gives (Structure p k) s) (structure_is_fine all structure w c h s) (λ v s. tt)
+      l.after_keeps (IsFine all) (evaluate_structure structure w s) (λ p s. gives (Structure p k) s) (structure_is_fine all structure w c h s) (λ v s. tt)
 
   leave_is_fine : (r : ReturnValue) (w : Within) → CallsAreFine all w → StandsAt all w.decisions (trees Plain (n.return_value r)) → Fine all (leave r w)
   leave_is_fine r w c h s =
@@ -169,25 +169,25 @@ module _ (all : List Tree) where
         (effect_is_fine whole (into_statement w) c (first w.decisions Plain (n.effect whole) [] h)))
     run_is_fine (t.If e a keyword span) w c h =
         let x : Within = into_statement w in
-        let v : Within = past Test (n.expression e) x in
+        let v : Within = past Controlling (n.expression e) x in
         let rest : List Tree = trees Plain (n.statement a) ++ [] in
         counted_is_fine w
-        (λ w. choice_does (value (value_of e Test w)) (run a (past Test (n.expression e) w)) (gives Completed))
-        (l.choice_keeps (IsFine all) (value (value_of e Test x)) (run a v) (gives Completed)
-        (number e Test x c (first w.decisions Test (n.expression e) rest h))
-        (run_is_fine a v c (first v.decisions Plain (n.statement a) [] (past_node all w.decisions Test (n.expression e) rest h)))
+        (λ w. choice_does (value (evaluate e Controlling w)) (run a (past Controlling (n.expression e) w)) (gives Completed))
+        (l.choice_keeps (IsFine all) (value (evaluate e Controlling x)) (run a v) (gives Completed)
+        (number e Controlling x c (first w.decisions Controlling (n.expression e) rest h))
+        (run_is_fine a v c (first v.decisions Plain (n.statement a) [] (past_node all w.decisions Controlling (n.expression e) rest h)))
         (λ s. tt))
     run_is_fine (t.IfElse e a b keyword span) w c h =
         let x : Within = into_statement w in
-        let v : Within = past Test (n.expression e) x in
+        let v : Within = past Controlling (n.expression e) x in
         let u : Within = past_statement a v in
         let last : List Tree = trees Plain (n.statement b) ++ [] in
         let rest : List Tree = trees Plain (n.statement a) ++ last in
-        let later = past_node all w.decisions Test (n.expression e) rest h in
+        let later = past_node all w.decisions Controlling (n.expression e) rest h in
         counted_is_fine w
-        (λ w. choice_does (value (value_of e Test w)) (run a (past Test (n.expression e) w)) (run b (past_statement a (past Test (n.expression e) w))))
-        (l.choice_keeps (IsFine all) (value (value_of e Test x)) (run a v) (run b u)
-        (number e Test x c (first w.decisions Test (n.expression e) rest h))
+        (λ w. choice_does (value (evaluate e Controlling w)) (run a (past Controlling (n.expression e) w)) (run b (past_statement a (past Controlling (n.expression e) w))))
+        (l.choice_keeps (IsFine all) (value (evaluate e Controlling x)) (run a v) (run b u)
+        (number e Controlling x c (first w.decisions Controlling (n.expression e) rest h))
         (run_is_fine a v c (first v.decisions Plain (n.statement a) last later))
         (run_is_fine b u c (first u.decisions Plain (n.statement b) [] (past_node all v.decisions Plain (n.statement a) last later))))
     run_is_fine (t.Switch e items keyword span) w c h =
@@ -196,8 +196,8 @@ module _ (all : List Tree) where
         let rest : List Tree = trees_in (n.statements items) ++ [] in
         let later = past_node all w.decisions Plain (n.expression e) rest h in
         counted_is_fine w
-        (λ w. switch_does (value (value_of e Plain w)) (labels_of items) (λ seek. run_from items seek (in_switch items (past Plain (n.expression e) w))) (choose w.points.labels))
-        (l.switch_keeps (IsFine all) (value (value_of e Plain x)) (labels_of items) (λ seek. run_from items seek v) (choose x.points.labels)
+        (λ w. switch_does (value (evaluate e Plain w)) (labels_of items) (λ seek. run_from items seek (in_switch items (past Plain (n.expression e) w))) (choose w.points.labels))
+        (l.switch_keeps (IsFine all) (value (evaluate e Plain x)) (labels_of items) (λ seek. run_from items seek v) (choose x.points.labels)
         (number e Plain x c (first w.decisions Plain (n.expression e) rest h))
         (λ seek. run_from_is_fine items seek v c (stands_left all v.decisions (trees_in (n.statements items)) [] later))
         (choose_is_fine x.points.labels))
@@ -223,13 +223,13 @@ module _ (all : List Tree) where
     run_is_fine (t.DoWhile a e keyword span) w c h =
         let x : Within = into_statement w in
         let v : Within = past_statement a x in
-        let rest : List Tree = trees Test (n.expression e) ++ [] in
+        let rest : List Tree = trees Controlling (n.expression e) ++ [] in
         counted_is_fine w
-        (λ w. do_does (run a w) (as_does is_true (value (value_of e Test (past_statement a w)))))
-        (l.do_keeps (IsFine all) (run a x) (as_does is_true (value (value_of e Test v)))
+        (λ w. do_does (run a w) (as_does is_true (value (evaluate e Controlling (past_statement a w)))))
+        (l.do_keeps (IsFine all) (run a x) (as_does is_true (value (evaluate e Controlling v)))
         (run_is_fine a x c (first w.decisions Plain (n.statement a) rest h))
-        (l.as_keeps (IsFine all) is_true (value (value_of e Test v))
-        (number e Test v c (first v.decisions Test (n.expression e) [] (past_node all w.decisions Plain (n.statement a) rest h)))))
+        (l.as_keeps (IsFine all) is_true (value (evaluate e Controlling v))
+        (number e Controlling v c (first v.decisions Controlling (n.expression e) [] (past_node all w.decisions Plain (n.statement a) rest h)))))
     run_is_fine (t.Break span) w c h = counted_is_fine w (λ w. gives Broke) (λ s. tt)
     run_is_fine (t.Continue span) w c h = counted_is_fine w (λ w. gives Continued) (λ s. tt)
     run_is_fine (t.Return r span) w c h =

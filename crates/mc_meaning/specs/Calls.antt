@@ -45,8 +45,8 @@ enter activation g passed m =
 -- A call of function f of the program. Each activation has a level at least, so no more than 512
 -- are open.
 abbrev pub call_in : Program → ℕ → Open → ℕ → Option Path → List (Passed Path) → Does (Given Path)
-call_in p zero around f into passed s = spends (stops Levels) s
-call_in p (suc depth) around f into passed s =
+call_in p zero around f into passed = spends (stops Levels)
+call_in p (suc depth) around f into passed =
     with_some NoReturn (slice_get p.functions f) (λ g.
     let inside = with_one g around in
     let before = points_before p.functions f in
@@ -55,9 +55,9 @@ call_in p (suc depth) around f into passed s =
     (run_from g.body Running (record {
       activation = inside.count;
       arrays = lent_of passed;
-      call = λ f into passed s. call_in p depth inside f into passed s;
+      call = call_in p depth inside;
       points = before;
       decisions = roots_before p.functions f;
     }))
     (lists (Exited (points_at_end g before).exits ∷ []))
-    (leaves on_places into (λ m. m)))) s
+    (leaves on_places into (λ m. m))))

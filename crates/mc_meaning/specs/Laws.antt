@@ -14,7 +14,7 @@ use Rattle.mc_meaning.specs.Stores.{Store}
 use Rattle.mc_steps.specs.Events.{Event, Evaluated}
 use Rattle.mc_meaning.specs.Within.{Within}
 use Rattle.mc_meaning.specs.Decisions.{Judged, vector_of}
-use Rattle.mc_meaning.specs.Expressions.{value_of}
+use Rattle.mc_meaning.specs.Expressions.{evaluate}
 use Rattle.mc_meaning.specs.Tests.{plain_run}
 
 -- What an expression gives of its conditions is a vector of the tree that it is, from its top down,
@@ -22,7 +22,7 @@ use Rattle.mc_meaning.specs.Tests.{plain_run}
 abbrev pub AnswersAreVectors : Type 0
 AnswersAreVectors =
     (e : Expression) (role : Role) (w : Within) (s t : State Store) (j : Judged) (first : ℕ)
-    → (value_of e role w s).out ≡ Gave j t
+    → (evaluate e role w s).out ≡ Gave j t
     → IsVector (tree_from first (nodes.expression e)) (vector_of j)
 
 -- An evaluation is of the decision with its number, and its vector is one of that decision's tree.

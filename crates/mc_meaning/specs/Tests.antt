@@ -9,7 +9,7 @@ use Rattle.mc_typed.specs.Tree.{Program}
 use Rattle.mc_typed.specs.Frames.{static_cells}
 use Rattle.mc_typed.specs.Plans.{Call, Plan}
 use Rattle.mc_typed.specs.Sound.{result_at}
-use Rattle.mc_steps.specs.Runs.{State, after}
+use Rattle.mc_steps.specs.Runs.{State, ◌>>=◌}
 use Rattle.mc_steps.specs.Events.{Event}
 use Rattle.mc_steps.specs.Calls.{PassedNumber}
 use Rattle.mc_steps.specs.Tests.{CallDone, TestRun, calls_do, value_given}
@@ -23,17 +23,17 @@ abbrev pub none_open : Program → Open
 none_open p = record { count = 0; levels = 0; cells = static_cells p }
 
 abbrev pub call_made : Program → Call → Does (Option ℤ)
-call_made p c s =
-    after (call_in p 512 (none_open p) c.function None (map PassedNumber c.arguments) s)
-    (value_given (result_at (slice_get p.functions c.function)))
+call_made p c = do
+  v ← call_in p 512 (none_open p) c.function None (map PassedNumber c.arguments)
+  value_given (result_at (slice_get p.functions c.function)) v
 
-abbrev pub start : Program → Plan → State Store
-start p plan =
+abbrev pub first_state : Program → Plan → State Store
+first_state p plan =
     record { memory = initial p; fuel = plan.fuel; inputs = plan.inputs; output = [] }
 
 -- The calls of a test are made in order on one store, up to the first that does not return.
 abbrev pub plain_run : Program → Plan → TestRun Store Event
-plain_run p plan = calls_do (map (λ c. call_made p c) plan.calls) (start p plan)
+plain_run p plan = calls_do (map (λ c. call_made p c) plan.calls) (first_state p plan)
 
 -- ---- the state
 

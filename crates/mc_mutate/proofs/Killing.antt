@@ -26,9 +26,10 @@ use Rattle.mc_crew.specs.Recorder.{RecorderView, Leads, claimed}
 use Rattle.mc_crew.proofs.Crew.{claims_are_worked}
 use Rattle.mc_crew.proofs.Stamps.{only}
 use Rattle.mc_mutate.specs.declared.kills.original.Original.{Original}
-use Rattle.mc_mutate.specs.Kills.{Shown, Kills, does_of, shown, shown_from}
+use Rattle.mc_mutate.specs.Kills.{Shown, KillsAtItem, does_of, shown, shown_from}
 use Rattle.mc_mutate.specs.Mutants.{IsMutant, count}
-use Rattle.mc_mutate.specs.Runs.{AreKept, CanWork, HasDrawn, HasMutant, kept_of, plans_in, program_in, worker_does}
+use Rattle.mc_mutate.specs.Runs.{AreKept, CanWork, HasDrawn, kept_of, plans_in, program_in, worker_does}
+use Rattle.mc_mutate.specs.steps.Bared.{HasMutant}
 use Rattle.mc_mutate.specs.declared.kills.runs.Task.{Task}
 use Rattle.mc_mutate.proofs.Fitted.{fits_mutant}
 use Rattle.mc_mutate.proofs.Mutated.{mutants_sound}
@@ -106,11 +107,11 @@ one_mutant p n q r a b = let e : Some q ≡ Some r = sym a.1 ∙ b.1 in cc
 
 module _ (p : Program) (plans : List Plan) (item : ℕ) (q : Program) (is : IsMutant p (item / length plans + 1) q) (plan : Plan) (planned : slice_get plans (item % length plans) ≡ Some plan) where
   -- the mutant's run shows something else
-  kills : ¬ (shown q plan ≡ shown p plan) → Kills p plans item
+  kills : ¬ (shown q plan ≡ shown p plan) → KillsAtItem p plans item
   kills other = record { mutant = q; is_mutant = is; plan = plan; planned = planned; killed = other }
 
   -- it shows the same
-  survives : shown q plan ≡ shown p plan → ¬ Kills p plans item
+  survives : shown q plan ≡ shown p plan → ¬ KillsAtItem p plans item
   survives same k =
       let mutant : k.mutant ≡ q = one_mutant p (item / length plans + 1) k.mutant q k.is_mutant is in
       let both : Some k.plan ≡ Some plan = sym k.planned ∙ planned in

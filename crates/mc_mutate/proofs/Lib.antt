@@ -11,6 +11,7 @@ pub mod Mutated
 pub mod Small
 pub mod Rooted
 pub mod Replaced
+pub mod Operands
 pub mod Copied
 pub mod Lists
 pub mod Roots
@@ -20,3 +21,4 @@ pub mod Joined
 pub mod Worked
 pub mod Shared
 pub mod Sent
+pub mod Bared

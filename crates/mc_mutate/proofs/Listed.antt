@@ -1,13 +1,14 @@
 -- The search in each part of a program passes the mutants of the part.
-use Rattle.std.proofs.Common.{◌≡◌, refl, List, [], ◌∷◌, Option, Some, None}
+use Rattle.std.proofs.Common.{◌≡◌, ◌∙◌, refl, List, [], ◌∷◌, Option, Some, None}
 use Rattle.mc_typed.specs.Tree as t
-use Rattle.mc_roots.specs.declared.role.Role.TheVariants.{Test, Inner, Plain}
+use Rattle.mc_roots.specs.declared.role.Role.{Role}
+use Rattle.mc_roots.specs.declared.role.Role.TheVariants.{Controlling, Inner, Plain}
 use Rattle.mc_roots.specs.Nodes as n
 use Rattle.mc_mutate.specs.declared.search.sought.Sought.{Sought}
 use Rattle.mc_mutate.specs.Mutants as m
 use Rattle.mc_mutate.specs.steps.Search.{past, inside, inside_parts, searched}
 use Rattle.mc_mutate.proofs.Past.{one, two, three, four}
-use Rattle.mc_mutate.proofs.Decided.{whole}
+use Rattle.mc_mutate.proofs.Decided.{both_inside, whole}
 
 mutual
   pub place_found : (x : t.Place) (s : Sought) → past (m.in_place x) s ≡ searched Plain (n.place x) s
@@ -38,14 +39,16 @@ mutual
       one (m.in_expression Inner e) (λ (x : t.Expression). t.Not x span) s
       (whole Inner e s (inside_found e))
   inside_found (t.Binary operator a e f span) s =
-      two (m.in_expression Plain e) (m.in_expression Plain f) (λ (x : t.Expression). t.Binary operator a x f span) (λ (x : t.Expression). t.Binary operator a e x span) s
-      (whole Plain e s (inside_found e)) (whole Plain f (searched Plain (n.expression e) s) (inside_found f))
+      let r : Role = m.under (n.full_operator operator e f) in
+      two (m.in_expression r e) (m.in_expression r f) (λ (x : t.Expression). t.Binary operator a x f span) (λ (x : t.Expression). t.Binary operator a e x span) s
+      (whole r e s (inside_found e)) (whole r f (searched r (n.expression e) s) (inside_found f))
+      ∙ both_inside (n.full_operator operator e f) operator (n.expression e) (n.expression f) span s
   inside_found (t.Logic operator e f span) s =
       two (m.in_expression Inner e) (m.in_expression Inner f) (λ (x : t.Expression). t.Logic operator x f span) (λ (x : t.Expression). t.Logic operator e x span) s
       (whole Inner e s (inside_found e)) (whole Inner f (searched Inner (n.expression e) s) (inside_found f))
   inside_found (t.Choice e f g a span) s =
-      three (m.in_expression Test e) (m.in_expression Plain f) (m.in_expression Plain g) (λ (x : t.Expression). t.Choice x f g a span) (λ (x : t.Expression). t.Choice e x g a span) (λ (x : t.Expression). t.Choice e f x a span) s
-      (whole Test e s (inside_found e)) (whole Plain f (searched Test (n.expression e) s) (inside_found f)) (whole Plain g (searched Plain (n.expression f) (searched Test (n.expression e) s)) (inside_found g))
+      three (m.in_expression Controlling e) (m.in_expression Plain f) (m.in_expression Plain g) (λ (x : t.Expression). t.Choice x f g a span) (λ (x : t.Expression). t.Choice e x g a span) (λ (x : t.Expression). t.Choice e f x a span) s
+      (whole Controlling e s (inside_found e)) (whole Plain f (searched Controlling (n.expression e) s) (inside_found f)) (whole Plain g (searched Plain (n.expression f) (searched Controlling (n.expression e) s)) (inside_found g))
   inside_found (t.Call k a) s =
       one (m.in_call k) (λ (x : t.FunctionCall). t.Call x a) s
       (call_found k s)
@@ -105,8 +108,8 @@ effect_found (t.Output e span) s =
     one (m.in_expression Plain e) (λ (x : t.Expression). t.Output x span) s
     (whole Plain e s (inside_found e))
 effect_found (t.ChoiceEffect e a b span) s =
-    three (m.in_expression Test e) (m.in_effect a) (m.in_effect b) (λ (x : t.Expression). t.ChoiceEffect x a b span) (λ (x : t.Effect). t.ChoiceEffect e x b span) (λ (x : t.Effect). t.ChoiceEffect e a x span) s
-    (whole Test e s (inside_found e)) (effect_found a (searched Test (n.expression e) s)) (effect_found b (searched Plain (n.effect a) (searched Test (n.expression e) s)))
+    three (m.in_expression Controlling e) (m.in_effect a) (m.in_effect b) (λ (x : t.Expression). t.ChoiceEffect x a b span) (λ (x : t.Effect). t.ChoiceEffect e x b span) (λ (x : t.Effect). t.ChoiceEffect e a x span) s
+    (whole Controlling e s (inside_found e)) (effect_found a (searched Controlling (n.expression e) s)) (effect_found b (searched Plain (n.effect a) (searched Controlling (n.expression e) s)))
 effect_found (t.Discard a span) s =
     one (m.in_effect a) (λ (x : t.Effect). t.Discard x span) s
     (effect_found a s)
@@ -161,8 +164,8 @@ start_found (t.StartDeclaration declared) s =
 pub optional_found : (x : Option t.Expression) (s : Sought) → past (m.in_optional x) s ≡ searched Plain (n.optional_test x) s
 optional_found None s = refl
 optional_found (Some e) s =
-    one (m.in_expression Test e) (λ (x : t.Expression). Some x) s
-    (whole Test e s (inside_found e))
+    one (m.in_expression Controlling e) (λ (x : t.Expression). Some x) s
+    (whole Controlling e s (inside_found e))
 
 pub return_found : (x : t.ReturnValue) (s : Sought) → past (m.in_return x) s ≡ searched Plain (n.return_value x) s
 return_found t.ReturnNothing s = refl
@@ -187,11 +190,11 @@ mutual
       one (m.in_effect effect) (λ (x : t.Effect). t.EffectStatement x span) s
       (effect_found effect s)
   statement_found (t.If e a keyword span) s =
-      two (m.in_expression Test e) (m.in_statement a) (λ (x : t.Expression). t.If x a keyword span) (λ (x : t.Statement). t.If e x keyword span) s
-      (whole Test e s (inside_found e)) (statement_found a (searched Test (n.expression e) s))
+      two (m.in_expression Controlling e) (m.in_statement a) (λ (x : t.Expression). t.If x a keyword span) (λ (x : t.Statement). t.If e x keyword span) s
+      (whole Controlling e s (inside_found e)) (statement_found a (searched Controlling (n.expression e) s))
   statement_found (t.IfElse e a b keyword span) s =
-      three (m.in_expression Test e) (m.in_statement a) (m.in_statement b) (λ (x : t.Expression). t.IfElse x a b keyword span) (λ (x : t.Statement). t.IfElse e x b keyword span) (λ (x : t.Statement). t.IfElse e a x keyword span) s
-      (whole Test e s (inside_found e)) (statement_found a (searched Test (n.expression e) s)) (statement_found b (searched Plain (n.statement a) (searched Test (n.expression e) s)))
+      three (m.in_expression Controlling e) (m.in_statement a) (m.in_statement b) (λ (x : t.Expression). t.IfElse x a b keyword span) (λ (x : t.Statement). t.IfElse e x b keyword span) (λ (x : t.Statement). t.IfElse e a x keyword span) s
+      (whole Controlling e s (inside_found e)) (statement_found a (searched Controlling (n.expression e) s)) (statement_found b (searched Plain (n.statement a) (searched Controlling (n.expression e) s)))
   statement_found (t.Switch e items keyword span) s =
       two (m.in_expression Plain e) (m.in_statements items) (λ (x : t.Expression). t.Switch x items keyword span) (λ (x : t.Statements). t.Switch e x keyword span) s
       (whole Plain e s (inside_found e)) (statements_found items (searched Plain (n.expression e) s))
@@ -199,8 +202,8 @@ mutual
       four (m.in_start first) (m.in_optional e) (m.in_effects step) (m.in_statement a) (λ (x : t.ForStart). t.For x e step a keyword span) (λ (x : Option t.Expression). t.For first x step a keyword span) (λ (x : List t.Effect). t.For first e x a keyword span) (λ (x : t.Statement). t.For first e step x keyword span) s
       (start_found first s) (optional_found e (searched Plain (n.start first) s)) (effects_found step (searched Plain (n.optional_test e) (searched Plain (n.start first) s))) (statement_found a (inside_parts (n.effects step) (searched Plain (n.optional_test e) (searched Plain (n.start first) s))))
   statement_found (t.DoWhile a e keyword span) s =
-      two (m.in_statement a) (m.in_expression Test e) (λ (x : t.Statement). t.DoWhile x e keyword span) (λ (x : t.Expression). t.DoWhile a x keyword span) s
-      (statement_found a s) (whole Test e (searched Plain (n.statement a) s) (inside_found e))
+      two (m.in_statement a) (m.in_expression Controlling e) (λ (x : t.Statement). t.DoWhile x e keyword span) (λ (x : t.Expression). t.DoWhile a x keyword span) s
+      (statement_found a s) (whole Controlling e (searched Plain (n.statement a) s) (inside_found e))
   statement_found (t.Break span) s = refl
   statement_found (t.Continue span) s = refl
   statement_found (t.Return value span) s =

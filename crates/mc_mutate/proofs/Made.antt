@@ -3,9 +3,11 @@ use Rattle.std.proofs.Common.{◌≡◌, ◌∙◌, refl, ap, List, [], ◌∷�
 use Rattle.mc_typed.specs.declared.expressions.Slot.{Slot}
 use Rattle.mc_typed.specs.Tree as t
 use Rattle.mc_typed.specs.Frames.{optional, slots_place, slots, slots_structure, slots_call, slots_argument, slots_arguments, slots_effect, slots_effects, slots_initializer, slots_initializers, slots_value, slots_declarators, slots_start, slots_optional, slots_return, slots_statement, slots_statements}
-use Rattle.mc_roots.specs.declared.role.Role.TheVariants.{Test, Inner, Plain}
+use Rattle.mc_roots.specs.declared.role.Role.{Role}
+use Rattle.mc_roots.specs.declared.role.Role.TheVariants.{Controlling, Inner, Plain}
 use Rattle.mc_roots.specs.Nodes as n
 use Rattle.mc_mutate.specs.declared.search.sought.Sought.{Sought}
+use Rattle.mc_mutate.specs.Mutants.{under}
 use Rattle.mc_mutate.specs.steps.Search.{inside_parts, searched}
 use Rattle.mc_mutate.specs.steps.Changed.{place_changed, inside_changed, structure_changed, call_changed, argument_changed, arguments_changed, effect_changed, effects_changed, initializer_changed, initializers_changed, initial_changed, declarators_changed, start_changed, optional_changed, return_changed, statement_changed, statements_changed}
 use Rattle.mc_mutate.proofs.Holding.{entered_makes}
@@ -36,11 +38,12 @@ mutual
       entered_makes Plain e s (inside_changed e) (inside_made e)
   inside_made (t.Not e span) s = entered_makes Inner e s (inside_changed e) (inside_made e)
   inside_made (t.Binary operator a e f span) s =
-      joined (entered_makes Plain e s (inside_changed e) (inside_made e)) (entered_makes Plain f (searched Plain (n.expression e) s) (inside_changed f) (inside_made f))
+      let r : Role = under (n.full_operator operator e f) in
+      joined (entered_makes r e s (inside_changed e) (inside_made e)) (entered_makes r f (searched r (n.expression e) s) (inside_changed f) (inside_made f))
   inside_made (t.Logic operator e f span) s =
       joined (entered_makes Inner e s (inside_changed e) (inside_made e)) (entered_makes Inner f (searched Inner (n.expression e) s) (inside_changed f) (inside_made f))
   inside_made (t.Choice e f g a span) s =
-      joined (joined (entered_makes Test e s (inside_changed e) (inside_made e)) (entered_makes Plain f (searched Test (n.expression e) s) (inside_changed f) (inside_made f))) (entered_makes Plain g (searched Plain (n.expression f) (searched Test (n.expression e) s)) (inside_changed g) (inside_made g))
+      joined (joined (entered_makes Controlling e s (inside_changed e) (inside_made e)) (entered_makes Plain f (searched Controlling (n.expression e) s) (inside_changed f) (inside_made f))) (entered_makes Plain g (searched Plain (n.expression f) (searched Controlling (n.expression e) s)) (inside_changed g) (inside_made g))
   inside_made (t.Call k a) s = call_made k s
   inside_made (t.Input span) s = refl
 
@@ -79,7 +82,7 @@ effect_made (t.CallEffect k) s = call_made k s
 effect_made (t.Output e span) s =
     entered_makes Plain e s (inside_changed e) (inside_made e)
 effect_made (t.ChoiceEffect e a b span) s =
-    joined (joined (entered_makes Test e s (inside_changed e) (inside_made e)) (effect_made a (searched Test (n.expression e) s))) (effect_made b (searched Plain (n.effect a) (searched Test (n.expression e) s)))
+    joined (joined (entered_makes Controlling e s (inside_changed e) (inside_made e)) (effect_made a (searched Controlling (n.expression e) s))) (effect_made b (searched Plain (n.effect a) (searched Controlling (n.expression e) s)))
 effect_made (t.Discard a span) s = effect_made a s
 
 pub effects_made : (x : List t.Effect) (s : Sought) → slots_effects (effects_changed x s) ≡ slots_effects x
@@ -117,7 +120,7 @@ start_made (t.StartDeclaration declared) s = declarators_made declared s
 
 pub optional_made : (x : Option t.Expression) (s : Sought) → slots_optional (optional_changed x s) ≡ slots_optional x
 optional_made None s = refl
-optional_made (Some e) s = entered_makes Test e s (inside_changed e) (inside_made e)
+optional_made (Some e) s = entered_makes Controlling e s (inside_changed e) (inside_made e)
 
 pub return_made : (x : t.ReturnValue) (s : Sought) → slots_return (return_changed x s) ≡ slots_return x
 return_made t.ReturnNothing s = refl
@@ -133,15 +136,15 @@ mutual
   statement_made (t.Null span) s = refl
   statement_made (t.EffectStatement effect span) s = effect_made effect s
   statement_made (t.If e a keyword span) s =
-      joined (entered_makes Test e s (inside_changed e) (inside_made e)) (statement_made a (searched Test (n.expression e) s))
+      joined (entered_makes Controlling e s (inside_changed e) (inside_made e)) (statement_made a (searched Controlling (n.expression e) s))
   statement_made (t.IfElse e a b keyword span) s =
-      joined (joined (entered_makes Test e s (inside_changed e) (inside_made e)) (statement_made a (searched Test (n.expression e) s))) (statement_made b (searched Plain (n.statement a) (searched Test (n.expression e) s)))
+      joined (joined (entered_makes Controlling e s (inside_changed e) (inside_made e)) (statement_made a (searched Controlling (n.expression e) s))) (statement_made b (searched Plain (n.statement a) (searched Controlling (n.expression e) s)))
   statement_made (t.Switch e items keyword span) s =
       joined (entered_makes Plain e s (inside_changed e) (inside_made e)) (statements_made items (searched Plain (n.expression e) s))
   statement_made (t.For first e step a keyword span) s =
       joined (joined (joined (start_made first s) (optional_made e (searched Plain (n.start first) s))) (effects_made step (searched Plain (n.optional_test e) (searched Plain (n.start first) s)))) (statement_made a (inside_parts (n.effects step) (searched Plain (n.optional_test e) (searched Plain (n.start first) s))))
   statement_made (t.DoWhile a e keyword span) s =
-      joined (statement_made a s) (entered_makes Test e (searched Plain (n.statement a) s) (inside_changed e) (inside_made e))
+      joined (statement_made a s) (entered_makes Controlling e (searched Plain (n.statement a) s) (inside_changed e) (inside_made e))
   statement_made (t.Break span) s = refl
   statement_made (t.Continue span) s = refl
   statement_made (t.Return value span) s = return_made value s

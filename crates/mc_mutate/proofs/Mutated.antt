@@ -35,6 +35,3 @@ is_mutant p number first last =
 pub is_mutant_of : (p q : Program) (number : ℕ) → q ≡ program_changed p (Left (number - 1)) → 1 ≤ number → number ≤ count p → IsMutant p number q
 is_mutant_of p q number e first last =
     subst (λ (x : Program). IsMutant p number x) (sym e) (is_mutant p number first last)
-
-pub sound_of : (p q : Program) (number : ℕ) → q ≡ program_changed p (Left (number - 1)) → IsSound p → IsSound q
-sound_of p q number e h = subst IsSound (sym e) (program_sound p (Left (number - 1)) h)

@@ -1,7 +1,8 @@
 -- What a search makes of a part is the mutant of the part that has the number, or the part as it is.
 use Rattle.std.proofs.Common.{◌≡◌, List, [], ◌∷◌, Option, Some, None}
 use Rattle.mc_typed.specs.Tree as t
-use Rattle.mc_roots.specs.declared.role.Role.TheVariants.{Test, Inner, Plain}
+use Rattle.mc_roots.specs.declared.role.Role.{Role}
+use Rattle.mc_roots.specs.declared.role.Role.TheVariants.{Controlling, Inner, Plain}
 use Rattle.mc_roots.specs.Nodes as n
 use Rattle.mc_mutate.specs.declared.search.sought.Sought.{Sought}
 use Rattle.mc_mutate.specs.Mutants as m
@@ -47,17 +48,18 @@ mutual
       (λ (x0 : t.Expression). t.Not x0 span) e s
       (entered_picked Inner e s (inside_changed e) (inside_picked e))
   inside_picked (t.Binary operator a e f span) s =
-      two_changed (m.in_expression Plain e) (m.in_expression Plain f)
-      (λ (x0 : t.Expression) (x1 : t.Expression). t.Binary operator a x0 x1 span) e f s (whole Plain e s (inside_found e))
-      (entered_picked Plain e s (inside_changed e) (inside_picked e)) (entered_picked Plain f (searched Plain (n.expression e) s) (inside_changed f) (inside_picked f))
+      let r : Role = m.under (n.full_operator operator e f) in
+      two_changed (m.in_expression r e) (m.in_expression r f)
+      (λ (x0 : t.Expression) (x1 : t.Expression). t.Binary operator a x0 x1 span) e f s (whole r e s (inside_found e))
+      (entered_picked r e s (inside_changed e) (inside_picked e)) (entered_picked r f (searched r (n.expression e) s) (inside_changed f) (inside_picked f))
   inside_picked (t.Logic operator e f span) s =
       two_changed (m.in_expression Inner e) (m.in_expression Inner f)
       (λ (x0 : t.Expression) (x1 : t.Expression). t.Logic operator x0 x1 span) e f s (whole Inner e s (inside_found e))
       (entered_picked Inner e s (inside_changed e) (inside_picked e)) (entered_picked Inner f (searched Inner (n.expression e) s) (inside_changed f) (inside_picked f))
   inside_picked (t.Choice e f g a span) s =
-      three_changed (m.in_expression Test e) (m.in_expression Plain f) (m.in_expression Plain g)
-      (λ (x0 : t.Expression) (x1 : t.Expression) (x2 : t.Expression). t.Choice x0 x1 x2 a span) e f g s (whole Test e s (inside_found e)) (whole Plain f (searched Test (n.expression e) s) (inside_found f))
-      (entered_picked Test e s (inside_changed e) (inside_picked e)) (entered_picked Plain f (searched Test (n.expression e) s) (inside_changed f) (inside_picked f)) (entered_picked Plain g (searched Plain (n.expression f) (searched Test (n.expression e) s)) (inside_changed g) (inside_picked g))
+      three_changed (m.in_expression Controlling e) (m.in_expression Plain f) (m.in_expression Plain g)
+      (λ (x0 : t.Expression) (x1 : t.Expression) (x2 : t.Expression). t.Choice x0 x1 x2 a span) e f g s (whole Controlling e s (inside_found e)) (whole Plain f (searched Controlling (n.expression e) s) (inside_found f))
+      (entered_picked Controlling e s (inside_changed e) (inside_picked e)) (entered_picked Plain f (searched Controlling (n.expression e) s) (inside_changed f) (inside_picked f)) (entered_picked Plain g (searched Plain (n.expression f) (searched Controlling (n.expression e) s)) (inside_changed g) (inside_picked g))
   inside_picked (t.Call k a) s =
       one_changed (m.in_call k)
       (λ (x0 : t.FunctionCall). t.Call x0 a) k s
@@ -132,9 +134,9 @@ effect_picked (t.Output e span) s =
     (λ (x0 : t.Expression). t.Output x0 span) e s
     (entered_picked Plain e s (inside_changed e) (inside_picked e))
 effect_picked (t.ChoiceEffect e a b span) s =
-    three_changed (m.in_expression Test e) (m.in_effect a) (m.in_effect b)
-    (λ (x0 : t.Expression) (x1 : t.Effect) (x2 : t.Effect). t.ChoiceEffect x0 x1 x2 span) e a b s (whole Test e s (inside_found e)) (effect_found a (searched Test (n.expression e) s))
-    (entered_picked Test e s (inside_changed e) (inside_picked e)) (effect_picked a (searched Test (n.expression e) s)) (effect_picked b (searched Plain (n.effect a) (searched Test (n.expression e) s)))
+    three_changed (m.in_expression Controlling e) (m.in_effect a) (m.in_effect b)
+    (λ (x0 : t.Expression) (x1 : t.Effect) (x2 : t.Effect). t.ChoiceEffect x0 x1 x2 span) e a b s (whole Controlling e s (inside_found e)) (effect_found a (searched Controlling (n.expression e) s))
+    (entered_picked Controlling e s (inside_changed e) (inside_picked e)) (effect_picked a (searched Controlling (n.expression e) s)) (effect_picked b (searched Plain (n.effect a) (searched Controlling (n.expression e) s)))
 effect_picked (t.Discard a span) s =
     one_changed (m.in_effect a)
     (λ (x0 : t.Effect). t.Discard x0 span) a s
@@ -200,9 +202,9 @@ start_picked (t.StartDeclaration declared) s =
 pub optional_picked : (x : Option t.Expression) (s : Sought) → optional_changed x s ≡ chosen (m.in_optional x) x s
 optional_picked None s = kept_still None s
 optional_picked (Some e) s =
-    one_changed (m.in_expression Test e)
+    one_changed (m.in_expression Controlling e)
     (λ (x0 : t.Expression). Some x0) e s
-    (entered_picked Test e s (inside_changed e) (inside_picked e))
+    (entered_picked Controlling e s (inside_changed e) (inside_picked e))
 
 pub return_picked : (x : t.ReturnValue) (s : Sought) → return_changed x s ≡ chosen (m.in_return x) x s
 return_picked t.ReturnNothing s = kept_still t.ReturnNothing s
@@ -232,13 +234,13 @@ mutual
       (λ (x0 : t.Effect). t.EffectStatement x0 span) effect s
       (effect_picked effect s)
   statement_picked (t.If e a keyword span) s =
-      two_changed (m.in_expression Test e) (m.in_statement a)
-      (λ (x0 : t.Expression) (x1 : t.Statement). t.If x0 x1 keyword span) e a s (whole Test e s (inside_found e))
-      (entered_picked Test e s (inside_changed e) (inside_picked e)) (statement_picked a (searched Test (n.expression e) s))
+      two_changed (m.in_expression Controlling e) (m.in_statement a)
+      (λ (x0 : t.Expression) (x1 : t.Statement). t.If x0 x1 keyword span) e a s (whole Controlling e s (inside_found e))
+      (entered_picked Controlling e s (inside_changed e) (inside_picked e)) (statement_picked a (searched Controlling (n.expression e) s))
   statement_picked (t.IfElse e a b keyword span) s =
-      three_changed (m.in_expression Test e) (m.in_statement a) (m.in_statement b)
-      (λ (x0 : t.Expression) (x1 : t.Statement) (x2 : t.Statement). t.IfElse x0 x1 x2 keyword span) e a b s (whole Test e s (inside_found e)) (statement_found a (searched Test (n.expression e) s))
-      (entered_picked Test e s (inside_changed e) (inside_picked e)) (statement_picked a (searched Test (n.expression e) s)) (statement_picked b (searched Plain (n.statement a) (searched Test (n.expression e) s)))
+      three_changed (m.in_expression Controlling e) (m.in_statement a) (m.in_statement b)
+      (λ (x0 : t.Expression) (x1 : t.Statement) (x2 : t.Statement). t.IfElse x0 x1 x2 keyword span) e a b s (whole Controlling e s (inside_found e)) (statement_found a (searched Controlling (n.expression e) s))
+      (entered_picked Controlling e s (inside_changed e) (inside_picked e)) (statement_picked a (searched Controlling (n.expression e) s)) (statement_picked b (searched Plain (n.statement a) (searched Controlling (n.expression e) s)))
   statement_picked (t.Switch e items keyword span) s =
       two_changed (m.in_expression Plain e) (m.in_statements items)
       (λ (x0 : t.Expression) (x1 : t.Statements). t.Switch x0 x1 keyword span) e items s (whole Plain e s (inside_found e))
@@ -248,9 +250,9 @@ mutual
       (λ (x0 : t.ForStart) (x1 : Option t.Expression) (x2 : List t.Effect) (x3 : t.Statement). t.For x0 x1 x2 x3 keyword span) first e step a s (start_found first s) (optional_found e (searched Plain (n.start first) s)) (effects_found step (searched Plain (n.optional_test e) (searched Plain (n.start first) s)))
       (start_picked first s) (optional_picked e (searched Plain (n.start first) s)) (effects_picked step (searched Plain (n.optional_test e) (searched Plain (n.start first) s))) (statement_picked a (inside_parts (n.effects step) (searched Plain (n.optional_test e) (searched Plain (n.start first) s))))
   statement_picked (t.DoWhile a e keyword span) s =
-      two_changed (m.in_statement a) (m.in_expression Test e)
+      two_changed (m.in_statement a) (m.in_expression Controlling e)
       (λ (x0 : t.Statement) (x1 : t.Expression). t.DoWhile x0 x1 keyword span) a e s (statement_found a s)
-      (statement_picked a s) (entered_picked Test e (searched Plain (n.statement a) s) (inside_changed e) (inside_picked e))
+      (statement_picked a s) (entered_picked Controlling e (searched Plain (n.statement a) s) (inside_changed e) (inside_picked e))
   statement_picked (t.Break span) s = kept_still (t.Break span) s
   statement_picked (t.Continue span) s = kept_still (t.Continue span) s
   statement_picked (t.Return value span) s =

@@ -3,7 +3,7 @@ use Rattle.std.proofs.Common.{◌≡◌, ◌∙◌, refl, sym, ap, ℕ, suc, Boo
 use Rattle.mc_span.specs.declared.span.Span.{Span}
 use Rattle.mc_typed.specs.Tree.{Program}
 use Rattle.mc_roots.specs.declared.role.Role.{Role}
-use Rattle.mc_roots.specs.declared.role.Role.TheVariants.{Test, Inner, Plain}
+use Rattle.mc_roots.specs.declared.role.Role.TheVariants.{Controlling, Inner, Plain}
 use Rattle.mc_roots.specs.Nodes as n
 use Rattle.mc_roots.specs.Roots.{Found, is_constant, is_candidate, is_root}
 use Rattle.mc_roots.specs.Decisions.{Decision, AreDecisions}
@@ -128,9 +128,9 @@ mutual
   parts_are i (n.part a ps) s =
       more_is (inside_parts ps) (map (under i) (whole Plain a (in_node a))) (in_parts (suc i) ps) s (searched Plain a s)
       (part_is Plain a i s (inside_is a)) (parts_are (suc i) ps)
-  parts_are i (n.test a ps) s =
-      more_is (inside_parts ps) (map (under i) (whole Test a (in_node a))) (in_parts (suc i) ps) s (searched Test a s)
-      (part_is Test a i s (inside_is a)) (parts_are (suc i) ps)
+  parts_are i (n.controlling a ps) s =
+      more_is (inside_parts ps) (map (under i) (whole Controlling a (in_node a))) (in_parts (suc i) ps) s (searched Controlling a s)
+      (part_is Controlling a i s (inside_is a)) (parts_are (suc i) ps)
 
 -- ---- a search tells what the changes are
 

@@ -3,7 +3,7 @@ use Rattle.std.proofs.Common.{◌≡◌, ◌∙◌, refl, sym, ap, subst, ℕ, z
 use Rattle.mc_span.specs.declared.span.Span.{Span}
 use Rattle.mc_typed.specs.Tree as t
 use Rattle.mc_roots.specs.declared.role.Role.{Role}
-use Rattle.mc_roots.specs.declared.role.Role.TheVariants.{Test, Inner, Plain}
+use Rattle.mc_roots.specs.declared.role.Role.TheVariants.{Controlling, Inner, Plain}
 use Rattle.mc_roots.specs.Nodes as n
 use Rattle.mc_roots.specs.Roots.{Found, is_constant, are_constant, is_candidate, is_root}
 use Rattle.mc_roots.specs.Conditions.{width}
@@ -136,9 +136,9 @@ mutual
   constants_still (n.part a ps) s e =
       let p = both (is_constant a) (are_constant ps) e in
       ap (inside_parts ps) (ap (inside a) (own_still Plain a s p.0) ∙ constant_still a s p.0) ∙ constants_still ps s p.1
-  constants_still (n.test a ps) s e =
+  constants_still (n.controlling a ps) s e =
       let p = both (is_constant a) (are_constant ps) e in
-      ap (inside_parts ps) (ap (inside a) (own_still Test a s p.0) ∙ constant_still a s p.0) ∙ constants_still ps s p.1
+      ap (inside_parts ps) (ap (inside a) (own_still Controlling a s p.0) ∙ constant_still a s p.0) ∙ constants_still ps s p.1
 
 -- ---- the decisions in a node
 
@@ -219,9 +219,9 @@ mutual
   parts_at i (n.part a ps) =
       more_at (searched Plain a) (inside_parts ps) (map (under i) (whole Plain a (in_node a))) (in_parts (suc i) ps)
       (part_at Plain a i (inside_at a)) (parts_at (suc i) ps)
-  parts_at i (n.test a ps) =
-      more_at (searched Test a) (inside_parts ps) (map (under i) (whole Test a (in_node a))) (in_parts (suc i) ps)
-      (part_at Test a i (inside_at a)) (parts_at (suc i) ps)
+  parts_at i (n.controlling a ps) =
+      more_at (searched Controlling a) (inside_parts ps) (map (under i) (whole Controlling a (in_node a))) (in_parts (suc i) ps)
+      (part_at Controlling a i (inside_at a)) (parts_at (suc i) ps)
 
 -- ---- those of the program
 

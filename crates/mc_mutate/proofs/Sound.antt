@@ -2,22 +2,22 @@
 use Rattle.std.proofs.Common.{◌≡◌, ◌∙◌, refl, sym, ap, subst, ℕ, suc, zero, ◌+◌, ◌^◌, ◌<◌, ◌≤◌, ℤ, Bool, true, false, List, [], ◌∷◌, length, slice_get, Option, Some, None, option_map}
 use Rattle.mc_value.specs.declared.int_type.IntType.{IntType}
 use Rattle.mc_value.specs.Conversions.{promoted}
-use Rattle.mc_typed.specs.declared.operators.Operator.{Operator}
-use Rattle.mc_typed.specs.declared.operators.Operator.TheVariants.{Binary, Shift}
 use Rattle.mc_typed.specs.declared.expressions.Slot.{Slot}
 use Rattle.mc_typed.specs.Layout.{ObjectType, Scalar, Array, Structure, Members, no_members, members, cells}
 use Rattle.mc_typed.specs.Tree as t
-use Rattle.mc_typed.specs.Sound.{Scope, parameters_at, result_at, element_of, length_of, member_of, offset_of, place_type, type_of, structure_result, structure_type, IsStructureType, HasOperands, Takes, IsPlace, IsExpression, IsStructure, IsCall, IsStructureCall, AreArguments, IsArgument, IsCast, IsEffect, count_of, IsInitializer, AreElements, AreMembers, IsInitial, AreDeclarators, AreClauses, IsStart, IsTest, IsReturn, Around, inside, in_loop, in_switch, labels_of, Differ, IsStatement, AreStatements, outermost, scope_of, IsFunction, AreFunctions, IsSound}
+use Rattle.mc_typed.specs.Sound.{Scope, parameters_at, result_at, element_of, length_of, member_of, offset_of, place_type, type_of, structure_result, structure_type, IsStructureType, Takes, IsPlace, IsExpression, IsStructure, IsCall, IsStructureCall, AreArguments, IsArgument, IsCast, IsEffect, count_of, IsInitializer, AreElements, AreMembers, IsInitial, AreDeclarators, AreClauses, IsStart, IsTest, IsReturn, Around, inside, in_loop, in_switch, labels_of, Differ, IsStatement, AreStatements, outermost, scope_of, IsFunction, AreFunctions, IsSound}
+use Rattle.mc_roots.specs.declared.operators.FullOperator.{FullOperator}
 use Rattle.mc_roots.specs.declared.role.Role.{Role}
-use Rattle.mc_roots.specs.declared.role.Role.TheVariants.{Test, Inner, Plain}
+use Rattle.mc_roots.specs.declared.role.Role.TheVariants.{Controlling, Inner, Plain}
 use Rattle.mc_roots.specs.Nodes as n
 use Rattle.mc_mutate.specs.declared.changes.Change.{Change}
 use Rattle.mc_mutate.specs.declared.changes.MutantKind.TheVariants.{Negated}
 use Rattle.mc_mutate.specs.declared.search.sought.Sought.{Sought}
 use Rattle.mc_mutate.specs.declared.search.sought.Sought.TheVariants.{Found}
+use Rattle.mc_mutate.specs.Mutants.{under}
 use Rattle.mc_mutate.specs.steps.Search.{inside_parts, searched}
 use Rattle.mc_mutate.specs.steps.Changed.{entered, place_changed, inside_changed, structure_changed, call_changed, argument_changed, arguments_changed, effect_changed, effects_changed, initializer_changed, initializers_changed, initial_changed, declarators_changed, start_changed, optional_changed, return_changed, statement_changed, statements_changed, functions_changed, program_changed}
-use Rattle.mc_mutate.proofs.Holding.{entered_sound, entered_typed}
+use Rattle.mc_mutate.proofs.Holding.{operands_kept, entered_sound, entered_typed, entered_inner}
 use Rattle.mc_mutate.proofs.Picked.{inside_picked}
 use Rattle.mc_mutate.proofs.Made.{statements_made}
 
@@ -30,10 +30,6 @@ pub record AreCalledAlike (fs gs : List t.Function) : Type 0 where
 -- the same scope over other functions
 abbrev pub over : Scope → List t.Function → Scope
 over c gs = record c { functions = gs }
-
-operands_kept : (operator : Operator) (a l r x y : IntType) → x ≡ l → y ≡ r → HasOperands operator a l r → HasOperands operator a x y
-operands_kept (Binary operator) a l r x y e h (p, q, o) = (p, e ∙ q, h ∙ o)
-operands_kept (Shift operator) a l r x y e h (p, q, o) = (p, e ∙ q, ap promoted h ∙ (o ∙ sym h))
 
 takes : (c : Scope) (gs : List t.Function) (result : Option Slot) (r : t.ResultType) → Takes result r c → Takes result r (over c gs)
 takes c gs (Some slot) (t.StructureResult u) h = h
@@ -62,6 +58,11 @@ inside_typed (t.Input span) s = refl
 
 typed : (e : t.Expression) (s : Sought) → type_of (entered Plain e s (inside_changed e)) ≡ type_of e
 typed e s = entered_typed e s (inside_changed e) (inside_typed e)
+
+-- and the operand of an operator that evaluates both of its operands
+operand_typed : (full : Option FullOperator) (e : t.Expression) (s : Sought) → type_of (entered (under full) e s (inside_changed e)) ≡ type_of e
+operand_typed None e s = typed e s
+operand_typed (Some full) e s = entered_inner e s (inside_changed e) (inside_typed e)
 
 -- an expression that is sound wherever the search has come to
 sound : (d : Scope) (role : Role) (e : t.Expression) (s : Sought) → ((u : Sought) → IsExpression (inside_changed e u) d) → IsExpression (entered role e s (inside_changed e)) d
@@ -107,18 +108,19 @@ module _ (c : Scope) (gs : List t.Function) (same : AreCalledAlike c.functions g
     inside_sound (t.Convert a written e span) s h = sound (over c gs) Plain e s (λ r. inside_sound e r h)
     inside_sound (t.Not e span) s h = sound (over c gs) Inner e s (λ r. inside_sound e r h)
     inside_sound (t.Binary operator a e f span) s (h, k, o) =
-        let after = searched Plain (n.expression e) s in (
-          sound (over c gs) Plain e s (λ r. inside_sound e r h),
-          sound (over c gs) Plain f after (λ r. inside_sound f r k),
-          operands_kept operator a (type_of e) (type_of f) (type_of (entered Plain e s (inside_changed e))) (type_of (entered Plain f after (inside_changed f))) (typed e s) (typed f after) o,
+        let full : Option FullOperator = n.full_operator operator e f in
+        let after : Sought = searched (under full) (n.expression e) s in (
+          sound (over c gs) (under full) e s (λ r. inside_sound e r h),
+          sound (over c gs) (under full) f after (λ r. inside_sound f r k),
+          operands_kept operator a (type_of e) (type_of f) (type_of (entered (under full) e s (inside_changed e))) (type_of (entered (under full) f after (inside_changed f))) (operand_typed full e s) (operand_typed full f after) o,
         )
     inside_sound (t.Logic operator e f span) s (h, k) = (
       sound (over c gs) Inner e s (λ r. inside_sound e r h),
       sound (over c gs) Inner f (searched Inner (n.expression e) s) (λ r. inside_sound f r k),
     )
     inside_sound (t.Choice e f g a span) s (h, k, l, p, q, o) =
-        let after = searched Test (n.expression e) s in (
-          sound (over c gs) Test e s (λ r. inside_sound e r h),
+        let after = searched Controlling (n.expression e) s in (
+          sound (over c gs) Controlling e s (λ r. inside_sound e r h),
           sound (over c gs) Plain f after (λ r. inside_sound f r k),
           sound (over c gs) Plain g (searched Plain (n.expression f) after) (λ r. inside_sound g r l),
           p,
@@ -217,9 +219,9 @@ module _ (c : Scope) (gs : List t.Function) (same : AreCalledAlike c.functions g
   effect_sound (t.CallEffect k) whole s h = call_sound k t.NoResult s h
   effect_sound (t.Output e span) whole s (h, q) = (expression_sound Plain e s h, typed e s ∙ q)
   effect_sound (t.ChoiceEffect e a b span) whole s (h, k, l) = (
-    expression_sound Test e s h,
-    effect_sound a false (searched Test (n.expression e) s) k,
-    effect_sound b false (searched Plain (n.effect a) (searched Test (n.expression e) s)) l,
+    expression_sound Controlling e s h,
+    effect_sound a false (searched Controlling (n.expression e) s) k,
+    effect_sound b false (searched Plain (n.effect a) (searched Controlling (n.expression e) s)) l,
   )
   effect_sound (t.Discard a span) whole s (i, h) = (cast_sound a s i, effect_sound a whole s h)
 
@@ -275,7 +277,7 @@ module _ (c : Scope) (gs : List t.Function) (same : AreCalledAlike c.functions g
 
   optional_sound : (x : Option t.Expression) (s : Sought) → IsTest x c → IsTest (optional_changed x s) (over c gs)
   optional_sound None s h = tt
-  optional_sound (Some e) s h = expression_sound Test e s h
+  optional_sound (Some e) s h = expression_sound Controlling e s h
 
   return_sound : (x : t.ReturnValue) (r : t.ResultType) (s : Sought) → IsReturn x r c → IsReturn (return_changed x s) r (over c gs)
   return_sound t.ReturnNothing t.NoResult s h = tt
@@ -303,11 +305,11 @@ module _ (c : Scope) (gs : List t.Function) (same : AreCalledAlike c.functions g
     statement_sound (t.Null span) w s h = tt
     statement_sound (t.EffectStatement effect span) w s h = effect_sound effect true s h
     statement_sound (t.If e a keyword span) w s (h, k) =
-        (expression_sound Test e s h, statement_sound a (inside w) (searched Test (n.expression e) s) k)
+        (expression_sound Controlling e s h, statement_sound a (inside w) (searched Controlling (n.expression e) s) k)
     statement_sound (t.IfElse e a b keyword span) w s (h, k, l) = (
-      expression_sound Test e s h,
-      statement_sound a (inside w) (searched Test (n.expression e) s) k,
-      statement_sound b (inside w) (searched Plain (n.statement a) (searched Test (n.expression e) s)) l,
+      expression_sound Controlling e s h,
+      statement_sound a (inside w) (searched Controlling (n.expression e) s) k,
+      statement_sound b (inside w) (searched Plain (n.statement a) (searched Controlling (n.expression e) s)) l,
     )
     statement_sound (t.Switch e items keyword span) w s (h, p, k, l) =
         let after = searched Plain (n.expression e) s in (
@@ -326,7 +328,7 @@ module _ (c : Scope) (gs : List t.Function) (same : AreCalledAlike c.functions g
           statement_sound a in_loop (inside_parts (n.effects step) tested) m,
         )
     statement_sound (t.DoWhile a e keyword span) w s (h, k) =
-        (statement_sound a in_loop s h, expression_sound Test e (searched Plain (n.statement a) s) k)
+        (statement_sound a in_loop s h, expression_sound Controlling e (searched Plain (n.statement a) s) k)
     statement_sound (t.Break span) w s h = h
     statement_sound (t.Continue span) w s h = h
     statement_sound (t.Return value span) w s h = return_sound value c.result s h

@@ -27,7 +27,7 @@ abbrev pub IsKilled : Program → Program → Plan → Type 0
 IsKilled p mutant plan = shown mutant plan ≢ shown p plan
 
 -- The items of the workers: with T tests, item i is the mutant i div T + 1 under the test i mod T.
-pub record Kills (p : Program) (plans : List Plan) (item : ℕ) : Type 0 where
+pub record KillsAtItem (p : Program) (plans : List Plan) (item : ℕ) : Type 0 where
   pub mutant : Program
   pub is_mutant : IsMutant p (item / length plans + 1) mutant
   pub plan : Plan
@@ -36,7 +36,7 @@ pub record Kills (p : Program) (plans : List Plan) (item : ℕ) : Type 0 where
 
 -- bit 0 is hit under an item that kills, and there is no other bit
 abbrev pub does_of : Program → List Plan → ℕ → ℕ → Type 0
-does_of p plans item bit = (bit ≡ 0) × Kills p plans item
+does_of p plans item bit = (bit ≡ 0) × KillsAtItem p plans item
 
 -- the most mutants that tests are run on
 abbrev pub most_mutants : ℕ

@@ -1,7 +1,7 @@
 -- What follows from the definitions.
 use Rattle.std.specs.Prelude.{◌≡◌, ℕ, ◌+◌, ◌*◌, ◌≤◌, List, [], ◌∷◌, map, length}
 use Rattle.mc_value.specs.declared.int_type.IntType.TheVariants.{Int}
-use Rattle.mc_value.specs.declared.operators.BinOp.TheVariants.{Lt, Le, Eq, Add}
+use Rattle.mc_value.specs.declared.operators.BinOp.TheVariants.{Lt, Le, Eq, Add, Xor}
 use Rattle.mc_typed.specs.declared.operators.Operator.TheVariants.{Binary}
 use Rattle.mc_typed.specs.declared.operators.LogicOperator.TheVariants.{And, Or}
 use Rattle.mc_typed.specs.Tree.{Expression, Program}
@@ -128,3 +128,18 @@ InnerComesLater =
     ∷ (change Exchanged 27
     ∷ (change Negated 27 ∷ (change FixedTrue 27 ∷ (change FixedFalse 27
     ∷ (change Negated 30 ∷ (change FixedTrue 30 ∷ (change FixedFalse 30 ∷ []))))))))))
+
+-- ---- `int f(int a,int b){return (a<b)^(b<a);}`: the node, and then the conditions
+
+abbrev pub either : Expression
+either =
+    typed.Binary (Binary Xor) Int (typed.Binary (Binary Lt) Int (read 0 27) (read 1 29) (at 27 30))
+    (typed.Binary (Binary Lt) Int (read 1 33) (read 0 35) (at 33 36)) (at 26 37)
+
+abbrev pub FullOperatorIsNode : Type 0
+FullOperatorIsNode =
+    map (λ m. m.change) (mutants (returning 38 either)) ≡
+    change Exchanged 26
+    ∷ (change Negated 27 ∷ (change FixedTrue 27 ∷ (change FixedFalse 27 ∷ (change Shifted 27
+    ∷ (change Negated 33 ∷ (change FixedTrue 33 ∷ (change FixedFalse 33
+    ∷ (change Shifted 33 ∷ []))))))))

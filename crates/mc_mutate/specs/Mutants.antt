@@ -4,7 +4,9 @@ use Rattle.std.specs.Prelude.{◌≡◌, ℕ, ◌-◌, ◌≤◌, Bool, true, fa
 use Rattle.mc_typed.specs.Tree.{Place, Expression, StructureValue, FunctionCall, Argument, Arguments, Effect, Initializer, Initializers, Declarator, ForStart, ReturnValue, Statement, Statements, Function, Program}
 use Rattle.mc_typed.specs.Tree as typed
 use Rattle.mc_roots.specs.declared.role.Role.{Role}
-use Rattle.mc_roots.specs.declared.role.Role.TheVariants.{Test, Inner, Plain}
+use Rattle.mc_roots.specs.declared.role.Role.TheVariants.{Controlling, Inner, Plain}
+use Rattle.mc_roots.specs.declared.operators.FullOperator.{FullOperator}
+use Rattle.mc_roots.specs.Nodes.{full_operator}
 use Rattle.mc_roots.specs.Nodes as nodes
 use Rattle.mc_roots.specs.Roots.{is_root}
 use Rattle.mc_mutate.specs.declared.changes.Change.{Change}
@@ -23,6 +25,11 @@ own false e = []
 -- a decision, and then those of the decisions inside
 abbrev pub all : Role → Expression → List (Mutant Expression) → List (Mutant Expression)
 all role e others = own (is_root role (nodes.expression e)) e ++ others
+
+-- how the operands of an operator stand that evaluates both of them
+abbrev pub under : Option FullOperator → Role
+under (Some operator) = Inner
+under None = Plain
 
 abbrev mutual
   pub in_place : Place → List (Mutant Place)
@@ -46,13 +53,15 @@ abbrev mutual
       within (λ x. typed.Convert a written x span) (all Plain e (inside e))
   inside (typed.Not e span) = within (λ x. typed.Not x span) (all Inner e (inside e))
   inside (typed.Binary operator a e f span) =
-      within (λ x. typed.Binary operator a x f span) (all Plain e (inside e))
-      ++ within (λ x. typed.Binary operator a e x span) (all Plain f (inside f))
+      within (λ x. typed.Binary operator a x f span)
+      (all (under (full_operator operator e f)) e (inside e))
+      ++ within (λ x. typed.Binary operator a e x span)
+      (all (under (full_operator operator e f)) f (inside f))
   inside (typed.Logic operator e f span) =
       within (λ x. typed.Logic operator x f span) (all Inner e (inside e))
       ++ within (λ x. typed.Logic operator e x span) (all Inner f (inside f))
   inside (typed.Choice e f g a span) =
-      within (λ x. typed.Choice x f g a span) (all Test e (inside e))
+      within (λ x. typed.Choice x f g a span) (all Controlling e (inside e))
       ++ (within (λ x. typed.Choice e x g a span) (all Plain f (inside f))
       ++ within (λ x. typed.Choice e f x a span) (all Plain g (inside g)))
   inside (typed.Call k a) = within (λ x. typed.Call x a) (in_call k)
@@ -102,7 +111,7 @@ in_effect (typed.StructureEffect value whole) =
 in_effect (typed.CallEffect k) = within typed.CallEffect (in_call k)
 in_effect (typed.Output e span) = within (λ x. typed.Output x span) (in_expression Plain e)
 in_effect (typed.ChoiceEffect e a b span) =
-    within (λ x. typed.ChoiceEffect x a b span) (in_expression Test e)
+    within (λ x. typed.ChoiceEffect x a b span) (in_expression Controlling e)
     ++ (within (λ x. typed.ChoiceEffect e x b span) (in_effect a)
     ++ within (λ x. typed.ChoiceEffect e a x span) (in_effect b))
 in_effect (typed.Discard a span) = within (λ x. typed.Discard x span) (in_effect a)
@@ -150,7 +159,7 @@ in_start (typed.StartDeclaration declared) =
 
 abbrev pub in_optional : Option Expression → List (Mutant (Option Expression))
 in_optional None = []
-in_optional (Some e) = within Some (in_expression Test e)
+in_optional (Some e) = within Some (in_expression Controlling e)
 
 abbrev pub in_return : ReturnValue → List (Mutant ReturnValue)
 in_return typed.ReturnNothing = []
@@ -169,10 +178,10 @@ abbrev mutual
   in_statement (typed.EffectStatement effect span) =
       within (λ x. typed.EffectStatement x span) (in_effect effect)
   in_statement (typed.If e s keyword span) =
-      within (λ x. typed.If x s keyword span) (in_expression Test e)
+      within (λ x. typed.If x s keyword span) (in_expression Controlling e)
       ++ within (λ x. typed.If e x keyword span) (in_statement s)
   in_statement (typed.IfElse e s u keyword span) =
-      within (λ x. typed.IfElse x s u keyword span) (in_expression Test e)
+      within (λ x. typed.IfElse x s u keyword span) (in_expression Controlling e)
       ++ (within (λ x. typed.IfElse e x u keyword span) (in_statement s)
       ++ within (λ x. typed.IfElse e s x keyword span) (in_statement u))
   in_statement (typed.Switch e items keyword span) =
@@ -185,7 +194,7 @@ abbrev mutual
       ++ within (λ x. typed.For first e step x keyword span) (in_statement s)))
   in_statement (typed.DoWhile s e keyword span) =
       within (λ x. typed.DoWhile x e keyword span) (in_statement s)
-      ++ within (λ x. typed.DoWhile s x keyword span) (in_expression Test e)
+      ++ within (λ x. typed.DoWhile s x keyword span) (in_expression Controlling e)
   in_statement (typed.Break span) = []
   in_statement (typed.Continue span) = []
   in_statement (typed.Return value span) = within (λ x. typed.Return x span) (in_return value)

@@ -5,10 +5,6 @@ use Rattle.mc_typed.specs.Sound.{IsSound}
 use Rattle.mc_typed.specs.Tree.{Program}
 use Rattle.mc_typed.specs.Views.{program_of}
 use Rattle.mc_typed.specs.Plans.{Plan, Fits, plan_of}
-use Rattle.mc_roots.specs.Decisions.{AreDecisions}
-use Rattle.mc_roots.specs.Seen.{decision_of}
-use Rattle.mc_probe.specs.Bare.{bare_tree}
-use Rattle.mc_probe.specs.Trees.{Instrumented, tree_of}
 use Rattle.mc_cover.specs.Model.{CoverView, PassView}
 use Rattle.mc_cover.specs.Views.{opener}
 use Rattle.mc_crew.specs.Crew.{HasWorked, IsAtWork}
@@ -17,7 +13,7 @@ use Rattle.mc_mutate.specs.declared.kills.original.Original.{Original}
 use Rattle.mc_mutate.specs.declared.kills.runs.Job.{Job}
 use Rattle.mc_mutate.specs.declared.kills.runs.Task.{Task}
 use Rattle.mc_mutate.specs.Kills.{Shown, does_of, most_mutants, shown}
-use Rattle.mc_mutate.specs.Mutants.{count, IsMutant}
+use Rattle.mc_mutate.specs.Mutants.{count}
 
 -- ---- the program's own runs
 
@@ -40,11 +36,10 @@ plans_in t = map plan_of t.plans.now
 abbrev pub worker_does : Task → ℕ → ℕ → Type 0
 worker_does t = does_of (program_in t) (plans_in t)
 
--- the decisions are the program's, the tests fit it, what they show is kept, and the cover has an
--- item for each mutant and test
+-- the tests fit the program, what they show is kept, and the cover has an item for each mutant and
+-- test
 pub record CanWork (t : Task) (c : CoverView) : Type 0 where
   pub sound : IsSound (program_in t)
-  pub decisions : AreDecisions (program_in t).functions (map decision_of t.decisions.now)
   pub fit : All (λ plan. Fits (plan_of plan) (program_in t)) t.plans.now
   pub kept : AreKept (program_in t) (plans_in t) t.originals.now
   pub shape : c.shape ≡ record { bits = 1; tests = count (program_in t) * length t.plans.now }
@@ -67,12 +62,6 @@ pub record IsReady (j : Job) : Type 0 where
 
 abbrev pub IsDone : Job → PassView → Type 0
 IsDone j p = HasWorked (worker_does j.task.now) j.recorder.cover p
-
--- a program of a machine is the mutant with the number index + 1, without probes
-pub record HasMutant (p : Program) (index : ℕ) (i : Instrumented) : Type 0 where
-  pub mutant : Program
-  pub is_mutant : IsMutant p (index + 1) mutant
-  pub bare : tree_of i ≡ bare_tree mutant
 
 -- a worker has claimed the item and has not run it
 pub record HasDrawn (does : ℕ → ℕ → Type 0) (item : ℕ) (r : RecorderView) : Type 0 where

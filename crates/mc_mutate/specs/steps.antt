@@ -2,3 +2,4 @@
 pub mod Search
 pub mod Changed
 pub mod Replaced
+pub mod Bared

@@ -1,5 +1,5 @@
 //! What follows from the definitions. The functions do nothing: each has a law as its contract.
-ghost use Rattle.mc_mutate.specs.Laws.{MutantsAreSound, ChangesAreOfRoots, CountsAreSmall, ConjunctionHasSeven, TheyReturn, RelationHasFour, SumHasNone, NodesInPreorder, InnerComesLater};
+ghost use Rattle.mc_mutate.specs.Laws.{MutantsAreSound, ChangesAreOfRoots, CountsAreSmall, ConjunctionHasSeven, TheyReturn, RelationHasFour, SumHasNone, NodesInPreorder, InnerComesLater, FullOperatorIsNode};
 
 /// A mutant of a sound program is sound.
 pub fn mutants_are_sound()
@@ -17,7 +17,8 @@ pub fn counts_are_small()
 {}
 
 /// The mutants of small programs: `a&&b` has seven, `a<b` four, and `a+b` none; nodes are in
-/// preorder, and a decision in a condition comes after the one around it.
+/// preorder, a decision in a condition comes after the one around it, and `(a<b)^(b<a)` is a node
+/// with two conditions.
 pub fn worked_mutants()
     ensures seven { ConjunctionHasSeven }
     ensures trees { TheyReturn }
@@ -25,4 +26,5 @@ pub fn worked_mutants()
     ensures none { SumHasNone }
     ensures preorder { NodesInPreorder }
     ensures inner { InnerComesLater }
+    ensures full { FullOperatorIsNode }
 {}

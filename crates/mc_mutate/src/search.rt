@@ -11,7 +11,7 @@ mod initializers;
 mod sought;
 mod statements;
 
-pub(crate) use crate::search::decision::{in_condition, in_decision, in_nodes, is_root};
+pub(crate) use crate::search::decision::{in_condition, in_decision, in_nodes, is_root, under};
 pub(crate) use crate::search::sought::{Sought, pass};
 use crate::search::statements::statements;
 use mc_typed::Function;

@@ -166,6 +166,7 @@ module _ (s t : Tree) (h : AreSame s t) where
         evaluated = a.evaluated;
         value = a.value;
         influence = λ k. (λ e. influence_on k v ((a.influence k).0 e), λ i. (a.influence k).1 (influence_back k v i));
+        outcome = a.outcome;
       }
 
   pub same_edges : (on_false : List ℕ) → on_false ≡ increments t → on_false ≡ increments s

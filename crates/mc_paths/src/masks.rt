@@ -1,4 +1,4 @@
-//! Vectors as words of 64 bits.
+//! Vectors as words of 64 bits, and their outcomes.
 
 ghost use Rattle.std.specs.Prelude.{◌≡◌, ℕ, ◌<◌, ◌≤◌, ◌↔◌, ◌⊎◌, IsTrue, IfOk};
 ghost use Rattle.std.specs.Int.{bit_at};
@@ -11,7 +11,7 @@ use crate::descent::vector_at;
 use mc_cond::{CondTree, Vector, influence_on};
 use std::alloc::{AllocError, Global};
 
-/// A vector as words: bit k of each speaks of condition k.
+/// A vector as words, of which bit k speaks of condition k, and its outcome.
 #[derive(Clone, Copy)]
 pub(crate) struct Masks {
     /// Set where the condition is evaluated.
@@ -20,6 +20,8 @@ pub(crate) struct Masks {
     pub value: u64,
     /// Set where it has influence on the outcome.
     pub influence: u64,
+    /// What the decision comes to.
+    pub outcome: bool,
 }
 
 /// The words of each path in use, in the order of the numbers.
@@ -70,6 +72,7 @@ fn masks_of(tree: &CondTree, vector: &Vector) -> Masks
         evaluated,
         value,
         influence: influence_on(tree, vector),
+        outcome: vector.outcome(),
     }
 }
 

@@ -167,7 +167,7 @@ impl Numbering {
         requires { IsInUse (tree_of self.now) path }
         ensures { (v : Evaluation) → IsPath (tree_of self.now) path v → result ≡ v.outcome }
     {
-        self.vector_of(path).outcome()
+        self.masks(path).outcome
     }
 
     /// The conditions evaluated in a path's vector: bit k is set exactly where condition k is.
@@ -198,7 +198,7 @@ impl Numbering {
         self.masks(path).influence
     }
 
-    /// The words of a path's vector.
+    /// The words and the outcome of a path's vector.
     fn masks(&self, path: u32) -> Masks
         requires { IsInUse (tree_of self.now) path }
         ensures { (v : Evaluation) → IsPath (tree_of self.now) path v

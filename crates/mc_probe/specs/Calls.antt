@@ -11,7 +11,7 @@ use Rattle.mc_steps.specs.Calls.{Passed, Target, lent_of, passed_to, leaves, bod
 use Rattle.mc_probe.specs.Tree.{Function, Tree}
 use Rattle.mc_probe.specs.Erase.{erase_function}
 use Rattle.mc_probe.specs.Flat.{Flat, Does, Callee, Activation, flat, hits_some}
-use Rattle.mc_probe.specs.Statements.{statements_of}
+use Rattle.mc_probe.specs.Statements.{run_from}
 
 -- the objects of a frame, the parameters first
 abbrev pub targets : ℕ → List Object → List (Target ℕ)
@@ -41,7 +41,7 @@ activation call bits f passed m = record {
 -- the body in its activation, from its entry to one of its exits
 abbrev pub inside : Activation → Function → Option ℕ → List (Passed ℕ) → Does (Given ℕ)
 inside w f into passed =
-    body_does (entered f passed) (hits_some w f.entry) (statements_of w f.body Running)
+    body_does (entered f passed) (hits_some w f.entry) (run_from w f.body Running)
     (hits_some w f.exit) (leaves flat into (left w.base w.first))
 
 -- The call of function f, where the open activations have so many levels. Levels and frames are

@@ -9,7 +9,7 @@ use Rattle.mc_typed.specs.Views as plain
 use Rattle.mc_probe.specs.declared.bit_map.BitMap.{BitMap}
 use Rattle.mc_probe.specs.BitMaps.{map_of}
 use Rattle.mc_steps.specs.Points.{Points, points_before}
-use Rattle.mc_probe.specs.Obligations.{exits_of, statements_of, labels_of}
+use Rattle.mc_probe.specs.Obligations.{exit_spans, statement_spans, label_spans}
 use Rattle.mc_probe.specs.Maps.{IsMap}
 use Rattle.mc_probe.specs.Same.{IsSame}
 use Rattle.mc_typed.specs.declared.functions.Function.{Function}
@@ -42,7 +42,7 @@ pub record AreCounted (ss xs ls : List Span) (q : Points) : Type 0 where
 -- The numbers of the events of a program end where its lists of places end.
 abbrev pub EventsAreListed : Type 0
 EventsAreListed = (p : typed.Program) →
-    AreCounted (statements_of p) (exits_of p) (labels_of p)
+    AreCounted (statement_spans p) (exit_spans p) (label_spans p)
     (points_before p.functions (length p.functions))
 
 -- a tree without probes is its program, and well-formed

@@ -8,7 +8,7 @@ use Rattle.mc_paths.specs.Paths.{count_of, path_of}
 use Rattle.mc_typed.specs.Tree.{Program}
 use Rattle.mc_roots.specs.Decisions.{Decision, AreDecisions}
 use Rattle.mc_steps.specs.Events.{Event, Entered, Exited, Started, Chosen, Evaluated}
-use Rattle.mc_probe.specs.Obligations.{entries_of, exits_of, statements_of, labels_of}
+use Rattle.mc_probe.specs.Obligations.{entry_spans, exit_spans, statement_spans, label_spans}
 
 -- a decision, and the bit of its first path
 pub record Mapped : Type 0 where
@@ -63,10 +63,10 @@ pub record IsMap (m : Map) : Type 0 where
 -- this is the program's map
 pub record IsMapOf (p : Program) (m : Map) : Type 0 where
   pub kept : IsMap m
-  pub entries : m.entries ≡ entries_of p
-  pub exits : m.exits ≡ exits_of p
-  pub statements : m.statements ≡ statements_of p
-  pub labels : m.labels ≡ labels_of p
+  pub entries : m.entries ≡ entry_spans p
+  pub exits : m.exits ≡ exit_spans p
+  pub statements : m.statements ≡ statement_spans p
+  pub labels : m.labels ≡ label_spans p
   pub decisions : AreDecisions p.functions (map (λ d. d.decision) m.decisions)
 
 -- ---- the bits of the events

@@ -34,24 +34,25 @@ exits f = returns_all f.body ++ (if all_complete f.body then f.closing ∷ [] el
 -- `for`. Labels are no statements of their own.
 -- a statement with a body stands at its keyword
 abbrev mutual
-  pub counted : Statement → List Span
-  counted (typed.Compound items span) = counted_all items
-  counted (typed.Label v span) = []
-  counted (typed.Declaration declarators span) = if initializes declarators then span ∷ [] else []
-  counted (typed.Null span) = span ∷ []
-  counted (typed.EffectStatement effect span) = span ∷ []
-  counted (typed.If e s keyword span) = keyword ∷ counted s
-  counted (typed.IfElse e s u keyword span) = keyword ∷ counted s ++ counted u
-  counted (typed.Switch e items keyword span) = keyword ∷ counted_all items
-  counted (typed.For start test step s keyword span) = keyword ∷ counted s
-  counted (typed.DoWhile s e keyword span) = keyword ∷ counted s
-  counted (typed.Break span) = span ∷ []
-  counted (typed.Continue span) = span ∷ []
-  counted (typed.Return value span) = span ∷ []
+  pub counted_spans : Statement → List Span
+  counted_spans (typed.Compound items span) = counted_spans_all items
+  counted_spans (typed.Label v span) = []
+  counted_spans (typed.Declaration declarators span) =
+      if initializes declarators then span ∷ [] else []
+  counted_spans (typed.Null span) = span ∷ []
+  counted_spans (typed.EffectStatement effect span) = span ∷ []
+  counted_spans (typed.If e s keyword span) = keyword ∷ counted_spans s
+  counted_spans (typed.IfElse e s u keyword span) = keyword ∷ counted_spans s ++ counted_spans u
+  counted_spans (typed.Switch e items keyword span) = keyword ∷ counted_spans_all items
+  counted_spans (typed.For start test step s keyword span) = keyword ∷ counted_spans s
+  counted_spans (typed.DoWhile s e keyword span) = keyword ∷ counted_spans s
+  counted_spans (typed.Break span) = span ∷ []
+  counted_spans (typed.Continue span) = span ∷ []
+  counted_spans (typed.Return value span) = span ∷ []
 
-  pub counted_all : Statements → List Span
-  counted_all typed.no_statements = []
-  counted_all (typed.statements s rest) = counted s ++ counted_all rest
+  pub counted_spans_all : Statements → List Span
+  counted_spans_all typed.no_statements = []
+  counted_spans_all (typed.statements s rest) = counted_spans s ++ counted_spans_all rest
 
 -- ---- labels
 
@@ -74,14 +75,14 @@ abbrev mutual
 
 -- ---- of a whole program
 
-abbrev pub entries_of : Program → List Span
-entries_of p = map (λ f. f.name_span) p.functions
+abbrev pub entry_spans : Program → List Span
+entry_spans p = map (λ f. f.name_span) p.functions
 
-abbrev pub exits_of : Program → List Span
-exits_of p = flat_map exits p.functions
+abbrev pub exit_spans : Program → List Span
+exit_spans p = flat_map exits p.functions
 
-abbrev pub statements_of : Program → List Span
-statements_of p = flat_map (λ f. counted_all f.body) p.functions
+abbrev pub statement_spans : Program → List Span
+statement_spans p = flat_map (λ f. counted_spans_all f.body) p.functions
 
-abbrev pub labels_of : Program → List Span
-labels_of p = flat_map (λ f. labels_all f.body) p.functions
+abbrev pub label_spans : Program → List Span
+label_spans p = flat_map (λ f. labels_all f.body) p.functions

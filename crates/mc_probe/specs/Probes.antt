@@ -4,26 +4,31 @@ use Rattle.mc_value.specs.Arithmetic.{truth}
 use Rattle.mc_typed.specs.declared.probes.Probe as code
 use Rattle.mc_typed.specs.declared.probes.Probe.TheVariants as probe
 use Rattle.mc_typed.specs.declared.probes.Mark.{Mark}
-use Rattle.mc_steps.specs.Runs.{gives, after}
+use Rattle.mc_steps.specs.Runs.{gives, ◌>>=◌}
 use Rattle.mc_steps.specs.Expressions.{is_true}
 use Rattle.mc_probe.specs.Flat.{Does, Activation, register, wrapped_sum, hits, sets, adds}
 
 module _ (w : Activation) where
   -- the register begins at 0; its sum tells the path
   abbrev pub decision_does : ℕ → ℕ → Does ℤ → Does ℤ
-  decision_does r base e s =
-      after (sets w r 0 s) (λ _ s. after (e s) (λ x s.
-      after (hits w (wrapped_sum base (register (w.first + r) s.memory)) s) (λ _ s.
-      gives (truth (is_true x)) s)))
+  decision_does r base e = do
+    _ ← sets w r 0
+    x ← e
+    _ ← λ s. hits w (wrapped_sum base (register (w.first + r) s.memory)) s
+    gives (truth (is_true x))
 
   -- true where the operand differs from 0 in its own type
   abbrev pub condition_does : ℕ → ℕ → ℕ → Does ℤ → Does ℤ
-  condition_does r on_true on_false e s =
-      after (e s) (λ x s. after (adds w r (if is_true x then on_true else on_false) s) (λ _ s.
-      gives (truth (is_true x)) s))
+  condition_does r on_true on_false e = do
+    x ← e
+    _ ← adds w r (if is_true x then on_true else on_false)
+    gives (truth (is_true x))
 
   abbrev pub switch_probe_does : ℕ → Does ℤ → Does ℤ
-  switch_probe_does r e s = after (e s) (λ x s. after (sets w r 1 s) (λ _ s. gives x s))
+  switch_probe_does r e = do
+    x ← e
+    _ ← sets w r 1
+    gives x
 
   abbrev pub probe_does : code.Probe → Does ℤ → Does ℤ
   probe_does (probe.Decision r base) e s = decision_does r base e s
@@ -33,7 +38,7 @@ module _ (w : Activation) where
   -- a label whose register is not 0 is the one that the switch chose
   abbrev pub where_set : Bool → Mark → Does (Unit {0})
   where_set true mark s = gives tt s
-  where_set false mark s = after (hits w mark.bit s) (λ _ s. sets w mark.register 0 s)
+  where_set false mark s = (hits w mark.bit >>= λ _. sets w mark.register 0) s
 
   abbrev pub mark_does : Option Mark → Bool → Does (Unit {0})
   mark_does None chosen s = gives tt s

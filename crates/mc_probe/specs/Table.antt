@@ -7,8 +7,9 @@ use Rattle.mc_typed.specs.declared.probes.Mark.{Mark}
 use Rattle.mc_typed.specs.Tree as typed
 use Rattle.mc_paths.specs.Paths.{increments}
 use Rattle.mc_roots.specs.declared.role.Role.{Role}
-use Rattle.mc_roots.specs.declared.role.Role.TheVariants.{Test, Inner, Plain}
-use Rattle.mc_roots.specs.Nodes.{Node}
+use Rattle.mc_roots.specs.declared.role.Role.TheVariants.{Controlling, Inner, Plain}
+use Rattle.mc_roots.specs.declared.operators.FullOperator.{FullOperator}
+use Rattle.mc_roots.specs.Nodes.{Node, full_operator}
 use Rattle.mc_roots.specs.Nodes as nodes
 use Rattle.mc_roots.specs.Roots.{is_root}
 use Rattle.mc_roots.specs.Conditions.{width, is_operator}
@@ -30,10 +31,16 @@ abbrev pub role_of : Stand → Role
 role_of (Loose role) = role
 role_of (InTree k c) = Inner
 
--- how an operand of `!`, `&&` or `||` stands, where the next decision has the number d
+-- how an operand of `!`, `&&`, `||` or a full operator stands, where the next decision has the
+-- number d
 abbrev pub operand : Stand → ℕ → Node → Stand
 operand (Loose role) d a = if is_root role a then InTree d 0 else Loose Plain
 operand (InTree k c) d a = InTree k c
+
+-- and how one of an operator that evaluates both of its operands, by the full operator that it is
+abbrev pub under : Option FullOperator → Stand → Stand
+under (Some operator) o = o
+under None o = Loose Plain
 
 -- after so many conditions
 abbrev pub beside : Stand → ℕ → Stand
@@ -74,8 +81,8 @@ module _ (m : Map) (first : ℕ) where
       else x
   round (InTree k c) d a x = round_condition k c a x
 
-  -- `inside` puts the probes of the parts, from how the operands of `!`, `&&` and `||` stand and
-  -- the number of the next decision.
+  -- `inside` puts the probes of the parts, from how the operands of `!`, `&&`, `||` and the full
+  -- operators stand and the number of the next decision.
   abbrev pub wrap : Stand → ℕ → Node → (Stand → ℕ → probed.Expression) → probed.Expression
   wrap st d a inside = round st d a (inside (operand st d a) (inner st d a))
 
@@ -83,7 +90,7 @@ module _ (m : Map) (first : ℕ) where
   plain_roots e = roots Plain (nodes.expression e)
 
   abbrev pub test_roots : typed.Expression → ℕ
-  test_roots e = roots Test (nodes.expression e)
+  test_roots e = roots Controlling (nodes.expression e)
 
   -- `d` is the number of the next decision.
   abbrev mutual
@@ -113,8 +120,9 @@ module _ (m : Map) (first : ℕ) where
         wrap st d (nodes.expression (typed.Not e span)) (λ o d. probed.Not (put o d e) span)
     put st d (typed.Binary operator a e f span) =
         wrap st d (nodes.expression (typed.Binary operator a e f span))
-        (λ o d. probed.Binary operator a (put (Loose Plain) d e)
-        (put (Loose Plain) (d + plain_roots e) f) span)
+        (λ o d. probed.Binary operator a (put (under (full_operator operator e f) o) d e)
+        (put (beside (under (full_operator operator e f) o) (width (nodes.expression e)))
+        (d + roots (role_of (under (full_operator operator e f) o)) (nodes.expression e)) f) span)
     put st d (typed.Logic operator e f span) =
         wrap st d (nodes.expression (typed.Logic operator e f span))
         (λ o d. probed.Logic operator (put o d e)
@@ -122,7 +130,7 @@ module _ (m : Map) (first : ℕ) where
         span)
     put st d (typed.Choice e f g a span) =
         wrap st d (nodes.expression (typed.Choice e f g a span))
-        (λ o d. probed.Choice (put (Loose Test) d e) (put (Loose Plain) (d + test_roots e) f)
+        (λ o d. probed.Choice (put (Loose Controlling) d e) (put (Loose Plain) (d + test_roots e) f)
         (put (Loose Plain) (d + test_roots e + plain_roots f) g) a span)
     put st d (typed.Call k a) = wrap st d (nodes.expression (typed.Call k a))
         (λ o d. probed.Call (put_call d k) a)
@@ -153,7 +161,7 @@ module _ (m : Map) (first : ℕ) where
   put_plain d e = put (Loose Plain) d e
 
   abbrev pub put_test : ℕ → typed.Expression → probed.Expression
-  put_test d e = put (Loose Test) d e
+  put_test d e = put (Loose Controlling) d e
 
   abbrev pub place_roots : typed.Place → ℕ
   place_roots place = roots Plain (nodes.place place)

@@ -3,8 +3,8 @@ use Rattle.std.proofs.Common.{◌≡◌, ◌∙◌, refl, sym, ap, subst, ℕ, z
 use Rattle.std.proofs.lemmas.List.{length-map, get_or-map}
 use Rattle.std.proofs.lemmas.List.Elements.{Contains-append_left, Contains-append_right}
 use Rattle.mc_roots.specs.declared.role.Role.{Role}
-use Rattle.mc_roots.specs.declared.role.Role.TheVariants.{Test, Inner, Plain}
-use Rattle.mc_roots.specs.Nodes.{Node, Constant, Not, Logic, Expression, Whole, Parts, no_parts, part, test}
+use Rattle.mc_roots.specs.declared.role.Role.TheVariants.{Controlling, Inner, Plain}
+use Rattle.mc_roots.specs.Nodes.{Node, Constant, Not, Logic, Expression, Whole, Parts, no_parts, part, controlling}
 use Rattle.mc_roots.specs.Nodes as n
 use Rattle.mc_roots.specs.Roots.{Place, Standing, standing, Found, is_constant, are_constant, is_candidate, is_root, operand_role, part_at, step, IsAt}
 use Rattle.mc_roots.proofs.Listed.{under, itself, own, unless, whole, in_node, in_parts}
@@ -26,10 +26,10 @@ constant_part (part a ps) zero u c e =
     let h : standing Plain a ≡ u = cc in
     sym (ap (λ (v : Standing). is_constant v.node) h) ∙ and_left (is_constant a) (are_constant ps) c
 constant_part (part a ps) (suc i) u c e = constant_part ps i u (and_right (is_constant a) (are_constant ps) c) e
-constant_part (test a ps) zero u c e =
-    let h : standing Test a ≡ u = cc in
+constant_part (controlling a ps) zero u c e =
+    let h : standing Controlling a ≡ u = cc in
     sym (ap (λ (v : Standing). is_constant v.node) h) ∙ and_left (is_constant a) (are_constant ps) c
-constant_part (test a ps) (suc i) u c e = constant_part ps i u (and_right (is_constant a) (are_constant ps) c) e
+constant_part (controlling a ps) (suc i) u c e = constant_part ps i u (and_right (is_constant a) (are_constant ps) c) e
 
 at_first : (role : Role) (a : Node) (u : Standing) → Some (standing role a) ≡ Some u → is_constant a ≡ true → is_constant u.node ≡ true
 at_first role a u e c =
@@ -75,12 +75,12 @@ in_parts_each (part a ps) i zero v f e h =
 in_parts_each (part a ps) i (suc j) v f e h =
     rw (← further i j) (Contains-append_right (map (under i) (whole Plain a (in_node a))) (in_parts (suc i) ps) (under (suc i + j) f)
     (in_parts_each ps (suc i) j v f e h))
-in_parts_each (test a ps) i zero v f e h =
-    let same : standing Test a ≡ v = cc in
-    rw add-zero (Contains-append_left (map (under i) (whole Test a (in_node a))) (in_parts (suc i) ps) (under i f)
-    (moved i (standing Test a) v f same h))
-in_parts_each (test a ps) i (suc j) v f e h =
-    rw (← further i j) (Contains-append_right (map (under i) (whole Test a (in_node a))) (in_parts (suc i) ps) (under (suc i + j) f)
+in_parts_each (controlling a ps) i zero v f e h =
+    let same : standing Controlling a ≡ v = cc in
+    rw add-zero (Contains-append_left (map (under i) (whole Controlling a (in_node a))) (in_parts (suc i) ps) (under i f)
+    (moved i (standing Controlling a) v f same h))
+in_parts_each (controlling a ps) i (suc j) v f e h =
+    rw (← further i j) (Contains-append_right (map (under i) (whole Controlling a (in_node a))) (in_parts (suc i) ps) (under (suc i + j) f)
     (in_parts_each ps (suc i) j v f e h))
 
 inner_step : (role : Role) (a whole_node : Node) (u : Standing) → operand_role role whole_node ≡ Inner → Some (standing (operand_role role whole_node) a) ≡ Some u → standing Inner a ≡ u

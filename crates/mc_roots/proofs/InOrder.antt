@@ -5,16 +5,16 @@ use Rattle.std.proofs.lemmas.Bool.{cases_lt}
 use Rattle.mc_span.specs.declared.span.Span.{Span}
 use Rattle.mc_typed.specs.Tree.{Function}
 use Rattle.mc_roots.specs.declared.role.Role.{Role}
-use Rattle.mc_roots.specs.declared.role.Role.TheVariants.{Test, Inner, Plain}
-use Rattle.mc_roots.specs.Nodes.{Node, Constant, Not, Logic, Expression, Whole, Parts, no_parts, part, test, span_of, program}
+use Rattle.mc_roots.specs.declared.role.Role.TheVariants.{Controlling, Inner, Plain}
+use Rattle.mc_roots.specs.Nodes.{Node, Constant, Not, Logic, Expression, Whole, Parts, no_parts, part, controlling, span_of, program}
 use Rattle.mc_roots.specs.Roots.{Place, Standing, standing, Found, is_constant, is_candidate, is_root, is_inner, operand_role, part_at, step, IsAt, IsRoot}
 use Rattle.mc_roots.specs.Decisions.{Decision, Tells, AreTold, IsBefore, IsAscending}
 use Rattle.mc_roots.specs.Laws.{IsBetween, StandsIn, StandIn, IsExpression, IsInOrder, AreInOrder, StartsAreInOrder}
 use Rattle.mc_roots.proofs.Each.{not_constant}
 
--- only an expression is a test
+-- only an expression is a controlling one
 abbrev FitsRole : Role → Node → Type 0
-FitsRole Test a = IsExpression a
+FitsRole Controlling a = IsExpression a
 FitsRole Inner a = Unit {0}
 FitsRole Plain a = Unit {0}
 
@@ -62,9 +62,9 @@ region_parts (part a ps) zero u low high (m, lm, mh, sa, sp) e =
     at_some (standing Plain a) u low high e (low, m, omega arith, mh, record { node = sa; fits = tt })
 region_parts (part a ps) (suc i) u low high (m, lm, mh, sa, sp) e =
     wider low high m high u lm (omega arith) (region_parts ps i u m high sp e)
-region_parts (test a ps) zero u low high (m, lm, mh, ea, sa, sp) e =
-    at_some (standing Test a) u low high e (low, m, omega arith, mh, record { node = sa; fits = ea })
-region_parts (test a ps) (suc i) u low high (m, lm, mh, ea, sa, sp) e =
+region_parts (controlling a ps) zero u low high (m, lm, mh, ea, sa, sp) e =
+    at_some (standing Controlling a) u low high e (low, m, omega arith, mh, record { node = sa; fits = ea })
+region_parts (controlling a ps) (suc i) u low high (m, lm, mh, ea, sa, sp) e =
     wider low high m high u lm (omega arith) (region_parts ps i u m high sp e)
 
 region : (role : Role) (a : Node) (i : ℕ) (u : Standing) (low high : ℕ) → is_constant a ≡ false → StandsIn low high a → step role a i ≡ Some u → Region (low_of low a) (high_of high a) u
@@ -100,12 +100,12 @@ apart_parts (part a ps) zero (suc j) u v low high (m, lm, mh, sa, sp) e f lt = (
 apart_parts (part a ps) (suc i) (suc j) u v low high (m, lm, mh, sa, sp) e f lt =
     let (k, r, t) = apart_parts ps i j u v m high sp e f (omega (arith, lt)) in
     (k, wider low k m k u lm (omega arith) r, t)
-apart_parts (test a ps) zero (suc j) u v low high (m, lm, mh, ea, sa, sp) e f lt = (
+apart_parts (controlling a ps) zero (suc j) u v low high (m, lm, mh, ea, sa, sp) e f lt = (
   m,
-  at_some (standing Test a) u low m e (low, m, omega arith, omega arith, record { node = sa; fits = ea }),
+  at_some (standing Controlling a) u low m e (low, m, omega arith, omega arith, record { node = sa; fits = ea }),
   region_parts ps j v m high sp f,
 )
-apart_parts (test a ps) (suc i) (suc j) u v low high (m, lm, mh, ea, sa, sp) e f lt =
+apart_parts (controlling a ps) (suc i) (suc j) u v low high (m, lm, mh, ea, sa, sp) e f lt =
     let (k, r, t) = apart_parts ps i j u v m high sp e f (omega (arith, lt)) in
     (k, wider low k m k u lm (omega arith) r, t)
 
@@ -142,7 +142,7 @@ never_constant : (span : Span) → is_constant (Constant span) ≡ false → ⊥
 never_constant span c = absurd (cc)
 
 never_whole : (role : Role) (ps : Parts) → FitsRole role (Whole ps) → IsTrue (is_root role (Whole ps)) → ⊥
-never_whole Test ps fits h = fits
+never_whole Controlling ps fits h = fits
 never_whole Inner ps fits h = absurd (cc)
 never_whole Plain ps fits h = absurd (cc)
 

@@ -1,8 +1,8 @@
 -- The roots inside a node, with their places.
 use Rattle.std.proofs.Common.{ℕ, suc, Bool, true, false, List, [], ◌∷◌, ◌++◌, map}
 use Rattle.mc_roots.specs.declared.role.Role.{Role}
-use Rattle.mc_roots.specs.declared.role.Role.TheVariants.{Test, Inner, Plain}
-use Rattle.mc_roots.specs.Nodes.{Node, Constant, Not, Logic, Expression, Whole, Parts, no_parts, part, test}
+use Rattle.mc_roots.specs.declared.role.Role.TheVariants.{Controlling, Inner, Plain}
+use Rattle.mc_roots.specs.Nodes.{Node, Constant, Not, Logic, Expression, Whole, Parts, no_parts, part, controlling}
 use Rattle.mc_roots.specs.Roots.{Found, is_constant, is_candidate}
 
 abbrev pub under : ℕ → Found → Found
@@ -36,4 +36,4 @@ abbrev mutual
   pub in_parts : ℕ → Parts → List Found
   in_parts i no_parts = []
   in_parts i (part a ps) = map (under i) (whole Plain a (in_node a)) ++ in_parts (suc i) ps
-  in_parts i (test a ps) = map (under i) (whole Test a (in_node a)) ++ in_parts (suc i) ps
+  in_parts i (controlling a ps) = map (under i) (whole Controlling a (in_node a)) ++ in_parts (suc i) ps

@@ -4,10 +4,10 @@ use Rattle.std.specs.Prelude.{slice_get}
 use Rattle.std.proofs.lemmas.List.Elements.{All-contains}
 use Rattle.std.proofs.lemmas.Bool.{cases_lt}
 use Rattle.mc_span.specs.declared.span.Span.{Span}
-use Rattle.mc_typed.specs.declared.operators.LogicOperator.{LogicOperator}
 use Rattle.mc_typed.specs.Tree.{Function}
 use Rattle.mc_cond.specs.Tree.{Tree}
 use Rattle.mc_roots.specs.Laws.{OneList}
+use Rattle.mc_roots.specs.declared.operators.Junction.{Junction}
 use Rattle.mc_roots.specs.declared.role.Role.TheVariants.{Plain}
 use Rattle.mc_roots.specs.Nodes.{Node, Constant, Not, Logic, Expression, Whole, program}
 use Rattle.mc_roots.specs.Roots.{Place, Found, IsRoot, standing}
@@ -83,7 +83,7 @@ alone : (a : Node) (k : ℕ) → is_operator a ≡ false → k < 1 → HasCondit
 alone a zero e lt = ([], a, itself e)
 alone a (suc k) e lt = absurd (omega (arith, lt))
 
-in_either : (operator : LogicOperator) (a b : Node) (span : Span) (k : ℕ) → k < width a + width b → (k < width a) ⊎ (width a ≤ k) → ((j : ℕ) → j < width a → HasCondition a j) → ((j : ℕ) → j < width b → HasCondition b j) → HasCondition (Logic operator a b span) k
+in_either : (operator : Junction) (a b : Node) (span : Span) (k : ℕ) → k < width a + width b → (k < width a) ⊎ (width a ≤ k) → ((j : ℕ) → j < width a → HasCondition a j) → ((j : ℕ) → j < width b → HasCondition b j) → HasCondition (Logic operator a b span) k
 in_either operator a b span k lt (inl here) left right =
     let h = left k here in (0 ∷ h.0, h.1, in_left h.2)
 in_either operator a b span k lt (inr later) left right =

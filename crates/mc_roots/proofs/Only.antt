@@ -2,8 +2,8 @@
 use Rattle.std.proofs.Common.{◌≡◌, ◌∙◌, refl, sym, ap, ℕ, suc, ◌+◌, Bool, true, false, IsTrue, List, [], ◌++◌, map, All, Some, arith, add-zero}
 use Rattle.std.proofs.lemmas.List.Elements.{All-nil, All-cons, All-append, All-map, All-weaker}
 use Rattle.mc_roots.specs.declared.role.Role.{Role}
-use Rattle.mc_roots.specs.declared.role.Role.TheVariants.{Test, Inner, Plain}
-use Rattle.mc_roots.specs.Nodes.{Node, Constant, Not, Logic, Expression, Whole, Parts, no_parts, part, test}
+use Rattle.mc_roots.specs.declared.role.Role.TheVariants.{Controlling, Inner, Plain}
+use Rattle.mc_roots.specs.Nodes.{Node, Constant, Not, Logic, Expression, Whole, Parts, no_parts, part, controlling}
 use Rattle.mc_roots.specs.Roots.{Standing, standing, Found, is_constant, is_candidate, is_boolean, is_root, operand_role, part_at, step, IsAt}
 use Rattle.mc_roots.proofs.Listed.{under, itself, own, unless, whole, in_node, in_parts}
 
@@ -13,7 +13,7 @@ IsRootFrom s f = (role : Role) × IsAt s f.place (standing role f.node) × IsTru
 
 -- the operands of an operator that is no constant belong to a decision's tree
 pub operands_are_inner : (role : Role) (a : Node) → is_boolean a ≡ true → is_constant a ≡ false → operand_role role a ≡ Inner
-operands_are_inner Test a b e = rw e refl
+operands_are_inner Controlling a b e = rw e refl
 operands_are_inner Inner a b e = refl
 operands_are_inner Plain a b e = rw (b, e) refl
 
@@ -73,8 +73,8 @@ mutual
       (all_under s (standing Plain a) i (whole Plain a (in_node a))
       (ap (step s.role s.node) (sym (add-zero i)) ∙ h 0) (whole_only Plain a (λ e. node_only a Plain e)))
       (parts_only ps s (suc i) (λ j. ap (step s.role s.node) (further i j) ∙ h (suc j)))
-  parts_only (test a ps) s i h =
-      All-append (IsRootFrom s) (map (under i) (whole Test a (in_node a))) (in_parts (suc i) ps)
-      (all_under s (standing Test a) i (whole Test a (in_node a))
-      (ap (step s.role s.node) (sym (add-zero i)) ∙ h 0) (whole_only Test a (λ e. node_only a Test e)))
+  parts_only (controlling a ps) s i h =
+      All-append (IsRootFrom s) (map (under i) (whole Controlling a (in_node a))) (in_parts (suc i) ps)
+      (all_under s (standing Controlling a) i (whole Controlling a (in_node a))
+      (ap (step s.role s.node) (sym (add-zero i)) ∙ h 0) (whole_only Controlling a (λ e. node_only a Controlling e)))
       (parts_only ps s (suc i) (λ j. ap (step s.role s.node) (further i j) ∙ h (suc j)))

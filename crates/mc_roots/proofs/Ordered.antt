@@ -2,8 +2,8 @@
 use Rattle.std.proofs.Common.{refl, ℕ, suc, ◌≤◌, inl, inr, Bool, true, false, List, [], ◌∷◌, ◌++◌, map, All, arith}
 use Rattle.std.proofs.lemmas.List.Elements.{All-nil, All-cons, All-head, All-tail, All-append, All-map, All-weaker}
 use Rattle.mc_roots.specs.declared.role.Role.{Role}
-use Rattle.mc_roots.specs.declared.role.Role.TheVariants.{Test, Inner, Plain}
-use Rattle.mc_roots.specs.Nodes.{Node, Constant, Not, Logic, Expression, Whole, Parts, no_parts, part, test}
+use Rattle.mc_roots.specs.declared.role.Role.TheVariants.{Controlling, Inner, Plain}
+use Rattle.mc_roots.specs.Nodes.{Node, Constant, Not, Logic, Expression, Whole, Parts, no_parts, part, controlling}
 use Rattle.mc_roots.specs.Roots.{Place, Found, is_constant, is_candidate}
 use Rattle.mc_roots.specs.Decisions.{IsBefore, IsAscending}
 use Rattle.mc_roots.proofs.Listed.{under, own, unless, whole, in_node, in_parts}
@@ -45,9 +45,9 @@ first_from i j no_parts lt = All-nil (λ g. FirstFrom i g.place)
 first_from i j (part a ps) lt =
     All-append (λ g. FirstFrom i g.place) (map (under j) (whole Plain a (in_node a))) (in_parts (suc j) ps)
     (first_under i j (whole Plain a (in_node a)) lt) (first_from i (suc j) ps (omega arith))
-first_from i j (test a ps) lt =
-    All-append (λ g. FirstFrom i g.place) (map (under j) (whole Test a (in_node a))) (in_parts (suc j) ps)
-    (first_under i j (whole Test a (in_node a)) lt) (first_from i (suc j) ps (omega arith))
+first_from i j (controlling a ps) lt =
+    All-append (λ g. FirstFrom i g.place) (map (under j) (whole Controlling a (in_node a))) (in_parts (suc j) ps)
+    (first_under i j (whole Controlling a (in_node a)) lt) (first_from i (suc j) ps (omega arith))
 
 first_inside : (a : Node) → All (λ g. FirstFrom 0 g.place) (in_node a)
 first_inside (Constant span) = All-nil (λ g. FirstFrom 0 g.place)
@@ -102,7 +102,7 @@ mutual
       ascending_append (map (under i) (whole Plain a (in_node a))) (in_parts (suc i) ps)
       (one_part i Plain a (ascending a)) (ascending_parts (suc i) ps)
       (part_before i (whole Plain a (in_node a)) (in_parts (suc i) ps) (first_from (suc i) (suc i) ps (omega arith)))
-  ascending_parts i (test a ps) =
-      ascending_append (map (under i) (whole Test a (in_node a))) (in_parts (suc i) ps)
-      (one_part i Test a (ascending a)) (ascending_parts (suc i) ps)
-      (part_before i (whole Test a (in_node a)) (in_parts (suc i) ps) (first_from (suc i) (suc i) ps (omega arith)))
+  ascending_parts i (controlling a ps) =
+      ascending_append (map (under i) (whole Controlling a (in_node a))) (in_parts (suc i) ps)
+      (one_part i Controlling a (ascending a)) (ascending_parts (suc i) ps)
+      (part_before i (whole Controlling a (in_node a)) (in_parts (suc i) ps) (first_from (suc i) (suc i) ps (omega arith)))

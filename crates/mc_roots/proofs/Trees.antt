@@ -1,12 +1,17 @@
 -- Trees of decisions are numbered, and the list of spans has each condition at its number.
-use Rattle.std.proofs.Common.{◌≡◌, ◌∙◌, refl, sym, ap, ℕ, zero, suc, ◌+◌, ◌<◌, ◌≤◌, false, List, [], ◌∷◌, ◌++◌, length, Some, arith, length-append}
+use Rattle.std.proofs.Common.{◌≡◌, ◌∙◌, refl, sym, ap, ℕ, zero, suc, ◌+◌, ◌<◌, ◌≤◌, false, List, [], ◌∷◌, ◌++◌, length, Option, Some, None, arith, length-append}
 use Rattle.std.specs.Prelude.{slice_get}
 use Rattle.mc_span.specs.declared.span.Span.{Span}
 use Rattle.mc_typed.specs.declared.operators.LogicOperator.TheVariants as logic
+use Rattle.mc_roots.specs.declared.operators.FullOperator.TheVariants as full
 use Rattle.mc_typed.specs.Levels.{limited}
 use Rattle.mc_typed.specs.Tree as t
 use Rattle.mc_cond.specs.Tree.{size, IsNumberedFrom, IsNumbered}
+use Rattle.mc_roots.specs.declared.operators.Junction.TheVariants.{Short, Full}
 use Rattle.mc_roots.specs.Nodes.{Node, Constant, Not, Logic, Expression, Whole, span_of, expression}
+use Rattle.mc_typed.specs.declared.operators.Operator.{Operator}
+use Rattle.mc_roots.specs.declared.operators.FullOperator.{FullOperator}
+use Rattle.mc_roots.specs.Nodes as n
 use Rattle.mc_roots.specs.Roots.{Place}
 use Rattle.mc_roots.specs.Conditions.{width, tree_from, IsCondition, is_operator, itself, under_not, in_left, in_right}
 use Rattle.mc_roots.specs.steps.Walk.{spans}
@@ -14,9 +19,15 @@ use Rattle.mc_roots.specs.steps.Walk.{spans}
 pub size_of_tree : (first : ℕ) (a : Node) → size (tree_from first a) ≡ width a
 size_of_tree first (Constant span) = refl
 size_of_tree first (Not a span) = size_of_tree first a
-size_of_tree first (Logic logic.And a b span) =
+size_of_tree first (Logic (Short logic.And) a b span) =
     let left = size_of_tree first a in let right = size_of_tree (first + width a) b in cc
-size_of_tree first (Logic logic.Or a b span) =
+size_of_tree first (Logic (Short logic.Or) a b span) =
+    let left = size_of_tree first a in let right = size_of_tree (first + width a) b in cc
+size_of_tree first (Logic (Full full.And) a b span) =
+    let left = size_of_tree first a in let right = size_of_tree (first + width a) b in cc
+size_of_tree first (Logic (Full full.Or) a b span) =
+    let left = size_of_tree first a in let right = size_of_tree (first + width a) b in cc
+size_of_tree first (Logic (Full full.Xor) a b span) =
     let left = size_of_tree first a in let right = size_of_tree (first + width a) b in cc
 size_of_tree first (Expression top ps span) = refl
 size_of_tree first (Whole ps) = refl
@@ -24,9 +35,15 @@ size_of_tree first (Whole ps) = refl
 pub numbered_from : (first : ℕ) (a : Node) → IsNumberedFrom first (tree_from first a)
 numbered_from first (Constant span) = refl
 numbered_from first (Not a span) = numbered_from first a
-numbered_from first (Logic logic.And a b span) =
+numbered_from first (Logic (Short logic.And) a b span) =
     (numbered_from first a, rw (size_of_tree first a) (numbered_from (first + width a) b))
-numbered_from first (Logic logic.Or a b span) =
+numbered_from first (Logic (Short logic.Or) a b span) =
+    (numbered_from first a, rw (size_of_tree first a) (numbered_from (first + width a) b))
+numbered_from first (Logic (Full full.And) a b span) =
+    (numbered_from first a, rw (size_of_tree first a) (numbered_from (first + width a) b))
+numbered_from first (Logic (Full full.Or) a b span) =
+    (numbered_from first a, rw (size_of_tree first a) (numbered_from (first + width a) b))
+numbered_from first (Logic (Full full.Xor) a b span) =
     (numbered_from first a, rw (size_of_tree first a) (numbered_from (first + width a) b))
 numbered_from first (Expression top ps span) = refl
 numbered_from first (Whole ps) = refl
@@ -36,13 +53,17 @@ numbered a few = record { in_order = numbered_from 0 a; few = rw (size_of_tree 0
 
 -- ---- spans
 
+both_span : (which : Option FullOperator) (operator : Operator) (a b : Node) (span : Span) → span ≡ span_of (n.evaluates_both which operator a b span)
+both_span (Some o) operator a b span = refl
+both_span None operator a b span = refl
+
 pub same_span : (e : t.Expression) → t.span_of e ≡ span_of (expression e)
 same_span (t.Constant v a span) = refl
 same_span (t.Read object a) = refl
 same_span (t.Unary operator a e span) = refl
 same_span (t.Convert a written e span) = refl
 same_span (t.Not e span) = refl
-same_span (t.Binary operator a e f span) = refl
+same_span (t.Binary operator a e f span) = both_span (n.full_operator operator e f) operator (expression e) (expression f) span
 same_span (t.Logic operator e f span) = refl
 same_span (t.Choice e f g a span) = refl
 same_span (t.Call k a) = refl

@@ -2,8 +2,8 @@
 use Rattle.std.proofs.Common.{◌≡◌, ◌∙◌, refl, sym, ap, ℕ, suc, Bool, true, false, List, [], ◌∷◌, ◌++◌, map, append_assoc}
 use Rattle.std.proofs.lemmas.List.{append-nil, map-append}
 use Rattle.mc_roots.specs.declared.role.Role.{Role}
-use Rattle.mc_roots.specs.declared.role.Role.TheVariants.{Test, Inner, Plain}
-use Rattle.mc_roots.specs.Nodes.{Node, Constant, Not, Logic, Expression, Whole, Parts, no_parts, part, test}
+use Rattle.mc_roots.specs.declared.role.Role.TheVariants.{Controlling, Inner, Plain}
+use Rattle.mc_roots.specs.Nodes.{Node, Constant, Not, Logic, Expression, Whole, Parts, no_parts, part, controlling}
 use Rattle.mc_roots.specs.Roots.{Found, is_constant, is_candidate}
 use Rattle.mc_roots.specs.steps.Walk.{pushed, kept, inside, inside_parts, visited}
 use Rattle.mc_roots.proofs.Listed.{under, own, unless, whole, in_node, in_parts}
@@ -47,6 +47,6 @@ mutual
   walks_parts i (part a ps) found =
       joins (inside_parts ps) found (visited Plain a found) (map (under i) (whole Plain a (in_node a)))
       (in_parts (suc i) ps) (one i Plain a found (λ xs. walks a xs)) (walks_parts (suc i) ps _)
-  walks_parts i (test a ps) found =
-      joins (inside_parts ps) found (visited Test a found) (map (under i) (whole Test a (in_node a)))
-      (in_parts (suc i) ps) (one i Test a found (λ xs. walks a xs)) (walks_parts (suc i) ps _)
+  walks_parts i (controlling a ps) found =
+      joins (inside_parts ps) found (visited Controlling a found) (map (under i) (whole Controlling a (in_node a)))
+      (in_parts (suc i) ps) (one i Controlling a found (λ xs. walks a xs)) (walks_parts (suc i) ps _)

@@ -2,8 +2,8 @@
 use Rattle.std.specs.Prelude.{ℕ, zero, suc, ◌+◌, Bool, true, false, List, [], ◌∷◌}
 use Rattle.mc_typed.specs.Tree.{Function}
 use Rattle.mc_roots.specs.declared.role.Role.{Role}
-use Rattle.mc_roots.specs.declared.role.Role.TheVariants.{Test, Plain}
-use Rattle.mc_roots.specs.Nodes.{Node, Constant, Not, Logic, Expression, Whole, Parts, no_parts, part, test}
+use Rattle.mc_roots.specs.declared.role.Role.TheVariants.{Controlling, Plain}
+use Rattle.mc_roots.specs.Nodes.{Node, Constant, Not, Logic, Expression, Whole, Parts, no_parts, part, controlling}
 use Rattle.mc_roots.specs.Nodes as nodes
 use Rattle.mc_roots.specs.Roots.{is_root, operand_role}
 
@@ -28,7 +28,7 @@ abbrev mutual
   pub roots_in : Parts → ℕ
   roots_in no_parts = 0
   roots_in (part a ps) = roots Plain a + roots_in ps
-  roots_in (test a ps) = roots Test a + roots_in ps
+  roots_in (controlling a ps) = roots Controlling a + roots_in ps
 
 -- the functions before the one with this number
 abbrev pub roots_before : List Function → ℕ → ℕ

@@ -2,7 +2,7 @@
 use Rattle.std.specs.Prelude.{◌≡◌, ℕ, ◌<◌, ◌≤◌, ◌⊎◌, false, List, [], ◌∷◌, All}
 use Rattle.mc_span.specs.declared.span.Span.{Span}
 use Rattle.mc_typed.specs.Tree.{Function}
-use Rattle.mc_roots.specs.Nodes.{Node, Constant, Not, Logic, Expression, Whole, Parts, no_parts, part, test, program}
+use Rattle.mc_roots.specs.Nodes.{Node, Constant, Not, Logic, Expression, Whole, Parts, no_parts, part, controlling, program}
 use Rattle.mc_roots.specs.Roots.{is_constant}
 use Rattle.mc_roots.specs.Decisions.{Decision, AreDecisions}
 
@@ -48,12 +48,12 @@ abbrev mutual
   StandIn low high (part a ps) =
       (middle : ℕ) × (low ≤ middle) × (middle ≤ high)
       × StandsIn low middle a × StandIn middle high ps
-  StandIn low high (test a ps) =
+  StandIn low high (controlling a ps) =
       (middle : ℕ) × (low ≤ middle) × (middle ≤ high) × IsExpression a
       × StandsIn low middle a × StandIn middle high ps
 
 -- The order by the start of the root, the outer one first where two start together. Two roots would
--- have one span only where a test is an implied conversion, and C17 implies none there.
+-- have one span only where a controlling one is an implied conversion, and C17 implies none there.
 abbrev pub IsInOrder : Decision → Decision → Type 0
 IsInOrder d e =
     (d.root.start < e.root.start)

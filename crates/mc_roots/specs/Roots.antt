@@ -2,8 +2,8 @@
 use Rattle.std.specs.Prelude.{◌≡◌, ℕ, zero, suc, Bool, true, false, not, ◌&&◌, ◌||◌, if◌then◌else◌, IsTrue, List, [], ◌∷◌, Option, Some, None}
 use Rattle.mc_typed.specs.Tree.{Function}
 use Rattle.mc_roots.specs.declared.role.Role.{Role}
-use Rattle.mc_roots.specs.declared.role.Role.TheVariants.{Test, Inner, Plain}
-use Rattle.mc_roots.specs.Nodes.{Node, Constant, Not, Logic, Expression, Whole, Parts, no_parts, part, test, program}
+use Rattle.mc_roots.specs.declared.role.Role.TheVariants.{Controlling, Inner, Plain}
+use Rattle.mc_roots.specs.Nodes.{Node, Constant, Not, Logic, Expression, Whole, Parts, no_parts, part, controlling, program}
 use Rattle.mc_roots.specs.Nodes as nodes
 
 -- ---- integer constant expressions (C17 6.6)
@@ -23,15 +23,15 @@ abbrev mutual
   pub are_constant : Parts → Bool
   are_constant no_parts = true
   are_constant (part a ps) = is_constant a && are_constant ps
-  are_constant (test a ps) = is_constant a && are_constant ps
+  are_constant (controlling a ps) = is_constant a && are_constant ps
 
 -- ---- roots
 
--- A `Role` says how an expression stands in what is around it: as a `Test`, the controlling
+-- A `Role` says how an expression stands in what is around it: as `Controlling`, the controlling
 -- expression of `if`, `while`, `do` or `for` or the first operand of `?:`; as `Inner`, a node or a
 -- condition of the tree of a decision around it; or as `Plain`, otherwise.
 
--- the top operator is `&&`, `||`, `!`, a relational or an equality operator
+-- the top operator is `&&`, `||`, `!`, a full operator, a relational or an equality operator
 abbrev pub is_boolean : Node → Bool
 is_boolean (Constant span) = false
 is_boolean (Not a span) = true
@@ -40,18 +40,18 @@ is_boolean (Expression (nodes.Operator compares) ps span) = compares
 is_boolean (Expression nodes.Other ps span) = false
 is_boolean (Whole ps) = false
 
--- A root is a test, or any other Boolean expression that is neither a node nor a condition of the
--- tree of another decision; an integer constant expression never is.
+-- A root is a controlling expression, or any other Boolean expression that is neither a node nor a
+-- condition of the tree of another decision; an integer constant expression never is.
 abbrev pub is_candidate : Role → Node → Bool
-is_candidate Test a = true
+is_candidate Controlling a = true
 is_candidate Inner a = false
 is_candidate Plain a = is_boolean a
 
 abbrev pub is_root : Role → Node → Bool
 is_root role a = is_candidate role a && not (is_constant a)
 
--- The operands of `!`, `&&` and `||` are nodes or conditions of the tree to which this operator
--- belongs: as the root, or as a node below it.
+-- The operands of `!`, `&&`, `||` and the full operators are nodes or conditions of the tree to which
+-- this operator belongs: as the root, or as a node below it.
 abbrev pub is_inner : Role → Bool
 is_inner Inner = true
 is_inner _ = false
@@ -74,8 +74,8 @@ abbrev pub part_at : Parts → ℕ → Option Standing
 part_at no_parts i = None
 part_at (part a ps) zero = Some (standing Plain a)
 part_at (part a ps) (suc i) = part_at ps i
-part_at (test a ps) zero = Some (standing Test a)
-part_at (test a ps) (suc i) = part_at ps i
+part_at (controlling a ps) zero = Some (standing Controlling a)
+part_at (controlling a ps) (suc i) = part_at ps i
 
 abbrev pub step : Role → Node → ℕ → Option Standing
 step role (Constant span) i = None

@@ -5,12 +5,14 @@ mod boolean;
 mod decision;
 mod fault;
 mod laws;
+mod operators;
 mod role;
 
-pub use boolean::is_boolean;
+pub use boolean::{full_operator, is_boolean};
 pub use decision::Decision;
 pub use fault::DecideFault;
 pub use laws::{one_list, starts_are_in_order};
 pub use mc_cond::CondTree;
 pub use mc_typed::Span;
+pub use operators::{FullOperator, Junction};
 pub use role::Role;

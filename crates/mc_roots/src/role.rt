@@ -5,7 +5,7 @@
 pub enum Role {
     /// The controlling expression of `if`, `while`, `do` or `for` (C17 6.8.4.1, 6.8.5), or the
     /// first operand of `?:` (C17 6.5.15).
-    Test,
+    Controlling,
     /// A node or a condition of the tree of a decision around it.
     Inner,
     /// Any other expression.

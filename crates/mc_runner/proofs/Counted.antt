@@ -10,7 +10,7 @@ use Rattle.mc_typed.specs.Tree.{ResultType, NoResult, NumberResult, StructureRes
 use Rattle.mc_typed.specs.Tree as t
 use Rattle.mc_typed.specs.Sound.{IsSound, IsFunction, AreFunctions, scope_of, outermost, labels_of, result_at}
 use Rattle.mc_typed.specs.Plans.{Call, Plan}
-use Rattle.mc_roots.specs.declared.role.Role.TheVariants.{Test, Plain}
+use Rattle.mc_roots.specs.declared.role.Role.TheVariants.{Controlling, Plain}
 use Rattle.mc_roots.specs.Nodes as n
 use Rattle.mc_roots.specs.Counts.{roots_before}
 use Rattle.mc_steps.specs.Events.{Event, Entered, Exited, Started, Chosen, Evaluated}
@@ -24,10 +24,10 @@ use Rattle.mc_meaning.specs.Stores.{Path, Store, on_places}
 use Rattle.mc_meaning.specs.Within.{Does, Within}
 use Rattle.mc_meaning.specs.Positions.{past, past_statement, into_statement, past_start, past_test, past_step, in_switch, points_at_end}
 use Rattle.mc_meaning.specs.Decisions.{value, choose}
-use Rattle.mc_meaning.specs.Expressions.{value_of}
+use Rattle.mc_meaning.specs.Expressions.{evaluate}
 use Rattle.mc_meaning.specs.Statements.{effect, effects, declare, counted, where_initializes, start, loop_test, returned, leave, run, run_from}
 use Rattle.mc_meaning.specs.Calls.{Open, with_one, enter, call_in}
-use Rattle.mc_meaning.specs.Tests.{none_open, call_made, start as first_state, plain_run}
+use Rattle.mc_meaning.specs.Tests.{none_open, call_made, first_state as first_state, plain_run}
 use Rattle.mc_meaning.proofs.Listed as l
 use Rattle.mc_meaning.proofs.Runs.{IsGiven, Gives}
 use Rattle.mc_simulation.proofs.Completes.{Ends, items_end}
@@ -77,11 +77,11 @@ module _ (entries : ℕ) (all : Points) where
     labels = (let x : at.labels + (q.labels + o.labels) ≤ all.labels = h.labels in omega arith);
   }
 
-  number : (e : Expression) (w : Within) → CallsKeep w → Keeps (value (value_of e Plain w))
+  number : (e : Expression) (w : Within) → CallsKeep w → Keeps (value (evaluate e Plain w))
   number e w c = numbers.number_in P evaluated e Plain w c
 
-  test : (e : Expression) (w : Within) → CallsKeep w → Keeps (value (value_of e Test w))
-  test e w c = numbers.number_in P evaluated e Test w c
+  test : (e : Expression) (w : Within) → CallsKeep w → Keeps (value (evaluate e Controlling w))
+  test e w c = numbers.number_in P evaluated e Controlling w c
 
   -- ---- statements
 
@@ -144,21 +144,21 @@ module _ (entries : ℕ) (all : Points) where
         (l.effect_keeps P Path (effect whole (into_statement w)) (numbers.effect_in P evaluated whole (into_statement w) c))
     run_in (t.If e a keyword span) w c h =
         let x : Within = into_statement w in
-        let v : Within = past Test (n.expression e) x in
+        let v : Within = past Controlling (n.expression e) x in
         counted_in w
-        (λ w. choice_does (value (value_of e Test w)) (run a (past Test (n.expression e) w)) (gives Completed))
+        (λ w. choice_does (value (evaluate e Controlling w)) (run a (past Controlling (n.expression e) w)) (gives Completed))
         (first_under w.points a_statement (points_of a) h)
-        (l.choice_keeps P (value (value_of e Test x)) (run a v) (gives Completed) (test e x c)
+        (l.choice_keeps P (value (evaluate e Controlling x)) (run a v) (gives Completed) (test e x c)
         (run_in a v c (later_under w.points a_statement (points_of a) h)) (λ s. tt))
     run_in (t.IfElse e a b keyword span) w c h =
         let x : Within = into_statement w in
-        let v : Within = past Test (n.expression e) x in
+        let v : Within = past Controlling (n.expression e) x in
         let u : Within = past_statement a v in
         let inner = later_under w.points a_statement (points_of a ⊕ points_of b) h in
         counted_in w
-        (λ w. choice_does (value (value_of e Test w)) (run a (past Test (n.expression e) w)) (run b (past_statement a (past Test (n.expression e) w))))
+        (λ w. choice_does (value (evaluate e Controlling w)) (run a (past Controlling (n.expression e) w)) (run b (past_statement a (past Controlling (n.expression e) w))))
         (first_under w.points a_statement (points_of a ⊕ points_of b) h)
-        (l.choice_keeps P (value (value_of e Test x)) (run a v) (run b u) (test e x c)
+        (l.choice_keeps P (value (evaluate e Controlling x)) (run a v) (run b u) (test e x c)
         (run_in a v c (first_under x.points (points_of a) (points_of b) inner))
         (run_in b u c (later_under x.points (points_of a) (points_of b) inner)))
     run_in (t.Switch e items keyword span) w c h =
@@ -167,9 +167,9 @@ module _ (entries : ℕ) (all : Points) where
         let absent : Points = where_absent (has_default items) in
         let inner = later_under w.points a_statement (absent ⊕ points_of_all items) h in
         counted_in w
-        (λ w. switch_does (value (value_of e Plain w)) (labels_of items) (λ seek. run_from items seek (in_switch items (past Plain (n.expression e) w))) (choose w.points.labels))
+        (λ w. switch_does (value (evaluate e Plain w)) (labels_of items) (λ seek. run_from items seek (in_switch items (past Plain (n.expression e) w))) (choose w.points.labels))
         (first_under w.points a_statement (absent ⊕ points_of_all items) h)
-        (switch_in (value (value_of e Plain x)) (labels_of items) (λ seek. run_from items seek v) x.points (number e x c)
+        (switch_in (value (evaluate e Plain x)) (labels_of items) (λ seek. run_from items seek v) x.points (number e x c)
         (λ seek. from_in items seek v c (later_under x.points absent (points_of_all items) inner))
         (first_under x.points absent (points_of_all items) inner))
     run_in (t.For begin test step a keyword span) w c h =
@@ -187,11 +187,11 @@ module _ (entries : ℕ) (all : Points) where
         let x : Within = into_statement w in
         let v : Within = past_statement a x in
         counted_in w
-        (λ w. do_does (run a w) (as_does is_true (value (value_of e Test (past_statement a w)))))
+        (λ w. do_does (run a w) (as_does is_true (value (evaluate e Controlling (past_statement a w)))))
         (first_under w.points a_statement (points_of a) h)
-        (l.do_keeps P (run a x) (as_does is_true (value (value_of e Test v)))
+        (l.do_keeps P (run a x) (as_does is_true (value (evaluate e Controlling v)))
         (run_in a x c (later_under w.points a_statement (points_of a) h))
-        (l.as_keeps P is_true (value (value_of e Test v)) (test e v c)))
+        (l.as_keeps P is_true (value (evaluate e Controlling v)) (test e v c)))
     run_in (t.Break span) w c h = counted_in w (λ w. gives Broke) h (λ s. tt)
     run_in (t.Continue span) w c h = counted_in w (λ w. gives Continued) h (λ s. tt)
     run_in (t.Return r span) w c h =

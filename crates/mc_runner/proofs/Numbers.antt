@@ -5,8 +5,10 @@ use Rattle.std.specs.Prelude.{slice_get}
 use Rattle.mc_cond.specs.Vectors.{Evaluation}
 use Rattle.mc_typed.specs.Tree.{Place, Expression, StructureValue, FunctionCall, Argument, Arguments, Effect, Initializer, Initializers, Declarator, ForStart, ReturnValue}
 use Rattle.mc_typed.specs.Tree as t
+use Rattle.mc_roots.specs.declared.operators.FullOperator.{FullOperator}
+use Rattle.mc_roots.specs.declared.operators.Junction.TheVariants.{Short}
 use Rattle.mc_roots.specs.declared.role.Role.{Role}
-use Rattle.mc_roots.specs.declared.role.Role.TheVariants.{Test, Plain}
+use Rattle.mc_roots.specs.declared.role.Role.TheVariants.{Controlling, Plain}
 use Rattle.mc_roots.specs.Nodes as n
 use Rattle.mc_roots.specs.Roots.{is_root, operand_role}
 use Rattle.mc_steps.specs.Events.{Event, Evaluated}
@@ -17,8 +19,8 @@ use Rattle.mc_steps.specs.Calls.{Passed, PassedNumber, PassedArray, number_given
 use Rattle.mc_meaning.specs.Stores.{Path, Store, on_places}
 use Rattle.mc_meaning.specs.Within.{Does, Within, local, target}
 use Rattle.mc_meaning.specs.Positions.{past, into}
-use Rattle.mc_meaning.specs.Decisions.{Judged, value, as_condition, negated, holds, first_alone, both, tells, vector_of, where_root}
-use Rattle.mc_meaning.specs.Expressions.{place_of, value_of, structure_of, call_of, argument_of, arguments_of}
+use Rattle.mc_meaning.specs.Decisions.{Judged, value, as_condition, negated, holds, first_alone, both, in_full, full_does, where_full, tells, vector_of, where_root}
+use Rattle.mc_meaning.specs.Expressions.{evaluate_place, evaluate, evaluate_structure, evaluate_call, evaluate_argument, evaluate_arguments}
 use Rattle.mc_meaning.specs.Statements.{effect, effects, initialize, initialize_from, initialize_where, declare, start, loop_test, returned}
 use Rattle.mc_meaning.proofs.Listed as l
 use Rattle.mc_value.specs.Conversions.{converted}
@@ -39,116 +41,129 @@ module _ (P : Event → Type 0) (evaluated : (d : ℕ) (v : Evaluation) → P (E
   condition_in : (b : Bool) (d : ℕ) (e : Does ℤ) → Keeps e → Keeps (where_root b d (as_does as_condition e))
   condition_in b d e k = root_in b d (as_does as_condition e) (l.as_keeps P as_condition e k)
 
+  full_in : (o : FullOperator) (e f : Does Judged) → Keeps e → Keeps f → Keeps (full_does o e f)
+  full_in o e f k m s = l.after_keeps P (e s) _ (k s) (λ j s. l.as_keeps P (in_full o j) f m s)
+
+  -- an operator that evaluates both operands is a full one, or one condition
+  both_in : (which : Option FullOperator) (b : Bool) (d : ℕ) (act : FullOperator → Does Judged) (other : Does ℤ) → ((o : FullOperator) → Keeps (act o)) → Keeps other → Keeps (where_full which (λ o. where_root b d (act o)) (where_root b d (as_does as_condition other)))
+  both_in (Some o) b d act other k m = root_in b d (act o) (k o)
+  both_in None b d act other k m = condition_in b d other m
+
   only : (e : Does Judged) → Keeps e → Keeps (value e)
   only e k = l.as_keeps P (λ j. j.value) e k
 
   -- ---- expressions
 
   mutual
-    pub place_in : (p : Place) (w : Within) → CallsKeep w → Keeps (place_of p w)
+    pub place_in : (p : Place) (w : Within) → CallsKeep w → Keeps (evaluate_place p w)
     place_in (t.Local slot span) w c = λ s. tt
     place_in (t.Static slot span) w c = λ s. tt
     place_in (t.Parameter array stride index span) w c =
-        l.lent_item_keeps P on_places (slice_get w.arrays array) stride (value (value_of index Plain w)) (only (value_of index Plain w) (value_in index Plain w c))
+        l.lent_item_keeps P on_places (slice_get w.arrays array) stride (value (evaluate index Plain w)) (only (evaluate index Plain w) (value_in index Plain w c))
     place_in (t.Item array k stride index span) w c =
         let v : Within = past Plain (n.place array) w in
-        l.item_keeps P on_places k stride (place_of array w) (value (value_of index Plain v)) (place_in array w c) (only (value_of index Plain v) (value_in index Plain v c))
+        l.item_keeps P on_places k stride (evaluate_place array w) (value (evaluate index Plain v)) (place_in array w c) (only (evaluate index Plain v) (value_in index Plain v c))
     place_in (t.Member structure i offset span) w c =
-        l.as_keeps P (on_places.part i offset) (place_of structure w) (place_in structure w c)
+        l.as_keeps P (on_places.part i offset) (evaluate_place structure w) (place_in structure w c)
 
-    pub value_in : (e : Expression) (role : Role) (w : Within) → CallsKeep w → Keeps (value_of e role w)
+    pub value_in : (e : Expression) (role : Role) (w : Within) → CallsKeep w → Keeps (evaluate e role w)
     value_in (t.Constant v a span) role w c =
         condition_in (is_root role (n.Constant span)) w.decisions (gives v) (λ s. tt)
     value_in (t.Read place a) role w c =
         let v : Within = into role (t.Read place a) w in
-        condition_in (is_root role (n.expression (t.Read place a))) w.decisions (read_does on_places (place_of place v))
-        (l.read_keeps P on_places (place_of place v) (place_in place v c))
+        condition_in (is_root role (n.expression (t.Read place a))) w.decisions (read_does on_places (evaluate_place place v))
+        (l.read_keeps P on_places (evaluate_place place v) (place_in place v c))
     value_in (t.Unary operator a e span) role w c =
         let v : Within = into role (t.Unary operator a e span) w in
-        condition_in (is_root role (n.expression (t.Unary operator a e span))) w.decisions (unary_does operator a (value (value_of e Plain v)))
-        (l.unary_keeps P operator a (value (value_of e Plain v)) (only (value_of e Plain v) (value_in e Plain v c)))
+        condition_in (is_root role (n.expression (t.Unary operator a e span))) w.decisions (unary_does operator a (value (evaluate e Plain v)))
+        (l.unary_keeps P operator a (value (evaluate e Plain v)) (only (evaluate e Plain v) (value_in e Plain v c)))
     value_in (t.Convert a written e span) role w c =
         let v : Within = into role (t.Convert a written e span) w in
-        condition_in (is_root role (n.expression (t.Convert a written e span))) w.decisions (as_does (converted a) (value (value_of e Plain v)))
-        (l.as_keeps P (converted a) (value (value_of e Plain v)) (only (value_of e Plain v) (value_in e Plain v c)))
+        condition_in (is_root role (n.expression (t.Convert a written e span))) w.decisions (as_does (converted a) (value (evaluate e Plain v)))
+        (l.as_keeps P (converted a) (value (evaluate e Plain v)) (only (evaluate e Plain v) (value_in e Plain v c)))
     value_in (t.Not e span) role w c =
         let a : n.Node = n.Not (n.expression e) span in
         let r : Role = operand_role role a in
         let v : Within = into role (t.Not e span) w in
-        root_in (is_root role a) w.decisions (as_does negated (value_of e r v)) (l.as_keeps P negated (value_of e r v) (value_in e r v c))
+        root_in (is_root role a) w.decisions (as_does negated (evaluate e r v)) (l.as_keeps P negated (evaluate e r v) (value_in e r v c))
     value_in (t.Binary operator a e f span) role w c =
+        let x : n.Node = n.expression (t.Binary operator a e f span) in
+        let r : Role = operand_role role x in
         let v : Within = into role (t.Binary operator a e f span) w in
         let u : Within = past Plain (n.expression e) v in
-        condition_in (is_root role (n.expression (t.Binary operator a e f span))) w.decisions
-        (binary_does operator a (value (value_of e Plain v)) (value (value_of f Plain u)))
-        (l.binary_keeps P operator a (value (value_of e Plain v)) (value (value_of f Plain u)) (only (value_of e Plain v) (value_in e Plain v c)) (only (value_of f Plain u) (value_in f Plain u c)))
+        let y : Within = past r (n.expression e) v in
+        both_in (n.full_operator operator e f) (is_root role x) w.decisions
+        (λ o. full_does o (evaluate e r v) (evaluate f r y))
+        (binary_does operator a (value (evaluate e Plain v)) (value (evaluate f Plain u)))
+        (λ o. full_in o (evaluate e r v) (evaluate f r y) (value_in e r v c) (value_in f r y c))
+        (l.binary_keeps P operator a (value (evaluate e Plain v)) (value (evaluate f Plain u)) (only (evaluate e Plain v) (value_in e Plain v c)) (only (evaluate f Plain u) (value_in f Plain u c)))
     value_in (t.Logic operator e f span) role w c =
-        let a : n.Node = n.Logic operator (n.expression e) (n.expression f) span in
+        let a : n.Node = n.Logic (Short operator) (n.expression e) (n.expression f) span in
         let r : Role = operand_role role a in
         let v : Within = into role (t.Logic operator e f span) w in
         let u : Within = past r (n.expression e) v in
-        root_in (is_root role a) w.decisions (logic_does operator holds (first_alone f) both (value_of e r v) (value_of f r u))
-        (l.logic_keeps P operator holds (first_alone f) both (value_of e r v) (value_of f r u) (value_in e r v c) (value_in f r u c))
+        root_in (is_root role a) w.decisions (logic_does operator holds (first_alone f) both (evaluate e r v) (evaluate f r u))
+        (l.logic_keeps P operator holds (first_alone f) both (evaluate e r v) (evaluate f r u) (value_in e r v c) (value_in f r u c))
     value_in (t.Choice e f g a span) role w c =
         let v : Within = into role (t.Choice e f g a span) w in
-        let u : Within = past Test (n.expression e) v in
+        let u : Within = past Controlling (n.expression e) v in
         let x : Within = past Plain (n.expression f) u in
         condition_in (is_root role (n.expression (t.Choice e f g a span))) w.decisions
-        (choice_does (value (value_of e Test v)) (value (value_of f Plain u)) (value (value_of g Plain x)))
-        (l.choice_keeps P (value (value_of e Test v)) (value (value_of f Plain u)) (value (value_of g Plain x))
-        (only (value_of e Test v) (value_in e Test v c)) (only (value_of f Plain u) (value_in f Plain u c)) (only (value_of g Plain x) (value_in g Plain x c)))
+        (choice_does (value (evaluate e Controlling v)) (value (evaluate f Plain u)) (value (evaluate g Plain x)))
+        (l.choice_keeps P (value (evaluate e Controlling v)) (value (evaluate f Plain u)) (value (evaluate g Plain x))
+        (only (evaluate e Controlling v) (value_in e Controlling v c)) (only (evaluate f Plain u) (value_in f Plain u c)) (only (evaluate g Plain x) (value_in g Plain x c)))
     value_in (t.Call k a) role w c =
         let v : Within = into role (t.Call k a) w in
-        condition_in (is_root role (n.expression (t.Call k a))) w.decisions (λ s. after (call_of k v s) number_given)
-        (λ s. l.after_keeps P (call_of k v s) number_given (call_in k v c s) (l.number_given_keeps P))
+        condition_in (is_root role (n.expression (t.Call k a))) w.decisions (λ s. after (evaluate_call k v s) number_given)
+        (λ s. l.after_keeps P (evaluate_call k v s) number_given (call_in k v c s) (l.number_given_keeps P))
     value_in (t.Input span) role w c =
         condition_in (is_root role (n.expression (t.Input span))) w.decisions input_does (l.input_keeps P)
 
-    pub structure_in : (x : StructureValue) (w : Within) → CallsKeep w → Keeps (structure_of x w)
+    pub structure_in : (x : StructureValue) (w : Within) → CallsKeep w → Keeps (evaluate_structure x w)
     structure_in (t.Stored place) w c = λ s. place_in place w c s
-    structure_in (t.Returned k) w c = λ s. l.after_keeps P (call_of k w s) structure_given (call_in k w c s) (l.structure_given_keeps P)
+    structure_in (t.Returned k) w c = λ s. l.after_keeps P (evaluate_call k w s) structure_given (call_in k w c s) (l.structure_given_keeps P)
 
-    pub call_in : (k : FunctionCall) (w : Within) → CallsKeep w → Keeps (call_of k w)
-    call_in (t.call f given result span) w c = λ s. l.after_keeps P (arguments_of given w s) _ (arguments_in given w c s) (λ passed s. c f _ passed s)
+    pub call_in : (k : FunctionCall) (w : Within) → CallsKeep w → Keeps (evaluate_call k w)
+    call_in (t.call f given result span) w c = λ s. l.after_keeps P (evaluate_arguments given w s) _ (arguments_in given w c s) (λ passed s. c f _ passed s)
 
-    argument_in : (x : Argument) (w : Within) → CallsKeep w → Keeps (argument_of x w)
-    argument_in (t.NumberArgument e) w c = l.as_keeps P PassedNumber (value (value_of e Plain w)) (only (value_of e Plain w) (value_in e Plain w c))
+    argument_in : (x : Argument) (w : Within) → CallsKeep w → Keeps (evaluate_argument x w)
+    argument_in (t.NumberArgument e) w c = l.as_keeps P PassedNumber (value (evaluate e Plain w)) (only (evaluate e Plain w) (value_in e Plain w c))
     argument_in (t.StructureArgument structure copy) w c =
-        l.structure_argument_keeps P on_places (target w copy) (structure_of structure w) (structure_in structure w c)
-    argument_in (t.ArrayArgument place k) w c = l.as_keeps P (λ (p : Path). PassedArray (record { place = p; length = k })) (place_of place w) (place_in place w c)
+        l.structure_argument_keeps P on_places (target w copy) (evaluate_structure structure w) (structure_in structure w c)
+    argument_in (t.ArrayArgument place k) w c = l.as_keeps P (λ (p : Path). PassedArray (record { place = p; length = k })) (evaluate_place place w) (place_in place w c)
     argument_in (t.AgainArgument array span) w c = l.again_argument_keeps P (slice_get w.arrays array)
 
-    arguments_in : (xs : Arguments) (w : Within) → CallsKeep w → Keeps (arguments_of xs w)
+    arguments_in : (xs : Arguments) (w : Within) → CallsKeep w → Keeps (evaluate_arguments xs w)
     arguments_in t.no_arguments w c = λ s. tt
     arguments_in (t.arguments a rest) w c =
         let v : Within = past Plain (n.argument a) w in
-        l.arguments_keep P (argument_of a w) (arguments_of rest v) (argument_in a w c) (arguments_in rest v c)
+        l.arguments_keep P (evaluate_argument a w) (evaluate_arguments rest v) (argument_in a w c) (arguments_in rest v c)
 
-  pub number_in : (e : Expression) (role : Role) (w : Within) → CallsKeep w → Keeps (value (value_of e role w))
-  number_in e role w c = only (value_of e role w) (value_in e role w c)
+  pub number_in : (e : Expression) (role : Role) (w : Within) → CallsKeep w → Keeps (value (evaluate e role w))
+  number_in e role w c = only (evaluate e role w) (value_in e role w c)
 
   -- ---- effects
 
   pub effect_in : (x : Effect) (w : Within) → CallsKeep w → Keeps (effect x w)
   effect_in (t.Assign place a e span) w c =
       let v : Within = past Plain (n.place place) w in
-      l.assign_keeps P on_places (place_of place w) (value (value_of e Plain v)) (place_in place w c) (number_in e Plain v c)
+      l.assign_keeps P on_places (evaluate_place place w) (value (evaluate e Plain v)) (place_in place w c) (number_in e Plain v c)
   effect_in (t.Update place a operator common e span) w c =
       let v : Within = past Plain (n.place place) w in
-      l.update_keeps P on_places a operator common (place_of place w) (value (value_of e Plain v)) (place_in place w c) (number_in e Plain v c)
+      l.update_keeps P on_places a operator common (evaluate_place place w) (value (evaluate e Plain v)) (place_in place w c) (number_in e Plain v c)
   effect_in (t.Copy place structure k span) w c =
       let v : Within = past Plain (n.place place) w in
-      l.copy_keeps P on_places k (place_of place w) (structure_of structure v) (place_in place w c) (structure_in structure v c)
-  effect_in (t.NumberEffect (t.Call k a) true) w c = l.drop_keeps P (call_of k w) (call_in k w c)
-  effect_in (t.NumberEffect e whole) w c = l.drop_keeps P (value_of e Plain w) (value_in e Plain w c)
-  effect_in (t.StructureEffect (t.Returned k) true) w c = l.drop_keeps P (call_of k w) (call_in k w c)
-  effect_in (t.StructureEffect structure whole) w c = l.drop_keeps P (structure_of structure w) (structure_in structure w c)
-  effect_in (t.CallEffect k) w c = l.drop_keeps P (call_of k w) (call_in k w c)
-  effect_in (t.Output e span) w c = l.output_keeps P (value (value_of e Plain w)) (number_in e Plain w c)
+      l.copy_keeps P on_places k (evaluate_place place w) (evaluate_structure structure v) (place_in place w c) (structure_in structure v c)
+  effect_in (t.NumberEffect (t.Call k a) true) w c = l.drop_keeps P (evaluate_call k w) (call_in k w c)
+  effect_in (t.NumberEffect e whole) w c = l.drop_keeps P (evaluate e Plain w) (value_in e Plain w c)
+  effect_in (t.StructureEffect (t.Returned k) true) w c = l.drop_keeps P (evaluate_call k w) (call_in k w c)
+  effect_in (t.StructureEffect structure whole) w c = l.drop_keeps P (evaluate_structure structure w) (structure_in structure w c)
+  effect_in (t.CallEffect k) w c = l.drop_keeps P (evaluate_call k w) (call_in k w c)
+  effect_in (t.Output e span) w c = l.output_keeps P (value (evaluate e Plain w)) (number_in e Plain w c)
   effect_in (t.ChoiceEffect e a b span) w c =
-      let v : Within = past Test (n.expression e) w in
+      let v : Within = past Controlling (n.expression e) w in
       let u : Within = past Plain (n.effect a) v in
-      l.choice_keeps P (value (value_of e Test w)) (effect a v) (effect b u) (number_in e Test w c) (effect_in a v c) (effect_in b u c)
+      l.choice_keeps P (value (evaluate e Controlling w)) (effect a v) (effect b u) (number_in e Controlling w c) (effect_in a v c) (effect_in b u c)
   effect_in (t.Discard a span) w c = effect_in a w c
 
   pub effects_in : (xs : List Effect) (w : Within) → CallsKeep w → Keeps (effects xs w)
@@ -161,8 +176,8 @@ module _ (P : Event → Type 0) (evaluated : (d : ℕ) (v : Evaluation) → P (E
 
   mutual
     initialize_in : (i : Initializer) (p : Path) (w : Within) → CallsKeep w → Keeps (initialize i p w)
-    initialize_in (t.NumberInitializer e) p w c = l.store_keeps P on_places p (value (value_of e Plain w)) (number_in e Plain w c)
-    initialize_in (t.StructureInitializer structure k) p w c = l.store_structure_keeps P on_places p k (structure_of structure w) (structure_in structure w c)
+    initialize_in (t.NumberInitializer e) p w c = l.store_keeps P on_places p (value (evaluate e Plain w)) (number_in e Plain w c)
+    initialize_in (t.StructureInitializer structure k) p w c = l.store_structure_keeps P on_places p k (evaluate_structure structure w) (structure_in structure w c)
     initialize_in (t.ListInitializer items k) p w c = λ s. items_in items p 0 w c s
     initialize_in (t.ZeroInitializer e k) p w c = λ s. tt
 
@@ -194,11 +209,11 @@ module _ (P : Event → Type 0) (evaluated : (d : ℕ) (v : Evaluation) → P (E
 
   pub test_in : (o : Option Expression) (w : Within) → CallsKeep w → Keeps (loop_test o w)
   test_in None w c = λ s. tt
-  test_in (Some e) w c = l.as_keeps P is_true (value (value_of e Test w)) (number_in e Test w c)
+  test_in (Some e) w c = l.as_keeps P is_true (value (evaluate e Controlling w)) (number_in e Controlling w c)
 
   pub returned_in : (r : ReturnValue) (w : Within) → CallsKeep w → Keeps (returned r w)
   returned_in t.ReturnNothing w c = λ s. tt
   returned_in (t.ReturnNumber e) w c = λ s.
-      l.after_keeps P (value (value_of e Plain w) s) (λ v s. gives (Number v) s) (number_in e Plain w c s) (λ v s. tt)
+      l.after_keeps P (value (evaluate e Plain w) s) (λ v s. gives (Number v) s) (number_in e Plain w c s) (λ v s. tt)
   returned_in (t.ReturnStructure structure k) w c = λ s.
-      l.after_keeps P (structure_of structure w s) (λ p s. gives (Structure p k) s) (structure_in structure w c s) (λ v s. tt)
+      l.after_keeps P (evaluate_structure structure w s) (λ p s. gives (Structure p k) s) (structure_in structure w c s) (λ v s. tt)

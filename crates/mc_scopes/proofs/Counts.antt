@@ -2,9 +2,9 @@
 use Rattle.std.proofs.Common.{◌≡◌, refl, arith, List, [], ◌∷◌, map, length}
 use Rattle.mc_tree.specs.declared.declarations.initializer.Initializer.{Initializer}
 use Rattle.mc_tree.specs.Units as units
-use Rattle.mc_typing.specs.Initializers.{count_of}
+use Rattle.mc_typing.specs.Initializers.{item_count}
 
 pub count_listed : (items : List Initializer)
-    → count_of (units.initializers_from (map units.initializer_of items)) ≡ length items
+    → item_count (units.initializers_from (map units.initializer_of items)) ≡ length items
 count_listed [] = refl
 count_listed (one ∷ rest) = omega (arith, count_listed rest)

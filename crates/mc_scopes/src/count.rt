@@ -5,7 +5,7 @@ ghost use Rattle.mc_typing.specs.Initializers as initializers;
 
 /// How many items a list has. Takes no memory.
 pub fn count_of(items: &[mc_tree::Initializer<'_>]) -> usize
-    ensures { result ≡ initializers.count_of
+    ensures { result ≡ initializers.item_count
         (units.initializers_from (map units.initializer_of items.now)) }
 {
     items.len()

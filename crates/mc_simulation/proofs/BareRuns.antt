@@ -258,10 +258,10 @@ module _ (q : Program) (sound : IsSound q) where
       inside_bare into to h =
           over nothing ms 0 new 0 (λ a b z. Kept Each t2.memory z × Done a b) Result (lists (Entered i ∷ []) s2) (hits_some v None t2)
           (λ _ s. after (run_from g.body Running w s) (λ flow s. after (where_left flow last s) (leaves on_places into (λ z. z))))
-          (λ _ s. after (act.statements_of v (bare_function g).body Running s) (λ flow s. after (where_left flow (hits_some v None) s) (leaves flat to (left v.base v.first))))
+          (λ _ s. after (act.run_from v (bare_function g).body Running s) (λ flow s. after (where_left flow (hits_some v None) s) (leaves flat to (left v.base v.first))))
           (told (Entered i) s2 t2 entry_alike)
           (λ a b s3 t3 al3 k3.
-          over nothing ms 0 new 0 (λ x y z. Kept Each t3.memory z × SameFlow new g.result x y) Result (run_from g.body Running w s3) (act.statements_of v (bare_function g).body Running t3) _ _
+          over nothing ms 0 new 0 (λ x y z. Kept Each t3.memory z × SameFlow new g.result x y) Result (run_from g.body Running w s3) (act.run_from v (bare_function g).body Running t3) _ _
           (items_bare new 0 v (scope_of q g) g.body Running outermost w agreed is_function.body s3 t3 al3)
           (λ x y s4 t4 al4 k4.
           over nothing ms 0 new 0 (λ a b z. Kept Each t4.memory z × IsGiven new g.result a b) Result (where_left x last s4) (where_left y (hits_some v None) t4) (leaves on_places into (λ z. z)) (leaves flat to (left v.base v.first))

@@ -459,11 +459,11 @@ module _ (q : Program) (m : Map) (sound : IsSound q) (of : IsMapOf q m) where
       inside_follows into to h =
           over (bit_of m) ms rooms new more (λ a b z. Kept Each t2.memory z × Done a b) Result (lists (Entered i ∷ []) s2) (hits_some v (Some (entry_bit m i)) t2)
           (λ _ s. after (run_from g.body Running w s) (λ flow s. after (where_left flow (lists (Exited (points_at_end g before).exits ∷ [])) s) (leaves on_places into (λ z. z))))
-          (λ _ s. after (act.statements_of v put_g.body Running s) (λ flow s. after (where_left flow (hits_some v put_g.exit) s) (leaves flat to (left v.base v.first))))
+          (λ _ s. after (act.run_from v put_g.body Running s) (λ flow s. after (where_left flow (hits_some v put_g.exit) s) (leaves flat to (left v.base v.first))))
           (hit_follows new more m v refl Each (Entered i) (entry_bit m i) refl (let lt = slice_get_within q.functions i g e in omega (arith, lt, entries_are, all_bits)) s2 t2 entry_alike)
           (λ a b s3 t3 al3 k3.
-          over (bit_of m) ms rooms new more (λ x y z. (Kept (Saves new more m decisions (decisions_in g) v (scope_of q g) of.kept room refl (decisions_in g)) t3.memory z × SameFlow new g.result x y) × Ends outermost (all_complete g.body) (some_breaks g.body) x) Result (run_from g.body Running w s3) (act.statements_of v put_g.body Running t3) _ _
-          (follows_and (bit_of m) ms rooms new more (Ends outermost (all_complete g.body) (some_breaks g.body)) (λ x y z. Kept (Saves new more m decisions (decisions_in g) v (scope_of q g) of.kept room refl (decisions_in g)) t3.memory z × SameFlow new g.result x y) (run_from g.body Running w s3) (act.statements_of v put_g.body Running t3)
+          over (bit_of m) ms rooms new more (λ x y z. (Kept (Saves new more m decisions (decisions_in g) v (scope_of q g) of.kept room refl (decisions_in g)) t3.memory z × SameFlow new g.result x y) × Ends outermost (all_complete g.body) (some_breaks g.body) x) Result (run_from g.body Running w s3) (act.run_from v put_g.body Running t3) _ _
+          (follows_and (bit_of m) ms rooms new more (Ends outermost (all_complete g.body) (some_breaks g.body)) (λ x y z. Kept (Saves new more m decisions (decisions_in g) v (scope_of q g) of.kept room refl (decisions_in g)) t3.memory z × SameFlow new g.result x y) (run_from g.body Running w s3) (act.run_from v put_g.body Running t3)
           (items_end (scope_of q g) g.body outermost w refl is_function.body s3)
           (items_follow new more m decisions (decisions_in g) v (scope_of q g) of.kept room refl g.body outermost 0 w _ agreed refl is_function.body at s3 t3 al3))
           (λ x y s4 t4 al4 k4.

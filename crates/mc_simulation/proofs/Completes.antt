@@ -5,7 +5,7 @@ use Rattle.mc_value.specs.declared.int_type.IntType.{IntType}
 use Rattle.mc_typed.specs.Tree.{Expression, Effect, Declarator, ForStart, ReturnValue, Statement, Statements}
 use Rattle.mc_typed.specs.Tree as t
 use Rattle.mc_typed.specs.Sound.{Scope, Around, inside, in_loop, in_switch, IsLabel, IsStatement, AreStatements, labels_of, type_of}
-use Rattle.mc_roots.specs.declared.role.Role.TheVariants.{Test, Plain}
+use Rattle.mc_roots.specs.declared.role.Role.TheVariants.{Controlling, Plain}
 use Rattle.mc_roots.specs.Nodes as n
 use Rattle.mc_steps.specs.Runs.{State, Out, Gave, Stopped, gives, lists, after, with_fuel}
 use Rattle.mc_steps.specs.Events.{Started}
@@ -16,7 +16,7 @@ use Rattle.mc_meaning.specs.Stores.{Path, Store}
 use Rattle.mc_meaning.specs.Within.{Does, Within}
 use Rattle.mc_meaning.specs.Positions.{past, past_statement, into_statement, past_start, past_test, past_step}
 use Rattle.mc_meaning.specs.Decisions.{value, choose}
-use Rattle.mc_meaning.specs.Expressions.{value_of}
+use Rattle.mc_meaning.specs.Expressions.{evaluate}
 use Rattle.mc_meaning.specs.Positions as plain
 use Rattle.mc_meaning.specs.Statements.{effect, effects, declare, counted, where_initializes, start, loop_test, returned, leave, run, run_from}
 use Rattle.mc_meaning.proofs.Runs.{IsGiven, Gives, given_then}
@@ -203,18 +203,18 @@ module _ (c : Scope) where
         counted_gives (Ends around true false) w (λ w. effect_does (effect x w)) (done_gives (Ends around true false) (effect x (into_statement w)) refl)
     statement_ends (t.If e x keyword span) around w k =
         let u : Within = into_statement w in
-        counted_gives (Ends around true (breaks x)) w (λ w. choice_does (value (value_of e Test w)) (run x (past Test (n.expression e) w)) (gives Completed))
-        (if_gives (Ends around true (breaks x)) (value (value_of e Test u)) (run x (past Test (n.expression e) u)) (gives Completed)
-        (λ s. more_given (Ends around (completes x) (breaks x)) (Ends around true (breaks x)) (run x (past Test (n.expression e) u) s).out
-        (ends_more around (completes x) true (breaks x) (breaks x) (λ h. refl) (λ h. h)) (statement_ends x (inside around) (past Test (n.expression e) u) k.1 s))
+        counted_gives (Ends around true (breaks x)) w (λ w. choice_does (value (evaluate e Controlling w)) (run x (past Controlling (n.expression e) w)) (gives Completed))
+        (if_gives (Ends around true (breaks x)) (value (evaluate e Controlling u)) (run x (past Controlling (n.expression e) u)) (gives Completed)
+        (λ s. more_given (Ends around (completes x) (breaks x)) (Ends around true (breaks x)) (run x (past Controlling (n.expression e) u) s).out
+        (ends_more around (completes x) true (breaks x) (breaks x) (λ h. refl) (λ h. h)) (statement_ends x (inside around) (past Controlling (n.expression e) u) k.1 s))
         (λ s. refl))
     statement_ends (t.IfElse e x y keyword span) around w k =
         let u : Within = into_statement w in
-        let q : Within = past Test (n.expression e) u in
+        let q : Within = past Controlling (n.expression e) u in
         let can : Bool = completes x || completes y in
         let break' : Bool = breaks x || breaks y in
-        counted_gives (Ends around can break') w (λ w. choice_does (value (value_of e Test w)) (run x (past Test (n.expression e) w)) (run y (past_statement x (past Test (n.expression e) w))))
-        (if_gives (Ends around can break') (value (value_of e Test u)) (run x q) (run y (past_statement x q))
+        counted_gives (Ends around can break') w (λ w. choice_does (value (evaluate e Controlling w)) (run x (past Controlling (n.expression e) w)) (run y (past_statement x (past Controlling (n.expression e) w))))
+        (if_gives (Ends around can break') (value (evaluate e Controlling u)) (run x q) (run y (past_statement x q))
         (λ s. more_given (Ends around (completes x) (breaks x)) (Ends around can break') (run x q s).out
         (ends_more around (completes x) can (breaks x) break' (or_left (completes x) (completes y)) (or_left (breaks x) (breaks y))) (statement_ends x (inside around) q k.1 s))
         (λ s. more_given (Ends around (completes y) (breaks y)) (Ends around can break') (run y (past_statement x q) s).out
@@ -223,8 +223,8 @@ module _ (c : Scope) where
         let u : Within = into_statement w in
         let q : Within = plain.in_switch items (past Plain (n.expression e) u) in
         let P : Flow Path → Type 0 = Ends around (completes (t.Switch e items keyword span)) false in
-        counted_gives P w (λ w. switch_does (value (value_of e Plain w)) (labels_of items) (λ seek. run_from items seek (plain.in_switch items (past Plain (n.expression e) w))) (choose w.points.labels))
-        (λ s. given_then (λ x. Unit {0}) P (value (value_of e Plain u) s) _ (any_given (value (value_of e Plain u) s).out)
+        counted_gives P w (λ w. switch_does (value (evaluate e Plain w)) (labels_of items) (λ seek. run_from items seek (plain.in_switch items (past Plain (n.expression e) w))) (choose w.points.labels))
+        (λ s. given_then (λ x. Unit {0}) P (value (evaluate e Plain u) s) _ (any_given (value (evaluate e Plain u) s).out)
         (λ x s o. given_then (OfItems (in_switch around (type_of e)) (sought x (labels_of items)) items) P (run_from items (sought x (labels_of items)) q s) _
         (search_ends items (sought x (labels_of items)) (in_switch around (type_of e)) q k.2 s)
         (λ flow s h. switch_ends around (type_of e) items x (choose u.points.labels) flow h s)))
@@ -237,13 +237,13 @@ module _ (c : Scope) where
         (λ w s. after (start begin w s) (λ _. loop_does (loop_test test (past_start begin w)) (run x (past_step step (past_test test (past_start begin w)))) (effects step (past_test test (past_start begin w)))))
         (λ s. given_then (λ a. Unit {0}) (Ends around can false) (start begin u s) _ (any_given (start begin u s).out)
         (λ a s o. loop_gives around can (is_always test) (completes x) (breaks x) refl (loop_test test u1) (run x (past_step step u2)) (effects step u2)
-        (always_true test u1) (statement_ends x in_loop (past_step step u2) k.3) s))
+        (always_true test c u1 k.1) (statement_ends x in_loop (past_step step u2) k.3) s))
     statement_ends (t.DoWhile x e keyword span) around w k =
         let u : Within = into_statement w in
         let can : Bool = not (is_always (Some e)) || breaks x in
-        counted_gives (Ends around can false) w (λ w. do_does (run x w) (as_does is_true (value (value_of e Test (past_statement x w)))))
+        counted_gives (Ends around can false) w (λ w. do_does (run x w) (as_does is_true (value (evaluate e Controlling (past_statement x w)))))
         (do_gives around can (is_always (Some e)) (completes x) (breaks x) refl (run x u) (loop_test (Some e) (past_statement x u))
-        (always_true (Some e) (past_statement x u)) (statement_ends x in_loop u k.0))
+        (always_true (Some e) c (past_statement x u) k.1) (statement_ends x in_loop u k.0))
     statement_ends (t.Break span) around w k = counted_gives (Ends around false true) w (λ w. gives Broke) (λ s. (refl, k))
     statement_ends (t.Continue span) around w k = counted_gives (Ends around false false) w (λ w. gives Continued) (λ s. k)
     statement_ends (t.Return x span) around w k =

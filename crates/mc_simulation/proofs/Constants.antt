@@ -11,8 +11,11 @@ use Rattle.mc_typed.specs.declared.operators.LogicOperator.{LogicOperator}
 use Rattle.mc_typed.specs.Constants.{unless_trap, is_operand, are_operands, unary_value, binary_value, truth_value, logic_value, choice_value, constant_value}
 use Rattle.mc_typed.specs.Tree.{Expression}
 use Rattle.mc_typed.specs.Tree as t
+use Rattle.mc_typed.specs.Sound.{Scope, IsExpression, IsTest}
+use Rattle.mc_roots.specs.declared.operators.FullOperator.{FullOperator}
 use Rattle.mc_roots.specs.declared.role.Role.{Role}
-use Rattle.mc_roots.specs.declared.role.Role.TheVariants.{Test, Plain}
+use Rattle.mc_roots.specs.declared.role.Role.TheVariants.{Controlling, Plain}
+use Rattle.mc_roots.specs.Nodes.{bitwise}
 use Rattle.mc_roots.specs.Nodes as n
 use Rattle.mc_roots.specs.Roots.{is_root, operand_role}
 use Rattle.mc_steps.specs.Runs.{Out, Gave, Stopped, gives, after, with_result}
@@ -22,10 +25,13 @@ use Rattle.mc_meaning.specs.Stores.{Store}
 use Rattle.mc_steps.specs.Events.{Event}
 use Rattle.mc_meaning.specs.Within.{Does, Within}
 use Rattle.mc_meaning.specs.Positions.{past, into}
-use Rattle.mc_meaning.specs.Decisions.{Judged, value, as_condition, negated, holds, first_alone, both, tells, where_root, condition}
-use Rattle.mc_meaning.specs.Expressions.{value_of}
+use Rattle.mc_meaning.specs.Decisions.{Judged, value, as_condition, negated, holds, first_alone, both, in_full, full_does, tells, where_root, decides, condition}
+use Rattle.mc_meaning.specs.Expressions.{evaluate}
 use Rattle.mc_meaning.specs.Statements.{loop_test}
 use Rattle.mc_meaning.proofs.Runs.{IsGiven, Gives, given_then}
+use Rattle.mc_simulation.proofs.Bits.{operated_bits}
+use Rattle.mc_simulation.proofs.Follow.{HasBit}
+use Rattle.mc_simulation.proofs.Operands.{full_parts, given_where, constant_bit}
 
 no_root : {X : Type 0} → false ≡ true → X
 no_root e = cc
@@ -136,64 +142,96 @@ second_gives operator e f span j h true is p g s =
     (λ k s q. second_is operator (constant_value e) (constant_value f) j.value k.value p is q)
 second_gives operator e f span j h false is p g s = first_is operator (constant_value e) (constant_value f) j.value p is
 
-pub number_is : (e : Expression) (role : Role) (w : Within) → is_constant e ≡ true → Gives (Judges e) (value_of e role w)
-number_is (t.Constant v a span) role w k = condition_gives (IsNumber (t.Constant v a span)) role (t.Constant v a span) w (λ w. gives v) (λ s u h. some_same v u h)
-number_is (t.Read place a) role w k = no_root k
-number_is (t.Unary operator a e span) role w k =
+-- ---- an operator that evaluates both of its operands
+
+and_given : {A : Type 0} (P Q : A → Type 0) (o : Out Store A) → IsGiven P o → IsGiven Q o → IsGiven (λ x. P x × Q x) o
+and_given P Q (Gave x s) h k = (h, k)
+and_given P Q (Stopped e s) h k = tt
+
+full_is : (operator : Operator) (o : FullOperator) (a : IntType) (e f : Expression) (span : Span) (d h : Does Judged) → bitwise operator ≡ Some o → Gives (Judges e) d → Gives (Judges f) h → Gives HasBit d → Gives HasBit h → Gives (Judges (t.Binary operator a e f span)) (full_does o d h)
+full_is operator o a e f span d h is p q b c s =
+    let whole : Expression = t.Binary operator a e f span in
+    given_then (λ j. Judges e j × HasBit j) (Judges whole) (d s) (λ j s. as_does (in_full o j) h s) (and_given (Judges e) HasBit (d s).out (p s) (b s)) (λ j s x.
+    given_then (λ k. Judges f k × HasBit k) (Judges whole) (h s) (λ k s. gives (in_full o j k) s) (and_given (Judges f) HasBit (h s).out (q s) (c s)) (λ k s y.
+    binary_is operator a (constant_value e) (constant_value f) j.value k.value (in_full o j k).value x.0 y.0 (operated_bits operator o a j.value k.value is x.1 y.1)))
+
+other_is_number : (operator : Operator) (a : IntType) (e f : Expression) (span : Span) (g h : Does ℤ) → Gives (IsNumber e) g → Gives (IsNumber f) h → Gives (IsNumber (t.Binary operator a e f span)) (binary_does operator a g h)
+other_is_number operator a e f span g h p q s =
+    let whole : Expression = t.Binary operator a e f span in
+    given_then (IsNumber e) (IsNumber whole) (g s) (λ x s. after (h s) (λ y s. with_result (operated operator a x y) gives s)) (p s) (λ x s i.
+    given_then (IsNumber f) (IsNumber whole) (h s) (λ y s. with_result (operated operator a x y) gives s) (q s) (λ y s o.
+    result_gives (IsNumber whole) (operated operator a x y) (λ z r. binary_is operator a (constant_value e) (constant_value f) x y z i o r) s))
+
+-- ---- all
+
+pub number_is : (e : Expression) (c : Scope) (role : Role) (w : Within) → IsExpression e c → is_constant e ≡ true → Gives (Judges e) (evaluate e role w)
+number_is (t.Constant v a span) c role w i k = condition_gives (IsNumber (t.Constant v a span)) role (t.Constant v a span) w (λ w. gives v) (λ s u h. some_same v u h)
+number_is (t.Read place a) c role w i k = no_root k
+number_is (t.Unary operator a e span) c role w i k =
     let u : Within = into role (t.Unary operator a e span) w in
-    condition_gives (IsNumber (t.Unary operator a e span)) role (t.Unary operator a e span) w (λ w. unary_does operator a (value (value_of e Plain w)))
-    (λ s. given_then (IsNumber e) (IsNumber (t.Unary operator a e span)) (value (value_of e Plain u) s) (λ x s. with_result (unary_of operator a x) gives s) (value_gives (IsNumber e) (value_of e Plain u) (number_is e Plain u k) s)
+    condition_gives (IsNumber (t.Unary operator a e span)) role (t.Unary operator a e span) w (λ w. unary_does operator a (value (evaluate e Plain w)))
+    (λ s. given_then (IsNumber e) (IsNumber (t.Unary operator a e span)) (value (evaluate e Plain u) s) (λ x s. with_result (unary_of operator a x) gives s) (value_gives (IsNumber e) (evaluate e Plain u) (number_is e c Plain u i.2 k) s)
     (λ x s p. result_gives (IsNumber (t.Unary operator a e span)) (unary_of operator a x) (λ y r. unary_is operator a (constant_value e) x y p r) s))
-number_is (t.Convert a written e span) role w k =
+number_is (t.Convert a written e span) c role w i k =
     let u : Within = into role (t.Convert a written e span) w in
-    condition_gives (IsNumber (t.Convert a written e span)) role (t.Convert a written e span) w (λ w. as_does (converted a) (value (value_of e Plain w)))
-    (λ s. given_then (IsNumber e) (IsNumber (t.Convert a written e span)) (value (value_of e Plain u) s) (λ x s. gives (converted a x) s) (value_gives (IsNumber e) (value_of e Plain u) (number_is e Plain u k) s)
+    condition_gives (IsNumber (t.Convert a written e span)) role (t.Convert a written e span) w (λ w. as_does (converted a) (value (evaluate e Plain w)))
+    (λ s. given_then (IsNumber e) (IsNumber (t.Convert a written e span)) (value (evaluate e Plain u) s) (λ x s. gives (converted a x) s) (value_gives (IsNumber e) (evaluate e Plain u) (number_is e c Plain u i k) s)
     (λ x s p. mapped_is (converted a) (constant_value e) x p))
-number_is (t.Not e span) role w k =
+number_is (t.Not e span) c role w i k =
     let r : Role = operand_role role (n.expression (t.Not e span)) in
     let u : Within = into role (t.Not e span) w in
-    root_gives (Judges (t.Not e span)) (is_root role (n.expression (t.Not e span))) w.decisions (as_does negated (value_of e r u))
-    (λ s. given_then (Judges e) (Judges (t.Not e span)) (value_of e r u s) (λ j s. gives (negated j) s) (number_is e r u k s)
+    root_gives (Judges (t.Not e span)) (is_root role (n.expression (t.Not e span))) w.decisions (as_does negated (evaluate e r u))
+    (λ s. given_then (Judges e) (Judges (t.Not e span)) (evaluate e r u s) (λ j s. gives (negated j) s) (number_is e c r u i k s)
     (λ j s p. mapped_is (λ (x : ℤ). truth (is_zero x)) (constant_value e) j.value p))
-number_is (t.Binary operator a e f span) role w k =
-    let u : Within = into role (t.Binary operator a e f span) w in
+number_is (t.Binary operator a e f span) c role w i k =
+    let x : Expression = t.Binary operator a e f span in
+    let ke : is_constant e ≡ true = both_left (is_constant e) (is_constant f) k in
+    let kf : is_constant f ≡ true = both_right (is_constant e) (is_constant f) k in
+    let r : Role = operand_role role (n.expression x) in
+    let u : Within = into role x w in
     let q : Within = past Plain (n.expression e) u in
-    condition_gives (IsNumber (t.Binary operator a e f span)) role (t.Binary operator a e f span) w (λ w. binary_does operator a (value (value_of e Plain w)) (value (value_of f Plain (past Plain (n.expression e) w))))
-    (λ s. given_then (IsNumber e) (IsNumber (t.Binary operator a e f span)) (value (value_of e Plain u) s) (λ x s. after (value (value_of f Plain q) s) (λ y s. with_result (operated operator a x y) gives s)) (value_gives (IsNumber e) (value_of e Plain u) (number_is e Plain u (both_left (is_constant e) (is_constant f) k)) s)
-    (λ x s p. given_then (IsNumber f) (IsNumber (t.Binary operator a e f span)) (value (value_of f Plain q) s) (λ y s. with_result (operated operator a x y) gives s) (value_gives (IsNumber f) (value_of f Plain q) (number_is f Plain q (both_right (is_constant e) (is_constant f) k)) s)
-    (λ y s o. result_gives (IsNumber (t.Binary operator a e f span)) (operated operator a x y)
-    (λ z r. binary_is operator a (constant_value e) (constant_value f) x y z p o r) s)))
-number_is (t.Logic operator e f span) role w k =
+    let l : Within = past r (n.expression e) u in
+    given_where (Judges x) (n.full_operator operator e f)
+    (λ o. decides role x w (λ r w. full_does o (evaluate e r w) (evaluate f r (past r (n.expression e) w))))
+    (condition role x w (λ w. binary_does operator a (value (evaluate e Plain w)) (value (evaluate f Plain (past Plain (n.expression e) w)))))
+    (λ o same.
+    let parts = full_parts operator e f o same in
+    root_gives (Judges x) (is_root role (n.expression x)) w.decisions (full_does o (evaluate e r u) (evaluate f r l))
+    (full_is operator o a e f span (evaluate e r u) (evaluate f r l) parts.2 (number_is e c r u i.0 ke) (number_is f c r l i.1 kf) (constant_bit e c r u i.0 ke parts.0) (constant_bit f c r l i.1 kf parts.1)))
+    (λ none. condition_gives (IsNumber x) role x w (λ w. binary_does operator a (value (evaluate e Plain w)) (value (evaluate f Plain (past Plain (n.expression e) w))))
+    (other_is_number operator a e f span (value (evaluate e Plain u)) (value (evaluate f Plain q))
+    (value_gives (IsNumber e) (evaluate e Plain u) (number_is e c Plain u i.0 ke)) (value_gives (IsNumber f) (evaluate f Plain q) (number_is f c Plain q i.1 kf))))
+number_is (t.Logic operator e f span) c role w i k =
     let r : Role = operand_role role (n.expression (t.Logic operator e f span)) in
     let u : Within = into role (t.Logic operator e f span) w in
     let q : Within = past r (n.expression e) u in
-    root_gives (Judges (t.Logic operator e f span)) (is_root role (n.expression (t.Logic operator e f span))) w.decisions (logic_does operator holds (first_alone f) both (value_of e r u) (value_of f r q))
-    (λ s. given_then (Judges e) (Judges (t.Logic operator e f span)) (value_of e r u s) (λ j s. where_true (goes_on operator (holds j)) (λ s. after (value_of f r q s) (λ k s. gives (both j k) s)) (gives (first_alone f j)) s) (number_is e r u (both_left (is_constant e) (is_constant f) k) s)
-    (λ j s p. second_gives operator e f span j (value_of f r q) (goes_on operator (holds j)) refl p (number_is f r q (both_right (is_constant e) (is_constant f) k)) s))
-number_is (t.Choice e f g a span) role w k =
+    root_gives (Judges (t.Logic operator e f span)) (is_root role (n.expression (t.Logic operator e f span))) w.decisions (logic_does operator holds (first_alone f) both (evaluate e r u) (evaluate f r q))
+    (λ s. given_then (Judges e) (Judges (t.Logic operator e f span)) (evaluate e r u s) (λ j s. where_true (goes_on operator (holds j)) (λ s. after (evaluate f r q s) (λ k s. gives (both j k) s)) (gives (first_alone f j)) s) (number_is e c r u i.0 (both_left (is_constant e) (is_constant f) k) s)
+    (λ j s p. second_gives operator e f span j (evaluate f r q) (goes_on operator (holds j)) refl p (number_is f c r q i.1 (both_right (is_constant e) (is_constant f) k)) s))
+number_is (t.Choice e f g a span) c role w i k =
     let u : Within = into role (t.Choice e f g a span) w in
-    let q : Within = past Test (n.expression e) u in
+    let q : Within = past Controlling (n.expression e) u in
     let y : Within = past Plain (n.expression f) q in
     let kf : is_constant e && is_constant f ≡ true = both_left (is_constant e && is_constant f) (is_constant g) k in
     condition_gives (IsNumber (t.Choice e f g a span)) role (t.Choice e f g a span) w
-    (λ w. choice_does (value (value_of e Test w)) (value (value_of f Plain (past Test (n.expression e) w))) (value (value_of g Plain (past Plain (n.expression f) (past Test (n.expression e) w)))))
-    (λ s. given_then (IsNumber e) (IsNumber (t.Choice e f g a span)) (value (value_of e Test u) s) (λ x s. where_true (is_true x) (value (value_of f Plain q)) (value (value_of g Plain y)) s) (value_gives (IsNumber e) (value_of e Test u) (number_is e Test u (both_left (is_constant e) (is_constant f) kf)) s)
-    (λ x s p. where_gives (IsNumber (t.Choice e f g a span)) (is_true x) (value (value_of f Plain q)) (value (value_of g Plain y))
-    (λ b s. any_value (IsNumber f) (value (value_of f Plain q) s).out (value_gives (IsNumber f) (value_of f Plain q) (number_is f Plain q (both_right (is_constant e) (is_constant f) kf)) s)
+    (λ w. choice_does (value (evaluate e Controlling w)) (value (evaluate f Plain (past Controlling (n.expression e) w))) (value (evaluate g Plain (past Plain (n.expression f) (past Controlling (n.expression e) w)))))
+    (λ s. given_then (IsNumber e) (IsNumber (t.Choice e f g a span)) (value (evaluate e Controlling u) s) (λ x s. where_true (is_true x) (value (evaluate f Plain q)) (value (evaluate g Plain y)) s) (value_gives (IsNumber e) (evaluate e Controlling u) (number_is e c Controlling u i.0 (both_left (is_constant e) (is_constant f) kf)) s)
+    (λ x s p. where_gives (IsNumber (t.Choice e f g a span)) (is_true x) (value (evaluate f Plain q)) (value (evaluate g Plain y))
+    (λ b s. any_value (IsNumber f) (value (evaluate f Plain q) s).out (value_gives (IsNumber f) (evaluate f Plain q) (number_is f c Plain q i.1 (both_right (is_constant e) (is_constant f) kf)) s)
     (λ z o. chosen_is (constant_value e) (constant_value f) (constant_value g) x z p b o))
-    (λ b s. any_value (IsNumber g) (value (value_of g Plain y) s).out (value_gives (IsNumber g) (value_of g Plain y) (number_is g Plain y (both_right (is_constant e && is_constant f) (is_constant g) k)) s)
+    (λ b s. any_value (IsNumber g) (value (evaluate g Plain y) s).out (value_gives (IsNumber g) (evaluate g Plain y) (number_is g c Plain y i.2 (both_right (is_constant e && is_constant f) (is_constant g) k)) s)
     (λ z o. other_is (constant_value e) (constant_value f) (constant_value g) x z p b o)) s))
   where
     any_value : (P : ℤ → Type 0) {Q : ℤ → Type 0} (o : Out Store ℤ) → IsGiven P o → ((z : ℤ) → P z → Q z) → IsGiven Q o
     any_value P (Gave z s) h k = k z h
     any_value P (Stopped e s) h k = tt
-number_is (t.Call i a) role w k = no_root k
-number_is (t.Input span) role w k = no_root k
+number_is (t.Call called a) c role w i k = no_root k
+number_is (t.Input span) c role w i k = no_root k
 
 -- ---- the test of a loop
 
-pub always_true : (test : Option Expression) (w : Within) → is_always test ≡ true → Gives (λ b. b ≡ true) (loop_test test w)
-always_true None w k s = refl
-always_true (Some e) w k s =
-    given_then (IsNumber e) (λ b. b ≡ true) (value (value_of e Test w) s) (λ x s. gives (is_true x) s) (value_gives (IsNumber e) (value_of e Test w) (number_is e Test w (both_left (is_constant e) (is_nonzero (constant_value e)) k)) s)
+pub always_true : (test : Option Expression) (c : Scope) (w : Within) → IsTest test c → is_always test ≡ true → Gives (λ b. b ≡ true) (loop_test test w)
+always_true None c w i k s = refl
+always_true (Some e) c w i k s =
+    given_then (IsNumber e) (λ b. b ≡ true) (value (evaluate e Controlling w) s) (λ x s. gives (is_true x) s) (value_gives (IsNumber e) (evaluate e Controlling w) (number_is e c Controlling w i (both_left (is_constant e) (is_nonzero (constant_value e)) k)) s)
     (λ x s p. nonzero_is (constant_value e) x p (both_right (is_constant e) (is_nonzero (constant_value e)) k))

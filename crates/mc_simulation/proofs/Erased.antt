@@ -2,7 +2,7 @@
 use Rattle.std.proofs.Common.{◌≡◌, ℕ, ◌+◌, Bool, true, false, if◌then◌else◌, List, [], ◌∷◌, map, option_map, Option, Some, None, refl}
 use Rattle.mc_typed.specs.declared.probes.Probe.TheVariants as probe
 use Rattle.mc_typed.specs.Tree as t
-use Rattle.mc_roots.specs.declared.role.Role.TheVariants.{Test, Plain}
+use Rattle.mc_roots.specs.declared.role.Role.TheVariants.{Controlling, Plain}
 use Rattle.mc_roots.specs.Nodes.{Node}
 use Rattle.mc_roots.specs.Nodes as n
 use Rattle.mc_roots.specs.Roots.{is_root}
@@ -12,7 +12,7 @@ use Rattle.mc_steps.specs.Points.{Points, no_points, ◌⊕◌, points_of_functi
 use Rattle.mc_probe.specs.Tree as p
 use Rattle.mc_probe.specs.Erase.{erase_place, erase_expression, erase_structure, erase_call, erase_argument, erase_arguments, erase_effect, erase_initializer, erase_initializers, erase_declarator, erase_start, erase_return, erase_statement, erase_statements, erase_function}
 use Rattle.mc_probe.specs.Maps.{Map, exit_bit, statement_bit, label_bit}
-use Rattle.mc_probe.specs.Table.{Stand, Loose, InTree, role_of, operand, beside, inner, base_of, increment_of, mapped, round_condition, round, put, put_place, put_structure, put_call, put_argument, put_arguments, put_effect, put_effects, put_initializer, put_initializers, put_initial, put_declarators, put_start, put_optional, put_return, At, decided, past, within, in_switch, put_statement, put_statements, put_function, put_functions, decisions_in}
+use Rattle.mc_probe.specs.Table.{Stand, Loose, InTree, role_of, operand, under, beside, inner, base_of, increment_of, mapped, round_condition, round, put, put_place, put_structure, put_call, put_argument, put_arguments, put_effect, put_effects, put_initializer, put_initializers, put_initial, put_declarators, put_start, put_optional, put_return, At, decided, past, within, in_switch, put_statement, put_statements, put_function, put_functions, decisions_in}
 use Rattle.mc_probe.proofs.Backs.{expression_back}
 use Rattle.mc_simulation.specs.Laws.{InstrumentedErases}
 
@@ -55,9 +55,11 @@ module _ (m : Map) (first : ℕ) where
         away st d _ (p.Not (put m first o z e) span) (t.Not e span) (λ i. t.Not (put_away o z e i) span)
     put_away st d (t.Binary operator a e f span) =
         let z : ℕ = inner st d (n.expression (t.Binary operator a e f span)) in
-        let y : ℕ = z + roots Plain (n.expression e) in
-        away st d _ (p.Binary operator a (put m first (Loose Plain) z e) (put m first (Loose Plain) y f) span) (t.Binary operator a e f span)
-        (λ i. t.Binary operator a (put_away (Loose Plain) z e i) (put_away (Loose Plain) y f i) span)
+        let o : Stand = under (n.full_operator operator e f) (operand st d (n.expression (t.Binary operator a e f span))) in
+        let y : ℕ = z + roots (role_of o) (n.expression e) in
+        let q : Stand = beside o (width (n.expression e)) in
+        away st d _ (p.Binary operator a (put m first o z e) (put m first q y f) span) (t.Binary operator a e f span)
+        (λ i. t.Binary operator a (put_away o z e i) (put_away q y f i) span)
     put_away st d (t.Logic operator e f span) =
         let z : ℕ = inner st d (n.expression (t.Logic operator e f span)) in
         let o : Stand = operand st d (n.expression (t.Logic operator e f span)) in
@@ -67,10 +69,10 @@ module _ (m : Map) (first : ℕ) where
         (λ i. t.Logic operator (put_away o z e i) (put_away q y f i) span)
     put_away st d (t.Choice e f g a span) =
         let z : ℕ = inner st d (n.expression (t.Choice e f g a span)) in
-        let y : ℕ = z + roots Test (n.expression e) in
+        let y : ℕ = z + roots Controlling (n.expression e) in
         let l : ℕ = y + roots Plain (n.expression f) in
-        away st d _ (p.Choice (put m first (Loose Test) z e) (put m first (Loose Plain) y f) (put m first (Loose Plain) l g) a span) (t.Choice e f g a span)
-        (λ i. t.Choice (put_away (Loose Test) z e i) (put_away (Loose Plain) y f i) (put_away (Loose Plain) l g i) a span)
+        away st d _ (p.Choice (put m first (Loose Controlling) z e) (put m first (Loose Plain) y f) (put m first (Loose Plain) l g) a span) (t.Choice e f g a span)
+        (λ i. t.Choice (put_away (Loose Controlling) z e i) (put_away (Loose Plain) y f i) (put_away (Loose Plain) l g i) a span)
     put_away st d (t.Call k a) =
         let z : ℕ = inner st d (n.expression (t.Call k a)) in
         away st d _ (p.Call (put_call m first z k) a) (t.Call k a) (λ i. t.Call (call_away z k i) a)
@@ -107,8 +109,8 @@ module _ (m : Map) (first : ℕ) where
   effect_away d (t.CallEffect k) = λ i. t.CallEffect (call_away d k i)
   effect_away d (t.Output e span) = λ i. t.Output (put_away (Loose Plain) d e i) span
   effect_away d (t.ChoiceEffect e a b span) =
-      λ i. t.ChoiceEffect (put_away (Loose Test) d e i) (effect_away (d + roots Test (n.expression e)) a i)
-      (effect_away (d + roots Test (n.expression e) + roots Plain (n.effect a)) b i) span
+      λ i. t.ChoiceEffect (put_away (Loose Controlling) d e i) (effect_away (d + roots Controlling (n.expression e)) a i)
+      (effect_away (d + roots Controlling (n.expression e) + roots Plain (n.effect a)) b i) span
   effect_away d (t.Discard a span) = λ i. t.Discard (effect_away d a i) span
 
   effects_away : (d : ℕ) (xs : List t.Effect) → map erase_effect (put_effects m first d xs) ≡ xs
@@ -133,7 +135,7 @@ module _ (m : Map) (first : ℕ) where
 
   optional_away : (d : ℕ) (x : Option t.Expression) → option_map erase_expression (put_optional m first d x) ≡ x
   optional_away d None = refl
-  optional_away d (Some x) = λ i. Some (put_away (Loose Test) d x i)
+  optional_away d (Some x) = λ i. Some (put_away (Loose Controlling) d x i)
 
   pub declarators_away : (d : ℕ) (xs : List t.Declarator) → map erase_declarator (put_declarators m first d xs) ≡ xs
   declarators_away d [] = refl
@@ -157,11 +159,11 @@ module _ (m : Map) (first : ℕ) where
     statement_away r at (t.Null span) = refl
     statement_away r at (t.EffectStatement effect span) = λ i. t.EffectStatement (effect_away at.decision effect i) span
     statement_away r at (t.If e s keyword span) =
-        let x : At m first = decided m first (roots Test (n.expression e)) (within m first at) in
-        λ i. t.If (put_away (Loose Test) at.decision e i) (statement_away r x s i) keyword span
+        let x : At m first = decided m first (roots Controlling (n.expression e)) (within m first at) in
+        λ i. t.If (put_away (Loose Controlling) at.decision e i) (statement_away r x s i) keyword span
     statement_away r at (t.IfElse e s u keyword span) =
-        let x : At m first = decided m first (roots Test (n.expression e)) (within m first at) in
-        λ i. t.IfElse (put_away (Loose Test) at.decision e i) (statement_away r x s i) (statement_away r (past m first s x) u i) keyword span
+        let x : At m first = decided m first (roots Controlling (n.expression e)) (within m first at) in
+        λ i. t.IfElse (put_away (Loose Controlling) at.decision e i) (statement_away r x s i) (statement_away r (past m first s x) u i) keyword span
     statement_away r at (t.Switch e items keyword span) =
         let x : At m first = decided m first (roots Plain (n.expression e)) (in_switch m first (has_default items) at) in
         λ i. t.Switch (put_away (Loose Plain) at.decision e i) (statements_away at.switch x items i) keyword span
@@ -171,7 +173,7 @@ module _ (m : Map) (first : ℕ) where
         let x : At m first = decided m first (roots Plain (n.start start) + roots Plain (n.optional_test test) + roots_in (n.effects step)) (within m first at) in
         λ i. t.For (start_away at.decision start i) (optional_away d test i) (effects_away y step i) (statement_away r x s i) keyword span
     statement_away r at (t.DoWhile s e keyword span) =
-        λ i. t.DoWhile (statement_away r (within m first at) s i) (put_away (Loose Test) (at.decision + roots Plain (n.statement s)) e i) keyword span
+        λ i. t.DoWhile (statement_away r (within m first at) s i) (put_away (Loose Controlling) (at.decision + roots Plain (n.statement s)) e i) keyword span
     statement_away r at (t.Break span) = refl
     statement_away r at (t.Continue span) = refl
     statement_away r at (t.Return value span) = λ i. t.Return (return_away at.decision value i) span

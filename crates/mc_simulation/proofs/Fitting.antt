@@ -5,8 +5,11 @@ use Rattle.mc_typed.specs.declared.probes.Probe.TheVariants as probe
 use Rattle.mc_typed.specs.Tree as t
 use Rattle.mc_typed.specs.Sound.{Scope, Around, outermost, inside, in_loop, IsLabel, IsStatement, AreStatements, IsSound, IsFunction, AreFunctions, scope_of, type_of}
 use Rattle.mc_typed.specs.Sound as sound
+use Rattle.mc_span.specs.declared.span.Span.{Span}
+use Rattle.mc_typed.specs.declared.operators.Operator.{Operator}
+use Rattle.mc_roots.specs.declared.operators.FullOperator.{FullOperator}
 use Rattle.mc_roots.specs.declared.role.Role.{Role}
-use Rattle.mc_roots.specs.declared.role.Role.TheVariants.{Test, Inner, Plain}
+use Rattle.mc_roots.specs.declared.role.Role.TheVariants.{Controlling, Inner, Plain}
 use Rattle.mc_roots.specs.Nodes.{Node}
 use Rattle.mc_roots.specs.Nodes as n
 use Rattle.mc_roots.specs.Roots.{is_root}
@@ -16,7 +19,7 @@ use Rattle.mc_steps.specs.Points.{Points, no_points, ◌⊕◌, points_of_functi
 use Rattle.mc_probe.specs.Tree as p
 use Rattle.mc_probe.specs.Maps.{Map, exit_bit, statement_bit, label_bit}
 use Rattle.mc_probe.specs.Switches.{switches, switches_all}
-use Rattle.mc_probe.specs.Table.{Stand, Loose, InTree, role_of, operand, beside, inner, base_of, increment_of, mapped, round_condition, round, put, put_place, put_structure, put_call, put_argument, put_arguments, put_effect, put_effects, put_initializer, put_initializers, put_initial, put_declarators, put_start, put_optional, put_return, At, decided, absent_mark, put_statement, put_statements, put_function, put_functions, decisions_in, instrumented}
+use Rattle.mc_probe.specs.Table.{Stand, Loose, InTree, role_of, operand, under, beside, inner, base_of, increment_of, mapped, round_condition, round, put, put_place, put_structure, put_call, put_argument, put_arguments, put_effect, put_effects, put_initializer, put_initializers, put_initial, put_declarators, put_start, put_optional, put_return, At, decided, absent_mark, put_statement, put_statements, put_function, put_functions, decisions_in, instrumented}
 use Rattle.mc_probe.specs.Table as table
 use Rattle.mc_probe.specs.WellFormed.{IsBarePlace, IsBare, IsBareStructure, IsBareCall, IsBareArgument, AreBareArguments, FitsPlace, Fits, FitsStructure, FitsCall, FitsArgument, FitArguments, FitsEffect, FitEffects, FitsInitializer, FitInitializers, FitsInitial, FitDeclarators, FitsStart, FitsTest, FitsReturn, FitsDeclaration, FitsAbsent, FitsStatement, FitStatements, FitFunctions}
 use Rattle.mc_probe.specs.Bare.{bare_place, bare_expression, bare_structure, bare_call, bare_argument, bare_arguments}
@@ -68,13 +71,46 @@ mutual
 
 stands_beside : (o : Stand) (d u wide : ℕ) → d ≤ u → Stands o d → Stands (beside o wide) u
 stands_beside (Loose Plain) d u wide le ok = tt
-stands_beside (Loose Test) d u wide le ok = tt
+stands_beside (Loose Controlling) d u wide le ok = tt
 stands_beside (Loose Inner) d u wide le ok = absurd ok
 stands_beside (InTree k c) d u wide le ok = omega (arith, le, ok)
 
 role_beside : (o : Stand) (wide : ℕ) → role_of (beside o wide) ≡ role_of o
 role_beside (Loose role) wide = refl
 role_beside (InTree k c) wide = refl
+
+-- an operator that evaluates both of its operands leaves room for the decisions in them
+module _ (operator : Operator) (a b : Node) (span : Span) (st : Stand) (d most : ℕ) where
+  abbrev BothFit : Option FullOperator → Type 0
+  BothFit which =
+      let x : Node = n.evaluates_both which operator a b span in
+      let o : Stand = under which (operand st d x) in
+      let z : ℕ = inner st d x in
+      let y : ℕ = z + roots (role_of o) a in
+      (d + one_where (is_root (role_of st) x) ≤ most)
+      × Stands o z × (z + roots (role_of o) a ≤ most)
+      × Stands (beside o (width a)) y × (y + roots (role_of (beside o (width a))) b ≤ most)
+
+  both_fit : (which : Option FullOperator) → Stands st d → d + roots (role_of st) (n.evaluates_both which operator a b span) ≤ most → BothFit which
+  both_fit (Some full) ok le =
+      let x : Node = n.evaluates_both (Some full) operator a b span in
+      let o : Stand = operand st d x in
+      let z : ℕ = inner st d x in
+      let i = inner_is st d x in
+      let s = ap (λ (r : Role). roots r a) (role_same st d x ok) in
+      let u = ap (λ (r : Role). roots r b) (role_same st d x ok) in
+      let w = ap (λ (r : Role). roots r b) (role_beside o (width a)) in
+      let y : ℕ = z + roots (role_of o) a in
+      let zy : z ≤ y = omega arith in (
+        omega (arith, le),
+        stands_inside st d x ok,
+        omega (arith, le, i, s),
+        stands_beside o z y (width a) zy (stands_inside st d x ok),
+        omega (arith, le, i, s, u, w),
+      )
+  both_fit None ok le =
+      let i = inner_is st d (n.evaluates_both None operator a b span) in
+      (omega (arith, le), tt, omega (arith, le, i), tt, omega (arith, le, i))
 
 module _ (m : Map) (first most : ℕ) where
   either_fits : (b : Bool) (x y : p.Expression) → (b ≡ true → Fits most x) → (b ≡ false → Fits most y) → Fits most (if b then x else y)
@@ -121,9 +157,10 @@ module _ (m : Map) (first most : ℕ) where
         round_fits st d a _ ok (omega (arith, le)) (put_fits (operand st d a) (inner st d a) e (stands_inside st d a ok) (omega (arith, le, i, s)))
     put_fits st d (t.Binary operator a e f span) ok le =
         let z : ℕ = inner st d (n.expression (t.Binary operator a e f span)) in
-        let i = inner_is st d (n.expression (t.Binary operator a e f span)) in
-        round_fits st d _ _ ok (omega (arith, le))
-        (put_fits (Loose Plain) z e tt (omega (arith, le, i)), put_fits (Loose Plain) (z + roots Plain (n.expression e)) f tt (omega (arith, le, i)))
+        let o : Stand = under (n.full_operator operator e f) (operand st d (n.expression (t.Binary operator a e f span))) in
+        let both = both_fit operator (n.expression e) (n.expression f) span st d most (n.full_operator operator e f) ok le in
+        round_fits st d _ _ ok both.0
+        (put_fits o z e both.1 both.2, put_fits (beside o (width (n.expression e))) (z + roots (role_of o) (n.expression e)) f both.3 both.4)
     put_fits st d (t.Logic operator e f span) ok le =
         let a : Node = n.expression (t.Logic operator e f span) in
         let o : Stand = operand st d a in
@@ -141,9 +178,9 @@ module _ (m : Map) (first most : ℕ) where
     put_fits st d (t.Choice e f g a span) ok le =
         let z : ℕ = inner st d (n.expression (t.Choice e f g a span)) in
         let i = inner_is st d (n.expression (t.Choice e f g a span)) in
-        let y : ℕ = z + roots Test (n.expression e) in
+        let y : ℕ = z + roots Controlling (n.expression e) in
         round_fits st d _ _ ok (omega (arith, le))
-        (put_fits (Loose Test) z e tt (omega (arith, le, i)), put_fits (Loose Plain) y f tt (omega (arith, le, i)), put_fits (Loose Plain) (y + roots Plain (n.expression f)) g tt (omega (arith, le, i)))
+        (put_fits (Loose Controlling) z e tt (omega (arith, le, i)), put_fits (Loose Plain) y f tt (omega (arith, le, i)), put_fits (Loose Plain) (y + roots Plain (n.expression f)) g tt (omega (arith, le, i)))
     put_fits st d (t.Call k a) ok le =
         let i = inner_is st d (n.expression (t.Call k a)) in
         round_fits st d _ _ ok (omega (arith, le)) (call_fits (inner st d (n.expression (t.Call k a))) k (omega (arith, le, i)))
@@ -179,9 +216,9 @@ module _ (m : Map) (first most : ℕ) where
   effect_fits d (t.CallEffect k) le = call_fits d k (omega (arith, le))
   effect_fits d (t.Output e span) le = put_fits (Loose Plain) d e tt (omega (arith, le))
   effect_fits d (t.ChoiceEffect e a b span) le = (
-    put_fits (Loose Test) d e tt (omega (arith, le)),
-    effect_fits (d + roots Test (n.expression e)) a (omega (arith, le)),
-    effect_fits (d + roots Test (n.expression e) + roots Plain (n.effect a)) b (omega (arith, le)),
+    put_fits (Loose Controlling) d e tt (omega (arith, le)),
+    effect_fits (d + roots Controlling (n.expression e)) a (omega (arith, le)),
+    effect_fits (d + roots Controlling (n.expression e) + roots Plain (n.effect a)) b (omega (arith, le)),
   )
   effect_fits d (t.Discard a span) le = effect_fits d a (omega (arith, le))
 
@@ -215,7 +252,7 @@ module _ (m : Map) (first most : ℕ) where
 
   test_fits : (d : ℕ) (x : Option t.Expression) → d + roots Plain (n.optional_test x) ≤ most → FitsTest most (put_optional m first d x)
   test_fits d None le = tt
-  test_fits d (Some e) le = put_fits (Loose Test) d e tt (omega (arith, le))
+  test_fits d (Some e) le = put_fits (Loose Controlling) d e tt (omega (arith, le))
 
   return_fits : (d : ℕ) (x : t.ReturnValue) → d + roots Plain (n.return_value x) ≤ most → FitsReturn most (put_return m first d x)
   return_fits d t.ReturnNothing le = tt
@@ -253,12 +290,12 @@ module _ (m : Map) (first most : ℕ) where
       statement_fits r at (t.Null span) around k l le sw = tt
       statement_fits r at (t.EffectStatement x span) around k l le sw = effect_fits at.decision x (omega (arith, le))
       statement_fits r at (t.If e x keyword span) around k l le sw = (
-        put_fits (Loose Test) at.decision e tt (omega (arith, le)),
-        statement_fits r (decided m first (roots Test (n.expression e)) (table.within m first at)) x (inside around) k.1 (λ a e. none_some a e) (omega (arith, le)) sw,
+        put_fits (Loose Controlling) at.decision e tt (omega (arith, le)),
+        statement_fits r (decided m first (roots Controlling (n.expression e)) (table.within m first at)) x (inside around) k.1 (λ a e. none_some a e) (omega (arith, le)) sw,
       )
       statement_fits r at (t.IfElse e x y keyword span) around k l le sw =
-          let z : At m first = decided m first (roots Test (n.expression e)) (table.within m first at) in (
-            put_fits (Loose Test) at.decision e tt (omega (arith, le)),
+          let z : At m first = decided m first (roots Controlling (n.expression e)) (table.within m first at) in (
+            put_fits (Loose Controlling) at.decision e tt (omega (arith, le)),
             statement_fits r z x (inside around) k.1 (λ a e. none_some a e) (omega (arith, le)) (omega (arith, sw)),
             statement_fits r (table.past m first x z) y (inside around) k.2 (λ a e. none_some a e) (omega (arith, le)) (omega (arith, sw)),
           )
@@ -280,7 +317,7 @@ module _ (m : Map) (first most : ℕ) where
           )
       statement_fits r at (t.DoWhile x e keyword span) around k l le sw = (
         statement_fits r (table.within m first at) x in_loop k.0 (λ a e. none_some a e) (omega (arith, le)) sw,
-        put_fits (Loose Test) (at.decision + roots Plain (n.statement x)) e tt (omega (arith, le)),
+        put_fits (Loose Controlling) (at.decision + roots Plain (n.statement x)) e tt (omega (arith, le)),
       )
       statement_fits r at (t.Break span) around k l le sw = tt
       statement_fits r at (t.Continue span) around k l le sw = tt

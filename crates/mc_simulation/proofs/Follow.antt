@@ -5,6 +5,7 @@ use Rattle.std.proofs.lemmas.Grind.{flat_map-append}
 use Rattle.mc_value.specs.declared.trap.Trap.{Trap}
 use Rattle.mc_value.specs.declared.trap.Trap.TheVariants.{Unset, InputEnd}
 use Rattle.mc_value.specs.declared.int_type.IntType.{IntType}
+use Rattle.mc_value.specs.declared.int_type.IntType.TheVariants as the
 use Rattle.mc_value.specs.declared.operators.UnOp.{UnOp}
 use Rattle.mc_value.specs.Arithmetic.{unary_of}
 use Rattle.mc_value.specs.Conversions.{converted}
@@ -20,7 +21,10 @@ use Rattle.mc_steps.specs.Events.{Event}
 use Rattle.mc_steps.specs.Expressions.{operated, is_true, where_true, with_index, item_does, lent_item_does, read_does, unary_does, binary_does, goes_on, logic_does, choice_does, as_does, with_input, input_does}
 use Rattle.mc_steps.specs.Calls.{Passed, PassedNumber, PassedStructure, PassedArray, Target, structure_argument_does, again_argument_does, arguments_do, number_given, structure_given}
 use Rattle.mc_typed.specs.Tree.{ParameterType, NumberParameter, StructureParameter, ArrayParameter, ResultType, NumberResult}
+use Rattle.mc_roots.specs.declared.operators.FullOperator.{FullOperator}
+use Rattle.mc_roots.specs.Nodes.{bitwise}
 use Rattle.mc_meaning.specs.Stores.{Path, Store, on_places}
+use Rattle.mc_meaning.specs.Decisions.{Judged, in_full, full_does}
 use Rattle.mc_meaning.proofs.Runs as outs
 use Rattle.mc_probe.specs.Flat.{Flat, flat, value_in}
 use Rattle.mc_simulation.specs.Related.{whole, Suits, MayHold}
@@ -29,6 +33,7 @@ use Rattle.mc_typed.specs.Sound.{structure_result}
 use Rattle.mc_steps.specs.Statements.{Given, Nothing, Number}
 use Rattle.mc_steps.specs.Statements as give
 use Rattle.mc_simulation.specs.Activations.{IsInside, At, AreLent, IsPassed, ArePassed, IsGiven}
+use Rattle.mc_simulation.proofs.Bits.{operated_bits}
 use Rattle.mc_simulation.proofs.Keep.{same_copy}
 
 abbrev pub Equal : {A : Type 0} → A → A → Type 0
@@ -40,6 +45,10 @@ SameTruth x y = is_true y ≡ is_true x
 -- the same number, which suits the type
 abbrev pub Typed : IntType → ℤ → ℤ → Type 0
 Typed a x y = (y ≡ x) × Suits a x
+
+-- a number that is 0 or 1
+abbrev pub HasBit : Judged → Type 0
+HasBit j = Suits the.Bool j.value
 
 pub some_same_value : {A : Type 0} (x y : A) → Some x ≡ Some y → x ≡ y
 some_same_value x y e = cc
@@ -102,6 +111,9 @@ module _ (ms : Members) (rooms : ℕ) (image : Event → List ℕ) where
   abbrev pub Suited : IntType → Acts Store Event ℤ → Type 0
   Suited a f = (s : State Store) (t : State Flat) → Alike ms rooms s t → outs.IsGiven (Suits a) (f s).out
 
+  abbrev pub GivesBit : Acts Store Event Judged → Type 0
+  GivesBit f = (s : State Store) (t : State Flat) → Alike ms rooms s t → outs.IsGiven HasBit (f s).out
+
   module _ (P : ℕ → Type 0) where
     abbrev Goes : {A B : Type 0} → (A → B → Type 0) → Acts Store Event A → Acts Flat ℕ B → Type 0
     Goes v f g = Does ms rooms image P v f g
@@ -127,18 +139,23 @@ module _ (ms : Members) (rooms : ℕ) (image : Event → List ℕ) where
     next_same w f g x y h k =
         next Equal w f g x y h (λ a b e. subst (λ z. Goes w (x a) (y z)) (sym e) (k a))
 
+    -- ---- what is known of the plain run alone
+
+    and_out : {A B : Type 0} (Q : A → Type 0) (w : A → B → Type 0) (old : Flat) (o : Out Store A) (q : Out Flat B) → outs.IsGiven Q o → Matches ms rooms (λ x y n. Kept P old n × w x y) o q → Matches ms rooms (λ x y n. Kept P old n × (w x y × Q x)) o q
+    and_out Q w old (Gave x s) (Gave y t) g h = (h.0, (h.1.0, (h.1.1, g)))
+    and_out Q w old (Stopped e s) (Stopped x t) g h = h
+    and_out Q w old (Gave x s) (Stopped e t) g h = h
+    and_out Q w old (Stopped e s) (Gave y t) g h = h
+
+    and_given : {A B : Type 0} (Q : A → Type 0) (w : A → B → Type 0) (f : Acts Store Event A) (g : Acts Flat ℕ B) → Goes w f g → ((s : State Store) (t : State Flat) → Alike ms rooms s t → outs.IsGiven Q (f s).out) → Goes (λ x y. w x y × Q x) f g
+    and_given Q w f g h k s t al =
+        let r = h s t al in
+        record { told = r.told; out = and_out Q w t.memory (f s).out (g t).out (k s t al) r.out }
+
     -- ---- numbers that suit a type
 
-    typed_out : (a : IntType) (old : Flat) (o : Out Store ℤ) (q : Out Flat ℤ) → outs.IsGiven (Suits a) o → Matches ms rooms (λ x y n. Kept P old n × Equal x y) o q → Matches ms rooms (λ x y n. Kept P old n × Typed a x y) o q
-    typed_out a old (Gave x s) (Gave y t) g h = (h.0, (h.1.0, (h.1.1, g)))
-    typed_out a old (Stopped e s) (Stopped x t) g h = h
-    typed_out a old (Gave x s) (Stopped e t) g h = h
-    typed_out a old (Stopped e s) (Gave y t) g h = h
-
     pub typed : (a : IntType) (f : Acts Store Event ℤ) (g : Acts Flat ℕ ℤ) → Goes Equal f g → Suited a f → Goes (Typed a) f g
-    typed a f g h k s t al =
-        let r = h s t al in
-        record { told = r.told; out = typed_out a t.memory (f s).out (g t).out (k s t al) r.out }
+    typed a f g h k = and_given (Suits a) Equal f g h k
 
     pub next_typed : {C D : Type 0} (a : IntType) (w : C → D → Type 0) (f : Acts Store Event ℤ) (g : Acts Flat ℕ ℤ) (x : ℤ → Acts Store Event C) (y : ℤ → Acts Flat ℕ D) → Goes (Typed a) f g → ((v : ℤ) → Suits a v → Goes w (x v) (y v)) → Goes w (λ s. after (f s) x) (λ t. after (g t) y)
     next_typed a w f g x y h k =
@@ -287,6 +304,27 @@ module _ (ms : Members) (rooms : ℕ) (image : Event → List ℕ) where
         (true_same v (goes_on operator (holds a)) _ _ _ _
         (λ _. next v v f i _ _ k (λ c d q. given v (both a c) (two b d) (many a c b d r q)))
         (λ _. given v (first a) (alone b) (one a b r))))
+
+    -- ---- operators that are evaluated in full
+
+    abbrev SameValue : Judged → ℤ → Type 0
+    SameValue j y = y ≡ j.value
+
+    full_value : (operator : Operator) (o : FullOperator) (a : IntType) → bitwise operator ≡ Some o → (j k : Judged) (y z : ℤ) → SameValue j y × HasBit j → SameValue k z × HasBit k → Goes SameValue (gives (in_full o j k)) (with_result (operated operator a y z) gives)
+    full_value operator o a e j k y z p q =
+        subst (λ (x : ℤ). Goes SameValue (gives (in_full o j k)) (with_result (operated operator a x z) gives)) (sym p.0)
+        (subst (λ (x : ℤ). Goes SameValue (gives (in_full o j k)) (with_result (operated operator a j.value x) gives)) (sym q.0)
+        (subst (λ (r : Result ℤ Trap). Goes SameValue (gives (in_full o j k)) (with_result r gives)) (sym (operated_bits operator o a j.value k.value e p.1 q.1))
+        (given SameValue (in_full o j k) (in_full o j k).value refl)))
+
+    -- C's operator on operands that are 0 or 1
+    pub full_follows : (operator : Operator) (o : FullOperator) (a : IntType) → bitwise operator ≡ Some o → (e f : Acts Store Event Judged) (g i : Acts Flat ℕ ℤ) → GivesBit e → GivesBit f → Goes SameValue e g → Goes SameValue f i → Goes SameValue (full_does o e f) (binary_does operator a g i)
+    full_follows operator o a is e f g i b c h k =
+        next (λ j y. SameValue j y × HasBit j) SameValue e g (λ j s. as_does (in_full o j) f s) (λ y t. after (i t) (λ z t. with_result (operated operator a y z) gives t))
+        (and_given HasBit SameValue e g h b)
+        (λ j y p. next (λ l z. SameValue l z × HasBit l) SameValue f i (λ l s. gives (in_full o j l) s) (λ z t. with_result (operated operator a y z) gives t)
+        (and_given HasBit SameValue f i k c)
+        (λ l z q. full_value operator o a is j l y z p q))
 
     -- ---- arguments
 

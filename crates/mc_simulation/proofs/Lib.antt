@@ -1,10 +1,12 @@
 pub mod Rows
 pub mod Values
+pub mod Bits
 pub mod Keep
 pub mod Erased
 pub mod Follow
 pub mod Sums
 pub mod Decisions
+pub mod Operands
 pub mod Fitting
 pub mod Expressions
 pub mod Acts

@@ -9,7 +9,7 @@ use Rattle.mc_typed.specs.Tree as t
 use Rattle.mc_typed.specs.Sound.{Scope, Around, inside, in_loop, IsExpression, IsStart, IsTest, IsReturn, IsLabel, IsStatement, AreStatements, AreClauses, labels_of, type_of}
 use Rattle.mc_typed.specs.Sound as sound
 use Rattle.mc_roots.specs.declared.role.Role.{Role}
-use Rattle.mc_roots.specs.declared.role.Role.TheVariants.{Test, Plain}
+use Rattle.mc_roots.specs.declared.role.Role.TheVariants.{Controlling, Plain}
 use Rattle.mc_roots.specs.Nodes.{Node}
 use Rattle.mc_roots.specs.Nodes as n
 use Rattle.mc_roots.specs.Counts.{roots, roots_in}
@@ -24,7 +24,7 @@ use Rattle.mc_meaning.specs.Within as plain
 use Rattle.mc_meaning.specs.Within.{Within}
 use Rattle.mc_meaning.specs.Positions.{past, past_statement, into_statement, past_start, past_test, past_step, in_switch}
 use Rattle.mc_meaning.specs.Decisions.{value, choose}
-use Rattle.mc_meaning.specs.Expressions.{value_of, structure_of}
+use Rattle.mc_meaning.specs.Expressions.{evaluate, evaluate_structure}
 use Rattle.mc_meaning.specs.Statements.{effect, effects, declare, counted, where_initializes, start, loop_test, returned, leave, run, run_from}
 use Rattle.mc_meaning.proofs.Numbered.{trees, trees_in}
 use Rattle.mc_probe.specs.Flat.{Flat, Activation, register, with_register}
@@ -218,37 +218,37 @@ module _ (ms : Members) (rooms : ℕ) (m : Map) (first count : ℕ) (v : Activat
 
   -- ---- parts
 
-  start_follows : (x : ForStart) (w : Within) (d sw : ℕ) → There w → IsStart x c → Here w.decisions d (trees Plain (n.start x)) → Acted sw Done (start x w) (act.start_of v (put_start m first d x))
+  start_follows : (x : ForStart) (w : Within) (d sw : ℕ) → There w → IsStart x c → Here w.decisions d (trees Plain (n.start x)) → Acted sw Done (start x w) (act.start_loop v (put_start m first d x))
   start_follows (t.StartEffects xs) w d sw g k h =
-      of_part d sw Done (effects xs w) (act.effects_of v (put_effects m first d xs)) (eff.effects_follow ms rooms m first count v c is room bits xs w d g k h)
+      of_part d sw Done (effects xs w) (act.perform_all v (put_effects m first d xs)) (eff.effects_follow ms rooms m first count v c is room bits xs w d g k h)
   start_follows (t.StartDeclaration xs) w d sw g k h =
-      of_part d sw Done (declare xs w) (act.declarators_of v (put_declarators m first d xs)) (eff.declare_follows ms rooms m first count v c is room bits xs w d g k h)
+      of_part d sw Done (declare xs w) (act.declare v (put_declarators m first d xs)) (eff.declare_follows ms rooms m first count v c is room bits xs w d g k h)
 
-  truth_follows : (e : Expression) (w : Within) (d sw : ℕ) → There w → IsExpression e c → Here w.decisions d (trees Test (n.expression e)) → Acted sw SameTruth (value (value_of e Test w)) (expr.value_of v (put m first (Loose Test) d e))
+  truth_follows : (e : Expression) (w : Within) (d sw : ℕ) → There w → IsExpression e c → Here w.decisions d (trees Controlling (n.expression e)) → Acted sw SameTruth (value (evaluate e Controlling w)) (expr.evaluate v (put m first (Loose Controlling) d e))
   truth_follows e w d sw g k h =
-      of_part d sw SameTruth (value (value_of e Test w)) (expr.value_of v (put m first (Loose Test) d e)) (test_follows ms rooms m first count v c is room bits e w d g k h)
+      of_part d sw SameTruth (value (evaluate e Controlling w)) (expr.evaluate v (put m first (Loose Controlling) d e)) (test_follows ms rooms m first count v c is room bits e w d g k h)
 
-  loop_test_follows : (x : Option Expression) (w : Within) (d sw : ℕ) → There w → IsTest x c → Here w.decisions d (trees Plain (n.optional_test x)) → Acted sw Equal (loop_test x w) (act.test_of v (put_optional m first d x))
+  loop_test_follows : (x : Option Expression) (w : Within) (d sw : ℕ) → There w → IsTest x c → Here w.decisions d (trees Plain (n.optional_test x)) → Acted sw Equal (loop_test x w) (act.loop_test v (put_optional m first d x))
   loop_test_follows None w d sw g k h = given ms rooms (bit_of m) (Saves sw) Equal true true refl
   loop_test_follows (Some e) w d sw g k h =
-      acts.test_follows ms rooms (bit_of m) (Saves sw) c.result (value (value_of e Test w)) (expr.value_of v (put m first (Loose Test) d e))
-      (truth_follows e w d sw g k (here_left ms rooms m first count v w.decisions d (trees Test (n.expression e)) [] h))
+      acts.test_follows ms rooms (bit_of m) (Saves sw) c.result (value (evaluate e Controlling w)) (expr.evaluate v (put m first (Loose Controlling) d e))
+      (truth_follows e w d sw g k (here_left ms rooms m first count v w.decisions d (trees Controlling (n.expression e)) [] h))
 
-  returned_follows : (x : ReturnValue) (r : ResultType) (w : Within) (d sw : ℕ) → There w → IsReturn x r c → Here w.decisions d (trees Plain (n.return_value x)) → Acted sw (IsGiven ms r) (returned x w) (act.return_of v (put_return m first d x))
+  returned_follows : (x : ReturnValue) (r : ResultType) (w : Within) (d sw : ℕ) → There w → IsReturn x r c → Here w.decisions d (trees Plain (n.return_value x)) → Acted sw (IsGiven ms r) (returned x w) (act.returned v (put_return m first d x))
   returned_follows t.ReturnNothing NoResult w d sw g k h = given ms rooms (bit_of m) (Saves sw) (IsGiven ms NoResult) give.Nothing give.Nothing tt
   returned_follows t.ReturnNothing (NumberResult a) w d sw g k h = absurd k
   returned_follows t.ReturnNothing (StructureResult u) w d sw g k h = absurd k
   returned_follows (t.ReturnNumber e) NoResult w d sw g k h = absurd k
   returned_follows (t.ReturnNumber e) (NumberResult a) w d sw g k h =
-      next_typed ms rooms (bit_of m) (Saves sw) a (IsGiven ms (NumberResult a)) (value (value_of e Plain w)) (expr.value_of v (put m first (Loose Plain) d e)) _ _
-      (of_part d sw (Typed a) (value (value_of e Plain w)) (expr.value_of v (put m first (Loose Plain) d e)) (typed_follows ms rooms m first count v c is room bits e a w d g k.0 k.1 h))
+      next_typed ms rooms (bit_of m) (Saves sw) a (IsGiven ms (NumberResult a)) (value (evaluate e Plain w)) (expr.evaluate v (put m first (Loose Plain) d e)) _ _
+      (of_part d sw (Typed a) (value (evaluate e Plain w)) (expr.evaluate v (put m first (Loose Plain) d e)) (typed_follows ms rooms m first count v c is room bits e a w d g k.0 k.1 h))
       (λ x i. given ms rooms (bit_of m) (Saves sw) (IsGiven ms (NumberResult a)) (Number x) (Number x) (refl, i))
   returned_follows (t.ReturnNumber e) (StructureResult u) w d sw g k h = absurd k
   returned_follows (t.ReturnStructure x i) NoResult w d sw g k h = absurd k
   returned_follows (t.ReturnStructure x i) (NumberResult a) w d sw g k h = absurd k
   returned_follows (t.ReturnStructure x i) (StructureResult u) w d sw g k h =
-      next ms rooms (bit_of m) (Saves sw) (act_of.At ms u) (IsGiven ms (StructureResult u)) (structure_of x w) (expr.structure_of v (put_structure m first d x)) _ _
-      (of_part d sw (act_of.At ms u) (structure_of x w) (expr.structure_of v (put_structure m first d x)) (structure_follows ms rooms m first count v c is room bits x u w d g k.0 k.1 h))
+      next ms rooms (bit_of m) (Saves sw) (act_of.At ms u) (IsGiven ms (StructureResult u)) (evaluate_structure x w) (expr.evaluate_structure v (put_structure m first d x)) _ _
+      (of_part d sw (act_of.At ms u) (evaluate_structure x w) (expr.evaluate_structure v (put_structure m first d x)) (structure_follows ms rooms m first count v c is room bits x u w d g k.0 k.1 h))
       (λ q l at. given ms rooms (bit_of m) (Saves sw) (IsGiven ms (StructureResult u)) (give.Structure q i) (give.Structure l i) (u, refl, at, k.2, k.2))
 
   -- ---- switch
@@ -424,10 +424,10 @@ module _ (ms : Members) (rooms : ℕ) (m : Map) (first count : ℕ) (v : Activat
   -- ---- statements
 
   abbrev declaring : ℕ → List Declarator → f.Does (Flow ℕ)
-  declaring d xs = effect_does (act.declarators_of v (put_declarators m first d xs))
+  declaring d xs = effect_does (act.declare v (put_declarators m first d xs))
 
   mutual
-    pub statement_follows : (x : Statement) (around : Around) (r : ℕ) (w : Within) (at : At m first) → There w → IsStatement x c around → IsAt w at (trees Plain (n.statement x)) (points_of x) (switches x) → Flows at.switch (run x w) (act.statement_of v (put_statement m first r at x))
+    pub statement_follows : (x : Statement) (around : Around) (r : ℕ) (w : Within) (at : At m first) → There w → IsStatement x c around → IsAt w at (trees Plain (n.statement x)) (points_of x) (switches x) → Flows at.switch (run x w) (act.run v (put_statement m first r at x))
     statement_follows (t.Compound items span) around r w at g k h = items_follow items (inside around) r w at g refl k h
     statement_follows (t.Label x span) around r w at g k h = flow_gives at.switch Completed Completed tt
     statement_follows (t.Declaration xs span) around r w at g k h =
@@ -436,8 +436,8 @@ module _ (ms : Members) (rooms : ℕ) (m : Map) (first count : ℕ) (v : Activat
       where
         declared : (u : Within) → There u → Here u.decisions at.decision (trees_in (n.declarators xs)) → Flows at.switch (effect_does (declare xs u)) (declaring at.decision xs)
         declared u g i =
-            effect_follows ms rooms (bit_of m) (Saves at.switch) c.result (declare xs u) (act.declarators_of v (put_declarators m first at.decision xs))
-            (of_part at.decision at.switch Done (declare xs u) (act.declarators_of v (put_declarators m first at.decision xs)) (eff.declare_follows ms rooms m first count v c is room bits xs u at.decision g k i))
+            effect_follows ms rooms (bit_of m) (Saves at.switch) c.result (declare xs u) (act.declare v (put_declarators m first at.decision xs))
+            (of_part at.decision at.switch Done (declare xs u) (act.declare v (put_declarators m first at.decision xs)) (eff.declare_follows ms rooms m first count v c is room bits xs u at.decision g k i))
 
         go : (b : Bool) → IsAt w at (trees_in (n.declarators xs)) (where_counted b) 0 → Flows at.switch (where_initializes b w (λ w. effect_does (declare xs w))) (where_true b (act.counts v (if b then Some at.statement else None) (declaring at.decision xs)) (declaring at.decision xs))
         go true i = counts w at (trees_in (n.declarators xs)) no_points 0 (λ w. effect_does (declare xs w)) (declaring at.decision xs) i (declared (into_statement w) g i.here)
@@ -446,39 +446,39 @@ module _ (ms : Members) (rooms : ℕ) (m : Map) (first count : ℕ) (v : Activat
         counts w at [] no_points 0 (λ w. gives Completed) (gives Completed) h (flow_gives at.switch Completed Completed tt)
     statement_follows (t.EffectStatement x span) around r w at g k h =
         let u : Within = into_statement w in
-        counts w at (trees Plain (n.effect x) ++ []) no_points 0 (λ w. effect_does (effect x w)) (effect_does (act.effect_of v (put_effect m first at.decision x))) h
-        (effect_follows ms rooms (bit_of m) (Saves at.switch) c.result (effect x u) (act.effect_of v (put_effect m first at.decision x))
-        (of_part at.decision at.switch Done (effect x u) (act.effect_of v (put_effect m first at.decision x))
+        counts w at (trees Plain (n.effect x) ++ []) no_points 0 (λ w. effect_does (effect x w)) (effect_does (act.perform v (put_effect m first at.decision x))) h
+        (effect_follows ms rooms (bit_of m) (Saves at.switch) c.result (effect x u) (act.perform v (put_effect m first at.decision x))
+        (of_part at.decision at.switch Done (effect x u) (act.perform v (put_effect m first at.decision x))
         (eff.effect_follows ms rooms m first count v c is room bits x true u at.decision g k (here_left ms rooms m first count v u.decisions at.decision (trees Plain (n.effect x)) [] h.here))))
     statement_follows (t.If e x keyword span) around r w at g k h =
         let u : Within = into_statement w in
-        let y : Within = past Test (n.expression e) u in
-        let z : At m first = decided m first (roots Test (n.expression e)) (table.within m first at) in
+        let y : Within = past Controlling (n.expression e) u in
+        let z : At m first = decided m first (roots Controlling (n.expression e)) (table.within m first at) in
         let rest : List Tree = trees Plain (n.statement x) ++ [] in
-        let i = into_counted w at (trees Test (n.expression e) ++ rest) (points_of x) (switches x) h in
-        counts w at (trees Test (n.expression e) ++ rest) (points_of x) (switches x) (λ w. choice_does (value (value_of e Test w)) (run x (past Test (n.expression e) w)) (gives Completed)) (choice_does (expr.value_of v (put m first (Loose Test) at.decision e)) (act.statement_of v (put_statement m first r z x)) (gives Completed)) h
-        (if_follows ms rooms (bit_of m) (Saves at.switch) c.result (value (value_of e Test u)) (expr.value_of v (put m first (Loose Test) at.decision e)) (run x y) (gives Completed) (act.statement_of v (put_statement m first r z x)) (gives Completed)
-        (truth_follows e u at.decision at.switch g k.0 (here_left ms rooms m first count v u.decisions at.decision (trees Test (n.expression e)) rest i.here))
-        (statement_follows x (inside around) r y z g k.1 (left_trees y z (trees Plain (n.statement x)) [] (points_of x) (switches x) (decide_at u (table.within m first at) Test (n.expression e) rest (points_of x) (switches x) i)))
+        let i = into_counted w at (trees Controlling (n.expression e) ++ rest) (points_of x) (switches x) h in
+        counts w at (trees Controlling (n.expression e) ++ rest) (points_of x) (switches x) (λ w. choice_does (value (evaluate e Controlling w)) (run x (past Controlling (n.expression e) w)) (gives Completed)) (choice_does (expr.evaluate v (put m first (Loose Controlling) at.decision e)) (act.run v (put_statement m first r z x)) (gives Completed)) h
+        (if_follows ms rooms (bit_of m) (Saves at.switch) c.result (value (evaluate e Controlling u)) (expr.evaluate v (put m first (Loose Controlling) at.decision e)) (run x y) (gives Completed) (act.run v (put_statement m first r z x)) (gives Completed)
+        (truth_follows e u at.decision at.switch g k.0 (here_left ms rooms m first count v u.decisions at.decision (trees Controlling (n.expression e)) rest i.here))
+        (statement_follows x (inside around) r y z g k.1 (left_trees y z (trees Plain (n.statement x)) [] (points_of x) (switches x) (decide_at u (table.within m first at) Controlling (n.expression e) rest (points_of x) (switches x) i)))
         (flow_gives at.switch Completed Completed tt))
     statement_follows (t.IfElse e x o keyword span) around r w at g k h =
         let u : Within = into_statement w in
-        let y : Within = past Test (n.expression e) u in
-        let z : At m first = decided m first (roots Test (n.expression e)) (table.within m first at) in
+        let y : Within = past Controlling (n.expression e) u in
+        let z : At m first = decided m first (roots Controlling (n.expression e)) (table.within m first at) in
         let y2 : Within = past_statement x y in
         let z2 : At m first = table.past m first x z in
         let last : List Tree = trees Plain (n.statement o) ++ [] in
         let rest : List Tree = trees Plain (n.statement x) ++ last in
         let q : Points = points_of x ⊕ points_of o in
         let sw : ℕ = switches x + switches o in
-        let i = into_counted w at (trees Test (n.expression e) ++ rest) q sw h in
-        let j = decide_at u (table.within m first at) Test (n.expression e) rest q sw i in
+        let i = into_counted w at (trees Controlling (n.expression e) ++ rest) q sw h in
+        let j = decide_at u (table.within m first at) Controlling (n.expression e) rest q sw i in
         let le : at.switch ≤ at.switch + switches x = omega arith in
-        counts w at (trees Test (n.expression e) ++ rest) q sw (λ w. choice_does (value (value_of e Test w)) (run x (past Test (n.expression e) w)) (run o (past_statement x (past Test (n.expression e) w)))) (choice_does (expr.value_of v (put m first (Loose Test) at.decision e)) (act.statement_of v (put_statement m first r z x)) (act.statement_of v (put_statement m first r z2 o))) h
-        (if_follows ms rooms (bit_of m) (Saves at.switch) c.result (value (value_of e Test u)) (expr.value_of v (put m first (Loose Test) at.decision e)) (run x y) (run o y2) (act.statement_of v (put_statement m first r z x)) (act.statement_of v (put_statement m first r z2 o))
-        (truth_follows e u at.decision at.switch g k.0 (here_left ms rooms m first count v u.decisions at.decision (trees Test (n.expression e)) rest i.here))
+        counts w at (trees Controlling (n.expression e) ++ rest) q sw (λ w. choice_does (value (evaluate e Controlling w)) (run x (past Controlling (n.expression e) w)) (run o (past_statement x (past Controlling (n.expression e) w)))) (choice_does (expr.evaluate v (put m first (Loose Controlling) at.decision e)) (act.run v (put_statement m first r z x)) (act.run v (put_statement m first r z2 o))) h
+        (if_follows ms rooms (bit_of m) (Saves at.switch) c.result (value (evaluate e Controlling u)) (expr.evaluate v (put m first (Loose Controlling) at.decision e)) (run x y) (run o y2) (act.run v (put_statement m first r z x)) (act.run v (put_statement m first r z2 o))
+        (truth_follows e u at.decision at.switch g k.0 (here_left ms rooms m first count v u.decisions at.decision (trees Controlling (n.expression e)) rest i.here))
         (statement_follows x (inside around) r y z g k.1 (left_points y z (trees Plain (n.statement x)) (points_of x) (points_of o) (switches x) (switches o) (left_trees y z (trees Plain (n.statement x)) last q sw j)))
-        (of_later at.switch (at.switch + switches x) (SameFlow ms c.result) (run o y2) (act.statement_of v (put_statement m first r z2 o)) le
+        (of_later at.switch (at.switch + switches x) (SameFlow ms c.result) (run o y2) (act.run v (put_statement m first r z2 o)) le
         (statement_follows o (inside around) r y2 z2 g k.2 (left_trees y2 z2 (trees Plain (n.statement o)) [] (points_of o) (switches o) (past_at x y z last (points_of o) (switches o) j)))))
     statement_follows (t.Switch e items keyword span) around r w at g k h =
         let u : Within = into_statement w in
@@ -492,13 +492,13 @@ module _ (ms : Members) (rooms : ℕ) (m : Map) (first count : ℕ) (v : Activat
         let body : p.Statements = put_statements m first at.switch z items in
         let inner = left_trees y z (trees_in (n.statements items)) [] (points_of_all items) sw (switch_at has w at (n.expression e) rest (points_of_all items) sw h) in
         counts w at (trees Plain (n.expression e) ++ rest) q (1 + sw)
-        (λ w. switch_does (value (value_of e Plain w)) (labels_of items) (λ seek. run_from items seek (in_switch items (past Plain (n.expression e) w))) (choose w.points.labels))
-        (switch_does (expr.value_of v (p.Probe (probe.Switch at.switch) x)) (labels_of (erase_statements body)) (act.statements_of v body) (mark_does v (absent_mark m first has at))) h
-        (subst (λ (ls : Statements). Flows at.switch (switch_does (value (value_of e Plain u)) (labels_of items) (λ seek. run_from items seek y) (choose u.points.labels)) (switch_does (expr.value_of v (p.Probe (probe.Switch at.switch) x)) (labels_of ls) (act.statements_of v body) (mark_does v (absent_mark m first has at))))
+        (λ w. switch_does (value (evaluate e Plain w)) (labels_of items) (λ seek. run_from items seek (in_switch items (past Plain (n.expression e) w))) (choose w.points.labels))
+        (switch_does (expr.evaluate v (p.Probe (probe.Switch at.switch) x)) (labels_of (erase_statements body)) (act.run_from v body) (mark_does v (absent_mark m first has at))) h
+        (subst (λ (ls : Statements). Flows at.switch (switch_does (value (evaluate e Plain u)) (labels_of items) (λ seek. run_from items seek y) (choose u.points.labels)) (switch_does (expr.evaluate v (p.Probe (probe.Switch at.switch) x)) (labels_of ls) (act.run_from v body) (mark_does v (absent_mark m first has at))))
         (sym (statements_away m first at.switch z items))
-        (switch_follows at.switch (labels_of items) (value (value_of e Plain u)) (expr.value_of v x) (λ seek. run_from items seek y) (act.statements_of v body) (choose u.points.labels) (mark_does v (absent_mark m first has at))
+        (switch_follows at.switch (labels_of items) (value (evaluate e Plain u)) (expr.evaluate v x) (λ seek. run_from items seek y) (act.run_from v body) (choose u.points.labels) (mark_does v (absent_mark m first has at))
         (omega (arith, h.switches)) h.counted
-        (of_part at.decision at.switch Equal (value (value_of e Plain u)) (expr.value_of v x) (number_follows ms rooms m first count v c is room bits e u at.decision g k.0 (here_left ms rooms m first count v u.decisions at.decision (trees Plain (n.expression e)) rest h.here)))
+        (of_part at.decision at.switch Equal (value (evaluate e Plain u)) (expr.evaluate v x) (number_follows ms rooms m first count v c is room bits e u at.decision g k.0 (here_left ms rooms m first count v u.decisions at.decision (trees Plain (n.expression e)) rest h.here)))
         (λ seek s t a reg. search_follows items seek (sound.in_switch around (type_of e)) at.switch y z g k.2 (omega arith) h.counted (omega (arith, h.switches)) inner s t a reg)
         (absent_follows has w at (trees Plain (n.expression e) ++ rest) (points_of_all items) sw (labels_of items) refl h)))
     statement_follows (t.For begin test step x keyword span) around r w at g k h =
@@ -530,28 +530,28 @@ module _ (ms : Members) (rooms : ℕ) (m : Map) (first count : ℕ) (v : Activat
           counted = i.counted;
           switches = i.switches;
         } in
-        let y = act.statement_of v (put_statement m first r z x) in
+        let y = act.run v (put_statement m first r z x) in
         counts w at all (points_of x) (switches x)
         (λ w s. after (start begin w s) (λ _. loop_does (loop_test test (past_start begin w)) (run x (past_step step (past_test test (past_start begin w)))) (effects step (past_test test (past_start begin w)))))
-        (λ s. after (act.start_of v (put_start m first at.decision begin) s) (λ _ s. loop_does (act.test_of v (put_optional m first d1 test)) y (act.effects_of v (put_effects m first d2 step)) s)) h
-        (next ms rooms (bit_of m) (Saves at.switch) Done (SameFlow ms c.result) (start begin u) (act.start_of v (put_start m first at.decision begin)) _ _
+        (λ s. after (act.start_loop v (put_start m first at.decision begin) s) (λ _ s. loop_does (act.loop_test v (put_optional m first d1 test)) y (act.perform_all v (put_effects m first d2 step)) s)) h
+        (next ms rooms (bit_of m) (Saves at.switch) Done (SameFlow ms c.result) (start begin u) (act.start_loop v (put_start m first at.decision begin)) _ _
         (start_follows begin u at.decision at.switch g k.0 (here_left ms rooms m first count v u.decisions at.decision (trees Plain (n.start begin)) rest i.here))
-        (λ a b' _. loop_follows ms rooms (bit_of m) (Saves at.switch) c.result (loop_test test u1) (act.test_of v (put_optional m first d1 test)) (run x u3) y (effects step u2) (act.effects_of v (put_effects m first d2 step))
+        (λ a b' _. loop_follows ms rooms (bit_of m) (Saves at.switch) c.result (loop_test test u1) (act.loop_test v (put_optional m first d1 test)) (run x u3) y (effects step u2) (act.perform_all v (put_effects m first d2 step))
         (loop_test_follows test u1 d1 at.switch g k.1 (here_left ms rooms m first count v u1.decisions d1 (trees Plain (n.optional_test test)) middle h1))
         (statement_follows x in_loop r u3 z g k.3 (left_trees u3 z (trees Plain (n.statement x)) [] (points_of x) (switches x) b))
-        (of_part d2 at.switch Done (effects step u2) (act.effects_of v (put_effects m first d2 step)) (eff.effects_follow ms rooms m first count v c is room bits step u2 d2 g k.2 (here_left ms rooms m first count v u2.decisions d2 (trees_in (n.effects step)) last h2)))))
+        (of_part d2 at.switch Done (effects step u2) (act.perform_all v (put_effects m first d2 step)) (eff.effects_follow ms rooms m first count v c is room bits step u2 d2 g k.2 (here_left ms rooms m first count v u2.decisions d2 (trees_in (n.effects step)) last h2)))))
     statement_follows (t.DoWhile x e keyword span) around r w at g k h =
         let u : Within = into_statement w in
         let z : At m first = table.within m first at in
         let y : Within = past_statement x u in
         let d : ℕ = at.decision + roots Plain (n.statement x) in
-        let rest : List Tree = trees Test (n.expression e) ++ [] in
+        let rest : List Tree = trees Controlling (n.expression e) ++ [] in
         let i = into_counted w at (trees Plain (n.statement x) ++ rest) (points_of x) (switches x) h in
-        counts w at (trees Plain (n.statement x) ++ rest) (points_of x) (switches x) (λ w. do_does (run x w) (as_does is_true (value (value_of e Test (past_statement x w))))) (do_does (act.statement_of v (put_statement m first r z x)) (as_does is_true (expr.value_of v (put m first (Loose Test) d e)))) h
-        (do_follows ms rooms (bit_of m) (Saves at.switch) c.result (run x u) (act.statement_of v (put_statement m first r z x)) (as_does is_true (value (value_of e Test y))) (as_does is_true (expr.value_of v (put m first (Loose Test) d e)))
+        counts w at (trees Plain (n.statement x) ++ rest) (points_of x) (switches x) (λ w. do_does (run x w) (as_does is_true (value (evaluate e Controlling (past_statement x w))))) (do_does (act.run v (put_statement m first r z x)) (as_does is_true (expr.evaluate v (put m first (Loose Controlling) d e)))) h
+        (do_follows ms rooms (bit_of m) (Saves at.switch) c.result (run x u) (act.run v (put_statement m first r z x)) (as_does is_true (value (evaluate e Controlling y))) (as_does is_true (expr.evaluate v (put m first (Loose Controlling) d e)))
         (statement_follows x in_loop r u z g k.0 (left_trees u z (trees Plain (n.statement x)) rest (points_of x) (switches x) i))
-        (acts.test_follows ms rooms (bit_of m) (Saves at.switch) c.result (value (value_of e Test y)) (expr.value_of v (put m first (Loose Test) d e))
-        (truth_follows e y d at.switch g k.1 (here_left ms rooms m first count v y.decisions d (trees Test (n.expression e)) [] (here_past ms rooms m first count v u.decisions at.decision Plain (n.statement x) rest i.here)))))
+        (acts.test_follows ms rooms (bit_of m) (Saves at.switch) c.result (value (evaluate e Controlling y)) (expr.evaluate v (put m first (Loose Controlling) d e))
+        (truth_follows e y d at.switch g k.1 (here_left ms rooms m first count v y.decisions d (trees Controlling (n.expression e)) [] (here_past ms rooms m first count v u.decisions at.decision Plain (n.statement x) rest i.here)))))
     statement_follows (t.Break span) around r w at g k h =
         counts w at [] no_points 0 (λ w. gives Broke) (gives Broke) h (flow_gives at.switch Broke Broke tt)
     statement_follows (t.Continue span) around r w at g k h =
@@ -560,33 +560,33 @@ module _ (ms : Members) (rooms : ℕ) (m : Map) (first count : ℕ) (v : Activat
         let u : Within = into_statement w in
         let ts : List Tree = trees Plain (n.return_value x) ++ [] in
         let i = into_counted w at ts an_exit 0 h in
-        counts w at ts an_exit 0 (leave x) (act.exit_does v (Some at.exit) (act.return_of v (put_return m first at.decision x))) h
-        (next ms rooms (bit_of m) (Saves at.switch) (IsGiven ms c.result) (SameFlow ms c.result) (returned x u) (act.return_of v (put_return m first at.decision x)) _ _
+        counts w at ts an_exit 0 (leave x) (act.exit_does v (Some at.exit) (act.returned v (put_return m first at.decision x))) h
+        (next ms rooms (bit_of m) (Saves at.switch) (IsGiven ms c.result) (SameFlow ms c.result) (returned x u) (act.returned v (put_return m first at.decision x)) _ _
         (returned_follows x c.result u at.decision at.switch g k (here_left ms rooms m first count v u.decisions at.decision (trees Plain (n.return_value x)) [] i.here))
         (λ a b q. next ms rooms (bit_of m) (Saves at.switch) Done (SameFlow ms c.result) (lists (Exited u.points.exits ∷ [])) (f.hits_some v (Some at.exit)) (λ _ s. gives (Left a) s) (λ _ s. gives (Left b) s)
         (exited u (table.within m first at) ts no_points 0 i) (λ y z o. flow_gives at.switch (Left a) (Left b) q)))
 
     -- the items of a body that is none of a `switch`
-    pub items_follow : (items : Statements) (around : Around) (r : ℕ) (w : Within) (at : At m first) → There w → around.labels ≡ None → AreStatements items c around → IsAt w at (trees_in (n.statements items)) (points_of_all items) (switches_all items) → Flows at.switch (run_from items Running w) (act.statements_of v (put_statements m first r at items) Running)
+    pub items_follow : (items : Statements) (around : Around) (r : ℕ) (w : Within) (at : At m first) → There w → around.labels ≡ None → AreStatements items c around → IsAt w at (trees_in (n.statements items)) (points_of_all items) (switches_all items) → Flows at.switch (run_from items Running w) (act.run_from v (put_statements m first r at items) Running)
     items_follow t.no_statements around r w at g e k h = flow_gives at.switch Completed Completed tt
     items_follow (t.statements (t.Label x span) rest) around r w at g e k h = absurd (subst (λ (o : Option IntType). IsLabel x o) e k.0)
     items_follow (t.statements x rest) around r w at g e k h =
         let u : Within = past_statement x w in
         let z : At m first = table.past m first x at in
         let le : at.switch ≤ at.switch + switches x = omega arith in
-        then_follows ms rooms (bit_of m) (Saves at.switch) c.result (run x w) (run_from rest Running u) (act.statement_of v (put_statement m first r at x)) (act.statements_of v (put_statements m first r z rest) Running)
+        then_follows ms rooms (bit_of m) (Saves at.switch) c.result (run x w) (run_from rest Running u) (act.run v (put_statement m first r at x)) (act.run_from v (put_statements m first r z rest) Running)
         (statement_follows x around r w at g k.0 (left_points w at (trees Plain (n.statement x)) (points_of x) (points_of_all rest) (switches x) (switches_all rest) (left_trees w at (trees Plain (n.statement x)) (trees_in (n.statements rest)) (points_of x ⊕ points_of_all rest) (switches x + switches_all rest) h)))
-        (of_later at.switch (at.switch + switches x) (SameFlow ms c.result) (run_from rest Running u) (act.statements_of v (put_statements m first r z rest) Running) le
+        (of_later at.switch (at.switch + switches x) (SameFlow ms c.result) (run_from rest Running u) (act.run_from v (put_statements m first r z rest) Running) le
         (items_follow rest around r u z g e k.1 (past_at x w at (trees_in (n.statements rest)) (points_of_all rest) (switches_all rest) h)))
 
     -- the items of the body of a `switch` with the register r, which a search passes over or not
-    search_follows : (items : Statements) (seek : Seek) (around : Around) (r : ℕ) (w : Within) (at : At m first) → There w → AreStatements items c around → r < at.switch → count ≤ r → v.first + r < rooms → IsAt w at (trees_in (n.statements items)) (points_of_all items) (switches_all items) → Searches r seek (labels_of items) (run_from items seek w) (act.statements_of v (put_statements m first r at items) seek)
+    search_follows : (items : Statements) (seek : Seek) (around : Around) (r : ℕ) (w : Within) (at : At m first) → There w → AreStatements items c around → r < at.switch → count ≤ r → v.first + r < rooms → IsAt w at (trees_in (n.statements items)) (points_of_all items) (switches_all items) → Searches r seek (labels_of items) (run_from items seek w) (act.run_from v (put_statements m first r at items) seek)
     search_follows t.no_statements seek around r w at g k lt le fits h =
         λ s t a reg. record { told = refl; out = (a, ((λ i p. refl), (tt, reg))) }
     search_follows (t.statements (t.Label x span) rest) seek around r w at g k lt le fits h =
-        label_follows x seek r w.points.labels at.label (label_bits w at (trees_in (n.statements rest)) (points_of_all rest) (switches_all (t.statements (t.Label x span) rest)) h) h.label fits (labels_of rest) (λ seek. run_from rest seek (past_statement (t.Label x span) w)) (act.statements_of v (put_statements m first r (table.past m first (t.Label x span) at) rest))
+        label_follows x seek r w.points.labels at.label (label_bits w at (trees_in (n.statements rest)) (points_of_all rest) (switches_all (t.statements (t.Label x span) rest)) h) h.label fits (labels_of rest) (λ seek. run_from rest seek (past_statement (t.Label x span) w)) (act.run_from v (put_statements m first r (table.past m first (t.Label x span) at) rest))
         (λ seek. search_follows rest seek around r (past_statement (t.Label x span) w) (table.past m first (t.Label x span) at) g k.1 (omega (arith, lt)) le fits (past_at (t.Label x span) w at (trees_in (n.statements rest)) (points_of_all rest) (switches_all rest) h))
     search_follows (t.statements x rest) seek around r w at g k lt le fits h =
-        item_follows r at.switch seek (run x w) (act.statement_of v (put_statement m first r at x)) (labels_of rest) (λ seek. run_from rest seek (past_statement x w)) (act.statements_of v (put_statements m first r (table.past m first x at) rest)) lt le
+        item_follows r at.switch seek (run x w) (act.run v (put_statement m first r at x)) (labels_of rest) (λ seek. run_from rest seek (past_statement x w)) (act.run_from v (put_statements m first r (table.past m first x at) rest)) lt le
         (statement_follows x around r w at g k.0 (left_points w at (trees Plain (n.statement x)) (points_of x) (points_of_all rest) (switches x) (switches_all rest) (left_trees w at (trees Plain (n.statement x)) (trees_in (n.statements rest)) (points_of x ⊕ points_of_all rest) (switches x + switches_all rest) h)))
         (λ seek. search_follows rest seek around r (past_statement x w) (table.past m first x at) g k.1 (omega (arith, lt)) le fits (past_at x w at (trees_in (n.statements rest)) (points_of_all rest) (switches_all rest) h))

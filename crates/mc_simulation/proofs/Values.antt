@@ -105,7 +105,7 @@ pub all_given : {A : Type 0} (Q : A → Type 0) (o : Out Store A) → ((x : A) �
 all_given Q (Gave x s) h = h x
 all_given Q (Stopped e s) h = tt
 
-root_given : (Q : Judged → Type 0) (root : Bool) (d : ℕ) (f : Does Judged) (s : State Store) → IsGiven Q (f s).out → IsGiven Q (where_root root d f s).out
+pub root_given : (Q : Judged → Type 0) (root : Bool) (d : ℕ) (f : Does Judged) (s : State Store) → IsGiven Q (f s).out → IsGiven Q (where_root root d f s).out
 root_given Q true d f s g = given_then Q Q (f s) (tells d) g (λ j s p. p)
 root_given Q false d f s g = g
 

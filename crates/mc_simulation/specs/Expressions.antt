@@ -1,5 +1,6 @@
 -- How the expressions of an instrumented program follow those of the program.
 use Rattle.std.specs.Prelude.{◌≡◌, ℕ, suc, ◌+◌, ◌<◌, ◌≤◌, ◌%◌, ◌^◌, ◌⊎◌, ℤ, true, false, List, [], ◌∷◌, length, Some, None}
+use Rattle.mc_value.specs.Arithmetic.{truth}
 use Rattle.mc_cond.specs.Order.{Answer}
 use Rattle.mc_typed.specs.Layout.{Members}
 use Rattle.mc_roots.specs.declared.role.Role.{Role}
@@ -52,9 +53,9 @@ module _ (ms : Members) (rooms : ℕ) (m : Map) (first count : ℕ) (v : Activat
   SparedBut k d r = ((r < v.first + k) ⊎ (v.first + k < r)) × Spared d r
 
   -- In the tree of decision k so many answers, from condition c on, add to the decision's register
-  -- what their edges add.
+  -- what their edges add, and the value is 0 or 1.
   pub record Grows (k c size : ℕ) (old : Flat) (j : Judged) (y : ℤ) (new : Flat) : Type 0 where
-    pub value : is_true y ≡ is_true j.value
+    pub value : y ≡ truth (is_true j.value)
     pub wide : length j.answers ≡ size
     pub sum : register (v.first + k) new
         ≡ (register (v.first + k) old + along (increment_of (mapped m first k)) c j.answers)

@@ -18,7 +18,7 @@ use Rattle.mc_typing.specs.Constants.{constant_found}
 use Rattle.mc_typing.specs.Calls.{argument_judged, after_call, first_of, rest_of, parameters_of}
 use Rattle.mc_typing.specs.Declarators.{opened, opened_tag, opened_again, typedef_type, structure_tag, declared_tag, used_structure_tag, used_enumeration_tag, enumeration_scope, declared_type, name_start, parameter_kind, parameter_faults, parameter_meaning, with_parameter_name, with_parameter}
 use Rattle.mc_typing.specs.Expressions.{operator_after, operator_before}
-use Rattle.mc_typing.specs.Initializers.{Parts, parts_of, target_of, first_part, later_parts, count_of, only_expression, is_zero, zero_judged, list_judged, braced_judged, judge_initializer, judge_items}
+use Rattle.mc_typing.specs.Initializers.{Parts, parts_of, target_of, first_part, later_parts, item_count, only_expression, is_zero, zero_judged, list_judged, braced_judged, judge_initializer, judge_items}
 use Rattle.mc_typing.specs.Judgement.{typed_by, judge, judge_arguments, judge_type, judge_specifier, judge_specifiers, judge_member, judge_members, judge_enumerator, judge_enumerators, judge_declarator, judge_declarators, judge_lengths, judge_parameters, judge_parameter, judge_parameter_list}
 use Rattle.mc_typing.specs.Declarations.{Storage, TypedefStorage, StaticStorage, AutomaticStorage, storage_of, count_listed, judge_optional_initializer, object_faults, layout_counted, after_initializer, counted_after, typedef_faults, static_faults_with, static_scope, result_of, function_faults, signature_listed, function_form_faults, again_faults, function_meaning, append, object_judged, judge_init, judge_init_declarator, judge_init_declarators, is_tag_alone, judge_declaration}
 use Rattle.mc_typing.specs.Statements.{Around, outermost, inside, in_loop, in_switch, compound_scope, switch_scope, with_label, case_judged, default_judged, label_value}
@@ -340,7 +340,7 @@ mutual
   initializer_more static u (tree.Braced items span) s =
       let parts = parts_of (target_of s.structures u) in
       more_up s (judge_initializer static u (tree.Braced items span) s).scope (of_initializers items) _
-      (braced_more u span.start (count_of items) (of_initializers items) (only_expression items)
+      (braced_more u span.start (item_count items) (of_initializers items) (only_expression items)
       (judge_items static parts items s) s (items_more static parts items s) (only_count items)) (omega arith)
 
   items_more : (static : Bool) (parts : Parts) (items : Initializers) (s : Scope)

@@ -35,7 +35,7 @@ use Rattle.mc_typing.specs.Scopes.{Meaning, Automatic, Constant, Function, Typed
 use Rattle.mc_typing.specs.Scopes as scope
 use Rattle.mc_typing.specs.Values.{Value, Number, Stored, Borrowed, Returned, Done, Assigned, Designator, IsStructure, kind_of_base, kind_of_object, kind_of, Found, kind_found, is_integer, is_array, is_structure, fails, number_found}
 use Rattle.mc_typing.specs.Constants.{first_holding}
-use Rattle.mc_typing.specs.Expressions.{convert_to, promote, common_type, is_object, is_enumerator, name_faults, value_of_name, literal, index_faults, stored_element, element_of, index_found, Selected, selected, undeclared_member, member_faults, member_type, layouts_of, member_at, stored_member, member_of, member_found, promoting, unary_of, is_arithmetic, unary_faults, unary_found, in_common_type, shifting, binary_of, operands_faults, binary_found}
+use Rattle.mc_typing.specs.Expressions.{convert_to, promote, common_type, is_object, is_enumerator, name_faults, value_of_name, literal, index_faults, stored_element, element_of, index_found, Selected, selected, undeclared_member, member_faults, member_type, layouts_of, member_at, stored_member, member_of, member_found, promoting, typed_unary, is_arithmetic, unary_faults, unary_found, in_common_type, shifting, typed_binary, operands_faults, binary_found}
 use Rattle.mc_soundness.specs.Fits.{World, Completes, MemberFits, MembersFit, ListFits, StructuresFit, Fits, IsSoundValue, slots_of, Designates, IsWell}
 use Rattle.mc_soundness.proofs.Tests.{nil_left, nil_right, no_fault, or_left, or_right, not_false, and_left, and_right, false_true, and_then_some, lift2_some}
 use Rattle.mc_soundness.proofs.IntTypes.{promoted_twice, common_stays}
@@ -408,7 +408,7 @@ promoting_made c operator span e u h =
 
 unary_made : (c : sound.Scope) (operator : UnaryOperator) (span : Span) (e : Expression)
     → is_arithmetic operator ≡ true → IsExpression e c
-    → IsMade c (unary_of operator span e) (slots e)
+    → IsMade c (typed_unary operator span e) (slots e)
 unary_made c unary.Plus span e k h = promoting_made c un.Plus span e tt h
 unary_made c unary.Minus span e k h = promoting_made c un.Minus span e tt h
 unary_made c unary.Complement span e k h = promoting_made c un.Flip span e tt h
@@ -463,8 +463,8 @@ shifting_made c operator span e f h k =
 
 binary_made : (c : sound.Scope) (operator : BinaryOperator) (span : Span) (e f : Expression)
     → IsExpression e c → IsExpression f c
-    → IsExpression (binary_of operator span e f) c
-    × (slots (binary_of operator span e f) ≡ slots e ++ slots f)
+    → IsExpression (typed_binary operator span e f) c
+    × (slots (typed_binary operator span e f) ≡ slots e ++ slots f)
 binary_made c binary.Multiply span e f h k = in_common_type_made c op.Mul span e f h k
 binary_made c binary.Divide span e f h k = in_common_type_made c op.Div span e f h k
 binary_made c binary.Remainder span e f h k = in_common_type_made c op.Rem span e f h k
@@ -494,9 +494,9 @@ binary_well w s operator span x y wx wy h =
     let n = finds_number w x.scope y wy (or_right _ _ b) in
     let p = binary_made w.scope operator span m.number n.number m.sound n.sound in
     record {
-      value = Number (binary_of operator span m.number n.number);
+      value = Number (typed_binary operator span m.number n.number);
       is = ap (option_map Number)
-          (lift2_some (binary_of operator span) (number_found x) (number_found y) m.number n.number m.is n.is);
+          (lift2_some (typed_binary operator span) (number_found x) (number_found y) m.number n.number m.is n.is);
       sound = p.0;
       made = made_as s y.scope _ _
           (sym (p.1 ∙ ap (λ l. l ++ slots n.number) m.slots ∙ ap (λ l. slots_of wx.value ++ l) n.slots))

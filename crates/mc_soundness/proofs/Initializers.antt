@@ -18,7 +18,7 @@ use Rattle.mc_typing.specs.Values.{Judged, judged, judged_one, part, Found, kind
 use Rattle.mc_typed.specs.Constants.{constant_value}
 use Rattle.mc_typing.specs.Constants.{value_of_constant, constant_found, is_zero_constant}
 use Rattle.mc_typing.specs.Expressions.{convert_to, layouts_of}
-use Rattle.mc_typing.specs.Initializers.{Target, ScalarTarget, ArrayTarget, StructureTarget, target_of_base, target_of_object, target_of, Parts, Elements, Members, NoParts, parts_of, first_part, later_parts, is_kind, item_faults, static_faults, cells_of, scalar_value, item_value, count_of, count_faults, only_item, list_value, zero_value, is_zero, zero_judged, list_judged, braced_judged, only_expression, items_judged, judge_initializer, judge_items, values_of, values_of_items}
+use Rattle.mc_typing.specs.Initializers.{Target, ScalarTarget, ArrayTarget, StructureTarget, target_of_base, target_of_object, target_of, Parts, Elements, Members, NoParts, parts_of, first_part, later_parts, is_kind, item_faults, static_faults, cells_of, scalar_value, item_value, item_count, count_faults, only_item, list_value, zero_value, is_zero, zero_judged, list_judged, braced_judged, only_expression, items_judged, judge_initializer, judge_items, values_of, values_of_items}
 use Rattle.mc_typing.specs.Judgement.{judge}
 use Rattle.mc_soundness.specs.Growth.{Grown}
 use Rattle.mc_soundness.specs.Fits.{World, Completes, StructuresFit, Fits, Ends, IsWell, HasRoom, ArePartsKnown, IsInitialized, AreInitialized}
@@ -50,7 +50,7 @@ mutual
   initializer_grows static u (tree.Single e) s = grows e s
   initializer_grows static u (tree.Braced items span) s =
       let parts = parts_of (target_of s.structures u) in
-      braced_grows u span.start (count_of items) (only_expression items) (judge_items static parts items s) s
+      braced_grows u span.start (item_count items) (only_expression items) (judge_items static parts items s) s
       (items_grow static parts items s)
 
   pub items_grow : (static : Bool) (parts : Parts) (items : Initializers) (s : Scope)
@@ -517,16 +517,16 @@ mutual
   initializer_well w static u (tree.Braced items span) s fit k ends h =
       let parts = parts_of (target_of s.structures (Some u)) in
       let x = judge_items static parts items s in
-      braced_well w static s u span.start (count_of items) (only_expression items) x fit k
+      braced_well w static s u span.start (item_count items) (only_expression items) x fit k
       (kept_completes s.structures x.scope.structures (items_grow static parts items s).structures)
       (λ ends_x none room. items_well w static parts items s fit
       (parts_by w s.structures u fit.structures k (view s.structures u k)) room ends_x none)
       ends h
 
   pub items_well : (w : World) (static : Bool) (parts : Parts) (items : Initializers) (s : Scope)
-      → Fits w s → ArePartsKnown s.structures parts → HasRoom parts (count_of items)
+      → Fits w s → ArePartsKnown s.structures parts → HasRoom parts (item_count items)
       → Ends w (judge_items static parts items s).scope → (judge_items static parts items s).faults ≡ []
-      → AreInitialized w static s parts (count_of items) (judge_items static parts items s)
+      → AreInitialized w static s parts (item_count items) (judge_items static parts items s)
   items_well w static parts tree.no_initializers s fit k room ends h = no_items w static parts s fit k
   items_well w static (Elements u) (tree.initializers one rest) s fit k room ends h =
       let x = judge_initializer static (Some u) one s in
@@ -536,7 +536,7 @@ mutual
       (kept_completes s.structures x.scope.structures (initializer_grows static (Some u) one s).structures) k in
       let ix = initializer_well w static u one s fit k (ends_back w x.scope y.scope g ends) (nil_left x.faults _ h) in
       let later = nil_left y.faults [] (nil_right x.faults _ h) in
-      more_items w static s u (count_of rest) x y more
+      more_items w static s u (item_count rest) x y more
       (kept_completes x.scope.structures y.scope.structures g.structures) ix
       (items_well w static (Elements u) rest x.scope ix.fits more tt ends later)
   items_well w static (Members []) (tree.initializers one rest) s fit k room ends h =
@@ -559,7 +559,7 @@ mutual
       let same : m.layout ≡ layout_of y.scope.structures u =
       k.0.2 ∙ layout_kept s.structures x.scope.structures u c_x k.0.3
       ∙ layout_kept x.scope.structures y.scope.structures u c more in
-      more_members w static s u (count_of rest) m ms x y same more c ix
+      more_members w static s u (item_count rest) m ms x y same more c ix
       (items_well w static (Members ms) rest x.scope ix.fits
       (members_kept s.structures x.scope.structures ms c_x k.1) (omega (arith, room)) ends later)
   items_well w static NoParts (tree.initializers one rest) s fit k room ends h = absurd k

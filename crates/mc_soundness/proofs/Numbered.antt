@@ -18,7 +18,7 @@ use Rattle.mc_typing.specs.Scopes.{Meaning, Stored, Typedef, Scope, with_name, w
 use Rattle.mc_typing.specs.Values.{Judged, Found, number_found, kind_found}
 use Rattle.mc_typing.specs.Constants.{value_of_constant, constant_found, is_zero_constant}
 use Rattle.mc_typing.specs.Limits.{parameter_count_faults}
-use Rattle.mc_typing.specs.Initializers.{Parts, parts_of, target_of, first_part, later_parts, count_of, only_expression, is_zero, zero_judged, list_judged, braced_judged, judge_initializer, judge_items, item_faults}
+use Rattle.mc_typing.specs.Initializers.{Parts, parts_of, target_of, first_part, later_parts, item_count, only_expression, is_zero, zero_judged, list_judged, braced_judged, judge_initializer, judge_items, item_faults}
 use Rattle.mc_typing.specs.Declarators.{declared_type, name_start, parameter_kind, parameter_faults, parameter_meaning, with_parameter_name, with_parameter}
 use Rattle.mc_typing.specs.Judgement.{typed_by, judge, judge_specifiers, judge_lengths, judge_parameters, judge_parameter, judge_parameter_list}
 use Rattle.mc_typing.specs.Declarations.{Storage, TypedefStorage, StaticStorage, AutomaticStorage, count_listed, judge_optional_initializer, object_faults, layout_counted, after_initializer, typedef_faults, static_faults_with, static_scope, object_judged, judge_init}
@@ -71,7 +71,7 @@ mutual
       still e s (nil_left x.faults _ h) (is_constant x at (nil_right own _ (nil_right x.faults _ h)))
   initializer_still u (tree.Braced items span) s h =
       let parts = parts_of (target_of s.structures u) in
-      braced_still u span.start (count_of items) (only_expression items) (judge_items true parts items s) s
+      braced_still u span.start (item_count items) (only_expression items) (judge_items true parts items s) s
       (λ k. items_still parts items s k) h
 
   items_still : (parts : Parts) (items : Initializers) (s : Scope) → (judge_items true parts items s).faults ≡ []

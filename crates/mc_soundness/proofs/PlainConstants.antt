@@ -20,7 +20,7 @@ use Rattle.mc_typing.specs.Scopes.{Meaning, Automatic, Constant, Function, Typed
 use Rattle.mc_typing.specs.Scopes as scope
 use Rattle.mc_typing.specs.Values.{Value, Number, Stored, Borrowed, Returned, Done, Assigned, Designator, Found, number_in, number_found, lift2}
 use Rattle.mc_typing.specs.Constants.{type_of_constant}
-use Rattle.mc_typing.specs.Expressions.{convert_to, promote, common_type, is_enumerator, value_of_name, literal, is_arithmetic, unary_of, cast_base, casts_to_integer, may_cast_to_integer, cast_value_to, cast_value, binary_of, arms_value, conditional_value, assignment_found}
+use Rattle.mc_typing.specs.Expressions.{convert_to, promote, common_type, is_enumerator, value_of_name, literal, is_arithmetic, typed_unary, cast_base, casts_to_integer, may_cast_to_integer, cast_value_to, cast_value, typed_binary, arms_value, conditional_value, assignment_found}
 use Rattle.mc_typing.specs.Judgement.{judge, judge_type}
 use Rattle.mc_soundness.specs.Plain.{IsConstant}
 use Rattle.mc_soundness.proofs.Tests.{and_left, and_right, false_true}
@@ -67,7 +67,7 @@ literal_constant v None span s = tt
 literal_constant v (Some a) span s = tt
 
 unary_constant : (operator : UnaryOperator) (span : Span) (e : t.Expression) → IsConstant e
-    → WhereSome IsConstant (unary_of operator span e)
+    → WhereSome IsConstant (typed_unary operator span e)
 unary_constant unary.Plus span e h = convert_constant (promoted (type_of e)) e h
 unary_constant unary.Minus span e h = convert_constant (promoted (type_of e)) e h
 unary_constant unary.Complement span e h = convert_constant (promoted (type_of e)) e h
@@ -101,7 +101,7 @@ both_promoted e f h k =
     (convert_constant (promoted (type_of e)) e h, convert_constant (promoted (type_of f)) f k)
 
 binary_constant : (operator : BinaryOperator) (span : Span) (e f : t.Expression) → IsConstant e
-    → IsConstant f → IsConstant (binary_of operator span e f)
+    → IsConstant f → IsConstant (typed_binary operator span e f)
 binary_constant binary.Multiply span e f h k = both_constant e f h k
 binary_constant binary.Divide span e f h k = both_constant e f h k
 binary_constant binary.Remainder span e f h k = both_constant e f h k
@@ -177,9 +177,9 @@ found_constant (tree.PostfixStep operator a span) s c = false_true c
 found_constant (tree.PrefixStep operator a span) s c = false_true c
 found_constant (tree.Unary operator a span) s c =
     let x = judge a s in
-    map_where IsConstant IsConstantValue Number (option_and_then (unary_of operator span) (number_found x))
+    map_where IsConstant IsConstantValue Number (option_and_then (typed_unary operator span) (number_found x))
     (λ e p. p)
-    (then_where IsConstant IsConstant (unary_of operator span) (number_found x) (unary_constant operator span)
+    (then_where IsConstant IsConstant (typed_unary operator span) (number_found x) (unary_constant operator span)
     (number_found_constant x (found_constant a s (and_right (is_arithmetic operator) x.constant c))))
 found_constant (tree.Cast type a span) s c =
     let x = judge_type type s in
@@ -189,9 +189,9 @@ found_constant (tree.Cast type a span) s c =
 found_constant (tree.Binary operator a b span) s c =
     let x = judge a s in
     let y = judge b x.scope in
-    map_where IsConstant IsConstantValue Number (lift2 (binary_of operator span) (number_found x) (number_found y))
+    map_where IsConstant IsConstantValue Number (lift2 (typed_binary operator span) (number_found x) (number_found y))
     (λ e p. p)
-    (lift_where IsConstant IsConstant IsConstant (binary_of operator span) (number_found x) (number_found y)
+    (lift_where IsConstant IsConstant IsConstant (typed_binary operator span) (number_found x) (number_found y)
     (binary_constant operator span)
     (number_found_constant x (found_constant a s (and_left x.constant y.constant c)))
     (number_found_constant y (found_constant b x.scope (and_right x.constant y.constant c))))

@@ -18,7 +18,7 @@ use Rattle.mc_typing.specs.Constants.{value_of_constant, is_zero_constant}
 use Rattle.mc_typing.specs.Expressions.{convert_to}
 use Rattle.mc_typing.specs.Declarators.{declared_type}
 use Rattle.mc_typing.specs.Judgement.{typed_by, judge, judge_specifiers, judge_lengths}
-use Rattle.mc_typing.specs.Initializers.{Target, Missing, ScalarTarget, ArrayTarget, StructureTarget, target_of, Parts, parts_of, first_part, later_parts, cells_of, scalar_value, item_value, count_of, only_item, list_value, zero_value, zero_judged, list_judged, braced_judged, only_expression, judge_initializer, judge_items}
+use Rattle.mc_typing.specs.Initializers.{Target, Missing, ScalarTarget, ArrayTarget, StructureTarget, target_of, Parts, parts_of, first_part, later_parts, cells_of, scalar_value, item_value, item_count, only_item, list_value, zero_value, zero_judged, list_judged, braced_judged, only_expression, judge_initializer, judge_items}
 use Rattle.mc_typing.specs.Initializers as initializers
 use Rattle.mc_typing.specs.Declarations.{Storage, TypedefStorage, StaticStorage, AutomaticStorage, storage_of, count_listed, judge_optional_initializer, object_faults, layout_counted, declarator_value, static_value, object_judged, judge_init, judge_init_declarator, append, judge_init_declarators, is_tag_alone, judge_declaration}
 use Rattle.mc_soundness.specs.Plain.{IsConstant, IsPlain, IsTested, IsPlainStructure, IsPlainInitializer, ArePlainInitializers, IsPlainInitial, ArePlainDeclarators}
@@ -120,7 +120,7 @@ mutual
       (item_plain all u (target_of all u)) (found_plain e s)
   initializer_plain static u (tree.Braced items span) s =
       let parts = parts_of (target_of s.structures u) in
-      braced_plain u span.start (count_of items) (only_expression items) (judge_items static parts items s) s
+      braced_plain u span.start (item_count items) (only_expression items) (judge_items static parts items s) s
       (items_plain static parts items s)
 
   items_plain : (static : Bool) (parts : Parts) (items : Initializers) (s : Scope)

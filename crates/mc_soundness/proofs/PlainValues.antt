@@ -23,7 +23,7 @@ use Rattle.mc_typing.specs.Scopes.{Meaning, Automatic, Constant, Function, Typed
 use Rattle.mc_typing.specs.Scopes as scope
 use Rattle.mc_typing.specs.Values.{Value, Number, Stored, Borrowed, Returned, Done, Assigned, Designator, Kind, IsVoid, IsAssignment, IsInteger, IsStructure, IsArray, IsFunction, kind_of, Found, number_stored, number_in, structure_stored, structure_in, any_structure_in, number_found, value_effect, discarded_in, lift2}
 use Rattle.mc_typing.specs.Constants.{type_of_constant}
-use Rattle.mc_typing.specs.Expressions.{convert_to, promote, common_type, value_of_name, literal, stored_element, element_of, index_value, Selected, selected, member_type, layouts_of, member_at, stored_member, member_of, unary_of, cast_base, cast_value_to, cast_value, binary_of, choice_of, arms_value, conditional_value, assign_effect, update_of, update_effect, effect_on, assignment_value, update_found, assignment_found, step_operator, step_found, operator_after, operator_before}
+use Rattle.mc_typing.specs.Expressions.{convert_to, promote, common_type, value_of_name, literal, stored_element, element_of, index_value, Selected, selected, member_type, layouts_of, member_at, stored_member, member_of, typed_unary, cast_base, cast_value_to, cast_value, typed_binary, choice_of, arms_value, conditional_value, assign_effect, update_of, update_effect, effect_on, assignment_value, update_found, assignment_found, step_operator, step_found, operator_after, operator_before}
 use Rattle.mc_typing.specs.Calls.{array_fits, stored_array, array_argument, argument_of, argument_value, argument_judged, first_of, rest_of, no_more, parameters_of, output_of, returned, called, call_value}
 use Rattle.mc_typing.specs.Judgement.{judge, judge_arguments, judge_type}
 use Rattle.mc_soundness.specs.Plain.{IsPlainPlace, IsPlain, IsTested, IsPlainStructure, ArePlainArguments, IsPlainArgument, IsPlainEffect}
@@ -223,7 +223,7 @@ member_plain all name span Designator h = tt
 -- ---- operators and casts
 
 unary_plain : (operator : UnaryOperator) (span : Span) (e : t.Expression) → IsTested e
-    → WhereSome IsTested (unary_of operator span e)
+    → WhereSome IsTested (typed_unary operator span e)
 unary_plain unary.Plus span e h = (tt, promote_plain e h.1)
 unary_plain unary.Minus span e h = (tt, promote_plain e h.1)
 unary_plain unary.Complement span e h = (tt, promote_plain e h.1)
@@ -252,7 +252,7 @@ both_converted e f h k =
     (tt, (convert_plain (common_type e f) e h.1, convert_plain (common_type e f) f k.1))
 
 binary_plain : (operator : BinaryOperator) (span : Span) (e f : t.Expression) → IsTested e → IsTested f
-    → IsTested (binary_of operator span e f)
+    → IsTested (typed_binary operator span e f)
 binary_plain binary.Multiply span e f h k = both_converted e f h k
 binary_plain binary.Divide span e f h k = both_converted e f h k
 binary_plain binary.Remainder span e f h k = both_converted e f h k
@@ -511,8 +511,8 @@ mutual
       step_plain operator (operator_before span) span (judge a s) (found_plain a s)
   found_plain (tree.Unary operator a span) s =
       let x = judge a s in
-      map_where IsTested IsPlainValue Number (option_and_then (unary_of operator span) (number_found x)) (λ e p. p)
-      (then_where IsTested IsTested (unary_of operator span) (number_found x) (unary_plain operator span)
+      map_where IsTested IsPlainValue Number (option_and_then (typed_unary operator span) (number_found x)) (λ e p. p)
+      (then_where IsTested IsTested (typed_unary operator span) (number_found x) (unary_plain operator span)
       (number_found_plain x (found_plain a s)))
   found_plain (tree.Cast type a span) s =
       let x = judge_type type s in
@@ -520,9 +520,9 @@ mutual
   found_plain (tree.Binary operator a b span) s =
       let x = judge a s in
       let y = judge b x.scope in
-      map_where IsTested IsPlainValue Number (lift2 (binary_of operator span) (number_found x) (number_found y))
+      map_where IsTested IsPlainValue Number (lift2 (typed_binary operator span) (number_found x) (number_found y))
       (λ e p. p)
-      (lift_where IsTested IsTested IsTested (binary_of operator span) (number_found x) (number_found y)
+      (lift_where IsTested IsTested IsTested (typed_binary operator span) (number_found x) (number_found y)
       (binary_plain operator span) (number_found_plain x (found_plain a s))
       (number_found_plain y (found_plain b x.scope)))
   found_plain (tree.Conditional a b c span) s =

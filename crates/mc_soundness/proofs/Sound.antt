@@ -16,7 +16,7 @@ use Rattle.mc_typing.specs.Scopes as scope
 use Rattle.mc_typing.specs.Values.{Judged}
 use Rattle.mc_typing.specs.Constants.{types_of_constant, constant_found}
 use Rattle.mc_typing.specs.Expressions.{operator_after, operator_before}
-use Rattle.mc_typing.specs.Calls.{Given, argument_judged, arguments_judged, parameters_of, count_of, callee_faults, call_found}
+use Rattle.mc_typing.specs.Calls.{Given, argument_judged, arguments_judged, parameters_of, argument_count, callee_faults, call_found}
 use Rattle.mc_typing.specs.Declarators.{has_member, opened, enumeration_scope, enumeration_faults, enumeration_judged, enumerator_judged}
 use Rattle.mc_typing.specs.Judgement.{typed_by, judge, judge_arguments, judge_type, judge_specifier, judge_specifiers, judge_member, judge_members, judge_enumerator, judge_enumerators, judge_declarator, judge_declarators, judge_lengths, judge_parameters}
 use Rattle.mc_soundness.specs.Growth.{Grown}
@@ -140,9 +140,9 @@ mutual
       let m = meaning_of name s in
       let x = judge_arguments given (parameters_of m) s in
       let own = nil_right x.faults _ h in
-      let c = callee w s name span.start (count_of given) x.scope m fit refl own in
+      let c = callee w s name span.start (argument_count given) x.scope m fit refl own in
       let ends_x = ends_back w x.scope _ (grown_call _ _ x.scope) ends in
-      call_by w s name (count_of given) span x m c fit ends ends_x own
+      call_by w s name (argument_count given) span x m c fit ends ends_x own
       (λ n. arguments_well w given (parameters_of m) s fit ends_x (nil_left x.faults _ h) n)
   well w (tree.Index a b span) s fit ends h =
       let x = judge a s in
@@ -210,7 +210,7 @@ mutual
 
   pub arguments_well : (w : World) (es : Expressions) (ps : List ParameterKind) (s : Scope) → Fits w s
       → Ends w (judge_arguments es ps s).scope → (judge_arguments es ps s).faults ≡ []
-      → count_of es ≡ length ps → AreWell w s ps (judge_arguments es ps s)
+      → argument_count es ≡ length ps → AreWell w s ps (judge_arguments es ps s)
   arguments_well w tree.no_expressions [] s fit ends h n = record {
     value = t.no_arguments;
     is = refl;

@@ -13,7 +13,7 @@ use Rattle.mc_station.specs.Causes.{IsToMutate}
 use Rattle.mc_station.specs.Seen.{IsOnProgram}
 use Rattle.mc_station.specs.Source.{Accepted}
 use Rattle.mc_station.specs.Stages.{Allows, justified_by}
-use Rattle.mc_station.specs.Tests.{Fits, words_needed}
+use Rattle.mc_station.specs.Tests.{MatrixFits, words_needed}
 use Rattle.mc_station.specs.commands.Mutate.{FewMutants}
 use Rattle.mc_station.proofs.Phases.{one_fit}
 
@@ -35,7 +35,7 @@ one_allowed (command.listed asked) accepted plans = one_fit accepted plans
 module _ (accepted : Accepted) (plans : List Plan) where
   -- the matrix, or the mutants
   abbrev pub Asked : Task → Result (Unit {0}) Reply → Type 0
-  Asked task v = ((¬ IsToMutate task) × Fits accepted plans v) ⊎ (IsToMutate task × FewMutants accepted v)
+  Asked task v = ((¬ IsToMutate task) × MatrixFits accepted plans v) ⊎ (IsToMutate task × FewMutants accepted v)
 
   pub asked : (task : Task) (v : Result (Unit {0}) Reply) → Allows task accepted plans v → Asked task v
   asked (command.report given) v allows = inl ((λ no. no), allows)
@@ -46,7 +46,7 @@ module _ (accepted : Accepted) (plans : List Plan) where
   asked command.mutated v allows = inr (tt, allows)
   asked (command.listed given) v allows = inl ((λ no. no), allows)
 
-  pub allows_matrix : (task : Task) (v : Result (Unit {0}) Reply) → ¬ IsToMutate task → Fits accepted plans v → Allows task accepted plans v
+  pub allows_matrix : (task : Task) (v : Result (Unit {0}) Reply) → ¬ IsToMutate task → MatrixFits accepted plans v → Allows task accepted plans v
   allows_matrix (command.report given) v other fits = fits
   allows_matrix command.vectors v other fits = fits
   allows_matrix command.recorded v other fits = fits
@@ -85,7 +85,7 @@ allowed_fits task name accepted plans u is allows = elim (asked accepted plans t
 
 module _ (accepted : Accepted) (plans : List Plan) where
   -- where the tests run on the program alone, what is asked for is the matrix
-  pub matrix_allows : (t : Given) (v : Result (Unit {0}) Reply) → IsOnProgram t → Fits accepted plans v → Allows (seen_task t) accepted plans v
+  pub matrix_allows : (t : Given) (v : Result (Unit {0}) Reply) → IsOnProgram t → MatrixFits accepted plans v → Allows (seen_task t) accepted plans v
   matrix_allows (task.Report given) v on fits = fits
   matrix_allows task.Vectors v on fits = fits
   matrix_allows task.Record v on fits = fits

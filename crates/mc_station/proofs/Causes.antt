@@ -26,10 +26,10 @@ use Rattle.mc_station.specs.Source.{Accepted, JudgesSource}
 use Rattle.mc_station.specs.Stages as stages
 use Rattle.mc_station.specs.Stages.{Ends, Judges, Stage, Tells, after_source, after_tests, file_of, first_stage, justified_by}
 use Rattle.mc_station.specs.Statuses.{AskedInTurn, StatusesHaveCauses, TextsAreAlone}
-use Rattle.mc_station.specs.Tests.{Fits}
+use Rattle.mc_station.specs.Tests.{MatrixFits}
 use Rattle.mc_station.specs.commands.Merge.{Joins, pair_reply}
 use Rattle.mc_station.specs.commands.Mutate.{FewMutants}
-use Rattle.mc_station.specs.commands.Selfload.{Loads}
+use Rattle.mc_station.specs.commands.Selfload.{LoadsItself}
 use Rattle.mc_station.proofs.Allowing.{allowed_fits, asked}
 use Rattle.mc_station.proofs.Joining.{no_memory}
 use Rattle.mc_station.proofs.Order.{and_more, none_more, one_more}
@@ -41,9 +41,9 @@ pub of_source : (bytes : List ℕ) (r : Reply) → JudgesSource bytes (Err r) �
 of_source bytes r judges = refusal_status status.SourceRefused r (refuses_source bytes r judges)
 
 pub of_record : (accepted : Accepted) (name bytes : List ℕ) (r : Reply) → JudgesRecord accepted name bytes (Err r) → r.status ≡ status.TestsRefused
-of_record accepted name bytes r (fault, given, is) = ap (λ (x : Reply). x.status) is
+of_record accepted name bytes r (old, holds, (fault, given, is)) = ap (λ (x : Reply). x.status) is
 
-pub of_matrix : (accepted : Accepted) (plans : List Plan) (r : Reply) → Fits accepted plans (Err r) → r.status ≡ status.TooLarge
+pub of_matrix : (accepted : Accepted) (plans : List Plan) (r : Reply) → MatrixFits accepted plans (Err r) → r.status ≡ status.TooLarge
 of_matrix accepted plans r (large, is) = ap (λ (x : Reply). x.status) is
 
 pub of_mutants : (accepted : Accepted) (r : Reply) → FewMutants accepted (Err r) → r.status ≡ status.TooManyMutants
@@ -218,7 +218,7 @@ module _ (files : Option Files) (given : Option Command) where
   on_mutants : (r : Reply) → MutantsAreRefused files given r → r.status ≡ status.TooManyMutants → Because r r.status
   on_mutants r cause is = with_status status.TooManyMutants r is cause
 
-  loads_cause : (skipped : List ℕ) (count workers : ℕ) (r : Reply) → given ≡ Some (command.selfload count workers) → Loads skipped count r → Because r r.status
+  loads_cause : (skipped : List ℕ) (count workers : ℕ) (r : Reply) → given ≡ Some (command.selfload count workers) → LoadsItself skipped count r → Because r r.status
   loads_cause skipped count workers r at (inl judges) =
       on_source r (subst (λ (c : Option Command). SourceIsRefused files c r) (sym at) judges) (of_source (source_text count) r judges)
   loads_cause skipped count workers r at (inr (accepted, judges, inl (fault, read, is))) =

@@ -17,7 +17,7 @@ use Rattle.mc_replies.specs.Phases.{Then}
 use Rattle.mc_replies.specs.Reply.{Reply, refusal}
 use Rattle.mc_replies.specs.Texts.{bits_line, many_line}
 use Rattle.mc_replies.specs.declared.status.Status.TheVariants.{SourceRefused}
-use Rattle.mc_station.specs.Source.{Accepted, Accepts, Maps, Numbers}
+use Rattle.mc_station.specs.Source.{Accepted, Accepts, Maps, PathsAreFew}
 
 -- ---- conditions
 
@@ -86,7 +86,7 @@ one_with_many (d ∷ ds) e f (inr a) (inr b) = one_with_many ds e f a.1 b.1
 module _ (source : List ℕ) (program : Program) (ds : List Decision) where
   -- the phases of the paths and of the map
   abbrev Mapping : Result Accepted Reply → Type 0
-  Mapping = Then (Numbers source ds) (λ u. Then (Maps program ds) (Accepts source program))
+  Mapping = Then (PathsAreFew source ds) (λ u. Then (Maps program ds) (Accepts source program))
 
   pub accepts : (m : Map) (a : Accepted) → All HasFewPaths ds → IsMapOf program m
       → a ≡ record { source = source; program = program; map = m }

@@ -18,7 +18,7 @@ use Rattle.mc_probe.specs.Trees.{tree_of}
 use Rattle.mc_probe.proofs.ErasedPrograms.{programs_erase}
 use Rattle.mc_runner.specs.Laws.{IsReady}
 use Rattle.mc_station.specs.Tests.{shape_of}
-use Rattle.mc_station.specs.Seen.{ArePlanned, IsInstrumented, seen_accepted}
+use Rattle.mc_station.specs.Seen.{ArePlanned, HasItsTree, seen_accepted}
 use Rattle.mc_station.specs.declared.accepted.Accepted.{Accepted}
 
 module _ (a : Accepted) (p : Program) (erases : erase (tree_of a.tree).program ≡ p) where
@@ -29,7 +29,7 @@ module _ (a : Accepted) (p : Program) (erases : erase (tree_of a.tree).program �
   pub accepted_is : seen_accepted a ≡ record { source = a.source.now; program = p; map = map_of a.map }
   accepted_is = λ i. record { source = a.source.now; program = program_is i; map = map_of a.map }
 
-  pub instrumented : length a.source.now ≤ most_source_bytes → IsSound (erase (tree_of a.tree).program) → table.IsInstrumented p (map_of a.map) (tree_of a.tree) → IsInstrumented a
+  pub instrumented : length a.source.now ≤ most_source_bytes → IsSound (erase (tree_of a.tree).program) → table.IsInstrumented p (map_of a.map) (tree_of a.tree) → HasItsTree a
   instrumented short sound is =
       let P : Program → Type 0 = λ q. table.IsInstrumented q (map_of a.map) (tree_of a.tree) in
       record { short = short; sound = subst IsSound (programs_erase a.tree.program) sound; tree = subst P (sym program_is) is }
@@ -44,7 +44,7 @@ all_fit : (p : Program) (plans : List Plan) → AllFit p plans → All (λ (plan
 all_fit p [] fit = All-nil (λ (plan : Plan). Fits plan p)
 all_fit p (plan ∷ plans) fit = All-cons (λ (x : Plan). Fits x p) plan plans fit.0 (all_fit p plans fit.1)
 
-module _ (a : Accepted) (plans : List TestPlan) (is : IsInstrumented a) (planned : ArePlanned a plans) where
+module _ (a : Accepted) (plans : List TestPlan) (is : HasItsTree a) (planned : ArePlanned a plans) where
   pub plans_fit : All (λ (plan : TestPlan). Fits (plan_of plan) (erase (tree_of a.tree).program)) plans
   plans_fit =
       let P : Program → Type 0 = λ q. All (λ (plan : TestPlan). Fits (plan_of plan) q) plans in

@@ -1,5 +1,6 @@
 -- Records of two, and those that are read, are at most one.
-use Rattle.std.proofs.Common.{◌≡◌, ◌≢◌, ◌∙◌, true, false, Bool, if◌then◌else◌, ℕ, List, Option, Some, None, Ok, Err, refl, sym, ap, subst, inl, inr}
+use Rattle.std.proofs.Common.{◌≡◌, ◌≢◌, ◌∙◌, true, false, Bool, if◌then◌else◌, ℕ, List, Option, Some, None, Result, Ok, Err, refl, sym, ap, subst, inl, inr}
+use Rattle.std.specs.Bool.{one_answer}
 use Rattle.sha2.specs.Sha256.{sha256}
 use Rattle.mc_core.specs.Laws.{AreWords, HaveSamePairs, WordsFollowFromPairs}
 use Rattle.mc_core.specs.declared.shape.Shape.{Shape}
@@ -7,14 +8,15 @@ use Rattle.mc_record.specs.Kept.{Kept}
 use Rattle.mc_record.specs.Lines.{record_lines}
 use Rattle.mc_record.specs.Merged.{fault_or, pair_fault, same_test, size_fault}
 use Rattle.mc_record.specs.Reading.{record_of}
+use Rattle.mc_record.specs.declared.fault.RecordFault.{RecordFault}
 use Rattle.mc_record.specs.declared.pair_fault.PairFault.{PairFault}
 use Rattle.mc_record.specs.declared.pair_fault.PairFault.TheVariants as pair
-use Rattle.mc_replies.specs.Phases.{IsOne}
+use Rattle.mc_replies.specs.Phases.{IsOne, Reads}
 use Rattle.mc_replies.specs.Reply.{Reply, refusal}
 use Rattle.mc_replies.specs.declared.status.Status.TheVariants.{TestsRefused}
 use Rattle.mc_replies.proofs.Phases.{one_read}
 use Rattle.mc_station.specs.Laws.{IsLater}
-use Rattle.mc_station.specs.Records.{JudgesRecord, old_rules_hold, record_line}
+use Rattle.mc_station.specs.Records.{JudgesRecord, record_fault_line}
 use Rattle.mc_station.specs.Source.{Accepted}
 use Rattle.mc_station.specs.commands.Merge.{Joins, Merges, pair_reply}
 use Rattle.mc_station.proofs.Written.{written_later}
@@ -30,7 +32,10 @@ same_kept law a b digest named state shape words others pairs =
     λ i. record { digest = digest i; names = named i; states = state i; matrix = record { shape = shape i; words = word i } }
 
 pub one_record_in : (accepted : Accepted) (name bytes : List ℕ) → IsOne (JudgesRecord accepted name bytes)
-one_record_in accepted name bytes = one_read (record_of (sha256 accepted.source) accepted.map.bits (old_rules_hold accepted) bytes) (λ fault. refusal TestsRefused (record_line name fault))
+one_record_in accepted name bytes u v (old, holds, p) (other, also, q) =
+    let given : Bool → Result Kept RecordFault = λ rules. record_of (sha256 accepted.source) accepted.map.bits rules bytes in
+    let say : RecordFault → Reply = λ fault. refusal TestsRefused (record_fault_line name fault) in
+    one_read (given old) say u v p (subst (λ (rules : Bool). Reads (given rules) say v) (one_answer other old also holds) q)
 
 pub one_join : WordsFollowFromPairs → (left right : Kept) → IsOne (Joins left right)
 one_join law left right (Ok a) (Ok b) p q =

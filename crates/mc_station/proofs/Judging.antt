@@ -17,7 +17,7 @@ use Rattle.mc_replies.specs.declared.stop.Stop.{Stop}
 use Rattle.mc_replies.proofs.Phases.{goes_on, stops}
 use Rattle.mc_station.specs.Seen.{seen_accepted}
 use Rattle.mc_station.specs.Source as spec
-use Rattle.mc_station.specs.Source.{Accepts, Admits, Decides, JudgesSource, Lexes, Maps, Numbers, Parses, Types}
+use Rattle.mc_station.specs.Source.{Accepts, Admits, Decides, JudgesSource, Lexes, Maps, PathsAreFew, Parses, Types}
 use Rattle.mc_station.specs.declared.accepted.Accepted.{Accepted}
 
 -- an exit hands its reason on
@@ -28,7 +28,7 @@ handed_on Phase why (Err e) is same stopped = subst (λ (w : Stop). Gives seen_a
 
 module _ (source : List ℕ) where
   abbrev AfterDecisions : Program → List Decision → Result spec.Accepted Reply → Type 0
-  AfterDecisions program ds = Then (Numbers source ds) (λ v. Then (Maps program ds) (Accepts source program))
+  AfterDecisions program ds = Then (PathsAreFew source ds) (λ v. Then (Maps program ds) (Accepts source program))
 
   abbrev AfterTypes : Program → Result spec.Accepted Reply → Type 0
   AfterTypes program = Then (Decides source program) (AfterDecisions program)

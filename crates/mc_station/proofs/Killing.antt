@@ -31,7 +31,7 @@ use Rattle.mc_runner.specs.Recorded.{told_by}
 use Rattle.mc_tests.specs.File.{AllFit}
 use Rattle.mc_tests.specs.Seen.{seen_plans}
 use Rattle.mc_replies.specs.Reply.{Reply, written}
-use Rattle.mc_station.specs.Seen.{ArePlanned, IsInstrumented}
+use Rattle.mc_station.specs.Seen.{ArePlanned, HasItsTree}
 use Rattle.mc_station.specs.Source.{Accepted as AcceptedAs}
 use Rattle.mc_station.specs.Tests.{names, states}
 use Rattle.mc_station.specs.commands.Mutate.{AreKilled, Kills, change_told, changes_told, status_after}
@@ -77,7 +77,7 @@ fits p q plans same all =
     let P : Program → Type 0 = λ x. All (λ (plan : TestPlan). Fits (plan_of plan) x) plans in subst P (sym same) (each_fits p plans all)
 
 pub recorded : (p q : Program) (plans : List Plan) (cover : CoverView) (pass : PassView) (m : MatrixView) (n : ℕ) → q ≡ p → cover.shape.tests ≡ n → HasAll (does_of q plans) cover pass
-    → ((b t : ℕ) → Holds m b t ↔ Contains pass.view.hits (b, t)) → (item : ℕ) → Holds m 0 item ↔ ((item < n) × items.Kills p plans item)
+    → ((b t : ℕ) → Holds m b t ↔ Contains pass.view.hits (b, t)) → (item : ℕ) → Holds m 0 item ↔ ((item < n) × items.KillsAtItem p plans item)
 recorded p q plans cover pass m n same tests all pairs item =
     let P : Program → Type 0 = λ x. HasAll (does_of x plans) cover pass in
     let has : HasAll (does_of p plans) cover pass = subst P same all in (
@@ -86,13 +86,13 @@ recorded p q plans cover pass m n same tests all pairs item =
     )
 
 pub all_killed : (p : Program) (plans : List TestPlan) (m : MatrixView) (n : ℕ) (given : Result (Vec (Option ℕ) Global) AllocError) → n ≡ count p
-    → ((item : ℕ) → Holds m 0 item ↔ ((item < n * length plans) × items.Kills p (seen_plans plans) item))
+    → ((item : ℕ) → Holds m 0 item ↔ ((item < n * length plans) × items.KillsAtItem p (seen_plans plans) item))
     → IfOk given (λ all. AreKillers (IsRecorded m (length plans)) (length plans) 0 all.items) → IfOk given (λ all. length all.items ≡ n) → IfOk given (λ all. AreKilled p (seen_plans plans) all.items)
 all_killed p plans m n (Ok all) same is each many =
     let ps : List Plan = seen_plans plans in
     let long : length ps ≡ length plans = length-map plans plan_of in
     let number : n * length plans ≡ count p * length ps = λ i. same i * sym long i in
-    let own : (item : ℕ) → Holds m 0 item ↔ ((item < count p * length ps) × items.Kills p ps item) = subst (λ (k : ℕ). (item : ℕ) → Holds m 0 item ↔ ((item < k) × items.Kills p ps item)) number is in
+    let own : (item : ℕ) → Holds m 0 item ↔ ((item < count p * length ps) × items.KillsAtItem p ps item) = subst (λ (k : ℕ). (item : ℕ) → Holds m 0 item ↔ ((item < k) × items.KillsAtItem p ps item)) number is in
     let as_many : length all.items ≡ count p = many ∙ same in
     record {
       each = of_killers p ps m own 0 all.items (omega (arith, as_many)) (subst (λ (k : ℕ). AreKillers (IsRecorded m k) k 0 all.items) (sym long) each);
@@ -128,7 +128,7 @@ of_plain : (p : Program) (plans : List Plan) → map (λ (t : RunTold). t.state)
 of_plain p [] = refl
 of_plain p (plan ∷ plans) = ap (λ ss. (plainly_told p plan).state ∷ ss) (of_plain p plans)
 
-pub states_are : ResultsArePlain → (a : Accepted) (plans : List TestPlan) → IsInstrumented a → ArePlanned a plans
+pub states_are : ResultsArePlain → (a : Accepted) (plans : List TestPlan) → HasItsTree a → ArePlanned a plans
     → map (λ plan. (told_by (tree_of a.tree) plan).state) (seen_plans plans) ≡ states (program_of a.tree.program) (seen_plans plans)
 states_are plain a plans is planned =
     of_tree (tree_of a.tree) (seen_plans plans) ∙ ap (map (λ (t : RunTold). t.state)) (plain (program_of a.tree.program) (map_of a.map) (tree_of a.tree) (seen_plans plans) (ready a plans is planned))

@@ -16,8 +16,8 @@ use Rattle.mc_replies.specs.declared.status.Status.TheVariants as status
 use Rattle.mc_station.specs.Laws.{IsLater}
 use Rattle.mc_station.specs.Seen.{seen_accepted}
 use Rattle.mc_station.specs.Source.{Accepted, JudgesSource}
-use Rattle.mc_station.specs.Tests.{Fits, JudgesTests, stands, tested_of, words_needed}
-use Rattle.mc_station.specs.commands.Selfload.{Loads, Sums}
+use Rattle.mc_station.specs.Tests.{MatrixFits, JudgesTests, stands, tested_of, words_needed}
+use Rattle.mc_station.specs.commands.Selfload.{LoadsItself, Sums}
 use Rattle.mc_typed.specs.Plans.{Plan}
 use Rattle.mc_station.proofs.Phases.{one_fit, one_source, one_tests}
 use Rattle.mc_station.proofs.Refusing.{IsRefused, large_later, later, refuses_source, tests_later}
@@ -32,13 +32,13 @@ one_reach {A} Phase End one_phase end r q (inr (a, p, e)) (inr (b, o, f)) =
     let same : a ≡ b = one_phase (Ok a) (Ok b) p o in end b r q (subst (λ (x : A). End x r) same e) f
 
 module _ (skipped : List ℕ) (count : ℕ) where
-  pub one_load : (r q : Reply) → Loads skipped count r → Loads skipped count q → AreOne r q
+  pub one_load : (r q : Reply) → LoadsItself skipped count r → LoadsItself skipped count q → AreOne r q
   one_load =
       one_reach _ _ (one_source (source_text count)) (λ accepted.
       one_reach _ _ (one_tests accepted.program usual_fuel (tests_text count)) (λ plans.
       one_reach _ _ (one_fit accepted plans) (λ u r q p o. inl (one_sum (stands skipped accepted plans) count accepted (tested_of accepted.program plans) r q p o))))
 
-  pub load_keeps : (r : Reply) → Loads skipped count r → IsRefused r ⊎ IsLater r
+  pub load_keeps : (r : Reply) → LoadsItself skipped count r → IsRefused r ⊎ IsLater r
   load_keeps r (inl judges) = inl (refuses_source (source_text count) r judges)
   load_keeps r (inr (accepted, judges, inl (fault, given, is))) = inr (later status.TestsRefused (tests_line fault) (tests_later (tests_line fault)) r is)
   load_keeps r (inr (accepted, judges, inr (plans, read, inl (large, is)))) =
@@ -47,10 +47,10 @@ module _ (skipped : List ℕ) (count : ℕ) where
 
   -- the made source is accepted
   pub loads_on : (source tests : List ℕ) (accepted : Accepted) (given : Result Given AllocError) → source ≡ source_text count → tests ≡ tests_text count → JudgesSource source (Ok accepted)
-      → IfOk given (λ reply. Reaches (JudgesTests accepted.program usual_fuel tests) (λ plans. Reaches (Fits accepted plans) (λ u. Sums skipped count accepted plans)) (seen_reply reply))
-      → IfOk given (λ reply. Loads skipped count (seen_reply reply))
+      → IfOk given (λ reply. Reaches (JudgesTests accepted.program usual_fuel tests) (λ plans. Reaches (MatrixFits accepted plans) (λ u. Sums skipped count accepted plans)) (seen_reply reply))
+      → IfOk given (λ reply. LoadsItself skipped count (seen_reply reply))
   loads_on source tests accepted (Ok reply) made_source made_tests judges reaches =
-      let End : List Plan → Reply → Type 0 = λ plans. Reaches (Fits accepted plans) (λ u. Sums skipped count accepted plans) in
+      let End : List Plan → Reply → Type 0 = λ plans. Reaches (MatrixFits accepted plans) (λ u. Sums skipped count accepted plans) in
       inr (
         accepted,
         subst (λ (text : List ℕ). JudgesSource text (Ok accepted)) made_source judges,
@@ -60,7 +60,7 @@ module _ (skipped : List ℕ) (count : ℕ) where
 
   -- or refused
   pub loads_not : (source : List ℕ) (why : Stop) (given : Result Given AllocError) → source ≡ source_text count → Gives seen_accepted (JudgesSource source) (Err why)
-      → IfOk given (λ reply. IsReplyTo why (seen_reply reply)) → IfOk given (λ reply. Loads skipped count (seen_reply reply))
+      → IfOk given (λ reply. IsReplyTo why (seen_reply reply)) → IfOk given (λ reply. LoadsItself skipped count (seen_reply reply))
   loads_not source (stop.Refused refusal) (Ok reply) made judges is =
       inl (subst (λ (r : Reply). JudgesSource (source_text count) (Err r)) (sym is) (subst (λ (text : List ℕ). JudgesSource text (Err (reply_to refusal))) made judges))
   loads_not source stop.OutOfMemory (Ok reply) made judges is = absurd is

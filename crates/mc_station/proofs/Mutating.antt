@@ -33,7 +33,7 @@ module _ (accepted : Accepted) (plans : List Plan) where
 -- ---- items
 
 module _ (p : Program) (plans : List Plan) where
-  pub of_item : (number test : ℕ) → test < length plans → items.Kills p plans (item (length plans) number test) → Kills p plans number test
+  pub of_item : (number test : ℕ) → test < length plans → items.KillsAtItem p plans (item (length plans) number test) → Kills p plans number test
   of_item number test less kills =
       let mutant : item (length plans) number test / length plans ≡ number = div-mul-add number (length plans) test less in
       let place : item (length plans) number test % length plans ≡ test = mod-mul-add number (length plans) test less in
@@ -45,7 +45,7 @@ module _ (p : Program) (plans : List Plan) where
         killed = kills.killed;
       }
 
-  pub to_item : (number test : ℕ) → test < length plans → Kills p plans number test → items.Kills p plans (item (length plans) number test)
+  pub to_item : (number test : ℕ) → test < length plans → Kills p plans number test → items.KillsAtItem p plans (item (length plans) number test)
   to_item number test less kills =
       let mutant : item (length plans) number test / length plans ≡ number = div-mul-add number (length plans) test less in
       let place : item (length plans) number test % length plans ≡ test = mod-mul-add number (length plans) test less in
@@ -59,7 +59,7 @@ module _ (p : Program) (plans : List Plan) where
 
 -- ---- what the matrix has
 
-module _ (p : Program) (plans : List Plan) (m : MatrixView) (recorded : (i : ℕ) → Holds m 0 i ↔ ((i < count p * length plans) × items.Kills p plans i)) where
+module _ (p : Program) (plans : List Plan) (m : MatrixView) (recorded : (i : ℕ) → Holds m 0 i ↔ ((i < count p * length plans) × items.KillsAtItem p plans i)) where
   holds : (number test : ℕ) → number < count p → test < length plans → Kills p plans number test → IsRecorded m (length plans) number test
   holds number test inside less kills =
       let within = items_within number (count p) (length plans) inside in

@@ -19,8 +19,8 @@ use Rattle.mc_replies.specs.Reply.{Reply, refusal}
 use Rattle.mc_replies.specs.Texts.{conditions_line, fault_line, outside_line, paths_line, start_of, syntax_line, tests_line}
 use Rattle.mc_replies.specs.declared.status.Status.TheVariants.{SourceRefused, TestsRefused}
 use Rattle.mc_replies.proofs.Phases.{one_ok, one_read, one_then}
-use Rattle.mc_station.specs.Source.{Accepted, Admits, Decides, JudgesSource, Lexes, Maps, Numbers, Parses, Types, type_line}
-use Rattle.mc_station.specs.Tests.{Fits, JudgesTests}
+use Rattle.mc_station.specs.Source.{Accepted, Admits, Decides, JudgesSource, Lexes, Maps, PathsAreFew, Parses, Types, type_line}
+use Rattle.mc_station.specs.Tests.{MatrixFits, JudgesTests}
 use Rattle.mc_station.proofs.Firsts.{one_first, none_first}
 use Rattle.mc_station.proofs.Decided.{none_large, one_large, none_with_many, one_with_many}
 use Rattle.mc_station.proofs.Mapped.{few_bits, one_map}
@@ -73,7 +73,7 @@ one_decided source program (Err r) (Err s) (ds, are, at, count, large, is) (es, 
     let one = one_large ds at count place number large (subst (λ (xs : List Decision). IsFirstLarge xs place number) same first) in
     inl (is ∙ ap (λ (n : ℕ). refusal SourceRefused (conditions_line source n count)) one.0 ∙ ap (λ (n : ℕ). refusal SourceRefused (conditions_line source place n)) one.1 ∙ sym other)
 
-one_numbered : (source : List ℕ) (ds : List Decision) → IsOne (Numbers source ds)
+one_numbered : (source : List ℕ) (ds : List Decision) → IsOne (PathsAreFew source ds)
 one_numbered source ds (Ok u) (Ok v) few also = refl
 one_numbered source ds (Ok u) (Err s) few (e, many, is) = absurd (none_with_many ds e few many)
 one_numbered source ds (Err r) (Ok v) (d, many, is) few = absurd (none_with_many ds d few many)
@@ -102,7 +102,7 @@ pub one_tests : (program : Program) (fuel : ℕ) (bytes : List ℕ) → IsOne (J
 one_tests program fuel bytes = one_read (tests_file program fuel bytes) (λ fault. refusal TestsRefused (tests_line fault))
 
 -- the matrix
-pub one_fit : (accepted : Accepted) (plans : List Plan) → IsOne (Fits accepted plans)
+pub one_fit : (accepted : Accepted) (plans : List Plan) → IsOne (MatrixFits accepted plans)
 one_fit accepted plans (Ok u) (Ok v) few also = refl
 one_fit accepted plans (Ok u) (Err s) few (large, is) = absurd (omega (arith, large, few))
 one_fit accepted plans (Err r) (Ok v) (large, is) few = absurd (omega (arith, large, few))

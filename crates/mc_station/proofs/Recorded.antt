@@ -20,7 +20,7 @@ use Rattle.mc_runner.proofs.Jobs.{closed_is_recorded}
 use Rattle.mc_runner.proofs.Standing.{bits_stand, events_stand, results_are_plain}
 use Rattle.mc_station.specs.Ran.{IsRun}
 use Rattle.mc_station.specs.Tests.{names, results, shape_of}
-use Rattle.mc_station.specs.Seen.{ArePlanned, IsInstrumented, IsOpened, seen_accepted}
+use Rattle.mc_station.specs.Seen.{ArePlanned, HasItsTree, IsOpened, seen_accepted}
 use Rattle.mc_station.specs.declared.accepted.Accepted.{Accepted}
 use Rattle.mc_station.specs.declared.opened.Opened.{Opened}
 use Rattle.mc_station.specs.declared.ran.Ran.{Ran}
@@ -28,7 +28,7 @@ use Rattle.mc_station.proofs.Instrumenting.{bits_are, ready}
 use Rattle.mc_station.proofs.Reported.{states_told}
 
 -- what the tests gave is what their plain runs give
-pub is_run : EventsStand → ResultsArePlain → (skipped : List ℕ) (a : Accepted) (plans : List TestPlan) (ran : Ran) → IsInstrumented a → ArePlanned a plans → AreRecorded (tree_of a.tree) (seen_plans plans) skipped ran.matrix
+pub is_run : EventsStand → ResultsArePlain → (skipped : List ℕ) (a : Accepted) (plans : List TestPlan) (ran : Ran) → HasItsTree a → ArePlanned a plans → AreRecorded (tree_of a.tree) (seen_plans plans) skipped ran.matrix
     → map told_of ran.results.items ≡ map (told_by (tree_of a.tree)) (seen_plans plans) → ran.names.items ≡ names (seen_plans plans)
     → ran.states.items ≡ map (λ r. r.state) ran.results.items → IsRun skipped (seen_accepted a) (seen_plans plans) ran
 is_run stand plain_results skipped a plans ran is planned recorded told named state =
@@ -45,7 +45,7 @@ is_run stand plain_results skipped a plans ran is planned recorded told named st
     }
 
 -- memory may not suffice for the names and states
-pub run_gathered : (skipped : List ℕ) (a : Accepted) (plans : List TestPlan) (matrix : MatrixView) (results : Vec TestResult Global) (given : Result Ran AllocError) → IsInstrumented a → ArePlanned a plans
+pub run_gathered : (skipped : List ℕ) (a : Accepted) (plans : List TestPlan) (matrix : MatrixView) (results : Vec TestResult Global) (given : Result Ran AllocError) → HasItsTree a → ArePlanned a plans
     → AreRecorded (tree_of a.tree) (seen_plans plans) skipped matrix → map told_of results.items ≡ map (told_by (tree_of a.tree)) (seen_plans plans) → IfOk given (λ ran. ran.matrix ≡ matrix)
     → IfOk given (λ ran. ran.results ≡ results) → IfOk given (λ ran. ran.names.items ≡ names (seen_plans plans)) → IfOk given (λ ran. ran.states.items ≡ map (λ r. r.state) results.items)
     → IfOk given (IsRun skipped (seen_accepted a) (seen_plans plans))
@@ -58,7 +58,7 @@ run_gathered skipped a plans matrix results (Ok ran) is planned recorded told sa
 run_gathered skipped a plans matrix results (Err e) is planned recorded told same_matrix same_results named state = tt
 
 -- what a closer makes of the pass of all workers
-pub closed : (skipped : List ℕ) (a : Accepted) (plans : List TestPlan) (opened : Opened) (pass : PassView) (matrix : MatrixView) → IsInstrumented a → ArePlanned a plans → IsOpened a plans opened
+pub closed : (skipped : List ℕ) (a : Accepted) (plans : List TestPlan) (opened : Opened) (pass : PassView) (matrix : MatrixView) → HasItsTree a → ArePlanned a plans → IsOpened a plans opened
     → HasAll (does_of (tree_of a.tree) (seen_plans plans)) opened.cover pass → matrix.shape ≡ opened.cover.shape
     → ((b t : ℕ) → Holds matrix b t ↔ (Contains pass.view.hits (b, t) × ¬ Contains skipped t)) → AreRecorded (tree_of a.tree) (seen_plans plans) skipped matrix
 closed skipped a plans opened pass matrix is planned fresh has shape pairs =

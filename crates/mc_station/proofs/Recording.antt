@@ -26,7 +26,7 @@ use Rattle.mc_record.specs.Lines.{record_lines}
 use Rattle.mc_replies.specs.Reply.{Reply, written}
 use Rattle.mc_station.specs.Laws.{IsLater}
 use Rattle.mc_station.specs.Ran.{IsRun, kept_in}
-use Rattle.mc_station.specs.Seen.{ArePlanned, IsInstrumented, seen_accepted}
+use Rattle.mc_station.specs.Seen.{ArePlanned, HasItsTree, seen_accepted}
 use Rattle.mc_station.specs.Source.{Accepted}
 use Rattle.mc_station.specs.Tests.{names, shape_of, states, status_where}
 use Rattle.mc_station.specs.commands.Record.{IsRecordOf, Records}
@@ -81,7 +81,7 @@ same_distinct : (ns : List (List ℕ)) → tests.are_distinct ns ≡ are_distinc
 same_distinct [] = refl
 same_distinct (n ∷ ns) = ap (λ (b : Bool). not (list_any (bytes_eq n) ns) && b) (same_distinct ns)
 
-pub can_be_kept : (skipped : List ℕ) (a : Given) (plans : List TestPlan) (ran : Ran) → IsInstrumented a → ArePlanned a plans → word_count (shape_of (seen_accepted a) (seen_plans plans)) ≤ most_words
+pub can_be_kept : (skipped : List ℕ) (a : Given) (plans : List TestPlan) (ran : Ran) → HasItsTree a → ArePlanned a plans → word_count (shape_of (seen_accepted a) (seen_plans plans)) ≤ most_words
     → IsRun skipped (seen_accepted a) (seen_plans plans) ran → IsKept (kept_in a.source.now ran)
 can_be_kept skipped a plans ran is planned small run =
     let p = program_of a.tree.program in

@@ -8,7 +8,7 @@ use Rattle.mc_replies.specs.Texts.{matrix_line, mutants_line, tests_line}
 use Rattle.mc_replies.specs.declared.status.Status.{Status}
 use Rattle.mc_replies.specs.declared.status.Status.TheVariants as status
 use Rattle.mc_station.specs.Justified.{reasons_line}
-use Rattle.mc_station.specs.Records.{JudgesRecord, record_line}
+use Rattle.mc_station.specs.Records.{JudgesRecord, record_fault_line}
 use Rattle.mc_station.specs.Laws.{IsLater}
 use Rattle.mc_station.specs.Source.{Accepted, JudgesSource}
 use Rattle.mc_station.specs.Stages as stages
@@ -61,7 +61,7 @@ refuses_tests run accepted bytes r (inr (plans, judges, inl refused)) = elim (as
 refuses_tests run accepted bytes r (inr (plans, judges, inr (u, fits, next))) = absurd (cc next)
 
 pub kept_later : (accepted : Accepted) (name bytes : List ℕ) (r : Reply) → JudgesRecord accepted name bytes (Err r) → IsLater r
-kept_later accepted name bytes r (fault, given, is) = later status.TestsRefused (record_line name fault) (tests_later (record_line name fault)) r is
+kept_later accepted name bytes r (old, holds, (fault, given, is)) = later status.TestsRefused (record_fault_line name fault) (tests_later (record_fault_line name fault)) r is
 
 pub refuses_left : (name other : List ℕ) (accepted : Accepted) (bytes : List ℕ) (r : Reply) → Judges (stages.left name other accepted) bytes (Err r) → IsLater r
 refuses_left name other accepted bytes r (inl judges) = kept_later accepted name bytes r judges

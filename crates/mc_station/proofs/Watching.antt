@@ -29,7 +29,7 @@ use Rattle.mc_replies.proofs.Phases as phases
 use Rattle.mc_station.specs.Laws.{IsLater, IsToWatch, IsWatch}
 use Rattle.mc_station.specs.Looked.{IsLooked}
 use Rattle.mc_station.specs.Ran.{IsRun}
-use Rattle.mc_station.specs.Seen.{ArePlanned, IsInstrumented, IsOpened, seen_accepted}
+use Rattle.mc_station.specs.Seen.{ArePlanned, HasItsTree, IsOpened, seen_accepted}
 use Rattle.mc_station.specs.Source.{Accepted}
 use Rattle.mc_station.specs.Stages as stages
 use Rattle.mc_station.specs.Stages.{Basis, Judges, Stage, after_source, after_tests, first_stage, justified_by}
@@ -49,7 +49,7 @@ none_skipped P Q t same = (λ p. (same.0 p, λ none. absurd (let less = none.1 i
 
 module _ (a : Given) (plans : List TestPlan) (opened : Opened) (pass : PassView) (matrix : MatrixView) (ran : Ran) (shape : matrix.shape ≡ opened.cover.shape)
     (pairs : (b t : ℕ) → Holds matrix b t ↔ Contains pass.view.hits (b, t)) (same : ran.matrix ≡ matrix) where
-  pub watched_run : (results : Vec TestResult Global) → IsInstrumented a → ArePlanned a plans → IsOpened a plans opened → HasAll (does_of (tree_of a.tree) (seen_plans plans)) opened.cover pass
+  pub watched_run : (results : Vec TestResult Global) → HasItsTree a → ArePlanned a plans → IsOpened a plans opened → HasAll (does_of (tree_of a.tree) (seen_plans plans)) opened.cover pass
       → map told_of results.items ≡ map (told_by (tree_of a.tree)) (seen_plans plans) → ran.results ≡ results → ran.names.items ≡ names (seen_plans plans)
       → ran.states.items ≡ map (λ r. r.state) results.items → IsRun [] (seen_accepted a) (seen_plans plans) ran
   watched_run results is planned fresh has told same_results named state =

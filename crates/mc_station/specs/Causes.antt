@@ -16,7 +16,7 @@ use Rattle.mc_replies.specs.declared.status.Status.TheVariants.{Done, Incomplete
 use Rattle.mc_station.specs.Records.{JudgesRecord}
 use Rattle.mc_station.specs.Source.{Accepted, JudgesSource}
 use Rattle.mc_station.specs.Stages.{JudgesReasons, justified_by, reasons_named, record_named, source_named, tests_named}
-use Rattle.mc_station.specs.Tests.{Fits, JudgesTests, words_needed}
+use Rattle.mc_station.specs.Tests.{MatrixFits, JudgesTests, words_needed}
 use Rattle.mc_station.specs.commands.Merge.{Joins}
 use Rattle.mc_station.specs.commands.Mutate.{FewMutants}
 
@@ -133,7 +133,7 @@ IsToMutate task = ⊥
 abbrev pub MatrixIsRefusedAfter : Option Files → Action → Accepted → Reply → Type 0
 MatrixIsRefusedAfter files (command.run run) accepted r =
     (plans : List Plan) × TestsAre files run accepted plans × ¬ IsToMutate run.task
-    × Fits accepted plans (Err r)
+    × MatrixFits accepted plans (Err r)
 MatrixIsRefusedAfter files command.instrument accepted r = ⊥
 MatrixIsRefusedAfter files (command.merge left right) accepted r =
     PairIsRefused files left right accepted TooLarge r
@@ -147,7 +147,7 @@ MatrixIsRefused files (Some (command.on_source name action)) r =
 MatrixIsRefused files (Some (command.selfload count workers)) r =
     (accepted : Accepted) × JudgesSource (source_text count) (Ok accepted)
     × ((plans : List Plan) × JudgesTests accepted.program usual_fuel (tests_text count) (Ok plans)
-    × Fits accepted plans (Err r))
+    × MatrixFits accepted plans (Err r))
 
 -- after an accepted source and accepted tests, the mutants of the program
 abbrev pub MutantsAreRefusedAfter : Option Files → Action → Accepted → Reply → Type 0

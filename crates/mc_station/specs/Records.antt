@@ -1,6 +1,7 @@
 -- Which bytes are a record of a source.
-use Rattle.std.specs.Prelude.{◌≡◌, ⊤, ℕ, Bool, true, List, [], codes, Option, Some, Result, Err}
+use Rattle.std.specs.Prelude.{◌≡◌, ◌↔◌, ⊤, ℕ, All, Bool, IsTrue, List, [], codes, Option, Some, Result, Err}
 use Rattle.sha2.specs.Sha256.{sha256}
+use Rattle.mc_cond.specs.Tree.{IsShort}
 use Rattle.mc_record.specs.Kept.{Kept}
 use Rattle.mc_record.specs.Reading.{record_of}
 use Rattle.mc_record.specs.declared.fault.RecordFault.{RecordFault}
@@ -14,27 +15,29 @@ use Rattle.mc_replies.specs.declared.status.Status.TheVariants.{TestsRefused}
 use Rattle.mc_station.specs.Source.{Accepted}
 
 -- the line on the first fault of the record with this name
-abbrev pub record_line : (name : List ℕ) → RecordFault → List ℕ
-record_line name (fault.Header line) = kept_line name line (codes "header")
-record_line name (fault.Source line kept given) = kept_line name line (codes "source")
-record_line name (fault.Shape line) = kept_line name line (codes "shape")
-record_line name (fault.Word line) = kept_line name line (codes "word")
-record_line name (fault.NameAgain line) = kept_line name line (codes "name again")
-record_line name (fault.SpareBit line) = kept_line name line (codes "spare bit")
-record_line name (fault.Ending line) = kept_line name line (codes "ending")
-record_line name (fault.OldRules line) = kept_line name line (codes "old rules")
-record_line name fault.OutOfMemory = []
+abbrev pub record_fault_line : (name : List ℕ) → RecordFault → List ℕ
+record_fault_line name (fault.Header line) = kept_line name line (codes "header")
+record_fault_line name (fault.Source line kept given) = kept_line name line (codes "source")
+record_fault_line name (fault.Shape line) = kept_line name line (codes "shape")
+record_fault_line name (fault.Word line) = kept_line name line (codes "word")
+record_fault_line name (fault.NameAgain line) = kept_line name line (codes "name again")
+record_fault_line name (fault.SpareBit line) = kept_line name line (codes "spare bit")
+record_fault_line name (fault.Ending line) = kept_line name line (codes "ending")
+record_fault_line name (fault.OldRules line) = kept_line name line (codes "old rules")
+record_fault_line name fault.OutOfMemory = []
 
--- A source none of whose decisions has an operator that is evaluated in full. No decision has one
--- yet, so this holds of each source.
-abbrev pub old_rules_hold : Accepted → Bool
-old_rules_hold accepted = true
+-- A source none of whose decisions has an operator that is evaluated in full. Its bits are those of
+-- both versions of records.
+abbrev pub HasOldBits : Accepted → Type 0
+HasOldBits accepted = All (λ d. IsShort d.decision.tree) accepted.map.decisions
 
--- the record of a file that is accepted, or its first fault
+-- The record of a file that is accepted, or its first fault. One of version 1 is read by the old
+-- rules, which hold exactly where the source has the bits of both versions.
 abbrev pub JudgesRecord : Accepted → (name : List ℕ) → List ℕ → Result Kept Reply → Type 0
-JudgesRecord accepted name bytes =
-    Reads (record_of (sha256 accepted.source) accepted.map.bits (old_rules_hold accepted) bytes)
-    (λ fault. refusal TestsRefused (record_line name fault))
+JudgesRecord accepted name bytes verdict =
+    (old_rules : Bool) × (IsTrue old_rules ↔ HasOldBits accepted)
+    × Reads (record_of (sha256 accepted.source) accepted.map.bits old_rules bytes)
+    (λ fault. refusal TestsRefused (record_fault_line name fault)) verdict
 
 -- the fault, unless memory ran out
 abbrev pub GivesFault : Result Kept RecordFault → RecordFault → Type 0

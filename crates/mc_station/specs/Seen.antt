@@ -81,7 +81,7 @@ seen_tested t = record {
 -- ---- what the parts of a stage keep
 
 -- the tree is the instrumented program of its plain program and the map
-pub record IsInstrumented (a : Accepted) : Type 0 where
+pub record HasItsTree (a : Accepted) : Type 0 where
   pub short : length a.source.now ≤ most_source_bytes
   pub sound : IsSound (program_of a.tree.program)
   pub tree : table.IsInstrumented (program_of a.tree.program) (map_of a.map) (tree_of a.tree)
@@ -137,14 +137,14 @@ AreReasons accepted js = AreFit (length (obligations_of (map_of accepted.map))) 
 abbrev pub IsReady : Stage → Type 0
 IsReady stage.Usage = ⊤
 IsReady (stage.Source name action) = ActionIsInRange action
-IsReady (stage.Instrumented accepted) = IsInstrumented accepted × HasTokens accepted
-IsReady (stage.Tests run accepted) = RunIsInRange run × IsInstrumented accepted
-IsReady (stage.Left name other accepted) = IsInstrumented accepted
-IsReady (stage.Right name accepted first) = IsInstrumented accepted × IsRecordIn accepted first
-IsReady (stage.Kept name report accepted) = IsInstrumented accepted
-IsReady (stage.Reasons name accepted basis) = IsInstrumented accepted × IsBasis accepted basis
+IsReady (stage.Instrumented accepted) = HasItsTree accepted × HasTokens accepted
+IsReady (stage.Tests run accepted) = RunIsInRange run × HasItsTree accepted
+IsReady (stage.Left name other accepted) = HasItsTree accepted
+IsReady (stage.Right name accepted first) = HasItsTree accepted × IsRecordIn accepted first
+IsReady (stage.Kept name report accepted) = HasItsTree accepted
+IsReady (stage.Reasons name accepted basis) = HasItsTree accepted × IsBasis accepted basis
 IsReady (stage.Last accepted basis js) =
-    IsInstrumented accepted × (IsBasis accepted basis × AreReasons accepted js.items)
+    HasItsTree accepted × (IsBasis accepted basis × AreReasons accepted js.items)
 IsReady (stage.Merged both) = IsKept (kept_of both)
 IsReady (stage.Load l) =
     IsWithin 1 most_functions l.count × IsWithin 1 most_workers l.workers

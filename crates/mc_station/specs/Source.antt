@@ -66,9 +66,9 @@ Decides source program (Err reply) =
     × (reply ≡ refusal SourceRefused (conditions_line source at count))
 
 -- that no decision has too many paths, or the first that has
-abbrev pub Numbers : List ℕ → List Decision → Result (Unit {0}) Reply → Type 0
-Numbers source ds (Ok u) = All HasFewPaths ds
-Numbers source ds (Err reply) =
+abbrev pub PathsAreFew : List ℕ → List Decision → Result (Unit {0}) Reply → Type 0
+PathsAreFew source ds (Ok u) = All HasFewPaths ds
+PathsAreFew source ds (Err reply) =
     (d : Decision) × IsFirstWithMany ds d
     × (reply ≡ refusal SourceRefused (paths_line source d.root.start (count_of d.tree)))
 
@@ -101,5 +101,5 @@ JudgesSource source =
     Then (Admits source unit) (λ u.
     Then (Types source unit) (λ program.
     Then (Decides source program) (λ ds.
-    Then (Numbers source ds) (λ v.
+    Then (PathsAreFew source ds) (λ v.
     Then (Maps program ds) (Accepts source program)))))))

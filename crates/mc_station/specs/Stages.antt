@@ -18,7 +18,7 @@ use Rattle.mc_replies.specs.declared.status.Status.TheVariants.{NoCommand, Justi
 use Rattle.mc_station.specs.Justified.{reasons_line}
 use Rattle.mc_station.specs.Records.{JudgesRecord}
 use Rattle.mc_station.specs.Source.{Accepted, JudgesSource}
-use Rattle.mc_station.specs.Tests.{Fits, JudgesTests}
+use Rattle.mc_station.specs.Tests.{MatrixFits, JudgesTests}
 use Rattle.mc_station.specs.commands.Analyse.{Analyses}
 use Rattle.mc_station.specs.commands.Instrument.{Instruments}
 use Rattle.mc_station.specs.commands.List.{Listing}
@@ -27,7 +27,7 @@ use Rattle.mc_station.specs.commands.Mutate.{FewMutants, Mutates}
 use Rattle.mc_station.specs.commands.Record.{Records}
 use Rattle.mc_station.specs.commands.Reduce.{Reduces}
 use Rattle.mc_station.specs.commands.Report.{Reports}
-use Rattle.mc_station.specs.commands.Selfload.{Loads}
+use Rattle.mc_station.specs.commands.Selfload.{LoadsItself}
 use Rattle.mc_station.specs.commands.Vectors.{Lists}
 use Rattle.mc_station.specs.commands.Watch.{Watches}
 
@@ -162,7 +162,7 @@ after_tests (Some name) accepted basis = reasons name accepted basis
 -- that the matrix of all bits under the tests fits
 abbrev pub Allows : Task → Accepted → List Plan → Result (Unit {0}) Reply → Type 0
 Allows command.mutated accepted plans = FewMutants accepted
-Allows task accepted plans = Fits accepted plans
+Allows task accepted plans = MatrixFits accepted plans
 
 -- the justifications of a file that is accepted, or its first fault
 abbrev pub JudgesReasons : Accepted → List ℕ → Result (List Justification) Reply → Type 0
@@ -227,4 +227,4 @@ Ends skipped (last accepted (tested run plans) js) reply =
 Ends skipped (last accepted (recorded report found) js) reply =
     Analyses report accepted found js reply
 Ends skipped (merged both) reply = Merges both reply
-Ends skipped (load count workers) reply = Loads skipped count reply
+Ends skipped (load count workers) reply = LoadsItself skipped count reply

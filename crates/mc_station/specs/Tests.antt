@@ -66,8 +66,8 @@ abbrev pub words_needed : Accepted → List Plan → ℕ
 words_needed accepted plans = word_count (shape_of accepted plans)
 
 -- that the matrix fits, or how many words it would need
-abbrev pub Fits : Accepted → List Plan → Result (Unit {0}) Reply → Type 0
-Fits accepted plans (Ok u) = words_needed accepted plans ≤ most_words
-Fits accepted plans (Err reply) =
+abbrev pub MatrixFits : Accepted → List Plan → Result (Unit {0}) Reply → Type 0
+MatrixFits accepted plans (Ok u) = words_needed accepted plans ≤ most_words
+MatrixFits accepted plans (Err reply) =
     (most_words < words_needed accepted plans)
     × (reply ≡ refusal TooLarge (matrix_line (words_needed accepted plans)))

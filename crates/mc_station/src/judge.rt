@@ -12,9 +12,9 @@ ghost use Rattle.mc_replies.specs.Reply.{refusal};
 ghost use Rattle.mc_replies.specs.Seen.{Gives};
 ghost use Rattle.mc_replies.specs.declared.status.Status.TheVariants.{JustificationsRefused};
 ghost use Rattle.mc_station.specs.Justified.{reasons_line};
-ghost use Rattle.mc_station.specs.Seen.{AreMutable, ArePlanned, AreReasons, HasTokens, IsBasis, IsInstrumented, IsOnProgram, IsOpened, IsReady, seen_accepted, seen_basis, seen_stage};
+ghost use Rattle.mc_station.specs.Seen.{AreMutable, ArePlanned, AreReasons, HasTokens, IsBasis, HasItsTree, IsOnProgram, IsOpened, IsReady, seen_accepted, seen_basis, seen_stage};
 ghost use Rattle.mc_station.specs.Stages.{AfterPlans, AsksUpTo, Judges, JudgesReasons, after_source, after_tests, justified_by, reasons, source, tested, tests};
-ghost use Rattle.mc_station.specs.Tests.{Fits, JudgesTests};
+ghost use Rattle.mc_station.specs.Tests.{MatrixFits, JudgesTests};
 ghost use Rattle.mc_station.specs.commands.Mutate.{FewMutants};
 
 use crate::accepted::Accepted;
@@ -60,7 +60,7 @@ pub fn judge_tests<'a>(
 
 // The decisions of an accepted source, whose mutants are few enough.
 fn few_mutants<'a>(alloc: Global, accepted: &Accepted<'_>) -> Result<Vec<Decision>, Stop<'a>>
-    requires { IsInstrumented accepted.now }
+    requires { HasItsTree accepted.now }
     ensures judges { Gives (λ decisions. tt) (FewMutants (seen_accepted accepted.now)) result }
     ensures mutable { IfOk result (λ decisions. AreMutable accepted.now decisions.items) }
 {
@@ -80,7 +80,7 @@ pub fn open_for<'a>(
 ) -> Result<Opened, Stop<'a>>
     requires { ArePlanned accepted.now plans.now }
     ensures judges { Gives (λ opened. tt)
-        (Fits (seen_accepted accepted.now) (seen_plans plans.now)) result }
+        (MatrixFits (seen_accepted accepted.now) (seen_plans plans.now)) result }
     ensures opened { IfOk result (λ opened. IsOpened accepted.now plans.now opened) }
 {
     let shape = Shape {
@@ -97,7 +97,7 @@ pub fn open_for<'a>(
 // The stage after a source that is accepted.
 fn with_source<'a>(action: Action<'a>, accepted: Accepted<'a>) -> Stage<'a>
     requires range { ActionIsInRange action }
-    requires instrumented { IsInstrumented accepted }
+    requires instrumented { HasItsTree accepted }
     requires tokens { HasTokens accepted }
     ensures stage { seen_stage result
         ≡ after_source (seen_action action.entry) (seen_accepted accepted.entry) }
@@ -150,7 +150,7 @@ fn with_opened<'a>(
 ) -> Stage<'a>
     requires range { RunIsInRange run }
     requires task { IsOnProgram run.task }
-    requires instrumented { IsInstrumented accepted }
+    requires instrumented { HasItsTree accepted }
     requires planned { ArePlanned accepted plans.items }
     requires opened { IsOpened accepted plans.items opened }
     ensures stage { seen_stage result ≡ after_tests (justified_by (seen_run run.entry).task)
@@ -171,7 +171,7 @@ fn with_matrix<'a>(
 ) -> Result<Stage<'a>, Stop<'a>>
     requires range { RunIsInRange run }
     requires task { IsOnProgram run.task }
-    requires instrumented { IsInstrumented accepted }
+    requires instrumented { HasItsTree accepted }
     requires planned { ArePlanned accepted plans.items }
     ensures judges { Gives seen_stage
         (AfterPlans (seen_run run.entry) (seen_accepted accepted.entry) (seen_plans plans.items))
@@ -197,7 +197,7 @@ fn with_mutants<'a>(
 ) -> Result<Stage<'a>, Stop<'a>>
     requires range { RunIsInRange run }
     requires task { run.task ≡ task.Mutate }
-    requires instrumented { IsInstrumented accepted }
+    requires instrumented { HasItsTree accepted }
     requires planned { ArePlanned accepted plans.items }
     ensures judges { Gives seen_stage
         (AfterPlans (seen_run run.entry) (seen_accepted accepted.entry) (seen_plans plans.items))
@@ -224,7 +224,7 @@ fn with_plans<'a>(
     plans: Vec<TestPlan>,
 ) -> Result<Stage<'a>, Stop<'a>>
     requires range { RunIsInRange run }
-    requires instrumented { IsInstrumented accepted }
+    requires instrumented { HasItsTree accepted }
     requires planned { ArePlanned accepted plans.items }
     ensures judges { Gives seen_stage
         (AfterPlans (seen_run run.entry) (seen_accepted accepted.entry) (seen_plans plans.items))
@@ -250,7 +250,7 @@ fn after_tests<'a>(
     bytes: &[u8],
 ) -> Result<Stage<'a>, Stop<'a>>
     requires range { RunIsInRange run }
-    requires instrumented { IsInstrumented accepted }
+    requires instrumented { HasItsTree accepted }
     ensures judges { Gives seen_stage
         (Judges (tests (seen_run run.entry) (seen_accepted accepted.entry)) bytes.now) result }
     ensures ready { IfOk result IsReady }
@@ -299,7 +299,7 @@ fn judge_reasons<'a>(
     accepted: &Accepted<'a>,
     bytes: &[u8],
 ) -> Result<Vec<Justification>, Stop<'a>>
-    requires { IsInstrumented accepted.now }
+    requires { HasItsTree accepted.now }
     ensures judges { Gives (λ js. js.items)
         (JudgesReasons (seen_accepted accepted.now) bytes.now) result }
     ensures reasons { IfOk result (λ js. AreReasons accepted.now js.items) }
@@ -319,7 +319,7 @@ fn after_reasons<'a>(
     basis: Basis<'a>,
     bytes: &[u8],
 ) -> Result<Stage<'a>, Stop<'a>>
-    requires instrumented { IsInstrumented accepted }
+    requires instrumented { HasItsTree accepted }
     requires basis { IsBasis accepted basis }
     ensures judges { Gives seen_stage (Judges (reasons name.now
         (seen_accepted accepted.entry) (seen_basis basis.entry)) bytes.now) result }

@@ -3,7 +3,7 @@ ghost use Rattle.std.specs.Prelude.{◌≡◌, ◌≤◌, IfOk, map};
 ghost use Rattle.mc_limits.specs.Limits.{most_workers};
 ghost use Rattle.mc_tests.specs.Seen.{seen_plans};
 ghost use Rattle.mc_station.specs.Tests.{names, status_where};
-ghost use Rattle.mc_station.specs.Seen.{ArePlanned, IsInstrumented, IsOpened, seen_accepted, seen_tested};
+ghost use Rattle.mc_station.specs.Seen.{ArePlanned, HasItsTree, IsOpened, seen_accepted, seen_tested};
 ghost use Rattle.mc_station.specs.Ran.{IsRun, seen_ran};
 
 use crate::accepted::Accepted;
@@ -85,7 +85,7 @@ pub fn run_all<R: Threads + Sync, G: Gate, C: Closer>(
     opened: Opened,
 ) -> Result<Ran, AllocError>
     requires workers { (1 ≤ workers) × (workers ≤ most_workers) }
-    requires instrumented { IsInstrumented accepted.now }
+    requires instrumented { HasItsTree accepted.now }
     requires planned { ArePlanned accepted.now plans.now }
     requires opened { IsOpened accepted.now plans.now opened }
     ensures { IfOk result (IsRun (C.skipped means.entry.closer.now) (seen_accepted accepted.now)

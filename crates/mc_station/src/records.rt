@@ -1,5 +1,5 @@
 //! How the stages of records judge the bytes of their files.
-ghost use Rattle.std.specs.Prelude.{◌≡◌, IfOk, Result, Err};
+ghost use Rattle.std.specs.Prelude.{◌≡◌, ◌↔◌, IfOk, IsTrue, Result, Err};
 ghost use Rattle.mc_command.specs.Seen.{seen_report};
 ghost use Rattle.mc_record.specs.Kept.{IsKept, Kept};
 ghost use Rattle.mc_record.specs.Merged.{pair_fault};
@@ -11,8 +11,8 @@ ghost use Rattle.mc_replies.specs.Seen.{Gives};
 ghost use Rattle.mc_replies.specs.declared.refusal.Refusal.TheVariants as why;
 ghost use Rattle.mc_replies.specs.declared.status.Status.TheVariants.{TestsRefused};
 ghost use Rattle.mc_replies.specs.declared.stop.Stop.TheVariants as stop;
-ghost use Rattle.mc_station.specs.Records.{GivesFault, GivesPair, JudgesRecord, old_rules_hold, record_line};
-ghost use Rattle.mc_station.specs.Seen.{IsInstrumented, IsReady, IsRecordIn, seen_accepted, seen_stage};
+ghost use Rattle.mc_station.specs.Records.{GivesFault, GivesPair, HasOldBits, JudgesRecord, record_fault_line};
+ghost use Rattle.mc_station.specs.Seen.{HasItsTree, IsReady, IsRecordIn, seen_accepted, seen_stage};
 ghost use Rattle.mc_station.specs.Stages.{Judges, kept, left, right};
 ghost use Rattle.mc_station.specs.commands.Merge.{Joins};
 
@@ -22,6 +22,7 @@ use crate::digest::digest_of;
 use crate::stage::{Stage, with_basis};
 use crate::words::words_fit;
 use mc_command::Report;
+use mc_cond::is_short;
 use mc_record::{PairFault, Record, RecordFault, merge_records, read_record};
 use mc_replies::{Refusal, Stop};
 use std::alloc::Global;
@@ -36,7 +37,7 @@ fn refused<'a>(name: &'a str, line: u32, word: &'static str) -> Stop<'a>
 // Why the record with this name is refused.
 fn stop_of<'a>(name: &'a str, fault: RecordFault) -> Stop<'a>
     ensures { (given : Result Kept Fault) → GivesFault given fault
-        → Gives (λ k. k) (Reads given (λ f. refusal TestsRefused (record_line name.now f)))
+        → Gives (λ k. k) (Reads given (λ f. refusal TestsRefused (record_fault_line name.now f)))
         (Err result) }
 {
     match fault {
@@ -65,10 +66,15 @@ fn pair_stop<'a>(fault: PairFault) -> Stop<'a>
     }
 }
 
-// Whether a record of version 1 has the bits of this source.
-fn old_rules_hold(_accepted: &Accepted<'_>) -> bool
-    ensures { result ≡ old_rules_hold (seen_accepted _accepted.now) }
+// Whether no decision of the source has an operator that is evaluated in full.
+fn has_old_bits(accepted: &Accepted<'_>) -> bool
+    ensures { IsTrue result ↔ HasOldBits (seen_accepted accepted.now) }
 {
+    for mapped in &accepted.map.decisions {
+        if !is_short(&mapped.decision.tree) {
+            return false;
+        }
+    }
     true
 }
 
@@ -79,13 +85,13 @@ fn judge_record<'a>(
     name: &'a str,
     bytes: &[u8],
 ) -> Result<Record, Stop<'a>>
-    requires { IsInstrumented accepted.now }
+    requires { HasItsTree accepted.now }
     ensures judges { Gives kept_of
         (JudgesRecord (seen_accepted accepted.now) name.now bytes.now) result }
     ensures of_source { IfOk result (IsRecordIn accepted.now) }
 {
     let digest = digest_of(accepted.source);
-    let old_rules = old_rules_hold(accepted);
+    let old_rules = has_old_bits(accepted);
     match read_record(alloc, bytes, &digest, accepted.map.bits, old_rules) {
         Ok(record) => Ok(record),
         Err(fault) => Err(stop_of(name, fault)),
@@ -118,7 +124,7 @@ pub fn after_left<'a>(
     accepted: Accepted<'a>,
     bytes: &[u8],
 ) -> Result<Stage<'a>, Stop<'a>>
-    requires { IsInstrumented accepted }
+    requires { HasItsTree accepted }
     ensures judges { Gives seen_stage (Judges (left name.now other.now
         (seen_accepted accepted.entry)) bytes.now) result }
     ensures ready { IfOk result IsReady }
@@ -140,7 +146,7 @@ pub fn after_right<'a>(
     first: Record,
     bytes: &[u8],
 ) -> Result<Stage<'a>, Stop<'a>>
-    requires instrumented { IsInstrumented accepted }
+    requires instrumented { HasItsTree accepted }
     requires first { IsRecordIn accepted first }
     ensures judges { Gives seen_stage (Judges (right name.now
         (seen_accepted accepted.entry) (kept_of first)) bytes.now) result }
@@ -160,7 +166,7 @@ pub fn after_kept<'a>(
     accepted: Accepted<'a>,
     bytes: &[u8],
 ) -> Result<Stage<'a>, Stop<'a>>
-    requires { IsInstrumented accepted }
+    requires { HasItsTree accepted }
     ensures judges { Gives seen_stage (Judges (kept name.now (seen_report report.entry)
         (seen_accepted accepted.entry)) bytes.now) result }
     ensures ready { IfOk result IsReady }

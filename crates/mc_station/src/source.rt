@@ -14,8 +14,8 @@ ghost use Rattle.mc_roots.specs.Seen.{decision_of};
 ghost use Rattle.mc_replies.specs.Phases.{Then};
 ghost use Rattle.mc_replies.specs.Seen.{Gives};
 ghost use Rattle.mc_replies.specs.Texts.{start_of};
-ghost use Rattle.mc_station.specs.Seen.{IsInstrumented, seen_accepted};
-ghost use Rattle.mc_station.specs.Source.{Accepts, Admits, Decides, JudgesSource, Lexes, Maps, Numbers, Parses, Types};
+ghost use Rattle.mc_station.specs.Seen.{HasItsTree, seen_accepted};
+ghost use Rattle.mc_station.specs.Source.{Accepts, Admits, Decides, JudgesSource, Lexes, Maps, PathsAreFew, Parses, Types};
 
 use crate::accepted::Accepted;
 use mc_decide::{DecideFault, Decision, decisions};
@@ -148,7 +148,7 @@ fn decided<'a>(
 
 /// The decisions of a source that is accepted, found once more.
 pub fn decisions_again(alloc: Global, accepted: &Accepted<'_>) -> Result<Vec<Decision>, AllocError>
-    requires { IsInstrumented accepted.now }
+    requires { HasItsTree accepted.now }
     ensures { IfOk result (λ ds. AreDecisions (seen_accepted accepted.now).program.functions
         (map decision_of ds.items)) }
 {
@@ -171,10 +171,10 @@ fn mapped<'a>(
         (map decision_of decisions.items) }
     requires numbered { All (λ d. IsNumbered (tree_of d.tree)) decisions.items }
     ensures judges { Gives seen_accepted (Then
-        (Numbers source.now (map decision_of decisions.items)) (λ u. Then
+        (PathsAreFew source.now (map decision_of decisions.items)) (λ u. Then
         (Maps (program_of program.now) (map decision_of decisions.items))
         (Accepts source.now (program_of program.now)))) result }
-    ensures instrumented { IfOk result IsInstrumented }
+    ensures instrumented { IfOk result HasItsTree }
 {
     match instrument(alloc, program, decisions) {
         Ok((tree, map)) => Ok(Accepted::new(source, tree, map)),
@@ -194,7 +194,7 @@ fn mapped<'a>(
 pub fn judge_source<'a>(alloc: Global, source: &'a [u8]) -> Result<Accepted<'a>, Stop<'a>>
     requires { length source.now ≤ most_source_bytes }
     ensures judges { Gives seen_accepted (JudgesSource source.now) result }
-    ensures instrumented { IfOk result IsInstrumented }
+    ensures instrumented { IfOk result HasItsTree }
 {
     let tokens = lexed(alloc, source)?;
     let unit = parsed(alloc, source, &tokens)?;

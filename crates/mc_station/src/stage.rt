@@ -6,7 +6,7 @@ ghost use Rattle.mc_command.specs.Seen.{RunIsInRange, seen_run};
 ghost use Rattle.mc_tests.specs.Seen.{seen_plans};
 ghost use Rattle.mc_replies.specs.Seen.{seen_file, seen_reply};
 ghost use Rattle.mc_station.specs.Looked.{IsOnMatrix};
-ghost use Rattle.mc_station.specs.Seen.{ArePlanned, AreReasons, IsBasis, IsInstrumented, IsOnProgram, IsOpened, IsReady, seen_accepted, seen_basis, seen_stage};
+ghost use Rattle.mc_station.specs.Seen.{ArePlanned, AreReasons, IsBasis, HasItsTree, IsOnProgram, IsOpened, IsReady, seen_accepted, seen_basis, seen_stage};
 ghost use Rattle.mc_station.specs.Stages.{Ends, Tells, after_tests, file_of, first_stage, last};
 
 use crate::accepted::Accepted;
@@ -65,7 +65,7 @@ pub fn with_basis<'a>(
     accepted: Accepted<'a>,
     basis: Basis<'a>,
 ) -> Stage<'a>
-    requires instrumented { IsInstrumented accepted }
+    requires instrumented { HasItsTree accepted }
     requires basis { IsBasis accepted basis }
     ensures stage { seen_stage result ≡ after_tests (option_map (λ name. name.now) justify.entry)
         (seen_accepted accepted.entry) (seen_basis basis.entry) }
@@ -102,7 +102,7 @@ fn tested<'a, R: Threads + Sync, G: Gate, C: Closer>(
 ) -> Result<Reply<'a>, AllocError>
     requires range { RunIsInRange run }
     requires task { IsOnMatrix run.task }
-    requires instrumented { IsInstrumented accepted }
+    requires instrumented { HasItsTree accepted }
     requires planned { ArePlanned accepted plans.now }
     requires opened { IsOpened accepted plans.now opened }
     requires reasons { AreReasons accepted justifications.now }
@@ -131,7 +131,7 @@ fn run_for<'a, R: Threads + Sync, G: Gate, C: Closer>(
 ) -> Result<Reply<'a>, AllocError>
     requires range { RunIsInRange run }
     requires task { IsOnProgram run.task }
-    requires instrumented { IsInstrumented accepted }
+    requires instrumented { HasItsTree accepted }
     requires planned { ArePlanned accepted plans.now }
     requires opened { IsOpened accepted plans.now opened }
     requires reasons { AreReasons accepted justifications.now }
@@ -156,7 +156,7 @@ fn finished<'a, R: Threads + Sync, G: Gate, C: Closer>(
     basis: Basis<'_>,
     justifications: &[Justification],
 ) -> Result<Reply<'a>, AllocError>
-    requires instrumented { IsInstrumented accepted }
+    requires instrumented { HasItsTree accepted }
     requires basis { IsBasis accepted basis }
     requires reasons { AreReasons accepted justifications.now }
     ensures { IfOk result (λ reply. Ends (C.skipped means.entry.closer.now)

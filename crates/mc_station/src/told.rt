@@ -7,7 +7,7 @@ ghost use Rattle.mc_record.specs.Kept.{IsKept};
 ghost use Rattle.mc_replies.specs.Seen.{seen_reply};
 ghost use Rattle.mc_station.specs.Looked.{IsOnMatrix};
 ghost use Rattle.mc_station.specs.Ran.{AreTold, IsRun, kept_in, seen_ran};
-ghost use Rattle.mc_station.specs.Seen.{AreReasons, IsInstrumented, seen_accepted};
+ghost use Rattle.mc_station.specs.Seen.{AreReasons, HasItsTree, seen_accepted};
 ghost use Rattle.mc_station.specs.Stages.{Tells};
 ghost use Rattle.mc_station.specs.commands.List.{ListingOn};
 ghost use Rattle.mc_station.specs.commands.Report.{ReportsOn};
@@ -33,7 +33,7 @@ fn reported<'a>(
     ran: Ran,
     justifications: &[Justification],
 ) -> Result<Reply<'a>, AllocError>
-    requires instrumented { IsInstrumented accepted }
+    requires instrumented { HasItsTree accepted }
     requires told { AreTold (seen_accepted accepted) ran.matrix (seen_ran ran) }
     requires reasons { AreReasons accepted justifications.now }
     ensures { IfOk result (λ reply. let a = seen_accepted accepted.entry in
@@ -52,7 +52,7 @@ fn listed<'a>(
     ran: Ran,
     justifications: &[Justification],
 ) -> Result<Reply<'a>, AllocError>
-    requires instrumented { IsInstrumented accepted }
+    requires instrumented { HasItsTree accepted }
     requires told { AreTold (seen_accepted accepted) ran.matrix (seen_ran ran) }
     requires reasons { AreReasons accepted justifications.now }
     ensures { IfOk result (λ reply. let a = seen_accepted accepted.entry in
@@ -73,7 +73,7 @@ pub fn tell<'a>(
     justifications: &[Justification],
 ) -> Result<Reply<'a>, AllocError>
     requires task { IsOnMatrix task }
-    requires instrumented { IsInstrumented accepted }
+    requires instrumented { HasItsTree accepted }
     requires told { AreTold (seen_accepted accepted) ran.matrix (seen_ran ran) }
     requires kept { IsKept (kept_in accepted.source.now ran) }
     requires reasons { AreReasons accepted justifications.now }

@@ -4,7 +4,7 @@ use Rattle.mc_limits.specs.Limits.{most_levels, most_run_cells}
 use Rattle.mc_value.specs.declared.trap.Trap.TheVariants.{Index, NoReturn}
 use Rattle.mc_typed.specs.declared.plans.Ending.{Ending}
 use Rattle.mc_typed.specs.declared.plans.Ending.TheVariants as ending
-use Rattle.mc_steps.specs.Runs.{Acts, gives, stops, traps, after, changes, with_some, spends}
+use Rattle.mc_steps.specs.Runs.{Acts, gives, stops, traps, ◌>>=◌, changes, with_some, spends}
 use Rattle.mc_steps.specs.Memories.{Lent, Memory}
 use Rattle.mc_steps.specs.Expressions.{where_true}
 use Rattle.mc_steps.specs.Statements.{Given, Nothing, Number, Structure, Flow, Left, Body}
@@ -34,18 +34,23 @@ module _ {M P : Type 0} (m : Memory M P) where
   unset_does p n s = changes (m.put p n None) s
 
   abbrev pub store_does : {E : Type 0} → P → Acts M E ℤ → Acts M E (Unit {0})
-  store_does p value s = after (value s) (λ v s. changes (m.put p 1 (Some v)) s)
+  store_does p value = do
+    v ← value
+    changes (m.put p 1 (Some v))
 
   abbrev pub store_structure_does : {E : Type 0} → P → ℕ → Acts M E P → Acts M E (Unit {0})
-  store_structure_does p n value s = after (value s) (λ q s. changes (m.copy q p n) s)
+  store_structure_does p n value = do
+    q ← value
+    changes (m.copy q p n)
 
   -- ---- arguments
 
   -- A structure is copied when its argument is evaluated.
   abbrev pub structure_argument_does : {E : Type 0} → Target P → Acts M E P → Acts M E (Passed P)
-  structure_argument_does copy value s =
-      after (value s) (λ q s. after (changes (m.copy q copy.place copy.cells) s) (λ _ s.
-      gives (PassedStructure copy.place) s))
+  structure_argument_does copy value = do
+    q ← value
+    _ ← changes (m.copy q copy.place copy.cells)
+    gives (PassedStructure copy.place)
 
   -- the parameters that are objects have the arguments' values (C17 6.5.2.2p4)
   abbrev pub passed_to : List (Target P) → List (Passed P) → M → M
@@ -63,12 +68,19 @@ module _ {M P : Type 0} (m : Memory M P) where
   -- A structure that is returned is copied to the temporary object of the call (C17 6.2.4p8) while
   -- the objects of the function are still there.
   abbrev pub leaves : {E : Type 0} → Option P → (M → M) → Given P → Acts M E (Given P)
-  leaves (Some q) leave (Structure p n) s =
-      after (changes (m.copy p q n) s) (λ _ s. after (changes leave s) (λ _ s.
-      gives (Structure q n) s))
-  leaves None leave (Structure p n) s = after (changes leave s) (λ _ s. gives Nothing s)
-  leaves into leave Nothing s = after (changes leave s) (λ _ s. gives Nothing s)
-  leaves into leave (Number v) s = after (changes leave s) (λ _ s. gives (Number v) s)
+  leaves (Some q) leave (Structure p n) = do
+    _ ← changes (m.copy p q n)
+    _ ← changes leave
+    gives (Structure q n)
+  leaves None leave (Structure p n) = do
+    _ ← changes leave
+    gives Nothing
+  leaves into leave Nothing = do
+    _ ← changes leave
+    gives Nothing
+  leaves into leave (Number v) = do
+    _ ← changes leave
+    gives (Number v)
 
 -- The run stops where a number would pass its limit.
 abbrev pub with_room : {M E A : Type 0} → ℕ → ℕ → Ending → Acts M E A → Acts M E A
@@ -81,22 +93,28 @@ module _ {M E P : Type 0} where
   -- the first argument, and then the others
   abbrev pub arguments_do :
       Acts M E (Passed P) → Acts M E (List (Passed P)) → Acts M E (List (Passed P))
-  arguments_do first others s = after (first s) (λ x s. after (others s) (λ xs s. gives (x ∷ xs) s))
+  arguments_do first others = do
+    x ← first
+    xs ← others
+    gives (x ∷ xs)
 
   -- ---- calls
 
   -- a body that completes gives nothing, and its closing brace is an exit
   abbrev pub where_left : Flow P → Acts M E (Unit {0}) → Acts M E (Given P)
   where_left (Left v) closing s = gives v s
-  where_left _ closing s = after (closing s) (λ _ s. gives Nothing s)
+  where_left _ closing s = (closing >>= λ _. gives Nothing) s
 
   -- the parameters and the other objects, then the entry, then the body
   abbrev pub body_does :
       (M → M) → Acts M E (Unit {0}) → Body M E P → Acts M E (Unit {0}) →
       (Given P → Acts M E (Given P)) → Acts M E (Given P)
-  body_does enter entry body closing leave s =
-      after (changes enter s) (λ _ s. after (entry s) (λ _ s. after (body s) (λ flow s.
-      after (where_left flow closing s) leave)))
+  body_does enter entry body closing leave = do
+    _ ← changes enter
+    _ ← entry
+    flow ← body
+    v ← where_left flow closing
+    leave v
 
   -- After the arguments: a unit, then the levels and then the cells of all open activations with
   -- this one, then what is done in it.

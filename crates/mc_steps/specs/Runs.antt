@@ -52,6 +52,12 @@ preceded events r = record { out = r.out; events = events ++ r.events }
 abbrev pub after : {M E A B : Type 0} → Run M E A → (A → Acts M E B) → Run M E B
 after r next = preceded r.events (go_on r.out next)
 
+-- First one part of a program, then another with what the first one gave: `do` has such lines one
+-- under the other, `x ← e` where x is what e gave.
+infixl 10 ◌>>=◌
+abbrev pub ◌>>=◌ : {M E A B : Type 0} → Acts M E A → (A → Acts M E B) → Acts M E B
+(first >>= next) s = after (first s) next
+
 -- the memory is changed
 abbrev pub changes : {M E : Type 0} → (M → M) → Acts M E (Unit {0})
 changes f s = gives tt (record s { memory = f s.memory })

@@ -2,7 +2,7 @@
 use Rattle.std.specs.Prelude.{ℕ, zero, suc, ℤ, Bool, true, false, not, ◌||◌, if◌then◌else◌, List, [], ◌∷◌, Option, Some, None}
 use Rattle.mc_value.specs.Arithmetic.{are_equal}
 use Rattle.mc_typed.specs.declared.plans.Ending.TheVariants.{Fuel}
-use Rattle.mc_steps.specs.Runs.{Acts, gives, stops, after, spends}
+use Rattle.mc_steps.specs.Runs.{Acts, gives, stops, ◌>>=◌, spends}
 use Rattle.mc_steps.specs.Expressions.{where_true}
 
 -- what a call gives: nothing, a number, or a structure of so many cells at a place
@@ -27,11 +27,15 @@ module _ {M E P : Type 0} where
 
   -- A unit is spent before a counted statement, and `mark` comes after its unit.
   abbrev pub counted_does : Acts M E (Unit {0}) → Body M E P → Body M E P
-  counted_does mark act s = spends (λ s. after (mark s) (λ _ s. act s)) s
+  counted_does mark act = spends (do
+    _ ← mark
+    act)
 
   -- what has an effect alone
   abbrev pub effect_does : Acts M E (Unit {0}) → Body M E P
-  effect_does act s = after (act s) (λ _ s. gives Completed s)
+  effect_does act = do
+    _ ← act
+    gives Completed
 
   -- ---- one after the other (C17 6.8p3, 6.8.2)
 
@@ -41,7 +45,9 @@ module _ {M E P : Type 0} where
   where_completed flow next s = gives flow s
 
   abbrev pub then_does : Body M E P → Body M E P → Body M E P
-  then_does act next s = after (act s) (λ flow s. where_completed flow next s)
+  then_does act next = do
+    flow ← act
+    where_completed flow next
 
   -- ---- loops (C17 6.8.5, 6.8.6.2, 6.8.6.3)
 
@@ -54,11 +60,14 @@ module _ {M E P : Type 0} where
 
   -- a unit and the test, then the body, then the step, and so on
   abbrev pub turn : Acts M E Bool → Body M E P → Acts M E (Unit {0}) → Body M E P → Body M E P
-  turn test body step again s =
-      spends (λ s. after (test s) (λ goes_on s. where_true goes_on
-      (λ s. after (body s) (λ flow s. where_loop_goes_on flow
-      (λ s. after (step s) (λ _ s. again s)) s))
-      (gives Completed) s)) s
+  turn test body step again = spends (do
+    goes_on ← test
+    where_true goes_on (do
+      flow ← body
+      where_loop_goes_on flow (do
+        _ ← step
+        again))
+        (gives Completed))
 
   -- so many turns at most
   abbrev pub turns : ℕ → Acts M E Bool → Body M E P → Acts M E (Unit {0}) → Body M E P
@@ -71,9 +80,9 @@ module _ {M E P : Type 0} where
 
   -- the body once, and then as `while`
   abbrev pub do_does : Body M E P → Acts M E Bool → Body M E P
-  do_does body test s =
-      after (body s) (λ flow s. where_loop_goes_on flow
-      (λ s. loop_does test body (λ s. gives tt s) s) s)
+  do_does body test = do
+    flow ← body
+    where_loop_goes_on flow (loop_does test body (gives tt))
 
 -- ---- switch (C17 6.8.4.2)
 
@@ -116,8 +125,10 @@ module _ {M E P : Type 0} where
       (Bool → Acts M E (Unit {0})) → Option ℤ → Seek → (Seek → Body M E P) → Body M E P
   label_does mark l seek next s =
       where_true (is_running (at_label l seek))
-      (λ s. after (mark (not (is_running seek)) s) (λ _ s. next (at_label l seek) s))
-      (λ s. next (at_label l seek) s) s
+      (do
+        _ ← mark (not (is_running seek))
+        next (at_label l seek))
+      (next (at_label l seek)) s
 
   -- an item that is no label
   abbrev pub item_runs : Body M E P → Seek → (Seek → Body M E P) → Body M E P
@@ -126,8 +137,8 @@ module _ {M E P : Type 0} where
 
   -- `break` ends the switch
   abbrev pub where_switch_ends : Flow P → Acts M E (Unit {0}) → Body M E P
-  where_switch_ends Completed mark s = after (mark s) (λ _ s. gives Completed s)
-  where_switch_ends Broke mark s = after (mark s) (λ _ s. gives Completed s)
+  where_switch_ends Completed mark s = effect_does mark s
+  where_switch_ends Broke mark s = effect_does mark s
   where_switch_ends Continued mark s = gives Continued s
   where_switch_ends (Left v) mark s = gives (Left v) s
 
@@ -136,6 +147,7 @@ module _ {M E P : Type 0} where
   abbrev pub switch_does :
       Acts M E ℤ → List (Option ℤ) → (Seek → Body M E P) → (Bool → Acts M E (Unit {0})) →
       Body M E P
-  switch_does value labels items mark s =
-      after (value s) (λ v s. after (items (sought v labels) s) (λ flow s.
-      where_switch_ends flow (mark (is_absent v labels)) s))
+  switch_does value labels items mark = do
+    v ← value
+    flow ← items (sought v labels)
+    where_switch_ends flow (mark (is_absent v labels))

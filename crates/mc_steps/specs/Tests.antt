@@ -3,15 +3,16 @@ use Rattle.std.specs.Prelude.{ℕ, ℤ, List, [], ◌∷◌, ◌++◌, length, O
 use Rattle.mc_typed.specs.declared.plans.Ending.{Ending}
 use Rattle.mc_typed.specs.declared.plans.Ending.TheVariants as ending
 use Rattle.mc_typed.specs.Tree.{ResultType, NoResult, NumberResult, StructureResult}
-use Rattle.mc_steps.specs.Runs.{State, Out, Gave, Stopped, Acts, gives, after}
+use Rattle.mc_steps.specs.Runs.{State, Out, Gave, Stopped, Acts, gives}
+use Rattle.mc_steps.specs.Expressions.{as_does}
 use Rattle.mc_steps.specs.Statements.{Given}
 use Rattle.mc_steps.specs.Calls.{number_given}
 
 -- A test uses the value; a void function has none.
 abbrev pub value_given : {M E P : Type 0} → ResultType → Given P → Acts M E (Option ℤ)
 value_given NoResult v s = gives None s
-value_given (NumberResult a) v s = after (number_given v s) (λ x s. gives (Some x) s)
-value_given (StructureResult u) v s = after (number_given v s) (λ x s. gives (Some x) s)
+value_given (NumberResult a) v s = as_does Some (number_given v) s
+value_given (StructureResult u) v s = as_does Some (number_given v) s
 
 -- a call that returned: its value, and how many numbers stood in the output after it
 pub record CallDone : Type 0 where

@@ -16,7 +16,7 @@ use Rattle.mc_typing.specs.Profile.{most_summed, sum_of}
 use Rattle.mc_typing.specs.Types.{CType, ParameterKind}
 use Rattle.mc_typing.specs.Scopes.{Meaning, Scope, meaning_of}
 use Rattle.mc_typing.specs.Values.{Judged, Found, lift2}
-use Rattle.mc_typing.specs.Calls.{Given, judged_given, argument_judged, first_of, rest_of, arguments_judged, parameters_of, count_of, call_found, comma_found}
+use Rattle.mc_typing.specs.Calls.{Given, judged_given, argument_judged, first_of, rest_of, arguments_judged, parameters_of, argument_count, call_found, comma_found}
 use Rattle.mc_typing.specs.Expressions.{operator_after, operator_before, index_found, member_found, step_found, unary_found, cast_found, binary_found, conditional_found, assignment_found}
 use Rattle.mc_typing.specs.Judgement.{judge, judge_arguments, judge_specifiers, typed_by}
 use Rattle.mc_faults.specs.Kept.{listed, least}
@@ -157,7 +157,7 @@ in_conditional span a b c s x y z e f g =
 
 pub in_call : (name : t.Name) (count : ℕ) (span : Span) (given : t.Expressions) (s : Scope)
     (callee : Option Meaning) (ps : List ParameterKind) (x : Given Arguments)
-    → count ≡ count_of given → ps ≡ parameters_of callee
+    → count ≡ argument_count given → ps ≡ parameters_of callee
     → parameters_of callee ≡ parameters_of (meaning_of name s)
     → ((n : t.Name) (k : ℕ) (at : Span) (v : Given Arguments)
     → call_found n k at callee v ≡ call_found n k at (meaning_of name s) v)
@@ -166,12 +166,12 @@ pub in_call : (name : t.Name) (count : ℕ) (span : Span) (given : t.Expressions
     ≡ squeezed (judge (t.Call name given span) s)
 in_call name count span given s callee ps x h p q f e =
     ap (λ (k : ℕ). squeezed (call_found name k span callee x)) h
-    ∙ ap squeezed (f name (count_of given) span x)
+    ∙ ap squeezed (f name (argument_count given) span x)
     ∙ ap (λ (v : Given Arguments).
-    squeezed (call_found name (count_of given) span (meaning_of name s) v)) e
-    ∙ call_node name (count_of given) span (meaning_of name s) (judge_arguments given ps s)
+    squeezed (call_found name (argument_count given) span (meaning_of name s) v)) e
+    ∙ call_node name (argument_count given) span (meaning_of name s) (judge_arguments given ps s)
     ∙ ap (λ (all : List ParameterKind).
-    squeezed (call_found name (count_of given) span (meaning_of name s)
+    squeezed (call_found name (argument_count given) span (meaning_of name s)
     (judge_arguments given all s))) (p ∙ q)
 
 pub in_comma : (span : Span) (given : t.Expressions) (s : Scope) (x : Given Arguments)
@@ -235,6 +235,6 @@ none_before s y few =
     ∙ ap (λ (n : ℕ). judged_given (least y.faults) y.value n y.scope) (sum_first y.copied few)
 
 pub count_listed : (all : List written.Expression)
-    → length all ≡ count_of (expressions_from (map expression_of all))
+    → length all ≡ argument_count (expressions_from (map expression_of all))
 count_listed [] = refl
 count_listed (e ∷ rest) = omega (arith, count_listed rest)

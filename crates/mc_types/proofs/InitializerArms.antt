@@ -12,7 +12,7 @@ use Rattle.mc_typing.specs.Types.{CType}
 use Rattle.mc_typing.specs.Scopes.{Scope}
 use Rattle.mc_typing.specs.Values.{Judged, judged, lift2, Found}
 use Rattle.mc_typing.specs.Judgement.{judge}
-use Rattle.mc_typing.specs.Initializers.{Parts, braced_judged, count_of, first_part, is_zero, items_judged, judge_initializer, judge_items, later_parts, list_judged, only_expression, parts_of, single_judged, target_of, zero_judged}
+use Rattle.mc_typing.specs.Initializers.{Parts, braced_judged, item_count, first_part, is_zero, items_judged, judge_initializer, judge_items, later_parts, list_judged, only_expression, parts_of, single_judged, target_of, zero_judged}
 use Rattle.mc_faults.specs.Kept.{least}
 use Rattle.mc_scopes.specs.steps.Squeezed.{squeezed, squeezed_part}
 use Rattle.mc_scopes.proofs.Squeezed.{least_front}
@@ -41,12 +41,12 @@ later_parts_from n p =
 pub in_list : (static : Bool) (u : Option CType) (items : t.Initializers) (span : Span) (s : Scope)
     (x : Judged Initializers)
     → x ≡ squeezed_part (judge_items static (parts_of (target_of s.structures u)) items s)
-    → squeezed_part (list_judged u span.start (count_of items) x)
-    ≡ squeezed_part (list_judged u span.start (count_of items)
+    → squeezed_part (list_judged u span.start (item_count items) x)
+    ≡ squeezed_part (list_judged u span.start (item_count items)
     (judge_items static (parts_of (target_of s.structures u)) items s))
 in_list static u items span s x h =
-    one_arm squeezed_part squeezed_part (list_judged u span.start (count_of items))
-    (λ v. list_node u span.start (count_of items) v)
+    one_arm squeezed_part squeezed_part (list_judged u span.start (item_count items))
+    (λ v. list_node u span.start (item_count items) v)
     (judge_items static (parts_of (target_of s.structures u)) items s) x h
 
 -- ---- an expression alone in braces
@@ -111,11 +111,11 @@ in_braces static u v e span s x h k =
 -- a list that is not of an expression alone is judged by its items
 pub in_items : (static : Bool) (u : Option CType) (all : t.Initializers) (span : Span) (s : Scope)
     → only_expression all ≡ None
-    → squeezed_part (list_judged u span.start (count_of all)
+    → squeezed_part (list_judged u span.start (item_count all)
     (judge_items static (parts_of (target_of s.structures u)) all s))
     ≡ squeezed_part (judge_initializer static u (t.Braced all span) s)
 in_items static u all span s h =
-    sym (ap (λ (o : Option t.Expression). squeezed_part (braced_judged u span.start (count_of all)
+    sym (ap (λ (o : Option t.Expression). squeezed_part (braced_judged u span.start (item_count all)
     (option_map (λ e. judge e s) o)
     (judge_items static (parts_of (target_of s.structures u)) all s) s)) h)
 

@@ -126,7 +126,7 @@ fn list<'a>(
         let u = option_map type_of (option_copied of.entry) in
         IfOk result (λ r. judged_of initializer_of r (scope_of scope.new)
         ≡ squeezed_part (initializer_rules.list_judged u span.start
-        (initializer_rules.count_of all) (initializer_rules.judge_items is_static
+        (initializer_rules.item_count all) (initializer_rules.judge_items is_static
         (initializer_rules.parts_of (initializer_rules.target_of (scope_of scope.old).structures
         u)) all (scope_of scope.old)))) }
 {

@@ -108,9 +108,9 @@ abbrev pub parameters_of : Option Meaning → List ParameterKind
 parameters_of (Some (Function (Some f) has_body)) = f.parameters
 parameters_of _ = []
 
-abbrev pub count_of : Expressions → ℕ
-count_of tree.no_expressions = 0
-count_of (tree.expressions e rest) = count_of rest + 1
+abbrev pub argument_count : Expressions → ℕ
+argument_count tree.no_expressions = 0
+argument_count (tree.expressions e rest) = argument_count rest + 1
 
 -- a function gives nothing or a complete type (C17 6.5.2.2p1)
 abbrev pub gives : List Structure → Base → Bool

@@ -18,7 +18,7 @@ use Rattle.mc_typing.specs.Values.{Judged, judged, judged_two, lift2}
 use Rattle.mc_typing.specs.Limits.{object_limit_faults, static_limit_faults, parameter_count_faults}
 use Rattle.mc_typing.specs.Declarators.{Listed, redeclared_faults, misnamed_faults, declared_type, absent_faults, incomplete_faults}
 use Rattle.mc_typing.specs.Judgement.{typed_by, after, judge_specifiers, judge_lengths, judge_parameters}
-use Rattle.mc_typing.specs.Initializers.{count_of, judge_initializer, filled, values_of}
+use Rattle.mc_typing.specs.Initializers.{item_count, judge_initializer, filled, values_of}
 
 -- ---- storage (C17 6.2.4, 6.7.1)
 
@@ -41,7 +41,7 @@ at_least_one zero = None
 at_least_one (suc n) = Some (min (suc n) most_kept)
 
 abbrev pub count_listed : Option Initializer → Option ℕ
-count_listed (Some (tree.Braced items span)) = at_least_one (count_of items)
+count_listed (Some (tree.Braced items span)) = at_least_one (item_count items)
 count_listed _ = None
 
 -- an initializer, where there is one

@@ -198,13 +198,13 @@ member_found name span x =
 abbrev pub promoting : UnOp → Span → typed.Expression → typed.Expression
 promoting operator span e = typed.Unary operator (type_of (promote e)) (promote e) span
 
-abbrev pub unary_of : UnaryOperator → Span → typed.Expression → Option typed.Expression
-unary_of unary.Plus span e = Some (promoting un.Plus span e)
-unary_of unary.Minus span e = Some (promoting un.Minus span e)
-unary_of unary.Complement span e = Some (promoting un.Flip span e)
-unary_of unary.Not span e = Some (typed.Not e span)
-unary_of unary.Dereference span e = None
-unary_of unary.Address span e = None
+abbrev pub typed_unary : UnaryOperator → Span → typed.Expression → Option typed.Expression
+typed_unary unary.Plus span e = Some (promoting un.Plus span e)
+typed_unary unary.Minus span e = Some (promoting un.Minus span e)
+typed_unary unary.Complement span e = Some (promoting un.Flip span e)
+typed_unary unary.Not span e = Some (typed.Not e span)
+typed_unary unary.Dereference span e = None
+typed_unary unary.Address span e = None
 
 -- the operators on pointers are outside forms
 abbrev pub is_arithmetic : UnaryOperator → Bool
@@ -220,7 +220,7 @@ abbrev pub unary_found : UnaryOperator → Span → Found → Found
 unary_found operator span x =
     found false (is_arithmetic operator && x.constant)
     (judged_one (unary_faults operator span.start (kind_found x))
-    (option_map Number (option_and_then (unary_of operator span) (number_found x))) (part x))
+    (option_map Number (option_and_then (typed_unary operator span) (number_found x))) (part x))
 
 -- ---- casts (C17 6.5.4)
 
@@ -284,26 +284,26 @@ abbrev pub shifting : Operator → Span → typed.Expression → typed.Expressio
 shifting operator span e f = typed.Binary operator (type_of (promote e)) (promote e) (promote f)
     span
 
-abbrev pub binary_of : BinaryOperator → Span → typed.Expression → typed.Expression
+abbrev pub typed_binary : BinaryOperator → Span → typed.Expression → typed.Expression
     → typed.Expression
-binary_of binary.Multiply = in_common_type op.Mul
-binary_of binary.Divide = in_common_type op.Div
-binary_of binary.Remainder = in_common_type op.Rem
-binary_of binary.Add = in_common_type op.Add
-binary_of binary.Subtract = in_common_type op.Sub
-binary_of binary.ShiftLeft = shifting (Shift shift.Left)
-binary_of binary.ShiftRight = shifting (Shift shift.Right)
-binary_of binary.Less = in_common_type op.Lt
-binary_of binary.Greater = in_common_type op.Gt
-binary_of binary.LessOrEqual = in_common_type op.Le
-binary_of binary.GreaterOrEqual = in_common_type op.Ge
-binary_of binary.Equal = in_common_type op.Eq
-binary_of binary.Unequal = in_common_type op.Ne
-binary_of binary.BitAnd = in_common_type op.And
-binary_of binary.BitXor = in_common_type op.Xor
-binary_of binary.BitOr = in_common_type op.Or
-binary_of binary.And = λ span e f. typed.Logic And e f span
-binary_of binary.Or = λ span e f. typed.Logic Or e f span
+typed_binary binary.Multiply = in_common_type op.Mul
+typed_binary binary.Divide = in_common_type op.Div
+typed_binary binary.Remainder = in_common_type op.Rem
+typed_binary binary.Add = in_common_type op.Add
+typed_binary binary.Subtract = in_common_type op.Sub
+typed_binary binary.ShiftLeft = shifting (Shift shift.Left)
+typed_binary binary.ShiftRight = shifting (Shift shift.Right)
+typed_binary binary.Less = in_common_type op.Lt
+typed_binary binary.Greater = in_common_type op.Gt
+typed_binary binary.LessOrEqual = in_common_type op.Le
+typed_binary binary.GreaterOrEqual = in_common_type op.Ge
+typed_binary binary.Equal = in_common_type op.Eq
+typed_binary binary.Unequal = in_common_type op.Ne
+typed_binary binary.BitAnd = in_common_type op.And
+typed_binary binary.BitXor = in_common_type op.Xor
+typed_binary binary.BitOr = in_common_type op.Or
+typed_binary binary.And = λ span e f. typed.Logic And e f span
+typed_binary binary.Or = λ span e f. typed.Logic Or e f span
 
 abbrev pub operands_faults : ℕ → Option Kind → Option Kind → List Fault
 operands_faults at k l = fault_if (fails is_integer k || fails is_integer l) Mismatch at
@@ -312,7 +312,7 @@ abbrev pub binary_found : BinaryOperator → Span → Found → Found → Found
 binary_found operator span x y =
     found false (x.constant && y.constant)
     (judged_two (operands_faults span.start (kind_found x) (kind_found y))
-    (option_map Number (lift2 (binary_of operator span) (number_found x) (number_found y)))
+    (option_map Number (lift2 (typed_binary operator span) (number_found x) (number_found y)))
     (part x) (part y))
 
 -- ---- `?:` (C17 6.5.15)

@@ -108,9 +108,9 @@ single_judged static u at x =
 
 -- ---- a list
 
-abbrev pub count_of : Initializers → ℕ
-count_of tree.no_initializers = 0
-count_of (tree.initializers one rest) = count_of rest + 1
+abbrev pub item_count : Initializers → ℕ
+item_count tree.no_initializers = 0
+item_count (tree.initializers one rest) = item_count rest + 1
 
 -- how many items fit
 abbrev pub room_of : Target → Option ℕ
@@ -189,7 +189,7 @@ abbrev mutual
   judge_initializer static u (tree.Single e) s =
       single_judged static u (span_of e).start (judge e s)
   judge_initializer static u (tree.Braced items span) s =
-      braced_judged u span.start (count_of items)
+      braced_judged u span.start (item_count items)
       (option_map (λ e. judge e s) (only_expression items))
       (judge_items static (parts_of (target_of s.structures u)) items s) s
 

@@ -11,7 +11,7 @@ use Rattle.mc_typing.specs.Types.{CType, Member, ParameterKind, has_type, type_o
 use Rattle.mc_typing.specs.Scopes.{Scope, meaning_of, tag_of, prototype, with_objects_of}
 use Rattle.mc_typing.specs.Values.{Judged, judged, judged_two, Found}
 use Rattle.mc_typing.specs.Expressions.{name_found, constant_literal, character_literal, index_found, member_found, step_found, operator_after, operator_before, unary_found, cast_found, binary_found, conditional_found, assignment_found}
-use Rattle.mc_typing.specs.Calls.{Given, judged_given, argument_judged, first_of, rest_of, no_more, arguments_judged, parameters_of, count_of, call_found, comma_found}
+use Rattle.mc_typing.specs.Calls.{Given, judged_given, argument_judged, first_of, rest_of, no_more, arguments_judged, parameters_of, argument_count, call_found, comma_found}
 use Rattle.mc_typing.specs.Declarators.{Listed, after_faults, typedef_type, structure_tag, used_enumeration_tag, opened, structure_judged, enumeration_scope, enumeration_faults, enumeration_judged, enumerator_judged, valued_enumerator_judged, lengths_judged, member_listed, function_member_listed, name_start, parameter_listed, joined, listed_none}
 
 -- the type of specifiers, by what is found of the one that is no word; what is read has a type
@@ -45,7 +45,7 @@ abbrev mutual
   judge (tree.Character v span) s = character_literal v span s
   judge (tree.Parenthesized inner span) s = judge inner s
   judge (tree.Call name given span) s =
-      call_found name (count_of given) span (meaning_of name s)
+      call_found name (argument_count given) span (meaning_of name s)
       (judge_arguments given (parameters_of (meaning_of name s)) s)
   judge (tree.Index a b span) s = let x = judge a s in index_found span x (judge b x.scope)
   judge (tree.Member a name span) s = member_found name span (judge a s)

@@ -43,13 +43,13 @@ member_limit_faults before all (Some u) at =
     fault_if (is_long u.lengths || is_large_member before (layout_of all u)) Limit at
 
 -- the first object with which all objects with static storage duration pass the limit, and one that
--- has no number
+-- has no number, which a source of 1,048,576 bytes is too short for: this part never decides there
 abbrev pub static_limit_faults : ℕ → ℕ → ObjectType → ℕ → List Fault
 static_limit_faults before count u at =
     fault_if (is_passed_with most_static_cells before (cells u) || nat_le most_numbered count)
     Limit at
 
--- the cells of a frame, and its objects where some have no number
+-- the cells of a frame, and its objects where some have no number, for which a source is too short
 abbrev pub frame_faults : ℕ → ℕ → ℕ → List Fault
 frame_faults frame count at =
     fault_if (nat_lt most_frame_cells frame || nat_lt most_numbered count) Limit at

@@ -1,11 +1,11 @@
 -- Short texts and their decisions, which were read off by hand.
 use Rattle.std.specs.Prelude.{List, [], ◌∷◌, true, false}
 use Rattle.mc_value.specs.declared.int_type.IntType.TheVariants.{Int}
-use Rattle.mc_value.specs.declared.operators.BinOp.TheVariants.{Add, Div, Eq, Ge, Gt, Le, Lt, Ne, Sub}
+use Rattle.mc_value.specs.declared.operators.BinOp.TheVariants.{Add, And, Div, Eq, Ge, Gt, Le, Lt, Ne, Or, Sub, Xor}
 use Rattle.mc_typed.specs.Tree as t
 use Rattle.mc_cond.specs.Tree.{Leaf}
 use Rattle.mc_cond.specs.Tree as c
-use Rattle.tests_decide.specs.Samples.{and_of, assigned, binary, block, call_after_array, call_of, call_with, cast, choice, constant, declared, do_of, effect, element, empty, evaluated, for_declared, for_of, if_else, if_of, implied, item, list_of, member, minus, name, named, not_of, number_call, object, or_of, parameter, read, returned, Row, slot, span, structure_of, switch_of, told, updated, value_of, while_of, whole}
+use Rattle.tests_decide.specs.Samples.{and_of, assigned, binary, block, call_after_array, call_of, call_with, cast, choice, constant, declared, do_of, effect, element, empty, evaluated, flag, flag_call_with, flag_cast, for_declared, for_of, if_else, if_of, implied, item, list_of, member, minus, name, named, not_of, number_call, object, or_of, parameter, read, returned, Row, slot, span, structure_of, switch_of, told, updated, value_of, while_of, whole}
 
 -- operators, objects and `return`
 abbrev pub expressions : List Row
@@ -317,6 +317,90 @@ statements =
     ∷ record {
       body = empty ∷ t.Break (span 1 7) ∷ t.Continue (span 7 16) ∷ t.Return t.ReturnNothing (span
           16 23) ∷ [];
+      decisions = [];
+    }
+    ∷ []
+
+-- operators that are evaluated in full
+abbrev pub full_operators : List Row
+full_operators =
+    -- `(a<b^c<d)&&e`
+    record {
+      body = returned (and_of (binary Xor (binary Lt (name 1) (name 3) 1 4) (binary Lt (name 5)
+          (name 7) 5 8) 1 8) (name 11) 0 12) ∷ [];
+      decisions = told 0 12 (c.And (c.FullXor (Leaf 0) (Leaf 1)) (Leaf 2)) (span 1 4 ∷ span 5 8 ∷
+          span 11 12 ∷ []) ∷ [];
+    }
+    -- `(a<b)&(c<d)`
+    ∷ record {
+      body = returned (binary And (binary Lt (name 1) (name 3) 1 4) (binary Lt (name 7) (name 9) 7
+          10) 0 11) ∷ [];
+      decisions = told 0 11 (c.FullAnd (Leaf 0) (Leaf 1)) (span 1 4 ∷ span 7 10 ∷ []) ∷ [];
+    }
+    -- `!(a<b|c<d);`
+    ∷ record {
+      body = evaluated (not_of (binary Or (binary Lt (name 2) (name 4) 2 5) (binary Lt (name 6)
+          (name 8) 6 9) 2 9) 0 10) ∷ [];
+      decisions = told 0 10 (c.Not (c.FullOr (Leaf 0) (Leaf 1))) (span 2 5 ∷ span 6 9 ∷ []) ∷ [];
+    }
+    -- `p|q`, of type _Bool
+    ∷ record {
+      body = returned (binary Or (flag 0) (flag 2) 0 3) ∷ [];
+      decisions = told 0 3 (c.FullOr (Leaf 0) (Leaf 1)) (span 0 1 ∷ span 2 3 ∷ []) ∷ [];
+    }
+    -- `f(a)^(_Bool)b;` with a function that returns a _Bool
+    ∷ record {
+      body = evaluated (binary Xor (flag_call_with (name 2) 0 4) (flag_cast (name 12) 5 13) 0 13)
+          ∷ [];
+      decisions = told 0 13 (c.FullXor (Leaf 0) (Leaf 1)) (span 0 4 ∷ span 5 13 ∷ []) ∷ [];
+    }
+    -- `a&b`
+    ∷ record {
+      body = returned (binary And (name 0) (name 2) 0 3) ∷ [];
+      decisions = [];
+    }
+    -- `p&b`, one of type _Bool
+    ∷ record {
+      body = returned (binary And (flag 0) (name 2) 0 3) ∷ [];
+      decisions = [];
+    }
+    -- `(a<b)&c`
+    ∷ record {
+      body = returned (binary And (binary Lt (name 1) (name 3) 1 4) (name 6) 0 7) ∷ [];
+      decisions = whole 1 4 ∷ [];
+    }
+    -- `if(a&b)c;`
+    ∷ record {
+      body = if_of (binary And (name 3) (name 5) 3 6) (evaluated (name 7)) ∷ [];
+      decisions = whole 3 6 ∷ [];
+    }
+    -- `(a<b&c<d)==e`
+    ∷ record {
+      body = returned (binary Eq (binary And (binary Lt (name 1) (name 3) 1 4) (binary Lt (name 5)
+          (name 7) 5 8) 1 8) (name 11) 0 12) ∷ [];
+      decisions = whole 0 12 ∷ told 1 8 (c.FullAnd (Leaf 0) (Leaf 1)) (span 1 4 ∷ span 5 8 ∷ []) ∷
+          [];
+    }
+    -- `t&=a<b;`
+    ∷ record {
+      body = effect (updated (object 0) And (binary Lt (name 3) (name 5) 3 6) 0 6) ∷ [];
+      decisions = whole 3 6 ∷ [];
+    }
+    -- `1&(a<b)`
+    ∷ record {
+      body = returned (binary And (constant 0) (binary Lt (name 3) (name 5) 3 6) 0 7) ∷ [];
+      decisions = whole 3 6 ∷ [];
+    }
+    -- `1<1&a<b`
+    ∷ record {
+      body = returned (binary And (binary Lt (constant 0) (constant 2) 0 3) (binary Lt (name 4)
+          (name 6) 4 7) 0 7) ∷ [];
+      decisions = told 0 7 (c.FullAnd (Leaf 0) (Leaf 1)) (span 0 3 ∷ span 4 7 ∷ []) ∷ [];
+    }
+    -- `while(1<1&!1);`
+    ∷ record {
+      body = while_of (binary And (binary Lt (constant 6) (constant 8) 6 9) (not_of (constant 11) 10
+          12) 6 12) empty ∷ [];
       decisions = [];
     }
     ∷ []

@@ -1,7 +1,7 @@
 -- Typed trees of short texts. Each name is one letter; places are those of the text's bytes.
-use Rattle.std.specs.Prelude.{ℕ, ◌+◌, pos, List, [], ◌∷◌, Option, Some, None, true, false}
+use Rattle.std.specs.Prelude.{ℕ, ◌+◌, pos, List, [], ◌∷◌, Some, None, true, false}
 use Rattle.mc_span.specs.declared.span.Span.{Span}
-use Rattle.mc_value.specs.declared.int_type.IntType.TheVariants.{Int, Long}
+use Rattle.mc_value.specs.declared.int_type.IntType.TheVariants.{Bool, Int, Long}
 use Rattle.mc_value.specs.declared.operators.BinOp.{BinOp}
 use Rattle.mc_value.specs.declared.operators.UnOp.TheVariants as unary
 use Rattle.mc_typed.specs.declared.expressions.Slot.{Slot}
@@ -69,6 +69,14 @@ cast e start end = t.Convert Long true e (span start end)
 abbrev pub implied : Expression → ℕ → ℕ → Expression
 implied e start end = t.Convert Long false e (span start end)
 
+-- an object of type _Bool, promoted
+abbrev pub flag : ℕ → Expression
+flag at = t.Convert Int false (t.Read (object at) Bool) (span at (at + 1))
+
+abbrev pub flag_cast : Expression → ℕ → ℕ → Expression
+flag_cast e start end =
+    t.Convert Int false (t.Convert Bool true e (span start end)) (span start end)
+
 abbrev pub choice : Expression → Expression → Expression → ℕ → ℕ → Expression
 choice e f g start end = t.Choice e f g Int (span start end)
 
@@ -94,6 +102,11 @@ value_of k = t.Call k Int
 
 abbrev pub call_with : Expression → ℕ → ℕ → Expression
 call_with e start end = value_of (number_call e start end)
+
+-- the same of a function that returns a _Bool, promoted
+abbrev pub flag_call_with : Expression → ℕ → ℕ → Expression
+flag_call_with e start end =
+    t.Convert Int false (t.Call (number_call e start end) Bool) (span start end)
 
 -- ---- statements, whose own places play no part
 

@@ -1,7 +1,7 @@
 //! Decisions of short functions, by the definition. The functions do nothing: each has a law as its
 //! contract. Roots, conditions and places were read off the texts by hand.
 ghost use Rattle.tests_decide.specs.Samples.{AreRight};
-ghost use Rattle.tests_decide.specs.Rows.{calls, constants, effects, expressions, initial_values, statements};
+ghost use Rattle.tests_decide.specs.Rows.{calls, constants, effects, expressions, full_operators, initial_values, statements};
 
 /// Operators, operands, objects and what is returned.
 pub fn decisions_of_expressions()
@@ -26,6 +26,11 @@ pub fn decisions_of_initial_values()
 /// Controlling expressions, and statements in statements.
 pub fn decisions_of_statements()
     ensures { AreRight statements }
+{}
+
+/// `&`, `|` and `^`, between Boolean operands and other ones.
+pub fn decisions_of_full_operators()
+    ensures { AreRight full_operators }
 {}
 
 /// Integer constant expressions, alone and as parts.

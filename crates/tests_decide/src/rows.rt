@@ -56,6 +56,51 @@ void f(int a,int b){for(int i=a<b;i;i--)b=i!=1;}@0@30:a<b 0 30:a<b;0@34:i 0 34:i
 void f(int a,int b){for(;;)if(a)break;else{b=a>1;}}@0@30:a 0 30:a;0@45:a>1 0 45:a>1;
 int f(int a,int b){switch(a||b){default:return a&&b;}}@0@26:a||b (0|1) 26:a 29:b;0@47:a&&b (0&1) 47:a 50:b;
 int f(int a){return !a;}int g(void){return 1;}int h(int a){if(a)return 1;return 0;}@0@20:!a !0 21:a;2@62:a 0 62:a;
+# operators that are evaluated in full, between Boolean operands
+int f(int a,int b,int c){return (a<1^b<1)&&c;}@0@32:(a<1^b<1)&&c ((0 xor 1)&2) 33:a<1 37:b<1 43:c;
+int f(int a,int b){return (a<1)&(b<1);}@0@26:(a<1)&(b<1) (0 and 1) 27:a<1 33:b<1;
+int f(int a,int b){return a==1|b!=1;}@0@26:a==1|b!=1 (0 or 1) 26:a==1 31:b!=1;
+int f(int a,int b){return ((a<1)^((b<1)));}@0@27:(a<1)^((b<1)) (0 xor 1) 28:a<1 35:b<1;
+int f(int a,int b,int c){return a<1&b<1|b<1^c<1;}@0@32:a<1&b<1|b<1^c<1 ((0 and 1) or (2 xor 3)) 32:a<1 36:b<1 40:b<1 44:c<1;
+int f(int a,int b,int c){return a<1&b<1&c<1;}@0@32:a<1&b<1&c<1 ((0 and 1) and 2) 32:a<1 36:b<1 40:c<1;
+int f(int a,int b,int c){return a<1|(b<1|c<1);}@0@32:a<1|(b<1|c<1) (0 or (1 or 2)) 32:a<1 37:b<1 41:c<1;
+int f(int a,int b,int c){return (a&&b)|(b||c);}@0@32:(a&&b)|(b||c) ((0&1) or (2|3)) 33:a 36:b 40:b 43:c;
+int f(int a,int b){return !(a<1&b<1);}@0@26:!(a<1&b<1) !(0 and 1) 28:a<1 32:b<1;
+int f(int a,int b){return !a&!b;}@0@26:!a&!b (!0 and !1) 27:a 30:b;
+int f(int a,int b){int y=a<1|b<1;return y+(a<2^b<2);}@0@25:a<1|b<1 (0 or 1) 25:a<1 29:b<1;0@43:a<2^b<2 (0 xor 1) 43:a<2 47:b<2;
+int f(int a,int b){if(a<1&b<1)return 1;while(a<1^b<1)a++;return 0;}@0@22:a<1&b<1 (0 and 1) 22:a<1 26:b<1;0@45:a<1^b<1 (0 xor 1) 45:a<1 49:b<1;
+int f(int a,int b,int c){return a<1|b<1?c:b;}@0@32:a<1|b<1 (0 or 1) 32:a<1 36:b<1;
+# in conditions, operands and arguments
+int f(int a,int b,int c){return (a<1&b<1)==c;}@0@32:(a<1&b<1)==c 0 32:(a<1&b<1)==c;0@33:a<1&b<1 (0 and 1) 33:a<1 37:b<1;
+int g(int v){return v;}int f(int a,int b){return g(a<1&b<1)&&a;}@1@49:g(a<1&b<1)&&a (0&1) 49:g(a<1&b<1) 61:a;1@51:a<1&b<1 (0 and 1) 51:a<1 55:b<1;
+int f(int a,int b){int t[2]={0};return t[a<1|b<1]<a^b<1;}@0@39:t[a<1|b<1]<a^b<1 (0 xor 1) 39:t[a<1|b<1]<a 52:b<1;0@41:a<1|b<1 (0 or 1) 41:a<1 45:b<1;
+# objects of type _Bool, calls and casts
+int f(_Bool a,_Bool b){return a|b;}@0@30:a|b (0 or 1) 30:a 32:b;
+int f(_Bool a,int b){return a&b<1;}@0@28:a&b<1 (0 and 1) 28:a 30:b<1;
+struct S{_Bool p;_Bool q[2];};int f(void){struct S s={1};return s.p^s.q[1];}@0@64:s.p^s.q[1] (0 xor 1) 64:s.p 68:s.q[1];
+_Bool g(int v){return v;}int f(int a){return g(a)&g(1);}@1@45:g(a)&g(1) (0 and 1) 45:g(a) 50:g(1);
+int f(int a,int b){return (_Bool)a^(_Bool)b;}@0@26:(_Bool)a^(_Bool)b (0 xor 1) 26:(_Bool)a 35:(_Bool)b;
+void f(_Bool a,_Bool b){a=a&b;}@0@26:a&b (0 and 1) 26:a 28:b;
+# operands that are not both Boolean, and compound assignments
+int f(int a,int b){return a&b;}@
+int f(_Bool a,int b){return a&b;}@
+int f(int a,int b,int c){return (a<b)&c;}@0@33:a<b 0 33:a<b;
+int f(int a,int b,int c){return c^(a&&b);}@0@35:a&&b (0&1) 35:a 38:b;
+int f(int a,int b,int c){return (a<b&c)|b<c;}@0@33:a<b 0 33:a<b;0@40:b<c 0 40:b<c;
+int f(int a,int b,int c){return (a<b&c)&&b;}@0@32:(a<b&c)&&b (0&1) 33:a<b&c 41:b;0@33:a<b 0 33:a<b;
+int f(int a,int b){if(a&b)return 1;return 0;}@0@22:a&b 0 22:a&b;
+int f(int a,int b){return (int)(a<b)&b<3;}@0@32:a<b 0 32:a<b;0@37:b<3 0 37:b<3;
+int f(_Bool a,_Bool b){return +a&b;}@
+int f(_Bool a,_Bool b){return (a?a:b)&b;}@0@31:a 0 31:a;
+int f(int a,int b){return (a<b)+(b<3)&a<3;}@0@27:a<b 0 27:a<b;0@33:b<3 0 33:b<3;0@38:a<3 0 38:a<3;
+void f(int a,int b){a&=a<b;}@0@23:a<b 0 23:a<b;
+void f(_Bool a,_Bool b){a^=b;}@
+void f(_Bool a,int b){a|=b<1&b<2;}@0@25:b<1&b<2 (0 and 1) 25:b<1 29:b<2;
+# and constants
+int f(int a,int b){return 1&(a<b);}@0@29:a<b 0 29:a<b;
+int f(int a,int b){return (1<2)&(a<b);}@0@26:(1<2)&(a<b) (0 and 1) 27:1<2 33:a<b;
+int f(void){return (1<2)&(2<3);}@
+void f(void){while((1<2)^!1);}@
 # integer constant expressions are none
 void f(void){while(1){}}@
 void f(int a){if(0)a=1;while(1/1-1);while(1/0);}@
@@ -114,7 +159,7 @@ pub type LargeRow = (
 );
 
 /// Decisions of many operators.
-pub static LARGE: [LargeRow; 7] = [
+pub static LARGE: [LargeRow; 9] = [
     ("int f(int a){return ", "!", 189, "a;}", "T=F;F=T;"),
     ("int f(int a){return ", "!", 190, "a;}", "T=T;F=F;"),
     ("int f(int a){return ", "a&&", 63, "a;}", "65;"),
@@ -146,10 +191,22 @@ pub static LARGE: [LargeRow; 7] = [
         "(a||b);}",
         "too many paths 8191;",
     ),
+    ("int f(int a){return ", "a<1^", 11, "a<1;}", "4096;"),
+    (
+        "int f(int a){return ",
+        "a<1^",
+        12,
+        "a<1;}",
+        "too many paths 8192;",
+    ),
 ];
 
 /// Sources and the vectors of their decisions, in the order of their numbers, after `@`.
 pub static VECTORS: &str = "\
 int f(int a,int b,int c){return !(a&&b)||c;}@TTT=T;TTF=F;TF-=T;F--=T;
 int f(int a,int b,int c){return (a&&b)||(a&&c);}@TT--=T;TFTT=T;TFTF=F;TFF-=F;F-TT=T;F-TF=F;F-F-=F;
+int f(int a,int b,int c){return (a<1^b<1)&&c;}@TT-=F;TFT=T;TFF=F;FTT=T;FTF=F;FF-=F;
+int f(int a,int b){return (a<1)&(b<1);}@TT=T;TF=F;FT=F;FF=F;
+int f(int a,int b){return !(a<1|b<1);}@TT=F;TF=F;FT=F;FF=T;
+int f(int a,int b,_Bool c){return (a&&b)|c;}@TTT=T;TTF=T;TFT=T;TFF=F;F-T=T;F-F=F;
 ";

@@ -15,6 +15,8 @@ mod fail;
 #[cfg(test)]
 mod faults;
 #[cfg(test)]
+mod full;
+#[cfg(test)]
 mod generated;
 #[cfg(test)]
 mod large;

@@ -7,6 +7,7 @@ pub mod RulesOfValues
 pub mod RulesOfStatements
 pub mod RulesOfInitializers
 pub mod RulesOfOperators
+pub mod RulesOfFullOperators
 pub mod RulesOfOrder
 pub mod RulesOfCompleting
 pub mod RulesOfEndings

@@ -16,7 +16,7 @@ use Rattle.mc_steps.specs.Runs as runs
 use Rattle.mc_steps.specs.Expressions.{output_does}
 use Rattle.mc_steps.specs.Events.{Event, Entered, Exited, Started, Chosen}
 use Rattle.mc_meaning.specs.Tests.{plain_state}
-use Rattle.tests_meaning.specs.Words.{here, slot, local, object, int, read, var, num, two, member, args, call, nums, does, set, add, value, gives, when, while, plain, declares, function, of_ints, ints, program, block, select, case, default, stop}
+use Rattle.tests_meaning.specs.Words.{here, slot, local, object, int, read, var, num, two, member, args, call, nums, does, set, add, gives, when, while, plain, declares, function, of_ints, ints, program, block, select, case, default, stop}
 use Rattle.tests_meaning.specs.RulesOfValues.{pair, with_pairs}
 use Rattle.tests_meaning.specs.Seen.{Row, calls, one_call, gave, stopped, trapped, evaluated, T, F}
 

@@ -9,7 +9,7 @@ use Rattle.mc_typed.specs.Layout.{Scalar, Array}
 use Rattle.mc_typed.specs.Tree.{Expression, Function, Program}
 use Rattle.mc_typed.specs.Tree as typed
 use Rattle.mc_steps.specs.Events.{Event, Entered, Exited, Started, Chosen}
-use Rattle.tests_meaning.specs.Words.{here, slot, local, object, int, read, var, num, two, choice, item, member, call, called, does, set, add, value, gives, when, plain, with_list, declares, function, of_ints, ints, program, select, case, default}
+use Rattle.tests_meaning.specs.Words.{here, slot, local, object, int, read, var, num, two, choice, item, member, call, called, does, set, add, gives, when, plain, with_list, declares, function, of_ints, ints, program, select, case, default}
 use Rattle.tests_meaning.specs.RulesOfValues.{pair, with_pairs}
 use Rattle.tests_meaning.specs.Seen.{Row, Seen, calls, one_call, gave, trapped, evaluated, T, F}
 

@@ -5,6 +5,7 @@ ghost use Rattle.mc_meaning.specs.Tests.{plain_run};
 ghost use Rattle.tests_meaning.specs.Seen.{Hold, one_call};
 ghost use Rattle.tests_meaning.specs.Flap as flap;
 ghost use Rattle.tests_meaning.specs.Rows as rows;
+ghost use Rattle.tests_meaning.specs.RulesOfFullOperators as full_operators;
 ghost use Rattle.tests_meaning.specs.RulesOfInitializers as initializers;
 ghost use Rattle.tests_meaning.specs.RulesOfOperators as operators;
 ghost use Rattle.tests_meaning.specs.RulesOfOrder as order;
@@ -67,6 +68,14 @@ pub fn states_of_tests()
 /// What each operator gives, and where it traps; shifts, comparisons and conversions.
 pub fn rules_of_operators()
     ensures { Hold operators.rows }
+{}
+
+/// Operators that are evaluated in full: the value of each on its operands, how they stand with other
+/// operators of a decision, and which operands are Boolean.
+pub fn rules_of_full_operators()
+    ensures values { Hold full_operators.value_rows }
+    ensures nested { Hold full_operators.nested_rows }
+    ensures operands { Hold full_operators.operand_rows }
 {}
 
 /// In which order parts are evaluated, and how decisions are numbered.

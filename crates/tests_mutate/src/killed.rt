@@ -9,6 +9,7 @@ static ROWS: &str = "\
 int f(int a,int b){return a&&b;}@$t1,f,1 1,,1,$t2,f,1 0,,0,$t3,f,0 1,,0,@1 2 3 5 8 9 12 13 16 18 of 21
 int f(int a,int b){return a&&b;}@$t1,f,1 1,,1,$t2,f,0 0,,0,@2 6 8 12 of 14
 void mcdc_out(int v);int f(int a){while(a>0){mcdc_out(a);a--;}return 0;}@$t1,f,1,,0,1$t2,f,0,,0,none@0 1 2 3 4 6 7 of 8
+int f(_Bool a,_Bool b){return a^b;}@$t1,f,1 1,,0,$t2,f,1 0,,1,@0 2 3 6 7 8 9 11 12 of 14
 int f(int a,int b){return a+b;}@$t1,f,1 1,,2,@of 0
 int f(int a,int b){return a&&b;}@@of 0";
 

@@ -19,6 +19,17 @@ int f(long a){if(a)return 1;return 0;}@{if(v0)return 1[26-27];return 0[35-36];}@
     @v0@(v0||1[17-18])[17-18]@v0@(v0&&0[17-18])[17-18]
 long f(int a){return !a;}@{return (Long)!v0[21-23];}@v0@!v0[22-23]@v0@(v0||1[22-23])[22-23]\
     @v0@(v0&&0[22-23])[22-23]
+# operators that are evaluated in full; an inserted operator is of type int, and is not promoted
+int f(int a,int b){return (a<b)&(a==b);}@{return ((v0<v1)&(v0==v1));}@&@|\
+    @(v0<v1)@!(v0<v1)[27-30]@(v0<v1)@((v0<v1)||1[27-30])[27-30]\
+    @(v0<v1)@((v0<v1)&&0[27-30])[27-30]@<@<=@(v0==v1)@!(v0==v1)[33-37]\
+    @(v0==v1)@((v0==v1)||1[33-37])[33-37]@(v0==v1)@((v0==v1)&&0[33-37])[33-37]@==@!=
+int f(_Bool a,int b){return a|b>0;}@{return ((Int)v0|(v1>0[32-33]));}@|@&@(Int)v0@!v0[28-29]\
+    @(Int)v0@(v0||1[28-29])[28-29]@(Int)v0@(v0&&0[28-29])[28-29]@(v1>0[32-33])@!(v1>0[32-33])[30-33]\
+    @(v1>0[32-33])@((v1>0[32-33])||1[30-33])[30-33]@(v1>0[32-33])@((v1>0[32-33])&&0[30-33])[30-33]@>@>=
+int f(_Bool a,_Bool b){return a^b;}@{return ((Int)v0^(Int)v1);}@^@|@(Int)v0@!v0[30-31]\
+    @(Int)v0@(v0||1[30-31])[30-31]@(Int)v0@(v0&&0[30-31])[30-31]@(Int)v1@!v1[32-33]\
+    @(Int)v1@(v1||1[32-33])[32-33]@(Int)v1@(v1&&0[32-33])[32-33]
 # the outer decision comes before the inner ones
 int f(int p,int q,int r,int s){return (p<q) == (r<s);}@{return ((v0<v1)==(v2<v3));}\
     @((v0<v1)==(v2<v3))@!((v0<v1)==(v2<v3))[38-52]\

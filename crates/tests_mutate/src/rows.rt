@@ -16,6 +16,13 @@ int f(int a){return !!a;}@N22;T22;F22;
 int f(int a,int b){return a<b;}@N26;T26;F26;S26;
 int f(int a,int b){return a<b&&a<=b&&a>b&&a>=b&&a==b&&a!=b;}@E26;E26;E26;E26;E26;N26;T26;F26;S26;N31;T31;F31;S31;N37;T37;F37;S37;N42;T42;F42;S42;N48;T48;F48;S48;N54;T54;F54;S54;
 int f(int a,int b){if(a<<b)return 1;return 0;}@N22;T22;F22;
+# operators that are evaluated in full are nodes, where both operands are Boolean
+int f(int a,int b){return (a<b)&(a==b);}@E26;N27;T27;F27;S27;N33;T33;F33;S33;
+int f(int a,int b){return (a<b)|(a==b);}@E26;N27;T27;F27;S27;N33;T33;F33;S33;
+int f(_Bool a,_Bool b){return a^b;}@E30;N30;T30;F30;N32;T32;F32;
+int f(int a,int b,int c){return ((a<b)^(b<c))&(a<c);}@E32;E33;N34;T34;F34;S34;N40;T40;F40;S40;N47;T47;F47;S47;
+int f(_Bool a,int b,int c){return a|!(b^c)&&b;}@E34;E34;N34;T34;F34;N38;T38;F38;N44;T44;F44;
+int f(int a,int b){return (a<b)&a;}@N27;T27;F27;S27;
 # conversions and casts on top are no relations
 int f(int a){long x=1;if((int)x)return a;return 0;}@N25;T25;F25;
 # decisions in a condition come after the decision around them

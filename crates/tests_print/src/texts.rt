@@ -114,6 +114,37 @@ fn decisions_and_a_switch(rt: HostRuntime) {
     assert!(rt; is_text(rt.alloc(), source, text));
 }
 
+// `&` and `^` between Boolean operands are of the tree; `|` beside a number that is none is of a condition. What a condition
+// adds where it is false is the room of what comes after it: 2 and 1 under `&`, and 4, 2 and 1 under `^` and `&&`.
+#[test]
+fn operators_evaluated_in_full(rt: HostRuntime) {
+    let source = "int f(_Bool a,int b,int c){if(a&b<1|c)return 1;return (a^b<1)&&!c;}";
+    let text = "int f ( _Bool a , int b , int c ) {\n\
+    unsigned mcdc_r [ 3 ] ;\n\
+    MCDC_H ( 0 ) ;\n\
+    {\n\
+    MCDC_H ( 3 ) ;\n\
+    if ( MCDC_D ( 0 , 6 , MCDC_C ( 0 , 0 , 1 , MCDC_D ( 1 , 8 , MCDC_C ( 1 , 0 , 2 , a ) & MCDC_C ( 1 , 0 , 1 , b < 1 ) ) | c ) ) ) {\n\
+    MCDC_H ( 4 ) ;\n\
+    {\n\
+    int mcdc_v = 1 ;\n\
+    MCDC_H ( 1 ) ;\n\
+    return mcdc_v ;\n\
+    }\n\
+    }\n\
+    }\n\
+    {\n\
+    MCDC_H ( 5 ) ;\n\
+    {\n\
+    int mcdc_v = MCDC_D ( 2 , 12 , ( MCDC_C ( 2 , 0 , 4 , a ) ^ MCDC_C ( 2 , 0 , 2 , b < 1 ) ) && ! MCDC_C ( 2 , 0 , 1 , c ) ) ;\n\
+    MCDC_H ( 2 ) ;\n\
+    return mcdc_v ;\n\
+    }\n\
+    }\n\
+    }\n";
+    assert!(rt; is_text(rt.alloc(), source, text));
+}
+
 // Without a `default`: its probe stands after the `switch`.
 #[test]
 fn labels_on_each_other(rt: HostRuntime) {

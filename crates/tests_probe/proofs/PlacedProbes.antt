@@ -3,7 +3,7 @@ use Rattle.std.proofs.Common.{◌≡◌, ◌∙◌, ℕ, suc, ◌+◌, Bool, tru
 use Rattle.std.proofs.lemmas.List.{length-append}
 use Rattle.mc_span.specs.declared.span.Span.{Span}
 use Rattle.mc_typed.specs.Tree as t
-use Rattle.mc_roots.specs.declared.role.Role.TheVariants.{Test, Plain}
+use Rattle.mc_roots.specs.declared.role.Role.TheVariants.{Controlling, Plain}
 use Rattle.mc_roots.specs.Nodes as n
 use Rattle.mc_roots.specs.Counts.{roots, roots_in}
 use Rattle.mc_steps.specs.Points.{Points, no_points, ◌⊕◌, where_counted, where_absent, points_of, points_of_all, points_of_function, all_complete, has_default, initializes}
@@ -38,7 +38,7 @@ declared_length span true = refl
 declared_length span false = refl
 
 mutual
-  statement_length : (s : t.Statement) → length (places.counted s) ≡ (points_of s).statements
+  statement_length : (s : t.Statement) → length (places.counted_spans s) ≡ (points_of s).statements
   statement_length (t.Compound items span) = items_length items
   statement_length (t.Label v span) = refl
   statement_length (t.Declaration declarators span) = declared_length span (initializes declarators)
@@ -46,7 +46,7 @@ mutual
   statement_length (t.EffectStatement effect span) = refl
   statement_length (t.If e s keyword span) = omega (arith, statement_length s)
   statement_length (t.IfElse e s u keyword span) =
-      omega (arith, length-append (places.counted s) (places.counted u), statement_length s, statement_length u)
+      omega (arith, length-append (places.counted_spans s) (places.counted_spans u), statement_length s, statement_length u)
   statement_length (t.Switch e items keyword span) =
       omega (arith, items_length items, no_statement (has_default items))
   statement_length (t.For start test step s keyword span) = omega (arith, statement_length s)
@@ -55,10 +55,10 @@ mutual
   statement_length (t.Continue span) = refl
   statement_length (t.Return value span) = refl
 
-  items_length : (items : t.Statements) → length (places.counted_all items) ≡ (points_of_all items).statements
+  items_length : (items : t.Statements) → length (places.counted_spans_all items) ≡ (points_of_all items).statements
   items_length t.no_statements = refl
   items_length (t.statements s rest) =
-      length-append (places.counted s) (places.counted_all rest) ∙ (λ i. statement_length s i + items_length rest i)
+      length-append (places.counted_spans s) (places.counted_spans_all rest) ∙ (λ i. statement_length s i + items_length rest i)
 
 no_exit : (b : Bool) → (where_absent b).exits ≡ 0
 no_exit true = refl
@@ -126,7 +126,7 @@ mutual
 
 module _ (m : Map) (first : ℕ) where
   abbrev in_if : t.Expression → At m first → At m first
-  in_if e at = decided m first (roots Test (n.expression e)) (within m first at)
+  in_if e at = decided m first (roots Controlling (n.expression e)) (within m first at)
 
   abbrev in_items : t.Expression → t.Statements → At m first → At m first
   in_items e items at = decided m first (roots Plain (n.expression e)) (in_switch m first (has_default items) at)
@@ -140,7 +140,7 @@ module _ (m : Map) (first : ℕ) where
   declared_starts span k false = refl
 
   mutual
-    put_starts : (r : ℕ) (at : At m first) (s : t.Statement) → starts (put_statement m first r at s) ≡ numbered at.statement (places.counted s)
+    put_starts : (r : ℕ) (at : At m first) (s : t.Statement) → starts (put_statement m first r at s) ≡ numbered at.statement (places.counted_spans s)
     put_starts r at (t.Compound items span) = put_starts_all r at items
     put_starts r at (t.Label v span) = refl
     put_starts r at (t.Declaration declarators span) = declared_starts span at.statement (initializes declarators)
@@ -150,7 +150,7 @@ module _ (m : Map) (first : ℕ) where
         ap (λ (zs : List Placed). placed keyword at.statement ∷ zs) (put_starts r (in_if e at) s)
     put_starts r at (t.IfElse e s u keyword span) =
         ap (λ (zs : List Placed). placed keyword at.statement ∷ zs)
-        (joined (at.statement + 1) (at.statement + 1 + (points_of s).statements) (places.counted s) (places.counted u) _ _
+        (joined (at.statement + 1) (at.statement + 1 + (points_of s).statements) (places.counted_spans s) (places.counted_spans u) _ _
         (put_starts r (in_if e at) s) (put_starts r (past m first s (in_if e at)) u) (ap (λ (j : ℕ). at.statement + 1 + j) (statement_length s)))
     put_starts r at (t.Switch e items keyword span) =
         ap (λ (zs : List Placed). placed keyword at.statement ∷ zs) (put_starts_all at.switch (in_items e items at) items)
@@ -162,10 +162,10 @@ module _ (m : Map) (first : ℕ) where
     put_starts r at (t.Continue span) = refl
     put_starts r at (t.Return value span) = refl
 
-    put_starts_all : (r : ℕ) (at : At m first) (items : t.Statements) → starts_all (put_statements m first r at items) ≡ numbered at.statement (places.counted_all items)
+    put_starts_all : (r : ℕ) (at : At m first) (items : t.Statements) → starts_all (put_statements m first r at items) ≡ numbered at.statement (places.counted_spans_all items)
     put_starts_all r at t.no_statements = refl
     put_starts_all r at (t.statements s rest) =
-        joined at.statement (at.statement + (points_of s).statements) (places.counted s) (places.counted_all rest) _ _
+        joined at.statement (at.statement + (points_of s).statements) (places.counted_spans s) (places.counted_spans_all rest) _ _
         (put_starts r at s) (put_starts_all r (past m first s at) rest) (ap (λ (j : ℕ). at.statement + j) (statement_length s))
 
   mutual
@@ -234,16 +234,16 @@ module _ (m : Map) where
     switch = decisions_in f;
   }
 
-  put_enters : (number decisions : ℕ) (points : Points) (fs : List t.Function) → flat_map enters (put_functions m number decisions points fs) ≡ numbered number (places.entries_of (record { functions = fs; statics = []; structures = [] }))
+  put_enters : (number decisions : ℕ) (points : Points) (fs : List t.Function) → flat_map enters (put_functions m number decisions points fs) ≡ numbered number (places.entry_spans (record { functions = fs; statics = []; structures = [] }))
   put_enters number decisions points [] = refl
   put_enters number decisions points (f ∷ fs) =
       ap (λ (zs : List Placed). placed f.name_span number ∷ zs)
       (put_enters (number + 1) (decisions + decisions_in f) (points ⊕ points_of_function f) fs)
 
-  starts_in : (number decisions : ℕ) (points : Points) (fs : List t.Function) → flat_map (λ f. starts_all f.body) (put_functions m number decisions points fs) ≡ numbered (statement_bit m points.statements) (flat_map (λ f. places.counted_all f.body) fs)
+  starts_in : (number decisions : ℕ) (points : Points) (fs : List t.Function) → flat_map (λ f. starts_all f.body) (put_functions m number decisions points fs) ≡ numbered (statement_bit m points.statements) (flat_map (λ f. places.counted_spans_all f.body) fs)
   starts_in number decisions points [] = refl
   starts_in number decisions points (f ∷ fs) =
-      joined (statement_bit m points.statements) (statement_bit m (points.statements + (points_of_function f).statements)) (places.counted_all f.body) (flat_map (λ f. places.counted_all f.body) fs) _ _
+      joined (statement_bit m points.statements) (statement_bit m (points.statements + (points_of_function f).statements)) (places.counted_spans_all f.body) (flat_map (λ f. places.counted_spans_all f.body) fs) _ _
       (put_starts_all m decisions 0 (at_start points f decisions) f.body)
       (starts_in (number + 1) (decisions + decisions_in f) (points ⊕ points_of_function f) fs)
       (let e = (function_counted f).statements in omega (arith, e))

@@ -6,7 +6,7 @@ use Rattle.mc_typed.specs.Plans.{Plan}
 use Rattle.mc_roots.specs.Decisions.{Decision}
 use Rattle.mc_roots.specs.steps.Walk.{decided}
 use Rattle.mc_steps.specs.Tests.{TestRun}
-use Rattle.mc_probe.specs.Obligations.{entries_of, exits_of, statements_of, labels_of}
+use Rattle.mc_probe.specs.Obligations.{entry_spans, exit_spans, statement_spans, label_spans}
 use Rattle.mc_probe.specs.Maps.{Mapped, Map, image}
 use Rattle.mc_probe.specs.Table.{instrumented}
 use Rattle.mc_probe.specs.Flat.{Flat}
@@ -27,14 +27,15 @@ paths_of (d ∷ ds) = count_of d.tree + paths_of ds
 
 abbrev pub before_paths : Program → ℕ
 before_paths p =
-    length (entries_of p) + length (exits_of p) + length (statements_of p) + length (labels_of p)
+    length (entry_spans p) + length (exit_spans p)
+    + length (statement_spans p) + length (label_spans p)
 
 abbrev pub map_of : Program → Map
 map_of p = record {
-  entries = entries_of p;
-  exits = exits_of p;
-  statements = statements_of p;
-  labels = labels_of p;
+  entries = entry_spans p;
+  exits = exit_spans p;
+  statements = statement_spans p;
+  labels = label_spans p;
   decisions = based (before_paths p) (decided 0 p.functions);
   bits = before_paths p + paths_of (decided 0 p.functions);
 }

@@ -4,4 +4,5 @@ pub mod Bits
 pub mod Counting
 pub mod Formed
 pub mod ByHand
+pub mod FullByHand
 pub mod Places

@@ -1,6 +1,8 @@
 //! Bits that were counted by hand, and trees with other probes than a program's own.
 ghost use Rattle.tests_probe.specs.Counting as counting;
+ghost use Rattle.mc_value.specs.declared.operators.BinOp.TheVariants.{And, Or, Xor};
 ghost use Rattle.tests_probe.specs.ByHand.{MapIsThat, ShortMapIsThat, ShortTreeIsThat, TreeIsThat};
+ghost use Rattle.tests_probe.specs.FullByHand as full;
 ghost use Rattle.tests_probe.specs.Bits.{Again, Anywhere, Compared, Cut, InBits, Nested, OfLong, Wraps, WrapsInside};
 
 /// The order of the bits, and a decision that a trap cuts.
@@ -49,4 +51,15 @@ pub fn tree_by_hand()
 pub fn short_tree_by_hand()
     ensures map { ShortMapIsThat }
     ensures tree { ShortTreeIsThat }
+{}
+
+/// So were those of a decision with an operator that is evaluated in full, which has an idle number;
+/// and the bits of two conditions between which such an operator stands.
+pub fn full_operators_by_hand()
+    ensures map { full.MapIsThat }
+    ensures tree { full.TreeIsThat }
+    ensures and_bits { full.PathsOf And }
+    ensures or_bits { full.PathsOf Or }
+    ensures xor_bits { full.PathsOf Xor }
+    ensures mixed_bits { full.MixedHits }
 {}

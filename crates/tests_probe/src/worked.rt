@@ -4,6 +4,7 @@ ghost use Rattle.tests_meaning.specs.Flap as flap;
 ghost use Rattle.tests_meaning.specs.Rows as rows;
 ghost use Rattle.tests_meaning.specs.RulesOfCompleting as completing;
 ghost use Rattle.tests_meaning.specs.RulesOfEndings as endings;
+ghost use Rattle.tests_meaning.specs.RulesOfFullOperators as full_operators;
 ghost use Rattle.tests_meaning.specs.RulesOfInitializers as initializers;
 ghost use Rattle.tests_meaning.specs.RulesOfOperators as operators;
 ghost use Rattle.tests_meaning.specs.RulesOfOrder as order;
@@ -47,6 +48,14 @@ pub fn rules_of_statements()
 /// What each operator gives, and where it traps; shifts, comparisons and conversions.
 pub fn rules_of_operators()
     ensures { Follow operators.rows }
+{}
+
+/// Operators that are evaluated in full: the value of each on its operands, how they stand with other
+/// operators of a decision, and which operands are Boolean.
+pub fn rules_of_full_operators()
+    ensures values { Follow full_operators.value_rows }
+    ensures nested { Follow full_operators.nested_rows }
+    ensures operands { Follow full_operators.operand_rows }
 {}
 
 /// In which order parts are evaluated, and how decisions are numbered.

@@ -64,6 +64,11 @@ end
 /// The justification of a statement that is met.
 const STALE: &str = r#"[{"id":"S1","quote":"return a&&b;","reason":"x"}]"#;
 
+/// A decision with an operator that is evaluated in full, and a record of an earlier version.
+const FULL: &str = "int f(int a,int b){return (a<1)&(b<1);}";
+
+const EARLIER: &str = "mcdc-record 1\n";
+
 /// The tests and the justifications of the longer source in `inputs.rt`.
 const FLAP_TESTS: &str = "\
 flight,cycle,2,100 0,5,5
@@ -78,16 +83,18 @@ const FLAP_REASONS: &str =
     r#"[{"id":"L4","quote":"default:","reason":"three positions"},{"id":"X4","quote":"return 0;","reason":"three positions"},{"id":"S5","quote":"return 0;","reason":"three positions"}]"#;
 
 /// Each file: its name, and its first bytes and the others.
-static FILES: [(&str, &str, &str); 13] = [
+static FILES: [(&str, &str, &str); 15] = [
     ("s.c", SOURCE, ""),
     ("l.c", LINES, ""),
     ("bad.c", "int f(void){return x;}", ""),
+    ("full.c", FULL, ""),
     ("t.csv", HEADER, TESTS),
     ("none.csv", HEADER, ""),
     ("bad.csv", HEADER, "t1,f,1,,,\n"),
     ("LEFT", HEAD, LEFT),
     ("RIGHT", HEAD, RIGHT),
     ("BOTH", HEAD, BOTH),
+    ("EARLIER", EARLIER, ""),
     ("j.json", STALE, ""),
     ("bad.json", "{}", ""),
     ("flap.csv", HEADER, FLAP_TESTS),

@@ -25,6 +25,8 @@ const ROWS: &str = "\
 4@mcdc: record t.csv line 1: header@merge|s.c|t.csv|RIGHT
 4@mcdc: record t.csv line 1: header@merge|s.c|LEFT|t.csv
 4@mcdc: record t.csv line 1: header@analyse|s.c|t.csv
+4@mcdc: record EARLIER line 1: old rules@analyse|full.c|EARLIER
+4@mcdc: record EARLIER line 1: old rules@merge|full.c|EARLIER|EARLIER
 4@mcdc: records: same test 1 and 1@merge|s.c|LEFT|LEFT
 5@mcdc: justification entry 0: shape@report|s.c|t.csv|--justify|bad.json
 5@mcdc: justification: json@list|s.c|t.csv|--justify|s.c

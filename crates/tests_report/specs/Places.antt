@@ -5,7 +5,7 @@ use Rattle.mc_span.specs.declared.span.Span.{Span}
 use Rattle.mc_typed.specs.Tree.{Statement, Function, Program}
 use Rattle.mc_typed.specs.Tree as t
 use Rattle.mc_probe.specs.Maps.{Map}
-use Rattle.mc_probe.specs.Obligations.{counted_all, labels_all, entries_of, exits_of, statements_of, labels_of}
+use Rattle.mc_probe.specs.Obligations.{counted_spans_all, labels_all, entry_spans, exit_spans, statement_spans, label_spans}
 use Rattle.mc_oblige.specs.Obligations.{numbered, obligations_of}
 use Rattle.mc_oblige.specs.declared.obligation.Obligation.{Obligation}
 use Rattle.mc_oblige.specs.declared.obligation.ObligationId.TheVariants as id
@@ -86,7 +86,7 @@ labelled_bodies =
 -- ---- statements
 
 abbrev pub statements_asked : Function → List Obligation
-statements_asked f = numbered id.Statement 0 (counted_all f.body)
+statements_asked f = numbered id.Statement 0 (counted_spans_all f.body)
 
 -- blocks, labels and declarations without a value, of static objects and in a `for` do not count
 abbrev pub counted_bodies : List Body
@@ -176,10 +176,10 @@ two = record {
 
 abbrev pub two_map : Map
 two_map = record {
-  entries = entries_of two;
-  exits = exits_of two;
-  statements = statements_of two;
-  labels = labels_of two;
+  entries = entry_spans two;
+  exits = exit_spans two;
+  statements = statement_spans two;
+  labels = label_spans two;
   decisions = [];
   bits = 10;
 }

@@ -13,6 +13,8 @@ mod files;
 #[cfg(test)]
 mod forms;
 #[cfg(test)]
+mod full;
+#[cfg(test)]
 mod generated;
 #[cfg(test)]
 mod justifications;

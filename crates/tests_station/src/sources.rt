@@ -182,7 +182,7 @@ fn is_repeated<R: Threads + Sync>(
 
 /// What is repeated, how often, what comes after it, and how the source is judged. All conditions
 /// are counted before any paths.
-static LARGE: [(&str, usize, &str, &str); 5] = [
+static LARGE: [(&str, usize, &str, &str); 7] = [
     ("a&&", 63, "a;}", ""),
     ("a&&", 64, "a;}", " 1:21: too many conditions 65"),
     ("(a||a)&&", 10, "(a||a);}", ""),
@@ -193,6 +193,8 @@ static LARGE: [(&str, usize, &str, &str); 5] = [
         "(a||a);}",
         " 1:21: too many paths 8589934591",
     ),
+    ("a<1^", 11, "a<1;}", ""),
+    ("a<1^", 12, "a<1;}", " 1:21: too many paths 8192"),
 ];
 
 #[test]

@@ -48,7 +48,7 @@ pub(super) fn effect(found: &mut Gathered, tree: &Effect) -> Result<(), AllocErr
             other,
             ..
         } => {
-            value(found, Role::Test, test)?;
+            value(found, Role::Controlling, test)?;
             effect(found, chosen)?;
             effect(found, other)
         }

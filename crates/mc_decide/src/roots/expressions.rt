@@ -3,10 +3,10 @@ ghost use Rattle.std.specs.Prelude.{◌≡◌, ◌&&◌, map, IfOk};
 ghost use Rattle.mc_typed.specs.Views.{expression_of, place_of, structure_of, call_of, argument_of, arguments_from};
 ghost use Rattle.mc_roots.specs.Nodes as nodes;
 ghost use Rattle.mc_roots.specs.Roots.{is_constant};
-ghost use Rattle.mc_gather.specs.steps.Gathering.{gathered_of, inside, inside_parts, visited};
+ghost use Rattle.mc_gather.specs.steps.Gathering.{gathered_of, inside, inside_parts, role_under, visited};
 
 use mc_gather::{Gathered, call_parts, enter, mark_of, settle};
-use mc_roots::Role;
+use mc_roots::{FullOperator, Role, full_operator};
 use mc_typed::{Argument, Expression, FunctionCall, Place, Structure};
 use std::alloc::AllocError;
 
@@ -50,9 +50,15 @@ fn operands(found: &mut Gathered, tree: &Expression) -> Result<bool, AllocError>
             expression(found, Role::Plain, operand)
         }
         Expression::Not { operand, .. } => expression(found, Role::Inner, operand),
-        Expression::Binary { left, right, .. } => {
-            let constant = expression(found, Role::Plain, left)?;
-            further(found, constant, Role::Plain, right)
+        Expression::Binary {
+            operator,
+            left,
+            right,
+            ..
+        } => {
+            let role = operand_role(full_operator(*operator, left, right));
+            let constant = expression(found, role, left)?;
+            further(found, constant, role, right)
         }
         Expression::Logic { left, right, .. } => {
             let constant = expression(found, Role::Inner, left)?;
@@ -64,7 +70,7 @@ fn operands(found: &mut Gathered, tree: &Expression) -> Result<bool, AllocError>
             other,
             ..
         } => {
-            let constant = expression(found, Role::Test, test)?;
+            let constant = expression(found, Role::Controlling, test)?;
             let constant = further(found, constant, Role::Plain, chosen)?;
             further(found, constant, Role::Plain, other)
         }
@@ -73,6 +79,16 @@ fn operands(found: &mut Gathered, tree: &Expression) -> Result<bool, AllocError>
             Ok(false)
         }
         Expression::Probe { operand, .. } => operands(found, operand),
+    }
+}
+
+/// How the operands of an operator that evaluates both of them stand.
+fn operand_role(full: Option<FullOperator>) -> Role
+    ensures { result ≡ role_under full }
+{
+    match full {
+        Some(_) => Role::Inner,
+        None => Role::Plain,
     }
 }
 

@@ -18,7 +18,7 @@ fn optional_test(found: &mut Gathered, tree: &Option<Expression>) -> Result<(), 
         (gathered_of found.old)) }
 {
     match tree {
-        Some(test) => value(found, Role::Test, test),
+        Some(test) => value(found, Role::Controlling, test),
         None => Ok(()),
     }
 }
@@ -82,7 +82,7 @@ fn statement(found: &mut Gathered, tree: &Statement) -> Result<(), AllocError>
         } => declarators(found, declared),
         Statement::Effect { effect: whole, .. } => effect(found, whole),
         Statement::If { test, chosen, .. } => {
-            value(found, Role::Test, test)?;
+            value(found, Role::Controlling, test)?;
             statement(found, chosen)
         }
         Statement::IfElse {
@@ -91,7 +91,7 @@ fn statement(found: &mut Gathered, tree: &Statement) -> Result<(), AllocError>
             other,
             ..
         } => {
-            value(found, Role::Test, test)?;
+            value(found, Role::Controlling, test)?;
             statement(found, chosen)?;
             statement(found, other)
         }
@@ -115,7 +115,7 @@ fn statement(found: &mut Gathered, tree: &Statement) -> Result<(), AllocError>
         }
         Statement::DoWhile { body, test, .. } => {
             statement(found, body)?;
-            value(found, Role::Test, test)
+            value(found, Role::Controlling, test)
         }
         Statement::Return { value: what, .. } => return_value(found, what),
     }

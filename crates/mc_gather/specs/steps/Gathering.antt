@@ -4,11 +4,12 @@ use Rattle.mc_limits.specs.Limits.{most_conditions}
 use Rattle.mc_typed.specs.Tree as typed
 use Rattle.mc_typed.specs.Levels.{limited}
 use Rattle.mc_roots.specs.declared.role.Role.{Role}
-use Rattle.mc_roots.specs.declared.role.Role.TheVariants.{Test, Inner, Plain}
+use Rattle.mc_roots.specs.declared.role.Role.TheVariants.{Controlling, Inner, Plain}
+use Rattle.mc_roots.specs.declared.operators.FullOperator.{FullOperator}
 use Rattle.mc_roots.specs.declared.fault.DecideFault.{DecideFault}
 use Rattle.mc_roots.specs.declared.fault.DecideFault.TheVariants.{TooManyConditions}
 use Rattle.mc_gather.specs.declared.gathered.Gathered as code
-use Rattle.mc_roots.specs.Nodes.{Node, Constant, Not, Logic, Expression, Whole, Parts, no_parts, part, test}
+use Rattle.mc_roots.specs.Nodes.{Node, Constant, Not, Logic, Expression, Whole, Parts, no_parts, part, controlling}
 use Rattle.mc_roots.specs.Nodes as nodes
 use Rattle.mc_roots.specs.Roots.{is_constant, is_candidate}
 use Rattle.mc_roots.specs.Conditions.{width}
@@ -75,7 +76,7 @@ kept false before after = after
 
 -- whether an expression with this role is a candidate, by whether it is Boolean
 abbrev pub is_taken : Role → Bool → Bool
-is_taken Test boolean = true
+is_taken Controlling boolean = true
 is_taken Inner boolean = false
 is_taken Plain boolean = boolean
 
@@ -97,11 +98,16 @@ abbrev mutual
   inside_parts no_parts g = g
   inside_parts (part a ps) g =
       inside_parts ps (kept (is_constant a) g (inside a (entered Plain a g)))
-  inside_parts (test a ps) g =
-      inside_parts ps (kept (is_constant a) g (inside a (entered Test a g)))
+  inside_parts (controlling a ps) g =
+      inside_parts ps (kept (is_constant a) g (inside a (entered Controlling a g)))
 
 abbrev pub visited : Role → Node → Gathered → Gathered
 visited role a g = kept (is_constant a) g (inside a (entered role a g))
+
+-- how the operands of an operator that evaluates both of them stand
+abbrev pub role_under : Option FullOperator → Role
+role_under (Some operator) = Inner
+role_under None = Plain
 
 -- in the function with this number
 abbrev pub in_function : ℕ → Gathered → Gathered

@@ -2,7 +2,7 @@
 use Rattle.std.specs.Prelude.{ℕ, ◌+◌}
 use Rattle.mc_typed.specs.declared.probes.Probe.TheVariants as probe
 use Rattle.mc_typed.specs.Tree as typed
-use Rattle.mc_roots.specs.declared.role.Role.TheVariants.{Test, Plain}
+use Rattle.mc_roots.specs.declared.role.Role.TheVariants.{Controlling, Plain}
 use Rattle.mc_roots.specs.Nodes.{Node, Constant, Not, Logic, Expression, Whole}
 use Rattle.mc_roots.specs.Nodes as nodes
 use Rattle.mc_roots.specs.Counts.{roots, roots_in}
@@ -27,7 +27,7 @@ module _ (m : Map) (first : ℕ) where
       probed.Logic operator (put m first (Loose Plain) d e)
       (put m first (Loose Plain) (d + plain_roots m first e) f) span
   inside d (typed.Choice e f g a span) =
-      probed.Choice (put m first (Loose Test) d e)
+      probed.Choice (put m first (Loose Controlling) d e)
       (put m first (Loose Plain) (d + test_roots m first e) f)
       (put m first (Loose Plain) (d + test_roots m first e + plain_roots m first f) g) a span
   inside d (typed.Call k a) = probed.Call (put_call m first d k) a

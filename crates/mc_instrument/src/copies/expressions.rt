@@ -13,6 +13,7 @@ ghost use Rattle.mc_instrument.specs.steps.Inside as inside_rules;
 use crate::copies::counters::count;
 use crate::copies::walk::{Walk, with_probe};
 use mc_map::{is_root, is_root_as_test};
+use mc_roots::full_operator;
 use mc_typed::{Argument, Expression, FunctionCall, Place, Probe, Structure};
 use std::alloc::AllocError;
 
@@ -26,12 +27,12 @@ pub(crate) fn test(
     tree: &Expression,
 ) -> Result<Expression, AllocError>
     requires { next.now
-        + roots role.Test (nodes.expression (plain.expression_of tree.now)) < 2 ^ 32 }
+        + roots role.Controlling (nodes.expression (plain.expression_of tree.now)) < 2 ^ 32 }
     ensures copy { IfOk result (λ c. probed.expression_of c
-        ≡ put (map_of walk.now.map.now) walk.now.first (Loose role.Test) next.old
+        ≡ put (map_of walk.now.map.now) walk.now.first (Loose role.Controlling) next.old
         (plain.expression_of tree.now)) }
     ensures next { IfOk result (λ _. next.new
-        ≡ next.old + roots role.Test (nodes.expression (plain.expression_of tree.now))) }
+        ≡ next.old + roots role.Controlling (nodes.expression (plain.expression_of tree.now))) }
 {
     if is_root_as_test(tree) {
         root(walk, next, tree)
@@ -127,12 +128,31 @@ fn in_tree(
                 span: *span,
             })
         }
+        Expression::Binary {
+            operator,
+            of,
+            left: first,
+            right: second,
+            span,
+        } => match full_operator(*operator, first, second) {
+            Some(_) => {
+                let left = Box::new(walk.alloc, in_tree(walk, next, k, condition, first)?)?;
+                let right = Box::new(walk.alloc, in_tree(walk, next, k, condition, second)?)?;
+                Ok(Expression::Binary {
+                    operator: *operator,
+                    of: *of,
+                    left,
+                    right,
+                    span: *span,
+                })
+            }
+            None => one_condition(walk, next, k, condition, tree),
+        },
         Expression::Probe { operand, .. } => in_tree(walk, next, k, condition, operand),
         Expression::Constant { .. }
         | Expression::Read { .. }
         | Expression::Unary { .. }
         | Expression::Convert { .. }
-        | Expression::Binary { .. }
         | Expression::Choice { .. }
         | Expression::Call { .. }
         | Expression::Input { .. } => one_condition(walk, next, k, condition, tree),

@@ -2,13 +2,13 @@
 use Rattle.std.specs.Prelude.{ℕ, zero, suc, List, [], ◌∷◌, Option, Some, None}
 use Rattle.mc_typed.specs.Tree as t
 use Rattle.mc_roots.specs.declared.role.Role.{Role}
-use Rattle.mc_roots.specs.declared.role.Role.TheVariants.{Test, Inner, Plain}
+use Rattle.mc_roots.specs.declared.role.Role.TheVariants.{Controlling, Inner, Plain}
 use Rattle.mc_roots.specs.Nodes as n
 use Rattle.mc_roots.specs.Roots.{is_root}
 use Rattle.mc_mutate.specs.declared.search.sought.Sought.{Sought}
 use Rattle.mc_mutate.specs.declared.search.sought.Sought.TheVariants.{Left, Found}
 use Rattle.mc_mutate.specs.Changes.{Mutant}
-use Rattle.mc_mutate.specs.Mutants.{own}
+use Rattle.mc_mutate.specs.Mutants.{own, under}
 use Rattle.mc_mutate.specs.steps.Search.{inside_parts, searched}
 
 -- the mutant in a list with this number, from 0 on, or the part as it is
@@ -55,15 +55,16 @@ abbrev mutual
       t.Convert a written (entered Plain e s (inside_changed e)) span
   inside_changed (t.Not e span) s = t.Not (entered Inner e s (inside_changed e)) span
   inside_changed (t.Binary operator a e f span) s =
-      t.Binary operator a (entered Plain e s (inside_changed e))
-      (entered Plain f (searched Plain (n.expression e) s) (inside_changed f)) span
+      t.Binary operator a (entered (under (n.full_operator operator e f)) e s (inside_changed e))
+      (entered (under (n.full_operator operator e f)) f
+      (searched (under (n.full_operator operator e f)) (n.expression e) s) (inside_changed f)) span
   inside_changed (t.Logic operator e f span) s =
       t.Logic operator (entered Inner e s (inside_changed e))
       (entered Inner f (searched Inner (n.expression e) s) (inside_changed f)) span
   inside_changed (t.Choice e f g a span) s =
-      t.Choice (entered Test e s (inside_changed e))
-      (entered Plain f (searched Test (n.expression e) s) (inside_changed f))
-      (entered Plain g (searched Plain (n.expression f) (searched Test (n.expression e) s))
+      t.Choice (entered Controlling e s (inside_changed e))
+      (entered Plain f (searched Controlling (n.expression e) s) (inside_changed f))
+      (entered Plain g (searched Plain (n.expression f) (searched Controlling (n.expression e) s))
       (inside_changed g)) a span
   inside_changed (t.Call k a) s = t.Call (call_changed k s) a
   inside_changed (t.Input span) s = t.Input span
@@ -104,9 +105,9 @@ effect_changed (t.StructureEffect value whole_) s =
 effect_changed (t.CallEffect k) s = t.CallEffect (call_changed k s)
 effect_changed (t.Output e span) s = t.Output (entered Plain e s (inside_changed e)) span
 effect_changed (t.ChoiceEffect e a b span) s =
-    t.ChoiceEffect (entered Test e s (inside_changed e))
-    (effect_changed a (searched Test (n.expression e) s))
-    (effect_changed b (searched Plain (n.effect a) (searched Test (n.expression e) s))) span
+    t.ChoiceEffect (entered Controlling e s (inside_changed e))
+    (effect_changed a (searched Controlling (n.expression e) s))
+    (effect_changed b (searched Plain (n.effect a) (searched Controlling (n.expression e) s))) span
 effect_changed (t.Discard a span) s = t.Discard (effect_changed a s) span
 
 abbrev pub effects_changed : List t.Effect → Sought → List t.Effect
@@ -147,7 +148,7 @@ start_changed (t.StartDeclaration declared) s = t.StartDeclaration (declarators_
 
 abbrev pub optional_changed : Option t.Expression → Sought → Option t.Expression
 optional_changed None s = None
-optional_changed (Some e) s = Some (entered Test e s (inside_changed e))
+optional_changed (Some e) s = Some (entered Controlling e s (inside_changed e))
 
 abbrev pub return_changed : t.ReturnValue → Sought → t.ReturnValue
 return_changed t.ReturnNothing s = t.ReturnNothing
@@ -164,12 +165,13 @@ abbrev mutual
   statement_changed (t.EffectStatement effect span) s =
       t.EffectStatement (effect_changed effect s) span
   statement_changed (t.If e a keyword span) s =
-      t.If (entered Test e s (inside_changed e))
-      (statement_changed a (searched Test (n.expression e) s)) keyword span
+      t.If (entered Controlling e s (inside_changed e))
+      (statement_changed a (searched Controlling (n.expression e) s)) keyword span
   statement_changed (t.IfElse e a b keyword span) s =
-      t.IfElse (entered Test e s (inside_changed e))
-      (statement_changed a (searched Test (n.expression e) s))
-      (statement_changed b (searched Plain (n.statement a) (searched Test (n.expression e) s)))
+      t.IfElse (entered Controlling e s (inside_changed e))
+      (statement_changed a (searched Controlling (n.expression e) s))
+      (statement_changed b (searched Plain (n.statement a)
+      (searched Controlling (n.expression e) s)))
       keyword span
   statement_changed (t.Switch e items keyword span) s =
       t.Switch (entered Plain e s (inside_changed e))
@@ -183,7 +185,7 @@ abbrev mutual
       (searched Plain (n.optional_test e) (searched Plain (n.start first) s)))) keyword span
   statement_changed (t.DoWhile a e keyword span) s =
       t.DoWhile (statement_changed a s)
-      (entered Test e (searched Plain (n.statement a) s) (inside_changed e)) keyword span
+      (entered Controlling e (searched Plain (n.statement a) s) (inside_changed e)) keyword span
   statement_changed (t.Break span) s = t.Break span
   statement_changed (t.Continue span) s = t.Continue span
   statement_changed (t.Return value span) s = t.Return (return_changed value s) span

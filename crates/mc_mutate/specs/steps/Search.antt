@@ -3,8 +3,8 @@
 use Rattle.std.specs.Prelude.{◌-◌, ◌==◌, Bool, true, false, if◌then◌else◌, List, [], ◌∷◌}
 use Rattle.mc_span.specs.declared.span.Span.{Span}
 use Rattle.mc_roots.specs.declared.role.Role.{Role}
-use Rattle.mc_roots.specs.declared.role.Role.TheVariants.{Test, Plain}
-use Rattle.mc_roots.specs.Nodes.{Node, Constant, Not, Logic, Expression, Whole, Parts, no_parts, part, test, Top, Operator, Other}
+use Rattle.mc_roots.specs.declared.role.Role.TheVariants.{Controlling, Plain}
+use Rattle.mc_roots.specs.Nodes.{Node, Constant, Not, Logic, Expression, Whole, Parts, no_parts, part, controlling, Top, Operator, Other}
 use Rattle.mc_roots.specs.Roots.{is_root}
 use Rattle.mc_mutate.specs.declared.changes.Change.{Change}
 use Rattle.mc_mutate.specs.declared.changes.MutantKind.{MutantKind}
@@ -67,7 +67,7 @@ abbrev mutual
   pub inside_parts : Parts → Sought → Sought
   inside_parts no_parts s = s
   inside_parts (part a ps) s = inside_parts ps (inside a (own Plain a s))
-  inside_parts (test a ps) s = inside_parts ps (inside a (own Test a s))
+  inside_parts (controlling a ps) s = inside_parts ps (inside a (own Controlling a s))
 
 abbrev pub searched : Role → Node → Sought → Sought
 searched role a s = inside a (own role a s)

@@ -1,14 +1,16 @@
 //! Expressions of mutants.
 ghost use Rattle.std.specs.Prelude.{◌≡◌, map, IfOk};
 ghost use Rattle.mc_typed.specs.Views.{expression_of, place_of, structure_of, call_of, argument_of, arguments_from};
+ghost use Rattle.mc_probe.specs.Views as probed;
+ghost use Rattle.mc_probe.specs.Bare.{bare_argument, bare_arguments, bare_call, bare_expression, bare_place, bare_structure};
 ghost use Rattle.mc_roots.specs.Nodes as nodes;
 ghost use Rattle.mc_mutate.specs.Changes.{of_decision};
 ghost use Rattle.mc_mutate.specs.steps.Search.{in_decision, inside, inside_parts, searched};
 ghost use Rattle.mc_mutate.specs.steps.Changed as changed;
 
 use crate::copies::decision::replaced;
-use crate::search::{Sought, in_decision, is_root};
-use mc_roots::Role;
+use crate::search::{Sought, in_decision, is_root, under};
+use mc_roots::{Role, full_operator};
 use mc_typed::{Argument, Expression, FunctionCall, Place, Structure};
 use std::alloc::{AllocError, Global};
 
@@ -20,9 +22,9 @@ pub(super) fn expression(
     role: Role,
     tree: &Expression,
 ) -> Result<Expression, AllocError>
-    ensures tree { IfOk result (λ c. expression_of c
-        ≡ changed.entered role (expression_of tree.now) sought.old
-        (changed.inside_changed (expression_of tree.now))) }
+    ensures tree { IfOk result (λ c. probed.expression_of c
+        ≡ bare_expression (changed.entered role (expression_of tree.now) sought.old
+        (changed.inside_changed (expression_of tree.now)))) }
     ensures sought { IfOk result (λ _. sought.new
         ≡ searched role (nodes.expression (expression_of tree.now)) sought.old) }
 {
@@ -33,12 +35,32 @@ pub(super) fn expression(
     }
 }
 
+/// The same on the heap. What is boxed passes through this function alone: a function clears all its
+/// values as it begins, and that would be most of the time that `operands` takes.
+#[cycle(change)]
+fn boxed(
+    alloc: Global,
+    sought: &mut Sought,
+    role: Role,
+    tree: &Expression,
+) -> Result<Box<Expression>, AllocError>
+    ensures tree { IfOk result (λ c. probed.expression_of c.value
+        ≡ bare_expression (changed.entered role (expression_of tree.now) sought.old
+        (changed.inside_changed (expression_of tree.now)))) }
+    ensures sought { IfOk result (λ _. sought.new
+        ≡ searched role (nodes.expression (expression_of tree.now)) sought.old) }
+{
+    let copy = expression(alloc, sought, role, tree)?;
+    let copy = Box::new(alloc, copy)?;
+    Ok(copy)
+}
+
 /// The root of a decision: one of the decision's own mutants, or a change inside.
 #[cycle(change)]
 fn root(alloc: Global, sought: &mut Sought, tree: &Expression) -> Result<Expression, AllocError>
-    ensures tree { IfOk result (λ c. expression_of c
-        ≡ changed.settled (of_decision (expression_of tree.now)) sought.old
-        (changed.inside_changed (expression_of tree.now))) }
+    ensures tree { IfOk result (λ c. probed.expression_of c
+        ≡ bare_expression (changed.settled (of_decision (expression_of tree.now)) sought.old
+        (changed.inside_changed (expression_of tree.now)))) }
     ensures sought { IfOk result (λ _. sought.new
         ≡ inside (nodes.expression (expression_of tree.now))
         (in_decision (nodes.expression (expression_of tree.now)) sought.old)) }
@@ -58,9 +80,9 @@ fn root_left(
     tree: &Expression,
 ) -> Result<Expression, AllocError>
     requires { sought.old ≡ Sought.Left number }
-    ensures tree { IfOk result (λ c. expression_of c
-        ≡ changed.settled (of_decision (expression_of tree.now)) sought.old
-        (changed.inside_changed (expression_of tree.now))) }
+    ensures tree { IfOk result (λ c. probed.expression_of c
+        ≡ bare_expression (changed.settled (of_decision (expression_of tree.now)) sought.old
+        (changed.inside_changed (expression_of tree.now)))) }
     ensures sought { IfOk result (λ _. sought.new
         ≡ inside (nodes.expression (expression_of tree.now))
         (in_decision (nodes.expression (expression_of tree.now)) sought.old)) }
@@ -75,8 +97,8 @@ fn root_left(
 /// An expression with the change that is sought in a decision inside.
 #[cycle(change)]
 fn operands(alloc: Global, sought: &mut Sought, tree: &Expression) -> Result<Expression, AllocError>
-    ensures tree { IfOk result (λ c. expression_of c
-        ≡ changed.inside_changed (expression_of tree.now) sought.old) }
+    ensures tree { IfOk result (λ c. probed.expression_of c
+        ≡ bare_expression (changed.inside_changed (expression_of tree.now) sought.old)) }
     ensures sought { IfOk result (λ _. sought.new
         ≡ inside (nodes.expression (expression_of tree.now)) sought.old) }
 {
@@ -97,7 +119,7 @@ fn operands(alloc: Global, sought: &mut Sought, tree: &Expression) -> Result<Exp
             operand,
             span,
         } => {
-            let operand = Box::new(alloc, expression(alloc, sought, Role::Plain, operand)?)?;
+            let operand = boxed(alloc, sought, Role::Plain, operand)?;
             Ok(Expression::Unary {
                 operator: *operator,
                 of: *of,
@@ -111,7 +133,7 @@ fn operands(alloc: Global, sought: &mut Sought, tree: &Expression) -> Result<Exp
             operand,
             span,
         } => {
-            let operand = Box::new(alloc, expression(alloc, sought, Role::Plain, operand)?)?;
+            let operand = boxed(alloc, sought, Role::Plain, operand)?;
             Ok(Expression::Convert {
                 to: *to,
                 written: *written,
@@ -120,7 +142,7 @@ fn operands(alloc: Global, sought: &mut Sought, tree: &Expression) -> Result<Exp
             })
         }
         Expression::Not { operand, span } => {
-            let operand = Box::new(alloc, expression(alloc, sought, Role::Inner, operand)?)?;
+            let operand = boxed(alloc, sought, Role::Inner, operand)?;
             Ok(Expression::Not {
                 operand,
                 span: *span,
@@ -133,8 +155,9 @@ fn operands(alloc: Global, sought: &mut Sought, tree: &Expression) -> Result<Exp
             right,
             span,
         } => {
-            let left = Box::new(alloc, expression(alloc, sought, Role::Plain, left)?)?;
-            let right = Box::new(alloc, expression(alloc, sought, Role::Plain, right)?)?;
+            let role = under(full_operator(*operator, left, right));
+            let left = boxed(alloc, sought, role, left)?;
+            let right = boxed(alloc, sought, role, right)?;
             Ok(Expression::Binary {
                 operator: *operator,
                 of: *of,
@@ -149,8 +172,8 @@ fn operands(alloc: Global, sought: &mut Sought, tree: &Expression) -> Result<Exp
             right,
             span,
         } => {
-            let left = Box::new(alloc, expression(alloc, sought, Role::Inner, left)?)?;
-            let right = Box::new(alloc, expression(alloc, sought, Role::Inner, right)?)?;
+            let left = boxed(alloc, sought, Role::Inner, left)?;
+            let right = boxed(alloc, sought, Role::Inner, right)?;
             Ok(Expression::Logic {
                 operator: *operator,
                 left,
@@ -165,9 +188,9 @@ fn operands(alloc: Global, sought: &mut Sought, tree: &Expression) -> Result<Exp
             of,
             span,
         } => {
-            let test = Box::new(alloc, expression(alloc, sought, Role::Test, test)?)?;
-            let chosen = Box::new(alloc, expression(alloc, sought, Role::Plain, chosen)?)?;
-            let other = Box::new(alloc, expression(alloc, sought, Role::Plain, other)?)?;
+            let test = boxed(alloc, sought, Role::Controlling, test)?;
+            let chosen = boxed(alloc, sought, Role::Plain, chosen)?;
+            let other = boxed(alloc, sought, Role::Plain, other)?;
             Ok(Expression::Choice {
                 test,
                 chosen,
@@ -187,8 +210,8 @@ fn operands(alloc: Global, sought: &mut Sought, tree: &Expression) -> Result<Exp
 /// A place with the change that is sought.
 #[cycle(change)]
 pub(super) fn place(alloc: Global, sought: &mut Sought, tree: &Place) -> Result<Place, AllocError>
-    ensures tree { IfOk result (λ c.
-        place_of c ≡ changed.place_changed (place_of tree.now) sought.old) }
+    ensures tree { IfOk result (λ c. probed.place_of c
+        ≡ bare_place (changed.place_changed (place_of tree.now) sought.old)) }
     ensures sought { IfOk result (λ _.
         sought.new ≡ searched Role.Plain (nodes.place (place_of tree.now)) sought.old) }
 {
@@ -207,7 +230,7 @@ pub(super) fn place(alloc: Global, sought: &mut Sought, tree: &Place) -> Result<
             index,
             span,
         } => {
-            let index = Box::new(alloc, expression(alloc, sought, Role::Plain, index)?)?;
+            let index = boxed(alloc, sought, Role::Plain, index)?;
             Ok(Place::Parameter {
                 array: *array,
                 stride: *stride,
@@ -223,7 +246,7 @@ pub(super) fn place(alloc: Global, sought: &mut Sought, tree: &Place) -> Result<
             span,
         } => {
             let array = Box::new(alloc, place(alloc, sought, array)?)?;
-            let index = Box::new(alloc, expression(alloc, sought, Role::Plain, index)?)?;
+            let index = boxed(alloc, sought, Role::Plain, index)?;
             Ok(Place::Item {
                 array,
                 length: *length,
@@ -256,8 +279,8 @@ pub(super) fn structure(
     sought: &mut Sought,
     tree: &Structure,
 ) -> Result<Structure, AllocError>
-    ensures tree { IfOk result (λ c.
-        structure_of c ≡ changed.structure_changed (structure_of tree.now) sought.old) }
+    ensures tree { IfOk result (λ c. probed.structure_of c
+        ≡ bare_structure (changed.structure_changed (structure_of tree.now) sought.old)) }
     ensures sought { IfOk result (λ _.
         sought.new ≡ searched Role.Plain (nodes.structure (structure_of tree.now)) sought.old) }
 {
@@ -280,8 +303,8 @@ pub(super) fn call(
     sought: &mut Sought,
     tree: &FunctionCall,
 ) -> Result<FunctionCall, AllocError>
-    ensures tree { IfOk result (λ c.
-        call_of c ≡ changed.call_changed (call_of tree.now) sought.old) }
+    ensures tree { IfOk result (λ c. probed.call_of c
+        ≡ bare_call (changed.call_changed (call_of tree.now) sought.old)) }
     ensures sought { IfOk result (λ _.
         sought.new ≡ inside_parts (nodes.call_parts (call_of tree.now)) sought.old) }
 {
@@ -296,8 +319,8 @@ pub(super) fn call(
 
 #[cycle(change)]
 fn argument(alloc: Global, sought: &mut Sought, tree: &Argument) -> Result<Argument, AllocError>
-    ensures tree { IfOk result (λ c.
-        argument_of c ≡ changed.argument_changed (argument_of tree.now) sought.old) }
+    ensures tree { IfOk result (λ c. probed.argument_of c
+        ≡ bare_argument (changed.argument_changed (argument_of tree.now) sought.old)) }
     ensures sought { IfOk result (λ _.
         sought.new ≡ searched Role.Plain (nodes.argument (argument_of tree.now)) sought.old) }
 {
@@ -333,12 +356,13 @@ fn arguments(
     sought: &mut Sought,
     trees: &[Argument],
 ) -> Result<Vec<Argument>, AllocError>
-    ensures tree { IfOk result (λ c. arguments_from (map argument_of c.items)
-        ≡ changed.arguments_changed (arguments_from (map argument_of trees.now)) sought.old) }
+    ensures tree { IfOk result (λ c. probed.arguments_from (map probed.argument_of c.items)
+        ≡ bare_arguments (changed.arguments_changed
+        (arguments_from (map argument_of trees.now)) sought.old)) }
     ensures sought { IfOk result (λ _. sought.new
         ≡ inside_parts (nodes.arguments (arguments_from (map argument_of trees.now))) sought.old) }
 {
-    let mut copies = Vec::new(alloc);
+    let mut copies = Vec::with_capacity(alloc, trees.len())?;
     for tree in trees {
         let copy = argument(alloc, sought, tree)?;
         copies.push(copy)?;

@@ -1,6 +1,8 @@
 //! Initializers of mutants.
 ghost use Rattle.std.specs.Prelude.{◌≡◌, map, option_map, IfOk};
 ghost use Rattle.mc_typed.specs.Views.{declarator_of, initializer_of, initializers_from};
+ghost use Rattle.mc_probe.specs.Views as probed;
+ghost use Rattle.mc_probe.specs.Bare.{bare_declarator, bare_initializer, bare_initializers};
 ghost use Rattle.mc_roots.specs.Nodes as nodes;
 ghost use Rattle.mc_mutate.specs.steps.Search.{inside_parts, searched};
 ghost use Rattle.mc_mutate.specs.steps.Changed as changed;
@@ -18,8 +20,8 @@ fn initializer(
     sought: &mut Sought,
     tree: &Initializer,
 ) -> Result<Initializer, AllocError>
-    ensures tree { IfOk result (λ c.
-        initializer_of c ≡ changed.initializer_changed (initializer_of tree.now) sought.old) }
+    ensures tree { IfOk result (λ c. probed.initializer_of c
+        ≡ bare_initializer (changed.initializer_changed (initializer_of tree.now) sought.old)) }
     ensures sought { IfOk result (λ _.
         sought.new ≡ searched Role.Plain (nodes.initializer (initializer_of tree.now)) sought.old) }
 {
@@ -58,14 +60,14 @@ fn initializers(
     sought: &mut Sought,
     trees: &[Initializer],
 ) -> Result<Vec<Initializer>, AllocError>
-    ensures tree { IfOk result (λ c. initializers_from (map initializer_of c.items)
-        ≡ changed.initializers_changed (initializers_from (map initializer_of trees.now))
-        sought.old) }
+    ensures tree { IfOk result (λ c. probed.initializers_from (map probed.initializer_of c.items)
+        ≡ bare_initializers (changed.initializers_changed
+        (initializers_from (map initializer_of trees.now)) sought.old)) }
     ensures sought { IfOk result (λ _. sought.new
         ≡ inside_parts (nodes.initializers (initializers_from (map initializer_of trees.now)))
         sought.old) }
 {
-    let mut copies = Vec::new(alloc);
+    let mut copies = Vec::with_capacity(alloc, trees.len())?;
     for tree in trees {
         let copy = initializer(alloc, sought, tree)?;
         copies.push(copy)?;
@@ -78,8 +80,9 @@ fn initial(
     sought: &mut Sought,
     tree: &Option<Initializer>,
 ) -> Result<Option<Initializer>, AllocError>
-    ensures tree { IfOk result (λ c. option_map initializer_of c
-        ≡ changed.initial_changed (option_map initializer_of tree.now) sought.old) }
+    ensures tree { IfOk result (λ c. option_map probed.initializer_of c
+        ≡ option_map bare_initializer
+        (changed.initial_changed (option_map initializer_of tree.now) sought.old)) }
     ensures sought { IfOk result (λ _. sought.new
         ≡ searched Role.Plain (nodes.initial (option_map initializer_of tree.now)) sought.old) }
 {
@@ -97,10 +100,10 @@ fn declarator(
     sought: &mut Sought,
     tree: &Declarator,
 ) -> Result<Declarator, AllocError>
-    ensures tree { IfOk result (λ c. declarator_of c
-        ≡ record (declarator_of tree.now) {
+    ensures tree { IfOk result (λ c. probed.declarator_of c
+        ≡ bare_declarator (record (declarator_of tree.now) {
           value = changed.initial_changed (declarator_of tree.now).value sought.old;
-        }) }
+        })) }
     ensures sought { IfOk result (λ _. sought.new
         ≡ searched Role.Plain (nodes.initial (declarator_of tree.now).value) sought.old) }
 {
@@ -118,12 +121,13 @@ pub(super) fn declarators(
     sought: &mut Sought,
     trees: &[Declarator],
 ) -> Result<Vec<Declarator>, AllocError>
-    ensures tree { IfOk result (λ c. map declarator_of c.items
-        ≡ changed.declarators_changed (map declarator_of trees.now) sought.old) }
+    ensures tree { IfOk result (λ c. map probed.declarator_of c.items
+        ≡ map bare_declarator
+        (changed.declarators_changed (map declarator_of trees.now) sought.old)) }
     ensures sought { IfOk result (λ _. sought.new
         ≡ inside_parts (nodes.declarators (map declarator_of trees.now)) sought.old) }
 {
-    let mut copies = Vec::new(alloc);
+    let mut copies = Vec::with_capacity(alloc, trees.len())?;
     for tree in trees {
         let copy = declarator(alloc, sought, tree)?;
         copies.push(copy)?;

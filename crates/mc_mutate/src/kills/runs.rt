@@ -2,26 +2,24 @@
 ghost use Rattle.std.specs.Prelude.{◌≡◌, ◌+◌, ◌≤◌, ◌/◌, length, IfOk, option_to_list};
 ghost use Rattle.mc_typed.specs.Views.{program_of};
 ghost use Rattle.mc_crew.specs.Crew.{IsAtWork};
-ghost use Rattle.mc_mutate.specs.Runs.{CanWork, HasMutant, HasDrawn, HasCome, IsDone, IsReady, worker_does};
+ghost use Rattle.mc_mutate.specs.Runs.{CanWork, HasDrawn, HasCome, IsDone, IsReady, worker_does};
+ghost use Rattle.mc_mutate.specs.steps.Bared.{HasMutant};
 
-use crate::copies::mutant;
+use crate::copies::bare_mutant;
 use crate::kills::original::Original;
 use crate::kills::silent::Silent;
-use mc_bare::bare;
 use mc_cover::Pass;
 use mc_crew::Recorder;
 use mc_hits::Probe;
 use mc_interp::Machine;
 use mc_port::Gate;
-use mc_roots::Decision;
 use mc_typed::{Program, TestPlan};
 use std::alloc::{AllocError, Global};
 
-/// What the workers share: the program, its decisions, the tests, and what these show on it.
+/// What the workers share: the program, the tests, and what these show on it.
 #[derive(Clone, Copy)]
 pub(crate) struct Task<'t, 'a> {
     pub(crate) program: &'t Program<'a>,
-    pub(crate) decisions: &'t [Decision],
     pub(crate) plans: &'t [TestPlan],
     pub(crate) originals: &'t [Original],
 }
@@ -67,10 +65,8 @@ fn run_mutant<G: Gate>(
         length recorder.old.view.claims + length (option_to_list next)
         ≤ length recorder.new.view.claims) }
 {
-    let number = item / task.plans.len() as u32 + 1;
-    let changed = mutant(alloc, task.program, task.decisions, number)?;
-    let copy = bare(alloc, &changed)?;
-    drop(changed);
+    let index = item / task.plans.len() as u32;
+    let copy = bare_mutant(alloc, task.program, index)?;
     let mut machine = Machine::new(alloc, &copy)?;
     let next = run_items(task, gate, item, &mut machine, recorder);
     drop(machine);

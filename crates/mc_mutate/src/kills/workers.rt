@@ -66,7 +66,6 @@ pub fn run_mutants<R: Threads + Sync, G: Gate>(
     let kept = originals(alloc, program, plans)?;
     let task = Task {
         program,
-        decisions,
         plans,
         originals: &kept,
     };

@@ -3,12 +3,13 @@ ghost use Rattle.std.specs.Prelude.{◌≡◌};
 ghost use Rattle.mc_typed.specs.Views.{expression_of};
 ghost use Rattle.mc_roots.specs.Nodes as nodes;
 ghost use Rattle.mc_roots.specs.Roots as roots;
+ghost use Rattle.mc_mutate.specs.Mutants.{under};
 ghost use Rattle.mc_mutate.specs.steps.Search as search;
 
 use crate::changes::MutantKind;
 use crate::search::sought::{Sought, pass};
 use mc_map::is_root_as_test;
-use mc_roots::{Role, is_boolean};
+use mc_roots::{FullOperator, Role, full_operator, is_boolean};
 use mc_typed::{Expression, Span};
 
 /// Whether an expression that stands so in what is around it is the root of a decision.
@@ -16,9 +17,19 @@ pub(crate) fn is_root(role: Role, tree: &Expression) -> bool
     ensures { result ≡ roots.is_root role (nodes.expression (expression_of tree.now)) }
 {
     match role {
-        Role::Test => is_root_as_test(tree),
+        Role::Controlling => is_root_as_test(tree),
         Role::Inner => false,
         Role::Plain => mc_map::is_root(tree),
+    }
+}
+
+/// How the operands of an operator stand that evaluates both of them.
+pub(crate) fn under(full: Option<FullOperator>) -> Role
+    ensures { result ≡ under full }
+{
+    match full {
+        Some(_) => Role::Inner,
+        None => Role::Plain,
     }
 }
 
@@ -57,11 +68,23 @@ pub(crate) fn in_nodes(sought: Sought, tree: &Expression) -> Sought
             let state = in_nodes(pass(sought, MutantKind::Exchanged, *span), left);
             in_nodes(state, right)
         }
+        Expression::Binary {
+            operator,
+            left,
+            right,
+            span,
+            ..
+        } => match full_operator(*operator, left, right) {
+            Some(_) => {
+                let state = in_nodes(pass(sought, MutantKind::Exchanged, *span), left);
+                in_nodes(state, right)
+            }
+            None => sought,
+        },
         Expression::Constant { .. }
         | Expression::Read { .. }
         | Expression::Unary { .. }
         | Expression::Convert { .. }
-        | Expression::Binary { .. }
         | Expression::Choice { .. }
         | Expression::Call { .. }
         | Expression::Input { .. } => sought,
@@ -80,11 +103,23 @@ fn in_conditions(sought: Sought, tree: &Expression) -> Sought
             let state = in_conditions(sought, left);
             in_conditions(state, right)
         }
+        Expression::Binary {
+            operator,
+            left,
+            right,
+            span,
+            ..
+        } => match full_operator(*operator, left, right) {
+            Some(_) => {
+                let state = in_conditions(sought, left);
+                in_conditions(state, right)
+            }
+            None => in_condition(sought, is_boolean(tree), *span),
+        },
         Expression::Constant { .. }
         | Expression::Read { .. }
         | Expression::Unary { .. }
         | Expression::Convert { .. }
-        | Expression::Binary { .. }
         | Expression::Choice { .. }
         | Expression::Call { .. }
         | Expression::Input { .. } => in_condition(sought, is_boolean(tree), tree.span()),

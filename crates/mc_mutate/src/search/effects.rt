@@ -33,7 +33,7 @@ pub(super) fn effect(sought: Sought, tree: &Effect) -> Sought
             other,
             ..
         } => {
-            let state = expression(sought, Role::Test, test);
+            let state = expression(sought, Role::Controlling, test);
             let state = effect(state, chosen);
             effect(state, other)
         }

@@ -4,9 +4,9 @@ ghost use Rattle.mc_typed.specs.Views.{expression_of, place_of, structure_of, ca
 ghost use Rattle.mc_roots.specs.Nodes as nodes;
 ghost use Rattle.mc_mutate.specs.steps.Search.{inside, inside_parts, searched};
 
-use crate::search::decision::own;
+use crate::search::decision::{own, under};
 use crate::search::sought::Sought;
-use mc_roots::Role;
+use mc_roots::{Role, full_operator};
 use mc_typed::{Argument, Expression, FunctionCall, Place, Structure};
 
 /// Goes on in an expression that stands so in what is around it.
@@ -29,9 +29,15 @@ fn operands(sought: Sought, tree: &Expression) -> Sought
             expression(sought, Role::Plain, operand)
         }
         Expression::Not { operand, .. } => expression(sought, Role::Inner, operand),
-        Expression::Binary { left, right, .. } => {
-            let state = expression(sought, Role::Plain, left);
-            expression(state, Role::Plain, right)
+        Expression::Binary {
+            operator,
+            left,
+            right,
+            ..
+        } => {
+            let role = under(full_operator(*operator, left, right));
+            let state = expression(sought, role, left);
+            expression(state, role, right)
         }
         Expression::Logic { left, right, .. } => {
             let state = expression(sought, Role::Inner, left);
@@ -43,7 +49,7 @@ fn operands(sought: Sought, tree: &Expression) -> Sought
             other,
             ..
         } => {
-            let state = expression(sought, Role::Test, test);
+            let state = expression(sought, Role::Controlling, test);
             let state = expression(state, Role::Plain, chosen);
             expression(state, Role::Plain, other)
         }

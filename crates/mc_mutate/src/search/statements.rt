@@ -16,7 +16,7 @@ fn optional_test(sought: Sought, tree: &Option<Expression>) -> Sought
         ≡ searched Role.Plain (nodes.optional_test (option_map expression_of tree.now)) sought }
 {
     match tree {
-        Some(test) => expression(sought, Role::Test, test),
+        Some(test) => expression(sought, Role::Controlling, test),
         None => sought,
     }
 }
@@ -72,7 +72,7 @@ fn statement(sought: Sought, tree: &Statement) -> Sought
         } => declarators(sought, declared),
         Statement::Effect { effect: whole, .. } => effect(sought, whole),
         Statement::If { test, chosen, .. } => {
-            let state = expression(sought, Role::Test, test);
+            let state = expression(sought, Role::Controlling, test);
             statement(state, chosen)
         }
         Statement::IfElse {
@@ -81,7 +81,7 @@ fn statement(sought: Sought, tree: &Statement) -> Sought
             other,
             ..
         } => {
-            let state = expression(sought, Role::Test, test);
+            let state = expression(sought, Role::Controlling, test);
             let state = statement(state, chosen);
             statement(state, other)
         }
@@ -101,7 +101,7 @@ fn statement(sought: Sought, tree: &Statement) -> Sought
         }
         Statement::DoWhile { body, test, .. } => {
             let state = statement(sought, body);
-            expression(state, Role::Test, test)
+            expression(state, Role::Controlling, test)
         }
         Statement::Return { value, .. } => return_value(sought, value),
     }

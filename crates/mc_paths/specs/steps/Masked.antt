@@ -1,5 +1,5 @@
 -- A step of the proofs: it follows the code, and no public clause rests on it.
--- The words that stand for vectors.
+-- The words and outcomes that stand for vectors.
 use Rattle.std.specs.Prelude.{◌≡◌, ℕ, Option, Some, None, List, length, slice_get}
 use Rattle.mc_cond.specs.Tree.{Tree}
 use Rattle.mc_cond.specs.Vectors.{Evaluation}
@@ -12,6 +12,7 @@ pub record AreMasks (t : Tree) (v : Evaluation) (m : Masks) : Type 0 where
   pub evaluated : IsMaskOf m.evaluated (IsEvaluated v)
   pub value : IsMaskOf m.value (IsOn v)
   pub influence : IsMaskOf m.influence (λ k. HasInfluence t k v)
+  pub outcome : m.outcome ≡ v.outcome
 
 -- what is kept of a number: the words of its vector, or nothing where it is idle
 abbrev pub IsEntry : Tree → ℕ → Option Masks → Type 0

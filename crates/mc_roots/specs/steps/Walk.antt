@@ -3,8 +3,8 @@ use Rattle.std.specs.Prelude.{ℕ, ◌+◌, Bool, true, false, List, [], ◌∷�
 use Rattle.mc_span.specs.declared.span.Span.{Span}
 use Rattle.mc_typed.specs.Tree as typed
 use Rattle.mc_roots.specs.declared.role.Role.{Role}
-use Rattle.mc_roots.specs.declared.role.Role.TheVariants.{Test, Inner, Plain}
-use Rattle.mc_roots.specs.Nodes.{Node, Constant, Not, Logic, Expression, Whole, Parts, no_parts, part, test}
+use Rattle.mc_roots.specs.declared.role.Role.TheVariants.{Controlling, Inner, Plain}
+use Rattle.mc_roots.specs.Nodes.{Node, Constant, Not, Logic, Expression, Whole, Parts, no_parts, part, controlling}
 use Rattle.mc_roots.specs.Nodes as nodes
 use Rattle.mc_roots.specs.Roots.{is_constant, is_candidate}
 use Rattle.mc_roots.specs.Conditions.{tree_from}
@@ -40,8 +40,8 @@ abbrev mutual
   inside_parts no_parts found = found
   inside_parts (part a ps) found =
       inside_parts ps (kept (is_constant a) found (inside a (entered Plain a found)))
-  inside_parts (test a ps) found =
-      inside_parts ps (kept (is_constant a) found (inside a (entered Test a found)))
+  inside_parts (controlling a ps) found =
+      inside_parts ps (kept (is_constant a) found (inside a (entered Controlling a found)))
 
 abbrev pub visited : Role → Node → List Node → List Node
 visited role a found = kept (is_constant a) found (inside a (entered role a found))

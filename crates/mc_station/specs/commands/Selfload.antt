@@ -11,7 +11,7 @@ use Rattle.mc_report.specs.Summary.{summary_lines}
 use Rattle.mc_replies.specs.Phases.{Reaches}
 use Rattle.mc_replies.specs.Reply.{Reply, written}
 use Rattle.mc_station.specs.Source.{Accepted, JudgesSource}
-use Rattle.mc_station.specs.Tests.{Fits, JudgesTests, Tested, stands, tested_of}
+use Rattle.mc_station.specs.Tests.{MatrixFits, JudgesTests, Tested, stands, tested_of}
 use Rattle.mc_station.specs.commands.Report.{IsReportOn}
 
 -- the report by masking is summed up, with status 0; no obligation is justified
@@ -27,8 +27,8 @@ Sums skipped count accepted plans =
     SumsOn (stands skipped accepted plans) count accepted (tested_of accepted.program plans)
 
 -- the source of so many functions, and its tests, with the usual fuel
-abbrev pub Loads : (skipped : List ℕ) → (count : ℕ) → Reply → Type 0
-Loads skipped count =
+abbrev pub LoadsItself : (skipped : List ℕ) → (count : ℕ) → Reply → Type 0
+LoadsItself skipped count =
     Reaches (JudgesSource (source_text count)) (λ accepted.
     Reaches (JudgesTests accepted.program usual_fuel (tests_text count)) (λ plans.
-    Reaches (Fits accepted plans) (λ u. Sums skipped count accepted plans)))
+    Reaches (MatrixFits accepted plans) (λ u. Sums skipped count accepted plans)))

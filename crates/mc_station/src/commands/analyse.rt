@@ -3,7 +3,7 @@ ghost use Rattle.std.specs.Prelude.{IfOk};
 ghost use Rattle.mc_command.specs.Seen.{seen_report};
 ghost use Rattle.mc_record.specs.Seen.{kept_of};
 ghost use Rattle.mc_replies.specs.Seen.{seen_reply};
-ghost use Rattle.mc_station.specs.Seen.{AreReasons, IsInstrumented, IsRecordIn, seen_accepted};
+ghost use Rattle.mc_station.specs.Seen.{AreReasons, HasItsTree, IsRecordIn, seen_accepted};
 ghost use Rattle.mc_station.specs.commands.Analyse.{Analyses};
 
 use crate::accepted::Accepted;
@@ -23,7 +23,7 @@ pub fn analyse<'a>(
     kept: Record,
     justifications: &[Justification],
 ) -> Result<Reply<'a>, AllocError>
-    requires instrumented { IsInstrumented accepted }
+    requires instrumented { HasItsTree accepted }
     requires of_source { IsRecordIn accepted kept }
     requires reasons { AreReasons accepted justifications.now }
     ensures { IfOk result (λ reply. Analyses (seen_report asked.entry)

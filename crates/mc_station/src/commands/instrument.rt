@@ -2,7 +2,7 @@
 ghost use Rattle.std.specs.Prelude.{◌<◌, ◌^◌, IfOk, Ok, length};
 ghost use Rattle.mc_lex.specs.Tokens.{toks_of};
 ghost use Rattle.mc_replies.specs.Seen.{seen_reply};
-ghost use Rattle.mc_station.specs.Seen.{HasTokens, IsInstrumented, seen_accepted};
+ghost use Rattle.mc_station.specs.Seen.{HasTokens, HasItsTree, seen_accepted};
 ghost use Rattle.mc_station.specs.Source.{Lexes};
 ghost use Rattle.mc_station.specs.commands.Instrument.{Instruments};
 
@@ -27,7 +27,7 @@ fn tokens_of<'a>(alloc: Global, accepted: &Accepted<'a>) -> Result<Vec<Token<'a>
 
 /// The reply of `instrument`: the text of the program with its probes.
 pub fn instrument<'a>(alloc: Global, accepted: Accepted<'a>) -> Result<Reply<'a>, AllocError>
-    requires instrumented { IsInstrumented accepted }
+    requires instrumented { HasItsTree accepted }
     requires tokens { HasTokens accepted }
     ensures { IfOk result (λ reply.
         Instruments (seen_accepted accepted.entry) (seen_reply reply)) }

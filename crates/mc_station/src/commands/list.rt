@@ -4,7 +4,7 @@ ghost use Rattle.mc_command.specs.Seen.{seen_listing};
 ghost use Rattle.mc_oblige.specs.Shown.{HasEvent};
 ghost use Rattle.mc_replies.specs.Seen.{seen_reply};
 ghost use Rattle.mc_station.specs.Ran.{AreTold};
-ghost use Rattle.mc_station.specs.Seen.{AreReasons, IsInstrumented, seen_accepted, seen_tested};
+ghost use Rattle.mc_station.specs.Seen.{AreReasons, HasItsTree, seen_accepted, seen_tested};
 ghost use Rattle.mc_station.specs.commands.List.{ListingOn};
 
 use crate::accepted::Accepted;
@@ -26,7 +26,7 @@ pub fn list<'a>(
     tests: Tested,
     justifications: &[Justification],
 ) -> Result<Reply<'a>, AllocError>
-    requires instrumented { IsInstrumented accepted }
+    requires instrumented { HasItsTree accepted }
     requires told { AreTold (seen_accepted accepted) matrix.now (seen_tested tests) }
     requires reasons { AreReasons accepted justifications.now }
     ensures { IfOk result (λ reply. let a = seen_accepted accepted.entry in

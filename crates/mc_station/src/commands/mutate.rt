@@ -8,7 +8,7 @@ ghost use Rattle.mc_mutate.specs.Mutants.{count, mutants as mutants_of};
 ghost use Rattle.mc_replies.specs.Seen.{seen_reply};
 ghost use Rattle.mc_tests.specs.Seen.{seen_plans};
 ghost use Rattle.mc_typed.specs.Views.{program_of};
-ghost use Rattle.mc_station.specs.Seen.{AreMutable, ArePlanned, IsInstrumented, seen_accepted};
+ghost use Rattle.mc_station.specs.Seen.{AreMutable, ArePlanned, HasItsTree, seen_accepted};
 ghost use Rattle.mc_station.specs.Tests.{states as states_of};
 ghost use Rattle.mc_station.specs.commands.Mutate.{AreKilled, Mutates, change_told, changes_told, kind_word, status_after};
 
@@ -88,13 +88,13 @@ fn kills<R: Threads + Sync, G: Gate, C: Closer>(
     mutants: u32,
 ) -> Result<Matrix, AllocError>
     requires workers { (1 ≤ workers) × (workers ≤ most_workers) }
-    requires instrumented { IsInstrumented accepted.now }
+    requires instrumented { HasItsTree accepted.now }
     requires planned { ArePlanned accepted.now plans.now }
     requires mutable { AreMutable accepted.now decisions.now }
     requires all { mutants ≡ count (seen_accepted accepted.now).program }
     ensures { IfOk result (λ m. (item : ℕ) → Holds m 0 item
         ↔ ((item < mutants * length plans.now)
-        × items.Kills (seen_accepted accepted.now).program (seen_plans plans.now) item)) }
+        × items.KillsAtItem (seen_accepted accepted.now).program (seen_plans plans.now) item)) }
 {
     let program = accepted.tree.program();
     let shape = Shape {
@@ -128,7 +128,7 @@ fn killed_by<R: Threads + Sync, G: Gate, C: Closer>(
     mutants: u32,
 ) -> Result<Vec<Option<u32>>, AllocError>
     requires workers { (1 ≤ workers) × (workers ≤ most_workers) }
-    requires instrumented { IsInstrumented accepted.now }
+    requires instrumented { HasItsTree accepted.now }
     requires planned { ArePlanned accepted.now plans.now }
     requires mutable { AreMutable accepted.now decisions.now }
     requires all { mutants ≡ count (seen_accepted accepted.now).program }
@@ -161,7 +161,7 @@ fn told<'a>(
     killers: &[Option<u32>],
     states: &[TestState],
 ) -> Result<Reply<'a>, AllocError>
-    requires instrumented { IsInstrumented accepted.now }
+    requires instrumented { HasItsTree accepted.now }
     requires mutable { AreMutable accepted.now decisions.now }
     requires killed { AreKilled (seen_accepted accepted.now).program (seen_plans plans.now)
         killers.now }
@@ -188,7 +188,7 @@ fn mutated<'a, R: Threads + Sync, G: Gate, C: Closer>(
     decisions: &[Decision],
 ) -> Result<Reply<'a>, AllocError>
     requires workers { (1 ≤ workers) × (workers ≤ most_workers) }
-    requires instrumented { IsInstrumented accepted.now }
+    requires instrumented { HasItsTree accepted.now }
     requires planned { ArePlanned accepted.now plans.now }
     requires mutable { AreMutable accepted.now decisions.now }
     ensures { IfOk result (λ reply. Mutates (seen_accepted accepted.now) (seen_plans plans.now)
@@ -210,7 +210,7 @@ pub fn mutate<'a, R: Threads + Sync, G: Gate, C: Closer>(
     decisions: &[Decision],
 ) -> Result<Reply<'a>, AllocError>
     requires workers { (1 ≤ workers) × (workers ≤ most_workers) }
-    requires instrumented { IsInstrumented accepted }
+    requires instrumented { HasItsTree accepted }
     requires planned { ArePlanned accepted plans.now }
     requires mutable { AreMutable accepted decisions.now }
     ensures { IfOk result (λ reply. Mutates (seen_accepted accepted.entry) (seen_plans plans.now)

@@ -5,7 +5,7 @@ ghost use Rattle.mc_oblige.specs.Shown.{HasEvent};
 ghost use Rattle.mc_port.specs.Lines.{bytes_of};
 ghost use Rattle.mc_replies.specs.Seen.{seen_reply};
 ghost use Rattle.mc_station.specs.Ran.{AreIn, AreTold, seen_ran};
-ghost use Rattle.mc_station.specs.Seen.{IsInstrumented, seen_accepted};
+ghost use Rattle.mc_station.specs.Seen.{HasItsTree, seen_accepted};
 ghost use Rattle.mc_station.specs.commands.Reduce.{ReducesOn, keep_line, keep_lines, kept_line, reduced_lines, text_in};
 
 use crate::accepted::Accepted;
@@ -129,7 +129,7 @@ fn reduced<'a>(
     accepted: &Accepted<'_>,
     ran: &Ran,
 ) -> Result<Reply<'a>, AllocError>
-    requires instrumented { IsInstrumented accepted.now }
+    requires instrumented { HasItsTree accepted.now }
     requires told { AreTold (seen_accepted accepted.now) ran.now.matrix (seen_ran ran.now) }
     ensures { IfOk result (λ reply. let a = seen_accepted accepted.now in
         ReducesOn (HasEvent a.map ran.now.matrix) mode a ran.now.names.items
@@ -149,7 +149,7 @@ pub fn reduce<'a>(
     accepted: Accepted<'_>,
     ran: &Ran,
 ) -> Result<Reply<'a>, AllocError>
-    requires instrumented { IsInstrumented accepted }
+    requires instrumented { HasItsTree accepted }
     requires told { AreTold (seen_accepted accepted) ran.now.matrix (seen_ran ran.now) }
     ensures { IfOk result (λ reply. let a = seen_accepted accepted.entry in
         ReducesOn (HasEvent a.map ran.now.matrix) mode a ran.now.names.items

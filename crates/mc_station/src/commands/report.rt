@@ -9,7 +9,7 @@ ghost use Rattle.mc_report.specs.Forms.{lines_in_form};
 ghost use Rattle.mc_replies.specs.Reply as spec;
 ghost use Rattle.mc_replies.specs.Seen.{seen_reply};
 ghost use Rattle.mc_station.specs.Ran.{AreTold};
-ghost use Rattle.mc_station.specs.Seen.{AreReasons, IsInstrumented, seen_accepted, seen_tested};
+ghost use Rattle.mc_station.specs.Seen.{AreReasons, HasItsTree, seen_accepted, seen_tested};
 ghost use Rattle.mc_station.specs.commands.Report.{IsReportOn, ReportsOn, form_of, mode_of};
 
 use crate::accepted::Accepted;
@@ -69,7 +69,7 @@ pub fn report_on<'a>(
     tests: Tested,
     justifications: &[Justification],
 ) -> Result<Report<'a>, AllocError>
-    requires instrumented { IsInstrumented accepted }
+    requires instrumented { HasItsTree accepted }
     requires told { AreTold (seen_accepted accepted) matrix.now (seen_tested tests) }
     requires reasons { AreReasons accepted justifications.now }
     ensures made { IfOk result (λ report. let a = seen_accepted accepted.entry in
@@ -105,7 +105,7 @@ pub fn report<'a>(
     tests: Tested,
     justifications: &[Justification],
 ) -> Result<Reply<'a>, AllocError>
-    requires instrumented { IsInstrumented accepted }
+    requires instrumented { HasItsTree accepted }
     requires told { AreTold (seen_accepted accepted) matrix.now (seen_tested tests) }
     requires reasons { AreReasons accepted justifications.now }
     ensures { IfOk result (λ reply. let a = seen_accepted accepted.entry in

@@ -9,9 +9,9 @@ ghost use Rattle.mc_replies.specs.Phases.{Reaches};
 ghost use Rattle.mc_replies.specs.Seen.{seen_reply};
 ghost use Rattle.mc_tests.specs.Seen.{seen_plans};
 ghost use Rattle.mc_station.specs.Ran.{AreTold, seen_ran};
-ghost use Rattle.mc_station.specs.Seen.{ArePlanned, IsInstrumented, IsOpened, seen_accepted};
-ghost use Rattle.mc_station.specs.Tests.{Fits, JudgesTests};
-ghost use Rattle.mc_station.specs.commands.Selfload.{Loads, Sums, SumsOn};
+ghost use Rattle.mc_station.specs.Seen.{ArePlanned, HasItsTree, IsOpened, seen_accepted};
+ghost use Rattle.mc_station.specs.Tests.{MatrixFits, JudgesTests};
+ghost use Rattle.mc_station.specs.commands.Selfload.{LoadsItself, Sums, SumsOn};
 
 use crate::accepted::Accepted;
 use crate::commands::report::report_on;
@@ -45,7 +45,7 @@ fn summary<'a>(
     accepted: Accepted<'_>,
     ran: Ran,
 ) -> Result<Reply<'a>, AllocError>
-    requires instrumented { IsInstrumented accepted }
+    requires instrumented { HasItsTree accepted }
     requires told { AreTold (seen_accepted accepted) ran.matrix (seen_ran ran) }
     ensures { IfOk result (λ reply. let a = seen_accepted accepted.entry in
         SumsOn (HasEvent a.map ran.matrix) count a (seen_ran ran)
@@ -68,7 +68,7 @@ fn opened<'a, R: Threads + Sync, G: Gate, C: Closer>(
     opened: Opened,
 ) -> Result<Reply<'a>, AllocError>
     requires workers { IsWithin 1 most_workers load.workers }
-    requires instrumented { IsInstrumented accepted }
+    requires instrumented { HasItsTree accepted }
     requires planned { ArePlanned accepted plans.now }
     requires opened { IsOpened accepted plans.now opened }
     ensures { IfOk result (λ reply. Sums (C.skipped means.entry.closer.now) load.count
@@ -92,10 +92,10 @@ fn planned<'a, R: Threads + Sync, G: Gate, C: Closer>(
     plans: &[TestPlan],
 ) -> Result<Reply<'a>, AllocError>
     requires workers { IsWithin 1 most_workers load.workers }
-    requires instrumented { IsInstrumented accepted }
+    requires instrumented { HasItsTree accepted }
     requires planned { ArePlanned accepted plans.now }
     ensures { IfOk result (λ reply. let a = seen_accepted accepted.entry in
-        Reaches (Fits a (seen_plans plans.now))
+        Reaches (MatrixFits a (seen_plans plans.now))
         (λ _. Sums (C.skipped means.entry.closer.now) load.count a (seen_plans plans.now))
         (seen_reply reply)) }
 {
@@ -117,10 +117,10 @@ fn loaded<'a, R: Threads + Sync, G: Gate, C: Closer>(
     tests: &[u8],
 ) -> Result<Reply<'a>, AllocError>
     requires workers { IsWithin 1 most_workers load.workers }
-    requires instrumented { IsInstrumented accepted }
+    requires instrumented { HasItsTree accepted }
     ensures { IfOk result (λ reply. let a = seen_accepted accepted.entry in
         Reaches (JudgesTests a.program usual_fuel tests.now)
-        (λ plans. Reaches (Fits a plans)
+        (λ plans. Reaches (MatrixFits a plans)
         (λ _. Sums (C.skipped means.entry.closer.now) load.count a plans))
         (seen_reply reply)) }
 {
@@ -141,7 +141,7 @@ pub fn selfload<'a, R: Threads + Sync, G: Gate, C: Closer>(
 ) -> Result<Reply<'a>, AllocError>
     requires count { IsWithin 1 most_functions load.count }
     requires workers { IsWithin 1 most_workers load.workers }
-    ensures { IfOk result (λ reply. Loads (C.skipped means.entry.closer.now) load.count
+    ensures { IfOk result (λ reply. LoadsItself (C.skipped means.entry.closer.now) load.count
         (seen_reply reply)) }
 {
     let (source, tests) = generate(alloc, load.count)?;

@@ -4,7 +4,7 @@ ghost use Rattle.mc_meaning.specs.Seen.{told_of};
 ghost use Rattle.mc_oblige.specs.Shown.{HasEvent};
 ghost use Rattle.mc_replies.specs.Seen.{seen_reply};
 ghost use Rattle.mc_station.specs.Ran.{AreTold, seen_ran};
-ghost use Rattle.mc_station.specs.Seen.{IsInstrumented, seen_accepted};
+ghost use Rattle.mc_station.specs.Seen.{HasItsTree, seen_accepted};
 ghost use Rattle.mc_station.specs.commands.Vectors.{ListsOn};
 
 use crate::accepted::Accepted;
@@ -16,7 +16,7 @@ use std::alloc::{AllocError, Global};
 
 // The reply of `vectors`, from a source that is lent.
 fn listed<'a>(alloc: Global, accepted: &Accepted<'_>, ran: &Ran) -> Result<Reply<'a>, AllocError>
-    requires instrumented { IsInstrumented accepted.now }
+    requires instrumented { HasItsTree accepted.now }
     requires told { AreTold (seen_accepted accepted.now) ran.now.matrix (seen_ran ran.now) }
     ensures { IfOk result (λ reply. let a = seen_accepted accepted.now in
         ListsOn (HasEvent a.map ran.now.matrix) a ran.now.names.items ran.now.states.items
@@ -41,7 +41,7 @@ pub fn vectors<'a>(
     accepted: Accepted<'_>,
     ran: &Ran,
 ) -> Result<Reply<'a>, AllocError>
-    requires instrumented { IsInstrumented accepted }
+    requires instrumented { HasItsTree accepted }
     requires told { AreTold (seen_accepted accepted) ran.now.matrix (seen_ran ran.now) }
     ensures { IfOk result (λ reply. let a = seen_accepted accepted.entry in
         ListsOn (HasEvent a.map ran.now.matrix) a ran.now.names.items ran.now.states.items

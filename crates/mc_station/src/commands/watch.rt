@@ -8,7 +8,7 @@ ghost use Rattle.mc_tests.specs.Seen.{seen_plans};
 ghost use Rattle.mc_watch.specs.Looks.{most_looks};
 ghost use Rattle.mc_station.specs.Looked.{IsLooked};
 ghost use Rattle.mc_station.specs.Ran.{IsRun};
-ghost use Rattle.mc_station.specs.Seen.{ArePlanned, IsInstrumented, IsOpened, seen_accepted};
+ghost use Rattle.mc_station.specs.Seen.{ArePlanned, HasItsTree, IsOpened, seen_accepted};
 ghost use Rattle.mc_station.specs.commands.Watch.{Watches, end_line, look_line, look_lines, watch_lines};
 
 use crate::accepted::Accepted;
@@ -91,7 +91,7 @@ fn run_watched<R: Threads + Sync, G: Gate, C: Closer>(
 ) -> Result<(Ran, Vec<u32>), AllocError>
     requires workers { (1 ≤ workers) × (workers < most_workers) }
     requires looks { (1 ≤ looks) × (looks ≤ most_looks) }
-    requires instrumented { IsInstrumented accepted.now }
+    requires instrumented { HasItsTree accepted.now }
     requires planned { ArePlanned accepted.now plans.now }
     requires opened { IsOpened accepted.now plans.now opened }
     ensures run { IfOk result (λ r.
@@ -152,7 +152,7 @@ pub fn watch<'a, R: Threads + Sync, G: Gate, C: Closer>(
 ) -> Result<Reply<'a>, AllocError>
     requires workers { (1 ≤ workers) × (workers < most_workers) }
     requires looks { (1 ≤ looks) × (looks ≤ most_looks) }
-    requires instrumented { IsInstrumented accepted }
+    requires instrumented { HasItsTree accepted }
     requires planned { ArePlanned accepted plans.now }
     requires opened { IsOpened accepted plans.now opened }
     ensures { IfOk result (λ reply. Watches looks (seen_accepted accepted.entry)

@@ -68,7 +68,7 @@ pub(crate) fn call(
     given: Result<Given<Vec<Argument>>, AllocError>,
 ) -> Result<Found, AllocError>
     ensures { (all : source_tree.Expressions) (first : scopes.Scope)
-        → count ≡ calls.count_of all
+        → count ≡ calls.argument_count all
         → calls.parameters_of (meaning_of_callee callee)
         ≡ calls.parameters_of (scopes.meaning_of (name_of name.now) first)
         → ((n : source_tree.Name) (k : ℕ) (at : Span) (x : calls.Given Arguments)

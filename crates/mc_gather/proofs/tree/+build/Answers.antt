@@ -1,6 +1,7 @@
 use Rattle.std.proofs.Common.{◌≡◌, ◌∙◌, ap, sym, subst, ◌+◌, ◌++◌, length, IfOk, arith}
 use Rattle.mc_cond.specs.Tree.{tree_of}
 use Rattle.mc_typed.specs.Views.{expression_of}
+use Rattle.mc_roots.specs.declared.operators.Junction.TheVariants.{Short}
 use Rattle.mc_roots.specs.Nodes.{Node}
 use Rattle.mc_roots.specs.Conditions.{tree_from, width}
 use Rattle.mc_roots.specs.steps.Walk.{spans}
@@ -15,19 +16,19 @@ condition-requires t c = omega (arith, c.requires)
 
 pub returns-in-Constant-clause-tree : goal.returns-in-Constant-clause-tree
 returns-in-Constant-clause-tree t c =
-    condition_tree c.condition.result (length c.args.before.now.items) (node c.args.tree.now)
-    (leaf c.args.tree.now c.in-Constant.is) c.condition.ensures.tree
+    condition_tree c.condition-in-Constant.result (length c.args.before.now.items) (node c.args.tree.now)
+    (leaf c.args.tree.now c.in-Constant.is) c.condition-in-Constant.ensures.tree
 
 pub returns-in-Constant-clause-count : goal.returns-in-Constant-clause-count
 returns-in-Constant-clause-count t c =
-    condition_count c.condition.result (length c.args.before.now.items) (length c.condition.new.before.items)
-    (node c.args.tree.now) (leaf c.args.tree.now c.in-Constant.is) c.condition.ensures.count
+    condition_count c.condition-in-Constant.result (length c.args.before.now.items) (length c.condition-in-Constant.new.before.items)
+    (node c.args.tree.now) (leaf c.args.tree.now c.in-Constant.is) c.condition-in-Constant.ensures.count
 
 pub returns-in-Constant-clause-spans : goal.returns-in-Constant-clause-spans
 returns-in-Constant-clause-spans t c =
-    condition_spans c.condition.result c.span.result c.args.before.now.items c.condition.new.before.items
+    condition_spans c.condition-in-Constant.result c.span.result c.args.before.now.items c.condition-in-Constant.new.before.items
     (node c.args.tree.now) (leaf c.args.tree.now c.in-Constant.is)
-    (c.span.ensures ∙ same_span (expression_of c.args.tree.now)) c.condition.ensures.spans
+    (c.span.ensures ∙ same_span (expression_of c.args.tree.now)) c.condition-in-Constant.ensures.spans
 
 pub returns-in_ok-operand-in-Not-clause-tree : goal.returns-in_ok-operand-in-Not-clause-tree
 returns-in_ok-operand-in-Not-clause-tree t c =
@@ -50,7 +51,7 @@ returns-in_ok-operand-in-Not-clause-spans t c =
 
 pub returns-in_ok-right-in-Logic-clause-tree : goal.returns-in_ok-right-in-Logic-clause-tree
 returns-in_ok-right-in-Logic-clause-tree t c =
-    logic_tree c.join.result c.in-Logic.operator c.in_ok-left-in-Logic.left c.in_ok-right-in-Logic.right
+    logic_tree c.join.result (Short c.in-Logic.operator) c.in_ok-left-in-Logic.left c.in_ok-right-in-Logic.right
     (length c.args.before.now.items) (length c.build-in-Logic.new.before.items) (node c.args.tree.now)
     (node c.deref-in-Logic.result.now) (node c.deref-in-Logic-2.result.now) c.in-Logic.span
     (is_logic c.args.tree.now c.deref-in-Logic.result.now c.deref-in-Logic-2.result.now c.in-Logic.operator c.in-Logic.left c.in-Logic.right c.in-Logic.span c.in-Logic.is c.deref-in-Logic.ensures c.deref-in-Logic-2.ensures)
@@ -59,7 +60,7 @@ returns-in_ok-right-in-Logic-clause-tree t c =
 pub returns-in_ok-right-in-Logic-clause-count : goal.returns-in_ok-right-in-Logic-clause-count
 returns-in_ok-right-in-Logic-clause-count t c =
     if_any c.join.result
-    (logic_count (length c.args.before.now.items) (length c.build-in-Logic.new.before.items) (length c.build-in-Logic-2.new.before.items) c.in-Logic.operator
+    (logic_count (length c.args.before.now.items) (length c.build-in-Logic.new.before.items) (length c.build-in-Logic-2.new.before.items) (Short c.in-Logic.operator)
     (node c.args.tree.now) (node c.deref-in-Logic.result.now) (node c.deref-in-Logic-2.result.now) c.in-Logic.span
     (is_logic c.args.tree.now c.deref-in-Logic.result.now c.deref-in-Logic-2.result.now c.in-Logic.operator c.in-Logic.left c.in-Logic.right c.in-Logic.span c.in-Logic.is c.deref-in-Logic.ensures c.deref-in-Logic-2.ensures)
     c.in_ok-left-in-Logic.ensures.count c.in_ok-right-in-Logic.ensures.count)
@@ -67,7 +68,7 @@ returns-in_ok-right-in-Logic-clause-count t c =
 pub returns-in_ok-right-in-Logic-clause-spans : goal.returns-in_ok-right-in-Logic-clause-spans
 returns-in_ok-right-in-Logic-clause-spans t c =
     if_any c.join.result
-    (logic_spans c.args.before.now.items c.build-in-Logic.new.before.items c.build-in-Logic-2.new.before.items c.in-Logic.operator
+    (logic_spans c.args.before.now.items c.build-in-Logic.new.before.items c.build-in-Logic-2.new.before.items (Short c.in-Logic.operator)
     (node c.args.tree.now) (node c.deref-in-Logic.result.now) (node c.deref-in-Logic-2.result.now) c.in-Logic.span
     (is_logic c.args.tree.now c.deref-in-Logic.result.now c.deref-in-Logic-2.result.now c.in-Logic.operator c.in-Logic.left c.in-Logic.right c.in-Logic.span c.in-Logic.is c.deref-in-Logic.ensures c.deref-in-Logic-2.ensures)
     c.in_ok-left-in-Logic.ensures.spans c.in_ok-right-in-Logic.ensures.spans)

@@ -38,7 +38,7 @@ answer-returns-in_err-holds-in-Compared-clause-ran t c =
     let a = c.in-Compared in
     rw (c.from_residual.ensures, c.in-Compared.is, asks_compared)
     (told_condition_end W a.note.register a.note.on_true a.note.on_false
-    (does.value_of W (p.Binary (Binary (operator_of a.relation)) a.of (leaf_of a.left) (leaf_of a.right) a.span)) (state_of c.args.store.now) c.related.new.store
+    (does.evaluate W (p.Binary (Binary (operator_of a.relation)) a.of (leaf_of a.left) (leaf_of a.right) a.span)) (state_of c.args.store.now) c.related.new.store
     (c.in_err-holds-in-Compared.ensures.ran a.span))
 
 pub answer-returns-in_err-holds-in-Compared-clause-kept : goal.answer-returns-in_err-holds-in-Compared-clause-kept
@@ -62,7 +62,7 @@ answer-returns-in_ok-holds-in-Compared-clause-ran t c =
     let a = c.in-Compared in
     rw (c.in-Compared.is, asks_compared)
     (told_condition W a.note.register a.note.on_true a.note.on_false
-    (does.value_of W (p.Binary (Binary (operator_of a.relation)) a.of (leaf_of a.left) (leaf_of a.right) a.span)) (state_of c.args.store.now)
+    (does.evaluate W (p.Binary (Binary (operator_of a.relation)) a.of (leaf_of a.left) (leaf_of a.right) a.span)) (state_of c.args.store.now)
     c.in_ok-holds-in-Compared.holds c.related.new.store c.note.new.store (c.in_ok-holds-in-Compared.ensures.ran a.span) c.note.ensures.ran)
 
 pub answer-returns-in_ok-holds-in-Compared-clause-kept : goal.answer-returns-in_ok-holds-in-Compared-clause-kept
@@ -87,7 +87,7 @@ pub answer-returns-in_err-number-in-Leaf-clause-ran : goal.answer-returns-in_err
 answer-returns-in_err-number-in-Leaf-clause-ran t c =
     let W = activation_of c.args.frame.now in let S = state_of c.args.store.now in
     let a = c.in-Leaf in
-    let E = does.value_of W (leaf_of a.asked) in
+    let E = does.evaluate W (leaf_of a.asked) in
     rw (c.from_residual-in_err-number-in-Leaf.ensures, c.in-Leaf.is, asks_leaf)
     (told_condition_end W a.note.register a.note.on_true a.note.on_false E S c.leaf.new.store (told_word_end E S c.leaf.new.store c.in_err-number-in-Leaf.ensures.ran))
 
@@ -110,7 +110,7 @@ pub answer-returns-in_ok-number-in-Leaf-clause-ran : goal.answer-returns-in_ok-n
 answer-returns-in_ok-number-in-Leaf-clause-ran t c =
     let W = activation_of c.args.frame.now in let S = state_of c.args.store.now in
     let a = c.in-Leaf in
-    let E = does.value_of W (leaf_of a.asked) in
+    let E = does.evaluate W (leaf_of a.asked) in
     let fits : c.in_ok-number-in-Leaf.number < 18446744073709551616 = search rules in
     rw (c.in-Leaf.is, asks_leaf)
     (told_condition W a.note.register a.note.on_true a.note.on_false E S c.is_true-is_set.result c.leaf.new.store c.note-in-Leaf.new.store
@@ -153,7 +153,7 @@ answer-returns-in-Logic-clause-limits t c = c.joined.ensures.limits
 pub negated-returns-in_err-holds-clause-ran : goal.negated-returns-in_err-holds-clause-ran
 negated-returns-in_err-holds-clause-ran t c span =
     rw c.from_residual.ensures
-    (told_not_end (does.value_of (activation_of c.args.frame.now) (question_of c.args.operand.now)) (state_of c.args.store.now) c.answer.new.store c.in_err-holds.ensures.ran)
+    (told_not_end (does.evaluate (activation_of c.args.frame.now) (question_of c.args.operand.now)) (state_of c.args.store.now) c.answer.new.store c.in_err-holds.ensures.ran)
 
 pub negated-returns-in_err-holds-clause-kept : goal.negated-returns-in_err-holds-clause-kept
 negated-returns-in_err-holds-clause-kept t c = if_none _ _ c.from_residual.ensures
@@ -163,7 +163,7 @@ negated-returns-in_err-holds-clause-limits t c = c.in_err-holds.ensures.limits
 
 pub negated-returns-clause-ran : goal.negated-returns-clause-ran
 negated-returns-clause-ran t c span =
-    told_not (does.value_of (activation_of c.args.frame.now) (question_of c.args.operand.now)) (state_of c.args.store.now) c.in_ok-holds.holds c.answer.new.store c.in_ok-holds.ensures.ran
+    told_not (does.evaluate (activation_of c.args.frame.now) (question_of c.args.operand.now)) (state_of c.args.store.now) c.in_ok-holds.holds c.answer.new.store c.in_ok-holds.ensures.ran
 
 pub negated-returns-clause-kept : goal.negated-returns-clause-kept
 negated-returns-clause-kept t c = c.in_ok-holds.ensures.kept
@@ -175,7 +175,7 @@ pub joined-returns-in_err-holds-clause-ran : goal.joined-returns-in_err-holds-cl
 joined-returns-in_err-holds-clause-ran t c span =
     let W = activation_of c.args.frame.now in
     rw c.from_residual.ensures
-    (told_logic_end c.args.operator (does.value_of W (question_of c.args.left.now)) (does.value_of W (question_of c.args.right.now)) (state_of c.args.store.now) c.answer.new.store c.in_err-holds.ensures.ran)
+    (told_logic_end c.args.operator (does.evaluate W (question_of c.args.left.now)) (does.evaluate W (question_of c.args.right.now)) (state_of c.args.store.now) c.answer.new.store c.in_err-holds.ensures.ran)
 
 pub joined-returns-in_err-holds-clause-kept : goal.joined-returns-in_err-holds-clause-kept
 joined-returns-in_err-holds-clause-kept t c = if_none _ _ c.from_residual.ensures
@@ -186,7 +186,7 @@ joined-returns-in_err-holds-clause-limits t c = c.in_err-holds.ensures.limits
 pub joined-returns-then-goes_on-clause-ran : goal.joined-returns-then-goes_on-clause-ran
 joined-returns-then-goes_on-clause-ran t c span =
     let W = activation_of c.args.frame.now in
-    told_logic c.args.operator (does.value_of W (question_of c.args.left.now)) (does.value_of W (question_of c.args.right.now)) (state_of c.args.store.now)
+    told_logic c.args.operator (does.evaluate W (question_of c.args.left.now)) (does.evaluate W (question_of c.args.right.now)) (state_of c.args.store.now)
     c.in_ok-holds.holds c.answer-then-goes_on.result c.answer.new.store c.answer-then-goes_on.new.store c.in_ok-holds.ensures.ran (sym c.goes_on.ensures ∙ c.if-goes_on.true) c.answer-then-goes_on.ensures.ran
 
 pub joined-returns-then-goes_on-clause-kept : goal.joined-returns-then-goes_on-clause-kept
@@ -199,7 +199,7 @@ joined-returns-then-goes_on-clause-limits t c = c.answer-then-goes_on.ensures.li
 pub joined-returns-else-goes_on-clause-ran : goal.joined-returns-else-goes_on-clause-ran
 joined-returns-else-goes_on-clause-ran t c span =
     let W = activation_of c.args.frame.now in
-    told_logic_short c.args.operator (does.value_of W (question_of c.args.left.now)) (does.value_of W (question_of c.args.right.now)) (state_of c.args.store.now)
+    told_logic_short c.args.operator (does.evaluate W (question_of c.args.left.now)) (does.evaluate W (question_of c.args.right.now)) (state_of c.args.store.now)
     c.in_ok-holds.holds c.answer.new.store c.in_ok-holds.ensures.ran (sym c.goes_on.ensures ∙ c.if-goes_on.false)
 
 pub joined-returns-else-goes_on-clause-kept : goal.joined-returns-else-goes_on-clause-kept

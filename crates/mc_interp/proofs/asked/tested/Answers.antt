@@ -56,7 +56,7 @@ pub returns-in-Asked-clause-did : goal.returns-in-Asked-clause-did
 returns-in-Asked-clause-did g c =
     let M = g.P.Probe.leads in let N = g.met.P.Probe.stays in let J = g.met.P.Probe.joins in
     let W = activation_of c.args.frame.now in let S = state_of c.args.store.now in
-    let E = does.value_of W (question_of c.in-Asked.question.value) in
+    let E = does.evaluate W (question_of c.in-Asked.question.value) in
     let r = rw c.deref.ensures at c.answer-outcome.ensures.ran in
     rw c.in-Asked.is
     (did_decided M N J W c.in-Asked.register c.in-Asked.base E S c.answer-outcome.result c.begin.new.store c.answer-outcome.new.store _ _ _ c.begin.ensures.ran

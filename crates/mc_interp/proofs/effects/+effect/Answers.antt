@@ -12,7 +12,7 @@ returns-in_err-truth-in-Choice-clause-did g t c =
     let M = g.P.Probe.leads in let N = g.met.P.Probe.stays in let J = g.met.P.Probe.joins in
     let W = activation_of c.args.frame.now in let S = state_of c.args.store.now in
     rw (c.from_residual.ensures, c.in-Choice.is, view_choice)
-    (did_choice_end M N J (does.value_of W (view.expression_of c.in-Choice.test)) (effects.effect_of W (view.effect_of c.in-Choice.chosen.value)) (effects.effect_of W (view.effect_of c.in-Choice.other.value)) S _ _ _ c.in_err-truth-in-Choice.ensures.did)
+    (did_choice_end M N J (does.evaluate W (view.expression_of c.in-Choice.test)) (effects.perform W (view.effect_of c.in-Choice.chosen.value)) (effects.perform W (view.effect_of c.in-Choice.other.value)) S _ _ _ c.in_err-truth-in-Choice.ensures.did)
 
 pub returns-then-branch-clause-did : goal.returns-then-branch-clause-did
 returns-then-branch-clause-did g t c =
@@ -20,7 +20,7 @@ returns-then-branch-clause-did g t c =
     let W = activation_of c.args.frame.now in let S = state_of c.args.store.now in
     let k = rw c.deref.ensures at c.effect.ensures.did in
     rw (c.in-Choice.is, view_choice)
-    (did_choice_true M N J (does.value_of W (view.expression_of c.in-Choice.test)) (effects.effect_of W (view.effect_of c.in-Choice.chosen.value)) (effects.effect_of W (view.effect_of c.in-Choice.other.value)) S _ _ _ _ _ _ _ c.in_ok-truth-in-Choice.ensures.did c.if-branch.true k)
+    (did_choice_true M N J (does.evaluate W (view.expression_of c.in-Choice.test)) (effects.perform W (view.effect_of c.in-Choice.chosen.value)) (effects.perform W (view.effect_of c.in-Choice.other.value)) S _ _ _ _ _ _ _ c.in_ok-truth-in-Choice.ensures.did c.if-branch.true k)
 
 pub returns-else-branch-clause-did : goal.returns-else-branch-clause-did
 returns-else-branch-clause-did g t c =
@@ -28,4 +28,4 @@ returns-else-branch-clause-did g t c =
     let W = activation_of c.args.frame.now in let S = state_of c.args.store.now in
     let k = rw c.deref-else-branch.ensures at c.effect-else-branch.ensures.did in
     rw (c.in-Choice.is, view_choice)
-    (did_choice_false M N J (does.value_of W (view.expression_of c.in-Choice.test)) (effects.effect_of W (view.effect_of c.in-Choice.chosen.value)) (effects.effect_of W (view.effect_of c.in-Choice.other.value)) S _ _ _ _ _ _ _ c.in_ok-truth-in-Choice.ensures.did c.if-branch.false k)
+    (did_choice_false M N J (does.evaluate W (view.expression_of c.in-Choice.test)) (effects.perform W (view.effect_of c.in-Choice.chosen.value)) (effects.perform W (view.effect_of c.in-Choice.other.value)) S _ _ _ _ _ _ _ c.in_ok-truth-in-Choice.ensures.did c.if-branch.false k)

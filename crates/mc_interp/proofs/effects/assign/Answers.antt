@@ -14,7 +14,7 @@ returns-in_err-word-clause-did g c =
     let M = g.P.Probe.leads in let N = g.met.P.Probe.stays in let J = g.met.P.Probe.joins in
     let W = activation_of c.args.frame.now in let S = state_of c.args.store.now in
     rw (c.from_residual-in_err-word.ensures)
-    (did_assign_end M N J (does.place_of W (view.place_of c.args.target.now)) (does.value_of W (view.expression_of c.args.right.now)) S c.in_ok-at.at _ _ _ _ _ c.in_ok-at.ensures.did c.in_err-word.ensures.did)
+    (did_assign_end M N J (does.evaluate_place W (view.place_of c.args.target.now)) (does.evaluate W (view.expression_of c.args.right.now)) S c.in_ok-at.at _ _ _ _ _ c.in_ok-at.ensures.did c.in_err-word.ensures.did)
 
 pub write-requires-clause-there : goal.write-requires-clause-there
 write-requires-clause-there g c =
@@ -31,7 +31,7 @@ returns-clause-did g c =
     let M = g.P.Probe.leads in let N = g.met.P.Probe.stays in let J = g.met.P.Probe.joins in
     let W = activation_of c.args.frame.now in let S = state_of c.args.store.now in
     let e = rw c.requires.value_type at c.in_ok-word.ensures.did in
-    did_assign M N J (does.place_of W (view.place_of c.args.target.now)) (does.value_of W (view.expression_of c.args.right.now)) S c.in_ok-at.at _ _ _ _ _ c.in_ok-at.ensures.did _ _ e c.write.ensures.ran
+    did_assign M N J (does.evaluate_place W (view.place_of c.args.target.now)) (does.evaluate W (view.expression_of c.args.right.now)) S c.in_ok-at.at _ _ _ _ _ c.in_ok-at.ensures.did _ _ e c.write.ensures.ran
 
 pub returns-clause-kept : goal.returns-clause-kept
 returns-clause-kept g c =

@@ -12,7 +12,7 @@ returns-in_err-from-clause-did g c =
     let M = g.P.Probe.leads in let N = g.met.P.Probe.stays in let J = g.met.P.Probe.joins in
     let W = activation_of c.args.frame.now in let S = state_of c.args.store.now in
     rw (c.from_residual-in_err-from.ensures)
-    (did_copy_end M N J (does.place_of W (view.place_of c.args.target.now)) (does.structure_of W (view.structure_of c.args.right.now)) S c.in_ok-at.at c.args.cells _ _ _ _ _ c.in_ok-at.ensures.did c.in_err-from.ensures.did)
+    (did_copy_end M N J (does.evaluate_place W (view.place_of c.args.target.now)) (does.evaluate_structure W (view.structure_of c.args.right.now)) S c.in_ok-at.at c.args.cells _ _ _ _ _ c.in_ok-at.ensures.did c.in_err-from.ensures.did)
 
 pub copy-requires-clause-source : goal.copy-requires-clause-source
 copy-requires-clause-source g c =
@@ -32,7 +32,7 @@ pub returns-clause-did : goal.returns-clause-did
 returns-clause-did g c =
     let M = g.P.Probe.leads in let N = g.met.P.Probe.stays in let J = g.met.P.Probe.joins in
     let W = activation_of c.args.frame.now in let S = state_of c.args.store.now in
-    did_copy M N J (does.place_of W (view.place_of c.args.target.now)) (does.structure_of W (view.structure_of c.args.right.now)) S c.in_ok-at.at c.args.cells _ _ _ _ _ c.in_ok-at.ensures.did c.in_ok-from.from _ c.in_ok-from.ensures.did c.copy.ensures.ran
+    did_copy M N J (does.evaluate_place W (view.place_of c.args.target.now)) (does.evaluate_structure W (view.structure_of c.args.right.now)) S c.in_ok-at.at c.args.cells _ _ _ _ _ c.in_ok-at.ensures.did c.in_ok-from.from _ c.in_ok-from.ensures.did c.copy.ensures.ran
 
 pub returns-clause-kept : goal.returns-clause-kept
 returns-clause-kept g c =

@@ -16,7 +16,7 @@ returns-in_err-word-clause-did g c =
     let M = g.P.Probe.leads in let N = g.met.P.Probe.stays in let J = g.met.P.Probe.joins in
     let W = activation_of c.args.frame.now in let S = state_of c.args.store.now in
     rw (c.from_residual-in_err-word.ensures)
-    (did_update_end M N J (does.place_of W (view.place_of c.args.target.now)) (does.value_of W (view.expression_of c.args.right.now)) S c.in_ok-at.at _ _ _ _ _ c.in_ok-at.ensures.did c.args.of c.args.common c.args.operator c.in_err-word.ensures.did)
+    (did_update_end M N J (does.evaluate_place W (view.place_of c.args.target.now)) (does.evaluate W (view.expression_of c.args.right.now)) S c.in_ok-at.at _ _ _ _ _ c.in_ok-at.ensures.did c.args.of c.args.common c.args.operator c.in_err-word.ensures.did)
 
 pub update-requires-clause-there : goal.update-requires-clause-there
 update-requires-clause-there g c =
@@ -43,7 +43,7 @@ returns-clause-did g c =
     let M = g.P.Probe.leads in let N = g.met.P.Probe.stays in let J = g.met.P.Probe.joins in
     let W = activation_of c.args.frame.now in let S = state_of c.args.store.now in
     let u = type_of (plain.expression_of c.args.right.now) in
-    did_update M N J (does.place_of W (view.place_of c.args.target.now)) (does.value_of W (view.expression_of c.args.right.now)) S c.in_ok-at.at _ _ _ _ _ c.in_ok-at.ensures.did c.args.of c.args.common c.args.operator (number_of u c.in_ok-word.word) _ _ c.in_ok-word.ensures.did
+    did_update M N J (does.evaluate_place W (view.place_of c.args.target.now)) (does.evaluate W (view.expression_of c.args.right.now)) S c.in_ok-at.at _ _ _ _ _ c.in_ok-at.ensures.did c.args.of c.args.common c.args.operator (number_of u c.in_ok-word.word) _ _ c.in_ok-word.ensures.did
     (c.update.ensures.ran u (right_type c.args.operator c.args.common _ u c.requires.operands))
 
 pub returns-clause-kept : goal.returns-clause-kept

@@ -48,7 +48,7 @@ inner-returns-in_ok-second-in-Binary-clause-did g t c =
     let d = rw (c.deref-in-Binary.ensures, c.in_order-operands.ensures.first) at c.in_ok-first-in-Binary.ensures.did in
     let e = rw (c.deref-in-Binary-2.ensures, c.in_order-operands.ensures.second) at c.in_ok-second-in-Binary.ensures.did in
     rw (c.in-Binary.is, view_binary, plain_binary)
-    (did_operated M N J c.in-Binary.operator c.in-Binary.of _ _ (does.value_of W (view.expression_of c.in-Binary.left.value)) (does.value_of W (view.expression_of c.in-Binary.right.value)) S c.in_ok-first-in-Binary.first c.in_ok-second-in-Binary.second _ _ _ _ _ _ _ _
+    (did_operated M N J c.in-Binary.operator c.in-Binary.of _ _ (does.evaluate W (view.expression_of c.in-Binary.left.value)) (does.evaluate W (view.expression_of c.in-Binary.right.value)) S c.in_ok-first-in-Binary.first c.in_ok-second-in-Binary.second _ _ _ _ _ _ _ _
     s.2 d e c.operate.ensures.value c.give-in-Binary.ensures.ran)
 
 pub inner-returns-in_ok-second-in-Binary-clause-kept : goal.inner-returns-in_ok-second-in-Binary-clause-kept
@@ -72,7 +72,7 @@ inner-returns-in_err-holds-in-Choice-clause-did g t c =
     let M = g.P.Probe.leads in let N = g.met.P.Probe.stays in let J = g.met.P.Probe.joins in
     let W = activation_of c.args.frame.now in let S = state_of c.args.store.now in
     let h = rw c.deref-in-Choice.ensures at c.in_err-holds-in-Choice.ensures.did in
-    rw (c.from_residual-in_err-holds-in-Choice.ensures, c.in-Choice.is, view_choice) (did_choice_end M N J (does.value_of W (view.expression_of c.in-Choice.test.value)) (does.value_of W (view.expression_of c.in-Choice.chosen.value)) (does.value_of W (view.expression_of c.in-Choice.other.value)) S _ _ _ h)
+    rw (c.from_residual-in_err-holds-in-Choice.ensures, c.in-Choice.is, view_choice) (did_choice_end M N J (does.evaluate W (view.expression_of c.in-Choice.test.value)) (does.evaluate W (view.expression_of c.in-Choice.chosen.value)) (does.evaluate W (view.expression_of c.in-Choice.other.value)) S _ _ _ h)
 
 pub inner-returns-then-holds-clause-did : goal.inner-returns-then-holds-clause-did
 inner-returns-then-holds-clause-did g t c =
@@ -82,7 +82,7 @@ inner-returns-then-holds-clause-did g t c =
     let h = rw c.deref-in-Choice.ensures at c.in_ok-holds-in-Choice.ensures.did in
     let k = rw c.deref-then-holds.ensures at c.value-then-holds.ensures.did in
     rw (c.in-Choice.is, view_choice, plain_choice)
-    (did_chosen M N J (does.value_of W (view.expression_of c.in-Choice.test.value)) (does.value_of W (view.expression_of c.in-Choice.chosen.value)) (does.value_of W (view.expression_of c.in-Choice.other.value)) S c.in_ok-holds-in-Choice.holds _ _ _ _ _ _ _ _ h c.if-holds.true s.4 k)
+    (did_chosen M N J (does.evaluate W (view.expression_of c.in-Choice.test.value)) (does.evaluate W (view.expression_of c.in-Choice.chosen.value)) (does.evaluate W (view.expression_of c.in-Choice.other.value)) S c.in_ok-holds-in-Choice.holds _ _ _ _ _ _ _ _ h c.if-holds.true s.4 k)
 
 pub inner-returns-else-holds-clause-did : goal.inner-returns-else-holds-clause-did
 inner-returns-else-holds-clause-did g t c =
@@ -92,7 +92,7 @@ inner-returns-else-holds-clause-did g t c =
     let h = rw c.deref-in-Choice.ensures at c.in_ok-holds-in-Choice.ensures.did in
     let k = rw c.deref-else-holds.ensures at c.value-else-holds.ensures.did in
     rw (c.in-Choice.is, view_choice, plain_choice)
-    (did_other M N J (does.value_of W (view.expression_of c.in-Choice.test.value)) (does.value_of W (view.expression_of c.in-Choice.chosen.value)) (does.value_of W (view.expression_of c.in-Choice.other.value)) S c.in_ok-holds-in-Choice.holds _ _ _ _ _ _ _ _ h c.if-holds.false s.5 k)
+    (did_other M N J (does.evaluate W (view.expression_of c.in-Choice.test.value)) (does.evaluate W (view.expression_of c.in-Choice.chosen.value)) (does.evaluate W (view.expression_of c.in-Choice.other.value)) S c.in_ok-holds-in-Choice.holds _ _ _ _ _ _ _ _ h c.if-holds.false s.5 k)
 
 pub inner-read-requires-clause-typed : goal.inner-read-requires-clause-typed
 inner-read-requires-clause-typed g t c =
@@ -143,7 +143,7 @@ place-returns-in_ok-number-in-Parameter-clause-did g t c =
     let W = activation_of c.args.frame.now in let S = state_of c.args.store.now in
     let d = rw c.deref.ensures at c.in_ok-number-in-Parameter.ensures.did in
     rw (c.in-Parameter.is, view_parameter)
-    (did_lent M N J (slice_get W.arrays c.in-Parameter.array) c.in-Parameter.stride (does.value_of W (view.expression_of c.in-Parameter.index.value)) S _ _ _ _ _ _ d (c.lent_item.ensures.ran (type_of (plain.expression_of c.in-Parameter.index.value))))
+    (did_lent M N J (slice_get W.arrays c.in-Parameter.array) c.in-Parameter.stride (does.evaluate W (view.expression_of c.in-Parameter.index.value)) S _ _ _ _ _ _ d (c.lent_item.ensures.ran (type_of (plain.expression_of c.in-Parameter.index.value))))
 
 pub place-returns-in_ok-number-in-Parameter-clause-placed : goal.place-returns-in_ok-number-in-Parameter-clause-placed
 place-returns-in_ok-number-in-Parameter-clause-placed g t c =
@@ -163,7 +163,7 @@ place-returns-in_ok-number-in-Item-clause-did g t c =
     let d = rw c.deref-in-Item.ensures at c.in_ok-base-in-Item.ensures.did in
     let e = rw c.deref-in-Item-2.ensures at c.in_ok-number-in-Item.ensures.did in
     rw (c.in-Item.is, view_item)
-    (did_item M N J c.in-Item.length c.in-Item.stride (does.place_of W (view.place_of c.in-Item.array.value)) (does.value_of W (view.expression_of c.in-Item.index.value)) S c.in_ok-base-in-Item.base _ _ _ _ _ _ _ _ d e (c.item.ensures.ran (type_of (plain.expression_of c.in-Item.index.value))))
+    (did_item M N J c.in-Item.length c.in-Item.stride (does.evaluate_place W (view.place_of c.in-Item.array.value)) (does.evaluate W (view.expression_of c.in-Item.index.value)) S c.in_ok-base-in-Item.base _ _ _ _ _ _ _ _ d e (c.item.ensures.ran (type_of (plain.expression_of c.in-Item.index.value))))
 
 pub place-returns-in_ok-number-in-Item-clause-placed : goal.place-returns-in_ok-number-in-Item-clause-placed
 place-returns-in_ok-number-in-Item-clause-placed g t c =
@@ -190,14 +190,14 @@ truth-returns-in_err-holds-in-Not-clause-did g t c =
     let M = g.P.Probe.leads in let N = g.met.P.Probe.stays in let J = g.met.P.Probe.joins in
     let W = activation_of c.args.frame.now in let S = state_of c.args.store.now in
     let h = rw c.deref.ensures at c.in_err-holds-in-Not.ensures.did in
-    rw (c.from_residual.ensures, c.in-Not.is, view_not) (did_not_end M N J (does.value_of W (view.expression_of c.in-Not.operand.value)) S _ _ _ h)
+    rw (c.from_residual.ensures, c.in-Not.is, view_not) (did_not_end M N J (does.evaluate W (view.expression_of c.in-Not.operand.value)) S _ _ _ h)
 
 pub truth-returns-in_err-holds-in-Logic-clause-did : goal.truth-returns-in_err-holds-in-Logic-clause-did
 truth-returns-in_err-holds-in-Logic-clause-did g t c =
     let M = g.P.Probe.leads in let N = g.met.P.Probe.stays in let J = g.met.P.Probe.joins in
     let W = activation_of c.args.frame.now in let S = state_of c.args.store.now in
     let h = rw c.deref-in-Logic.ensures at c.in_err-holds-in-Logic.ensures.did in
-    rw (c.from_residual-in_err-holds-in-Logic.ensures, c.in-Logic.is, view_logic) (did_logic_end M N J c.in-Logic.operator (does.value_of W (view.expression_of c.in-Logic.left.value)) (does.value_of W (view.expression_of c.in-Logic.right.value)) S _ _ _ h)
+    rw (c.from_residual-in_err-holds-in-Logic.ensures, c.in-Logic.is, view_logic) (did_logic_end M N J c.in-Logic.operator (does.evaluate W (view.expression_of c.in-Logic.left.value)) (does.evaluate W (view.expression_of c.in-Logic.right.value)) S _ _ _ h)
 
 pub truth-returns-in_ok-holds-in-Not-clause-did : goal.truth-returns-in_ok-holds-in-Not-clause-did
 truth-returns-in_ok-holds-in-Not-clause-did g t c =
@@ -205,7 +205,7 @@ truth-returns-in_ok-holds-in-Not-clause-did g t c =
     let W = activation_of c.args.frame.now in let S = state_of c.args.store.now in
     let h = rw c.deref.ensures at c.in_ok-holds-in-Not.ensures.did in
     rw (c.in-Not.is, view_not)
-    (did_not M N J (does.value_of W (view.expression_of c.in-Not.operand.value)) S c.in_ok-holds-in-Not.holds _ _ _ h)
+    (did_not M N J (does.evaluate W (view.expression_of c.in-Not.operand.value)) S c.in_ok-holds-in-Not.holds _ _ _ h)
 
 pub truth-returns-then-goes_on-clause-did : goal.truth-returns-then-goes_on-clause-did
 truth-returns-then-goes_on-clause-did g t c =
@@ -214,7 +214,7 @@ truth-returns-then-goes_on-clause-did g t c =
     let h = rw c.deref-in-Logic.ensures at c.in_ok-holds-in-Logic.ensures.did in
     let k = rw c.deref-then-goes_on.ensures at c.truth-then-goes_on.ensures.did in
     rw (c.in-Logic.is, view_logic)
-    (did_logic M N J c.in-Logic.operator (does.value_of W (view.expression_of c.in-Logic.left.value)) (does.value_of W (view.expression_of c.in-Logic.right.value)) S c.in_ok-holds-in-Logic.holds _ _ _ _ _ _ h (sym c.goes_on.ensures ∙ c.if-goes_on.true) k)
+    (did_logic M N J c.in-Logic.operator (does.evaluate W (view.expression_of c.in-Logic.left.value)) (does.evaluate W (view.expression_of c.in-Logic.right.value)) S c.in_ok-holds-in-Logic.holds _ _ _ _ _ _ h (sym c.goes_on.ensures ∙ c.if-goes_on.true) k)
 
 pub truth-returns-else-goes_on-clause-did : goal.truth-returns-else-goes_on-clause-did
 truth-returns-else-goes_on-clause-did g t c =
@@ -222,7 +222,7 @@ truth-returns-else-goes_on-clause-did g t c =
     let W = activation_of c.args.frame.now in let S = state_of c.args.store.now in
     let h = rw c.deref-in-Logic.ensures at c.in_ok-holds-in-Logic.ensures.did in
     rw (c.in-Logic.is, view_logic)
-    (did_logic_short M N J c.in-Logic.operator (does.value_of W (view.expression_of c.in-Logic.left.value)) (does.value_of W (view.expression_of c.in-Logic.right.value)) S c.in_ok-holds-in-Logic.holds _ _ _ h (◌∙◌ {a = goes_on c.in-Logic.operator c.in_ok-holds-in-Logic.holds} (sym c.goes_on.ensures) c.if-goes_on.false))
+    (did_logic_short M N J c.in-Logic.operator (does.evaluate W (view.expression_of c.in-Logic.left.value)) (does.evaluate W (view.expression_of c.in-Logic.right.value)) S c.in_ok-holds-in-Logic.holds _ _ _ h (◌∙◌ {a = goes_on c.in-Logic.operator c.in_ok-holds-in-Logic.holds} (sym c.goes_on.ensures) c.if-goes_on.false))
 
 pub truth-returns-in_err-second-in-Some-clause-did : goal.truth-returns-in_err-second-in-Some-clause-did
 truth-returns-in_err-second-in-Some-clause-did g t c =
@@ -232,7 +232,7 @@ truth-returns-in_err-second-in-Some-clause-did g t c =
     let d = rw (c.deref-in-Some.ensures, c.in_order-operands.ensures.first) at c.in_ok-first-in-Some.ensures.did in
     let e = rw (c.deref-in-Some-2.ensures, c.in_order-operands.ensures.second) at c.in_err-second-in-Some.ensures.did in
     rw (c.from_residual-in_err-second-in-Some.ensures, c.in-Binary.is, view_binary, r.0)
-    (did_compared_right M N J c.in-Some.compared c.in-Binary.of (does.value_of W (view.expression_of c.in-Binary.left.value)) (does.value_of W (view.expression_of c.in-Binary.right.value)) S _ _ _ _ _ _ d e)
+    (did_compared_right M N J c.in-Some.compared c.in-Binary.of (does.evaluate W (view.expression_of c.in-Binary.left.value)) (does.evaluate W (view.expression_of c.in-Binary.right.value)) S _ _ _ _ _ _ d e)
 
 pub truth-returns-in_ok-second-in-Some-clause-did : goal.truth-returns-in_ok-second-in-Some-clause-did
 truth-returns-in_ok-second-in-Some-clause-did g t c =
@@ -244,13 +244,13 @@ truth-returns-in_ok-second-in-Some-clause-did g t c =
     let d = rw (c.deref-in-Some.ensures, c.in_order-operands.ensures.first) at c.in_ok-first-in-Some.ensures.did in
     let e = rw (c.deref-in-Some-2.ensures, c.in_order-operands.ensures.second) at c.in_ok-second-in-Some.ensures.did in
     rw (c.in-Binary.is, view_binary, r.0)
-    (did_compared M N J c.in-Some.compared c.in-Binary.of (does.value_of W (view.expression_of c.in-Binary.left.value)) (does.value_of W (view.expression_of c.in-Binary.right.value)) S _ _ c.in_ok-first-in-Some.first c.in_ok-second-in-Some.second c.compare.result _ _ _ _ _ h d e c.compare.ensures)
+    (did_compared M N J c.in-Some.compared c.in-Binary.of (does.evaluate W (view.expression_of c.in-Binary.left.value)) (does.evaluate W (view.expression_of c.in-Binary.right.value)) S _ _ c.in_ok-first-in-Some.first c.in_ok-second-in-Some.second c.compare.result _ _ _ _ _ h d e c.compare.ensures)
 
 pub value-returns-in_ok-holds-clause-did : goal.value-returns-in_ok-holds-clause-did
 value-returns-in_ok-holds-clause-did g t c =
     let M = g.P.Probe.leads in
     let F = c.args.frame.now in
-    did_word M (type_of (plain.expression_of c.args.e.now)) (does.value_of (activation_of F) (view.expression_of c.args.e.now) (state_of c.args.store.now))
+    did_word M (type_of (plain.expression_of c.args.e.now)) (does.evaluate (activation_of F) (view.expression_of c.args.e.now) (state_of c.args.store.now))
     c.in_ok-holds.holds _ _ _ _
     (only_logical (activation_of F) (view.expression_of c.args.e.now) (state_of c.args.store.now) (sym c.is_logical.ensures ∙ c.if-is_logical.true))
     c.from.ensures c.in_ok-holds.ensures.did
@@ -274,7 +274,7 @@ truth-returns-in-Decision-clause-did g t c =
     let W = activation_of c.args.frame.now in let S = state_of c.args.store.now in
     let h = rw c.deref-in-Decision.ensures at c.truth-outcome.ensures.did in
     rw (c.in-Probe.is, view_probe, c.in-Decision.is)
-    (did_decided M N J W c.in-Decision.register c.in-Decision.base (does.value_of W (view.expression_of c.in-Probe.operand.value)) S c.truth-outcome.result c.begin.new.store c.truth-outcome.new.store _ _ _ c.begin.ensures.ran h c.decide.ensures.did)
+    (did_decided M N J W c.in-Decision.register c.in-Decision.base (does.evaluate W (view.expression_of c.in-Probe.operand.value)) S c.truth-outcome.result c.begin.new.store c.truth-outcome.new.store _ _ _ c.begin.ensures.ran h c.decide.ensures.did)
 
 pub truth-returns-in-Decision-clause-kept : goal.truth-returns-in-Decision-clause-kept
 truth-returns-in-Decision-clause-kept g t c =
@@ -286,7 +286,7 @@ truth-returns-in_err-holds-in-Condition-clause-did g t c =
     let W = activation_of c.args.frame.now in let S = state_of c.args.store.now in
     let h = rw c.deref-in-Condition.ensures at c.in_err-holds-in-Condition.ensures.did in
     rw (c.from_residual-in_err-holds-in-Condition.ensures, c.in-Probe.is, view_probe, c.in-Condition.is)
-    (did_condition_end M N J W c.in-Condition.register c.in-Condition.on_true c.in-Condition.on_false (does.value_of W (view.expression_of c.in-Probe.operand.value)) S _ _ _ h)
+    (did_condition_end M N J W c.in-Condition.register c.in-Condition.on_true c.in-Condition.on_false (does.evaluate W (view.expression_of c.in-Probe.operand.value)) S _ _ _ h)
 
 pub truth-returns-in_ok-holds-in-Condition-clause-did : goal.truth-returns-in_ok-holds-in-Condition-clause-did
 truth-returns-in_ok-holds-in-Condition-clause-did g t c =
@@ -294,7 +294,7 @@ truth-returns-in_ok-holds-in-Condition-clause-did g t c =
     let W = activation_of c.args.frame.now in let S = state_of c.args.store.now in
     let h = rw c.deref-in-Condition.ensures at c.in_ok-holds-in-Condition.ensures.did in
     rw (c.in-Probe.is, view_probe, c.in-Condition.is)
-    (did_condition M N J W c.in-Condition.register c.in-Condition.on_true c.in-Condition.on_false (does.value_of W (view.expression_of c.in-Probe.operand.value)) S c.in_ok-holds-in-Condition.holds _ _ _ _ h c.note.ensures.ran)
+    (did_condition M N J W c.in-Condition.register c.in-Condition.on_true c.in-Condition.on_false (does.evaluate W (view.expression_of c.in-Probe.operand.value)) S c.in_ok-holds-in-Condition.holds _ _ _ _ h c.note.ensures.ran)
 
 pub truth-returns-in_ok-holds-in-Condition-clause-kept : goal.truth-returns-in_ok-holds-in-Condition-clause-kept
 truth-returns-in_ok-holds-in-Condition-clause-kept g t c =

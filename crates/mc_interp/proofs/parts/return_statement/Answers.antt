@@ -11,7 +11,7 @@ returns-in-Some-clause-did g c =
     let d = rw c.in-Some.is at c.return_value-outcome.ensures.did in
     let e = rw c.in-Some.is at c.is_some.ensures in
     let l = rw c.bits.ensures at c.hit_after.ensures.led in
-    did_exit_after g.P.Probe.leads g.met.P.Probe.stays g.met.P.Probe.joins W c.is_some.result c.args.exit (does.return_of W (view.return_value_of c.args.tree.now))
+    did_exit_after g.P.Probe.leads g.met.P.Probe.stays g.met.P.Probe.joins W c.is_some.result c.args.exit (does.returned W (view.return_value_of c.args.tree.now))
     (state_of c.args.store.now) c.return_value-outcome.new.store c.args.probe.now c.return_value-outcome.new.probe c.hit_after.new.probe l
     (given_of c.return_value-outcome.new.store.given) e d
 
@@ -21,5 +21,5 @@ returns-in-None-clause-did g c =
     let d = rw c.in-None.is at c.return_value-outcome.ensures.did in
     let e = rw c.in-None.is at c.is_some.ensures in
     let l = rw c.bits.ensures at c.hit_after.ensures.led in
-    did_exit_stopped g.P.Probe.leads g.met.P.Probe.stays g.met.P.Probe.joins W c.is_some.result c.args.exit (does.return_of W (view.return_value_of c.args.tree.now))
+    did_exit_stopped g.P.Probe.leads g.met.P.Probe.stays g.met.P.Probe.joins W c.is_some.result c.args.exit (does.returned W (view.return_value_of c.args.tree.now))
     (state_of c.args.store.now) c.return_value-outcome.new.store c.args.probe.now c.return_value-outcome.new.probe c.hit_after.new.probe l e d

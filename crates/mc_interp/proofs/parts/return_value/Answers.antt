@@ -3,7 +3,7 @@ use Rattle.mc_steps.specs.Statements as give
 use Rattle.mc_typed.specs.Sound.{type_of}
 use Rattle.mc_typed.specs.Views as plain
 use Rattle.mc_words.specs.Words.{number_of}
-use Rattle.mc_probe.specs.Expressions.{structure_of, value_of}
+use Rattle.mc_probe.specs.Expressions.{evaluate_structure, evaluate}
 use Rattle.mc_probe.specs.Views as view
 use Rattle.mc_interp.specs.declared.values.Given.TheVariants as given
 use Rattle.mc_interp.specs.Stores.{state_of}
@@ -28,13 +28,13 @@ value-requires-clause-sound g c =
 pub returns-in_err-word-in-Number-clause-did : goal.returns-in_err-word-in-Number-clause-did
 returns-in_err-word-in-Number-clause-did g c =
     rw (c.from_residual.ensures, c.in-Number.is)
-    (did_as_end g.P.Probe.leads g.met.P.Probe.stays g.met.P.Probe.joins give.Number (value_of (activation_of c.args.frame.now) (view.expression_of c.in-Number.e)) (state_of c.args.store.now)
+    (did_as_end g.P.Probe.leads g.met.P.Probe.stays g.met.P.Probe.joins give.Number (evaluate (activation_of c.args.frame.now) (view.expression_of c.in-Number.e)) (state_of c.args.store.now)
     c.value.new.store c.args.probe.now c.value.new.probe c.in_err-word-in-Number.ensures.did)
 
 pub returns-in_ok-word-in-Number-clause-did : goal.returns-in_ok-word-in-Number-clause-did
 returns-in_ok-word-in-Number-clause-did g c =
     rw (c.in-Number.is, c.keep-in-Number.ensures.given)
-    (did_as g.P.Probe.leads g.met.P.Probe.stays g.met.P.Probe.joins give.Number (value_of (activation_of c.args.frame.now) (view.expression_of c.in-Number.e)) (state_of c.args.store.now)
+    (did_as g.P.Probe.leads g.met.P.Probe.stays g.met.P.Probe.joins give.Number (evaluate (activation_of c.args.frame.now) (view.expression_of c.in-Number.e)) (state_of c.args.store.now)
     (number_of (type_of (plain.expression_of c.in-Number.e)) c.in_ok-word-in-Number.word) _ c.value.new.store _ c.args.probe.now c.value.new.probe c.in_ok-word-in-Number.ensures.did
     (ap (λ a. give.Number (number_of a c.in_ok-word-in-Number.word)) c.integer_type.ensures) refl)
 
@@ -54,13 +54,13 @@ structure-requires-clause-sound g c =
 pub returns-in_err-at-in-Structure-clause-did : goal.returns-in_err-at-in-Structure-clause-did
 returns-in_err-at-in-Structure-clause-did g c =
     rw (c.from_residual-in_err-at-in-Structure.ensures, c.in-Structure.is)
-    (did_as_end g.P.Probe.leads g.met.P.Probe.stays g.met.P.Probe.joins (λ at. give.Structure at c.in-Structure.cells) (structure_of (activation_of c.args.frame.now) (view.structure_of c.in-Structure.source))
+    (did_as_end g.P.Probe.leads g.met.P.Probe.stays g.met.P.Probe.joins (λ at. give.Structure at c.in-Structure.cells) (evaluate_structure (activation_of c.args.frame.now) (view.structure_of c.in-Structure.source))
     (state_of c.args.store.now) c.structure.new.store c.args.probe.now c.structure.new.probe c.in_err-at-in-Structure.ensures.did)
 
 pub returns-in_ok-at-in-Structure-clause-did : goal.returns-in_ok-at-in-Structure-clause-did
 returns-in_ok-at-in-Structure-clause-did g c =
     rw (c.in-Structure.is, c.keep-in-Structure.ensures.given)
-    (did_as g.P.Probe.leads g.met.P.Probe.stays g.met.P.Probe.joins (λ at. give.Structure at c.in-Structure.cells) (structure_of (activation_of c.args.frame.now) (view.structure_of c.in-Structure.source))
+    (did_as g.P.Probe.leads g.met.P.Probe.stays g.met.P.Probe.joins (λ at. give.Structure at c.in-Structure.cells) (evaluate_structure (activation_of c.args.frame.now) (view.structure_of c.in-Structure.source))
     (state_of c.args.store.now) c.in_ok-at-in-Structure.at _ c.structure.new.store _ c.args.probe.now c.structure.new.probe c.in_ok-at-in-Structure.ensures.did refl refl)
 
 pub returns-in_ok-at-in-Structure-clause-typed : goal.returns-in_ok-at-in-Structure-clause-typed

@@ -10,7 +10,7 @@ use Rattle.mc_interp.proofs.parts.turn_begins.Goals as goal
 pub returns-in_err-spend-clause-did : goal.returns-in_err-spend-clause-did
 returns-in_err-spend-clause-did g c =
     rw c.from_residual.ensures
-    (did_unspent g.P.Probe.leads g.met.P.Probe.stays g.met.P.Probe.joins (does.test_of (activation_of c.args.frame.now) (option_map (λ e. prepared.test_of e.now) c.args.test))
+    (did_unspent g.P.Probe.leads g.met.P.Probe.stays g.met.P.Probe.joins (does.loop_test (activation_of c.args.frame.now) (option_map (λ e. prepared.test_of e.now) c.args.test))
     (state_of c.args.store.now) c.spend.new.self c.args.probe.now c.in_err-spend.ensures.ran)
 
 pub test_of-requires-clause-ready : goal.test_of-requires-clause-ready
@@ -19,7 +19,7 @@ test_of-requires-clause-ready g c =
 
 pub returns-clause-did : goal.returns-clause-did
 returns-clause-did g c =
-    did_spent g.P.Probe.leads g.met.P.Probe.stays g.met.P.Probe.joins (does.test_of (activation_of c.args.frame.now) (option_map (λ e. prepared.test_of e.now) c.args.test))
+    did_spent g.P.Probe.leads g.met.P.Probe.stays g.met.P.Probe.joins (does.loop_test (activation_of c.args.frame.now) (option_map (λ e. prepared.test_of e.now) c.args.test))
     (state_of c.args.store.now) c.spend.new.self c.test_of.new.store _ c.args.probe.now c.test_of.new.probe c.in_ok-spend.ensures.ran c.test_of.ensures.did
 
 pub returns-clause-less : goal.returns-clause-less

@@ -5,7 +5,7 @@ use Rattle.mc_steps.specs.Runs.{gives}
 use Rattle.mc_steps.specs.Statements.{Completed}
 use Rattle.mc_steps.specs.Expressions.{as_does, is_true}
 use Rattle.mc_words.specs.Words.{number_of}
-use Rattle.mc_probe.specs.Expressions.{value_of}
+use Rattle.mc_probe.specs.Expressions.{evaluate}
 use Rattle.mc_probe.specs.Probes.{mark_does}
 use Rattle.mc_probe.specs.Statements as does
 use Rattle.mc_probe.specs.Views as view
@@ -233,7 +233,7 @@ pub repeat-loop-turned-init : goal.repeat-loop-turned-init
 repeat-loop-turned-init g t c =
     let W = activation_of c.args.frame.now in
     turning_start g.P.Probe.bits g.P.Probe.leads g.met.P.Probe.stays g.met.P.Probe.joins c.args.frame.now
-    (does.test_of W (option_map (λ e. prepared.test_of e.now) c.args.test)) (does.statement_of W (prepared.statement_of c.args.body.now)) (does.effects_of W (map prepared.effect_of c.args.step.now))
+    (does.loop_test W (option_map (λ e. prepared.test_of e.now) c.args.test)) (does.run W (prepared.statement_of c.args.body.now)) (does.perform_all W (map prepared.effect_of c.args.step.now))
     c.args.store.now c.args.probe.now c.requires.ready
 
 pub repeat-returns-in_err-turned-clause-did : goal.repeat-returns-in_err-turned-clause-did
@@ -241,7 +241,7 @@ repeat-returns-in_err-turned-clause-did g t c =
     let W = activation_of c.args.frame.now in
     rw c.from_residual.ensures
     (turning_end g.P.Probe.bits g.P.Probe.leads g.met.P.Probe.stays g.met.P.Probe.joins c.args.frame.now
-    (does.test_of W (option_map (λ e. prepared.test_of e.now) c.args.test)) (does.statement_of W (prepared.statement_of c.args.body.now)) (does.effects_of W (map prepared.effect_of c.args.step.now))
+    (does.loop_test W (option_map (λ e. prepared.test_of e.now) c.args.test)) (does.run W (prepared.statement_of c.args.body.now)) (does.perform_all W (map prepared.effect_of c.args.step.now))
     c.args.store.now c.loop-turned.store c.turn.new.store c.args.probe.now c.loop-turned.probe c.turn.new.probe c.loop-turned.invariant c.in_err-turned.ensures.did)
 
 pub repeat-returns-in_err-turned-clause-bits : goal.repeat-returns-in_err-turned-clause-bits
@@ -255,7 +255,7 @@ repeat-returns-in-Some-clause-did g t c =
     let W = activation_of c.args.frame.now in
     let d = rw c.in-Some.is at c.in_ok-turned.ensures.did in
     turning_out g.P.Probe.bits g.P.Probe.leads g.met.P.Probe.stays g.met.P.Probe.joins c.args.frame.now
-    (does.test_of W (option_map (λ e. prepared.test_of e.now) c.args.test)) (does.statement_of W (prepared.statement_of c.args.body.now)) (does.effects_of W (map prepared.effect_of c.args.step.now))
+    (does.loop_test W (option_map (λ e. prepared.test_of e.now) c.args.test)) (does.run W (prepared.statement_of c.args.body.now)) (does.perform_all W (map prepared.effect_of c.args.step.now))
     c.args.store.now c.loop-turned.store c.turn.new.store c.args.probe.now c.loop-turned.probe c.turn.new.probe (flow_of c.in-Some.flow c.turn.new.store) c.loop-turned.invariant d
 
 pub repeat-returns-in-Some-clause-typed : goal.repeat-returns-in-Some-clause-typed
@@ -275,7 +275,7 @@ repeat-loop-turned-preserved g t c =
     let W = activation_of c.args.frame.now in
     let d = rw c.in_default.is at c.in_ok-turned.ensures.did in
     turning_step g.P.Probe.bits g.P.Probe.leads g.met.P.Probe.stays g.met.P.Probe.joins c.args.frame.now
-    (does.test_of W (option_map (λ e. prepared.test_of e.now) c.args.test)) (does.statement_of W (prepared.statement_of c.args.body.now)) (does.effects_of W (map prepared.effect_of c.args.step.now))
+    (does.loop_test W (option_map (λ e. prepared.test_of e.now) c.args.test)) (does.run W (prepared.statement_of c.args.body.now)) (does.perform_all W (map prepared.effect_of c.args.step.now))
     c.args.store.now c.loop-turned.store c.turn.new.store c.args.probe.now c.loop-turned.probe c.turn.new.probe c.loop-turned.invariant d
     c.in_ok-turned.ensures.kept c.in_ok-turned.ensures.less c.in_ok-turned.ensures.bits c.in_ok-turned.ensures.limits
 
@@ -286,14 +286,14 @@ turn-returns-in_err-goes_on-clause-did g t c =
     let M = g.P.Probe.leads in let N = g.met.P.Probe.stays in let J = g.met.P.Probe.joins in
     let W = activation_of c.args.frame.now in
     rw c.from_residual.ensures
-    (did_turn_end M N J (does.test_of W (option_map (λ e. prepared.test_of e.now) c.args.test)) (does.statement_of W (prepared.statement_of c.args.body.now)) (does.effects_of W (map prepared.effect_of c.args.step.now))
+    (did_turn_end M N J (does.loop_test W (option_map (λ e. prepared.test_of e.now) c.args.test)) (does.run W (prepared.statement_of c.args.body.now)) (does.perform_all W (map prepared.effect_of c.args.step.now))
     (state_of c.args.store.now) c.turn_begins.new.store c.args.probe.now c.turn_begins.new.probe c.in_err-goes_on.ensures.did)
 
 pub turn-returns-then-not-goes_on-clause-did : goal.turn-returns-then-not-goes_on-clause-did
 turn-returns-then-not-goes_on-clause-did g t c =
     let M = g.P.Probe.leads in let N = g.met.P.Probe.stays in let J = g.met.P.Probe.joins in
     let W = activation_of c.args.frame.now in
-    did_turn_over M N J (does.test_of W (option_map (λ e. prepared.test_of e.now) c.args.test)) (does.statement_of W (prepared.statement_of c.args.body.now)) (does.effects_of W (map prepared.effect_of c.args.step.now))
+    did_turn_over M N J (does.loop_test W (option_map (λ e. prepared.test_of e.now) c.args.test)) (does.run W (prepared.statement_of c.args.body.now)) (does.perform_all W (map prepared.effect_of c.args.step.now))
     (state_of c.args.store.now) c.in_ok-goes_on.goes_on c.turn_begins.new.store c.args.probe.now c.turn_begins.new.probe c.in_ok-goes_on.ensures.did c.if-not-goes_on.true
 
 pub turn-returns-in_err-flow-clause-did : goal.turn-returns-in_err-flow-clause-did
@@ -301,7 +301,7 @@ turn-returns-in_err-flow-clause-did g t c =
     let M = g.P.Probe.leads in let N = g.met.P.Probe.stays in let J = g.met.P.Probe.joins in
     let W = activation_of c.args.frame.now in
     rw c.from_residual-in_err-flow.ensures
-    (did_turn_body_end M N J (does.test_of W (option_map (λ e. prepared.test_of e.now) c.args.test)) (does.statement_of W (prepared.statement_of c.args.body.now)) (does.effects_of W (map prepared.effect_of c.args.step.now))
+    (did_turn_body_end M N J (does.loop_test W (option_map (λ e. prepared.test_of e.now) c.args.test)) (does.run W (prepared.statement_of c.args.body.now)) (does.perform_all W (map prepared.effect_of c.args.step.now))
     (state_of c.args.store.now) c.in_ok-goes_on.goes_on c.turn_begins.new.store c.statement.new.store c.args.probe.now c.turn_begins.new.probe c.statement.new.probe c.in_ok-goes_on.ensures.did c.if-not-goes_on.false
     c.in_err-flow.ensures.did)
 
@@ -309,7 +309,7 @@ pub turn-returns-in-Some-clause-did : goal.turn-returns-in-Some-clause-did
 turn-returns-in-Some-clause-did g t c =
     let M = g.P.Probe.leads in let N = g.met.P.Probe.stays in let J = g.met.P.Probe.joins in
     let W = activation_of c.args.frame.now in
-    did_turn_out M N J (does.test_of W (option_map (λ e. prepared.test_of e.now) c.args.test)) (does.statement_of W (prepared.statement_of c.args.body.now)) (does.effects_of W (map prepared.effect_of c.args.step.now))
+    did_turn_out M N J (does.loop_test W (option_map (λ e. prepared.test_of e.now) c.args.test)) (does.run W (prepared.statement_of c.args.body.now)) (does.perform_all W (map prepared.effect_of c.args.step.now))
     (state_of c.args.store.now) c.in_ok-goes_on.goes_on c.turn_begins.new.store c.statement.new.store c.args.probe.now c.turn_begins.new.probe c.statement.new.probe c.in_ok-goes_on.ensures.did c.if-not-goes_on.false
     c.in_ok-flow.flow c.in_ok-flow.ensures.did c.in-Some.end (sym c.loop_end.ensures ∙ c.in-Some.is)
 
@@ -332,7 +332,7 @@ turn-returns-in_err-perform_all-clause-did g t c =
     let M = g.P.Probe.leads in let N = g.met.P.Probe.stays in let J = g.met.P.Probe.joins in
     let W = activation_of c.args.frame.now in
     rw c.from_residual-in_err-perform_all.ensures
-    (did_turn_step_end M N J (does.test_of W (option_map (λ e. prepared.test_of e.now) c.args.test)) (does.statement_of W (prepared.statement_of c.args.body.now)) (does.effects_of W (map prepared.effect_of c.args.step.now))
+    (did_turn_step_end M N J (does.loop_test W (option_map (λ e. prepared.test_of e.now) c.args.test)) (does.run W (prepared.statement_of c.args.body.now)) (does.perform_all W (map prepared.effect_of c.args.step.now))
     (state_of c.args.store.now) c.in_ok-goes_on.goes_on c.turn_begins.new.store c.statement.new.store c.args.probe.now c.turn_begins.new.probe c.statement.new.probe c.in_ok-goes_on.ensures.did c.if-not-goes_on.false
     c.in_ok-flow.flow c.in_ok-flow.ensures.did c.perform_all.new.store c.perform_all.new.probe (sym c.loop_end.ensures ∙ c.in_default.is) c.in_err-perform_all.ensures.did)
 
@@ -340,7 +340,7 @@ pub turn-returns-clause-did : goal.turn-returns-clause-did
 turn-returns-clause-did g t c =
     let M = g.P.Probe.leads in let N = g.met.P.Probe.stays in let J = g.met.P.Probe.joins in
     let W = activation_of c.args.frame.now in
-    did_turn_on M N J (does.test_of W (option_map (λ e. prepared.test_of e.now) c.args.test)) (does.statement_of W (prepared.statement_of c.args.body.now)) (does.effects_of W (map prepared.effect_of c.args.step.now))
+    did_turn_on M N J (does.loop_test W (option_map (λ e. prepared.test_of e.now) c.args.test)) (does.run W (prepared.statement_of c.args.body.now)) (does.perform_all W (map prepared.effect_of c.args.step.now))
     (state_of c.args.store.now) c.in_ok-goes_on.goes_on c.turn_begins.new.store c.statement.new.store c.args.probe.now c.turn_begins.new.probe c.statement.new.probe c.in_ok-goes_on.ensures.did c.if-not-goes_on.false
     c.in_ok-flow.flow c.in_ok-flow.ensures.did c.perform_all.new.store c.perform_all.new.probe (sym c.loop_end.ensures ∙ c.in_default.is) c.in_ok-perform_all.ensures.did
 
@@ -357,7 +357,7 @@ act-returns-in_err-holds-in-If-clause-did g t c =
     let M = g.P.Probe.leads in let N = g.met.P.Probe.stays in let J = g.met.P.Probe.joins in
     let W = activation_of c.args.frame.now in
     rw (c.from_residual.ensures, c.in-If.is, view_if)
-    (did_if_end M N J (value_of W (prepared.test_of c.in-If.test)) (does.statement_of W (prepared.statement_of c.in-If.chosen.value)) (gives Completed) (state_of c.args.store.now)
+    (did_if_end M N J (evaluate W (prepared.test_of c.in-If.test)) (does.run W (prepared.statement_of c.in-If.chosen.value)) (gives Completed) (state_of c.args.store.now)
     _ _ _ c.in_err-holds-in-If.ensures.did)
 
 pub act-returns-then-holds-clause-did : goal.act-returns-then-holds-clause-did
@@ -366,7 +366,7 @@ act-returns-then-holds-clause-did g t c =
     let W = activation_of c.args.frame.now in
     let k = rw c.deref-then-holds.ensures at c.statement.ensures.did in
     rw (c.in-If.is, view_if)
-    (did_if_then M N J (value_of W (prepared.test_of c.in-If.test)) (does.statement_of W (prepared.statement_of c.in-If.chosen.value)) (gives Completed) (state_of c.args.store.now)
+    (did_if_then M N J (evaluate W (prepared.test_of c.in-If.test)) (does.run W (prepared.statement_of c.in-If.chosen.value)) (gives Completed) (state_of c.args.store.now)
     c.in_ok-holds-in-If.holds _ _ _ c.in_ok-holds-in-If.ensures.did _ _ _ c.if-holds.true k)
 
 pub act-returns-else-holds-clause-did : goal.act-returns-else-holds-clause-did
@@ -374,7 +374,7 @@ act-returns-else-holds-clause-did g t c =
     let M = g.P.Probe.leads in let N = g.met.P.Probe.stays in let J = g.met.P.Probe.joins in
     let W = activation_of c.args.frame.now in
     rw (c.in-If.is, view_if)
-    (did_if_else M N J (value_of W (prepared.test_of c.in-If.test)) (does.statement_of W (prepared.statement_of c.in-If.chosen.value)) (gives Completed) (state_of c.args.store.now)
+    (did_if_else M N J (evaluate W (prepared.test_of c.in-If.test)) (does.run W (prepared.statement_of c.in-If.chosen.value)) (gives Completed) (state_of c.args.store.now)
     c.in_ok-holds-in-If.holds _ _ _ c.in_ok-holds-in-If.ensures.did (Some Completed) c.tested.new.store c.tested.new.probe c.if-holds.false (did_gives M N J Completed c.tested.new.store c.tested.new.probe))
 
 pub act-returns-then-holds-clause-kept : goal.act-returns-then-holds-clause-kept
@@ -385,7 +385,7 @@ act-returns-in_err-is_true-in-IfElse-clause-did g t c =
     let M = g.P.Probe.leads in let N = g.met.P.Probe.stays in let J = g.met.P.Probe.joins in
     let W = activation_of c.args.frame.now in
     rw (c.from_residual-in_err-is_true-in-IfElse.ensures, c.in-IfElse.is, view_if_else)
-    (did_if_end M N J (value_of W (prepared.test_of c.in-IfElse.test)) (does.statement_of W (prepared.statement_of c.in-IfElse.chosen.value)) (does.statement_of W (prepared.statement_of c.in-IfElse.other.value)) (state_of c.args.store.now)
+    (did_if_end M N J (evaluate W (prepared.test_of c.in-IfElse.test)) (does.run W (prepared.statement_of c.in-IfElse.chosen.value)) (does.run W (prepared.statement_of c.in-IfElse.other.value)) (state_of c.args.store.now)
     _ _ _ c.in_err-is_true-in-IfElse.ensures.did)
 
 pub act-returns-then-is_true-clause-did : goal.act-returns-then-is_true-clause-did
@@ -394,7 +394,7 @@ act-returns-then-is_true-clause-did g t c =
     let W = activation_of c.args.frame.now in
     let k = rw c.deref-then-is_true.ensures at c.statement-then-is_true.ensures.did in
     rw (c.in-IfElse.is, view_if_else)
-    (did_if_then M N J (value_of W (prepared.test_of c.in-IfElse.test)) (does.statement_of W (prepared.statement_of c.in-IfElse.chosen.value)) (does.statement_of W (prepared.statement_of c.in-IfElse.other.value)) (state_of c.args.store.now)
+    (did_if_then M N J (evaluate W (prepared.test_of c.in-IfElse.test)) (does.run W (prepared.statement_of c.in-IfElse.chosen.value)) (does.run W (prepared.statement_of c.in-IfElse.other.value)) (state_of c.args.store.now)
     c.in_ok-is_true-in-IfElse.is_true _ _ _ c.in_ok-is_true-in-IfElse.ensures.did _ _ _ c.if-is_true.true k)
 
 pub act-returns-else-is_true-clause-did : goal.act-returns-else-is_true-clause-did
@@ -403,7 +403,7 @@ act-returns-else-is_true-clause-did g t c =
     let W = activation_of c.args.frame.now in
     let k = rw c.deref-else-is_true.ensures at c.statement-else-is_true.ensures.did in
     rw (c.in-IfElse.is, view_if_else)
-    (did_if_else M N J (value_of W (prepared.test_of c.in-IfElse.test)) (does.statement_of W (prepared.statement_of c.in-IfElse.chosen.value)) (does.statement_of W (prepared.statement_of c.in-IfElse.other.value)) (state_of c.args.store.now)
+    (did_if_else M N J (evaluate W (prepared.test_of c.in-IfElse.test)) (does.run W (prepared.statement_of c.in-IfElse.chosen.value)) (does.run W (prepared.statement_of c.in-IfElse.other.value)) (state_of c.args.store.now)
     c.in_ok-is_true-in-IfElse.is_true _ _ _ c.in_ok-is_true-in-IfElse.ensures.did _ _ _ c.if-is_true.false k)
 
 pub act-returns-then-is_true-clause-kept : goal.act-returns-then-is_true-clause-kept
@@ -418,7 +418,7 @@ act-returns-in_err-word-in-Switch-clause-did g t c =
     let W = activation_of c.args.frame.now in
     let items = view.statements_from (map prepared.statement_of c.in-Switch.items.items) in
     rw (c.from_residual-in_err-word-in-Switch.ensures, c.in-Switch.is, view_switch)
-    (did_switch_stop M N J (value_of W (view.expression_of c.in-Switch.controlling.now)) (labels_in items) (does.statements_of W items) (mark_does W c.in-Switch.absent) (state_of c.args.store.now)
+    (did_switch_stop M N J (evaluate W (view.expression_of c.in-Switch.controlling.now)) (labels_in items) (does.run_from W items) (mark_does W c.in-Switch.absent) (state_of c.args.store.now)
     _ _ _ c.in_err-word-in-Switch.ensures.did)
 
 pub act-returns-in_err-flow-in-Switch-clause-did : goal.act-returns-in_err-flow-in-Switch-clause-did
@@ -430,7 +430,7 @@ act-returns-in_err-flow-in-Switch-clause-did g t c =
     let looked = rw c.deref-in-Switch.ensures.value at of in
     let k = rw c.deref-in-Switch-2.ensures.value at c.in_err-flow-in-Switch.ensures.did in
     rw (c.from_residual-in_err-flow-in-Switch.ensures, c.in-Switch.is, view_switch)
-    (did_switch_end M N J (value_of W (view.expression_of c.in-Switch.controlling.now)) (labels_in items) (does.statements_of W items) (mark_does W c.in-Switch.absent) (state_of c.args.store.now)
+    (did_switch_end M N J (evaluate W (view.expression_of c.in-Switch.controlling.now)) (labels_in items) (does.run_from W items) (mark_does W c.in-Switch.absent) (state_of c.args.store.now)
     (number_of (type_of (plain.expression_of c.in-Switch.controlling.now)) c.in_ok-word-in-Switch.word) (seek_of c.sought-seek.result) _ _ _ _ _ c.in_ok-word-in-Switch.ensures.did looked k)
 
 pub act-switch_ends-requires-clause-fits : goal.act-switch_ends-requires-clause-fits
@@ -452,7 +452,7 @@ act-returns-in_ok-flow-in-Switch-clause-did g t c =
     let looked = rw c.deref-in-Switch.ensures.value at of in
     let k = rw c.deref-in-Switch-2.ensures.value at c.in_ok-flow-in-Switch.ensures.did in
     rw (c.in-Switch.is, view_switch)
-    (did_switch M N J (value_of W (view.expression_of c.in-Switch.controlling.now)) (labels_in items) (does.statements_of W items) (mark_does W c.in-Switch.absent) (state_of c.args.store.now)
+    (did_switch M N J (evaluate W (view.expression_of c.in-Switch.controlling.now)) (labels_in items) (does.run_from W items) (mark_does W c.in-Switch.absent) (state_of c.args.store.now)
     (number_of (type_of (plain.expression_of c.in-Switch.controlling.now)) c.in_ok-word-in-Switch.word) (seek_of c.sought-seek.result) (flow_of c.in_ok-flow-in-Switch.flow c.statements-in-Switch.new.store) _ _ _ _ _ _ _ _
     c.in_ok-word-in-Switch.ensures.did looked k c.switch_ends.ensures.did)
 
@@ -470,7 +470,7 @@ act-returns-in_ok-for_start-in-For-clause-did g t c =
     let a = rw c.lent_test.ensures at c.repeat.ensures.did in
     let b = rw (c.deref-in-For.ensures, c.deref-in-For-2.ensures.value) at a in
     rw (c.in-For.is, view_for)
-    (did_then M N J (does.start_of W (view.start_of c.in-For.start.now) (state_of c.args.store.now)) _ tt _ _ _ _ _ _ c.in_ok-for_start-in-For.ensures.did b)
+    (did_then M N J (does.start_loop W (view.start_of c.in-For.start.now) (state_of c.args.store.now)) _ tt _ _ _ _ _ _ c.in_ok-for_start-in-For.ensures.did b)
 
 pub act-returns-in_ok-for_start-in-For-clause-kept : goal.act-returns-in_ok-for_start-in-For-clause-kept
 act-returns-in_ok-for_start-in-For-clause-kept g t c = if_kept _ _ _ _ _ c.repeat.result c.in_ok-for_start-in-For.ensures.kept c.repeat.ensures.kept
@@ -481,7 +481,7 @@ act-returns-in-Some-clause-did g t c =
     let W = activation_of c.args.frame.now in
     let k = rw c.deref-in-DoWhile.ensures at c.in_ok-ended-in-DoWhile.ensures.did in
     rw (c.in-DoWhile.is, view_do)
-    (did_do_out M N J (does.statement_of W (prepared.statement_of c.in-DoWhile.body.value)) (as_does is_true (value_of W (prepared.test_of c.in-DoWhile.test))) (state_of c.args.store.now)
+    (did_do_out M N J (does.run W (prepared.statement_of c.in-DoWhile.body.value)) (as_does is_true (evaluate W (prepared.test_of c.in-DoWhile.test))) (state_of c.args.store.now)
     c.in_ok-ended-in-DoWhile.ended _ _ _ k c.in-Some.end (sym c.loop_end.ensures ∙ c.in-Some.is))
 
 pub act-returns-in-Some-clause-typed : goal.act-returns-in-Some-clause-typed
@@ -495,7 +495,7 @@ act-returns-in-None-clause-did g t c =
     let k = rw c.deref-in-DoWhile.ensures at c.in_ok-ended-in-DoWhile.ensures.did in
     let a = rw c.deref-in-None.ensures at c.repeat-in-None.ensures.did in
     rw (c.in-DoWhile.is, view_do)
-    (did_do M N J (does.statement_of W (prepared.statement_of c.in-DoWhile.body.value)) (as_does is_true (value_of W (prepared.test_of c.in-DoWhile.test))) (state_of c.args.store.now)
+    (did_do M N J (does.run W (prepared.statement_of c.in-DoWhile.body.value)) (as_does is_true (evaluate W (prepared.test_of c.in-DoWhile.test))) (state_of c.args.store.now)
     c.in_ok-ended-in-DoWhile.ended _ _ _ k _ _ _ (sym c.loop_end.ensures ∙ c.in-None.is) a)
 
 pub act-returns-in-None-clause-kept : goal.act-returns-in-None-clause-kept

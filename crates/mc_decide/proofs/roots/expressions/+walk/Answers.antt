@@ -2,14 +2,14 @@ use Rattle.std.proofs.Common.{◌≡◌, ◌∙◌, ap, sym, subst, IfOk}
 use Rattle.mc_typed.specs.declared.expressions.Expression.{Expression}
 use Rattle.mc_typed.specs.declared.expressions.Place.{Place}
 use Rattle.mc_typed.specs.Views.{expression_of}
-use Rattle.mc_roots.specs.declared.role.Role.TheVariants.{Test, Inner, Plain}
+use Rattle.mc_roots.specs.declared.role.Role.TheVariants.{Controlling, Inner, Plain}
 use Rattle.mc_roots.specs.Nodes as n
 use Rattle.mc_roots.specs.Roots.{is_constant}
-use Rattle.mc_gather.specs.steps.Gathering.{gathered_of, inside, visited}
+use Rattle.mc_gather.specs.steps.Gathering.{gathered_of, inside, role_under, visited}
 use Rattle.mc_gather.proofs.Shapes.{node, constant_node, input_node, read_node, call_node}
 use Rattle.mc_decide.proofs.Gathers.{settles}
-use Rattle.mc_decide.proofs.Steps.{if_as, then_found, one_constant, both_constant, two_constant, three_constant}
-use Rattle.mc_decide.proofs.Operands.{is_not, is_binary, is_logic, is_choice, is_probe, carried_found, carried_constant}
+use Rattle.mc_decide.proofs.Steps.{if_as, then_found, one_constant, both_constant, three_constant}
+use Rattle.mc_decide.proofs.Operands.{is_not, is_binary, same_full, both_walked, both_settled, is_logic, is_choice, is_probe, carried_found, carried_constant}
 use Rattle.mc_decide.proofs.Places.{place, structure, argument, parameter_place, item_place, member_place, stored_structure, returned_structure, number_argument, structure_argument, array_argument, again_argument}
 use Rattle.mc_decide.proofs.roots.expressions.+walk.Goals as goal
 
@@ -35,18 +35,22 @@ operands-returns-in-Not-clause-constant t c =
 
 pub operands-returns-in_ok-constant-in-Binary-clause-found : goal.operands-returns-in_ok-constant-in-Binary-clause-found
 operands-returns-in_ok-constant-in-Binary-clause-found t c =
-    let e = is_binary c.args.tree.now c.deref-in-Binary.result.now c.deref-in-Binary-2.result.now c.in-Binary.operator c.in-Binary.of c.in-Binary.left c.in-Binary.right c.in-Binary.span c.in-Binary.is c.deref-in-Binary.ensures c.deref-in-Binary-2.ensures in
-    subst (λ (a : n.Node). IfOk c.further.result (λ _. gathered_of c.further.new.found ≡ inside a (gathered_of c.args.found.now))) (sym e)
-    (then_found c.further.result Plain (node c.deref-in-Binary-2.result.now) (gathered_of c.expression-in-Binary.new.found) (gathered_of c.further.new.found)
-    (visited Plain (node c.deref-in-Binary.result.now) (gathered_of c.args.found.now))
-    c.in_ok-constant-in-Binary.ensures.found c.further.ensures.found)
+    both_walked c.further.result (n.full_operator c.in-Binary.operator (expression_of c.deref-in-Binary-3.result.now) (expression_of c.deref-in-Binary-4.result.now)) c.operand_role-role.result c.in-Binary.operator
+    (node c.args.tree.now) (node c.deref-in-Binary-3.result.now) (node c.deref-in-Binary-4.result.now) c.in-Binary.span
+    (gathered_of c.args.found.now) (gathered_of c.expression-in-Binary.new.found) (gathered_of c.further.new.found)
+    (is_binary c.args.tree.now c.deref-in-Binary-3.result.now c.deref-in-Binary-4.result.now c.in-Binary.operator c.in-Binary.of c.in-Binary.left c.in-Binary.right c.in-Binary.span c.in-Binary.is c.deref-in-Binary-3.ensures c.deref-in-Binary-4.ensures)
+    (c.operand_role-role.ensures ∙ ap role_under
+    (c.full_operator.ensures
+    ∙ same_full c.in-Binary.operator c.deref-in-Binary.result.now c.deref-in-Binary-2.result.now c.deref-in-Binary-3.result.now c.deref-in-Binary-4.result.now
+    (c.deref-in-Binary.ensures ∙ sym c.deref-in-Binary-3.ensures) (c.deref-in-Binary-2.ensures ∙ sym c.deref-in-Binary-4.ensures)))
+    c.in_ok-constant-in-Binary.ensures.found c.further.ensures.found
 
 pub operands-returns-in_ok-constant-in-Binary-clause-constant : goal.operands-returns-in_ok-constant-in-Binary-clause-constant
 operands-returns-in_ok-constant-in-Binary-clause-constant t c =
-    let e = is_binary c.args.tree.now c.deref-in-Binary.result.now c.deref-in-Binary-2.result.now c.in-Binary.operator c.in-Binary.of c.in-Binary.left c.in-Binary.right c.in-Binary.span c.in-Binary.is c.deref-in-Binary.ensures c.deref-in-Binary-2.ensures in
-    subst (λ (a : n.Node). IfOk c.further.result (λ b. b ≡ is_constant a)) (sym e)
-    (two_constant c.further.result c.in_ok-constant-in-Binary.constant (is_constant (node c.deref-in-Binary.result.now)) (is_constant (node c.deref-in-Binary-2.result.now))
-    c.in_ok-constant-in-Binary.ensures.constant c.further.ensures.constant)
+    both_settled c.further.result (n.full_operator c.in-Binary.operator (expression_of c.deref-in-Binary-3.result.now) (expression_of c.deref-in-Binary-4.result.now)) c.in-Binary.operator
+    (node c.args.tree.now) (node c.deref-in-Binary-3.result.now) (node c.deref-in-Binary-4.result.now) c.in-Binary.span c.in_ok-constant-in-Binary.constant
+    (is_binary c.args.tree.now c.deref-in-Binary-3.result.now c.deref-in-Binary-4.result.now c.in-Binary.operator c.in-Binary.of c.in-Binary.left c.in-Binary.right c.in-Binary.span c.in-Binary.is c.deref-in-Binary-3.ensures c.deref-in-Binary-4.ensures)
+    c.in_ok-constant-in-Binary.ensures.constant c.further.ensures.constant
 
 pub operands-returns-in_ok-constant-in-Logic-clause-found : goal.operands-returns-in_ok-constant-in-Logic-clause-found
 operands-returns-in_ok-constant-in-Logic-clause-found t c =
@@ -68,7 +72,7 @@ operands-returns-in_ok-constant-in-Choice-2-clause-found t c =
     let e = is_choice c.args.tree.now c.deref-in-Choice.result.now c.deref-in-Choice-2.result.now c.deref-in-Choice-3.result.now c.in-Choice.test c.in-Choice.chosen c.in-Choice.other c.in-Choice.of c.in-Choice.span c.in-Choice.is c.deref-in-Choice.ensures c.deref-in-Choice-2.ensures c.deref-in-Choice-3.ensures in
     subst (λ (a : n.Node). IfOk c.further-in-Choice-2.result (λ _. gathered_of c.further-in-Choice-2.new.found ≡ inside a (gathered_of c.args.found.now))) (sym e)
     (then_found c.further-in-Choice-2.result Plain (node c.deref-in-Choice-3.result.now) (gathered_of c.further-in-Choice.new.found) (gathered_of c.further-in-Choice-2.new.found)
-    (visited Plain (node c.deref-in-Choice-2.result.now) (visited Test (node c.deref-in-Choice.result.now) (gathered_of c.args.found.now)))
+    (visited Plain (node c.deref-in-Choice-2.result.now) (visited Controlling (node c.deref-in-Choice.result.now) (gathered_of c.args.found.now)))
     (c.in_ok-constant-in-Choice-2.ensures.found ∙ ap (visited Plain (node c.deref-in-Choice-2.result.now)) c.in_ok-constant-in-Choice.ensures.found) c.further-in-Choice-2.ensures.found)
 
 pub operands-returns-in_ok-constant-in-Choice-2-clause-constant : goal.operands-returns-in_ok-constant-in-Choice-2-clause-constant

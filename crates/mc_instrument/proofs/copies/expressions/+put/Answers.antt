@@ -1,12 +1,15 @@
 use denote.Param.Weighed.{at_most}
 use Rattle.mc_instrument.proofs.Rooted.{root_counted, root_fits}
-use Rattle.mc_instrument.proofs.Room.{logic_copied, plain_logic, probed_logic}
+use Rattle.mc_map.proofs.Operands.{plain_binary}
+use Rattle.mc_instrument.proofs.Room.{binary_roots, full_copied, logic_copied, plain_logic, probed_binary, probed_logic}
 use Rattle.mc_roots.specs.declared.role.Role.TheVariants as role
 use Rattle.mc_typed.specs.Views as plain
 use Rattle.mc_roots.specs.Nodes as n
 use Rattle.std.proofs.lemmas.Result.{IfOk-weaker}
-use Rattle.std.proofs.Common.{◌∙◌, ap, sym, arith, rules}
+use Rattle.std.proofs.Common.{◌∙◌, refl, ap, sym, arith, rules}
 use Rattle.mc_typed.specs.declared.expressions.Argument.{size-Argument}
+use Rattle.mc_typed.specs.declared.expressions.Argument.TheViews.{sized-Binary}
+use Rattle.mc_typed.specs.declared.expressions.Expression.{size-Expression}
 use Rattle.mc_probe.specs.Table.{InTree, put}
 use Rattle.mc_probe.specs.Views as probed
 use Rattle.mc_probe.specs.BitMaps.{map_of}
@@ -30,13 +33,13 @@ arguments-returns-clause-next t c = arguments_counted (map_of c.args.walk.now.ma
 pub test-returns-then-is_root_as_test-clause-next : goal.test-returns-then-is_root_as_test-clause-next
 test-returns-then-is_root_as_test-clause-next t c =
     IfOk-weaker c.root.result _ _
-    (λ x h. root_counted role.Test c.args.next.now c.root.new.next (n.expression (plain.expression_of c.args.tree.now)) c.is_root_as_test.result c.is_root_as_test.ensures c.if-is_root_as_test.true h)
+    (λ x h. root_counted role.Controlling c.args.next.now c.root.new.next (n.expression (plain.expression_of c.args.tree.now)) c.is_root_as_test.result c.is_root_as_test.ensures c.if-is_root_as_test.true h)
     c.root.ensures.next
 
 pub test-root-requires : goal.test-root-requires
 test-root-requires t c = (
   search rules,
-  root_fits role.Test c.args.next.now (n.expression (plain.expression_of c.args.tree.now)) c.is_root_as_test.result c.is_root_as_test.ensures c.if-is_root_as_test.true c.requires,
+  root_fits role.Controlling c.args.next.now (n.expression (plain.expression_of c.args.tree.now)) c.is_root_as_test.result c.is_root_as_test.ensures c.if-is_root_as_test.true c.requires,
 )
 
 pub in_tree-returns-in_ok-right-in-Logic-clause-copy : goal.in_tree-returns-in_ok-right-in-Logic-clause-copy
@@ -48,6 +51,42 @@ in_tree-returns-in_ok-right-in-Logic-clause-copy t c =
     (ap probed.expression_of c.in_ok-left-in-Logic.ensures.ok ∙ rw c.deref-in-Logic.ensures at first.copy) (rw c.deref-in-Logic.ensures at first.condition) (rw c.deref-in-Logic.ensures at first.next)
     (ap probed.expression_of c.in_ok-right-in-Logic.ensures.ok ∙ rw c.deref-in-Logic-2.ensures at second.copy)
     ∙ ap (put (map_of c.args.walk.now.map.now) c.args.walk.now.first (InTree c.args.k c.args.condition.now) c.args.next.now) (sym (plain_logic c.args.tree.now c.in-Logic.operator c.in-Logic.left c.in-Logic.right c.in-Logic.span c.in-Logic.is)))
+
+pub in_tree-returns-in_ok-right-in-Some-clause-copy : goal.in_tree-returns-in_ok-right-in-Some-clause-copy
+in_tree-returns-in_ok-right-in-Some-clause-copy t c =
+    let full = sym c.full_operator.ensures ∙ c.in-Some.is in
+    let first = c.in_ok-in_tree-in-Some.ensures in
+    let second = c.in_ok-in_tree-in-Some-2.ensures in
+    probed_binary c.in-Binary.operator c.in-Binary.of c.in_ok-left-in-Some.left c.in_ok-right-in-Some.right c.in-Binary.span
+    ∙ (full_copied c.args.walk.now.map.now c.args.walk.now.first c.args.k c.args.condition.now c.args.next.now _ _ c.in-Some.field-0 c.in-Binary.operator c.in-Binary.of (plain.expression_of c.in-Binary.first.value) (plain.expression_of c.in-Binary.second.value) c.in-Binary.span _ _
+    (rw c.deref-in-Binary.ensures at (rw c.deref-in-Binary-2.ensures at full))
+    (ap probed.expression_of c.in_ok-left-in-Some.ensures.ok ∙ rw c.deref-in-Some.ensures at first.copy) (rw c.deref-in-Some.ensures at first.condition) (rw c.deref-in-Some.ensures at first.next)
+    (ap probed.expression_of c.in_ok-right-in-Some.ensures.ok ∙ rw c.deref-in-Some-2.ensures at second.copy)
+    ∙ ap (put (map_of c.args.walk.now.map.now) c.args.walk.now.first (InTree c.args.k c.args.condition.now) c.args.next.now) (sym (plain_binary c.args.tree.now c.in-Binary.operator c.in-Binary.of c.in-Binary.first c.in-Binary.second c.in-Binary.span c.in-Binary.is)))
+
+pub inside-expression-requires-in-Binary : goal.inside-expression-requires-in-Binary
+inside-expression-requires-in-Binary t c =
+    let all = binary_roots c.args.tree.now c.deref-in-Binary.result.now c.in-Binary.right.value c.in-Binary.operator c.in-Binary.of c.in-Binary.left c.in-Binary.right c.in-Binary.span c.in-Binary.is c.deref-in-Binary.ensures refl in
+    let size = sized-Binary c.in-Binary.operator c.in-Binary.of c.in-Binary.left c.in-Binary.right c.in-Binary.span in (
+      omega (arith, size, ap size-Expression c.in-Binary.is, ap size-Expression c.deref-in-Binary.ensures, c.decreases),
+      omega (arith, all, c.requires),
+    )
+
+pub inside-expression-requires-in-Binary-2 : goal.inside-expression-requires-in-Binary-2
+inside-expression-requires-in-Binary-2 t c =
+    let first = c.in_ok-expression-in-Binary.ensures.next in
+    let all = binary_roots c.args.tree.now c.deref-in-Binary.result.now c.deref-in-Binary-2.result.now c.in-Binary.operator c.in-Binary.of c.in-Binary.left c.in-Binary.right c.in-Binary.span c.in-Binary.is c.deref-in-Binary.ensures c.deref-in-Binary-2.ensures in
+    let size = sized-Binary c.in-Binary.operator c.in-Binary.of c.in-Binary.left c.in-Binary.right c.in-Binary.span in (
+      omega (arith, size, ap size-Expression c.in-Binary.is, ap size-Expression c.deref-in-Binary-2.ensures, c.decreases),
+      omega (arith, first, all, c.requires),
+    )
+
+pub inside-returns-in_ok-right-in-Binary-clause-next : goal.inside-returns-in_ok-right-in-Binary-clause-next
+inside-returns-in_ok-right-in-Binary-clause-next t c =
+    let first = c.in_ok-expression-in-Binary.ensures.next in
+    let second = c.in_ok-expression-in-Binary-2.ensures.next in
+    let all = binary_roots c.args.tree.now c.deref-in-Binary.result.now c.deref-in-Binary-2.result.now c.in-Binary.operator c.in-Binary.of c.in-Binary.left c.in-Binary.right c.in-Binary.span c.in-Binary.is c.deref-in-Binary.ensures c.deref-in-Binary-2.ensures in
+    omega (arith, first, second, all)
 
 pub arguments-argument-requires : goal.arguments-argument-requires
 arguments-argument-requires t c =

@@ -20,7 +20,6 @@ run_task-requires-clause-shape g c κs within =
 pub run_task-requires-clause-can : goal.run_task-requires-clause-can
 run_task-requires-clause-can g c κs within = record {
   sound = c.sound.ensures;
-  decisions = c.requires.decisions;
   fit = c.requires.fit;
   kept = let kept = c.in_ok-kept.ensures in let slice = c.deref.ensures in search rules;
   shape = c.requires.shape;

@@ -1,0 +1,6 @@
+use Rattle.std.proofs.Common.{refl}
+use Rattle.mc_roots.proofs.Told.{told_as}
+use Rattle.tests_decide.proofs.laws.decisions_of_full_operators.Goals as goal
+
+pub returns : goal.returns
+returns c = (told_as _ _ refl, (told_as _ _ refl, (told_as _ _ refl, (told_as _ _ refl, (told_as _ _ refl, (told_as _ _ refl, (told_as _ _ refl, (told_as _ _ refl, (told_as _ _ refl, (told_as _ _ refl, (told_as _ _ refl, (told_as _ _ refl, (told_as _ _ refl, (told_as _ _ refl, tt))))))))))))))
