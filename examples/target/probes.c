@@ -30,7 +30,7 @@ int nested(int a, int b, int c) {
   return -chosen;
 }
 
-/* Conditions under operators that evaluate both operands. */
+/* Operators that evaluate both operands: between Boolean operands they are of the decision, between others of none. */
 unsigned both(unsigned a, unsigned b, unsigned c) {
   unsigned bits = (a < b) & (b < c);
   if ((a != c) | (a == 7u)) bits |= 2u;
@@ -92,6 +92,11 @@ void loops(int count) {
 int depth(int n, int bound) {
   if (n > 0 && (depth(n - 1, bound) < bound || n == 3)) return n;
   return weights[n & 3];
+}
+
+/* Both operands of an operator are calls, in an order that the compiler chooses. */
+int calls(int a, int b, int c) {
+  return between(a, b, c) & !between(b, c, 9) | depth(a & 3, b) > 1;
 }
 
 static Pair swap(Pair pair) {
