@@ -343,7 +343,8 @@ pub(crate) fn place<P: Probe, F: Fn(Called<'_, '_, '_>, &mut Store, &mut P) -> O
     requires ready { IsReady frame.now store.old (P.bits probe.old) }
     requires invokes { Invokes frame.now P.bits P.leads (F.pre invoke) (F.post invoke) }
     ensures did { Did P.leads
-        (does.evaluate_place (activation_of frame.now) (view.place_of object.now) (state_of store.old))
+        (does.evaluate_place (activation_of frame.now) (view.place_of object.now)
+        (state_of store.old))
         result store.new probe.old probe.new }
     ensures placed { IfSome result (λ k. IsPlaced (scope_in frame.now) (activation_of frame.now) k
         (place_type (scope_in frame.now) (plain.place_of object.now))) }

@@ -6,11 +6,12 @@ use Rattle.std.specs.Prelude.{ℕ}
 abbrev pub most_conditions : ℕ
 most_conditions = 64
 
--- paths of a decision
+-- path numbers of a decision
 abbrev pub most_paths : ℕ
 most_paths = 4096
 
--- bits of a program, one for each of its obligations
+-- bits of a program: one for each entry, exit, statement and label, and for each path number of
+-- each decision
 abbrev pub most_bits : ℕ
 most_bits = 65536
 

@@ -26,7 +26,7 @@ pub record Map : Type 0 where
 
 -- ---- the order of the bits
 
--- entries come first, then exits, statements and labels, then the paths of each decision
+-- entries come first, then exits, statements and labels, then the path numbers of each decision
 abbrev pub first_exit : Map → ℕ
 first_exit m = length m.entries
 

@@ -8,8 +8,8 @@ use crate::mapped::MappedDecision;
 use mc_typed::Span;
 
 /// Where each event of a program stands, in the order of the text, and so which bit it has: first
-/// come the entries, then the exits, the counted statements and the labels, and then the paths of
-/// each decision. `bits` is how many there are, at most 65,536.
+/// come the entries, then the exits, the counted statements and the labels, and then the path
+/// numbers of each decision. `bits` is how many there are, at most 65,536.
 #[derive(Drop)]
 pub struct BitMap {
     pub entries: Vec<Span>,

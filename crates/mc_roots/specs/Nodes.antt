@@ -210,7 +210,7 @@ abbrev mutual
       Whole (controlling (expression e) (part (statement s) no_parts))
   statement (typed.IfElse e s u keyword span) =
       Whole (controlling (expression e) (part (statement s) (part (statement u) no_parts)))
-  -- the controlling expression of a `switch` is an integer and no Boolean expression
+  -- a `switch` asks for the value of its controlling expression, and not for its truth
   statement (typed.Switch e items keyword span) =
       Whole (part (expression e) (part (Whole (statements items)) no_parts))
   statement (typed.For first e step s keyword span) =
