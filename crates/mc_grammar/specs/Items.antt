@@ -2,7 +2,7 @@
 -- production.
 use Rattle.std.specs.Prelude.{◌≡◌, ◌≤◌, ℕ, Bool, true, false, not, ◌&&◌, List, [], ◌∷◌}
 use Rattle.mc_lex.specs.declared.token.Dialect.{Dialect}
-use Rattle.mc_lex.specs.declared.token.Dialect.TheVariants.{Plain}
+use Rattle.mc_lex.specs.declared.token.Dialect.TheVariants.{Plain, Instrumented}
 use Rattle.mc_lex.specs.Tokens.{Tok}
 use Rattle.mc_tree.specs.Tree.{Name, Specifiers, Parameters, Declaration, BlockItems, Item, span_of_parameters}
 use Rattle.mc_tree.specs.Tree as tree
@@ -52,6 +52,7 @@ IsTreeWithin limit dialect tokens unit = IsTree dialect tokens unit × (height_u
 -- the greatest height of a tree that is read
 abbrev pub greatest_height : Dialect → ℕ
 greatest_height Plain = 200
+greatest_height Instrumented = 800
 
 -- The syntax of a text: its tree, where that is not too high.
 abbrev pub IsSyntaxOf : Dialect → List Tok → List Item → Type 0

@@ -4,7 +4,7 @@ use Rattle.std.specs.List.{list_all, list_any}
 use Rattle.std.specs.Str.{bytes_eq}
 use Rattle.mc_lex.specs.Bytes.{is_letter, is_word_byte}
 use Rattle.mc_lex.specs.declared.token.Dialect.{Dialect}
-use Rattle.mc_lex.specs.declared.token.Dialect.TheVariants.{Plain}
+use Rattle.mc_lex.specs.declared.token.Dialect.TheVariants.{Plain, Instrumented}
 use Rattle.mc_lex.specs.declared.token.TokenKind.{TokenKind}
 use Rattle.mc_lex.specs.declared.token.TokenKind.TheVariants.{Identifier, Keyword}
 use Rattle.mc_lex.specs.declared.fault_kind.FaultKind.{FaultKind}
@@ -42,14 +42,21 @@ probe_names =
     codes "MCDC_H" ∷ codes "MCDC_L" ∷ codes "MCDC_W" ∷ codes "MCDC_D" ∷ codes "MCDC_C"
     ∷ codes "mcdc_r" ∷ codes "mcdc_v" ∷ []
 
+-- the words of a dialect that are no words of C: the names of the probes, where the text has probes
+abbrev pub own_words : Dialect → List (List ℕ)
+own_words Plain = []
+own_words Instrumented = probe_names
+
 -- the words that a dialect reserves: the user may not write the names of the probes
 abbrev pub reserved : Dialect → List (List ℕ)
 reserved Plain = probe_names
+reserved Instrumented = []
 
 -- what a word is, by its text alone
 abbrev pub word_kind : Dialect → List ℕ → Result TokenKind FaultKind
 word_kind dialect text =
     if one_of keywords text then Ok Keyword
+    else (if one_of (own_words dialect) text then Ok Keyword
     else (if one_of outside_keywords text then Err OutsideWord
     else (if one_of (reserved dialect) text then Err OutsideWord
-    else Ok Identifier))
+    else Ok Identifier)))

@@ -5,6 +5,8 @@
 pub enum Dialect {
     /// C as the user writes it: the names of the probes are outside words.
     Plain,
+    /// C with its probes: their names are words of their own, and no name is reserved.
+    Instrumented,
 }
 
 /// What a token is (C17 6.4).

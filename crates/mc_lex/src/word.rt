@@ -3,7 +3,7 @@ ghost use Rattle.std.specs.Prelude.{◌≡◌, ◌≤◌, length};
 ghost use Rattle.std.specs.List.{prefix_len};
 ghost use Rattle.mc_lex.specs.Bytes.{is_word_byte};
 ghost use Rattle.mc_lex.specs.Words as words;
-ghost use Rattle.mc_lex.specs.Words.{one_of, keywords, outside_keywords, reserved};
+ghost use Rattle.mc_lex.specs.Words.{one_of, keywords, outside_keywords, own_words, reserved};
 ghost use Rattle.mc_lex.specs.steps.Scanner as spec;
 
 use crate::byte::{is_letter, is_word_byte};
@@ -108,11 +108,22 @@ fn is_outside_keyword(text: &[u8]) -> bool
 }
 
 #[tactic(auto, unfolding(crate::specs::Words::probe_names))]
+fn is_own_word(text: &[u8], dialect: Dialect) -> bool
+    ensures { result ≡ one_of (own_words dialect) text.now }
+{
+    match dialect {
+        Dialect::Plain => false,
+        Dialect::Instrumented => is_one_of(&PROBE_NAMES, text),
+    }
+}
+
+#[tactic(auto, unfolding(crate::specs::Words::probe_names))]
 fn is_reserved(text: &[u8], dialect: Dialect) -> bool
     ensures { result ≡ one_of (reserved dialect) text.now }
 {
     match dialect {
         Dialect::Plain => is_one_of(&PROBE_NAMES, text),
+        Dialect::Instrumented => false,
     }
 }
 
@@ -120,7 +131,7 @@ fn is_reserved(text: &[u8], dialect: Dialect) -> bool
 pub fn word_kind(text: &[u8], dialect: Dialect) -> Result<TokenKind, FaultKind>
     ensures { result ≡ words.word_kind dialect text.now }
 {
-    if is_keyword(text) {
+    if is_keyword(text) || is_own_word(text, dialect) {
         Ok(TokenKind::Keyword)
     } else if is_outside_keyword(text) || is_reserved(text, dialect) {
         Err(FaultKind::OutsideWord)

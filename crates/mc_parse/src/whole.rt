@@ -69,6 +69,7 @@ fn limit_of(dialect: Dialect) -> u32
 {
     match dialect {
         Dialect::Plain => 200,
+        Dialect::Instrumented => 800,
     }
 }
 
