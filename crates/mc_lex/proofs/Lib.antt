@@ -1,5 +1,6 @@
 pub mod Turns
 pub mod Texts
+pub mod Heads
 pub mod Sizes
 pub mod Characters
 pub mod Numbers

@@ -3,17 +3,23 @@ ghost use Rattle.std.specs.Prelude.{◌≡◌};
 ghost use Rattle.mc_lex.specs.Words.{one_of};
 ghost use Rattle.mc_lex.specs.steps.Scanner as spec;
 
+use crate::byte::is_word_byte;
 use crate::fault_kind::FaultKind;
 use crate::table::{first_of, is_one_of};
 use crate::token::TokenKind;
 
-/// Punctuators and openings of literals, the longest first.
-const PUNCTUATORS_AND_OPENINGS: [&[u8]; 59] = [
-    b"<<=", b">>=", b"...", b"u8\"", b"++", b"--", b"<<", b">>", b"<=", b">=", b"==", b"!=", b"&&",
-    b"||", b"+=", b"-=", b"*=", b"/=", b"%=", b"&=", b"|=", b"^=", b"->", b"<:", b":>", b"<%",
-    b"%>", b"%:", b"L\"", b"u\"", b"U\"", b"L'", b"u'", b"U'", b"[", b"]", b"(", b")", b"{", b"}",
-    b".", b",", b";", b":", b"?", b"~", b"!", b"+", b"-", b"*", b"/", b"%", b"&", b"|", b"^", b"<",
-    b">", b"=", b"\"",
+/// The openings of literals that begin with a letter, the longest first.
+const LETTER_OPENINGS: [&[u8]; 7] = [b"u8\"", b"L\"", b"u\"", b"U\"", b"L'", b"u'", b"U'"];
+
+/// The punctuators whose first byte begins no other one.
+const LONE_PUNCTUATORS: [&[u8]; 10] = [b"[", b"]", b"(", b")", b"{", b"}", b",", b";", b"?", b"~"];
+
+/// The other punctuators and openings of literals, the longest first.
+const OTHER_PUNCTUATORS: [&[u8]; 42] = [
+    b"<<=", b">>=", b"...", b"++", b"--", b"<<", b">>", b"<=", b">=", b"==", b"!=", b"&&", b"||",
+    b"+=", b"-=", b"*=", b"/=", b"%=", b"&=", b"|=", b"^=", b"->", b"<:", b":>", b"<%", b"%>",
+    b"%:", b".", b":", b"!", b"+", b"-", b"*", b"/", b"%", b"&", b"|", b"^", b"<", b">", b"=",
+    b"\"",
 ];
 
 /// The punctuators that are left out, and the openings of literals.
@@ -22,19 +28,54 @@ const OUTSIDE_PUNCTUATORS_AND_OPENINGS: [&[u8]; 15] = [
     b"L'", b"u'", b"U'",
 ];
 
-/// The length of the longest punctuator or opening of a literal at the start, or 0.
-#[tactic(auto, unfolding(crate::specs::steps::Scanner::punctuator_len, crate::specs::steps::Scanner::punctuators_and_openings))]
+/// Whether the byte is a punctuator by itself and begins no other one.
+fn stands_alone(b: u8) -> bool
+    ensures { result ≡ spec.stands_alone b }
+{
+    match b {
+        b'[' | b']' | b'(' | b')' | b'{' | b'}' | b',' | b';' | b'?' | b'~' => true,
+        _ => false,
+    }
+}
+
+/// The length of the longest punctuator or opening of a literal at the start, or 0. The first byte
+/// says which of them can stand there.
 pub fn punctuator_len(bytes: &[u8]) -> usize
     ensures { result ≡ spec.punctuator_len bytes.now }
 {
-    first_of(&PUNCTUATORS_AND_OPENINGS, bytes)
+    match bytes {
+        [] => 0,
+        [first, _later @ ..] => {
+            if is_word_byte(*first) {
+                first_of(&LETTER_OPENINGS, bytes)
+            } else if stands_alone(*first) {
+                first_of(&LONE_PUNCTUATORS, bytes)
+            } else {
+                first_of(&OTHER_PUNCTUATORS, bytes)
+            }
+        }
+    }
 }
 
-#[tactic(auto, unfolding(crate::specs::steps::Scanner::outside_punctuators_and_openings, crate::specs::Punctuators::outside_punctuators, crate::specs::Punctuators::literal_openings))]
+/// Whether the first byte is a punctuator by itself and begins no other one.
+fn begins_alone(text: &[u8]) -> bool
+    ensures { result ≡ spec.begins_alone text.now }
+{
+    match text {
+        [] => false,
+        [first, ..] => stands_alone(*first),
+    }
+}
+
+#[tactic(auto, using(crate::proofs::Heads::lone_inside), unfolding(crate::specs::steps::Scanner::outside_punctuators_and_openings, crate::specs::Punctuators::outside_punctuators, crate::specs::Punctuators::literal_openings))]
 fn is_outside_punctuator(text: &[u8]) -> bool
     ensures { result ≡ one_of spec.outside_punctuators_and_openings text.now }
 {
-    is_one_of(&OUTSIDE_PUNCTUATORS_AND_OPENINGS, text)
+    if begins_alone(text) {
+        false
+    } else {
+        is_one_of(&OUTSIDE_PUNCTUATORS_AND_OPENINGS, text)
+    }
 }
 
 /// What a punctuator or an opening of a literal is.

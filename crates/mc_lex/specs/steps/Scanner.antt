@@ -68,6 +68,16 @@ punctuators_and_openings =
     ∷ codes "-" ∷ codes "*" ∷ codes "/" ∷ codes "%" ∷ codes "&" ∷ codes "|" ∷ codes "^"
     ∷ codes "<" ∷ codes ">" ∷ codes "=" ∷ (34 ∷ []) ∷ []
 
+-- [ ] ( ) { } , ; ? ~
+abbrev pub stands_alone : ℕ → Bool
+stands_alone b =
+    b == 91 || b == 93 || b == 40 || b == 41 || b == 123 || b == 125 || b == 44 || b == 59
+    || b == 63 || b == 126
+
+abbrev pub begins_alone : List ℕ → Bool
+begins_alone [] = false
+begins_alone (b ∷ bs) = stands_alone b
+
 -- those that are left out
 unfoldable pub outside_punctuators_and_openings : List (List ℕ)
 outside_punctuators_and_openings = outside_punctuators ++ literal_openings
