@@ -2,6 +2,8 @@
 #![tactic(auto)]
 
 #[cfg(test)]
+mod dialects;
+#[cfg(test)]
 mod heights;
 #[cfg(test)]
 mod nestings;
