@@ -19,6 +19,7 @@ use Rattle.mc_typed.specs.Tree as typed
 use Rattle.mc_faults.specs.declared.fault.Fault.{Fault}
 use Rattle.mc_faults.specs.declared.fault.FaultKind.TheVariants.{Undeclared, Mismatch, NoBody}
 use Rattle.mc_faults.specs.Faults.{fault_if, unless_faulty}
+use Rattle.mc_typing.specs.Profile.{counted}
 use Rattle.mc_typing.specs.Types.{Base, Void, Integer, Tagged, CType, plain, Structure, Member, members_of, is_complete, ParameterKind, ByValue, ByArray, Signature, base_of_words, type_of_words_or, any_is_no_word, qualified, has, int}
 use Rattle.mc_typing.specs.Scopes.{Meaning, Automatic, Constant, Function, Typedef, Scope, meaning_of, function_number, is_input, is_output, next_slot, TagMeaning, StructureTag, EnumerationTag, tag_of}
 use Rattle.mc_typing.specs.Scopes as scope
@@ -117,7 +118,7 @@ index_fine all span x y h k = by_value x.value h
 member_fine : (all : List Structure) (name : Name) (span : Span) (x : Found) → IsFineFound x → WhereSome (IsFine (x.faults ++ member_faults span.start name all x.place (kind_found x)) x.place) (option_and_then (member_of all name span) x.value)
 member_fine all name span x h = by_value x.value h
   where
-    by_type : (place : Place) (b : Bool) (one : Selected) (ms : List Member) (o : Option CType) (fs : List Fault) → (fs ≡ []) × (x.place ≡ true) → WhereSome (IsFine fs x.place) (option_map (λ u. Stored (typed.Member place one.number (layout.start (layouts_of ms) one.number) span) (member_type b u)) o)
+    by_type : (place : Place) (b : Bool) (one : Selected) (ms : List Member) (o : Option CType) (fs : List Fault) → (fs ≡ []) × (x.place ≡ true) → WhereSome (IsFine fs x.place) (option_map (λ u. Stored (typed.Member place (counted one.number) (counted (layout.start (layouts_of ms) one.number)) span) (member_type b u)) o)
     by_type place b one ms None fs h = tt
     by_type place b one ms (Some u) fs h = h
 

@@ -11,12 +11,12 @@ use Rattle.mc_value.specs.declared.int_type.IntType.{IntType}
 use Rattle.mc_value.specs.Conversions.{converted}
 use Rattle.mc_typed.specs.declared.expressions.Slot.{Slot}
 use Rattle.mc_typed.specs.Constants.{constant_value}
-use Rattle.mc_typed.specs.Layout.{ObjectType, cells}
+use Rattle.mc_typed.specs.Layout.{ObjectType}
 use Rattle.mc_typed.specs.Tree.{Declarator, Effect, Statements}
 use Rattle.mc_typed.specs.Tree as typed
 use Rattle.mc_faults.specs.declared.fault.Fault.{Fault}
 use Rattle.mc_faults.specs.Faults.{unless_faulty}
-use Rattle.mc_typing.specs.Types.{Base, Void, Integer, Tagged, CType, plain, Structure, layout_of, Signature, count, has}
+use Rattle.mc_typing.specs.Types.{Base, Void, Integer, Tagged, CType, plain, Structure, cells_of, Signature, count, has}
 use Rattle.mc_typing.specs.Scopes.{Automatic, Labels, Scope, next_slot, next_static, with_name, with_counted, block, prototype, body_scope, file_scope}
 use Rattle.mc_typing.specs.Scopes as scope
 use Rattle.mc_typing.specs.Values.{Judged, Value, Number, Stored, Borrowed, Returned, Done, Assigned, Designator, number_in, structure_in, number_found, effect_in, whole, lift2, lift3}
@@ -24,7 +24,7 @@ use Rattle.mc_typing.specs.Constants.{value_of_constant}
 use Rattle.mc_typing.specs.Expressions.{convert_to, promote}
 use Rattle.mc_typing.specs.Declarators.{declared_type}
 use Rattle.mc_typing.specs.Judgement.{typed_by, judge, judge_specifiers, judge_lengths, judge_parameters}
-use Rattle.mc_typing.specs.Initializers.{Target, Missing, ScalarTarget, ArrayTarget, StructureTarget, target_of, Parts, parts_of, first_part, later_parts, cells_of, scalar_value, item_value, item_count, only_item, list_value, zero_value, zero_judged, list_judged, braced_judged, only_expression, judge_initializer, judge_items}
+use Rattle.mc_typing.specs.Initializers.{Target, Missing, ScalarTarget, ArrayTarget, StructureTarget, target_of, Parts, parts_of, first_part, later_parts, scalar_value, item_value, item_count, only_item, list_value, zero_value, zero_judged, list_judged, braced_judged, only_expression, judge_initializer, judge_items}
 use Rattle.mc_typing.specs.Initializers as initializers
 use Rattle.mc_typing.specs.Declarations.{Storage, TypedefStorage, StaticStorage, AutomaticStorage, storage_of, count_listed, judge_optional_initializer, object_faults, layout_counted, declarator_value, static_value, object_judged, judge_init_declarator, append, judge_init_declarators, is_tag_alone, judge_declaration, result_of, signature_listed}
 use Rattle.mc_typing.specs.Statements.{Around, outermost, inside, in_loop, in_switch, closed, compound_scope, alone, only, followed, statement_found, keyword, declaration_judged, items_of, switch_scope, label_value, case_judged, default_judged, lift4, loop, return_value}
@@ -431,7 +431,7 @@ return_of a all (Some (Integer t)) v h =
     (λ e p. of_units.return_number (convert_of t a e p)) (number_of a v h)
 return_of a all (Some (Tagged k)) v h =
     map_where (IsStructureOf a) (IsReturnOf (Some a))
-    (λ w. typed.ReturnStructure w (cells (layout_of all (plain (Tagged k))))) (structure_in k v)
+    (λ w. typed.ReturnStructure w (cells_of all (plain (Tagged k)))) (structure_in k v)
     (λ w p. of_units.return_structure p) (structure_of a k v h)
 return_of a all (Some Void) v h = tt
 return_of a all None v h = tt

@@ -15,11 +15,12 @@ use Rattle.mc_value.specs.declared.int_type.IntType.{IntType}
 use Rattle.mc_value.specs.declared.int_type.IntType.TheVariants as the
 use Rattle.mc_value.specs.IntTypes.{in_range}
 use Rattle.mc_value.specs.Conversions.{promoted, common_of}
-use Rattle.mc_typed.specs.Layout.{cells, start}
+use Rattle.mc_typed.specs.Layout.{start}
 use Rattle.mc_typed.specs.Sound.{type_of}
 use Rattle.mc_typed.specs.Tree.{Place, StructureValue, Arguments, Effect}
 use Rattle.mc_typed.specs.Tree as typed
-use Rattle.mc_typing.specs.Types.{Base, Void, Integer, Tagged, CType, plain, Structure, Member, members_of, layout_of, same_integer, is_complete, ParameterKind, ByValue, ByArray}
+use Rattle.mc_typing.specs.Profile.{counted}
+use Rattle.mc_typing.specs.Types.{Base, Void, Integer, Tagged, CType, plain, Structure, Member, members_of, cells_of, same_integer, is_complete, ParameterKind, ByValue, ByArray}
 use Rattle.mc_typing.specs.Scopes.{Meaning, Automatic, Constant, Function, Typedef, Scope, meaning_of, function_number, is_input, is_output, next_slot}
 use Rattle.mc_typing.specs.Scopes as scope
 use Rattle.mc_typing.specs.Values.{Value, Number, Stored, Borrowed, Returned, Done, Assigned, Designator, Kind, IsVoid, IsAssignment, IsInteger, IsStructure, IsArray, IsFunction, kind_of, Found, number_stored, number_in, structure_stored, structure_in, any_structure_in, number_found, value_effect, discarded_in, lift2}
@@ -210,7 +211,7 @@ stored_member_of a all name span place u [] (Tagged k) h =
   where
     by_type : (members : List Member) (k : ℕ) (type : Option CType)
         → WhereSome (IsValueOf (tree.Member a name span)) (option_map
-        (λ v. Stored (typed.Member place k (start (layouts_of members) k) span) (member_type u.is_const v)) type)
+        (λ v. Stored (typed.Member place (counted k) (counted (start (layouts_of members) k)) span) (member_type u.is_const v)) type)
     by_type members k None = tt
     by_type members k (Some v) = of.member h
 
@@ -366,7 +367,7 @@ assign_of a b all span v place (Integer t) [] h k =
     (λ e p. of.assignment k (convert_of t b e p)) (number_of b v h)
 assign_of a b all span v place (Tagged n) [] h k =
     map_where (IsStructureOf b) (IsEffectOf (tree.Assignment assign.Assign a b span))
-    (λ w. typed.Copy place w (cells (layout_of all (plain (Tagged n)))) span) (structure_in n v)
+    (λ w. typed.Copy place w (cells_of all (plain (Tagged n))) span) (structure_in n v)
     (λ w p. of.copy k p) (structure_of b n v h)
 assign_of a b all span v place Void ls h k = tt
 assign_of a b all span v place (Integer t) (n ∷ ns) h k = tt

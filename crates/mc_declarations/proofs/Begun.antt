@@ -2,7 +2,7 @@
 use Rattle.std.proofs.Common.{◌≡◌, ◌∙◌, ℕ, ◌+◌, ℤ, pos, ◌+ℤ◌, option_and_then, List, [], ◌∷◌, ◌++◌, take, drop, length, Option, Some, None, true, option_map, refl, sym, ap, append_assoc, length-append}
 use Rattle.mc_tree.specs.Tree.{Name, ArrayLengths}
 use Rattle.mc_typed.specs.declared.expressions.Slot.{Slot}
-use Rattle.mc_typed.specs.Layout.{ObjectType, cells}
+use Rattle.mc_typed.specs.Layout.{ObjectType}
 use Rattle.mc_faults.specs.declared.fault.Fault.{Fault}
 use Rattle.mc_faults.specs.Faults.{lesser, least_of, unless_faulty}
 use Rattle.mc_typing.specs.Types.{CType, ParameterKind, Signature}
@@ -14,7 +14,7 @@ use Rattle.mc_typing.specs.Declarations.{object_faults, layout_counted}
 use Rattle.mc_typing.specs.Typing.{with_function}
 use Rattle.mc_scopes.specs.Prototypes.{body_in}
 use Rattle.mc_declarations.specs.Declarations.{with_length, length_then, squeezed_listed}
-use Rattle.mc_declarations.specs.Halves.{Local, squeezed_local, automatic_begun}
+use Rattle.mc_declarations.specs.Halves.{Local, squeezed_local, automatic_begun, counted_cells}
 use Rattle.mc_faults.specs.Kept.{listed, least}
 use Rattle.mc_scopes.specs.steps.Squeezed.{squeezed_part}
 use Rattle.mc_scopes.proofs.Squeezed.{joined_listed, joined_leasts}
@@ -43,7 +43,7 @@ pub begun_local : (faults : Option Fault) (name : Name) (lengths : ArrayLengths)
     → slot ≡ next_slot s → copied ≡ u
     → typed ≡ unless_faulty (listed faults ++ object_faults name lengths count base u s) copied
     → t ≡ with_name name (Automatic slot typed) s
-    → n ≡ option_map cells (layout_counted (listed own) u t)
+    → n ≡ option_map counted_cells (layout_counted (listed own) u t)
     → v ≡ with_counted (layout_counted (listed own) u t) t
     → local_with (listed f) (listed own) slot n v ≡ squeezed_local (automatic_begun (listed faults) name lengths count base u s)
 begun_local faults name lengths count base u s own f slot n copied typed t v ko kf ks kc kt kn km kv =
@@ -54,9 +54,9 @@ begun_local faults name lengths count base u s own f slot n copied typed t v ko 
     ∙ ap (λ (x : Option CType). with_name name (Automatic (next_slot s) x) s) (kt ∙ ap (unless_faulty all) kc) in
     let layout = ap (λ (o : Option Fault). layout_counted (listed o) u t) ko ∙ counted_by_least fs u t
     ∙ ap (λ (x : Scope). layout_counted fs u x) named ∙ counted_named fs u name m s in
-    local_all (listed f) (least all) (listed own) (least fs) slot (next_slot s) n (option_map cells (layout_counted fs u s)) v
+    local_all (listed f) (least all) (listed own) (least fs) slot (next_slot s) n (option_map counted_cells (layout_counted fs u s)) v
     (with_counted (layout_counted fs u s) (with_name name m s)) (ap listed kf) (ap listed ko) ks
-    (km ∙ ap (λ (x : Option ObjectType). option_map cells x) layout)
+    (km ∙ ap (λ (x : Option ObjectType). option_map counted_cells x) layout)
     (kv ∙ ap (λ (x : Option ObjectType). with_counted x t) layout
     ∙ ap (λ (x : Scope). with_counted (layout_counted fs u s) x) named)
 

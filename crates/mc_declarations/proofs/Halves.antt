@@ -2,7 +2,7 @@
 use Rattle.std.proofs.Common.{◌≡◌, ◌∙◌, ℕ, true, false, List, [], ◌∷◌, ◌++◌, Option, Some, None, option_map, length, refl, sym, ap, append_assoc}
 use Rattle.mc_tree.specs.Tree.{Name, ArrayLengths, Initializer}
 use Rattle.mc_typed.specs.declared.expressions.Slot.{Slot}
-use Rattle.mc_typed.specs.Layout.{ObjectType, cells}
+use Rattle.mc_typed.specs.Layout.{ObjectType}
 use Rattle.mc_typed.specs.Tree.{Declarator}
 use Rattle.mc_typed.specs.Tree as t
 use Rattle.mc_faults.specs.declared.fault.Fault.{Fault}
@@ -13,7 +13,7 @@ use Rattle.mc_typing.specs.Values.{Judged, judged}
 use Rattle.mc_typing.specs.Declarators.{Listed}
 use Rattle.mc_typing.specs.Declarations.{Storage, count_listed, judge_optional_initializer, object_faults, layout_counted, after_initializer, counted_after, declarator_value, automatic_judged, static_faults_with, static_scope, static_value, static_judged, typedef_judged, typedef_faults, signature_listed, again_faults, function_faults, function_form_faults, function_judged}
 use Rattle.mc_declarations.specs.Declarations.{squeezed_listed}
-use Rattle.mc_declarations.specs.Halves.{Begun, squeezed_begun, Local, squeezed_local, automatic_begun, zero_or, counted_value, automatic_ended, StaticBegun, squeezed_static, static_begun, static_ended, typedef_begun, function_begun, declared_ended}
+use Rattle.mc_declarations.specs.Halves.{Begun, squeezed_begun, Local, squeezed_local, automatic_begun, counted_cells, zero_or, counted_value, automatic_ended, StaticBegun, squeezed_static, static_begun, static_ended, typedef_begun, function_begun, declared_ended}
 use Rattle.mc_faults.specs.Kept.{listed, least}
 use Rattle.mc_scopes.specs.steps.Squeezed.{squeezed_part}
 use Rattle.mc_scopes.proofs.Squeezed.{least_front, least_back, least_least, least_two}
@@ -70,12 +70,12 @@ uncounted_same fs gs n s h =
 -- ---- objects with automatic storage duration
 
 value_counted : (slot : Slot) (u : Option ObjectType) (v : Option (Option t.Initializer))
-    → declarator_value slot u v ≡ counted_value slot (option_map cells u) v
+    → declarator_value slot u v ≡ counted_value slot (option_map counted_cells u) v
 value_counted slot None v = refl
 value_counted slot (Some u) None = refl
 value_counted slot (Some u) (Some v) = refl
 
-cells_zero : (u : Option ObjectType) → cells_counted u ≡ zero_or (option_map cells u)
+cells_zero : (u : Option ObjectType) → cells_counted u ≡ zero_or (option_map counted_cells u)
 cells_zero None = refl
 cells_zero (Some u) = refl
 
@@ -91,9 +91,9 @@ automatic_halves faults name lengths base u value s =
     let b = automatic_begun faults name lengths (count_listed value) base u s in
     let x = judge_optional_initializer false (unless_faulty own u) value b.scope in
     judged_same (faults ++ (own ++ x.faults)) ((faults ++ own) ++ x.faults)
-    (declarator_value (next_slot s) layout x.value) (counted_value (next_slot s) (option_map cells layout) x.value)
+    (declarator_value (next_slot s) layout x.value) (counted_value (next_slot s) (option_map counted_cells layout) x.value)
     (counted_after x.faults (cells_counted layout) (after_initializer x.faults name (Automatic (next_slot s) None) x.scope))
-    (counted_after x.faults (zero_or (option_map cells layout)) (after_initializer x.faults name (Automatic (next_slot s) None) x.scope))
+    (counted_after x.faults (zero_or (option_map counted_cells layout)) (after_initializer x.faults name (Automatic (next_slot s) None) x.scope))
     (sym (append_assoc faults own x.faults)) (value_counted (next_slot s) layout x.value)
     (ap (λ (n : ℕ). counted_after x.faults n (after_initializer x.faults name (Automatic (next_slot s) None) x.scope)) (cells_zero layout))
 
@@ -105,7 +105,7 @@ automatic_begun_node faults name lengths count base u s =
     let own = object_faults name lengths count base u s in
     let layout = layout_counted own u s in
     let same = least_front faults own in
-    local_same (least (least faults ++ own)) (least (faults ++ own)) (least own) (next_slot s) (option_map cells layout)
+    local_same (least (least faults ++ own)) (least (faults ++ own)) (least own) (next_slot s) (option_map counted_cells layout)
     (with_counted layout (with_name name (Automatic (next_slot s) (unless_faulty (least faults ++ own) u)) s))
     (with_counted layout (with_name name (Automatic (next_slot s) (unless_faulty (faults ++ own) u)) s)) same
     (ap (λ (v : Option CType). with_counted layout (with_name name (Automatic (next_slot s) v) s))

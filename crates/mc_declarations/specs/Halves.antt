@@ -2,11 +2,12 @@
 use Rattle.std.specs.Prelude.{ℕ, List, [], ◌∷◌, ◌++◌, length, Option, Some, None, option_map}
 use Rattle.mc_tree.specs.Tree.{Name, ArrayLengths, Initializer}
 use Rattle.mc_typed.specs.declared.expressions.Slot.{Slot}
-use Rattle.mc_typed.specs.Layout.{cells}
+use Rattle.mc_typed.specs.Layout.{ObjectType, cells}
 use Rattle.mc_typed.specs.Tree.{Declarator}
 use Rattle.mc_typed.specs.Tree as typed
 use Rattle.mc_faults.specs.declared.fault.Fault.{Fault}
 use Rattle.mc_faults.specs.Faults.{unless_faulty}
+use Rattle.mc_typing.specs.Profile as profile
 use Rattle.mc_typing.specs.Types.{CType, ParameterKind}
 use Rattle.mc_typing.specs.Scopes.{Automatic, Stored, Typedef, Scope, meaning_here, with_name, next_slot, next_static, with_counted}
 use Rattle.mc_typing.specs.Values.{Judged, judged}
@@ -50,6 +51,9 @@ local_of x s = record {
   scope = s;
 }
 
+abbrev pub counted_cells : ObjectType → ℕ
+counted_cells u = profile.counted (cells u)
+
 abbrev pub automatic_begun : List Fault → Name → ArrayLengths → Option ℕ → Option CType
     → Option CType → Scope → Local
 automatic_begun faults name lengths count base u s =
@@ -59,7 +63,7 @@ automatic_begun faults name lengths count base u s =
       faults = faults ++ own;
       own = own;
       slot = next_slot s;
-      counted = option_map cells layout;
+      counted = option_map counted_cells layout;
       scope = with_counted layout
           (with_name name (Automatic (next_slot s) (unless_faulty (faults ++ own) u)) s);
     }

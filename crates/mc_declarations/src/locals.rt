@@ -1,7 +1,6 @@
 //! Objects with automatic storage duration (C17 6.2.4p5).
 ghost use Rattle.std.specs.Prelude.{◌≡◌, [], IfOk, List, Some, option_map};
 ghost use Rattle.mc_tree.specs.Views.{name_of};
-ghost use Rattle.mc_typed.specs.Layout as sizes;
 ghost use Rattle.mc_faults.specs.declared.fault.Fault.{Fault};
 ghost use Rattle.mc_faults.specs.Faults.{least_of, unless_faulty};
 ghost use Rattle.mc_typing.specs.Declarations as declarations;
@@ -9,7 +8,7 @@ ghost use Rattle.mc_typing.specs.Scopes as scopes;
 ghost use Rattle.mc_scopes.specs.Types.{type_of};
 ghost use Rattle.mc_scopes.specs.Views.{scope_of};
 ghost use Rattle.mc_declarations.specs.Declarations.{optional_of, written};
-ghost use Rattle.mc_declarations.specs.Halves.{automatic_begun, automatic_ended, counted_value, local_of, squeezed_local, zero_or};
+ghost use Rattle.mc_declarations.specs.Halves.{automatic_begun, automatic_ended, counted_cells, counted_value, local_of, squeezed_local, zero_or};
 ghost use Rattle.mc_scopes.specs.Statements.{declarators_of};
 ghost use Rattle.mc_scopes.specs.Found.{judged_of};
 ghost use Rattle.mc_faults.specs.Kept.{listed};
@@ -43,7 +42,7 @@ fn add_typed(
     scope: &mut Scope<'_>,
     of: &Option<CType>,
 ) -> Result<Option<u32>, AllocError>
-    ensures cells { IfOk result (λ n. n ≡ option_map sizes.cells
+    ensures cells { IfOk result (λ n. n ≡ option_map counted_cells
         (declarations.layout_counted [] (option_map type_of of.now) (scope_of scope.old))) }
     ensures scope { IfOk result (λ _. scope_of scope.new ≡ scopes.with_counted
         (declarations.layout_counted [] (option_map type_of of.now) (scope_of scope.old))
@@ -65,7 +64,7 @@ fn add_counted(
     own: Option<Fault>,
     of: &Option<CType>,
 ) -> Result<Option<u32>, AllocError>
-    ensures cells { IfOk result (λ n. n ≡ option_map sizes.cells
+    ensures cells { IfOk result (λ n. n ≡ option_map counted_cells
         (declarations.layout_counted (listed own) (option_map type_of of.now)
         (scope_of scope.old))) }
     ensures scope { IfOk result (λ _. scope_of scope.new ≡ scopes.with_counted

@@ -1,7 +1,8 @@
 //! Members of structures (C17 6.7.2.1).
-ghost use Rattle.std.specs.Prelude.{◌≡◌, ◌++◌, IfOk, OnOk, Some, map, option_map};
+ghost use Rattle.std.specs.Prelude.{◌≡◌, ◌++◌, IfOk, OnOk, Some, length, map, option_map};
 ghost use Rattle.mc_tree.specs.Views.{name_of};
 ghost use Rattle.mc_typing.specs.Declarators as declarator_rules;
+ghost use Rattle.mc_typing.specs.Declarators.{cells_of_members};
 ghost use Rattle.mc_faults.specs.Faults.{least_of};
 ghost use Rattle.mc_typing.specs.Limits as limit;
 ghost use Rattle.mc_typing.specs.Scopes as scopes;
@@ -24,23 +25,34 @@ use mc_scopes::{
 use mc_tree::{ArrayLength, Identifier};
 use std::alloc::{AllocError, Global};
 
+// The fault of a member of this type that passes a limit, after the members before it.
+#[tactic(auto, using(mc_scopes::proofs::Counted::passed_after_counted))]
 fn member_limit_fault(
-    before: u32,
+    members: &Members<'_>,
     structures: &[Structure<'_>],
     of: &Option<CType>,
     at: u32,
 ) -> Option<Fault>
-    ensures { result ≡ least_of (limit.member_limit_faults before
-        (map structure_of structures.now) (option_map type_of of.now) at) }
+    ensures { result ≡ least_of (limit.member_limit_faults
+        (cells_of_members (map listed_of members.now)) (map structure_of structures.now)
+        (option_map type_of of.now) at) }
 {
     match of {
         Some(of) => fault_where(
-            is_large_member(before, structures, of),
+            is_large_member(members.cells(), structures, of),
             FaultKind::Limit,
             at,
         ),
         None => None,
     }
+}
+
+// The fault of a member that has no number, after the members before it.
+fn member_count_fault(members: &Members<'_>, at: u32) -> Option<Fault>
+    ensures { result
+        ≡ least_of (limit.member_count_faults (length (map listed_of members.now)) at) }
+{
+    fault_where(members.len() >= u32::MAX as usize, FaultKind::Limit, at)
 }
 
 // The fault of a member, after the members before it; `before` is that of its lengths.
@@ -60,13 +72,17 @@ fn member_fault(
         (map listed_of members.now) (map structure_of structures.now)) }
 {
     let at = name.span.start;
-    let limit = member_limit_fault(members.cells(), structures, of, at);
+    let count = member_count_fault(members, at);
+    let limit = member_limit_fault(members, structures, of, at);
     let incomplete = incomplete_fault(structures, base, at);
     let absent = absent_fault(lengths, None, at);
     let again = fault_where(members.has(name.text), FaultKind::Redeclared, at);
     lesser(
         before,
-        lesser(again, lesser(absent, lesser(incomplete, limit))),
+        lesser(
+            again,
+            lesser(absent, lesser(incomplete, lesser(limit, count))),
+        ),
     )
 }
 
@@ -82,7 +98,7 @@ fn push_typed<'a>(
         ≡ declarator_rules.with_member (name_of name.now)
         (Some (type_of of)) (map listed_of members.old) (map structure_of structures.now)) }
 {
-    let count = cells(structures, &of)?;
+    let count = cells(structures, &of);
     let nesting = counted_nesting(structures, &of);
     let layout = layout(alloc, structures, &of)?;
     members.push(name.text, Some(of), Some(layout), count, nesting)

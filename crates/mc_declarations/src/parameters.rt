@@ -1,7 +1,6 @@
 //! Parameters (C17 6.7.6.3).
 ghost use Rattle.std.specs.Prelude.{◌≡◌, ◌++◌, [], ◌∷◌, IfOk, OnOk, Some, map, option_map};
 ghost use Rattle.mc_tree.specs.Views.{name_of, tag_of};
-ghost use Rattle.mc_typed.specs.Layout as sizes;
 ghost use Rattle.mc_typing.specs.Declarators as declarator_rules;
 ghost use Rattle.mc_faults.specs.Faults.{least_of, unless_faulty};
 ghost use Rattle.mc_typing.specs.Limits as limit;
@@ -220,14 +219,12 @@ pub(crate) fn add_object_of(
     scope: &mut Scope<'_>,
     of: &CType,
 ) -> Result<u32, AllocError>
-    ensures cells { IfOk result (λ n. n ≡ sizes.cells
-        (types.layout_of (scope_of scope.old).structures (type_of of.now))) }
+    ensures cells { IfOk result (λ n. n
+        ≡ types.cells_of (scope_of scope.old).structures (type_of of.now)) }
     ensures scope { IfOk result (λ _. scope_of scope.new ≡ scopes.with_object
         (types.layout_of (scope_of scope.old).structures (type_of of.now)) (scope_of scope.old)) }
 {
-    let Ok(count) = cells(&scope.structures, of) else {
-        return Err(AllocError);
-    };
+    let count = cells(&scope.structures, of);
     let Ok(object) = layout(alloc, &scope.structures, of) else {
         return Err(AllocError);
     };

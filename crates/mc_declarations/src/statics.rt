@@ -5,7 +5,7 @@ ghost use Rattle.mc_limits.specs.Limits.{most_static_cells};
 ghost use Rattle.mc_typed.specs.Layout as sizes;
 ghost use Rattle.mc_faults.specs.declared.fault.FaultKind.TheVariants.{Limit};
 ghost use Rattle.mc_typing.specs.Declarations as declarations;
-ghost use Rattle.mc_typing.specs.Profile.{most_numbered};
+ghost use Rattle.mc_typing.specs.Profile.{counted, most_numbered};
 ghost use Rattle.mc_faults.specs.Faults.{fault_if};
 ghost use Rattle.mc_typing.specs.Limits as limit;
 ghost use Rattle.mc_typing.specs.Scopes as scopes;
@@ -77,7 +77,7 @@ fn initial_values(
     count: u32,
     value: &Option<Initializer>,
 ) -> Result<Vec<i128>, AllocError>
-    ensures { IfOk result (λ r. (u : sizes.ObjectType) → count ≡ sizes.cells u
+    ensures { IfOk result (λ r. (u : sizes.ObjectType) → count ≡ counted (sizes.cells u)
         → r.items ≡ declarations.initial_values u (optional_of value.now)) }
 {
     match value {
@@ -94,8 +94,7 @@ fn add_static(
     count: u32,
     value: &Option<Initializer>,
 ) -> Result<(), AllocError>
-    requires { count ≡ sizes.cells
-        (types.layout_of (scope_of scope.old).structures (type_of of.now)) }
+    requires { count ≡ types.cells_of (scope_of scope.old).structures (type_of of.now) }
     ensures { OnOk result (scope_of scope.new ≡ scopes.with_static
         (types.layout_of (scope_of scope.old).structures (type_of of.now))
         (declarations.initial_values (types.layout_of (scope_of scope.old).structures
@@ -126,6 +125,7 @@ fn sum_fault(scope: &Scope<'_>, at: u32, count: u32) -> Option<Fault>
 
 /// The first fault of an object whose type and initializer have none, but perhaps its cells; the
 /// object is added.
+#[tactic(auto, using(mc_scopes::proofs::Counted::passed_counted))]
 fn add_faultless<'a>(
     alloc: Global,
     scope: &mut Scope<'a>,
@@ -143,9 +143,7 @@ fn add_faultless<'a>(
         (declarations.after_initializer (listed r) (name_of name.now) (scopes.Stored slot None)
         (scope_of scope.old))) }
 {
-    let Ok(count) = cells(&scope.structures, of) else {
-        return Err(AllocError);
-    };
+    let count = cells(&scope.structures, of);
     let sum = sum_fault(scope, name.span.start, count);
     let Ok(()) = declare_untyped(scope, sum, name, Meaning::Static { slot, of: None }) else {
         return Err(AllocError);

@@ -16,7 +16,7 @@ ghost use Rattle.mc_faults.specs.Kept.{listed};
 ghost use Rattle.mc_scopes.specs.steps.Squeezed.{squeezed_part};
 
 use crate::faults::first_fault;
-use crate::tags::{next_structure, plain};
+use crate::tags::plain;
 use mc_faults::{Fault, FaultKind};
 use mc_scopes::found::Judged;
 use mc_scopes::{Base, CType, Members, Scope, Structure, TagMeaning};
@@ -27,16 +27,14 @@ use std::alloc::{AllocError, Global};
 #[derive(Drop)]
 pub struct Opened {
     pub fault: Option<Fault>,
-    pub number: u32,
+    pub number: usize,
 }
 
 fn open_anew<'a>(scope: &mut Scope<'a>, fault: Option<Fault>) -> Result<Opened, AllocError>
     ensures { IfOk result (λ r. opened_of r (scope_of scope.new)
         ≡ declarators.opened_anew (listed fault) (scope_of scope.old)) }
 {
-    let Ok(number) = next_structure(scope) else {
-        return Err(AllocError);
-    };
+    let number = scope.structures.len();
     match scope.add_structure(Structure::Incomplete { begun: true }) {
         Ok(()) => Ok(Opened { fault, number }),
         Err(error) => Err(error),
@@ -51,9 +49,7 @@ fn open_with_tag<'a>(
     ensures { IfOk result (λ r. opened_of r (scope_of scope.new)
         ≡ declarators.opened_with_tag (listed fault) (name_of tag.now) (scope_of scope.old)) }
 {
-    let Ok(number) = next_structure(scope) else {
-        return Err(AllocError);
-    };
+    let number = scope.structures.len();
     match scope.declare_tag(tag, TagMeaning::Structure(number)) {
         Ok(()) => open_anew(scope, fault),
         Err(error) => Err(error),
@@ -72,13 +68,13 @@ fn declared_already(tag: &Identifier<'_>) -> Option<Fault>
 
 /// Whether the structure type with this number has had no list so far.
 #[tactic(auto, using(crate::proofs::Numbered::structure_at))]
-fn has_no_list(scope: &Scope<'_>, number: u32) -> bool
+fn has_no_list(scope: &Scope<'_>, number: usize) -> bool
     ensures { (tag : Name) (u : scopes.Scope) → declarators.opened_again tag number u
         (slice_get (scope_of scope.now).structures number)
         ≡ declarators.opened_again tag number u
         (if result then Some (types.Incomplete false) else None) }
 {
-    match scope.structures.get(number as usize) {
+    match scope.structures.get(number) {
         Some(structure) => match structure {
             Structure::Incomplete { begun } => !*begun,
             Structure::Complete(_) => false,
@@ -91,7 +87,7 @@ fn has_no_list(scope: &Scope<'_>, number: u32) -> bool
 fn open_again<'a>(
     scope: &mut Scope<'a>,
     tag: &Identifier<'a>,
-    number: u32,
+    number: usize,
 ) -> Result<Opened, AllocError>
     ensures { IfOk result (λ r. opened_of r (scope_of scope.new)
         ≡ declarators.opened_again (name_of tag.now) number (scope_of scope.old)
@@ -157,7 +153,7 @@ fn completed<'a>(
     }
 }
 
-fn completed_type(alloc: Global, fault: Option<Fault>, number: u32) -> Option<CType>
+fn completed_type(alloc: Global, fault: Option<Fault>, number: usize) -> Option<CType>
     ensures { option_map type_of result
         ≡ unless_faulty (listed fault) (Some (types.plain (types.Tagged number))) }
 {

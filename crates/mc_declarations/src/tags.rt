@@ -1,5 +1,5 @@
 //! Tags without a list (C17 6.7.2.3).
-ghost use Rattle.std.specs.Prelude.{◌≡◌, IfOk, Some, None, true, false, length, option_map};
+ghost use Rattle.std.specs.Prelude.{◌≡◌, IfOk, Some, None, true, false, option_map};
 ghost use Rattle.mc_tree.specs.Views.{name_of};
 ghost use Rattle.mc_typing.specs.Declarators as declarators;
 ghost use Rattle.mc_typing.specs.Scopes as scopes;
@@ -47,23 +47,13 @@ pub(crate) fn faultless<A>(value: Option<A>) -> Judged<A>
 }
 
 /// The structure type with this number, where its list has no fault.
-fn structure_type(alloc: Global, scope: &Scope<'_>, number: u32) -> Option<CType>
+fn structure_type(alloc: Global, scope: &Scope<'_>, number: usize) -> Option<CType>
     ensures { option_map type_of result ≡ declarators.structure_type number (scope_of scope.now) }
 {
     if is_faulty(&scope.structures, Base::Tagged(number)) {
         None
     } else {
         Some(plain(alloc, Base::Tagged(number)))
-    }
-}
-
-/// The number of the next structure type.
-pub fn next_structure(scope: &Scope<'_>) -> Result<u32, AllocError>
-    ensures { IfOk result (λ n. n ≡ length (scope_of scope.now).structures) }
-{
-    match u32::try_from(scope.structures.len()) {
-        Ok(number) => Ok(number),
-        Err(_) => Err(AllocError),
     }
 }
 
@@ -75,9 +65,7 @@ fn declare_structure<'a>(
     ensures { IfOk result (λ r. judged_of type_of r (scope_of scope.new)
         ≡ declarators.declared_tag (name_of tag.now) (scope_of scope.old) None) }
 {
-    let Ok(number) = next_structure(scope) else {
-        return Err(AllocError);
-    };
+    let number = scope.structures.len();
     let Ok(()) = scope.add_structure(Structure::Incomplete { begun: false }) else {
         return Err(AllocError);
     };

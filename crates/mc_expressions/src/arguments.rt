@@ -204,7 +204,7 @@ fn argument_value(
 // ---- copies of structures
 
 // The number of the structure type that an argument copies.
-fn copied_structure(parameter: Option<&ParameterKind>, value: &Option<Argument>) -> Option<u32>
+fn copied_structure(parameter: Option<&ParameterKind>, value: &Option<Argument>) -> Option<usize>
     ensures { (s : scopes.Scope) → option_map (calls.layout_of_structure s) result
         ≡ calls.copy_of s (option_map types.kind_of (option_copied parameter.entry))
         (option_map argument_of value.now) }
@@ -229,7 +229,7 @@ fn copied_structure(parameter: Option<&ParameterKind>, value: &Option<Argument>)
 fn structure_layout(
     alloc: Global,
     structures: &[Structure<'_>],
-    number: u32,
+    number: usize,
 ) -> Result<ObjType, AllocError>
     ensures { IfOk result (λ r. objects.object_type_of r ≡ typing.layout_of
         (map structure_of structures.now) (typing.plain (typing.Tagged number))) }
@@ -241,9 +241,9 @@ fn structure_layout(
 }
 
 /// One more object of the function, of the structure type with this number; how many cells it has.
-pub fn add_temporary(alloc: Global, scope: &mut Scope<'_>, number: u32) -> Result<u32, AllocError>
+pub fn add_temporary(alloc: Global, scope: &mut Scope<'_>, number: usize) -> Result<u32, AllocError>
     ensures cells { IfOk result (λ n. n
-        ≡ objects.cells (calls.layout_of_structure (scope_of scope.old) number)) }
+        ≡ scopes.cells_counted (Some (calls.layout_of_structure (scope_of scope.old) number))) }
     ensures scope { IfOk result (λ _. scope_of scope.new
         ≡ scopes.with_object (calls.layout_of_structure (scope_of scope.old) number)
         (scope_of scope.old)) }
@@ -254,7 +254,11 @@ pub fn add_temporary(alloc: Global, scope: &mut Scope<'_>, number: u32) -> Resul
     Ok(count)
 }
 
-fn add_counted(alloc: Global, scope: &mut Scope<'_>, number: Option<u32>) -> Result<u32, AllocError>
+fn add_counted(
+    alloc: Global,
+    scope: &mut Scope<'_>,
+    number: Option<usize>,
+) -> Result<u32, AllocError>
     ensures cells { IfOk result (λ n. n ≡ scopes.cells_counted
         (option_map (calls.layout_of_structure (scope_of scope.old)) number)) }
     ensures scope { IfOk result (λ _. scope_of scope.new

@@ -1,6 +1,5 @@
 //! Assignments of both kinds, made by one walk over their sides (C17 6.5.16).
 ghost use Rattle.std.specs.Prelude.{◌≡◌, ◌++◌, IfOk, Some, map, option_map};
-ghost use Rattle.mc_typed.specs.Layout as objects;
 ghost use Rattle.mc_typed.specs.Tree as typed_tree;
 ghost use Rattle.mc_typed.specs.Views.{expression_of, place_of};
 ghost use Rattle.mc_typed.specs.Views as typed;
@@ -171,14 +170,14 @@ fn number_effect(
 fn structure_effect(
     alloc: Global,
     structures: &[Structure<'_>],
-    number: u32,
+    number: usize,
     target: Place,
     value: Option<mc_typed::Structure>,
     span: Span,
 ) -> Result<Option<Value>, AllocError>
     ensures { IfOk result (λ r. option_map value_of r ≡ option_map values.Assigned
-        (option_map (λ w. typed_tree.Copy (place_of target) w (objects.cells (types.layout_of
-        (map structure_of structures.now) (types.plain (types.Tagged number)))) span)
+        (option_map (λ w. typed_tree.Copy (place_of target) w (types.cells_of
+        (map structure_of structures.now) (types.plain (types.Tagged number))) span)
         (option_map typed.structure_of value))) }
 {
     match value {

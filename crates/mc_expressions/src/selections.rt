@@ -6,6 +6,7 @@ ghost use Rattle.mc_typed.specs.Tree as typed;
 ghost use Rattle.mc_typed.specs.Views.{place_of};
 ghost use Rattle.mc_faults.specs.Faults.{least_of};
 ghost use Rattle.mc_faults.specs.Kept.{listed};
+ghost use Rattle.mc_typing.specs.Profile.{counted};
 ghost use Rattle.mc_typing.specs.Types as types;
 ghost use Rattle.mc_typing.specs.Values as values;
 ghost use Rattle.mc_typing.specs.Expressions as expressions;
@@ -20,6 +21,7 @@ use mc_faults::{Fault, FaultKind, after, fault_where, or_fault};
 use mc_scopes::found::{Found, kind_found};
 use mc_scopes::kind::{Kind, fails_structure};
 use mc_scopes::parts::ValueParts;
+use mc_scopes::sums::counted;
 use mc_scopes::value::Value;
 use mc_scopes::{Base, CType, Member, Scope, Structure};
 use mc_tree::Identifier;
@@ -27,11 +29,11 @@ use mc_typed::{Place, Span};
 use std::alloc::{AllocError, Global};
 
 // The member of a structure with this name, and its number.
-fn selected_in<'t>(structure: &'t Structure<'_>, name: &[u8]) -> Option<(u32, &'t Member)>
+fn selected_in<'t>(structure: &'t Structure<'_>, name: &[u8]) -> Option<(usize, &'t Member)>
     ensures member { option_map (λ r. selected_of name.now r.0 r.1.now) result
         ≡ expressions.selected 0 name.now (types.members_of (Some (structure_of structure.now))) }
-    ensures offset { IfSome result (λ r. r.1.now.offset ≡ objects.start
-        (expressions.layouts_of (types.members_of (Some (structure_of structure.now)))) r.0) }
+    ensures offset { IfSome result (λ r. r.1.now.offset ≡ counted (objects.start
+        (expressions.layouts_of (types.members_of (Some (structure_of structure.now)))) r.0)) }
 {
     match structure {
         Structure::Complete(complete) => complete.select(name),
@@ -44,18 +46,18 @@ fn selected_in<'t>(structure: &'t Structure<'_>, name: &[u8]) -> Option<(u32, &'
 #[tactic(auto, using(crate::proofs::Members::structure_at))]
 fn selected<'t>(
     structures: &'t [Structure<'_>],
-    number: u32,
+    number: usize,
     name: &[u8],
-) -> Option<(u32, &'t Member)>
+) -> Option<(usize, &'t Member)>
     ensures member { option_map (λ r. selected_of name.now r.0 r.1.now) result
         ≡ expressions.selected 0 name.now
         (types.members_of (slice_get (map structure_of structures.now) number)) }
-    ensures offset { IfSome result (λ r. r.1.now.offset ≡ objects.start
+    ensures offset { IfSome result (λ r. r.1.now.offset ≡ counted (objects.start
         (expressions.layouts_of (types.members_of
         (slice_get (map structure_of structures.now) number)))
-        r.0) }
+        r.0)) }
 {
-    match structures.get(number as usize) {
+    match structures.get(number) {
         Some(structure) => selected_in(structure, name),
         None => None,
     }
@@ -115,7 +117,7 @@ fn selection_fault(
     after(operand.fault, own)
 }
 
-// A member of a place, by its number, its type and where it begins.
+// A member of a place, by its type, its number and where it begins.
 fn typed_member(
     alloc: Global,
     place: Place,
@@ -150,11 +152,11 @@ fn member_at(
     place: Place,
     is_const: bool,
     span: Span,
-    number: u32,
+    number: usize,
     member: &Member,
 ) -> Result<Option<Value>, AllocError>
     ensures { IfOk result (λ r. (members : List types.Member) (name : List ℕ)
-        → member.now.offset ≡ objects.start (expressions.layouts_of members) number
+        → member.now.offset ≡ counted (objects.start (expressions.layouts_of members) number)
         → option_map value_of r
         ≡ expressions.member_at members (place_of place) is_const span
         (selected_of name number member.now)) }
@@ -164,7 +166,7 @@ fn member_at(
             match of.try_clone() {
                 Ok(of) => {
                     let of = of.qualified(is_const);
-                    typed_member(alloc, place, of, span, number, member.offset)
+                    typed_member(alloc, place, of, span, counted(number), member.offset)
                 }
                 Err(error) => {
                     drop(place);

@@ -1,6 +1,5 @@
 //! Elements of arrays (C17 6.5.2.1).
 ghost use Rattle.std.specs.Prelude.{◌≡◌, ◌++◌, IfOk, Some, map, option_map};
-ghost use Rattle.mc_typed.specs.Layout as objects;
 ghost use Rattle.mc_typed.specs.Tree as typed;
 ghost use Rattle.mc_typed.specs.Views.{expression_of, place_of};
 ghost use Rattle.mc_faults.specs.Faults.{least_of};
@@ -97,21 +96,14 @@ fn item_of_type(
 ) -> Result<Option<Value>, AllocError>
     ensures { IfOk result (λ r. option_map value_of r
         ≡ Some (values.Stored (typed.Item (place_of array) length
-        (objects.cells (types.layout_of (map structure_of structures.now) (type_of element)))
+        (types.cells_of (map structure_of structures.now) (type_of element))
         (expression_of index) span) (type_of element))) }
 {
-    match cells(structures, &element) {
-        Ok(stride) => match item(alloc, array, length, stride, index, span) {
-            Ok(place) => Ok(Some(Value::Stored(place, element))),
-            Err(error) => {
-                drop(element);
-                Err(error)
-            }
-        },
+    let stride = cells(structures, &element);
+    match item(alloc, array, length, stride, index, span) {
+        Ok(place) => Ok(Some(Value::Stored(place, element))),
         Err(error) => {
-            drop(array);
             drop(element);
-            drop(index);
             Err(error)
         }
     }
@@ -160,28 +152,22 @@ fn borrowed_element(
 ) -> Result<Option<Value>, AllocError>
     ensures { IfOk result (λ r. option_map value_of r
         ≡ Some (values.Stored (typed.Parameter array
-        (objects.cells (types.layout_of (map structure_of structures.now) (type_of element)))
+        (types.cells_of (map structure_of structures.now) (type_of element))
         (expression_of index) span) (type_of element))) }
 {
-    match cells(structures, &element) {
-        Ok(stride) => match boxed(alloc, index) {
-            Ok(index) => {
-                let place = Place::Parameter {
-                    array,
-                    stride,
-                    index,
-                    span,
-                };
-                Ok(Some(Value::Stored(place, element)))
-            }
-            Err(error) => {
-                drop(element);
-                Err(error)
-            }
-        },
+    let stride = cells(structures, &element);
+    match boxed(alloc, index) {
+        Ok(index) => {
+            let place = Place::Parameter {
+                array,
+                stride,
+                index,
+                span,
+            };
+            Ok(Some(Value::Stored(place, element)))
+        }
         Err(error) => {
             drop(element);
-            drop(index);
             Err(error)
         }
     }

@@ -1,10 +1,9 @@
 //! `return` with an expression (C17 6.8.6.4).
 ghost use Rattle.std.specs.Prelude.{◌≡◌, Some, IfOk, option_map, option_and_then};
-ghost use Rattle.mc_typed.specs.Layout.{cells};
 ghost use Rattle.mc_typed.specs.Tree as typed;
 ghost use Rattle.mc_typed.specs.Views.{expression_of, structure_of, return_value_of};
 ghost use Rattle.mc_faults.specs.Faults.{least_of};
-ghost use Rattle.mc_typing.specs.Types.{Tagged, layout_of, plain};
+ghost use Rattle.mc_typing.specs.Types.{Tagged, cells_of, plain};
 ghost use Rattle.mc_typing.specs.Values as values;
 ghost use Rattle.mc_typing.specs.Expressions as expressions;
 ghost use Rattle.mc_typing.specs.Statements as statements;
@@ -81,11 +80,15 @@ fn return_number(
     }
 }
 
-fn return_structure(scope: &Scope<'_>, number: u32, value: Option<Structure>) -> Option<ReturnValue>
+fn return_structure(
+    scope: &Scope<'_>,
+    number: usize,
+    value: Option<Structure>,
+) -> Option<ReturnValue>
     ensures { option_map return_value_of result
         ≡ option_map
         (λ w. typed.ReturnStructure w
-        (cells (layout_of (scope_of scope.now).structures (plain (Tagged number)))))
+        (cells_of (scope_of scope.now).structures (plain (Tagged number))))
         (option_map structure_of value) }
 {
     match value {

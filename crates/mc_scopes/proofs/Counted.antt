@@ -4,11 +4,11 @@ use Rattle.std.proofs.Math.Nat.{le-mul_of_pos_right, mul_assoc, mul_comm, mul_le
 use Rattle.std.proofs.lemmas.Bool.{cases_lt}
 use Rattle.std.proofs.lemmas.List.{drop_all}
 use Rattle.std.proofs.lemmas.Bool.Decides.{Decides-ltb, Decides-like, leb_tells, same_from_decides}
-use Rattle.mc_value.specs.ObjectTypes.{most_cells}
 use Rattle.mc_typed.specs.Layout.{ObjectType, cells, nesting}
 use Rattle.mc_typing.specs.Types.{arrays_of}
 use Rattle.mc_typing.specs.Limits.{is_passed_with}
-use Rattle.mc_scopes.specs.Counted.{most_counted, product}
+use Rattle.mc_typing.specs.Profile.{most_counted}
+use Rattle.mc_scopes.specs.Counted.{product}
 
 pub product_counted : (l a b : ℕ) → min (min a l * b) l ≡ min (a * b) l
 product_counted l a zero = rw (mul-zero (min a l), mul-zero a) refl
@@ -70,19 +70,36 @@ many_counted k n h =
     (Decides-ltb k (min n most_counted)))
     (Decides-ltb k n)
 
-pub passed_counted : (before n : ℕ)
-    → is_passed_with most_cells before (min n most_counted) ≡ is_passed_with most_cells before n
-passed_counted before n = go (cases_lt most_counted n)
+pub passed_counted : (most before n : ℕ) → most < most_counted
+    → is_passed_with most before (min n most_counted) ≡ is_passed_with most before n
+passed_counted most before n h =
+    ap (λ b. nat_le before most && b)
+    (same_from_decides (nat_lt most (before + min n most_counted)) (nat_lt most (before + n))
+    (Decides-like (nat_lt most (before + min n most_counted)) (λ e. omega (arith, e, h)) (λ e. omega (arith, e, h))
+    (Decides-ltb most (before + min n most_counted)))
+    (Decides-ltb most (before + n)))
+
+not_within : (a b : ℕ) → b < a → nat_le a b ≡ false
+not_within a b h = go (leb_tells a b)
   where
-    go : ((most_counted < n) ⊎ (n ≤ most_counted))
-        → is_passed_with most_cells before (min n most_counted) ≡ is_passed_with most_cells before n
-    go (inl more) =
-        ap (λ b. nat_le before most_cells && b)
-        ((Decides-ltb most_cells (before + min n most_counted)).1 (omega (arith, more))
-        ∙ sym ((Decides-ltb most_cells (before + n)).1 (omega (arith, more))))
+    go : ((nat_le a b ≡ true) × (a ≤ b)) ⊎ ((nat_le a b ≡ false) × (b < a)) → nat_le a b ≡ false
+    go (inl p) = absurd (omega (arith, p.1, h))
+    go (inr p) = p.0
+
+-- after so many cells as are counted
+pub passed_after_counted : (most before more : ℕ) → most < most_counted
+    → is_passed_with most (min before most_counted) more ≡ is_passed_with most before more
+passed_after_counted most before more h = go (cases_lt most_counted before)
+  where
+    go : ((most_counted < before) ⊎ (before ≤ most_counted))
+        → is_passed_with most (min before most_counted) more ≡ is_passed_with most before more
+    go (inl many) =
+        ap (λ b. b && nat_lt most (min before most_counted + more))
+        (not_within (min before most_counted) most (omega (arith, many, h)))
+        ∙ sym (ap (λ b. b && nat_lt most (before + more)) (not_within before most (omega (arith, many, h))))
     go (inr few) =
-        let is : min n most_counted ≡ n = omega (arith, few) in
-        ap (is_passed_with most_cells before) is
+        let is : min before most_counted ≡ before = omega (arith, few) in
+        ap (λ n. is_passed_with most n more) is
 
 -- ---- factors in turn
 

@@ -1,17 +1,17 @@
 -- Members and where they begin.
 use Rattle.std.proofs.Common.{◌≡◌, ◌∙◌, ◌<◌, ◌≤◌, ◌⊎◌, ◌+◌, ℕ, zero, suc, max, min, Bool, true, false, ◌||◌, List, [], ◌∷◌, ◌++◌, map, length, take, slice_get, Option, Some, None, is_some, IfSome, option_map, refl, sym, ap, arith, inl, inr, subst, if◌then◌else◌}
 use Rattle.std.specs.Str.{bytes_eq}
-use Rattle.std.proofs.lemmas.List.{map_push, length_push}
+use Rattle.std.proofs.lemmas.List.{map_push}
 use Rattle.std.proofs.lemmas.Option.{slice_get_within}
 use Rattle.std.proofs.lemmas.Slice.Eq.{bytes_eq-Decides}
 use denote.Ref.{Bor}
 use Rattle.mc_value.specs.declared.object_type.ObjType.{ObjType}
 use Rattle.mc_typed.specs.Layout.{ObjectType, object_type_of, cells, cells_all, nesting, nesting_all, members_from, start}
+use Rattle.mc_typing.specs.Profile.{counted, most_counted}
 use Rattle.mc_typing.specs.Declarators.{has_member}
 use Rattle.mc_typing.specs.Expressions.{Selected, selected, layouts_of}
 use Rattle.mc_names.specs.Tables.{Named, last_of, later_or, last_place_of}
 use Rattle.mc_scopes.specs.Listed.{layout_of, listed_of, selected_of, found_member, member_at, AreLaid}
-use Rattle.mc_scopes.specs.Counted.{most_counted}
 use Rattle.mc_scopes.specs.declared.member.Member.{Member}
 
 -- ---- one more layout
@@ -71,24 +71,27 @@ at_more (z ∷ xs) x y (suc k) e = go (at_more xs x y k e)
 max_counted : (l a b : ℕ) → max (min a l) (min b l) ≡ min (max a b) l
 max_counted l a b = omega arith
 
+sum_counted : (l a b : ℕ) → min (min a l + min b l) l ≡ min (a + b) l
+sum_counted l a b = omega arith
+
 pub laid_none : AreLaid [] 0 0
 laid_none = record {
-  cells = refl;
+  cells = omega arith;
   nesting = omega arith;
   offsets = λ k m e. absurd (omega (arith, slice_get_within [] k m e));
-  few = omega arith;
 }
 
 pub laid_more : (ms : List (Named Member)) (m : Named Member) (total nested c d : ℕ) → AreLaid ms total nested
-    → m.meaning.offset ≡ total → c ≡ cells (layout_of m.meaning.layout)
+    → m.meaning.offset ≡ total → c ≡ counted (cells (layout_of m.meaning.layout))
     → d ≡ min (nesting (layout_of m.meaning.layout)) most_counted
-    → length ms < 4294967295 → AreLaid (ms ++ (m ∷ [])) (total + c) (max nested d)
-laid_more ms m total nested c d h place has deep few = record {
+    → AreLaid (ms ++ (m ∷ [])) (counted (total + c)) (max nested d)
+laid_more ms m total nested c d h place has deep = record {
   cells =
-      let old : total ≡ cells_all (members_from (lays ms)) = h.cells in
+      let old : total ≡ counted (cells_all (members_from (lays ms))) = h.cells in
       let new : cells_all (members_from (lays (ms ++ (m ∷ [])))) ≡ cells_all (members_from (lays ms)) + cells (layout_of m.meaning.layout) =
       ap (λ us. cells_all (members_from us)) (lays_more ms m) ∙ cells_more (lays ms) (layout_of m.meaning.layout) in
-      ap (λ n. n + c) old ∙ ap (λ n. cells_all (members_from (lays ms)) + n) has ∙ sym new;
+      ap (λ n. counted (n + c)) old ∙ ap (λ n. counted (counted (cells_all (members_from (lays ms))) + n)) has
+      ∙ sum_counted most_counted (cells_all (members_from (lays ms))) (cells (layout_of m.meaning.layout)) ∙ ap counted (sym new);
   nesting =
       let old : nested ≡ min (nesting_all (members_from (lays ms))) most_counted = h.nesting in
       let new : nesting_all (members_from (lays (ms ++ (m ∷ [])))) ≡ max (nesting_all (members_from (lays ms))) (nesting (layout_of m.meaning.layout)) =
@@ -97,21 +100,21 @@ laid_more ms m total nested c d h place has deep few = record {
       ∙ max_counted most_counted (nesting_all (members_from (lays ms))) (nesting (layout_of m.meaning.layout))
       ∙ ap (λ n. min n most_counted) (sym new);
   offsets = λ k n e. begins k n (at_more ms m n k e);
-  few = omega (arith, few, length_push ms m);
 }
   where
     begins : (k : ℕ) (n : Named Member)
         → ((slice_get ms k ≡ Some n) × (k < length ms)) ⊎ ((k ≡ length ms) × (m ≡ n))
-        → n.meaning.offset ≡ start (members_from (lays (ms ++ (m ∷ [])))) k
+        → n.meaning.offset ≡ counted (start (members_from (lays (ms ++ (m ∷ [])))) k)
     begins k n (inl old) =
         h.offsets k n old.0
-        ∙ sym (start_more (lays ms) (layout_of m.meaning.layout) k (omega (arith, old.1, lays_length ms)))
-        ∙ ap (λ us. start (members_from us) k) (sym (lays_more ms m))
+        ∙ ap counted (sym (start_more (lays ms) (layout_of m.meaning.layout) k (omega (arith, old.1, lays_length ms)))
+        ∙ ap (λ us. start (members_from us) k) (sym (lays_more ms m)))
     begins k n (inr new) =
-        ap (λ (x : Named Member). x.meaning.offset) (sym new.1) ∙ place ∙ h.cells ∙ sym (start_end (lays ms))
+        ap (λ (x : Named Member). x.meaning.offset) (sym new.1) ∙ place ∙ h.cells
+        ∙ ap counted (sym (start_end (lays ms))
         ∙ ap (start (members_from (lays ms))) (lays_length ms ∙ sym new.0)
         ∙ sym (start_more (lays ms) (layout_of m.meaning.layout) k (omega (arith, new.0, lays_length ms)))
-        ∙ ap (λ us. start (members_from us) k) (sym (lays_more ms m))
+        ∙ ap (λ us. start (members_from us) k) (sym (lays_more ms m)))
 
 -- ---- names
 
@@ -188,7 +191,7 @@ numbered_selects q ms i o h is =
 pub numbered_begins : (q : List ℕ) (ms : List (Named Member)) (total nested i : ℕ) (o : Option (ℕ × Bor Member))
     → AreLaid ms total nested → Selects 0 q ms (Some i)
     → option_map found_member o ≡ option_map (member_at i) (slice_get ms i)
-    → IfSome o (λ r. r.1.now.offset ≡ start (layouts_of (map listed_of ms)) r.0)
+    → IfSome o (λ r. r.1.now.offset ≡ counted (start (layouts_of (map listed_of ms)) r.0))
 numbered_begins q ms total nested i None laid h is = tt
 numbered_begins q ms total nested i (Some r) laid h is =
     let pair : found_member r ≡ member_at i h.0 = ap (inner (found_member r)) (is ∙ ap (option_map (member_at i)) h.2) in
@@ -202,7 +205,7 @@ numbered_begins q ms total nested i (Some r) laid h is =
     offset p = p.1.offset
 
     begin : ℕ × Member → ℕ
-    begin p = start (layouts_of (map listed_of ms)) p.0
+    begin p = counted (start (layouts_of (map listed_of ms)) p.0)
 
 -- ---- layouts in turn
 

@@ -1,15 +1,15 @@
 -- What members of the program stand for, and where they begin.
-use Rattle.std.specs.Prelude.{◌≡◌, ◌<◌, min, ℕ, ◌^◌, List, map, length, slice_get, Option, Some, None, option_map}
+use Rattle.std.specs.Prelude.{◌≡◌, min, ℕ, List, map, slice_get, Option, Some, None, option_map}
 use denote.Ref.{Bor}
 use Rattle.mc_value.specs.declared.object_type.ObjType.{ObjType}
 use Rattle.mc_typed.specs.Layout.{ObjectType, nesting_all, start, object_type_of}
+use Rattle.mc_typing.specs.Profile.{counted, most_counted}
 use Rattle.mc_typing.specs.Types.{nothing}
 use Rattle.mc_typing.specs.Types as types
 use Rattle.mc_typing.specs.Declarators.{cells_of_members}
 use Rattle.mc_typing.specs.Expressions.{Selected, layouts_of}
 use Rattle.mc_names.specs.Tables.{Named}
 use Rattle.mc_scopes.specs.declared.member.Member.{Member}
-use Rattle.mc_scopes.specs.Counted.{most_counted}
 use Rattle.mc_scopes.specs.Types.{type_of}
 
 abbrev pub layout_of : Option ObjType → ObjectType
@@ -36,10 +36,9 @@ abbrev pub member_at : ℕ → Named Member → ℕ × Member
 member_at k m = (k, m.meaning)
 
 -- Members with so many cells and so much nesting in all: each has the place where it begins (C17
--- 6.7.2.1p15), and 32 bits count them. The nesting is counted as far as 32 bits do.
+-- 6.7.2.1p15). All these are counted as far as 32 bits do.
 pub record AreLaid (members : List (Named Member)) (total nested : ℕ) : Type 0 where
-  pub cells : total ≡ cells_of_members (map listed_of members)
+  pub cells : total ≡ counted (cells_of_members (map listed_of members))
   pub nesting : nested ≡ min (nesting_all (layouts_of (map listed_of members))) most_counted
   pub offsets : (k : ℕ) (m : Named Member) → slice_get members k ≡ Some m
-      → m.meaning.offset ≡ start (layouts_of (map listed_of members)) k
-  pub few : length members < 2 ^ 32
+      → m.meaning.offset ≡ counted (start (layouts_of (map listed_of members)) k)

@@ -14,7 +14,7 @@ pub enum Kind<'a> {
     Assignment,
     Integer,
     /// The structure type with this number.
-    Structure(u32),
+    Structure(usize),
     /// An array, by the type of its elements.
     Array {
         base: Base,
@@ -102,7 +102,7 @@ impl Kind<'_> {
 // ---- an operand whose kind is known, and does not pass the test
 
 /// Whether it is the kind of the structure type with this number.
-pub fn is_kind(number: u32, kind: Kind<'_>) -> bool
+pub fn is_kind(number: usize, kind: Kind<'_>) -> bool
     ensures { result ≡ initializers.is_kind number (kind_of kind.entry) }
 {
     match kind {

@@ -1,19 +1,22 @@
 //! Layouts of types (C17 6.2.5), and the limits of objects.
-ghost use Rattle.std.specs.Prelude.{◌≡◌, ◌+◌, ◌*◌, ◌<◌, ◌≤◌, ◌||◌, ◌^◌, ◌∷◌, ◌++◌, nat_lt, min, [], length, map, slice_get, Some, IfOk, OnOk, OnErr};
+ghost use Rattle.std.specs.Prelude.{◌≡◌, ◌+◌, ◌*◌, ◌<◌, ◌||◌, ◌^◌, ◌∷◌, ◌++◌, nat_lt, min, [], length, map, slice_get, Some, IfOk, OnOk};
 ghost use Rattle.mc_limits.specs.Limits.{most_nesting};
 ghost use Rattle.mc_value.specs.ObjectTypes.{most_cells};
 ghost use Rattle.mc_typed.specs.Layout as layout;
 ghost use Rattle.mc_typed.specs.Layout.{object_type_of};
+ghost use Rattle.mc_typing.specs.Profile as profile;
+ghost use Rattle.mc_typing.specs.Profile.{most_counted};
 ghost use Rattle.mc_typing.specs.Types as type_rules;
 ghost use Rattle.mc_typing.specs.Limits as limit;
 ghost use Rattle.mc_typing.specs.Declarators.{cells_of_members};
 ghost use Rattle.mc_typing.specs.Expressions.{layouts_of};
 ghost use Rattle.mc_scopes.specs.Types.{base_of, type_of};
 ghost use Rattle.mc_scopes.specs.Views.{structure_of};
-ghost use Rattle.mc_scopes.specs.Counted.{most_counted, product};
+ghost use Rattle.mc_scopes.specs.Counted.{product};
 
 use crate::lists::{push, shared, where_done};
 use crate::members::Structure;
+use crate::sums::counted;
 use crate::types::{Base, CType};
 use mc_limits::MOST_NESTING;
 use mc_value::{MOST_CELLS, ObjType};
@@ -22,11 +25,11 @@ use std::sync::Arc;
 
 // Whether the structure type with this number has its members.
 #[tactic(auto, using(crate::proofs::Arrays::structure_at))]
-fn has_members(structures: &[Structure<'_>], number: u32) -> bool
+fn has_members(structures: &[Structure<'_>], number: usize) -> bool
     ensures { result
         ≡ type_rules.is_complete_structure (slice_get (map structure_of structures.now) number) }
 {
-    match structures.get(number as usize) {
+    match structures.get(number) {
         Some(structure) => structure.is_complete(),
         None => false,
     }
@@ -45,11 +48,11 @@ pub fn is_complete(structures: &[Structure<'_>], base: Base) -> bool
 
 // Whether the structure type with this number has a fault in its list.
 #[tactic(auto, using(crate::proofs::Arrays::structure_at))]
-fn has_fault(structures: &[Structure<'_>], number: u32) -> bool
+fn has_fault(structures: &[Structure<'_>], number: usize) -> bool
     ensures { result ≡ type_rules.is_faulty_structure
         (slice_get (map structure_of structures.now) number) }
 {
-    match structures.get(number as usize) {
+    match structures.get(number) {
         Some(structure) => structure.is_faulty(),
         None => false,
     }
@@ -92,13 +95,13 @@ fn parts_of(alloc: Global, structure: &Structure<'_>) -> Result<Arc<Vec<ObjType>
 fn parts_at(
     alloc: Global,
     structures: &[Structure<'_>],
-    number: u32,
+    number: usize,
 ) -> Result<Arc<Vec<ObjType>>, AllocError>
     ensures { IfOk result (λ p. map object_type_of p.value.items
         ≡ map (λ m. m.layout) (type_rules.members_of
         (slice_get (map structure_of structures.now) number))) }
 {
-    match structures.get(number as usize) {
+    match structures.get(number) {
         Some(structure) => parts_of(alloc, structure),
         None => no_parts(alloc),
     }
@@ -121,6 +124,7 @@ fn layout_of_base(
         Base::Integer(of) => Ok(ObjType::Int(of)),
         Base::Tagged(number) => {
             let members = parts_at(alloc, structures, number)?;
+            let number = counted(number);
             Ok(ObjType::Struct { number, members })
         }
     }
@@ -164,13 +168,14 @@ pub fn layout(
 // The structure type with this number.
 fn structure_type(
     alloc: Global,
-    number: u32,
+    number: usize,
     structure: &Structure<'_>,
 ) -> Result<ObjType, AllocError>
     ensures { IfOk result (λ r. object_type_of r
         ≡ type_rules.structure_from number (structure_of structure.now)) }
 {
     let members = parts_of(alloc, structure)?;
+    let number = counted(number);
     Ok(ObjType::Struct { number, members })
 }
 
@@ -180,14 +185,12 @@ fn add_type(
     types: &mut Vec<ObjType>,
     structure: &Structure<'_>,
 ) -> Result<(), AllocError>
-    requires { length types.old.items < 2 ^ 32 }
     ensures more { OnOk result (map object_type_of types.new.items
         ≡ map object_type_of types.old.items
         ++ type_rules.structure_from (length types.old.items) (structure_of structure.now) ∷ []) }
     ensures count { OnOk result (length types.new.items ≡ length types.old.items + 1) }
 {
-    let number = types.len() as u32;
-    let one = structure_type(alloc, number, structure)?;
+    let one = structure_type(alloc, types.len(), structure)?;
     push(types, one)
 }
 
@@ -197,8 +200,7 @@ fn add_types(
     types: &mut Vec<ObjType>,
     structures: &[Structure<'_>],
 ) -> Result<(), AllocError>
-    requires none { types.old.items ≡ [] }
-    requires few { length structures.now < 2 ^ 32 }
+    requires { types.old.items ≡ [] }
     ensures { OnOk result (map object_type_of types.new.items
         ≡ type_rules.structures_from 0 (map structure_of structures.now)) }
 {
@@ -213,7 +215,6 @@ pub fn structure_types(
     alloc: Global,
     structures: &[Structure<'_>],
 ) -> Result<Vec<ObjType>, AllocError>
-    requires { length structures.now < 2 ^ 32 }
     ensures { IfOk result (λ r. map object_type_of r.items
         ≡ type_rules.structures_from 0 (map structure_of structures.now)) }
 {
@@ -224,23 +225,24 @@ pub fn structure_types(
 
 // ---- cells
 
-// The cells of an object whose type is the structure type with this number.
+// The cells of an object whose type is the structure type with this number, as far as 32 bits count
+// them.
 #[tactic(auto, using(crate::proofs::Arrays::structure_at))]
-fn cells_at(structures: &[Structure<'_>], number: u32) -> u32
-    ensures { result ≡ cells_of_members
-        (type_rules.members_of (slice_get (map structure_of structures.now) number)) }
+fn cells_at(structures: &[Structure<'_>], number: usize) -> u32
+    ensures { result ≡ profile.counted (cells_of_members
+        (type_rules.members_of (slice_get (map structure_of structures.now) number))) }
 {
-    match structures.get(number as usize) {
+    match structures.get(number) {
         Some(structure) => structure.cells(),
         None => 0,
     }
 }
 
-// The cells of an object of a base.
+// The cells of an object of a base, as far as 32 bits count them.
 pub(crate) fn cells_of_base(structures: &[Structure<'_>], base: Base) -> u32
-    ensures { result
-        ≡ layout.cells (type_rules.layout_of_base (map structure_of structures.now)
-        (base_of base)) }
+    ensures { result ≡ profile.counted
+        (layout.cells (type_rules.layout_of_base (map structure_of structures.now)
+        (base_of base))) }
 {
     match base {
         Base::Void => 0,
@@ -249,18 +251,17 @@ pub(crate) fn cells_of_base(structures: &[Structure<'_>], base: Base) -> u32
     }
 }
 
-// A product, or the greatest number of cells that is counted.
+// A product, as far as 32 bits count it.
 fn counted_product(cells: u32, length: u32) -> u32
-    ensures { result ≡ min (cells * length) most_counted }
+    ensures { result ≡ profile.counted (cells * length) }
 {
-    let product = cells as u64 * length as u64;
-    product.min(u32::MAX as u64) as u32
+    cells.saturating_mul(length)
 }
 
 // The same of many factors.
 #[tactic(auto, using(crate::proofs::Counted::factors_counted))]
 fn counted_products(cells: u32, lengths: &[u32]) -> u32
-    ensures { result ≡ min (cells * product lengths.now) most_counted }
+    ensures { result ≡ profile.counted (cells * product lengths.now) }
 {
     let mut total = cells;
     for length in lengths {
@@ -269,35 +270,12 @@ fn counted_products(cells: u32, lengths: &[u32]) -> u32
     total
 }
 
-// The cells of an object of a type, or the greatest number of cells that is counted.
+/// How many cells an object of the type has, as far as 32 bits count them. Takes no memory.
 #[tactic(auto, using(crate::proofs::Counted::cells_of_arrays))]
-fn counted_cells(structures: &[Structure<'_>], of: &CType) -> u32
-    ensures { result
-        ≡ min (layout.cells (type_rules.layout_of (map structure_of structures.now)
-        (type_of of.now)))
-        most_counted }
+pub fn cells(structures: &[Structure<'_>], of: &CType) -> u32
+    ensures { result ≡ type_rules.cells_of (map structure_of structures.now) (type_of of.now) }
 {
     counted_products(cells_of_base(structures, of.base), &of.lengths)
-}
-
-/// How many cells an object of the type has.
-///
-/// # Errors
-///
-/// `AllocError` where they are 2^32 - 1 or more, which no object within the limits has. Takes no
-/// memory.
-pub fn cells(structures: &[Structure<'_>], of: &CType) -> Result<u32, AllocError>
-    ensures exact { IfOk result (λ n. n
-        ≡ layout.cells (type_rules.layout_of (map structure_of structures.now) (type_of of.now))) }
-    ensures many { OnErr result (most_counted
-        ≤ layout.cells (type_rules.layout_of (map structure_of structures.now) (type_of of.now))) }
-{
-    let count = counted_cells(structures, of);
-    if count == u32::MAX {
-        Err(AllocError)
-    } else {
-        Ok(count)
-    }
 }
 
 // ---- limits
@@ -305,12 +283,12 @@ pub fn cells(structures: &[Structure<'_>], of: &CType) -> Result<u32, AllocError
 // How many arrays and structures stand inside one another in the members of the structure type with
 // this number, as far as 32 bits count them.
 #[tactic(auto, using(crate::proofs::Arrays::structure_at))]
-fn nesting_at(structures: &[Structure<'_>], number: u32) -> u32
+fn nesting_at(structures: &[Structure<'_>], number: usize) -> u32
     ensures { result ≡ min (layout.nesting_all
         (layouts_of (type_rules.members_of (slice_get (map structure_of structures.now) number))))
         most_counted }
 {
-    match structures.get(number as usize) {
+    match structures.get(number) {
         Some(structure) => structure.nesting(),
         None => 0,
     }
@@ -352,7 +330,7 @@ fn has_many_cells(structures: &[Structure<'_>], of: &CType) -> bool
     ensures { result ≡ nat_lt most_cells
         (layout.cells (type_rules.layout_of (map structure_of structures.now) (type_of of.now))) }
 {
-    counted_cells(structures, of) > MOST_CELLS
+    cells(structures, of) > MOST_CELLS
 }
 
 // Whether an object of the type nests too deep.
@@ -385,7 +363,7 @@ fn is_passed_by(before: u32, structures: &[Structure<'_>], of: &CType) -> bool
     ensures { result ≡ limit.is_passed_with most_cells before
         (layout.cells (type_rules.layout_of (map structure_of structures.now) (type_of of.now))) }
 {
-    is_passed_with(MOST_CELLS, before as u64, counted_cells(structures, of))
+    is_passed_with(MOST_CELLS, before as u64, cells(structures, of))
 }
 
 // Whether a structure with a member of the type nests too deep.

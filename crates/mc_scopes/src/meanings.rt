@@ -38,6 +38,6 @@ pub enum Meaning {
 /// What a tag means: a structure type by its number, or an enumeration (C17 6.7.2.3).
 #[derive(Clone, Copy)]
 pub enum TagMeaning {
-    Structure(u32),
+    Structure(usize),
     Enumeration,
 }

@@ -1,17 +1,18 @@
 //! Members of structures (C17 6.7.2.1).
-ghost use Rattle.std.specs.Prelude.{◌≡◌, ◌+◌, ◌<◌, ◌^◌, min, ◌∷◌, ◌++◌, [], List, map, length, slice_get, Some, option_map, option_copied, IfSome, IfOk, OnOk, OnErr};
+ghost use Rattle.std.specs.Prelude.{◌≡◌, min, ◌∷◌, ◌++◌, [], List, map, length, slice_get, Some, option_map, option_copied, IfSome, IfOk, OnOk, OnErr};
 ghost use Rattle.mc_typed.specs.Layout as sizes;
 ghost use Rattle.mc_typed.specs.Layout.{object_type_of};
+ghost use Rattle.mc_typing.specs.Profile.{counted, most_counted};
 ghost use Rattle.mc_typing.specs.Types as type_rules;
 ghost use Rattle.mc_typing.specs.Declarators.{has_member, cells_of_members};
 ghost use Rattle.mc_typing.specs.Expressions.{selected, layouts_of};
 ghost use Rattle.mc_scopes.specs.Types.{type_of};
-ghost use Rattle.mc_scopes.specs.Counted.{most_counted};
 ghost use Rattle.mc_scopes.specs.Listed.{layout_of, listed_of, selected_of, found_member, member_at};
 ghost use Rattle.mc_scopes.specs.Views.{complete_in, structure_of};
 
 use crate::lists::{push, shared, where_done};
 use crate::member::Member;
+use crate::sums::counted_sum;
 use crate::types::CType;
 use mc_names::Table;
 use mc_value::ObjType;
@@ -80,17 +81,6 @@ impl<'a> Model for Complete<'a> {
         ≡ map (λ m. m.layout) (map listed_of c.members) };
 }
 
-// The cells with one more member, where 32 bits count the members and their cells.
-fn cells_with(count: usize, cells: u32, more: u32) -> Option<u32>
-    ensures total { IfSome result (λ n. n ≡ cells + more) }
-    ensures few { IfSome result (λ _. count + 1 < 2 ^ 32) }
-{
-    if count >= u32::MAX as usize {
-        return None;
-    }
-    cells.checked_add(more)
-}
-
 impl<'a> Members<'a> {
     /// No members. Takes no memory.
     #[tactic(auto, using(crate::proofs::Laid::laid_none))]
@@ -115,15 +105,15 @@ impl<'a> Members<'a> {
         }
     }
 
-    /// How many cells the members have. Takes no memory.
+    /// How many cells the members have, as far as 32 bits count them. Takes no memory.
     pub fn cells(&self) -> u32
-        ensures { result ≡ cells_of_members (map listed_of self.now) }
+        ensures { result ≡ counted (cells_of_members (map listed_of self.now)) }
     {
         self.cells
     }
 
-    // How many members there are.
-    fn len(&self) -> usize
+    /// How many members there are. Takes no memory.
+    pub fn len(&self) -> usize
         ensures { result ≡ length self.now }
     {
         self.table.len()
@@ -150,8 +140,7 @@ impl<'a> Members<'a> {
     ///
     /// # Errors
     ///
-    /// `AllocError` where memory runs out, and where 32 bits do not count the members or their
-    /// cells: then the members are as before.
+    /// `AllocError` where memory runs out: then the members are as before.
     pub fn push(
         &mut self,
         name: &'a [u8],
@@ -160,7 +149,7 @@ impl<'a> Members<'a> {
         cells: u32,
         nesting: u32,
     ) -> Result<(), AllocError>
-        requires cells { cells ≡ sizes.cells (layout_of layout) }
+        requires cells { cells ≡ counted (sizes.cells (layout_of layout)) }
         requires nesting { nesting ≡ min (sizes.nesting (layout_of layout)) most_counted }
         ensures ok { OnOk result (map listed_of self.new
             ≡ map listed_of self.old ++ record {
@@ -171,19 +160,10 @@ impl<'a> Members<'a> {
         ensures err { OnErr result (self.new ≡ self.old) }
     {
         let offset = self.cells;
-        let member = Member { of, layout, offset };
-        match cells_with(self.table.len(), self.cells, cells) {
-            Some(total) => {
-                self.table.push(name, member)?;
-                self.cells = total;
-                self.nesting = self.nesting.max(nesting);
-                Ok(())
-            }
-            None => {
-                drop(member);
-                Err(AllocError)
-            }
-        }
+        self.table.push(name, Member { of, layout, offset })?;
+        self.cells = counted_sum(self.cells, cells);
+        self.nesting = self.nesting.max(nesting);
+        Ok(())
     }
 
     // Adds the layouts of the members to none.
@@ -212,23 +192,22 @@ impl<'a> Members<'a> {
     }
 
     // The member at a place, and its number.
-    fn numbered(&self, place: usize) -> Option<(u32, &Member)>
-        requires { place < length self.now }
+    fn numbered(&self, place: usize) -> Option<(usize, &Member)>
         ensures { option_map found_member result
             ≡ option_map (member_at place) (slice_get self.now place) }
     {
         match self.table.at(place) {
-            Some(member) => Some((place as u32, member)),
+            Some(member) => Some((place, member)),
             None => None,
         }
     }
 
     // The last member with this name, and its number.
-    fn select(&self, name: &[u8]) -> Option<(u32, &Member)>
+    fn select(&self, name: &[u8]) -> Option<(usize, &Member)>
         ensures member { option_map (λ r. selected_of name.now r.0 r.1.now) result
             ≡ selected 0 name.now (map listed_of self.now) }
         ensures offset { IfSome result (λ r. r.1.now.offset
-            ≡ sizes.start (layouts_of (map listed_of self.now)) r.0) }
+            ≡ counted (sizes.start (layouts_of (map listed_of self.now)) r.0)) }
     {
         match self.table.place(name) {
             Some(place) => self.numbered(place),
@@ -262,9 +241,9 @@ impl<'a> Members<'a> {
 }
 
 impl<'a> Complete<'a> {
-    /// How many cells the structure has. Takes no memory.
+    /// How many cells the structure has, as far as 32 bits count them. Takes no memory.
     pub fn cells(&self) -> u32
-        ensures { result ≡ cells_of_members (map listed_of self.now) }
+        ensures { result ≡ counted (cells_of_members (map listed_of self.now)) }
     {
         self.members.cells()
     }
@@ -301,12 +280,12 @@ impl<'a> Complete<'a> {
     }
 
     /// The member with this name and its number, where there is one, and where it begins (C17
-    /// 6.7.2.1p15). Takes no memory.
-    pub fn select(&self, name: &[u8]) -> Option<(u32, &Member)>
+    /// 6.7.2.1p15), as far as 32 bits count that. Takes no memory.
+    pub fn select(&self, name: &[u8]) -> Option<(usize, &Member)>
         ensures member { option_map (λ r. selected_of name.now r.0 r.1.now) result
             ≡ selected 0 name.now (map listed_of self.now) }
         ensures offset { IfSome result (λ r. r.1.now.offset
-            ≡ sizes.start (layouts_of (map listed_of self.now)) r.0) }
+            ≡ counted (sizes.start (layouts_of (map listed_of self.now)) r.0)) }
     {
         self.members.select(name)
     }
@@ -335,9 +314,10 @@ impl<'a> Structure<'a> {
         }
     }
 
-    // How many cells its members have.
+    // How many cells its members have, as far as 32 bits count them.
     pub(crate) fn cells(&self) -> u32
-        ensures { result ≡ cells_of_members (type_rules.members_of (Some (structure_of self.now))) }
+        ensures { result ≡ counted
+            (cells_of_members (type_rules.members_of (Some (structure_of self.now)))) }
     {
         match self {
             Structure::Complete(complete) => complete.cells(),

@@ -19,7 +19,7 @@ pub enum ValueParts {
         element: CType,
         span: Span,
     },
-    Returned(FunctionCall, u32),
+    Returned(FunctionCall, usize),
     Done(Box<Effect>),
     Assigned(Box<Effect>),
     Designator,

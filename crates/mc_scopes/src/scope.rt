@@ -139,20 +139,20 @@ impl<'a> Scope<'a> {
     }
 
     /// The structure type with a number is this from now on.
-    pub fn set_structure(&mut self, number: u32, structure: Structure<'a>)
+    pub fn set_structure(&mut self, number: usize, structure: Structure<'a>)
         requires { number < length self.old.structures.items }
         ensures { scope_of self.new
             ≡ scopes.with_structure_at number (structure_of structure.entry) (scope_of self.old) }
     {
-        self.structures[number as usize] = structure;
+        self.structures[number] = structure;
     }
 
     /// The same, where there is a structure type with this number. Takes no memory.
-    pub fn put_structure(&mut self, number: u32, structure: Structure<'a>)
+    pub fn put_structure(&mut self, number: usize, structure: Structure<'a>)
         ensures { scope_of self.new
             ≡ scopes.with_structure_at number (structure_of structure.entry) (scope_of self.old) }
     {
-        if (number as usize) < self.structures.len() {
+        if number < self.structures.len() {
             self.set_structure(number, structure);
         } else {
             drop(structure);
@@ -193,9 +193,9 @@ impl<'a> Scope<'a> {
         self.statics.len() >= u32::MAX as usize
     }
 
-    /// One more object of the function, with so many cells.
+    /// One more object of the function, with so many cells, as far as 32 bits count them.
     pub fn add_object(&mut self, object_type: ObjType, count: u32) -> Result<(), AllocError>
-        requires { count ≡ cells (object_type_of object_type) }
+        requires { count ≡ profile.counted (cells (object_type_of object_type)) }
         ensures { IfOk result (λ _. scope_of self.new
             ≡ scopes.with_object (object_type_of object_type) (scope_of self.old)) }
     {
@@ -217,14 +217,15 @@ impl<'a> Scope<'a> {
         self.frame = self.frame.saturating_sub(count);
     }
 
-    /// One more object with static storage duration, with so many cells and these initial values.
+    /// One more object with static storage duration, with these initial values and so many cells, as
+    /// far as 32 bits count them.
     pub fn add_static(
         &mut self,
         object_type: ObjType,
         count: u32,
         initial: Vec<i128>,
     ) -> Result<(), AllocError>
-        requires { count ≡ cells (object_type_of object_type) }
+        requires { count ≡ profile.counted (cells (object_type_of object_type)) }
         ensures { IfOk result (λ _. scope_of self.new
             ≡ scopes.with_static (object_type_of object_type) initial.items (scope_of self.old)) }
     {

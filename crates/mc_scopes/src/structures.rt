@@ -1,6 +1,5 @@
 //! Cells of structures.
 ghost use Rattle.std.specs.Prelude.{◌≡◌, map};
-ghost use Rattle.mc_typed.specs.Layout as objects;
 ghost use Rattle.mc_typing.specs.Types as types;
 ghost use Rattle.mc_scopes.specs.Views.{structure_of};
 
@@ -8,10 +7,11 @@ use crate::layouts::cells_of_base;
 use crate::members::Structure;
 use crate::types::Base;
 
-/// How many cells an object has whose type is the structure type with this number. Takes no memory.
-pub fn structure_cells(structures: &[Structure<'_>], number: u32) -> u32
-    ensures { result ≡ objects.cells
-        (types.layout_of (map structure_of structures.now) (types.plain (types.Tagged number))) }
+/// How many cells an object has whose type is the structure type with this number, as far as 32 bits
+/// count them. Takes no memory.
+pub fn structure_cells(structures: &[Structure<'_>], number: usize) -> u32
+    ensures { result
+        ≡ types.cells_of (map structure_of structures.now) (types.plain (types.Tagged number)) }
 {
     cells_of_base(structures, Base::Tagged(number))
 }

@@ -18,7 +18,7 @@ const MOST_LENGTHS: usize = MOST_NESTING as usize + 2;
 pub enum Base {
     Void,
     Integer(IntType),
-    Tagged(u32),
+    Tagged(usize),
 }
 
 /// A type: so many elements of so many elements .. of its base, the outermost length first. `const`

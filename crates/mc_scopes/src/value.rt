@@ -27,7 +27,7 @@ pub enum Value {
         span: Span,
     },
     /// A structure that a call returns, and the number of its type.
-    Returned(FunctionCall, u32),
+    Returned(FunctionCall, usize),
     /// A void expression.
     Done(Box<Effect>),
     /// An assignment or a step.
@@ -116,7 +116,7 @@ impl Value {
     }
 
     /// The structure, where it has the structure type with this number.
-    pub fn into_structure(self, number: u32) -> Option<Structure>
+    pub fn into_structure(self, number: usize) -> Option<Structure>
         ensures { option_map structure_of result ≡ values.structure_in number (value_of self) }
     {
         match self {
@@ -176,7 +176,7 @@ impl Value {
 }
 
 // The structure in an object of a type, where that is the structure type with this number.
-fn structure_stored(number: u32, place: Place, of: &CType) -> Option<Structure>
+fn structure_stored(number: usize, place: Place, of: &CType) -> Option<Structure>
     ensures { option_map structure_of result
         ≡ values.structure_stored number (place_of place) (base_of of.now.base)
         of.now.lengths.items }

@@ -13,7 +13,7 @@ use Rattle.mc_typed.specs.Frames.{slots, slots_argument, slots_arguments}
 use Rattle.mc_typed.specs.Sound.{structure_result, result_at, IsSlotOf, IsExpression, IsStructureType, IsArgument, AreArguments, Takes, type_of}
 use Rattle.mc_faults.specs.declared.fault.FaultKind.TheVariants.{Mismatch, NoBody}
 use Rattle.mc_limits.specs.Limits.{most_frame_cells}
-use Rattle.mc_typing.specs.Profile.{start_at}
+use Rattle.mc_typing.specs.Profile.{counted, start_at}
 use Rattle.mc_typing.specs.Types.{Base, Void, Integer, Tagged, CType, plain, Structure, is_complete, layout_of_base, arrays_of, layout_of, same_base, same_lengths, same_unqualified, ParameterKind, ByValue, ByArray, Signature}
 use Rattle.mc_typing.specs.Scopes.{Function, Scope, place_from, function_number, is_input, is_output, is_external, next_slot, with_object, with_counted}
 use Rattle.mc_typing.specs.Values.{Value, Number, Stored, Borrowed, Returned, Done, Assigned, Designator, Kind, IsVoid, IsInteger, IsStructure, IsArray, IsAssignment, IsFunction, kind_of_base, kind_of_object, kind_of, Found, kind_found, is_integer, is_array}
@@ -69,7 +69,7 @@ same_layout all u v h =
 pub next_there : (w : World) (s : Scope) (u : ObjectType) → Ends w (with_object u s)
     → IsSlotOf w.scope.objects (next_slot s) u
 next_there w s u e =
-    let o : Object = record { object_type = u; cells = cells u; start = start_at most_frame_cells s.frame } in
+    let o : Object = record { object_type = u; cells = counted (cells u); start = start_at most_frame_cells s.frame } in
     let here : slice_get w.scope.objects (next_slot s).object ≡ Some o =
     ap (slice_get w.scope.objects) (next_numbered w s u e)
     ∙ get_begun Object (s.objects ++ (o ∷ [])) w.scope.objects (length s.objects) o e.objects

@@ -7,14 +7,14 @@ use Rattle.mc_typed.specs.Layout.{ObjectType, cells, nesting, scalars}
 use Rattle.mc_typed.specs.Tree.{Object, Declarator}
 use Rattle.mc_typed.specs.Tree as t
 use Rattle.mc_typed.specs.Frames.{slots_value}
-use Rattle.mc_typed.specs.Sound.{IsSlotOf, cells_at, IsInitial, IsObjectType, AreInRange, slots_from}
+use Rattle.mc_typed.specs.Sound.{IsSlotOf, cells_at, IsInitial, AreInRange, slots_from}
 use Rattle.mc_typed.proofs.CellTypes.{length_scalars}
 use Rattle.mc_faults.specs.declared.fault.Fault.{Fault}
 use Rattle.mc_faults.specs.declared.fault.FaultKind.TheVariants.{Mismatch, Limit}
 use Rattle.mc_faults.specs.Faults.{unless_faulty}
 use Rattle.mc_limits.specs.Limits.{most_frame_cells, most_nesting, most_static_cells}
 use Rattle.mc_value.specs.ObjectTypes.{most_cells}
-use Rattle.mc_typing.specs.Profile.{most_lengths, most_numbered, start_at}
+use Rattle.mc_typing.specs.Profile.{counted, most_lengths, most_numbered, start_at}
 use Rattle.mc_typing.specs.Types.{CType, Structure, Incomplete, Complete, Faulty, is_complete, layout_of}
 use Rattle.mc_typing.specs.Scopes.{Entry, Meaning, Automatic, Stored, Borrowed, Constant, Function, Typedef, Scope, with_name, with_counted, cells_counted, with_object, with_static, next_slot, next_static}
 use Rattle.mc_typing.specs.Values.{Judged, lift3}
@@ -23,13 +23,14 @@ use Rattle.mc_typing.specs.Declarators.{redeclared_faults, misnamed_faults, is_f
 use Rattle.mc_typing.specs.Declarations.{at_least_one, count_listed, judge_optional_initializer, object_faults, layout_counted, after_initializer, counted_after, declarator_value, automatic_judged, initial_values, static_faults_with, static_scope, static_value, static_judged}
 use Rattle.mc_typing.proofs.Sums.{start_small, start_least}
 use Rattle.mc_soundness.specs.Growth.{Begins, IsBelow, AreBelow}
-use Rattle.mc_soundness.specs.Fits.{World, objects_of, Completes, ArePositive, StructureFits, StructuresFit, MeaningFits, NamesFit, AreLaid, Fits, Ends, Made, IsDeclared}
+use Rattle.mc_soundness.specs.Fits.{World, IsTypeIn, Completes, ArePositive, StructureFits, StructuresFit, MeaningFits, NamesFit, AreLaid, Fits, Ends, Made, IsDeclared}
 use Rattle.mc_soundness.proofs.Lists.{right_nil, get_next, get_begun, slice_get-before}
 use Rattle.mc_soundness.proofs.Tests.{nil_left, nil_right, no_fault, or_left, or_right, not_false}
 use Rattle.mc_soundness.proofs.Grows.{below_append}
+use Rattle.mc_soundness.proofs.Sizes.{cells_exact}
 use Rattle.mc_soundness.proofs.Fitting.{kept_completes, layout_kept, fits_name, fits_object, fits_static, made_none, made_as, made_two, next_numbered, made_object, ends_back, ends_before}
 use Rattle.mc_soundness.proofs.Calls.{next_there}
-use Rattle.mc_soundness.proofs.Members.{positive_append, positive_take, formed_type, fits_in}
+use Rattle.mc_soundness.proofs.Members.{positive_append, positive_take, formed_type, full_type, fits_in}
 use Rattle.mc_soundness.proofs.Constants.{filled_within, none_first}
 use Rattle.mc_soundness.proofs.Initializers.{initializer_well}
 use Rattle.mc_soundness.proofs.Extends.{optional_grows, scope_extends}
@@ -101,12 +102,12 @@ pub record IsObject (w : World) (s : Scope) (u : Option CType) : Type 0 where
   pub type : CType
   pub is : u ≡ Some type
   pub complete : is_complete s.structures type.base ≡ true
-  pub object : IsObjectType (objects_of w) (layout_of s.structures type)
+  pub object : IsTypeIn w.structures (layout_of s.structures type)
 
 pub limited_object : (w : World) (s : Scope) (at : ℕ) (v : CType) → Fits w s
     → Completes s.structures w.structures → is_complete s.structures v.base ≡ true → ArePositive v.lengths
     → object_limit_faults s.structures (Some v) at ≡ []
-    → IsObjectType (objects_of w) (layout_of s.structures v)
+    → IsTypeIn w.structures (layout_of s.structures v)
 limited_object w s at v fit ends complete p h =
     let limit : is_too_large s.structures v ≡ false =
     sym (ap (λ b. b && is_too_large s.structures v) complete)
@@ -115,6 +116,7 @@ limited_object w s at v fit ends complete p h =
     (or_right (is_long v.lengths) _ limit) in
     record {
       formed = formed_type w s.structures v fit.structures ends complete p;
+      full = full_type w s.structures v fit.structures ends complete p;
       small = small.0;
       flat = small.1;
     }
@@ -159,11 +161,11 @@ pub record IsOptional (w : World) (static : Bool) (s : Scope) (u : CType) (x : J
       × AreInRange (scalars (layout_of x.scope.structures u)) (initial_values (layout_of x.scope.structures u) value)
 
 optional_well : (w : World) (static : Bool) (u : CType) (i : Option Initializer) (s : Scope) → Fits w s
-    → is_complete s.structures u.base ≡ true
+    → is_complete s.structures u.base ≡ true → IsTypeIn w.structures (layout_of s.structures u)
     → Ends w (judge_optional_initializer static (Some u) i s).scope
     → (judge_optional_initializer static (Some u) i s).faults ≡ []
     → IsOptional w static s u (judge_optional_initializer static (Some u) i s)
-optional_well w static u None s fit k ends h = record {
+optional_well w static u None s fit k object ends h = record {
   value = None;
   is = refl;
   sound = tt;
@@ -171,10 +173,13 @@ optional_well w static u None s fit k ends h = record {
   fits = fit;
   values = λ r.
       let l = layout_of s.structures u in
-      (refl, filled_within (scalars l) (cells l) [] (sym (length_scalars l)) (none_first (scalars l)));
+      let exact = cells_exact w.structures l object in (
+        refl,
+        filled_within (scalars l) (counted (cells l)) [] (exact ∙ sym (length_scalars l)) (none_first (scalars l)),
+      );
 }
-optional_well w static u (Some i) s fit k ends h =
-    let x = initializer_well w static u i s fit k ends h in
+optional_well w static u (Some i) s fit k object ends h =
+    let x = initializer_well w static u i s fit k object ends h in
     record {
       value = Some x.value;
       is = ap (option_map Some) x.is;
@@ -188,9 +193,9 @@ optional_well w static u (Some i) s fit k ends h =
 
 -- the object that is made next
 object_there : (w : World) (s : Scope) (u : ObjectType) → Ends w (with_object u s)
-    → cells_at w.scope.objects (next_slot s).object ≡ Some (cells u)
+    → cells_at w.scope.objects (next_slot s).object ≡ Some (counted (cells u))
 object_there w s u e =
-    let o : Object = record { object_type = u; cells = cells u; start = start_at most_frame_cells s.frame } in
+    let o : Object = record { object_type = u; cells = counted (cells u); start = start_at most_frame_cells s.frame } in
     ap (option_map (λ x. x.cells))
     (ap (slice_get w.scope.objects) (next_numbered w s u e) ∙ get_begun Object (s.objects ++ (o ∷ [])) w.scope.objects (length s.objects) o e.objects
     (get_next s.objects o []))
@@ -201,7 +206,7 @@ declared_at name u layout s = with_counted layout (with_name name (Automatic (ne
 
 automatic_at : (w : World) (s : Scope) (name : Name) (u : CType) (value : Option Initializer) → Fits w s
     → AreBelow (length s.statics) s.names
-    → is_complete s.structures u.base ≡ true → IsObjectType (objects_of w) (layout_of s.structures u)
+    → is_complete s.structures u.base ≡ true → IsTypeIn w.structures (layout_of s.structures u)
     → Ends w (judge_optional_initializer false (Some u) value
     (declared_at name (Some u) (Some (layout_of s.structures u)) s)).scope
     → (judge_optional_initializer false (Some u) value
@@ -219,11 +224,11 @@ automatic_at w s name u value fit below complete object ends h =
     let g = optional_grows false (Some u) value d in
     let ends_d = ends_back w d x.scope g ends in
     let there = next_there w named l ends_d in
-    let fit_named = fits_name w s name (Automatic (next_slot s) (Some u)) fit (there, complete) in
-    let i = optional_well w false u value d (fits_object w named l fit_named object) complete ends h in
+    let fit_named = fits_name w s name (Automatic (next_slot s) (Some u)) fit (there, complete, object) in
+    let i = optional_well w false u value d (fits_object w named l fit_named object) complete object ends h in
     let same : layout_of x.scope.structures u ≡ l =
     sym (layout_kept d.structures x.scope.structures u (kept_completes d.structures x.scope.structures g.structures) complete) in
-    let one : Declarator = record { slot = next_slot s; cells = cells l; value = i.value } in
+    let one : Declarator = record { slot = next_slot s; cells = counted (cells l); value = i.value } in
     record {
       declared = one ∷ [];
       is = ap (declarator_value (next_slot s) (Some l)) i.is;
@@ -298,7 +303,7 @@ static_there : (w : World) (s t : Scope) (u : ObjectType) (vs : List ℤ) → t.
     → t.static_cells ≡ s.static_cells → length s.statics ≤ most_numbered → Ends w (with_static u vs t)
     → IsSlotOf w.scope.statics (next_static s) u
 static_there w s t u vs same cells_same few e =
-    let o : Object = record { object_type = u; cells = cells u; start = start_at most_static_cells t.static_cells } in
+    let o : Object = record { object_type = u; cells = counted (cells u); start = start_at most_static_cells t.static_cells } in
     let os = map (λ x. x.object) t.statics in
     let last : Begins Object (os ++ (o ∷ [])) w.scope.statics =
     subst (λ l. Begins Object l w.scope.statics) (map-append (λ x. x.object) t.statics (record { object = o; initial = vs } ∷ [])) e.statics in
@@ -347,7 +352,7 @@ names_move w os n all (e ∷ es) same below h =
         → MeaningFits (with_object_at w os) all name m
     by_meaning name (Stored slot (Some u)) b f =
         let e = sym (same slot.object b) in
-        ((ap (option_map (λ o. o.start)) (sym e) ∙ f.0.0, ap (option_map (λ o. o.object_type)) (sym e) ∙ f.0.1), f.1)
+        ((ap (option_map (λ o. o.start)) (sym e) ∙ f.0.0, ap (option_map (λ o. o.object_type)) (sym e) ∙ f.0.1), f.1, f.2)
     by_meaning name (Stored slot None) b f = f
     by_meaning name (Automatic slot (Some u)) b f = f
     by_meaning name (Automatic slot None) b f = f
@@ -370,7 +375,7 @@ structures_move w os all fit k x h = by_structure x (fit k x h)
   where
     by_structure : (x : Structure) → StructureFits w all x → StructureFits (with_object_at w os) all x
     by_structure (Incomplete b) f = tt
-    by_structure (Complete ms) f = record { types = f.types; formed = f.formed; small = f.small; flat = f.flat }
+    by_structure (Complete ms) f = record { types = f.types; formed = f.formed; full = f.full; few = f.few; small = f.small; flat = f.flat }
     by_structure Faulty f = f
 
 laid_move : (most : ℕ) (w : World) (os : List Object) (n : ℕ) (xs : List Object) → AreLaid most w n xs
@@ -399,16 +404,17 @@ fits_move w os s n same below fit = record {
 -- An initializer without a fault has a value: its name may stand for an object of any program.
 static_value_there : (w : World) (s : Scope) (name : Name) (u : CType) (value : Option Initializer)
     → Fits w s → AreBelow (length s.statics) s.names → is_complete s.structures u.base ≡ true
+    → IsTypeIn w.structures (layout_of s.structures u)
     → Ends w (judge_optional_initializer true (Some u) value (named_at name (Some u) s)).scope
     → (judge_optional_initializer true (Some u) value (named_at name (Some u) s)).faults ≡ []
     → (i : Option t.Initializer)
     × ((judge_optional_initializer true (Some u) value (named_at name (Some u) s)).value ≡ Some i)
-static_value_there w s name u value fit below complete ends none =
+static_value_there w s name u value fit below complete object ends none =
     let named = named_at name (Some u) s in
     let x = judge_optional_initializer true (Some u) value named in
     let g = optional_grows true (Some u) value named in
     let l = layout_of s.structures u in
-    let o : Object = record { object_type = l; cells = cells l; start = start_at most_static_cells s.static_cells } in
+    let o : Object = record { object_type = l; cells = counted (cells l); start = start_at most_static_cells s.static_cells } in
     let old = map (λ z. z.object) s.statics in
     let os = old ++ (o ∷ []) in
     let v = with_object_at w os in
@@ -422,13 +428,13 @@ static_value_there w s name u value fit below complete ends none =
     ∙ get_next old o [] in
     let slot : IsSlotOf os (next_static s) l =
     (ap (option_map (λ z. z.start)) here, ap (option_map (λ z. z.object_type)) here) in
-    let fit_named = fits_name v s name (Stored (next_static s) (Some u)) fit_s (slot, complete) in
+    let fit_named = fits_name v s name (Stored (next_static s) (Some u)) fit_s (slot, complete, object) in
     let ends_v : Ends v x.scope = record {
       structures = ends.structures;
       objects = ends.objects;
       statics = subst (λ l. Begins Object (map (λ z. z.object) l) os) (sym g.statics) (o ∷ [], refl);
     } in
-    let r = optional_well v true u value named fit_named complete ends_v none in
+    let r = optional_well v true u value named fit_named complete object ends_v none in
     (r.value, r.is)
   where
     same_before : (old : List Object) (o : Object) (all : List Object) → Begins Object old all → (k : ℕ)
@@ -438,7 +444,7 @@ static_value_there w s name u value fit below complete ends none =
 
 static_at : (w : World) (s : Scope) (name : Name) (u : CType) (value : Option Initializer) (i : Option t.Initializer)
     → Fits w s → AreBelow (length s.statics) s.names → is_complete s.structures u.base ≡ true
-    → IsObjectType (objects_of w) (layout_of s.structures u)
+    → IsTypeIn w.structures (layout_of s.structures u)
     → (judge_optional_initializer true (Some u) value (named_at name (Some u) s)).faults ≡ []
     → (judge_optional_initializer true (Some u) value (named_at name (Some u) s)).value ≡ Some i
     → static_faults_with name.span.start (Some (layout_of (judge_optional_initializer true (Some u) value (named_at name (Some u) s)).scope.structures u)) (Some i)
@@ -459,8 +465,8 @@ static_at w s name u value i fit below complete object none is sum ends =
     let ends_x = ends_before w x.scope (with_static l vs x.scope) e ends in
     let slot = subst (λ z. IsSlotOf w.scope.statics (next_static s) z) (sym same)
     (static_there w s x.scope l vs g.statics g.static_cells fit.statics.few ends) in
-    let fit_named = fits_name w s name (Stored (next_static s) (Some u)) fit (slot, complete) in
-    let o = optional_well w true u value named fit_named complete ends_x none in
+    let fit_named = fits_name w s name (Stored (next_static s) (Some u)) fit (slot, complete, object) in
+    let o = optional_well w true u value named fit_named complete object ends_x none in
     let v = o.values refl in
     let value_same : o.value ≡ i = some_same o.value i (sym o.is ∙ is) in
     let passes = is_passed_with most_static_cells x.scope.static_cells (cells l) in
@@ -473,7 +479,7 @@ static_at w s name u value i fit below complete object none is sum ends =
       is = refl;
       sound = tt;
       made = ([], v.0 ∙ sym (right_nil s.objects), refl);
-      fits = fits_static w x.scope l vs o.fits (subst (IsObjectType (objects_of w)) same object) room few
+      fits = fits_static w x.scope l vs o.fits (subst (IsTypeIn w.structures) same object) room few
           (subst (λ z. AreInRange (scalars l) (initial_values l z)) value_same v.1);
       below = below_more s.statics x.scope.statics _ x.scope.names g.statics
           (g.below (suc (length s.statics)) (below_append (suc (length s.statics)) s.names _
@@ -554,7 +560,7 @@ static_well w s faults name lengths base u value fit below o ends h =
     by_value None q ends none sum =
         let t = (judge_optional_initializer true (Some o.type) value (named_at name (Some o.type) s)).scope in
         let l = layout_of t.structures o.type in
-        let there = static_value_there w s name o.type value fit below o.complete
+        let there = static_value_there w s name o.type value fit below o.complete o.object
         (subst (λ z. Ends w (static_scope (Some l) z t)) q ends) none in
         absurd (never there.0 (sym there.1 ∙ q))
 

@@ -10,11 +10,11 @@ use Rattle.mc_typed.specs.Layout.{ObjectType}
 use Rattle.mc_typed.specs.Tree.{Object, StaticObject, Statements, ParameterType, ResultType, Program}
 use Rattle.mc_typed.specs.Tree as t
 use Rattle.mc_typed.specs.Frames.{slots_statements}
-use Rattle.mc_typed.specs.Sound.{AreStatements, AreLaidOut, AreObjectTypes, AreParameters, IsResult, slots_from, scope_of, IsFunction}
+use Rattle.mc_typed.specs.Sound.{AreStatements, AreLaidOut, IsObjectType, AreObjectTypes, AreParameters, IsResult, slots_from, scope_of, IsFunction}
 use Rattle.mc_typed.specs.Sound as sound
 use Rattle.mc_faults.specs.declared.fault.FaultKind.TheVariants.{Limit}
 use Rattle.mc_limits.specs.Limits.{most_frame_cells, most_parameters, most_static_cells}
-use Rattle.mc_typing.specs.Profile.{most_numbered, start_at}
+use Rattle.mc_typing.specs.Profile.{most_counted, most_numbered, start_at}
 use Rattle.mc_typing.specs.Types.{Base, Void, Integer, Tagged, plain, Structure, Incomplete, Complete, Faulty, is_complete, layout_of, structures_from, ParameterKind, ByValue, ByArray, Signature}
 use Rattle.mc_typing.specs.Scopes.{Entry, Scope, prototype, body_scope, left_function}
 use Rattle.mc_typing.specs.Values.{Judged}
@@ -26,7 +26,7 @@ use Rattle.mc_typing.specs.Typing.{parameter_type, result_type, is_incomplete, f
 use Rattle.mc_typing.proofs.Sums.{summed_within}
 use Rattle.mc_soundness.specs.Growth.{Begins, Kept, AreBelow}
 use Rattle.mc_soundness.specs.Blocks.{BlockHasNoFunction}
-use Rattle.mc_soundness.specs.Fits.{World, AreNumbered, objects_of, Completes, StructureFits, StructuresFit, SignatureFits, NamesFit, AreLaid, total, Fits, Ends, LabelsFit, IsRun, arrays_in, base_of_kind, AreComplete, AreParametersFound}
+use Rattle.mc_soundness.specs.Fits.{World, AreNumbered, objects_of, IsTypeIn, AreTypesIn, Completes, StructureFits, StructuresFit, SignatureFits, NamesFit, AreLaid, total, Fits, Ends, LabelsFit, IsRun, arrays_in, base_of_kind, AreComplete, AreParametersFound}
 use Rattle.mc_soundness.proofs.Lists.{right_nil, begins_trans, begins_refl, begins_with, cut_back}
 use Rattle.mc_soundness.proofs.Tests.{no_fault, or_left, or_right}
 use Rattle.mc_soundness.proofs.Grows.{below_append}
@@ -193,7 +193,7 @@ structures_back w os us r few all fit k x h = by_structure x (fit k x h)
   where
     by_structure : (x : Structure) → StructureFits (located w os us r few) all x → StructureFits w all x
     by_structure (Incomplete b) f = tt
-    by_structure (Complete ms) f = record { types = f.types; formed = f.formed; small = f.small; flat = f.flat }
+    by_structure (Complete ms) f = record { types = f.types; formed = f.formed; full = f.full; few = f.few; small = f.small; flat = f.flat }
     by_structure Faulty f = f
 
 laid_back : (most : ℕ) (w : World) (os : List Object) (us : List ObjectType) (r : ResultType)
@@ -290,6 +290,7 @@ world_of end p os us r few = record {
 pub record IsIn (end : Scope) (p : Program) : Type 0 where
   pub structures : p.structures ≡ structures_from 0 end.structures
   pub statics : p.statics ≡ end.statics
+  pub few : length end.structures ≤ most_counted
   pub functions : (os : List Object) (us : List ObjectType) (r : ResultType) (few : AreNumbered os us)
       → FunctionsFit (world_of end p os us r few) end.names
 
@@ -367,13 +368,27 @@ somes_same (x ∷ xs) (y ∷ ys) h =
 start_small : (most n : ℕ) → n ≤ most → start_at most n ≡ n
 start_small most n h = grind (arith, h)
 
-pub laid_out : (most : ℕ) (w : World) (n : ℕ) (os : List Object) → AreLaid most w n os
-    → n + total os ≤ most → AreLaidOut (objects_of w) n os
-laid_out most w n [] h small = tt
-laid_out most w n (o ∷ os) h small =
+-- where the structure types of the program are few, its types are sound
+object_type : (all : List Structure) (u : ObjectType) → length all ≤ most_counted → IsTypeIn all u
+    → IsObjectType (structures_from 0 all) u
+object_type all u few h = record { formed = h.formed few; small = h.small; flat = h.flat }
+
+object_types : (all : List Structure) (us : List ObjectType) → length all ≤ most_counted
+    → AreTypesIn all us → AreObjectTypes (structures_from 0 all) us
+object_types all [] few h = tt
+object_types all (u ∷ us) few h = (object_type all u few h.0, object_types all us few h.1)
+
+pub laid_out : (most : ℕ) (w : World) (n : ℕ) (os : List Object) → length w.structures ≤ most_counted
+    → AreLaid most w n os → n + total os ≤ most → AreLaidOut (objects_of w) n os
+laid_out most w n [] few h small = tt
+laid_out most w n (o ∷ os) few h small =
     let here : n ≤ most = omega (arith, small) in
-    let rest : n + o.cells + total os ≤ most = omega (arith, small) in
-    (h.0, h.1, h.2 ∙ start_small most n here, laid_out most w (n + o.cells) os h.3 rest)
+    let rest : n + o.cells + total os ≤ most = omega (arith, small) in (
+      object_type w.structures o.object_type few h.0,
+      h.1,
+      h.2 ∙ start_small most n here,
+      laid_out most w (n + o.cells) os few h.3 rest,
+    )
 
 pub total_sum : (os : List Object) → sum (map (λ o. o.cells) os) ≡ total os
 total_sum [] = refl
@@ -408,12 +423,14 @@ frame_numbered n count at h =
     within : nat_lt most_numbered count ≡ false → count ≤ most_numbered
     within h = grind (arith, h)
 
-is_result : (w : World) (all : List Structure) (b : Base) → StructuresFit w all → Completes all w.structures
-    → is_incomplete all (Some b) ≡ false → IsResult (objects_of w) (result_type all b)
-is_result w all Void fit c h = tt
-is_result w all (Integer a) fit c h = tt
-is_result w all (Tagged n) fit c h =
-    (structure_type_fits w all n fit c (complete_result all n h), tt)
+is_result : (w : World) (all : List Structure) (b : Base) → length w.structures ≤ most_counted
+    → StructuresFit w all → Completes all w.structures → is_incomplete all (Some b) ≡ false
+    → IsResult (objects_of w) (result_type all b)
+is_result w all Void few fit c h = tt
+is_result w all (Integer a) few fit c h = tt
+is_result w all (Tagged n) few fit c h =
+    let u = structure_type_fits w all n fit c (complete_result all n h) in
+    (object_type w.structures (layout_of all (plain (Tagged n))) few u, tt)
 
 pub incomplete_kept : (all more : List Structure) (b : Base) → Completes all more → is_incomplete all (Some b) ≡ false
     → is_incomplete more (Some b) ≡ false
@@ -502,12 +519,12 @@ function_sound end p name span g parameters body s b d kept statics bodies names
     let scope_same : w.scope ≡ scope_of p fn =
     ap (λ l. program_scope p z.scope.objects l r) (sym arrays_same)
     ∙ ap (program_scope p z.scope.objects (sound.arrays_of fn.parameters)) (sym result_same) in
-    let object_types : map (λ o. o.object_type) y.scope.objects ≡ sound.values_of fn.parameters =
+    let value_types : map (λ o. o.object_type) y.scope.objects ≡ sound.values_of fn.parameters =
     ap (map (λ (o : Object). o.object_type)) runs.found.objects.1 ∙ runs.found.objects.2
     ∙ ap (λ l. sound.values_of (map (parameter_type end.structures) l)) kinds
     ∙ ap sound.values_of (sym types) in
     let count : length y.scope.objects ≡ length (sound.values_of fn.parameters) =
-    sym (length-map y.scope.objects (λ (o : Object). o.object_type)) ∙ ap length object_types in
+    sym (length-map y.scope.objects (λ (o : Object). o.object_type)) ∙ ap length value_types in
     let room : total z.scope.objects ≤ most_frame_cells =
     summed_within most_frame_cells (total z.scope.objects) (omega arith)
     (subst (λ n. n ≤ most_frame_cells) run.fits.frame (frame_small z.scope.frame (length z.scope.objects) name.span.start d.frame)) in
@@ -519,13 +536,14 @@ function_sound end p name span g parameters body s b d kept statics bodies names
       few = subst (λ n. n ≤ most_parameters) (sym number) (count_small (length y.items) name.span.start d.few);
       parameters = are_parameters z.scope.structures g.parameters;
       arrays = subst (λ l. AreObjectTypes l (sound.arrays_of fn.parameters)) (sym inside.structures)
-          (subst (AreObjectTypes (objects_of w)) (sym arrays_same) runs.found.elements);
+          (subst (AreObjectTypes (objects_of w)) (sym arrays_same)
+          (object_types end.structures us inside.few runs.found.elements));
       result = subst (λ l. IsResult l fn.result) (sym inside.structures)
-          (is_result w z.scope.structures g.result run.fits.structures c result_there);
+          (is_result w z.scope.structures g.result inside.few run.fits.structures c result_there);
       begins = subst (sound.Begins (sound.values_of fn.parameters)) (sym run.made.1)
-          (begins_of (sound.values_of fn.parameters) y.scope.objects run.made.0 object_types);
+          (begins_of (sound.values_of fn.parameters) y.scope.objects run.made.0 value_types);
       laid = subst (λ l. AreLaidOut l 0 z.scope.objects) (sym inside.structures)
-          (laid_out most_frame_cells w 0 z.scope.objects run.fits.laid room_from);
+          (laid_out most_frame_cells w 0 z.scope.objects inside.few run.fits.laid room_from);
       named = ap slots_statements (sym same) ∙ run.made.2 ∙ sym (slots_after y.scope.objects run.made.0)
           ∙ ap (λ l. drop (length y.scope.objects) (slots_from 0 l)) (sym run.made.1)
           ∙ ap (λ n. drop n (slots_from 0 z.scope.objects)) count;

@@ -23,15 +23,16 @@ use Rattle.mc_typed.specs.Tree as t
 use Rattle.mc_typed.specs.Frames.{slots, slots_place, slots_effect}
 use Rattle.mc_typed.specs.Sound.{type_of, place_type, IsPlace, IsExpression, IsEffect, compares}
 use Rattle.mc_faults.specs.declared.fault.FaultKind.TheVariants.{Mismatch}
-use Rattle.mc_typing.specs.Types.{Base, Void, Integer, Tagged, CType, plain, Structure, is_complete, layout_of}
+use Rattle.mc_typing.specs.Types.{Base, Void, Integer, Tagged, CType, plain, Structure, is_complete, layout_of, cells_of}
 use Rattle.mc_typing.specs.Scopes.{Scope}
 use Rattle.mc_typing.specs.Values.{Judged, Value, Number, Stored, Borrowed, Returned, Done, Assigned, Designator, Kind, IsVoid, IsInteger, IsStructure, IsArray, IsAssignment, IsFunction, kind_of_base, kind_of_object, kind_of, Found, kind_found, is_integer, is_discarded, fails, number_in, number_found, lift2, whole}
 use Rattle.mc_typing.specs.Initializers.{is_kind}
 use Rattle.mc_typing.specs.Expressions.{convert_to, promote, common_type, literal, not_tagged, cast_base, cast_faults_to, cast_faults, cast_value_to, casts_to_integer, may_cast_to_integer, cast_found, are_arms, arms_fail, conditional_faults, choice_of, choice_of_effects, arms_value, conditional_found, is_assigned, target_fails, sides_fit, sides_fail, assign_faults, update_faults, assign_effect, update_in_common_type, update_of, update_effect, effect_on, assign_found, update_found, assignment_found, step_operator, step_found}
-use Rattle.mc_soundness.specs.Fits.{World, Completes, IsSoundValue, slots_of, Designates, IsWell, IsTyped}
+use Rattle.mc_soundness.specs.Fits.{World, IsTypeIn, Completes, IsSoundValue, slots_of, Designates, IsWell, IsTyped}
 use Rattle.mc_soundness.proofs.Lists.{right_nil}
 use Rattle.mc_soundness.proofs.Tests.{nil_left, nil_right, no_fault, or_left, or_right, not_false, and_left, and_right, false_true, and_then_some, lift2_some}
 use Rattle.mc_soundness.proofs.IntTypes.{promoted_twice, common_stays}
+use Rattle.mc_soundness.proofs.Sizes.{cells_exact}
 use Rattle.mc_soundness.proofs.Fitting.{made_as, made_two}
 use Rattle.mc_soundness.proofs.Values.{converts, IsPlain, integer_object, structure_object, plain_layout, IsNumber, numbers, IsStructureOf, structures, discards, value_kept, known_kind, finds_number}
 use Rattle.mc_soundness.proofs.Expressions.{promotes, literal_well, in_range_is}
@@ -326,13 +327,15 @@ structure_assigned : (w : World) (all : List Structure) (span : Span) (place : P
     (slots_place place ++ slots_of v)
 structure_assigned w all span place u v k p h n =
     let type = h.1 ∙ ap Some (plain_layout all u (Tagged k) p) in
+    let t_in = subst (IsTypeIn w.structures) (plain_layout all u (Tagged k) p) h.3 in
+    let exact = cells_exact w.structures (layout_of all (plain (Tagged k))) t_in in
     record {
-      effect = t.Copy place n.structure (cells (layout_of all (plain (Tagged k)))) span;
+      effect = t.Copy place n.structure (cells_of all (plain (Tagged k))) span;
       is = ap (λ l. option_map Assigned (assign_effect all span v place u.base l)) p.lengths
           ∙ ap (λ b. option_map Assigned (assign_effect all span v place b [])) p.base
           ∙ ap (λ o. option_map Assigned
-          (option_map (λ x. t.Copy place x (cells (layout_of all (plain (Tagged k)))) span) o)) n.is;
-      sound = (refl, h.0, n.sound, type ∙ sym n.type, ap (option_map cells) n.type);
+          (option_map (λ x. t.Copy place x (cells_of all (plain (Tagged k))) span) o)) n.is;
+      sound = (refl, h.0, n.sound, type ∙ sym n.type, ap (option_map cells) n.type ∙ ap Some (sym exact));
       stays = refl;
       slots = ap (λ l. slots_place place ++ l) n.slots;
     }

@@ -1,7 +1,8 @@
 -- Each node of an expression, but for calls: what is found of it is well where its parts are and it
 -- has no fault of its own.
-use Rattle.std.proofs.Common.{◌≡◌, ℕ, suc, ◌+◌, ℤ, Bool, true, false, not, ◌||◌, if◌then◌else◌, List, [], ◌∷◌, ◌++◌, slice_get, Option, Some, None, option_map, option_and_then, is_none, refl, ap, sym, ◌∙◌, subst, arith, bytes_eq}
+use Rattle.std.proofs.Common.{◌≡◌, ℕ, suc, ◌+◌, ℤ, Bool, true, false, not, ◌||◌, if◌then◌else◌, List, [], ◌∷◌, ◌++◌, map, slice_get, Option, Some, None, option_map, option_and_then, is_none, refl, ap, sym, ◌∙◌, subst, arith, bytes_eq}
 use Rattle.std.proofs.lemmas.Bool.{and_parts}
+use Rattle.std.proofs.lemmas.List.{length-map}
 use Rattle.mc_span.specs.declared.span.Span.{Span}
 use Rattle.mc_tree.specs.declared.expressions.unary_operator.UnaryOperator.{UnaryOperator}
 use Rattle.mc_tree.specs.declared.expressions.unary_operator.UnaryOperator.TheVariants as unary
@@ -30,15 +31,17 @@ use Rattle.mc_typed.specs.Sound.{type_of, place_type, structure_type, IsPlace, I
 use Rattle.mc_typed.specs.Sound as sound
 use Rattle.mc_faults.specs.declared.fault.FaultKind.TheVariants.{Mismatch, Undeclared}
 use Rattle.mc_faults.specs.Faults.{fault_if}
-use Rattle.mc_typing.specs.Types.{Base, Void, Integer, Tagged, CType, Member, Structure, Complete, members_of, is_complete, layout_of_base, arrays_of, layout_of}
+use Rattle.mc_typing.specs.Profile.{counted}
+use Rattle.mc_typing.specs.Types.{Base, Void, Integer, Tagged, CType, Member, Structure, Complete, members_of, is_complete, layout_of_base, arrays_of, layout_of, cells_of}
 use Rattle.mc_typing.specs.Scopes.{Meaning, Automatic, Constant, Function, Typedef, Scope, meaning_of, later_or}
 use Rattle.mc_typing.specs.Scopes as scope
 use Rattle.mc_typing.specs.Values.{Value, Number, Stored, Borrowed, Returned, Done, Assigned, Designator, IsStructure, kind_of_base, kind_of_object, kind_of, Found, kind_found, is_integer, is_array, is_structure, fails, number_found}
 use Rattle.mc_typing.specs.Constants.{first_holding}
 use Rattle.mc_typing.specs.Expressions.{convert_to, promote, common_type, is_object, is_enumerator, name_faults, value_of_name, literal, index_faults, stored_element, element_of, index_found, Selected, selected, undeclared_member, member_faults, member_type, layouts_of, member_at, stored_member, member_of, member_found, promoting, typed_unary, is_arithmetic, unary_faults, unary_found, in_common_type, shifting, typed_binary, operands_faults, binary_found}
-use Rattle.mc_soundness.specs.Fits.{World, Completes, MemberFits, MembersFit, ListFits, StructuresFit, Fits, IsSoundValue, slots_of, Designates, IsWell}
+use Rattle.mc_soundness.specs.Fits.{World, IsTypeIn, Completes, MemberFits, MembersFit, ListFits, StructuresFit, Fits, IsSoundValue, slots_of, Designates, IsWell}
 use Rattle.mc_soundness.proofs.Tests.{nil_left, nil_right, no_fault, or_left, or_right, not_false, and_left, and_right, false_true, and_then_some, lift2_some}
 use Rattle.mc_soundness.proofs.IntTypes.{promoted_twice, common_stays}
+use Rattle.mc_soundness.proofs.Sizes.{counted_small, counted_cells, cells_exact, element_in, list_types, member_in, start_within, member_below}
 use Rattle.mc_soundness.proofs.Fitting.{complete_at, name_fits, made_none, made_as, made_two}
 use Rattle.mc_soundness.proofs.Values.{converts, IsPlain, plain_layout, value_kept, known_kind, finds_number}
 
@@ -61,7 +64,7 @@ name_well w s name (Some (Automatic slot (Some u))) fit e h =
     record {
       value = Stored (t.Local slot name.span) u;
       is = refl;
-      sound = (f.0.0, f.0.1, f.1);
+      sound = (f.0.0, f.0.1, f.1, f.2);
       made = made_none s;
       fits = fit;
       place = λ q. tt;
@@ -74,7 +77,7 @@ name_well w s name (Some (scope.Stored slot (Some u))) fit e h =
     record {
       value = Stored (t.Static slot name.span) u;
       is = refl;
-      sound = (f.0.0, f.0.1, f.1);
+      sound = (f.0.0, f.0.1, f.1, f.2);
       made = made_none s;
       fits = fit;
       place = λ q. tt;
@@ -178,24 +181,42 @@ indexes : (w : World) (all : List Structure) (span : Span) (v : Value) (e : Expr
     → IsIndexed w all span v e
 indexes w all span (Stored place u) e k h i =
     let p = array_object u u.lengths k in
-    let shape : place_type w.scope place ≡ Some (Array p.0 (layout_of all (with_lengths u p.1))) =
+    let element = layout_of all (with_lengths u p.1) in
+    let shape : place_type w.scope place ≡ Some (Array p.0 element) =
     h.1 ∙ ap Some (array_layout all u p.0 p.1 p.2) in
+    let t_in = element_in w.structures p.0 element
+    (subst (IsTypeIn w.structures) (array_layout all u p.0 p.1 p.2) h.3) in
+    let exact = cells_exact w.structures element t_in in
     record {
-      value = Stored (t.Item place p.0 (cells (layout_of all (with_lengths u p.1))) e span)
+      value = Stored (t.Item place p.0 (cells_of all (with_lengths u p.1)) e span)
           (with_lengths u p.1);
       is = ap (λ l. stored_element all place u l e span) p.2;
       sound = (
-        (h.0, ap sound.length_of shape, ap (λ o. option_map cells (sound.element_of o)) shape, i),
+        (
+          h.0,
+          ap sound.length_of shape,
+          ap (λ o. option_map cells (sound.element_of o)) shape ∙ ap Some (sym exact),
+          i,
+        ),
         ap sound.element_of shape,
         h.2,
+        t_in,
       );
       slots = refl;
       designates = tt;
     }
 indexes w all span (Borrowed array u name) e k h i = record {
-  value = Stored (t.Parameter array (cells (layout_of all u)) e span) u;
+  value = Stored (t.Parameter array (cells_of all u) e span) u;
   is = refl;
-  sound = ((ap (option_map cells) h.0, i), h.0, h.1);
+  sound = (
+    (
+      ap (option_map cells) h.0 ∙ ap Some (sym (cells_exact w.structures (layout_of all u) h.2)),
+      i,
+    ),
+    h.0,
+    h.1,
+    h.2,
+  );
   slots = refl;
   designates = tt;
 }
@@ -274,6 +295,21 @@ record IsMemberOf (w : World) (all : List Structure) (name : Name) (span : Span)
   slots : slots_of value ≡ slots_of v
   designates : Designates value
 
+number_exact : (w : World) (all : List Structure) (ms : List Member) (i : ℕ) (u : ObjectType)
+    → ListFits w all ms → member (layouts_of ms) i ≡ Some u → counted i ≡ i
+number_exact w all ms i u list there =
+    let count = length-map ms (λ (m : Member). m.layout) in
+    let below = member_below (map (λ m. m.layout) ms) i u there in
+    let few = list.few in
+    counted_small i (omega (arith, count, below, few))
+
+start_exact : (w : World) (all : List Structure) (ms : List Member) (i : ℕ) → ListFits w all ms
+    → counted (start (layouts_of ms) i) ≡ start (layouts_of ms) i
+start_exact w all ms i list =
+    let within = start_within (map (λ m. m.layout) ms) i in
+    let small = list.small in
+    counted_cells (start (layouts_of ms) i) (omega (arith, within, small))
+
 member_stands : (w : World) (all : List Structure) (name : Name) (span : Span) (place : Place)
     (u : CType) (k : ℕ) (ms : List Member) (one : Selected) → slice_get all k ≡ Some (Complete ms)
     → IsPlain u (Tagged k) → ListFits w all ms → selected 0 name.text ms ≡ Some one
@@ -284,10 +320,14 @@ member_stands w all name span place u k ms one e p fit q h =
     let number : one.number ≡ r.place = r.number ∙ zero_plus r.place in
     let shaped : member (layouts_of ms) one.number ≡ Some (layout_of all m.0) =
     ap (member (layouts_of ms)) number ∙ r.layout ∙ ap Some m.2 in
-    let shape : place_type w.scope place ≡ Some (layout.Structure k (layouts_of ms)) =
+    let shape : place_type w.scope place ≡ Some (layout.Structure (counted k) (layouts_of ms)) =
     h.1 ∙ ap Some (plain_layout all u (Tagged k) p
-    ∙ ap (λ o. layout.Structure k (layouts_of (members_of o))) e) in
-    let target = t.Member place one.number (start (layouts_of ms) one.number) span in
+    ∙ ap (λ o. layout.Structure (counted k) (layouts_of (members_of o))) e) in
+    let i = one.number in
+    let us = map (λ m. m.layout) ms in
+    let n_exact = number_exact w all ms i (layout_of all m.0) fit shaped in
+    let s_exact = start_exact w all ms i fit in
+    let target = t.Member place (counted i) (counted (start (layouts_of ms) i)) span in
     record {
       value = Stored target (member_type u.is_const m.0);
       is = ap (λ l. stored_member all name span place u l u.base) p.lengths
@@ -299,11 +339,14 @@ member_stands w all name span place u k ms one e p fit q h =
       sound = (
         (
           h.0,
-          ap (λ o. sound.offset_of o one.number) shape
-              ∙ ap (option_map (λ v. start (layouts_of ms) one.number)) shaped,
+          ap (sound.offset_of (place_type w.scope place)) n_exact
+              ∙ ap (λ o. sound.offset_of o i) shape
+              ∙ ap (option_map (λ v. start (layouts_of ms) i)) shaped ∙ ap Some (sym s_exact),
         ),
-        ap (λ o. sound.member_of o one.number) shape ∙ shaped,
+        ap (sound.member_of (place_type w.scope place)) n_exact
+            ∙ ap (λ o. sound.member_of o i) shape ∙ shaped,
         m.3,
+        member_in w.structures us i (layout_of all m.0) (list_types w all ms fit) shaped,
       );
       slots = refl;
       designates = tt;

@@ -7,17 +7,18 @@ use Rattle.mc_typed.specs.declared.expressions.Slot.{Slot}
 use Rattle.mc_typed.specs.Layout.{ObjectType, cells, scalars, members_from}
 use Rattle.mc_typed.specs.Layout as layout
 use Rattle.mc_typed.specs.Tree.{Object, StaticObject}
-use Rattle.mc_typed.specs.Sound.{IsSlotOf, IsObjectType, AreInRange, AreInitial, slots_from}
+use Rattle.mc_typed.specs.Sound.{IsSlotOf, AreInRange, AreInitial, slots_from}
 use Rattle.mc_limits.specs.Limits.{most_frame_cells, most_static_cells}
-use Rattle.mc_typing.specs.Profile.{most_numbered, start_at, most_summed, sum_of}
+use Rattle.mc_typing.specs.Profile.{counted, most_counted, most_numbered, start_at, most_summed, sum_of}
 use Rattle.mc_typing.specs.Types.{Base, Void, Integer, Tagged, CType, plain, Member, Structure, Incomplete, Complete, Faulty, members_of, is_complete_structure, is_complete, layout_of_base, arrays_of, layout_of, structure_from, structures_from}
 use Rattle.mc_typing.specs.Scopes.{Entry, Meaning, Automatic, Constant, Function, Typedef, Scope, TagMeaning, later_or, named, with_name, with_tag, with_structure, with_structure_at, with_object, with_static}
 use Rattle.mc_typing.specs.Scopes as scope
 use Rattle.mc_typing.proofs.Sums.{start_small, start_summed, sum_more, sum_within}
 use Rattle.mc_soundness.specs.Growth.{Begins, Kept, Grown, Extended, Passed}
-use Rattle.mc_soundness.specs.Fits.{World, FileScopeFits, objects_of, Completes, MemberFits, MembersFit, StructureFits, StructuresFit, MeaningFits, NamesFit, AreLaid, total, Fits, Ends, Made}
+use Rattle.mc_soundness.specs.Fits.{World, FileScopeFits, objects_of, IsTypeIn, Completes, MemberFits, MembersFit, StructureFits, StructuresFit, MeaningFits, NamesFit, AreLaid, total, Fits, Ends, Made}
 use Rattle.mc_soundness.proofs.Grows.{grown_refl}
-use Rattle.mc_soundness.proofs.Lists.{right_nil, begins_trans, is_or_not, get_set_same, get_unset}
+use Rattle.mc_soundness.proofs.Sizes.{counted_small, cells_exact}
+use Rattle.mc_soundness.proofs.Lists.{get_below, right_nil, begins_trans, is_or_not, get_set_same, get_unset}
 
 -- ---- complete structures stay
 
@@ -44,7 +45,7 @@ base_kept all more Void c h = refl
 base_kept all more (Integer a) c h = refl
 base_kept all more (Tagged k) c h =
     let p = complete_at (slice_get all k) h in
-    ap (λ o. layout.Structure k (members_from (map (λ m. m.layout) (members_of o))))
+    ap (λ o. layout.Structure (counted k) (members_from (map (λ m. m.layout) (members_of o))))
     (p.1 ∙ sym (c k p.0 p.1))
 
 pub layout_kept : (all more : List Structure) (u : CType) → Completes all more
@@ -67,6 +68,8 @@ structure_kept w all more (Incomplete b) c h = tt
 structure_kept w all more (Complete ms) c h = record {
   types = members_kept all more ms c h.types;
   formed = h.formed;
+  full = h.full;
+  few = h.few;
   small = h.small;
   flat = h.flat;
 }
@@ -77,15 +80,20 @@ meaning_kept : (w : World) (all more : List Structure) (name : List ℕ) (m : Me
 meaning_kept w all more name (Automatic slot (Some u)) c h = (
   subst (λ v. IsSlotOf w.scope.objects slot v) (layout_kept all more u c h.1) h.0,
   complete_kept all more u.base c h.1,
+  subst (IsTypeIn w.structures) (layout_kept all more u c h.1) h.2,
 )
 meaning_kept w all more name (Automatic slot None) c h = h
 meaning_kept w all more name (scope.Stored slot (Some u)) c h = (
   subst (λ v. IsSlotOf w.scope.statics slot v) (layout_kept all more u c h.1) h.0,
   complete_kept all more u.base c h.1,
+  subst (IsTypeIn w.structures) (layout_kept all more u c h.1) h.2,
 )
 meaning_kept w all more name (scope.Stored slot None) c h = h
-meaning_kept w all more name (scope.Borrowed array u) c h =
-    (h.0 ∙ ap Some (layout_kept all more u c h.1), complete_kept all more u.base c h.1)
+meaning_kept w all more name (scope.Borrowed array u) c h = (
+  h.0 ∙ ap Some (layout_kept all more u c h.1),
+  complete_kept all more u.base c h.1,
+  subst (IsTypeIn w.structures) (layout_kept all more u c h.1) h.2,
+)
 meaning_kept w all more name (Constant (Some v)) c h = h
 meaning_kept w all more name (Constant None) c h = h
 meaning_kept w all more name (Function (Some f) b) c h = h
@@ -208,17 +216,17 @@ total_append [] o = omega arith
 total_append (x ∷ os) o = let below = total_append os o in omega (arith, below)
 
 pub fits_object : (w : World) (s : Scope) (u : ObjectType) → Fits w s
-    → IsObjectType (objects_of w) u → Fits w (with_object u s)
+    → IsTypeIn w.structures u → Fits w (with_object u s)
 fits_object w s u fit h =
-    let o : Object = record { object_type = u; cells = cells u; start = start_at most_frame_cells s.frame } in
+    let o : Object = record { object_type = u; cells = counted (cells u); start = start_at most_frame_cells s.frame } in
     let start : o.start ≡ start_at most_frame_cells (0 + total s.objects) =
     ap (start_at most_frame_cells) fit.frame ∙ start_summed most_frame_cells (total s.objects) frame_below
     ∙ ap (start_at most_frame_cells) (zero_plus (total s.objects)) in
     record {
       names = fit.names;
       structures = fit.structures;
-      laid = laid_append most_frame_cells w 0 s.objects o fit.laid (h, refl, start, tt);
-      frame = ap (λ n. sum_of n (cells u)) fit.frame ∙ sum_more (total s.objects) (cells u)
+      laid = laid_append most_frame_cells w 0 s.objects o fit.laid (h, cells_exact w.structures u h, start, tt);
+      frame = ap (λ n. sum_of n (counted (cells u))) fit.frame ∙ sum_more (total s.objects) (counted (cells u))
           ∙ ap (start_at most_summed) (sym (total_append s.objects o));
       statics = fit.statics;
       bodies = fit.bodies;
@@ -241,18 +249,22 @@ initial_append (x ∷ os) o h k = (h.0, initial_append os o h.1 k)
 
 -- one more with static storage duration
 pub fits_static : (w : World) (s : Scope) (u : ObjectType) (vs : List ℤ) → Fits w s
-    → IsObjectType (objects_of w) u → s.static_cells + cells u ≤ most_static_cells
+    → IsTypeIn w.structures u → s.static_cells + cells u ≤ most_static_cells
     → length s.statics < most_numbered → AreInRange (scalars u) vs → Fits w (with_static u vs s)
 fits_static w s u vs fit h room few values =
+    let exact = cells_exact w.structures u h in
+    let n = counted (cells u) in
+    let room_n : s.static_cells + n ≤ most_static_cells =
+    subst (λ n. s.static_cells + n ≤ most_static_cells) (sym exact) room in
     let o : StaticObject = record {
-      object = record { object_type = u; cells = cells u; start = start_at most_static_cells s.static_cells };
+      object = record { object_type = u; cells = n; start = start_at most_static_cells s.static_cells };
       initial = vs;
     } in
     let os = map (λ o. o.object) s.statics in
     let start : start_at most_static_cells s.static_cells ≡ start_at most_static_cells (0 + total os) =
     ap (start_at most_static_cells) (fit.statics.cells ∙ zero_plus (total os)) in
-    let sum : sum_of s.static_cells (cells u) ≡ s.static_cells + cells u =
-    sum_within s.static_cells (cells u) (omega (arith, room)) in
+    let sum : sum_of s.static_cells n ≡ s.static_cells + n =
+    sum_within s.static_cells n (omega (arith, room_n)) in
     record {
       names = fit.names;
       structures = fit.structures;
@@ -260,10 +272,10 @@ fits_static w s u vs fit h room few values =
       frame = fit.frame;
       statics = record {
         laid = subst (AreLaid most_static_cells w 0) (sym (map_last s.statics o))
-            (laid_append most_static_cells w 0 os o.object fit.statics.laid (h, refl, start, tt));
-        cells = sum ∙ ap (λ n. n + cells u) fit.statics.cells ∙ sym (total_append os o.object)
+            (laid_append most_static_cells w 0 os o.object fit.statics.laid (h, exact, start, tt));
+        cells = sum ∙ ap (λ m. m + n) fit.statics.cells ∙ sym (total_append os o.object)
             ∙ ap total (sym (map_last s.statics o));
-        room = subst (λ n. n ≤ most_static_cells) (sym sum) room;
+        room = subst (λ m. m ≤ most_static_cells) (sym sum) room_n;
         few = let e = length-append s.statics (o ∷ []) in omega (arith, e, few);
         initial = initial_append s.statics o fit.statics.initial (values, tt);
       };
@@ -287,19 +299,22 @@ get_structure n (suc k) (y ∷ xs) x h =
 
 pub structure_type_fits : (w : World) (all : List Structure) (k : ℕ) → StructuresFit w all
     → Completes all w.structures → is_complete all (Tagged k) ≡ true
-    → IsObjectType (objects_of w) (layout_of all (plain (Tagged k)))
+    → IsTypeIn w.structures (layout_of all (plain (Tagged k)))
 structure_type_fits w all k fit c h =
     let p = complete_at (slice_get all k) h in
     let list = fit k (Complete p.0) p.1 in
     let e : layout_of all (plain (Tagged k)) ≡ structure_from k (Complete p.0) =
-    ap (λ o. layout.Structure k (members_from (map (λ m. m.layout) (members_of o)))) p.1 in
+    ap (λ o. layout.Structure (counted k) (members_from (map (λ m. m.layout) (members_of o)))) p.1 in
     let zero_more : 0 + k ≡ k = omega arith in
     let there : slice_get (objects_of w) k ≡ Some (structure_from k (Complete p.0)) =
     get_structure 0 k w.structures (Complete p.0) (c k p.0 p.1)
     ∙ ap (λ m. Some (structure_from m (Complete p.0))) zero_more in
-    subst (λ u. IsObjectType (objects_of w) u) (sym e)
+    let below = get_below w.structures k (Complete p.0) (c k p.0 p.1) in
+    let exact : length w.structures ≤ most_counted → counted k ≡ k = λ few. counted_small k (omega (arith, below, few)) in
+    subst (IsTypeIn w.structures) (sym e)
     (record {
-      formed = (there, list.formed);
+      formed = λ few. (ap (slice_get (objects_of w)) (exact few) ∙ there, list.formed few);
+      full = list.full;
       small = list.small;
       flat = omega (arith, list.flat);
     })
@@ -333,7 +348,7 @@ made_two s t u l m p q = (
 pub next_numbered : (w : World) (s : Scope) (u : ObjectType) → Ends w (with_object u s)
     → start_at most_numbered (length s.objects) ≡ length s.objects
 next_numbered w s u e =
-    let o : Object = record { object_type = u; cells = cells u; start = start_at most_frame_cells s.frame } in
+    let o : Object = record { object_type = u; cells = counted (cells u); start = start_at most_frame_cells s.frame } in
     let all : length w.scope.objects ≡ length s.objects + 1 + length e.objects.0 =
     ap length e.objects.1 ∙ length-append (s.objects ++ (o ∷ [])) e.objects.0
     ∙ ap (λ n. n + length e.objects.0) (length-append s.objects (o ∷ [])) in
@@ -343,7 +358,7 @@ next_numbered w s u e =
 pub made_object : (w : World) (s : Scope) (u : ObjectType) → Ends w (with_object u s)
     → Made s (with_object u s) (scope.next_slot s ∷ [])
 made_object w s u e = (
-  record { object_type = u; cells = cells u; start = start_at most_frame_cells s.frame } ∷ [],
+  record { object_type = u; cells = counted (cells u); start = start_at most_frame_cells s.frame } ∷ [],
   refl,
   ap (λ n. slot_at n ∷ []) (next_numbered w s u e),
 )

@@ -1,5 +1,5 @@
 -- Initializers: what is declared stays, and what is found of one without a fault is well.
-use Rattle.std.proofs.Common.{◌≡◌, ℕ, zero, suc, ◌+◌, ◌-◌, ◌≤◌, ◌==◌, nat_lt, Bool, true, false, ◌||◌, if◌then◌else◌, List, [], ◌∷◌, ◌++◌, length, take, drop, slice_get, Option, Some, None, option_map, option_and_then, refl, ap, sym, ◌∙◌, subst, arith, append_assoc}
+use Rattle.std.proofs.Common.{◌≡◌, ℕ, zero, suc, ◌+◌, ◌-◌, ◌≤◌, ◌==◌, nat_lt, Bool, true, false, ◌||◌, if◌then◌else◌, List, [], ◌∷◌, ◌++◌, length, map, take, drop, slice_get, Option, Some, None, option_map, option_and_then, refl, ap, sym, ◌∙◌, subst, arith, append_assoc}
 use Rattle.mc_tree.specs.Tree.{Expression, Initializer, Initializers, span_of}
 use Rattle.mc_tree.specs.Tree as tree
 use Rattle.mc_value.specs.declared.int_type.IntType.{IntType}
@@ -12,19 +12,21 @@ use Rattle.mc_typed.specs.Sound as sound
 use Rattle.mc_typed.proofs.CellTypes.{length_scalars}
 use Rattle.mc_faults.specs.declared.fault.FaultKind.TheVariants.{Mismatch}
 use Rattle.mc_faults.specs.Faults.{fault, fault_if}
-use Rattle.mc_typing.specs.Types.{Base, Void, Integer, Tagged, CType, plain, Member, Structure, Complete, members_of, is_complete, layout_of}
+use Rattle.mc_typing.specs.Profile.{counted}
+use Rattle.mc_typing.specs.Types.{Base, Void, Integer, Tagged, CType, plain, Member, Structure, Complete, members_of, is_complete, layout_of, cells_of}
 use Rattle.mc_typing.specs.Scopes.{Scope}
 use Rattle.mc_typing.specs.Values.{Judged, judged, judged_one, part, Found, kind_found, is_integer, fails, number_in, number_found}
 use Rattle.mc_typed.specs.Constants.{constant_value}
 use Rattle.mc_typing.specs.Constants.{value_of_constant, constant_found, is_zero_constant}
 use Rattle.mc_typing.specs.Expressions.{convert_to, layouts_of}
-use Rattle.mc_typing.specs.Initializers.{Target, ScalarTarget, ArrayTarget, StructureTarget, target_of_base, target_of_object, target_of, Parts, Elements, Members, NoParts, parts_of, first_part, later_parts, is_kind, item_faults, static_faults, cells_of, scalar_value, item_value, item_count, count_faults, only_item, list_value, zero_value, is_zero, zero_judged, list_judged, braced_judged, only_expression, items_judged, judge_initializer, judge_items, values_of, values_of_items}
+use Rattle.mc_typing.specs.Initializers.{Target, ScalarTarget, ArrayTarget, StructureTarget, target_of_base, target_of_object, target_of, Parts, Elements, Members, NoParts, parts_of, first_part, later_parts, is_kind, item_faults, static_faults, scalar_value, item_value, item_count, count_faults, only_item, list_value, zero_value, is_zero, zero_judged, list_judged, braced_judged, only_expression, items_judged, judge_initializer, judge_items, values_of, values_of_items}
 use Rattle.mc_typing.specs.Judgement.{judge}
 use Rattle.mc_soundness.specs.Growth.{Grown}
-use Rattle.mc_soundness.specs.Fits.{World, Completes, StructuresFit, Fits, Ends, IsWell, HasRoom, ArePartsKnown, IsInitialized, AreInitialized}
+use Rattle.mc_soundness.specs.Fits.{World, IsTypeIn, AreTypesIn, Completes, StructuresFit, Fits, Ends, IsWell, HasRoom, ArePartsKnown, IsInitialized, AreInitialized}
 use Rattle.mc_soundness.proofs.Lists.{right_nil}
 use Rattle.mc_soundness.proofs.Tests.{nil_left, nil_right, no_fault, or_left, or_right, false_true, and_then_some, lift2_some}
 use Rattle.mc_soundness.proofs.Grows.{grown_refl, grown_trans, grows}
+use Rattle.mc_soundness.proofs.Sizes.{cells_exact, element_in, list_types}
 use Rattle.mc_soundness.proofs.Fitting.{kept_completes, complete_at, layout_kept, complete_kept, members_kept, made_none, made_as, made_two, ends_back}
 use Rattle.mc_soundness.proofs.Values.{IsPlain, plain_layout, converts, numbers, structures, known_kind}
 use Rattle.mc_soundness.proofs.Expressions.{array_layout}
@@ -109,9 +111,10 @@ target_structure all u k ms p e =
     ∙ ap (λ o. StructureTarget k (members_of o)) e
 
 structure_layout : (all : List Structure) (u : CType) (k : ℕ) (ms : List Member) → IsPlain u (Tagged k)
-    → slice_get all k ≡ Some (Complete ms) → layout_of all u ≡ layout.Structure k (layouts_of ms)
+    → slice_get all k ≡ Some (Complete ms) → layout_of all u
+    ≡ layout.Structure (counted k) (layouts_of ms)
 structure_layout all u k ms p e =
-    plain_layout all u (Tagged k) p ∙ ap (λ o. layout.Structure k (layouts_of (members_of o))) e
+    plain_layout all u (Tagged k) p ∙ ap (λ o. layout.Structure (counted k) (layouts_of (members_of o))) e
 
 -- ---- an expression
 
@@ -155,10 +158,10 @@ single_integer w static s u at x a p wx h =
     }
 
 single_structure : (w : World) (static : Bool) (s : Scope) (u : CType) (at : ℕ) (x : Found) (k : ℕ)
-    (ms : List Member) → IsPlain u (Tagged k) → IsWell w s x
-    → (single_with static u at x (StructureTarget k ms)).faults ≡ []
+    (ms : List Member) → IsTypeIn w.structures (layout_of x.scope.structures u) → IsPlain u (Tagged k)
+    → IsWell w s x → (single_with static u at x (StructureTarget k ms)).faults ≡ []
     → IsInitialized w static s u (single_with static u at x (StructureTarget k ms))
-single_structure w static s u at x k ms p wx h =
+single_structure w static s u at x k ms object p wx h =
     let all = x.scope.structures in
     let own = nil_right x.faults _ h in
     let b = no_fault _ Mismatch at (nil_left (fault_if (static || fails (is_kind k) (kind_found x)) Mismatch at) _ own) in
@@ -169,24 +172,24 @@ single_structure w static s u at x k ms p wx h =
       value = i;
       is = and_then_some (item_value all (Some u) (StructureTarget k ms)) x.value wx.value wx.is
           ∙ ap (option_map (λ w. t.StructureInitializer w (cells_of all u))) n.is;
-      sound = (n.sound, n.type ∙ ap Some (sym e), refl);
+      sound = (n.sound, n.type ∙ ap Some (sym e), cells_exact w.structures (layout_of all u) object);
       made = made_as s x.scope _ _ (sym n.slots) wx.made;
       fits = wx.fits;
       values = λ r. false_true (sym (or_left static _ b) ∙ r);
     }
 
 single_by : (w : World) (static : Bool) (s : Scope) (u : CType) (at : ℕ) (x : Found)
-    → View x.scope.structures u → IsWell w s x
+    → View x.scope.structures u → IsTypeIn w.structures (layout_of x.scope.structures u) → IsWell w s x
     → (single_with static u at x (target_of x.scope.structures (Some u))).faults ≡ []
     → IsInitialized w static s u (single_with static u at x (target_of x.scope.structures (Some u)))
-single_by w static s u at x (integer_view p) wx =
+single_by w static s u at x (integer_view p) object wx =
     subst (λ z. (single_with static u at x z).faults ≡ [] → IsInitialized w static s u (single_with static u at x z))
     (sym (target_integer x.scope.structures u p.0 p.1)) (single_integer w static s u at x p.0 p.1 wx)
-single_by w static s u at x (structure_view p) wx =
+single_by w static s u at x (structure_view p) object wx =
     subst (λ z. (single_with static u at x z).faults ≡ [] → IsInitialized w static s u (single_with static u at x z))
     (sym (target_structure x.scope.structures u p.0 p.1 p.2 p.3))
-    (single_structure w static s u at x p.0 p.1 p.2 wx)
-single_by w static s u at x (array_view p) wx =
+    (single_structure w static s u at x p.0 p.1 object p.2 wx)
+single_by w static s u at x (array_view p) object wx =
     subst (λ z. (single_with static u at x z).faults ≡ [] → IsInitialized w static s u (single_with static u at x z))
     (sym (target_array x.scope.structures u p.0 p.1 p.2)) (λ h. absurd (never h))
   where
@@ -205,6 +208,25 @@ parts_by w all u fit c (array_view p) =
 parts_by w all u fit c (structure_view p) =
     subst (λ z. ArePartsKnown all (parts_of z)) (sym (target_structure all u p.0 p.1 p.2 p.3))
     (fit p.0 (Complete p.1) p.3).types
+
+-- the types of the parts are types of the program too
+abbrev ArePartsIn : World → List Structure → Parts → Type 0
+ArePartsIn w all (Elements u) = IsTypeIn w.structures (layout_of all u)
+ArePartsIn w all (Members ms) = AreTypesIn w.structures (map (λ m. m.layout) ms)
+ArePartsIn w all NoParts = Unit {0}
+
+parts_in : (w : World) (all : List Structure) (u : CType) → StructuresFit w all
+    → IsTypeIn w.structures (layout_of all u) → View all u
+    → ArePartsIn w all (parts_of (target_of all (Some u)))
+parts_in w all u fit object (integer_view p) =
+    subst (λ z. ArePartsIn w all (parts_of z)) (sym (target_integer all u p.0 p.1)) object
+parts_in w all u fit object (array_view p) =
+    subst (λ z. ArePartsIn w all (parts_of z)) (sym (target_array all u p.0 p.1 p.2))
+    (element_in w.structures p.0 (layout_of all (record u { lengths = p.1 }))
+    (subst (IsTypeIn w.structures) (array_layout all u p.0 p.1 p.2) object))
+parts_in w all u fit object (structure_view p) =
+    subst (λ z. ArePartsIn w all (parts_of z)) (sym (target_structure all u p.0 p.1 p.2 p.3))
+    (list_types w all p.1 (fit p.0 (Complete p.1) p.3))
 
 -- ---- a list
 
@@ -258,12 +280,14 @@ repeated_more A xs (suc n) m =
     ∙ sym (append_assoc xs (repeated n xs) (repeated m xs))
 
 list_array : (w : World) (static : Bool) (s : Scope) (u : CType) (at count : ℕ)
-    (x : Judged t.Initializers) (n : ℕ) (ns : List ℕ) → u.lengths ≡ n ∷ ns
+    (x : Judged t.Initializers) (n : ℕ) (ns : List ℕ)
+    → IsTypeIn w.structures (layout_of x.scope.structures u) → u.lengths ≡ n ∷ ns
     → AreInitialized w static s (Elements (record u { lengths = ns })) count x
     → (list_with u at count x (ArrayTarget n (record u { lengths = ns }))).faults ≡ []
     → IsInitialized w static s u (list_with u at count x (ArrayTarget n (record u { lengths = ns })))
-list_array w static s u at count x n ns q ix h =
+list_array w static s u at count x n ns object q ix h =
     let all = x.scope.structures in
+    let exact = cells_exact w.structures (layout_of all u) object in
     let v : CType = record u { lengths = ns } in
     let room = not_more n count (no_fault _ Mismatch at (nil_right x.faults _ h)) in
     let e : layout_of all u ≡ Array n (layout_of all v) = array_layout all u n ns q in
@@ -272,7 +296,7 @@ list_array w static s u at count x n ns q ix h =
       value = i;
       is = and_then_some (list_value all (Some u) (ArrayTarget n v)) x.value ix.value ix.is;
       sound = subst (λ l. IsInitializer i l w.scope) (sym e)
-          (ap cells e, subst (λ k. k ≤ n) (sym ix.count) room, ix.sound);
+          (exact ∙ ap cells e, subst (λ k. k ≤ n) (sym ix.count) room, ix.sound);
       made = ix.made;
       fits = ix.fits;
       values = λ r.
@@ -283,7 +307,7 @@ list_array w static s u at count x n ns q ix h =
           let first : AreFirst (repeated n sc) (values_of_items ix.value) =
           record { first = repeated count sc; rest = repeated (n - count) sc; are = parted; within = within.1 } in
           let length_is : cells_of all u ≡ length (repeated n sc) =
-          ap cells e ∙ sym (length_scalars (Array n (layout_of all v))) in (
+          exact ∙ ap cells e ∙ sym (length_scalars (Array n (layout_of all v))) in (
             within.0,
             subst (λ l. AreInRange (scalars l) (values_of i)) (sym e)
                 (filled_within (repeated n sc) (cells_of all u) (values_of_items ix.value) length_is first),
@@ -302,18 +326,20 @@ scalars_split (m ∷ ms) (suc n) =
     ∙ sym (append_assoc (scalars m.layout) (scalars_all (layouts_of (take n ms))) (scalars_all (layouts_of (drop n ms))))
 
 list_structure : (w : World) (static : Bool) (s : Scope) (u : CType) (at count : ℕ)
-    (x : Judged t.Initializers) (k : ℕ) (ms : List Member) → IsPlain u (Tagged k)
+    (x : Judged t.Initializers) (k : ℕ) (ms : List Member)
+    → IsTypeIn w.structures (layout_of x.scope.structures u) → IsPlain u (Tagged k)
     → slice_get x.scope.structures k ≡ Some (Complete ms)
     → AreInitialized w static s (Members ms) count x
     → IsInitialized w static s u (list_with u at count x (StructureTarget k ms))
-list_structure w static s u at count x k ms p q ix =
+list_structure w static s u at count x k ms object p q ix =
     let all = x.scope.structures in
-    let e : layout_of all u ≡ layout.Structure k (layouts_of ms) = structure_layout all u k ms p q in
+    let exact = cells_exact w.structures (layout_of all u) object in
+    let e : layout_of all u ≡ layout.Structure (counted k) (layouts_of ms) = structure_layout all u k ms p q in
     let i = t.ListInitializer ix.value (cells_of all u) in
     record {
       value = i;
       is = and_then_some (list_value all (Some u) (StructureTarget k ms)) x.value ix.value ix.is;
-      sound = subst (λ l. IsInitializer i l w.scope) (sym e) (ap cells e, ix.sound);
+      sound = subst (λ l. IsInitializer i l w.scope) (sym e) (exact ∙ ap cells e, ix.sound);
       made = ix.made;
       fits = ix.fits;
       values = λ r.
@@ -326,7 +352,7 @@ list_structure w static s u at count x k ms p q ix =
             within = within.1;
           } in
           let length_is : cells_of all u ≡ length (scalars_all (layouts_of ms)) =
-          ap cells e ∙ sym (length_scalars (layout.Structure k (layouts_of ms))) in (
+          exact ∙ ap cells e ∙ sym (length_scalars (layout.Structure (counted k) (layouts_of ms))) in (
             within.0,
             subst (λ l. AreInRange (scalars l) (values_of i)) (sym e)
                 (filled_within (scalars_all (layouts_of ms)) (cells_of all u) (values_of_items ix.value) length_is first),
@@ -338,30 +364,37 @@ room_structure : (count : ℕ) (ms : List Member) (at k : ℕ)
 room_structure count ms at k h = not_more (length ms) count (no_fault _ Mismatch at h)
 
 list_by : (w : World) (static : Bool) (s : Scope) (u : CType) (at count : ℕ) (x : Judged t.Initializers)
-    → View s.structures u → Completes s.structures x.scope.structures
+    → View s.structures u → IsTypeIn w.structures (layout_of x.scope.structures u)
+    → Completes s.structures x.scope.structures
     → (HasRoom (parts_of (target_of s.structures (Some u))) count
     → AreInitialized w static s (parts_of (target_of s.structures (Some u))) count x)
     → (list_judged (Some u) at count x).faults ≡ []
     → IsInitialized w static s u (list_judged (Some u) at count x)
-list_by w static s u at count x (integer_view p) c given h =
+list_by w static s u at count x (integer_view p) object c given h =
     let items = subst (λ z. HasRoom (parts_of z) count → AreInitialized w static s (parts_of z) count x)
     (target_integer s.structures u p.0 p.1) given tt in
     subst (λ z. (list_with u at count x z).faults ≡ [] → IsInitialized w static s u (list_with u at count x z))
     (sym (target_integer x.scope.structures u p.0 p.1)) (list_integer w static s u at count x items) h
-list_by w static s u at count x (array_view p) c given h =
+list_by w static s u at count x (array_view p) object c given h =
     let items = subst (λ z. HasRoom (parts_of z) count → AreInitialized w static s (parts_of z) count x)
     (target_array s.structures u p.0 p.1 p.2) given tt in
     subst (λ z. (list_with u at count x z).faults ≡ [] → IsInitialized w static s u (list_with u at count x z))
     (sym (target_array x.scope.structures u p.0 p.1 p.2))
-    (list_array w static s u at count x p.0 p.1 p.2 items) h
-list_by w static s u at count x (structure_view p) c given h =
+    (list_array w static s u at count x p.0 p.1 object p.2 items) h
+list_by w static s u at count x (structure_view p) object c given h =
     let there = c p.0 p.1 p.3 in
     subst (λ z. (list_with u at count x z).faults ≡ [] → IsInitialized w static s u (list_with u at count x z))
     (sym (target_structure x.scope.structures u p.0 p.1 p.2 there))
-    (λ r. list_structure w static s u at count x p.0 p.1 p.2 there
+    (λ r. list_structure w static s u at count x p.0 p.1 object p.2 there
     (subst (λ z. HasRoom (parts_of z) count → AreInitialized w static s (parts_of z) count x)
     (target_structure s.structures u p.0 p.1 p.2 p.3) given
     (room_structure count p.1 at p.0 (nil_right x.faults _ r)))) h
+
+-- its type is still one of the program
+object_kept : (w : World) (all more : List Structure) (u : CType) → Completes all more
+    → is_complete all u.base ≡ true → IsTypeIn w.structures (layout_of all u)
+    → IsTypeIn w.structures (layout_of more u)
+object_kept w all more u c k object = subst (IsTypeIn w.structures) (layout_kept all more u c k) object
 
 -- ---- the list {E}
 
@@ -380,10 +413,11 @@ zero_known x h = by_constant x.constant refl (number_found x) refl
         let none : constant_found x ≡ None = ap (λ b. value_of_constant b (number_found x)) p in
         let no : is_zero (Some x) ≡ false = ap is_zero_constant none in absurd (cc)
 
-zero_well : (w : World) (static : Bool) (s : Scope) (u : CType) (x : Found) → IsWell w s x
-    → is_zero (Some x) ≡ true → IsInitialized w static s u (zero_judged (Some u) (Some x) s)
-zero_well w static s u x wx h =
+zero_well : (w : World) (static : Bool) (s : Scope) (u : CType) (x : Found)
+    → IsTypeIn w.structures (layout_of x.scope.structures u) → IsWell w s x → is_zero (Some x) ≡ true → IsInitialized w static s u (zero_judged (Some u) (Some x) s)
+zero_well w static s u x object wx h =
     let all = x.scope.structures in
+    let exact = cells_exact w.structures (layout_of all u) object in
     let k = zero_known x h in
     let c = wx.constant k.1 in
     let n = numbers w all wx.value c.1 wx.sound in
@@ -392,28 +426,29 @@ zero_well w static s u x wx h =
     record {
       value = i;
       is = ap (zero_value all (Some u)) is;
-      sound = (refl, n.sound);
+      sound = (exact, n.sound);
       made = made_as s x.scope _ _ (sym n.slots) wx.made;
       fits = wx.fits;
       values = λ r. (
         c.0,
-        filled_within (scalars (layout_of all u)) (cells_of all u) [] (sym (length_scalars (layout_of all u)))
+        filled_within (scalars (layout_of all u)) (cells_of all u) [] (exact ∙ sym (length_scalars (layout_of all u)))
             (none_first (scalars (layout_of all u))),
       );
     }
 
 braced_well : (w : World) (static : Bool) (s : Scope) (u : CType) (at count : ℕ) (o : Option Expression)
     (x : Judged t.Initializers) → Fits w s → is_complete s.structures u.base ≡ true
-    → Completes s.structures x.scope.structures
+    → IsTypeIn w.structures (layout_of s.structures u) → Completes s.structures x.scope.structures
     → (Ends w x.scope → x.faults ≡ [] → HasRoom (parts_of (target_of s.structures (Some u))) count
     → AreInitialized w static s (parts_of (target_of s.structures (Some u))) count x)
     → Ends w (braced_judged (Some u) at count (option_map (λ e. judge e s) o) x s).scope
     → (braced_judged (Some u) at count (option_map (λ e. judge e s) o) x s).faults ≡ []
     → IsInitialized w static s u (braced_judged (Some u) at count (option_map (λ e. judge e s) o) x s)
-braced_well w static s u at count None x fit k c given ends h =
-    list_by w static s u at count x (view s.structures u k) c
+braced_well w static s u at count None x fit k object c given ends h =
+    list_by w static s u at count x (view s.structures u k)
+    (object_kept w s.structures x.scope.structures u c k object) c
     (λ room. given ends (nil_left x.faults _ h) room) h
-braced_well w static s u at count (Some e) x fit k c given ends h =
+braced_well w static s u at count (Some e) x fit k object c given ends h =
     by_test (is_zero (Some (judge e s))) refl ends h
   where
     by_test : (b : Bool) → is_zero (Some (judge e s)) ≡ b
@@ -421,9 +456,14 @@ braced_well w static s u at count (Some e) x fit k c given ends h =
         → (if b then zero_judged (Some u) (Some (judge e s)) s else list_judged (Some u) at count x).faults ≡ []
         → IsInitialized w static s u
         (if b then zero_judged (Some u) (Some (judge e s)) s else list_judged (Some u) at count x)
-    by_test true q ends h = zero_well w static s u (judge e s) (well w e s fit ends h) q
+    by_test true q ends h =
+        let z = judge e s in
+        let c_z = kept_completes s.structures z.scope.structures (grows e s).structures in
+        zero_well w static s u z (object_kept w s.structures z.scope.structures u c_z k object)
+        (well w e s fit ends h) q
     by_test false q ends h =
-        list_by w static s u at count x (view s.structures u k) c
+        list_by w static s u at count x (view s.structures u k)
+        (object_kept w s.structures x.scope.structures u c k object) c
         (λ room. given ends (nil_left x.faults _ h) room) h
 
 -- ---- items
@@ -505,43 +545,48 @@ no_items w static NoParts s fit k = absurd k
 mutual
   pub initializer_well : (w : World) (static : Bool) (u : CType) (i : Initializer) (s : Scope)
       → Fits w s → is_complete s.structures u.base ≡ true
+      → IsTypeIn w.structures (layout_of s.structures u)
       → Ends w (judge_initializer static (Some u) i s).scope
       → (judge_initializer static (Some u) i s).faults ≡ []
       → IsInitialized w static s u (judge_initializer static (Some u) i s)
-  initializer_well w static u (tree.Single e) s fit k ends h =
+  initializer_well w static u (tree.Single e) s fit k object ends h =
       let x = judge e s in
       let wx = well w e s fit ends (nil_left x.faults _ h) in
-      let more = complete_kept s.structures x.scope.structures u.base
-      (kept_completes s.structures x.scope.structures (grows e s).structures) k in
-      single_by w static s u (span_of e).start x (view x.scope.structures u more) wx h
-  initializer_well w static u (tree.Braced items span) s fit k ends h =
+      let c = kept_completes s.structures x.scope.structures (grows e s).structures in
+      let more = complete_kept s.structures x.scope.structures u.base c k in
+      single_by w static s u (span_of e).start x (view x.scope.structures u more)
+      (object_kept w s.structures x.scope.structures u c k object) wx h
+  initializer_well w static u (tree.Braced items span) s fit k object ends h =
       let parts = parts_of (target_of s.structures (Some u)) in
       let x = judge_items static parts items s in
-      braced_well w static s u span.start (item_count items) (only_expression items) x fit k
+      braced_well w static s u span.start (item_count items) (only_expression items) x fit k object
       (kept_completes s.structures x.scope.structures (items_grow static parts items s).structures)
       (λ ends_x none room. items_well w static parts items s fit
-      (parts_by w s.structures u fit.structures k (view s.structures u k)) room ends_x none)
+      (parts_by w s.structures u fit.structures k (view s.structures u k))
+      (parts_in w s.structures u fit.structures object (view s.structures u k)) room ends_x none)
       ends h
 
   pub items_well : (w : World) (static : Bool) (parts : Parts) (items : Initializers) (s : Scope)
-      → Fits w s → ArePartsKnown s.structures parts → HasRoom parts (item_count items)
+      → Fits w s → ArePartsKnown s.structures parts → ArePartsIn w s.structures parts
+      → HasRoom parts (item_count items)
       → Ends w (judge_items static parts items s).scope → (judge_items static parts items s).faults ≡ []
       → AreInitialized w static s parts (item_count items) (judge_items static parts items s)
-  items_well w static parts tree.no_initializers s fit k room ends h = no_items w static parts s fit k
-  items_well w static (Elements u) (tree.initializers one rest) s fit k room ends h =
+  items_well w static parts tree.no_initializers s fit k p room ends h = no_items w static parts s fit k
+  items_well w static (Elements u) (tree.initializers one rest) s fit k p room ends h =
       let x = judge_initializer static (Some u) one s in
       let y = judge_items static (Elements u) rest x.scope in
       let g = items_grow static (Elements u) rest x.scope in
-      let more = complete_kept s.structures x.scope.structures u.base
-      (kept_completes s.structures x.scope.structures (initializer_grows static (Some u) one s).structures) k in
-      let ix = initializer_well w static u one s fit k (ends_back w x.scope y.scope g ends) (nil_left x.faults _ h) in
+      let c = kept_completes s.structures x.scope.structures (initializer_grows static (Some u) one s).structures in
+      let more = complete_kept s.structures x.scope.structures u.base c k in
+      let ix = initializer_well w static u one s fit k p (ends_back w x.scope y.scope g ends) (nil_left x.faults _ h) in
       let later = nil_left y.faults [] (nil_right x.faults _ h) in
       more_items w static s u (item_count rest) x y more
       (kept_completes x.scope.structures y.scope.structures g.structures) ix
-      (items_well w static (Elements u) rest x.scope ix.fits more tt ends later)
-  items_well w static (Members []) (tree.initializers one rest) s fit k room ends h =
+      (items_well w static (Elements u) rest x.scope ix.fits more
+      (object_kept w s.structures x.scope.structures u c k p) tt ends later)
+  items_well w static (Members []) (tree.initializers one rest) s fit k p room ends h =
       absurd (omega (arith, room))
-  items_well w static (Members (m ∷ ms)) (tree.initializers one rest) s fit k room ends h =
+  items_well w static (Members (m ∷ ms)) (tree.initializers one rest) s fit k p room ends h =
       let x = judge_initializer static m.member_type one s in
       let y = judge_items static (Members ms) rest x.scope in
       let g = items_grow static (Members ms) rest x.scope in
@@ -554,12 +599,13 @@ mutual
       let ix = subst (λ o. Ends w (judge_initializer static o one s).scope
       → (judge_initializer static o one s).faults ≡ []
       → IsInitialized w static s u (judge_initializer static o one s)) (sym k.0.1)
-      (λ e none. initializer_well w static u one s fit k.0.3 e none) ends_x (nil_left x.faults _ h) in
+      (λ e none. initializer_well w static u one s fit k.0.3
+      (subst (IsTypeIn w.structures) k.0.2 p.0) e none) ends_x (nil_left x.faults _ h) in
       let later = nil_left y.faults [] (nil_right x.faults _ h) in
       let same : m.layout ≡ layout_of y.scope.structures u =
       k.0.2 ∙ layout_kept s.structures x.scope.structures u c_x k.0.3
       ∙ layout_kept x.scope.structures y.scope.structures u c more in
       more_members w static s u (item_count rest) m ms x y same more c ix
       (items_well w static (Members ms) rest x.scope ix.fits
-      (members_kept s.structures x.scope.structures ms c_x k.1) (omega (arith, room)) ends later)
-  items_well w static NoParts (tree.initializers one rest) s fit k room ends h = absurd k
+      (members_kept s.structures x.scope.structures ms c_x k.1) p.1 (omega (arith, room)) ends later)
+  items_well w static NoParts (tree.initializers one rest) s fit k p room ends h = absurd k

@@ -2,6 +2,7 @@ pub mod Lists
 pub mod Tests
 pub mod IntTypes
 pub mod Grows
+pub mod Sizes
 pub mod Fitting
 pub mod Values
 pub mod Expressions

@@ -22,6 +22,11 @@ cut_back A xs ys p = ap (take (length xs)) p.1 ∙ take-append_seam xs p.0
 
 -- ---- places
 
+pub get_below : {A : Type 0} (xs : List A) (k : ℕ) (x : A) → slice_get xs k ≡ Some x → k < length xs
+get_below [] k x h = absurd (cc)
+get_below (y ∷ xs) zero x h = omega arith
+get_below (y ∷ xs) (suc k) x h = let below = get_below xs k x h in omega (arith, below)
+
 pub get_past : {A : Type 0} (xs : List A) → slice_get xs (length xs) ≡ None
 get_past [] = refl
 get_past (x ∷ xs) = get_past xs

@@ -1,6 +1,6 @@
 -- Structures with a list: what is found of members, and of the whole, is well.
-use Rattle.std.proofs.Common.{◌≡◌, ℕ, zero, suc, ◌+◌, ◌<◌, ◌≤◌, nat_lt, Bool, true, false, ◌&&◌, if◌then◌else◌, List, [], ◌∷◌, ◌++◌, map, length, take, slice_get, slice_set, Option, Some, None, refl, ap, sym, ◌∙◌, subst, arith, inl, inr}
-use Rattle.std.proofs.lemmas.List.{map-append}
+use Rattle.std.proofs.Common.{◌≡◌, ℕ, zero, suc, ◌+◌, ◌<◌, ◌≤◌, nat_lt, nat_le, Bool, true, false, ◌&&◌, if◌then◌else◌, List, [], ◌∷◌, ◌++◌, map, length, take, slice_get, slice_set, Option, Some, None, refl, ap, sym, ◌∙◌, subst, arith, inl, inr}
+use Rattle.std.proofs.lemmas.List.{map-append, length-append}
 use Rattle.mc_tree.specs.Tree.{Name, ArrayLengths}
 use Rattle.mc_typed.specs.Layout.{ObjectType, cells, cells_all, nesting, nesting_all, members_from}
 use Rattle.mc_typed.specs.Sound.{IsFormed, AreFormed}
@@ -8,14 +8,14 @@ use Rattle.mc_faults.specs.declared.fault.FaultKind.TheVariants.{Mismatch, Limit
 use Rattle.mc_faults.specs.Faults.{fault_if, unless_faulty}
 use Rattle.mc_limits.specs.Limits.{most_nesting}
 use Rattle.mc_value.specs.ObjectTypes.{most_cells}
-use Rattle.mc_typing.specs.Profile.{most_lengths}
+use Rattle.mc_typing.specs.Profile.{most_counted, most_lengths}
 use Rattle.mc_typing.specs.Types.{Base, Void, Integer, Tagged, CType, plain, Member, Structure, Incomplete, Complete, Faulty, is_complete, layout_of_base, arrays_of, layout_of}
 use Rattle.mc_typing.specs.Scopes.{TagMeaning, StructureTag, EnumerationTag, Scope, tag_here, with_tag, with_structure, with_structure_at}
 use Rattle.mc_typing.specs.Values.{Judged, lift3}
 use Rattle.mc_typing.specs.Limits.{is_long, is_large_member, is_passed_with, member_limit_faults}
 use Rattle.mc_typing.specs.Declarators.{Listed, Opened, opened, opened_tag, opened_again, completed, structure_judged, is_first_absent, is_later_absent, leading, array_of, declared_type, absent_faults, incomplete_faults, cells_of_members, with_member, has_member, member_listed}
 use Rattle.mc_soundness.specs.Growth.{Kept}
-use Rattle.mc_soundness.specs.Fits.{World, Completes, objects_of, ArePositive, MembersFit, ListFits, StructuresFit, Fits, AreTyped, AreLengths, AreListed}
+use Rattle.mc_soundness.specs.Fits.{World, IsFull, AreFull, Completes, objects_of, ArePositive, MembersFit, ListFits, StructuresFit, Fits, AreTyped, AreLengths, AreListed}
 use Rattle.mc_soundness.proofs.Lists.{get_next, get_set_other, is_or_not}
 use Rattle.mc_soundness.proofs.Tests.{nil_left, nil_right, no_fault, or_left, or_right, not_false}
 use Rattle.mc_soundness.proofs.Fitting.{members_kept, fits_tag, fits_structure, fits_structure_at, structure_type_fits}
@@ -39,17 +39,33 @@ formed_arrays all (n ∷ ns) u h f = (h.0, formed_arrays all ns u h.1 f)
 
 pub formed_base : (w : World) (all : List Structure) (b : Base) → StructuresFit w all
     → Completes all w.structures → is_complete all b ≡ true
-    → IsFormed (objects_of w) (layout_of_base all b)
-formed_base w all Void fit c h = absurd (cc)
-formed_base w all (Integer a) fit c h = tt
-formed_base w all (Tagged k) fit c h = (structure_type_fits w all k fit c h).formed
+    → length w.structures ≤ most_counted → IsFormed (objects_of w) (layout_of_base all b)
+formed_base w all Void fit c h few = absurd (cc)
+formed_base w all (Integer a) fit c h few = tt
+formed_base w all (Tagged k) fit c h few = (structure_type_fits w all k fit c h).formed few
 
 pub formed_type : (w : World) (all : List Structure) (u : CType) → StructuresFit w all
     → Completes all w.structures → is_complete all u.base ≡ true → ArePositive u.lengths
-    → IsFormed (objects_of w) (layout_of all u)
-formed_type w all u fit c h p =
+    → length w.structures ≤ most_counted → IsFormed (objects_of w) (layout_of all u)
+formed_type w all u fit c h p few =
     formed_arrays (objects_of w) u.lengths (layout_of_base all u.base) p
-    (formed_base w all u.base fit c h)
+    (formed_base w all u.base fit c h few)
+
+full_arrays : (ns : List ℕ) (u : ObjectType) → ArePositive ns → IsFull u → IsFull (arrays_of ns u)
+full_arrays [] u h f = f
+full_arrays (n ∷ ns) u h f = (h.0, full_arrays ns u h.1 f)
+
+full_base : (w : World) (all : List Structure) (b : Base) → StructuresFit w all
+    → Completes all w.structures → is_complete all b ≡ true → IsFull (layout_of_base all b)
+full_base w all Void fit c h = absurd (cc)
+full_base w all (Integer a) fit c h = tt
+full_base w all (Tagged k) fit c h = (structure_type_fits w all k fit c h).full
+
+pub full_type : (w : World) (all : List Structure) (u : CType) → StructuresFit w all
+    → Completes all w.structures → is_complete all u.base ≡ true → ArePositive u.lengths
+    → IsFull (layout_of all u)
+full_type w all u fit c h p =
+    full_arrays u.lengths (layout_of_base all u.base) p (full_base w all u.base fit c h)
 
 -- ---- one more member
 
@@ -57,6 +73,11 @@ formed_append : (all : List ObjectType) (us : List ObjectType) (u : ObjectType)
     → AreFormed all (members_from us) → IsFormed all u → AreFormed all (members_from (us ++ (u ∷ [])))
 formed_append all [] u h f = (f, tt)
 formed_append all (v ∷ us) u h f = (h.0, formed_append all us u h.1 f)
+
+full_append : (us : List ObjectType) (u : ObjectType) → AreFull (members_from us) → IsFull u
+    → AreFull (members_from (us ++ (u ∷ [])))
+full_append [] u h f = (f, tt)
+full_append (v ∷ us) u h f = (h.0, full_append us u h.1 f)
 
 cells_append : (us : List ObjectType) (u : ObjectType)
     → cells_all (members_from (us ++ (u ∷ []))) ≡ cells_all (members_from us) + cells u
@@ -84,12 +105,16 @@ fits_in most before more h k = grind (arith, h, k)
 flat_enough : (n : ℕ) → nat_lt most_nesting (n + 1) ≡ false → n < most_nesting
 flat_enough n h = grind (arith, h)
 
+counted_more : (n : ℕ) → nat_le most_counted n ≡ false → n + 1 ≤ most_counted
+counted_more n h = grind (arith, h)
+
 pub list_more : (w : World) (all : List Structure) (ms : List Member) (name : List ℕ) (u : CType)
     → StructuresFit w all → Completes all w.structures → ListFits w all ms
     → is_complete all u.base ≡ true → ArePositive u.lengths
     → is_large_member (cells_of_members ms) (layout_of all u) ≡ false
+    → nat_le most_counted (length ms) ≡ false
     → ListFits w all (ms ++ (record { name = name; member_type = Some u; layout = layout_of all u } ∷ []))
-list_more w all ms name u fit c list h p small =
+list_more w all ms name u fit c list h p small few =
     let m : Member = record { name = name; member_type = Some u; layout = layout_of all u } in
     let us = map (λ m. m.layout) ms in
     let e : map (λ m. m.layout) (ms ++ (m ∷ [])) ≡ us ++ (layout_of all u ∷ []) =
@@ -102,8 +127,12 @@ list_more w all ms name u fit c list h p small =
     flat_enough (nesting (layout_of all u)) (or_right (is_passed_with most_cells n (cells (layout_of all u))) _ small) in
     record {
       types = members_append all ms m list.types ((u, refl, refl, h), tt);
-      formed = subst (λ l. AreFormed (objects_of w) (members_from l)) (sym e)
-          (formed_append (objects_of w) us (layout_of all u) list.formed (formed_type w all u fit c h p));
+      formed = λ q.
+          subst (λ l. AreFormed (objects_of w) (members_from l)) (sym e)
+          (formed_append (objects_of w) us (layout_of all u) (list.formed q) (formed_type w all u fit c h p q));
+      full = subst (λ l. AreFull (members_from l)) (sym e)
+          (full_append us (layout_of all u) list.full (full_type w all u fit c h p));
+      few = subst (λ n. n ≤ most_counted) (sym (length-append ms (m ∷ []))) (counted_more (length ms) few);
       small = subst (λ l. cells_all (members_from l) ≤ most_cells) (sym e)
           (subst (λ k. k ≤ most_cells) (sym (cells_append us (layout_of all u))) room);
       flat = subst (λ l. nesting_all (members_from l) < most_nesting) (sym e)
@@ -115,12 +144,21 @@ pub list_kept : (w : World) (all more : List Structure) (ms : List Member) → C
 list_kept w all more ms c h = record {
   types = members_kept all more ms c h.types;
   formed = h.formed;
+  full = h.full;
+  few = h.few;
   small = h.small;
   flat = h.flat;
 }
 
 pub list_empty : (w : World) (all : List Structure) → ListFits w all []
-list_empty w all = record { types = tt; formed = tt; small = omega arith; flat = omega arith }
+list_empty w all = record {
+  types = tt;
+  formed = λ few. tt;
+  full = tt;
+  few = omega arith;
+  small = omega arith;
+  flat = omega arith;
+}
 
 -- a declared type, where no length is absent
 pub declared_given : (lengths : ArrayLengths) (o : Option (List ℕ)) (b : Option CType) (ns : List ℕ) (u : CType)
@@ -152,16 +190,19 @@ member_listed_well w s base name lengths members y u is pos list c ends wy h =
     not_false (is_complete all u.base)
     (no_fault _ Mismatch at (subst (λ o. incomplete_faults all o at ≡ []) is
     (nil_left (incomplete_faults all base at) _ last))) in
+    let limits = nil_right (incomplete_faults all base at) _ last in
     let limit : member_limit_faults (cells_of_members members) all (Some v) at ≡ [] =
     subst (λ o. member_limit_faults (cells_of_members members) all o at ≡ []) e
-    (nil_right (incomplete_faults all base at) _ last) in
+    (nil_left (member_limit_faults (cells_of_members members) all o at) _ limits) in
+    let few : nat_le most_counted (length members) ≡ false =
+    no_fault _ Limit at (nil_right (member_limit_faults (cells_of_members members) all o at) _ limits) in
     let small = or_right (is_long v.lengths) _ (no_fault _ Limit at limit) in
     record {
       list = subst (λ o. ListFits w all (with_member name o members all)) (sym (ap (λ f. unless_faulty f o) h ∙ e))
           (list_more w all members name.text v wy.fits.structures ends
           (list_kept w s.structures all members c list) complete
           (positive_take most_lengths (wy.value ++ u.lengths)
-          (positive_append wy.value u.lengths wy.positive pos)) small);
+          (positive_append wy.value u.lengths wy.positive pos)) small few);
       fits = wy.fits;
       still = wy.still;
     }

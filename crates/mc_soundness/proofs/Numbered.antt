@@ -1,11 +1,11 @@
 -- Objects and array parameters have numbers: at file scope no objects of a function are made, and a function
 -- has few parameters.
-use Rattle.std.proofs.Common.{◌≡◌, ℕ, zero, suc, ◌+◌, ◌≤◌, nat_lt, Bool, true, false, if◌then◌else◌, List, [], ◌∷◌, ◌++◌, length, Option, Some, None, option_map, refl, ap, sym, ◌∙◌, subst, arith}
+use Rattle.std.proofs.Common.{◌≡◌, ℕ, ◌+◌, ◌≤◌, nat_lt, Bool, true, false, if◌then◌else◌, List, [], ◌∷◌, ◌++◌, length, Option, Some, None, option_map, refl, ap, ◌∙◌, arith}
 use Rattle.std.proofs.lemmas.List.{length-append}
 use Rattle.mc_span.specs.declared.span.Span.{Span}
 use Rattle.mc_tree.specs.Tree.{Name, Expression, ArrayLengths, Initializer, Initializers, Parameter, ParameterList, Parameters, span_of}
 use Rattle.mc_tree.specs.Tree as tree
-use Rattle.mc_typed.specs.Layout.{ObjectType, cells}
+use Rattle.mc_typed.specs.Layout.{ObjectType}
 use Rattle.mc_typed.specs.Tree.{Object}
 use Rattle.mc_typed.specs.Tree as t
 use Rattle.mc_faults.specs.declared.fault.Fault.{Fault}
@@ -13,7 +13,7 @@ use Rattle.mc_faults.specs.declared.fault.FaultKind.TheVariants.{Limit}
 use Rattle.mc_faults.specs.Faults.{unless_faulty}
 use Rattle.mc_limits.specs.Limits.{most_frame_cells, most_parameters}
 use Rattle.mc_typing.specs.Profile.{most_numbered, start_at}
-use Rattle.mc_typing.specs.Types.{CType, Structure, layout_of, ParameterKind, ByValue, ByArray}
+use Rattle.mc_typing.specs.Types.{CType, Structure, layout_of, cells_of, ParameterKind, ByValue, ByArray}
 use Rattle.mc_typing.specs.Scopes.{Meaning, Stored, Typedef, Scope, with_name, with_objects_of, next_static, prototype}
 use Rattle.mc_typing.specs.Values.{Judged, Found, number_found, kind_found}
 use Rattle.mc_typing.specs.Constants.{value_of_constant, constant_found, is_zero_constant}
@@ -147,7 +147,7 @@ with_few (Some u) None s = omega arith
 with_few (Some u) (Some (ByValue b)) s =
     let o : Object = record {
       object_type = layout_of s.structures u;
-      cells = cells (layout_of s.structures u);
+      cells = cells_of s.structures u;
       start = start_at most_frame_cells s.frame;
     } in
     let e = length-append s.objects (o ∷ []) in omega (arith, e)

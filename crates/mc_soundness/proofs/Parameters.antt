@@ -6,12 +6,12 @@ use Rattle.mc_tree.specs.Tree as tree
 use Rattle.mc_typed.specs.Layout.{ObjectType, Scalar, cells}
 use Rattle.mc_typed.specs.Tree.{Object, StaticObject, ParameterType}
 use Rattle.mc_typed.specs.Tree as t
-use Rattle.mc_typed.specs.Sound.{IsSlotOf, IsObjectType, AreObjectTypes}
+use Rattle.mc_typed.specs.Sound.{IsSlotOf}
 use Rattle.mc_typed.specs.Sound as sound
 use Rattle.mc_faults.specs.declared.fault.FaultKind.TheVariants.{Mismatch}
 use Rattle.mc_faults.specs.Faults.{fault_if, unless_faulty}
 use Rattle.mc_limits.specs.Limits.{most_frame_cells}
-use Rattle.mc_typing.specs.Profile.{most_numbered, start_at}
+use Rattle.mc_typing.specs.Profile.{counted, most_numbered, start_at}
 use Rattle.mc_typing.specs.Types.{Base, Void, Integer, Tagged, CType, plain, Structure, is_complete, layout_of_base, arrays_of, layout_of, ParameterKind, ByValue, ByArray}
 use Rattle.mc_typing.specs.Scopes.{Entry, Meaning, Automatic, Borrowed, Scope, next_slot, with_name, with_object, with_array, with_objects_of}
 use Rattle.mc_typing.specs.Declarators.{Listed, is_later_absent, is_first_absent, declared_type, incomplete_faults, adjusted, parameter_kind, parameter_limit_faults, parameter_name_faults, parameter_faults, parameter_meaning, with_parameter_name, with_parameter, declared_parameter, name_start, listed_none}
@@ -19,7 +19,7 @@ use Rattle.mc_typing.specs.Judgement.{typed_by, judge_specifiers, judge_lengths,
 use Rattle.mc_typing.specs.Typing.{parameter_type}
 use Rattle.mc_typing.proofs.Sums.{start_small}
 use Rattle.mc_soundness.specs.Growth.{Begins, AreBelow, Grown, Passed}
-use Rattle.mc_soundness.specs.Fits.{World, objects_of, Completes, ArePositive, Fits, Ends, arrays_in, ArraysEnd, base_of_kind, AreComplete, AreParametersFound}
+use Rattle.mc_soundness.specs.Fits.{World, IsTypeIn, AreTypesIn, Completes, ArePositive, Fits, Ends, arrays_in, ArraysEnd, base_of_kind, AreComplete, AreParametersFound}
 use Rattle.mc_soundness.proofs.Lists.{right_nil, begins_refl, get_next}
 use Rattle.mc_soundness.proofs.Tests.{nil_left, nil_right, no_fault, not_false}
 use Rattle.mc_soundness.proofs.Grows.{grown_trans, grown_object, below_append, specifiers_grow, lengths_grow}
@@ -101,9 +101,9 @@ abbrev entered_as : Option Name → Option CType → Option ParameterKind → Sc
 entered_as name u k s = record { faults = []; items = k ∷ []; scope = declared_parameter name u k s }
 
 base_object : (w : World) (s : Scope) (b : Base) → Fits w s → Completes s.structures w.structures
-    → is_complete s.structures b ≡ true → IsObjectType (objects_of w) (layout_of_base s.structures b)
+    → is_complete s.structures b ≡ true → IsTypeIn w.structures (layout_of_base s.structures b)
 base_object w s Void fit c h = absurd (cc)
-base_object w s (Integer a) fit c h = record { formed = tt; small = omega arith; flat = omega arith }
+base_object w s (Integer a) fit c h = record { formed = λ few. tt; full = tt; small = omega arith; flat = omega arith }
 base_object w s (Tagged k) fit c h = structure_type_fits w s.structures k fit.structures c h
 
 kept_base : (w : World) (s : Scope) (b : Base) → Completes s.structures w.structures
@@ -127,13 +127,13 @@ parameter_value w None u s fit below e complete c ends =
       are = refl;
       complete = (complete, tt);
       objects = (
-        record { object_type = l; cells = cells l; start = start_at most_frame_cells s.frame } ∷ [],
+        record { object_type = l; cells = counted (cells l); start = start_at most_frame_cells s.frame } ∷ [],
         refl,
         ap (λ z. z ∷ []) same ∙ kept_base w s u.base c complete,
       );
       arrays = no_more s.arrays;
       elements = tt;
-      fits = fits_object w s l fit (subst (IsObjectType (objects_of w)) (sym same) (base_object w s u.base fit c complete));
+      fits = fits_object w s l fit (subst (IsTypeIn w.structures) (sym same) (base_object w s u.base fit c complete));
       below = below;
     }
   where
@@ -144,19 +144,20 @@ parameter_value w (Some name) u s fit below e complete c ends =
     let n = with_name name (Automatic (next_slot s) (Some u)) s in
     let same : l ≡ layout_of_base s.structures u.base = ap (λ z. arrays_of z (layout_of_base s.structures u.base)) e in
     let slot = next_there w n l ends in
-    let fit_n = fits_name w s name (Automatic (next_slot s) (Some u)) fit (slot, complete) in
+    let object = subst (IsTypeIn w.structures) (sym same) (base_object w s u.base fit c complete) in
+    let fit_n = fits_name w s name (Automatic (next_slot s) (Some u)) fit (slot, complete, object) in
     record {
       kinds = ByValue u.base ∷ [];
       are = refl;
       complete = (complete, tt);
       objects = (
-        record { object_type = l; cells = cells l; start = start_at most_frame_cells s.frame } ∷ [],
+        record { object_type = l; cells = counted (cells l); start = start_at most_frame_cells s.frame } ∷ [],
         refl,
         ap (λ z. z ∷ []) same ∙ kept_base w s u.base c complete,
       );
       arrays = no_more s.arrays;
       elements = tt;
-      fits = fits_object w n l fit_n (subst (IsObjectType (objects_of w)) (sym same) (base_object w s u.base fit c complete));
+      fits = fits_object w n l fit_n object;
       below = below_append (length s.statics) s.names _ below (tt, tt);
     }
   where
@@ -193,7 +194,7 @@ array_numbered w s e a =
 
 parameter_array : (w : World) (name : Option Name) (v e : CType) (s : Scope) → Fits w s
     → AreBelow (length s.statics) s.names → is_complete s.structures e.base ≡ true
-    → Completes s.structures w.structures → IsObjectType (objects_of w) (layout_of s.structures e)
+    → Completes s.structures w.structures → IsTypeIn w.structures (layout_of s.structures e)
     → ArraysEnd w s (Some (ByArray e) ∷ [])
     → AreParametersFound w s (entered_as name (Some v) (Some (ByArray e)) s)
 parameter_array w None v e s fit below complete c object a = record {
@@ -202,7 +203,7 @@ parameter_array w None v e s fit below complete c object a = record {
   complete = (complete, tt);
   objects = ([], sym (right_nil s.objects), refl);
   arrays = array_numbered w s e a;
-  elements = (subst (IsObjectType (objects_of w)) (layout_kept s.structures w.structures e c complete) object, tt);
+  elements = (subst (IsTypeIn w.structures) (layout_kept s.structures w.structures e c complete) object, tt);
   fits = with_array_fits w s fit;
   below = below;
 }
@@ -214,8 +215,8 @@ parameter_array w (Some name) v e s fit below complete c object a =
       complete = (complete, tt);
       objects = ([], sym (right_nil s.objects), refl);
       arrays = array_numbered w s e a;
-      elements = (subst (IsObjectType (objects_of w)) (layout_kept s.structures w.structures e c complete) object, tt);
-      fits = with_array_fits w n (fits_name w s name (Borrowed s.arrays e) fit (array_there w s e c complete a, complete));
+      elements = (subst (IsTypeIn w.structures) (layout_kept s.structures w.structures e c complete) object, tt);
+      fits = with_array_fits w n (fits_name w s name (Borrowed s.arrays e) fit (array_there w s e c complete a, complete, object));
       below = below_append (length s.statics) s.names _ below (tt, tt);
     }
 
@@ -346,7 +347,8 @@ values_append (t.NumberParameter a ∷ ps) qs = ap (λ l. Scalar a ∷ l) (value
 values_append (t.StructureParameter u ∷ ps) qs = ap (λ l. u ∷ l) (values_append ps qs)
 values_append (t.ArrayParameter u ∷ ps) qs = values_append ps qs
 
-types_append : (all us vs : List ObjectType) → AreObjectTypes all us → AreObjectTypes all vs → AreObjectTypes all (us ++ vs)
+types_append : (all : List Structure) (us vs : List ObjectType) → AreTypesIn all us → AreTypesIn all vs
+    → AreTypesIn all (us ++ vs)
 types_append all [] vs h k = k
 types_append all (u ∷ us) vs h k = (h.0, types_append all us vs h.1 k)
 
@@ -424,7 +426,7 @@ list_well w (tree.parameters p rest) s fit below ends a h =
       arrays = fy.arrays ∙ ap (λ m. m + length ys) fx.arrays
           ∙ sum_is s.arrays (length xs) (length ys)
           ∙ ap (λ m. s.arrays + m) (sym (ap length split ∙ length-append xs ys));
-      elements = subst (AreObjectTypes (objects_of w)) (sym split) (types_append (objects_of w) xs ys fx.elements fy.elements);
+      elements = subst (AreTypesIn w.structures) (sym split) (types_append w.structures xs ys fx.elements fy.elements);
       fits = fy.fits;
       below = fy.below;
     }

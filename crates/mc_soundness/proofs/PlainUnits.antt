@@ -3,10 +3,9 @@ use Rattle.std.proofs.Common.{◌≡◌, ℕ, ℤ, false, List, [], ◌∷◌, �
 use Rattle.mc_span.specs.declared.span.Span.{Span}
 use Rattle.mc_tree.specs.Tree.{Name, Expression, Expressions, Statement, BlockItems, ForStart, Item, span_of}
 use Rattle.mc_tree.specs.Tree as tree
-use Rattle.mc_typed.specs.Layout.{cells}
 use Rattle.mc_typed.specs.Tree.{Declarator, Effect, Statements}
 use Rattle.mc_typed.specs.Tree as t
-use Rattle.mc_typing.specs.Types.{Base, Void, Integer, Tagged, plain, Structure, layout_of, Signature}
+use Rattle.mc_typing.specs.Types.{Base, Void, Integer, Tagged, plain, Structure, cells_of, Signature}
 use Rattle.mc_typing.specs.Scopes.{Scope, block, prototype, body_scope, file_scope}
 use Rattle.mc_typing.specs.Values.{Judged, Value, Number, Stored, Borrowed, Returned, Done, Assigned, Designator, number_in, structure_in, number_found, effect_in, whole, lift2, lift3}
 use Rattle.mc_typing.specs.Constants.{constant_found}
@@ -112,7 +111,7 @@ return_plain all (Some (Integer a)) v h =
     (λ e p. convert_plain a e p.1) (number_plain v h)
 return_plain all (Some (Tagged k)) v h =
     map_where IsPlainStructure IsPlainReturn
-    (λ w. t.ReturnStructure w (cells (layout_of all (plain (Tagged k))))) (structure_in k v) (λ w p. p)
+    (λ w. t.ReturnStructure w (cells_of all (plain (Tagged k)))) (structure_in k v) (λ w p. p)
     (structure_plain k v h)
 return_plain all (Some Void) v h = tt
 return_plain all None v h = tt

@@ -14,11 +14,12 @@ use Rattle.mc_value.specs.declared.int_type.IntType.{IntType}
 use Rattle.mc_value.specs.declared.int_type.IntType.TheVariants as the
 use Rattle.mc_value.specs.IntTypes.{in_range}
 use Rattle.mc_value.specs.Conversions.{promoted, common_of}
-use Rattle.mc_typed.specs.Layout.{cells, start}
+use Rattle.mc_typed.specs.Layout.{start}
 use Rattle.mc_typed.specs.Sound.{type_of}
 use Rattle.mc_typed.specs.Tree.{Place, StructureValue, Arguments, Effect}
 use Rattle.mc_typed.specs.Tree as t
-use Rattle.mc_typing.specs.Types.{Base, Void, Integer, Tagged, CType, plain, Structure, Member, members_of, layout_of, same_integer, is_complete, ParameterKind, ByValue, ByArray}
+use Rattle.mc_typing.specs.Profile.{counted}
+use Rattle.mc_typing.specs.Types.{Base, Void, Integer, Tagged, CType, plain, Structure, Member, members_of, cells_of, same_integer, is_complete, ParameterKind, ByValue, ByArray}
 use Rattle.mc_typing.specs.Scopes.{Meaning, Automatic, Constant, Function, Typedef, Scope, meaning_of, function_number, is_input, is_output, next_slot}
 use Rattle.mc_typing.specs.Scopes as scope
 use Rattle.mc_typing.specs.Values.{Value, Number, Stored, Borrowed, Returned, Done, Assigned, Designator, Kind, IsVoid, IsAssignment, IsInteger, IsStructure, IsArray, IsFunction, kind_of, Found, number_stored, number_in, structure_stored, structure_in, any_structure_in, number_found, value_effect, discarded_in, lift2}
@@ -197,7 +198,7 @@ stored_member_plain all name span place u [] (Tagged k) h =
   where
     by_type : (members : List Member) (k : ℕ) (type : Option CType)
         → WhereSome IsPlainValue (option_map
-        (λ v. Stored (t.Member place k (start (layouts_of members) k) span) (member_type u.is_const v)) type)
+        (λ v. Stored (t.Member place (counted k) (counted (start (layouts_of members) k)) span) (member_type u.is_const v)) type)
     by_type members k None = tt
     by_type members k (Some v) = h
 
@@ -334,7 +335,7 @@ assign_plain all span v place (Integer a) [] h k =
     map_where IsTested IsPlainEffect (λ e. t.Assign place a (convert_to a e) span) (number_in v) (λ e p. (k, convert_plain a e p.1)) (number_plain v h)
 assign_plain all span v place (Tagged n) [] h k =
     map_where IsPlainStructure IsPlainEffect
-    (λ w. t.Copy place w (cells (layout_of all (plain (Tagged n)))) span) (structure_in n v) (λ w p. (k, p)) (structure_plain n v h)
+    (λ w. t.Copy place w (cells_of all (plain (Tagged n))) span) (structure_in n v) (λ w p. (k, p)) (structure_plain n v h)
 assign_plain all span v place Void ls h k = tt
 assign_plain all span v place (Integer a) (n ∷ ns) h k = tt
 assign_plain all span v place (Tagged n) (m ∷ ms) h k = tt

@@ -8,14 +8,13 @@ use Rattle.mc_value.specs.declared.int_type.IntType.TheVariants as the
 use Rattle.mc_value.specs.Conversions.{promoted, converted}
 use Rattle.mc_value.specs.Arithmetic.{are_equal}
 use Rattle.mc_value.proofs.Wrapping.{converted_within}
-use Rattle.mc_typed.specs.Layout.{cells}
 use Rattle.mc_typed.specs.Tree.{Effect, Statement, Statements, Declarator, Object}
 use Rattle.mc_typed.specs.Tree as t
 use Rattle.mc_typed.specs.Frames.{slots_effect, slots_effects, slots_start, slots_optional, slots_statement, slots_statements}
 use Rattle.mc_typed.specs.Sound.{type_of, IsExpression, IsEffect, AreClauses, IsStart, IsTest, IsReturn, IsLabel, IsStatement, AreStatements, AreDeclarators, labels_of, Lacks, Differ, slots_from}
 use Rattle.mc_typed.specs.Sound as sound
 use Rattle.mc_faults.specs.declared.fault.FaultKind.TheVariants.{Mismatch, DuplicateLabel}
-use Rattle.mc_typing.specs.Types.{Base, Void, Integer, Tagged, plain, layout_of}
+use Rattle.mc_typing.specs.Types.{Base, Void, Integer, Tagged, plain, layout_of, cells_of}
 use Rattle.mc_typing.specs.Scopes.{Labels, Scope}
 use Rattle.mc_typing.specs.Values.{Judged, Found, Kind, kind_found, is_integer, is_effect, fails, integer_faults, number_found, effect_in, whole, lift3}
 use Rattle.mc_typing.specs.Constants.{constant_found, constant_faults}
@@ -30,7 +29,8 @@ use Rattle.mc_soundness.specs.Blocks.{StartsWithNoFunction}
 use Rattle.mc_soundness.specs.Fits.{World, Completes, Fits, Ends, Made, IsWell, LabelsGo, LabelsFit, IsRun, IsOne}
 use Rattle.mc_soundness.proofs.Lists.{right_nil}
 use Rattle.mc_soundness.proofs.Tests.{nil_left, nil_right, no_fault, none_some, and_then_some, lift2_some}
-use Rattle.mc_soundness.proofs.Fitting.{layout_kept, made_none, made_as, made_two, ends_back}
+use Rattle.mc_soundness.proofs.Sizes.{cells_exact}
+use Rattle.mc_soundness.proofs.Fitting.{layout_kept, structure_type_fits, made_none, made_as, made_two, ends_back}
 use Rattle.mc_soundness.proofs.Values.{converts, numbers, structures, effects, known_kind, finds_number}
 use Rattle.mc_soundness.proofs.Expressions.{promotes}
 use Rattle.mc_soundness.proofs.Types.{constant_well}
@@ -541,13 +541,15 @@ return_well w v s result b span x is r wx c below l h =
         let n = structures w x.scope.structures k wx.value
         (known_kind (fits (Tagged k)) x.value wx.value wx.is (no_fault _ Mismatch span.start h)) wx.sound in
         let all = x.scope.structures in
-        let value = t.ReturnStructure n.structure (cells (layout_of all (plain (Tagged k)))) in
+        let value = t.ReturnStructure n.structure (cells_of all (plain (Tagged k))) in
+        let exact = cells_exact w.structures (layout_of all (plain (Tagged k)))
+        (structure_type_fits w all k wx.fits.structures c n.complete) in
         let same = layout_kept all w.structures (plain (Tagged k)) c n.complete in
         alone_well w v s (return_judged (Some (Tagged k)) span x) (t.Return value span)
         (ap (option_map (λ v. alone (t.Return v span)))
         (and_then_some (return_value all (Some (Tagged k))) x.value wx.value wx.is
-        ∙ ap (option_map (λ z. t.ReturnStructure z (cells (layout_of all (plain (Tagged k)))))) n.is))
-        (subst (λ z. IsReturn value z w.scope) (sym (r ∙ ap t.StructureResult (sym same))) (n.sound, n.type, refl))
+        ∙ ap (option_map (λ z. t.ReturnStructure z (cells_of all (plain (Tagged k))))) n.is))
+        (subst (λ z. IsReturn value z w.scope) (sym (r ∙ ap t.StructureResult (sym same))) (n.sound, n.type, exact))
         (made_as s x.scope _ _ (sym n.slots) wx.made) wx.fits below l refl
 
 pub return_nothing_well : (w : World) (v : sound.Around) (s : Scope) (result : Option Base) (b : Base)

@@ -12,6 +12,7 @@ use Rattle.mc_faults.specs.declared.fault.Fault.{Fault}
 use Rattle.mc_faults.specs.declared.fault.FaultKind.TheVariants.{Mismatch}
 use Rattle.mc_faults.specs.Faults.{fault_if}
 use Rattle.mc_limits.specs.Limits.{most_static_cells}
+use Rattle.mc_typing.specs.Profile.{counted, most_counted}
 use Rattle.mc_typing.specs.Types.{Base, CType, Structure, Incomplete, Complete, Faulty, structure_from, structures_from, Signature}
 use Rattle.mc_typing.specs.Scopes.{Entry, Scope, file_scope, meaning_here, prototype, body_scope, left_function}
 use Rattle.mc_typing.specs.Values.{Judged, lift2}
@@ -38,6 +39,7 @@ use Rattle.mc_soundness.proofs.Stages.{place_of, get_within, stage, stage_ends, 
 use Rattle.mc_soundness.proofs.FileScope.{specifiers_stand, type_known, parameters_known, signature_known, result_known, function_named, declaration_stands}
 use Rattle.mc_soundness.proofs.Accepted.{body_inside, first_item_inside, later_items_inside}
 use Rattle.mc_soundness.proofs.Numbered.{arrays_numbered}
+use Rattle.mc_soundness.proofs.Sizes.{counted_small}
 use Rattle.mc_soundness.proofs.Defined.{body_of, body_later, definition_runs, definition_stands, frame_numbered, world_of, IsIn, parameter_types_kept, result_kept, laid_out, IsDefined, complete_there, incomplete_kept, function_sound}
 
 -- ---- functions and their types
@@ -322,13 +324,15 @@ unit_typed items inside h =
 
 program_inside : (items : List Item)
     → (u : IsUnit (file_scope (bodies_of items)) (bodies_of items) (found_of items))
+    → length (found_of items).scope.structures ≤ most_counted
     → IsIn (found_of items).scope (program_from (found_of items).scope u.value)
-program_inside items u =
+program_inside items u types_few =
     let end = (found_of items).scope in
     let p = program_from end u.value in
     record {
       structures = refl;
       statics = refl;
+      few = types_few;
       functions = λ os us r few name f b h. record {
         defined = λ k q. fits os us r few name f b h k (place_of name end.bodies k q);
         input = λ n e q. u.stands.agree.input name f b n h e q;
@@ -359,18 +363,26 @@ static_sum (o ∷ os) =
     sum_by-cons (λ (n : ℕ). n) o.object.cells (map (λ (x : StaticObject). x.object.cells) os)
     ∙ ap (λ n. o.object.cells + n) (static_sum os)
 
+structures_length : (k : ℕ) (all : List Structure) → length (structures_from k all) ≡ length all
+structures_length k [] = refl
+structures_length k (x ∷ rest) = ap suc (structures_length (k + 1) rest)
+
 structures_are : (w : World) (all : List Structure) (k : ℕ) (rest : List Structure)
+    → length w.structures ≤ most_counted → k + length rest ≤ length w.structures
     → ((j : ℕ) (x : Structure) → slice_get rest j ≡ Some x
     → StructureFits w all x × (slice_get (objects_of w) (k + j) ≡ Some (structure_from (k + j) x)))
     → AreStructures (objects_of w) k (structures_from k rest)
-structures_are w all k [] h = tt
-structures_are w all k (x ∷ rest) h =
+structures_are w all k [] few last h = tt
+structures_are w all k (x ∷ rest) few last h =
     by_structure x (h 0 x refl).0 here
-    (structures_are w all (k + 1) rest (λ j y q.
+    (structures_are w all (k + 1) rest few (omega (arith, last)) (λ j y q.
     let f = h (suc j) y q in
     let e : k + suc j ≡ k + 1 + j = omega arith in
     (f.0, ap (slice_get (objects_of w)) (sym e) ∙ f.1 ∙ ap (λ n. Some (structure_from n y)) e)))
   where
+    exact : counted k ≡ k
+    exact = counted_small k (omega (arith, few, last))
+
     here : slice_get (objects_of w) k ≡ Some (structure_from k x)
     here =
         let e : k + 0 ≡ k = omega arith in
@@ -380,10 +392,24 @@ structures_are w all k (x ∷ rest) h =
         → slice_get (objects_of w) k ≡ Some (structure_from k x)
         → AreStructures (objects_of w) (k + 1) (structures_from (k + 1) rest)
         → AreStructures (objects_of w) k (structure_from k x ∷ structures_from (k + 1) rest)
-    by_structure (Complete ms) f there more =
-        (refl, record { formed = (there, f.formed); small = f.small; flat = omega (arith, f.flat) }, more)
-    by_structure (Incomplete b) f there more =
-        (refl, record { formed = (there, tt); small = omega arith; flat = omega arith }, more)
+    by_structure (Complete ms) f there more = (
+      exact,
+      record {
+        formed = (ap (slice_get (objects_of w)) exact ∙ there, f.formed few);
+        small = f.small;
+        flat = omega (arith, f.flat);
+      },
+      more,
+    )
+    by_structure (Incomplete b) f there more = (
+      exact,
+      record {
+        formed = (ap (slice_get (objects_of w)) exact ∙ there, tt);
+        small = omega arith;
+        flat = omega arith;
+      },
+      more,
+    )
     by_structure Faulty f there more = absurd f
 
 pub program_sound : (items : List Item)
@@ -394,7 +420,9 @@ pub program_sound : (items : List Item)
 program_sound items u functions_few statics_few structures_few =
     let end = (found_of items).scope in
     let p = program_from end u.value in
-    let inside = program_inside items u in
+    let count = structures_length 0 end.structures in
+    let types_few : length end.structures ≤ most_counted = omega (arith, count, structures_few) in
+    let inside = program_inside items u types_few in
     let few : AreNumbered [] [] = (omega arith, omega arith) in
     let w = world_of end p [] [] t.NoResult few in
     let ends : Ends w end = record {
@@ -409,10 +437,10 @@ program_sound items u functions_few statics_few structures_few =
     let room_from : 0 + total statics ≤ most_static_cells = omega (arith, room) in
     record {
       functions = u.sound end p (later_refl end) inside;
-      statics = laid_out most_static_cells w 0 statics fit.statics.laid room_from;
+      statics = laid_out most_static_cells w 0 statics types_few fit.statics.laid room_from;
       initial = fit.statics.initial;
       static_room = subst (λ n. n ≤ most_static_cells) (sym (static_sum end.statics)) room;
-      structures = structures_are w end.structures 0 end.structures
+      structures = structures_are w end.structures 0 end.structures types_few (last end.structures)
           (λ j x q. (fit.structures j x q, ap (slice_get (objects_of w)) (zero_plus j) ∙ get_structure 0 j end.structures x q));
       functions_few = functions_few;
       statics_few = statics_few;
@@ -421,6 +449,9 @@ program_sound items u functions_few statics_few structures_few =
   where
     zero_plus : (n : ℕ) → 0 + n ≡ n
     zero_plus n = omega arith
+
+    last : (all : List Structure) → 0 + length all ≤ length all
+    last all = omega arith
 
 pub units_typed : UnitsAreTyped
 units_typed items inside h =

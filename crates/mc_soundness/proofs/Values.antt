@@ -12,7 +12,7 @@ use Rattle.mc_typing.specs.Values.{Value, Number, Stored, Borrowed, Returned, Do
 use Rattle.mc_typing.specs.Initializers.{is_kind}
 use Rattle.mc_typing.specs.Expressions.{convert_to}
 use Rattle.mc_typing.specs.Scopes.{Scope}
-use Rattle.mc_soundness.specs.Fits.{World, Completes, IsSoundValue, slots_of, IsWell}
+use Rattle.mc_soundness.specs.Fits.{World, IsTypeIn, Completes, IsSoundValue, slots_of, IsWell}
 use Rattle.mc_soundness.proofs.Tests.{not_false, and_then_some}
 use Rattle.mc_soundness.proofs.IntTypes.{same_integers}
 use Rattle.mc_soundness.proofs.Fitting.{layout_kept, complete_kept}
@@ -311,10 +311,17 @@ effects w all Designator k h = absurd (cc)
 pub value_kept : (w : World) (all more : List Structure) (v : Value) → Completes all more
     → IsSoundValue w all v → IsSoundValue w more v
 value_kept w all more (Number e) c h = h
-value_kept w all more (Stored place u) c h =
-    (h.0, h.1 ∙ ap Some (layout_kept all more u c h.2), complete_kept all more u.base c h.2)
-value_kept w all more (Borrowed array u span) c h =
-    (h.0 ∙ ap Some (layout_kept all more u c h.1), complete_kept all more u.base c h.1)
+value_kept w all more (Stored place u) c h = (
+  h.0,
+  h.1 ∙ ap Some (layout_kept all more u c h.2),
+  complete_kept all more u.base c h.2,
+  subst (IsTypeIn w.structures) (layout_kept all more u c h.2) h.3,
+)
+value_kept w all more (Borrowed array u span) c h = (
+  h.0 ∙ ap Some (layout_kept all more u c h.1),
+  complete_kept all more u.base c h.1,
+  subst (IsTypeIn w.structures) (layout_kept all more u c h.1) h.2,
+)
 value_kept w all more (Returned k n) c h = (
   h.0,
   h.1 ∙ ap Some (layout_kept all more (plain (Tagged n)) c h.2),

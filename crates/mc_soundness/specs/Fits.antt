@@ -6,15 +6,16 @@ use Rattle.mc_value.specs.declared.int_type.IntType.{IntType}
 use Rattle.mc_value.specs.declared.int_type.IntType.TheVariants as the
 use Rattle.mc_value.specs.IntTypes.{InRange}
 use Rattle.mc_typed.specs.declared.expressions.Slot.{Slot}
-use Rattle.mc_typed.specs.Layout.{ObjectType, cells, cells_all, nesting_all, members_from, repeated, scalars, scalars_all}
+use Rattle.mc_typed.specs.Layout.{ObjectType, cells, cells_all, nesting, nesting_all, members_from, repeated, scalars, scalars_all}
+use Rattle.mc_typed.specs.Layout as layout
 use Rattle.mc_typed.specs.Tree.{Object, StaticObject, Effect, Arguments, Statement, Statements}
 use Rattle.mc_typed.specs.Tree as typed
 use Rattle.mc_typed.specs.Frames.{slots_place, slots, slots_call, slots_arguments, slots_effect, slots_initializer, slots_initializers, slots_declarators, slots_statements}
-use Rattle.mc_typed.specs.Sound.{IsSlotOf, place_type, structure_type, IsPlace, IsExpression, IsStructureCall, IsEffect, IsCast, AreArguments, IsInitializer, AreElements, AreMembers, AreDeclarators, AreStatements, labels_of, AreInRange, AreInitial, AreFormed, IsObjectType, parameters_at, result_at, AreObjectTypes, slots_from}
+use Rattle.mc_typed.specs.Sound.{IsSlotOf, place_type, structure_type, IsPlace, IsExpression, IsStructureCall, IsEffect, IsCast, AreArguments, IsInitializer, AreElements, AreMembers, AreDeclarators, AreStatements, labels_of, AreInRange, AreInitial, IsFormed, AreFormed, parameters_at, result_at, slots_from}
 use Rattle.mc_typed.specs.Sound as sound
 use Rattle.mc_limits.specs.Limits.{most_frame_cells, most_nesting, most_static_cells}
 use Rattle.mc_value.specs.ObjectTypes.{most_cells}
-use Rattle.mc_typing.specs.Profile.{most_numbered, start_at, most_summed}
+use Rattle.mc_typing.specs.Profile.{most_counted, most_numbered, start_at, most_summed}
 use Rattle.mc_typing.specs.Types.{Base, Tagged, CType, plain, Member, Structure, Incomplete, Complete, Faulty, is_complete, layout_of, structures_from, ParameterKind, ByValue, ByArray, Signature}
 use Rattle.mc_typing.specs.Scopes.{Entry, Labels, Meaning, Automatic, Constant, Function, Typedef, Scope, file_scope, place_from, is_input, is_output}
 use Rattle.mc_typing.specs.Scopes as scope
@@ -43,6 +44,31 @@ pub record World : Type 0 where
 abbrev pub objects_of : World → List ObjectType
 objects_of w = structures_from 0 w.structures
 
+-- ---- types of objects
+
+-- each array has an element at least
+abbrev mutual
+  pub IsFull : ObjectType → Type 0
+  IsFull (layout.Scalar a) = Unit {0}
+  IsFull (layout.Array n u) = (1 ≤ n) × IsFull u
+  IsFull (layout.Structure k ms) = AreFull ms
+
+  pub AreFull : layout.Members → Type 0
+  AreFull layout.no_members = Unit {0}
+  AreFull (layout.members u ms) = IsFull u × AreFull ms
+
+-- The type of an object in a program with these structure types. Their numbers are exact where they
+-- are few, which only a whole program shows.
+pub record IsTypeIn (all : List Structure) (u : ObjectType) : Type 0 where
+  pub formed : length all ≤ most_counted → IsFormed (structures_from 0 all) u
+  pub full : IsFull u
+  pub small : cells u ≤ most_cells
+  pub flat : nesting u ≤ most_nesting
+
+abbrev pub AreTypesIn : List Structure → List ObjectType → Type 0
+AreTypesIn all [] = Unit {0}
+AreTypesIn all (u ∷ us) = IsTypeIn all u × AreTypesIn all us
+
 -- ---- types
 
 -- what is complete stays so
@@ -67,7 +93,10 @@ MembersFit all (m ∷ ms) = MemberFits all m × MembersFit all ms
 
 pub record ListFits (w : World) (all : List Structure) (ms : List Member) : Type 0 where
   pub types : MembersFit all ms
-  pub formed : AreFormed (objects_of w) (members_from (map (λ m. m.layout) ms))
+  pub formed : length w.structures ≤ most_counted
+      → AreFormed (objects_of w) (members_from (map (λ m. m.layout) ms))
+  pub full : AreFull (members_from (map (λ m. m.layout) ms))
+  pub few : length ms ≤ most_counted
   pub small : cells_all (members_from (map (λ m. m.layout) ms)) ≤ most_cells
   pub flat : nesting_all (members_from (map (λ m. m.layout) ms)) < most_nesting
 
@@ -98,10 +127,13 @@ pub record SignatureFits (w : World) (name : List ℕ) (f : Signature) : Type 0 
 abbrev pub MeaningFits : World → List Structure → List ℕ → Meaning → Type 0
 MeaningFits w all name (Automatic slot (Some u)) =
     IsSlotOf w.scope.objects slot (layout_of all u) × (is_complete all u.base ≡ true)
+    × IsTypeIn w.structures (layout_of all u)
 MeaningFits w all name (scope.Stored slot (Some u)) =
     IsSlotOf w.scope.statics slot (layout_of all u) × (is_complete all u.base ≡ true)
+    × IsTypeIn w.structures (layout_of all u)
 MeaningFits w all name (scope.Borrowed array u) =
     (slice_get w.scope.arrays array ≡ Some (layout_of all u)) × (is_complete all u.base ≡ true)
+    × IsTypeIn w.structures (layout_of all u)
 MeaningFits w all name (Constant (Some v)) = InRange the.Int v
 MeaningFits w all name (Function (Some f) has_body) = SignatureFits w name f
 MeaningFits w all name (Typedef (Some u)) = ArePositive u.lengths
@@ -117,7 +149,7 @@ NamesFit w all (e ∷ es) = MeaningFits w all e.name e.meaning × NamesFit w all
 abbrev pub AreLaid : ℕ → World → ℕ → List Object → Type 0
 AreLaid most w n [] = Unit {0}
 AreLaid most w n (o ∷ os) =
-    IsObjectType (objects_of w) o.object_type × (o.cells ≡ cells o.object_type)
+    IsTypeIn w.structures o.object_type × (o.cells ≡ cells o.object_type)
     × (o.start ≡ start_at most n) × AreLaid most w (n + o.cells) os
 
 abbrev pub total : List Object → ℕ
@@ -160,9 +192,10 @@ abbrev pub IsSoundValue : World → List Structure → Value → Type 0
 IsSoundValue w all (Number e) = IsExpression e w.scope
 IsSoundValue w all (Stored place u) =
     IsPlace place w.scope × (place_type w.scope place ≡ Some (layout_of all u))
-    × (is_complete all u.base ≡ true)
+    × (is_complete all u.base ≡ true) × IsTypeIn w.structures (layout_of all u)
 IsSoundValue w all (Borrowed array u span) =
     (slice_get w.scope.arrays array ≡ Some (layout_of all u)) × (is_complete all u.base ≡ true)
+    × IsTypeIn w.structures (layout_of all u)
 IsSoundValue w all (Returned c k) =
     IsStructureCall c w.scope
     × (structure_type w.scope (typed.Returned c) ≡ Some (layout_of all (plain (Tagged k))))
@@ -385,6 +418,6 @@ pub record AreParametersFound (w : World) (s : Scope) (x : Listed (Option Parame
   pub objects : (os : List Object) × (x.scope.objects ≡ s.objects ++ os)
       × (map (λ o. o.object_type) os ≡ sound.values_of (map (parameter_type w.structures) kinds))
   pub arrays : x.scope.arrays ≡ s.arrays + length (arrays_in w.structures x.items)
-  pub elements : AreObjectTypes (objects_of w) (arrays_in w.structures x.items)
+  pub elements : AreTypesIn w.structures (arrays_in w.structures x.items)
   pub fits : Fits w x.scope
   pub below : AreBelow (length x.scope.statics) x.scope.names

@@ -8,7 +8,7 @@ use Rattle.mc_typed.specs.Sound as sound
 use Rattle.mc_typed.specs.Tree.{Function, Program}
 use Rattle.mc_subset.specs.Nodes.{nodes_of_unit}
 use Rattle.mc_subset.specs.Forms.{first_outside}
-use Rattle.mc_typing.specs.Types.{CType, is_complete, any_is_no_word}
+use Rattle.mc_typing.specs.Types.{CType, is_complete, layout_of, any_is_no_word}
 use Rattle.mc_typing.specs.Scopes.{Scope}
 use Rattle.mc_typing.specs.Judgement.{judge, judge_specifiers, judge_parameter_list}
 use Rattle.mc_typing.specs.Initializers.{judge_initializer}
@@ -18,7 +18,7 @@ use Rattle.mc_typing.specs.Typing.{HasTyping, IsTypingOf, typing_of}
 use Rattle.mc_soundness.specs.Growth.{AreBelow}
 use Rattle.mc_soundness.specs.Blocks.{BlockHasNoFunction}
 use Rattle.mc_soundness.specs.Plain.{IsPlainProgram}
-use Rattle.mc_soundness.specs.Fits.{World, Fits, Ends, IsWell, AreTyped, IsInitialized, IsAround, IsRun, ArraysEnd, AreParametersFound}
+use Rattle.mc_soundness.specs.Fits.{World, IsTypeIn, Fits, Ends, IsWell, AreTyped, IsInitialized, IsAround, IsRun, ArraysEnd, AreParametersFound}
 
 abbrev pub ExpressionsAreSound : Type 0
 ExpressionsAreSound =
@@ -34,7 +34,7 @@ SpecifiersAreSound =
 abbrev pub InitializersAreSound : Type 0
 InitializersAreSound =
     (w : World) (static : Bool) (u : CType) (i : Initializer) (s : Scope) → Fits w s
-    → is_complete s.structures u.base ≡ true
+    → is_complete s.structures u.base ≡ true → IsTypeIn w.structures (layout_of s.structures u)
     → Ends w (judge_initializer static (Some u) i s).scope
     → (judge_initializer static (Some u) i s).faults ≡ []
     → IsInitialized w static s u (judge_initializer static (Some u) i s)

@@ -31,8 +31,8 @@ pub fn expressions_are_sound()
     ensures specifiers { SpecifiersAreSound }
 {}
 
-/// An initializer without a fault is sound for its object, and has a value of its type for each
-/// cell of an object with static storage duration.
+/// An initializer without a fault, for the type of an object of the program, is sound for that
+/// object, and has a value of its type for each cell of an object with static storage duration.
 pub fn initializers_are_sound()
     ensures { InitializersAreSound }
 {}

@@ -1,6 +1,6 @@
 -- What is found of a definition and of a unit, from what is found of their parts: of the faults of
 -- each the least alone is kept.
-use Rattle.std.proofs.Common.{◌≡◌, ◌∙◌, ◌+◌, ◌<◌, ◌≤◌, ◌^◌, ℕ, false, List, [], ◌∷◌, Option, Some, None, option_map, take, length, map, subst, refl, sym, ap, arith}
+use Rattle.std.proofs.Common.{◌≡◌, ◌∙◌, ◌<◌, ◌≤◌, ◌^◌, ℕ, false, List, [], ◌∷◌, Option, Some, None, option_map, take, length, map, subst, refl, sym, ap, arith}
 use Rattle.std.proofs.lemmas.List.{length-take}
 use Rattle.mc_span.specs.declared.span.Span.{Span}
 use Rattle.mc_tree.specs.Tree as t
@@ -8,7 +8,7 @@ use Rattle.mc_tree.specs.Length.{of_item, token_count}
 use Rattle.mc_typed.specs.Tree.{Function, Statements}
 use Rattle.mc_faults.specs.declared.fault.Fault.{Fault}
 use Rattle.mc_faults.specs.Faults.{least_of}
-use Rattle.mc_typing.specs.Types.{CType, ParameterKind, Structure, structures_from}
+use Rattle.mc_typing.specs.Types.{CType, ParameterKind}
 use Rattle.mc_typing.specs.Scopes.{Entry, Scope, prototype}
 use Rattle.mc_typing.specs.Values.{Judged}
 use Rattle.mc_typing.specs.Declarators.{Listed}
@@ -20,7 +20,6 @@ use Rattle.mc_typing.specs.Typing.{IsFirstFaultOf, IsTypingOf, faults_of, found_
 use Rattle.mc_faults.proofs.Leasts.{least_is_first, no_least}
 use Rattle.mc_soundness.specs.Laws.{IsAccepted}
 use Rattle.mc_soundness.proofs.Units.{units_typed}
-use Rattle.mc_soundness.proofs.Counts.{units_are_few}
 use Rattle.mc_scopes.specs.Blocks.{Around, around}
 use Rattle.mc_faults.specs.Kept.{listed, least}
 use Rattle.mc_scopes.specs.steps.Squeezed.{squeezed_part}
@@ -136,22 +135,6 @@ typed_value items x inside e none h =
 counted : {A B : Type 0} (f : A → B) (xs : List A) → length (map f xs) ≡ length xs
 counted f [] = refl
 counted f (x ∷ xs) = omega (arith, counted f xs)
-
-types_counted : (k : ℕ) (xs : List Structure) → length (structures_from k xs) ≡ length xs
-types_counted k [] = refl
-types_counted k (x ∷ xs) = omega (arith, types_counted (k + 1) xs)
-
--- a unit with a typing has fewer structure types than tokens
-pub few_structures : {A : Type 0} (items : List t.Item) (s : Scope) (functions : List Function)
-    (f : A → Structure) (xs : List A) → s.structures ≡ map f xs
-    → IsTypingOf items (program_from s functions) → token_count items < 2 ^ 31
-    → length xs < 2 ^ 32
-few_structures items s functions f xs e typed short =
-    let few = (units_are_few items (program_from s functions) typed short).structures in
-    let a = types_counted 0 s.structures in
-    let b : length s.structures ≡ length (map f xs) = ap length e in
-    let c = counted f xs in
-    omega (arith, few, a, b, c)
 
 -- an item stands for a token at least
 item_counted : (i : t.Item) → 1 ≤ of_item i

@@ -132,7 +132,7 @@ fn list<'a>(
 {
     let parts = mc_statements::parts(alloc, scope, of, trees.len())?;
     let found = items(alloc, scope, is_static, &parts, trees)?;
-    mc_statements::list_initializer(scope, of, span.start, count_of(trees), found)
+    Ok(mc_statements::list_initializer(scope, of, span.start, count_of(trees), found))
 }
 
 /// The items of a list, which are for these parts.

@@ -11,7 +11,7 @@ use Rattle.mc_typed.specs.Tree as typed
 use Rattle.mc_faults.specs.declared.fault.Fault.{Fault}
 use Rattle.mc_faults.specs.declared.fault.FaultKind.TheVariants.{Redeclared, Mismatch}
 use Rattle.mc_faults.specs.Faults.{fault, fault_if, unless_faulty}
-use Rattle.mc_typing.specs.Profile.{most_kept}
+use Rattle.mc_typing.specs.Profile.{counted, most_kept}
 use Rattle.mc_typing.specs.Types.{Base, Void, Integer, CType, has, layout_of, ParameterKind, ByValue, Signature, same_signature}
 use Rattle.mc_typing.specs.Scopes.{Meaning, Automatic, Stored, Function, Typedef, Scope, meaning_here, is_input, is_output, with_name, next_slot, next_static, with_counted, cells_counted, uncounted, with_static, prototype}
 use Rattle.mc_typing.specs.Values.{Judged, judged, judged_two, lift2}
@@ -79,7 +79,7 @@ counted_after (f ∷ fs) n s = uncounted n s
 abbrev pub declarator_value : Slot → Option ObjectType → Option (Option typed.Initializer)
     → Option (List Declarator)
 declarator_value slot (Some layout) (Some value) =
-    Some (record { slot = slot; cells = cells layout; value = value } ∷ [])
+    Some (record { slot = slot; cells = counted (cells layout); value = value } ∷ [])
 declarator_value slot _ _ = None
 
 -- The name is in scope in its initializer (C17 6.2.1p7), and the object stands before those that
@@ -103,7 +103,7 @@ automatic_judged faults name lengths base u value s =
 
 -- the values of all cells, 0 without an initializer (C17 6.7.9p10)
 abbrev pub initial_values : ObjectType → Option typed.Initializer → List ℤ
-initial_values layout None = filled (cells layout) []
+initial_values layout None = filled (counted (cells layout)) []
 initial_values layout (Some i) = values_of i
 
 -- an object without a fault counts among those with static storage duration

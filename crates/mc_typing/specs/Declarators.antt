@@ -16,7 +16,7 @@ use Rattle.mc_typing.specs.Types.{Tagged, CType, plain, int, Member, Structure, 
 use Rattle.mc_typing.specs.Scopes.{Meaning, Automatic, Borrowed, Constant, Typedef, TagMeaning, StructureTag, EnumerationTag, Scope, meaning_here, tag_of, tag_here, is_external, with_name, with_tag, with_structure, with_structure_at, next_slot, with_object, with_array}
 use Rattle.mc_typing.specs.Values.{Judged, judged, judged_two, Found, part, number_found, lift2, lift3}
 use Rattle.mc_typing.specs.Constants.{value_of_constant, constant_found, constant_faults}
-use Rattle.mc_typing.specs.Limits.{object_limit_faults, member_limit_faults}
+use Rattle.mc_typing.specs.Limits.{object_limit_faults, member_count_faults, member_limit_faults}
 
 -- what is found of a list whose items are there in any case
 pub record Listed (A : Type 0) : Type 0 where
@@ -256,7 +256,8 @@ declared_member_faults name lengths base u members all =
     fault_if (has_member name.text members) Redeclared name.span.start
     ++ (absent_faults lengths None name.span.start
     ++ (incomplete_faults all base name.span.start
-    ++ member_limit_faults (cells_of_members members) all u name.span.start))
+    ++ (member_limit_faults (cells_of_members members) all u name.span.start
+    ++ member_count_faults (length members) name.span.start)))
 
 abbrev pub with_member : Name → Option CType → List Member → List Structure → List Member
 with_member name u members all =

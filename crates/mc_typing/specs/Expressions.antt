@@ -22,14 +22,15 @@ use Rattle.mc_value.specs.Conversions.{promoted, common_of}
 use Rattle.mc_typed.specs.declared.operators.Operator.{Operator}
 use Rattle.mc_typed.specs.declared.operators.Operator.TheVariants.{Binary, Shift}
 use Rattle.mc_typed.specs.declared.operators.LogicOperator.TheVariants.{And, Or}
-use Rattle.mc_typed.specs.Layout.{Members, cells, members_from, start}
+use Rattle.mc_typed.specs.Layout.{Members, members_from, start}
 use Rattle.mc_typed.specs.Sound.{type_of}
 use Rattle.mc_typed.specs.Tree.{Place, Effect}
 use Rattle.mc_typed.specs.Tree as typed
 use Rattle.mc_faults.specs.declared.fault.Fault.{Fault}
 use Rattle.mc_faults.specs.declared.fault.FaultKind.TheVariants.{Undeclared, Mismatch}
 use Rattle.mc_faults.specs.Faults.{fault, fault_if}
-use Rattle.mc_typing.specs.Types.{Base, Void, Integer, Tagged, CType, Structure, Member, members_of, plain, layout_of, same_integer}
+use Rattle.mc_typing.specs.Profile.{counted}
+use Rattle.mc_typing.specs.Types.{Base, Void, Integer, Tagged, CType, Structure, Member, members_of, plain, cells_of, same_integer}
 use Rattle.mc_typing.specs.Scopes.{Meaning, Automatic, Constant, Function, Typedef, Scope, meaning_of, later_or}
 use Rattle.mc_typing.specs.Scopes as scope
 use Rattle.mc_typing.specs.Values.{Judged, Value, Number, Stored, Borrowed, Done, Assigned, Designator, Kind, IsVoid, IsInteger, IsStructure, Found, kind_found, is_integer, is_array, is_structure, fails, integer_faults, discarded_faults, number_in, number_found, discarded_in, lift2, judged_one, judged_two, judged_three, part, found, kind_of, structure_in}
@@ -118,12 +119,12 @@ abbrev pub stored_element : List Structure → Place → CType → List ℕ → 
 stored_element all place u [] e span = None
 stored_element all place u (n ∷ ns) e span =
     let element = record u { lengths = ns } in
-    Some (Stored (typed.Item place n (cells (layout_of all element)) e span) element)
+    Some (Stored (typed.Item place n (cells_of all element) e span) element)
 
 abbrev pub element_of : List Structure → Span → Value → typed.Expression → Option Value
 element_of all span (Stored place u) e = stored_element all place u u.lengths e span
 element_of all span (Borrowed array u name) e =
-    Some (Stored (typed.Parameter array (cells (layout_of all u)) e span) u)
+    Some (Stored (typed.Parameter array (cells_of all u) e span) u)
 element_of all span _ e = None
 
 abbrev pub index_value : List Structure → Span → Option Value → Option typed.Expression
@@ -170,8 +171,8 @@ layouts_of members = members_from (map (λ m. m.layout) members)
 abbrev pub member_at : List Member → Place → Bool → Span → Selected → Option Value
 member_at members place b span one =
     option_map
-    (λ u. Stored (typed.Member place one.number
-    (start (layouts_of members) one.number) span) (member_type b u))
+    (λ u. Stored (typed.Member place (counted one.number)
+    (counted (start (layouts_of members) one.number)) span) (member_type b u))
     one.member.member_type
 
 abbrev pub stored_member : List Structure → Name → Span → Place → CType → List ℕ → Base
@@ -402,7 +403,7 @@ assign_effect all span v place (Integer a) [] =
     option_map (λ e. typed.Assign place a (convert_to a e) span) (number_in v)
 assign_effect all span v place (Tagged k) [] =
     option_map
-    (λ value. typed.Copy place value (cells (layout_of all (plain (Tagged k)))) span)
+    (λ value. typed.Copy place value (cells_of all (plain (Tagged k))) span)
     (structure_in k v)
 assign_effect all span v place _ _ = None
 

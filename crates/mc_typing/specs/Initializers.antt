@@ -3,12 +3,11 @@ use Rattle.std.specs.Prelude.{ℕ, ◌+◌, ◌-◌, ◌==◌, nat_lt, ℤ, pos,
 use Rattle.mc_tree.specs.Tree.{Expression, Initializer, Initializers, span_of}
 use Rattle.mc_tree.specs.Tree as tree
 use Rattle.mc_typed.specs.Constants.{constant_value}
-use Rattle.mc_typed.specs.Layout.{cells}
 use Rattle.mc_typed.specs.Tree as typed
 use Rattle.mc_faults.specs.declared.fault.Fault.{Fault}
 use Rattle.mc_faults.specs.declared.fault.FaultKind.TheVariants.{Mismatch}
 use Rattle.mc_faults.specs.Faults.{fault, fault_if}
-use Rattle.mc_typing.specs.Types.{Base, Void, Integer, Tagged, CType, Member, Structure, members_of, layout_of}
+use Rattle.mc_typing.specs.Types.{Base, Void, Integer, Tagged, CType, Member, Structure, members_of, cells_of}
 use Rattle.mc_typing.specs.Scopes.{Scope}
 use Rattle.mc_typing.specs.Values.{Judged, judged, judged_one, judged_two, Value, Kind, IsStructure, Found, part, kind_found, is_integer, fails, number_in, structure_in, number_found, lift2}
 use Rattle.mc_typing.specs.Constants.{constant_found, constant_faults, is_zero_constant}
@@ -82,9 +81,6 @@ item_faults static (StructureTarget n members) at k =
 abbrev pub static_faults : Bool → ℕ → Bool → Option typed.Expression → List Fault
 static_faults true at constant e = constant_faults at constant e
 static_faults false at constant e = []
-
-abbrev pub cells_of : List Structure → CType → ℕ
-cells_of all u = cells (layout_of all u)
 
 abbrev pub scalar_value : Base → Value → Option typed.Initializer
 scalar_value (Integer a) v = option_map (λ e. typed.NumberInitializer (convert_to a e))

@@ -6,7 +6,7 @@ use Rattle.mc_typed.specs.Layout.{ObjectType, cells, nesting}
 use Rattle.mc_faults.specs.declared.fault.Fault.{Fault}
 use Rattle.mc_faults.specs.declared.fault.FaultKind.TheVariants.{Limit}
 use Rattle.mc_faults.specs.Faults.{fault_if}
-use Rattle.mc_typing.specs.Profile.{most_numbered}
+use Rattle.mc_typing.specs.Profile.{most_counted, most_numbered}
 use Rattle.mc_typing.specs.Types.{CType, Structure, is_complete, layout_of}
 
 -- an array has at most so many elements as an object has cells, whatever they are
@@ -41,6 +41,10 @@ abbrev pub member_limit_faults : ℕ → List Structure → Option CType → ℕ
 member_limit_faults before all None at = []
 member_limit_faults before all (Some u) at =
     fault_if (is_long u.lengths || is_large_member before (layout_of all u)) Limit at
+
+-- a member without a number, which a source of 1,048,576 bytes is too short for
+abbrev pub member_count_faults : ℕ → ℕ → List Fault
+member_count_faults count at = fault_if (nat_le most_counted count) Limit at
 
 -- the first object with which all objects with static storage duration pass the limit, and one that
 -- has no number, which a source of 1,048,576 bytes is too short for: this part never decides there

@@ -1,7 +1,7 @@
 -- The numbers of this profile of which only the rules of names and types speak. The others stand in
 -- mc_limits, and the cells of an object in mc_value. An implementation may have such limits, but C17
 -- 5.2.4.1 asks for 127 parameters.
-use Rattle.std.specs.Prelude.{◌≡◌, ℕ, ◌+◌, ◌<◌, nat_le, if◌then◌else◌}
+use Rattle.std.specs.Prelude.{◌≡◌, ℕ, ◌+◌, ◌<◌, min, nat_le, if◌then◌else◌}
 use Rattle.mc_limits.specs.Limits.{most_nesting}
 use Rattle.mc_value.specs.ObjectTypes.{most_cells}
 
@@ -21,6 +21,14 @@ start_at most before = if nat_le before most then before else most
 -- Objects and array parameters have numbers of 32 bits, and each list of them at most so many.
 abbrev pub most_numbered : ℕ
 most_numbered = 4294967295
+
+-- The cells of a type, the cells before a member, and the numbers of members and of structure types
+-- are counted up to 2 ^ 32 - 1: a unit that has a typing has no more of them.
+abbrev pub most_counted : ℕ
+most_counted = 4294967295
+
+abbrev pub counted : ℕ → ℕ
+counted n = min n most_counted
 
 -- Cells in all are counted up to 2 ^ 64 - 1, for the same reason.
 abbrev pub most_summed : ℕ

@@ -6,7 +6,7 @@ use Rattle.mc_value.specs.declared.int_type.IntType.{IntType}
 use Rattle.mc_typed.specs.declared.expressions.Slot.{Slot}
 use Rattle.mc_typed.specs.Layout.{ObjectType, cells}
 use Rattle.mc_typed.specs.Tree.{Object, StaticObject}
-use Rattle.mc_typing.specs.Profile.{most_numbered, start_at, sum_of}
+use Rattle.mc_typing.specs.Profile.{counted, most_numbered, start_at, sum_of}
 use Rattle.mc_typing.specs.Types.{CType, Structure, Signature}
 
 -- ---- what names mean
@@ -171,10 +171,10 @@ abbrev pub with_object : ObjectType → Scope → Scope
 with_object u s = record s {
   objects = s.objects ++ (record {
     object_type = u;
-    cells = cells u;
+    cells = counted (cells u);
     start = start_at most_frame_cells s.frame;
   } ∷ []);
-  frame = sum_of s.frame (cells u);
+  frame = sum_of s.frame (counted (cells u));
 }
 
 abbrev pub with_counted : Option ObjectType → Scope → Scope
@@ -183,7 +183,7 @@ with_counted (Some u) s = with_object u s
 
 abbrev pub cells_counted : Option ObjectType → ℕ
 cells_counted None = 0
-cells_counted (Some u) = cells u
+cells_counted (Some u) = counted (cells u)
 
 -- so many cells of the frame count no more
 abbrev pub uncounted : ℕ → Scope → Scope
@@ -196,10 +196,14 @@ with_objects_of before s = record s { objects = before.objects; frame = before.f
 abbrev pub with_static : ObjectType → List ℤ → Scope → Scope
 with_static u initial s = record s {
   statics = s.statics ++ (record {
-    object = record { object_type = u; cells = cells u; start = start_at most_static_cells s.static_cells };
+    object = record {
+      object_type = u;
+      cells = counted (cells u);
+      start = start_at most_static_cells s.static_cells;
+    };
     initial = initial;
   } ∷ []);
-  static_cells = sum_of s.static_cells (cells u);
+  static_cells = sum_of s.static_cells (counted (cells u));
 }
 
 abbrev pub with_array : Scope → Scope

@@ -6,14 +6,13 @@ use Rattle.mc_tree.specs.Tree as tree
 use Rattle.mc_value.specs.declared.int_type.IntType.{IntType}
 use Rattle.mc_value.specs.Conversions.{promoted, converted}
 use Rattle.mc_value.specs.Arithmetic.{are_equal}
-use Rattle.mc_typed.specs.Layout.{cells}
 use Rattle.mc_typed.specs.Sound.{type_of}
 use Rattle.mc_typed.specs.Tree.{Declarator, Effect, ForStart, ReturnValue, Statement, Statements}
 use Rattle.mc_typed.specs.Tree as typed
 use Rattle.mc_faults.specs.declared.fault.Fault.{Fault}
 use Rattle.mc_faults.specs.declared.fault.FaultKind.TheVariants.{Mismatch, DuplicateLabel}
 use Rattle.mc_faults.specs.Faults.{fault, fault_if}
-use Rattle.mc_typing.specs.Types.{Base, Void, Integer, Tagged, plain, Structure, layout_of}
+use Rattle.mc_typing.specs.Types.{Base, Void, Integer, Tagged, plain, Structure, cells_of}
 use Rattle.mc_typing.specs.Scopes.{Labels, Scope, block, entered, left}
 use Rattle.mc_typing.specs.Values.{Judged, judged, judged_one, judged_two, judged_three, judged_four, with_scope, Value, Kind, Found, part, kind_found, is_integer, fails, integer_faults, effect_faults, number_in, structure_in, number_found, effect_in, whole, lift2, lift3}
 use Rattle.mc_typing.specs.Constants.{value_of_constant, constant_found, constant_faults}
@@ -259,8 +258,7 @@ abbrev pub return_value : List Structure → Option Base → Value → Option Re
 return_value all (Some (Integer a)) v =
     option_map (λ e. typed.ReturnNumber (convert_to a e)) (number_in v)
 return_value all (Some (Tagged k)) v =
-    option_map (λ w. typed.ReturnStructure w (cells (layout_of all (plain (Tagged k)))))
-    (structure_in k v)
+    option_map (λ w. typed.ReturnStructure w (cells_of all (plain (Tagged k)))) (structure_in k v)
 return_value all _ v = None
 
 abbrev pub return_judged : Option Base → Span → Found → Judged Statements

@@ -8,6 +8,7 @@ use Rattle.mc_value.specs.declared.int_type.IntType.{IntType}
 use Rattle.mc_value.specs.declared.int_type.IntType.TheVariants as the
 use Rattle.mc_typed.specs.Layout.{ObjectType, members_from}
 use Rattle.mc_typed.specs.Layout as layout
+use Rattle.mc_typing.specs.Profile.{counted}
 
 -- ---- types
 
@@ -77,7 +78,7 @@ abbrev pub layout_of_base : List Structure → Base → ObjectType
 layout_of_base all Void = nothing
 layout_of_base all (Integer a) = layout.Scalar a
 layout_of_base all (Tagged k) =
-    layout.Structure k (members_from (map (λ m. m.layout) (members_of (slice_get all k))))
+    layout.Structure (counted k) (members_from (map (λ m. m.layout) (members_of (slice_get all k))))
 
 abbrev pub arrays_of : List ℕ → ObjectType → ObjectType
 arrays_of [] u = u
@@ -87,14 +88,18 @@ arrays_of (n ∷ ns) u = layout.Array n (arrays_of ns u)
 abbrev pub layout_of : List Structure → CType → ObjectType
 layout_of all t = arrays_of t.lengths (layout_of_base all t.base)
 
+-- the cells of an object of a complete type, as far as they are counted
+abbrev pub cells_of : List Structure → CType → ℕ
+cells_of all t = counted (layout.cells (layout_of all t))
+
 abbrev pub layout_of_member : List Structure → Option CType → ObjectType
 layout_of_member all None = nothing
 layout_of_member all (Some t) = layout_of all t
 
 abbrev pub structure_from : ℕ → Structure → ObjectType
 structure_from k (Complete members) =
-    layout.Structure k (members_from (map (λ m. m.layout) members))
-structure_from k _ = layout.Structure k layout.no_members
+    layout.Structure (counted k) (members_from (map (λ m. m.layout) members))
+structure_from k _ = layout.Structure (counted k) layout.no_members
 
 -- the structure types of a program, by their numbers from k on; one that stays incomplete has no
 -- members

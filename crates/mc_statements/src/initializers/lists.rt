@@ -2,6 +2,7 @@
 ghost use Rattle.std.specs.Prelude.{◌≡◌, [], Some, IfOk, option_copied, option_map, option_and_then};
 ghost use Rattle.mc_typed.specs.Tree as typed;
 ghost use Rattle.mc_typed.specs.Views.{expression_of, initializer_of};
+ghost use Rattle.mc_typing.specs.Types.{cells_of};
 ghost use Rattle.mc_typing.specs.Values.{judged};
 ghost use Rattle.mc_typing.specs.Initializers as initializer_rules;
 ghost use Rattle.mc_scopes.specs.Types.{type_of};
@@ -23,22 +24,12 @@ use mc_scopes::{CType, Scope, cells};
 use mc_typed::{Expression, Initializer};
 use std::alloc::{AllocError, Global};
 
-fn list_of(
-    scope: &Scope<'_>,
-    of: &CType,
-    items: Vec<Initializer>,
-) -> Result<Option<Initializer>, AllocError>
-    ensures { IfOk result (λ r. option_map initializer_of r
-        ≡ Some (typed.ListInitializer (items_of items)
-        (initializer_rules.cells_of (scope_of scope.now).structures (type_of of.now)))) }
+fn list_of(scope: &Scope<'_>, of: &CType, items: Vec<Initializer>) -> Initializer
+    ensures { initializer_of result ≡ typed.ListInitializer (items_of items)
+        (cells_of (scope_of scope.now).structures (type_of of.now)) }
 {
-    match cells(&scope.structures, of) {
-        Ok(cells) => Ok(Some(Initializer::List { items, cells })),
-        Err(error) => {
-            drop(items);
-            Err(error)
-        }
-    }
+    let cells = cells(&scope.structures, of);
+    Initializer::List { items, cells }
 }
 
 #[tactic(auto, using(crate::proofs::Items::only_initializer))]
@@ -47,111 +38,93 @@ fn list_value(
     of: Option<&CType>,
     target: Target<'_, '_>,
     items: Option<Vec<Initializer>>,
-) -> Result<Option<Initializer>, AllocError>
-    ensures { IfOk result (λ r. option_map initializer_of r
+) -> Option<Initializer>
+    ensures { option_map initializer_of result
         ≡ option_and_then (initializer_rules.list_value (scope_of scope.now).structures
         (option_map type_of (option_copied of.entry)) (target_of target.entry))
-        (option_map items_of items)) }
+        (option_map items_of items) }
 {
     match items {
         Some(items) => match of {
             Some(of) => match target {
-                Target::Scalar(_) => Ok(only(items)),
-                Target::Array { .. } => list_of(scope, of, items),
-                Target::Structure { .. } => list_of(scope, of, items),
+                Target::Scalar(_) => only(items),
+                Target::Array { .. } => Some(list_of(scope, of, items)),
+                Target::Structure { .. } => Some(list_of(scope, of, items)),
                 Target::Missing => {
                     drop(items);
-                    Ok(None)
+                    None
                 }
             },
             None => {
                 drop(items);
-                Ok(None)
+                None
             }
         },
-        None => Ok(None),
+        None => None,
     }
 }
 
-/// A list of so many items that starts here, for an object of this type.
+/// A list of so many items that starts here, for an object of this type. Takes no memory.
 pub fn list_initializer(
     scope: &Scope<'_>,
     of: Option<&CType>,
     at: u32,
     count: usize,
     items: Judged<Vec<Initializer>>,
-) -> Result<Judged<Initializer>, AllocError>
-    ensures { IfOk result (λ r. judged_of initializer_of r (scope_of scope.now)
+) -> Judged<Initializer>
+    ensures { judged_of initializer_of result (scope_of scope.now)
         ≡ squeezed_part (initializer_rules.list_judged
         (option_map type_of (option_copied of.entry)) at count
-        (judged_of items_of items (scope_of scope.now)))) }
+        (judged_of items_of items (scope_of scope.now))) }
 {
     let target = target_for(scope, of);
     let wrong = fails_count(target, count);
     let fault = or_fault(items.fault, wrong, FaultKind::Mismatch, at);
-    match list_value(scope, of, target, items.value) {
-        Ok(value) => Ok(Judged { fault, value }),
-        Err(error) => Err(error),
-    }
+    let value = list_value(scope, of, target, items.value);
+    Judged { fault, value }
 }
 
 // ---- `{0}`
 
-fn zero_of(
-    scope: &Scope<'_>,
-    of: &CType,
-    value: Expression,
-) -> Result<Option<Initializer>, AllocError>
-    ensures { IfOk result (λ r. option_map initializer_of r
-        ≡ Some (typed.ZeroInitializer (expression_of value)
-        (initializer_rules.cells_of (scope_of scope.now).structures (type_of of.now)))) }
+fn zero_of(scope: &Scope<'_>, of: &CType, value: Expression) -> Initializer
+    ensures { initializer_of result ≡ typed.ZeroInitializer (expression_of value)
+        (cells_of (scope_of scope.now).structures (type_of of.now)) }
 {
-    match cells(&scope.structures, of) {
-        Ok(cells) => Ok(Some(Initializer::Zero { value, cells })),
-        Err(error) => {
-            drop(value);
-            Err(error)
-        }
-    }
+    let cells = cells(&scope.structures, of);
+    Initializer::Zero { value, cells }
 }
 
 fn zero_value(
     scope: &Scope<'_>,
     of: Option<&CType>,
     value: Option<Expression>,
-) -> Result<Option<Initializer>, AllocError>
-    ensures { IfOk result (λ r. option_map initializer_of r
+) -> Option<Initializer>
+    ensures { option_map initializer_of result
         ≡ initializer_rules.zero_value (scope_of scope.now).structures
-        (option_map type_of (option_copied of.entry)) (option_map expression_of value)) }
+        (option_map type_of (option_copied of.entry)) (option_map expression_of value) }
 {
     match of {
         Some(of) => match value {
-            Some(value) => zero_of(scope, of, value),
-            None => Ok(None),
+            Some(value) => Some(zero_of(scope, of, value)),
+            None => None,
         },
         None => {
             unused(value);
-            Ok(None)
+            None
         }
     }
 }
 
 // The list of an integer constant expression of value 0, for an object of this type.
 #[tactic(auto, using(mc_scopes::proofs::Squeezed::least_listed))]
-fn zero_initializer(
-    scope: &Scope<'_>,
-    of: Option<&CType>,
-    only: Found,
-) -> Result<Judged<Initializer>, AllocError>
-    ensures { IfOk result (λ r. judged_of initializer_of r (scope_of scope.now)
+fn zero_initializer(scope: &Scope<'_>, of: Option<&CType>, only: Found) -> Judged<Initializer>
+    ensures { judged_of initializer_of result (scope_of scope.now)
         ≡ squeezed_part (initializer_rules.zero_judged (option_map type_of (option_copied of.entry))
-        (Some (found_of only (scope_of scope.now))) (scope_of scope.now))) }
+        (Some (found_of only (scope_of scope.now))) (scope_of scope.now)) }
 {
     let fault = only.fault;
-    match zero_value(scope, of, number_in(only.value)) {
-        Ok(value) => Ok(Judged { fault, value }),
-        Err(error) => Err(error),
-    }
+    let value = zero_value(scope, of, number_in(only.value));
+    Judged { fault, value }
 }
 
 // ---- a list of one expression
@@ -171,7 +144,7 @@ fn list_of_one(
         (judged_of initializer_of one (scope_of scope.now)))))) }
 {
     match more_items(no_items(alloc), one) {
-        Ok(items) => list_initializer(scope, of, at, 1, items),
+        Ok(items) => Ok(list_initializer(scope, of, at, 1, items)),
         Err(error) => Err(error),
     }
 }
@@ -224,7 +197,7 @@ pub fn braced_expression(
 {
     let zero = is_zero_found(&found);
     if zero {
-        zero_initializer(scope, of, found)
+        Ok(zero_initializer(scope, of, found))
     } else {
         list_of_expression(alloc, is_static, scope, of, item, at, start, found)
     }

@@ -4,6 +4,7 @@ ghost use Rattle.mc_typed.specs.Tree as typed;
 ghost use Rattle.mc_typed.specs.Views.{expression_of, structure_of, initializer_of};
 ghost use Rattle.mc_faults.specs.Faults.{least_of};
 ghost use Rattle.mc_typing.specs.Scopes as scopes;
+ghost use Rattle.mc_typing.specs.Types.{cells_of};
 ghost use Rattle.mc_typing.specs.Values as judged;
 ghost use Rattle.mc_typing.specs.Expressions as expressions;
 ghost use Rattle.mc_typing.specs.Initializers as initializer_rules;
@@ -26,7 +27,7 @@ use mc_typed::{Expression, Initializer, Structure};
 use mc_value::IntType;
 use std::alloc::{AllocError, Global};
 
-fn fails_kind(number: u32, kind: Option<Kind<'_>>) -> bool
+fn fails_kind(number: usize, kind: Option<Kind<'_>>) -> bool
     ensures { result ≡ judged.fails (initializer_rules.is_kind number)
         (option_map kind_of kind.entry) }
 {
@@ -99,28 +100,19 @@ fn scalar_value(alloc: Global, of: &CType, value: Value) -> Result<Option<Initia
     }
 }
 
-fn structure_value(
-    scope: &Scope<'_>,
-    of: &CType,
-    value: Option<Structure>,
-) -> Result<Option<Initializer>, AllocError>
-    ensures { IfOk result (λ r. option_map initializer_of r
+fn structure_value(scope: &Scope<'_>, of: &CType, value: Option<Structure>) -> Option<Initializer>
+    ensures { option_map initializer_of result
         ≡ option_map
         (λ w. typed.StructureInitializer w
-        (initializer_rules.cells_of (scope_of scope.now).structures (type_of of.now)))
-        (option_map structure_of value)) }
+        (cells_of (scope_of scope.now).structures (type_of of.now)))
+        (option_map structure_of value) }
 {
     match value {
         Some(value) => {
-            match cells(&scope.structures, of) {
-                Ok(cells) => Ok(Some(Initializer::Structure { value, cells })),
-                Err(error) => {
-                    drop(value);
-                    Err(error)
-                }
-            }
+            let cells = cells(&scope.structures, of);
+            Some(Initializer::Structure { value, cells })
         }
-        None => Ok(None),
+        None => None,
     }
 }
 
@@ -141,7 +133,7 @@ fn item_value(
             Some(of) => match target {
                 Target::Scalar(scalar) => scalar_value(alloc, scalar, value),
                 Target::Structure { number, .. } => {
-                    structure_value(scope, of, value.into_structure(number))
+                    Ok(structure_value(scope, of, value.into_structure(number)))
                 }
                 Target::Missing => {
                     drop(value);

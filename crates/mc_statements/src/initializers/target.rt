@@ -24,7 +24,7 @@ pub enum Target<'t, 'a> {
     },
     /// The structure type with this number, and its members where it is complete.
     Structure {
-        number: u32,
+        number: usize,
         members: Option<&'t Complete<'a>>,
     },
 }
@@ -39,10 +39,10 @@ fn complete_in<'t, 'a>(structure: &'t Structure<'a>) -> Option<&'t Complete<'a>>
     }
 }
 
-fn members_at<'t, 'a>(scope: &'t Scope<'a>, number: u32) -> Option<&'t Complete<'a>>
+fn members_at<'t, 'a>(scope: &'t Scope<'a>, number: usize) -> Option<&'t Complete<'a>>
     ensures { members_in result ≡ members_of (slice_get (scope_of scope.now).structures number) }
 {
-    match scope.structures.get(number as usize) {
+    match scope.structures.get(number) {
         Some(structure) => complete_in(structure),
         None => None,
     }

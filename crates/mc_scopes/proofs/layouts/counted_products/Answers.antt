@@ -1,5 +1,6 @@
 use Rattle.std.proofs.Common.{◌≡◌, ◌∙◌, ◌+◌, ◌*◌, min, drop, sym, ap, arith}
-use Rattle.mc_scopes.specs.Counted.{most_counted, product}
+use Rattle.mc_typing.specs.Profile.{most_counted}
+use Rattle.mc_scopes.specs.Counted.{product}
 use Rattle.mc_scopes.proofs.Counted.{factors_counted, product_next, product_end}
 use Rattle.mc_scopes.proofs.layouts.counted_products.Goals as goal
 

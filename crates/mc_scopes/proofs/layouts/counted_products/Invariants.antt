@@ -1,5 +1,6 @@
 use Rattle.std.proofs.Common.{◌≡◌, ◌≤◌, ◌*◌, min, drop}
-use Rattle.mc_scopes.specs.Counted.{most_counted, product}
+use Rattle.mc_typing.specs.Profile.{most_counted}
+use Rattle.mc_scopes.specs.Counted.{product}
 use Rattle.mc_scopes.proofs.layouts.counted_products.Given as goal
 
 abbrev pub invariant-loop-length : goal.invariant-loop-length

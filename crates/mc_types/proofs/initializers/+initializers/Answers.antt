@@ -58,8 +58,8 @@ list-returns t c =
     let s = scope_of c.args.scope.now in
     let r = scope_of c.items.new.scope in
     let all = initializers_from (map initializer_of c.args.trees.now) in
-    found_as c.list_initializer.result (λ z. judged_of typed.initializer_of z r) _ _ (rw c.count_of.ensures at c.list_initializer.ensures)
-    (in_list c.args.is_static u all c.args.span s (judged_of items_of c.in_ok-found.found r) (c.in_ok-found.ensures (parts_of (target_of s.structures u)) c.in_ok-parts.ensures))
+    (rw c.count_of.ensures at c.list_initializer.ensures)
+    ∙ (in_list c.args.is_static u all c.args.span s (judged_of items_of c.in_ok-found.found r) (c.in_ok-found.ensures (parts_of (target_of s.structures u)) c.in_ok-parts.ensures))
 
 pub items-loop-place-init : goal.items-loop-place-init
 items-loop-place-init t c =

@@ -1,22 +1,15 @@
-use Rattle.std.proofs.Common.{◌≡◌, subst, sym, ap, refl, List}
+use Rattle.std.proofs.Common.{◌≡◌, subst, sym, ap, List}
 use Rattle.mc_tree.specs.Units as units
 use Rattle.mc_typed.specs.Tree.{Program}
 use Rattle.mc_typed.specs.Views.{program_of}
 use Rattle.mc_typed.specs.Layout.{ObjectType}
 use Rattle.mc_typing.specs.Typing.{IsTypingOf, program_from}
-use Rattle.mc_scopes.specs.Views.{scope_of, structure_of}
+use Rattle.mc_scopes.specs.Views.{scope_of}
 use Rattle.mc_declarations.specs.Declarations.{functions_of}
 use Rattle.mc_soundness.proofs.Counts.{units_are_few}
 use Rattle.mc_soundness.proofs.Units.{units_sound}
 use Rattle.mc_types.proofs.Exits.{at_ok}
-use Rattle.mc_types.proofs.UnitArms.{few_structures}
 use Rattle.mc_types.proofs.units.program.Goals as goal
-
-pub structure_types-requires : goal.structure_types-requires
-structure_types-requires c =
-    rw c.deref.ensures.value
-    (few_structures (units.items_of c.args.unit.now.items.items) (scope_of c.args.scope.now) (functions_of c.args.functions)
-    structure_of c.args.scope.now.structures.items refl c.requires.typed c.args.unit.now.short)
 
 pub new-requires-in-Ok : goal.new-requires-in-Ok
 new-requires-in-Ok c =

@@ -1,19 +1,19 @@
-use Rattle.std.proofs.Common.{◌≡◌, ◌+◌, ◌<◌, ◌∷◌, ◌++◌, [], max, length, refl, sym, subst, arith, rules}
+use Rattle.std.proofs.Common.{◌≡◌, ◌+◌, ◌∷◌, ◌++◌, [], max, refl, sym, subst, rules}
+use Rattle.mc_typing.specs.Profile.{counted}
 use Rattle.mc_names.specs.Tables.{Named}
 use Rattle.mc_scopes.specs.Listed.{AreLaid}
 use Rattle.mc_scopes.specs.declared.member.Member.{Member}
 use Rattle.mc_scopes.proofs.Laid.{laid_more}
 use Rattle.mc_scopes.proofs.members.Members.push.Goals as goal
 
-pub invariant_of-self-in-Some : goal.invariant_of-self-in-Some
-invariant_of-self-in-Some c =
+pub invariant_of-self-2 : goal.invariant_of-self-2
+invariant_of-self-2 c =
     let old = c.self.inside.table in
     let meaning : Member = record { of = c.args.of; layout = c.args.layout; offset = c.self.inside.cells } in
     let m : Named Member = record { name = c.args.name.now; meaning = meaning } in
-    let few : length old < 4294967295 = omega (arith, c.in-Some.ensures.few, c.len.ensures) in
-    let total : c.in-Some.total ≡ c.self.inside.cells + c.args.cells = c.in-Some.ensures.total in
+    let total : c.counted_sum-self-inside.result ≡ counted (c.self.inside.cells + c.args.cells) = c.counted_sum-self-inside.ensures in
     let deep : c.max-self-inside.result ≡ max c.self.inside.nesting c.args.nesting = search rules in
-    let h = laid_more old m c.self.inside.cells c.self.inside.nesting c.args.cells c.args.nesting c.self.invariant refl c.requires.cells c.requires.nesting few in
-    subst (λ all. AreLaid all c.in-Some.total c.max-self-inside.result) (sym c.in_ok-push-in-Some.ensures.ok)
+    let h = laid_more old m c.self.inside.cells c.self.inside.nesting c.args.cells c.args.nesting c.self.invariant refl c.requires.cells c.requires.nesting in
+    subst (λ all. AreLaid all c.counted_sum-self-inside.result c.max-self-inside.result) (sym c.in_ok-push.ensures.ok)
     (subst (λ n. AreLaid (old ++ (m ∷ [])) n c.max-self-inside.result) (sym total)
-    (subst (λ n. AreLaid (old ++ (m ∷ [])) (c.self.inside.cells + c.args.cells) n) (sym deep) h))
+    (subst (λ n. AreLaid (old ++ (m ∷ [])) (counted (c.self.inside.cells + c.args.cells)) n) (sym deep) h))

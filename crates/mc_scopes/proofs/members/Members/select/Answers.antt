@@ -4,11 +4,6 @@ use Rattle.mc_scopes.specs.Listed.{AreLaid}
 use Rattle.mc_scopes.proofs.Laid.{selected_at, numbered_selects, numbered_begins}
 use Rattle.mc_scopes.proofs.members.Members.select.Goals as goal
 
-pub numbered-requires : goal.numbered-requires
-numbered-requires c =
-    let is = sym c.in-Some.is ∙ c.place.ensures ∙ ap (last_place_of c.args.name.now) c.self.view_is in
-    (selected_at c.args.name.now c.args.self.now (Some c.in-Some.place) is).3
-
 pub returns-in-Some-clause-member : goal.returns-in-Some-clause-member
 returns-in-Some-clause-member c =
     let is = sym c.in-Some.is ∙ c.place.ensures ∙ ap (last_place_of c.args.name.now) c.self.view_is in

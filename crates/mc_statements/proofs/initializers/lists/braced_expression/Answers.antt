@@ -16,9 +16,9 @@ returns-then-zero c =
     let x = found_of c.args.found s in
     let one = single_judged c.args.is_static (option_map type_of (option_copied c.args.item))
     c.args.start x in
-    subst (λ (b : Bool). IfOk c.zero_initializer.result (λ r. judged_of initializer_of r s
+    subst (λ (b : Bool). judged_of initializer_of c.zero_initializer.result s
     ≡ squeezed_part (if b then zero_judged u (Some x) s
-    else list_judged u c.args.at 1 (items_judged one (judged [] (Some no_initializers) s)))))
+    else list_judged u c.args.at 1 (items_judged one (judged [] (Some no_initializers) s))))
     (sym c.if-zero.true ∙ c.is_zero_found-zero.ensures s)
     c.zero_initializer.ensures
 

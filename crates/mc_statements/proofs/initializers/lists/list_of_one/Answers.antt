@@ -1,4 +1,4 @@
-use Rattle.std.proofs.Common.{◌≡◌, ◌∙◌, IfOk, ap, subst, option_copied, option_map}
+use Rattle.std.proofs.Common.{◌∙◌, ap, option_copied, option_map}
 use Rattle.mc_typed.specs.Tree as t
 use Rattle.mc_typed.specs.Views.{initializer_of}
 use Rattle.mc_typing.specs.Values.{Judged}
@@ -17,7 +17,5 @@ returns-in-Ok c =
     let items = c.in-Ok.ensures s
     ∙ ap (λ (x : Judged t.Initializers). squeezed_part (item_then x
     (judged_of initializer_of c.args.one s))) (c.no_items.ensures s) in
-    subst (λ (j : Judged t.Initializer).
-    IfOk c.list_initializer.result (λ r. judged_of initializer_of r s ≡ j))
-    (ap (λ (x : Judged t.Initializers). squeezed_part (list_judged u c.args.at 1 x)) items)
     c.list_initializer.ensures
+    ∙ ap (λ (x : Judged t.Initializers). squeezed_part (list_judged u c.args.at 1 x)) items
