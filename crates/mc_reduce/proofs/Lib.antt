@@ -15,3 +15,4 @@ pub mod Ascending
 pub mod Judging
 pub mod Trees
 pub mod Known
+pub mod Pairing

@@ -1,17 +1,15 @@
 //! What the seen paths of a decision show.
-ghost use Rattle.std.specs.Prelude.{◌≡◌, ◌+◌, ◌<◌, ◌≤◌, ◌↔◌, All, Contains, IsTrue, IfSome, IfNone};
+ghost use Rattle.std.specs.Prelude.{◌≡◌, ◌+◌, ◌<◌, ◌≤◌, ◌↔◌, All, Contains, IsTrue};
 ghost use Rattle.std.specs.List.Sorted.{IsStrictlyIncreasing};
 ghost use Rattle.mc_cond.specs.Tree.{tree_of, size};
 ghost use Rattle.mc_paths.specs.Paths.{count_of};
-ghost use Rattle.mc_pairs.specs.Pairs.{NonePaired, IsChosen};
-ghost use Rattle.mc_oblige.specs.Evidence.{pairs_of};
 ghost use Rattle.mc_oblige.specs.steps.Table.{HasOutcome};
 ghost use Rattle.mc_reduce.specs.steps.Bits.{HasOutcomeOn, HasPairOn, ShowAt};
 
-use mc_masking::masking_pair;
+use crate::hint::Hint;
+use crate::pairs::any_pair;
 use mc_oblige::Mode;
 use mc_probe::MappedDecision;
-use mc_unique::unique_pair;
 
 /// How many obligations a decision has: two outcomes, and its conditions.
 pub(crate) fn obligation_count(mapped: &MappedDecision) -> u32
@@ -29,8 +27,15 @@ pub(crate) fn path_count(mapped: &MappedDecision) -> u32
 }
 
 /// Whether these paths show an obligation of the decision: the true outcome, the false one, and
-/// then the conditions.
-pub(crate) fn is_shown(mapped: &MappedDecision, seen: &[u32], mode: Mode, at: u32) -> bool
+/// then the conditions. The hint says where to look for the pair of a condition, and then where it
+/// was found.
+pub(crate) fn is_shown(
+    mapped: &MappedDecision,
+    seen: &[u32],
+    mode: Mode,
+    at: u32,
+    hint: &mut Option<Hint>,
+) -> bool
     requires ascending { IsStrictlyIncreasing seen.now }
     requires paths { All (λ path. path < count_of (tree_of mapped.now.decision.tree)) seen.now }
     requires at { at < 2 + size (tree_of mapped.now.decision.tree) }
@@ -40,7 +45,7 @@ pub(crate) fn is_shown(mapped: &MappedDecision, seen: &[u32], mode: Mode, at: u3
     match at {
         0 => has_outcome(mapped, seen, true),
         1 => has_outcome(mapped, seen, false),
-        _ => has_pair(mapped, seen, mode, at - 2),
+        _ => has_pair(mapped, seen, mode, at - 2, hint),
     }
 }
 
@@ -67,32 +72,24 @@ fn is_outcome_of(mapped: &MappedDecision, path: u32, outcome: bool) -> bool
     mapped.numbering.outcome_of(path) == outcome
 }
 
-fn has_pair(mapped: &MappedDecision, seen: &[u32], mode: Mode, k: u32) -> bool
+fn has_pair(
+    mapped: &MappedDecision,
+    seen: &[u32],
+    mode: Mode,
+    k: u32,
+    hint: &mut Option<Hint>,
+) -> bool
     requires ascending { IsStrictlyIncreasing seen.now }
     requires paths { All (λ path. path < count_of (tree_of mapped.now.decision.tree)) seen.now }
     requires condition { k < size (tree_of mapped.now.decision.tree) }
     ensures { IsTrue result
         ↔ HasPairOn (Contains seen.now) mode (tree_of mapped.now.decision.tree) k }
 {
-    match chosen_pair(mapped, seen, mode, k) {
-        Some(_) => true,
+    match any_pair(mapped, seen, mode, k, *hint) {
+        Some(pair) => {
+            *hint = Some(pair);
+            true
+        }
         None => false,
-    }
-}
-
-/// The chosen pair of seen paths.
-fn chosen_pair(mapped: &MappedDecision, seen: &[u32], mode: Mode, k: u32) -> Option<(u32, u32)>
-    requires ascending { IsStrictlyIncreasing seen.now }
-    requires paths { All (λ path. path < count_of (tree_of mapped.now.decision.tree)) seen.now }
-    requires condition { k < size (tree_of mapped.now.decision.tree) }
-    ensures chosen { IfSome result (λ pair. let t = tree_of mapped.now.decision.tree in
-        IsChosen (pairs_of mode t k) t seen.now k pair.0 pair.1) }
-    ensures none { IfNone result (let t = tree_of mapped.now.decision.tree in
-        NonePaired (pairs_of mode t k) t seen.now) }
-{
-    let tree = &mapped.decision.tree;
-    match mode {
-        Mode::Unique => unique_pair(tree, &mapped.numbering, seen, k),
-        Mode::Masking => masking_pair(tree, &mapped.numbering, seen, k),
     }
 }

@@ -11,9 +11,10 @@ ghost use Rattle.mc_reduce.specs.steps.Loss.{IsCounted, IsLeft, AreShown, SomeMi
 
 use crate::columns::Columns;
 use crate::counts::{counts, lower};
+use crate::hint::Hints;
 use crate::loss::{first_lost, lost_without};
 use crate::reduced::Reduced;
-use crate::shown::all_shown;
+use crate::shown::{all_shown, events};
 use mc_core::Matrix;
 use mc_oblige::Mode;
 use mc_probe::BitMap;
@@ -39,9 +40,10 @@ pub fn reduce(
         ShowTheSame (HasEvent m matrix.now) m mode r.kept.items) }
 {
     let mut counts = counts(alloc, matrix)?;
-    let shown = all_shown(alloc, map, &counts, mode)?;
-    let kept = kept_tests(alloc, map, matrix, &mut counts, &shown, mode)?;
-    let lost = all_lost(alloc, map, matrix, &counts, &shown, &kept, mode)?;
+    let mut hints = Hints::new(alloc, events(map))?;
+    let shown = all_shown(alloc, map, &counts, &mut hints, mode)?;
+    let kept = kept_tests(alloc, map, matrix, &mut counts, &shown, &mut hints, mode)?;
+    let lost = all_lost(alloc, map, matrix, &counts, &shown, &kept, &mut hints, mode)?;
     Ok(Reduced { kept, lost })
 }
 
@@ -52,6 +54,7 @@ fn kept_tests(
     matrix: &Matrix,
     counts: &mut [u32],
     shown: &[bool],
+    hints: &mut Hints,
     mode: Mode,
 ) -> Result<Vec<u32>, AllocError>
     requires bits { matrix.now.shape.bits ≡ map.now.bits }
@@ -72,7 +75,16 @@ fn kept_tests(
     'turns: while left > 0 {
         left -= 1;
         columns.turn_to(matrix, left)?;
-        if is_needed(alloc, map, counts, columns.words(), left, shown, mode)? {
+        if is_needed(
+            alloc,
+            map,
+            counts,
+            columns.words(),
+            left,
+            shown,
+            hints,
+            mode,
+        )? {
             kept.push(left)?;
         } else {
             lower(counts, columns.words(), left);
@@ -90,6 +102,7 @@ fn is_needed(
     words: &[u64],
     test: u32,
     shown: &[bool],
+    hints: &mut Hints,
     mode: Mode,
 ) -> Result<bool, AllocError>
     requires bits { length counts.now ≡ map.now.bits }
@@ -100,7 +113,7 @@ fn is_needed(
     ensures other { IfOk result (λ is. OnFalse is (NoneMissed (map_of map.now) mode
         (IsCounted counts.now) (IsLeft test counts.now words.now))) }
 {
-    match first_lost(alloc, map, counts, words, test, shown, mode)? {
+    match first_lost(alloc, map, counts, words, test, shown, hints, mode)? {
         Some(_) => Ok(true),
         None => Ok(false),
     }
@@ -114,6 +127,7 @@ fn all_lost(
     counts: &[u32],
     shown: &[bool],
     kept: &[u32],
+    hints: &mut Hints,
     mode: Mode,
 ) -> Result<Vec<u32>, AllocError>
     requires bits { matrix.now.shape.bits ≡ map.now.bits }
@@ -132,7 +146,7 @@ fn all_lost(
     for test in kept {
         columns.turn_to(matrix, *test)?;
         let words = columns.words();
-        lost.push(lost_without(alloc, map, counts, words, *test, shown, mode)?)?;
+        lost.push(lost_without(alloc, map, counts, words, *test, shown, hints, mode)?)?;
     }
     Ok(lost)
 }

@@ -3,10 +3,12 @@
 
 mod columns;
 mod counts;
+mod hint;
 mod judged;
 mod kept;
 mod laws;
 mod loss;
+mod pairs;
 mod paths;
 mod reduced;
 mod shown;

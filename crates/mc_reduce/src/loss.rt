@@ -1,5 +1,5 @@
 //! What is lost without a test.
-ghost use Rattle.std.specs.Prelude.{◌≡◌, ◌+◌, ◌<◌, ◌≤◌, length, All, Contains, IfOk, IfSome, IfNone};
+ghost use Rattle.std.specs.Prelude.{◌≡◌, ◌+◌, ◌<◌, ◌≤◌, ◌↔◌, length, All, Contains, IsTrue, IfOk, IfSome, IfNone};
 ghost use Rattle.std.specs.List.Sorted.{IsStrictlyIncreasing};
 ghost use Rattle.mc_limits.specs.Limits.{most_bits};
 ghost use Rattle.mc_cond.specs.Tree.{tree_of, size};
@@ -10,6 +10,7 @@ ghost use Rattle.mc_reduce.specs.steps.Counts.{HasCounts};
 ghost use Rattle.mc_reduce.specs.steps.Loss.{IsCounted, IsLeft, along, AreShownFrom, IsFirstAt, NoneAt, IsFirstOf, NoneOf, AreTrueFrom, AreShown, IsFirstMissed, NoneMissed};
 
 use crate::counts::first_single;
+use crate::hint::Hints;
 use crate::judged::{is_shown, obligation_count, path_count};
 use crate::paths::paths_left;
 use crate::shown::events;
@@ -25,6 +26,7 @@ pub(crate) fn first_lost(
     words: &[u64],
     test: u32,
     shown: &[bool],
+    hints: &mut Hints,
     mode: Mode,
 ) -> Result<Option<u32>, AllocError>
     requires bits { length counts.now ≡ map.now.bits }
@@ -42,7 +44,9 @@ pub(crate) fn first_lost(
         return Ok(Some(bit));
     }
     for mapped in &map.decisions {
-        if let Some(at) = lost_of(alloc, mapped, counts, words, test, shown, position, mode)? {
+        if let Some(at) = lost_of(
+            alloc, mapped, counts, words, test, shown, position, hints, mode,
+        )? {
             return Ok(Some(position + at));
         }
         position += obligation_count(mapped);
@@ -59,6 +63,7 @@ fn lost_of(
     test: u32,
     shown: &[bool],
     position: u32,
+    hints: &mut Hints,
     mode: Mode,
 ) -> Result<Option<u32>, AllocError>
     requires paths { mapped.now.base + count_of (tree_of mapped.now.decision.tree)
@@ -81,7 +86,7 @@ fn lost_of(
     match first_single(counts, words, mapped.base, end, test) {
         Some(_) => {
             let left = paths_left(alloc, counts, words, test, mapped.base, path_count(mapped))?;
-            Ok(first_missed(mapped, &left, shown, position, mode))
+            Ok(first_missed(mapped, &left, shown, position, hints, mode))
         }
         None => Ok(None),
     }
@@ -93,6 +98,7 @@ fn first_missed(
     left: &[u32],
     shown: &[bool],
     position: u32,
+    hints: &mut Hints,
     mode: Mode,
 ) -> Option<u32>
     requires ascending { IsStrictlyIncreasing left.now }
@@ -107,12 +113,34 @@ fn first_missed(
         (2 + size (tree_of mapped.now.decision.tree))) }
 {
     for at in 0..obligation_count(mapped) {
-        let is_shown_with = shown[position as usize + at as usize];
-        if is_shown_with && !is_shown(mapped, left, mode, at) {
+        let place = position as usize + at as usize;
+        let is_shown_with = shown[place];
+        if is_shown_with && !is_still_shown(mapped, left, mode, at, place, hints) {
             return Some(at);
         }
     }
     None
+}
+
+/// Whether the paths that are left show the obligation, which has its hint at this place.
+fn is_still_shown(
+    mapped: &MappedDecision,
+    left: &[u32],
+    mode: Mode,
+    at: u32,
+    place: usize,
+    hints: &mut Hints,
+) -> bool
+    requires ascending { IsStrictlyIncreasing left.now }
+    requires paths { All (λ path. path < count_of (tree_of mapped.now.decision.tree)) left.now }
+    requires at { at < 2 + size (tree_of mapped.now.decision.tree) }
+    ensures { IsTrue result
+        ↔ ShowAt (Contains left.now) mode (tree_of mapped.now.decision.tree) at }
+{
+    let mut hint = hints.at(place);
+    let is = is_shown(mapped, left, mode, at, &mut hint);
+    hints.put(place, hint);
+    is
 }
 
 /// The first obligation that is lost without a test, where one is.
@@ -123,6 +151,7 @@ pub(crate) fn lost_without(
     words: &[u64],
     test: u32,
     shown: &[bool],
+    hints: &mut Hints,
     mode: Mode,
 ) -> Result<u32, AllocError>
     requires bits { length counts.now ≡ map.now.bits }
@@ -134,7 +163,7 @@ pub(crate) fn lost_without(
         IsFirstMissed (map_of map.now) mode (IsCounted counts.now)
         (IsLeft test counts.now words.now) p) }
 {
-    match first_lost(alloc, map, counts, words, test, shown, mode)? {
+    match first_lost(alloc, map, counts, words, test, shown, hints, mode)? {
         Some(position) => Ok(position),
         None => unreachable!(),
     }

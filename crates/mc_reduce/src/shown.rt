@@ -7,6 +7,7 @@ ghost use Rattle.mc_probe.specs.BitMaps.{map_of};
 ghost use Rattle.mc_reduce.specs.steps.Bits.{ShowAt};
 ghost use Rattle.mc_reduce.specs.steps.Loss.{IsCounted, along, AreKnown, AreShown};
 
+use crate::hint::Hints;
 use crate::judged::{is_shown, obligation_count, path_count};
 use crate::paths::seen_paths;
 use mc_oblige::Mode;
@@ -22,11 +23,13 @@ pub(crate) fn events(map: &BitMap) -> u32
     count as u32
 }
 
-/// Which obligations the tests with these counts show, in the order of the obligations.
+/// Which obligations the tests with these counts show, in the order of the obligations. Appends the
+/// hints of those of decisions.
 pub(crate) fn all_shown(
     alloc: Global,
     map: &BitMap,
     counts: &[u32],
+    hints: &mut Hints,
     mode: Mode,
 ) -> Result<Vec<bool>, AllocError>
     requires { length counts.now ≡ map.now.bits }
@@ -35,7 +38,7 @@ pub(crate) fn all_shown(
 {
     let mut shown = events_shown(alloc, counts, events(map))?;
     for mapped in &map.decisions {
-        let own = decision_shown(alloc, mapped, counts, mode)?;
+        let own = decision_shown(alloc, mapped, counts, hints, mode)?;
         shown.extend_from_slice(&own)?;
     }
     Ok(shown)
@@ -58,6 +61,7 @@ fn decision_shown(
     alloc: Global,
     mapped: &MappedDecision,
     counts: &[u32],
+    hints: &mut Hints,
     mode: Mode,
 ) -> Result<Vec<bool>, AllocError>
     requires { mapped.now.base + count_of (tree_of mapped.now.decision.tree) ≤ length counts.now }
@@ -68,7 +72,9 @@ fn decision_shown(
     let seen = seen_paths(alloc, counts, mapped.base, path_count(mapped))?;
     let mut shown = Vec::new(alloc);
     for at in 0..obligation_count(mapped) {
-        shown.push(is_shown(mapped, &seen, mode, at))?;
+        let mut hint = None;
+        shown.push(is_shown(mapped, &seen, mode, at, &mut hint))?;
+        hints.add(hint)?;
     }
     Ok(shown)
 }

@@ -4,5 +4,5 @@ use Rattle.mc_reduce.proofs.judged.has_pair.Goals as goal
 pub returns-in-None : goal.returns-in-None
 returns-in-None c = (
   λ e. absurd (not_true e),
-  λ h. absurd (c.in-None.ensures.none h.first h.second h.first_on h.second_on h.paired),
+  λ h. absurd (c.in-None.ensures.none h),
 )
