@@ -1,0 +1,11 @@
+mod Left
+mod Fitting
+mod Tests
+mod Spans
+mod MovedExpressions
+mod MovedStatements
+mod Heights
+mod Nodes
+mod Alike
+mod Order
+mod Blanks
