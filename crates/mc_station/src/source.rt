@@ -198,8 +198,10 @@ pub fn judge_source<'a>(alloc: Global, source: &'a [u8]) -> Result<Accepted<'a>,
 {
     let tokens = lexed(alloc, source)?;
     let unit = parsed(alloc, source, &tokens)?;
+    drop(tokens);
     admitted(source, &unit)?;
     let program = typed(alloc, source, &unit)?;
+    drop(unit);
     let decisions = decided(alloc, source, &program)?;
     mapped(alloc, source, &program, decisions)
 }
