@@ -66,7 +66,7 @@ of_pair left right r (fault, given, is) = subst (λ (x : Reply). IsOfPair x.stat
 
 module _ (files : Option Files) (given : Option Command) where
   -- what is accepted where the command has come to a stage
-  abbrev At : Stage → Type 0
+  abbrev pub At : Stage → Type 0
   At stages.usage = given ≡ None
   At (stages.source name action) = given ≡ Some (command.on_source name action)
   At (stages.instrumented accepted) = ⊤
@@ -148,7 +148,7 @@ module _ (files : Option Files) (given : Option Command) where
   -- ---- the cause of a reply
 
   -- the cause, or that the errors' sink gets nothing
-  abbrev Because : Reply → Status → Type 0
+  abbrev pub Because : Reply → Status → Type 0
   Because r status.Done = r.diag ≡ []
   Because r status.Incomplete = r.diag ≡ []
   Because r status.NoCommand = Cause files given r status.NoCommand
@@ -338,7 +338,7 @@ module _ (files : Option Files) (given : Option Command) where
   fails_cause s a b r at calls.no_memory = refl
   fails_cause s a b r at (calls.no_memory_after f is) = refl
 
-  leads_cause : (skipped : List ℕ) (s : Stage) (a b : Requests) (r : Reply) → At s → Leads skipped files s a r b → Because r r.status
+  pub leads_cause : (skipped : List ℕ) (s : Stage) (a b : Requests) (r : Reply) → At s → Leads skipped files s a r b → Because r r.status
   leads_cause skipped s a b r at (calls.answers _ _ _ _ x) = answers_cause skipped s a b r at x
   leads_cause skipped s a b r at (calls.fails _ _ _ _ x) = fails_cause s a b r at x
   leads_cause skipped s a b r at (calls.accepted _ t f bytes _ _ _ is holds judges leads) =
