@@ -155,7 +155,11 @@ fn is_read(alloc: Global, levels: u32, dialect: Dialect) -> Result<bool, Fail> {
 fn has_greatest_heights(rt: HostRuntime) -> Result<(), Fail> {
     let alloc = rt.alloc();
     for (levels, plain, instrumented) in &HEIGHTS {
-        assert_eq!(rt; is_read(alloc, *levels, Dialect::Plain)?, *plain, "{levels} levels");
+        assert_eq!(rt;
+            is_read(alloc, *levels, Dialect::Plain)?,
+            *plain,
+            "{levels} levels"
+        );
         let read = is_read(alloc, *levels, Dialect::Instrumented)?;
         assert_eq!(rt; read, *instrumented, "{levels} levels");
     }
