@@ -1,0 +1,5 @@
+//! Tests of the crates that read an instrumented text.
+#![tactic(auto)]
+
+#[cfg(test)]
+mod shapes;
