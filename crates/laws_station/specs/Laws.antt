@@ -1,4 +1,5 @@
--- Laws over all commands: when a file of justifications is asked for, and what accepted files lead to.
+-- Laws over all commands: when a file of justifications is asked for, and what accepted files
+-- lead to.
 use Rattle.std.specs.Prelude.{◌≡◌, ◌≢◌, ◌⊎◌, ◌++◌, ℕ, List, Some, Option}
 use Rattle.mc_command.specs.Command as command
 use Rattle.mc_command.specs.Command.{Action, command_of}

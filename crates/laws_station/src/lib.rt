@@ -1,5 +1,5 @@
-//! Laws on the files of a command: when justifications are asked for, and what accepted files lead to.
-//! There is no code in it, but laws.
+//! Laws on the files of a command: when justifications are asked for, and what accepted files lead
+//! to. There is no code in it, but laws.
 #![tactic(auto)]
 
 mod laws;
