@@ -14,17 +14,17 @@ use Rattle.mc_strip.specs.Rows.{after_tokens}
 use Rattle.mc_strip.specs.Pieces.{Here, Mark, Shaped, ArePieces, start, size, later, passed, next}
 use Rattle.mc_strip.specs.Pieces as p
 use Rattle.mc_strip.specs.steps.Views.{mark_of, marks_of}
-use Rattle.mc_strip.specs.steps.Runs.{closed, behind, go_on, run, Gives, GivesFault, StepFails}
+use Rattle.mc_strip.specs.steps.Runs.{closed, added_to, go_on, run, Gives, GivesFault, StepFails}
 
 -- ---- one after the other
 
-behind_more : (before : List Mark) (m : Mark) (o : Option (List Mark)) → behind before (behind (m ∷ []) o) ≡ behind (before ++ m ∷ []) o
-behind_more before m None = refl
-behind_more before m (Some qs) = ap Some (sym (append_assoc before (m ∷ []) qs))
+added_to_more : (before : List Mark) (m : Mark) (o : Option (List Mark)) → added_to before (added_to (m ∷ []) o) ≡ added_to (before ++ m ∷ []) o
+added_to_more before m None = refl
+added_to_more before m (Some qs) = ap Some (sym (append_assoc before (m ∷ []) qs))
 
-pub behind_nothing : (o : Option (List Mark)) → o ≡ behind [] o
-behind_nothing None = refl
-behind_nothing (Some qs) = refl
+pub added_to_nothing : (o : Option (List Mark)) → o ≡ added_to [] o
+added_to_nothing None = refl
+added_to_nothing (Some qs) = refl
 
 some_same : (ps qs : List Mark) → Some ps ≡ Some qs → ps ≡ qs
 some_same ps qs e = cc
@@ -38,16 +38,16 @@ no_mark m e = cc
 -- ---- one turn
 
 turned : (fuel : ℕ) (h : Here) (ts : List Tok) (m : Mark) → next h ts ≡ Some m
-    → run (suc fuel) h ts ≡ behind (m ∷ []) (run fuel (passed h m ts) (later h m.row ts))
+    → run (suc fuel) h ts ≡ added_to (m ∷ []) (run fuel (passed h m ts) (later h m.row ts))
 turned fuel h [] m e = absurd (no_mark m e)
 turned fuel h (t ∷ ts) m e = ap (go_on (run fuel) h (t ∷ ts)) e
 
 pub stepped : (fuel : ℕ) (h g : Here) (ts us : List Tok) (before marks : List Mark) (m : Mark) → next h ts ≡ Some m
-    → marks ≡ before ++ m ∷ [] → g ≡ passed h m ts → us ≡ later h m.row ts → behind before (run (suc fuel) h ts) ≡ behind marks (run fuel g us)
+    → marks ≡ before ++ m ∷ [] → g ≡ passed h m ts → us ≡ later h m.row ts → added_to before (run (suc fuel) h ts) ≡ added_to marks (run fuel g us)
 stepped fuel h g ts us before marks m e em eg eu =
-    ap (behind before) (turned fuel h ts m e)
-    ∙ behind_more before m (run fuel (passed h m ts) (later h m.row ts))
-    ∙ sym (ap (λ ps. behind ps (run fuel g us)) em ∙ ap (λ f. behind (before ++ m ∷ []) (run fuel f us)) eg ∙ ap (λ l. behind (before ++ m ∷ []) (run fuel (passed h m ts) l)) eu)
+    ap (added_to before) (turned fuel h ts m e)
+    ∙ added_to_more before m (run fuel (passed h m ts) (later h m.row ts))
+    ∙ sym (ap (λ ps. added_to ps (run fuel g us)) em ∙ ap (λ f. added_to (before ++ m ∷ []) (run fuel f us)) eg ∙ ap (λ l. added_to (before ++ m ∷ []) (run fuel (passed h m ts) l)) eu)
 
 pub stuck : (fuel : ℕ) (h : Here) (ts : List Tok) → 0 < length ts → next h ts ≡ None → run (suc fuel) h ts ≡ None
 stuck fuel h [] some e = absurd (omega (arith, some))
@@ -70,26 +70,26 @@ at_end : (fuel : ℕ) (h : Here) → run fuel h [] ≡ closed h.brackets
 at_end zero h = refl
 at_end (suc fuel) h = refl
 
-nothing_more : (ms : List Mark) → behind ms (Some []) ≡ Some ms
+nothing_more : (ms : List Mark) → added_to ms (Some []) ≡ Some ms
 nothing_more [] = refl
-nothing_more (m ∷ ms) = ap (λ (o : Option (List Mark)). behind (m ∷ []) o) (nothing_more ms)
+nothing_more (m ∷ ms) = ap (λ (o : Option (List Mark)). added_to (m ∷ []) o) (nothing_more ms)
 
-pub ended : (h : Here) (ts : List Tok) (marks : List Mark) → length ts ≡ 0 → length h.brackets ≡ 0 → behind marks (run 0 h ts) ≡ Some marks
+pub ended : (h : Here) (ts : List Tok) (marks : List Mark) → length ts ≡ 0 → length h.brackets ≡ 0 → added_to marks (run 0 h ts) ≡ Some marks
 ended h ts marks e b =
-    ap (λ l. behind marks (run 0 h l)) (no_tokens ts e)
-    ∙ ap (behind marks) (by_brackets h.brackets b)
+    ap (λ l. added_to marks (run 0 h l)) (no_tokens ts e)
+    ∙ ap (added_to marks) (by_brackets h.brackets b)
     ∙ nothing_more marks
   where
     by_brackets : (bs : List Bracket) → length bs ≡ 0 → closed bs ≡ Some []
     by_brackets [] e = refl
     by_brackets (b ∷ bs) e = absurd (omega (arith, e))
 
-pub tokens_left : (h : Here) (ts : List Tok) (marks : List Mark) → 0 < length ts → behind marks (run 0 h ts) ≡ None
+pub tokens_left : (h : Here) (ts : List Tok) (marks : List Mark) → 0 < length ts → added_to marks (run 0 h ts) ≡ None
 tokens_left h [] marks e = absurd (omega (arith, e))
 tokens_left h (t ∷ ts) marks e = refl
 
-pub left_open : (h : Here) (ts : List Tok) (marks : List Mark) → 0 < length h.brackets → behind marks (run 0 h ts) ≡ None
-left_open h [] marks b = ap (behind marks) (closed_some h.brackets b)
+pub left_open : (h : Here) (ts : List Tok) (marks : List Mark) → 0 < length h.brackets → added_to marks (run 0 h ts) ≡ None
+left_open h [] marks b = ap (added_to marks) (closed_some h.brackets b)
 left_open h (t ∷ ts) marks b = refl
 
 pub any_fuel : (fuel : ℕ) (h : Here) (ts : List Tok) → length ts ≡ 0 → run fuel h ts ≡ run 0 h ts
@@ -107,7 +107,7 @@ nothing_left h ps both = subst (Shaped h []) both.1 (p.ends both.0)
 module _ (h : Here) (ts : List Tok) (ps : List Mark) where
   by_more : (m : Mark) → next h ts ≡ Some m
       → (o : Option (List Mark)) → ((qs : List Mark) → o ≡ Some qs → Shaped (passed h m ts) (later h m.row ts) qs)
-      → behind (m ∷ []) o ≡ Some ps → Shaped h ts ps
+      → added_to (m ∷ []) o ≡ Some ps → Shaped h ts ps
   by_more m q None more e = absurd (none_some ps e)
   by_more m q (Some qs) more e = subst (Shaped h ts) (some_same (m ∷ qs) ps e) (p.piece q (more qs refl))
 
@@ -167,7 +167,7 @@ complete (p.ends {h = h} e) (suc fuel) lt = closed_none h.brackets e
 complete (p.piece {h = h} {m = m} {ts = ts} {ps = ps} e s) zero lt = absurd (omega (arith, lt))
 complete (p.piece {h = h} {m = m} {ts = ts} {ps = ps} e s) (suc fuel) lt =
     turned fuel h ts m e
-    ∙ ap (behind (m ∷ []))
+    ∙ ap (added_to (m ∷ []))
     (complete s fuel (omega (arith, lt, shorter_by_one (size h.value m.row) ts (has_tokens h.value m.row) (is_there h ts m e))))
 
 -- ---- the clauses
@@ -192,27 +192,27 @@ pub no_piece : (h : Here) (ts : List Tok) (r : Option Piece) → option_map mark
 no_piece h ts r e is = sym e ∙ ap (option_map mark_of) is
 
 pub gives_ended : (whole : Option (List Mark)) (marks : List Mark) (fuel : ℕ) (h : Here) (ts : List Tok) (r : Result (Vec Piece Global) ShapeFault)
-    → whole ≡ behind marks (run fuel h ts) → length ts ≡ 0 → Gives (behind marks (run 0 h ts)) r → Gives whole r
-gives_ended whole marks fuel h ts r same e g = subst (λ o. Gives o r) (sym (same ∙ ap (behind marks) (any_fuel fuel h ts e))) g
+    → whole ≡ added_to marks (run fuel h ts) → length ts ≡ 0 → Gives (added_to marks (run 0 h ts)) r → Gives whole r
+gives_ended whole marks fuel h ts r same e g = subst (λ o. Gives o r) (sym (same ∙ ap (added_to marks) (any_fuel fuel h ts e))) g
 
 pub gives_out : (whole : Option (List Mark)) (marks : List Mark) (fuel : ℕ) (h : Here) (ts : List Tok) (r : Result (Vec Piece Global) ShapeFault)
-    → whole ≡ behind marks (run fuel h ts) → fuel ≡ 0 → Gives (behind marks (run 0 h ts)) r → Gives whole r
-gives_out whole marks fuel h ts r same e g = subst (λ o. Gives o r) (sym (same ∙ ap (λ k. behind marks (run k h ts)) e)) g
+    → whole ≡ added_to marks (run fuel h ts) → fuel ≡ 0 → Gives (added_to marks (run 0 h ts)) r → Gives whole r
+gives_out whole marks fuel h ts r same e g = subst (λ o. Gives o r) (sym (same ∙ ap (λ k. added_to marks (run k h ts)) e)) g
 
 pub turn_on : (whole : Option (List Mark)) (before marks : List Mark) (n k : ℕ) (h g : Here) (ts us : List Tok)
-    → whole ≡ behind before (run (n - k) h ts) → k < n
-    → ((fuel : ℕ) → behind before (run (suc fuel) h ts) ≡ behind marks (run fuel g us))
-    → whole ≡ behind marks (run (n - (k + 1)) g us)
+    → whole ≡ added_to before (run (n - k) h ts) → k < n
+    → ((fuel : ℕ) → added_to before (run (suc fuel) h ts) ≡ added_to marks (run fuel g us))
+    → whole ≡ added_to marks (run (n - (k + 1)) g us)
 turn_on whole before marks n k h g ts us same lt step =
     let more : n - k ≡ suc (n - (k + 1)) = omega arith in
-    same ∙ ap (λ f. behind before (run f h ts)) more ∙ step (n - (k + 1))
+    same ∙ ap (λ f. added_to before (run f h ts)) more ∙ step (n - (k + 1))
 
 pub failed : (whole : Option (List Mark)) (before : List Mark) (n k : ℕ) (h : Here) (ts : List Tok) (e : ShapeFault)
-    → whole ≡ behind before (run (n - k) h ts) → k < n → ((fuel : ℕ) → StepFails (run (suc fuel) h ts) e) → GivesFault whole e
+    → whole ≡ added_to before (run (n - k) h ts) → k < n → ((fuel : ℕ) → StepFails (run (suc fuel) h ts) e) → GivesFault whole e
 failed whole before n k h ts fault.OutOfMemory same lt fails = tt
 failed whole before n k h ts (fault.Shape at) same lt fails =
     let more : n - k ≡ suc (n - (k + 1)) = omega arith in
-    same ∙ ap (λ f. behind before (run f h ts)) more ∙ ap (behind before) (fails (n - (k + 1)))
+    same ∙ ap (λ f. added_to before (run f h ts)) more ∙ ap (added_to before) (fails (n - (k + 1)))
 
 pub by_error : (whole : Option (List Mark)) (e : ShapeFault) (r : Result (Vec Piece Global) ShapeFault) → IsErr r × IsErrAnd r (λ x. x ≡ e) → GivesFault whole e → Gives whole r
 by_error whole e (Ok v) told g = absurd told.1

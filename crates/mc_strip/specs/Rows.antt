@@ -79,7 +79,7 @@ sees_brace (t ∷ ts) = is (codes "}") t
 abbrev pub is_hit : List Tok → Bool
 is_hit ts = begins hit ts
 
--- `MCDC_H ( b ) ;` is the entry's at the front of a function's body, behind the registers where there
+-- `MCDC_H ( b ) ;` is the entry's at the front of a function's body, after the registers where there
 -- are some; the exit's before the `}` of a body; and else that of a declaration.
 abbrev pub hit_row : Site → List Tok → Option What
 hit_row s ts =

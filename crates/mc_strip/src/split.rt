@@ -4,7 +4,7 @@ ghost use Rattle.mc_lex.specs.Tokens.{toks_of};
 ghost use Rattle.mc_strip.specs.Pieces as spec;
 ghost use Rattle.mc_strip.specs.Pieces.{ArePieces, Mark};
 ghost use Rattle.mc_strip.specs.steps.Views.{here_of, marks_of};
-ghost use Rattle.mc_strip.specs.steps.Runs.{Gives, Steps, behind, run};
+ghost use Rattle.mc_strip.specs.steps.Runs.{Gives, Steps, added_to, run};
 
 use crate::fault::ShapeFault;
 use crate::here::Here;
@@ -48,7 +48,7 @@ fn finish<'a>(
     here: &Here<'_, 'a>,
     at: u32,
 ) -> Result<Vec<Piece<'a>>, ShapeFault>
-    ensures pieces { Gives (behind (marks_of all.entry.items)
+    ensures pieces { Gives (added_to (marks_of all.entry.items)
         (run 0 (here_of here.now) (toks_of here.now.left.now))) result }
     ensures place { (place : ℕ) → IsErrOf result (ShapeFault.Shape place) → place ≡ at }
 {

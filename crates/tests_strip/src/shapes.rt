@@ -29,11 +29,13 @@ static READ: [(&[u8], &[u8]); 19] = [
     (b"", b""),
     (b"int a;", b"..."),
     (
-        b"int f(int a,int b){unsigned mcdc_r[1];MCDC_H(0);{MCDC_H(2);{int mcdc_v=MCDC_D(0,3,MCDC_C(0,0,2,a)&&MCDC_C(0,0,1,b));MCDC_H(1);return mcdc_v;}}}",
+        b"int f(int a,int b){unsigned mcdc_r[1];MCDC_H(0);{MCDC_H(2);\
+          {int mcdc_v=MCDC_D(0,3,MCDC_C(0,0,2,a)&&MCDC_C(0,0,1,b));MCDC_H(1);return mcdc_v;}}}",
         b"..........R1;E0;S2;VD0,3;C0,0,2;.o.C0,0,1;.oov1;s.",
     ),
     (
-        b"void f(int x){unsigned mcdc_r[1];MCDC_H(0);{MCDC_H(3);if(MCDC_D(0,5,MCDC_C(0,0,1,x))){MCDC_H(4);{MCDC_H(1);return;}}}MCDC_H(2);}",
+        b"void f(int x){unsigned mcdc_r[1];MCDC_H(0);{MCDC_H(3);\
+          if(MCDC_D(0,5,MCDC_C(0,0,1,x))){MCDC_H(4);{MCDC_H(1);return;}}}MCDC_H(2);}",
         b".......R1;E0;S3;..D0,5;C0,0,1;.oo.S4;B1;..bssX2;.",
     ),
     (b"int f(int a){return a;}", b"..........."),
@@ -45,7 +47,8 @@ static READ: [(&[u8], &[u8]); 19] = [
         b"......E0;N1;......N2;......X3;.",
     ),
     (
-        b"void f(int a){unsigned mcdc_r[1];MCDC_H(0);{MCDC_H(1);switch(MCDC_W(0,a)){case 1:MCDC_L(0,2);case 2:MCDC_L(0,3);}MCDC_L(0,4);}}",
+        b"void f(int a){unsigned mcdc_r[1];MCDC_H(0);{MCDC_H(1);\
+          switch(MCDC_W(0,a)){case 1:MCDC_L(0,2);case 2:MCDC_L(0,3);}MCDC_L(0,4);}}",
         b".......R1;E0;S1;..W0;.o.....L0,2;...L0,3;.A0,4;s.",
     ),
     (
@@ -53,7 +56,8 @@ static READ: [(&[u8], &[u8]); 19] = [
         b"..............L0,4294967295;S2;..s..",
     ),
     (
-        b"static const unsigned long f(void){{MCDC_H(1);{unsigned long mcdc_v=0;MCDC_H(2);return mcdc_v;}}}",
+        b"static const unsigned long f(void){{MCDC_H(1);\
+          {unsigned long mcdc_v=0;MCDC_H(2);return mcdc_v;}}}",
         b".........S1;V.v2;s.",
     ),
     (
@@ -128,7 +132,8 @@ static PLAIN: [(&[u8], &[u8]); 5] = [
         b"int f ( int a ) { return a ; } ",
     ),
     (
-        b"int f(int a,int b){unsigned mcdc_r[1];MCDC_H(0);{MCDC_H(2);{int mcdc_v=MCDC_D(0,3,MCDC_C(0,0,2,a)&&MCDC_C(0,0,1,b));MCDC_H(1);return mcdc_v;}}}",
+        b"int f(int a,int b){unsigned mcdc_r[1];MCDC_H(0);{MCDC_H(2);\
+          {int mcdc_v=MCDC_D(0,3,MCDC_C(0,0,2,a)&&MCDC_C(0,0,1,b));MCDC_H(1);return mcdc_v;}}}",
         b"int f ( int a , int b ) { { return ( ( a ) && ( b ) ) ; } } ",
     ),
     (
@@ -136,7 +141,8 @@ static PLAIN: [(&[u8], &[u8]); 5] = [
         b"int f ( void ) { x = x * ( a < b ) ; } ",
     ),
     (
-        b"void f(int a){MCDC_H(0);{MCDC_H(1);switch(MCDC_W(0,a)){case 1:MCDC_L(0,2);case 2:MCDC_L(0,3);}MCDC_L(0,4);}}",
+        b"void f(int a){MCDC_H(0);{MCDC_H(1);\
+          switch(MCDC_W(0,a)){case 1:MCDC_L(0,2);case 2:MCDC_L(0,3);}MCDC_L(0,4);}}",
         b"void f ( int a ) { { switch ( ( a ) ) { case 1 : case 2 : } } } ",
     ),
     (

@@ -14,14 +14,14 @@ abbrev pub closed : List Bracket → Option (List Mark)
 closed [] = Some []
 closed (b ∷ bs) = None
 
-abbrev pub behind : List Mark → Option (List Mark) → Option (List Mark)
-behind ps None = None
-behind ps (Some qs) = Some (ps ++ qs)
+abbrev pub added_to : List Mark → Option (List Mark) → Option (List Mark)
+added_to ps None = None
+added_to ps (Some qs) = Some (ps ++ qs)
 
 abbrev pub go_on : (Here → List Tok → Option (List Mark)) → Here → List Tok → Option Mark
     → Option (List Mark)
 go_on more h ts None = None
-go_on more h ts (Some m) = behind (m ∷ []) (more (passed h m ts) (later h m.row ts))
+go_on more h ts (Some m) = added_to (m ∷ []) (more (passed h m ts) (later h m.row ts))
 
 abbrev pub run : ℕ → Here → List Tok → Option (List Mark)
 run fuel h [] = closed h.brackets
@@ -37,8 +37,8 @@ abbrev pub Gives : Option (List Mark) → Result (Vec Piece Global) ShapeFault �
 Gives found (Ok v) = found ≡ Some (marks_of v.items)
 Gives found (Err e) = GivesFault found e
 
--- One turn: what the run gives at a place, behind these marks, is what it gives at the next one,
--- behind the marks there.
+-- One turn: what the run gives at a place, after these marks, is what it gives at the next one,
+-- after the marks there.
 abbrev pub StepFails : Option (List Mark) → ShapeFault → Type 0
 StepFails whole fault.OutOfMemory = Unit {0}
 StepFails whole (fault.Shape at) = whole ≡ None
@@ -46,5 +46,5 @@ StepFails whole (fault.Shape at) = whole ≡ None
 abbrev pub Steps : ℕ → Option (List Mark) → List Mark → Here → List Tok → List Mark
     → Result Unit ShapeFault → Type 0
 Steps fuel whole before h left marks (Ok u) =
-    behind before whole ≡ behind marks (run fuel h left)
+    added_to before whole ≡ added_to marks (run fuel h left)
 Steps fuel whole before h left marks (Err e) = StepFails whole e

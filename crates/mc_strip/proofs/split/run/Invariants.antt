@@ -2,10 +2,10 @@ use Rattle.std.proofs.Common.{◌≡◌, ◌+◌, ◌-◌, length}
 use Rattle.mc_lex.specs.Tokens.{toks_of}
 use Rattle.mc_strip.specs.Pieces.{start}
 use Rattle.mc_strip.specs.steps.Views.{here_of, marks_of}
-use Rattle.mc_strip.specs.steps.Runs.{behind, run}
+use Rattle.mc_strip.specs.steps.Runs.{added_to, run}
 use Rattle.mc_strip.proofs.split.run.Given as goal
 
 abbrev pub invariant-loop-turn : goal.invariant-loop-turn
 invariant-loop-turn l =
     run (length l.tokens + 1) (start (toks_of l.tokens)) (toks_of l.tokens)
-    ≡ behind (marks_of l.all.items) (run (l._turn-end - l._turn) (here_of l.here) (toks_of l.here.left.now))
+    ≡ added_to (marks_of l.all.items) (run (l._turn-end - l._turn) (here_of l.here) (toks_of l.here.left.now))
