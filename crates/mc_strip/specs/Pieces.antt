@@ -12,10 +12,11 @@ use Rattle.mc_strip.specs.declared.piece.What.TheVariants as what
 use Rattle.mc_strip.specs.Words.{is, before_of}
 use Rattle.mc_strip.specs.Rows.{is_body, is_nothing, after_tokens, row_at}
 
--- what a piece is, and the first of its tokens
+-- what a piece is, the first of its tokens, and where the word of its probe starts
 pub record Mark : Type 0 where
   pub row : What
   pub token : Tok
+  pub word : ℕ
 
 -- What has been read at a place: what is open, the innermost last; whether it is inside a function's
 -- body; what stands directly before; the tokens from the start of the external declaration; and what
@@ -140,14 +141,26 @@ passed h m ts = after h m.row m.token (later h m.row ts)
 
 -- ---- the pieces of a text
 
+-- whether a `{` or a `;` stands before the word of its probe
+abbrev pub word_is_second : What → Bool
+word_is_second (what.Statement bit) = true
+word_is_second (what.ValueEnd bit) = true
+word_is_second (what.Return bit) = true
+word_is_second _ = false
+
+-- where the word of its probe starts: a token of the source is its own word
+abbrev pub word_start : What → Tok → List Tok → ℕ
+word_start w t [] = t.start
+word_start w t (u ∷ ts) = if word_is_second w then u.start else t.start
+
 -- the piece with which these tokens begin
-abbrev pub marked : Tok → Option What → Option Mark
-marked t None = None
-marked t (Some w) = Some (record { row = w; token = t })
+abbrev pub marked : Tok → List Tok → Option What → Option Mark
+marked t rest None = None
+marked t rest (Some w) = Some (record { row = w; token = t; word = word_start w t rest })
 
 abbrev pub piece_at : Site → List (List ℕ) → List Tok → Option Mark
 piece_at s value [] = None
-piece_at s value (t ∷ ts) = marked t (row_at s value (t ∷ ts))
+piece_at s value (t ∷ ts) = marked t ts (row_at s value (t ∷ ts))
 
 abbrev pub next : Here → List Tok → Option Mark
 next h ts = piece_at (site_of h) h.value ts

@@ -177,6 +177,26 @@ fn note<'t, 'a>(alloc: Global, here: &mut Here<'t, 'a>, what: What) -> Result<()
     Ok(())
 }
 
+/// Whether a `{` or a `;` stands before the word of a piece's probe.
+fn word_is_second(what: What) -> bool
+    ensures { result ≡ spec.word_is_second what }
+{
+    matches!(
+        what,
+        What::Statement { .. } | What::ValueEnd { .. } | What::Return { .. }
+    )
+}
+
+/// Where the word of a piece's probe starts.
+fn word_start(what: What, token: &Token<'_>, later: &[Token<'_>]) -> u32
+    ensures { result ≡ spec.word_start what (tok_of token.now) (toks_of later.now) }
+{
+    match later {
+        [next, ..] if word_is_second(what) => next.start,
+        _ => token.start,
+    }
+}
+
 /// The piece with which these tokens begin, where one can stand there.
 fn piece_at<'a>(site: Site, value: &[&[u8]], tokens: &[Token<'a>]) -> Option<Piece<'a>>
     ensures { option_map mark_of result
@@ -184,11 +204,12 @@ fn piece_at<'a>(site: Site, value: &[&[u8]], tokens: &[Token<'a>]) -> Option<Pie
 {
     match tokens {
         [] => None,
-        [token, ..] => match row_at(site, value, tokens) {
+        [token, later @ ..] => match row_at(site, value, tokens) {
             None => None,
             Some(what) => Some(Piece {
                 what,
                 token: *token,
+                word: word_start(what, token, later),
             }),
         },
     }

@@ -18,7 +18,7 @@ here_of h = record {
 }
 
 abbrev pub mark_of : Piece → spec.Mark
-mark_of p = record { row = p.what; token = tok_of p.token }
+mark_of p = record { row = p.what; token = tok_of p.token; word = p.word }
 
 abbrev pub marks_of : List Piece → List spec.Mark
 marks_of ps = map mark_of ps
