@@ -161,13 +161,6 @@ impl<'p> Drop for Prepared<'p> {
     }
 }
 
-/// A statement on the heap.
-fn on_heap<'p>(alloc: Global, one: Prepared<'p>) -> Result<Box<Prepared<'p>>, AllocError>
-    ensures { IfOk result (λ r. r.value ≡ one.entry) }
-{
-    Ok(Box::new(alloc, one)?)
-}
-
 /// The prepared statement that a tree is.
 #[cycle(statements)]
 fn prepare<'p>(alloc: Global, tree: &'p Statement) -> Result<Prepared<'p>, AllocError>
@@ -209,10 +202,10 @@ fn prepare<'p>(alloc: Global, tree: &'p Statement) -> Result<Prepared<'p>, Alloc
             bit,
         } => {
             let asked = test_from(alloc, test)?;
-            let taken = prepare(alloc, chosen)?;
+            let taken = boxed(alloc, chosen)?;
             Ok(Prepared::If {
                 test: asked,
-                chosen: on_heap(alloc, taken)?,
+                chosen: taken,
                 keyword: *keyword,
                 span: *span,
                 bit: *bit,
@@ -227,12 +220,12 @@ fn prepare<'p>(alloc: Global, tree: &'p Statement) -> Result<Prepared<'p>, Alloc
             bit,
         } => {
             let asked = test_from(alloc, test)?;
-            let taken = prepare(alloc, chosen)?;
-            let left = prepare(alloc, other)?;
+            let taken = boxed(alloc, chosen)?;
+            let left = boxed(alloc, other)?;
             Ok(Prepared::IfElse {
                 test: asked,
-                chosen: on_heap(alloc, taken)?,
-                other: on_heap(alloc, left)?,
+                chosen: taken,
+                other: left,
                 keyword: *keyword,
                 span: *span,
                 bit: *bit,
@@ -264,12 +257,12 @@ fn prepare<'p>(alloc: Global, tree: &'p Statement) -> Result<Prepared<'p>, Alloc
         } => {
             let asked = test_if_any(alloc, test)?;
             let steps = steps_from(alloc, step)?;
-            let repeated = prepare(alloc, body)?;
+            let repeated = boxed(alloc, body)?;
             Ok(Prepared::For {
                 start,
                 test: asked,
                 step: steps,
-                body: on_heap(alloc, repeated)?,
+                body: repeated,
                 keyword: *keyword,
                 span: *span,
                 bit: *bit,
@@ -282,10 +275,10 @@ fn prepare<'p>(alloc: Global, tree: &'p Statement) -> Result<Prepared<'p>, Alloc
             span,
             bit,
         } => {
-            let repeated = prepare(alloc, body)?;
+            let repeated = boxed(alloc, body)?;
             let asked = test_from(alloc, test)?;
             Ok(Prepared::DoWhile {
-                body: on_heap(alloc, repeated)?,
+                body: repeated,
                 test: asked,
                 keyword: *keyword,
                 span: *span,
@@ -312,6 +305,18 @@ fn prepare<'p>(alloc: Global, tree: &'p Statement) -> Result<Prepared<'p>, Alloc
             exit: *exit,
         }),
     }
+}
+
+/// The same on the heap. What is boxed passes through this function alone: a function clears all its
+/// values as it begins, and that would be much of the time that `prepare` takes.
+#[cycle(statements)]
+#[inline(never)]
+fn boxed<'p>(alloc: Global, tree: &'p Statement) -> Result<Box<Prepared<'p>>, AllocError>
+    ensures { IfOk result (λ made. statement_of made.value ≡ view.statement_of tree.now) }
+{
+    let made = prepare(alloc, tree)?;
+    let made = Box::new(alloc, made)?;
+    Ok(made)
 }
 
 /// The items of a body.
