@@ -40,8 +40,10 @@ site_of h =
 
 -- ---- the words of a function's type
 
+-- no word of a type
 abbrev pub is_left_out : Tok → Bool
-is_left_out t = is (codes "static") t || is (codes "extern") t || is (codes "const") t
+is_left_out t =
+    is (codes "static") t || is (codes "extern") t || is (codes "const") t || is (codes "*") t
 
 abbrev pub word : Tok → List (List ℕ)
 word t = if is_left_out t then [] else t.text ∷ []

@@ -11,7 +11,7 @@ use Rattle.mc_strip.specs.declared.word.Word.{Word}
 use Rattle.mc_strip.specs.declared.word.Word.TheVariants as word
 use Rattle.mc_strip.specs.declared.piece.What.{What}
 use Rattle.mc_strip.specs.declared.piece.What.TheVariants as what
-use Rattle.mc_strip.specs.Words.{is, word_of, begins_declaration}
+use Rattle.mc_strip.specs.Words.{is, word_of, begins_declaration, may_begin_declaration}
 use Rattle.mc_strip.specs.Shapes.{begins, number_at, hit, registers, label, statement, value_end, bare_return, decision, condition, switch}
 
 -- ---- the place
@@ -32,10 +32,6 @@ is_at_front _ = false
 abbrev pub is_colon : Before → Bool
 is_colon before.Colon = true
 is_colon _ = false
-
-abbrev pub is_brace : Before → Bool
-is_brace before.Brace = true
-is_brace _ = false
 
 abbrev pub is_parenthesis : Before → Bool
 is_parenthesis before.Parenthesis = true
@@ -80,28 +76,28 @@ abbrev pub is_hit : List Tok → Bool
 is_hit ts = begins hit ts
 
 -- `MCDC_H ( b ) ;` is the entry's at the front of a function's body, after the registers where there
--- are some; the exit's before the `}` of a body; and else that of a declaration.
+-- are some; the exit's before the `}` of a body; and else that of a declaration, where one may follow.
 abbrev pub hit_row : Site → List Tok → Option What
 hit_row s ts =
     if not (is_hit ts) then None
     else (if is_front s.before then Some (what.Entry (number_at 2 ts))
     else (if is_body s.innermost && sees_brace (after_tokens 5 ts)
     then Some (what.Exit (number_at 2 ts))
-    else (if s.inside && begins_declaration (after_tokens 5 ts)
+    else (if s.inside && may_begin_declaration (after_tokens 5 ts)
     then Some (what.Declaration (number_at 2 ts))
     else None)))
 
 abbrev pub is_label : List Tok → Bool
 is_label ts = begins label ts
 
--- `MCDC_L ( r , b ) ;` stands after the colon of a label, or after the `}` of a `switch` and before
--- the `}` of its statement's braces.
+-- `MCDC_L ( r , b ) ;` stands after the colon of a label, or after a `switch` in its statement's
+-- braces.
 abbrev pub label_row : Site → List Tok → Option What
 label_row s ts =
     if not (is_label ts) then None
     else (if s.inside && is_colon s.before
     then Some (what.Label (number_at 2 ts) (number_at 4 ts))
-    else (if is_statement s.innermost && is_brace s.before && sees_brace (after_tokens 7 ts)
+    else (if is_statement s.innermost
     then Some (what.Default (number_at 2 ts) (number_at 4 ts))
     else None))
 
@@ -143,15 +139,18 @@ exit_row value ts =
     else (if begins value (after_tokens 1 ts) then Some what.Value
     else None)
 
+abbrev pub is_no_declaration : List Tok → Bool
+is_no_declaration ts = not (begins_declaration ts) && not (is_hit ts)
+
 abbrev pub brace : Site → Bracket
 brace s = if begins_body s then bracket.Body else bracket.Brace
 
--- Inside a function's body `{ MCDC_H ( b ) ;` begins a counted statement, where no declaration
--- follows.
+-- Inside a function's body `{ MCDC_H ( b ) ;` begins a counted statement, where neither a declaration
+-- nor another such probe follows.
 abbrev pub brace_row : Site → List (List ℕ) → List Tok → Option What
 brace_row s value ts =
     if is_after_statement s.before then exit_row value ts
-    else (if s.inside && is_counted ts && not (begins_declaration (after_tokens 6 ts))
+    else (if s.inside && is_counted ts && is_no_declaration (after_tokens 6 ts)
     then Some (what.Statement (number_at 3 ts))
     else Some (what.Opening (brace s)))
 

@@ -56,10 +56,9 @@ is_name t =
 abbrev pub before_of : Tok → Before
 before_of t =
     if is (codes ":") t then before.Colon
-    else (if is (codes "}") t then before.Brace
     else (if is (codes ")") t then before.Parenthesis
     else (if is_name t then before.Name
-    else before.Other)))
+    else before.Other))
 
 -- the words with which specifiers begin (C17 6.7)
 unfoldable pub specifiers : List (List ℕ)
@@ -78,3 +77,11 @@ begins_declaration [] = false
 begins_declaration (t ∷ []) = is_one_of specifiers t
 begins_declaration (t ∷ u ∷ ts) =
     is_one_of specifiers t || (is_identifier t && (is_identifier u || is_one_of specifiers u))
+
+-- A typedef name and `*` begin one too (C17 6.7.8), but so does a product: only a tree tells which.
+abbrev pub begins_product : List Tok → Bool
+begins_product (t ∷ u ∷ ts) = is_identifier t && is (codes "*") u
+begins_product _ = false
+
+abbrev pub may_begin_declaration : List Tok → Bool
+may_begin_declaration ts = begins_declaration ts || begins_product ts

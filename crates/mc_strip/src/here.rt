@@ -29,11 +29,11 @@ pub(crate) struct Here<'t, 'a> {
 
 // ---- the words of a function's type
 
-/// Whether a word of a declaration says nothing of the type.
+/// Whether a token before a function's name is no word of its type.
 fn is_left_out(token: &Token<'_>) -> bool
     ensures { result ≡ spec.is_left_out (tok_of token.now) }
 {
-    is(token, b"static") || is(token, b"extern") || is(token, b"const")
+    is(token, b"static") || is(token, b"extern") || is(token, b"const") || is(token, b"*")
 }
 
 /// Adds a word of a type.

@@ -11,7 +11,7 @@ use crate::shapes::{
     number_at,
 };
 use crate::site::{Before, Site};
-use crate::word::{Word, begins_declaration, is, word_of};
+use crate::word::{Word, begins_declaration, is, may_begin_declaration, word_of};
 use mc_lex::Token;
 
 // ---- the place
@@ -94,7 +94,7 @@ fn hit_row(site: Site, tokens: &[Token<'_>]) -> Option<What>
         Some(What::Entry { bit })
     } else if is_body(site.innermost) && sees_brace(later) {
         Some(What::Exit { bit })
-    } else if site.inside && begins_declaration(later) {
+    } else if site.inside && may_begin_declaration(later) {
         Some(What::Declaration { bit })
     } else {
         None
@@ -118,10 +118,7 @@ fn label_row(site: Site, tokens: &[Token<'_>]) -> Option<What>
     let bit = number_at(4, tokens);
     if site.inside && matches!(site.before, Before::Colon) {
         Some(What::Label { register, bit })
-    } else if is_statement(site.innermost)
-        && matches!(site.before, Before::Brace)
-        && sees_brace(after(7, tokens))
-    {
+    } else if is_statement(site.innermost) {
         Some(What::Default { register, bit })
     } else {
         None
@@ -217,6 +214,13 @@ fn exit_row(value: &[&[u8]], tokens: &[Token<'_>]) -> Option<What>
     }
 }
 
+/// Whether neither a declaration nor the probe of one follows.
+fn is_no_declaration(tokens: &[Token<'_>]) -> bool
+    ensures { result ≡ spec.is_no_declaration (toks_of tokens.now) }
+{
+    !begins_declaration(tokens) && !is_hit(tokens)
+}
+
 fn brace(site: Site) -> Bracket
     ensures { result ≡ spec.brace site }
 {
@@ -232,7 +236,7 @@ fn brace_row(site: Site, value: &[&[u8]], tokens: &[Token<'_>]) -> Option<What>
 {
     if matches!(site.before, Before::Statement) {
         exit_row(value, tokens)
-    } else if site.inside && is_counted(tokens) && !begins_declaration(after(6, tokens)) {
+    } else if site.inside && is_counted(tokens) && is_no_declaration(after(6, tokens)) {
         Some(What::Statement {
             bit: number_at(3, tokens),
         })

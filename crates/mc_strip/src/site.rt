@@ -13,8 +13,6 @@ pub enum Before {
     Statement,
     /// `:`
     Colon,
-    /// `}`
-    Brace,
     /// `)`
     Parenthesis,
     /// An identifier, or `if`, `switch`, `while` or `for`: a `(` after it begins no expression in

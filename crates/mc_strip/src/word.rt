@@ -109,8 +109,6 @@ pub(crate) fn before_of(token: &Token<'_>) -> Before
 {
     if is(token, b":") {
         Before::Colon
-    } else if is(token, b"}") {
-        Before::Brace
     } else if is(token, b")") {
         Before::Parenthesis
     } else if is_name(token) {
@@ -171,4 +169,21 @@ pub(crate) fn begins_declaration(tokens: &[Token<'_>]) -> bool
                 || (is_identifier(one) && (is_identifier(other) || is_specifier(other)))
         }
     }
+}
+
+/// Whether a product begins with a name, or a declaration with a typedef name and `*`.
+fn begins_product(tokens: &[Token<'_>]) -> bool
+    ensures { result ≡ spec.begins_product (toks_of tokens.now) }
+{
+    match tokens {
+        [one, other, ..] => is_identifier(one) && is(other, b"*"),
+        _ => false,
+    }
+}
+
+/// Whether a declaration may begin, for what can be told without a tree.
+pub(crate) fn may_begin_declaration(tokens: &[Token<'_>]) -> bool
+    ensures { result ≡ spec.may_begin_declaration (toks_of tokens.now) }
+{
+    begins_declaration(tokens) || begins_product(tokens)
 }

@@ -25,7 +25,7 @@ impl<T: Drop> From<AllocFailed<T>> for Fail {
 
 /// Texts and their pieces. A `.` is a token of the source; every other letter is a piece of a probe,
 /// and its numbers stand after it.
-static READ: [(&[u8], &[u8]); 19] = [
+static READ: [(&[u8], &[u8]); 23] = [
     (b"", b""),
     (b"int a;", b"..."),
     (
@@ -69,6 +69,20 @@ static READ: [(&[u8], &[u8]); 19] = [
         b"..............S1;V.v2;s.",
     ),
     (b"int f(void){x*MCDC_D(0,1,a<b);}", b"........D0,1;...o.."),
+    // what only a tree can tell
+    (
+        b"void f(void){{MCDC_H(1);switch(a){case 1:;}MCDC_L(0,1);b=1;}}",
+        b"......S1;..........A0,1;....s.",
+    ),
+    (
+        b"void f(void){{MCDC_H(1);switch(a);MCDC_L(0,1);}}",
+        b"......S1;.....A0,1;s.",
+    ),
+    (b"void f(void){a;MCDC_H(0);T*p=0;}", b"........N0;......."),
+    (
+        b"int*f(void){{MCDC_H(0);{int mcdc_v=0;MCDC_H(1);return mcdc_v;}}}",
+        b".......S0;V.v1;s.",
+    ),
     (b"int a=MCDC_C(0,0,1,2);", b"...C0,0,1;.o."),
     (b"int a[MCDC_W(0,2)];", b"...W0;.o.."),
     (
@@ -88,10 +102,7 @@ static REFUSED: [(&[u8], u32); 25] = [
     (b"MCDC_H(0);", 0),
     (b"struct S{MCDC_H(0);int a;};", 3),
     (b"void f(void){MCDC_H(0);MCDC_L(0,1);}", 11),
-    (
-        b"void f(void){{MCDC_H(1);switch(a){case 1:;}MCDC_L(0,1);b=1;}}",
-        22,
-    ),
+    (b"void f(void){{MCDC_H(0);MCDC_H(1);int a=1;}}", 7),
     (b"int f(void){int a;unsigned mcdc_r[1];}", 10),
     (b"void f(void){unsigned mcdc_r[0];}", 7),
     (b"int MCDC_H;", 1),
