@@ -26,12 +26,55 @@ use std::alloc::{AllocError, Global};
 use std::thread;
 use std::thread::Threads;
 
+/// So many workers as are asked for, but no more than there are tests, and at least one.
+fn needed(workers: u32, tests: usize) -> u32
+    requires { (1 ≤ workers) × (workers ≤ most_workers) }
+    ensures { (1 ≤ result) × (result ≤ workers) }
+{
+    if tests >= workers as usize {
+        workers
+    } else if tests == 0 {
+        1
+    } else {
+        tests as u32
+    }
+}
+
 /// Runs the tests on the program by so many workers, each with a machine of its own in a thread of
-/// its own where one can be made. A worker claims a test, passes the gate with its number, and runs
+/// its own where one can be made; but by no more workers than there are tests, since each takes time
+/// and memory for its machine. A worker claims a test, passes the gate with its number, and runs
 /// it from the initial values of the static objects. The pass that comes back has every test
 /// claimed once, and exactly the hits of the tests' runs. The results stand in the order of the
 /// tests. Machines and passes are made before the first test. After a refusal the pass is gone.
 pub fn run_tests<R: Threads + Sync, G: Gate>(
+    rt: &R,
+    alloc: Global,
+    cover: &Cover,
+    pass: Pass,
+    program: &Instrumented<'_>,
+    plans: &[TestPlan],
+    workers: u32,
+    gate: &G,
+) -> Result<(Pass, Vec<TestResult>), AllocError>
+    requires own { IsOf cover.now pass }
+    requires fresh { pass.view ≡ opener cover.now.shape }
+    requires shape { cover.now.shape
+        ≡ record { bits = program.now.bits; tests = length plans.now } }
+    requires fit { All (λ plan. Fits (plan_of plan) (erase (tree_of program.now).program))
+        plans.now }
+    requires few { length plans.now ≤ most_tests }
+    requires workers { (1 ≤ workers) × (workers ≤ most_workers) }
+    ensures pass { IfOk result (λ r.
+        HasAll (does_of (tree_of program.now) (map plan_of plans.now)) cover.now r.0) }
+    ensures results { IfOk result (λ r. map told_of r.1.items
+        ≡ map (told_by (tree_of program.now)) (map plan_of plans.now)) }
+{
+    let workers = needed(workers, plans.len());
+    run_by(rt, alloc, cover, pass, program, plans, workers, gate)
+}
+
+/// The same by exactly so many workers.
+fn run_by<R: Threads + Sync, G: Gate>(
     rt: &R,
     alloc: Global,
     cover: &Cover,

@@ -9,7 +9,7 @@ use Rattle.mc_typed.specs.Plans.{Plan, plan_of}
 use Rattle.mc_runner.specs.Jobs.{does_of, told_all}
 use Rattle.mc_runner.proofs.Gathered.{all_done, all_told, filled_also, has_all, left_over, none_gathered, one_gathered, popped}
 use Rattle.mc_runner.proofs.Jobs.{none_filled, told_parts, told_within}
-use Rattle.mc_runner.proofs.workers.run_tests.Goals as goal
+use Rattle.mc_runner.proofs.workers.run_by.Goals as goal
 
 pub loop-one-init : goal.loop-one-init
 loop-one-init g c =

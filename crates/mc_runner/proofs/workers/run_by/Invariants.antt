@@ -5,7 +5,7 @@ use Rattle.mc_crew.specs.Crew.{IsGathered}
 use Rattle.mc_probe.specs.Trees.{tree_of}
 use Rattle.mc_typed.specs.Plans.{plan_of}
 use Rattle.mc_runner.specs.Jobs.{AreFilled, HasDone, does_of, told_all}
-use Rattle.mc_runner.proofs.workers.run_tests.Given as goal
+use Rattle.mc_runner.proofs.workers.run_by.Given as goal
 
 abbrev pub invariant-loop-one : goal.invariant-loop-one
 invariant-loop-one g l = record {
