@@ -30,7 +30,7 @@ pub fn expression(alloc: Global, tree: &Expression) -> Result<Expression, AllocE
             operand,
             span,
         } => {
-            let operand = Box::new(alloc, expression(alloc, operand)?)?;
+            let operand = boxed(alloc, operand)?;
             Ok(Expression::Unary {
                 operator: *operator,
                 of: *of,
@@ -44,7 +44,7 @@ pub fn expression(alloc: Global, tree: &Expression) -> Result<Expression, AllocE
             operand,
             span,
         } => {
-            let operand = Box::new(alloc, expression(alloc, operand)?)?;
+            let operand = boxed(alloc, operand)?;
             Ok(Expression::Convert {
                 to: *to,
                 written: *written,
@@ -53,7 +53,7 @@ pub fn expression(alloc: Global, tree: &Expression) -> Result<Expression, AllocE
             })
         }
         Expression::Not { operand, span } => {
-            let operand = Box::new(alloc, expression(alloc, operand)?)?;
+            let operand = boxed(alloc, operand)?;
             Ok(Expression::Not {
                 operand,
                 span: *span,
@@ -66,8 +66,8 @@ pub fn expression(alloc: Global, tree: &Expression) -> Result<Expression, AllocE
             right,
             span,
         } => {
-            let left = Box::new(alloc, expression(alloc, left)?)?;
-            let right = Box::new(alloc, expression(alloc, right)?)?;
+            let left = boxed(alloc, left)?;
+            let right = boxed(alloc, right)?;
             Ok(Expression::Binary {
                 operator: *operator,
                 of: *of,
@@ -82,8 +82,8 @@ pub fn expression(alloc: Global, tree: &Expression) -> Result<Expression, AllocE
             right,
             span,
         } => {
-            let left = Box::new(alloc, expression(alloc, left)?)?;
-            let right = Box::new(alloc, expression(alloc, right)?)?;
+            let left = boxed(alloc, left)?;
+            let right = boxed(alloc, right)?;
             Ok(Expression::Logic {
                 operator: *operator,
                 left,
@@ -98,9 +98,9 @@ pub fn expression(alloc: Global, tree: &Expression) -> Result<Expression, AllocE
             of,
             span,
         } => {
-            let test = Box::new(alloc, expression(alloc, test)?)?;
-            let chosen = Box::new(alloc, expression(alloc, chosen)?)?;
-            let other = Box::new(alloc, expression(alloc, other)?)?;
+            let test = boxed(alloc, test)?;
+            let chosen = boxed(alloc, chosen)?;
+            let other = boxed(alloc, other)?;
             Ok(Expression::Choice {
                 test,
                 chosen,
@@ -115,6 +115,19 @@ pub fn expression(alloc: Global, tree: &Expression) -> Result<Expression, AllocE
         }
         Expression::Probe { operand, .. } => expression(alloc, operand),
     }
+}
+
+/// The same on the heap. What is boxed passes through this function alone: a function clears all its
+/// values as it begins, and that would be much of the time that a copy takes.
+#[cycle(copy)]
+#[inline(never)]
+fn boxed(alloc: Global, tree: &Expression) -> Result<Box<Expression>, AllocError>
+    ensures { IfOk result (λ c.
+        probed.expression_of c.value ≡ bare_expression (plain.expression_of tree.now)) }
+{
+    let copy = expression(alloc, tree)?;
+    let copy = Box::new(alloc, copy)?;
+    Ok(copy)
 }
 
 /// A copy of a place.
@@ -137,7 +150,7 @@ pub(super) fn place(alloc: Global, tree: &Place) -> Result<Place, AllocError>
             index,
             span,
         } => {
-            let index = Box::new(alloc, expression(alloc, index)?)?;
+            let index = boxed(alloc, index)?;
             Ok(Place::Parameter {
                 array: *array,
                 stride: *stride,
@@ -152,8 +165,8 @@ pub(super) fn place(alloc: Global, tree: &Place) -> Result<Place, AllocError>
             index,
             span,
         } => {
-            let array = Box::new(alloc, place(alloc, array)?)?;
-            let index = Box::new(alloc, expression(alloc, index)?)?;
+            let array = boxed_place(alloc, array)?;
+            let index = boxed(alloc, index)?;
             Ok(Place::Item {
                 array,
                 length: *length,
@@ -168,7 +181,7 @@ pub(super) fn place(alloc: Global, tree: &Place) -> Result<Place, AllocError>
             offset,
             span,
         } => {
-            let structure = Box::new(alloc, place(alloc, whole)?)?;
+            let structure = boxed_place(alloc, whole)?;
             Ok(Place::Member {
                 structure,
                 member: *member,
@@ -177,6 +190,17 @@ pub(super) fn place(alloc: Global, tree: &Place) -> Result<Place, AllocError>
             })
         }
     }
+}
+
+/// A copy of a place, on the heap.
+#[cycle(copy)]
+#[inline(never)]
+fn boxed_place(alloc: Global, tree: &Place) -> Result<Box<Place>, AllocError>
+    ensures { IfOk result (λ c. probed.place_of c.value ≡ bare_place (plain.place_of tree.now)) }
+{
+    let copy = place(alloc, tree)?;
+    let copy = Box::new(alloc, copy)?;
+    Ok(copy)
 }
 
 /// A copy of a structure.

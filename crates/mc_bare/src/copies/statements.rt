@@ -112,7 +112,7 @@ fn statement(alloc: Global, tree: &Statement) -> Result<Statement, AllocError>
             ..
         } => {
             let test = expression(alloc, test)?;
-            let chosen = Box::new(alloc, statement(alloc, chosen)?)?;
+            let chosen = boxed(alloc, chosen)?;
             Ok(Statement::If {
                 test,
                 chosen,
@@ -130,8 +130,8 @@ fn statement(alloc: Global, tree: &Statement) -> Result<Statement, AllocError>
             ..
         } => {
             let test = expression(alloc, test)?;
-            let chosen = Box::new(alloc, statement(alloc, chosen)?)?;
-            let other = Box::new(alloc, statement(alloc, other)?)?;
+            let chosen = boxed(alloc, chosen)?;
+            let other = boxed(alloc, other)?;
             Ok(Statement::IfElse {
                 test,
                 chosen,
@@ -171,7 +171,7 @@ fn statement(alloc: Global, tree: &Statement) -> Result<Statement, AllocError>
             let start = start(alloc, first)?;
             let test = optional(alloc, test)?;
             let step = effects(alloc, step)?;
-            let body = Box::new(alloc, statement(alloc, body)?)?;
+            let body = boxed(alloc, body)?;
             Ok(Statement::For {
                 start,
                 test,
@@ -189,7 +189,7 @@ fn statement(alloc: Global, tree: &Statement) -> Result<Statement, AllocError>
             span,
             ..
         } => {
-            let body = Box::new(alloc, statement(alloc, body)?)?;
+            let body = boxed(alloc, body)?;
             let test = expression(alloc, test)?;
             Ok(Statement::DoWhile {
                 body,
@@ -217,6 +217,19 @@ fn statement(alloc: Global, tree: &Statement) -> Result<Statement, AllocError>
             })
         }
     }
+}
+
+/// The same on the heap. What is boxed passes through this function alone: a function clears all its
+/// values as it begins, and that would be much of the time that a copy takes.
+#[cycle(copy)]
+#[inline(never)]
+fn boxed(alloc: Global, tree: &Statement) -> Result<Box<Statement>, AllocError>
+    ensures { IfOk result (λ c.
+        probed.statement_of c.value ≡ bare_statement (plain.statement_of tree.now)) }
+{
+    let copy = statement(alloc, tree)?;
+    let copy = Box::new(alloc, copy)?;
+    Ok(copy)
 }
 
 /// Copies of the items of a body.
