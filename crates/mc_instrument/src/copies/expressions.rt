@@ -64,6 +64,24 @@ pub(crate) fn expression(
     }
 }
 
+/// The same on the heap. What is boxed passes through this function alone: a function clears all its
+/// values as it begins, and that would be much of the time that a copy takes.
+#[cycle(put)]
+#[inline(never)]
+fn boxed(walk: &Walk<'_>, next: &mut u32, tree: &Expression) -> Result<Box<Expression>, AllocError>
+    requires { next.now
+        + roots role.Plain (nodes.expression (plain.expression_of tree.now)) < 2 ^ 32 }
+    ensures copy { IfOk result (λ c. probed.expression_of c.value
+        ≡ put (map_of walk.now.map.now) walk.now.first (Loose role.Plain) next.old
+        (plain.expression_of tree.now)) }
+    ensures next { IfOk result (λ _. next.new
+        ≡ next.old + roots role.Plain (nodes.expression (plain.expression_of tree.now))) }
+{
+    let copy = expression(walk, next, tree)?;
+    let copy = Box::new(walk.alloc, copy)?;
+    Ok(copy)
+}
+
 /// A copy of the root of a decision.
 #[cycle(put)]
 fn root(walk: &Walk<'_>, next: &mut u32, tree: &Expression) -> Result<Expression, AllocError>
@@ -106,8 +124,7 @@ fn in_tree(
 {
     match tree {
         Expression::Not { operand, span } => {
-            let operand = in_tree(walk, next, k, condition, operand)?;
-            let operand = Box::new(walk.alloc, operand)?;
+            let operand = boxed_part(walk, next, k, condition, operand)?;
             Ok(Expression::Not {
                 operand,
                 span: *span,
@@ -119,8 +136,8 @@ fn in_tree(
             right,
             span,
         } => {
-            let left = Box::new(walk.alloc, in_tree(walk, next, k, condition, left)?)?;
-            let right = Box::new(walk.alloc, in_tree(walk, next, k, condition, right)?)?;
+            let left = boxed_part(walk, next, k, condition, left)?;
+            let right = boxed_part(walk, next, k, condition, right)?;
             Ok(Expression::Logic {
                 operator: *operator,
                 left,
@@ -136,8 +153,8 @@ fn in_tree(
             span,
         } => match full_operator(*operator, first, second) {
             Some(_) => {
-                let left = Box::new(walk.alloc, in_tree(walk, next, k, condition, first)?)?;
-                let right = Box::new(walk.alloc, in_tree(walk, next, k, condition, second)?)?;
+                let left = boxed_part(walk, next, k, condition, first)?;
+                let right = boxed_part(walk, next, k, condition, second)?;
                 Ok(Expression::Binary {
                     operator: *operator,
                     of: *of,
@@ -157,6 +174,32 @@ fn in_tree(
         | Expression::Call { .. }
         | Expression::Input { .. } => one_condition(walk, next, k, condition, tree),
     }
+}
+
+/// The same on the heap.
+#[cycle(put)]
+#[inline(never)]
+fn boxed_part(
+    walk: &Walk<'_>,
+    next: &mut u32,
+    k: u32,
+    condition: &mut u32,
+    tree: &Expression,
+) -> Result<Box<Expression>, AllocError>
+    requires { next.now
+        + roots role.Inner (nodes.expression (plain.expression_of tree.now)) < 2 ^ 32 }
+    ensures copy { IfOk result (λ c. probed.expression_of c.value
+        ≡ put (map_of walk.now.map.now) walk.now.first (InTree k condition.old) next.old
+        (plain.expression_of tree.now)) }
+    ensures next { IfOk result (λ _. next.new
+        ≡ next.old + roots role.Inner (nodes.expression (plain.expression_of tree.now))) }
+    ensures condition { IfOk result (λ _. condition.new
+        ≡ min (condition.old + width (nodes.expression (plain.expression_of tree.now)))
+        (2 ^ 32 - 1)) }
+{
+    let copy = in_tree(walk, next, k, condition, tree)?;
+    let copy = Box::new(walk.alloc, copy)?;
+    Ok(copy)
 }
 
 /// A copy of a condition of decision `k`.
@@ -217,7 +260,7 @@ fn inside(walk: &Walk<'_>, next: &mut u32, tree: &Expression) -> Result<Expressi
             operand,
             span,
         } => {
-            let operand = Box::new(walk.alloc, expression(walk, next, operand)?)?;
+            let operand = boxed(walk, next, operand)?;
             Ok(Expression::Unary {
                 operator: *operator,
                 of: *of,
@@ -231,7 +274,7 @@ fn inside(walk: &Walk<'_>, next: &mut u32, tree: &Expression) -> Result<Expressi
             operand,
             span,
         } => {
-            let operand = Box::new(walk.alloc, expression(walk, next, operand)?)?;
+            let operand = boxed(walk, next, operand)?;
             Ok(Expression::Convert {
                 to: *to,
                 written: *written,
@@ -240,7 +283,7 @@ fn inside(walk: &Walk<'_>, next: &mut u32, tree: &Expression) -> Result<Expressi
             })
         }
         Expression::Not { operand, span } => {
-            let operand = Box::new(walk.alloc, expression(walk, next, operand)?)?;
+            let operand = boxed(walk, next, operand)?;
             Ok(Expression::Not {
                 operand,
                 span: *span,
@@ -253,8 +296,8 @@ fn inside(walk: &Walk<'_>, next: &mut u32, tree: &Expression) -> Result<Expressi
             right,
             span,
         } => {
-            let left = Box::new(walk.alloc, expression(walk, next, left)?)?;
-            let right = Box::new(walk.alloc, expression(walk, next, right)?)?;
+            let left = boxed(walk, next, left)?;
+            let right = boxed(walk, next, right)?;
             Ok(Expression::Binary {
                 operator: *operator,
                 of: *of,
@@ -269,8 +312,8 @@ fn inside(walk: &Walk<'_>, next: &mut u32, tree: &Expression) -> Result<Expressi
             right,
             span,
         } => {
-            let left = Box::new(walk.alloc, expression(walk, next, left)?)?;
-            let right = Box::new(walk.alloc, expression(walk, next, right)?)?;
+            let left = boxed(walk, next, left)?;
+            let right = boxed(walk, next, right)?;
             Ok(Expression::Logic {
                 operator: *operator,
                 left,
@@ -286,8 +329,8 @@ fn inside(walk: &Walk<'_>, next: &mut u32, tree: &Expression) -> Result<Expressi
             span,
         } => {
             let test = Box::new(walk.alloc, test(walk, next, first)?)?;
-            let chosen = Box::new(walk.alloc, expression(walk, next, chosen)?)?;
-            let other = Box::new(walk.alloc, expression(walk, next, other)?)?;
+            let chosen = boxed(walk, next, chosen)?;
+            let other = boxed(walk, next, other)?;
             Ok(Expression::Choice {
                 test,
                 chosen,
@@ -328,7 +371,7 @@ pub(crate) fn place(walk: &Walk<'_>, next: &mut u32, tree: &Place) -> Result<Pla
             index,
             span,
         } => {
-            let index = Box::new(walk.alloc, expression(walk, next, index)?)?;
+            let index = boxed(walk, next, index)?;
             Ok(Place::Parameter {
                 array: *array,
                 stride: *stride,
@@ -343,8 +386,8 @@ pub(crate) fn place(walk: &Walk<'_>, next: &mut u32, tree: &Place) -> Result<Pla
             index,
             span,
         } => {
-            let array = Box::new(walk.alloc, place(walk, next, array)?)?;
-            let index = Box::new(walk.alloc, expression(walk, next, index)?)?;
+            let array = boxed_place(walk, next, array)?;
+            let index = boxed(walk, next, index)?;
             Ok(Place::Item {
                 array,
                 length: *length,
@@ -359,7 +402,7 @@ pub(crate) fn place(walk: &Walk<'_>, next: &mut u32, tree: &Place) -> Result<Pla
             offset,
             span,
         } => {
-            let structure = Box::new(walk.alloc, place(walk, next, whole)?)?;
+            let structure = boxed_place(walk, next, whole)?;
             Ok(Place::Member {
                 structure,
                 member: *member,
@@ -368,6 +411,21 @@ pub(crate) fn place(walk: &Walk<'_>, next: &mut u32, tree: &Place) -> Result<Pla
             })
         }
     }
+}
+
+/// A copy of a place, on the heap.
+#[cycle(put)]
+#[inline(never)]
+fn boxed_place(walk: &Walk<'_>, next: &mut u32, tree: &Place) -> Result<Box<Place>, AllocError>
+    requires { next.now + roots role.Plain (nodes.place (plain.place_of tree.now)) < 2 ^ 32 }
+    ensures copy { IfOk result (λ c. probed.place_of c.value
+        ≡ put_place (map_of walk.now.map.now) walk.now.first next.old (plain.place_of tree.now)) }
+    ensures next { IfOk result (λ _. next.new
+        ≡ next.old + roots role.Plain (nodes.place (plain.place_of tree.now))) }
+{
+    let copy = place(walk, next, tree)?;
+    let copy = Box::new(walk.alloc, copy)?;
+    Ok(copy)
 }
 
 /// A copy of a structure.

@@ -226,7 +226,7 @@ fn statement(
         } => {
             let bit = count(&mut at.statement);
             let test = test(walk, &mut at.decision, first)?;
-            let chosen = Box::new(walk.alloc, statement(walk, register, at, chosen)?)?;
+            let chosen = boxed(walk, register, at, chosen)?;
             Ok(Statement::If {
                 test,
                 chosen,
@@ -245,8 +245,8 @@ fn statement(
         } => {
             let bit = count(&mut at.statement);
             let test = test(walk, &mut at.decision, first)?;
-            let chosen = Box::new(walk.alloc, statement(walk, register, at, chosen)?)?;
-            let other = Box::new(walk.alloc, statement(walk, register, at, other)?)?;
+            let chosen = boxed(walk, register, at, chosen)?;
+            let other = boxed(walk, register, at, other)?;
             Ok(Statement::IfElse {
                 test,
                 chosen,
@@ -289,7 +289,7 @@ fn statement(
         } => {
             let bit = count(&mut at.statement);
             let head = for_head(walk, &mut at.decision, first, test, step)?;
-            let body = Box::new(walk.alloc, statement(walk, register, at, body)?)?;
+            let body = boxed(walk, register, at, body)?;
             Ok(Statement::For {
                 start: head.start,
                 test: head.test,
@@ -308,7 +308,7 @@ fn statement(
             ..
         } => {
             let bit = count(&mut at.statement);
-            let body = Box::new(walk.alloc, statement(walk, register, at, body)?)?;
+            let body = boxed(walk, register, at, body)?;
             let test = test(walk, &mut at.decision, last)?;
             Ok(Statement::DoWhile {
                 body,
@@ -344,6 +344,37 @@ fn statement(
             })
         }
     }
+}
+
+/// The same on the heap. What is boxed passes through this function alone: a function clears all its
+/// values as it begins, and that would be much of the time that a copy takes.
+#[cycle(statement)]
+#[inline(never)]
+fn boxed(
+    walk: &Walk<'_>,
+    register: u32,
+    at: &mut At,
+    tree: &Statement,
+) -> Result<Box<Statement>, AllocError>
+    requires { given at.now + taken (plain.statement_of tree.now) < 2 ^ 32 }
+    ensures copy { IfOk result (λ c. let m = map_of walk.now.map.now in
+        probed.statement_of c.value
+        ≡ put_statement m walk.now.first register (at_of m walk.now.first at.old)
+        (plain.statement_of tree.now)) }
+    ensures exit { IfOk result (λ _. at.new.exit
+        ≡ at.old.exit + (points_of (plain.statement_of tree.now)).exits) }
+    ensures statement { IfOk result (λ _. at.new.statement
+        ≡ at.old.statement + (points_of (plain.statement_of tree.now)).statements) }
+    ensures label { IfOk result (λ _. at.new.label
+        ≡ at.old.label + (points_of (plain.statement_of tree.now)).labels) }
+    ensures decision { IfOk result (λ _. at.new.decision
+        ≡ at.old.decision + roots role.Plain (nodes.statement (plain.statement_of tree.now))) }
+    ensures switch { IfOk result (λ _. at.new.switch
+        ≡ at.old.switch + switches (plain.statement_of tree.now)) }
+{
+    let copy = statement(walk, register, at, tree)?;
+    let copy = Box::new(walk.alloc, copy)?;
+    Ok(copy)
 }
 
 /// Copies of the items of a body.

@@ -44,37 +44,37 @@ test-root-requires t c = (
 
 pub in_tree-returns-in_ok-right-in-Logic-clause-copy : goal.in_tree-returns-in_ok-right-in-Logic-clause-copy
 in_tree-returns-in_ok-right-in-Logic-clause-copy t c =
-    let first = c.in_ok-in_tree-in-Logic.ensures in
-    let second = c.in_ok-in_tree-in-Logic-2.ensures in
+    let first = c.in_ok-left-in-Logic.ensures in
+    let second = c.in_ok-right-in-Logic.ensures in
     probed_logic c.in-Logic.operator c.in_ok-left-in-Logic.left c.in_ok-right-in-Logic.right c.in-Logic.span
     ∙ (logic_copied c.args.walk.now.map.now c.args.walk.now.first c.args.k c.args.condition.now c.args.next.now _ _ c.in-Logic.operator (plain.expression_of c.in-Logic.left.value) (plain.expression_of c.in-Logic.right.value) c.in-Logic.span _ _
-    (ap probed.expression_of c.in_ok-left-in-Logic.ensures.ok ∙ rw c.deref-in-Logic.ensures at first.copy) (rw c.deref-in-Logic.ensures at first.condition) (rw c.deref-in-Logic.ensures at first.next)
-    (ap probed.expression_of c.in_ok-right-in-Logic.ensures.ok ∙ rw c.deref-in-Logic-2.ensures at second.copy)
+    (rw c.deref-in-Logic.ensures at first.copy) (rw c.deref-in-Logic.ensures at first.condition) (rw c.deref-in-Logic.ensures at first.next)
+    (rw c.deref-in-Logic-2.ensures at second.copy)
     ∙ ap (put (map_of c.args.walk.now.map.now) c.args.walk.now.first (InTree c.args.k c.args.condition.now) c.args.next.now) (sym (plain_logic c.args.tree.now c.in-Logic.operator c.in-Logic.left c.in-Logic.right c.in-Logic.span c.in-Logic.is)))
 
 pub in_tree-returns-in_ok-right-in-Some-clause-copy : goal.in_tree-returns-in_ok-right-in-Some-clause-copy
 in_tree-returns-in_ok-right-in-Some-clause-copy t c =
     let full = sym c.full_operator.ensures ∙ c.in-Some.is in
-    let first = c.in_ok-in_tree-in-Some.ensures in
-    let second = c.in_ok-in_tree-in-Some-2.ensures in
+    let first = c.in_ok-left-in-Some.ensures in
+    let second = c.in_ok-right-in-Some.ensures in
     probed_binary c.in-Binary.operator c.in-Binary.of c.in_ok-left-in-Some.left c.in_ok-right-in-Some.right c.in-Binary.span
     ∙ (full_copied c.args.walk.now.map.now c.args.walk.now.first c.args.k c.args.condition.now c.args.next.now _ _ c.in-Some.field-0 c.in-Binary.operator c.in-Binary.of (plain.expression_of c.in-Binary.first.value) (plain.expression_of c.in-Binary.second.value) c.in-Binary.span _ _
     (rw c.deref-in-Binary.ensures at (rw c.deref-in-Binary-2.ensures at full))
-    (ap probed.expression_of c.in_ok-left-in-Some.ensures.ok ∙ rw c.deref-in-Some.ensures at first.copy) (rw c.deref-in-Some.ensures at first.condition) (rw c.deref-in-Some.ensures at first.next)
-    (ap probed.expression_of c.in_ok-right-in-Some.ensures.ok ∙ rw c.deref-in-Some-2.ensures at second.copy)
+    (rw c.deref-in-Some.ensures at first.copy) (rw c.deref-in-Some.ensures at first.condition) (rw c.deref-in-Some.ensures at first.next)
+    (rw c.deref-in-Some-2.ensures at second.copy)
     ∙ ap (put (map_of c.args.walk.now.map.now) c.args.walk.now.first (InTree c.args.k c.args.condition.now) c.args.next.now) (sym (plain_binary c.args.tree.now c.in-Binary.operator c.in-Binary.of c.in-Binary.first c.in-Binary.second c.in-Binary.span c.in-Binary.is)))
 
-pub inside-expression-requires-in-Binary : goal.inside-expression-requires-in-Binary
-inside-expression-requires-in-Binary t c =
+pub inside-boxed-requires-in-Binary : goal.inside-boxed-requires-in-Binary
+inside-boxed-requires-in-Binary t c =
     let all = binary_roots c.args.tree.now c.deref-in-Binary.result.now c.in-Binary.right.value c.in-Binary.operator c.in-Binary.of c.in-Binary.left c.in-Binary.right c.in-Binary.span c.in-Binary.is c.deref-in-Binary.ensures refl in
     let size = sized-Binary c.in-Binary.operator c.in-Binary.of c.in-Binary.left c.in-Binary.right c.in-Binary.span in (
       omega (arith, size, ap size-Expression c.in-Binary.is, ap size-Expression c.deref-in-Binary.ensures, c.decreases),
       omega (arith, all, c.requires),
     )
 
-pub inside-expression-requires-in-Binary-2 : goal.inside-expression-requires-in-Binary-2
-inside-expression-requires-in-Binary-2 t c =
-    let first = c.in_ok-expression-in-Binary.ensures.next in
+pub inside-boxed-requires-in-Binary-2 : goal.inside-boxed-requires-in-Binary-2
+inside-boxed-requires-in-Binary-2 t c =
+    let first = c.in_ok-left-in-Binary.ensures.next in
     let all = binary_roots c.args.tree.now c.deref-in-Binary.result.now c.deref-in-Binary-2.result.now c.in-Binary.operator c.in-Binary.of c.in-Binary.left c.in-Binary.right c.in-Binary.span c.in-Binary.is c.deref-in-Binary.ensures c.deref-in-Binary-2.ensures in
     let size = sized-Binary c.in-Binary.operator c.in-Binary.of c.in-Binary.left c.in-Binary.right c.in-Binary.span in (
       omega (arith, size, ap size-Expression c.in-Binary.is, ap size-Expression c.deref-in-Binary-2.ensures, c.decreases),
@@ -83,8 +83,8 @@ inside-expression-requires-in-Binary-2 t c =
 
 pub inside-returns-in_ok-right-in-Binary-clause-next : goal.inside-returns-in_ok-right-in-Binary-clause-next
 inside-returns-in_ok-right-in-Binary-clause-next t c =
-    let first = c.in_ok-expression-in-Binary.ensures.next in
-    let second = c.in_ok-expression-in-Binary-2.ensures.next in
+    let first = c.in_ok-left-in-Binary.ensures.next in
+    let second = c.in_ok-right-in-Binary.ensures.next in
     let all = binary_roots c.args.tree.now c.deref-in-Binary.result.now c.deref-in-Binary-2.result.now c.in-Binary.operator c.in-Binary.of c.in-Binary.left c.in-Binary.right c.in-Binary.span c.in-Binary.is c.deref-in-Binary.ensures c.deref-in-Binary-2.ensures in
     omega (arith, first, second, all)
 
