@@ -1,0 +1,14 @@
+mod Basics
+mod Numbers
+mod Values
+mod Expressions
+mod Words
+mod Calls
+mod Declarators
+mod Judgement
+mod Initializers
+mod Declarations
+mod Related
+mod Statements
+mod Bodies
+mod Units

@@ -1,0 +1,5 @@
+pub mod Moved
+pub mod Settled
+pub mod Found
+pub mod Laws
+pub mod Samples

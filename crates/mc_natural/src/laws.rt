@@ -1,0 +1,24 @@
+//! Laws of names and types at other places: the functions do nothing.
+ghost use Rattle.mc_natural.specs.Laws.{
+  ExpressionsMove,
+  FaultsMove,
+  ProgramsMove,
+  ProgramsReturn,
+  TypingsMove,
+};
+
+/// What is found of a moved expression is what is found of the expression, moved: its faults and
+/// its value. Nothing else changes, and the scope after it is the same.
+pub fn expressions_move()
+    ensures { ExpressionsMove }
+{}
+
+/// A moved unit has the faults of names and types that the unit has, moved, and its typed program,
+/// moved: but for the places of the words with which statements begin, of closing braces, of the 1
+/// that `++` and `--` add and subtract, and of a constant to the right of a compound assignment.
+pub fn units_move()
+    ensures faults { FaultsMove }
+    ensures typing { TypingsMove }
+    ensures program { ProgramsMove }
+    ensures back { ProgramsReturn }
+{}
