@@ -1,0 +1,3 @@
+mod Pour
+mod PouredExpressions
+mod PouredStatements

@@ -1,0 +1,4 @@
+pub mod Brackets
+pub mod Trees
+pub mod Weaving
+pub mod Laws
