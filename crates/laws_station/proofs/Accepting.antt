@@ -30,7 +30,7 @@ use Rattle.mc_station.specs.Tests.{JudgesTests, MatrixFits}
 use Rattle.laws_station.specs.Whole.{FilesAreAccepted, OthersAreAccepted, ReasonsAreAccepted}
 use Rattle.mc_station.proofs.Allowing.{allows_matrix, allows_mutants, one_allowed}
 use Rattle.mc_station.proofs.Causes.{statuses_have_causes}
-use Rattle.laws_station.proofs.Contents.{not_both, same_bytes}
+use Rattle.mc_station.proofs.Contents.{not_both, same_bytes}
 use Rattle.mc_station.proofs.Joining.{one_record_in}
 use Rattle.mc_station.proofs.Phases.{one_fit, one_source, one_tests}
 

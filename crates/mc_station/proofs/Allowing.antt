@@ -1,5 +1,5 @@
 -- What a task asks for beside its tests.
-use Rattle.std.proofs.Common.{◌≡◌, ◌∙◌, ◌≤◌, ◌⊎◌, ℕ, List, Option, Some, None, Result, Ok, Err, refl, sym, ap, subst, inl, inr, arith}
+use Rattle.std.proofs.Common.{◌≡◌, ◌∙◌, ◌≤◌, ◌⊎◌, ℕ, List, Some, None, Result, Ok, Err, refl, sym, ap, subst, inl, inr, arith}
 use Rattle.mc_limits.specs.Limits.{most_words}
 use Rattle.mc_command.specs.Command as command
 use Rattle.mc_command.specs.Command.{Task}

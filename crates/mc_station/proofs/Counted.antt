@@ -1,15 +1,12 @@
 -- The mutants of an accepted source are counted exactly, and none of its decisions is large.
-use Rattle.std.proofs.Common.{◌≡◌, ◌∙◌, ◌+◌, ◌-◌, ◌*◌, ◌≤◌, ◌<◌, ◌^◌, ℕ, List, [], ◌∷◌, length, map, sym, ap, subst, min, arith}
+use Rattle.std.proofs.Common.{◌≡◌, ◌∙◌, ◌-◌, ◌*◌, ◌≤◌, ◌<◌, ◌^◌, ℕ, List, [], ◌∷◌, length, map, subst, arith}
 use Rattle.std.specs.Prelude.{All}
-use Rattle.std.proofs.lemmas.List.{length-map}
 use Rattle.std.proofs.lemmas.List.Elements.{All-nil, All-cons}
-use Rattle.mc_limits.specs.Limits.{most_conditions}
-use Rattle.mc_cond.specs.Tree.{size}
 use Rattle.mc_typed.specs.Levels.{limited}
 use Rattle.mc_typed.specs.Tree.{Program}
 use Rattle.mc_roots.specs.Decisions.{Decision, AreDecisions, IsSmall, IsFirstLarge}
 use Rattle.mc_roots.proofs.Once as decided
-use Rattle.mc_probe.specs.Maps.{ArePlaced, IsMapOf, Map, Mapped, first_path}
+use Rattle.mc_probe.specs.Maps.{ArePlaced, IsMapOf, Map, Mapped}
 use Rattle.mc_oblige.proofs.Bounds.{few_places}
 use Rattle.mc_mutate.specs.Laws.{conditions_in}
 use Rattle.mc_mutate.specs.Mutants.{count}

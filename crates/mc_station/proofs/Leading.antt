@@ -5,7 +5,7 @@ use Rattle.std.specs.Result.{IsErr}
 use Rattle.std.specs.declared.alloc.AllocError.{AllocError}
 use Rattle.mc_port.specs.Store.{Files, HasFile, IsLonger, and_asked}
 use Rattle.mc_station.specs.Calls as calls
-use Rattle.mc_station.specs.Calls.{Answers, Leads, Requests}
+use Rattle.mc_station.specs.Calls.{Leads, Requests}
 use Rattle.mc_replies.specs.Files.{File, limit_of, request_of}
 use Rattle.mc_replies.specs.Reply.{Reply, cannot_read, longer, out_of_memory}
 use Rattle.mc_replies.specs.Seen.{Gives, IsReplyTo, outcome_of, reply_to, seen_reply}

@@ -2,6 +2,7 @@ pub mod Allowing
 pub mod Both
 pub mod Calling
 pub mod Causes
+pub mod Contents
 pub mod Counted
 pub mod Decided
 pub mod Ends

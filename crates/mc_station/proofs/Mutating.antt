@@ -14,7 +14,7 @@ use Rattle.mc_replies.specs.Reply.{Reply, written}
 use Rattle.mc_station.specs.Laws.{IsLater}
 use Rattle.mc_station.specs.Source.{Accepted}
 use Rattle.mc_station.specs.Tests.{names, states}
-use Rattle.mc_station.specs.commands.Mutate.{AreKilled, Kills, Mutates, changes_told, status_after}
+use Rattle.mc_station.specs.commands.Mutate.{Kills, Mutates, changes_told, status_after}
 use Rattle.mc_station.proofs.Written.{written_later}
 
 module _ (accepted : Accepted) (plans : List Plan) where

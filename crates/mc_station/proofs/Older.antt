@@ -1,5 +1,5 @@
 -- Which sources have the bits of both versions of records.
-use Rattle.std.proofs.Common.{◌≡◌, ◌<◌, ◌↔◌, ℕ, All, Bool, IsTrue, List, Result, Err, length, map, slice_index_or, subst, sym}
+use Rattle.std.proofs.Common.{◌≡◌, ◌<◌, ◌↔◌, ℕ, All, Bool, IsTrue, List, Err, length, map, slice_index_or, subst, sym}
 use Rattle.std.proofs.lemmas.List.{get_or-map, length-map}
 use Rattle.std.proofs.lemmas.List.Elements.{All-map}
 use Rattle.sha2.specs.Sha256.{sha256}
@@ -10,9 +10,8 @@ use Rattle.mc_probe.specs.declared.mapped.MappedDecision.{MappedDecision}
 use Rattle.mc_record.specs.Kept.{Kept}
 use Rattle.mc_record.specs.Reading.{record_of}
 use Rattle.mc_record.specs.Seen.{kept_of}
-use Rattle.mc_record.specs.declared.fault.RecordFault.{RecordFault}
 use Rattle.mc_replies.specs.Phases.{Reads}
-use Rattle.mc_replies.specs.Reply.{Reply, refusal}
+use Rattle.mc_replies.specs.Reply.{refusal}
 use Rattle.mc_replies.specs.Seen.{Gives}
 use Rattle.mc_replies.specs.declared.status.Status.TheVariants.{TestsRefused}
 use Rattle.mc_replies.specs.declared.stop.Stop.{Stop}

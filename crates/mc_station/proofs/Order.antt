@@ -9,7 +9,7 @@ use Rattle.mc_replies.specs.Reply.{Reply, cannot_read}
 use Rattle.mc_replies.specs.Status.{IsAnswer}
 use Rattle.mc_replies.specs.declared.status.Status.TheVariants as status
 use Rattle.mc_station.specs.Calls as calls
-use Rattle.mc_station.specs.Calls.{Answers, Call, Fails, Leads, LeadsTo, Requests}
+use Rattle.mc_station.specs.Calls.{Leads, Requests}
 use Rattle.mc_station.specs.Laws.{AskedInOrder, LastIsNamed, and_all}
 use Rattle.mc_station.specs.Source.{Accepted}
 use Rattle.mc_station.specs.Stages as stages

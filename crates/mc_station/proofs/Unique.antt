@@ -1,5 +1,5 @@
 -- Words and files call for at most one reply.
-use Rattle.std.proofs.Common.{◌≡◌, ◌∙◌, ◌⊎◌, ℕ, List, length, Option, Some, None, Result, Ok, Err, refl, sym, ap, subst, inl, inr, arith}
+use Rattle.std.proofs.Common.{◌≡◌, ◌∙◌, ◌⊎◌, ℕ, List, Option, Some, None, Result, Ok, Err, sym, ap, subst, inl, inr}
 use Rattle.mc_core.specs.Laws.{WordsFollowFromPairs}
 use Rattle.mc_command.specs.Command as command
 use Rattle.mc_command.specs.Command.{Task, command_of}
@@ -30,6 +30,7 @@ use Rattle.mc_oblige.specs.Shown.{HasEvent}
 use Rattle.mc_station.specs.commands.Analyse.{tested_in}
 use Rattle.mc_station.specs.commands.Watch.{AreOnLooks}
 use Rattle.mc_station.proofs.Allowing.{one_allowed}
+use Rattle.mc_station.proofs.Contents.{not_both, same_bytes}
 use Rattle.mc_station.proofs.Joining.{one_join, one_record_in}
 use Rattle.mc_station.proofs.Loading.{one_load}
 use Rattle.mc_station.proofs.Mutating.{one_mutation}
@@ -109,27 +110,17 @@ no_file skipped (stages.load count workers) r f ends is = cc is
 -- ---- answers
 
 module _ (law : WordsFollowFromPairs) (skipped : List ℕ) (files : Files) where
-  -- a file that is told has one content
-  same_bytes : (file : File) (a b : List ℕ) → Holds (Some files) file a → Holds (Some files) file b → a ≡ b
-  same_bytes file a b p q = cc (p.0 files refl, q.0 files refl)
-
-  not_both : (file : File) (bytes : List ℕ) → IsLonger (Some files) file.name (limit_of file.kind) → Holds (Some files) file bytes → ⊥
-  not_both file bytes long holds =
-      let (longer, is, more) = long files refl in
-      let same : longer ≡ bytes = cc (is, holds.0 files refl) in
-      omega (arith, more, holds.1, ap length same)
-
   same_verdict : (s : Stage) (f g : File) (a b : List ℕ) (u v : Result Stage Reply) → file_of s ≡ Some f → file_of s ≡ Some g
       → Holds (Some files) f a → Holds (Some files) g b → Judges s a u → Judges s b v → Agree u v
   same_verdict s f g a b u v p q holds also judges other =
       let file : f ≡ g = cc (p, q) in
-      let bytes : a ≡ b = same_bytes g a b (subst (λ (x : File). Holds (Some files) x a) file holds) also in
+      let bytes : a ≡ b = same_bytes files g a b (subst (λ (x : File). Holds (Some files) x a) file holds) also in
       one_verdict law s b u v (subst (λ (x : List ℕ). Judges s x u) bytes judges) other
 
   not_long : (s : Stage) (f g : File) (bytes : List ℕ) → file_of s ≡ Some f → file_of s ≡ Some g → IsLonger (Some files) f.name (limit_of f.kind) → Holds (Some files) g bytes → ⊥
   not_long s f g bytes p q long holds =
       let file : f ≡ g = cc (p, q) in
-      not_both g bytes (subst (λ (x : File). IsLonger (Some files) x.name (limit_of x.kind)) file long) holds
+      not_both files g bytes (subst (λ (x : File). IsLonger (Some files) x.name (limit_of x.kind)) file long) holds
 
   one_answer : (s : Stage) (a b c d : Requests) (r q : Reply) → Answers skipped (Some files) s a r b → Answers skipped (Some files) s c q d → OneIf (IsAt s) r q
   one_answer s a b c d r q (calls.finished x p) (calls.finished y o) = one_end_reply law skipped s r q p o

@@ -1,7 +1,7 @@
 //! Runs whose files or texts are put together: many tests, many functions, and a long output.
 
 use crate::fail::Fail;
-use crate::run::{HEADER, gives, of_files, plain};
+use crate::run::{HEADER, Want, gives, of_files, plain};
 use crate::text::push;
 use std::alloc::Global;
 use std::thread::Threads;
@@ -101,17 +101,59 @@ fn is_too_large<R: Threads + Sync>(
     is_wanted
 }
 
+const TOO_LARGE: &str = "mcdc: matrix needs 1311360 words\n";
+
 #[test]
 fn sizes_of_maps_and_matrices(rt: HostRuntime) -> Result<(), Fail> {
     let words = "vectors|s.c|t.csv";
-    let line = "mcdc: matrix needs 1311360 words\n";
-    assert!(rt; is_too_large(&rt, rt.alloc(), words, 5, 4096, 9, line)?);
-    // No file of justifications is asked for then: this one is not there.
-    let justified = "report|s.c|t.csv|--justify|u.json";
-    assert!(rt; is_too_large(&rt, rt.alloc(), justified, 5, 4096, 9, line)?);
+    assert!(rt; is_too_large(&rt, rt.alloc(), words, 5, 4096, 9, TOO_LARGE)?);
     let bits = "mcdc: source: too many bits 65568\n";
     assert!(rt; is_too_large(&rt, rt.alloc(), words, 16, 0, 3, bits)?);
     assert!(rt; is_too_large(&rt, rt.alloc(), "instrument|s.c", 16, 0, 3, bits)?);
+    Ok(())
+}
+
+/// Words with a file of justifications that is not there.
+static JUSTIFIED: [&str; 2] = [
+    "report|s.c|t.csv|--justify|u.json",
+    "list|--justify|u.json|s.c|t.csv",
+];
+
+/// The load that fails, the status and the line, where the matrix does not fit: the source is asked
+/// for, then the tests, and no third file.
+static LOADS: [(u32, u8, &str); 4] = [
+    (0, 9, TOO_LARGE),
+    (1, 6, "mcdc: cannot read s.c\n"),
+    (2, 6, "mcdc: cannot read t.csv\n"),
+    (3, 9, TOO_LARGE),
+];
+
+fn asks_for_two<R: Threads + Sync>(
+    rt: &R,
+    alloc: Global,
+    words: &str,
+    source: &str,
+    tests: &str,
+) -> Result<bool, Fail> {
+    let mut setting = of_files(words, source.as_bytes(), tests.as_bytes(), b"[]");
+    for (load, status, line) in &LOADS {
+        setting.failing_load = *load;
+        let want: Want<'_> = (*status, b"", line.as_bytes());
+        if !gives(rt, alloc, &setting, want)? {
+            return Ok(false);
+        }
+    }
+    Ok(true)
+}
+
+#[test]
+fn a_matrix_that_does_not_fit_is_told_before_justifications(rt: HostRuntime) -> Result<(), Fail> {
+    let source = many_functions(rt.alloc(), 5)?;
+    let tests = tests_of_first(rt.alloc(), 4096)?;
+    for words in &JUSTIFIED {
+        let is_wanted = asks_for_two(&rt, rt.alloc(), words, source.as_str(), tests.as_str())?;
+        assert!(rt; is_wanted, "{words}");
+    }
     Ok(())
 }
 
