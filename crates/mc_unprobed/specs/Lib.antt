@@ -1,0 +1,3 @@
+pub mod Unprobed
+pub mod steps
+pub mod Worked
