@@ -1,0 +1,3 @@
+mod Gone
+mod Ascend
+mod Kept
