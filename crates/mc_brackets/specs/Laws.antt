@@ -9,8 +9,8 @@ use Rattle.mc_weave.specs.Brackets.{Brackets, AreAfterTokens}
 use Rattle.mc_weave.specs.Trees.{bracketed_unit}
 use Rattle.mc_brackets.specs.Signs.{poured, signs_in_unit}
 
--- The brackets of a tree, put by their places into the tokens of its text, make a text with that tree
--- and these brackets, in every dialect.
+-- The brackets of a tree, put by their places into the tokens of its text, make a text with that
+-- tree and these brackets, in every dialect.
 abbrev pub PouredTextsHaveBracketedTrees : Type 0
 PouredTextsHaveBracketedTrees =
     (d to : Dialect) (w : Brackets) (tokens : List Tok) (unit : List Item)

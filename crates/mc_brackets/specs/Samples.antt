@@ -1,5 +1,6 @@
--- The text `int f(int a){return a+1;}`, with parentheses round `a+1`, two pairs round `a`, and braces
--- round the statement: `int f(int a){{return (((a))+1);}}`, each bracket where what is in it stands.
+-- The text `int f(int a){return a+1;}`, with parentheses round `a+1`, two pairs round `a`, and
+-- braces round the statement: `int f(int a){{return (((a))+1);}}`, each bracket where what is in it
+-- stands.
 use Rattle.std.specs.Prelude.{◌&&◌, ◌==◌, true, false, List, [], ◌∷◌, Some, codes, if◌then◌else◌}
 use Rattle.mc_lex.specs.Tokens.{Tok}
 use Rattle.mc_tree.specs.declared.expressions.binary_operator.BinaryOperator.TheVariants as binary

@@ -7,8 +7,8 @@ use std::alloc::{AllocError, Global};
 use std::marker::Model;
 
 /// The cells of a run, seen as the list of those in use, each a number or unset, and the limit that
-/// their count does not pass. Places are counted from 0. All memory is taken when they are made, and
-/// written where cells come in use for the first time.
+/// their count does not pass. Places are counted from 0. All memory is taken when they are made,
+/// and written where cells come in use for the first time.
 #[derive(Drop)]
 pub struct Cells {
     /// Those in use, and after them those that were in use before.

@@ -162,8 +162,8 @@ fn with_run_commands<'w>(alloc: Global, line: Command<'w>) -> Result<Command<'w>
         .subcommand(recorded)
 }
 
-// The commands that run the tests of a source to look at them, to choose among them, and to try them
-// on its mutants.
+// The commands that run the tests of a source to look at them, to choose among them, and to try
+// them on its mutants.
 fn with_tester_commands<'w>(alloc: Global, line: Command<'w>) -> Result<Command<'w>, AllocError>
     ensures { IfOk result (λ c. app_of c ≡ with_tester_commands (app_of line.entry)) }
 {

@@ -17,9 +17,9 @@ use std::alloc::Global;
 /// decision; integer constant expressions are none.
 ///
 /// The fault is `TooManyConditions` exactly where a decision has more than 64 conditions, and names
-/// the first. Takes memory in proportion to the program, and time that grows with its size and, under
-/// `&`, `|` and `^`, with its height. The stack that it takes grows with the height of the program's
-/// tree.
+/// the first. Takes memory in proportion to the program, and time that grows with its size and,
+/// under `&`, `|` and `^`, with its height. The stack that it takes grows with the height of the
+/// program's tree.
 pub fn decisions(alloc: Global, program: &Program<'_>) -> Result<Vec<Decision>, DecideFault>
     ensures decisions { IfOk result (λ ds.
         AreDecisions (program_of program.now).functions (map decision_of ds.items)) }

@@ -18,7 +18,8 @@ pub fn is_one_of(table: &[&[u8]], text: &[u8]) -> bool
     false
 }
 
-/// Whether the bytes begin with the text. The first byte decides of most texts, so nothing is called.
+/// Whether the bytes begin with the text. The first byte decides of most texts, so nothing is
+/// called.
 fn begins_with(bytes: &[u8], text: &[u8]) -> bool
     ensures { result ≡ starts_with nat_eq bytes.now text.now }
 {

@@ -38,8 +38,8 @@ pub(crate) fn any_pair(
     first_pair(mapped, seen, mode, k)
 }
 
-/// A pair near the hint: its own paths, where both are still seen, and else a pair of the paths from
-/// it on. Those before it were looked at when it was found, and since then fewer are seen.
+/// A pair near the hint: its own paths, where both are still seen, and else a pair of the paths
+/// from it on. Those before it were looked at when it was found, and since then fewer are seen.
 fn pair_near(mapped: &MappedDecision, seen: &[u32], mode: Mode, k: u32, hint: Hint) -> Option<Hint>
     requires ascending { IsStrictlyIncreasing seen.now }
     requires paths { All (λ path. path < count_of (tree_of mapped.now.decision.tree)) seen.now }

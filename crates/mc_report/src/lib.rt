@@ -1,4 +1,5 @@
-//! The report of a program's tests and coverage, as a verifier or a program reads it, and its status.
+//! The report of a program's tests and coverage, as a verifier or a program reads it, and its
+//! status.
 #![tactic(auto)]
 
 mod counts;

@@ -8,8 +8,8 @@ use crate::operators::FullOperator;
 use mc_typed::{Expression, Operator};
 use mc_value::{BinOp, IntType};
 
-/// Whether the top operator is `&&`, `||`, `!`, a relational or an equality operator, or `&`, `|` or
-/// `^` between Boolean operands (C17 6.5.3.3, 6.5.8 to 6.5.14). Takes no memory.
+/// Whether the top operator is `&&`, `||`, `!`, a relational or an equality operator, or `&`, `|`
+/// or `^` between Boolean operands (C17 6.5.3.3, 6.5.8 to 6.5.14). Takes no memory.
 pub fn is_boolean(tree: &Expression) -> bool
     ensures { result ≡ is_boolean (expression (expression_of tree.now)) }
 {

@@ -41,9 +41,9 @@ fn needed(workers: u32, tests: usize) -> u32
 }
 
 /// Runs the tests on the program by so many workers, each with a machine of its own in a thread of
-/// its own where one can be made; but by no more workers than there are tests, since each takes time
-/// and memory for its machine. A worker claims a test, passes the gate with its number, and runs
-/// it from the initial values of the static objects. The pass that comes back has every test
+/// its own where one can be made; but by no more workers than there are tests, since each takes
+/// time and memory for its machine. A worker claims a test, passes the gate with its number, and
+/// runs it from the initial values of the static objects. The pass that comes back has every test
 /// claimed once, and exactly the hits of the tests' runs. The results stand in the order of the
 /// tests. Machines and passes are made before the first test. After a refusal the pass is gone.
 pub fn run_tests<R: Threads + Sync, G: Gate>(

@@ -294,8 +294,8 @@ fn nesting_at(structures: &[Structure<'_>], number: usize) -> u32
     }
 }
 
-// How many arrays and structures stand inside one another in a base. In a structure they are counted
-// as far as 32 bits count those in its members.
+// How many arrays and structures stand inside one another in a base. In a structure they are
+// counted as far as 32 bits count those in its members.
 #[tactic(auto, using(crate::proofs::Counted::deeper_counted))]
 fn nesting_of_base(structures: &[Structure<'_>], base: Base) -> u64
     ensures counted { min result most_counted

@@ -1,5 +1,5 @@
-//! Values on the heap, in lists, or none, by functions of any type: what is proved of a type of trees
-//! at such a step is dear.
+//! Values on the heap, in lists, or none, by functions of any type: what is proved of a type of
+//! trees at such a step is dear.
 ghost use Rattle.std.specs.Prelude.{◌≡◌, ◌++◌, ◌∷◌, [], IfOk, OnOk, IsOk, option_map};
 ghost use Rattle.mc_faults.specs.Faults.{least_of};
 ghost use Rattle.mc_faults.specs.Kept.{listed};
@@ -87,8 +87,8 @@ fn appended<T: Drop>(list: Vec<T>, more: Vec<T>) -> Result<Vec<T>, AllocError>
     Ok(list)
 }
 
-/// The one list after the other. Takes no memory where the first one is empty: the room is then that
-/// of the second one.
+/// The one list after the other. Takes no memory where the first one is empty: the room is then
+/// that of the second one.
 pub fn joined<T: Drop>(list: Vec<T>, more: Vec<T>) -> Result<Vec<T>, AllocError>
     ensures { IfOk result (λ r. r.items ≡ list.items ++ more.items) }
 {

@@ -13,8 +13,8 @@ is_cond (tree.Assignment operator a b span) = false
 is_cond (tree.Comma operands span) = false
 is_cond _ = true
 
--- An expression without parentheses round it: a typed program has none, and its nodes stand where this
--- stands.
+-- An expression without parentheses round it: a typed program has none, and its nodes stand where
+-- this stands.
 abbrev pub bare : Expression → Expression
 bare (tree.Parenthesized a span) = bare a
 bare a = a

@@ -1,5 +1,5 @@
--- The probes of an instrumented text: those of its pieces that are rows of the table, in the order of
--- the text.
+-- The probes of an instrumented text: those of its pieces that are rows of the table, in the order
+-- of the text.
 use Rattle.std.specs.Prelude.{ℕ, Bool, true, false, List, [], ◌∷◌, ◌++◌, if◌then◌else◌}
 use Rattle.mc_strip.specs.declared.piece.What.{What}
 use Rattle.mc_strip.specs.declared.piece.What.TheVariants as what

@@ -120,8 +120,8 @@ is_empty tree.no_block_items = true
 is_empty (tree.local d rest) = false
 is_empty (tree.statement s rest) = false
 
--- Where the token after `MCDC_H ( b ) ;` is a typedef name and `*` follows it, the pieces cannot tell a
--- declaration from a product, so this block of the source is read as a probe's.
+-- Where the token after `MCDC_H ( b ) ;` is a typedef name and `*` follows it, the pieces cannot
+-- tell a declaration from a product, so this block of the source is read as a probe's.
 abbrev pub counted_local : Declaration → Option Counted
 counted_local d =
     if is_counted_local d
@@ -227,7 +227,7 @@ walk_items (i ∷ is) w = walk_items is (walk_item i w)
 
 -- ---- a whole text
 
--- The probes of a text with these pieces, whose tokens without probes have this tree: each at what it
--- stands at. There are none where a probe stands where the table puts no such one.
+-- The probes of a text with these pieces, whose tokens without probes have this tree: each at what
+-- it stands at. There are none where a probe stands where the table puts no such one.
 abbrev pub placements : List Mark → List Item → Option (List Placed)
 placements ms is = answer (walk_items is (start (probes ms)))

@@ -1,5 +1,5 @@
--- A walk over a tree in the order of the text. It takes each probe at the place where the table puts
--- such a one; what it does not take stays in front of all later ones.
+-- A walk over a tree in the order of the text. It takes each probe at the place where the table
+-- puts such a one; what it does not take stays in front of all later ones.
 use Rattle.std.specs.Prelude.{ℕ, ◌==◌, nat_lt, Bool, true, false, ◌&&◌, List, [], ◌∷◌, ◌++◌, Option, Some, None, if◌then◌else◌}
 use Rattle.mc_span.specs.declared.span.Span.{Span}
 use Rattle.mc_strip.specs.declared.piece.What.{What}
@@ -35,9 +35,9 @@ is_row (spot.Operand start is_cond) (what.Condition register on_true on_false) =
 is_row (spot.Operand start is_cond) (what.Switch register) = true
 is_row _ _ = false
 
--- Whether a probe is there: `last` is where the last token before it ends, `next` where the next one
--- starts. Those of a function's body stand before its end, the others directly before or after what
--- they stand at. The end of a value follows its start.
+-- Whether a probe is there: `last` is where the last token before it ends, `next` where the next
+-- one starts. Those of a function's body stand before its end, the others directly before or after
+-- what they stand at. The end of a value follows its start.
 abbrev pub is_there : Spot → ℕ → ℕ → Bool
 is_there (spot.Registers end) last next = nat_lt next end
 is_there (spot.Entry end) last next = nat_lt next end

@@ -1,5 +1,5 @@
--- Worked texts: a function with all its probes, and probes where none can stand. A place is given by
--- the bytes of the text.
+-- Worked texts: a function with all its probes, and probes where none can stand. A place is given
+-- by the bytes of the text.
 use Rattle.std.specs.Prelude.{◌≡◌, ℕ, ◌+◌, true, false, List, [], ◌∷◌, Option, Some, None, codes}
 use Rattle.mc_span.specs.declared.span.Span.{Span}
 use Rattle.mc_tree.specs.declared.expressions.assignment_operator.AssignmentOperator.TheVariants as assign

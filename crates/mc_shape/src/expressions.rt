@@ -126,8 +126,8 @@ pub(crate) fn expression(walk: &mut Walk<'_>, tree: &Expression<'_>) -> Result<(
 
 #[cycle(walk)]
 fn expressions(walk: &mut Walk<'_>, trees: &[Expression<'_>]) -> Result<(), AllocError>
-    ensures { IfOk result (λ _. walk_of walk.new
-        ≡ spec.walk_expressions (expressions_from (map expression_of trees.now)) (walk_of walk.old)) }
+    ensures { IfOk result (λ _. walk_of walk.new ≡ spec.walk_expressions
+        (expressions_from (map expression_of trees.now)) (walk_of walk.old)) }
 {
     for tree in trees {
         expression(walk, tree)?;
@@ -194,8 +194,8 @@ fn member(walk: &mut Walk<'_>, tree: &Member<'_>) -> Result<(), AllocError>
 
 #[cycle(walk)]
 fn enumerators(walk: &mut Walk<'_>, trees: &[Enumerator<'_>]) -> Result<(), AllocError>
-    ensures { IfOk result (λ _. walk_of walk.new
-        ≡ spec.walk_enumerators (enumerators_from (map enumerator_of trees.now)) (walk_of walk.old)) }
+    ensures { IfOk result (λ _. walk_of walk.new ≡ spec.walk_enumerators
+        (enumerators_from (map enumerator_of trees.now)) (walk_of walk.old)) }
 {
     for tree in trees {
         enumerator(walk, tree)?;
@@ -219,8 +219,8 @@ fn enumerator(walk: &mut Walk<'_>, tree: &Enumerator<'_>) -> Result<(), AllocErr
 
 #[cycle(walk)]
 fn declarators(walk: &mut Walk<'_>, trees: &[Declarator<'_>]) -> Result<(), AllocError>
-    ensures { IfOk result (λ _. walk_of walk.new
-        ≡ spec.walk_declarators (declarators_from (map declarator_of trees.now)) (walk_of walk.old)) }
+    ensures { IfOk result (λ _. walk_of walk.new ≡ spec.walk_declarators
+        (declarators_from (map declarator_of trees.now)) (walk_of walk.old)) }
 {
     for tree in trees {
         declarator(walk, tree)?;

@@ -1,8 +1,8 @@
 //! Worked texts.
 ghost use Rattle.mc_shape.specs.Worked.{TheBraces, TheChoice, TheDeclaration, TheFunction, TheOperand, TheParentheses};
 
-/// The probes of `int f(int a,int b){return a&&b;}` stand at the function's name, at the statement, at
-/// the decision and at its conditions.
+/// The probes of `int f(int a,int b){return a&&b;}` stand at the function's name, at the
+/// statement, at the decision and at its conditions.
 pub fn function_with_probes()
     ensures { TheFunction }
 {}

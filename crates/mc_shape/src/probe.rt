@@ -1,15 +1,14 @@
 //! Probes among the pieces of a text.
-ghost use Rattle.std.specs.Prelude.{◌≡◌, ◌++◌, IfOk, length};
-ghost use Rattle.mc_strip.specs.Plain.{end_of, place_after};
+ghost use Rattle.std.specs.Prelude.{◌≡◌, ◌++◌, IfOk};
 ghost use Rattle.mc_strip.specs.steps.Views.{mark_of, marks_of};
 ghost use Rattle.mc_shape.specs.Probes as spec;
 
-use mc_strip::{Piece, What};
+use mc_strip::{Piece, Stand, What, end_of, stand_of};
 use std::alloc::{AllocError, Global};
 
-/// A probe of a text: its row of the table, the byte at which its word starts, and what stands round
-/// it: where the last token of the source before it ends, and where the next one starts. Of a `return`
-/// with a value, whose probes leave tokens, the next one is that token.
+/// A probe of a text: its row of the table, the byte at which its word starts, and what stands
+/// round it: where the last token of the source before it ends, and where the next one starts. Of
+/// a `return` with a value, whose probes leave tokens, the next one is that token.
 #[derive(Clone, Copy, Debug, PartialEq, Eq)]
 pub struct Probe {
     pub what: What,
@@ -37,10 +36,7 @@ fn is_probe(what: What) -> bool
 fn has_place(what: What) -> bool
     ensures { result ≡ spec.has_place what }
 {
-    matches!(
-        what,
-        What::Source | What::Opening { .. } | What::Closing | What::Value | What::ValueEnd { .. }
-    )
+    matches!(stand_of(what), Stand::Own)
 }
 
 /// Where the next token with a place of its own starts; 0 where there is none.
@@ -55,31 +51,6 @@ fn next_start(pieces: &[Piece<'_>]) -> u32
         left = later;
     }
     0
-}
-
-/// The place after so many bytes from a start; the last place there is where it would be later.
-fn place_after(start: u32, bytes: &[u8]) -> u32
-    ensures { result ≡ place_after start (length bytes.now) }
-{
-    let place = start as u64 + bytes.len() as u64;
-    if place <= 4_294_967_295 {
-        place as u32
-    } else {
-        4_294_967_295
-    }
-}
-
-/// Where the last token with a place of its own ends, after a piece; the one before it ends at `end`.
-fn end_of(piece: &Piece<'_>, end: u32) -> u32
-    ensures { result ≡ end_of (mark_of piece.now) end }
-{
-    match piece.what {
-        What::Value => place_after(piece.token.start, b"return"),
-        What::Source | What::Opening { .. } | What::Closing | What::ValueEnd { .. } => {
-            place_after(piece.token.start, piece.token.text)
-        }
-        _ => end,
-    }
 }
 
 /// Adds the first of these pieces where it is a probe.

@@ -1,6 +1,7 @@
 //! Places of a tree at which the table puts probes.
 
-/// A place of a tree at which the table puts a row, by the byte where what stands there starts or ends.
+/// A place of a tree at which the table puts a row, by the byte where what stands there starts or
+/// ends.
 #[derive(Clone, Copy, Debug, PartialEq, Eq)]
 pub enum Spot {
     /// At the front of the body of a function that ends there.
@@ -23,7 +24,7 @@ pub enum Spot {
     ValueEnd,
     /// Before a `return` without a value.
     Return { start: u32 },
-    /// Round an expression. Only one that is no assignment and no comma expression may be a decision
-    /// or a condition.
+    /// Round an expression. Only one that is no assignment and no comma expression may be a
+    /// decision or a condition.
     Operand { start: u32, is_cond: bool },
 }

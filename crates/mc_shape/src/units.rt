@@ -99,15 +99,16 @@ fn answer(walk: Walk<'_>) -> Result<Vec<Placed>, PlaceFault>
 /// The probes of an instrumented text, in the order of the text, each at what it stands at.
 ///
 /// `pieces` are the pieces of the text, `unit` is the tree of its tokens without probes: there the
-/// operand of a probe stands in parentheses, a counted statement in braces. The text has the shapes of
-/// the table where each probe stands at a statement, a declaration, a label or an expression at which
-/// the table puts such a one.
+/// operand of a probe stands in parentheses, a counted statement in braces. The text has the
+/// shapes of the table where each probe stands at a statement, a declaration, a label or an
+/// expression at which the table puts such a one.
 pub fn placed<'a>(
     alloc: Global,
     pieces: &[Piece<'a>],
     unit: &Unit<'a>,
 ) -> Result<Vec<Placed>, PlaceFault>
-    // What is returned is what the definition gives; where it gives nothing, the fault is `NoShape`.
+    // What is returned is what the definition gives; where it gives nothing, the fault is
+    // `NoShape`.
     ensures { Gives (placements (marks_of pieces.now) (items_of unit.now.items.items)) result }
 {
     let found = probes(alloc, pieces)?;

@@ -9,8 +9,8 @@ use mc_span::Span;
 use mc_strip::{Placed, What};
 use std::alloc::{AllocError, Global};
 
-/// What a walk has in hand: the probes that are not taken yet, those that are placed, and whether all
-/// so far has the shape of the table.
+/// What a walk has in hand: the probes that are not taken yet, those that are placed, and whether
+/// all so far has the shape of the table.
 #[derive(Drop)]
 pub(crate) struct Walk<'p> {
     pub left: &'p [Probe],
@@ -53,7 +53,8 @@ fn is_row(spot: Spot, what: What) -> bool
     }
 }
 
-/// Whether a probe is there, between tokens of which the last ends and the next starts at these bytes.
+/// Whether a probe is there, between tokens of which the last ends and the next starts at these
+/// bytes.
 fn is_there(spot: Spot, last: u32, next: u32) -> bool
     ensures { result ≡ spec.is_there spot last next }
 {
@@ -139,7 +140,8 @@ impl Walk<'_> {
 
     /// Takes the next probe, which has to stand at a spot.
     pub fn must_take(&mut self, spot: Spot, span: Span) -> Result<(), AllocError>
-        ensures { IfOk result (λ _. walk_of self.new ≡ spec.must_take spot span (walk_of self.old)) }
+        ensures { IfOk result (λ _. walk_of self.new
+            ≡ spec.must_take spot span (walk_of self.old)) }
     {
         if self.stands(spot) {
             self.take(span)?;

@@ -61,13 +61,13 @@ fn reply_to<'a, 'w, S: Store, R: Threads + Sync, G: Gate, C: Closer>(
 /// Does what the words of a command line ask for, and gives the status of the program.
 ///
 /// The command `report` puts on `out` the report of the tests and of the verdicts, `vectors` a line
-/// for each test and one for each vector that some test evaluates, `instrument` the program with its
-/// probes as C text, `record` what is kept of the tests, `merge` the record of two records, `analyse`
-/// the report of a record, `selfload` the summary of a source that the program makes itself,
-/// `watch` how much is recorded at each look and at the end, `reduce` the tests that are kept, and
-/// `list` the source with its marks.
-/// Everything is computed, and all memory taken, before the first `put`; a line is one `put`, and of
-/// C text a token is one, and so is what stands after it.
+/// for each test and one for each vector that some test evaluates, `instrument` the program with
+/// its probes as C text, `record` what is kept of the tests, `merge` the record of two records,
+/// `analyse` the report of a record, `selfload` the summary of a source that the program makes
+/// itself, `watch` how much is recorded at each look and at the end, `reduce` the tests that are
+/// kept, and `list` the source with its marks. Everything is computed, and all memory taken, before
+/// the first `put`; a line is one `put`, and of C text a token is one, and so is what stands after
+/// it.
 ///
 /// Tests run on as many workers as the words ask for, each in a thread of its own where one can be
 /// made. A worker passes the gate with the number of each test before it runs it, and the watcher

@@ -75,8 +75,9 @@ sees_brace (t ∷ ts) = is (codes "}") t
 abbrev pub is_hit : List Tok → Bool
 is_hit ts = begins hit ts
 
--- `MCDC_H ( b ) ;` is the entry's at the front of a function's body, after the registers where there
--- are some; the exit's before the `}` of a body; and else that of a declaration, where one may follow.
+-- `MCDC_H ( b ) ;` is the entry's at the front of a function's body, after the registers where
+-- there are some; the exit's before the `}` of a body; and else that of a declaration, where one
+-- may follow.
 abbrev pub hit_row : Site → List Tok → Option What
 hit_row s ts =
     if not (is_hit ts) then None
@@ -145,8 +146,8 @@ is_no_declaration ts = not (begins_declaration ts) && not (is_hit ts)
 abbrev pub brace : Site → Bracket
 brace s = if begins_body s then bracket.Body else bracket.Brace
 
--- Inside a function's body `{ MCDC_H ( b ) ;` begins a counted statement, where neither a declaration
--- nor another such probe follows.
+-- Inside a function's body `{ MCDC_H ( b ) ;` begins a counted statement, where neither a
+-- declaration nor another such probe follows.
 abbrev pub brace_row : Site → List (List ℕ) → List Tok → Option What
 brace_row s value ts =
     if is_after_statement s.before then exit_row value ts

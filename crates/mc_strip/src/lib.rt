@@ -19,4 +19,4 @@ pub use fault::ShapeFault;
 pub use piece::{Piece, What};
 pub use placed::Placed;
 pub use split::pieces;
-pub use without::plain;
+pub use without::{Stand, end_of, plain, stand_of};

@@ -80,8 +80,8 @@ pub enum What {
     OperandEnd,
 }
 
-/// A piece of a text: what it is, the first of its tokens, and the byte at which the word of its probe
-/// starts. A token of the source is its own word.
+/// A piece of a text: what it is, the first of its tokens, and the byte at which the word of its
+/// probe starts. A token of the source is its own word.
 #[derive(Clone, Copy, Debug)]
 pub struct Piece<'a> {
     pub what: What,

@@ -7,9 +7,9 @@ use mc_span::Span;
 /// that at which it stands.
 ///
 /// That is the counted statement, the counted declaration, or the expression round which the probe
-/// stands, each without the brackets of probes; the label through its colon; for an absent `default`
-/// the `switch`; for the exit of a `return` its statement; and the name of the function for what
-/// belongs to a whole function.
+/// stands, each without the brackets of probes; the label through its colon; for an absent
+/// `default` the `switch`; for the exit of a `return` its statement; and the name of the function
+/// for what belongs to a whole function.
 #[derive(Clone, Copy, Debug, PartialEq, Eq)]
 pub struct Placed {
     pub what: What,

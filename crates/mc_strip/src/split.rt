@@ -80,8 +80,8 @@ fn run<'t, 'a>(alloc: Global, tokens: &'t [Token<'a>]) -> Result<Vec<Piece<'a>>,
 
 /// Reads the tokens of an instrumented text as tokens of its source and as what its probes insert.
 ///
-/// The shapes are those of tokens alone. Whether a statement stands where a counted one is marked, a
-/// label before a label's probe, and an expression inside a probe's parentheses, the tree of the
+/// The shapes are those of tokens alone. Whether a statement stands where a counted one is marked,
+/// a label before a label's probe, and an expression inside a probe's parentheses, the tree of the
 /// tokens that are left has to say.
 pub fn pieces<'a>(alloc: Global, tokens: &[Token<'a>]) -> Result<Vec<Piece<'a>>, ShapeFault>
     requires few { length tokens.now < 2 ^ 31 }

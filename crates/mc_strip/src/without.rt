@@ -25,7 +25,8 @@ pub enum Stand {
     Nowhere,
 }
 
-fn stand_of(what: What) -> Stand
+/// Where the token of a piece stands.
+pub fn stand_of(what: What) -> Stand
     ensures { result ≡ spec.stand_of what }
 {
     match what {
@@ -92,8 +93,8 @@ fn place_after(start: u32, bytes: &[u8]) -> u32
     }
 }
 
-/// Where the last token of the source so far ends.
-fn end_of(piece: &Piece<'_>, end: u32) -> u32
+/// Where the last token with a place of its own ends, after a piece; the one before ends at `end`.
+pub fn end_of(piece: &Piece<'_>, end: u32) -> u32
     ensures { result ≡ spec.end_of (mark_of piece.now) end }
 {
     match stand_of(piece.what) {
@@ -170,8 +171,8 @@ fn moved_back<'a>(alloc: Global, laid: &[Laid<'a>]) -> Result<Vec<Token<'a>>, Al
 /// The tokens of C that a text without its probes has: those of its source, and brackets of C for
 /// those of its probes.
 ///
-/// A counted statement stands in braces, the operand of a probe in parentheses. These stand where what
-/// they enclose begins and ends, so they add nothing to the place of a tree.
+/// A counted statement stands in braces, the operand of a probe in parentheses. These stand where
+/// what they enclose begins and ends, so they add nothing to the place of a tree.
 pub fn plain<'a>(alloc: Global, pieces: &[Piece<'a>]) -> Result<Vec<Token<'a>>, AllocError>
     ensures { IfOk result (λ v. toks_of v.items ≡ spec.plain_of (marks_of pieces.now)) }
 {

@@ -1,6 +1,6 @@
--- The tree of an instrumented text without the brackets of its probes: parentheses (C17 6.5.1p5) and
--- braces (C17 6.8.2). A bracket of a probe stands where what it encloses begins; one of the source
--- starts before.
+-- The tree of an instrumented text without the brackets of its probes: parentheses (C17 6.5.1p5)
+-- and braces (C17 6.8.2). A bracket of a probe stands where what it encloses begins; one of the
+-- source starts before.
 use Rattle.std.specs.Prelude.{◌==◌, Bool, true, false, List, map, Option, option_map}
 use Rattle.mc_span.specs.declared.span.Span.{Span}
 use Rattle.mc_tree.specs.Tree.{Expression, Expressions, TypeName, Specifier, Specifiers, StructMember, Members, Enumerator, Enumerators, Declarator, Declarators, ArrayLengths, Parameters, Parameter, ParameterList, Initializer, Initializers, InitDeclarator, Declaration, ForStart, Statement, BlockItems, Item, span_of, span_of_statement}

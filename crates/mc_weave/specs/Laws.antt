@@ -12,11 +12,12 @@ use Rattle.mc_weave.specs.Weaving.{woven}
 -- The tree of a text with brackets is the tree of the text, with these brackets, in every dialect.
 abbrev pub WovenTextsHaveBracketedTrees : Type 0
 WovenTextsHaveBracketedTrees =
-    (d to : Dialect) (w : Brackets) (tokens : List Tok) (unit : List Item) (p : IsTree d tokens unit)
+    (d to : Dialect) (w : Brackets) (tokens : List Tok) (unit : List Item)
+    (p : IsTree d tokens unit)
     → AreAfterTokens w → ReadsUnit to (woven w tokens p) (bracketed_unit w unit)
 
--- With at most so many parentheses round an expression, and braces at most once round a statement, the
--- tree is at most so many times as high, and once more.
+-- With at most so many parentheses round an expression, and braces at most once round a statement,
+-- the tree is at most so many times as high, and once more.
 abbrev pub HeightIsWithin : Type 0
 HeightIsWithin =
     (m : ℕ) (w : Brackets) (unit : List Item) → 0 < m → AreAtMost m w

@@ -1,8 +1,8 @@
 -- A tree with brackets round some of its expressions and statements: the same tree, with a node for
 -- each bracket. What is in a bracket stands where the bracket does, so no place changes.
 --
--- Every expression may stand in parentheses, since these are a `primary` (C17 6.5.1). Every statement
--- but a compound statement and a label may stand in braces (C17 6.8.2).
+-- Every expression may stand in parentheses, since these are a `primary` (C17 6.5.1). Every
+-- statement but a compound statement and a label may stand in braces (C17 6.8.2).
 use Rattle.std.specs.Prelude.{ℕ, zero, suc, Bool, true, false, List, map, Option, option_map}
 use Rattle.mc_span.specs.declared.span.Span.{Span}
 use Rattle.mc_tree.specs.Tree.{Expression, Expressions, TypeName, Specifier, Specifiers, StructMember, Members, Enumerator, Enumerators, Declarator, Declarators, ArrayLengths, Parameters, Parameter, ParameterList, Initializer, Initializers, InitDeclarator, Declaration, ForStart, Statement, BlockItems, Item}

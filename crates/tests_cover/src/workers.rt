@@ -1,5 +1,5 @@
-//! Workers in threads of their own, which record by scripts. They stand outside the tests, so that a
-//! wrong body of theirs is refused.
+//! Workers in threads of their own, which record by scripts. They stand outside the tests, so that
+//! a wrong body of theirs is refused.
 ghost use Rattle.std.specs.Prelude.{◌≡◌, ◌<◌, ◌≤◌, ◌+◌, length, Contains, IfOk, vec_len};
 ghost use Rattle.mc_cover.specs.Views.{opener};
 ghost use Rattle.mc_cover.specs.Model.{IsOf};

@@ -148,8 +148,8 @@ pub static FLAPS_DECISIONS: &str = "\
 1@513:angle < want 0 513:angle < want;\
 1@550:angle > want 0 550:angle > want;";
 
-/// What stands before a piece, the piece, how often, and what comes after it; and the vectors of the
-/// decision, how many they are where they are more than eight, or why it is refused.
+/// What stands before a piece, the piece, how often, and what comes after it; and the vectors of
+/// the decision, how many they are where they are more than eight, or why it is refused.
 pub type LargeRow = (
     &'static str,
     &'static str,

@@ -1,5 +1,5 @@
-//! What the grammar reads, and beside each text one that it does not read (docs/LANGUAGE.md, C17 6.5
-//! to 6.9).
+//! What the grammar reads, and beside each text one that it does not read (docs/LANGUAGE.md, C17
+//! 6.5 to 6.9).
 //!
 //! A row is the beginning of a text, an ending with which it is read, and one with which it is not,
 //! with `@` between them: the fault stands at the first token of that ending. A line with `#` tells

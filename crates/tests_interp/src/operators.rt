@@ -1,5 +1,5 @@
-//! Every binary operator on every pair of types that promotion leaves as they are, and on some pairs
-//! of narrower ones, at the ends of their ranges.
+//! Every binary operator on every pair of types that promotion leaves as they are, and on some
+//! pairs of narrower ones, at the ends of their ranges.
 
 use crate::fail::Fail;
 use crate::reading::told;

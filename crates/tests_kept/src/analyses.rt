@@ -1,5 +1,5 @@
-//! What `analyse` writes of a record: a report without values and output. Each text that is expected
-//! was written out by hand.
+//! What `analyse` writes of a record: a report without values and output. Each text that is
+//! expected was written out by hand.
 
 use crate::fail::Fail;
 use crate::run::{gives, of_records};

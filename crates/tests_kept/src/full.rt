@@ -1,5 +1,5 @@
-//! Records, lists, reduced suites and mutants of decisions with operators that are evaluated in full.
-//! Each text that is expected was worked out by hand.
+//! Records, lists, reduced suites and mutants of decisions with operators that are evaluated in
+//! full. Each text that is expected was worked out by hand.
 
 use crate::fail::Fail;
 use crate::run::{Setting, gives};

@@ -1,5 +1,6 @@
-//! Tests of the commands that keep records, join and report on them, that choose among tests, try them
-//! on mutants and list a source, and of the large program: what no clause says. Runs succeed with ample memory, and the definitions are the ones meant.
+//! Tests of the commands that keep records, join and report on them, that choose among tests, try
+//! them on mutants and list a source, and of the large program: what no clause says. Runs succeed
+//! with ample memory, and the definitions are the ones meant.
 #![tactic(auto)]
 
 #[cfg(test)]

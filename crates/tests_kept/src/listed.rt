@@ -1,4 +1,5 @@
-//! Which mark `list` gives each line of a source. Each text that is expected was worked out by hand.
+//! Which mark `list` gives each line of a source. Each text that is expected was worked out by
+//! hand.
 
 use crate::fail::Fail;
 use crate::run::{gives, gives_by, of_tests};

@@ -1,4 +1,5 @@
-//! Which mutants `mutate` says that the tests kill. Each text that is expected was worked out by hand.
+//! Which mutants `mutate` says that the tests kill. Each text that is expected was worked out by
+//! hand.
 
 use crate::fail::Fail;
 use crate::run::{gives, gives_by, of_tests};

@@ -70,8 +70,8 @@ pub fn rules_of_operators()
     ensures { Hold operators.rows }
 {}
 
-/// Operators that are evaluated in full: the value of each on its operands, how they stand with other
-/// operators of a decision, and which operands are Boolean.
+/// Operators that are evaluated in full: the value of each on its operands, how they stand with
+/// other operators of a decision, and which operands are Boolean.
 pub fn rules_of_full_operators()
     ensures values { Hold full_operators.value_rows }
     ensures nested { Hold full_operators.nested_rows }

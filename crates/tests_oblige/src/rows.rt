@@ -25,9 +25,9 @@ const MET: VerdictState = VerdictState::Met;
 const MISSING: VerdictState = VerdictState::Missing;
 
 /// The decision `a && b`, whose paths have the bits 4 (both true), 5 (the second false) and 6 (the
-/// first false). Bit 3 is that of a label. In the first row all is met, in the fourth nothing is. In
-/// the fifth the entry, the statement, the label and the exit stand each under a test of its own. In
-/// the last row the arguments count (0, 0), (1, 0), (0, 1), (1, 1), twice.
+/// first false). Bit 3 is that of a label. In the first row all is met, in the fourth nothing is.
+/// In the fifth the entry, the statement, the label and the exit stand each under a test of its
+/// own. In the last row the arguments count (0, 0), (1, 0), (0, 1), (1, 1), twice.
 static ONE_AND: [Row<'static>; 6] = [
     Row {
         tests: &[&[0, 2, 4, 1], &[0, 2, 3, 5, 1], &[0, 2, 3, 6, 1]],

@@ -114,8 +114,9 @@ fn decisions_and_a_switch(rt: HostRuntime) {
     assert!(rt; is_text(rt.alloc(), source, text));
 }
 
-// `&` and `^` between Boolean operands are of the tree; `|` beside a number that is none is of a condition. What a condition
-// adds where it is false is the room of what comes after it: 2 and 1 under `&`, and 4, 2 and 1 under `^` and `&&`.
+// `&` and `^` between Boolean operands are of the tree; `|` beside a number that is none is of a
+// condition. What a condition adds where it is false is the room of what comes after it: 2 and 1
+// under `&`, and 4, 2 and 1 under `^` and `&&`.
 #[test]
 fn operators_evaluated_in_full(rt: HostRuntime) {
     let source = "int f(_Bool a,int b,int c){if(a&b<1|c)return 1;return (a^b<1)&&!c;}";

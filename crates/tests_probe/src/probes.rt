@@ -53,8 +53,8 @@ pub fn short_tree_by_hand()
     ensures tree { ShortTreeIsThat }
 {}
 
-/// So were those of a decision with an operator that is evaluated in full, which has an idle number;
-/// and the bits of two conditions between which such an operator stands.
+/// So were those of a decision with an operator that is evaluated in full, which has an idle
+/// number; and the bits of two conditions between which such an operator stands.
 pub fn full_operators_by_hand()
     ensures map { full.MapIsThat }
     ensures tree { full.TreeIsThat }

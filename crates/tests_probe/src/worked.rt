@@ -50,8 +50,8 @@ pub fn rules_of_operators()
     ensures { Follow operators.rows }
 {}
 
-/// Operators that are evaluated in full: the value of each on its operands, how they stand with other
-/// operators of a decision, and which operands are Boolean.
+/// Operators that are evaluated in full: the value of each on its operands, how they stand with
+/// other operators of a decision, and which operands are Boolean.
 pub fn rules_of_full_operators()
     ensures values { Follow full_operators.value_rows }
     ensures nested { Follow full_operators.nested_rows }

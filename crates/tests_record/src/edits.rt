@@ -6,8 +6,8 @@ use std::alloc::{AllocError, Global};
 use std::test::Fail;
 
 /// A row is what comes of the record with a text in place of a line: the text of the fault, or `ok`
-/// where it is written as it was read; `@`, the number of the line, `@` and the text, as `write_out`
-/// reads it.
+/// where it is written as it was read; `@`, the number of the line, `@` and the text, as
+/// `write_out` reads it.
 static ROWS: &str = "\
 ok@1@mcdc-record 2$
 # line 1

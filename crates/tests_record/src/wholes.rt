@@ -8,9 +8,9 @@ use mc_typed::{Ending, TestState};
 use std::alloc::{AllocError, Global};
 use std::test::Fail;
 
-/// A row is what comes of a text: the text of the fault, or `ok` where it is written as it was read,
-/// in version 2; `@`, the rules, `@`, the number of bits, `@` and the text, as `write_out` reads it.
-/// Under `any` the same comes of it under either rules.
+/// A row is what comes of a text: the text of the fault, or `ok` where it is written as it was
+/// read, in version 2; `@`, the rules, `@`, the number of bits, `@` and the text, as `write_out`
+/// reads it. Under `any` the same comes of it under either rules.
 static ROWS: &str = "\
 record line 1: header@any@0@
 record line 1: header@any@0@mcdc-record 2

@@ -20,9 +20,9 @@ struct Row<'a> {
 /// The decision `a && b`, whose paths have the bits 3 (both true), 4 (the second false) and 5 (the
 /// first false). In the first row the arguments are (1, 1), (1, 0), (0, 1) and (0, 0). Without the
 /// first test the true outcome is lost, without the second one the second condition, without the
-/// third one the first condition. In the second row no path is evaluated twice by the tests that are
-/// kept, and the last one, which evaluates two, goes. In the third row one test hits all that any
-/// does, and the last row has no test.
+/// third one the first condition. In the second row no path is evaluated twice by the tests that
+/// are kept, and the last one, which evaluates two, goes. In the third row one test hits all that
+/// any does, and the last row has no test.
 static ONE_AND: [Row<'static>; 4] = [
     Row {
         tests: &[&[0, 1, 2, 3], &[0, 1, 2, 4], &[0, 1, 2, 5], &[0, 1, 2, 5]],
@@ -89,8 +89,8 @@ static TWO_ANDS_MASKING: [Row<'static>; 3] = [
     },
 ];
 
-/// The decision `(a ^ b) && c`. Number 1 is idle, and its bit is 4. The test that has it alone shows
-/// no outcome, so the last test is kept for the false one. This row was worked out by hand.
+/// The decision `(a ^ b) && c`. Number 1 is idle, and its bit is 4. The test that has it alone
+/// shows no outcome, so the last test is kept for the false one. This row was worked out by hand.
 static XOR_BEFORE_AND: [Row<'static>; 1] = [Row {
     tests: &[&[0, 1, 2, 5], &[4], &[0, 1, 2, 3]],
     kept: &[0, 2],

@@ -1,5 +1,5 @@
-//! Worked programs with operators that are evaluated in full. Each text that is expected was written
-//! out by hand.
+//! Worked programs with operators that are evaluated in full. Each text that is expected was
+//! written out by hand.
 
 use crate::fail::Fail;
 use crate::row::is_written;

@@ -1,5 +1,5 @@
-//! Texts, their pieces, and their tokens without the probes. What stands where follows from the table
-//! of what an instrumented text has inserted.
+//! Texts, their pieces, and their tokens without the probes. What stands where follows from the
+//! table of what an instrumented text has inserted.
 
 ghost use Rattle.std.specs.Prelude.{◌<◌, ◌^◌, length};
 
@@ -23,8 +23,8 @@ impl<T: Drop> From<AllocFailed<T>> for Fail {
     }
 }
 
-/// Texts and their pieces. A `.` is a token of the source; every other letter is a piece of a probe,
-/// and its numbers stand after it.
+/// Texts and their pieces. A `.` is a token of the source; every other letter is a piece of a
+/// probe, and its numbers stand after it.
 static READ: [(&[u8], &[u8]); 23] = [
     (b"", b""),
     (b"int a;", b"..."),

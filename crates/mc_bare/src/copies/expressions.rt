@@ -117,8 +117,8 @@ pub fn expression(alloc: Global, tree: &Expression) -> Result<Expression, AllocE
     }
 }
 
-/// The same on the heap. What is boxed passes through this function alone: a function clears all its
-/// values as it begins, and that would be much of the time that a copy takes.
+/// The same on the heap. What is boxed passes through this function alone: a function clears all
+/// its values as it begins, and that would be much of the time that a copy takes.
 #[cycle(copy)]
 #[inline(never)]
 fn boxed(alloc: Global, tree: &Expression) -> Result<Box<Expression>, AllocError>

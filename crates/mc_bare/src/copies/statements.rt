@@ -219,8 +219,8 @@ fn statement(alloc: Global, tree: &Statement) -> Result<Statement, AllocError>
     }
 }
 
-/// The same on the heap. What is boxed passes through this function alone: a function clears all its
-/// values as it begins, and that would be much of the time that a copy takes.
+/// The same on the heap. What is boxed passes through this function alone: a function clears all
+/// its values as it begins, and that would be much of the time that a copy takes.
 #[cycle(copy)]
 #[inline(never)]
 fn boxed(alloc: Global, tree: &Statement) -> Result<Box<Statement>, AllocError>

@@ -64,8 +64,8 @@ pub(crate) fn expression(
     }
 }
 
-/// The same on the heap. What is boxed passes through this function alone: a function clears all its
-/// values as it begins, and that would be much of the time that a copy takes.
+/// The same on the heap. What is boxed passes through this function alone: a function clears all
+/// its values as it begins, and that would be much of the time that a copy takes.
 #[cycle(put)]
 #[inline(never)]
 fn boxed(walk: &Walk<'_>, next: &mut u32, tree: &Expression) -> Result<Box<Expression>, AllocError>

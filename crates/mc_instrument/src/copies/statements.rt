@@ -346,8 +346,8 @@ fn statement(
     }
 }
 
-/// The same on the heap. What is boxed passes through this function alone: a function clears all its
-/// values as it begins, and that would be much of the time that a copy takes.
+/// The same on the heap. What is boxed passes through this function alone: a function clears all
+/// its values as it begins, and that would be much of the time that a copy takes.
 #[cycle(statement)]
 #[inline(never)]
 fn boxed(

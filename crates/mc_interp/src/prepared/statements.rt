@@ -307,8 +307,8 @@ fn prepare<'p>(alloc: Global, tree: &'p Statement) -> Result<Prepared<'p>, Alloc
     }
 }
 
-/// The same on the heap. What is boxed passes through this function alone: a function clears all its
-/// values as it begins, and that would be much of the time that `prepare` takes.
+/// The same on the heap. What is boxed passes through this function alone: a function clears all
+/// its values as it begins, and that would be much of the time that `prepare` takes.
 #[cycle(statements)]
 #[inline(never)]
 fn boxed<'p>(alloc: Global, tree: &'p Statement) -> Result<Box<Prepared<'p>>, AllocError>

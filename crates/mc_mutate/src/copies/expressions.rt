@@ -35,8 +35,8 @@ pub(super) fn expression(
     }
 }
 
-/// The same on the heap. What is boxed passes through this function alone: a function clears all its
-/// values as it begins, and that would be most of the time that `operands` takes.
+/// The same on the heap. What is boxed passes through this function alone: a function clears all
+/// its values as it begins, and that would be most of the time that `operands` takes.
 #[cycle(change)]
 fn boxed(
     alloc: Global,

@@ -157,8 +157,8 @@ fn returned(
     })
 }
 
-/// A statement with the change that is sought. A function clears all its values as it begins, so most
-/// kinds of statements have a function of their own.
+/// A statement with the change that is sought. A function clears all its values as it begins, so
+/// most kinds of statements have a function of their own.
 #[cycle(change)]
 fn statement(alloc: Global, sought: &mut Sought, tree: &Statement) -> Result<Statement, AllocError>
     ensures tree { IfOk result (λ c. probed.statement_of c

@@ -70,7 +70,9 @@ pub fn call<'a>(
     arguments: Vec<Expression<'a>>,
     span: Span,
 ) -> Result<Box<Expression<'a>>, AllocError>
-    ensures { IfOk result (λ c. value_of c ≡ tree.Call (name_of name.entry) (expressions_from (map expression_of arguments.entry.items)) span) }
+    ensures { IfOk result (λ c. value_of c
+        ≡ tree.Call (name_of name.entry)
+        (expressions_from (map expression_of arguments.entry.items)) span) }
 {
     on_heap(
         alloc,
@@ -89,7 +91,8 @@ pub fn index<'a>(
     index: Box<Expression<'a>>,
     span: Span,
 ) -> Result<Box<Expression<'a>>, AllocError>
-    ensures { IfOk result (λ c. value_of c ≡ tree.Index (value_of array.entry) (value_of index.entry) span) }
+    ensures { IfOk result (λ c. value_of c
+        ≡ tree.Index (value_of array.entry) (value_of index.entry) span) }
 {
     on_heap(alloc, Expression::Index { array, index, span })
 }
@@ -101,7 +104,8 @@ pub fn member<'a>(
     name: Identifier<'a>,
     span: Span,
 ) -> Result<Box<Expression<'a>>, AllocError>
-    ensures { IfOk result (λ c. value_of c ≡ tree.Member (value_of object.entry) (name_of name.entry) span) }
+    ensures { IfOk result (λ c. value_of c
+        ≡ tree.Member (value_of object.entry) (name_of name.entry) span) }
 {
     on_heap(alloc, Expression::Member { object, name, span })
 }
@@ -113,7 +117,8 @@ pub fn postfix_step<'a>(
     operand: Box<Expression<'a>>,
     span: Span,
 ) -> Result<Box<Expression<'a>>, AllocError>
-    ensures { IfOk result (λ c. value_of c ≡ tree.PostfixStep operator (value_of operand.entry) span) }
+    ensures { IfOk result (λ c. value_of c
+        ≡ tree.PostfixStep operator (value_of operand.entry) span) }
 {
     on_heap(
         alloc,
@@ -132,7 +137,8 @@ pub fn prefix_step<'a>(
     operand: Box<Expression<'a>>,
     span: Span,
 ) -> Result<Box<Expression<'a>>, AllocError>
-    ensures { IfOk result (λ c. value_of c ≡ tree.PrefixStep operator (value_of operand.entry) span) }
+    ensures { IfOk result (λ c. value_of c
+        ≡ tree.PrefixStep operator (value_of operand.entry) span) }
 {
     on_heap(
         alloc,
@@ -172,7 +178,10 @@ pub fn cast<'a>(
     operand: Box<Expression<'a>>,
     span: Span,
 ) -> Result<Box<Expression<'a>>, AllocError>
-    ensures { IfOk result (λ c. value_of c ≡ tree.Cast (tree.type_name (specifiers_from (map specifier_of specifiers.entry.items)) stars type_span) (value_of operand.entry) span) }
+    ensures { IfOk result (λ c. value_of c
+        ≡ tree.Cast
+        (tree.type_name (specifiers_from (map specifier_of specifiers.entry.items)) stars type_span)
+        (value_of operand.entry) span) }
 {
     on_heap(
         alloc,
@@ -194,7 +203,8 @@ pub fn binary<'a>(
     right: Box<Expression<'a>>,
     span: Span,
 ) -> Result<Box<Expression<'a>>, AllocError>
-    ensures { IfOk result (λ c. value_of c ≡ tree.Binary operator (value_of left.entry) (value_of right.entry) span) }
+    ensures { IfOk result (λ c. value_of c
+        ≡ tree.Binary operator (value_of left.entry) (value_of right.entry) span) }
 {
     on_heap(
         alloc,
@@ -215,7 +225,9 @@ pub fn conditional<'a>(
     other: Box<Expression<'a>>,
     span: Span,
 ) -> Result<Box<Expression<'a>>, AllocError>
-    ensures { IfOk result (λ c. value_of c ≡ tree.Conditional (value_of test.entry) (value_of chosen.entry) (value_of other.entry) span) }
+    ensures { IfOk result (λ c. value_of c
+        ≡ tree.Conditional (value_of test.entry) (value_of chosen.entry) (value_of other.entry)
+        span) }
 {
     on_heap(
         alloc,
@@ -236,7 +248,8 @@ pub fn assignment<'a>(
     value: Box<Expression<'a>>,
     span: Span,
 ) -> Result<Box<Expression<'a>>, AllocError>
-    ensures { IfOk result (λ c. value_of c ≡ tree.Assignment operator (value_of target.entry) (value_of value.entry) span) }
+    ensures { IfOk result (λ c. value_of c
+        ≡ tree.Assignment operator (value_of target.entry) (value_of value.entry) span) }
 {
     on_heap(
         alloc,
@@ -255,7 +268,8 @@ pub fn comma<'a>(
     operands: Vec<Expression<'a>>,
     span: Span,
 ) -> Result<Box<Expression<'a>>, AllocError>
-    ensures { IfOk result (λ c. value_of c ≡ tree.Comma (expressions_from (map expression_of operands.entry.items)) span) }
+    ensures { IfOk result (λ c. value_of c
+        ≡ tree.Comma (expressions_from (map expression_of operands.entry.items)) span) }
 {
     on_heap(alloc, Expression::Comma { operands, span })
 }

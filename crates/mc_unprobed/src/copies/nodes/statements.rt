@@ -15,7 +15,8 @@ pub fn compound<'a>(
     items: Vec<BlockItem<'a>>,
     span: Span,
 ) -> Result<Box<Statement<'a>>, AllocError>
-    ensures { IfOk result (λ c. body_of c ≡ tree.Compound (block_from (map block_item_of items.entry.items)) span) }
+    ensures { IfOk result (λ c. body_of c
+        ≡ tree.Compound (block_from (map block_item_of items.entry.items)) span) }
 {
     on_heap(alloc, Statement::Compound { items, span })
 }
@@ -45,7 +46,8 @@ pub fn if_only<'a>(
     chosen: Box<Statement<'a>>,
     span: Span,
 ) -> Result<Box<Statement<'a>>, AllocError>
-    ensures { IfOk result (λ c. body_of c ≡ tree.If (value_of test.entry) (body_of chosen.entry) span) }
+    ensures { IfOk result (λ c. body_of c
+        ≡ tree.If (value_of test.entry) (body_of chosen.entry) span) }
 {
     on_heap(alloc, Statement::If { test, chosen, span })
 }
@@ -58,7 +60,8 @@ pub fn if_else<'a>(
     other: Box<Statement<'a>>,
     span: Span,
 ) -> Result<Box<Statement<'a>>, AllocError>
-    ensures { IfOk result (λ c. body_of c ≡ tree.IfElse (value_of test.entry) (body_of chosen.entry) (body_of other.entry) span) }
+    ensures { IfOk result (λ c. body_of c
+        ≡ tree.IfElse (value_of test.entry) (body_of chosen.entry) (body_of other.entry) span) }
 {
     on_heap(
         alloc,
@@ -78,7 +81,8 @@ pub fn switch<'a>(
     body: Box<Statement<'a>>,
     span: Span,
 ) -> Result<Box<Statement<'a>>, AllocError>
-    ensures { IfOk result (λ c. body_of c ≡ tree.Switch (value_of value.entry) (body_of body.entry) span) }
+    ensures { IfOk result (λ c. body_of c
+        ≡ tree.Switch (value_of value.entry) (body_of body.entry) span) }
 {
     on_heap(alloc, Statement::Switch { value, body, span })
 }
@@ -90,7 +94,8 @@ pub fn while_loop<'a>(
     body: Box<Statement<'a>>,
     span: Span,
 ) -> Result<Box<Statement<'a>>, AllocError>
-    ensures { IfOk result (λ c. body_of c ≡ tree.While (value_of test.entry) (body_of body.entry) span) }
+    ensures { IfOk result (λ c. body_of c
+        ≡ tree.While (value_of test.entry) (body_of body.entry) span) }
 {
     on_heap(alloc, Statement::While { test, body, span })
 }
@@ -102,7 +107,8 @@ pub fn do_while<'a>(
     test: Box<Expression<'a>>,
     span: Span,
 ) -> Result<Box<Statement<'a>>, AllocError>
-    ensures { IfOk result (λ c. body_of c ≡ tree.DoWhile (body_of body.entry) (value_of test.entry) span) }
+    ensures { IfOk result (λ c. body_of c
+        ≡ tree.DoWhile (body_of body.entry) (value_of test.entry) span) }
 {
     on_heap(alloc, Statement::DoWhile { body, test, span })
 }
@@ -116,7 +122,9 @@ pub fn for_loop<'a>(
     body: Box<Statement<'a>>,
     span: Span,
 ) -> Result<Box<Statement<'a>>, AllocError>
-    ensures { IfOk result (λ c. body_of c ≡ tree.For (start_of start.entry.value) (option_of test.entry) (option_of step.entry) (body_of body.entry) span) }
+    ensures { IfOk result (λ c. body_of c
+        ≡ tree.For (start_of start.entry.value) (option_of test.entry) (option_of step.entry)
+        (body_of body.entry) span) }
 {
     on_heap(
         alloc,
@@ -138,7 +146,8 @@ pub fn case<'a>(
     body: Box<Statement<'a>>,
     span: Span,
 ) -> Result<Box<Statement<'a>>, AllocError>
-    ensures { IfOk result (λ c. body_of c ≡ tree.Case (value_of value.entry) label (body_of body.entry) span) }
+    ensures { IfOk result (λ c. body_of c
+        ≡ tree.Case (value_of value.entry) label (body_of body.entry) span) }
 {
     on_heap(
         alloc,
@@ -170,7 +179,8 @@ pub fn labeled<'a>(
     body: Box<Statement<'a>>,
     span: Span,
 ) -> Result<Box<Statement<'a>>, AllocError>
-    ensures { IfOk result (λ c. body_of c ≡ tree.Label (name_of name.entry) (body_of body.entry) span) }
+    ensures { IfOk result (λ c. body_of c
+        ≡ tree.Label (name_of name.entry) (body_of body.entry) span) }
 {
     on_heap(alloc, Statement::Label { name, body, span })
 }
