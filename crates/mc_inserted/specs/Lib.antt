@@ -1,0 +1,5 @@
+pub mod Rows
+pub mod Signs
+pub mod Seats
+pub mod Fits
+pub mod Worked

@@ -1,0 +1,5 @@
+mod Nodes
+mod Points
+mod Put
+mod Placeless
+mod Maps
