@@ -171,7 +171,7 @@ objects Has (of_units.function_initialized h) k = objects Has h k.1
 declaration : (Has : Span → Type 0) {d : Declaration} {all : List Declarator} → AreDeclaredBy d all
     → EachDeclared Has d → AreHeld Has (nodes.declarators all)
 declaration Has of_units.kept_apart k = tt
-declaration Has (of_units.automatic h) k = objects Has h k
+declaration Has (of_units.automatic apart h) k = objects Has h k
 
 -- ---- statements
 

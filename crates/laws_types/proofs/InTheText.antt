@@ -190,7 +190,7 @@ declared : {d : Dialect} {typedef : Bool} {allowed : Specifiers → Bool} {ts re
     {low high : ℕ} → ReadsDeclaration d typedef allowed ts one rest → AreDeclaredBy one all → Follow low high (places ts)
     → ReadParts low high (places rest) (nodes.declarators all)
 declared p of_units.kept_apart f = none (skip (placed (declaration_stands p) f))
-declared (s.declaration e p v q w) (of_units.automatic h) f = dropped (objects q h (ended (specifiers_ends p) f))
+declared (s.declaration e p v q w) (of_units.automatic apart h) f = dropped (objects q h (ended (specifiers_ends p) f))
 
 -- ---- statements
 

@@ -1,6 +1,6 @@
 -- Initializers, declarations, statements and units: what is found of them has the operators and
 -- operands of the source.
-use Rattle.std.proofs.Common.{◌≡◌, ℕ, ◌+◌, refl, ℤ, Bool, true, false, ◌||◌, if◌then◌else◌, nat_lt, arith, List, [], ◌∷◌, ◌++◌, Option, Some, None, option_map, option_and_then, subst, sym, ap}
+use Rattle.std.proofs.Common.{◌≡◌, ℕ, ◌+◌, refl, ℤ, Bool, true, false, ◌||◌, if◌then◌else◌, nat_lt, arith, List, [], ◌∷◌, ◌++◌, Option, Some, None, option_map, option_and_then, subst, sym, ap, ◌∙◌}
 use Rattle.std.proofs.lemmas.Bool.Decides.{nat_tests}
 use Rattle.mc_span.specs.declared.span.Span.{Span}
 use Rattle.mc_tree.specs.Tree.{Name, Expression, Expressions, ArrayLengths, Initializer, Initializers, InitDeclarator, Declaration, Statement, BlockItems, ForStart, Item, span_of}
@@ -256,23 +256,6 @@ init_declarators_of storage base (d ∷ ds) s =
     (judge_init_declarators storage base ds x.scope).value (both_made storage d ds)
     (init_declarator_of storage base d s) (init_declarators_of storage base ds x.scope)
 
-declared_by : (storage : Storage) (all : tree.Specifiers) (ds : List InitDeclarator) (span : Span)
-    (o : Option (List Declarator)) → WhereSome (AreAllMade storage ds) o
-    → WhereSome (AreDeclaredBy (tree.declaration all ds span)) o
-declared_by storage all ds span None h = tt
-declared_by AutomaticStorage all ds span (Some xs) h = of_units.automatic h
-declared_by StaticStorage all ds span (Some []) h = of_units.kept_apart
-declared_by StaticStorage all ds span (Some (x ∷ xs)) h = absurd (cc)
-declared_by TypedefStorage all ds span (Some []) h = of_units.kept_apart
-declared_by TypedefStorage all ds span (Some (x ∷ xs)) h = absurd (cc)
-
-declaration_of : (d : Declaration) (s : Scope) → WhereSome (AreDeclaredBy d) (judge_declaration d s).value
-declaration_of (tree.declaration all ds span) s =
-    let x = typed_by span.start all (judge_specifiers (is_tag_alone all ds) all s) in
-    let storage = storage_of all s.is_file in
-    declared_by storage all ds span (judge_init_declarators storage x.value ds x.scope).value
-    (init_declarators_of storage x.value ds x.scope)
-
 -- ---- which declarations make objects
 
 one_more : (n : ℕ) → nat_lt 0 (n + 1) ≡ true
@@ -302,6 +285,32 @@ kept_words (tree.specifiers (tree.StructureTag tag span) rest) = kept_words rest
 kept_words (tree.specifiers (tree.Structure tag all span) rest) = kept_words rest
 kept_words (tree.specifiers (tree.EnumerationTag tag span) rest) = kept_words rest
 kept_words (tree.specifiers (tree.Enumeration tag all span) rest) = kept_words rest
+
+automatic_words : (typedef is_file static : Bool)
+    → (if typedef then TypedefStorage else if is_file || static then StaticStorage else AutomaticStorage) ≡ AutomaticStorage
+    → (static || typedef) ≡ false
+automatic_words true is_file static e = absurd (cc)
+automatic_words false true static e = absurd (cc)
+automatic_words false false true e = absurd (cc)
+automatic_words false false false e = refl
+
+declared_by : (storage : Storage) (all : tree.Specifiers) (ds : List InitDeclarator) (span : Span)
+    (o : Option (List Declarator)) → (storage ≡ AutomaticStorage → some_word keeps_apart all ≡ false)
+    → WhereSome (AreAllMade storage ds) o → WhereSome (AreDeclaredBy (tree.declaration all ds span)) o
+declared_by storage all ds span None k h = tt
+declared_by AutomaticStorage all ds span (Some xs) k h = of_units.automatic (k refl) h
+declared_by StaticStorage all ds span (Some []) k h = of_units.kept_apart
+declared_by StaticStorage all ds span (Some (x ∷ xs)) k h = absurd (cc)
+declared_by TypedefStorage all ds span (Some []) k h = of_units.kept_apart
+declared_by TypedefStorage all ds span (Some (x ∷ xs)) k h = absurd (cc)
+
+declaration_of : (d : Declaration) (s : Scope) → WhereSome (AreDeclaredBy d) (judge_declaration d s).value
+declaration_of (tree.declaration all ds span) s =
+    let x = typed_by span.start all (judge_specifiers (is_tag_alone all ds) all s) in
+    let storage = storage_of all s.is_file in
+    declared_by storage all ds span (judge_init_declarators storage x.value ds x.scope).value
+    (λ e. kept_words all ∙ automatic_words (has word.Typedef all) s.is_file (has word.Static all) e)
+    (init_declarators_of storage x.value ds x.scope)
 
 -- what is made, where some words are among them or not
 abbrev AreMadeWhere : Bool → List InitDeclarator → List Declarator → Type 0

@@ -69,11 +69,19 @@ pub data AreObjectsOf : List InitDeclarator → List Declarator → Type 0 where
       → AreObjectsOf rest all
       → AreObjectsOf (tree.initialized (tree.function stars name given span) value ∷ rest) all
 
+-- with such a word a declaration makes no object with automatic storage duration (C17 6.2.4p3, p5,
+-- 6.7.8p3)
+abbrev pub keeps_apart : SpecifierWord → Bool
+keeps_apart specifier_word.Static = true
+keeps_apart specifier_word.Typedef = true
+keeps_apart _ = false
+
 -- a declaration of objects with static storage duration and one of typedef names make none
 pub data AreDeclaredBy : Declaration → List Declarator → Type 0 where
   kept_apart : {d : Declaration} → AreDeclaredBy d []
   automatic : {words : Specifiers} {ds : List InitDeclarator} {all : List Declarator} {span : Span}
-      → AreObjectsOf ds all → AreDeclaredBy (tree.declaration words ds span) all
+      → some_word keeps_apart words ≡ false → AreObjectsOf ds all
+      → AreDeclaredBy (tree.declaration words ds span) all
 
 abbrev pub span_of_declaration : Declaration → Span
 span_of_declaration (tree.declaration words ds span) = span
@@ -208,14 +216,8 @@ pub data AreFunctionsOf : List Item → List Function → Type 0 where
 
 -- ---- the laws
 
--- with such a word a declaration makes no object with automatic storage duration (C17 6.2.4p3, p5,
--- 6.7.8p3)
-abbrev pub keeps_apart : SpecifierWord → Bool
-keeps_apart specifier_word.Static = true
-keeps_apart specifier_word.Typedef = true
-keeps_apart _ = false
-
--- In a block each declaration without such a word makes its objects, and one with it makes none.
+-- In a block each declaration with neither `static` nor `typedef` makes its objects, and one with
+-- either makes none.
 abbrev pub DeclarationsMakeObjects : Type 0
 DeclarationsMakeObjects =
     (words : Specifiers) (ds : List InitDeclarator) (span : Span) (s : Scope)
