@@ -1,3 +1,3 @@
 mod Gone
-mod Ascend
+pub mod Ascend
 mod Kept
