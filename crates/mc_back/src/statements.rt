@@ -1,0 +1,358 @@
+//! Statements with their probes.
+ghost use Rattle.std.specs.Prelude.{◌≡◌, map, option_map, IfOk};
+ghost use Rattle.mc_typed.specs.Views as plain;
+ghost use Rattle.mc_steps.specs.Points as points;
+ghost use Rattle.mc_probe.specs.Views as probed;
+ghost use Rattle.mc_back.specs.Back as spec;
+ghost use Rattle.mc_back.specs.Pens.{each};
+ghost use Rattle.mc_back.specs.steps.Views.{pen_of};
+
+use crate::effects::{effect, effects};
+use crate::events::{has_default, initializes};
+use crate::expressions::{expression, structure};
+use crate::initializers::declarators;
+use crate::pen::{Pen, declaration_bit, default_mark, label_mark, return_bit, statement_bit};
+use crate::walk::Walk;
+use mc_typed::{Declarator, Effect, Expression, ForStart, Mark, ReturnValue, Span, Statement};
+use std::alloc::AllocError;
+
+fn start(walk: &Walk, pen: &mut Pen<'_>, tree: &ForStart) -> Result<ForStart, AllocError>
+    ensures part { IfOk result (λ c. probed.start_of c
+        ≡ (spec.back_start walk.now.registers (plain.start_of tree.now) (pen_of pen.old)).0) }
+    ensures pen { IfOk result (λ _. pen_of pen.new
+        ≡ (spec.back_start walk.now.registers (plain.start_of tree.now) (pen_of pen.old)).1) }
+{
+    match tree {
+        ForStart::Effects { effects: clauses } => {
+            let effects = effects(walk, pen, clauses)?;
+            Ok(ForStart::Effects { effects })
+        }
+        ForStart::Declaration {
+            declarators: declared,
+        } => {
+            let declarators = declarators(walk, pen, declared)?;
+            Ok(ForStart::Declaration { declarators })
+        }
+    }
+}
+
+fn optional(
+    walk: &Walk,
+    pen: &mut Pen<'_>,
+    tree: &Option<Expression>,
+) -> Result<Option<Expression>, AllocError>
+    ensures part { IfOk result (λ c. option_map probed.expression_of c
+        ≡ (spec.back_test walk.now.registers (option_map plain.expression_of tree.now)
+        (pen_of pen.old)).0) }
+    ensures pen { IfOk result (λ _. pen_of pen.new
+        ≡ (spec.back_test walk.now.registers (option_map plain.expression_of tree.now)
+        (pen_of pen.old)).1) }
+{
+    match tree {
+        Some(value) => {
+            let value = expression(walk, pen, value)?;
+            Ok(Some(value))
+        }
+        None => Ok(None),
+    }
+}
+
+fn return_value(
+    walk: &Walk,
+    pen: &mut Pen<'_>,
+    tree: &ReturnValue,
+) -> Result<ReturnValue, AllocError>
+    ensures part { IfOk result (λ c. probed.return_value_of c
+        ≡ (spec.back_return walk.now.registers (plain.return_value_of tree.now)
+        (pen_of pen.old)).0) }
+    ensures pen { IfOk result (λ _. pen_of pen.new
+        ≡ (spec.back_return walk.now.registers (plain.return_value_of tree.now)
+        (pen_of pen.old)).1) }
+{
+    match tree {
+        ReturnValue::Nothing => Ok(ReturnValue::Nothing),
+        ReturnValue::Number { value } => {
+            let value = expression(walk, pen, value)?;
+            Ok(ReturnValue::Number { value })
+        }
+        ReturnValue::Structure { value, cells } => {
+            let value = structure(walk, pen, value)?;
+            Ok(ReturnValue::Structure {
+                value,
+                cells: *cells,
+            })
+        }
+    }
+}
+
+/// The bit of a declaration, which has one only where it initializes something.
+fn declaration(
+    walk: &Walk,
+    pen: &mut Pen<'_>,
+    declarators: &[Declarator],
+    span: Span,
+) -> Option<u32>
+    ensures part { result ≡ (spec.back_declared walk.now.registers
+        (points.initializes (map plain.declarator_of declarators.now)) span (pen_of pen.old)).0 }
+    ensures pen { pen_of pen.new ≡ (spec.back_declared walk.now.registers
+        (points.initializes (map plain.declarator_of declarators.now)) span (pen_of pen.old)).1 }
+{
+    if initializes(declarators) {
+        declaration_bit(pen, walk.registers, span)
+    } else {
+        None
+    }
+}
+
+/// The probe of an absent `default`.
+fn absent_mark(walk: &Walk, pen: &mut Pen<'_>, items: &[Statement], span: Span) -> Option<Mark>
+    ensures part { result ≡ (spec.back_absent walk.now.registers
+        (points.has_default (plain.statements_from (map plain.statement_of items.now))) span
+        (pen_of pen.old)).0 }
+    ensures pen { pen_of pen.new ≡ (spec.back_absent walk.now.registers
+        (points.has_default (plain.statements_from (map plain.statement_of items.now))) span
+        (pen_of pen.old)).1 }
+{
+    if has_default(items) {
+        None
+    } else {
+        default_mark(pen, walk.registers, span)
+    }
+}
+
+/// What a `for` has beside its body.
+#[derive(Drop)]
+struct Head {
+    start: ForStart,
+    test: Option<Expression>,
+    step: Vec<Effect>,
+}
+
+/// Copies of what a `for` has beside its body.
+fn for_head(
+    walk: &Walk,
+    pen: &mut Pen<'_>,
+    first: &ForStart,
+    test: &Option<Expression>,
+    step: &[Effect],
+) -> Result<Head, AllocError>
+    ensures start { IfOk result (λ h. probed.start_of h.start
+        ≡ (spec.back_head walk.now.registers (plain.start_of first.now)
+        (option_map plain.expression_of test.now) (map plain.effect_of step.now)
+        (pen_of pen.old)).0.start) }
+    ensures test { IfOk result (λ h. option_map probed.expression_of h.test
+        ≡ (spec.back_head walk.now.registers (plain.start_of first.now)
+        (option_map plain.expression_of test.now) (map plain.effect_of step.now)
+        (pen_of pen.old)).0.test) }
+    ensures step { IfOk result (λ h. map probed.effect_of h.step.items
+        ≡ (spec.back_head walk.now.registers (plain.start_of first.now)
+        (option_map plain.expression_of test.now) (map plain.effect_of step.now)
+        (pen_of pen.old)).0.step) }
+    ensures pen { IfOk result (λ _. pen_of pen.new
+        ≡ (spec.back_head walk.now.registers (plain.start_of first.now)
+        (option_map plain.expression_of test.now) (map plain.effect_of step.now)
+        (pen_of pen.old)).1) }
+{
+    let start = start(walk, pen, first)?;
+    let test = optional(walk, pen, test)?;
+    let step = effects(walk, pen, step)?;
+    Ok(Head { start, test, step })
+}
+
+/// A copy of a statement.
+#[cycle(statement)]
+fn statement(walk: &Walk, pen: &mut Pen<'_>, tree: &Statement) -> Result<Statement, AllocError>
+    ensures part { IfOk result (λ c. probed.statement_of c
+        ≡ (spec.back_statement walk.now.registers (plain.statement_of tree.now)
+        (pen_of pen.old)).0) }
+    ensures pen { IfOk result (λ _. pen_of pen.new
+        ≡ (spec.back_statement walk.now.registers (plain.statement_of tree.now)
+        (pen_of pen.old)).1) }
+{
+    match tree {
+        Statement::Compound { items, span } => {
+            let items = statements(walk, pen, items)?;
+            Ok(Statement::Compound { items, span: *span })
+        }
+        Statement::Label { value, span, .. } => {
+            let mark = label_mark(pen, walk.registers, *span);
+            Ok(Statement::Label {
+                value: *value,
+                span: *span,
+                mark,
+            })
+        }
+        Statement::Declaration {
+            declarators: declared,
+            span,
+            ..
+        } => {
+            let bit = declaration(walk, pen, declared, *span);
+            let declarators = declarators(walk, pen, declared)?;
+            Ok(Statement::Declaration {
+                declarators,
+                span: *span,
+                bit,
+            })
+        }
+        Statement::Null { span, .. } => {
+            let bit = statement_bit(pen, walk.registers, *span);
+            Ok(Statement::Null { span: *span, bit })
+        }
+        Statement::Effect {
+            effect: whole,
+            span,
+            ..
+        } => {
+            let bit = statement_bit(pen, walk.registers, *span);
+            let effect = effect(walk, pen, whole)?;
+            Ok(Statement::Effect {
+                effect,
+                span: *span,
+                bit,
+            })
+        }
+        Statement::If {
+            test: first,
+            chosen,
+            keyword,
+            span,
+            ..
+        } => {
+            let bit = statement_bit(pen, walk.registers, *span);
+            let test = expression(walk, pen, first)?;
+            let chosen = Box::new(walk.alloc, statement(walk, pen, chosen)?)?;
+            Ok(Statement::If {
+                test,
+                chosen,
+                keyword: *keyword,
+                span: *span,
+                bit,
+            })
+        }
+        Statement::IfElse {
+            test: first,
+            chosen,
+            other,
+            keyword,
+            span,
+            ..
+        } => {
+            let bit = statement_bit(pen, walk.registers, *span);
+            let test = expression(walk, pen, first)?;
+            let chosen = Box::new(walk.alloc, statement(walk, pen, chosen)?)?;
+            let other = Box::new(walk.alloc, statement(walk, pen, other)?)?;
+            Ok(Statement::IfElse {
+                test,
+                chosen,
+                other,
+                keyword: *keyword,
+                span: *span,
+                bit,
+            })
+        }
+        Statement::Switch {
+            value,
+            items,
+            keyword,
+            span,
+            ..
+        } => {
+            let bit = statement_bit(pen, walk.registers, *span);
+            let value = expression(walk, pen, value)?;
+            let copies = statements(walk, pen, items)?;
+            let absent = absent_mark(walk, pen, items, *span);
+            Ok(Statement::Switch {
+                value,
+                items: copies,
+                keyword: *keyword,
+                span: *span,
+                bit,
+                absent,
+            })
+        }
+        Statement::For {
+            start: first,
+            test,
+            step,
+            body,
+            keyword,
+            span,
+            ..
+        } => {
+            let bit = statement_bit(pen, walk.registers, *span);
+            let head = for_head(walk, pen, first, test, step)?;
+            let body = Box::new(walk.alloc, statement(walk, pen, body)?)?;
+            Ok(Statement::For {
+                start: head.start,
+                test: head.test,
+                step: head.step,
+                body,
+                keyword: *keyword,
+                span: *span,
+                bit,
+            })
+        }
+        Statement::DoWhile {
+            body,
+            test: last,
+            keyword,
+            span,
+            ..
+        } => {
+            let bit = statement_bit(pen, walk.registers, *span);
+            let body = Box::new(walk.alloc, statement(walk, pen, body)?)?;
+            let test = expression(walk, pen, last)?;
+            Ok(Statement::DoWhile {
+                body,
+                test,
+                keyword: *keyword,
+                span: *span,
+                bit,
+            })
+        }
+        Statement::Break { span, .. } => {
+            let bit = statement_bit(pen, walk.registers, *span);
+            Ok(Statement::Break { span: *span, bit })
+        }
+        Statement::Continue { span, .. } => {
+            let bit = statement_bit(pen, walk.registers, *span);
+            Ok(Statement::Continue { span: *span, bit })
+        }
+        Statement::Return { value, span, .. } => {
+            let bit = statement_bit(pen, walk.registers, *span);
+            let value = return_value(walk, pen, value)?;
+            let exit = return_bit(pen, walk.registers, *span);
+            Ok(Statement::Return {
+                value,
+                span: *span,
+                bit,
+                exit,
+            })
+        }
+    }
+}
+
+/// Copies of the items of a body.
+#[cycle(statement)]
+pub(crate) fn statements(
+    walk: &Walk,
+    pen: &mut Pen<'_>,
+    trees: &[Statement],
+) -> Result<Vec<Statement>, AllocError>
+    ensures part { IfOk result (λ c. probed.statements_from (map probed.statement_of c.items)
+        ≡ (spec.back_statements walk.now.registers
+        (plain.statements_from (map plain.statement_of trees.now))
+        (pen_of pen.old)).0) }
+    ensures pen { IfOk result (λ _. pen_of pen.new
+        ≡ (spec.back_statements walk.now.registers
+        (plain.statements_from (map plain.statement_of trees.now))
+        (pen_of pen.old)).1) }
+{
+    let mut copies = Vec::with_capacity(walk.alloc, trees.len())?;
+    for tree in trees {
+        let copy = statement(walk, pen, tree)?;
+        copies.push(copy)?;
+    }
+    Ok(copies)
+}
