@@ -1,3 +1,3 @@
 mod Gone
-pub mod Ascend
+mod Ascend
 mod Kept

@@ -1,0 +1,5 @@
+pub mod Ascending
+pub mod ApartExpressions
+mod ApartStatements
+mod StatementsApart
+mod Enclosing

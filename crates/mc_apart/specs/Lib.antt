@@ -1,0 +1,5 @@
+pub mod Places
+pub mod Distinct
+pub mod Enclosed
+pub mod Laws
+pub mod Worked

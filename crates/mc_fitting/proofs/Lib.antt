@@ -1,0 +1,10 @@
+mod Words
+mod Sections
+mod Balance
+mod Spots
+mod FitExpressions
+mod Profile
+mod Begins
+mod Silent
+mod Endings
+mod FitStatements
