@@ -1,0 +1,4 @@
+mod Sitting
+mod Values
+mod Bodies
+mod Units

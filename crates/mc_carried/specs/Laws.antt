@@ -1,0 +1,18 @@
+-- The rows of a program stand in its text where the table puts them.
+use Rattle.std.specs.Prelude.{◌≡◌, List, Some}
+use Rattle.mc_lex.specs.Tokens.{Tok}
+use Rattle.mc_tree.specs.Tree.{Item}
+use Rattle.mc_typed.specs.Tree.{Program}
+use Rattle.mc_typing.specs.Typing.{typing_of}
+use Rattle.mc_probe.specs.Maps.{Map}
+use Rattle.mc_probe.specs.Table.{instrumented}
+use Rattle.mc_inserted.specs.Rows.{rows_of}
+use Rattle.mc_inserted.specs.Fits.{AllFit}
+use Rattle.mc_fitting.specs.Fitting.{FitInUnit}
+
+-- Where the parts of a unit stand as rows ask it, each row of its program does.
+abbrev pub RowsFit : Type 0
+RowsFit =
+    (tokens : List Tok) (unit : List Item) (p : Program) (m : Map)
+    → typing_of unit ≡ Some p → FitInUnit tokens unit
+    → AllFit tokens (rows_of (instrumented m p))

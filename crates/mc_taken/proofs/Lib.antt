@@ -1,0 +1,16 @@
+mod Puts
+mod Claims
+mod Counts
+mod Where
+mod Right
+mod Sorted
+mod Steps
+mod Kernel
+mod Still
+mod Blocks
+mod WalkedExpressions
+mod WalkedStatements
+mod Expressions
+mod Statements
+mod Taken
+mod LocalsApart

@@ -1,0 +1,47 @@
+-- The probes of an instrumented text are found at what the table puts them at.
+use Rattle.std.specs.Prelude.{◌≡◌, List, Some}
+use Rattle.mc_lex.specs.declared.token.Dialect.{Dialect}
+use Rattle.mc_lex.specs.Tokens.{Tok}
+use Rattle.mc_tree.specs.Tree.{Item}
+use Rattle.mc_grammar.specs.Items.{IsTree}
+use Rattle.mc_alike.specs.Moves.{FollowFrom}
+use Rattle.mc_typed.specs.Tree.{Program}
+use Rattle.mc_typing.specs.Typing.{typing_of}
+use Rattle.mc_strip.specs.declared.placed.Placed.{Placed}
+use Rattle.mc_shape.specs.declared.probe.Probe.{Probe}
+use Rattle.mc_shape.specs.Walks.{start, answer}
+use Rattle.mc_shape.specs.Statements.{walk_items}
+use Rattle.mc_weave.specs.Trees.{bracketed_unit}
+use Rattle.mc_probe.specs.Maps.{Map}
+use Rattle.mc_probe.specs.Table.{instrumented}
+use Rattle.mc_inserted.specs.Rows.{Row, rows_of}
+use Rattle.mc_inserted.specs.Signs.{brackets_of}
+use Rattle.mc_inserted.specs.Seats.{probe_rows, AreThere, ArePlaced}
+use Rattle.mc_apart.specs.Places.{spans_in_unit}
+use Rattle.mc_apart.specs.Distinct.{IsDistinct}
+use Rattle.mc_apart.specs.Enclosed.{EnclosesInUnit}
+use Rattle.mc_taken.specs.Locals.{local_starts_in_unit}
+
+-- the walk over the tree with the brackets of these rows places them all
+abbrev pub AreTaken : List Item → List Row → List Probe → Type 0
+AreTaken unit rows probes =
+    (placed : List Placed)
+    × (answer (walk_items (bracketed_unit (brackets_of rows) unit) (start probes)) ≡ Some placed)
+    × ArePlaced rows placed
+
+-- Where no two expressions of a unit stand at one place, no two declarations in its blocks start at
+-- one byte, and each bracket of it starts before what it encloses: the probes that stand where the
+-- rows of its program do are all placed, each at what its row stands at.
+abbrev pub ProbesAreTaken : Type 0
+ProbesAreTaken =
+    (unit : List Item) (p : Program) (m : Map) (probes : List Probe)
+    → typing_of unit ≡ Some p → IsDistinct (spans_in_unit unit)
+    → IsDistinct (local_starts_in_unit unit) → EnclosesInUnit unit
+    → AreThere (probe_rows (rows_of (instrumented m p))) probes
+    → AreTaken unit (rows_of (instrumented m p)) probes
+
+-- No two declarations in the blocks of a text start at one byte.
+abbrev pub LocalsAreApart : Type 0
+LocalsAreApart =
+    (d : Dialect) (tokens : List Tok) (unit : List Item)
+    → FollowFrom 0 tokens → IsTree d tokens unit → IsDistinct (local_starts_in_unit unit)
