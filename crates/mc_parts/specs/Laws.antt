@@ -1,0 +1,118 @@
+-- What the parts of the text of a program with probes are.
+use Rattle.std.specs.Prelude.{◌≡◌, ◌≤◌, ℕ, List, [], All, map, None, decimal}
+use Rattle.mc_lex.specs.declared.token.Dialect.TheVariants.{Plain}
+use Rattle.mc_lex.specs.Tokens.{Tok}
+use Rattle.mc_lex.specs.Scans.{Scans}
+use Rattle.mc_strip.specs.Pieces.{ArePieces, start}
+use Rattle.mc_strip.specs.Plain.{plain_of}
+use Rattle.mc_shape.specs.Probes.{probes}
+use Rattle.mc_probe.specs.Tree as p
+use Rattle.mc_alike.specs.Moves.{Move, FollowFrom, AreAlike, end_of, moved_tokens}
+use Rattle.mc_alike.specs.Moves as alike
+use Rattle.mc_brackets.specs.Signs.{poured}
+use Rattle.mc_print.specs.Pens.{texts_of}
+use Rattle.mc_print.specs.Texts.{text_of}
+use Rattle.mc_spelled.specs.Words.{kind_in, number}
+use Rattle.mc_inserted.specs.Rows.{rows_of}
+use Rattle.mc_inserted.specs.Signs.{signs_of}
+use Rattle.mc_inserted.specs.Seats.{probe_rows, AreThere}
+use Rattle.mc_inserted.specs.Fits.{AllFit}
+use Rattle.mc_parts.specs.Parts.{Part, parts_of, words_of, rows_among, own_texts}
+use Rattle.mc_parts.specs.Stands.{AreAmong}
+use Rattle.mc_parts.specs.Marks.{marks, own_tokens}
+use Rattle.mc_parts.specs.Moved.{AreMoved}
+use Rattle.mc_parts.specs.Closed.{AllClose, AreBalanced}
+use Rattle.mc_parts.specs.Shaped.{IsShaped, tokens_at}
+use Rattle.mc_parts.specs.Placed.{IsPlaced}
+
+-- The functions and rows of a program stand among the tokens of its source.
+pub record Stands (tokens : List Tok) (tree : p.Tree) : Type 0 where
+  pub follow : FollowFrom 0 tokens
+  pub fit : AllFit tokens (rows_of tree)
+  pub functions : AreAmong tree.program.functions tokens
+
+-- The parts, one after the other, are the text.
+abbrev pub WordsOfParts : Type 0
+WordsOfParts =
+    (tokens : List Tok) (tree : p.Tree) → Stands tokens tree
+    → words_of (parts_of tokens tree) ≡ text_of tokens tree
+
+-- Those that are rows are the rows of the program, in the order of the text.
+abbrev pub RowsOfParts : Type 0
+RowsOfParts =
+    (tokens : List Tok) (tree : p.Tree)
+    → rows_among (parts_of tokens tree) ≡ map (λ r. r.what) (rows_of tree)
+
+-- The others, with those in place of which rows are put, are the tokens of the source.
+abbrev pub OwnTokensStay : Type 0
+OwnTokensStay =
+    (tokens : List Tok) (tree : p.Tree) → Stands tokens tree
+    → own_texts (parts_of tokens tree) ≡ texts_of tokens
+
+-- What they open is closed, the innermost first.
+abbrev pub PartsClose : Type 0
+PartsClose =
+    (tokens : List Tok) (tree : p.Tree) → (h : Stands tokens tree)
+    → AreBalanced tree.program.functions tokens h.functions → AllClose [] (parts_of tokens tree)
+
+-- At other places of the tokens the parts are the same.
+abbrev pub PartsMove : Type 0
+PartsMove =
+    (m : Move) (tokens : List Tok) (tree other : p.Tree) → Stands tokens tree
+    → alike.AllFit m tokens → FollowFrom 0 (moved_tokens m tokens)
+    → AreMoved m tree.program.functions other.program.functions
+    → parts_of (moved_tokens m tokens) other ≡ parts_of tokens tree
+
+-- ---- in the printed text
+
+-- So they are of the same kinds, at the places where they were printed.
+abbrev pub OwnTokensAreAlike : Type 0
+OwnTokensAreAlike =
+    (text : List ℕ) (tokens : List Tok) (tree : p.Tree) → Scans Plain [] text tokens None
+    → Stands tokens tree → AreAlike tokens (own_tokens (marks tokens (parts_of tokens tree)))
+
+-- The text has at most 4294967295 bytes.
+abbrev pub IsShort : List Tok → Type 0
+IsShort tokens = All (λ t. end_of t ≤ 4294967295) tokens
+
+-- Where a program has the places of its own printed text, whose words have the kinds of `source`,
+-- its probes stand at its rows.
+abbrev pub ProbesAreThere : Type 0
+ProbesAreThere =
+    (source tokens : List Tok) (tree : p.Tree) → Stands tokens tree → IsShort tokens
+    → own_tokens (marks source (parts_of tokens tree)) ≡ tokens
+    → AreThere (probe_rows (rows_of tree)) (probes (marks source (parts_of tokens tree)))
+
+-- There the text without its probes is the source with brackets at its rows.
+abbrev pub PlainIsPoured : Type 0
+PlainIsPoured =
+    (source tokens : List Tok) (tree : p.Tree) → Stands tokens tree → IsShort tokens
+    → own_tokens (marks source (parts_of tokens tree)) ≡ tokens
+    → plain_of (marks source (parts_of tokens tree)) ≡ poured (signs_of (rows_of tree)) tokens
+
+-- The numbers of a text that has these tokens are numerals.
+abbrev pub HasNumerals : List Tok → Type 0
+HasNumerals source = (n : ℕ) → n ≤ 4294967295 → kind_in source (decimal n) ≡ number n
+
+-- Where what is opened is closed, it is enough to look at what stands directly before a part, and
+-- at what follows it.
+abbrev pub PlacedPartsAreShaped : Type 0
+PlacedPartsAreShaped =
+    (source : List Tok) (parts : List Part) → AllClose [] parts
+    → IsPlaced source (start (tokens_at source 0 (words_of parts))) 0 parts
+    → IsShaped source (start (tokens_at source 0 (words_of parts))) 0 parts
+
+-- Parts of which each may stand where it does are read as the pieces that they are.
+abbrev pub ShapedPartsArePieces : Type 0
+ShapedPartsArePieces =
+    (source : List Tok) (parts : List Part) → HasNumerals source
+    → IsShaped source (start (tokens_at source 0 (words_of parts))) 0 parts
+    → ArePieces (tokens_at source 0 (words_of parts)) (marks source parts)
+
+-- So the printed text is read as the parts of the program.
+abbrev pub PiecesOfParts : Type 0
+PiecesOfParts =
+    (source tokens : List Tok) (tree : p.Tree) → (h : Stands tokens tree)
+    → AreBalanced tree.program.functions tokens h.functions → HasNumerals source
+    → IsPlaced source (start (tokens_at source 0 (text_of tokens tree))) 0 (parts_of tokens tree)
+    → ArePieces (tokens_at source 0 (text_of tokens tree)) (marks source (parts_of tokens tree))
