@@ -1,0 +1,15 @@
+mod Walked
+mod Leads
+mod Rest
+mod Around
+mod Expressions
+mod Effects
+mod Statements
+mod Programs
+mod Tables
+mod Instrumented
+mod Sums
+mod Ended
+mod Ranges
+mod Reach
+mod Reached
