@@ -1,0 +1,4 @@
+mod Going
+mod Values
+mod Bodies
+mod Reading
