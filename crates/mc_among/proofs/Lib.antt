@@ -1,0 +1,4 @@
+mod Tokens
+mod Leaving
+mod Spelled
+mod Functions

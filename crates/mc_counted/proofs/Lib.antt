@@ -1,0 +1,10 @@
+mod Sums
+mod Ended
+mod Ranges
+mod Reach
+mod Reached
+mod Zeros
+mod Effects
+mod Statements
+mod Functions
+mod Programs
