@@ -1,0 +1,4 @@
+mod Flags
+mod Values
+mod Bodies
+mod Units

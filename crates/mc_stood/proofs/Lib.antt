@@ -1,0 +1,8 @@
+mod Ascents
+mod StoodExpressions
+mod StoodStatements
+mod Counted
+mod Wrapped
+mod Values
+mod Bodies
+mod Units

@@ -1,0 +1,35 @@
+-- The places of the expressions of a text, and of its program with probes.
+use Rattle.std.specs.Prelude.{◌≡◌, List, Some}
+use Rattle.mc_lex.specs.declared.token.Dialect.{Dialect}
+use Rattle.mc_lex.specs.Tokens.{Tok}
+use Rattle.mc_tree.specs.Tree.{Item}
+use Rattle.mc_grammar.specs.Items.{IsTree}
+use Rattle.mc_typed.specs.Tree.{Program}
+use Rattle.mc_typing.specs.Typing.{typing_of}
+use Rattle.mc_probe.specs.Maps.{Map}
+use Rattle.mc_probe.specs.Table.{instrumented}
+use Rattle.mc_alike.specs.Moves.{FollowFrom}
+use Rattle.mc_put.specs.Places.{places_of}
+use Rattle.mc_put.specs.Places as put
+use Rattle.mc_apart.specs.Distinct.{IsDistinct}
+use Rattle.mc_stood.specs.Stands.{stands_in_unit}
+
+-- No two expressions stand at one place, and none where a `++` or `--` stands.
+abbrev pub StandsAreApart : Type 0
+StandsAreApart =
+    (d : Dialect) (tokens : List Tok) (unit : List Item)
+    → FollowFrom 0 tokens → IsTree d tokens unit → IsDistinct (stands_in_unit unit)
+
+-- Then no two expressions of the program with probes do.
+abbrev pub ProgramsStandApart : Type 0
+ProgramsStandApart =
+    (unit : List Item) (p : Program) (m : Map)
+    → typing_of unit ≡ Some p → IsDistinct (stands_in_unit unit)
+    → put.IsDistinct (places_of (instrumented m p))
+
+-- Both together.
+abbrev pub PlacesAreApart : Type 0
+PlacesAreApart =
+    (d : Dialect) (tokens : List Tok) (unit : List Item) (p : Program) (m : Map)
+    → FollowFrom 0 tokens → IsTree d tokens unit → typing_of unit ≡ Some p
+    → put.IsDistinct (places_of (instrumented m p))
