@@ -1,0 +1,4 @@
+pub mod Reading
+pub mod Returned
+pub mod steps
+pub mod Laws

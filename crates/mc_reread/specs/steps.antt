@@ -1,0 +1,2 @@
+-- Steps of the code, for its proofs alone.
+pub mod Short
