@@ -107,20 +107,15 @@ impl<'a, M: Drop> Table<'a, M> {
             ≡ self.old ++ record { name = name.now; meaning = meaning } ∷ []) }
         ensures err { OnErr result (self.new ≡ self.old) }
     {
+        self.entries.reserve(1)?;
         let place = self.entries.len();
-        let before = self.latest.get(name).copied();
-        self.entries.push(Entry {
+        let before = keep(&mut self.latest, name, place)?;
+        self.entries.push_reserved(Entry {
             name,
             meaning,
             before,
-        })?;
-        match keep(&mut self.latest, name, place) {
-            Ok(()) => Ok(()),
-            Err(error) => {
-                self.entries.pop();
-                Err(error)
-            }
-        }
+        });
+        Ok(())
     }
 
     /// Takes the last entry away. Takes no memory.
@@ -242,18 +237,19 @@ fn meaning_at<'t, M>(entries: &'t [Entry<'_, M>], place: usize) -> Option<&'t M>
     }
 }
 
-// Keeps the place of the last entry of a name.
+// Keeps the place of the last entry of a name, and gives the place that it had before.
 fn keep<'a>(
     latest: &mut BTreeMap<&'a [u8], usize>,
     name: &'a [u8],
     place: usize,
-) -> Result<(), AllocError>
+) -> Result<Option<usize>, AllocError>
+    ensures before { IfOk result (λ before. before ≡ place_of latest.old name.now) }
     ensures ok { OnOk result ((q : List ℕ) → place_of latest.new q
         ≡ (if bytes_eq name.now q then Some place else place_of latest.old q)) }
     ensures err { OnErr result ((q : List ℕ) → place_of latest.new q ≡ place_of latest.old q) }
 {
-    latest.insert(name, place)?;
-    Ok(())
+    let before = latest.insert(name, place)?;
+    Ok(before)
 }
 
 // Gives a name the place back that it had before its last entry.
