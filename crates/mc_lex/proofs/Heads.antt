@@ -1,35 +1,33 @@
 -- Of a table, only the texts whose first byte is that of the bytes can stand at their start.
-use Rattle.std.proofs.Common.{◌≡◌, ℕ, Bool, true, false, not, ◌&&◌, cond, if◌then◌else◌, nat_eq, slice_index_or, ◌<◌, ◌≤◌, arith, List, [], ◌∷◌, length, filter, refl, ap, sym, ◌∙◌}
+use Rattle.std.proofs.Common.{◌≡◌, ℕ, Bool, true, false, not, ◌||◌, cond, if◌then◌else◌, nat_eq, slice_index_or, ◌<◌, ◌≤◌, arith, List, [], ◌∷◌, length, refl, ap, sym}
+use Rattle.std.proofs.lemmas.Bool.Decides.{nat_tests}
 use Rattle.std.specs.List.{starts_with}
-use Rattle.mc_lex.specs.Bytes.{is_word_byte}
-use Rattle.mc_lex.specs.steps.Scanner.{first_of, punctuators_and_openings, punctuator_len, stands_alone, begins_alone, outside_punctuators_and_openings}
-use Rattle.mc_lex.specs.Words.{one_of}
+use Rattle.std.specs.Str.{bytes_eq}
+use Rattle.mc_lex.specs.steps.Scanner.{first_of, from_byte, punctuators_and_openings, punctuator_len, begins_alone, outside_punctuators_and_openings}
+use Rattle.mc_lex.specs.Words.{one_of, keywords}
 use Rattle.mc_lex.specs.Punctuators.{outside_punctuators, literal_openings}
-use Rattle.mc_lex.proofs.Texts.{same_byte, not_both, passes}
+use Rattle.mc_lex.proofs.Texts.{not_both, passes}
 
--- the text is empty, or its first byte passes the test
-abbrev pub begins : (ℕ → Bool) → List ℕ → Bool
-begins p [] = true
-begins p (c ∷ cs) = p c
+flipped : (b c : ℕ) → nat_eq b c ≡ false → nat_eq c b ≡ false
+flipped b c h = grind (arith, nat_tests, h)
 
-pub differs : (p : ℕ → Bool) (b c : ℕ) → p b ≡ true → p c ≡ false → nat_eq c b ≡ false
-differs p b c h g = by_test (nat_eq c b) refl
+pub by_head : (table : List (List ℕ)) (b : ℕ) (bs : List ℕ) → first_of (from_byte b table) (b ∷ bs) ≡ first_of table (b ∷ bs)
+by_head [] b bs = refl
+by_head ([] ∷ ts) b bs = refl
+by_head ((c ∷ cs) ∷ ts) b bs = by_test (nat_eq b c) refl (by_head ts b bs)
   where
-    by_test : (t : Bool) → nat_eq c b ≡ t → t ≡ false
-    by_test false e = refl
-    by_test true e = absurd (not_both (p c) (ap p (same_byte c b e) ∙ h) g)
-
-pub by_head : (p : ℕ → Bool) (table : List (List ℕ)) (b : ℕ) (bs : List ℕ) → p b ≡ true → first_of table (b ∷ bs) ≡ first_of (filter (begins p) table) (b ∷ bs)
-by_head p [] b bs h = refl
-by_head p ([] ∷ ts) b bs h = refl
-by_head p ((c ∷ cs) ∷ ts) b bs h = by_test (p c) refl (by_head p ts b bs h)
-  where
-    by_test : (t : Bool) → p c ≡ t → first_of ts (b ∷ bs) ≡ first_of (filter (begins p) ts) (b ∷ bs) → first_of ((c ∷ cs) ∷ ts) (b ∷ bs) ≡ first_of (cond t ((c ∷ cs) ∷ filter (begins p) ts) (filter (begins p) ts)) (b ∷ bs)
+    by_test : (t : Bool) → nat_eq b c ≡ t → first_of (from_byte b ts) (b ∷ bs) ≡ first_of ts (b ∷ bs) → first_of (cond t ((c ∷ cs) ∷ from_byte b ts) (from_byte b ts)) (b ∷ bs) ≡ first_of ((c ∷ cs) ∷ ts) (b ∷ bs)
     by_test true e same = ap (λ n. if starts_with nat_eq (b ∷ bs) (c ∷ cs) then length (c ∷ cs) else n) same
-    by_test false e same = rw (differs p b c h e) same
+    by_test false e same = rw (flipped b c e) same
 
-abbrev pub is_other : ℕ → Bool
-is_other b = not (is_word_byte b) && not (stands_alone b)
+pub one_by_head : (table : List (List ℕ)) (b : ℕ) (bs : List ℕ) → one_of (from_byte b table) (b ∷ bs) ≡ one_of table (b ∷ bs)
+one_by_head [] b bs = refl
+one_by_head ([] ∷ ts) b bs = one_by_head ts b bs
+one_by_head ((c ∷ cs) ∷ ts) b bs = by_test (nat_eq b c) refl (one_by_head ts b bs)
+  where
+    by_test : (t : Bool) → nat_eq b c ≡ t → one_of (from_byte b ts) (b ∷ bs) ≡ one_of ts (b ∷ bs) → one_of (cond t ((c ∷ cs) ∷ from_byte b ts) (from_byte b ts)) (b ∷ bs) ≡ one_of ((c ∷ cs) ∷ ts) (b ∷ bs)
+    by_test true e same = ap (λ t. bytes_eq (b ∷ bs) (c ∷ cs) || t) same
+    by_test false e same = rw e same
 
 -- what stands at the start, by the first byte
 pub by_nothing : (bs : List ℕ) → length bs < 1 → 0 ≡ punctuator_len bs
@@ -37,20 +35,19 @@ unfolding punctuator_len punctuators_and_openings
 by_nothing [] n = refl
 by_nothing (b ∷ bs) n = absurd (omega (arith, n))
 
-pub by_letter : (bs : List ℕ) → 1 ≤ length bs → is_word_byte (slice_index_or bs 0 0) ≡ true → first_of (filter (begins is_word_byte) punctuators_and_openings) bs ≡ punctuator_len bs
-unfolding punctuator_len punctuators_and_openings
-by_letter [] n h = absurd (omega (arith, n))
-by_letter (b ∷ bs) n h = sym (by_head is_word_byte punctuators_and_openings b bs h)
+pub by_byte : (bs : List ℕ) → 1 ≤ length bs → first_of (from_byte (slice_index_or bs 0 0) punctuators_and_openings) bs ≡ punctuator_len bs
+unfolding punctuator_len
+by_byte [] n = absurd (omega (arith, n))
+by_byte (b ∷ bs) n = by_head punctuators_and_openings b bs
 
-pub by_lone : (bs : List ℕ) → 1 ≤ length bs → stands_alone (slice_index_or bs 0 0) ≡ true → first_of (filter (begins stands_alone) punctuators_and_openings) bs ≡ punctuator_len bs
-unfolding punctuator_len punctuators_and_openings
-by_lone [] n h = absurd (omega (arith, n))
-by_lone (b ∷ bs) n h = sym (by_head stands_alone punctuators_and_openings b bs h)
+pub one_by_byte : (table : List (List ℕ)) (bs : List ℕ) → 1 ≤ length bs → one_of (from_byte (slice_index_or bs 0 0) table) bs ≡ one_of table bs
+one_by_byte table [] n = absurd (omega (arith, n))
+one_by_byte table (b ∷ bs) n = one_by_head table b bs
 
-pub by_other : (bs : List ℕ) → 1 ≤ length bs → is_word_byte (slice_index_or bs 0 0) ≡ false → stands_alone (slice_index_or bs 0 0) ≡ false → first_of (filter (begins is_other) punctuators_and_openings) bs ≡ punctuator_len bs
-unfolding punctuator_len punctuators_and_openings
-by_other [] n h g = absurd (omega (arith, n))
-by_other (b ∷ bs) n h g = sym (by_head is_other punctuators_and_openings b bs (rw (h, g) refl))
+-- no text of this table is empty
+pub one_of_nothing : (table : List (List ℕ)) (bs : List ℕ) → length bs < 1 → one_of table [] ≡ false → false ≡ one_of table bs
+one_of_nothing table [] n e = sym e
+one_of_nothing table (b ∷ bs) n e = absurd (omega (arith, n))
 
 -- none of those that are left out begins with a byte that stands alone
 pub lone_inside : (text : List ℕ) → begins_alone text ≡ true → false ≡ one_of outside_punctuators_and_openings text
@@ -60,3 +57,19 @@ lone_inside text h = by_test (one_of outside_punctuators_and_openings text) (λ 
     by_test : (t : Bool) → (t ≡ true → not (begins_alone text) ≡ true) → false ≡ t
     by_test false f = refl
     by_test true f = absurd (not_both (not (begins_alone text)) (f refl) (rw h refl))
+
+-- no text of the table begins with the byte
+abbrev Misses : ℕ → List (List ℕ) → Type 0
+Misses b [] = Unit {0}
+Misses b ([] ∷ ts) = ⊥
+Misses b ((c ∷ cs) ∷ ts) = (nat_eq b c ≡ false) × Misses b ts
+
+misses : (b : ℕ) (table : List (List ℕ)) → Misses b table → [] ≡ from_byte b table
+misses b [] m = refl
+misses b ([] ∷ ts) m = absurd m
+misses b ((c ∷ cs) ∷ ts) m = rw m.0 (misses b ts m.1)
+
+-- no keyword begins with another byte than these
+pub no_keyword : (b : ℕ) → nat_eq b 98 ≡ false → nat_eq b 99 ≡ false → nat_eq b 100 ≡ false → nat_eq b 101 ≡ false → nat_eq b 102 ≡ false → nat_eq b 103 ≡ false → nat_eq b 105 ≡ false → nat_eq b 108 ≡ false → nat_eq b 114 ≡ false → nat_eq b 115 ≡ false → nat_eq b 116 ≡ false → nat_eq b 117 ≡ false → nat_eq b 118 ≡ false → nat_eq b 119 ≡ false → nat_eq b 95 ≡ false → [] ≡ from_byte b keywords
+unfolding keywords
+no_keyword b h0 h1 h2 h3 h4 h5 h6 h7 h8 h9 h10 h11 h12 h13 h14 = misses b keywords (h0, (h1, (h1, (h1, (h1, (h2, (h2, (h3, (h3, (h3, (h4, (h5, (h6, (h6, (h7, (h8, (h9, (h9, (h9, (h9, (h9, (h10, (h11, (h12, (h13, (h14, tt))))))))))))))))))))))))))

@@ -3,24 +3,46 @@ ghost use Rattle.std.specs.Prelude.{◌≡◌};
 ghost use Rattle.mc_lex.specs.Words.{one_of};
 ghost use Rattle.mc_lex.specs.steps.Scanner as spec;
 
-use crate::byte::is_word_byte;
 use crate::fault_kind::FaultKind;
 use crate::table::{first_of, is_one_of};
 use crate::token::TokenKind;
 
-/// The openings of literals that begin with a letter, the longest first.
-const LETTER_OPENINGS: [&[u8]; 7] = [b"u8\"", b"L\"", b"u\"", b"U\"", b"L'", b"u'", b"U'"];
-
-/// The punctuators whose first byte begins no other one.
-const LONE_PUNCTUATORS: [&[u8]; 10] = [b"[", b"]", b"(", b")", b"{", b"}", b",", b";", b"?", b"~"];
-
-/// The other punctuators and openings of literals, the longest first.
-const OTHER_PUNCTUATORS: [&[u8]; 42] = [
-    b"<<=", b">>=", b"...", b"++", b"--", b"<<", b">>", b"<=", b">=", b"==", b"!=", b"&&", b"||",
-    b"+=", b"-=", b"*=", b"/=", b"%=", b"&=", b"|=", b"^=", b"->", b"<:", b":>", b"<%", b"%>",
-    b"%:", b".", b":", b"!", b"+", b"-", b"*", b"/", b"%", b"&", b"|", b"^", b"<", b">", b"=",
-    b"\"",
-];
+/// The punctuators and openings of literals that begin with this byte, the longest first.
+fn punctuators_from(first: u8) -> &'static [&'static [u8]]
+    ensures { spec.texts result.now ≡ spec.from_byte first spec.punctuators_and_openings }
+{
+    match first {
+        b'[' => &[b"["],
+        b']' => &[b"]"],
+        b'(' => &[b"("],
+        b')' => &[b")"],
+        b'{' => &[b"{"],
+        b'}' => &[b"}"],
+        b',' => &[b","],
+        b';' => &[b";"],
+        b'?' => &[b"?"],
+        b'~' => &[b"~"],
+        b'=' => &[b"==", b"="],
+        b'+' => &[b"++", b"+=", b"+"],
+        b'-' => &[b"--", b"-=", b"->", b"-"],
+        b'*' => &[b"*=", b"*"],
+        b'/' => &[b"/=", b"/"],
+        b'%' => &[b"%=", b"%>", b"%:", b"%"],
+        b'<' => &[b"<<=", b"<<", b"<=", b"<:", b"<%", b"<"],
+        b'>' => &[b">>=", b">>", b">=", b">"],
+        b'&' => &[b"&&", b"&=", b"&"],
+        b'|' => &[b"||", b"|=", b"|"],
+        b'^' => &[b"^=", b"^"],
+        b'!' => &[b"!=", b"!"],
+        b':' => &[b":>", b":"],
+        b'.' => &[b"...", b"."],
+        b'"' => &[b"\""],
+        b'L' => &[b"L\"", b"L'"],
+        b'u' => &[b"u8\"", b"u\"", b"u'"],
+        b'U' => &[b"U\"", b"U'"],
+        _ => &[],
+    }
+}
 
 /// The punctuators that are left out, and the openings of literals.
 const OUTSIDE_PUNCTUATORS_AND_OPENINGS: [&[u8]; 15] = [
@@ -45,15 +67,7 @@ pub fn punctuator_len(bytes: &[u8]) -> usize
 {
     match bytes {
         [] => 0,
-        [first, _later @ ..] => {
-            if is_word_byte(*first) {
-                first_of(&LETTER_OPENINGS, bytes)
-            } else if stands_alone(*first) {
-                first_of(&LONE_PUNCTUATORS, bytes)
-            } else {
-                first_of(&OTHER_PUNCTUATORS, bytes)
-            }
-        }
+        [first, _later @ ..] => first_of(punctuators_from(*first), bytes),
     }
 }
 

@@ -3,7 +3,7 @@ ghost use Rattle.std.specs.Prelude.{◌≡◌, ◌≤◌, length};
 ghost use Rattle.std.specs.List.{prefix_len};
 ghost use Rattle.mc_lex.specs.Bytes.{is_word_byte};
 ghost use Rattle.mc_lex.specs.Words as words;
-ghost use Rattle.mc_lex.specs.Words.{one_of, keywords, outside_keywords, own_words, reserved};
+ghost use Rattle.mc_lex.specs.Words.{one_of, keywords, outside_keywords, own_words, probe_names, reserved};
 ghost use Rattle.mc_lex.specs.steps.Scanner as spec;
 
 use crate::byte::{is_letter, is_word_byte};
@@ -36,93 +36,110 @@ pub fn word_len(bytes: &[u8]) -> usize
     }
 }
 
-/// The keywords that are kept (C17 6.4.1).
-const KEYWORDS: [&[u8]; 26] = [
-    b"break",
-    b"case",
-    b"char",
-    b"const",
-    b"continue",
-    b"default",
-    b"do",
-    b"else",
-    b"enum",
-    b"extern",
-    b"for",
-    b"goto",
-    b"if",
-    b"int",
-    b"long",
-    b"return",
-    b"short",
-    b"signed",
-    b"static",
-    b"struct",
-    b"switch",
-    b"typedef",
-    b"unsigned",
-    b"void",
-    b"while",
-    b"_Bool",
-];
+/// The keywords that are kept and begin with this byte (C17 6.4.1).
+fn keywords_from(first: u8) -> &'static [&'static [u8]]
+    ensures { spec.texts result.now ≡ spec.from_byte first keywords }
+{
+    match first {
+        b'b' => &[b"break"],
+        b'c' => &[b"case", b"char", b"const", b"continue"],
+        b'd' => &[b"default", b"do"],
+        b'e' => &[b"else", b"enum", b"extern"],
+        b'f' => &[b"for"],
+        b'g' => &[b"goto"],
+        b'i' => &[b"if", b"int"],
+        b'l' => &[b"long"],
+        b'r' => &[b"return"],
+        b's' => &[b"short", b"signed", b"static", b"struct", b"switch"],
+        b't' => &[b"typedef"],
+        b'u' => &[b"unsigned"],
+        b'v' => &[b"void"],
+        b'w' => &[b"while"],
+        b'_' => &[b"_Bool"],
+        _ => &[],
+    }
+}
 
-/// The keywords that are left out.
-const OUTSIDE_KEYWORDS: [&[u8]; 18] = [
-    b"auto",
-    b"double",
-    b"float",
-    b"inline",
-    b"register",
-    b"restrict",
-    b"sizeof",
-    b"union",
-    b"volatile",
-    b"_Alignas",
-    b"_Alignof",
-    b"_Atomic",
-    b"_Complex",
-    b"_Generic",
-    b"_Imaginary",
-    b"_Noreturn",
-    b"_Static_assert",
-    b"_Thread_local",
-];
+/// The keywords that are left out and begin with this byte.
+fn outside_keywords_from(first: u8) -> &'static [&'static [u8]]
+    ensures { spec.texts result.now ≡ spec.from_byte first outside_keywords }
+{
+    match first {
+        b'a' => &[b"auto"],
+        b'd' => &[b"double"],
+        b'f' => &[b"float"],
+        b'i' => &[b"inline"],
+        b'r' => &[b"register", b"restrict"],
+        b's' => &[b"sizeof"],
+        b'u' => &[b"union"],
+        b'v' => &[b"volatile"],
+        b'_' => &[
+            b"_Alignas",
+            b"_Alignof",
+            b"_Atomic",
+            b"_Complex",
+            b"_Generic",
+            b"_Imaginary",
+            b"_Noreturn",
+            b"_Static_assert",
+            b"_Thread_local",
+        ],
+        _ => &[],
+    }
+}
 
-/// The names of the probes.
-const PROBE_NAMES: [&[u8]; 7] = [
-    b"MCDC_H", b"MCDC_L", b"MCDC_W", b"MCDC_D", b"MCDC_C", b"mcdc_r", b"mcdc_v",
-];
+/// The names of the probes that begin with this byte.
+fn probe_names_from(first: u8) -> &'static [&'static [u8]]
+    ensures { spec.texts result.now ≡ spec.from_byte first probe_names }
+{
+    match first {
+        b'M' => &[b"MCDC_H", b"MCDC_L", b"MCDC_W", b"MCDC_D", b"MCDC_C"],
+        b'm' => &[b"mcdc_r", b"mcdc_v"],
+        _ => &[],
+    }
+}
 
-#[tactic(auto, unfolding(crate::specs::Words::keywords))]
 fn is_keyword(text: &[u8]) -> bool
     ensures { result ≡ one_of keywords text.now }
 {
-    is_one_of(&KEYWORDS, text)
+    match text {
+        [] => false,
+        [first, ..] => is_one_of(keywords_from(*first), text),
+    }
 }
 
-#[tactic(auto, unfolding(crate::specs::Words::outside_keywords))]
 fn is_outside_keyword(text: &[u8]) -> bool
     ensures { result ≡ one_of outside_keywords text.now }
 {
-    is_one_of(&OUTSIDE_KEYWORDS, text)
+    match text {
+        [] => false,
+        [first, ..] => is_one_of(outside_keywords_from(*first), text),
+    }
 }
 
-#[tactic(auto, unfolding(crate::specs::Words::probe_names))]
+fn is_probe_name(text: &[u8]) -> bool
+    ensures { result ≡ one_of probe_names text.now }
+{
+    match text {
+        [] => false,
+        [first, ..] => is_one_of(probe_names_from(*first), text),
+    }
+}
+
 fn is_own_word(text: &[u8], dialect: Dialect) -> bool
     ensures { result ≡ one_of (own_words dialect) text.now }
 {
     match dialect {
         Dialect::Plain => false,
-        Dialect::Instrumented => is_one_of(&PROBE_NAMES, text),
+        Dialect::Instrumented => is_probe_name(text),
     }
 }
 
-#[tactic(auto, unfolding(crate::specs::Words::probe_names))]
 fn is_reserved(text: &[u8], dialect: Dialect) -> bool
     ensures { result ≡ one_of (reserved dialect) text.now }
 {
     match dialect {
-        Dialect::Plain => is_one_of(&PROBE_NAMES, text),
+        Dialect::Plain => is_probe_name(text),
         Dialect::Instrumented => false,
     }
 }

@@ -1,6 +1,6 @@
 -- Steps of the scanner, as functions on lists: they repeat the code's loops for its proofs.
 -- What a token list is does not stand here but in the files above this folder.
-use Rattle.std.specs.Prelude.{◌≤◌, ◌<◌, ℕ, zero, suc, ◌+◌, ◌-◌, ◌^◌, Bool, false, not, ◌&&◌, ◌||◌, ◌==◌, nat_le, nat_lt, nat_eq, if◌then◌else◌, List, [], ◌∷◌, ◌++◌, length, take, drop, map, Option, Some, None, Result, Ok, Err, codes}
+use Rattle.std.specs.Prelude.{◌≤◌, ◌<◌, ℕ, zero, suc, ◌+◌, ◌-◌, ◌^◌, Bool, true, false, not, ◌&&◌, ◌||◌, ◌==◌, nat_le, nat_lt, nat_eq, if◌then◌else◌, List, [], ◌∷◌, ◌++◌, length, take, drop, filter, map, Option, Some, None, Result, Ok, Err, codes}
 use denote.Ref.{Bor}
 use Rattle.std.specs.List.{list_all, prefix_len, starts_with}
 use Rattle.std.specs.Str.Parse.{digits_value}
@@ -53,6 +53,15 @@ number_len (a ∷ bs) = if starts_number a bs then 1 + continued a bs else 0
 abbrev pub first_of : List (List ℕ) → List ℕ → ℕ
 first_of [] bs = 0
 first_of (t ∷ ts) bs = if starts_with nat_eq bs t then length t else first_of ts bs
+
+-- whether a text is empty or begins with the byte
+abbrev pub begins_by : ℕ → List ℕ → Bool
+begins_by b [] = true
+begins_by b (c ∷ cs) = nat_eq b c
+
+-- the texts of a table that can stand where this byte is the first
+abbrev pub from_byte : ℕ → List (List ℕ) → List (List ℕ)
+from_byte b table = filter (begins_by b) table
 
 -- all punctuators and openings of literals, the longest first
 unfoldable pub punctuators_and_openings : List (List ℕ)
