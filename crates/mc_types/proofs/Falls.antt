@@ -65,18 +65,22 @@ label_body name body span = omega (arith, sized-Label name body span)
 
 -- from a statement on to a block of its own, and to a statement
 pub to_inner : (e x q y : Statement) (t : ℕ) → e ≡ x → q ≡ y
-    → size-Statement x < size-Statement y → 2 * size-Statement q + 0 ≡ t
-    → 2 * size-Statement e + 1 < t
+    → size-Statement x < size-Statement y → 3 * size-Statement q + 0 ≡ t
+    → 3 * size-Statement e + 2 < t
 to_inner e x q y t at is h d = omega (arith, ap size-Statement at, ap size-Statement is, h, d)
 
 pub to_statement : (e x q y : Statement) (t : ℕ) → e ≡ x → q ≡ y
-    → size-Statement x < size-Statement y → 2 * size-Statement q + 0 ≡ t
-    → 2 * size-Statement e + 0 < t
+    → size-Statement x < size-Statement y → 3 * size-Statement q + 0 ≡ t
+    → 3 * size-Statement e + 1 < t
 to_statement e x q y t at is h d = omega (arith, ap size-Statement at, ap size-Statement is, h, d)
 
-pub to_same : (e : Statement) (t : ℕ) → 2 * size-Statement e + 1 ≡ t
-    → 2 * size-Statement e + 0 < t
+pub to_same : (e : Statement) (t : ℕ) → 3 * size-Statement e + 2 ≡ t
+    → 3 * size-Statement e + 1 < t
 to_same e t d = omega (arith, d)
+
+pub to_any_statement : (e : Statement) (t : ℕ) → 3 * size-Statement e + 1 ≡ t
+    → 3 * size-Statement e + 0 < t
+to_any_statement e t d = omega (arith, d)
 
 -- ---- expressions
 
@@ -141,15 +145,19 @@ assignment_value operator target value span = omega (arith, sized-Assignment ope
 
 -- from an expression on to an operand, and to one that follows others
 pub to_operand : (e x q y : Expression) (t : ℕ) → e ≡ x → q ≡ y
-    → size-Expression x < size-Expression y → 3 * size-Expression q + 0 ≡ t
-    → 3 * size-Expression e + 0 < t
+    → size-Expression x < size-Expression y → 4 * size-Expression q + 0 ≡ t
+    → 4 * size-Expression e + 1 < t
 to_operand e x q y t at is h d = omega (arith, ap size-Expression at, ap size-Expression is, h, d)
 
 pub to_later : (e x q y : Expression) (t : ℕ) → e ≡ x → q ≡ y
-    → size-Expression x < size-Expression y → 3 * size-Expression q + 0 ≡ t
-    → 3 * size-Expression e + 1 < t
+    → size-Expression x < size-Expression y → 4 * size-Expression q + 0 ≡ t
+    → 4 * size-Expression e + 2 < t
 to_later e x q y t at is h d = omega (arith, ap size-Expression at, ap size-Expression is, h, d)
 
-pub from_later : (e : Expression) (t : ℕ) → 3 * size-Expression e + 1 ≡ t
-    → 3 * size-Expression e + 0 < t
+pub from_later : (e : Expression) (t : ℕ) → 4 * size-Expression e + 2 ≡ t
+    → 4 * size-Expression e + 1 < t
 from_later e t d = omega (arith, d)
+
+pub to_any_expression : (e : Expression) (t : ℕ) → 4 * size-Expression e + 1 ≡ t
+    → 4 * size-Expression e + 0 < t
+to_any_expression e t d = omega (arith, d)

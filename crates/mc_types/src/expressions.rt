@@ -31,9 +31,46 @@ use mc_tree::{
 use mc_typed::{Argument, Span};
 use std::alloc::{AllocError, Global};
 
-/// An expression (C17 6.5).
+/// An expression (C17 6.5). Names and constants, which most nodes are, are told apart first: a
+/// function clears all its values as it begins, and the one for the others has many.
 #[cycle(judge)]
 pub(crate) fn expression<'a>(
+    alloc: Global,
+    scope: &mut Scope<'a>,
+    tree: &Expression<'a>,
+) -> Result<Found, AllocError>
+    ensures { IfOk result (λ r. found_of r (scope_of scope.new)
+        ≡ squeezed (judgement.judge (expression_of tree.now) (scope_of scope.old))) }
+{
+    match tree {
+        Expression::Name { name } => named(scope, name),
+        Expression::Constant {
+            value,
+            decimal,
+            unsigned,
+            longs,
+            span,
+        } => Ok(mc_expressions::constant(*value, *decimal, *unsigned, *longs, *span)),
+        Expression::Character { .. }
+        | Expression::Parenthesized { .. }
+        | Expression::Call { .. }
+        | Expression::Index { .. }
+        | Expression::Member { .. }
+        | Expression::PostfixStep { .. }
+        | Expression::PrefixStep { .. }
+        | Expression::Unary { .. }
+        | Expression::Cast { .. }
+        | Expression::Binary { .. }
+        | Expression::Conditional { .. }
+        | Expression::Assignment { .. }
+        | Expression::Comma { .. } => any_expression(alloc, scope, tree),
+    }
+}
+
+/// An expression of any kind.
+#[cycle(judge)]
+#[inline(never)]
+fn any_expression<'a>(
     alloc: Global,
     scope: &mut Scope<'a>,
     tree: &Expression<'a>,

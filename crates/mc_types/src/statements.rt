@@ -32,9 +32,43 @@ use mc_typed as typed;
 use mc_typed::{Effect, Span};
 use std::alloc::{AllocError, Global};
 
-/// A statement, as a list of one, or of more where labels stand before it.
+/// A statement, as a list of one, or of more where labels stand before it. Those without statements
+/// in them that come most often are told apart first, as names are among expressions.
 #[cycle(statements)]
 pub(crate) fn statement<'a>(
+    alloc: Global,
+    scope: &mut Scope<'a>,
+    around: Around,
+    tree: &Statement<'a>,
+) -> Result<Judged<Vec<typed::Statement>>, AllocError>
+    ensures { IfOk result (λ r. judged_of statements_of r (scope_of scope.new)
+        ≡ squeezed_part (bodies.judge_statement (around_of around) (units.statement_of tree.now)
+        (scope_of scope.old))) }
+{
+    match tree {
+        Statement::Null { span } => mc_statements::null_statement(alloc, *span),
+        Statement::Expression { value, span } => expression_statement(alloc, scope, value, *span),
+        Statement::Compound { .. }
+        | Statement::If { .. }
+        | Statement::IfElse { .. }
+        | Statement::Switch { .. }
+        | Statement::While { .. }
+        | Statement::DoWhile { .. }
+        | Statement::For { .. }
+        | Statement::Case { .. }
+        | Statement::Default { .. }
+        | Statement::Label { .. }
+        | Statement::Goto { .. }
+        | Statement::Break { .. }
+        | Statement::Continue { .. }
+        | Statement::Return { .. } => any_statement(alloc, scope, around, tree),
+    }
+}
+
+/// A statement of any kind.
+#[cycle(statements)]
+#[inline(never)]
+fn any_statement<'a>(
     alloc: Global,
     scope: &mut Scope<'a>,
     around: Around,

@@ -24,72 +24,16 @@ use Rattle.mc_scopes.specs.steps.Squeezed.{squeezed_part}
 use Rattle.mc_declarations.proofs.DeclarationNodes.{lengths_end, parameters_end, specifiers_end}
 use Rattle.mc_types.proofs.Exits.{at_ok, found_as}
 use Rattle.mc_types.proofs.Trees.{array_length_of-Absent, array_length_of-Given, declarator_of-EmptyFunction, declarator_of-Function, declarator_of-VoidFunction, declarator_of-Object, enumerator_of-Bare, enumerator_of-Valued, expression_of-Assignment, expression_of-Binary, expression_of-Call, expression_of-Cast, expression_of-Character, expression_of-Constant, expression_of-Comma, expression_of-Conditional, expression_of-Index, expression_of-Member, expression_of-Name, expression_of-Parenthesized, expression_of-PostfixStep, expression_of-PrefixStep, expression_of-Unary, member_of-parts, specifier_of-Enumeration, specifier_of-EnumerationTag, specifier_of-Structure, specifier_of-StructureTag, specifier_of-TypedefName, specifier_of-Word}
-use Rattle.mc_types.proofs.Falls.{assignment_target, assignment_value, binary_left, binary_right, conditional_chosen, conditional_other, conditional_test, from_later, index_array, index_index, member_object, parenthesized_inner, postfix_operand, prefix_operand, to_later, to_operand, unary_operand}
+use Rattle.mc_types.proofs.Falls.{assignment_target, assignment_value, binary_left, binary_right, conditional_chosen, conditional_other, conditional_test, from_later, index_array, index_index, member_object, parenthesized_inner, postfix_operand, prefix_operand, to_any_expression, to_later, to_operand, unary_operand}
 use Rattle.mc_types.proofs.Arms.{copied_few, count_listed, none_before}
 use Rattle.mc_types.proofs.Declarators.{in_prototype, prototype_ends, in_enumeration, in_object_member, in_typed}
 use Rattle.mc_types.proofs.Turns.{last_turn, next_turn}
 use Rattle.mc_types.proofs.Parts.{joined_first, judged_last, judged_turn, listed_turn, lists_first, specifiers_first, squeezed_judged, squeezed_last, squeezed_parameters}
 use Rattle.mc_types.proofs.expressions.+judge.Goals as goal
 
-pub expression-returns-in-Member : goal.expression-returns-in-Member
-expression-returns-in-Member t c =
-    let w = c.in-Member in
-    rw (w.is, expression_of-Member w.object w.name w.span)
-    (c.member.ensures (expression_of w.object.value) (scope_of c.args.scope.now) (rw c.deref-in-Member.ensures at c.expression-found.ensures))
-
-pub expression-returns-in-PostfixStep : goal.expression-returns-in-PostfixStep
-expression-returns-in-PostfixStep t c =
-    let w = c.in-PostfixStep in
-    rw (w.is, expression_of-PostfixStep w.operator w.operand w.span)
-    (c.postfix_step.ensures (expression_of w.operand.value) (scope_of c.args.scope.now) (scope_of c.expression-found-in-PostfixStep.new.scope) (rw c.deref-in-PostfixStep.ensures at c.expression-found-in-PostfixStep.ensures))
-
-pub expression-returns-in-PrefixStep : goal.expression-returns-in-PrefixStep
-expression-returns-in-PrefixStep t c =
-    let w = c.in-PrefixStep in
-    rw (w.is, expression_of-PrefixStep w.operator w.operand w.span)
-    (c.prefix_step.ensures (expression_of w.operand.value) (scope_of c.args.scope.now) (scope_of c.expression-found-in-PrefixStep.new.scope) (rw c.deref-in-PrefixStep.ensures at c.expression-found-in-PrefixStep.ensures))
-
-pub expression-returns-in-Unary : goal.expression-returns-in-Unary
-expression-returns-in-Unary t c =
-    let w = c.in-Unary in
-    rw (w.is, expression_of-Unary w.operator w.operand w.span)
-    (c.unary.ensures (expression_of w.operand.value) (scope_of c.args.scope.now) (scope_of c.expression-found-in-Unary.new.scope) (rw c.deref-in-Unary.ensures at c.expression-found-in-Unary.ensures))
-
-pub expression-returns-in_ok-array-in-Index : goal.expression-returns-in_ok-array-in-Index
-expression-returns-in_ok-array-in-Index t c =
-    let w = c.in-Index in
-    rw (w.is, expression_of-Index w.array w.index w.span)
-    (c.index.ensures (expression_of w.array.value) (expression_of w.index.value) (scope_of c.args.scope.now) (scope_of c.expression-in-Index.new.scope) (rw c.deref-in-Index.ensures at c.in_ok-array-in-Index.ensures) (rw c.deref-in-Index-2.ensures at c.expression-index.ensures))
-
-pub expression-returns-in_ok-left-in-Binary : goal.expression-returns-in_ok-left-in-Binary
-expression-returns-in_ok-left-in-Binary t c =
-    let w = c.in-Binary in
-    rw (w.is, expression_of-Binary w.operator w.left w.right w.span)
-    (c.binary.ensures (expression_of w.left.value) (expression_of w.right.value) (scope_of c.args.scope.now) (scope_of c.expression-in-Binary.new.scope) (scope_of c.expression-right.new.scope) (rw c.deref-in-Binary.ensures at c.in_ok-left-in-Binary.ensures) (rw c.deref-in-Binary-2.ensures at c.expression-right.ensures))
-
-pub expression-returns-in_ok-target-in-Assignment : goal.expression-returns-in_ok-target-in-Assignment
-expression-returns-in_ok-target-in-Assignment t c =
-    let w = c.in-Assignment in
-    rw (w.is, expression_of-Assignment w.operator w.target w.value w.span)
-    (c.assignment.ensures (expression_of w.target.value) (expression_of w.value.value) (scope_of c.args.scope.now) (scope_of c.expression-in-Assignment.new.scope) (rw c.deref-in-Assignment.ensures at c.in_ok-target-in-Assignment.ensures) (rw c.deref-in-Assignment-2.ensures at c.expression-value.ensures))
-
-pub expression-returns-in_ok-test-in-Conditional : goal.expression-returns-in_ok-test-in-Conditional
-expression-returns-in_ok-test-in-Conditional t c =
-    let w = c.in-Conditional in
-    rw (w.is, expression_of-Conditional w.test w.chosen w.other w.span)
-    (rw c.deref-in-Conditional-3.ensures at (c.conditional.ensures (expression_of w.test.value) (expression_of w.chosen.value) (scope_of c.args.scope.now) (scope_of c.expression-in-Conditional.new.scope) (rw c.deref-in-Conditional.ensures at c.in_ok-test-in-Conditional.ensures) (rw c.deref-in-Conditional-2.ensures at c.expression-chosen.ensures)))
-
-pub expression-returns-in-Cast : goal.expression-returns-in-Cast
-expression-returns-in-Cast t c =
-    let w = c.in-Cast in
-    rw (w.is, expression_of-Cast w.words w.stars w.type_span w.operand w.span)
-    (rw c.deref-in-Cast-2.ensures at (c.cast.ensures (specifiers_from (map specifier_of w.words.items)) w.stars w.type_span (scope_of c.args.scope.now) (rw c.deref-in-Cast.ensures.value at c.typed-of.ensures)))
-
-pub expression-returns-in-Comma : goal.expression-returns-in-Comma
-expression-returns-in-Comma t c =
-    let w = c.in-Comma in
-    rw (w.is, expression_of-Comma w.operands w.span)
-    (c.comma.ensures (expressions_from (map expression_of w.operands.items)) (scope_of c.args.scope.now) (scope_of c.arguments-given.new.scope) (rw c.deref-in-Comma.ensures.value at c.arguments-given.ensures))
+pub expression-returns-in-Name : goal.expression-returns-in-Name
+expression-returns-in-Name t c =
+    rw (c.in-Name.is, expression_of-Name c.in-Name.name) c.named.ensures
 
 pub expression-returns-in-Constant : goal.expression-returns-in-Constant
 expression-returns-in-Constant t c =
@@ -97,23 +41,89 @@ expression-returns-in-Constant t c =
     rw (w.is, expression_of-Constant w.value w.decimal w.unsigned w.longs w.span)
     (c.constant.ensures (scope_of c.args.scope.now))
 
-pub expression-returns-in-Character : goal.expression-returns-in-Character
-expression-returns-in-Character t c =
+pub any_expression-returns-in-Member : goal.any_expression-returns-in-Member
+any_expression-returns-in-Member t c =
+    let w = c.in-Member in
+    rw (w.is, expression_of-Member w.object w.name w.span)
+    (c.member.ensures (expression_of w.object.value) (scope_of c.args.scope.now) (rw c.deref-in-Member.ensures at c.expression-found.ensures))
+
+pub any_expression-returns-in-PostfixStep : goal.any_expression-returns-in-PostfixStep
+any_expression-returns-in-PostfixStep t c =
+    let w = c.in-PostfixStep in
+    rw (w.is, expression_of-PostfixStep w.operator w.operand w.span)
+    (c.postfix_step.ensures (expression_of w.operand.value) (scope_of c.args.scope.now) (scope_of c.expression-found-in-PostfixStep.new.scope) (rw c.deref-in-PostfixStep.ensures at c.expression-found-in-PostfixStep.ensures))
+
+pub any_expression-returns-in-PrefixStep : goal.any_expression-returns-in-PrefixStep
+any_expression-returns-in-PrefixStep t c =
+    let w = c.in-PrefixStep in
+    rw (w.is, expression_of-PrefixStep w.operator w.operand w.span)
+    (c.prefix_step.ensures (expression_of w.operand.value) (scope_of c.args.scope.now) (scope_of c.expression-found-in-PrefixStep.new.scope) (rw c.deref-in-PrefixStep.ensures at c.expression-found-in-PrefixStep.ensures))
+
+pub any_expression-returns-in-Unary : goal.any_expression-returns-in-Unary
+any_expression-returns-in-Unary t c =
+    let w = c.in-Unary in
+    rw (w.is, expression_of-Unary w.operator w.operand w.span)
+    (c.unary.ensures (expression_of w.operand.value) (scope_of c.args.scope.now) (scope_of c.expression-found-in-Unary.new.scope) (rw c.deref-in-Unary.ensures at c.expression-found-in-Unary.ensures))
+
+pub any_expression-returns-in_ok-array-in-Index : goal.any_expression-returns-in_ok-array-in-Index
+any_expression-returns-in_ok-array-in-Index t c =
+    let w = c.in-Index in
+    rw (w.is, expression_of-Index w.array w.index w.span)
+    (c.index.ensures (expression_of w.array.value) (expression_of w.index.value) (scope_of c.args.scope.now) (scope_of c.expression-in-Index.new.scope) (rw c.deref-in-Index.ensures at c.in_ok-array-in-Index.ensures) (rw c.deref-in-Index-2.ensures at c.expression-index.ensures))
+
+pub any_expression-returns-in_ok-left-in-Binary : goal.any_expression-returns-in_ok-left-in-Binary
+any_expression-returns-in_ok-left-in-Binary t c =
+    let w = c.in-Binary in
+    rw (w.is, expression_of-Binary w.operator w.left w.right w.span)
+    (c.binary.ensures (expression_of w.left.value) (expression_of w.right.value) (scope_of c.args.scope.now) (scope_of c.expression-in-Binary.new.scope) (scope_of c.expression-right.new.scope) (rw c.deref-in-Binary.ensures at c.in_ok-left-in-Binary.ensures) (rw c.deref-in-Binary-2.ensures at c.expression-right.ensures))
+
+pub any_expression-returns-in_ok-target-in-Assignment : goal.any_expression-returns-in_ok-target-in-Assignment
+any_expression-returns-in_ok-target-in-Assignment t c =
+    let w = c.in-Assignment in
+    rw (w.is, expression_of-Assignment w.operator w.target w.value w.span)
+    (c.assignment.ensures (expression_of w.target.value) (expression_of w.value.value) (scope_of c.args.scope.now) (scope_of c.expression-in-Assignment.new.scope) (rw c.deref-in-Assignment.ensures at c.in_ok-target-in-Assignment.ensures) (rw c.deref-in-Assignment-2.ensures at c.expression-value.ensures))
+
+pub any_expression-returns-in_ok-test-in-Conditional : goal.any_expression-returns-in_ok-test-in-Conditional
+any_expression-returns-in_ok-test-in-Conditional t c =
+    let w = c.in-Conditional in
+    rw (w.is, expression_of-Conditional w.test w.chosen w.other w.span)
+    (rw c.deref-in-Conditional-3.ensures at (c.conditional.ensures (expression_of w.test.value) (expression_of w.chosen.value) (scope_of c.args.scope.now) (scope_of c.expression-in-Conditional.new.scope) (rw c.deref-in-Conditional.ensures at c.in_ok-test-in-Conditional.ensures) (rw c.deref-in-Conditional-2.ensures at c.expression-chosen.ensures)))
+
+pub any_expression-returns-in-Cast : goal.any_expression-returns-in-Cast
+any_expression-returns-in-Cast t c =
+    let w = c.in-Cast in
+    rw (w.is, expression_of-Cast w.words w.stars w.type_span w.operand w.span)
+    (rw c.deref-in-Cast-2.ensures at (c.cast.ensures (specifiers_from (map specifier_of w.words.items)) w.stars w.type_span (scope_of c.args.scope.now) (rw c.deref-in-Cast.ensures.value at c.typed-of.ensures)))
+
+pub any_expression-returns-in-Comma : goal.any_expression-returns-in-Comma
+any_expression-returns-in-Comma t c =
+    let w = c.in-Comma in
+    rw (w.is, expression_of-Comma w.operands w.span)
+    (c.comma.ensures (expressions_from (map expression_of w.operands.items)) (scope_of c.args.scope.now) (scope_of c.arguments-given.new.scope) (rw c.deref-in-Comma.ensures.value at c.arguments-given.ensures))
+
+pub any_expression-returns-in-Constant : goal.any_expression-returns-in-Constant
+any_expression-returns-in-Constant t c =
+    let w = c.in-Constant in
+    rw (w.is, expression_of-Constant w.value w.decimal w.unsigned w.longs w.span)
+    (c.constant.ensures (scope_of c.args.scope.now))
+
+pub any_expression-returns-in-Character : goal.any_expression-returns-in-Character
+any_expression-returns-in-Character t c =
     let w = c.in-Character in
     rw (w.is, expression_of-Character w.value w.span)
     (c.character.ensures (scope_of c.args.scope.now))
 
-pub expression-returns-in-Name : goal.expression-returns-in-Name
-expression-returns-in-Name t c =
+pub any_expression-returns-in-Name : goal.any_expression-returns-in-Name
+any_expression-returns-in-Name t c =
     rw (c.in-Name.is, expression_of-Name c.in-Name.name) c.named.ensures
 
-pub expression-returns-in-Parenthesized : goal.expression-returns-in-Parenthesized
-expression-returns-in-Parenthesized t c =
+pub any_expression-returns-in-Parenthesized : goal.any_expression-returns-in-Parenthesized
+any_expression-returns-in-Parenthesized t c =
     let w = c.in-Parenthesized in
     rw (w.is, expression_of-Parenthesized w.inner w.span) (rw c.deref.ensures at c.expression.ensures)
 
-pub expression-returns-in-Call : goal.expression-returns-in-Call
-expression-returns-in-Call t c =
+pub any_expression-returns-in-Call : goal.any_expression-returns-in-Call
+any_expression-returns-in-Call t c =
     let w = c.in-Call in
     rw (w.is, expression_of-Call w.name w.given w.span) (rw c.deref-in-Call.ensures.value at c.call.ensures)
 
@@ -352,73 +362,76 @@ prototype-returns-clause-scope t c =
 
 -- ---- each part is smaller
 
-pub expression-expression-requires : goal.expression-expression-requires
-expression-expression-requires t c =
+pub expression-any_expression-requires : goal.expression-any_expression-requires
+expression-any_expression-requires t c = (to_any_expression c.args.tree.now t c.decreases, tt)
+
+pub any_expression-expression-requires : goal.any_expression-expression-requires
+any_expression-expression-requires t c =
     let w = c.in-Parenthesized in
     (to_operand _ _ _ _ t c.deref.ensures w.is (parenthesized_inner w.inner w.span) c.decreases, tt)
 
-pub expression-expression-requires-in-Index : goal.expression-expression-requires-in-Index
-expression-expression-requires-in-Index t c =
+pub any_expression-expression-requires-in-Index : goal.any_expression-expression-requires-in-Index
+any_expression-expression-requires-in-Index t c =
     let w = c.in-Index in
     (to_operand _ _ _ _ t c.deref-in-Index.ensures w.is (index_array w.array w.index w.span) c.decreases, tt)
 
-pub expression-expression-index-requires : goal.expression-expression-index-requires
-expression-expression-index-requires t c =
+pub any_expression-expression-index-requires : goal.any_expression-expression-index-requires
+any_expression-expression-index-requires t c =
     let w = c.in-Index in
     (to_operand _ _ _ _ t c.deref-in-Index-2.ensures w.is (index_index w.array w.index w.span) c.decreases, tt)
 
-pub expression-expression-found-requires : goal.expression-expression-found-requires
-expression-expression-found-requires t c =
+pub any_expression-expression-found-requires : goal.any_expression-expression-found-requires
+any_expression-expression-found-requires t c =
     let w = c.in-Member in
     (to_operand _ _ _ _ t c.deref-in-Member.ensures w.is (member_object w.object w.name w.span) c.decreases, tt)
 
-pub expression-expression-found-requires-in-PostfixStep : goal.expression-expression-found-requires-in-PostfixStep
-expression-expression-found-requires-in-PostfixStep t c =
+pub any_expression-expression-found-requires-in-PostfixStep : goal.any_expression-expression-found-requires-in-PostfixStep
+any_expression-expression-found-requires-in-PostfixStep t c =
     let w = c.in-PostfixStep in
     (to_operand _ _ _ _ t c.deref-in-PostfixStep.ensures w.is (postfix_operand w.operator w.operand w.span) c.decreases, tt)
 
-pub expression-expression-found-requires-in-PrefixStep : goal.expression-expression-found-requires-in-PrefixStep
-expression-expression-found-requires-in-PrefixStep t c =
+pub any_expression-expression-found-requires-in-PrefixStep : goal.any_expression-expression-found-requires-in-PrefixStep
+any_expression-expression-found-requires-in-PrefixStep t c =
     let w = c.in-PrefixStep in
     (to_operand _ _ _ _ t c.deref-in-PrefixStep.ensures w.is (prefix_operand w.operator w.operand w.span) c.decreases, tt)
 
-pub expression-expression-found-requires-in-Unary : goal.expression-expression-found-requires-in-Unary
-expression-expression-found-requires-in-Unary t c =
+pub any_expression-expression-found-requires-in-Unary : goal.any_expression-expression-found-requires-in-Unary
+any_expression-expression-found-requires-in-Unary t c =
     let w = c.in-Unary in
     (to_operand _ _ _ _ t c.deref-in-Unary.ensures w.is (unary_operand w.operator w.operand w.span) c.decreases, tt)
 
-pub expression-expression-requires-in-Binary : goal.expression-expression-requires-in-Binary
-expression-expression-requires-in-Binary t c =
+pub any_expression-expression-requires-in-Binary : goal.any_expression-expression-requires-in-Binary
+any_expression-expression-requires-in-Binary t c =
     let w = c.in-Binary in
     (to_operand _ _ _ _ t c.deref-in-Binary.ensures w.is (binary_left w.operator w.left w.right w.span) c.decreases, tt)
 
-pub expression-expression-right-requires : goal.expression-expression-right-requires
-expression-expression-right-requires t c =
+pub any_expression-expression-right-requires : goal.any_expression-expression-right-requires
+any_expression-expression-right-requires t c =
     let w = c.in-Binary in
     (to_operand _ _ _ _ t c.deref-in-Binary-2.ensures w.is (binary_right w.operator w.left w.right w.span) c.decreases, tt)
 
-pub expression-expression-requires-in-Conditional : goal.expression-expression-requires-in-Conditional
-expression-expression-requires-in-Conditional t c =
+pub any_expression-expression-requires-in-Conditional : goal.any_expression-expression-requires-in-Conditional
+any_expression-expression-requires-in-Conditional t c =
     let w = c.in-Conditional in
     (to_operand _ _ _ _ t c.deref-in-Conditional.ensures w.is (conditional_test w.test w.chosen w.other w.span) c.decreases, tt)
 
-pub expression-expression-chosen-requires : goal.expression-expression-chosen-requires
-expression-expression-chosen-requires t c =
+pub any_expression-expression-chosen-requires : goal.any_expression-expression-chosen-requires
+any_expression-expression-chosen-requires t c =
     let w = c.in-Conditional in
     (to_operand _ _ _ _ t c.deref-in-Conditional-2.ensures w.is (conditional_chosen w.test w.chosen w.other w.span) c.decreases, tt)
 
-pub expression-conditional-requires : goal.expression-conditional-requires
-expression-conditional-requires t c =
+pub any_expression-conditional-requires : goal.any_expression-conditional-requires
+any_expression-conditional-requires t c =
     let w = c.in-Conditional in
     (to_later _ _ _ _ t c.deref-in-Conditional-3.ensures w.is (conditional_other w.test w.chosen w.other w.span) c.decreases, tt)
 
-pub expression-expression-requires-in-Assignment : goal.expression-expression-requires-in-Assignment
-expression-expression-requires-in-Assignment t c =
+pub any_expression-expression-requires-in-Assignment : goal.any_expression-expression-requires-in-Assignment
+any_expression-expression-requires-in-Assignment t c =
     let w = c.in-Assignment in
     (to_operand _ _ _ _ t c.deref-in-Assignment.ensures w.is (assignment_target w.operator w.target w.value w.span) c.decreases, tt)
 
-pub expression-expression-value-requires : goal.expression-expression-value-requires
-expression-expression-value-requires t c =
+pub any_expression-expression-value-requires : goal.any_expression-expression-value-requires
+any_expression-expression-value-requires t c =
     let w = c.in-Assignment in
     (to_operand _ _ _ _ t c.deref-in-Assignment-2.ensures w.is (assignment_value w.operator w.target w.value w.span) c.decreases, tt)
 
