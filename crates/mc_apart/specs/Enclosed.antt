@@ -1,7 +1,12 @@
 -- Brackets of a tree that start before what they enclose: parentheses round an expression and round
--- the type of a cast, and the braces of a compound statement and of a function's body.
+-- the type of a cast, and the braces of a compound statement. A function's definition starts before
+-- the first item of its body.
 use Rattle.std.specs.Prelude.{◌<◌, ℕ, List, [], ◌∷◌, Option, Some, None}
-use Rattle.mc_tree.specs.Tree.{Expression, Expressions, TypeName, Specifier, Specifiers, StructMember, Members, Enumerator, Enumerators, Declarator, Declarators, ArrayLengths, Parameters, Parameter, ParameterList, Initializer, Initializers, InitDeclarator, Declaration, ForStart, Statement, BlockItems, Item, span_of, span_of_statement}
+use Rattle.mc_tree.specs.Tree.{Expression, Expressions, TypeName, Specifier, Specifiers}
+use Rattle.mc_tree.specs.Tree.{StructMember, Members, Enumerator, Enumerators, Declarator}
+use Rattle.mc_tree.specs.Tree.{Declarators, ArrayLengths, Parameters, Parameter, ParameterList}
+use Rattle.mc_tree.specs.Tree.{Initializer, Initializers, InitDeclarator, Declaration, ForStart}
+use Rattle.mc_tree.specs.Tree.{Statement, BlockItems, Item, span_of, span_of_statement}
 use Rattle.mc_tree.specs.Tree as tree
 use Rattle.mc_grammar.specs.Extent.{span_of_type_name, span_of_declaration}
 

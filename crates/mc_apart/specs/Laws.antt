@@ -21,7 +21,9 @@ StatementsAreApart =
     (d : Dialect) (tokens : List Tok) (unit : List Item)
     → FollowFrom 0 tokens → IsTree d tokens unit → IsDistinct (statement_spans_in_unit unit)
 
--- The brackets of a text start before what they enclose.
+-- Parentheses round an expression and round the type of a cast, and the braces of a compound
+-- statement, start before what they enclose; a function's definition starts before the first item
+-- of its body.
 abbrev pub BracketsStartBefore : Type 0
 BracketsStartBefore =
     (d : Dialect) (tokens : List Tok) (unit : List Item)

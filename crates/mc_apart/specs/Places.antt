@@ -2,7 +2,11 @@
 -- expression before those of its parts.
 use Rattle.std.specs.Prelude.{List, [], ◌∷◌, Option, Some, None}
 use Rattle.mc_span.specs.declared.span.Span.{Span}
-use Rattle.mc_tree.specs.Tree.{Expression, Expressions, TypeName, Specifier, Specifiers, StructMember, Members, Enumerator, Enumerators, Declarator, Declarators, ArrayLengths, Parameters, Parameter, ParameterList, Initializer, Initializers, InitDeclarator, Declaration, ForStart, Statement, BlockItems, Item}
+use Rattle.mc_tree.specs.Tree.{Expression, Expressions, TypeName, Specifier, Specifiers}
+use Rattle.mc_tree.specs.Tree.{StructMember, Members, Enumerator, Enumerators, Declarator}
+use Rattle.mc_tree.specs.Tree.{Declarators, ArrayLengths, Parameters, Parameter, ParameterList}
+use Rattle.mc_tree.specs.Tree.{Initializer, Initializers, InitDeclarator, Declaration, ForStart}
+use Rattle.mc_tree.specs.Tree.{Statement, BlockItems, Item}
 use Rattle.mc_tree.specs.Tree as tree
 
 -- the places in a part of a tree, before those of what follows

@@ -1,13 +1,21 @@
 //! Laws of the places in a text: the functions do nothing.
-ghost use Rattle.mc_apart.specs.Laws.{ExpressionsAreApart, StatementsAreApart, BracketsStartBefore, PlacesHaveBytes};
+ghost use Rattle.mc_apart.specs.Laws.{
+  ExpressionsAreApart,
+  StatementsAreApart,
+  BracketsStartBefore,
+  PlacesHaveBytes,
+};
 
-/// No two expressions of a text stand at one place, and no two statements.
+/// No two expressions of a text stand at one place, and no two statements that are neither compound
+/// statements nor labelled.
 pub fn places_are_apart()
     ensures expressions { ExpressionsAreApart }
     ensures statements { StatementsAreApart }
 {}
 
-/// The brackets of a text start before what they enclose.
+/// Parentheses round an expression and round the type of a cast, and the braces of a compound
+/// statement, start before what they enclose; a function's definition starts before the first item
+/// of its body.
 pub fn brackets_start_before()
     ensures { BracketsStartBefore }
 {}

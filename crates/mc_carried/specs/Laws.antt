@@ -1,4 +1,4 @@
--- The rows of a program stand in its text where the table puts them.
+-- The rows of a body stand at parts of its text as `Fits` asks it.
 use Rattle.std.specs.Prelude.{◌≡◌, List, Some}
 use Rattle.mc_lex.specs.Tokens.{Tok}
 use Rattle.mc_tree.specs.Tree.{Item}
@@ -10,7 +10,8 @@ use Rattle.mc_inserted.specs.Rows.{rows_of}
 use Rattle.mc_inserted.specs.Fits.{AllFit}
 use Rattle.mc_fitting.specs.Fitting.{FitInUnit}
 
--- Where the parts of a unit stand as rows ask it, each row of its program does.
+-- Where the parts of a unit stand as `FitInUnit` asks it, the rows of its program stand as `Fits`
+-- asks it. Of rows of a whole function, and of ends, it asks nothing.
 abbrev pub RowsFit : Type 0
 RowsFit =
     (tokens : List Tok) (unit : List Item) (p : Program) (m : Map)

@@ -3,7 +3,8 @@ ghost use Rattle.mc_carried.specs.Laws.{RowsFit};
 
 use laws_types::programs_have_their_source;
 
-/// Each row of an instrumented program stands in the text of its source as the table asks it.
+/// The rows of a body of an instrumented program stand at parts of the text of its source as `Fits`
+/// asks it, where these parts stand as rows ask it.
 pub fn rows_fit()
     ensures { RowsFit }
 {

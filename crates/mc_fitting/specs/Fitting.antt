@@ -2,9 +2,11 @@
 -- declarations, labels, each `switch` and each `return`, in the bodies of functions.
 use Rattle.std.specs.Prelude.{List, [], ◌∷◌, Option, Some, None}
 use Rattle.mc_lex.specs.Tokens.{Tok}
-use Rattle.mc_tree.specs.Tree.{Expression, Expressions, Initializer, Initializers, InitDeclarator, Declaration, ForStart, Statement, BlockItems, Item}
+use Rattle.mc_tree.specs.Tree.{Expression, Expressions, Initializer, Initializers, InitDeclarator}
+use Rattle.mc_tree.specs.Tree.{Declaration, ForStart, Statement, BlockItems, Item}
 use Rattle.mc_tree.specs.Tree as tree
-use Rattle.mc_inserted.specs.Fits.{IsOperandAmong, IsStatementAmong, IsDeclarationAmong, IsLabelAmong, IsSwitchAmong, IsReturnAmong, ReturnsAmong}
+use Rattle.mc_inserted.specs.Fits.{IsOperandAmong, IsStatementAmong, IsDeclarationAmong}
+use Rattle.mc_inserted.specs.Fits.{IsLabelAmong, IsSwitchAmong, IsReturnAmong, ReturnsAmong}
 
 -- ---- expressions, parentheses left out
 

@@ -1,5 +1,6 @@
 -- Where rows of the table may stand in the tokens of a source.
-use Rattle.std.specs.Prelude.{◌≡◌, ℕ, Bool, true, false, ◌&&◌, ◌||◌, List, [], ◌∷◌, ◌++◌, All, codes}
+use Rattle.std.specs.Prelude.{◌≡◌, ℕ, Bool, true, false, ◌&&◌, ◌||◌, List, [], ◌∷◌, ◌++◌, All}
+use Rattle.std.specs.Prelude.{codes}
 use Rattle.std.specs.List.{list_any}
 use Rattle.mc_span.specs.declared.span.Span.{Span}
 use Rattle.mc_lex.specs.Tokens.{Tok}
@@ -57,7 +58,7 @@ pub record StandsAmong (tokens : List Tok) (span : Span) : Type 0 where
 
 -- ---- what stands at the place of a row
 
--- the last token before, or this answer where there is none
+-- the last of these tokens passes the test; of no tokens it is false
 abbrev pub last_is : (Tok → Bool) → List Tok → Bool
 last_is test [] = false
 last_is test (t ∷ []) = test t
@@ -111,7 +112,8 @@ pub record ReturnsAmong (tokens : List Tok) (span : Span) : Type 0 where
   pub balanced : IsBalanced value
   pub one : list_any (is (codes ";")) value ≡ false
 
--- A row stands at what the table puts it at.
+-- A row stands at an operand, statement, declaration, label, `switch` or `return`, as the table
+-- says. Of rows of a whole function, and of ends, nothing is asked.
 abbrev pub Fits : List Tok → What → Span → Type 0
 Fits tokens (what.Decision r base) span = IsOperandAmong tokens span
 Fits tokens (what.Condition r t f) span = IsOperandAmong tokens span

@@ -1,4 +1,5 @@
--- A worked text: the rows of `int f(int a,int b){return a&&b;}` with its probes, and their brackets.
+-- A worked text: the rows of `int f(int a,int b){return a&&b;}` with its probes, and their
+-- brackets.
 use Rattle.std.specs.Prelude.{◌≡◌, ℕ, ◌+◌, List, [], ◌∷◌, map, Some, None, codes}
 use Rattle.mc_span.specs.declared.span.Span.{Span}
 use Rattle.mc_value.specs.declared.int_type.IntType.TheVariants as int_type
@@ -77,7 +78,7 @@ TheSigns =
     ∷ bracket (codes ")") 27 26 ∷ bracket (codes "(") 29 29 ∷ bracket (codes ")") 30 29
     ∷ bracket (codes ")") 30 29 ∷ bracket (codes "}") 31 30 ∷ []
 
--- how many stand round `a&&b`, `a`, and `b`, and round a place at which nothing stands
+-- how many stand round `a&&b`, `a`, and `b`, and round the place of the statement
 abbrev pub TheCounts : Type 0
 TheCounts =
     map (brackets_of (rows_of tree)).parentheses (span 26 30 ∷ span 26 27 ∷ span 29 30 ∷ span 19 31

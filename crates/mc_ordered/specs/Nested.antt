@@ -2,7 +2,9 @@
 -- begins with its word, of six bytes, and ends with a `;`.
 use Rattle.std.specs.Prelude.{◌≤◌, ℕ, ◌+◌, ◌-◌, List, [], ◌∷◌, Option, Some, None}
 use Rattle.mc_span.specs.declared.span.Span.{Span}
-use Rattle.mc_tree.specs.Tree.{Expression, Expressions, Initializer, Initializers, InitDeclarator, Declaration, ForStart, Statement, BlockItems, span_of, span_of_statement}
+use Rattle.mc_tree.specs.Tree.{Expression, Expressions, Initializer, Initializers, InitDeclarator}
+use Rattle.mc_tree.specs.Tree.{Declaration, ForStart, Statement, BlockItems, span_of}
+use Rattle.mc_tree.specs.Tree.{span_of_statement}
 use Rattle.mc_tree.specs.Tree as tree
 
 abbrev pub IsForward : Span → Type 0

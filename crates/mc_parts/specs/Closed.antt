@@ -1,6 +1,7 @@
 -- What is open at each part of a text: brackets of the source, and what rows open. The innermost
 -- is the first.
-use Rattle.std.specs.Prelude.{◌≡◌, ℕ, Bool, true, false, ◌&&◌, List, [], ◌∷◌, ◌++◌, Option, Some, None, option_to_list, codes, if◌then◌else◌}
+use Rattle.std.specs.Prelude.{◌≡◌, ℕ, Bool, true, false, ◌&&◌, List, [], ◌∷◌, ◌++◌, Option, Some}
+use Rattle.std.specs.Prelude.{None, option_to_list, codes, if◌then◌else◌}
 use Rattle.std.specs.Str.{bytes_eq}
 use Rattle.mc_strip.specs.declared.bracket.Bracket.{Bracket}
 use Rattle.mc_strip.specs.declared.bracket.Bracket.TheVariants as bracket

@@ -65,32 +65,34 @@ PartsMove =
 
 -- ---- in the printed text
 
--- So they are of the same kinds, at the places where they were printed.
+-- The tokens of the source among the pieces have the kinds and texts of the tokens of the source,
+-- in their order.
 abbrev pub OwnTokensAreAlike : Type 0
 OwnTokensAreAlike =
     (text : List ℕ) (tokens : List Tok) (tree : p.Tree) → Scans Plain [] text tokens None
     → Stands tokens tree → AreAlike tokens (own_tokens (marks tokens (parts_of tokens tree)))
 
--- The text has at most 4294967295 bytes.
-abbrev pub IsShort : List Tok → Type 0
-IsShort tokens = All (λ t. end_of t ≤ 4294967295) tokens
+-- No token ends after byte 4294967295.
+abbrev pub EndInTime : List Tok → Type 0
+EndInTime tokens = All (λ t. end_of t ≤ 4294967295) tokens
 
--- Where a program has the places of its own printed text, whose words have the kinds of `source`,
--- its probes stand at its rows.
+-- Where the tokens have the places at which they are printed, the probes of the printed text stand
+-- at the rows of the program. `source` gives the words their kinds.
 abbrev pub ProbesAreThere : Type 0
 ProbesAreThere =
-    (source tokens : List Tok) (tree : p.Tree) → Stands tokens tree → IsShort tokens
+    (source tokens : List Tok) (tree : p.Tree) → Stands tokens tree → EndInTime tokens
     → own_tokens (marks source (parts_of tokens tree)) ≡ tokens
     → AreThere (probe_rows (rows_of tree)) (probes (marks source (parts_of tokens tree)))
 
 -- There the text without its probes is the source with brackets at its rows.
 abbrev pub PlainIsPoured : Type 0
 PlainIsPoured =
-    (source tokens : List Tok) (tree : p.Tree) → Stands tokens tree → IsShort tokens
+    (source tokens : List Tok) (tree : p.Tree) → Stands tokens tree → EndInTime tokens
     → own_tokens (marks source (parts_of tokens tree)) ≡ tokens
     → plain_of (marks source (parts_of tokens tree)) ≡ poured (signs_of (rows_of tree)) tokens
 
--- The numbers of a text that has these tokens are numerals.
+-- A number that is printed is read as a decimal constant, or as `0`, also where the source has it
+-- too.
 abbrev pub HasNumerals : List Tok → Type 0
 HasNumerals source = (n : ℕ) → n ≤ 4294967295 → kind_in source (decimal n) ≡ number n
 
@@ -109,7 +111,8 @@ ShapedPartsArePieces =
     → IsShaped source (start (tokens_at source 0 (words_of parts))) 0 parts
     → ArePieces (tokens_at source 0 (words_of parts)) (marks source parts)
 
--- So the printed text is read as the parts of the program.
+-- Where each part may stand where it is printed, the printed text is read as the parts of the
+-- program.
 abbrev pub PiecesOfParts : Type 0
 PiecesOfParts =
     (source tokens : List Tok) (tree : p.Tree) → (h : Stands tokens tree)

@@ -1,6 +1,7 @@
 -- The text of a program with probes as parts: the tokens of its source, and what the table inserts,
 -- each row at its place.
-use Rattle.std.specs.Prelude.{ℕ, ◌-◌, nat_lt, Bool, true, false, ◌||◌, List, [], ◌∷◌, ◌++◌, map, take, Option, Some, None, codes, if◌then◌else◌}
+use Rattle.std.specs.Prelude.{ℕ, ◌-◌, nat_lt, Bool, true, false, ◌||◌, List, [], ◌∷◌, ◌++◌, map}
+use Rattle.std.specs.Prelude.{take, Option, Some, None, codes, if◌then◌else◌}
 use Rattle.mc_span.specs.declared.span.Span.{Span}
 use Rattle.mc_lex.specs.Tokens.{Tok}
 use Rattle.mc_strip.specs.declared.bracket.Bracket.TheVariants as bracket
@@ -76,8 +77,9 @@ row_texts type w = []
 abbrev pub row_part : List (List ℕ) → What → Part
 row_part type w = record { what = w; texts = row_texts type w }
 
--- A row stands before the first token that starts at this byte or later: at the start of what it
--- stands at, or at its end. The end of a value is put in place of its `;`.
+-- Of a row of a body; those of a whole function are put below. A row stands before the first token
+-- that starts at this byte or later: at the start of what it stands at, or at its end. The end of a
+-- value is put in place of its `;`.
 abbrev pub place_by : What → Span → ℕ
 place_by (what.Label register bit) span = span.end
 place_by (what.Default register bit) span = span.end

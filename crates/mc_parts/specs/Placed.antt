@@ -8,9 +8,10 @@ use Rattle.mc_strip.specs.declared.piece.What.TheVariants as what
 use Rattle.mc_strip.specs.Words.{is, word_of}
 use Rattle.mc_strip.specs.Rows.{is_front, is_at_front, is_after_statement, sees_brace}
 use Rattle.mc_strip.specs.Pieces.{Here}
+use Rattle.mc_spelled.specs.Numbers.{IsShort}
 use Rattle.mc_parts.specs.Parts.{Part, own, row_part, words_of}
 use Rattle.mc_parts.specs.Marks as marks
-use Rattle.mc_parts.specs.Shaped.{IsShortNumber, tokens_at, MayBe, MayStand, after_part}
+use Rattle.mc_parts.specs.Shaped.{tokens_at, MayBe, MayStand, after_part}
 
 -- a token of the source, and these tokens after it
 abbrev pub MayFollow : Here → What → Tok → List Tok → Type 0
@@ -22,9 +23,9 @@ MayFollow h w t later = MayBe h w t later
 -- a row, and these tokens after it
 abbrev pub MayPrecede : Here → List (List ℕ) → What → List Tok → Type 0
 MayPrecede h type (what.Exit b) later =
-    (is_front h.before ≡ false) × (sees_brace later ≡ true) × IsShortNumber b
+    (is_front h.before ≡ false) × (sees_brace later ≡ true) × IsShort b
 MayPrecede h type what.StatementEnd later = is_after_statement h.before ≡ false
-MayPrecede h type (what.ValueEnd b) later = IsShortNumber b
+MayPrecede h type (what.ValueEnd b) later = IsShort b
 MayPrecede h type what.ReturnEnd later = Unit {0}
 MayPrecede h type what.OperandEnd later = Unit {0}
 MayPrecede h type w later = MayStand h type w later

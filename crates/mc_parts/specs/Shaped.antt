@@ -1,5 +1,6 @@
 -- Which part may stand at a place of a text of parts, so that it is read as what it is.
-use Rattle.std.specs.Prelude.{◌≡◌, ◌≤◌, ◌⊎◌, ◌==◌, ◌&&◌, ℕ, true, false, List, [], ◌∷◌, ◌++◌, Some, codes}
+use Rattle.std.specs.Prelude.{◌≡◌, ◌⊎◌, ◌==◌, ◌&&◌, ℕ, true, false, List, [], ◌∷◌, ◌++◌, Some}
+use Rattle.std.specs.Prelude.{codes}
 use Rattle.std.specs.List.{list_any}
 use Rattle.std.specs.Str.{bytes_eq}
 use Rattle.mc_lex.specs.Tokens.{Tok}
@@ -9,15 +10,15 @@ use Rattle.mc_strip.specs.declared.piece.What.{What}
 use Rattle.mc_strip.specs.declared.piece.What.TheVariants as what
 use Rattle.mc_strip.specs.Words.{word_of, begins_declaration, may_begin_declaration}
 use Rattle.mc_strip.specs.Shapes.{begins}
-use Rattle.mc_strip.specs.Rows.{is_front, is_at_front, is_after_statement, is_colon, is_name, is_body, is_statement, is_value, begins_body, is_counted, is_hit, is_no_declaration, sees_brace, after_tokens}
+use Rattle.mc_strip.specs.Rows.{is_front, is_at_front, is_after_statement, is_colon, is_name}
+use Rattle.mc_strip.specs.Rows.{is_body, is_statement, is_value, begins_body, is_counted, is_hit}
+use Rattle.mc_strip.specs.Rows.{is_no_declaration, sees_brace, after_tokens}
 use Rattle.mc_strip.specs.Pieces.{Here, innermost, site_of, after}
+use Rattle.mc_spelled.specs.Numbers.{IsShort}
 use Rattle.mc_spelled.specs.Words.{laid, tokens_in}
 use Rattle.mc_parts.specs.Parts.{Part, own, row_part, words_of}
 use Rattle.mc_parts.specs.Marks.{first_token}
 use Rattle.mc_parts.specs.Marks as marks
-
-abbrev pub IsShortNumber : ℕ → Type 0
-IsShortNumber n = n ≤ 4294967295
 
 -- the tokens of these words from a byte on
 abbrev pub tokens_at : List Tok → ℕ → List (List ℕ) → List Tok
@@ -54,7 +55,8 @@ MayBe h _ t later = ⊥
 
 -- ---- rows
 
--- No word of a type is a `#`, which stands for a number, or the name of a probe.
+-- No word of a type is `#`, which stands for a number, or `MCDC_H`, with which a bare `return`
+-- would begin.
 abbrev pub AreWords : List (List ℕ) → Type 0
 AreWords type =
     (list_any (λ x. bytes_eq x (codes "#")) type ≡ false)
@@ -62,39 +64,38 @@ AreWords type =
 
 abbrev pub MayStand : Here → List (List ℕ) → What → List Tok → Type 0
 MayStand h type (what.Registers n) later =
-    (is_at_front h.before ≡ true) × ((n == 0) ≡ false) × IsShortNumber n
-MayStand h type (what.Entry b) later = (is_front h.before ≡ true) × IsShortNumber b
+    (is_at_front h.before ≡ true) × ((n == 0) ≡ false) × IsShort n
+MayStand h type (what.Entry b) later = (is_front h.before ≡ true) × IsShort b
 MayStand h type (what.Exit b) later =
     (is_front h.before ≡ false) × (is_body (innermost h.brackets) ≡ true)
-    × (sees_brace later ≡ true) × IsShortNumber b
+    × (sees_brace later ≡ true) × IsShort b
 MayStand h type (what.Declaration b) later =
     (is_front h.before ≡ false) × (sees_brace later ≡ false) × (h.inside ≡ true)
-    × (may_begin_declaration later ≡ true) × IsShortNumber b
+    × (may_begin_declaration later ≡ true) × IsShort b
 MayStand h type (what.Label r b) later =
-    (h.inside ≡ true) × (is_colon h.before ≡ true) × IsShortNumber r × IsShortNumber b
+    (h.inside ≡ true) × (is_colon h.before ≡ true) × IsShort r × IsShort b
 MayStand h type (what.Default r b) later =
     (is_colon h.before ≡ false) × (is_statement (innermost h.brackets) ≡ true)
-    × IsShortNumber r × IsShortNumber b
+    × IsShort r × IsShort b
 MayStand h type (what.Statement b) later =
     (is_after_statement h.before ≡ false) × (h.inside ≡ true)
-    × (begins_declaration later ≡ false) × (is_hit later ≡ false) × IsShortNumber b
+    × (begins_declaration later ≡ false) × (is_hit later ≡ false) × IsShort b
 MayStand h type what.StatementEnd later =
     (innermost h.brackets ≡ Some bracket.Statement) × (is_after_statement h.before ≡ false)
 MayStand h type what.Value later =
     (is_after_statement h.before ≡ true)
     × (h.value ≡ (type ++ codes "mcdc_v" ∷ []) ++ codes "=" ∷ []) × AreWords type
 MayStand h type (what.ValueEnd b) later =
-    (innermost h.brackets ≡ Some bracket.Value) × IsShortNumber b
+    (innermost h.brackets ≡ Some bracket.Value) × IsShort b
 MayStand h type (what.Return b) later =
     (is_after_statement h.before ≡ true)
-    × (begins (codes "return" ∷ codes ";" ∷ codes "}" ∷ []) later ≡ true) × IsShortNumber b
+    × (begins (codes "return" ∷ codes ";" ∷ codes "}" ∷ []) later ≡ true) × IsShort b
 MayStand h type what.ReturnEnd later = innermost h.brackets ≡ Some bracket.Exit
 MayStand h type (what.Decision r base) later =
-    (is_name h.before ≡ false) × IsShortNumber r × IsShortNumber base
+    (is_name h.before ≡ false) × IsShort r × IsShort base
 MayStand h type (what.Condition r on_true on_false) later =
-    (is_name h.before ≡ false) × IsShortNumber r × IsShortNumber on_true
-    × IsShortNumber on_false
-MayStand h type (what.Switch r) later = (is_name h.before ≡ false) × IsShortNumber r
+    (is_name h.before ≡ false) × IsShort r × IsShort on_true × IsShort on_false
+MayStand h type (what.Switch r) later = (is_name h.before ≡ false) × IsShort r
 MayStand h type what.OperandEnd later = innermost h.brackets ≡ Some bracket.Operand
 MayStand h type _ later = ⊥
 

@@ -25,7 +25,7 @@ name text start = record { kind = Identifier; text = text; start = start }
 abbrev pub mark : List ℕ → ℕ → Tok
 mark text start = record { kind = Punctuator; text = text; start = start }
 
--- before the name of the function, between it and the body, and the value of the `return`
+-- before the name of the function, and between it and the body
 abbrev pub result : List Tok
 result = keyword (codes "int") 0 ∷ []
 

@@ -1,5 +1,17 @@
 //! Laws of the parts of a text with probes: the functions do nothing.
-ghost use Rattle.mc_parts.specs.Laws.{OwnTokensAreAlike, OwnTokensStay, PartsClose, PartsMove, PiecesOfParts, PlacedPartsAreShaped, PlainIsPoured, ProbesAreThere, RowsOfParts, ShapedPartsArePieces, WordsOfParts};
+ghost use Rattle.mc_parts.specs.Laws.{
+  OwnTokensAreAlike,
+  OwnTokensStay,
+  PartsClose,
+  PartsMove,
+  PiecesOfParts,
+  PlacedPartsAreShaped,
+  PlainIsPoured,
+  ProbesAreThere,
+  RowsOfParts,
+  ShapedPartsArePieces,
+  WordsOfParts,
+};
 
 /// The parts of the text of a program with probes, one after the other, are that text.
 pub fn words_of_parts()
@@ -28,13 +40,14 @@ pub fn parts_move()
     ensures { PartsMove }
 {}
 
-/// In the printed text they have the kinds that they have in the source.
+/// Among the pieces of the printed text, the tokens of the source have the kinds and texts that
+/// they have in the source, in their order.
 pub fn own_tokens_are_alike()
     ensures { OwnTokensAreAlike }
 {}
 
-/// Where a program has the places of its own printed text, the probes of that text stand where the
-/// table puts its rows.
+/// Where the tokens have the places at which they are printed, the probes of the printed text stand
+/// at the rows of the program.
 pub fn probes_are_there()
     ensures { ProbesAreThere }
 {}

@@ -21,7 +21,8 @@ use Rattle.mc_back.specs.Pens.{Pen, go_on, is_below, is_same, noted}
 use Rattle.mc_back.specs.Rows as taken
 use Rattle.mc_back.specs.Back.{around, back, end_round, has_round, is_outer, is_round, is_there, leading, round, surrounded}
 use Rattle.mc_back.specs.steps.Inside.{inside}
-use Rattle.mc_put.specs.Places.{IsDistinct, parts}
+use Rattle.mc_apart.specs.Distinct.{IsDistinct}
+use Rattle.mc_put.specs.Places.{parts}
 use Rattle.mc_put.specs.Takes.{IsInside, Takes}
 use Rattle.mc_put.proofs.Leads.{First, IsUnprobed, Leads, parts_lead}
 use Rattle.mc_put.proofs.Walked.{IsFront, Walked, false_true, front, has_as, is_nonempty, put_one, same_place, span_at, what_of}

@@ -11,7 +11,8 @@ use Rattle.mc_inserted.specs.Seats.{ArePlaced}
 use Rattle.mc_back.specs.Pens.{Pen, Walk, gives, ◌>>=◌}
 use Rattle.mc_back.specs.Back.{back, back_place, back_structure, back_call, back_argument, back_arguments}
 use Rattle.mc_back.specs.steps.Inside.{inside}
-use Rattle.mc_put.specs.Places.{IsDistinct, in_place, parts, in_structure, in_call, in_argument, in_arguments}
+use Rattle.mc_apart.specs.Distinct.{IsDistinct}
+use Rattle.mc_put.specs.Places.{in_place, parts, in_structure, in_call, in_argument, in_arguments}
 use Rattle.mc_put.specs.Ends.{EndPlace, End, EndStructure, EndCall, EndArgument, EndArguments}
 use Rattle.mc_put.specs.Takes.{TakesPlace, Takes, TakesStructure, TakesCall, TakesArgument, TakesArguments}
 use Rattle.mc_put.proofs.Walked.{Walked, given, in_turn, has_as}

@@ -8,8 +8,3 @@ mod Statements
 mod Programs
 mod Tables
 mod Instrumented
-mod Sums
-mod Ended
-mod Ranges
-mod Reach
-mod Reached

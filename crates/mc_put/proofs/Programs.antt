@@ -14,7 +14,8 @@ use Rattle.mc_inserted.specs.Seats.{ArePlaced}
 use Rattle.mc_back.specs.Pens.{Pen, Walk, begun, each, gives, is_same, next_at, put, put_found, ◌>>=◌}
 use Rattle.mc_back.specs.Rows.{end_of, entry_bit, exit_bit, register_count}
 use Rattle.mc_back.specs.Back.{back_function, back_statements, first_fault, unless}
-use Rattle.mc_put.specs.Places.{IsDistinct, in_statements, in_functions}
+use Rattle.mc_apart.specs.Distinct.{IsDistinct}
+use Rattle.mc_put.specs.Places.{in_statements, in_functions}
 use Rattle.mc_put.specs.Ends.{EndBit, EndFunction, EndFunctions}
 use Rattle.mc_put.specs.Takes.{IsSet, TakesFunction, TakesFunctions}
 use Rattle.mc_put.specs.Laws.{ProbesArePutBack}

@@ -1,7 +1,7 @@
--- Programs whose implied conversions stand where C implies them: each one stands where its operand
--- stands and is no conversion of another one; there is none round what is tested, nor round operands
--- of `!`, `&&` and `||`; and round an operand of `&`, `|` or `^` between two Boolean operands only
--- one of a `_Bool`, which is promoted (C17 6.3.1.1p2).
+-- Programs in which no implied conversion stands where C has none: each has the place of its
+-- operand and is no conversion of another one; there is none round what is tested, nor round
+-- operands of `!`, `&&` and `||`; and round an operand of `&`, `|` or `^` between two Boolean
+-- operands only one of a `_Bool`, which is promoted (C17 6.3.1.1p2).
 use Rattle.std.specs.Prelude.{◌≡◌, Bool, true, false, List, [], ◌∷◌, Option, Some, None}
 use Rattle.mc_span.specs.declared.span.Span.{Span}
 use Rattle.mc_typed.specs.Sound.{type_of}

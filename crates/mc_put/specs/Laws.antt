@@ -12,14 +12,17 @@ use Rattle.mc_probe.specs.WellFormed.{FitFunctions}
 use Rattle.mc_inserted.specs.Rows.{rows_of}
 use Rattle.mc_inserted.specs.Seats.{ArePlaced}
 use Rattle.mc_back.specs.Back.{put_back}
-use Rattle.mc_put.specs.Places.{IsDistinct, places_of}
+use Rattle.mc_apart.specs.Distinct.{IsDistinct}
+use Rattle.mc_put.specs.Places.{places_of}
 use Rattle.mc_put.specs.Conversions.{ConversionsStand}
 use Rattle.mc_put.specs.Ends.{EndsBelow}
 use Rattle.mc_put.specs.Takes.{TakesAll}
 
--- No two expressions of a tree stand at one place, each probe stands where it is looked for and
--- names a register of its function, and the number of bits is the least that is above all bits which
--- the probes name or reach.
+-- No two integer expressions that are evaluated stand at one place. Each counted statement and
+-- declaration, each label, absent `default`, `return` and entry has its probe, and each other probe
+-- stands where the walk that puts probes back looks for it. Each probe names a register of its
+-- function. The number of bits is the least that is above all bits which the probes name or reach,
+-- and at most 65,536.
 pub record IsReadBack (tree : p.Tree) : Type 0 where
   pub apart : IsDistinct (places_of tree)
   pub takes : TakesAll tree
@@ -37,8 +40,8 @@ ProbesArePutBack =
 
 -- ---- the probes of the table
 
--- all bits that the probes of a tree name or reach are below its number of bits, and no lesser number
--- is above them all
+-- All bits that the probes of a tree name or reach are below its number of bits, and no lesser
+-- number is above them all.
 pub record IsCounted (tree : p.Tree) : Type 0 where
   pub ends : EndsBelow tree.bits tree
   pub least : (n : ℕ) → EndsBelow n tree → tree.bits ≤ n

@@ -1,7 +1,8 @@
--- The places of the expressions of a program with probes, in the order of the text. A conversion
--- that is implied has the place of its operand, which is listed once. The 1 that `++` adds stands
--- at the `++`.
-use Rattle.std.specs.Prelude.{◌≡◌, true, false, List, [], ◌∷◌, Option, Some, None}
+-- The places of the integer expressions of a program with probes that are evaluated, in the order
+-- of the text. A conversion that is implied has the place of its operand, which is listed once. The
+-- 1 that `++` adds stands at the `++`. Not in the list are what is assigned to, arrays and
+-- structures before `[` and `.`, and what stands in a list `{E}` that sets each cell to zero.
+use Rattle.std.specs.Prelude.{true, false, List, [], ◌∷◌, Option, Some, None}
 use Rattle.mc_span.specs.declared.span.Span.{Span}
 use Rattle.mc_probe.specs.Tree as p
 use Rattle.mc_inserted.specs.Rows.{extent}
@@ -139,15 +140,3 @@ in_functions (f ∷ rest) later = in_statements f.body (in_functions rest later)
 
 abbrev pub places_of : p.Tree → List Span
 places_of tree = in_functions tree.program.functions []
-
--- ---- places that are all different
-
--- so for each of these
-abbrev pub Each : {A : Type 0} → (A → Type 0) → List A → Type 0
-Each P [] = Unit {0}
-Each P (x ∷ rest) = P x × Each P rest
-
--- The first of these is none of the others, and so on.
-abbrev pub IsDistinct : {A : Type 0} → List A → Type 0
-IsDistinct [] = Unit {0}
-IsDistinct (x ∷ rest) = Each (λ y. x ≡ y → ⊥) rest × IsDistinct rest

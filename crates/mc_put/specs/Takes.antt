@@ -1,6 +1,6 @@
--- Trees whose probes stand where the walk that puts probes back looks for them: round an implied
--- conversion and its operand each where the rows of the table have it, and at each counted statement,
--- label and exit. A conversion that is implied stands where its operand stands.
+-- Trees with all probes of the table, each where the walk that puts probes back looks for it. At an
+-- implied conversion it looks outside or inside, as `has_round` says. A conversion that is implied
+-- stands where its operand stands.
 use Rattle.std.specs.Prelude.{◌≡◌, Bool, true, false, List, [], ◌∷◌, map, Option, Some, None}
 use Rattle.mc_span.specs.declared.span.Span.{Span}
 use Rattle.mc_typed.specs.Sound.{type_of}
@@ -17,8 +17,8 @@ IsSet (Some a) = Unit {0}
 
 -- ---- implied conversions
 
--- the operand of an implied conversion: no such conversion itself, and no probe stands round it that
--- would stand round the conversion
+-- the operand of an implied conversion: no such conversion itself, and no probe stands round it
+-- that would stand round the conversion
 abbrev pub IsInside : p.Expression → Type 0
 IsInside (p.Probe q e) = is_outer (type_of (erase_expression e)) (row_of_probe q) ≡ false
 IsInside (p.Convert a false e span) = ⊥
@@ -120,12 +120,12 @@ TakesValue p.ReturnNothing = Unit {0}
 TakesValue (p.ReturnNumber e) = Takes e
 TakesValue (p.ReturnStructure value n) = TakesStructure value
 
--- a declaration that initializes something has a probe, and no other one
+-- a declaration that initializes something has a probe, and no other declaration has one
 abbrev pub IsSetWhere : {A : Type 0} → Bool → Option A → Type 0
 IsSetWhere true bit = IsSet bit
 IsSetWhere false bit = bit ≡ None
 
--- an absent `default` has one, where none is
+-- a `switch` without `default` has a probe for it, and no other `switch`
 abbrev pub IsSetUnless : {A : Type 0} → Bool → Option A → Type 0
 IsSetUnless true mark = mark ≡ None
 IsSetUnless false mark = IsSet mark

@@ -10,7 +10,8 @@ use Rattle.mc_probe.specs.Maps.{Map}
 use Rattle.mc_probe.specs.Table.{instrumented}
 use Rattle.mc_put.specs.Conversions.{ConversionsStand}
 use Rattle.mc_put.specs.Laws.{IsCounted}
-use Rattle.mc_put.specs.Places.{IsDistinct, places_of}
+use Rattle.mc_apart.specs.Distinct.{IsDistinct}
+use Rattle.mc_put.specs.Places.{places_of}
 
 abbrev span : ℕ → ℕ → Span
 span start end = record { start = start; end = end }
@@ -58,7 +59,7 @@ map = record {
   bits = 6;
 }
 
--- what the law on tables asks of a program and its map
+-- what the law on tables asks, but that the program is sound and the map is one
 abbrev pub TheTable : Type 0
 TheTable =
     ConversionsStand program × IsDistinct (places_of (instrumented map program))

@@ -1,7 +1,10 @@
 -- The walk over expressions, specifiers and declarators.
 use Rattle.std.specs.Prelude.{ℕ, ◌==◌, Bool, true, false, List, [], ◌∷◌, if◌then◌else◌}
 use Rattle.mc_span.specs.declared.span.Span.{Span}
-use Rattle.mc_tree.specs.Tree.{Expression, Expressions, TypeName, Specifier, Specifiers, StructMember, Members, Enumerator, Enumerators, Declarator, Declarators, ArrayLengths, Parameters, Parameter, ParameterList, span_of}
+use Rattle.mc_tree.specs.Tree.{Expression, Expressions, TypeName, Specifier, Specifiers}
+use Rattle.mc_tree.specs.Tree.{StructMember, Members, Enumerator, Enumerators, Declarator}
+use Rattle.mc_tree.specs.Tree.{Declarators, ArrayLengths, Parameters, Parameter, ParameterList}
+use Rattle.mc_tree.specs.Tree.{span_of}
 use Rattle.mc_tree.specs.Tree as tree
 use Rattle.mc_shape.specs.declared.spot.Spot.TheVariants as spot
 use Rattle.mc_shape.specs.Walks.{Walk, refused_if, must_take}

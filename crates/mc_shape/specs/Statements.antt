@@ -1,15 +1,19 @@
 -- The walk over initializers, declarations, statements and items, and the probes of a whole text.
-use Rattle.std.specs.Prelude.{ℕ, ◌==◌, Bool, true, false, not, ◌&&◌, ◌||◌, List, [], ◌∷◌, Option, Some, None, if◌then◌else◌}
+use Rattle.std.specs.Prelude.{ℕ, ◌==◌, Bool, true, false, not, ◌&&◌, ◌||◌, List, [], ◌∷◌, Option}
+use Rattle.std.specs.Prelude.{Some, None, if◌then◌else◌}
 use Rattle.mc_span.specs.declared.span.Span.{Span}
 use Rattle.mc_tree.specs.declared.declarations.specifier_word.SpecifierWord.TheVariants as word
-use Rattle.mc_tree.specs.Tree.{Specifier, Specifiers, Declarator, Initializer, Initializers, InitDeclarator, Declaration, ForStart, Statement, BlockItems, Item, name_of, span_of_statement}
+use Rattle.mc_tree.specs.Tree.{Specifier, Specifiers, Declarator, Initializer, Initializers}
+use Rattle.mc_tree.specs.Tree.{InitDeclarator, Declaration, ForStart, Statement, BlockItems, Item}
+use Rattle.mc_tree.specs.Tree.{name_of, span_of_statement}
 use Rattle.mc_tree.specs.Tree as tree
 use Rattle.mc_strip.specs.declared.placed.Placed.{Placed}
 use Rattle.mc_strip.specs.Pieces.{Mark}
 use Rattle.mc_shape.specs.declared.counted.Counted.{Counted}
 use Rattle.mc_shape.specs.declared.spot.Spot.TheVariants as spot
 use Rattle.mc_shape.specs.Probes.{probes}
-use Rattle.mc_shape.specs.Walks.{Walk, start, stands, refused, passed_if, may_take, must_take, answer}
+use Rattle.mc_shape.specs.Walks.{Walk, start, stands, refused, passed_if, may_take, must_take}
+use Rattle.mc_shape.specs.Walks.{answer}
 use Rattle.mc_shape.specs.Expressions.{walk_expression, walk_specifiers, walk_declarator}
 
 -- ---- initializers and declarations

@@ -2,10 +2,13 @@
 -- by the bytes of the text.
 use Rattle.std.specs.Prelude.{◌≡◌, ℕ, ◌+◌, true, false, List, [], ◌∷◌, Option, Some, None, codes}
 use Rattle.mc_span.specs.declared.span.Span.{Span}
-use Rattle.mc_tree.specs.declared.expressions.assignment_operator.AssignmentOperator.TheVariants as assign
+use Rattle.mc_tree.specs.declared.expressions.assignment_operator.AssignmentOperator.TheVariants.{
+  Assign,
+}
 use Rattle.mc_tree.specs.declared.expressions.binary_operator.BinaryOperator.TheVariants as binary
 use Rattle.mc_tree.specs.declared.declarations.specifier_word.SpecifierWord.TheVariants as word
-use Rattle.mc_tree.specs.Tree.{BlockItems, Declaration, Expression, Item, Name, Specifiers, Statement}
+use Rattle.mc_tree.specs.Tree.{BlockItems, Declaration, Expression, Item, Name, Specifiers}
+use Rattle.mc_tree.specs.Tree.{Statement}
 use Rattle.mc_tree.specs.Tree as tree
 use Rattle.mc_strip.specs.declared.piece.What.{What}
 use Rattle.mc_strip.specs.declared.piece.What.TheVariants as what
@@ -31,7 +34,7 @@ one at = tree.Constant 1 true false 0 (span at (at + 1))
 
 -- `a=1`
 abbrev pub assigned : ℕ → Expression
-assigned at = tree.Assignment assign.Assign (named (codes "a") at) (one (at + 2))
+assigned at = tree.Assignment Assign (named (codes "a") at) (one (at + 2))
     (span at (at + 3))
 
 -- `a=1;`

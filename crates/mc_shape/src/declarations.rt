@@ -1,7 +1,14 @@
 //! The walk over initializers and declarations, and which declarations are counted.
 ghost use Rattle.std.specs.Prelude.{◌≡◌, map, IfOk};
 ghost use Rattle.mc_tree.specs.Views.{specifier_of, specifiers_from};
-ghost use Rattle.mc_tree.specs.Units.{declaration_of, init_declarator_of, initializer_of, initializers_from, option_of, start_of};
+ghost use Rattle.mc_tree.specs.Units.{
+  declaration_of,
+  init_declarator_of,
+  initializer_of,
+  initializers_from,
+  option_of,
+  start_of,
+};
 ghost use Rattle.mc_shape.specs.Statements as spec;
 ghost use Rattle.mc_shape.specs.steps.Views.{walk_of};
 

@@ -1,6 +1,21 @@
 //! The walk over expressions, specifiers and declarators.
 ghost use Rattle.std.specs.Prelude.{◌≡◌, map, IfOk};
-ghost use Rattle.mc_tree.specs.Views.{array_length_of, declarator_of, declarators_from, enumerator_of, enumerators_from, expression_of, expressions_from, lengths_from, member_of, members_from, parameter_of, parameters_from, specifier_of, specifiers_from};
+ghost use Rattle.mc_tree.specs.Views.{
+  array_length_of,
+  declarator_of,
+  declarators_from,
+  enumerator_of,
+  enumerators_from,
+  expression_of,
+  expressions_from,
+  lengths_from,
+  member_of,
+  members_from,
+  parameter_of,
+  parameters_from,
+  specifier_of,
+  specifiers_from,
+};
 ghost use Rattle.mc_tree.specs.Tree.{ArrayLengths, span_of};
 ghost use Rattle.mc_shape.specs.Expressions as spec;
 ghost use Rattle.mc_shape.specs.steps.Views.{walk_of};

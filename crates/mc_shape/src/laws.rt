@@ -1,5 +1,12 @@
 //! Worked texts.
-ghost use Rattle.mc_shape.specs.Worked.{TheBraces, TheChoice, TheDeclaration, TheFunction, TheOperand, TheParentheses};
+ghost use Rattle.mc_shape.specs.Worked.{
+  TheBraces,
+  TheChoice,
+  TheDeclaration,
+  TheFunction,
+  TheOperand,
+  TheParentheses,
+};
 
 /// The probes of `int f(int a,int b){return a&&b;}` stand at the function's name, at the
 /// statement, at the decision and at its conditions.

@@ -1,5 +1,9 @@
 //! Laws of the brackets of an instrumented text: the functions do nothing.
-ghost use Rattle.mc_signed.specs.Laws.{BracketsAreAfterTokens, BracketsAreFew, SignsAreThoseOfTheTree};
+ghost use Rattle.mc_signed.specs.Laws.{
+  BracketsAreAfterTokens,
+  BracketsAreFew,
+  SignsAreThoseOfTheTree,
+};
 
 use laws_types::programs_have_their_source;
 
@@ -11,7 +15,8 @@ pub fn signs_are_those_of_the_tree()
     programs_have_their_source();
 }
 
-/// They stand round places of the text, and there are at most three pairs of parentheses at each.
+/// At most three pairs of parentheses are put round one expression, and what has brackets ends
+/// after byte 0.
 pub fn brackets_have_places()
     ensures few { BracketsAreFew }
     ensures ends { BracketsAreAfterTokens }

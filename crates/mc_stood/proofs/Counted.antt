@@ -1,8 +1,7 @@
 -- Places that stand in a list as often as in another one, or less often.
 use Rattle.std.proofs.Common.{◌≡◌, ◌≤◌, ◌+◌, ◌==◌, ◌&&◌, ℕ, Bool, true, false, List, [], ◌∷◌, refl, sym, ap, subst, ◌∙◌, arith}
 use Rattle.mc_span.specs.declared.span.Span.{Span}
-use Rattle.mc_put.specs.Places.{Each, IsDistinct}
-use Rattle.mc_apart.specs.Distinct as other
+use Rattle.mc_apart.specs.Distinct.{Each, IsDistinct}
 
 abbrev pub is_same : Span → Span → Bool
 is_same a b = (a.start == b.start) && (a.end == b.end)
@@ -48,7 +47,7 @@ none_here : (x y : Span) (b : Bool) (n : ℕ) → is_same x y ≡ b → (x ≡ y
 none_here x y true n q h e = absurd (h (same_place x y q))
 none_here x y false n q h e = omega (arith, e)
 
-absent : (x : Span) (ys : List Span) → other.Each (λ y. x ≡ y → ⊥) ys → count x ys ≡ 0
+absent : (x : Span) (ys : List Span) → Each (λ y. x ≡ y → ⊥) ys → count x ys ≡ 0
 absent x [] h = refl
 absent x (y ∷ ys) h = none_here x y (is_same x y) (count x ys) refl h.0 (absent x ys h.1)
 
@@ -58,7 +57,7 @@ one_here s y ys true q h e =
     omega (arith, none)
 one_here s y ys false q h e = omega (arith, e)
 
-once : (ys : List Span) → other.IsDistinct ys → (s : Span) → count s ys ≤ 1
+once : (ys : List Span) → IsDistinct ys → (s : Span) → count s ys ≤ 1
 once [] h s = omega arith
 once (y ∷ ys) h s = one_here s y ys (is_same s y) refl (absent y ys h.0) (once ys h.1 s)
 
@@ -130,6 +129,6 @@ release {held = held} {later = later} {own = own} x t =
 pub nothing : Within [] [] []
 nothing = record { most = λ s. omega arith }
 
-pub apart_within : {later own : List Span} → Within [] later own → other.IsDistinct own → IsDistinct later
+pub apart_within : {later own : List Span} → Within [] later own → IsDistinct own → IsDistinct later
 apart_within {later = later} {own = own} t h =
     distinct later (λ s. let few = t.most s in let one = once own h s in omega (arith, few, one))

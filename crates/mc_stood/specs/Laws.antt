@@ -10,7 +10,6 @@ use Rattle.mc_probe.specs.Maps.{Map}
 use Rattle.mc_probe.specs.Table.{instrumented}
 use Rattle.mc_alike.specs.Moves.{FollowFrom}
 use Rattle.mc_put.specs.Places.{places_of}
-use Rattle.mc_put.specs.Places as put
 use Rattle.mc_apart.specs.Distinct.{IsDistinct}
 use Rattle.mc_stood.specs.Stands.{stands_in_unit}
 
@@ -25,11 +24,11 @@ abbrev pub ProgramsStandApart : Type 0
 ProgramsStandApart =
     (unit : List Item) (p : Program) (m : Map)
     → typing_of unit ≡ Some p → IsDistinct (stands_in_unit unit)
-    → put.IsDistinct (places_of (instrumented m p))
+    → IsDistinct (places_of (instrumented m p))
 
 -- Both together.
 abbrev pub PlacesAreApart : Type 0
 PlacesAreApart =
     (d : Dialect) (tokens : List Tok) (unit : List Item) (p : Program) (m : Map)
     → FollowFrom 0 tokens → IsTree d tokens unit → typing_of unit ≡ Some p
-    → put.IsDistinct (places_of (instrumented m p))
+    → IsDistinct (places_of (instrumented m p))

@@ -3,7 +3,8 @@
 -- expression.
 use Rattle.std.specs.Prelude.{List, [], ◌∷◌, Option, Some, None}
 use Rattle.mc_span.specs.declared.span.Span.{Span}
-use Rattle.mc_tree.specs.Tree.{Expression, Expressions, Initializer, Initializers, InitDeclarator, Declaration, ForStart, Statement, BlockItems, Item}
+use Rattle.mc_tree.specs.Tree.{Expression, Expressions, Initializer, Initializers, InitDeclarator}
+use Rattle.mc_tree.specs.Tree.{Declaration, ForStart, Statement, BlockItems, Item}
 use Rattle.mc_tree.specs.Tree as tree
 use Rattle.mc_apart.specs.Places.{Spans}
 use Rattle.laws_types.specs.Source.{first_two, last_two}

@@ -9,8 +9,8 @@ pub fn stands_are_apart()
     ensures { StandsAreApart }
 {}
 
-/// So no two expressions of its program with probes do, where an implied conversion has the place of
-/// its operand and the 1 of `++` that of the `++`.
+/// So no two expressions of its program with probes do, where an implied conversion has the place
+/// of its operand and the 1 of `++` that of the `++`.
 pub fn programs_stand_apart()
     ensures { ProgramsStandApart }
 {

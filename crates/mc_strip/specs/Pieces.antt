@@ -1,6 +1,8 @@
 -- An instrumented text as pieces. What a piece is follows from the place where it stands; what it
 -- opens is closed by another piece.
-use Rattle.std.specs.Prelude.{◌≡◌, ℕ, ◌+◌, ◌-◌, Bool, true, false, not, ◌&&◌, ◌||◌, List, [], ◌∷◌, ◌++◌, length, take, Option, Some, None, option_to_list, slice_get, codes, if◌then◌else◌}
+use Rattle.std.specs.Prelude.{◌≡◌, ℕ, ◌+◌, ◌-◌, Bool, true, false, not, ◌&&◌, ◌||◌, List, [], ◌∷◌}
+use Rattle.std.specs.Prelude.{◌++◌, length, take, Option, Some, None, option_to_list, slice_get}
+use Rattle.std.specs.Prelude.{codes, if◌then◌else◌}
 use Rattle.mc_lex.specs.Tokens.{Tok}
 use Rattle.mc_strip.specs.declared.bracket.Bracket.{Bracket}
 use Rattle.mc_strip.specs.declared.bracket.Bracket.TheVariants as bracket
@@ -18,9 +20,9 @@ pub record Mark : Type 0 where
   pub token : Tok
   pub word : ℕ
 
--- What has been read at a place: what is open, the innermost last; whether it is inside a function's
--- body; what stands directly before; the tokens from the start of the external declaration; and what
--- stands between the `{` of a `return` and its value.
+-- What has been read at a place: what is open, the innermost last; whether it is inside a
+-- function's body; what stands directly before; the tokens from the start of the external
+-- declaration; and what stands between the `{` of a `return` and its value.
 pub record Here : Type 0 where
   pub brackets : List Bracket
   pub inside : Bool

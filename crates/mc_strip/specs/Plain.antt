@@ -1,7 +1,8 @@
--- The tokens of C that a text without its probes has: those of its source, and brackets of C for those
--- of its probes. These stand where what they enclose begins and ends, so they add nothing to the place
--- of a tree, and they may be told from those of the source by their pieces.
-use Rattle.std.specs.Prelude.{ℕ, ◌+◌, ◌-◌, nat_le, Bool, true, false, List, [], ◌∷◌, ◌++◌, length, codes, if◌then◌else◌}
+-- The tokens of C that a text without its probes has: those of its source, and brackets of C for
+-- those of its probes. These stand where what they enclose begins and ends, so they add nothing to
+-- the place of a tree, and they may be told from those of the source by their pieces.
+use Rattle.std.specs.Prelude.{ℕ, ◌+◌, ◌-◌, nat_le, Bool, true, false, List, [], ◌∷◌, ◌++◌, length}
+use Rattle.std.specs.Prelude.{codes, if◌then◌else◌}
 use Rattle.mc_lex.specs.declared.token.TokenKind.{TokenKind}
 use Rattle.mc_lex.specs.declared.token.TokenKind.TheVariants as kind
 use Rattle.mc_lex.specs.Tokens.{Tok}
@@ -13,8 +14,8 @@ use Rattle.mc_strip.specs.Pieces.{Mark}
 
 -- ---- the token of a piece
 
--- Braces and parentheses of probes stand with the next token or the one before. Registers, events and
--- the braces round a bare `return` leave no token.
+-- Braces and parentheses of probes stand with the next token or the one before. Registers, events
+-- and the braces round a bare `return` leave no token.
 abbrev pub stand_of : What → Stand
 stand_of what.Source = Own
 stand_of (what.Opening b) = Own

@@ -1,6 +1,7 @@
--- Which row of the table stands at a place, or which token of the source. The first token says which
--- rows come into question, and the place which of them it is.
-use Rattle.std.specs.Prelude.{ℕ, zero, suc, ◌==◌, Bool, true, false, not, ◌&&◌, List, [], ◌∷◌, Option, Some, None, codes, if◌then◌else◌}
+-- Which row of the table stands at a place, or which token of the source. The first token says
+-- which rows come into question, and the place which of them it is.
+use Rattle.std.specs.Prelude.{ℕ, zero, suc, ◌==◌, Bool, true, false, not, ◌&&◌, List, [], ◌∷◌}
+use Rattle.std.specs.Prelude.{Option, Some, None, codes, if◌then◌else◌}
 use Rattle.mc_lex.specs.Tokens.{Tok}
 use Rattle.mc_strip.specs.declared.bracket.Bracket.{Bracket}
 use Rattle.mc_strip.specs.declared.bracket.Bracket.TheVariants as bracket
@@ -12,7 +13,8 @@ use Rattle.mc_strip.specs.declared.word.Word.TheVariants as word
 use Rattle.mc_strip.specs.declared.piece.What.{What}
 use Rattle.mc_strip.specs.declared.piece.What.TheVariants as what
 use Rattle.mc_strip.specs.Words.{is, word_of, begins_declaration, may_begin_declaration}
-use Rattle.mc_strip.specs.Shapes.{begins, number_at, hit, registers, label, statement, value_end, bare_return, decision, condition, switch}
+use Rattle.mc_strip.specs.Shapes.{begins, number_at, hit, registers, label, statement, value_end}
+use Rattle.mc_strip.specs.Shapes.{bare_return, decision, condition, switch}
 
 -- ---- the place
 
@@ -132,8 +134,8 @@ is_return ts = begins bare_return ts
 abbrev pub is_counted : List Tok → Bool
 is_counted ts = begins statement ts
 
--- Directly inside the braces of a counted statement a `{` begins that of a `return` alone. `value` is
--- what stands after it before a value: `T mcdc_v =`.
+-- Directly inside the braces of a counted statement a `{` begins that of a `return` alone. `value`
+-- is what stands after it before a value: `T mcdc_v =`.
 abbrev pub exit_row : List (List ℕ) → List Tok → Option What
 exit_row value ts =
     if is_return ts then Some (what.Return (number_at 3 ts))

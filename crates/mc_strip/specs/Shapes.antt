@@ -1,5 +1,7 @@
--- What the rows of the table insert, token by token. A `#` stands for a number: it is no token of C.
-use Rattle.std.specs.Prelude.{ℕ, zero, suc, nat_le, ◌==◌, Bool, true, false, not, ◌&&◌, ◌||◌, List, [], ◌∷◌, codes, if◌then◌else◌}
+-- What the rows of the table insert, token by token. A `#` stands for a number: it is no token of
+-- C.
+use Rattle.std.specs.Prelude.{ℕ, zero, suc, nat_le, ◌==◌, Bool, true, false, not, ◌&&◌, ◌||◌, List}
+use Rattle.std.specs.Prelude.{[], ◌∷◌, codes, if◌then◌else◌}
 use Rattle.std.specs.Str.{bytes_eq}
 use Rattle.mc_lex.specs.declared.token.TokenKind.{TokenKind}
 use Rattle.mc_lex.specs.declared.token.TokenKind.TheVariants as kind

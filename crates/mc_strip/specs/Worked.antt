@@ -1,6 +1,7 @@
--- Worked texts: a function with all its probes, a product whose factor is grouped by a probe, and an
--- event's probe where none can stand.
-use Rattle.std.specs.Prelude.{◌≡◌, ℕ, zero, ◌+◌, true, false, List, [], ◌∷◌, ◌++◌, length, map, codes}
+-- Worked texts: a function with all its probes, a product whose factor is grouped by a probe, and
+-- an event's probe where none can stand.
+use Rattle.std.specs.Prelude.{◌≡◌, ℕ, zero, ◌+◌, true, false, List, [], ◌∷◌, ◌++◌, length, map}
+use Rattle.std.specs.Prelude.{codes}
 use Rattle.mc_lex.specs.declared.token.TokenKind.{TokenKind}
 use Rattle.mc_lex.specs.declared.token.TokenKind.TheVariants as kind
 use Rattle.mc_lex.specs.Tokens.{Tok}

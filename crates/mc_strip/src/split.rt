@@ -1,5 +1,18 @@
 //! The pieces of an instrumented text.
-ghost use Rattle.std.specs.Prelude.{◌≡◌, ◌+◌, ◌<◌, ◌≤◌, ◌^◌, IfOk, IsErrOf, List, MatchResult, length, suc, ℕ};
+ghost use Rattle.std.specs.Prelude.{
+  ◌≡◌,
+  ◌+◌,
+  ◌<◌,
+  ◌≤◌,
+  ◌^◌,
+  IfOk,
+  IsErrOf,
+  List,
+  MatchResult,
+  length,
+  suc,
+  ℕ,
+};
 ghost use Rattle.mc_lex.specs.Tokens.{toks_of};
 ghost use Rattle.mc_strip.specs.Pieces as spec;
 ghost use Rattle.mc_strip.specs.Pieces.{ArePieces, Mark};

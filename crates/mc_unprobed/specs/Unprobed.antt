@@ -3,7 +3,11 @@
 -- source starts before.
 use Rattle.std.specs.Prelude.{◌==◌, Bool, true, false, List, map, Option, option_map}
 use Rattle.mc_span.specs.declared.span.Span.{Span}
-use Rattle.mc_tree.specs.Tree.{Expression, Expressions, TypeName, Specifier, Specifiers, StructMember, Members, Enumerator, Enumerators, Declarator, Declarators, ArrayLengths, Parameters, Parameter, ParameterList, Initializer, Initializers, InitDeclarator, Declaration, ForStart, Statement, BlockItems, Item, span_of, span_of_statement}
+use Rattle.mc_tree.specs.Tree.{Expression, Expressions, TypeName, Specifier, Specifiers}
+use Rattle.mc_tree.specs.Tree.{StructMember, Members, Enumerator, Enumerators, Declarator}
+use Rattle.mc_tree.specs.Tree.{Declarators, ArrayLengths, Parameters, Parameter, ParameterList}
+use Rattle.mc_tree.specs.Tree.{Initializer, Initializers, InitDeclarator, Declaration, ForStart}
+use Rattle.mc_tree.specs.Tree.{Statement, BlockItems, Item, span_of, span_of_statement}
 use Rattle.mc_tree.specs.Tree as tree
 
 -- ---- brackets

@@ -1,5 +1,6 @@
 -- The pieces of a text as a function.
-use Rattle.std.specs.Prelude.{◌≡◌, ℕ, zero, suc, List, [], ◌∷◌, ◌++◌, Option, Some, None, Result, Ok, Err, Vec}
+use Rattle.std.specs.Prelude.{◌≡◌, ℕ, zero, suc, List, [], ◌∷◌, ◌++◌, Option, Some, None, Result}
+use Rattle.std.specs.Prelude.{Ok, Err, Vec}
 use Rattle.std.specs.Global.{Global}
 use Rattle.mc_lex.specs.Tokens.{Tok}
 use Rattle.mc_strip.specs.declared.bracket.Bracket.{Bracket}

@@ -1,6 +1,13 @@
 //! Copies of initializers and declarations.
 ghost use Rattle.std.specs.Prelude.{◌≡◌, IfOk, map};
-ghost use Rattle.mc_tree.specs.Units.{declaration_of, init_declarator_of, initializer_of, initializers_from, option_of, start_of};
+ghost use Rattle.mc_tree.specs.Units.{
+  declaration_of,
+  init_declarator_of,
+  initializer_of,
+  initializers_from,
+  option_of,
+  start_of,
+};
 ghost use Rattle.mc_unprobed.specs.Unprobed as spec;
 ghost use Rattle.mc_unprobed.specs.steps.Heaps.{heap_start_of};
 

@@ -2,7 +2,22 @@
 ghost use Rattle.std.specs.Prelude.{◌≡◌, IfOk, map};
 ghost use Rattle.mc_tree.specs.Tree as syntax;
 ghost use Rattle.mc_tree.specs.Units.{value_of};
-ghost use Rattle.mc_tree.specs.Views.{array_length_of, declarator_of, declarators_from, enumerator_of, enumerators_from, expression_of, expressions_from, lengths_from, member_of, members_from, parameter_of, parameters_from, specifier_of, specifiers_from};
+ghost use Rattle.mc_tree.specs.Views.{
+  array_length_of,
+  declarator_of,
+  declarators_from,
+  enumerator_of,
+  enumerators_from,
+  expression_of,
+  expressions_from,
+  lengths_from,
+  member_of,
+  members_from,
+  parameter_of,
+  parameters_from,
+  specifier_of,
+  specifiers_from,
+};
 ghost use Rattle.mc_unprobed.specs.Unprobed as spec;
 
 use crate::copies::brackets::is_at;

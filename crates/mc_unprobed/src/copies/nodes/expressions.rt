@@ -2,7 +2,13 @@
 ghost use Rattle.std.specs.Prelude.{◌≡◌, IfOk, map};
 ghost use Rattle.mc_tree.specs.Tree as tree;
 ghost use Rattle.mc_tree.specs.Units.{value_of};
-ghost use Rattle.mc_tree.specs.Views.{expression_of, expressions_from, name_of, specifier_of, specifiers_from};
+ghost use Rattle.mc_tree.specs.Views.{
+  expression_of,
+  expressions_from,
+  name_of,
+  specifier_of,
+  specifiers_from,
+};
 
 use crate::copies::heap::on_heap;
 use mc_tree::{
