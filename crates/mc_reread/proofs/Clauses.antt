@@ -9,6 +9,7 @@ use Rattle.mc_lex.specs.declared.fault_kind.FaultKind.TheVariants as lexical
 use Rattle.mc_lex.specs.Scans.{Scans, fault_at}
 use Rattle.mc_lex.specs.Scans as r
 use Rattle.mc_lex.specs.Tokens.{Tok}
+use Rattle.mc_strip.specs.Plain.{plain_of}
 use Rattle.mc_faults.specs.declared.fault.Fault.{Fault}
 use Rattle.mc_types.specs.declared.fault.TypeFault.{TypeFault}
 use Rattle.mc_types.specs.declared.fault.TypeFault.TheVariants as types
@@ -50,17 +51,18 @@ scan_holds_none (r.gap before text after bs ts stop w g s) e = scan_holds_none s
 scan_holds_none (r.token before text after bs kind ts stop nc l s) e = scan_holds_none s e
 scan_holds_none (r.stops before bs why s) e = kind_holds_none why (length before) (cc e)
 
-on_syntax : (f : RereadFault) → IsOnSyntax f → HoldsNoWant f
-on_syntax f (at, is) = subst HoldsNoWant (sym is) (λ e. cc e)
+on_syntax : (count : ℕ) (f : RereadFault) → IsOnSyntax count f → HoldsNoWant f
+on_syntax count f (at, few, is) = subst HoldsNoWant (sym is) (λ e. cc e)
 
 types_hold_none : (e : TypeFault) (first : Fault) → fault_of e ≡ Some first → e ≡ types.OutOfMemory → ⊥
 types_hold_none e first named is = cc (ap fault_of is, named)
 
 holds_none : (text : List ℕ) (f : RereadFault) → Reads text (Err f) → HoldsNoWant f
 holds_none text f (inl (tokens, e, scans, is)) = subst HoldsNoWant (sym is) (λ same. scan_holds_none scans (ap Some same))
-holds_none text f (inr (tokens, lexes, inl (none, syntax))) = on_syntax f syntax
-holds_none text f (inr (tokens, lexes, inr (pieces, splits, inl (none, syntax)))) = on_syntax f syntax
-holds_none text f (inr (tokens, lexes, inr (pieces, splits, inr (unit, parses, inl (none, syntax))))) = on_syntax f syntax
+holds_none text f (inr (tokens, lexes, inl (none, syntax))) = on_syntax (length tokens) f syntax
+holds_none text f (inr (tokens, lexes, inr (pieces, splits, inl (none, syntax)))) = on_syntax (length (plain_of pieces)) f syntax
+holds_none text f (inr (tokens, lexes, inr (pieces, splits, inr (unit, parses, inl (none, syntax))))) =
+    on_syntax (length (plain_of pieces)) f syntax
 holds_none text f (inr (tokens, lexes, inr (pieces, splits, inr (unit, parses, inr (placed, places, inl (outside, first, is)))))) =
     subst HoldsNoWant (sym is) tt
 holds_none text f (inr (tokens, lexes, inr (pieces, splits, inr (unit, parses, inr (placed, places, inr (u, admits, inl (e, first, named, one, is))))))) =

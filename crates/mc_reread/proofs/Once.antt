@@ -18,9 +18,10 @@ use Rattle.mc_faults.specs.declared.fault.FaultKind.TheVariants as kind
 use Rattle.mc_types.specs.declared.fault.TypeFault.{TypeFault}
 use Rattle.mc_types.specs.declared.fault.TypeFault.TheVariants as types
 use Rattle.mc_types.specs.Faults.{fault_of}
+use Rattle.mc_reread.specs.declared.fault.RereadFault.{RereadFault}
 use Rattle.mc_reread.specs.declared.fault.RereadFault.TheVariants as fault
-use Rattle.mc_reread.specs.Reading.{Admits, Lexes, Parses, Places, PutsBack, ReadsPieces, ReadsUnit, Splits, Types}
-use Rattle.mc_reread.specs.Returned.{IsOne}
+use Rattle.mc_reread.specs.Reading.{Admits, IsOnSyntax, Lexes, Parses, Places, PutsBack, ReadsPieces, ReadsUnit, Splits, Types}
+use Rattle.mc_reread.specs.Returned.{IsOne, IsSyntax}
 use Rattle.mc_reread.specs.Laws.{ReadsAsOne}
 use Rattle.mc_reread.proofs.Sequence.{one_then}
 use Rattle.mc_reread.proofs.Firsts.{one_first, none_first}
@@ -40,23 +41,30 @@ one_list tokens ps qs a b =
     let other = complete b n (omega arith) in
     cc (sym one ∙ other)
 
+on_syntax : (count : ℕ) (f : RereadFault) → IsOnSyntax count f → IsSyntax f
+on_syntax count f (at, few, is) = (at, is)
+
 one_split : (tokens : List Tok) → IsOne (Splits tokens)
 one_split tokens (Ok ps) (Ok qs) a b = one_list tokens ps qs a b
 one_split tokens (Ok ps) (Err g) a (none, is) = none ps a
 one_split tokens (Err f) (Ok qs) (none, is) b = none qs b
-one_split tokens (Err f) (Err g) (none, is) (also, other) = inr (is, other)
+one_split tokens (Err f) (Err g) (none, is) (also, other) = inr (on_syntax (length tokens) f is, on_syntax (length tokens) g other)
 
 one_parsed : (pieces : List Mark) → IsOne (Parses pieces)
 one_parsed pieces (Ok one) (Ok other) p q = one_tree Instrumented (plain_of pieces) one other p.0 q.0
 one_parsed pieces (Ok one) (Err g) p (none, is) = none one p
 one_parsed pieces (Err f) (Ok other) (none, is) q = none other q
-one_parsed pieces (Err f) (Err g) (none, is) (also, other) = inr (is, other)
+one_parsed pieces (Err f) (Err g) (none, is) (also, other) =
+    let count = length (plain_of pieces) in
+    inr (on_syntax count f is, on_syntax count g other)
 
 one_placed : (pieces : List Mark) (unit : List Item) → IsOne (Places pieces unit)
 one_placed pieces unit (Ok a) (Ok b) p q = cc (p, q)
 one_placed pieces unit (Ok a) (Err g) p (q, is) = absurd (cc (p, q))
 one_placed pieces unit (Err f) (Ok b) (p, is) q = absurd (cc (p, q))
-one_placed pieces unit (Err f) (Err g) (p, is) (q, other) = inr (is, other)
+one_placed pieces unit (Err f) (Err g) (p, is) (q, other) =
+    let count = length (plain_of pieces) in
+    inr (on_syntax count f is, on_syntax count g other)
 
 one_admitted : (unit : List Item) → IsOne (Admits unit)
 one_admitted unit (Ok u) (Ok v) p q = refl

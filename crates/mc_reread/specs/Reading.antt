@@ -1,5 +1,5 @@
 -- How an instrumented text is read: by phases, of which the first with a fault answers.
-use Rattle.std.specs.Prelude.{◌≡◌, ◌⊎◌, ℕ, List, [], Some, None, Result, Ok, Err}
+use Rattle.std.specs.Prelude.{◌≡◌, ◌≤◌, ◌⊎◌, ℕ, List, [], length, Some, None, Result, Ok, Err}
 use Rattle.mc_lex.specs.declared.token.Dialect.TheVariants.{Instrumented}
 use Rattle.mc_lex.specs.declared.fault.LexFault.{LexFault}
 use Rattle.mc_lex.specs.Scans.{Scans}
@@ -33,9 +33,9 @@ abbrev pub Then : {A B : Type 0} → (Result A RereadFault → Type 0)
 Then {A} Phase Next (Ok b) = (a : A) × Phase (Ok a) × Next a (Ok b)
 Then {A} Phase Next (Err f) = Phase (Err f) ⊎ ((a : A) × Phase (Ok a) × Next a (Err f))
 
--- a text has no tree at some token, which is not said
-abbrev pub IsOnSyntax : RereadFault → Type 0
-IsOnSyntax f = (at : ℕ) × (f ≡ fault.Parse (Syntax at))
+-- a text has no tree at one of so many tokens or at their end; at which is not said
+abbrev pub IsOnSyntax : ℕ → RereadFault → Type 0
+IsOnSyntax count f = (at : ℕ) × (at ≤ count) × (f ≡ fault.Parse (Syntax at))
 
 -- ---- the phases
 
@@ -50,18 +50,20 @@ Lexes text (Err f) =
 abbrev pub Splits : List Tok → Result (List Mark) RereadFault → Type 0
 Splits tokens (Ok pieces) = ArePieces tokens pieces
 Splits tokens (Err f) =
-    ((pieces : List Mark) → ArePieces tokens pieces → ⊥) × IsOnSyntax f
+    ((pieces : List Mark) → ArePieces tokens pieces → ⊥) × IsOnSyntax (length tokens) f
 
 -- the tree of the tokens without probes, or that they have none (C17 6.9)
 abbrev pub Parses : List Mark → Result (List Item) RereadFault → Type 0
 Parses pieces (Ok unit) = IsSyntaxOf Instrumented (plain_of pieces) unit
 Parses pieces (Err f) =
-    ((unit : List Item) → IsSyntaxOf Instrumented (plain_of pieces) unit → ⊥) × IsOnSyntax f
+    ((unit : List Item) → IsSyntaxOf Instrumented (plain_of pieces) unit → ⊥)
+    × IsOnSyntax (length (plain_of pieces)) f
 
 -- the probes, each at what it stands at, or that one stands where the table puts no such one
 abbrev pub Places : List Mark → List Item → Result (List Placed) RereadFault → Type 0
 Places pieces unit (Ok placed) = placements pieces unit ≡ Some placed
-Places pieces unit (Err f) = (placements pieces unit ≡ None) × IsOnSyntax f
+Places pieces unit (Err f) =
+    (placements pieces unit ≡ None) × IsOnSyntax (length (plain_of pieces)) f
 
 -- that no node of the tree is outside the profile, or the first one in preorder that is
 abbrev pub Admits : List Item → Result (Unit {0}) RereadFault → Type 0
@@ -106,9 +108,6 @@ Reads text =
     Then (Splits tokens) (λ pieces.
     ReadsPieces pieces))
 
--- a text with a tree, and a text with a fault
+-- a text with a tree
 abbrev pub IsReading : List ℕ → Tree → Type 0
 IsReading text tree = Reads text (Ok tree)
-
-abbrev pub IsRefusedWith : List ℕ → RereadFault → Type 0
-IsRefusedWith text f = Reads text (Err f)

@@ -1,11 +1,10 @@
 -- What calls return of what a phase gives.
-use Rattle.std.specs.Prelude.{◌≡◌, ◌≢◌, ◌⊎◌, Result, Ok, Err, ⊤}
+use Rattle.std.specs.Prelude.{◌≡◌, ◌≢◌, ◌⊎◌, ℕ, Result, Ok, Err, ⊤}
 use Rattle.mc_lex.specs.declared.fault.LexFault.TheVariants as lex
 use Rattle.mc_parse.specs.declared.fault.ParseFault.TheVariants as parse
 use Rattle.mc_types.specs.declared.fault.TypeFault.TheVariants as types
 use Rattle.mc_reread.specs.declared.fault.RereadFault.{RereadFault}
 use Rattle.mc_reread.specs.declared.fault.RereadFault.TheVariants as fault
-use Rattle.mc_reread.specs.Reading.{IsOnSyntax}
 
 -- a fault, which a phase has; out of memory says nothing
 abbrev pub GivesFault : {B : Type 0} → (Result B RereadFault → Type 0) → RereadFault → Type 0
@@ -25,9 +24,13 @@ HoldsNoWant (fault.Parse e) = e ≢ parse.OutOfMemory
 HoldsNoWant (fault.Typing e) = e ≢ types.OutOfMemory
 HoldsNoWant f = ⊤
 
--- one fault, or two on the syntax, which may name different places
+-- a fault of the syntax, at some token
+abbrev pub IsSyntax : RereadFault → Type 0
+IsSyntax f = (at : ℕ) × (f ≡ fault.Parse (parse.Syntax at))
+
+-- one fault, or two of the syntax, which may name different places
 abbrev pub AreOne : RereadFault → RereadFault → Type 0
-AreOne f g = (f ≡ g) ⊎ (IsOnSyntax f × IsOnSyntax g)
+AreOne f g = (f ≡ g) ⊎ (IsSyntax f × IsSyntax g)
 
 -- two answers are one
 abbrev pub Agree : {A : Type 0} → Result A RereadFault → Result A RereadFault → Type 0

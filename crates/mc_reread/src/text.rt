@@ -54,8 +54,8 @@ fn read<'a>(alloc: Global, text: &'a [u8]) -> Result<Instrumented<'a>, RereadFau
 }
 
 /// Reads an instrumented text: the typed program of the text without its probes, with the probes at
-/// what they stand at, the register counts of the text, and as `bits` one more than the greatest bit
-/// that it names or that some path through a decision reaches.
+/// what they stand at, the register counts of the text, and as `bits` one more than the greatest
+/// bit that it names or that some path through a decision reaches.
 ///
 /// The first phase with a fault refuses the text: tokens, pieces and their tree, the profile, names
 /// and types, and the probes. Each is judged without the probes before it.

@@ -19,4 +19,4 @@ AreShort (t ∷ ts) = IsShort t × AreShort ts
 abbrev pub ParsesTokens : List Tok → Result (List Item) RereadFault → Type 0
 ParsesTokens tokens (Ok unit) = IsSyntaxOf Instrumented tokens unit
 ParsesTokens tokens (Err f) =
-    ((unit : List Item) → IsSyntaxOf Instrumented tokens unit → ⊥) × IsOnSyntax f
+    ((unit : List Item) → IsSyntaxOf Instrumented tokens unit → ⊥) × IsOnSyntax (length tokens) f
