@@ -1,7 +1,8 @@
 -- The probes of a text in the program that the text has without them: a walk over the program in
 -- the order of the text, in which each part takes from the front the probes that stand at its
 -- place. What no part takes stays at the front, and nothing after it is taken.
-use Rattle.std.specs.Prelude.{ℕ, suc, ◌&&◌, Bool, true, false, List, [], ◌∷◌, take, drop, Option, Some, None, unwrap_or, Result, Ok, Err, if◌then◌else◌}
+use Rattle.std.specs.Prelude.{ℕ, suc, ◌&&◌, Bool, true, false, List, [], ◌∷◌, take, drop, Option}
+use Rattle.std.specs.Prelude.{Some, None, unwrap_or, Result, Ok, Err, if◌then◌else◌}
 use Rattle.mc_span.specs.declared.span.Span.{Span}
 use Rattle.mc_value.specs.declared.int_type.IntType.{IntType}
 use Rattle.mc_typed.specs.declared.probes.Probe.TheVariants as probe
@@ -16,8 +17,10 @@ use Rattle.mc_probe.specs.Tree as probed
 use Rattle.mc_strip.specs.declared.piece.What.{What}
 use Rattle.mc_strip.specs.declared.piece.What.TheVariants as what
 use Rattle.mc_strip.specs.declared.placed.Placed.{Placed}
-use Rattle.mc_back.specs.Rows.{declaration_bit, default_mark, entry_bit, exit_bit, label_mark, register_count, return_bit, statement_bit}
-use Rattle.mc_back.specs.Pens.{Pen, Walk, begun, each, first_of, gives, go_on, is_same, noted, put, ◌>>=◌}
+use Rattle.mc_back.specs.Rows.{declaration_bit, default_mark, entry_bit, exit_bit, label_mark}
+use Rattle.mc_back.specs.Rows.{register_count, return_bit, statement_bit}
+use Rattle.mc_back.specs.Pens.{Pen, Walk, begun, each, first_of, gives, go_on, is_same, noted, put}
+use Rattle.mc_back.specs.Pens.{◌>>=◌}
 use Rattle.mc_back.specs.Sums.{end_of_paths, paths}
 
 -- ---- probes round expressions

@@ -1,5 +1,6 @@
 -- The pen that puts the probes of a text into its program, in the order of the text.
-use Rattle.std.specs.Prelude.{ℕ, nat_eq, nat_le, nat_lt, Bool, true, ◌&&◌, List, [], ◌∷◌, min, max, Option, Some, None, option_and_then, if◌then◌else◌}
+use Rattle.std.specs.Prelude.{ℕ, nat_eq, nat_le, nat_lt, Bool, true, ◌&&◌, List, [], ◌∷◌, min, max}
+use Rattle.std.specs.Prelude.{Option, Some, None, option_and_then, if◌then◌else◌}
 use Rattle.mc_limits.specs.Limits.{most_bits}
 use Rattle.mc_span.specs.declared.span.Span.{Span}
 use Rattle.mc_strip.specs.declared.piece.What.{What}
@@ -79,8 +80,8 @@ abbrev pub put_found : {A : Type 0} → ℕ → Option A → Walk (Option A)
 put_found registers None p = (None, p)
 put_found registers (Some a) p = (Some a, put_next registers p.left p)
 
--- Puts the next probe where it stands at this place and `wanted` accepts it, and gives what `wanted`
--- gives.
+-- Puts the next probe where it stands at this place and `wanted` accepts it, and gives what
+-- `wanted` gives.
 abbrev pub put : {A : Type 0} → ℕ → (What → Option A) → Span → Walk (Option A)
 put registers wanted span p =
     put_found registers (option_and_then wanted (next_at span p.left)) p

@@ -1,5 +1,6 @@
 -- The paths through the operand of a decision, by what they add to the decision's register.
-use Rattle.std.specs.Prelude.{ℕ, ◌+◌, nat_eq, false, List, [], ◌∷◌, ◌++◌, map, max, if◌then◌else◌, Option, Some, None}
+use Rattle.std.specs.Prelude.{ℕ, ◌+◌, nat_eq, false, List, [], ◌∷◌, ◌++◌, map, max, if◌then◌else◌}
+use Rattle.std.specs.Prelude.{Option, Some, None}
 use Rattle.mc_typed.specs.declared.operators.LogicOperator.{LogicOperator}
 use Rattle.mc_typed.specs.declared.operators.LogicOperator.TheVariants as logic
 use Rattle.mc_typed.specs.declared.probes.Probe as code

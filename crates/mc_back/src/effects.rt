@@ -13,6 +13,7 @@ use mc_typed::Effect;
 use std::alloc::AllocError;
 
 /// A copy of an effect.
+#[cycle(effect)]
 pub(crate) fn effect(walk: &Walk, pen: &mut Pen<'_>, tree: &Effect) -> Result<Effect, AllocError>
     ensures part { IfOk result (λ c. probed.effect_of c
         ≡ (spec.back_effect walk.now.registers (plain.effect_of tree.now) (pen_of pen.old)).0) }
@@ -98,8 +99,8 @@ pub(crate) fn effect(walk: &Walk, pen: &mut Pen<'_>, tree: &Effect) -> Result<Ef
             span,
         } => {
             let test = expression(walk, pen, first)?;
-            let chosen = Box::new(walk.alloc, effect(walk, pen, chosen)?)?;
-            let other = Box::new(walk.alloc, effect(walk, pen, other)?)?;
+            let chosen = boxed(walk, pen, chosen)?;
+            let other = boxed(walk, pen, other)?;
             Ok(Effect::Choice {
                 test,
                 chosen,
@@ -108,13 +109,27 @@ pub(crate) fn effect(walk: &Walk, pen: &mut Pen<'_>, tree: &Effect) -> Result<Ef
             })
         }
         Effect::Discard { operand, span } => {
-            let operand = Box::new(walk.alloc, effect(walk, pen, operand)?)?;
+            let operand = boxed(walk, pen, operand)?;
             Ok(Effect::Discard {
                 operand,
                 span: *span,
             })
         }
     }
+}
+
+/// A copy of an effect, on the heap.
+#[cycle(effect)]
+#[inline(never)]
+fn boxed(walk: &Walk, pen: &mut Pen<'_>, tree: &Effect) -> Result<Box<Effect>, AllocError>
+    ensures part { IfOk result (λ c. probed.effect_of c.value
+        ≡ (spec.back_effect walk.now.registers (plain.effect_of tree.now) (pen_of pen.old)).0) }
+    ensures pen { IfOk result (λ _. pen_of pen.new
+        ≡ (spec.back_effect walk.now.registers (plain.effect_of tree.now) (pen_of pen.old)).1) }
+{
+    let copy = effect(walk, pen, tree)?;
+    let copy = Box::new(walk.alloc, copy)?;
+    Ok(copy)
 }
 
 /// Copies of effects that follow each other.

@@ -55,7 +55,7 @@ fn inside(walk: &Walk, pen: &mut Pen<'_>, tree: &Expression) -> Result<Expressio
             operand,
             span,
         } => {
-            let operand = Box::new(walk.alloc, expression(walk, pen, operand)?)?;
+            let operand = boxed(walk, pen, operand)?;
             Ok(Expression::Unary {
                 operator: *operator,
                 of: *of,
@@ -69,7 +69,7 @@ fn inside(walk: &Walk, pen: &mut Pen<'_>, tree: &Expression) -> Result<Expressio
             operand,
             span,
         } => {
-            let operand = Box::new(walk.alloc, expression(walk, pen, operand)?)?;
+            let operand = boxed(walk, pen, operand)?;
             Ok(Expression::Convert {
                 to: *to,
                 written: *written,
@@ -78,7 +78,7 @@ fn inside(walk: &Walk, pen: &mut Pen<'_>, tree: &Expression) -> Result<Expressio
             })
         }
         Expression::Not { operand, span } => {
-            let operand = Box::new(walk.alloc, expression(walk, pen, operand)?)?;
+            let operand = boxed(walk, pen, operand)?;
             Ok(Expression::Not {
                 operand,
                 span: *span,
@@ -91,8 +91,8 @@ fn inside(walk: &Walk, pen: &mut Pen<'_>, tree: &Expression) -> Result<Expressio
             right,
             span,
         } => {
-            let left = Box::new(walk.alloc, expression(walk, pen, left)?)?;
-            let right = Box::new(walk.alloc, expression(walk, pen, right)?)?;
+            let left = boxed(walk, pen, left)?;
+            let right = boxed(walk, pen, right)?;
             Ok(Expression::Binary {
                 operator: *operator,
                 of: *of,
@@ -107,8 +107,8 @@ fn inside(walk: &Walk, pen: &mut Pen<'_>, tree: &Expression) -> Result<Expressio
             right,
             span,
         } => {
-            let left = Box::new(walk.alloc, expression(walk, pen, left)?)?;
-            let right = Box::new(walk.alloc, expression(walk, pen, right)?)?;
+            let left = boxed(walk, pen, left)?;
+            let right = boxed(walk, pen, right)?;
             Ok(Expression::Logic {
                 operator: *operator,
                 left,
@@ -123,9 +123,9 @@ fn inside(walk: &Walk, pen: &mut Pen<'_>, tree: &Expression) -> Result<Expressio
             of,
             span,
         } => {
-            let test = Box::new(walk.alloc, expression(walk, pen, first)?)?;
-            let chosen = Box::new(walk.alloc, expression(walk, pen, chosen)?)?;
-            let other = Box::new(walk.alloc, expression(walk, pen, other)?)?;
+            let test = boxed(walk, pen, first)?;
+            let chosen = boxed(walk, pen, chosen)?;
+            let other = boxed(walk, pen, other)?;
             Ok(Expression::Choice {
                 test,
                 chosen,
@@ -140,6 +140,36 @@ fn inside(walk: &Walk, pen: &mut Pen<'_>, tree: &Expression) -> Result<Expressio
         }
         Expression::Probe { operand, .. } => inside(walk, pen, operand),
     }
+}
+
+/// A copy of an expression with the probes round it and in it, on the heap. What is boxed passes
+/// through this function alone: a function clears all its values as it begins, and its frame has
+/// room for all of them.
+#[cycle(back)]
+#[inline(never)]
+fn boxed(walk: &Walk, pen: &mut Pen<'_>, tree: &Expression) -> Result<Box<Expression>, AllocError>
+    ensures part { IfOk result (λ c. probed.expression_of c.value
+        ≡ (spec.back walk.now.registers (plain.expression_of tree.now) (pen_of pen.old)).0) }
+    ensures pen { IfOk result (λ _. pen_of pen.new
+        ≡ (spec.back walk.now.registers (plain.expression_of tree.now) (pen_of pen.old)).1) }
+{
+    let copy = expression(walk, pen, tree)?;
+    let copy = Box::new(walk.alloc, copy)?;
+    Ok(copy)
+}
+
+/// A copy of a place, on the heap.
+#[cycle(back)]
+#[inline(never)]
+fn boxed_place(walk: &Walk, pen: &mut Pen<'_>, tree: &Place) -> Result<Box<Place>, AllocError>
+    ensures part { IfOk result (λ c. probed.place_of c.value
+        ≡ (spec.back_place walk.now.registers (plain.place_of tree.now) (pen_of pen.old)).0) }
+    ensures pen { IfOk result (λ _. pen_of pen.new
+        ≡ (spec.back_place walk.now.registers (plain.place_of tree.now) (pen_of pen.old)).1) }
+{
+    let copy = place(walk, pen, tree)?;
+    let copy = Box::new(walk.alloc, copy)?;
+    Ok(copy)
 }
 
 /// A copy of a place.
@@ -165,7 +195,7 @@ pub(crate) fn place(walk: &Walk, pen: &mut Pen<'_>, tree: &Place) -> Result<Plac
             index,
             span,
         } => {
-            let index = Box::new(walk.alloc, expression(walk, pen, index)?)?;
+            let index = boxed(walk, pen, index)?;
             Ok(Place::Parameter {
                 array: *array,
                 stride: *stride,
@@ -180,8 +210,8 @@ pub(crate) fn place(walk: &Walk, pen: &mut Pen<'_>, tree: &Place) -> Result<Plac
             index,
             span,
         } => {
-            let array = Box::new(walk.alloc, place(walk, pen, array)?)?;
-            let index = Box::new(walk.alloc, expression(walk, pen, index)?)?;
+            let array = boxed_place(walk, pen, array)?;
+            let index = boxed(walk, pen, index)?;
             Ok(Place::Item {
                 array,
                 length: *length,
@@ -196,7 +226,7 @@ pub(crate) fn place(walk: &Walk, pen: &mut Pen<'_>, tree: &Place) -> Result<Plac
             offset,
             span,
         } => {
-            let structure = Box::new(walk.alloc, place(walk, pen, whole)?)?;
+            let structure = boxed_place(walk, pen, whole)?;
             Ok(Place::Member {
                 structure,
                 member: *member,

@@ -1,5 +1,13 @@
 //! What follows from the definitions. The functions do nothing: each has a law as its contract.
-ghost use Rattle.mc_back.specs.Worked.{NoPlace, NoRegister, TheAnd, TheFlag, TheFunction, TheSwitch, TheXor};
+ghost use Rattle.mc_back.specs.Worked.{
+  NoPlace,
+  NoRegister,
+  TheAnd,
+  TheFlag,
+  TheFunction,
+  TheSwitch,
+  TheXor,
+};
 
 /// `int f(int a,int b){return a&&b;}` with all its probes.
 pub fn function_with_probes()

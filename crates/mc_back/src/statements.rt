@@ -1,5 +1,6 @@
 //! Statements with their probes.
 ghost use Rattle.std.specs.Prelude.{◌≡◌, map, option_map, IfOk};
+ghost use Rattle.mc_typed.specs.Tree as typed;
 ghost use Rattle.mc_typed.specs.Views as plain;
 ghost use Rattle.mc_steps.specs.Points as points;
 ghost use Rattle.mc_probe.specs.Views as probed;
@@ -159,7 +160,84 @@ fn for_head(
     Ok(Head { start, test, step })
 }
 
-/// A copy of a statement.
+/// A declaration with its probes.
+#[inline(never)]
+fn declared(
+    walk: &Walk,
+    pen: &mut Pen<'_>,
+    trees: &[Declarator],
+    span: Span,
+) -> Result<Statement, AllocError>
+    ensures part { IfOk result (λ c. probed.statement_of c
+        ≡ (spec.back_statement walk.now.registers
+        (typed.Declaration (map plain.declarator_of trees.now) span)
+        (pen_of pen.old)).0) }
+    ensures pen { IfOk result (λ _. pen_of pen.new
+        ≡ (spec.back_statement walk.now.registers
+        (typed.Declaration (map plain.declarator_of trees.now) span)
+        (pen_of pen.old)).1) }
+{
+    let bit = declaration(walk, pen, trees, span);
+    let declarators = declarators(walk, pen, trees)?;
+    Ok(Statement::Declaration {
+        declarators,
+        span,
+        bit,
+    })
+}
+
+/// An effect as a statement with its probes.
+#[inline(never)]
+fn performed(
+    walk: &Walk,
+    pen: &mut Pen<'_>,
+    tree: &Effect,
+    span: Span,
+) -> Result<Statement, AllocError>
+    ensures part { IfOk result (λ c. probed.statement_of c
+        ≡ (spec.back_statement walk.now.registers
+        (typed.EffectStatement (plain.effect_of tree.now) span)
+        (pen_of pen.old)).0) }
+    ensures pen { IfOk result (λ _. pen_of pen.new
+        ≡ (spec.back_statement walk.now.registers
+        (typed.EffectStatement (plain.effect_of tree.now) span)
+        (pen_of pen.old)).1) }
+{
+    let bit = statement_bit(pen, walk.registers, span);
+    let effect = effect(walk, pen, tree)?;
+    Ok(Statement::Effect { effect, span, bit })
+}
+
+/// A `return` with its probes.
+#[inline(never)]
+fn returned(
+    walk: &Walk,
+    pen: &mut Pen<'_>,
+    tree: &ReturnValue,
+    span: Span,
+) -> Result<Statement, AllocError>
+    ensures part { IfOk result (λ c. probed.statement_of c
+        ≡ (spec.back_statement walk.now.registers
+        (typed.Return (plain.return_value_of tree.now) span)
+        (pen_of pen.old)).0) }
+    ensures pen { IfOk result (λ _. pen_of pen.new
+        ≡ (spec.back_statement walk.now.registers
+        (typed.Return (plain.return_value_of tree.now) span)
+        (pen_of pen.old)).1) }
+{
+    let bit = statement_bit(pen, walk.registers, span);
+    let value = return_value(walk, pen, tree)?;
+    let exit = return_bit(pen, walk.registers, span);
+    Ok(Statement::Return {
+        value,
+        span,
+        bit,
+        exit,
+    })
+}
+
+/// A copy of a statement. A function clears all its values as it begins, and its frame has room for
+/// all of them, so most kinds of statements have a function of their own.
 #[cycle(statement)]
 fn statement(walk: &Walk, pen: &mut Pen<'_>, tree: &Statement) -> Result<Statement, AllocError>
     ensures part { IfOk result (λ c. probed.statement_of c
@@ -183,53 +261,22 @@ fn statement(walk: &Walk, pen: &mut Pen<'_>, tree: &Statement) -> Result<Stateme
             })
         }
         Statement::Declaration {
-            declarators: declared,
+            declarators: trees,
             span,
             ..
-        } => {
-            let bit = declaration(walk, pen, declared, *span);
-            let declarators = declarators(walk, pen, declared)?;
-            Ok(Statement::Declaration {
-                declarators,
-                span: *span,
-                bit,
-            })
-        }
+        } => declared(walk, pen, trees, *span),
         Statement::Null { span, .. } => {
             let bit = statement_bit(pen, walk.registers, *span);
             Ok(Statement::Null { span: *span, bit })
         }
-        Statement::Effect {
-            effect: whole,
-            span,
-            ..
-        } => {
-            let bit = statement_bit(pen, walk.registers, *span);
-            let effect = effect(walk, pen, whole)?;
-            Ok(Statement::Effect {
-                effect,
-                span: *span,
-                bit,
-            })
-        }
+        Statement::Effect { effect, span, .. } => performed(walk, pen, effect, *span),
         Statement::If {
-            test: first,
+            test,
             chosen,
             keyword,
             span,
             ..
-        } => {
-            let bit = statement_bit(pen, walk.registers, *span);
-            let test = expression(walk, pen, first)?;
-            let chosen = Box::new(walk.alloc, statement(walk, pen, chosen)?)?;
-            Ok(Statement::If {
-                test,
-                chosen,
-                keyword: *keyword,
-                span: *span,
-                bit,
-            })
-        }
+        } => if_alone(walk, pen, chosen, test, *keyword, *span),
         Statement::IfElse {
             test: first,
             chosen,
@@ -240,8 +287,8 @@ fn statement(walk: &Walk, pen: &mut Pen<'_>, tree: &Statement) -> Result<Stateme
         } => {
             let bit = statement_bit(pen, walk.registers, *span);
             let test = expression(walk, pen, first)?;
-            let chosen = Box::new(walk.alloc, statement(walk, pen, chosen)?)?;
-            let other = Box::new(walk.alloc, statement(walk, pen, other)?)?;
+            let chosen = boxed(walk, pen, chosen)?;
+            let other = boxed(walk, pen, other)?;
             Ok(Statement::IfElse {
                 test,
                 chosen,
@@ -257,20 +304,7 @@ fn statement(walk: &Walk, pen: &mut Pen<'_>, tree: &Statement) -> Result<Stateme
             keyword,
             span,
             ..
-        } => {
-            let bit = statement_bit(pen, walk.registers, *span);
-            let value = expression(walk, pen, value)?;
-            let copies = statements(walk, pen, items)?;
-            let absent = absent_mark(walk, pen, items, *span);
-            Ok(Statement::Switch {
-                value,
-                items: copies,
-                keyword: *keyword,
-                span: *span,
-                bit,
-                absent,
-            })
-        }
+        } => switch(walk, pen, items, value, *keyword, *span),
         Statement::For {
             start: first,
             test,
@@ -279,38 +313,14 @@ fn statement(walk: &Walk, pen: &mut Pen<'_>, tree: &Statement) -> Result<Stateme
             keyword,
             span,
             ..
-        } => {
-            let bit = statement_bit(pen, walk.registers, *span);
-            let head = for_head(walk, pen, first, test, step)?;
-            let body = Box::new(walk.alloc, statement(walk, pen, body)?)?;
-            Ok(Statement::For {
-                start: head.start,
-                test: head.test,
-                step: head.step,
-                body,
-                keyword: *keyword,
-                span: *span,
-                bit,
-            })
-        }
+        } => for_loop(walk, pen, body, first, test, step, *keyword, *span),
         Statement::DoWhile {
             body,
-            test: last,
+            test,
             keyword,
             span,
             ..
-        } => {
-            let bit = statement_bit(pen, walk.registers, *span);
-            let body = Box::new(walk.alloc, statement(walk, pen, body)?)?;
-            let test = expression(walk, pen, last)?;
-            Ok(Statement::DoWhile {
-                body,
-                test,
-                keyword: *keyword,
-                span: *span,
-                bit,
-            })
-        }
+        } => do_while(walk, pen, body, test, *keyword, *span),
         Statement::Break { span, .. } => {
             let bit = statement_bit(pen, walk.registers, *span);
             Ok(Statement::Break { span: *span, bit })
@@ -319,18 +329,166 @@ fn statement(walk: &Walk, pen: &mut Pen<'_>, tree: &Statement) -> Result<Stateme
             let bit = statement_bit(pen, walk.registers, *span);
             Ok(Statement::Continue { span: *span, bit })
         }
-        Statement::Return { value, span, .. } => {
-            let bit = statement_bit(pen, walk.registers, *span);
-            let value = return_value(walk, pen, value)?;
-            let exit = return_bit(pen, walk.registers, *span);
-            Ok(Statement::Return {
-                value,
-                span: *span,
-                bit,
-                exit,
-            })
-        }
+        Statement::Return { value, span, .. } => returned(walk, pen, value, *span),
     }
+}
+
+/// The same on the heap.
+#[cycle(statement)]
+#[inline(never)]
+fn boxed(walk: &Walk, pen: &mut Pen<'_>, tree: &Statement) -> Result<Box<Statement>, AllocError>
+    ensures part { IfOk result (λ c. probed.statement_of c.value
+        ≡ (spec.back_statement walk.now.registers (plain.statement_of tree.now)
+        (pen_of pen.old)).0) }
+    ensures pen { IfOk result (λ _. pen_of pen.new
+        ≡ (spec.back_statement walk.now.registers (plain.statement_of tree.now)
+        (pen_of pen.old)).1) }
+{
+    let copy = statement(walk, pen, tree)?;
+    let copy = Box::new(walk.alloc, copy)?;
+    Ok(copy)
+}
+
+/// An `if` without `else`.
+#[cycle(statement)]
+#[inline(never)]
+fn if_alone(
+    walk: &Walk,
+    pen: &mut Pen<'_>,
+    chosen: &Statement,
+    test: &Expression,
+    keyword: Span,
+    span: Span,
+) -> Result<Statement, AllocError>
+    ensures part { IfOk result (λ c. probed.statement_of c
+        ≡ (spec.back_statement walk.now.registers
+        (typed.If (plain.expression_of test.now) (plain.statement_of chosen.now) keyword
+        span)
+        (pen_of pen.old)).0) }
+    ensures pen { IfOk result (λ _. pen_of pen.new
+        ≡ (spec.back_statement walk.now.registers
+        (typed.If (plain.expression_of test.now) (plain.statement_of chosen.now) keyword
+        span)
+        (pen_of pen.old)).1) }
+{
+    let bit = statement_bit(pen, walk.registers, span);
+    let test = expression(walk, pen, test)?;
+    let chosen = boxed(walk, pen, chosen)?;
+    Ok(Statement::If {
+        test,
+        chosen,
+        keyword,
+        span,
+        bit,
+    })
+}
+
+/// A `switch` with its probes.
+#[cycle(statement)]
+#[inline(never)]
+fn switch(
+    walk: &Walk,
+    pen: &mut Pen<'_>,
+    trees: &[Statement],
+    value: &Expression,
+    keyword: Span,
+    span: Span,
+) -> Result<Statement, AllocError>
+    ensures part { IfOk result (λ c. probed.statement_of c
+        ≡ (spec.back_statement walk.now.registers
+        (typed.Switch (plain.expression_of value.now)
+        (plain.statements_from (map plain.statement_of trees.now)) keyword span)
+        (pen_of pen.old)).0) }
+    ensures pen { IfOk result (λ _. pen_of pen.new
+        ≡ (spec.back_statement walk.now.registers
+        (typed.Switch (plain.expression_of value.now)
+        (plain.statements_from (map plain.statement_of trees.now)) keyword span)
+        (pen_of pen.old)).1) }
+{
+    let bit = statement_bit(pen, walk.registers, span);
+    let value = expression(walk, pen, value)?;
+    let items = statements(walk, pen, trees)?;
+    let absent = absent_mark(walk, pen, trees, span);
+    Ok(Statement::Switch {
+        value,
+        items,
+        keyword,
+        span,
+        bit,
+        absent,
+    })
+}
+
+/// A `for` or a `while` with its probes.
+#[cycle(statement)]
+#[inline(never)]
+fn for_loop(
+    walk: &Walk,
+    pen: &mut Pen<'_>,
+    body: &Statement,
+    first: &ForStart,
+    test: &Option<Expression>,
+    step: &[Effect],
+    keyword: Span,
+    span: Span,
+) -> Result<Statement, AllocError>
+    ensures part { IfOk result (λ c. probed.statement_of c
+        ≡ (spec.back_statement walk.now.registers
+        (typed.For (plain.start_of first.now) (option_map plain.expression_of test.now)
+        (map plain.effect_of step.now) (plain.statement_of body.now) keyword span)
+        (pen_of pen.old)).0) }
+    ensures pen { IfOk result (λ _. pen_of pen.new
+        ≡ (spec.back_statement walk.now.registers
+        (typed.For (plain.start_of first.now) (option_map plain.expression_of test.now)
+        (map plain.effect_of step.now) (plain.statement_of body.now) keyword span)
+        (pen_of pen.old)).1) }
+{
+    let bit = statement_bit(pen, walk.registers, span);
+    let head = for_head(walk, pen, first, test, step)?;
+    let body = boxed(walk, pen, body)?;
+    Ok(Statement::For {
+        start: head.start,
+        test: head.test,
+        step: head.step,
+        body,
+        keyword,
+        span,
+        bit,
+    })
+}
+
+/// A `do` with its probes.
+#[cycle(statement)]
+#[inline(never)]
+fn do_while(
+    walk: &Walk,
+    pen: &mut Pen<'_>,
+    body: &Statement,
+    test: &Expression,
+    keyword: Span,
+    span: Span,
+) -> Result<Statement, AllocError>
+    ensures part { IfOk result (λ c. probed.statement_of c
+        ≡ (spec.back_statement walk.now.registers
+        (typed.DoWhile (plain.statement_of body.now) (plain.expression_of test.now) keyword
+        span)
+        (pen_of pen.old)).0) }
+    ensures pen { IfOk result (λ _. pen_of pen.new
+        ≡ (spec.back_statement walk.now.registers
+        (typed.DoWhile (plain.statement_of body.now) (plain.expression_of test.now) keyword
+        span)
+        (pen_of pen.old)).1) }
+{
+    let bit = statement_bit(pen, walk.registers, span);
+    let body = boxed(walk, pen, body)?;
+    let test = expression(walk, pen, test)?;
+    Ok(Statement::DoWhile {
+        body,
+        test,
+        keyword,
+        span,
+        bit,
+    })
 }
 
 /// Copies of the items of a body.
