@@ -1,0 +1,4 @@
+pub mod Needs
+pub mod Separate
+pub mod Heads
+pub mod Laws
