@@ -1,5 +1,5 @@
-mod Nodes
-mod Points
-mod Put
-mod Placeless
-mod Maps
+pub mod Nodes
+pub mod Points
+pub mod Put
+pub mod Placeless
+pub mod Maps

@@ -137,7 +137,7 @@ functions_twice m = each_twice (moved_function still) (moved_function m) (moved_
 
 -- ---- without the places that are cut out of others
 
-operand_settled : (e : t.Expression) → moved_number still (settled_operand e) ≡ moved_number still e
+pub operand_settled : (e : t.Expression) → moved_number still (settled_operand e) ≡ moved_number still e
 operand_settled (t.Constant v a span) = refl
 operand_settled (t.Read place a) = refl
 operand_settled (t.Unary operator a e span) = refl
@@ -159,7 +159,7 @@ operand_settled (t.Choice e f g a span) = refl
 operand_settled (t.Call k a) = refl
 operand_settled (t.Input span) = refl
 
-effect_settled : (a : t.Effect) → moved_effect still (settled_effect a) ≡ moved_effect still a
+pub effect_settled : (a : t.Effect) → moved_effect still (settled_effect a) ≡ moved_effect still a
 effect_settled (t.Assign target a e span) = refl
 effect_settled (t.Update target a operator common e span) =
     ap (λ x. t.Update (moved_place still target) a operator common x nowhere) (operand_settled e)
@@ -172,15 +172,15 @@ effect_settled (t.ChoiceEffect e a b span) =
     ap₂ (λ x y. t.ChoiceEffect (moved_number still e) x y nowhere) (effect_settled a) (effect_settled b)
 effect_settled (t.Discard a span) = ap (λ x. t.Discard x nowhere) (effect_settled a)
 
-effects_settled : (all : List t.Effect) → moved_effects still (settled_effects all) ≡ moved_effects still all
+pub effects_settled : (all : List t.Effect) → moved_effects still (settled_effects all) ≡ moved_effects still all
 effects_settled = each_twice (moved_effect still) settled_effect (moved_effect still) effect_settled
 
-start_settled : (s : t.ForStart) → moved_for_start still (settled_for_start s) ≡ moved_for_start still s
+pub start_settled : (s : t.ForStart) → moved_for_start still (settled_for_start s) ≡ moved_for_start still s
 start_settled (t.StartEffects effects) = ap t.StartEffects (effects_settled effects)
 start_settled (t.StartDeclaration all) = refl
 
 mutual
-  statement_settled : (s : t.Statement) → moved_typed_statement still (settled_statement s) ≡ moved_typed_statement still s
+  pub statement_settled : (s : t.Statement) → moved_typed_statement still (settled_statement s) ≡ moved_typed_statement still s
   statement_settled (t.Compound items span) = ap (λ x. t.Compound x nowhere) (statements_settled items)
   statement_settled (t.Label v span) = refl
   statement_settled (t.Declaration all span) = refl
@@ -199,14 +199,14 @@ mutual
   statement_settled (t.Continue span) = refl
   statement_settled (t.Return value span) = refl
 
-  statements_settled : (all : t.Statements) → moved_typed_statements still (settled_statements all) ≡ moved_typed_statements still all
+  pub statements_settled : (all : t.Statements) → moved_typed_statements still (settled_statements all) ≡ moved_typed_statements still all
   statements_settled t.no_statements = refl
   statements_settled (t.statements s rest) = ap₂ (λ x y. t.statements x y) (statement_settled s) (statements_settled rest)
 
-function_settled : (f : t.Function) → moved_function still (settled_function f) ≡ moved_function still f
+pub function_settled : (f : t.Function) → moved_function still (settled_function f) ≡ moved_function still f
 function_settled f = ap (λ (b : t.Statements). record f { name_span = nowhere; body = b; closing = nowhere }) (statements_settled f.body)
 
-functions_settled : (fs : List t.Function) → moved_functions still (settled_functions fs) ≡ moved_functions still fs
+pub functions_settled : (fs : List t.Function) → moved_functions still (settled_functions fs) ≡ moved_functions still fs
 functions_settled = each_twice (moved_function still) settled_function (moved_function still) function_settled
 
 -- ---- two programs

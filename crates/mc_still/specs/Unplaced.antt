@@ -1,7 +1,8 @@
--- A tree with probes, its places left out: what is told apart there is told apart by more than by
--- where it stands.
+-- A tree with probes, with each place set to 0: two trees that differ in places alone become equal.
 use Rattle.std.specs.Prelude.{List, map, Option, option_map}
-use Rattle.mc_probe.specs.Tree.{Place, Expression, StructureValue, FunctionCall, Argument, Arguments, Effect, Initializer, Initializers, Declarator, ForStart, ReturnValue, Statement, Statements, Function, Tree}
+use Rattle.mc_probe.specs.Tree.{Place, Expression, StructureValue, FunctionCall, Argument}
+use Rattle.mc_probe.specs.Tree.{Arguments, Effect, Initializer, Initializers, Declarator, ForStart}
+use Rattle.mc_probe.specs.Tree.{ReturnValue, Statement, Statements, Function, Tree}
 use Rattle.mc_probe.specs.Tree as p
 use Rattle.mc_natural.specs.Settled.{nowhere}
 

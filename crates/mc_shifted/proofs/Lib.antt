@@ -1,0 +1,5 @@
+pub mod Counting
+pub mod Values
+pub mod Bodies
+pub mod Settling
+pub mod Whole
