@@ -1,0 +1,10 @@
+pub mod Signs
+pub mod Stretch
+pub mod Said
+pub mod Profile
+pub mod Trees
+pub mod Bodies
+pub mod Items
+pub mod Unique
+pub mod Functions
+pub mod Words
