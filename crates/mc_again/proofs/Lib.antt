@@ -1,0 +1,5 @@
+pub mod Own
+pub mod Pieces
+pub mod Parted
+pub mod Printed
+pub mod Again
