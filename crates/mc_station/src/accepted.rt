@@ -5,6 +5,7 @@ ghost use Rattle.mc_probe.specs.Erase.{erase};
 ghost use Rattle.mc_probe.specs.Trees.{tree_of};
 
 use mc_probe::{BitMap, Instrumented};
+use std::mem::forget;
 
 /// A source that is accepted: its bytes, its program with the probes, and the map of its bits.
 #[derive(Drop)]
@@ -22,5 +23,11 @@ impl<'a> Accepted<'a> {
         ensures sound { IsSound (erase (tree_of result.tree).program) }
     {
         Accepted { source, tree, map }
+    }
+
+    /// Leaves its memory to the system: the process ends once its reply is written, and to let go of a
+    /// tree is to visit each of its nodes.
+    pub fn leak(self) {
+        forget(self);
     }
 }

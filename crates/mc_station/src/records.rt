@@ -153,7 +153,7 @@ pub fn after_right<'a>(
     ensures ready { IfOk result IsReady }
 {
     let second = judge_record(alloc, &accepted, name, bytes);
-    drop(accepted);
+    accepted.leak();
     let both = join(alloc, &first, &second?)?;
     Ok(Stage::Merged(both))
 }

@@ -90,7 +90,7 @@ pub fn tell<'a>(
         Task::List(asked) => listed(alloc, asked, accepted, ran, justifications),
         Task::Record => {
             let reply = record(alloc, accepted.source, ran);
-            drop(accepted);
+            accepted.leak();
             Ok(reply)
         }
     }

@@ -217,6 +217,6 @@ pub fn mutate<'a, R: Threads + Sync, G: Gate, C: Closer>(
         (seen_reply reply)) }
 {
     let reply = mutated(alloc, means, workers, &accepted, plans, decisions);
-    drop(accepted);
+    accepted.leak();
     reply
 }

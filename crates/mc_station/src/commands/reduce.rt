@@ -156,6 +156,6 @@ pub fn reduce<'a>(
         ran.now.states.items (seen_reply reply)) }
 {
     let reply = reduced(alloc, mode, &accepted, ran);
-    drop(accepted);
+    accepted.leak();
     reply
 }

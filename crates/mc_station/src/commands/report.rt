@@ -21,6 +21,7 @@ use mc_oblige::{Justification, Mode, judge, obligations};
 use mc_replies::Reply;
 use mc_report::{Form, Report, lines_in, status};
 use std::alloc::{AllocError, Global};
+use std::mem::forget;
 
 // The form that an option names.
 fn form_of(form: AskedForm) -> Form
@@ -79,7 +80,7 @@ pub fn report_on<'a>(
     ensures texts { IfOk result (λ report. All IsUtf8 (report_of report).names) }
 {
     let Accepted { source, tree, map } = accepted;
-    drop(tree);
+    forget(tree);
     let mode = mode_of(independence);
     let obligations = obligations(alloc, &map)?;
     let verdicts = judge(alloc, &map, matrix, mode, justifications)?;

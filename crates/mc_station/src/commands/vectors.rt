@@ -48,6 +48,6 @@ pub fn vectors<'a>(
         (map told_of ran.now.results.items) (seen_reply reply)) }
 {
     let reply = listed(alloc, &accepted, ran);
-    drop(accepted);
+    accepted.leak();
     reply
 }

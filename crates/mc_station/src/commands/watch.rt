@@ -161,7 +161,7 @@ pub fn watch<'a, R: Threads + Sync, G: Gate, C: Closer>(
     match run_watched(alloc, means, workers, looks, &accepted, plans, opened) {
         Ok((ran, counts)) => {
             let reply = watched(alloc, &accepted, plans, looks, &ran, &counts);
-            drop(accepted);
+            accepted.leak();
             reply
         }
         Err(error) => {
