@@ -13,9 +13,9 @@ use Rattle.mc_parts.specs.Laws.{Stands, PiecesOfParts}
 use Rattle.mc_placed.specs.Heads.{HaveHeads}
 use Rattle.mc_placed.specs.Separate.{AreSeparate}
 use Rattle.mc_placed.specs.Laws.{AreInPlace, KindsStay, SourcesHaveOwnWords, FunctionsHaveEntries, PartsArePlaced, PartsComeAfter, PartsAreFollowed, PartsAreInside, ValuesAreTyped}
-use Rattle.mc_headed.specs.Laws.{SourcesHaveNumerals, SourcesKeepKinds, TextsAreBalanced, TextsHaveHeads}
-use Rattle.mc_separate.specs.Laws.{RowsAreSeparate}
-use Rattle.mc_among.specs.Laws.{SourcesStand}
+use Rattle.mc_again.specs.Headed.{SourcesHaveNumerals, SourcesKeepKinds, TextsAreBalanced, TextsHaveHeads}
+use Rattle.mc_again.specs.Separate.{RowsAreSeparate}
+use Rattle.mc_again.specs.Among.{SourcesStand}
 use Rattle.mc_again.specs.Laws.{PrintedPartsArePieces}
 
 -- the laws of parts that this takes

@@ -29,7 +29,7 @@ use Rattle.mc_parts.specs.Parts.{parts_of}
 use Rattle.mc_parts.specs.Marks.{marks, own_tokens}
 use Rattle.mc_parts.specs.Laws.{Stands, OwnTokensAreAlike, PartsMove}
 use Rattle.mc_shifted.specs.Laws.{RowsAreMoved}
-use Rattle.mc_among.specs.Laws.{TextsStand, SourcesStand}
+use Rattle.mc_again.specs.Among.{TextsStand, SourcesStand}
 use Rattle.mc_again.specs.Laws.{OwnTokensFollow, OwnTokensEnd, IsAsPrinted}
 
 -- an accepted source: its tokens, its tree, its typed program and its map

@@ -1,1 +1,4 @@
+pub mod Among
+pub mod Separate
+pub mod Headed
 pub mod Laws

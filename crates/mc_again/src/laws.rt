@@ -9,17 +9,18 @@ ghost use Rattle.mc_again.specs.Laws.{
   PrintedTextsAreReadOnlySo,
 };
 
+use crate::among::{sources_stand, texts_stand};
+use crate::headed::{
+    sources_have_numerals, sources_keep_kinds, texts_are_balanced, texts_have_heads,
+};
+use crate::separate::rows_are_separate;
 use mc_alike::laws::{alike_texts_have_moved_trees, forms_are_kept, height_is_kept, trees_move};
-use mc_among::laws::{sources_stand, texts_stand};
 use mc_apart::laws::{brackets_start_before, places_are_apart, places_have_bytes};
 use mc_brackets::laws::poured_texts_have_bracketed_trees;
 use mc_converted::laws::implied_conversions_stand;
 use mc_counted::laws::instrumented_units_are_counted;
 use mc_fitting::laws::scanned_tokens_mean_their_kinds;
 use mc_grammar::laws::tree_is_no_longer_than_text;
-use mc_headed::laws::{
-    sources_have_numerals, sources_keep_kinds, texts_are_balanced, texts_have_heads,
-};
 use mc_natural::laws::units_move;
 use mc_parts::laws::{
     own_tokens_are_alike, parts_move, pieces_of_parts, plain_is_poured, probes_are_there,
@@ -31,7 +32,6 @@ use mc_placed::laws::{
 };
 use mc_put::laws::tables_are_put_back;
 use mc_reread::laws::reads_as_one;
-use mc_separate::laws::rows_are_separate;
 use mc_shifted::laws::rows_are_moved;
 use mc_short::laws::instrumented_numbers_are_short;
 use mc_signed::laws::{brackets_have_places, signs_are_those_of_the_tree};

@@ -1,4 +1,0 @@
-mod Tokens
-mod Leaving
-mod Spelled
-mod Functions
