@@ -18,8 +18,8 @@ abbrev pub is_apart : Tok → Bool
 is_apart t = is_bracket t || is (codes ";") t || is (codes "*") t
 
 -- Before the name of a function its specifiers stand, in which there is no list, and before them
--- external declarations, each through its `;`. The name is no `;`, and after it the parameters stand
--- in one pair of parentheses.
+-- external declarations, each through its `;`. The name is no `;`, and after it the parameters
+-- stand in one pair of parentheses.
 pub record IsHead (before : List Tok) (name : Tok) (parameters : List Tok) : Type 0 where
   pub declarations : List Tok
   pub specifiers : List Tok

@@ -51,15 +51,15 @@ pub fn parts_are_placed()
     ensures { PartsArePlaced }
 {}
 
-/// What stands directly before each part of the text of a program with probes is what the part needs
-/// there, where its rows are separate.
+/// What stands directly before each part of the text of a program with probes is what the part
+/// needs there, where its rows are separate.
 pub fn parts_come_after()
     ensures { PartsComeAfter }
 {}
 
-/// The brackets of the source and those of rows stand one inside the other, so that each part stands
-/// in the brackets that it needs: a body outside all others, directly after a `)`, the rows of a
-/// body inside of it, and an absent `default` directly in its statement.
+/// The brackets of the source and those of rows stand one inside the other, so that each part
+/// stands in the brackets that it needs: a body outside all others, directly after a `)`, the rows
+/// of a body inside of it, and an absent `default` directly in its statement.
 pub fn parts_are_inside()
     ensures { PartsAreInside }
 {}

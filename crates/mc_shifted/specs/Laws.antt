@@ -13,9 +13,9 @@ use Rattle.mc_still.specs.Unplaced.{unplaced}
 use Rattle.mc_parts.specs.Stands.{AreAmong}
 use Rattle.mc_parts.specs.Moved.{AreMoved}
 
--- Where the functions of a program stand among the tokens of its text, the program of the moved unit
--- has a map with as many bits. With that map its tree with probes is the same, places left out, and
--- its functions and their rows are moved.
+-- Where the functions of a program stand among the tokens of its text, the program of the moved
+-- unit has a map with as many bits. With that map its tree with probes is the same, places left out,
+-- and its functions and their rows are moved.
 abbrev pub RowsAreMoved : Type 0
 RowsAreMoved =
     (move : Move) (tokens : List Tok) (unit : List Item) (p q : Program) (m : Map)
