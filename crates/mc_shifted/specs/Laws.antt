@@ -14,8 +14,8 @@ use Rattle.mc_parts.specs.Stands.{AreAmong}
 use Rattle.mc_parts.specs.Moved.{AreMoved}
 
 -- Where the functions of a program stand among the tokens of its text, the program of the moved
--- unit has a map with as many bits. With that map its tree with probes is the same, places left out,
--- and its functions and their rows are moved.
+-- unit has a map with as many bits. With that map its tree with probes is the same, places left
+-- out, and its functions and their rows are moved.
 abbrev pub RowsAreMoved : Type 0
 RowsAreMoved =
     (move : Move) (tokens : List Tok) (unit : List Item) (p q : Program) (m : Map)
