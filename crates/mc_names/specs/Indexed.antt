@@ -1,10 +1,8 @@
 -- What the fields of a table stand for.
 use Rattle.std.specs.Prelude.{◌≡◌, ℕ, suc, if◌then◌else◌, List, [], ◌∷◌, ◌++◌, bytes_eq, Option, Some, None, option_map}
-use Rattle.std.specs.BTreeMap.{BTreeMap, get_by}
-use Rattle.std.specs.Cmp.Lexicographic.{slice_cmp}
-use Rattle.std.specs.Ordering.{nat_cmp}
-use denote.Ref.{Bor}
 use Rattle.mc_names.specs.Tables.{Named, later_or}
+use Rattle.mc_names.specs.Latest.{place_of}
+use Rattle.mc_names.specs.declared.latest.Latest.{Latest}
 use Rattle.mc_names.specs.declared.table.Entry.{Entry}
 
 abbrev pub named_of : {M : Type 0} → Entry M → Named M
@@ -17,18 +15,13 @@ last_place name (e ∷ es) =
     later_or (option_map suc (last_place name es))
     (if bytes_eq e.name.now name then Some 0 else None)
 
--- the place that a map has for a name
-abbrev pub place_of : BTreeMap (Bor (List ℕ)) ℕ → List ℕ → Option ℕ
-place_of latest name = get_by (λ k. slice_cmp nat_cmp name k.now) latest
-
 -- each entry, after those before it, has the place of the last entry of its name among them
 abbrev pub AreLinked : {M : Type 0} → List (Entry M) → List (Entry M) → Type 0
 AreLinked before [] = Unit {0}
 AreLinked before (e ∷ es) =
     (e.before ≡ last_place e.name.now before) × AreLinked (before ++ (e ∷ [])) es
 
--- the map has the last place of each name
-pub record IsIndexed {M : Type 0} (entries : List (Entry M)) (latest : BTreeMap (Bor (List ℕ)) ℕ)
-    : Type 0 where
+-- the last place of each name is kept
+pub record IsIndexed {M : Type 0} (entries : List (Entry M)) (latest : Latest) : Type 0 where
   pub last : (name : List ℕ) → place_of latest name ≡ last_place name entries
   pub linked : AreLinked [] entries

@@ -1,3 +1,4 @@
 pub mod Tables
 pub mod Taken
+pub mod Latest
 pub mod Indexed

@@ -1,11 +1,10 @@
 //! Names with what they mean.
-ghost use Rattle.std.specs.Prelude.{◌≡◌, ◌≤◌, ◌∷◌, ◌++◌, ◌-◌, ◌+◌, [], ℕ, List, Some, None, IsSome, length, take, drop, option_copied, option_map, option_to_list, map, reverse, slice_get, if◌then◌else◌, bytes_eq, IfOk, OnOk, OnErr};
+ghost use Rattle.std.specs.Prelude.{◌≡◌, ◌≤◌, ◌∷◌, ◌++◌, ◌-◌, ◌+◌, [], ℕ, List, Some, None, IsSome, length, take, drop, option_copied, option_map, option_to_list, map, reverse, slice_get, IfOk, OnOk, OnErr};
 ghost use Rattle.mc_names.specs.Tables.{Named, last_of, last_place_of};
-ghost use Rattle.mc_names.specs.Indexed.{place_of};
 ghost use Rattle.mc_names.specs.Taken.{taken_of};
 
+use crate::latest::Latest;
 use std::alloc::{AllocError, Global};
-use std::collections::BTreeMap;
 use std::marker::Model;
 
 /// Names with what they mean, in the order in which they were declared. The last entry of a name
@@ -13,7 +12,7 @@ use std::marker::Model;
 #[derive(Drop)]
 pub struct Table<'a, M> {
     entries: Vec<Entry<'a, M>>,
-    latest: BTreeMap<&'a [u8], usize>,
+    latest: Latest<'a>,
 }
 
 /// A name, what it means, and where the entry of this name before it stands.
@@ -50,7 +49,7 @@ impl<'a, M: Drop> Table<'a, M> {
     {
         Table {
             entries: Vec::new(alloc),
-            latest: BTreeMap::new(alloc),
+            latest: Latest::new(alloc),
         }
     }
 
@@ -66,7 +65,7 @@ impl<'a, M: Drop> Table<'a, M> {
         ensures { option_copied result ≡ last_of name.now self.now }
     {
         match self.latest.get(name) {
-            Some(place) => meaning_at(&self.entries, *place),
+            Some(place) => meaning_at(&self.entries, place),
             None => None,
         }
     }
@@ -77,10 +76,10 @@ impl<'a, M: Drop> Table<'a, M> {
     {
         match self.latest.get(name) {
             Some(place) => {
-                if *place < from {
+                if place < from {
                     None
                 } else {
-                    meaning_at(&self.entries, *place)
+                    meaning_at(&self.entries, place)
                 }
             }
             None => None,
@@ -91,7 +90,7 @@ impl<'a, M: Drop> Table<'a, M> {
     pub fn place(&self, name: &[u8]) -> Option<usize>
         ensures { result ≡ last_place_of name.now self.now }
     {
-        self.latest.get(name).copied()
+        self.latest.get(name)
     }
 
     /// The meaning of the entry at a place.
@@ -109,7 +108,7 @@ impl<'a, M: Drop> Table<'a, M> {
     {
         self.entries.reserve(1)?;
         let place = self.entries.len();
-        let before = keep(&mut self.latest, name, place)?;
+        let before = self.latest.insert(name, place)?;
         self.entries.push_reserved(Entry {
             name,
             meaning,
@@ -123,7 +122,7 @@ impl<'a, M: Drop> Table<'a, M> {
         ensures { self.new ≡ take (length self.old - 1) self.old }
     {
         if let Some(last) = self.entries.pop() {
-            restore(&mut self.latest, last.name, last.before);
+            self.latest.restore(last.name, last.before);
         }
     }
 
@@ -134,7 +133,7 @@ impl<'a, M: Drop> Table<'a, M> {
     {
         match self.entries.pop() {
             Some(last) => {
-                restore(&mut self.latest, last.name, last.before);
+                self.latest.restore(last.name, last.before);
                 Some(Taken {
                     name: last.name,
                     meaning: last.meaning,
@@ -234,40 +233,5 @@ fn meaning_at<'t, M>(entries: &'t [Entry<'_, M>], place: usize) -> Option<&'t M>
     match entries.get(place) {
         Some(entry) => Some(&entry.meaning),
         None => None,
-    }
-}
-
-// Keeps the place of the last entry of a name, and gives the place that it had before.
-fn keep<'a>(
-    latest: &mut BTreeMap<&'a [u8], usize>,
-    name: &'a [u8],
-    place: usize,
-) -> Result<Option<usize>, AllocError>
-    ensures before { IfOk result (λ before. before ≡ place_of latest.old name.now) }
-    ensures ok { OnOk result ((q : List ℕ) → place_of latest.new q
-        ≡ (if bytes_eq name.now q then Some place else place_of latest.old q)) }
-    ensures err { OnErr result ((q : List ℕ) → place_of latest.new q ≡ place_of latest.old q) }
-{
-    let before = latest.insert(name, place)?;
-    Ok(before)
-}
-
-// Gives a name the place back that it had before its last entry.
-fn restore<'a>(latest: &mut BTreeMap<&'a [u8], usize>, name: &'a [u8], before: Option<usize>)
-    requires { IsSome (place_of latest.old name.now) }
-    ensures { (q : List ℕ) → place_of latest.new q
-        ≡ (if bytes_eq name.now q then before else place_of latest.old q) }
-{
-    match before {
-        Some(place) => {
-            // a name that has a place takes no memory
-            match latest.insert(name, place) {
-                Ok(_) => {}
-                Err(_) => unreachable!(),
-            }
-        }
-        None => {
-            latest.remove(name);
-        }
     }
 }

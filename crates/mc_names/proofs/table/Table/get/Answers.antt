@@ -1,4 +1,4 @@
-use Rattle.std.proofs.Common.{◌≡◌, ◌∙◌, Some, None, ap, sym, option_copied}
+use Rattle.std.proofs.Common.{◌≡◌, ◌∙◌, Some, None, sym}
 use Rattle.mc_names.proofs.Kept.{by_place}
 use Rattle.mc_names.proofs.table.Table.get.Goals as goal
 
@@ -6,10 +6,10 @@ pub returns-in-Some : goal.returns-in-Some
 returns-in-Some g c =
     let from : c.deref.result.now ≡ c.self.inside.entries.items = c.deref.ensures.value in
     rw (← c.self.view_is) (rw from at c.meaning_at.ensures
-    ∙ by_place c.self.inside.entries.items c.self.inside.latest c.args.name.now (Some c.in-Some.place.now) c.self.invariant
-    (sym c.get.ensures.value ∙ ap option_copied c.in-Some.is))
+    ∙ by_place c.self.inside.entries.items c.self.inside.latest c.args.name.now (Some c.in-Some.place) c.self.invariant
+    (sym c.get.ensures ∙ c.in-Some.is))
 
 pub returns-in-None : goal.returns-in-None
 returns-in-None g c =
     rw (← c.self.view_is) (by_place c.self.inside.entries.items c.self.inside.latest c.args.name.now None c.self.invariant
-    (sym c.get.ensures.value ∙ ap option_copied c.in-None.is))
+    (sym c.get.ensures ∙ c.in-None.is))

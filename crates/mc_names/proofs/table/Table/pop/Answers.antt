@@ -14,4 +14,4 @@ pub invariant_of-self : goal.invariant_of-self
 invariant_of-self g c =
     let split = c.pop.ensures.items ∙ ap (λ o. c.pop.new.self.items ++ option_to_list o) c.in-Some.is in
     let h = subst (λ es. IsIndexed es c.self.inside.latest) split c.self.invariant in
-    indexed_less c.pop.new.self.items c.in-Some.last c.self.inside.latest c.restore.new.latest h c.restore.ensures
+    indexed_less c.pop.new.self.items c.in-Some.last c.self.inside.latest c.restore.new.self h c.restore.ensures
