@@ -1,12 +1,36 @@
 -- A new name of a typedef marks the tokens of its text.
-use Rattle.std.proofs.Common.{◌≡◌, ◌||◌, ◌&&◌, ℕ, Bool, true, false, List, [], ◌∷◌, refl, sym, if◌then◌else◌}
-use Rattle.std.specs.BTreeSet.{BTreeSet, IsEmpty}
+use Rattle.std.proofs.Common.{◌≡◌, ◌||◌, ◌&&◌, ℕ, suc, Bool, true, false, List, [], ◌∷◌, ◌++◌, Option, Some, None, option_map, is_some, refl, sym, if◌then◌else◌}
 use Rattle.std.specs.Str.{bytes_eq}
-use denote.Ref.{Bor}
 use Rattle.mc_lex.specs.Tokens.{Tok}
 use Rattle.mc_lex.proofs.Texts.{same_text, text_itself}
 use Rattle.mc_grammar.specs.Words.{Lexeme, lexemes_of, retag, retagged, is_identifier_kind}
-use Rattle.mc_cursor.specs.Cursors.{has_name, marked, marked_all}
+use Rattle.mc_names.specs.Tables.{Named, last_place_of, later_or}
+use Rattle.mc_cursor.specs.Cursors.{Names, has_name, marked, marked_all}
+
+found : (last : Option ℕ) (here : Bool)
+    → is_some (later_or (option_map suc last) (if here then Some 0 else None)) ≡ (here || is_some last)
+found None true = refl
+found None false = refl
+found (Some i) true = refl
+found (Some i) false = refl
+
+-- a name that has a place is one of them
+pub has_place : (text : List ℕ) (names : Names) → is_some (last_place_of text names) ≡ has_name names text
+has_place text [] = refl
+has_place text (n ∷ names) =
+    rw (found (last_place_of text names) (bytes_eq n.name text), has_place text names) refl
+
+either_first : (p q r : Bool) → (p || (q || r)) ≡ (q || (p || r))
+either_first true true r = refl
+either_first true false r = refl
+either_first false q r = refl
+
+-- one more name
+pub one_more : (n : Named (Unit {0})) (names : Names) (text : List ℕ)
+    → has_name (names ++ n ∷ []) text ≡ (bytes_eq n.name text || has_name names text)
+one_more n [] text = refl
+one_more n (first ∷ names) text =
+    rw (one_more n names text) (either_first (bytes_eq first.name text) (bytes_eq n.name text) (has_name names text))
 
 both : (p q : Bool) → (p ≡ true → q ≡ true) → (q ≡ true → p ≡ true) → p ≡ q
 both true true f g = refl
@@ -27,28 +51,26 @@ either_way true true had x = refl
 either_way true false had x = refl
 either_way false named had x = refl
 
-retag_one : (old new : BTreeSet (Bor (List ℕ))) (name : List ℕ)
+retag_one : (old new : Names) (name : List ℕ)
     → ((q : List ℕ) → has_name new q ≡ (bytes_eq name q || has_name old q))
     → (x : Tok) → retagged name (marked old x) ≡ marked new x
 retag_one old new name e x =
     rw (e x.text, swapped name x.text)
     (either_way (is_identifier_kind x.kind) (bytes_eq x.text name) (has_name old x.text) x)
 
-pub retags : (old new : BTreeSet (Bor (List ℕ))) (name : List ℕ)
+pub retags : (old new : Names) (name : List ℕ)
     → ((q : List ℕ) → has_name new q ≡ (bytes_eq name q || has_name old q))
     → (ts : List Tok) → retag name (marked_all old ts) ≡ marked_all new ts
 unfolding retag marked_all
 retags old new name e [] = refl
 retags old new name e (x ∷ ts) = rw (retag_one old new name e x, retags old new name e ts) refl
 
-has_none : (kind had : Bool) → had ≡ false → (kind && had) ≡ false
-has_none true had e = e
-has_none false had e = refl
+not_marked : (kind : Bool) → (kind && false) ≡ false
+not_marked true = refl
+not_marked false = refl
 
 -- where no name is in force, no token is marked
-pub unmarked : (names : BTreeSet (Bor (List ℕ))) → IsEmpty names → (ts : List Tok) → marked_all names ts ≡ lexemes_of ts
+pub unmarked : (ts : List Tok) → marked_all [] ts ≡ lexemes_of ts
 unfolding marked_all
-unmarked names e [] = refl
-unmarked names e (x ∷ ts) =
-    let none : has_name names x.text ≡ false = rw e refl in
-    rw (has_none (is_identifier_kind x.kind) (has_name names x.text) none, unmarked names e ts) refl
+unmarked [] = refl
+unmarked (x ∷ ts) = rw (not_marked (is_identifier_kind x.kind), unmarked ts) refl

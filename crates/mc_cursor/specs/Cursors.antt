@@ -1,28 +1,32 @@
 -- What a cursor leaves to read: its tokens, with those marked that are names of typedefs in force.
 use Rattle.std.specs.Prelude.{◌≡◌, ℕ, Bool, ◌&&◌, List, [], ◌∷◌, map, Option, Some, None, Result, Ok, Err}
-use Rattle.std.specs.BTreeSet.{BTreeSet, contains_by}
-use Rattle.std.specs.Cmp.Lexicographic.{slice_cmp}
-use Rattle.std.specs.Ordering.{nat_cmp}
-use denote.Ref.{Bor}
+use Rattle.std.specs.List.{list_any}
+use Rattle.std.specs.Str.{bytes_eq}
 use Rattle.mc_lex.specs.declared.token.TokenKind.{TokenKind}
 use Rattle.mc_lex.specs.Tokens.{Tok, toks_of}
 use Rattle.mc_grammar.specs.Words.{Lexeme, is_identifier_kind}
+use Rattle.mc_names.specs.Tables.{Named}
 use Rattle.mc_cursor.specs.declared.cursor.Cursor.{Cursor}
 use Rattle.mc_cursor.specs.declared.fault.Fault.{Fault}
 use Rattle.mc_cursor.specs.declared.fault.Fault.TheVariants.{Syntax, OutOfMemory}
 
-abbrev pub has_name : BTreeSet (Bor (List ℕ)) → List ℕ → Bool
-has_name names text = contains_by (λ k. slice_cmp nat_cmp text k.now) names
+-- the names of typedefs in force
+abbrev pub Names : Type 0
+Names = List (Named (Unit {0}))
+
+-- whether this text is one of the names
+abbrev pub has_name : Names → List ℕ → Bool
+has_name names text = list_any (λ n. bytes_eq n.name text) names
 
 -- a token, where these are the names of typedefs in force
-abbrev pub marked : BTreeSet (Bor (List ℕ)) → Tok → Lexeme
+abbrev pub marked : Names → Tok → Lexeme
 marked names token =
     record {
       token = token;
       names_type = is_identifier_kind token.kind && has_name names token.text;
     }
 
-unfoldable pub marked_all : BTreeSet (Bor (List ℕ)) → List Tok → List Lexeme
+unfoldable pub marked_all : Names → List Tok → List Lexeme
 marked_all names tokens = map (marked names) tokens
 
 -- what is left to read

@@ -8,14 +8,14 @@ mod takes;
 
 pub use asks::{is_keyword, is_punctuator};
 use mc_lex::Token;
-use std::collections::BTreeSet;
+use mc_names::Table;
 pub use takes::{identifier, place};
 
 /// Tokens that are read from the front, and the names of the typedefs that are in force.
 #[derive(Drop)]
 pub struct Cursor<'t, 'a> {
     pub rest: &'t [Token<'a>],
-    pub names: BTreeSet<&'a [u8]>,
+    pub names: Table<'a, ()>,
     ghost short: { All IsShort rest.now },
     ghost few: { length rest.now < 2 ^ 31 },
 }

@@ -14,11 +14,24 @@ pub fn on_heap<T: Drop>(alloc: Global, one: T) -> Result<Box<T>, Fault>
     Ok(Box::new(alloc, one)?)
 }
 
+// Room for exactly one value, where there is none yet: most lists keep one value, and std's list
+// would begin with room for four.
+fn room_for_one<T: Drop>(all: &mut Vec<T>) -> Result<(), AllocError>
+    ensures { all.new.items ≡ all.old.items }
+{
+    if all.is_empty() {
+        all.reserve_exact(1)
+    } else {
+        Ok(())
+    }
+}
+
 /// Puts a value at the end.
 #[inline(never)]
 pub fn push<T: Drop>(all: &mut Vec<T>, one: T) -> Result<(), AllocError>
     ensures { IfOk result (λ _. all.new.items ≡ all.old.items ++ one ∷ []) }
 {
+    room_for_one(all)?;
     all.push(one)?;
     Ok(())
 }
@@ -28,6 +41,7 @@ pub fn push<T: Drop>(all: &mut Vec<T>, one: T) -> Result<(), AllocError>
 pub fn push_boxed<T: Drop>(all: &mut Vec<T>, one: Box<T>) -> Result<(), AllocError>
     ensures { IfOk result (λ _. all.new.items ≡ all.old.items ++ one.value ∷ []) }
 {
+    room_for_one(all)?;
     all.push(Box::into_inner(one))?;
     Ok(())
 }

@@ -100,7 +100,9 @@ fn plain_at(byte: u8, rest: &[u8]) -> Option<Quoted>
     }
 }
 
-/// The constant that goes on with these bytes after its `'`.
+/// The constant that goes on with these bytes after its `'`. It stays a call, since few tokens
+/// are constants and each asks whether it is one.
+#[inline(never)]
 fn quoted_at(bytes: &[u8]) -> Option<Quoted>
     requires { length bytes.now < 2 ^ 31 }
     ensures { result ≡ spec.quoted_at bytes.now }
@@ -118,6 +120,7 @@ fn quoted_at(bytes: &[u8]) -> Option<Quoted>
 }
 
 /// The character constant at the start.
+#[inline(always)]
 #[tactic(auto, unfolding(crate::specs::steps::Scanner::character_at))]
 fn character_at(bytes: &[u8]) -> Option<Quoted>
     requires { length bytes.now < 2 ^ 31 }

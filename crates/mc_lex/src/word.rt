@@ -3,7 +3,8 @@ ghost use Rattle.std.specs.Prelude.{◌≡◌, ◌≤◌, length};
 ghost use Rattle.std.specs.List.{prefix_len};
 ghost use Rattle.mc_lex.specs.Bytes.{is_word_byte};
 ghost use Rattle.mc_lex.specs.Words as words;
-ghost use Rattle.mc_lex.specs.Words.{one_of, keywords, outside_keywords, own_words, probe_names, reserved};
+ghost use Rattle.mc_lex.specs.Words.{one_of, keywords, outside_keywords, own_words};
+ghost use Rattle.mc_lex.specs.Words.{probe_names, reserved};
 ghost use Rattle.mc_lex.specs.steps.Scanner as spec;
 
 use crate::byte::{is_letter, is_word_byte};

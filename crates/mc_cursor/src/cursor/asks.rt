@@ -4,7 +4,7 @@ ghost use Rattle.mc_lex.specs.Tokens.{tok_of, toks_of};
 ghost use Rattle.mc_grammar.specs.Words as words;
 ghost use Rattle.mc_grammar.specs.Words.{lexeme_of};
 ghost use Rattle.mc_grammar.specs.steps.Next.{ended};
-ghost use Rattle.mc_cursor.specs.Cursors.{kind_next, left_of, marked};
+ghost use Rattle.mc_cursor.specs.Cursors.{has_name, kind_next, left_of, marked};
 
 use crate::cursor::Cursor;
 use mc_lex::{Token, TokenKind};
@@ -103,17 +103,25 @@ impl<'t, 'a> Cursor<'t, 'a> {
         }
     }
 
+    /// Whether a typedef in force has this name.
+    #[tactic(auto, using(crate::proofs::Names::has_place))]
+    fn has_typedef(&self, name: &[u8]) -> bool
+        ensures { result ≡ has_name self.now.names name.now }
+    {
+        self.names.place(name).is_some()
+    }
+
     /// Whether the token is the name of a typedef in force.
     fn is_type_name(&self, token: &Token<'a>) -> bool
         ensures { result ≡ words.is_type_name (marked self.now.names (tok_of token.now)) }
     {
-        is_identifier(token) && self.names.contains(&token.text)
+        is_identifier(token) && self.has_typedef(token.text)
     }
 
     fn is_name(&self, token: &Token<'a>) -> bool
         ensures { result ≡ words.is_name (marked self.now.names (tok_of token.now)) }
     {
-        is_identifier(token) && !self.names.contains(&token.text)
+        is_identifier(token) && !self.has_typedef(token.text)
     }
 
     fn begins_specifiers(&self, token: &Token<'a>) -> bool

@@ -11,17 +11,17 @@ ghost use Rattle.mc_cursor.specs.Cursors.{has_name, left_of};
 
 use crate::cursor::Cursor;
 use mc_lex::Token;
+use mc_names::Table;
 use mc_tree::{Declarator, Identifier};
 use std::alloc::{AllocError, Global};
-use std::collections::BTreeSet;
 
-/// Adds a name.
-fn add<'a>(names: &mut BTreeSet<&'a [u8]>, name: &'a [u8]) -> Result<(), AllocError>
+/// Adds a name. It needs no meaning: all that is asked is whether it is there.
+#[tactic(auto, using(crate::proofs::Names::one_more))]
+fn add<'a>(names: &mut Table<'a, ()>, name: &'a [u8]) -> Result<(), AllocError>
     ensures { OnOk result ((q : List ℕ)
         → has_name names.new q ≡ (bytes_eq name.now q || has_name names.old q)) }
 {
-    let _ = names.insert(name)?;
-    Ok(())
+    names.push(name, ())
 }
 
 /// The name that a declarator declares.
@@ -46,7 +46,7 @@ impl<'t, 'a> Cursor<'t, 'a> {
     {
         Cursor {
             rest: tokens,
-            names: BTreeSet::new(alloc),
+            names: Table::new(alloc),
         }
     }
 
