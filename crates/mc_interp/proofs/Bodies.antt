@@ -1,9 +1,9 @@
 -- What statements do, from what their parts did.
-use Rattle.std.proofs.Common.{◌≡◌, ℕ, suc, ℤ, Bool, true, false, List, [], ◌++◌, sym, subst, Option, Some, None, option_map}
+use Rattle.std.proofs.Common.{◌≡◌, ℕ, suc, ℤ, Bool, true, false, List, [], ◌++◌, refl, sym, subst, Option, Some, None, option_map}
 use Rattle.std.proofs.lemmas.Bool.{false≢true}
 use Rattle.mc_steps.specs.Runs.{State, Run, gives, after, spends}
 use Rattle.mc_steps.specs.Expressions.{where_true, as_does, choice_does, is_true}
-use Rattle.mc_steps.specs.Statements.{Flow, Completed, Seek, Running, For, do_does, is_absent, is_running, loop_does, sought, switch_does, turns, where_loop_goes_on, where_switch_ends}
+use Rattle.mc_steps.specs.Statements.{Flow, Completed, Broke, Continued, Left, Seek, Running, For, do_does, is_absent, is_running, loop_does, sought, switch_does, turns, where_loop_goes_on, where_switch_ends}
 use Rattle.mc_probe.specs.Flat.{Flat, Does, Runs, Activation}
 use Rattle.mc_probe.specs.Statements.{run, run_from}
 use Rattle.mc_probe.specs.Tree as tree
@@ -85,6 +85,22 @@ module _ {P : Type 0} (leads : List ℕ → P → P → Type 0) (stays : (p : P)
 
     pub did_items_end : (m : Store) (p q : P) → Did leads (item_of w u k s) None m p q → Did leads (run_from w (tree.statements u rest) k s) None m p q
     did_items_end m p q h = items_by None m p q (did_end leads stays joins (item_of w u k s) goes m p q h)
+
+  -- the items of a body that are one statement alone
+  module _ (w : Activation) (u : tree.Statement) (s : State Flat) (plain : label_of u ≡ None) where
+    pub did_lone : (result : Option (Flow ℕ)) (m : Store) (p q : P) → Did leads (run w u s) result m p q →
+        Did leads (run_from w (tree.statements u tree.no_statements) Running s) result m p q
+    did_lone None m p q h =
+        did_items_end w u tree.no_statements Running s m p q (did_item w u s Running None m p q plain refl h)
+    did_lone (Some Completed) m p q h =
+        did_items w u tree.no_statements Running s Running m m (Some Completed) p q q
+        (did_item w u s Running (Some Completed) m p q plain refl h) (did_gives leads stays joins Completed m q)
+    did_lone (Some Broke) m p q h =
+        did_items_out w u tree.no_statements Running s Broke m p q (did_item w u s Running (Some Broke) m p q plain refl h)
+    did_lone (Some Continued) m p q h =
+        did_items_out w u tree.no_statements Running s Continued m p q (did_item w u s Running (Some Continued) m p q plain refl h)
+    did_lone (Some (Left v)) m p q h =
+        did_items_out w u tree.no_statements Running s (Left v) m p q (did_item w u s Running (Some (Left v)) m p q plain refl h)
 
   -- a turn of a loop
   module _ (T : Does Bool) (B : Runs) (S : Does (Unit {0})) (s : State Flat) where

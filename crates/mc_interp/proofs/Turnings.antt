@@ -1,13 +1,15 @@
 -- The loops of the code: what is still to come of them.
-use Rattle.std.proofs.Common.{◌≡◌, ℕ, zero, suc, ◌+◌, ◌≤◌, ◌<◌, Bool, List, [], ◌∷◌, ◌++◌, length, get_or, drop, map, refl, sym, ap, subst, ◌∙◌, arith, Option, Some, None}
+use Rattle.std.proofs.Common.{◌≡◌, ℕ, zero, suc, ◌+◌, ◌≤◌, ◌<◌, Bool, false, List, [], ◌∷◌, ◌++◌, length, get_or, drop, map, refl, sym, ap, subst, ◌∙◌, arith, Option, Some, None, is_some}
+use Rattle.std.proofs.lemmas.Bool.{false≢true}
 use Rattle.std.proofs.lemmas.List.{at_drop_more, at_drop_all}
-use Rattle.mc_steps.specs.Statements.{Flow, Completed, Seek, loop_does, turns}
-use Rattle.mc_probe.specs.Erase.{erase_statements}
+use Rattle.mc_steps.specs.Statements.{Flow, Completed, Running, Seek, loop_does, turns}
+use Rattle.mc_probe.specs.Erase.{erase_statement, erase_statements}
 use Rattle.mc_probe.specs.Flat.{Does, Runs}
-use Rattle.mc_probe.specs.Statements.{run_from}
+use Rattle.mc_probe.specs.Statements.{run, run_from}
 use Rattle.mc_probe.specs.Tree as p
 use Rattle.mc_probe.specs.Views as view
-use Rattle.mc_probe.specs.WellFormed.{FitStatements}
+use Rattle.mc_probe.specs.WellFormed.{FitStatements, FitsStatement}
+use Rattle.mc_interp.specs.declared.flow.Label.{Label}
 use Rattle.mc_interp.specs.declared.flow.Seek as code_seek
 use Rattle.mc_interp.specs.declared.prepared.statements.Prepared.{Prepared}
 use Rattle.mc_interp.specs.declared.store.Store.{Store}
@@ -15,13 +17,17 @@ use Rattle.mc_interp.specs.declared.frame.Frame.{Frame}
 use Rattle.mc_interp.specs.Views as prepared
 use Rattle.mc_interp.specs.Stores.{limits_of, state_of, Did}
 use Rattle.mc_interp.specs.Frames.{activation_of, scope_in, IsReady, IsKept}
-use Rattle.mc_interp.specs.Bodies.{Next, Item, End, item_of, seek_of, turn_of, AreAnyStatements}
+use Rattle.mc_interp.specs.Bodies.{Next, Item, End, item_of, label_of, seek_of, turn_of, AreAnyStatements, IsAnyStatement}
 use Rattle.mc_interp.proofs.Runs.{did_gives}
 use Rattle.mc_interp.proofs.Kept.{kept_same, kept_then, ready_kept}
 use Rattle.mc_interp.proofs.Runnings.{AreRunning, IsTurning}
-use Rattle.mc_interp.proofs.Bodies.{did_items, did_items_end, did_items_out, did_turns, did_turns_end, did_turns_out}
+use Rattle.mc_interp.proofs.Bodies.{did_items, did_items_end, did_items_out, did_lone, did_turns, did_turns_end, did_turns_out}
 
 -- ---- the loops of the code
+
+no_label : (o : Option Label) → is_some o ≡ false → o ≡ None
+no_label None e = refl
+no_label (Some label) e = absurd (false≢true (sym e))
 
 not_less : {X : Type 0} (m n : ℕ) → m ≤ 0 → n + 1 ≤ m → X
 not_less m n a b = absurd (omega (arith, a, b))
@@ -31,6 +37,28 @@ drop_here {A} xs i x less is = at_drop_more (λ (l : List A). l) xs i x less ∙
 
 pub drop_end : {A : Type 0} (xs : List A) (i : ℕ) → length xs ≤ i → drop i xs ≡ []
 drop_end {A} xs i more = at_drop_all (λ (l : List A). l) xs i more
+
+pub only_one : {A : Type 0} (xs : List A) (x : A) → 1 ≤ length xs → length xs ≤ 1 → x ≡ get_or xs 0 x → xs ≡ x ∷ []
+only_one xs x some few is = drop_here xs 0 x (omega (arith, some)) is ∙ ap (λ l. x ∷ l) (drop_end xs 1 few)
+
+-- a body that is one item alone
+module _ (f : Frame) (all : List Prepared) (u : Prepared) (is : all ≡ u ∷ []) where
+  pub only_sound : AreAnyStatements (erase_statements (view.statements_from (map prepared.statement_of all))) (scope_in f) →
+      IsAnyStatement (erase_statement (prepared.statement_of u)) (scope_in f)
+  only_sound h = (subst (λ (l : List Prepared). AreAnyStatements (erase_statements (view.statements_from (map prepared.statement_of l))) (scope_in f)) is h).0
+
+  pub only_fits : FitStatements f.function.now.registers (view.statements_from (map prepared.statement_of all)) →
+      FitsStatement f.function.now.registers (prepared.statement_of u)
+  only_fits h = (subst (λ (l : List Prepared). FitStatements f.function.now.registers (view.statements_from (map prepared.statement_of l))) is h).0
+
+  module _ {P : Type 0} (leads : List ℕ → P → P → Type 0) (stays : (p : P) → leads [] p p)
+      (joins : (xs ys : List ℕ) (p q r : P) → leads xs p q → leads ys q r → leads (xs ++ ys) p r) where
+    pub only_ran : (old m : Store) (result : Option (Flow ℕ)) (p q : P) → is_some (label_of (prepared.statement_of u)) ≡ false →
+        Did leads (run (activation_of f) (prepared.statement_of u) (state_of old)) result m p q →
+        Did leads (run_from (activation_of f) (view.statements_from (map prepared.statement_of all)) Running (state_of old)) result m p q
+    only_ran old m result p q plain h =
+        subst (λ (l : List Prepared). Did leads (run_from (activation_of f) (view.statements_from (map prepared.statement_of l)) Running (state_of old)) result m p q) (sym is)
+        (did_lone leads stays joins (activation_of f) (prepared.statement_of u) (state_of old) (no_label (label_of (prepared.statement_of u)) plain) result m p q h)
 
 module _ {P : Type 0} (bits : P → ℕ) (leads : List ℕ → P → P → Type 0) (stays : (p : P) → leads [] p p)
     (joins : (xs ys : List ℕ) (p q r : P) → leads xs p q → leads ys q r → leads (xs ++ ys) p r) (f : Frame) where

@@ -1,5 +1,5 @@
 //! How the parts of a body end.
-ghost use Rattle.std.specs.Prelude.{◌≡◌};
+ghost use Rattle.std.specs.Prelude.{◌≡◌, is_some};
 ghost use Rattle.mc_interp.specs.Bodies as bodies;
 ghost use Rattle.mc_interp.specs.Views as prepared;
 ghost use Rattle.mc_steps.specs.Statements as steps;
@@ -53,6 +53,13 @@ pub(crate) fn label_of(tree: &Prepared<'_>) -> Option<Label>
         | Prepared::Continue { .. }
         | Prepared::Return { .. } => None,
     }
+}
+
+/// Whether an item is a label.
+pub(crate) fn is_label(tree: &Prepared<'_>) -> bool
+    ensures { result ≡ is_some (bodies.label_of (prepared.statement_of tree.now)) }
+{
+    label_of(tree).is_some()
 }
 
 /// Whether the items run.

@@ -1,7 +1,7 @@
 //! Statements (C17 6.8).
 ghost use Rattle.std.specs.Prelude.{◌+◌, ◌≤◌, map, option_map, IfSome};
 ghost use Rattle.mc_typed.specs.Sound.{IsTest};
-ghost use Rattle.mc_steps.specs.Statements.{loop_does};
+ghost use Rattle.mc_steps.specs.Statements.{loop_does, Running};
 ghost use Rattle.mc_probe.specs.Erase.{erase_effect, erase_expression, erase_statement, erase_statements};
 ghost use Rattle.mc_probe.specs.Statements as does;
 ghost use Rattle.mc_probe.specs.Views as view;
@@ -16,7 +16,7 @@ ghost use Rattle.mc_interp.specs.Keeps.{KeepsBits, KeepsLimits, KeepsRows};
 
 use crate::asked::tested;
 use crate::expressions::value;
-use crate::flow::{Next, Seek, is_running, label_of, next_after};
+use crate::flow::{Next, Seek, is_label, is_running, label_of, next_after};
 use crate::frame::{Called, Frame};
 use crate::labels::{at_label, sought, switch_ends};
 use crate::parts::{
@@ -152,12 +152,74 @@ fn statement<P: Probe, F: Fn(Called<'_, '_, '_>, &mut Store, &mut P) -> Option<(
     ensures limits { KeepsLimits store.old store.new }
 {
     match tree {
+        Prepared::Compound { items, .. } => block(items, frame, invoke, store, probe),
+        _ => simple(tree, frame, invoke, store, probe),
+    }
+}
+
+/// The items of a compound statement. One alone, as most have, needs no search for labels.
+#[cycle(statements)]
+#[inline(always)]
+fn block<P: Probe, F: Fn(Called<'_, '_, '_>, &mut Store, &mut P) -> Option<()> + Copy>(
+    trees: &[Prepared<'_>],
+    frame: &Frame<'_, '_, '_>,
+    invoke: F,
+    store: &mut Store,
+    probe: &mut P,
+) -> Option<Flow>
+    requires sound { AreAnyStatements (erase_statements (view.statements_from
+        (map prepared.statement_of trees.now))) (scope_in frame.now) }
+    requires fits { FitStatements frame.now.function.now.registers
+        (view.statements_from (map prepared.statement_of trees.now)) }
+    requires ready { IsReady frame.now store.old (P.bits probe.old) }
+    requires invokes { Invokes frame.now P.bits P.leads (F.pre invoke) (F.post invoke) }
+    ensures did { Did P.leads (does.run_from (activation_of frame.now)
+        (view.statements_from (map prepared.statement_of trees.now)) Running
+        (state_of store.old))
+        (option_map (λ flow. flow_of flow store.new) result) store.new probe.old probe.new }
+    ensures typed { IfSome result (λ flow. IsReturned (scope_in frame.now)
+        (activation_of frame.now) flow store.new.given) }
+    ensures kept { KeepsRows frame.now result store.old store.new }
+    ensures bits { KeepsBits P.bits probe.old probe.new }
+    ensures limits { KeepsLimits store.old store.new }
+{
+    if let [only] = trees {
+        if !is_label(only) {
+            return simple(only, frame, invoke, store, probe);
+        }
+    }
+    statements(trees, Seek::Running, frame, invoke, store, probe)
+}
+
+/// What a statement does, where expression statements alone run without a further call.
+#[cycle(statements)]
+#[inline(always)]
+fn simple<P: Probe, F: Fn(Called<'_, '_, '_>, &mut Store, &mut P) -> Option<()> + Copy>(
+    tree: &Prepared<'_>,
+    frame: &Frame<'_, '_, '_>,
+    invoke: F,
+    store: &mut Store,
+    probe: &mut P,
+) -> Option<Flow>
+    requires sound { IsAnyStatement (erase_statement (prepared.statement_of tree.now))
+        (scope_in frame.now) }
+    requires fits { FitsStatement frame.now.function.now.registers
+        (prepared.statement_of tree.now) }
+    requires ready { IsReady frame.now store.old (P.bits probe.old) }
+    requires invokes { Invokes frame.now P.bits P.leads (F.pre invoke) (F.post invoke) }
+    ensures did { Did P.leads (does.run (activation_of frame.now)
+        (prepared.statement_of tree.now) (state_of store.old))
+        (option_map (λ flow. flow_of flow store.new) result) store.new probe.old probe.new }
+    ensures typed { IfSome result (λ flow. IsReturned (scope_in frame.now)
+        (activation_of frame.now) flow store.new.given) }
+    ensures kept { KeepsRows frame.now result store.old store.new }
+    ensures bits { KeepsBits P.bits probe.old probe.new }
+    ensures limits { KeepsLimits store.old store.new }
+{
+    match tree {
         Prepared::Effect { step, bit, .. } => {
             counted(Some(*bit), frame, store, probe)?;
             effect_statement(step, frame, invoke, store, probe)
-        }
-        Prepared::Compound { items, .. } => {
-            statements(items, Seek::Running, frame, invoke, store, probe)
         }
         _ => other(tree, frame, invoke, store, probe),
     }

@@ -22,7 +22,7 @@ use Rattle.mc_interp.proofs.Erasings.{declarators_erase, return_erases, start_er
 use Rattle.mc_interp.proofs.Fronts.{did_effect, did_effect_end}
 use Rattle.mc_interp.proofs.Equations.{absent_fits, end_typed, label_fits, next_is, next_typed}
 use Rattle.mc_interp.proofs.Bodies.{did_if_else, did_if_end, did_if_then, did_do, did_do_out, did_item, did_label, did_passed, did_statement, did_statement_end, did_switch, did_switch_end, did_switch_stop, did_turn_body_end, did_turn_end, did_turn_on, did_turn_out, did_turn_over, did_turn_step_end}
-use Rattle.mc_interp.proofs.Turnings.{running_done, running_end, running_here, running_last, running_out, running_start, running_step, turning_end, turning_out, turning_start, turning_step}
+use Rattle.mc_interp.proofs.Turnings.{only_fits, only_one, only_ran, only_sound, running_done, running_end, running_here, running_last, running_out, running_start, running_step, turning_end, turning_out, turning_start, turning_step}
 use Rattle.mc_interp.proofs.statements.+statements.Goals as goal
 
 -- ---- items
@@ -97,47 +97,63 @@ other-returns-clause-kept g t c =
 
 -- ---- statements that run without a further call
 
-pub statement-returns-in_err-counted-in-Effect-clause-did : goal.statement-returns-in_err-counted-in-Effect-clause-did
-statement-returns-in_err-counted-in-Effect-clause-did g t c =
+pub simple-returns-in_err-counted-in-Effect-clause-did : goal.simple-returns-in_err-counted-in-Effect-clause-did
+simple-returns-in_err-counted-in-Effect-clause-did g t c =
     let M = g.P.Probe.leads in let N = g.met.P.Probe.stays in let J = g.met.P.Probe.joins in
     rw c.from_residual.ensures
     (did_effect_end M N J (activation_of c.args.frame.now) c.args.tree.now c.in-Effect.is (state_of c.args.store.now) c.counted.new.store c.args.probe.now c.counted.new.probe
     c.in_err-counted-in-Effect.ensures.did)
 
-pub statement-effect_statement-requires-clause-ready : goal.statement-effect_statement-requires-clause-ready
-statement-effect_statement-requires-clause-ready g t c =
+pub simple-effect_statement-requires-clause-ready : goal.simple-effect_statement-requires-clause-ready
+simple-effect_statement-requires-clause-ready g t c =
     ready_kept c.args.frame.now c.args.store.now c.counted.new.store _ _ c.requires.ready (c.counted.ensures.kept (scope_in c.args.frame.now) (activation_of c.args.frame.now)) c.counted.ensures.bits
 
-pub statement-returns-in_ok-counted-in-Effect-clause-did : goal.statement-returns-in_ok-counted-in-Effect-clause-did
-statement-returns-in_ok-counted-in-Effect-clause-did g t c =
+pub simple-returns-in_ok-counted-in-Effect-clause-did : goal.simple-returns-in_ok-counted-in-Effect-clause-did
+simple-returns-in_ok-counted-in-Effect-clause-did g t c =
     let M = g.P.Probe.leads in let N = g.met.P.Probe.stays in let J = g.met.P.Probe.joins in
     did_effect M N J (activation_of c.args.frame.now) c.args.tree.now c.in-Effect.is (state_of c.args.store.now) c.counted.new.store _ _ c.args.probe.now c.counted.new.probe _
     c.in_ok-counted-in-Effect.ensures.did c.effect_statement.ensures.did
 
-pub statement-returns-in_ok-counted-in-Effect-clause-kept : goal.statement-returns-in_ok-counted-in-Effect-clause-kept
-statement-returns-in_ok-counted-in-Effect-clause-kept g t c =
+pub simple-returns-in_ok-counted-in-Effect-clause-kept : goal.simple-returns-in_ok-counted-in-Effect-clause-kept
+simple-returns-in_ok-counted-in-Effect-clause-kept g t c =
     if_kept _ _ _ _ _ c.effect_statement.result (c.counted.ensures.kept (scope_in c.args.frame.now) (activation_of c.args.frame.now)) c.effect_statement.ensures.kept
 
-pub statement-returns-in_err-counted-in-Effect-clause-typed : goal.statement-returns-in_err-counted-in-Effect-clause-typed
-statement-returns-in_err-counted-in-Effect-clause-typed g t c = if_none _ _ c.from_residual.ensures
+pub simple-returns-in_err-counted-in-Effect-clause-typed : goal.simple-returns-in_err-counted-in-Effect-clause-typed
+simple-returns-in_err-counted-in-Effect-clause-typed g t c = if_none _ _ c.from_residual.ensures
 
-pub statement-returns-in_err-counted-in-Effect-clause-kept : goal.statement-returns-in_err-counted-in-Effect-clause-kept
-statement-returns-in_err-counted-in-Effect-clause-kept g t c = if_none _ _ c.from_residual.ensures
+pub simple-returns-in_err-counted-in-Effect-clause-kept : goal.simple-returns-in_err-counted-in-Effect-clause-kept
+simple-returns-in_err-counted-in-Effect-clause-kept g t c = if_none _ _ c.from_residual.ensures
 
-pub statement-returns-in_err-counted-in-Effect-clause-bits : goal.statement-returns-in_err-counted-in-Effect-clause-bits
-statement-returns-in_err-counted-in-Effect-clause-bits g t c = c.in_err-counted-in-Effect.ensures.bits
+pub simple-returns-in_err-counted-in-Effect-clause-bits : goal.simple-returns-in_err-counted-in-Effect-clause-bits
+simple-returns-in_err-counted-in-Effect-clause-bits g t c = c.in_err-counted-in-Effect.ensures.bits
 
-pub statement-returns-in_err-counted-in-Effect-clause-limits : goal.statement-returns-in_err-counted-in-Effect-clause-limits
-statement-returns-in_err-counted-in-Effect-clause-limits g t c = c.in_err-counted-in-Effect.ensures.limits
+pub simple-returns-in_err-counted-in-Effect-clause-limits : goal.simple-returns-in_err-counted-in-Effect-clause-limits
+simple-returns-in_err-counted-in-Effect-clause-limits g t c = c.in_err-counted-in-Effect.ensures.limits
 
-pub statement-returns-in_ok-counted-in-Effect-clause-typed : goal.statement-returns-in_ok-counted-in-Effect-clause-typed
-statement-returns-in_ok-counted-in-Effect-clause-typed g t c = c.effect_statement.ensures.typed
+pub simple-returns-in_ok-counted-in-Effect-clause-typed : goal.simple-returns-in_ok-counted-in-Effect-clause-typed
+simple-returns-in_ok-counted-in-Effect-clause-typed g t c = c.effect_statement.ensures.typed
 
-pub statement-returns-in_ok-counted-in-Effect-clause-bits : goal.statement-returns-in_ok-counted-in-Effect-clause-bits
-statement-returns-in_ok-counted-in-Effect-clause-bits g t c = c.effect_statement.ensures.bits ∙ c.in_ok-counted-in-Effect.ensures.bits
+pub simple-returns-in_ok-counted-in-Effect-clause-bits : goal.simple-returns-in_ok-counted-in-Effect-clause-bits
+simple-returns-in_ok-counted-in-Effect-clause-bits g t c = c.effect_statement.ensures.bits ∙ c.in_ok-counted-in-Effect.ensures.bits
 
-pub statement-returns-in_ok-counted-in-Effect-clause-limits : goal.statement-returns-in_ok-counted-in-Effect-clause-limits
-statement-returns-in_ok-counted-in-Effect-clause-limits g t c = c.effect_statement.ensures.limits ∙ c.in_ok-counted-in-Effect.ensures.limits
+pub simple-returns-in_ok-counted-in-Effect-clause-limits : goal.simple-returns-in_ok-counted-in-Effect-clause-limits
+simple-returns-in_ok-counted-in-Effect-clause-limits g t c = c.effect_statement.ensures.limits ∙ c.in_ok-counted-in-Effect.ensures.limits
+
+-- ---- the items of a compound statement
+
+pub block-simple-requires : goal.block-simple-requires
+block-simple-requires g t c κs h =
+    let one = only_one c.args.trees.now c.only-item.result (omega (arith, c.in-len1.len_at_least)) (omega (arith, c.in-len1.len_below)) c.only-item.is in
+    let sound = only_sound c.args.frame.now c.args.trees.now c.only-item.result one c.requires.sound in
+    let fits = only_fits c.args.frame.now c.args.trees.now c.only-item.result one c.requires.fits in
+    (search rules, (search rules, (search rules, (sound, (fits, (c.requires.ready, c.requires.invokes))))))
+
+pub block-returns-then-not-is_label-clause-did : goal.block-returns-then-not-is_label-clause-did
+block-returns-then-not-is_label-clause-did g t c =
+    let M = g.P.Probe.leads in let N = g.met.P.Probe.stays in let J = g.met.P.Probe.joins in
+    only_ran c.args.frame.now c.args.trees.now c.only-item.result
+    (only_one c.args.trees.now c.only-item.result (omega (arith, c.in-len1.len_at_least)) (omega (arith, c.in-len1.len_below)) c.only-item.is)
+    M N J c.args.store.now c.simple.new.store _ c.args.probe.now c.simple.new.probe (sym c.is_label.ensures ∙ c.if-not-is_label.true) c.simple.ensures.did
 
 -- ---- what the program's own parts need
 
