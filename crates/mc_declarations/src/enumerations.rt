@@ -44,6 +44,7 @@ fn enumeration_fault(scope: &Scope<'_>, tag: &Identifier<'_>) -> Option<Fault>
 }
 
 /// The list of an enumeration begins: its tag is in scope from here on. The fault of the tag.
+#[inline(never)]
 pub fn enter_enumeration<'a>(
     scope: &mut Scope<'a>,
     tag: &Option<Identifier<'a>>,
@@ -76,6 +77,7 @@ fn enumeration_type(alloc: Global, fault: Option<Fault>) -> Option<CType>
 
 /// An enumeration with its list, from the fault of its tag.
 #[tactic(auto, using(crate::proofs::DeclarationFaults::unless_least_of))]
+#[inline(never)]
 pub fn enumeration(alloc: Global, own: Option<Fault>, enumerators: Judged<i128>) -> Judged<CType>
     ensures { (s : scopes.Scope) → judged_of type_of result s
         ≡ squeezed_part (declarator_rules.enumeration_judged (listed own)

@@ -119,6 +119,7 @@ fn open_tag<'a>(scope: &mut Scope<'a>, tag: &Identifier<'a>) -> Result<Opened, A
 }
 
 /// The list of a structure begins. Its tag is in scope from here on (C17 6.2.1p7).
+#[inline(never)]
 pub fn open_structure<'a>(
     scope: &mut Scope<'a>,
     tag: &Option<Identifier<'a>>,

@@ -111,6 +111,7 @@ fn used_structure_tag(
 }
 
 /// A structure's tag without a list; `alone` says that it is a whole declaration.
+#[inline(never)]
 pub fn structure_tag<'a>(
     alloc: Global,
     scope: &mut Scope<'a>,
@@ -129,6 +130,7 @@ pub fn structure_tag<'a>(
 }
 
 /// An enumeration's tag without a list.
+#[inline(never)]
 pub fn enumeration_tag(
     alloc: Global,
     scope: &Scope<'_>,

@@ -71,6 +71,7 @@ fn type_named(scope: &Scope<'_>, meaning: &Meaning, at: u32) -> Result<Judged<CT
 }
 
 /// The type that a typedef name stands for (C17 6.7.8p3).
+#[inline(never)]
 pub fn typedef_name(scope: &Scope<'_>, name: &Identifier<'_>) -> Result<Judged<CType>, AllocError>
     ensures { IfOk result (λ r. judged_of type_of r (scope_of scope.now)
         ≡ declarator_rules.typedef_type (name_of name.now) (scope_of scope.now)

@@ -25,8 +25,8 @@ impl<'a> Accepted<'a> {
         Accepted { source, tree, map }
     }
 
-    /// Leaves its memory to the system: the process ends once its reply is written, and to let go of a
-    /// tree is to visit each of its nodes.
+    /// Leaves its memory to the system: the process ends once its reply is written, and to let go
+    /// of a tree is to visit each of its nodes.
     pub fn leak(self) {
         forget(self);
     }

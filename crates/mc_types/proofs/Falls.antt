@@ -154,6 +154,17 @@ pub to_later : (e x q y : Expression) (t : ℕ) → e ≡ x → q ≡ y
     → 4 * size-Expression e + 2 < t
 to_later e x q y t at is h d = omega (arith, ap size-Expression at, ap size-Expression is, h, d)
 
+-- the same from where names and constants are told apart
+pub from_operand : (e x q y : Expression) (t : ℕ) → e ≡ x → q ≡ y
+    → size-Expression x < size-Expression y → 4 * size-Expression q + 1 ≡ t
+    → 4 * size-Expression e + 1 < t
+from_operand e x q y t at is h d = omega (arith, ap size-Expression at, ap size-Expression is, h, d)
+
+pub from_first : (e x q y : Expression) (t : ℕ) → e ≡ x → q ≡ y
+    → size-Expression x < size-Expression y → 4 * size-Expression q + 1 ≡ t
+    → 4 * size-Expression e + 2 < t
+from_first e x q y t at is h d = omega (arith, ap size-Expression at, ap size-Expression is, h, d)
+
 pub from_later : (e : Expression) (t : ℕ) → 4 * size-Expression e + 2 ≡ t
     → 4 * size-Expression e + 1 < t
 from_later e t d = omega (arith, d)

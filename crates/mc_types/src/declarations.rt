@@ -50,6 +50,7 @@ fn optional_initializer<'a>(
 
 /// An object with automatic storage duration. `fault` is of its lengths, `base` the type of its
 /// specifiers, and `of` its own.
+#[inline(never)]
 fn local<'a>(
     alloc: Global,
     scope: &mut Scope<'a>,
@@ -76,6 +77,7 @@ fn local<'a>(
 }
 
 /// An object with static storage duration.
+#[inline(never)]
 fn stored<'a>(
     alloc: Global,
     scope: &mut Scope<'a>,
@@ -102,6 +104,7 @@ fn stored<'a>(
 }
 
 /// A typedef name (C17 6.7.8).
+#[inline(never)]
 fn typedef<'a>(
     alloc: Global,
     scope: &mut Scope<'a>,
@@ -153,6 +156,7 @@ fn object<'a>(
 }
 
 /// A function's declarator (C17 6.7.6.3), from what is found of its parameters.
+#[inline(never)]
 fn function<'a>(
     alloc: Global,
     scope: &mut Scope<'a>,

@@ -26,13 +26,14 @@ use mc_faults::Fault;
 use mc_scopes::found::{Found, Given, Judged};
 use mc_scopes::{CType, Members, ParameterKind, Scope};
 use mc_tree::{
-    ArrayLength, Declarator, Enumerator, Expression, Identifier, Member, Parameter, Specifier,
+    ArrayLength, BinaryOperator, Declarator, Enumerator, Expression, Identifier, Member, Parameter, Specifier,
 };
 use mc_typed::{Argument, Span};
 use std::alloc::{AllocError, Global};
 
-/// An expression (C17 6.5). Names and constants, which most nodes are, are told apart first: a
-/// function clears all its values as it begins, and the one for the others has many.
+/// An expression (C17 6.5). Names, constants, parentheses and operators with two operands, which
+/// most nodes are, are told apart first: a function clears all its values as it begins, and the one
+/// for the others has many.
 #[cycle(judge)]
 pub(crate) fn expression<'a>(
     alloc: Global,
@@ -51,8 +52,17 @@ pub(crate) fn expression<'a>(
             longs,
             span,
         } => Ok(mc_expressions::constant(*value, *decimal, *unsigned, *longs, *span)),
+        Expression::Parenthesized { inner, .. } => expression(alloc, scope, inner),
+        Expression::Binary {
+            operator,
+            left,
+            right,
+            span,
+        } => {
+            let first = expression(alloc, scope, left);
+            binary(alloc, scope, right, *operator, first, *span)
+        }
         Expression::Character { .. }
-        | Expression::Parenthesized { .. }
         | Expression::Call { .. }
         | Expression::Index { .. }
         | Expression::Member { .. }
@@ -60,7 +70,6 @@ pub(crate) fn expression<'a>(
         | Expression::PrefixStep { .. }
         | Expression::Unary { .. }
         | Expression::Cast { .. }
-        | Expression::Binary { .. }
         | Expression::Conditional { .. }
         | Expression::Assignment { .. }
         | Expression::Comma { .. } => any_expression(alloc, scope, tree),
@@ -143,9 +152,8 @@ fn any_expression<'a>(
             right,
             span,
         } => {
-            let left = expression(alloc, scope, left)?;
-            let right = expression(alloc, scope, right);
-            steps::binary(alloc, *operator, *span, left, right)
+            let first = expression(alloc, scope, left);
+            binary(alloc, scope, right, *operator, first, *span)
         }
         Expression::Conditional {
             test,
@@ -174,8 +182,36 @@ fn any_expression<'a>(
     }
 }
 
+/// The second operand of an operator with two, after the first (C17 6.5.5 to 6.5.14).
+#[cycle(judge)]
+#[inline(never)]
+fn binary<'a>(
+    alloc: Global,
+    scope: &mut Scope<'a>,
+    tree: &Expression<'a>,
+    operator: BinaryOperator,
+    first: Result<Found, AllocError>,
+    span: Span,
+) -> Result<Found, AllocError>
+    ensures { (a : source_tree.Expression) (start : scopes.Scope)
+        → IfOk first (λ y. found_of y (scope_of scope.old)
+        ≡ squeezed (judgement.judge a start))
+        → IfOk result (λ r. found_of r (scope_of scope.new)
+        ≡ squeezed (judgement.judge (source_tree.Binary operator a (expression_of tree.now) span)
+        start)) }
+{
+    match first {
+        Ok(first) => {
+            let second = expression(alloc, scope, tree);
+            steps::binary(alloc, operator, span, first, second)
+        }
+        Err(error) => Err(error),
+    }
+}
+
 /// The operand of a cast to this type (C17 6.5.4).
 #[cycle(judge)]
+#[inline(never)]
 fn cast<'a>(
     alloc: Global,
     scope: &mut Scope<'a>,
@@ -201,6 +237,7 @@ fn cast<'a>(
 
 /// The last operand of `?:`, after the first two (C17 6.5.15).
 #[cycle(judge)]
+#[inline(never)]
 fn conditional<'a>(
     alloc: Global,
     scope: &mut Scope<'a>,
@@ -230,6 +267,7 @@ fn conditional<'a>(
 
 /// A call (C17 6.5.2.2).
 #[cycle(judge)]
+#[inline(never)]
 fn call<'a>(
     alloc: Global,
     scope: &mut Scope<'a>,
@@ -359,6 +397,7 @@ fn specifier<'a>(
 
 /// Members, after those so far (C17 6.7.2.1): the first fault of these.
 #[cycle(judge)]
+#[inline(never)]
 fn members<'a>(
     alloc: Global,
     scope: &mut Scope<'a>,
@@ -475,6 +514,7 @@ pub(crate) fn prototype<'a>(
 
 /// Enumerators, counted from 0 (C17 6.7.2.2).
 #[cycle(judge)]
+#[inline(never)]
 fn enumerators<'a>(
     alloc: Global,
     scope: &mut Scope<'a>,

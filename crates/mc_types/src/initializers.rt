@@ -80,6 +80,7 @@ fn only<'t, 'a>(trees: &'t [Initializer<'a>]) -> Option<&'t Expression<'a>>
 }
 
 /// The list of an expression alone.
+#[inline(never)]
 fn only_expression<'a>(
     alloc: Global,
     scope: &mut Scope<'a>,
@@ -114,6 +115,7 @@ fn only_expression<'a>(
 
 /// A list as initializer that is not of an expression alone.
 #[cycle(initializers)]
+#[inline(never)]
 fn list<'a>(
     alloc: Global,
     scope: &mut Scope<'a>,

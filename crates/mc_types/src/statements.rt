@@ -222,6 +222,7 @@ fn block_item<'a>(
 // ---- statements without statements in them, and labels
 
 /// An expression statement (C17 6.8.3).
+#[inline(never)]
 fn expression_statement<'a>(
     alloc: Global,
     scope: &mut Scope<'a>,
@@ -240,6 +241,7 @@ fn expression_statement<'a>(
 }
 
 /// The label of a `case` with this value (C17 6.8.1).
+#[inline(never)]
 fn case_label<'a>(
     alloc: Global,
     scope: &mut Scope<'a>,
@@ -258,6 +260,7 @@ fn case_label<'a>(
 }
 
 /// A `return` statement (C17 6.8.6.4).
+#[inline(never)]
 fn return_statement<'a>(
     alloc: Global,
     scope: &mut Scope<'a>,
@@ -296,6 +299,7 @@ fn effect<'a>(
 }
 
 /// The clauses of a `for`.
+#[inline(never)]
 fn clauses<'a>(
     alloc: Global,
     scope: &mut Scope<'a>,
@@ -430,6 +434,7 @@ fn for_parts<'a>(
 }
 
 /// The parts of a `for` that starts at `at`, before its body, in a block of their own.
+#[inline(never)]
 fn for_heading<'a>(
     alloc: Global,
     scope: &mut Scope<'a>,

@@ -46,6 +46,7 @@ pub(crate) fn specifiers(
 }
 
 /// A structure with its list of members (C17 6.7.2.1).
+#[inline(never)]
 pub(crate) fn structure<'a>(
     alloc: Global,
     scope: &mut Scope<'a>,
@@ -74,6 +75,7 @@ pub(crate) fn structure<'a>(
 }
 
 /// The members of one declaration.
+#[inline(never)]
 pub(crate) fn member(
     of: Judged<CType>,
     fault: Result<Option<Fault>, AllocError>,
@@ -99,6 +101,7 @@ pub(crate) fn member(
 }
 
 /// A function's declarator, which declares no member.
+#[inline(never)]
 pub(crate) fn function_member<'a>(
     alloc: Global,
     scope: &Scope<'a>,
@@ -128,6 +131,7 @@ pub(crate) fn function_member<'a>(
 }
 
 /// An enumerator with a value of its own (C17 6.7.2.2); the value of the next one.
+#[inline(never)]
 pub(crate) fn valued_enumerator<'a>(
     scope: &mut Scope<'a>,
     name: &Identifier<'a>,

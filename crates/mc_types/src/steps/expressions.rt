@@ -26,6 +26,7 @@ use mc_typed::{Argument, Span};
 use std::alloc::{AllocError, Global};
 
 /// Arguments so far, and one more for its parameter where there is one.
+#[inline(never)]
 pub(crate) fn argument(
     alloc: Global,
     scope: &mut Scope<'_>,
@@ -58,6 +59,7 @@ pub(crate) fn argument(
 }
 
 /// A call with so many arguments (C17 6.5.2.2).
+#[inline(never)]
 pub(crate) fn call(
     alloc: Global,
     scope: &mut Scope<'_>,
@@ -93,6 +95,7 @@ pub(crate) fn call(
 }
 
 /// An element of an array (C17 6.5.2.1).
+#[inline(never)]
 pub(crate) fn index(
     alloc: Global,
     scope: &Scope<'_>,
@@ -116,6 +119,7 @@ pub(crate) fn index(
 }
 
 /// A member of a structure (C17 6.5.2.3).
+#[inline(never)]
 pub(crate) fn member(
     alloc: Global,
     scope: &Scope<'_>,
@@ -135,6 +139,7 @@ pub(crate) fn member(
 }
 
 /// `++` or `--` after its operand (C17 6.5.2.4).
+#[inline(never)]
 pub(crate) fn postfix_step(
     alloc: Global,
     operator: StepOperator,
@@ -153,6 +158,7 @@ pub(crate) fn postfix_step(
 }
 
 /// `++` or `--` before its operand (C17 6.5.3.1).
+#[inline(never)]
 pub(crate) fn prefix_step(
     alloc: Global,
     operator: StepOperator,
@@ -171,6 +177,7 @@ pub(crate) fn prefix_step(
 }
 
 /// An operator before its operand (C17 6.5.3.3).
+#[inline(never)]
 pub(crate) fn unary(
     alloc: Global,
     operator: UnaryOperator,
@@ -189,6 +196,7 @@ pub(crate) fn unary(
 }
 
 /// The comma operator, between its operands (C17 6.5.17).
+#[inline(never)]
 pub(crate) fn comma(
     span: Span,
     given: Result<Given<Vec<Argument>>, AllocError>,
@@ -206,6 +214,7 @@ pub(crate) fn comma(
 }
 
 /// A cast (C17 6.5.4).
+#[inline(never)]
 pub(crate) fn cast(
     alloc: Global,
     span: Span,
@@ -234,6 +243,7 @@ pub(crate) fn cast(
 }
 
 /// An operator with two operands (C17 6.5.5 to 6.5.14).
+#[inline(never)]
 pub(crate) fn binary(
     alloc: Global,
     operator: BinaryOperator,
@@ -257,6 +267,7 @@ pub(crate) fn binary(
 }
 
 /// `?:`, whose first two operands are these (C17 6.5.15).
+#[inline(never)]
 pub(crate) fn conditional(
     alloc: Global,
     span: Span,
@@ -282,6 +293,7 @@ pub(crate) fn conditional(
 }
 
 /// An assignment (C17 6.5.16).
+#[inline(never)]
 pub(crate) fn assignment(
     alloc: Global,
     scope: &Scope<'_>,

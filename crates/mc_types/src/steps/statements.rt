@@ -24,6 +24,7 @@ use mc_typed::{Effect, Expression, ForStart, Span, Statement};
 use std::alloc::{AllocError, Global};
 
 /// A compound statement (C17 6.8.2).
+#[inline(never)]
 pub(crate) fn compound(
     alloc: Global,
     span: Span,
@@ -45,6 +46,7 @@ pub(crate) fn compound(
 }
 
 /// `if` without `else` (C17 6.8.4.1).
+#[inline(never)]
 pub(crate) fn if_then(
     alloc: Global,
     span: Span,
@@ -77,6 +79,7 @@ pub(crate) struct Branch {
 }
 
 /// The parts of an `if` before `else` together.
+#[inline(never)]
 pub(crate) fn tested(
     test: Found,
     chosen: Result<Judged<Vec<Statement>>, AllocError>,
@@ -94,6 +97,7 @@ pub(crate) fn tested(
 }
 
 /// `if` with `else` (C17 6.8.4.1).
+#[inline(never)]
 pub(crate) fn if_else(
     alloc: Global,
     span: Span,
@@ -125,6 +129,7 @@ pub(crate) fn if_else(
 }
 
 /// `switch` (C17 6.8.4.2).
+#[inline(never)]
 pub(crate) fn switch_on(
     alloc: Global,
     span: Span,
@@ -153,6 +158,7 @@ pub(crate) fn switch_on(
 }
 
 /// `while` (C17 6.8.5.1).
+#[inline(never)]
 pub(crate) fn while_loop(
     alloc: Global,
     span: Span,
@@ -183,6 +189,7 @@ pub(crate) fn while_loop(
 }
 
 /// `do` (C17 6.8.5.2).
+#[inline(never)]
 pub(crate) fn do_loop(
     alloc: Global,
     span: Span,
@@ -222,6 +229,7 @@ pub(crate) struct ForBegun {
 }
 
 /// `for` (C17 6.8.5.3).
+#[inline(never)]
 pub(crate) fn for_loop(
     alloc: Global,
     scope: &mut Scope<'_>,
@@ -255,6 +263,7 @@ pub(crate) fn for_loop(
 }
 
 /// Statements, and those after them.
+#[inline(never)]
 pub(crate) fn followed(
     list: Judged<Vec<Statement>>,
     rest: Result<Judged<Vec<Statement>>, AllocError>,
@@ -274,6 +283,7 @@ pub(crate) fn followed(
 }
 
 /// Statements of a block, and those of the next item.
+#[inline(never)]
 pub(crate) fn with_item(
     list: Judged<Vec<Statement>>,
     one: Result<Judged<Vec<Statement>>, AllocError>,

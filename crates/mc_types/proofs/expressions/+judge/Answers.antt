@@ -24,7 +24,7 @@ use Rattle.mc_scopes.specs.steps.Squeezed.{squeezed_part}
 use Rattle.mc_declarations.proofs.DeclarationNodes.{lengths_end, parameters_end, specifiers_end}
 use Rattle.mc_types.proofs.Exits.{at_ok, found_as}
 use Rattle.mc_types.proofs.Trees.{array_length_of-Absent, array_length_of-Given, declarator_of-EmptyFunction, declarator_of-Function, declarator_of-VoidFunction, declarator_of-Object, enumerator_of-Bare, enumerator_of-Valued, expression_of-Assignment, expression_of-Binary, expression_of-Call, expression_of-Cast, expression_of-Character, expression_of-Constant, expression_of-Comma, expression_of-Conditional, expression_of-Index, expression_of-Member, expression_of-Name, expression_of-Parenthesized, expression_of-PostfixStep, expression_of-PrefixStep, expression_of-Unary, member_of-parts, specifier_of-Enumeration, specifier_of-EnumerationTag, specifier_of-Structure, specifier_of-StructureTag, specifier_of-TypedefName, specifier_of-Word}
-use Rattle.mc_types.proofs.Falls.{assignment_target, assignment_value, binary_left, binary_right, conditional_chosen, conditional_other, conditional_test, from_later, index_array, index_index, member_object, parenthesized_inner, postfix_operand, prefix_operand, to_any_expression, to_later, to_operand, unary_operand}
+use Rattle.mc_types.proofs.Falls.{assignment_target, assignment_value, binary_left, binary_right, conditional_chosen, conditional_other, conditional_test, from_first, from_later, from_operand, index_array, index_index, member_object, parenthesized_inner, postfix_operand, prefix_operand, to_any_expression, to_later, to_operand, unary_operand}
 use Rattle.mc_types.proofs.Arms.{copied_few, count_listed, none_before}
 use Rattle.mc_types.proofs.Declarators.{in_prototype, prototype_ends, in_enumeration, in_object_member, in_typed}
 use Rattle.mc_types.proofs.Turns.{last_turn, next_turn}
@@ -40,6 +40,22 @@ expression-returns-in-Constant t c =
     let w = c.in-Constant in
     rw (w.is, expression_of-Constant w.value w.decimal w.unsigned w.longs w.span)
     (c.constant.ensures (scope_of c.args.scope.now))
+
+pub expression-returns-in-Parenthesized : goal.expression-returns-in-Parenthesized
+expression-returns-in-Parenthesized t c =
+    let w = c.in-Parenthesized in
+    rw (w.is, expression_of-Parenthesized w.inner w.span) (rw c.deref.ensures at c.expression.ensures)
+
+pub expression-returns-in-Binary : goal.expression-returns-in-Binary
+expression-returns-in-Binary t c =
+    let w = c.in-Binary in
+    rw (w.is, expression_of-Binary w.operator w.left w.right w.span)
+    (rw c.deref-in-Binary-2.ensures at (c.binary.ensures (expression_of w.left.value) (scope_of c.args.scope.now) (rw c.deref-in-Binary.ensures at c.expression-first.ensures)))
+
+pub binary-returns-in-Ok : goal.binary-returns-in-Ok
+binary-returns-in-Ok t c =
+    λ a start h.
+    c.binary.ensures a (expression_of c.args.tree.now) start (scope_of c.args.scope.now) (scope_of c.expression-second.new.scope) (at_ok c.args.first c.in-Ok.first _ c.in-Ok.is h) c.expression-second.ensures
 
 pub any_expression-returns-in-Member : goal.any_expression-returns-in-Member
 any_expression-returns-in-Member t c =
@@ -71,11 +87,11 @@ any_expression-returns-in_ok-array-in-Index t c =
     rw (w.is, expression_of-Index w.array w.index w.span)
     (c.index.ensures (expression_of w.array.value) (expression_of w.index.value) (scope_of c.args.scope.now) (scope_of c.expression-in-Index.new.scope) (rw c.deref-in-Index.ensures at c.in_ok-array-in-Index.ensures) (rw c.deref-in-Index-2.ensures at c.expression-index.ensures))
 
-pub any_expression-returns-in_ok-left-in-Binary : goal.any_expression-returns-in_ok-left-in-Binary
-any_expression-returns-in_ok-left-in-Binary t c =
+pub any_expression-returns-in-Binary : goal.any_expression-returns-in-Binary
+any_expression-returns-in-Binary t c =
     let w = c.in-Binary in
     rw (w.is, expression_of-Binary w.operator w.left w.right w.span)
-    (c.binary.ensures (expression_of w.left.value) (expression_of w.right.value) (scope_of c.args.scope.now) (scope_of c.expression-in-Binary.new.scope) (scope_of c.expression-right.new.scope) (rw c.deref-in-Binary.ensures at c.in_ok-left-in-Binary.ensures) (rw c.deref-in-Binary-2.ensures at c.expression-right.ensures))
+    (rw c.deref-in-Binary-2.ensures at (c.binary.ensures (expression_of w.left.value) (scope_of c.args.scope.now) (rw c.deref-in-Binary.ensures at c.expression-first.ensures)))
 
 pub any_expression-returns-in_ok-target-in-Assignment : goal.any_expression-returns-in_ok-target-in-Assignment
 any_expression-returns-in_ok-target-in-Assignment t c =
@@ -365,6 +381,24 @@ prototype-returns-clause-scope t c =
 pub expression-any_expression-requires : goal.expression-any_expression-requires
 expression-any_expression-requires t c = (to_any_expression c.args.tree.now t c.decreases, tt)
 
+pub expression-expression-requires : goal.expression-expression-requires
+expression-expression-requires t c =
+    let w = c.in-Parenthesized in
+    (from_operand _ _ _ _ t c.deref.ensures w.is (parenthesized_inner w.inner w.span) c.decreases, tt)
+
+pub expression-expression-first-requires : goal.expression-expression-first-requires
+expression-expression-first-requires t c =
+    let w = c.in-Binary in
+    (from_operand _ _ _ _ t c.deref-in-Binary.ensures w.is (binary_left w.operator w.left w.right w.span) c.decreases, tt)
+
+pub expression-binary-requires : goal.expression-binary-requires
+expression-binary-requires t c =
+    let w = c.in-Binary in
+    (from_first _ _ _ _ t c.deref-in-Binary-2.ensures w.is (binary_right w.operator w.left w.right w.span) c.decreases, tt)
+
+pub binary-expression-second-requires : goal.binary-expression-second-requires
+binary-expression-second-requires t c = (from_later c.args.tree.now t c.decreases, tt)
+
 pub any_expression-expression-requires : goal.any_expression-expression-requires
 any_expression-expression-requires t c =
     let w = c.in-Parenthesized in
@@ -400,15 +434,15 @@ any_expression-expression-found-requires-in-Unary t c =
     let w = c.in-Unary in
     (to_operand _ _ _ _ t c.deref-in-Unary.ensures w.is (unary_operand w.operator w.operand w.span) c.decreases, tt)
 
-pub any_expression-expression-requires-in-Binary : goal.any_expression-expression-requires-in-Binary
-any_expression-expression-requires-in-Binary t c =
+pub any_expression-expression-first-requires : goal.any_expression-expression-first-requires
+any_expression-expression-first-requires t c =
     let w = c.in-Binary in
     (to_operand _ _ _ _ t c.deref-in-Binary.ensures w.is (binary_left w.operator w.left w.right w.span) c.decreases, tt)
 
-pub any_expression-expression-right-requires : goal.any_expression-expression-right-requires
-any_expression-expression-right-requires t c =
+pub any_expression-binary-requires : goal.any_expression-binary-requires
+any_expression-binary-requires t c =
     let w = c.in-Binary in
-    (to_operand _ _ _ _ t c.deref-in-Binary-2.ensures w.is (binary_right w.operator w.left w.right w.span) c.decreases, tt)
+    (to_later _ _ _ _ t c.deref-in-Binary-2.ensures w.is (binary_right w.operator w.left w.right w.span) c.decreases, tt)
 
 pub any_expression-expression-requires-in-Conditional : goal.any_expression-expression-requires-in-Conditional
 any_expression-expression-requires-in-Conditional t c =
