@@ -1,7 +1,5 @@
 -- Tests and one more record.
-use Rattle.std.proofs.Common.{◌≡◌, ◌∙◌, ◌≤◌, ◌+◌, ℕ, List, [], ◌∷◌, ◌++◌, length, Some, None, Bool, true, false, not, ◌&&◌, ◌||◌, nat_le, refl, sym, ap, arith, append_assoc, inl, inr, Vec}
-use Rattle.std.specs.declared.alloc.Global.{Global}
-use Rattle.std.specs.BTreeSet.{BTreeSet}
+use Rattle.std.proofs.Common.{◌≡◌, ◌∙◌, ◌≤◌, ◌+◌, ℕ, List, [], ◌∷◌, ◌++◌, length, Some, None, Bool, true, false, not, ◌&&◌, ◌||◌, nat_le, refl, sym, ap, arith, append_assoc, inl, inr}
 use Rattle.std.specs.List.{list_all, list_any}
 use Rattle.std.specs.Str.{bytes_eq}
 use Rattle.std.proofs.lemmas.Bool.{cases_Bool, false≢true}
@@ -11,7 +9,7 @@ use Rattle.std.proofs.lemmas.Slice.Eq.{bytes_eq-Decides}
 use Rattle.mc_typed.specs.Plans.{Plan, expected_outputs}
 use Rattle.mc_tests.specs.declared.fault.TestFault.TheVariants as fault
 use Rattle.mc_tests.specs.Lines.{Line}
-use Rattle.mc_tests.specs.Seen.{AreRead, has_name}
+use Rattle.mc_tests.specs.Seen.{AreRead, Names, has_name}
 use Rattle.mc_tests.specs.Tests.{are_distinct, before_test, before_tests, is_small, keeps_limits, names_of, test_of, tests_of, tests_fault}
 use Rattle.mc_tests.specs.steps.Adding.{both, extended, with_last}
 
@@ -113,12 +111,12 @@ fault_again row plans is = rw is refl
 fault_limit : (row : ℕ) (plans : List Plan) → are_distinct (names_of plans) ≡ true → keeps_limits plans ≡ false → tests_fault row plans ≡ Some (fault.Limit row)
 fault_limit row plans distinct is = rw (distinct, is) refl
 
-pub no_fault : (row : ℕ) (plans : List Plan) (names : BTreeSet (Vec ℕ Global)) → AreRead plans names → tests_fault row plans ≡ None
+pub no_fault : (row : ℕ) (plans : List Plan) (names : Names) → AreRead plans names → tests_fault row plans ≡ None
 no_fault row plans names read = rw (read.distinct, read.limits) refl
 
 -- ---- one test more
 
-module _ (done : List Plan) (names : BTreeSet (Vec ℕ Global)) (read : AreRead done names) (new : Plan) where
+module _ (done : List Plan) (names : Names) (read : AreRead done names) (new : Plan) where
   small_before : list_all is_small done ≡ true
   small_before = (and_parts (nat_le (length done) 4096) (list_all is_small done) read.limits).1
 
@@ -131,7 +129,7 @@ module _ (done : List Plan) (names : BTreeSet (Vec ℕ Global)) (read : AreRead 
   pub no_room_after : (row : ℕ) → has_name names new.name ≡ false → (nat_le (length done + 1) 4096 && is_small new) ≡ false → tests_fault row (done ++ new ∷ []) ≡ Some (fault.Limit row)
   no_room_after row is passed = fault_limit row (done ++ new ∷ []) (distinct_after ∙ ap not is) (limits_more done new small_before ∙ passed)
 
-  pub read_after : (added : BTreeSet (Vec ℕ Global)) → has_name names new.name ≡ false → (nat_le (length done + 1) 4096 && is_small new) ≡ true
+  pub read_after : (added : Names) → has_name names new.name ≡ false → (nat_le (length done + 1) 4096 && is_small new) ≡ true
       → ((q : List ℕ) → has_name added q ≡ (bytes_eq new.name q || has_name names q)) → AreRead (done ++ new ∷ []) added
   read_after added is kept grows = record {
     named = λ q. grows q ∙ ap (λ b. bytes_eq new.name q || b) (read.named q) ∙ or_swapped (bytes_eq new.name q) (list_any (λ n. bytes_eq n q) (names_of done))
@@ -142,7 +140,7 @@ module _ (done : List Plan) (names : BTreeSet (Vec ℕ Global)) (read : AreRead 
 
 -- ---- one record more in the last test
 
-module _ (done : List Plan) (p q : Plan) (names : BTreeSet (Vec ℕ Global)) (read : AreRead (done ++ p ∷ []) names) (same : q.name ≡ p.name) where
+module _ (done : List Plan) (p q : Plan) (names : Names) (read : AreRead (done ++ p ∷ []) names) (same : q.name ≡ p.name) where
   parts : (nat_le (length (done ++ p ∷ [])) 4096 ≡ true) × (list_all is_small (done ++ p ∷ []) ≡ true)
   parts = and_parts (nat_le (length (done ++ p ∷ [])) 4096) (list_all is_small (done ++ p ∷ [])) read.limits
 

@@ -1,10 +1,11 @@
 -- The functions that are numbered, from the last one back.
-use Rattle.std.proofs.Common.{◌≡◌, ◌∙◌, ◌<◌, ◌+◌, ◌-◌, ◌≤◌, ℕ, suc, List, [], ◌∷◌, ◌++◌, length, map, take, drop, get_or, Bool, true, false, Option, Some, option_map, if◌then◌else◌, refl, sym, ap, arith, append_assoc}
+use Rattle.std.proofs.Common.{◌≡◌, ◌∙◌, ◌<◌, ◌+◌, ◌-◌, ◌≤◌, ℕ, suc, List, [], ◌∷◌, ◌++◌, length, map, take, drop, get_or, Bool, true, false, Option, Some, None, option_map, if◌then◌else◌, refl, sym, ap, arith, append_assoc}
 use Rattle.std.proofs.lemmas.List.{append-nil, drop_all, drop_at, take_more, take_all}
 use Rattle.std.specs.Str.{bytes_eq}
 use Rattle.mc_typed.specs.declared.functions.Function.{Function}
 use Rattle.mc_typed.specs.Tree as t
 use Rattle.mc_typed.specs.Views.{function_of}
+use Rattle.mc_names.specs.Tables.{Named, last_of, later_or}
 use Rattle.mc_tests.specs.Lines.{function_named}
 
 -- the last of some elements, and those before it
@@ -13,6 +14,16 @@ last_apart xs d some =
     let less : length xs - 1 < length xs = omega arith in
     let next : (length xs - 1) + 1 ≡ length xs = omega arith in
     sym (take_more xs (length xs - 1) d less) ∙ ap (λ n. take n xs) next ∙ take_all (length xs) xs (omega arith)
+
+-- what the last entry of a name means after one more entry
+pub last_more : (q : List ℕ) (es : List (Named ℕ)) (e : Named ℕ) → last_of q (es ++ e ∷ []) ≡ (if bytes_eq e.name q then Some e.meaning else last_of q es)
+last_more q [] e = refl
+last_more q (other ∷ es) e = rw (last_more q es e) (by_test (bytes_eq e.name q) (last_of q es))
+  where
+    by_test : (same : Bool) (o : Option ℕ) → later_or (if same then Some e.meaning else o) (if bytes_eq other.name q then Some other.meaning else None)
+        ≡ (if same then Some e.meaning else later_or o (if bytes_eq other.name q then Some other.meaning else None))
+    by_test true o = refl
+    by_test false o = refl
 
 pub none_after : {X : Type 0} (xs : List X) → xs ++ drop (length xs) xs ≡ xs
 none_after xs = ap (λ ys. xs ++ ys) (drop_all (length xs) xs (omega arith)) ∙ append-nil xs

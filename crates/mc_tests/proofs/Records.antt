@@ -1,7 +1,5 @@
 -- One record after the other.
-use Rattle.std.proofs.Common.{◌≡◌, ◌≤◌, ◌+◌, ◌*◌, ℕ, List, [], ◌∷◌, ◌++◌, length, nat_le, ◌&&◌, Some, true, Ok, Err, refl, arith, inl, inr, Vec}
-use Rattle.std.specs.declared.alloc.Global.{Global}
-use Rattle.std.specs.BTreeSet.{BTreeSet}
+use Rattle.std.proofs.Common.{◌≡◌, ◌≤◌, ◌+◌, ◌*◌, ℕ, List, [], ◌∷◌, ◌++◌, length, nat_le, ◌&&◌, Some, true, Ok, Err, refl, arith, inl, inr}
 use Rattle.std.specs.List.{list_all}
 use Rattle.std.specs.Str.{bytes_eq}
 use Rattle.std.proofs.lemmas.Bool.{cases_Bool}
@@ -13,7 +11,7 @@ use Rattle.mc_tests.specs.declared.fault.TestFault.{TestFault}
 use Rattle.mc_tests.specs.Lines.{Line, line_of}
 use Rattle.mc_tests.specs.Tests.{before_tests, is_small, tests_of, tests_fault}
 use Rattle.mc_tests.specs.File.{records_from}
-use Rattle.mc_tests.specs.Seen.{AreRead}
+use Rattle.mc_tests.specs.Seen.{AreRead, Names}
 use Rattle.mc_tests.proofs.Adding.{and_parts, no_fault}
 
 module _ (functions : List Function) (fuel row : ℕ) (lines : List Line) (before after : List Fields) (fields : Fields) (is : before ≡ fields ∷ after) where
@@ -23,7 +21,7 @@ module _ (functions : List Function) (fuel row : ℕ) (lines : List Line) (befor
   pub tests_faulty : (line : Line) (f : TestFault) → line_of functions row fields ≡ Ok line → tests_fault row (tests_of fuel (lines ++ line ∷ [])) ≡ Some f → records_from functions fuel row lines before ≡ Err f
   tests_faulty line f said faulty = rw (is, said, faulty) refl
 
-  pub goes_on : (line : Line) (names : BTreeSet (Vec ℕ Global)) → line_of functions row fields ≡ Ok line → AreRead (tests_of fuel (lines ++ line ∷ [])) names
+  pub goes_on : (line : Line) (names : Names) → line_of functions row fields ≡ Ok line → AreRead (tests_of fuel (lines ++ line ∷ [])) names
       → records_from functions fuel row lines before ≡ records_from functions fuel (row + 1) (lines ++ line ∷ []) after
   goes_on line names said read = rw (is, said, no_fault row (tests_of fuel (lines ++ line ∷ [])) names read) refl
 
@@ -58,7 +56,7 @@ calls_few (p ∷ ps) small =
     let few : length p.calls ≤ 1024 = grind (arith, nat_tests) in
     omega (arith, calls_few ps here.1)
 
-pub few_lines : (fuel : ℕ) (lines : List Line) (names : BTreeSet (Vec ℕ Global)) → AreRead (tests_of fuel lines) names → length lines ≤ 4194304
+pub few_lines : (fuel : ℕ) (lines : List Line) (names : Names) → AreRead (tests_of fuel lines) names → length lines ≤ 4194304
 few_lines fuel lines names read =
     let ps = tests_of fuel lines in
     let kept = and_parts (nat_le (length ps) 4096) (list_all is_small ps) read.limits in

@@ -3,11 +3,12 @@ use Rattle.std.specs.Prelude.{◌≡◌, ℕ, Bool, true, List, [], ◌∷◌, �
 use Rattle.std.specs.List.{list_any}
 use Rattle.std.specs.Str.{bytes_eq}
 use Rattle.std.specs.declared.alloc.Global.{Global}
-use Rattle.std.specs.BTreeMap.{BTreeMap, get_by}
 use Rattle.std.specs.BTreeSet.{BTreeSet, contains_by}
 use Rattle.std.specs.Cmp.Lexicographic.{slice_cmp}
-use Rattle.std.specs.Ordering.{nat_cmp}
-use denote.Ref.{Bor}
+use Rattle.std.specs.Ordering.{nat_cmp, ordering_then}
+use Rattle.std.specs.declared.cmp.Ordering.{Ordering}
+use Rattle.mc_names.specs.Tables.{Named, last_of}
+use Rattle.mc_names.specs.Latest.{hash_of}
 use Rattle.mc_typed.specs.Plans.{Plan, expected_outputs, plan_call_of, plan_of}
 use Rattle.mc_typed.specs.declared.plans.TestPlan.{TestPlan}
 use Rattle.mc_typed.specs.Tree.{Function}
@@ -22,14 +23,10 @@ abbrev pub seen_line : Line → lines.Line
 seen_line line =
     record { name = line.name.now; call = plan_call_of line.call; inputs = line.inputs.items }
 
--- the number that a map has for a name
-abbrev pub number_named : BTreeMap (Bor (List ℕ)) ℕ → List ℕ → Option ℕ
-number_named numbers q = get_by (λ k. slice_cmp nat_cmp q k.now) numbers
-
 -- the numbers are those of the functions, by their names
-abbrev pub AreNumbers : BTreeMap (Bor (List ℕ)) ℕ → List Function → Type 0
+abbrev pub AreNumbers : List (Named ℕ) → List Function → Type 0
 AreNumbers numbers functions = (q : List ℕ)
-    → number_named numbers q ≡ option_map (λ found. found.0) (function_named q 0 functions)
+    → last_of q numbers ≡ option_map (λ found. found.0) (function_named q 0 functions)
 
 -- ---- tests that are being read
 
@@ -56,11 +53,19 @@ open_plans fuel (Some draft) = seen_draft fuel draft ∷ []
 abbrev pub plans_in : Tests → List Plan
 plans_in tests = seen_plans tests.done.items ++ open_plans tests.fuel tests.open
 
-abbrev pub has_name : BTreeSet (Vec ℕ Global) → List ℕ → Bool
-has_name names q = contains_by (λ k. slice_cmp nat_cmp q k.items) names
+-- names, each after its hash
+abbrev pub Names : Type 0
+Names = BTreeSet (ℕ × Vec ℕ Global)
+
+-- how a name compares to one of these
+abbrev pub name_cmp : List ℕ → ℕ × Vec ℕ Global → Ordering
+name_cmp q k = ordering_then (nat_cmp (hash_of q) k.0) (slice_cmp nat_cmp q k.1.items)
+
+abbrev pub has_name : Names → List ℕ → Bool
+has_name names q = contains_by (name_cmp q) names
 
 -- these are the names of the plans, no two of which have one name, and which keep the limits
-pub record AreRead (plans : List Plan) (names : BTreeSet (Vec ℕ Global)) : Type 0 where
+pub record AreRead (plans : List Plan) (names : Names) : Type 0 where
   pub named : (q : List ℕ) → has_name names q ≡ list_any (λ n. bytes_eq n q) (names_of plans)
   pub distinct : are_distinct (names_of plans) ≡ true
   pub limits : keeps_limits plans ≡ true

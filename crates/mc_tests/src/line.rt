@@ -3,17 +3,18 @@ ghost use Rattle.std.specs.Prelude.{◌≡◌, ◌≢◌, ◌<◌, Ok, Err, Some
 ghost use Rattle.mc_typed.specs.Views.{function_of};
 ghost use Rattle.mc_tests.specs.Lines.{called, function_named, line_of};
 ghost use Rattle.mc_fields.specs.Seen.{seen_numbers};
-ghost use Rattle.mc_tests.specs.Seen.{AreNumbers, number_named, seen_line};
+ghost use Rattle.mc_names.specs.Tables.{last_of};
+ghost use Rattle.mc_tests.specs.Seen.{AreNumbers, seen_line};
 ghost use Rattle.mc_tests.specs.declared.fault.TestFault.TheVariants.{OutOfMemory};
 
 use crate::fault::TestFault;
 use mc_fields::{
     Numbers, are_values, has_six_fields, is_callable, is_readable, may_expect, read_all_numbers,
 };
+use mc_names::Table;
 use mc_rows::Row;
 use mc_typed::{Call, Function};
 use std::alloc::Global;
-use std::collections::BTreeMap;
 
 /// One call of the test with that name, and the inputs that its record adds to those of the test.
 #[derive(Drop)]
@@ -24,8 +25,8 @@ pub(crate) struct Line<'r> {
 }
 
 // The number of the first function with a name.
-fn number_named(numbers: &BTreeMap<&[u8], u32>, name: &[u8]) -> Option<u32>
-    ensures { result ≡ number_named numbers.now name.now }
+fn number_named(numbers: &Table<'_, u32>, name: &[u8]) -> Option<u32>
+    ensures { result ≡ last_of name.now numbers.now }
 {
     numbers.get(name).copied()
 }
@@ -33,7 +34,7 @@ fn number_named(numbers: &BTreeMap<&[u8], u32>, name: &[u8]) -> Option<u32>
 // The first function with a name, and its number.
 fn find<'p, 'a>(
     functions: &'p [Function<'a>],
-    numbers: &BTreeMap<&[u8], u32>,
+    numbers: &Table<'_, u32>,
     name: &[u8],
 ) -> Option<(u32, &'p Function<'a>)>
     requires { AreNumbers numbers.now (map function_of functions.now) }
@@ -84,7 +85,7 @@ fn to_line<'r>(
 pub(crate) fn read_line<'r>(
     alloc: Global,
     functions: &[Function<'_>],
-    numbers: &BTreeMap<&[u8], u32>,
+    numbers: &Table<'_, u32>,
     row: u32,
     fields: &'r Row,
 ) -> Result<Line<'r>, TestFault>

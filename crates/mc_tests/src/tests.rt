@@ -1,5 +1,5 @@
 //! The tests that the records of a tests file make.
-ghost use Rattle.std.specs.Prelude.{◌≡◌, ◌≢◌, ◌++◌, ◌∷◌, ◌||◌, ◌&&◌, ◌+◌, ℕ, List, [], Some, IfOk, IfErr, OnOk, length, nat_le};
+ghost use Rattle.std.specs.Prelude.{◌≡◌, ◌≢◌, ◌++◌, ◌∷◌, ◌||◌, ◌&&◌, ◌+◌, ℕ, List, [], not, Some, IfOk, IfErr, OnOk, length, nat_le};
 ghost use Rattle.std.specs.Str.{bytes_eq};
 ghost use Rattle.mc_limits.specs.Limits.{most_tests};
 ghost use Rattle.mc_tests.specs.Seen.{AreRead, IsCounted, Stand, has_name, open_plans, plans_in, seen_draft, seen_line, seen_plans};
@@ -11,11 +11,15 @@ use crate::draft::{Draft, extend, fits_alone, has_room, start, to_plan};
 use crate::fault::TestFault;
 use crate::line::Line;
 use mc_limits::MOST_TESTS;
+use mc_names::hash;
 use mc_typed::TestPlan;
 use std::alloc::{AllocError, Global};
 use std::collections::BTreeSet;
 
 const MAX_TESTS: usize = MOST_TESTS as usize;
+
+/// The names of tests, each after its hash, so that the search compares numbers first.
+pub(crate) type Names = BTreeSet<(u64, Vec<u8>)>;
 
 /// The tests so far, the last of which is open: its next record may follow. The names are those of
 /// them all.
@@ -24,7 +28,7 @@ pub(crate) struct Tests {
     pub fuel: u32,
     pub done: Vec<TestPlan>,
     pub open: Option<Draft>,
-    pub names: BTreeSet<Vec<u8>>,
+    pub names: Names,
 }
 
 /// No tests. Takes no memory.
@@ -41,20 +45,14 @@ pub(crate) fn no_tests(alloc: Global, fuel: u32) -> Tests
     }
 }
 
-// Adds a name.
-fn add_name(alloc: Global, names: &mut BTreeSet<Vec<u8>>, name: &[u8]) -> Result<(), AllocError>
-    ensures { OnOk result ((q : List ℕ)
+// Adds a name, and tells whether it is a new one: one search does both.
+fn add_name(alloc: Global, names: &mut Names, name: &[u8]) -> Result<bool, AllocError>
+    ensures new { IfOk result (λ is_new. not is_new ≡ has_name names.old name.now) }
+    ensures names { OnOk result ((q : List ℕ)
         → has_name names.new q ≡ (bytes_eq name.now q || has_name names.old q)) }
 {
-    names.insert(name.to_vec(alloc)?)?;
-    Ok(())
-}
-
-// Whether a name is that of a test.
-fn has_name(names: &BTreeSet<Vec<u8>>, name: &[u8]) -> bool
-    ensures { result ≡ has_name names.now name.now }
-{
-    names.contains(name)
+    let is_new = names.insert((hash(name), name.to_vec(alloc)?))?;
+    Ok(is_new)
 }
 
 // Whether one test more, of this record alone, keeps the limits.
@@ -65,12 +63,13 @@ fn has_room_after(done: &[TestPlan], line: &Line<'_>) -> bool
     done.len() < MAX_TESTS && fits_alone(line)
 }
 
-// The tests with one of this record alone after them.
+// The tests with one of this record alone after them. Its name is added first, since a name that
+// comes again answers before a limit; a file that is refused loses its names.
 fn add_test(
     alloc: Global,
     fuel: u32,
     done: Vec<TestPlan>,
-    names: BTreeSet<Vec<u8>>,
+    names: Names,
     row: u32,
     line: Line<'_>,
 ) -> Result<Tests, TestFault>
@@ -82,14 +81,14 @@ fn add_test(
     ensures fault { IfErr result (λ e. e ≢ OutOfMemory → tests_fault row
         (seen_plans done.items ++ test_of fuel (seen_line line.entry) ∷ []) ≡ Some e) }
 {
-    if has_name(&names, line.name) {
+    let mut names = names;
+    let is_new = add_name(alloc, &mut names, line.name)?;
+    if !is_new {
         return Err(TestFault::NameAgain { row });
     }
     if !has_room_after(&done, &line) {
         return Err(TestFault::Limit { row });
     }
-    let mut names = names;
-    add_name(alloc, &mut names, line.name)?;
     let draft = start(alloc, line)?;
     Ok(Tests {
         fuel,
@@ -104,7 +103,7 @@ fn add_to_open(
     fuel: u32,
     done: Vec<TestPlan>,
     draft: Draft,
-    names: BTreeSet<Vec<u8>>,
+    names: Names,
     row: u32,
     line: Line<'_>,
 ) -> Result<Tests, TestFault>

@@ -294,7 +294,7 @@ impl<'a, P: PartReader<'a>> Grammar<P> {
         }
         tokens.take()?;
         let start = first.tree.span();
-        let mut all = ReadAll::new(self.alloc);
+        let mut all: ReadAll<'a> = ReadAll::new(self.alloc);
         all.push(first)?;
         self.expressions(&mut all, tokens)?;
         made_comma(self.alloc, start, all)

@@ -195,7 +195,7 @@ impl<'a, P: PartReader<'a>> Grammar<P> {
             (left_of tokens.old)) result (left_of tokens.new) }
         ensures height { IfOk result (λ r. r.height ≤ self.now.room) }
     {
-        let mut all = ReadAll::new(self.alloc);
+        let mut all: ReadAll<'a> = ReadAll::new(self.alloc);
         if !tokens.sees(b")") {
             self.expressions(&mut all, tokens)?;
         }

@@ -1,5 +1,0 @@
-use Rattle.std.proofs.lemmas.Map.Text.{is_eq-slice_cmp}
-use Rattle.mc_tests.proofs.functions.number.Goals as goal
-
-pub returns : goal.returns
-returns c = λ q. rw (is_eq-slice_cmp c.args.name.now q) at (c.in_ok-insert.ensures.updates.0 (record { ref_ptr = (0, 0); now = q }))
