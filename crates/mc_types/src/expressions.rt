@@ -26,7 +26,8 @@ use mc_faults::Fault;
 use mc_scopes::found::{Found, Given, Judged};
 use mc_scopes::{CType, Members, ParameterKind, Scope};
 use mc_tree::{
-    ArrayLength, BinaryOperator, Declarator, Enumerator, Expression, Identifier, Member, Parameter, Specifier,
+    ArrayLength, BinaryOperator, Declarator, Enumerator, Expression, Identifier, Member, Parameter,
+    Specifier,
 };
 use mc_typed::{Argument, Span};
 use std::alloc::{AllocError, Global};
