@@ -10,8 +10,8 @@ use Rattle.std.proofs.lemmas.Fmt.{decimal-digits_value}
 use Rattle.std.proofs.lemmas.Nat.{be_bytes_8}
 use Rattle.std.proofs.lemmas.Str.Parse.{IsNumeralModel, numerals_by_fold}
 use mir.Syntax.{w64}
-use Rattle.mc_rows.specs.Numbers.{is_digit, is_magnitude, magnitude_of, minus_number, number_after, number_of, plain_number}
-use Rattle.mc_wording.specs.Hexadecimal.{byte_text, hexadecimal, hexadecimal_digit}
+use Rattle.csv_records.specs.Numbers.{is_digit, is_magnitude, magnitude_of, minus_number, number_after, number_of, plain_number}
+use Rattle.report_words.specs.Hexadecimal.{byte_text, hexadecimal, hexadecimal_digit}
 use Rattle.mc_record.specs.Digits.{byte_in, byte_of, bytes_in, digit_of, word_in}
 use Rattle.mc_record.specs.Lines.{word_text}
 use Rattle.mc_record.specs.Parts.{strip, with_part}

@@ -7,8 +7,8 @@ use Rattle.std.proofs.lemmas.Bool.{cases_Bool}
 use Rattle.std.proofs.lemmas.Slice.Eq.{bytes_eq-Decides}
 use Rattle.mc_limits.specs.Limits.{most_tests, most_words}
 use Rattle.mc_core.specs.Shape.{word_count}
-use Rattle.mc_rows.specs.Numbers.{number_of}
-use Rattle.mc_wording.specs.Hexadecimal.{hexadecimal}
+use Rattle.csv_records.specs.Numbers.{number_of}
+use Rattle.report_words.specs.Hexadecimal.{hexadecimal}
 use Rattle.mc_record.specs.Digits.{bytes_in}
 use Rattle.mc_record.specs.Lines.{bits_line, header_line, newline, old_header_line, source_line, tests_line}
 use Rattle.mc_record.specs.Parts.{read_on, strip, until, with_part}

@@ -5,11 +5,11 @@ use Rattle.std.specs.List.{concat, list_any}
 use Rattle.std.specs.Str.{bytes_eq}
 use Rattle.std.proofs.lemmas.Bool.{cases_Bool}
 use Rattle.std.proofs.lemmas.List.{append-nil}
-use Rattle.mc_rows.specs.Names.{is_name}
+use Rattle.csv_records.specs.Names.{is_name}
 use Rattle.mc_typed.specs.declared.plans.TestState.{TestState}
-use Rattle.mc_wording.specs.Named.{state_named}
-use Rattle.mc_wording.specs.Words.{state_word}
-use Rattle.mc_wording.proofs.Naming.{named_have_words}
+use Rattle.report_words.specs.Named.{state_named}
+use Rattle.report_words.specs.Words.{state_word}
+use Rattle.report_words.proofs.Naming.{named_have_words}
 use Rattle.mc_record.specs.Lines.{newline, test_line, test_lines}
 use Rattle.mc_record.specs.Parts.{read_on, strip, until, with_part}
 use Rattle.mc_record.specs.Tests.{TestsRead, test_in, tests_in, with_test}

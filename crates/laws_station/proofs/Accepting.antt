@@ -11,14 +11,14 @@ use Rattle.mc_record.specs.Merged.{pair_fault}
 use Rattle.mc_oblige.specs.Obligations.{obligations_of}
 use Rattle.mc_justify.specs.Justifications.{justifications_of}
 use Rattle.mc_typed.specs.Plans.{Plan}
-use Rattle.mc_replies.specs.Files.{File, Holds}
-use Rattle.mc_replies.specs.Phases.{IsOne}
-use Rattle.mc_replies.specs.Reply.{Reply, refusal}
-use Rattle.mc_replies.specs.Status.{IsAnswer, number_of}
-use Rattle.mc_replies.specs.declared.status.Status.{Status}
-use Rattle.mc_replies.specs.declared.status.Status.TheVariants as status
-use Rattle.mc_replies.specs.declared.status.Status.TheVariants.{JustificationsRefused}
-use Rattle.mc_replies.proofs.Phases.{one_read}
+use Rattle.station_replies.specs.Files.{File, Holds}
+use Rattle.station_replies.specs.Phases.{IsOne}
+use Rattle.station_replies.specs.Reply.{Reply, refusal}
+use Rattle.station_replies.specs.Status.{IsAnswer, number_of}
+use Rattle.station_replies.specs.declared.status.Status.{Status}
+use Rattle.station_replies.specs.declared.status.Status.TheVariants as status
+use Rattle.station_replies.specs.declared.status.Status.TheVariants.{JustificationsRefused}
+use Rattle.station_replies.proofs.Phases.{one_read}
 use Rattle.mc_station.specs.Causes.{AsksReasons, Cause, FileIsRefused, IsOfText, MatrixIsRefusedAfter, MutantsAreRefusedAfter, PairIsRefused, RecordIs, RecordsAre, SourceIs, TestsAre, TestsOrRecordsAreRefusedAfter}
 use Rattle.mc_station.specs.Justified.{reasons_line}
 use Rattle.laws_station.specs.Laws.{AcceptedFilesEndWell, AcceptedFilesGiveTexts}

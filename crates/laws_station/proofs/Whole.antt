@@ -10,12 +10,12 @@ use Rattle.mc_port.specs.Store.{Files, Request, and_asked}
 use Rattle.mc_record.specs.Kept.{Kept}
 use Rattle.mc_record.proofs.Accepted.{record_is_kept}
 use Rattle.mc_oblige.specs.declared.justification.Justification.{Justification}
-use Rattle.mc_replies.specs.Files.{File, Holds, request_of, status_of}
-use Rattle.mc_replies.specs.Reply.{Reply}
-use Rattle.mc_replies.specs.declared.file.FileKind.{FileKind}
-use Rattle.mc_replies.specs.declared.file.FileKind.TheVariants as kind
-use Rattle.mc_replies.specs.declared.status.Status.{Status}
-use Rattle.mc_replies.specs.declared.status.Status.TheVariants as status
+use Rattle.station_replies.specs.Files.{File, Holds, request_of, status_of}
+use Rattle.station_replies.specs.Reply.{Reply}
+use Rattle.station_replies.specs.declared.file.FileKind.{FileKind}
+use Rattle.station_replies.specs.declared.file.FileKind.TheVariants as kind
+use Rattle.station_replies.specs.declared.status.Status.{Status}
+use Rattle.station_replies.specs.declared.status.Status.TheVariants as status
 use Rattle.mc_station.specs.Calls as calls
 use Rattle.mc_station.specs.Calls.{Leads, Requests}
 use Rattle.mc_station.specs.Causes.{SourceIs}

@@ -4,9 +4,9 @@ use Rattle.std.specs.Prelude.{◌≡◌, ◌≢◌, ◌⊎◌, ◌++◌, ℕ, Li
 use Rattle.mc_command.specs.Command as command
 use Rattle.mc_command.specs.Command.{Action, command_of}
 use Rattle.mc_port.specs.Store.{Request}
-use Rattle.mc_replies.specs.Reply.{Reply}
-use Rattle.mc_replies.specs.Status.{IsAnswer}
-use Rattle.mc_replies.specs.declared.status.Status.TheVariants.{TooLarge}
+use Rattle.station_replies.specs.Reply.{Reply}
+use Rattle.station_replies.specs.Status.{IsAnswer}
+use Rattle.station_replies.specs.declared.status.Status.TheVariants.{TooLarge}
 use Rattle.mc_station.specs.Calls.{Call, IsKnown, LeadsTo, Requests}
 use Rattle.mc_station.specs.Causes.{IsOfText, SourceIs}
 use Rattle.mc_station.specs.Laws.{and_all}

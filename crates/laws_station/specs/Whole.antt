@@ -12,7 +12,7 @@ use Rattle.mc_record.specs.Kept.{Kept}
 use Rattle.mc_record.specs.Merged.{pair_fault}
 use Rattle.mc_typed.specs.Plans.{Plan}
 use Rattle.mc_oblige.specs.declared.justification.Justification.{Justification}
-use Rattle.mc_replies.specs.Files.{Holds, request_of}
+use Rattle.station_replies.specs.Files.{Holds, request_of}
 use Rattle.mc_station.specs.Causes.{RecordIs, RecordsAre, SourceIs, TestsAre}
 use Rattle.mc_station.specs.Source.{Accepted, JudgesSource}
 use Rattle.mc_station.specs.Stages.{Allows, JudgesReasons, justified_by, reasons_named, record_and, source_named, tests_named}

@@ -5,16 +5,16 @@ use Rattle.mc_tree.specs.Tree.{Expression, Expressions, Initializer, Initializer
 use Rattle.mc_typed.specs.declared.operators.Operator.{Operator}
 use Rattle.mc_typed.specs.Tree.{Place, FunctionCall, Arguments, Argument, StructureValue, Effect, Declarator, Statements}
 use Rattle.mc_typed.specs.Tree as typed
-use Rattle.mc_roots.specs.declared.operators.FullOperator.{FullOperator}
-use Rattle.mc_roots.specs.declared.role.Role.{Role}
-use Rattle.mc_roots.specs.declared.role.Role.TheVariants.{Controlling, Inner, Plain}
-use Rattle.mc_roots.specs.Nodes.{Node, Constant, Not, Logic, Whole, Parts, no_parts, part, controlling, span_of}
-use Rattle.mc_roots.specs.Nodes as nodes
-use Rattle.mc_roots.specs.Roots.{Standing, standing, part_at, step, is_root, is_inner, IsAt}
-use Rattle.mc_roots.specs.Roots as roots
-use Rattle.mc_roots.specs.Conditions.{IsCondition}
-use Rattle.mc_roots.specs.Conditions as conditions
-use Rattle.mc_roots.proofs.Trees.{same_span}
+use Rattle.decide_rules.specs.declared.operators.FullOperator.{FullOperator}
+use Rattle.decide_rules.specs.declared.role.Role.{Role}
+use Rattle.decide_rules.specs.declared.role.Role.TheVariants.{Controlling, Inner, Plain}
+use Rattle.decide_rules.specs.Nodes.{Node, Constant, Not, Logic, Whole, Parts, no_parts, part, controlling, span_of}
+use Rattle.decide_rules.specs.Nodes as nodes
+use Rattle.decide_rules.specs.Roots.{Standing, standing, part_at, step, is_root, is_inner, IsAt}
+use Rattle.decide_rules.specs.Roots as roots
+use Rattle.decide_rules.specs.Conditions.{IsCondition}
+use Rattle.decide_rules.specs.Conditions as conditions
+use Rattle.decide_rules.proofs.Trees.{same_span}
 use Rattle.laws_types.specs.Source.{IsOneAt, IsNumberOf, IsOperandOf, IsPlaceOf, IsCallOf, AreArgumentsOf, IsArgumentOf, IsStructureOf, IsEffectOf}
 use Rattle.laws_types.specs.Source as of
 use Rattle.laws_types.specs.SourceUnits.{IsInitializerOf, AreInitializersOf, AreObjectsOf, AreDeclaredBy, AreClausesOf, ArePartOf, IsStartOf, IsTestOf, IsReturnOf, AreStatementsOf, AreItemsOf, AreFunctionsOf, joined}

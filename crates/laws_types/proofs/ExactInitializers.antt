@@ -6,18 +6,18 @@ use Rattle.mc_typed.specs.declared.expressions.Slot.{Slot}
 use Rattle.mc_typed.specs.Layout.{ObjectType}
 use Rattle.mc_typed.specs.Tree.{Declarator}
 use Rattle.mc_typed.specs.Tree as typed
-use Rattle.mc_faults.specs.declared.fault.Fault.{Fault}
-use Rattle.mc_faults.specs.Faults.{unless_faulty}
-use Rattle.mc_typing.specs.Types.{Base, Void, Integer, Tagged, CType, Structure, cells_of}
-use Rattle.mc_typing.specs.Scopes.{Automatic, Scope, next_slot, next_static, with_name, with_counted}
-use Rattle.mc_typing.specs.Scopes as scope
-use Rattle.mc_typing.specs.Values.{Judged, Value, number_in, structure_in, number_found}
-use Rattle.mc_typing.specs.Expressions.{convert_to}
-use Rattle.mc_typing.specs.Declarators.{declared_type}
-use Rattle.mc_typing.specs.Judgement.{typed_by, judge, judge_specifiers, judge_lengths}
-use Rattle.mc_typing.specs.Initializers.{Target, Missing, ScalarTarget, ArrayTarget, StructureTarget, target_of, Parts, parts_of, first_part, later_parts, scalar_value, item_value, item_count, only_item, list_value, zero_value, zero_judged, list_judged, braced_judged, only_expression, judge_initializer, judge_items}
-use Rattle.mc_typing.specs.Initializers as initializers
-use Rattle.mc_typing.specs.Declarations.{Storage, TypedefStorage, StaticStorage, AutomaticStorage, storage_of, count_listed, judge_optional_initializer, object_faults, layout_counted, declarator_value, static_value, object_judged, judge_init, judge_init_declarator, append, judge_init_declarators, is_tag_alone, judge_declaration}
+use Rattle.types_faults.specs.declared.fault.Fault.{Fault}
+use Rattle.types_faults.specs.Faults.{unless_faulty}
+use Rattle.types_rules.specs.Types.{Base, Void, Integer, Tagged, CType, Structure, cells_of}
+use Rattle.types_rules.specs.Scopes.{Automatic, Scope, next_slot, next_static, with_name, with_counted}
+use Rattle.types_rules.specs.Scopes as scope
+use Rattle.types_rules.specs.Values.{Judged, Value, number_in, structure_in, number_found}
+use Rattle.types_rules.specs.Expressions.{convert_to}
+use Rattle.types_rules.specs.Declarators.{declared_type}
+use Rattle.types_rules.specs.Judgement.{typed_by, judge, judge_specifiers, judge_lengths}
+use Rattle.types_rules.specs.Initializers.{Target, Missing, ScalarTarget, ArrayTarget, StructureTarget, target_of, Parts, parts_of, first_part, later_parts, scalar_value, item_value, item_count, only_item, list_value, zero_value, zero_judged, list_judged, braced_judged, only_expression, judge_initializer, judge_items}
+use Rattle.types_rules.specs.Initializers as initializers
+use Rattle.types_rules.specs.Declarations.{Storage, TypedefStorage, StaticStorage, AutomaticStorage, storage_of, count_listed, judge_optional_initializer, object_faults, layout_counted, declarator_value, static_value, object_judged, judge_init, judge_init_declarator, append, judge_init_declarators, is_tag_alone, judge_declaration}
 use Rattle.laws_types.specs.Exact.{IsTested, IsExactStructure, IsExactInitializer, AreExactInitializers, IsExactInitial, AreExactDeclarators}
 use Rattle.laws_types.proofs.ExactValues.{WhereSome, map_where, then_where, lift_where, IsExactValue, convert_exact, number_exact, number_found_exact, structure_exact, found_exact}
 

@@ -5,16 +5,16 @@ use Rattle.mc_tree.specs.Tree.{Name, Expression, Expressions, Statement, BlockIt
 use Rattle.mc_tree.specs.Tree as tree
 use Rattle.mc_typed.specs.Tree.{Declarator, Effect, Statements}
 use Rattle.mc_typed.specs.Tree as typed
-use Rattle.mc_typing.specs.Types.{Base, Void, Integer, Tagged, plain, Structure, cells_of, Signature}
-use Rattle.mc_typing.specs.Scopes.{Scope, block, prototype, body_scope, file_scope}
-use Rattle.mc_typing.specs.Values.{Judged, Value, Number, Stored, Borrowed, Returned, Done, Assigned, Designator, number_in, structure_in, number_found, effect_in, whole, lift2, lift3}
-use Rattle.mc_typing.specs.Constants.{constant_found}
-use Rattle.mc_typing.specs.Expressions.{convert_to, promote}
-use Rattle.mc_typing.specs.Judgement.{typed_by, judge, judge_specifiers, judge_parameters}
-use Rattle.mc_typing.specs.Declarations.{result_of, signature_listed, append, judge_declaration}
-use Rattle.mc_typing.specs.Statements.{Around, outermost, inside, in_loop, in_switch, closed, compound_scope, alone, only, followed, followed_judged, statement_found, keyword, declaration_judged, items_of, switch_scope, label_value, case_judged, default_judged, lift4, loop, loop_judged, return_value}
-use Rattle.mc_typing.specs.Bodies.{listed, judge_effect, judge_clauses, judge_part, judge_optional_part, judge_start, judge_test, no_start, no_step, span_of_declaration, judge_statement, judge_block}
-use Rattle.mc_typing.specs.Typing.{function_from, with_function, function_listed, judge_item, judge_unit, bodies_of, found_of, program_from}
+use Rattle.types_rules.specs.Types.{Base, Void, Integer, Tagged, plain, Structure, cells_of, Signature}
+use Rattle.types_rules.specs.Scopes.{Scope, block, prototype, body_scope, file_scope}
+use Rattle.types_rules.specs.Values.{Judged, Value, Number, Stored, Borrowed, Returned, Done, Assigned, Designator, number_in, structure_in, number_found, effect_in, whole, lift2, lift3}
+use Rattle.types_rules.specs.Constants.{constant_found}
+use Rattle.types_rules.specs.Expressions.{convert_to, promote}
+use Rattle.types_rules.specs.Judgement.{typed_by, judge, judge_specifiers, judge_parameters}
+use Rattle.types_rules.specs.Declarations.{result_of, signature_listed, append, judge_declaration}
+use Rattle.types_rules.specs.Statements.{Around, outermost, inside, in_loop, in_switch, closed, compound_scope, alone, only, followed, followed_judged, statement_found, keyword, declaration_judged, items_of, switch_scope, label_value, case_judged, default_judged, lift4, loop, loop_judged, return_value}
+use Rattle.types_rules.specs.Bodies.{listed, judge_effect, judge_clauses, judge_part, judge_optional_part, judge_start, judge_test, no_start, no_step, span_of_declaration, judge_statement, judge_block}
+use Rattle.types_rules.specs.Typing.{function_from, with_function, function_listed, judge_item, judge_unit, bodies_of, found_of, program_from}
 use Rattle.laws_types.specs.Exact.{IsTested, IsExactStructure, IsExactEffect, AreExactDeclarators, AreExactClauses, IsExactStart, IsExactTest, IsExactReturn, IsExactStatement, AreExactStatements, AreExactFunctions}
 use Rattle.laws_types.specs.Exact.{UnitsAreExact}
 use Rattle.laws_types.proofs.ExactValues.{WhereSome, map_where, then_where, lift_where, IsExactValue, convert_exact, promote_exact, number_exact, number_found_exact, structure_exact, discarded_exact, found_exact}

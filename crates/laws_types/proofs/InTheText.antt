@@ -19,10 +19,10 @@ use Rattle.mc_grammar.proofs.Ends.{expression_ends, stars_ends, specifiers_ends,
 use Rattle.mc_grammar.proofs.Extent.{declaration_stands}
 use Rattle.mc_typed.specs.Tree.{Effect, Statements}
 use Rattle.mc_typed.specs.Tree as typed
-use Rattle.mc_roots.specs.Nodes.{Node, Whole, Parts, no_parts, part, controlling, program}
-use Rattle.mc_roots.specs.Nodes as nodes
-use Rattle.mc_roots.specs.Laws.{StandsIn, StandIn}
-use Rattle.mc_roots.proofs.InOrder.{starts_are_in_order}
+use Rattle.decide_rules.specs.Nodes.{Node, Whole, Parts, no_parts, part, controlling, program}
+use Rattle.decide_rules.specs.Nodes as nodes
+use Rattle.decide_rules.specs.Laws.{StandsIn, StandIn}
+use Rattle.decide_rules.proofs.InOrder.{starts_are_in_order}
 use Rattle.laws_types.specs.Source as of
 use Rattle.laws_types.specs.SourceUnits.{IsInitializerOf, AreInitializersOf, AreObjectsOf, AreDeclaredBy, AreClausesOf, ArePartOf, IsStartOf, IsTestOf, IsReturnOf, AreStatementsOf, AreItemsOf, AreFunctionsOf, joined}
 use Rattle.laws_types.specs.SourceUnits as of_units

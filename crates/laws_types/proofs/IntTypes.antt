@@ -2,7 +2,7 @@
 use Rattle.std.proofs.Common.{◌≡◌, ℕ, ◌==◌, true, if◌then◌else◌, refl, ap, sym, ◌∙◌, arith}
 use Rattle.mc_value.specs.declared.int_type.IntType.{IntType}
 use Rattle.mc_value.specs.declared.int_type.IntType.TheVariants as the
-use Rattle.mc_typing.specs.Types.{order_of, same_integer}
+use Rattle.types_rules.specs.Types.{order_of, same_integer}
 
 -- the type at a place of the order
 abbrev of_order : ℕ → IntType

@@ -16,19 +16,19 @@ use Rattle.mc_value.specs.IntTypes.{in_range}
 use Rattle.mc_typed.specs.Layout as layout
 use Rattle.mc_typed.specs.Tree.{Place, Argument, Arguments, Effect}
 use Rattle.mc_typed.specs.Tree as typed
-use Rattle.mc_faults.specs.declared.fault.Fault.{Fault}
-use Rattle.mc_faults.specs.declared.fault.FaultKind.TheVariants.{Undeclared, Mismatch, NoBody}
-use Rattle.mc_faults.specs.Faults.{fault_if, unless_faulty}
-use Rattle.mc_typing.specs.Profile.{counted}
-use Rattle.mc_typing.specs.Types.{Base, Void, Integer, Tagged, CType, plain, Structure, Member, members_of, is_complete, ParameterKind, ByValue, ByArray, Signature, base_of_words, type_of_words_or, any_is_no_word, qualified, has, int}
-use Rattle.mc_typing.specs.Scopes.{Meaning, Automatic, Constant, Function, Typedef, Scope, meaning_of, function_number, is_input, is_output, next_slot, TagMeaning, StructureTag, EnumerationTag, tag_of}
-use Rattle.mc_typing.specs.Scopes as scope
-use Rattle.mc_typing.specs.Values.{Judged, Value, Number, Stored, Borrowed, Returned, Done, Assigned, Designator, Kind, IsVoid, IsAssignment, IsInteger, IsStructure, IsArray, IsFunction, kind_of_base, kind_of_object, kind_of, Found, kind_found, is_integer, is_array, is_discarded, fails, number_stored, number_in, structure_stored, structure_in, any_structure_in, number_found, value_effect, discarded_in, lift2, bare_start, discarded_faults, integer_faults}
-use Rattle.mc_typing.specs.Constants.{type_of_constant}
-use Rattle.mc_typing.specs.Expressions.{name_faults, is_object, value_of_name, literal, stored_element, element_of, index_value, index_faults, Selected, selected, member_faults, layouts_of, member_type, member_at, stored_member, member_of, typed_unary, unary_faults, cast_base, cast_faults_to, cast_faults, cast_value_to, cast_value, typed_binary, operands_faults, are_arms, arms_fail, conditional_faults, choice_of, arms_value, conditional_value, assignment_value, effect_on, convert_to, assign_effect, update_effect, assignment_found, step_operator, step_found, operator_after, operator_before}
-use Rattle.mc_typing.specs.Calls.{array_fits, argument_fits, argument_faults, stored_array, array_argument, argument_of, argument_value, argument_judged, parameters_of, argument_count, gives, callee_faults, output_of, returned, called, call_value}
-use Rattle.mc_typing.specs.Judgement.{judge, judge_arguments, judge_type, judge_specifier, judge_specifiers, judge_members, judge_enumerators, one_of}
-use Rattle.mc_typing.specs.Declarators.{used_type, typedef_type, structure_type, used_structure_tag, used_enumeration_tag, opened, enumeration_scope, enumeration_faults}
+use Rattle.types_faults.specs.declared.fault.Fault.{Fault}
+use Rattle.types_faults.specs.declared.fault.FaultKind.TheVariants.{Undeclared, Mismatch, NoBody}
+use Rattle.types_faults.specs.Faults.{fault_if, unless_faulty}
+use Rattle.types_rules.specs.Profile.{counted}
+use Rattle.types_rules.specs.Types.{Base, Void, Integer, Tagged, CType, plain, Structure, Member, members_of, is_complete, ParameterKind, ByValue, ByArray, Signature, base_of_words, type_of_words_or, any_is_no_word, qualified, has, int}
+use Rattle.types_rules.specs.Scopes.{Meaning, Automatic, Constant, Function, Typedef, Scope, meaning_of, function_number, is_input, is_output, next_slot, TagMeaning, StructureTag, EnumerationTag, tag_of}
+use Rattle.types_rules.specs.Scopes as scope
+use Rattle.types_rules.specs.Values.{Judged, Value, Number, Stored, Borrowed, Returned, Done, Assigned, Designator, Kind, IsVoid, IsAssignment, IsInteger, IsStructure, IsArray, IsFunction, kind_of_base, kind_of_object, kind_of, Found, kind_found, is_integer, is_array, is_discarded, fails, number_stored, number_in, structure_stored, structure_in, any_structure_in, number_found, value_effect, discarded_in, lift2, bare_start, discarded_faults, integer_faults}
+use Rattle.types_rules.specs.Constants.{type_of_constant}
+use Rattle.types_rules.specs.Expressions.{name_faults, is_object, value_of_name, literal, stored_element, element_of, index_value, index_faults, Selected, selected, member_faults, layouts_of, member_type, member_at, stored_member, member_of, typed_unary, unary_faults, cast_base, cast_faults_to, cast_faults, cast_value_to, cast_value, typed_binary, operands_faults, are_arms, arms_fail, conditional_faults, choice_of, arms_value, conditional_value, assignment_value, effect_on, convert_to, assign_effect, update_effect, assignment_found, step_operator, step_found, operator_after, operator_before}
+use Rattle.types_rules.specs.Calls.{array_fits, argument_fits, argument_faults, stored_array, array_argument, argument_of, argument_value, argument_judged, parameters_of, argument_count, gives, callee_faults, output_of, returned, called, call_value}
+use Rattle.types_rules.specs.Judgement.{judge, judge_arguments, judge_type, judge_specifier, judge_specifiers, judge_members, judge_enumerators, one_of}
+use Rattle.types_rules.specs.Declarators.{used_type, typedef_type, structure_type, used_structure_tag, used_enumeration_tag, opened, enumeration_scope, enumeration_faults}
 use Rattle.laws_types.proofs.ExactValues.{WhereSome, map_where, then_where, lift_where}
 use Rattle.laws_types.specs.Silence.{AreWords, HasOneMore, IsOneType, IsRead, AreRead, IsFree, ValuesHaveNoFault}
 

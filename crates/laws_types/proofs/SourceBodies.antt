@@ -14,22 +14,22 @@ use Rattle.mc_typed.specs.Constants.{constant_value}
 use Rattle.mc_typed.specs.Layout.{ObjectType}
 use Rattle.mc_typed.specs.Tree.{Declarator, Effect, Statements}
 use Rattle.mc_typed.specs.Tree as typed
-use Rattle.mc_faults.specs.declared.fault.Fault.{Fault}
-use Rattle.mc_faults.specs.Faults.{unless_faulty}
-use Rattle.mc_typing.specs.Types.{Base, Void, Integer, Tagged, CType, plain, Structure, cells_of, Signature, count, has}
-use Rattle.mc_typing.specs.Scopes.{Automatic, Labels, Scope, next_slot, next_static, with_name, with_counted, block, prototype, body_scope, file_scope}
-use Rattle.mc_typing.specs.Scopes as scope
-use Rattle.mc_typing.specs.Values.{Judged, Value, Number, Stored, Borrowed, Returned, Done, Assigned, Designator, number_in, structure_in, number_found, effect_in, whole, lift2, lift3}
-use Rattle.mc_typing.specs.Constants.{value_of_constant}
-use Rattle.mc_typing.specs.Expressions.{convert_to, promote}
-use Rattle.mc_typing.specs.Declarators.{declared_type}
-use Rattle.mc_typing.specs.Judgement.{typed_by, judge, judge_specifiers, judge_lengths, judge_parameters}
-use Rattle.mc_typing.specs.Initializers.{Target, Missing, ScalarTarget, ArrayTarget, StructureTarget, target_of, Parts, parts_of, first_part, later_parts, scalar_value, item_value, item_count, only_item, list_value, zero_value, zero_judged, list_judged, braced_judged, only_expression, judge_initializer, judge_items}
-use Rattle.mc_typing.specs.Initializers as initializers
-use Rattle.mc_typing.specs.Declarations.{Storage, TypedefStorage, StaticStorage, AutomaticStorage, storage_of, count_listed, judge_optional_initializer, object_faults, layout_counted, declarator_value, static_value, object_judged, judge_init_declarator, append, judge_init_declarators, is_tag_alone, judge_declaration, result_of, signature_listed}
-use Rattle.mc_typing.specs.Statements.{Around, outermost, inside, in_loop, in_switch, closed, compound_scope, alone, only, followed, statement_found, keyword, declaration_judged, items_of, switch_scope, label_value, case_judged, default_judged, lift4, loop, return_value}
-use Rattle.mc_typing.specs.Bodies.{listed, judge_effect, judge_clauses, judge_part, judge_optional_part, judge_start, judge_test, span_of_declaration, judge_statement, judge_block}
-use Rattle.mc_typing.specs.Typing.{function_from, with_function, judge_item, judge_unit, bodies_of, found_of, program_from}
+use Rattle.types_faults.specs.declared.fault.Fault.{Fault}
+use Rattle.types_faults.specs.Faults.{unless_faulty}
+use Rattle.types_rules.specs.Types.{Base, Void, Integer, Tagged, CType, plain, Structure, cells_of, Signature, count, has}
+use Rattle.types_rules.specs.Scopes.{Automatic, Labels, Scope, next_slot, next_static, with_name, with_counted, block, prototype, body_scope, file_scope}
+use Rattle.types_rules.specs.Scopes as scope
+use Rattle.types_rules.specs.Values.{Judged, Value, Number, Stored, Borrowed, Returned, Done, Assigned, Designator, number_in, structure_in, number_found, effect_in, whole, lift2, lift3}
+use Rattle.types_rules.specs.Constants.{value_of_constant}
+use Rattle.types_rules.specs.Expressions.{convert_to, promote}
+use Rattle.types_rules.specs.Declarators.{declared_type}
+use Rattle.types_rules.specs.Judgement.{typed_by, judge, judge_specifiers, judge_lengths, judge_parameters}
+use Rattle.types_rules.specs.Initializers.{Target, Missing, ScalarTarget, ArrayTarget, StructureTarget, target_of, Parts, parts_of, first_part, later_parts, scalar_value, item_value, item_count, only_item, list_value, zero_value, zero_judged, list_judged, braced_judged, only_expression, judge_initializer, judge_items}
+use Rattle.types_rules.specs.Initializers as initializers
+use Rattle.types_rules.specs.Declarations.{Storage, TypedefStorage, StaticStorage, AutomaticStorage, storage_of, count_listed, judge_optional_initializer, object_faults, layout_counted, declarator_value, static_value, object_judged, judge_init_declarator, append, judge_init_declarators, is_tag_alone, judge_declaration, result_of, signature_listed}
+use Rattle.types_rules.specs.Statements.{Around, outermost, inside, in_loop, in_switch, closed, compound_scope, alone, only, followed, statement_found, keyword, declaration_judged, items_of, switch_scope, label_value, case_judged, default_judged, lift4, loop, return_value}
+use Rattle.types_rules.specs.Bodies.{listed, judge_effect, judge_clauses, judge_part, judge_optional_part, judge_start, judge_test, span_of_declaration, judge_statement, judge_block}
+use Rattle.types_rules.specs.Typing.{function_from, with_function, judge_item, judge_unit, bodies_of, found_of, program_from}
 use Rattle.laws_types.specs.Source.{IsNumberOf, IsStructureOf, IsEffectOf}
 use Rattle.laws_types.specs.Source as of
 use Rattle.laws_types.specs.SourceUnits.{IsInitializerOf, AreInitializersOf, AreObjectsOf, AreDeclaredBy, AreClausesOf, ArePartOf, IsStartOf, IsTestOf, IsReturnOf, AreStatementsOf, AreItemsOf, AreFunctionsOf, ProgramsHaveTheirSource, keeps_apart, DeclarationsMakeObjects}

@@ -19,15 +19,15 @@ use Rattle.mc_typed.specs.Layout.{start}
 use Rattle.mc_typed.specs.Sound.{type_of}
 use Rattle.mc_typed.specs.Tree.{Place, StructureValue, Arguments, Effect}
 use Rattle.mc_typed.specs.Tree as typed
-use Rattle.mc_typing.specs.Profile.{counted}
-use Rattle.mc_typing.specs.Types.{Base, Void, Integer, Tagged, CType, plain, Structure, Member, members_of, cells_of, same_integer, is_complete, ParameterKind, ByValue, ByArray}
-use Rattle.mc_typing.specs.Scopes.{Meaning, Automatic, Constant, Function, Typedef, Scope, meaning_of, function_number, is_input, is_output, next_slot}
-use Rattle.mc_typing.specs.Scopes as scope
-use Rattle.mc_typing.specs.Values.{Value, Number, Stored, Borrowed, Returned, Done, Assigned, Designator, Kind, IsVoid, IsAssignment, IsInteger, IsStructure, IsArray, IsFunction, kind_of, Found, number_stored, number_in, structure_stored, structure_in, any_structure_in, number_found, value_effect, discarded_in, lift2}
-use Rattle.mc_typing.specs.Constants.{type_of_constant}
-use Rattle.mc_typing.specs.Expressions.{convert_to, promote, value_of_name, literal, stored_element, element_of, index_value, Selected, selected, member_type, layouts_of, member_at, stored_member, member_of, typed_unary, cast_base, cast_value_to, cast_value, typed_binary, choice_of, arms_value, conditional_value, assign_effect, update_of, update_effect, effect_on, assignment_value, update_found, assignment_found, step_found, operator_after, operator_before}
-use Rattle.mc_typing.specs.Calls.{array_fits, stored_array, array_argument, argument_of, argument_value, argument_judged, first_of, rest_of, no_more, parameters_of, output_of, returned, called, call_value}
-use Rattle.mc_typing.specs.Judgement.{judge, judge_arguments, judge_type}
+use Rattle.types_rules.specs.Profile.{counted}
+use Rattle.types_rules.specs.Types.{Base, Void, Integer, Tagged, CType, plain, Structure, Member, members_of, cells_of, same_integer, is_complete, ParameterKind, ByValue, ByArray}
+use Rattle.types_rules.specs.Scopes.{Meaning, Automatic, Constant, Function, Typedef, Scope, meaning_of, function_number, is_input, is_output, next_slot}
+use Rattle.types_rules.specs.Scopes as scope
+use Rattle.types_rules.specs.Values.{Value, Number, Stored, Borrowed, Returned, Done, Assigned, Designator, Kind, IsVoid, IsAssignment, IsInteger, IsStructure, IsArray, IsFunction, kind_of, Found, number_stored, number_in, structure_stored, structure_in, any_structure_in, number_found, value_effect, discarded_in, lift2}
+use Rattle.types_rules.specs.Constants.{type_of_constant}
+use Rattle.types_rules.specs.Expressions.{convert_to, promote, value_of_name, literal, stored_element, element_of, index_value, Selected, selected, member_type, layouts_of, member_at, stored_member, member_of, typed_unary, cast_base, cast_value_to, cast_value, typed_binary, choice_of, arms_value, conditional_value, assign_effect, update_of, update_effect, effect_on, assignment_value, update_found, assignment_found, step_found, operator_after, operator_before}
+use Rattle.types_rules.specs.Calls.{array_fits, stored_array, array_argument, argument_of, argument_value, argument_judged, first_of, rest_of, no_more, parameters_of, output_of, returned, called, call_value}
+use Rattle.types_rules.specs.Judgement.{judge, judge_arguments, judge_type}
 use Rattle.laws_types.specs.Source.{IsOneAt, IsNameOf, IsNumberOf, IsOperandOf, IsPlaceOf, IsCallOf, AreArgumentsOf, IsArgumentOf, IsStructureOf, IsEffectOf, last_two, first_two}
 use Rattle.laws_types.specs.Source as of
 use Rattle.laws_types.proofs.ExactValues.{WhereSome, map_where, then_where, lift_where}

@@ -1,15 +1,15 @@
 -- A part whose type is missing brings no fault.
 use Rattle.std.proofs.Common.{◌≡◌, refl, sym, subst, ℕ, Bool, true, false, not, ◌||◌, ◌++◌, List, [], ◌∷◌, Option, Some, None}
 use Rattle.mc_tree.specs.Tree.{Expression}
-use Rattle.mc_faults.specs.declared.fault.Fault.{Fault}
-use Rattle.mc_faults.specs.declared.fault.FaultKind.TheVariants.{Mismatch, Undeclared}
-use Rattle.mc_faults.specs.Faults.{fault_if}
-use Rattle.mc_typing.specs.Types.{Base, Void, Integer, Tagged, CType, ParameterKind}
-use Rattle.mc_typing.specs.Values.{Value, Kind, IsVoid, IsAssignment, IsInteger, IsStructure, IsArray, IsFunction, is_integer, is_array, is_structure, fails, kind_of}
-use Rattle.mc_typing.specs.Expressions.{is_arithmetic, cast_base, cast_faults_to, cast_faults, undeclared_member, is_arm, are_arms, arms_fail, is_assigned, is_const_value, target_fails, sides_fit, assign_faults, update_faults}
-use Rattle.mc_typing.specs.Calls.{argument_faults}
-use Rattle.mc_typing.specs.Initializers.{Target, Missing, ScalarTarget, ArrayTarget, StructureTarget, item_faults}
-use Rattle.mc_typing.specs.Statements.{is_compound, return_faults}
+use Rattle.types_faults.specs.declared.fault.Fault.{Fault}
+use Rattle.types_faults.specs.declared.fault.FaultKind.TheVariants.{Mismatch, Undeclared}
+use Rattle.types_faults.specs.Faults.{fault_if}
+use Rattle.types_rules.specs.Types.{Base, Void, Integer, Tagged, CType, ParameterKind}
+use Rattle.types_rules.specs.Values.{Value, Kind, IsVoid, IsAssignment, IsInteger, IsStructure, IsArray, IsFunction, is_integer, is_array, is_structure, fails, kind_of}
+use Rattle.types_rules.specs.Expressions.{is_arithmetic, cast_base, cast_faults_to, cast_faults, undeclared_member, is_arm, are_arms, arms_fail, is_assigned, is_const_value, target_fails, sides_fit, assign_faults, update_faults}
+use Rattle.types_rules.specs.Calls.{argument_faults}
+use Rattle.types_rules.specs.Initializers.{Target, Missing, ScalarTarget, ArrayTarget, StructureTarget, item_faults}
+use Rattle.types_rules.specs.Statements.{is_compound, return_faults}
 use Rattle.laws_types.specs.Silence.{MissingIsSpared}
 
 abbrev HasOne : List Fault → Type 0

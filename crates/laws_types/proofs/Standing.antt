@@ -5,10 +5,10 @@ use Rattle.mc_tree.specs.Tree.{Expression, Expressions, span_of}
 use Rattle.mc_typed.specs.declared.operators.Operator.{Operator}
 use Rattle.mc_typed.specs.Tree.{Place, FunctionCall, Arguments, Argument, StructureValue, Effect, Statements}
 use Rattle.mc_typed.specs.Tree as typed
-use Rattle.mc_roots.specs.declared.operators.FullOperator.{FullOperator}
-use Rattle.mc_roots.specs.Nodes.{Node, Constant, Not, Logic, Whole, Parts, no_parts, part, controlling}
-use Rattle.mc_roots.specs.Nodes as nodes
-use Rattle.mc_roots.specs.Laws.{IsBetween, IsExpression, StandsIn, StandIn}
+use Rattle.decide_rules.specs.declared.operators.FullOperator.{FullOperator}
+use Rattle.decide_rules.specs.Nodes.{Node, Constant, Not, Logic, Whole, Parts, no_parts, part, controlling}
+use Rattle.decide_rules.specs.Nodes as nodes
+use Rattle.decide_rules.specs.Laws.{IsBetween, IsExpression, StandsIn, StandIn}
 use Rattle.laws_types.specs.Source.{IsOneAt, IsNameOf, IsNumberOf, IsOperandOf, IsPlaceOf, IsCallOf, AreArgumentsOf, IsArgumentOf, IsStructureOf, IsEffectOf}
 use Rattle.laws_types.specs.Source as of
 use Rattle.laws_types.specs.SourceUnits.{AreClausesOf}

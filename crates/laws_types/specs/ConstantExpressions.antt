@@ -11,7 +11,7 @@ use Rattle.mc_tree.specs.declared.declarations.specifier_word.SpecifierWord.TheV
 use Rattle.mc_tree.specs.Tree.{Expression}
 use Rattle.mc_tree.specs.Tree as tree
 use Rattle.mc_value.specs.declared.int_type.IntType.TheVariants.{Int}
-use Rattle.mc_typing.specs.Judgement.{judge}
+use Rattle.types_rules.specs.Judgement.{judge}
 use Rattle.laws_types.specs.Written.{here, there, named, digit}
 use Rattle.laws_types.specs.Places.{around, the, element, member, call}
 

@@ -7,8 +7,8 @@ use Rattle.mc_tree.specs.Tree.{Specifiers}
 use Rattle.mc_tree.specs.Tree as tree
 use Rattle.mc_value.specs.declared.int_type.IntType.{IntType}
 use Rattle.mc_value.specs.declared.int_type.IntType.TheVariants as the
-use Rattle.mc_typing.specs.Types.{Base, Void, Integer, base_of_words}
-use Rattle.mc_typing.specs.Constants.{type_of_constant}
+use Rattle.types_rules.specs.Types.{Base, Void, Integer, base_of_words}
+use Rattle.types_rules.specs.Constants.{type_of_constant}
 use Rattle.laws_types.specs.Written.{here}
 
 -- ---- constants: a value, and the type of the constant with a suffix

@@ -13,8 +13,8 @@ use Rattle.mc_value.specs.declared.operators.UnOp.TheVariants.{Minus}
 use Rattle.mc_typed.specs.declared.operators.Operator.TheVariants.{Binary, Shift}
 use Rattle.mc_typed.specs.Tree.{Expression, Effect}
 use Rattle.mc_typed.specs.Tree as typed
-use Rattle.mc_typing.specs.Judgement.{judge}
-use Rattle.mc_typing.specs.Statements.{label_type}
+use Rattle.types_rules.specs.Judgement.{judge}
+use Rattle.types_rules.specs.Statements.{label_type}
 use Rattle.laws_types.specs.Written.{here, types, named, judged, done, scope, object, read, read_as}
 
 -- ---- the integer promotions: what int holds becomes int, the other types stay (C17 6.3.1.1p2)

@@ -4,10 +4,10 @@ use Rattle.mc_span.specs.declared.span.Span.{Span}
 use Rattle.mc_tree.specs.Tree.{Expression, Expressions, Initializer, Initializers, InitDeclarator, Declaration, ForStart, Statement, BlockItems, Item}
 use Rattle.mc_tree.specs.Tree as tree
 use Rattle.mc_typed.specs.Tree.{Program}
-use Rattle.mc_roots.specs.Nodes.{Node, span_of}
-use Rattle.mc_roots.specs.Roots.{Place, Found, IsRoot}
-use Rattle.mc_roots.specs.Conditions.{IsCondition}
-use Rattle.mc_typing.specs.Typing.{typing_of}
+use Rattle.decide_rules.specs.Nodes.{Node, span_of}
+use Rattle.decide_rules.specs.Roots.{Place, Found, IsRoot}
+use Rattle.decide_rules.specs.Conditions.{IsCondition}
+use Rattle.types_rules.specs.Typing.{typing_of}
 
 -- ---- what holds of the place of each expression of a source, parentheses left out
 

@@ -10,7 +10,7 @@ use Rattle.mc_typed.specs.declared.operators.Operator.TheVariants.{Binary, Shift
 use Rattle.mc_typed.specs.Sound.{type_of}
 use Rattle.mc_typed.specs.Tree.{Place, Expression, StructureValue, FunctionCall, Argument, Arguments, Effect, Initializer, Initializers, Declarator, ForStart, ReturnValue, Statement, Statements, Function, Program}
 use Rattle.mc_typed.specs.Tree as typed
-use Rattle.mc_typing.specs.Typing.{typing_of}
+use Rattle.types_rules.specs.Typing.{typing_of}
 
 -- ---- conversions
 

@@ -6,10 +6,10 @@ use Rattle.mc_lex.specs.Scans.{Scans}
 use Rattle.mc_tree.specs.Tree.{Item}
 use Rattle.mc_grammar.specs.Items.{IsTree}
 use Rattle.mc_typed.specs.Tree.{Program}
-use Rattle.mc_typing.specs.Typing.{typing_of}
-use Rattle.mc_roots.specs.Nodes.{program}
-use Rattle.mc_roots.specs.Decisions.{Decision, AreDecisions}
-use Rattle.mc_roots.specs.Laws.{StandsIn, AreInOrder}
+use Rattle.types_rules.specs.Typing.{typing_of}
+use Rattle.decide_rules.specs.Nodes.{program}
+use Rattle.decide_rules.specs.Decisions.{Decision, AreDecisions}
+use Rattle.decide_rules.specs.Laws.{StandsIn, AreInOrder}
 
 -- this is the typed program of a source
 pub record IsProgramOf (dialect : Dialect) (source : List ℕ) (p : Program) : Type 0 where

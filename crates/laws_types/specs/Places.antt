@@ -7,10 +7,10 @@ use Rattle.mc_value.specs.declared.int_type.IntType.TheVariants.{Char, Int, Long
 use Rattle.mc_typed.specs.declared.expressions.Slot.{Slot}
 use Rattle.mc_typed.specs.Layout as layout
 use Rattle.mc_typed.specs.Tree as typed
-use Rattle.mc_typing.specs.Types.{CType, Structure, Complete, Integer, Tagged, Void, int, plain, ByValue, ByArray}
-use Rattle.mc_typing.specs.Scopes.{Entry, Scope, Meaning, Automatic, Stored, Borrowed, Constant, Function}
-use Rattle.mc_typing.specs.Values.{number_found, effect_in}
-use Rattle.mc_typing.specs.Judgement.{judge}
+use Rattle.types_rules.specs.Types.{CType, Structure, Complete, Integer, Tagged, Void, int, plain, ByValue, ByArray}
+use Rattle.types_rules.specs.Scopes.{Entry, Scope, Meaning, Automatic, Stored, Borrowed, Constant, Function}
+use Rattle.types_rules.specs.Values.{number_found, effect_in}
+use Rattle.types_rules.specs.Judgement.{judge}
 use Rattle.laws_types.specs.Written.{here, there, scope, named, digit, read, read_as}
 
 -- ---- more names

@@ -3,15 +3,15 @@ use Rattle.std.specs.Prelude.{◌≡◌, ◌⊎◌, ℕ, Bool, false, List, [], 
 use Rattle.mc_tree.specs.declared.expressions.unary_operator.UnaryOperator.{UnaryOperator}
 use Rattle.mc_tree.specs.Tree.{Name, Expression, Expressions, Specifiers, Statement}
 use Rattle.mc_tree.specs.Tree as tree
-use Rattle.mc_faults.specs.declared.fault.Fault.{Fault}
-use Rattle.mc_typing.specs.Types.{Base, CType, Structure, ParameterKind, base_of_words}
-use Rattle.mc_typing.specs.Scopes.{Scope, is_input, is_output}
-use Rattle.mc_typing.specs.Values.{Value, Assigned, Kind, integer_faults, effect_faults, discarded_faults}
-use Rattle.mc_typing.specs.Expressions.{index_faults, member_faults, unary_faults, cast_faults, operands_faults, conditional_faults, assign_faults, update_faults}
-use Rattle.mc_typing.specs.Calls.{argument_faults}
-use Rattle.mc_typing.specs.Initializers.{Target, item_faults}
-use Rattle.mc_typing.specs.Statements.{switch_faults, return_faults}
-use Rattle.mc_typing.specs.Judgement.{judge}
+use Rattle.types_faults.specs.declared.fault.Fault.{Fault}
+use Rattle.types_rules.specs.Types.{Base, CType, Structure, ParameterKind, base_of_words}
+use Rattle.types_rules.specs.Scopes.{Scope, is_input, is_output}
+use Rattle.types_rules.specs.Values.{Value, Assigned, Kind, integer_faults, effect_faults, discarded_faults}
+use Rattle.types_rules.specs.Expressions.{index_faults, member_faults, unary_faults, cast_faults, operands_faults, conditional_faults, assign_faults, update_faults}
+use Rattle.types_rules.specs.Calls.{argument_faults}
+use Rattle.types_rules.specs.Initializers.{Target, item_faults}
+use Rattle.types_rules.specs.Statements.{switch_faults, return_faults}
+use Rattle.types_rules.specs.Judgement.{judge}
 
 -- ---- what uses a part without a type
 

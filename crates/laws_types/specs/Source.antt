@@ -27,7 +27,7 @@ use Rattle.mc_typed.specs.declared.operators.LogicOperator.TheVariants as logic
 use Rattle.mc_typed.specs.declared.expressions.Slot.{Slot}
 use Rattle.mc_typed.specs.Tree.{Place, FunctionCall, StructureValue, Argument, Arguments, Effect}
 use Rattle.mc_typed.specs.Tree as typed
-use Rattle.mc_typing.specs.Scopes.{is_input, is_output}
+use Rattle.types_rules.specs.Scopes.{is_input, is_output}
 
 -- ---- operators (C17 6.5.3.3, 6.5.5 to 6.5.14, 6.5.16.2)
 

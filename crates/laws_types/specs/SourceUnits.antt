@@ -11,9 +11,9 @@ use Rattle.mc_typed.specs.Constants.{constant_value}
 use Rattle.mc_typed.specs.Tree.{StructureValue, Effect, Declarator, Statement, Statements, Function, Program}
 use Rattle.mc_typed.specs.Tree as typed
 use Rattle.mc_grammar.specs.WordSets.{some_word}
-use Rattle.mc_typing.specs.Scopes.{Scope}
-use Rattle.mc_typing.specs.Declarations.{judge_declaration}
-use Rattle.mc_typing.specs.Typing.{typing_of}
+use Rattle.types_rules.specs.Scopes.{Scope}
+use Rattle.types_rules.specs.Declarations.{judge_declaration}
+use Rattle.types_rules.specs.Typing.{typing_of}
 use Rattle.laws_types.specs.Source.{IsNumberOf, IsOperandOf, IsStructureOf, IsEffectOf}
 
 -- ---- initializers (C17 6.7.9)

@@ -6,9 +6,9 @@ use Rattle.mc_tree.specs.declared.expressions.assignment_operator.AssignmentOper
 use Rattle.mc_tree.specs.Tree as tree
 use Rattle.mc_value.specs.declared.int_type.IntType.TheVariants.{Char, Int, Long}
 use Rattle.mc_typed.specs.Tree as typed
-use Rattle.mc_typing.specs.Types.{Integer}
-use Rattle.mc_typing.specs.Statements.{Around, alone}
-use Rattle.mc_typing.specs.Bodies.{judge_statement}
+use Rattle.types_rules.specs.Types.{Integer}
+use Rattle.types_rules.specs.Statements.{Around, alone}
+use Rattle.types_rules.specs.Bodies.{judge_statement}
 use Rattle.laws_types.specs.Written.{here, there, scope, named, digit, object, read, read_as}
 
 -- in a loop of a function that gives a long

@@ -5,8 +5,8 @@ use Rattle.mc_tree.specs.declared.declarations.specifier_word.SpecifierWord.TheV
 use Rattle.mc_tree.specs.Tree as tree
 use Rattle.mc_value.specs.declared.int_type.IntType.TheVariants.{Int, Long}
 use Rattle.mc_typed.specs.Tree as typed
-use Rattle.mc_typing.specs.Statements.{alone}
-use Rattle.mc_typing.specs.Bodies.{judge_statement}
+use Rattle.types_rules.specs.Statements.{alone}
+use Rattle.types_rules.specs.Bodies.{judge_statement}
 use Rattle.laws_types.specs.Written.{here, there, named, read}
 use Rattle.laws_types.specs.Places.{the, call, local}
 use Rattle.laws_types.specs.Places as places

@@ -8,10 +8,10 @@ use Rattle.mc_value.specs.declared.int_type.IntType.TheVariants as the
 use Rattle.mc_typed.specs.declared.expressions.Slot.{Slot}
 use Rattle.mc_typed.specs.Tree.{Place, Expression, Effect}
 use Rattle.mc_typed.specs.Tree as typed
-use Rattle.mc_typing.specs.Types.{Integer, plain}
-use Rattle.mc_typing.specs.Scopes.{Entry, Scope, Automatic, file_scope}
-use Rattle.mc_typing.specs.Values.{number_found, effect_in}
-use Rattle.mc_typing.specs.Judgement.{judge}
+use Rattle.types_rules.specs.Types.{Integer, plain}
+use Rattle.types_rules.specs.Scopes.{Entry, Scope, Automatic, file_scope}
+use Rattle.types_rules.specs.Values.{number_found, effect_in}
+use Rattle.types_rules.specs.Judgement.{judge}
 
 abbrev pub here : Span
 here = record { start = 10; end = 20 }

@@ -5,16 +5,16 @@ use Rattle.mc_span.specs.declared.span.Span.{Span}
 use Rattle.mc_tree.specs.Tree.{Expression, Expressions, TypeName, Specifier, Specifiers, StructMember, Members, Enumerator, Enumerators, Declarator, Declarators, ArrayLengths, Parameters, Parameter, ParameterList, Initializer, Initializers, InitDeclarator, Declaration, ForStart, Statement, BlockItems, Item}
 use Rattle.mc_tree.specs.Tree as t
 use Rattle.mc_tree.specs.declared.declarations.specifier_word.SpecifierWord.TheVariants as word
-use Rattle.mc_forms.specs.declared.context.Region.{Region}
-use Rattle.mc_forms.specs.declared.context.Region.TheVariants.{File, Function}
-use Rattle.mc_forms.specs.declared.context.Role.{Role}
-use Rattle.mc_forms.specs.declared.context.Role.TheVariants as role
-use Rattle.mc_forms.specs.declared.context.Standing.{Standing}
-use Rattle.mc_forms.specs.declared.context.Standing.TheVariants as standing
-use Rattle.mc_forms.specs.declared.form.Form.{Form}
-use Rattle.mc_forms.specs.declared.outside.Outside.{Outside}
-use Rattle.mc_forms.specs.Order.{or_else}
-use Rattle.mc_forms.specs.Contexts.{role_of_operands, role_in_parentheses, standing_of_items}
+use Rattle.subset_forms.specs.declared.context.Region.{Region}
+use Rattle.subset_forms.specs.declared.context.Region.TheVariants.{File, Function}
+use Rattle.subset_forms.specs.declared.context.Role.{Role}
+use Rattle.subset_forms.specs.declared.context.Role.TheVariants as role
+use Rattle.subset_forms.specs.declared.context.Standing.{Standing}
+use Rattle.subset_forms.specs.declared.context.Standing.TheVariants as standing
+use Rattle.subset_forms.specs.declared.form.Form.{Form}
+use Rattle.subset_forms.specs.declared.outside.Outside.{Outside}
+use Rattle.subset_forms.specs.Order.{or_else}
+use Rattle.subset_forms.specs.Contexts.{role_of_operands, role_in_parentheses, standing_of_items}
 use Rattle.mc_subset.specs.Nodes.{Node, an_expression, a_type_name, a_specifier, a_member, a_declarator, a_parameter_list, a_parameter, a_declaration, a_statement, is_extern, has_extern, is_local, nodes_of_expression, nodes_of_expressions, nodes_of_type, nodes_of_specifier, nodes_of_specifiers, nodes_of_member, nodes_of_members, nodes_of_enumerator, nodes_of_enumerators, nodes_of_declarator, nodes_of_declarators, nodes_of_lengths, nodes_of_parameters, nodes_of_parameter, nodes_of_parameter_list, nodes_of_initializer, nodes_of_initializers, nodes_of_init_declarator, nodes_of_init_declarators, nodes_of_declaration, nodes_of_optional, nodes_of_start, nodes_of_parts, standing_from, nodes_of_statement, nodes_of_block, nodes_of_item, nodes_of_unit}
 use Rattle.mc_subset.specs.Forms.{form_of, is_compound, is_const, has_const, place_of, outside_at, first_outside}
 use Rattle.mc_alike.specs.Moves.{Move}

@@ -5,12 +5,12 @@ use Rattle.mc_span.specs.declared.span.Span.{Span}
 use Rattle.mc_lex.specs.Tokens.{Tok}
 use Rattle.mc_typed.specs.declared.probes.Probe.{Probe}
 use Rattle.mc_typed.specs.declared.probes.Probe.TheVariants as probe
-use Rattle.mc_roots.specs.Nodes.{Node}
+use Rattle.decide_rules.specs.Nodes.{Node}
 use Rattle.mc_probe.specs.Maps.{Map}
 use Rattle.mc_probe.specs.Tree as p
 use Rattle.mc_probe.specs.Table.{Stand, operand, inner, wrap}
-use Rattle.mc_strip.specs.declared.piece.What.{What}
-use Rattle.mc_strip.specs.declared.piece.What.TheVariants as what
+use Rattle.reread_pieces.specs.declared.piece.What.{What}
+use Rattle.reread_pieces.specs.declared.piece.What.TheVariants as what
 use Rattle.mc_inserted.specs.Rows.{Row, row, row_of_probe, extent, rows}
 use Rattle.mc_inserted.specs.Fits.{Fits, AllFit, IsOperandAmong}
 use Rattle.mc_signed.proofs.Split.{probed_by, openings, endings, rows_probed}

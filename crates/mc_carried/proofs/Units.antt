@@ -8,7 +8,7 @@ use Rattle.mc_steps.specs.Points.{Points, no_points, all_complete}
 use Rattle.mc_probe.specs.Maps.{Map}
 use Rattle.mc_probe.specs.Tree as p
 use Rattle.mc_probe.specs.Table.{put_function, put_functions, instrumented}
-use Rattle.mc_strip.specs.declared.piece.What.TheVariants as what
+use Rattle.reread_pieces.specs.declared.piece.What.TheVariants as what
 use Rattle.mc_inserted.specs.Rows.{Row, exit_row, rows_in_function, rows_in_functions, rows_of}
 use Rattle.laws_types.specs.SourceUnits.{IsFunctionOf, AreFunctionsOf, ProgramsHaveTheirSource}
 use Rattle.laws_types.specs.SourceUnits as of

@@ -8,11 +8,11 @@ use Rattle.mc_value.specs.declared.int_type.IntType.TheVariants.{Int}
 use Rattle.mc_typed.specs.declared.probes.Probe.{Probe}
 use Rattle.mc_typed.specs.Tree.{Place, FunctionCall, Arguments, Argument, StructureValue, Effect}
 use Rattle.mc_typed.specs.Tree as typed
-use Rattle.mc_roots.specs.declared.role.Role.TheVariants.{Controlling, Plain}
-use Rattle.mc_roots.specs.Nodes as nodes
-use Rattle.mc_roots.specs.Nodes.{full_operator}
-use Rattle.mc_roots.specs.Conditions.{width}
-use Rattle.mc_roots.specs.Counts.{roots}
+use Rattle.decide_rules.specs.declared.role.Role.TheVariants.{Controlling, Plain}
+use Rattle.decide_rules.specs.Nodes as nodes
+use Rattle.decide_rules.specs.Nodes.{full_operator}
+use Rattle.decide_rules.specs.Conditions.{width}
+use Rattle.decide_rules.specs.Counts.{roots}
 use Rattle.mc_probe.specs.Maps.{Map}
 use Rattle.mc_probe.specs.Tree as p
 use Rattle.mc_probe.specs.Table.{Stand, Loose, role_of, under, beside, inner, put, put_place, put_call, put_structure, put_argument, put_arguments, put_effect}

@@ -11,8 +11,8 @@ use Rattle.mc_typed.specs.declared.operators.Operator.TheVariants.{Binary, Shift
 use Rattle.mc_typed.specs.Sound.{type_of, operator_type, HasOperands}
 use Rattle.mc_typed.specs.Tree.{Expression}
 use Rattle.mc_typed.specs.Tree as typed
-use Rattle.mc_roots.specs.declared.operators.FullOperator.{FullOperator}
-use Rattle.mc_roots.specs.Nodes.{is_flag, is_operand, bitwise, full_operator}
+use Rattle.decide_rules.specs.declared.operators.FullOperator.{FullOperator}
+use Rattle.decide_rules.specs.Nodes.{is_flag, is_operand, bitwise, full_operator}
 use Rattle.mc_put.specs.Conversions.{IsFlagged, AreFlagged}
 use Rattle.laws_types.specs.Exact.{own_type, IsWritten, IsNeeded, WorksIn, IsExact}
 

@@ -3,7 +3,7 @@ use Rattle.std.specs.Prelude.{◌≡◌, List, Some}
 use Rattle.mc_tree.specs.Tree.{Item}
 use Rattle.mc_typed.specs.Sound.{IsSound}
 use Rattle.mc_typed.specs.Tree.{Program}
-use Rattle.mc_typing.specs.Typing.{typing_of}
+use Rattle.types_rules.specs.Typing.{typing_of}
 use Rattle.mc_put.specs.Conversions.{ConversionsStand}
 
 -- They stand where C implies them.

@@ -2,15 +2,15 @@
 use Rattle.std.proofs.Common.{ℕ, ◌+◌, List, [], ◌∷◌, ◌++◌, Option, Some, None, arith}
 use Rattle.mc_typed.specs.Tree as t
 use Rattle.mc_cond.specs.Tree.{Tree}
-use Rattle.mc_roots.specs.declared.role.Role.{Role}
-use Rattle.mc_roots.specs.declared.role.Role.TheVariants.{Controlling, Plain}
-use Rattle.mc_roots.specs.Nodes.{Node}
-use Rattle.mc_roots.specs.Nodes as n
-use Rattle.mc_roots.specs.Counts.{roots, roots_in}
+use Rattle.decide_rules.specs.declared.role.Role.{Role}
+use Rattle.decide_rules.specs.declared.role.Role.TheVariants.{Controlling, Plain}
+use Rattle.decide_rules.specs.Nodes.{Node}
+use Rattle.decide_rules.specs.Nodes as n
+use Rattle.decide_rules.specs.Counts.{roots, roots_in}
 use Rattle.mc_meaning.proofs.Numbered.{trees, trees_in, StandsAt, stands_left}
 use Rattle.mc_probe.specs.Maps.{Map}
 use Rattle.mc_probe.specs.Table.{Loose, put_effect, put_effects, put_initializer, put_initializers, put_initial, put_declarators, put_start, put_optional, put_return}
-use Rattle.mc_soundness.specs.Plain.{IsPlainInitializer, ArePlainInitializers, IsPlainInitial, ArePlainDeclarators, IsPlainStart}
+use Rattle.laws_soundness.specs.Plain.{IsPlainInitializer, ArePlainInitializers, IsPlainInitial, ArePlainDeclarators, IsPlainStart}
 use Rattle.mc_put.specs.Ends.{EndEffect, EndEffects, EndInitializer, EndInitializers, EndInitial, EndDeclarators, EndStart, EndTest, EndValue}
 use Rattle.mc_counted.proofs.Ranges.{Pos, on, join, three}
 use Rattle.mc_counted.proofs.Reach.{all, past_part}

@@ -10,19 +10,19 @@ use Rattle.mc_typed.specs.declared.probes.Probe.TheVariants as probe
 use Rattle.mc_typed.specs.Tree as t
 use Rattle.mc_cond.specs.Tree.{Tree}
 use Rattle.mc_paths.specs.Paths.{count_of, increments}
-use Rattle.mc_roots.specs.declared.operators.FullOperator.{FullOperator}
-use Rattle.mc_roots.specs.declared.operators.FullOperator.TheVariants as full
-use Rattle.mc_roots.specs.declared.operators.Junction.TheVariants.{Short, Full}
-use Rattle.mc_roots.specs.Nodes.{bitwise, full_operator, is_operand}
-use Rattle.mc_roots.specs.Nodes as n
-use Rattle.mc_roots.specs.Conditions.{width, tree_from}
-use Rattle.mc_roots.specs.Conditions as conditions
-use Rattle.mc_roots.specs.Counts.{roots}
-use Rattle.mc_roots.proofs.Trees.{numbered_from}
+use Rattle.decide_rules.specs.declared.operators.FullOperator.{FullOperator}
+use Rattle.decide_rules.specs.declared.operators.FullOperator.TheVariants as full
+use Rattle.decide_rules.specs.declared.operators.Junction.TheVariants.{Short, Full}
+use Rattle.decide_rules.specs.Nodes.{bitwise, full_operator, is_operand}
+use Rattle.decide_rules.specs.Nodes as n
+use Rattle.decide_rules.specs.Conditions.{width, tree_from}
+use Rattle.decide_rules.specs.Conditions as conditions
+use Rattle.decide_rules.specs.Counts.{roots}
+use Rattle.decide_rules.proofs.Trees.{numbered_from}
 use Rattle.mc_probe.specs.Tree as p
 use Rattle.mc_probe.specs.Maps.{Map, Mapped}
 use Rattle.mc_probe.specs.Table.{InTree, beside, role_of, under, wrap, increment_of, mapped, put}
-use Rattle.mc_back.specs.Sums.{Paths, at_probe, both, end_of_paths, joined, leaf, negated, paths, where_full}
+use Rattle.reread_put_back.specs.Sums.{Paths, at_probe, both, end_of_paths, joined, leaf, negated, paths, where_full}
 use Rattle.mc_counted.proofs.Sums.{sums, Adds, end_is}
 
 at_itself : (k i : ℕ) → at_probe k (probe.Condition k 0 i) ≡ leaf 0 i

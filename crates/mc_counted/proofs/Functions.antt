@@ -2,14 +2,14 @@
 use Rattle.std.proofs.Common.{◌≡◌, refl, subst, ℕ, ◌+◌, Bool, true, false, if◌then◌else◌, List, [], ◌∷◌, map, length, Some, None, arith}
 use Rattle.mc_typed.specs.Tree as t
 use Rattle.mc_cond.specs.Tree.{Tree}
-use Rattle.mc_roots.specs.declared.role.Role.TheVariants.{Plain}
-use Rattle.mc_roots.specs.Nodes as n
-use Rattle.mc_roots.specs.Counts.{roots_in}
+use Rattle.decide_rules.specs.declared.role.Role.TheVariants.{Plain}
+use Rattle.decide_rules.specs.Nodes as n
+use Rattle.decide_rules.specs.Counts.{roots_in}
 use Rattle.mc_meaning.proofs.Numbered.{trees, trees_in, trees_length, StandsAt, stands_left, stands_right}
 use Rattle.mc_steps.specs.Points.{Points, ◌⊕◌, where_completes, points_of_all, points_of_function, points_before, all_complete}
 use Rattle.mc_probe.specs.Maps.{Map, exit_bit, statement_bit, label_bit}
 use Rattle.mc_probe.specs.Table.{At, decisions_in, put_function, put_functions}
-use Rattle.mc_soundness.specs.Plain.{ArePlainStatements, ArePlainFunctions}
+use Rattle.laws_soundness.specs.Plain.{ArePlainStatements, ArePlainFunctions}
 use Rattle.mc_put.specs.Ends.{EndBit, EndFunction, EndFunctions}
 use Rattle.mc_counted.proofs.Ranges.{Pos, Same, none, same_as, join, ends_at, three}
 use Rattle.mc_counted.proofs.Ranges as ranges

@@ -4,21 +4,21 @@ use Rattle.std.proofs.lemmas.List.{length-map}
 use Rattle.mc_cond.specs.Tree.{Tree}
 use Rattle.mc_paths.specs.Paths.{count_of}
 use Rattle.mc_typed.specs.Tree.{Function, Program}
-use Rattle.mc_roots.specs.declared.role.Role.TheVariants.{Plain}
-use Rattle.mc_roots.specs.Decisions.{AreDecisions}
-use Rattle.mc_roots.specs.Nodes.{functions}
-use Rattle.mc_roots.specs.Nodes as n
-use Rattle.mc_roots.specs.Counts.{roots_in}
-use Rattle.mc_roots.specs.steps.Walk.{decided}
-use Rattle.mc_roots.proofs.Once.{one_list}
-use Rattle.mc_roots.proofs.Told.{are_decisions}
+use Rattle.decide_rules.specs.declared.role.Role.TheVariants.{Plain}
+use Rattle.decide_rules.specs.Decisions.{AreDecisions}
+use Rattle.decide_rules.specs.Nodes.{functions}
+use Rattle.decide_rules.specs.Nodes as n
+use Rattle.decide_rules.specs.Counts.{roots_in}
+use Rattle.decide_rules.specs.steps.Walk.{decided}
+use Rattle.decide_rules.proofs.Once.{one_list}
+use Rattle.decide_rules.proofs.Told.{are_decisions}
 use Rattle.mc_meaning.proofs.Numbered.{trees_in, trees_length, StandsAt}
 use Rattle.mc_meaning.proofs.Decided.{decided_trees}
 use Rattle.mc_steps.specs.Points.{no_points, ◌⊕◌}
 use Rattle.mc_probe.specs.Maps.{Map, Mapped, AreBased, IsMapOf, first_exit, first_statement, first_label, first_path}
 use Rattle.mc_probe.specs.Table.{instrumented}
 use Rattle.mc_probe.proofs.Counted.{events_listed}
-use Rattle.mc_soundness.specs.Plain.{IsPlainProgram}
+use Rattle.laws_soundness.specs.Plain.{IsPlainProgram}
 use Rattle.mc_put.specs.Ends.{EndsBelow}
 use Rattle.mc_counted.specs.Laws.{InstrumentedProgramsAreCounted}
 use Rattle.mc_counted.proofs.Ranges.{Same, end_of_mapped}

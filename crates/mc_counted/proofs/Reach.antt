@@ -1,24 +1,24 @@
 -- The bits of the expressions of an instrumented program.
 use Rattle.std.proofs.Common.{◌≡◌, ◌∙◌, refl, sym, ap, subst, ℕ, ◌+◌, Bool, true, false, if◌then◌else◌, List, ◌++◌, map, Option, Some, None, option_map, slice_get, arith}
 use Rattle.std.proofs.lemmas.Option.{slice_get-map}
-use Rattle.mc_strip.specs.declared.piece.What.TheVariants as what
+use Rattle.reread_pieces.specs.declared.piece.What.TheVariants as what
 use Rattle.mc_typed.specs.declared.probes.Probe.TheVariants as probe
 use Rattle.mc_typed.specs.Tree as t
 use Rattle.mc_cond.specs.Tree.{Tree}
 use Rattle.mc_paths.specs.Paths.{count_of}
-use Rattle.mc_roots.specs.declared.role.Role.{Role}
-use Rattle.mc_roots.specs.declared.role.Role.TheVariants.{Plain}
-use Rattle.mc_roots.specs.Nodes.{Node}
-use Rattle.mc_roots.specs.Nodes as n
-use Rattle.mc_roots.specs.Roots.{is_root}
-use Rattle.mc_roots.specs.Conditions.{is_operator, tree_from}
-use Rattle.mc_roots.specs.Counts.{one_where, roots}
+use Rattle.decide_rules.specs.declared.role.Role.{Role}
+use Rattle.decide_rules.specs.declared.role.Role.TheVariants.{Plain}
+use Rattle.decide_rules.specs.Nodes.{Node}
+use Rattle.decide_rules.specs.Nodes as n
+use Rattle.decide_rules.specs.Roots.{is_root}
+use Rattle.decide_rules.specs.Conditions.{is_operator, tree_from}
+use Rattle.decide_rules.specs.Counts.{one_where, roots}
 use Rattle.mc_meaning.proofs.Numbered.{own, own_length, trees, trees_length, StandsAt, stands_right}
-use Rattle.mc_simulation.proofs.Decisions.{inner_is}
+use Rattle.laws_simulation.proofs.Decisions.{inner_is}
 use Rattle.mc_probe.specs.Tree as p
 use Rattle.mc_probe.specs.Maps.{Map, Mapped}
 use Rattle.mc_probe.specs.Table.{Stand, Loose, InTree, role_of, operand, inner, base_of, increment_of, mapped, round_condition, wrap, put}
-use Rattle.mc_back.specs.Back.{end_round}
+use Rattle.reread_put_back.specs.Back.{end_round}
 use Rattle.mc_put.specs.Ends.{End}
 use Rattle.mc_counted.proofs.Ended.{decision_end}
 use Rattle.mc_counted.proofs.Ranges.{Pos, on, end_of_mapped, Same, same_as, join, decided, moved}

@@ -5,20 +5,20 @@ use Rattle.mc_span.specs.declared.span.Span.{Span}
 use Rattle.mc_typed.specs.declared.operators.Operator.{Operator}
 use Rattle.mc_typed.specs.Tree as t
 use Rattle.mc_cond.specs.Tree.{Tree}
-use Rattle.mc_roots.specs.declared.operators.FullOperator.{FullOperator}
-use Rattle.mc_roots.specs.declared.role.Role.{Role}
-use Rattle.mc_roots.specs.declared.role.Role.TheVariants.{Controlling, Inner, Plain}
-use Rattle.mc_roots.specs.Nodes.{Node, full_operator}
-use Rattle.mc_roots.specs.Nodes as n
-use Rattle.mc_roots.specs.Conditions.{width}
-use Rattle.mc_roots.specs.Counts.{roots, roots_in}
+use Rattle.decide_rules.specs.declared.operators.FullOperator.{FullOperator}
+use Rattle.decide_rules.specs.declared.role.Role.{Role}
+use Rattle.decide_rules.specs.declared.role.Role.TheVariants.{Controlling, Inner, Plain}
+use Rattle.decide_rules.specs.Nodes.{Node, full_operator}
+use Rattle.decide_rules.specs.Nodes as n
+use Rattle.decide_rules.specs.Conditions.{width}
+use Rattle.decide_rules.specs.Counts.{roots, roots_in}
 use Rattle.mc_meaning.proofs.Numbered.{own, trees, trees_in, StandsAt, stands_left}
-use Rattle.mc_simulation.specs.Expressions.{Stands}
-use Rattle.mc_simulation.proofs.Decisions.{inner_is, role_same, stands_inside}
+use Rattle.laws_simulation.specs.Expressions.{Stands}
+use Rattle.laws_simulation.proofs.Decisions.{inner_is, role_same, stands_inside}
 use Rattle.mc_probe.specs.Tree as p
 use Rattle.mc_probe.specs.Maps.{Map}
 use Rattle.mc_probe.specs.Table.{Stand, Loose, InTree, role_of, operand, under, beside, inner, put, put_place, put_structure, put_call, put_argument, put_arguments}
-use Rattle.mc_roots.specs.Roots.{is_root, operand_role}
+use Rattle.decide_rules.specs.Roots.{is_root, operand_role}
 use Rattle.mc_put.specs.Ends.{EndPlace, End, EndStructure, EndCall, EndArgument, EndArguments}
 use Rattle.mc_counted.proofs.Ranges.{Pos, on, Same, none, same_as, join}
 use Rattle.mc_counted.proofs.Reach.{all, wrapped, past_own, past_part}

@@ -3,17 +3,17 @@ use Rattle.std.proofs.Common.{◌≡◌, refl, subst, ℕ, ◌+◌, ◌<◌, Boo
 use Rattle.mc_typed.specs.declared.probes.Probe.TheVariants as probe
 use Rattle.mc_typed.specs.Tree as t
 use Rattle.mc_cond.specs.Tree.{Tree}
-use Rattle.mc_roots.specs.declared.role.Role.TheVariants.{Controlling, Plain}
-use Rattle.mc_roots.specs.Nodes.{Whole}
-use Rattle.mc_roots.specs.Nodes as n
-use Rattle.mc_roots.specs.Counts.{roots, roots_in}
+use Rattle.decide_rules.specs.declared.role.Role.TheVariants.{Controlling, Plain}
+use Rattle.decide_rules.specs.Nodes.{Whole}
+use Rattle.decide_rules.specs.Nodes as n
+use Rattle.decide_rules.specs.Counts.{roots, roots_in}
 use Rattle.mc_meaning.proofs.Numbered.{trees, trees_in, StandsAt}
 use Rattle.mc_steps.specs.Points.{where_absent, where_counted, points_of_all, has_default, initializes}
 use Rattle.mc_probe.specs.Tree as p
 use Rattle.mc_probe.specs.Maps.{Map}
 use Rattle.mc_probe.specs.Switches.{switches_all}
 use Rattle.mc_probe.specs.Table.{Loose, At, decided, within, past, in_switch, absent_mark, put, put_statement, put_statements}
-use Rattle.mc_soundness.specs.Plain.{IsPlainStatement, ArePlainStatements}
+use Rattle.laws_soundness.specs.Plain.{IsPlainStatement, ArePlainStatements}
 use Rattle.mc_put.specs.Ends.{End, EndBit, EndMark, EndStatement, EndStatements}
 use Rattle.mc_counted.proofs.Ranges.{Pos, Same, none, same_as, join, ends_at, statement_bit, exit_bit, label_bit, three, four, five}
 use Rattle.mc_counted.proofs.Reach.{all, past_part}

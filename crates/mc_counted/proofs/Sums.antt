@@ -3,14 +3,14 @@
 use Rattle.std.proofs.Common.{◌≡◌, ◌∙◌, ◌⊎◌, inl, inr, refl, sym, ap, subst, ℕ, suc, ◌+◌, ◌<◌, ◌≤◌, Bool, true, false, not, ◌&&◌, ◌||◌, List, [], ◌∷◌, ◌++◌, map, length, Some, arith}
 use Rattle.std.specs.Prelude.{max}
 use Rattle.mc_typed.specs.declared.operators.LogicOperator.TheVariants as logic
-use Rattle.mc_roots.specs.declared.operators.FullOperator.TheVariants as full
+use Rattle.decide_rules.specs.declared.operators.FullOperator.TheVariants as full
 use Rattle.mc_cond.specs.Tree.{Tree, Leaf, Not, And, Or, FullAnd, FullOr, FullXor, size, IsNumberedFrom}
 use Rattle.mc_cond.specs.Vectors.{Row, Evaluation, evaluated, evaluated_both, followed_where, xor}
 use Rattle.mc_cond.proofs.Rows.{same_evaluation, pasted, pasted_left, pasted_right}
 use Rattle.mc_paths.specs.Paths.{room, false_edges, increments, sum_along, path_of, all_false, count_of}
 use Rattle.mc_paths.proofs.Counting.{total, sum_append, same_length, length_edges}
 use Rattle.mc_paths.proofs.Numbers.{vector_below}
-use Rattle.mc_back.specs.Sums.{Paths, leaf, negated, joined, both, greatest, end_of_paths, ◌⊗◌}
+use Rattle.reread_put_back.specs.Sums.{Paths, leaf, negated, joined, both, greatest, end_of_paths, ◌⊗◌}
 
 -- the sums of the paths of a tree, where a condition adds this where it is false
 abbrev pub sums : Tree → (ℕ → ℕ) → Paths

@@ -3,14 +3,14 @@ use Rattle.std.proofs.Common.{◌≡◌, refl, Bool, true, false, not, ◌&&◌,
 use Rattle.mc_span.specs.declared.span.Span.{Span}
 use Rattle.mc_typed.specs.declared.operators.Operator.{Operator}
 use Rattle.mc_typed.specs.Tree as t
-use Rattle.mc_roots.specs.declared.operators.FullOperator.{FullOperator}
-use Rattle.mc_roots.specs.declared.role.Role.{Role}
-use Rattle.mc_roots.specs.declared.role.Role.TheVariants.{Controlling, Plain}
-use Rattle.mc_roots.specs.Nodes.{Node, Constant, Not, Logic, Expression, Whole, Parts, no_parts, part, controlling, full_operator}
-use Rattle.mc_roots.specs.Nodes as n
-use Rattle.mc_roots.specs.Roots.{is_constant, are_constant, is_candidate, operand_role}
-use Rattle.mc_roots.specs.Counts.{one_where, roots, roots_in}
-use Rattle.mc_soundness.specs.Plain.{IsConstant}
+use Rattle.decide_rules.specs.declared.operators.FullOperator.{FullOperator}
+use Rattle.decide_rules.specs.declared.role.Role.{Role}
+use Rattle.decide_rules.specs.declared.role.Role.TheVariants.{Controlling, Plain}
+use Rattle.decide_rules.specs.Nodes.{Node, Constant, Not, Logic, Expression, Whole, Parts, no_parts, part, controlling, full_operator}
+use Rattle.decide_rules.specs.Nodes as n
+use Rattle.decide_rules.specs.Roots.{is_constant, are_constant, is_candidate, operand_role}
+use Rattle.decide_rules.specs.Counts.{one_where, roots, roots_in}
+use Rattle.laws_soundness.specs.Plain.{IsConstant}
 
 and_true : (a b : Bool) → a ≡ true → b ≡ true → a && b ≡ true
 and_true true b h k = k

@@ -2,8 +2,8 @@
 use Rattle.std.specs.Prelude.{◌≡◌, List, Some}
 use Rattle.mc_tree.specs.Tree.{Item}
 use Rattle.mc_typed.specs.Tree.{Program}
-use Rattle.mc_typing.specs.Typing.{typing_of}
-use Rattle.mc_soundness.specs.Plain.{IsPlainProgram}
+use Rattle.types_rules.specs.Typing.{typing_of}
+use Rattle.laws_soundness.specs.Plain.{IsPlainProgram}
 use Rattle.mc_probe.specs.Maps.{Map, IsMapOf}
 use Rattle.mc_probe.specs.Table.{instrumented}
 use Rattle.mc_put.specs.Laws.{IsCounted}

@@ -6,22 +6,22 @@ use Rattle.std.proofs.lemmas.List.Elements.{All-nil, All-cons, All-head, All-tai
 use Rattle.mc_cond.specs.Tree.{tree_of, IsNumbered}
 use Rattle.mc_typed.specs.Levels.{limited}
 use Rattle.mc_typed.specs.Tree as t
-use Rattle.mc_roots.specs.declared.role.Role.{Role}
-use Rattle.mc_roots.specs.declared.role.Role.TheVariants.{Controlling, Inner, Plain}
-use Rattle.mc_roots.specs.declared.decision.Decision as code
-use Rattle.mc_gather.specs.declared.gathered.Gathered as code_gathered
-use Rattle.mc_roots.specs.declared.fault.DecideFault.{DecideFault}
-use Rattle.mc_roots.specs.Nodes.{Node, Constant, Not, Logic, Expression, Whole, Parts, no_parts, part, controlling}
-use Rattle.mc_roots.specs.Nodes as n
-use Rattle.mc_roots.specs.Roots.{is_constant, is_candidate}
-use Rattle.mc_roots.specs.Conditions.{width}
-use Rattle.mc_roots.specs.Decisions.{Decision, AreDecisions, IsSmall}
-use Rattle.mc_roots.specs.Seen.{decision_of, IsFault}
-use Rattle.mc_roots.specs.steps.Walk as w
-use Rattle.mc_roots.specs.steps.Walk.{decision, decided, IsLargeAmong}
-use Rattle.mc_gather.specs.steps.Gathering.{Gathered, gathered_of, begun, sized, added, cut, pushed, kept, entered, inside, inside_parts, visited, in_function, in_functions}
-use Rattle.mc_roots.proofs.Trees.{length_spans, numbered}
-use Rattle.mc_roots.proofs.Told.{are_decisions, first_later, large_more, fault_of_all}
+use Rattle.decide_rules.specs.declared.role.Role.{Role}
+use Rattle.decide_rules.specs.declared.role.Role.TheVariants.{Controlling, Inner, Plain}
+use Rattle.decide_rules.specs.declared.decision.Decision as code
+use Rattle.decide_walk.specs.declared.gathered.Gathered as code_gathered
+use Rattle.decide_rules.specs.declared.fault.DecideFault.{DecideFault}
+use Rattle.decide_rules.specs.Nodes.{Node, Constant, Not, Logic, Expression, Whole, Parts, no_parts, part, controlling}
+use Rattle.decide_rules.specs.Nodes as n
+use Rattle.decide_rules.specs.Roots.{is_constant, is_candidate}
+use Rattle.decide_rules.specs.Conditions.{width}
+use Rattle.decide_rules.specs.Decisions.{Decision, AreDecisions, IsSmall}
+use Rattle.decide_rules.specs.Seen.{decision_of, IsFault}
+use Rattle.decide_rules.specs.steps.Walk as w
+use Rattle.decide_rules.specs.steps.Walk.{decision, decided, IsLargeAmong}
+use Rattle.decide_walk.specs.steps.Gathering.{Gathered, gathered_of, begun, sized, added, cut, pushed, kept, entered, inside, inside_parts, visited, in_function, in_functions}
+use Rattle.decide_rules.proofs.Trees.{length_spans, numbered}
+use Rattle.decide_rules.proofs.Told.{are_decisions, first_later, large_more, fault_of_all}
 
 -- ---- what was gathered before stays at the front
 

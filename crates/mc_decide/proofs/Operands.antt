@@ -9,15 +9,15 @@ use Rattle.mc_typed.specs.declared.operators.LogicOperator.{LogicOperator}
 use Rattle.mc_typed.specs.declared.probes.Probe.{Probe}
 use Rattle.mc_typed.specs.declared.expressions.Expression.{Expression}
 use Rattle.mc_typed.specs.declared.expressions.Expression.TheVariants as code
-use Rattle.mc_roots.specs.declared.role.Role.{Role}
-use Rattle.mc_roots.specs.declared.role.Role.TheVariants.{Plain}
+use Rattle.decide_rules.specs.declared.role.Role.{Role}
+use Rattle.decide_rules.specs.declared.role.Role.TheVariants.{Plain}
 use Rattle.mc_typed.specs.Views.{expression_of}
-use Rattle.mc_roots.specs.declared.operators.FullOperator.{FullOperator}
-use Rattle.mc_roots.specs.declared.operators.Junction.TheVariants.{Short}
-use Rattle.mc_roots.specs.Nodes as n
-use Rattle.mc_roots.specs.Roots.{is_constant}
-use Rattle.mc_gather.specs.steps.Gathering.{Gathered, inside, role_under, visited}
-use Rattle.mc_gather.proofs.Shapes.{node, unary_node, convert_node, not_node, binary_node, logic_node, choice_node, probe_node}
+use Rattle.decide_rules.specs.declared.operators.FullOperator.{FullOperator}
+use Rattle.decide_rules.specs.declared.operators.Junction.TheVariants.{Short}
+use Rattle.decide_rules.specs.Nodes as n
+use Rattle.decide_rules.specs.Roots.{is_constant}
+use Rattle.decide_walk.specs.steps.Gathering.{Gathered, inside, role_under, visited}
+use Rattle.decide_walk.proofs.Shapes.{node, unary_node, convert_node, not_node, binary_node, logic_node, choice_node, probe_node}
 
 pub is_not : (e inner : Expression) (x : Box Expression Global) (span : Span) → e ≡ code.Not x span → inner ≡ x.value → node e ≡ n.Not (node inner) span
 is_not e inner x span is there =

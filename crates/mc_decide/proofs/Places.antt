@@ -15,8 +15,8 @@ use Rattle.mc_typed.specs.declared.expressions.Argument.TheOpen.{Place-F, Struct
 use Rattle.mc_typed.specs.declared.expressions.Argument.TheFolds.{fold-roll-Place, fold-roll-Structure, fold-roll-Argument}
 use Rattle.mc_typed.specs.Tree as t
 use Rattle.mc_typed.specs.Views.{argument_of, call_of, node_argument, node_call, node_expression, node_place, node_structure, place_of, structure_of}
-use Rattle.mc_roots.specs.Nodes as n
-use Rattle.mc_gather.proofs.Shapes.{node}
+use Rattle.decide_rules.specs.Nodes as n
+use Rattle.decide_walk.proofs.Shapes.{node}
 
 abbrev pub place : Place → n.Node
 place p = n.place (place_of p)

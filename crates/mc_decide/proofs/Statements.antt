@@ -11,8 +11,8 @@ use Rattle.mc_typed.specs.declared.statements.Statement.TheOpen.{Statement-F}
 use Rattle.mc_typed.specs.declared.statements.Statement.TheFolds.{fold-roll-Statement}
 use Rattle.mc_typed.specs.Tree as t
 use Rattle.mc_typed.specs.Views.{effect_of, node_statement, return_value_of, statement_of}
-use Rattle.mc_roots.specs.Nodes as n
-use Rattle.mc_gather.proofs.Shapes.{node}
+use Rattle.decide_rules.specs.Nodes as n
+use Rattle.decide_walk.proofs.Shapes.{node}
 
 abbrev pub stands : Statement → n.Node
 stands s = n.statement (statement_of s)

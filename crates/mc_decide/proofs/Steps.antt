@@ -1,8 +1,8 @@
 -- The last step of a walk over the parts of a node.
 use Rattle.std.proofs.Common.{◌≡◌, ◌∙◌, refl, ap, Bool, true, false, ◌&&◌, Result, Ok, Err, IfOk}
-use Rattle.mc_roots.specs.declared.role.Role.{Role}
-use Rattle.mc_roots.specs.Nodes.{Node}
-use Rattle.mc_gather.specs.steps.Gathering.{Gathered, visited}
+use Rattle.decide_rules.specs.declared.role.Role.{Role}
+use Rattle.decide_rules.specs.Nodes.{Node}
+use Rattle.decide_walk.specs.steps.Gathering.{Gathered, visited}
 
 -- what is found, where the last part comes after others
 pub then_found : {A E : Type 0} (r : Result A E) (role : Role) (a : Node) (old new before : Gathered) → old ≡ before → IfOk r (λ _. new ≡ visited role a old) → IfOk r (λ _. new ≡ visited role a before)

@@ -2,12 +2,12 @@
 ghost use Rattle.std.specs.Prelude.{◌≡◌, ◌<◌, ◌^◌, map, length, All, IfOk, IfErr, Some, None};
 ghost use Rattle.mc_cond.specs.Tree.{tree_of, IsNumbered};
 ghost use Rattle.mc_typed.specs.Views.{function_of, program_of};
-ghost use Rattle.mc_roots.specs.Decisions.{AreDecisions};
-ghost use Rattle.mc_roots.specs.Seen.{decision_of, IsFault};
+ghost use Rattle.decide_rules.specs.Decisions.{AreDecisions};
+ghost use Rattle.decide_rules.specs.Seen.{decision_of, IsFault};
 
 use crate::roots::functions as walk;
-use mc_gather::{answer, nothing};
-use mc_roots::{DecideFault, Decision};
+use decide_rules::{DecideFault, Decision};
+use decide_walk::{answer, nothing};
 use mc_typed::{Function, Program};
 use std::alloc::Global;
 

@@ -4,5 +4,7 @@
 mod find;
 mod roots;
 
+pub use decide_rules::{
+    CondTree, DecideFault, Decision, Role, Span, one_list, starts_are_in_order,
+};
 pub use find::{decisions, decisions_of};
-pub use mc_roots::{CondTree, DecideFault, Decision, Role, Span, one_list, starts_are_in_order};

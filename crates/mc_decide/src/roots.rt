@@ -1,15 +1,15 @@
 //! The walk over the functions of a program.
 ghost use Rattle.std.specs.Prelude.{◌≡◌, ◌<◌, ◌^◌, length, map, IfOk};
 ghost use Rattle.mc_typed.specs.Views.{function_of};
-ghost use Rattle.mc_roots.specs.Nodes as nodes;
-ghost use Rattle.mc_gather.specs.steps.Gathering.{gathered_of, in_function, in_functions, inside};
+ghost use Rattle.decide_rules.specs.Nodes as nodes;
+ghost use Rattle.decide_walk.specs.steps.Gathering.{gathered_of, in_function, in_functions, inside};
 
 mod effects;
 mod expressions;
 mod initializers;
 mod statements;
 
-use mc_gather::Gathered;
+use decide_walk::Gathered;
 use mc_typed::Function;
 use std::alloc::AllocError;
 

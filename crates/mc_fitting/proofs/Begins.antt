@@ -21,7 +21,7 @@ use Rattle.mc_grammar.specs.Statements as g
 use Rattle.mc_weave.proofs.Next.{of_sign}
 use Rattle.mc_lex.proofs.Texts.{passes, is_false}
 use Rattle.mc_lex.specs.Words.{one_of}
-use Rattle.mc_strip.specs.Words.{is_identifier_kind as identifies, is_identifier, is_one_of, specifiers, begins_declaration}
+use Rattle.reread_pieces.specs.Words.{is_identifier_kind as identifies, is_identifier, is_one_of, specifiers, begins_declaration}
 use Rattle.mc_fitting.proofs.Words.{Clear, AreClear}
 use Rattle.mc_fitting.proofs.Sections.{tk, Mild, comma_mild, question_mild, member_mild, operator_mild, assignment_mild, step_mild, unary_mild, left_of, keyword_text}
 use Rattle.mc_fitting.proofs.Profile.{stars_of, declarator_of}

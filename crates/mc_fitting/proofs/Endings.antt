@@ -11,7 +11,7 @@ use Rattle.mc_grammar.specs.Nonterminal as n
 use Rattle.mc_grammar.specs.Expressions.{Reads}
 use Rattle.mc_weave.proofs.Next.{of_sign}
 use Rattle.mc_weave.proofs.First.{no_start, open_brace_no_start}
-use Rattle.mc_strip.specs.Words.{is, is_name}
+use Rattle.reread_pieces.specs.Words.{is, is_name}
 use Rattle.mc_alike.specs.Moves.{end_of}
 use Rattle.mc_inserted.specs.Fits.{StartsAt, EndsAt, last_is, first_is}
 use Rattle.mc_fitting.proofs.Words.{AreClear}

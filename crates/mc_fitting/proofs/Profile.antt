@@ -5,16 +5,16 @@ use Rattle.std.proofs.lemmas.Bool.Decides.{nat_tests}
 use Rattle.mc_span.specs.declared.span.Span.{Span}
 use Rattle.mc_tree.specs.Tree.{Name, Expression, Expressions, TypeName, Specifier, Specifiers, Declarator, ArrayLengths, Parameters, InitDeclarator, Declaration, Statement, BlockItems, Item, Members, Enumerators}
 use Rattle.mc_tree.specs.Tree as tree
-use Rattle.mc_forms.specs.declared.context.Region.TheVariants as region
-use Rattle.mc_forms.specs.declared.context.Role.{Role}
-use Rattle.mc_forms.specs.declared.context.Role.TheVariants as role
-use Rattle.mc_forms.specs.declared.context.Standing.{Standing}
-use Rattle.mc_forms.specs.declared.context.Standing.TheVariants as standing
-use Rattle.mc_forms.specs.declared.form.Form.{Form}
-use Rattle.mc_forms.specs.declared.form.Form.TheVariants as form
-use Rattle.mc_forms.specs.declared.outside.Outside.{Outside}
-use Rattle.mc_forms.specs.Contexts.{role_of_operands, role_in_parentheses, standing_of_items}
-use Rattle.mc_forms.specs.Order.{or_else}
+use Rattle.subset_forms.specs.declared.context.Region.TheVariants as region
+use Rattle.subset_forms.specs.declared.context.Role.{Role}
+use Rattle.subset_forms.specs.declared.context.Role.TheVariants as role
+use Rattle.subset_forms.specs.declared.context.Standing.{Standing}
+use Rattle.subset_forms.specs.declared.context.Standing.TheVariants as standing
+use Rattle.subset_forms.specs.declared.form.Form.{Form}
+use Rattle.subset_forms.specs.declared.form.Form.TheVariants as form
+use Rattle.subset_forms.specs.declared.outside.Outside.{Outside}
+use Rattle.subset_forms.specs.Contexts.{role_of_operands, role_in_parentheses, standing_of_items}
+use Rattle.subset_forms.specs.Order.{or_else}
 use Rattle.mc_subset.specs.Nodes.{Node, an_expression, a_type_name, a_specifier, a_declarator, a_declaration, a_statement, has_extern, nodes_of_expression, nodes_of_expressions, nodes_of_type, nodes_of_specifier, nodes_of_specifiers, nodes_of_declarator, nodes_of_initializer, nodes_of_init_declarator, nodes_of_init_declarators, nodes_of_declaration, nodes_of_parts, standing_from, nodes_of_statement, nodes_of_block, nodes_of_item, nodes_of_unit}
 use Rattle.mc_subset.specs.Forms.{form_of, place_of, outside_at, first_outside}
 

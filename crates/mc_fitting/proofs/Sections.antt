@@ -19,7 +19,7 @@ use Rattle.mc_grammar.specs.Nonterminal.{Level}
 use Rattle.mc_grammar.specs.Nonterminal as n
 use Rattle.mc_grammar.proofs.Spelling.{found, none}
 use Rattle.mc_weave.proofs.Next.{signed, of_sign}
-use Rattle.mc_strip.specs.Words.{is, is_name as names, is_identifier, is_one_of, specifiers}
+use Rattle.reread_pieces.specs.Words.{is, is_name as names, is_identifier, is_one_of, specifiers}
 use Rattle.mc_inserted.specs.Fits.{is_bracket, is_pair, IsBalanced}
 use Rattle.mc_inserted.specs.Fits as fit
 use Rattle.mc_fitting.proofs.Words.{Clear, AreClear, neither}

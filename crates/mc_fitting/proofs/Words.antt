@@ -16,7 +16,7 @@ use Rattle.mc_lex.specs.steps.Scanner.{punctuators_and_openings, outside_punctua
 use Rattle.mc_lex.proofs.Texts.{passes}
 use Rattle.mc_lex.proofs.Candidates.{Stands, stood, one_class}
 use Rattle.mc_grammar.specs.Words.{is_punctuator_kind, is_keyword_kind}
-use Rattle.mc_strip.specs.Words.{is, is_name, is_identifier, is_one_of, specifiers}
+use Rattle.reread_pieces.specs.Words.{is, is_name, is_identifier, is_one_of, specifiers}
 use Rattle.mc_inserted.specs.Fits.{is_bracket}
 use Rattle.mc_fitting.specs.Laws.{MeanTheirKinds}
 

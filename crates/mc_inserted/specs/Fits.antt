@@ -4,11 +4,11 @@ use Rattle.std.specs.Prelude.{codes}
 use Rattle.std.specs.List.{list_any}
 use Rattle.mc_span.specs.declared.span.Span.{Span}
 use Rattle.mc_lex.specs.Tokens.{Tok}
-use Rattle.mc_strip.specs.declared.bracket.Bracket.{Bracket}
-use Rattle.mc_strip.specs.declared.bracket.Bracket.TheVariants as bracket
-use Rattle.mc_strip.specs.declared.piece.What.{What}
-use Rattle.mc_strip.specs.declared.piece.What.TheVariants as what
-use Rattle.mc_strip.specs.Words.{is, is_name, begins_declaration}
+use Rattle.reread_pieces.specs.declared.bracket.Bracket.{Bracket}
+use Rattle.reread_pieces.specs.declared.bracket.Bracket.TheVariants as bracket
+use Rattle.reread_pieces.specs.declared.piece.What.{What}
+use Rattle.reread_pieces.specs.declared.piece.What.TheVariants as what
+use Rattle.reread_pieces.specs.Words.{is, is_name, begins_declaration}
 use Rattle.mc_alike.specs.Moves.{end_of}
 use Rattle.mc_inserted.specs.Rows.{Row}
 

@@ -8,8 +8,8 @@ use Rattle.mc_typed.specs.declared.probes.Probe.TheVariants as probe
 use Rattle.mc_typed.specs.Tree.{span_of}
 use Rattle.mc_probe.specs.Erase.{erase_expression}
 use Rattle.mc_probe.specs.Tree as p
-use Rattle.mc_strip.specs.declared.piece.What.{What}
-use Rattle.mc_strip.specs.declared.piece.What.TheVariants as what
+use Rattle.reread_pieces.specs.declared.piece.What.{What}
+use Rattle.reread_pieces.specs.declared.piece.What.TheVariants as what
 
 -- A row, and the place of what it stands at: the counted statement, the counted declaration, the
 -- expression; the label; for an absent `default` the `switch`; for the exit of a `return` its

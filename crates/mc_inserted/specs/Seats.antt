@@ -2,14 +2,14 @@
 -- what is placed.
 use Rattle.std.specs.Prelude.{◌≡◌, ℕ, Bool, true, false, List, [], ◌∷◌, map, if◌then◌else◌}
 use Rattle.mc_span.specs.declared.span.Span.{Span}
-use Rattle.mc_strip.specs.declared.piece.What.{What}
-use Rattle.mc_strip.specs.declared.piece.What.TheVariants as what
-use Rattle.mc_strip.specs.declared.placed.Placed.{Placed}
-use Rattle.mc_shape.specs.declared.probe.Probe.{Probe}
-use Rattle.mc_shape.specs.declared.spot.Spot.{Spot}
-use Rattle.mc_shape.specs.declared.spot.Spot.TheVariants as spot
-use Rattle.mc_shape.specs.Probes.{is_probe}
-use Rattle.mc_shape.specs.Walks.{is_there}
+use Rattle.reread_pieces.specs.declared.piece.What.{What}
+use Rattle.reread_pieces.specs.declared.piece.What.TheVariants as what
+use Rattle.reread_pieces.specs.declared.placed.Placed.{Placed}
+use Rattle.reread_probes.specs.declared.probe.Probe.{Probe}
+use Rattle.reread_probes.specs.declared.spot.Spot.{Spot}
+use Rattle.reread_probes.specs.declared.spot.Spot.TheVariants as spot
+use Rattle.reread_probes.specs.Probes.{is_probe}
+use Rattle.reread_probes.specs.Walks.{is_there}
 use Rattle.mc_inserted.specs.Rows.{Row}
 
 -- ---- probes between the tokens of the source

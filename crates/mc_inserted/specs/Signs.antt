@@ -3,11 +3,11 @@
 use Rattle.std.specs.Prelude.{ℕ, ◌+◌, ◌-◌, nat_eq, Bool, true, false, ◌&&◌, ◌||◌, List, [], ◌∷◌}
 use Rattle.std.specs.Prelude.{◌++◌, if◌then◌else◌}
 use Rattle.mc_span.specs.declared.span.Span.{Span}
-use Rattle.mc_strip.specs.declared.piece.What.{What}
-use Rattle.mc_strip.specs.declared.piece.What.TheVariants as what
-use Rattle.mc_strip.specs.declared.without.Stand.{Stand}
-use Rattle.mc_strip.specs.declared.without.Stand.TheVariants.{Opens, Closes}
-use Rattle.mc_strip.specs.Plain.{stand_of, text_for}
+use Rattle.reread_pieces.specs.declared.piece.What.{What}
+use Rattle.reread_pieces.specs.declared.piece.What.TheVariants as what
+use Rattle.reread_pieces.specs.declared.without.Stand.{Stand}
+use Rattle.reread_pieces.specs.declared.without.Stand.TheVariants.{Opens, Closes}
+use Rattle.reread_pieces.specs.Plain.{stand_of, text_for}
 use Rattle.mc_weave.specs.Brackets.{Brackets, sign}
 use Rattle.mc_brackets.specs.Signs.{Sign}
 use Rattle.mc_inserted.specs.Rows.{Row}

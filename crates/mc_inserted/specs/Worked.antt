@@ -7,8 +7,8 @@ use Rattle.mc_typed.specs.Tree.{NumberParameter, NumberResult}
 use Rattle.mc_typed.specs.declared.operators.LogicOperator.TheVariants as logic
 use Rattle.mc_typed.specs.declared.probes.Probe.TheVariants as probe
 use Rattle.mc_probe.specs.Tree as p
-use Rattle.mc_strip.specs.declared.piece.What.{What}
-use Rattle.mc_strip.specs.declared.piece.What.TheVariants as what
+use Rattle.reread_pieces.specs.declared.piece.What.{What}
+use Rattle.reread_pieces.specs.declared.piece.What.TheVariants as what
 use Rattle.mc_weave.specs.Brackets.{sign}
 use Rattle.mc_brackets.specs.Signs.{Sign}
 use Rattle.mc_inserted.specs.Rows.{Row, rows_of}

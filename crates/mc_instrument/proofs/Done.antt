@@ -7,9 +7,9 @@ use Rattle.mc_typed.specs.declared.statements.Declarator.{Declarator}
 use Rattle.mc_typed.specs.declared.statements.Statement.{Statement}
 use Rattle.mc_typed.specs.Tree as t
 use Rattle.mc_typed.specs.Views as plain
-use Rattle.mc_roots.specs.declared.role.Role.TheVariants.{Plain}
-use Rattle.mc_roots.specs.Nodes as n
-use Rattle.mc_roots.specs.Counts.{roots, roots_in}
+use Rattle.decide_rules.specs.declared.role.Role.TheVariants.{Plain}
+use Rattle.decide_rules.specs.Nodes as n
+use Rattle.decide_rules.specs.Counts.{roots, roots_in}
 use Rattle.mc_probe.specs.Maps.{Map}
 use Rattle.mc_probe.specs.Table.{At, past, put_argument, put_arguments, put_declarators, put_effect, put_effects, put_initializer, put_initializers, put_statement, put_statements}
 use Rattle.mc_probe.specs.Views as probed

@@ -6,14 +6,14 @@ use Rattle.mc_cond.specs.Tree.{Tree}
 use Rattle.mc_typed.specs.declared.functions.Function.{Function}
 use Rattle.mc_typed.specs.Tree as t
 use Rattle.mc_typed.specs.Views as plain
-use Rattle.mc_roots.specs.declared.role.Role.TheVariants.{Plain}
-use Rattle.mc_roots.specs.Nodes.{Node}
-use Rattle.mc_roots.specs.Nodes as n
-use Rattle.mc_roots.specs.Counts.{roots}
-use Rattle.mc_roots.specs.Decisions.{Decision, AreDecisions}
-use Rattle.mc_roots.specs.steps.Walk.{decided, decision, inside}
-use Rattle.mc_roots.proofs.Once.{one_list}
-use Rattle.mc_roots.proofs.Told.{are_decisions}
+use Rattle.decide_rules.specs.declared.role.Role.TheVariants.{Plain}
+use Rattle.decide_rules.specs.Nodes.{Node}
+use Rattle.decide_rules.specs.Nodes as n
+use Rattle.decide_rules.specs.Counts.{roots}
+use Rattle.decide_rules.specs.Decisions.{Decision, AreDecisions}
+use Rattle.decide_rules.specs.steps.Walk.{decided, decision, inside}
+use Rattle.decide_rules.proofs.Once.{one_list}
+use Rattle.decide_rules.proofs.Told.{are_decisions}
 use Rattle.mc_meaning.proofs.Decided.{decided_trees}
 use Rattle.mc_meaning.proofs.Numbered.{trees, trees_length}
 use Rattle.mc_steps.specs.Points.{Points, ◌⊕◌, no_points, points_of_function}
@@ -25,7 +25,7 @@ use Rattle.mc_probe.specs.Views as probed
 use Rattle.mc_instrument.specs.declared.copies.statements.At as code
 use Rattle.mc_instrument.specs.steps.Counters.{all_points, leading, taken_by_function, StandsAt}
 use Rattle.mc_instrument.proofs.Room.{Ends, ends_begin, ends_next, few_leads, function_fits}
-use Rattle.mc_map.proofs.Each.{split}
+use Rattle.instrument_bits.proofs.Each.{split}
 
 -- ---- how many decisions a function has
 

@@ -4,7 +4,7 @@ use Rattle.std.proofs.lemmas.List.{drop_all, drop-map}
 use Rattle.mc_probe.specs.declared.mapped.MappedDecision.{MappedDecision}
 use Rattle.mc_probe.specs.Mapped.{mapped_of}
 use Rattle.mc_instrument.specs.steps.Counters.{leading}
-use Rattle.mc_map.proofs.Each.{split}
+use Rattle.instrument_bits.proofs.Each.{split}
 
 -- all before a place are found, and with those from there on it is all
 pub record Leads (function : ℕ) (list : List MappedDecision) (i : ℕ) : Type 0 where

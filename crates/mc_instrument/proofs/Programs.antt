@@ -17,8 +17,8 @@ use Rattle.mc_probe.specs.Trees.{tree_of}
 use Rattle.mc_probe.specs.Views as probed
 use Rattle.mc_probe.specs.WellFormed.{IsWellFormed}
 use Rattle.mc_probe.proofs.ErasedPrograms.{programs_erase}
-use Rattle.mc_simulation.proofs.Erased.{program_away}
-use Rattle.mc_simulation.proofs.Fitting.{well_formed}
+use Rattle.laws_simulation.proofs.Erased.{program_away}
+use Rattle.laws_simulation.proofs.Fitting.{well_formed}
 
 abbrev pub Copies : Map → t.Program → Parts → Type 0
 Copies m x parts = probed.program_of parts ≡ (instrumented m x).program

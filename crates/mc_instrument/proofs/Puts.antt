@@ -3,9 +3,9 @@ use Rattle.std.proofs.Common.{◌≡◌, ◌∙◌, refl, sym, ap, ℕ, ◌+◌,
 use Rattle.mc_typed.specs.declared.statements.Declarator as code
 use Rattle.mc_typed.specs.Tree as t
 use Rattle.mc_typed.specs.Views as plain
-use Rattle.mc_roots.specs.declared.role.Role.TheVariants.{Plain}
-use Rattle.mc_roots.specs.Nodes as n
-use Rattle.mc_roots.specs.Counts.{roots, roots_in}
+use Rattle.decide_rules.specs.declared.role.Role.TheVariants.{Plain}
+use Rattle.decide_rules.specs.Nodes as n
+use Rattle.decide_rules.specs.Counts.{roots, roots_in}
 use Rattle.mc_steps.specs.Points.{points_of, points_of_all}
 use Rattle.mc_probe.specs.Maps.{Map}
 use Rattle.mc_probe.specs.Switches.{switches, switches_all}

@@ -15,11 +15,11 @@ use Rattle.mc_typed.specs.declared.expressions.Argument.TheFolds.{fold-roll-Expr
 use Rattle.mc_typed.specs.declared.probes.Probe.TheVariants as probe
 use Rattle.mc_typed.specs.Tree as t
 use Rattle.mc_typed.specs.Views as plain
-use Rattle.mc_roots.specs.declared.operators.FullOperator.{FullOperator}
-use Rattle.mc_roots.specs.declared.role.Role.TheVariants.{Controlling, Inner, Plain}
-use Rattle.mc_roots.specs.Nodes as n
-use Rattle.mc_roots.specs.Conditions.{width}
-use Rattle.mc_roots.specs.Counts.{roots}
+use Rattle.decide_rules.specs.declared.operators.FullOperator.{FullOperator}
+use Rattle.decide_rules.specs.declared.role.Role.TheVariants.{Controlling, Inner, Plain}
+use Rattle.decide_rules.specs.Nodes as n
+use Rattle.decide_rules.specs.Conditions.{width}
+use Rattle.decide_rules.specs.Counts.{roots}
 use Rattle.mc_steps.specs.Points.{Points, ◌⊕◌, no_points, points_of, points_of_all, points_of_function}
 use Rattle.mc_probe.specs.declared.bit_map.BitMap.{BitMap}
 use Rattle.mc_probe.specs.BitMaps.{map_of}
@@ -31,8 +31,8 @@ use Rattle.mc_probe.specs.Tree as p
 use Rattle.mc_probe.specs.Views as probed
 use Rattle.mc_probe.proofs.Counted.{events_listed}
 use Rattle.mc_probe.proofs.Kept.{kept}
-use Rattle.mc_map.specs.Faults.{most_bits}
-use Rattle.mc_map.proofs.Operands.{both_node}
+use Rattle.instrument_bits.specs.Faults.{most_bits}
+use Rattle.instrument_bits.proofs.Operands.{both_node}
 use Rattle.mc_instrument.specs.declared.copies.statements.At as code
 use Rattle.mc_instrument.specs.steps.Inside.{inner_roots}
 use Rattle.mc_instrument.specs.steps.Counters.{all_points, leading, taken_by_function, StandsAt}

@@ -4,14 +4,14 @@ use Rattle.mc_span.specs.declared.span.Span.{Span}
 use Rattle.mc_typed.specs.declared.operators.Operator.{Operator}
 use Rattle.mc_typed.specs.declared.probes.Probe.TheVariants as probe
 use Rattle.mc_typed.specs.Tree as t
-use Rattle.mc_roots.specs.declared.operators.FullOperator.{FullOperator}
-use Rattle.mc_roots.specs.declared.role.Role.{Role}
-use Rattle.mc_roots.specs.declared.role.Role.TheVariants.{Controlling, Inner, Plain}
-use Rattle.mc_roots.specs.Nodes.{Node, Constant, Not, Logic, Expression, Whole}
-use Rattle.mc_roots.specs.Nodes as n
-use Rattle.mc_roots.specs.Roots.{is_root, is_inner}
-use Rattle.mc_roots.specs.Conditions.{width}
-use Rattle.mc_roots.specs.Counts.{one_where, roots, roots_in}
+use Rattle.decide_rules.specs.declared.operators.FullOperator.{FullOperator}
+use Rattle.decide_rules.specs.declared.role.Role.{Role}
+use Rattle.decide_rules.specs.declared.role.Role.TheVariants.{Controlling, Inner, Plain}
+use Rattle.decide_rules.specs.Nodes.{Node, Constant, Not, Logic, Expression, Whole}
+use Rattle.decide_rules.specs.Nodes as n
+use Rattle.decide_rules.specs.Roots.{is_root, is_inner}
+use Rattle.decide_rules.specs.Conditions.{width}
+use Rattle.decide_rules.specs.Counts.{one_where, roots, roots_in}
 use Rattle.mc_probe.specs.Maps.{Map}
 use Rattle.mc_probe.specs.Table.{Stand, Loose, InTree, base_of, mapped, round_condition, wrap, put, put_place, put_call, beside, role_of, under, plain_roots, test_roots}
 use Rattle.mc_probe.specs.Tree as p

@@ -5,5 +5,5 @@
 mod copies;
 mod program;
 
-pub use mc_map::InstrumentFault;
+pub use instrument_bits::InstrumentFault;
 pub use program::instrument;

@@ -15,7 +15,7 @@ use Rattle.mc_typed.specs.Views as plain
 use Rattle.mc_typed.specs.Sound.{Scope, AreArguments, AreFunctions, AreLaidOut, IsArgument, IsSlot, IsSlotOf, parameters_at, cells_at, object_type_at}
 use Rattle.mc_steps.specs.Runs.{Run, gives, after}
 use Rattle.mc_steps.specs.Calls as steps
-use Rattle.mc_words.specs.Words.{Holds}
+use Rattle.interp_words.specs.Words.{Holds}
 use Rattle.mc_probe.specs.Tree as p
 use Rattle.mc_probe.specs.Views as view
 use Rattle.mc_probe.specs.WellFormed.{FitArguments}

@@ -10,8 +10,8 @@ use Rattle.mc_typed.specs.declared.operators.Operator.TheVariants.{Binary}
 use Rattle.mc_typed.specs.declared.operators.LogicOperator.{LogicOperator}
 use Rattle.mc_steps.specs.Runs.{State, Run, gives, after}
 use Rattle.mc_steps.specs.Expressions.{as_does, goes_on, is_true, logic_does}
-use Rattle.mc_words.specs.Words.{number_of}
-use Rattle.mc_words.proofs.Numbers.{zero_words}
+use Rattle.interp_words.specs.Words.{number_of}
+use Rattle.interp_words.proofs.Numbers.{zero_words}
 use Rattle.mc_probe.specs.Flat.{Flat, Does, Activation, adds}
 use Rattle.mc_probe.specs.Probes.{condition_does}
 use Rattle.mc_probe.specs.Tree as p

@@ -7,8 +7,8 @@ use Rattle.mc_steps.specs.Statements.{Flow, Completed, Broke, Continued, Left, S
 use Rattle.mc_probe.specs.Flat.{Flat, Does, Runs, Activation}
 use Rattle.mc_probe.specs.Statements.{run, run_from}
 use Rattle.mc_probe.specs.Tree as tree
-use Rattle.mc_course.specs.Ends.{loop_end}
-use Rattle.mc_course.specs.declared.ends.Flow as code_flow
+use Rattle.interp_steps.specs.Ends.{loop_end}
+use Rattle.interp_steps.specs.declared.ends.Flow as code_flow
 use Rattle.mc_interp.specs.declared.flow.Label.{Label}
 use Rattle.mc_interp.specs.declared.store.Store.{Store}
 use Rattle.mc_interp.specs.Stores.{state_of, Did}

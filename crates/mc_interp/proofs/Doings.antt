@@ -3,7 +3,7 @@ use Rattle.std.proofs.Common.{◌≡◌, ℕ, ◌+◌, ◌≤◌, ℤ, Bool, tru
 use Rattle.mc_value.specs.declared.int_type.IntType.{IntType}
 use Rattle.mc_value.specs.declared.trap.Trap.TheVariants.{Unset}
 use Rattle.mc_value.specs.Conversions.{converted, promoted}
-use Rattle.mc_words.specs.Words.{Holds, IsRight, IsRightType}
+use Rattle.interp_words.specs.Words.{Holds, IsRight, IsRightType}
 use Rattle.mc_typed.specs.declared.operators.Operator.{Operator}
 use Rattle.mc_typed.specs.declared.operators.Operator.TheVariants.{Binary, Shift}
 use Rattle.mc_typed.specs.Layout.{ObjectType, cells}

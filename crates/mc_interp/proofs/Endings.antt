@@ -10,8 +10,8 @@ use Rattle.mc_probe.specs.Calls.{left}
 use Rattle.mc_probe.specs.Flat.{Flat, Does, Activation, flat, hits_some}
 use Rattle.mc_probe.specs.Statements.{run_from}
 use Rattle.mc_probe.specs.Tree as p
-use Rattle.mc_course.specs.declared.ends.Flow as code_flow
-use Rattle.mc_course.specs.declared.ends.Flow.TheVariants as ends
+use Rattle.interp_steps.specs.declared.ends.Flow as code_flow
+use Rattle.interp_steps.specs.declared.ends.Flow.TheVariants as ends
 use Rattle.mc_interp.specs.declared.store.Store.{Store}
 use Rattle.mc_interp.specs.declared.values.Given as code_given
 use Rattle.mc_interp.specs.Entries.{inside_of}

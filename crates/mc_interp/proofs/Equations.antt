@@ -13,9 +13,9 @@ use Rattle.mc_probe.specs.Probes.{mark_does}
 use Rattle.mc_probe.specs.Statements.{run, run_from}
 use Rattle.mc_probe.specs.Tree as p
 use Rattle.mc_probe.specs.WellFormed.{FitsAbsent, FitsMark, FitsStatement}
-use Rattle.mc_course.specs.Ends.{loop_end}
-use Rattle.mc_course.specs.declared.ends.Flow as code_flow
-use Rattle.mc_course.specs.declared.ends.Flow.TheVariants as ends
+use Rattle.interp_steps.specs.Ends.{loop_end}
+use Rattle.interp_steps.specs.declared.ends.Flow as code_flow
+use Rattle.interp_steps.specs.declared.ends.Flow.TheVariants as ends
 use Rattle.mc_interp.specs.declared.flow.Label.{Label}
 use Rattle.mc_interp.specs.declared.store.Store.{Store}
 use Rattle.mc_interp.specs.declared.values.Given.{Given}

@@ -2,7 +2,7 @@
 use Rattle.std.proofs.Common.{◌≡◌, ℕ, Bool, true, false, List, [], ◌++◌, Option, Some, None, refl, subst}
 use Rattle.mc_steps.specs.Runs.{State}
 use Rattle.mc_steps.specs.Statements.{Given, Left}
-use Rattle.mc_course.specs.Hits.{hits_after, hits_of_some}
+use Rattle.interp_steps.specs.Hits.{hits_after, hits_of_some}
 use Rattle.mc_probe.specs.Flat.{Flat, Does, Activation, hits_some}
 use Rattle.mc_probe.specs.Statements.{exit_does}
 use Rattle.mc_probe.specs.Tree as tree

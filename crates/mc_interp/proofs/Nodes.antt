@@ -13,7 +13,7 @@ use Rattle.mc_typed.specs.Sound.{HasOperands, operator_type}
 use Rattle.mc_steps.specs.Runs.{State, Run, gives, after, with_some, with_result}
 use Rattle.mc_steps.specs.Memories.{Lent}
 use Rattle.mc_steps.specs.Expressions.{operated, is_true, where_true, with_index, item_does, lent_item_does, binary_does, goes_on, logic_does, choice_does, as_does}
-use Rattle.mc_words.specs.Words.{number_of, result_of, Holds, IsRight, IsRightType}
+use Rattle.interp_words.specs.Words.{number_of, result_of, Holds, IsRight, IsRightType}
 use Rattle.mc_probe.specs.Flat.{Flat, Does, Activation, flat, sets, adds, hits, register, wrapped_sum}
 use Rattle.mc_probe.specs.Probes.{decision_does, condition_does}
 use Rattle.mc_interp.specs.declared.store.Store.{Store}

@@ -13,7 +13,7 @@ use Rattle.mc_steps.specs.Calls.{Passed, Target, passed_to}
 use Rattle.mc_steps.specs.Calls as steps
 use Rattle.mc_probe.specs.Calls.{targets}
 use Rattle.mc_probe.specs.Flat.{Activation, Flat, flat}
-use Rattle.mc_words.specs.Words.{Holds}
+use Rattle.interp_words.specs.Words.{Holds}
 use Rattle.mc_interp.specs.declared.store.Store.{Store}
 use Rattle.mc_interp.specs.declared.values.Passed as code
 use Rattle.mc_interp.specs.declared.values.Passed.TheVariants as passed

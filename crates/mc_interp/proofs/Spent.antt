@@ -6,7 +6,7 @@ use Rattle.mc_typed.specs.declared.plans.Ending.TheVariants as ending
 use Rattle.mc_value.specs.declared.int_type.IntType.{IntType}
 use Rattle.mc_typed.specs.Sound.{Scope, structure_type, type_of, IsExpression, IsReturn, IsStructure}
 use Rattle.mc_typed.specs.Tree as t
-use Rattle.mc_words.specs.Words.{Holds}
+use Rattle.interp_words.specs.Words.{Holds}
 use Rattle.mc_steps.specs.Runs.{State, Run, Out, Gave, Stopped, Acts, gives, stops, after, spends, with_fuel}
 use Rattle.mc_steps.specs.Expressions.{as_does}
 use Rattle.mc_steps.specs.Statements.{Completed, Left, Given, effect_does}

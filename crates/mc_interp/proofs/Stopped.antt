@@ -7,7 +7,7 @@ use Rattle.mc_value.specs.Conversions.{converted}
 use Rattle.mc_typed.specs.declared.operators.Operator.{Operator}
 use Rattle.mc_steps.specs.Runs.{State, Out, Gave, Stopped, Run, Acts, gives, traps, changes, with_some, with_result}
 use Rattle.mc_steps.specs.Expressions.{operated}
-use Rattle.mc_words.specs.Words.{number_of, result_of}
+use Rattle.interp_words.specs.Words.{number_of, result_of}
 use Rattle.mc_typed.specs.Sound.{operator_type}
 use Rattle.mc_probe.specs.Flat.{Flat, flat}
 use Rattle.mc_interp.specs.declared.store.Store.{Store}

@@ -9,7 +9,7 @@ use Rattle.mc_steps.specs.Statements.{Flow, Completed, Broke, Continued, Left, S
 use Rattle.mc_steps.specs.Statements as steps
 use Rattle.mc_steps.specs.Calls.{leaves, where_left}
 use Rattle.mc_steps.specs.Points.{initializes}
-use Rattle.mc_words.specs.Words.{number_of, Holds}
+use Rattle.interp_words.specs.Words.{number_of, Holds}
 use Rattle.mc_probe.specs.Calls.{left}
 use Rattle.mc_probe.specs.Erase.{erase_declarator, erase_statements}
 use Rattle.mc_probe.specs.Expressions.{evaluate}
@@ -17,8 +17,8 @@ use Rattle.mc_probe.specs.Flat.{Activation, Does, Runs, flat, hits_some}
 use Rattle.mc_probe.specs.Probes.{mark_does}
 use Rattle.mc_probe.specs.Statements.{declare, perform, perform_all, exit_does, returned, start_loop, run, run_from, loop_test}
 use Rattle.mc_probe.specs.Tree as probed
-use Rattle.mc_course.specs.declared.ends.Flow as code_flow
-use Rattle.mc_course.specs.declared.ends.Flow.TheVariants as ends
+use Rattle.interp_steps.specs.declared.ends.Flow as code_flow
+use Rattle.interp_steps.specs.declared.ends.Flow.TheVariants as ends
 use Rattle.mc_interp.specs.declared.flow.Seek as code_seek
 use Rattle.mc_interp.specs.declared.flow.Seek.TheVariants as seeks
 use Rattle.mc_interp.specs.declared.flow.Next as code_next

@@ -8,7 +8,7 @@ use Rattle.mc_typed.specs.Tree.{ParameterType, ResultType, Function}
 use Rattle.mc_typed.specs.Tree as typed
 use Rattle.mc_typed.specs.Sound.{parameters_at, result_at, IsSound}
 use Rattle.mc_typed.specs.Views as plain
-use Rattle.mc_words.specs.Words.{Holds}
+use Rattle.interp_words.specs.Words.{Holds}
 use Rattle.mc_probe.specs.Calls.{calls}
 use Rattle.mc_probe.specs.Trees.{Instrumented, tree_of}
 use Rattle.mc_interp.specs.declared.store.Store.{Store}

@@ -6,7 +6,7 @@ use Rattle.mc_steps.specs.Statements as give
 use Rattle.mc_steps.specs.Memories.{Lent}
 use Rattle.mc_steps.specs.Calls.{Passed, PassedNumber, PassedStructure, PassedArray}
 use Rattle.mc_value.specs.declared.int_type.IntType.{IntType}
-use Rattle.mc_words.specs.Words.{number_of, Holds}
+use Rattle.interp_words.specs.Words.{number_of, Holds}
 use Rattle.mc_probe.specs.Flat.{Flat}
 use Rattle.mc_interp.specs.declared.store.Store.{Store}
 use Rattle.mc_interp.specs.declared.values.Lent as code_lent

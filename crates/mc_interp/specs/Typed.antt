@@ -3,7 +3,7 @@ use Rattle.std.specs.Prelude.{◌≡◌, ℕ, ◌+◌, ◌<◌, ◌≤◌, ℤ, 
 use Rattle.mc_value.specs.declared.int_type.IntType.{IntType}
 use Rattle.mc_value.specs.IntTypes.{InRange}
 use Rattle.mc_typed.specs.Layout.{ObjectType, Array, cells, IsPart}
-use Rattle.mc_words.specs.Words.{Holds}
+use Rattle.interp_words.specs.Words.{Holds}
 use Rattle.mc_interp.specs.declared.values.Passed.{Passed}
 use Rattle.mc_interp.specs.declared.values.Passed.TheVariants as passed
 use Rattle.mc_interp.specs.declared.values.Lent as code

@@ -4,7 +4,7 @@ ghost use Rattle.std.specs.Prelude.{◌≡◌, option_map, IfSome};
 ghost use Rattle.mc_span.specs.declared.span.Span.{Span};
 ghost use Rattle.mc_typed.specs.declared.operators.Operator.TheVariants.{Binary};
 ghost use Rattle.mc_typed.specs.Sound.{HasOperands, IsExpression, type_of};
-ghost use Rattle.mc_words.specs.Words.{number_of, Holds};
+ghost use Rattle.interp_words.specs.Words.{number_of, Holds};
 ghost use Rattle.mc_steps.specs.Expressions as steps;
 ghost use Rattle.mc_probe.specs.Erase.{erase_expression};
 ghost use Rattle.mc_probe.specs.Expressions as does;
@@ -21,11 +21,11 @@ use crate::frame::{Called, Frame};
 use crate::prepared::{Leaf, Question, Relation, Test};
 use crate::steps::goes_on;
 use crate::store::Store;
-use mc_course::is_true;
-use mc_hits::Probe;
+use hit_sink::Probe;
+use interp_steps::is_true;
+use interp_words::{compare, word};
 use mc_typed::LogicOperator;
 use mc_value::IntType;
-use mc_words::{compare, word};
 
 /// The value of a leaf, where its object is set, or the run stops.
 #[inline(always)]

@@ -26,8 +26,8 @@ use crate::statements::statements;
 use crate::store::Store;
 use crate::values::{Given, Lent, Shape};
 use arrayvec::ArrayVec;
-use mc_course::{Flow, hit_after};
-use mc_hits::Probe;
+use hit_sink::Probe;
+use interp_steps::{Flow, hit_after};
 
 /// A body that completes gives nothing, and its closing brace is an exit.
 fn close<P: Probe>(flow: Flow, frame: &Frame<'_, '_, '_>, store: &mut Store, probe: &mut P)

@@ -5,7 +5,7 @@ ghost use Rattle.mc_typed.specs.Layout.{Scalar, cells as cells_of};
 ghost use Rattle.mc_typed.specs.Views as plain;
 ghost use Rattle.mc_typed.specs.Sound.{place_type, structure_type, type_of, HasOperands, IsExpression, IsPlace, IsStructure};
 ghost use Rattle.mc_value.specs.declared.int_type.IntType.{IntType};
-ghost use Rattle.mc_words.specs.Words.{number_of, Holds};
+ghost use Rattle.interp_words.specs.Words.{number_of, Holds};
 ghost use Rattle.mc_steps.specs.Expressions as steps;
 ghost use Rattle.mc_steps.specs.Runs.{spends};
 ghost use Rattle.mc_probe.specs.Flat.{flat};
@@ -24,7 +24,7 @@ ghost use Rattle.mc_interp.specs.Keeps.{KeepsBits, KeepsLimits, KeepsRows, Keeps
 use crate::expressions::{call, place, structure, truth, value};
 use crate::frame::{Called, Frame};
 use crate::store::Store;
-use mc_hits::Probe;
+use hit_sink::Probe;
 use mc_limits::MOST_RUN_OUTPUTS;
 use mc_typed::{Effect, Ending, Expression, FunctionCall, Operator, Place, Structure};
 use mc_value::IntType;

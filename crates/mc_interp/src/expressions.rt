@@ -5,7 +5,7 @@ ghost use Rattle.mc_value.specs.declared.int_type.IntType.{IntType};
 ghost use Rattle.mc_typed.specs.Sound.{IsExpression, IsPlace, IsStructure, compares, place_type, structure_type, type_of};
 ghost use Rattle.mc_typed.specs.declared.operators.Operator.TheVariants.{Binary};
 ghost use Rattle.mc_typed.specs.Views as plain;
-ghost use Rattle.mc_words.specs.Words.{number_of, Holds};
+ghost use Rattle.interp_words.specs.Words.{number_of, Holds};
 ghost use Rattle.mc_probe.specs.Expressions as does;
 ghost use Rattle.mc_probe.specs.Views as view;
 ghost use Rattle.mc_probe.specs.WellFormed.{Fits, FitsPlace, FitsStructure, FitsCall, FitArguments, FitsArgument};
@@ -22,11 +22,11 @@ use crate::steps::goes_on;
 use crate::store::Store;
 use crate::values::{Lent, MOST_PASSED, Passed};
 use arrayvec::ArrayVec;
-use mc_course::{in_order, is_true};
-use mc_hits::Probe;
+use hit_sink::Probe;
+use interp_steps::{in_order, is_true};
+use interp_words::{compare, convert, operate, unary, word};
 use mc_typed::{Argument, Expression, FunctionCall, Operator, Place, Probe as Mark, Structure};
 use mc_value::BinOp;
-use mc_words::{compare, convert, operate, unary, word};
 
 /// Whether a probe gives a truth value.
 fn tells_truth(probe: Mark) -> bool

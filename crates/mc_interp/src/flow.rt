@@ -5,7 +5,7 @@ ghost use Rattle.mc_interp.specs.Views as prepared;
 ghost use Rattle.mc_steps.specs.Statements as steps;
 
 use crate::prepared::Prepared;
-use mc_course::Flow;
+use interp_steps::Flow;
 use mc_typed::Mark;
 use mc_value::IntType;
 

@@ -8,7 +8,7 @@ ghost use Rattle.mc_typed.specs.Sound.{Scope, cells_at};
 ghost use Rattle.mc_probe.specs.Flat.{Activation, adds, flat, sets};
 ghost use Rattle.mc_steps.specs.Runs.{changes, gives, with_some};
 ghost use Rattle.mc_steps.specs.Expressions.{with_index};
-ghost use Rattle.mc_words.specs.Words.{number_of};
+ghost use Rattle.interp_words.specs.Words.{number_of};
 ghost use Rattle.mc_probe.specs.Expressions.{target};
 ghost use Rattle.mc_interp.specs.Typed.{IsPlaced};
 ghost use Rattle.mc_interp.specs.Stores.{lent_of, state_of, told, Did};
@@ -18,8 +18,8 @@ ghost use Rattle.mc_interp.specs.Keeps.{KeepsBits, KeepsLimits, KeepsRowsForAll}
 
 use crate::store::Store;
 use crate::values::{Lent, Passed, Shape};
-use mc_course::hit_path;
-use mc_hits::Probe;
+use hit_sink::Probe;
+use interp_steps::hit_path;
 use mc_probe::Instrumented;
 use mc_typed::{Function, Slot};
 use mc_value::{IntType, Trap};

@@ -19,7 +19,7 @@ ghost use Rattle.mc_interp.specs.Keeps.{KeepsBits, KeepsLimits, KeepsRows};
 use crate::expressions::{structure, value};
 use crate::frame::{Called, Frame};
 use crate::store::Store;
-use mc_hits::Probe;
+use hit_sink::Probe;
 use mc_typed::{Declarator, Expression, Initializer, Structure};
 
 /// How many cells an initializer sets.

@@ -2,7 +2,7 @@
 ghost use Rattle.std.specs.Prelude.{◌≡◌, ◌≤◌, Bool, Some, map};
 ghost use Rattle.mc_typed.specs.Sound.{Scope};
 ghost use Rattle.mc_steps.specs.Statements as steps;
-ghost use Rattle.mc_words.specs.Words.{number_of};
+ghost use Rattle.interp_words.specs.Words.{number_of};
 ghost use Rattle.mc_probe.specs.Flat.{Activation};
 ghost use Rattle.mc_probe.specs.Probes.{mark_does};
 ghost use Rattle.mc_probe.specs.Views as view;
@@ -18,11 +18,11 @@ use crate::flow::{Label, Seek, ends_switch, is_running, label_of};
 use crate::frame::Frame;
 use crate::prepared::Prepared;
 use crate::store::Store;
-use mc_course::{Flow, hit, take};
-use mc_hits::Probe;
+use hit_sink::Probe;
+use interp_steps::{Flow, hit, take};
+use interp_words::number;
 use mc_typed::Mark;
 use mc_value::IntType;
-use mc_words::number;
 
 /// Whether a label is the `case` of a value.
 fn is_case(label: Option<i128>, of: IntType, word: u64) -> bool

@@ -23,5 +23,5 @@ mod tests;
 mod values;
 
 pub use call_done::CallDone;
+pub use hit_sink::{ListProbe, Probe};
 pub use machine::Machine;
-pub use mc_hits::{ListProbe, Probe};

@@ -28,8 +28,8 @@ use crate::performed::perform;
 use crate::prepared::{Prepared, Step, Test};
 use crate::store::Store;
 use crate::values::Given;
-use mc_course::{Flow, hit, hit_after, spend_for};
-use mc_hits::Probe;
+use hit_sink::Probe;
+use interp_steps::{Flow, hit, hit_after, spend_for};
 use mc_typed::{Declarator, Ending, ForStart, ReturnValue};
 
 /// Whether a declaration has an initializer.

@@ -16,7 +16,7 @@ use crate::effects::effect;
 use crate::frame::{Called, Frame};
 use crate::prepared::Step;
 use crate::store::Store;
-use mc_hits::Probe;
+use hit_sink::Probe;
 use mc_typed::Operator;
 use mc_value::{BinOp, IntType};
 

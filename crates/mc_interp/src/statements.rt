@@ -26,8 +26,8 @@ use crate::parts::{
 use crate::performed::perform_all;
 use crate::prepared::{Prepared, Step, Test};
 use crate::store::Store;
-use mc_course::{Flow, loop_end};
-use mc_hits::Probe;
+use hit_sink::Probe;
+use interp_steps::{Flow, loop_end};
 
 /// The turns of a loop, from the next one on.
 #[cycle(statements)]

@@ -12,7 +12,7 @@ ghost use Rattle.mc_steps.specs.Runs.{gives, traps, changes, with_some, with_res
 ghost use Rattle.mc_steps.specs.Expressions as steps;
 ghost use Rattle.mc_steps.specs.Calls.{number_given, structure_given};
 ghost use Rattle.mc_cells.specs.Rows.{with_cells};
-ghost use Rattle.mc_words.specs.Words.{number_of, result_of, Holds, IsRight, IsRightType};
+ghost use Rattle.interp_words.specs.Words.{number_of, result_of, Holds, IsRight, IsRightType};
 ghost use Rattle.mc_value.specs.Conversions.{converted, promoted};
 ghost use Rattle.mc_probe.specs.Flat.{Activation, flat, value_in, with_register, wrapped_sum};
 ghost use Rattle.mc_probe.specs.Flat.{register as register_at};
@@ -23,10 +23,10 @@ ghost use Rattle.mc_interp.specs.Keeps.{KeepsLimits, KeepsRowsForAll};
 
 use crate::store::Store;
 use crate::values::Given;
-use mc_course::{add, item, set};
+use interp_steps::{add, item, set};
+use interp_words::{convert, operate};
 use mc_typed::{Ending, LogicOperator, Operator};
 use mc_value::{IntType, Trap, is_signed};
-use mc_words::{convert, operate};
 
 impl Store {
     /// The run stops in a trap.

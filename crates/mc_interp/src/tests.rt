@@ -22,13 +22,13 @@ use crate::frame::Called;
 use crate::store::Store;
 use crate::values::{MOST_PASSED, Passed, Shape};
 use arrayvec::ArrayVec;
-use mc_hits::Probe;
+use hit_sink::Probe;
+use interp_words::{number, word};
 use mc_limits::MOST_LEVELS;
 use mc_probe::Instrumented;
 use mc_stack::Stack;
 use mc_typed::{Call, Ending, ParameterType, ResultType};
 use mc_value::IntType;
-use mc_words::{number, word};
 
 /// A number that a test passes, for a parameter of its type.
 fn number_passed(of: IntType, value: i128) -> Passed

@@ -4,10 +4,10 @@ use Rattle.mc_span.specs.declared.span.Span.{Span}
 use Rattle.mc_typed.specs.declared.operators.Operator.{Operator}
 use Rattle.mc_typed.specs.Tree.{Expression}
 use Rattle.mc_typed.specs.Tree as t
-use Rattle.mc_roots.specs.declared.operators.FullOperator.{FullOperator}
-use Rattle.mc_roots.specs.Nodes.{Node}
-use Rattle.mc_roots.specs.Nodes as n
-use Rattle.mc_roots.specs.Roots as roots
+use Rattle.decide_rules.specs.declared.operators.FullOperator.{FullOperator}
+use Rattle.decide_rules.specs.Nodes.{Node}
+use Rattle.decide_rules.specs.Nodes as n
+use Rattle.decide_rules.specs.Roots as roots
 use Rattle.mc_steps.specs.Points.{is_constant}
 use Rattle.mc_meaning.specs.Laws.{ConstantsAgree}
 

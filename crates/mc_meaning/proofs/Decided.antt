@@ -3,17 +3,17 @@ use Rattle.std.proofs.Common.{◌≡◌, ◌∙◌, refl, sym, ap, ℕ, suc, ◌
 use Rattle.std.proofs.lemmas.List.{map-append}
 use Rattle.mc_cond.specs.Tree.{Tree}
 use Rattle.mc_typed.specs.Tree.{Function}
-use Rattle.mc_roots.specs.declared.role.Role.{Role}
-use Rattle.mc_roots.specs.declared.role.Role.TheVariants.{Controlling, Inner, Plain}
-use Rattle.mc_roots.specs.Nodes.{Node, Constant, Not, Logic, Expression, Whole, Parts, no_parts, part, controlling, function, functions, statements}
-use Rattle.mc_roots.specs.Nodes as n
-use Rattle.mc_roots.specs.Roots.{Found, is_constant, are_constant, is_candidate, operand_role}
-use Rattle.mc_roots.specs.Conditions.{tree_from}
-use Rattle.mc_roots.specs.steps.Walk.{inside, decision, decided}
-use Rattle.mc_roots.proofs.Listed.{under, unless, whole, in_node, in_parts}
-use Rattle.mc_roots.proofs.Listed as l
-use Rattle.mc_roots.proofs.Walked.{nodes_of, nodes_under, walks_parts}
-use Rattle.mc_roots.proofs.Only.{operands_are_inner}
+use Rattle.decide_rules.specs.declared.role.Role.{Role}
+use Rattle.decide_rules.specs.declared.role.Role.TheVariants.{Controlling, Inner, Plain}
+use Rattle.decide_rules.specs.Nodes.{Node, Constant, Not, Logic, Expression, Whole, Parts, no_parts, part, controlling, function, functions, statements}
+use Rattle.decide_rules.specs.Nodes as n
+use Rattle.decide_rules.specs.Roots.{Found, is_constant, are_constant, is_candidate, operand_role}
+use Rattle.decide_rules.specs.Conditions.{tree_from}
+use Rattle.decide_rules.specs.steps.Walk.{inside, decision, decided}
+use Rattle.decide_rules.proofs.Listed.{under, unless, whole, in_node, in_parts}
+use Rattle.decide_rules.proofs.Listed as l
+use Rattle.decide_rules.proofs.Walked.{nodes_of, nodes_under, walks_parts}
+use Rattle.decide_rules.proofs.Only.{operands_are_inner}
 use Rattle.mc_meaning.proofs.Numbered.{own, trees, trees_in}
 
 -- ---- in a constant there is none

@@ -7,20 +7,20 @@ use Rattle.mc_span.specs.declared.span.Span.{Span}
 use Rattle.mc_typed.specs.declared.operators.Operator.{Operator}
 use Rattle.mc_typed.specs.Tree.{Place, Expression, StructureValue, FunctionCall, Argument, Arguments, Effect, Initializer, Initializers, Declarator, ForStart, ReturnValue, Statement, Statements, Function, Program}
 use Rattle.mc_typed.specs.Tree as t
-use Rattle.mc_roots.specs.declared.operators.FullOperator.{FullOperator}
-use Rattle.mc_roots.specs.declared.operators.Junction.TheVariants.{Short, Full}
-use Rattle.mc_roots.specs.declared.role.Role.{Role}
-use Rattle.mc_roots.specs.declared.role.Role.TheVariants.{Controlling, Plain}
-use Rattle.mc_roots.specs.Nodes.{Node, Parts}
-use Rattle.mc_roots.specs.Nodes as n
-use Rattle.mc_roots.specs.Roots.{is_root, operand_role}
-use Rattle.mc_roots.specs.Conditions.{tree_from}
+use Rattle.decide_rules.specs.declared.operators.FullOperator.{FullOperator}
+use Rattle.decide_rules.specs.declared.operators.Junction.TheVariants.{Short, Full}
+use Rattle.decide_rules.specs.declared.role.Role.{Role}
+use Rattle.decide_rules.specs.declared.role.Role.TheVariants.{Controlling, Plain}
+use Rattle.decide_rules.specs.Nodes.{Node, Parts}
+use Rattle.decide_rules.specs.Nodes as n
+use Rattle.decide_rules.specs.Roots.{is_root, operand_role}
+use Rattle.decide_rules.specs.Conditions.{tree_from}
 use Rattle.mc_steps.specs.Runs.{State, Out, Gave, Stopped, gives, after, go_on}
 use Rattle.mc_steps.specs.Expressions.{unary_does, binary_does, logic_does, choice_does, as_does, input_does, read_does}
 use Rattle.mc_steps.specs.Calls.{Passed, PassedNumber, PassedArray, number_given, structure_given}
 use Rattle.mc_meaning.specs.Stores.{Path, Store, on_places}
 use Rattle.mc_steps.specs.Events.{Event, Entered, Exited, Started, Chosen, Evaluated}
-use Rattle.mc_roots.specs.Counts.{one_where, roots}
+use Rattle.decide_rules.specs.Counts.{one_where, roots}
 use Rattle.mc_meaning.specs.Within.{Does, Within, target}
 use Rattle.mc_meaning.specs.Positions.{past, into}
 use Rattle.mc_meaning.specs.Decisions.{Judged, value, as_condition, negated, holds, first_alone, both, in_full, full_does, where_full, tells, where_root, condition}

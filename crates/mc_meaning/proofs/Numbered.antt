@@ -2,12 +2,12 @@
 use Rattle.std.proofs.Common.{◌≡◌, ◌∙◌, refl, subst, ℕ, ◌+◌, Bool, true, false, List, [], ◌∷◌, ◌++◌, length, Some, arith, length-append}
 use Rattle.std.specs.Prelude.{slice_get}
 use Rattle.mc_cond.specs.Tree.{Tree}
-use Rattle.mc_roots.specs.declared.role.Role.{Role}
-use Rattle.mc_roots.specs.declared.role.Role.TheVariants.{Controlling, Plain}
-use Rattle.mc_roots.specs.Nodes.{Node, Constant, Not, Logic, Expression, Whole, Parts, no_parts, part, controlling}
-use Rattle.mc_roots.specs.Roots.{is_root, operand_role}
-use Rattle.mc_roots.specs.Conditions.{tree_from}
-use Rattle.mc_roots.specs.Counts.{one_where, roots, roots_in}
+use Rattle.decide_rules.specs.declared.role.Role.{Role}
+use Rattle.decide_rules.specs.declared.role.Role.TheVariants.{Controlling, Plain}
+use Rattle.decide_rules.specs.Nodes.{Node, Constant, Not, Logic, Expression, Whole, Parts, no_parts, part, controlling}
+use Rattle.decide_rules.specs.Roots.{is_root, operand_role}
+use Rattle.decide_rules.specs.Conditions.{tree_from}
+use Rattle.decide_rules.specs.Counts.{one_where, roots, roots_in}
 
 abbrev pub own : Bool → Node → List Tree
 own true a = tree_from 0 a ∷ []

@@ -10,12 +10,12 @@ use Rattle.mc_typed.specs.declared.plans.Ending.TheVariants.{Levels}
 use Rattle.mc_typed.specs.Tree.{ResultType, NoResult, NumberResult, StructureResult, Function, Program}
 use Rattle.mc_typed.specs.Sound.{result_at}
 use Rattle.mc_typed.specs.Plans.{Call}
-use Rattle.mc_roots.specs.declared.role.Role.TheVariants.{Plain}
-use Rattle.mc_roots.specs.Nodes.{function, functions}
-use Rattle.mc_roots.specs.Decisions.{Decision}
-use Rattle.mc_roots.specs.steps.Walk.{decided}
-use Rattle.mc_roots.proofs.Once.{one_list}
-use Rattle.mc_roots.proofs.Told.{are_decisions}
+use Rattle.decide_rules.specs.declared.role.Role.TheVariants.{Plain}
+use Rattle.decide_rules.specs.Nodes.{function, functions}
+use Rattle.decide_rules.specs.Decisions.{Decision}
+use Rattle.decide_rules.specs.steps.Walk.{decided}
+use Rattle.decide_rules.proofs.Once.{one_list}
+use Rattle.decide_rules.proofs.Told.{are_decisions}
 use Rattle.mc_steps.specs.Runs.{State, Out, Gave, Stopped, stops, lists, with_some}
 use Rattle.mc_steps.specs.Statements.{Given, Running}
 use Rattle.mc_steps.specs.Calls.{Passed, PassedNumber, lent_of, number_given, leaves, body_does}
@@ -23,7 +23,7 @@ use Rattle.mc_steps.specs.Tests.{TestRun, where_returned, calls_do, value_given}
 use Rattle.mc_steps.specs.Points.{points_before}
 use Rattle.mc_meaning.specs.Stores.{Path, Store, on_places}
 use Rattle.mc_steps.specs.Events.{Event, Entered, Exited, Started, Chosen, Evaluated}
-use Rattle.mc_roots.specs.Counts.{roots, roots_before}
+use Rattle.decide_rules.specs.Counts.{roots, roots_before}
 use Rattle.mc_meaning.specs.Within.{Does, Within}
 use Rattle.mc_meaning.specs.Statements.{run_from}
 use Rattle.mc_meaning.specs.Positions.{points_at_end}

@@ -4,10 +4,10 @@ use Rattle.mc_cond.specs.Tree.{Tree}
 use Rattle.mc_typed.specs.Tree.{Expression, Effect, Initializer, Initializers, Declarator, ForStart, ReturnValue, Statement, Statements}
 use Rattle.mc_typed.specs.Tree as t
 use Rattle.mc_typed.specs.Sound.{labels_of}
-use Rattle.mc_roots.specs.declared.role.Role.{Role}
-use Rattle.mc_roots.specs.declared.role.Role.TheVariants.{Controlling, Plain}
-use Rattle.mc_roots.specs.Nodes.{Node}
-use Rattle.mc_roots.specs.Nodes as n
+use Rattle.decide_rules.specs.declared.role.Role.{Role}
+use Rattle.decide_rules.specs.declared.role.Role.TheVariants.{Controlling, Plain}
+use Rattle.decide_rules.specs.Nodes.{Node}
+use Rattle.decide_rules.specs.Nodes as n
 use Rattle.mc_steps.specs.Runs.{gives, lists, after}
 use Rattle.mc_steps.specs.Statements.{Number, Structure, Flow, Completed, Broke, Continued, Left, Seek, Running, effect_does, switch_does, do_does, loop_does}
 use Rattle.mc_steps.specs.Expressions.{both_do, as_does, choice_does, is_true}

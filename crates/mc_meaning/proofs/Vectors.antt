@@ -12,17 +12,17 @@ use Rattle.mc_typed.specs.declared.operators.LogicOperator.TheVariants as logic
 use Rattle.mc_span.specs.declared.span.Span.{Span}
 use Rattle.mc_typed.specs.Tree.{Expression}
 use Rattle.mc_typed.specs.Tree as t
-use Rattle.mc_roots.specs.declared.operators.FullOperator.{FullOperator}
-use Rattle.mc_roots.specs.declared.operators.FullOperator.TheVariants as full
-use Rattle.mc_roots.specs.declared.operators.Junction.{Junction}
-use Rattle.mc_roots.specs.declared.operators.Junction.TheVariants.{Short, Full}
-use Rattle.mc_roots.specs.declared.role.Role.{Role}
-use Rattle.mc_roots.specs.declared.role.Role.TheVariants.{Controlling, Plain}
-use Rattle.mc_roots.specs.Nodes.{Node}
-use Rattle.mc_roots.specs.Nodes as n
-use Rattle.mc_roots.specs.Roots.{is_root, operand_role}
-use Rattle.mc_roots.specs.Conditions.{width, tree_from, joined}
-use Rattle.mc_roots.proofs.Trees.{numbered_from, size_of_tree}
+use Rattle.decide_rules.specs.declared.operators.FullOperator.{FullOperator}
+use Rattle.decide_rules.specs.declared.operators.FullOperator.TheVariants as full
+use Rattle.decide_rules.specs.declared.operators.Junction.{Junction}
+use Rattle.decide_rules.specs.declared.operators.Junction.TheVariants.{Short, Full}
+use Rattle.decide_rules.specs.declared.role.Role.{Role}
+use Rattle.decide_rules.specs.declared.role.Role.TheVariants.{Controlling, Plain}
+use Rattle.decide_rules.specs.Nodes.{Node}
+use Rattle.decide_rules.specs.Nodes as n
+use Rattle.decide_rules.specs.Roots.{is_root, operand_role}
+use Rattle.decide_rules.specs.Conditions.{width, tree_from, joined}
+use Rattle.decide_rules.proofs.Trees.{numbered_from, size_of_tree}
 use Rattle.mc_steps.specs.Runs.{Out, Gave, Stopped, gives, after}
 use Rattle.mc_steps.specs.Expressions.{is_true, where_true, goes_on, logic_does, as_does, read_does, unary_does, binary_does, choice_does, input_does}
 use Rattle.mc_steps.specs.Calls.{number_given}

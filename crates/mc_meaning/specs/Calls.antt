@@ -5,7 +5,7 @@ use Rattle.mc_typed.specs.declared.plans.Ending.TheVariants.{Levels}
 use Rattle.mc_typed.specs.Tree.{Object, Function, Program}
 use Rattle.mc_typed.specs.Levels.{levels_of}
 use Rattle.mc_typed.specs.Frames.{frame_of}
-use Rattle.mc_roots.specs.Counts.{roots_before}
+use Rattle.decide_rules.specs.Counts.{roots_before}
 use Rattle.mc_steps.specs.Runs.{stops, spends, lists, with_some}
 use Rattle.mc_steps.specs.Events.{Entered, Exited}
 use Rattle.mc_steps.specs.Statements.{Given, Running}

@@ -5,12 +5,12 @@ use Rattle.mc_value.specs.Arithmetic.{truth}
 use Rattle.mc_cond.specs.Order.{Answer}
 use Rattle.mc_cond.specs.Vectors.{Evaluation, xor}
 use Rattle.mc_typed.specs.Tree.{Expression}
-use Rattle.mc_roots.specs.declared.operators.FullOperator.{FullOperator}
-use Rattle.mc_roots.specs.declared.operators.FullOperator.TheVariants as full
-use Rattle.mc_roots.specs.declared.role.Role.{Role}
-use Rattle.mc_roots.specs.Nodes as nodes
-use Rattle.mc_roots.specs.Roots.{is_root, operand_role}
-use Rattle.mc_roots.specs.Conditions.{width}
+use Rattle.decide_rules.specs.declared.operators.FullOperator.{FullOperator}
+use Rattle.decide_rules.specs.declared.operators.FullOperator.TheVariants as full
+use Rattle.decide_rules.specs.declared.role.Role.{Role}
+use Rattle.decide_rules.specs.Nodes as nodes
+use Rattle.decide_rules.specs.Roots.{is_root, operand_role}
+use Rattle.decide_rules.specs.Conditions.{width}
 use Rattle.mc_steps.specs.Runs.{gives, lists, ◌>>=◌}
 use Rattle.mc_steps.specs.Events.{Chosen, Evaluated}
 use Rattle.mc_steps.specs.Expressions.{is_true, as_does}

@@ -3,9 +3,9 @@ use Rattle.std.specs.Prelude.{List, [], slice_get, option_map}
 use Rattle.mc_value.specs.Conversions.{converted}
 use Rattle.mc_typed.specs.Tree.{Place, Expression, StructureValue, FunctionCall, Argument, Arguments}
 use Rattle.mc_typed.specs.Tree as typed
-use Rattle.mc_roots.specs.declared.role.Role.{Role}
-use Rattle.mc_roots.specs.declared.role.Role.TheVariants.{Controlling, Plain}
-use Rattle.mc_roots.specs.Nodes as nodes
+use Rattle.decide_rules.specs.declared.role.Role.{Role}
+use Rattle.decide_rules.specs.declared.role.Role.TheVariants.{Controlling, Plain}
+use Rattle.decide_rules.specs.Nodes as nodes
 use Rattle.mc_steps.specs.Runs.{gives, ◌>>=◌}
 use Rattle.mc_steps.specs.Expressions.{item_does, lent_item_does, read_does, unary_does, binary_does, logic_does, choice_does, as_does, input_does}
 use Rattle.mc_steps.specs.Statements.{Given}

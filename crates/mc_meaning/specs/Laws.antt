@@ -3,11 +3,11 @@ use Rattle.std.specs.Prelude.{◌≡◌, ℕ, List, slice_get, Some, All}
 use Rattle.mc_cond.specs.Vectors.{IsVector}
 use Rattle.mc_typed.specs.Tree.{Expression, Program}
 use Rattle.mc_typed.specs.Plans.{Plan}
-use Rattle.mc_roots.specs.declared.role.Role.{Role}
-use Rattle.mc_roots.specs.Nodes as nodes
-use Rattle.mc_roots.specs.Roots as roots
-use Rattle.mc_roots.specs.Conditions.{tree_from}
-use Rattle.mc_roots.specs.Decisions.{Decision, AreDecisions}
+use Rattle.decide_rules.specs.declared.role.Role.{Role}
+use Rattle.decide_rules.specs.Nodes as nodes
+use Rattle.decide_rules.specs.Roots as roots
+use Rattle.decide_rules.specs.Conditions.{tree_from}
+use Rattle.decide_rules.specs.Decisions.{Decision, AreDecisions}
 use Rattle.mc_steps.specs.Runs.{State, Gave}
 use Rattle.mc_steps.specs.Points as points
 use Rattle.mc_meaning.specs.Stores.{Store}

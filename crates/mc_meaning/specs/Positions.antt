@@ -2,12 +2,12 @@
 -- labels come before them. Their events have these numbers.
 use Rattle.std.specs.Prelude.{◌+◌, List, Option}
 use Rattle.mc_typed.specs.Tree.{Expression, Effect, ForStart, Statement, Statements, Function}
-use Rattle.mc_roots.specs.declared.role.Role.{Role}
-use Rattle.mc_roots.specs.declared.role.Role.TheVariants.{Plain}
-use Rattle.mc_roots.specs.Nodes.{Node}
-use Rattle.mc_roots.specs.Nodes as nodes
-use Rattle.mc_roots.specs.Roots.{is_root}
-use Rattle.mc_roots.specs.Counts.{one_where, roots}
+use Rattle.decide_rules.specs.declared.role.Role.{Role}
+use Rattle.decide_rules.specs.declared.role.Role.TheVariants.{Plain}
+use Rattle.decide_rules.specs.Nodes.{Node}
+use Rattle.decide_rules.specs.Nodes as nodes
+use Rattle.decide_rules.specs.Roots.{is_root}
+use Rattle.decide_rules.specs.Counts.{one_where, roots}
 use Rattle.mc_steps.specs.Points.{Points, ◌⊕◌, a_statement, has_default, where_absent, points_of, points_of_all}
 use Rattle.mc_meaning.specs.Within.{Within}
 

@@ -3,8 +3,8 @@ use Rattle.std.specs.Prelude.{ℕ, suc, pos, Bool, true, false, List, [], ◌∷
 use Rattle.mc_typed.specs.Tree.{Expression, Effect, Initializer, Initializers, Declarator, ForStart, ReturnValue, Statement, Statements}
 use Rattle.mc_typed.specs.Tree as typed
 use Rattle.mc_typed.specs.Sound.{labels_of}
-use Rattle.mc_roots.specs.declared.role.Role.TheVariants.{Controlling, Plain}
-use Rattle.mc_roots.specs.Nodes as nodes
+use Rattle.decide_rules.specs.declared.role.Role.TheVariants.{Controlling, Plain}
+use Rattle.decide_rules.specs.Nodes as nodes
 use Rattle.mc_steps.specs.Runs.{gives, lists, ◌>>=◌, changes}
 use Rattle.mc_steps.specs.Events.{Exited, Started}
 use Rattle.mc_steps.specs.Expressions.{is_true, assign_does, update_does, copy_does, choice_does, as_does, drop_does, both_do, output_does}

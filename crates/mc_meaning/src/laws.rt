@@ -12,7 +12,7 @@ pub fn evaluations_are_of_decisions()
     ensures { EvaluationsAreOfDecisions }
 {}
 
-/// The integer constant expressions of `mc_steps` are those of `mc_roots`.
+/// The integer constant expressions of `mc_steps` are those of `decide_rules`.
 pub fn constants_agree()
     ensures { ConstantsAgree }
 {}

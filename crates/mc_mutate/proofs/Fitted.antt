@@ -3,7 +3,7 @@
 use Rattle.std.proofs.Common.{◌≡◌, subst, ℕ, zero, suc, ◌-◌, List, [], ◌∷◌, slice_get}
 use Rattle.mc_typed.specs.Plans.{Call, Plan, CallFits, CallsFit, Fits}
 use Rattle.mc_typed.specs.Tree.{Function, Program}
-use Rattle.mc_roots.specs.Nodes as n
+use Rattle.decide_rules.specs.Nodes as n
 use Rattle.mc_mutate.specs.declared.search.sought.Sought.{Sought}
 use Rattle.mc_mutate.specs.declared.search.sought.Sought.TheVariants.{Left}
 use Rattle.mc_mutate.specs.Mutants.{IsMutant}

@@ -17,14 +17,14 @@ use Rattle.mc_probe.specs.Tests.{run_of}
 use Rattle.mc_probe.specs.Tree.{Tree}
 use Rattle.mc_probe.specs.Trees.{Instrumented, tree_of}
 use Rattle.mc_probe.proofs.Backs.{program_back}
-use Rattle.mc_simulation.proofs.BareRuns.{bare_simulated}
+use Rattle.laws_simulation.proofs.BareRuns.{bare_simulated}
 use Rattle.mc_interp.specs.Machines.{Machine, ran_of}
 use Rattle.mc_cover.specs.declared.view.View.{View}
-use Rattle.mc_crew.specs.Crew.{IsAtWork}
-use Rattle.mc_crew.specs.Led.{stays}
-use Rattle.mc_crew.specs.Recorder.{RecorderView, Leads, claimed}
-use Rattle.mc_crew.proofs.Crew.{claims_are_worked}
-use Rattle.mc_crew.proofs.Stamps.{only}
+use Rattle.cover_recorder.specs.Crew.{IsAtWork}
+use Rattle.cover_recorder.specs.Led.{stays}
+use Rattle.cover_recorder.specs.Recorder.{RecorderView, Leads, claimed}
+use Rattle.cover_recorder.proofs.Crew.{claims_are_worked}
+use Rattle.cover_recorder.proofs.Stamps.{only}
 use Rattle.mc_mutate.specs.declared.kills.original.Original.{Original}
 use Rattle.mc_mutate.specs.Kills.{Shown, KillsAtItem, does_of, shown, shown_from}
 use Rattle.mc_mutate.specs.Mutants.{IsMutant, count}

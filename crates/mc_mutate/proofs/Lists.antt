@@ -5,8 +5,8 @@ use Rattle.mc_typed.specs.Tree as t
 use Rattle.mc_probe.specs.Bare.{bare_argument, bare_arguments, bare_initializer, bare_initializers, bare_statement, bare_statements}
 use Rattle.mc_probe.specs.Tree as p
 use Rattle.mc_probe.specs.Views as probed
-use Rattle.mc_roots.specs.declared.role.Role.TheVariants.{Plain}
-use Rattle.mc_roots.specs.Nodes as n
+use Rattle.decide_rules.specs.declared.role.Role.TheVariants.{Plain}
+use Rattle.decide_rules.specs.Nodes as n
 use Rattle.mc_mutate.specs.declared.search.sought.Sought.{Sought}
 use Rattle.mc_mutate.specs.steps.Search.{searched}
 use Rattle.mc_mutate.specs.steps.Changed.{argument_changed, arguments_changed, initializer_changed, initializers_changed, statement_changed, statements_changed}

@@ -3,9 +3,9 @@ use Rattle.std.proofs.Common.{◌≡◌, ◌∙◌, refl, ap, List, [], ◌∷�
 use Rattle.mc_typed.specs.declared.expressions.Slot.{Slot}
 use Rattle.mc_typed.specs.Tree as t
 use Rattle.mc_typed.specs.Frames.{optional, slots_place, slots, slots_structure, slots_call, slots_argument, slots_arguments, slots_effect, slots_effects, slots_initializer, slots_initializers, slots_value, slots_declarators, slots_start, slots_optional, slots_return, slots_statement, slots_statements}
-use Rattle.mc_roots.specs.declared.role.Role.{Role}
-use Rattle.mc_roots.specs.declared.role.Role.TheVariants.{Controlling, Inner, Plain}
-use Rattle.mc_roots.specs.Nodes as n
+use Rattle.decide_rules.specs.declared.role.Role.{Role}
+use Rattle.decide_rules.specs.declared.role.Role.TheVariants.{Controlling, Inner, Plain}
+use Rattle.decide_rules.specs.Nodes as n
 use Rattle.mc_mutate.specs.declared.search.sought.Sought.{Sought}
 use Rattle.mc_mutate.specs.Mutants.{under}
 use Rattle.mc_mutate.specs.steps.Search.{inside_parts, searched}

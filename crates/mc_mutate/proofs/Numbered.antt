@@ -2,14 +2,14 @@
 use Rattle.std.proofs.Common.{◌≡◌, ◌∙◌, sym, subst, ℕ, ◌+◌, ◌-◌, ◌<◌, ◌≤◌, List, length, arith, ◌*◌}
 use Rattle.mc_typed.specs.Levels.{limited}
 use Rattle.mc_typed.specs.Tree.{Program}
-use Rattle.mc_roots.specs.Nodes as n
+use Rattle.decide_rules.specs.Nodes as n
 use Rattle.mc_mutate.specs.declared.changes.Change.{Change}
 use Rattle.mc_mutate.specs.declared.search.sought.Sought.{Sought}
 use Rattle.mc_mutate.specs.declared.search.sought.Sought.TheVariants.{Left, Found}
 use Rattle.mc_mutate.specs.Changes.{Mutant}
 use Rattle.mc_mutate.specs.Mutants.{mutants, count, IsChange}
 use Rattle.mc_mutate.specs.steps.Search.{inside_parts}
-use Rattle.mc_roots.specs.Decisions.{Decision, AreDecisions}
+use Rattle.decide_rules.specs.Decisions.{Decision, AreDecisions}
 use Rattle.mc_mutate.specs.Laws.{conditions_in}
 use Rattle.mc_mutate.proofs.Small.{counts_are_small}
 use Rattle.mc_mutate.proofs.Past.{IsSought, is_sought}

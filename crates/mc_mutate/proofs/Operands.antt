@@ -11,9 +11,9 @@ use Rattle.mc_typed.specs.declared.expressions.Argument.TheFolds.{fold-roll-Expr
 use Rattle.mc_typed.specs.Tree as t
 use Rattle.mc_typed.specs.Views as plain
 use Rattle.mc_typed.specs.Views.{expression_of}
-use Rattle.mc_roots.specs.declared.operators.FullOperator.{FullOperator}
-use Rattle.mc_roots.specs.declared.role.Role.{Role}
-use Rattle.mc_roots.specs.Nodes as n
+use Rattle.decide_rules.specs.declared.operators.FullOperator.{FullOperator}
+use Rattle.decide_rules.specs.declared.role.Role.{Role}
+use Rattle.decide_rules.specs.Nodes as n
 use Rattle.mc_mutate.specs.declared.search.sought.Sought.{Sought}
 use Rattle.mc_mutate.specs.Mutants.{under}
 use Rattle.mc_mutate.specs.steps.Search.{inside, searched}

@@ -1,9 +1,9 @@
 -- What a search makes of a part is the mutant of the part that has the number, or the part as it is.
 use Rattle.std.proofs.Common.{◌≡◌, List, [], ◌∷◌, Option, Some, None}
 use Rattle.mc_typed.specs.Tree as t
-use Rattle.mc_roots.specs.declared.role.Role.{Role}
-use Rattle.mc_roots.specs.declared.role.Role.TheVariants.{Controlling, Inner, Plain}
-use Rattle.mc_roots.specs.Nodes as n
+use Rattle.decide_rules.specs.declared.role.Role.{Role}
+use Rattle.decide_rules.specs.declared.role.Role.TheVariants.{Controlling, Inner, Plain}
+use Rattle.decide_rules.specs.Nodes as n
 use Rattle.mc_mutate.specs.declared.search.sought.Sought.{Sought}
 use Rattle.mc_mutate.specs.Mutants as m
 use Rattle.mc_mutate.specs.steps.Search.{inside_parts, searched}

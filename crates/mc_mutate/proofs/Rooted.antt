@@ -2,12 +2,12 @@
 use Rattle.std.proofs.Common.{◌≡◌, ◌∙◌, refl, sym, ap, ℕ, suc, Bool, true, false, List, [], ◌∷◌, ◌++◌, map}
 use Rattle.mc_span.specs.declared.span.Span.{Span}
 use Rattle.mc_typed.specs.Tree.{Program}
-use Rattle.mc_roots.specs.declared.role.Role.{Role}
-use Rattle.mc_roots.specs.declared.role.Role.TheVariants.{Controlling, Inner, Plain}
-use Rattle.mc_roots.specs.Nodes as n
-use Rattle.mc_roots.specs.Roots.{Found, is_constant, is_candidate, is_root}
-use Rattle.mc_roots.specs.Decisions.{Decision, AreDecisions}
-use Rattle.mc_roots.proofs.Listed.{under, whole, in_node, in_parts}
+use Rattle.decide_rules.specs.declared.role.Role.{Role}
+use Rattle.decide_rules.specs.declared.role.Role.TheVariants.{Controlling, Inner, Plain}
+use Rattle.decide_rules.specs.Nodes as n
+use Rattle.decide_rules.specs.Roots.{Found, is_constant, is_candidate, is_root}
+use Rattle.decide_rules.specs.Decisions.{Decision, AreDecisions}
+use Rattle.decide_rules.proofs.Listed.{under, whole, in_node, in_parts}
 use Rattle.mc_mutate.specs.declared.changes.Change.{Change}
 use Rattle.mc_mutate.specs.declared.changes.MutantKind.TheVariants.{Exchanged}
 use Rattle.mc_mutate.specs.declared.search.sought.Sought.{Sought}
@@ -19,7 +19,7 @@ use Rattle.mc_mutate.specs.steps.Search.{pass, passed, past, in_nodes, in_condit
 use Rattle.mc_mutate.proofs.Past.{stays, passes}
 use Rattle.mc_mutate.proofs.Listed.{mutants_found}
 use Rattle.mc_mutate.proofs.Small.{own_still, constant_still, never_in, yes_in, is_one, is_none}
-use Rattle.mc_roots.proofs.Once.{same_roots}
+use Rattle.decide_rules.proofs.Once.{same_roots}
 
 -- a search that passes these changes
 abbrev along : List Change → Sought → Sought

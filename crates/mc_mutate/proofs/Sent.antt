@@ -2,7 +2,7 @@
 use denote.Param.Send.{IsSend, recorded_send, sendable, struct_send}
 use denote.Ref.{NamedLft}
 use denote.Struct.Declared.{shape}
-use Rattle.mc_crew.proofs.recorder.Recorder.TheSendSync as recorders
+use Rattle.cover_recorder.proofs.recorder.Recorder.TheSendSync as recorders
 use Rattle.mc_mutate.specs.contracts.kills.runs.Job
 use Rattle.mc_mutate.proofs.Shared.{task}
 

@@ -5,7 +5,7 @@ use Rattle.std.proofs.Crossing as std
 use Rattle.mc_cond.specs.contracts.tree.CondTree
 use Rattle.mc_cond.proofs.tree.CondTree.TheLaws.TheKnot as trees
 use Rattle.mc_typed.proofs.Shared as tree
-use Rattle.mc_roots.specs.contracts.decision.Decision
+use Rattle.decide_rules.specs.contracts.decision.Decision
 use Rattle.mc_mutate.specs.contracts.kills.runs.Task
 
 pub conditions : IsSync (CondTree.the_field).row

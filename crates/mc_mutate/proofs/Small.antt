@@ -2,18 +2,18 @@
 use Rattle.std.proofs.Common.{◌≡◌, ◌∙◌, refl, sym, ap, subst, ℕ, zero, suc, ◌+◌, ◌*◌, ◌≤◌, Bool, true, false, not, ◌&&◌, if◌then◌else◌, List, [], ◌∷◌, ◌++◌, map, length, add-one, arith}
 use Rattle.mc_span.specs.declared.span.Span.{Span}
 use Rattle.mc_typed.specs.Tree as t
-use Rattle.mc_roots.specs.declared.role.Role.{Role}
-use Rattle.mc_roots.specs.declared.role.Role.TheVariants.{Controlling, Inner, Plain}
-use Rattle.mc_roots.specs.Nodes as n
-use Rattle.mc_roots.specs.Roots.{Found, is_constant, are_constant, is_candidate, is_root}
-use Rattle.mc_roots.specs.Conditions.{width}
-use Rattle.mc_roots.specs.Decisions.{Decision, AreDecisions}
-use Rattle.mc_roots.specs.steps.Walk as walk
-use Rattle.mc_roots.proofs.Listed.{under, whole, in_node, in_parts}
-use Rattle.mc_roots.proofs.Walked.{nodes_of, walks}
-use Rattle.mc_roots.proofs.Trees.{length_spans}
-use Rattle.mc_roots.proofs.Told.{are_decisions}
-use Rattle.mc_roots.proofs.Once.{one_list}
+use Rattle.decide_rules.specs.declared.role.Role.{Role}
+use Rattle.decide_rules.specs.declared.role.Role.TheVariants.{Controlling, Inner, Plain}
+use Rattle.decide_rules.specs.Nodes as n
+use Rattle.decide_rules.specs.Roots.{Found, is_constant, are_constant, is_candidate, is_root}
+use Rattle.decide_rules.specs.Conditions.{width}
+use Rattle.decide_rules.specs.Decisions.{Decision, AreDecisions}
+use Rattle.decide_rules.specs.steps.Walk as walk
+use Rattle.decide_rules.proofs.Listed.{under, whole, in_node, in_parts}
+use Rattle.decide_rules.proofs.Walked.{nodes_of, walks}
+use Rattle.decide_rules.proofs.Trees.{length_spans}
+use Rattle.decide_rules.proofs.Told.{are_decisions}
+use Rattle.decide_rules.proofs.Once.{one_list}
 use Rattle.mc_mutate.specs.declared.changes.Change.{Change}
 use Rattle.mc_mutate.specs.declared.changes.MutantKind.{MutantKind}
 use Rattle.mc_mutate.specs.declared.changes.MutantKind.TheVariants.{Exchanged, Negated, FixedTrue, FixedFalse, Shifted}

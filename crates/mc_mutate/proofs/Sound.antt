@@ -6,10 +6,10 @@ use Rattle.mc_typed.specs.declared.expressions.Slot.{Slot}
 use Rattle.mc_typed.specs.Layout.{ObjectType, Scalar, Array, Structure, Members, no_members, members, cells}
 use Rattle.mc_typed.specs.Tree as t
 use Rattle.mc_typed.specs.Sound.{Scope, parameters_at, result_at, element_of, length_of, member_of, offset_of, place_type, type_of, structure_result, structure_type, IsStructureType, Takes, IsPlace, IsExpression, IsStructure, IsCall, IsStructureCall, AreArguments, IsArgument, IsCast, IsEffect, count_of, IsInitializer, AreElements, AreMembers, IsInitial, AreDeclarators, AreClauses, IsStart, IsTest, IsReturn, Around, inside, in_loop, in_switch, labels_of, Differ, IsStatement, AreStatements, outermost, scope_of, IsFunction, AreFunctions, IsSound}
-use Rattle.mc_roots.specs.declared.operators.FullOperator.{FullOperator}
-use Rattle.mc_roots.specs.declared.role.Role.{Role}
-use Rattle.mc_roots.specs.declared.role.Role.TheVariants.{Controlling, Inner, Plain}
-use Rattle.mc_roots.specs.Nodes as n
+use Rattle.decide_rules.specs.declared.operators.FullOperator.{FullOperator}
+use Rattle.decide_rules.specs.declared.role.Role.{Role}
+use Rattle.decide_rules.specs.declared.role.Role.TheVariants.{Controlling, Inner, Plain}
+use Rattle.decide_rules.specs.Nodes as n
 use Rattle.mc_mutate.specs.declared.changes.Change.{Change}
 use Rattle.mc_mutate.specs.declared.changes.MutantKind.TheVariants.{Negated}
 use Rattle.mc_mutate.specs.declared.search.sought.Sought.{Sought}

@@ -6,9 +6,9 @@ use Rattle.mc_core.specs.declared.shape.Shape.{Shape}
 use Rattle.mc_cover.specs.declared.view.View.{View}
 use Rattle.mc_cover.specs.Model.{CoverView}
 use Rattle.mc_cover.specs.Views.{opener}
-use Rattle.mc_crew.specs.Crew.{HasWorked, IsAtWork}
-use Rattle.mc_crew.specs.Recorder.{RecorderView, bits_of, claimed, ended, fresh, pass_of}
-use Rattle.mc_crew.proofs.Crew.{none_hit}
+use Rattle.cover_recorder.specs.Crew.{HasWorked, IsAtWork}
+use Rattle.cover_recorder.specs.Recorder.{RecorderView, bits_of, claimed, ended, fresh, pass_of}
+use Rattle.cover_recorder.proofs.Crew.{none_hit}
 use Rattle.mc_mutate.specs.Runs.{HasCome, HasDrawn, IsFresh}
 
 -- one that is new is at work

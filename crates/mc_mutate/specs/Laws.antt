@@ -7,7 +7,7 @@ use Rattle.mc_typed.specs.declared.operators.LogicOperator.TheVariants.{And, Or}
 use Rattle.mc_typed.specs.Tree.{Expression, Program}
 use Rattle.mc_typed.specs.Sound.{IsSound}
 use Rattle.mc_typed.specs.Tree as typed
-use Rattle.mc_roots.specs.Decisions.{Decision, AreDecisions}
+use Rattle.decide_rules.specs.Decisions.{Decision, AreDecisions}
 use Rattle.mc_mutate.specs.declared.changes.MutantKind.TheVariants.{Exchanged, Negated, FixedTrue, FixedFalse, Shifted}
 use Rattle.mc_mutate.specs.Changes.{truth_at}
 use Rattle.mc_mutate.specs.Mutants.{mutants, count, IsMutant}

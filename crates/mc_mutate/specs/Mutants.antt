@@ -3,12 +3,12 @@
 use Rattle.std.specs.Prelude.{◌≡◌, ℕ, ◌-◌, ◌≤◌, Bool, true, false, List, [], ◌∷◌, ◌++◌, length, slice_get, Option, Some, None, option_map}
 use Rattle.mc_typed.specs.Tree.{Place, Expression, StructureValue, FunctionCall, Argument, Arguments, Effect, Initializer, Initializers, Declarator, ForStart, ReturnValue, Statement, Statements, Function, Program}
 use Rattle.mc_typed.specs.Tree as typed
-use Rattle.mc_roots.specs.declared.role.Role.{Role}
-use Rattle.mc_roots.specs.declared.role.Role.TheVariants.{Controlling, Inner, Plain}
-use Rattle.mc_roots.specs.declared.operators.FullOperator.{FullOperator}
-use Rattle.mc_roots.specs.Nodes.{full_operator}
-use Rattle.mc_roots.specs.Nodes as nodes
-use Rattle.mc_roots.specs.Roots.{is_root}
+use Rattle.decide_rules.specs.declared.role.Role.{Role}
+use Rattle.decide_rules.specs.declared.role.Role.TheVariants.{Controlling, Inner, Plain}
+use Rattle.decide_rules.specs.declared.operators.FullOperator.{FullOperator}
+use Rattle.decide_rules.specs.Nodes.{full_operator}
+use Rattle.decide_rules.specs.Nodes as nodes
+use Rattle.decide_rules.specs.Roots.{is_root}
 use Rattle.mc_mutate.specs.declared.changes.Change.{Change}
 use Rattle.mc_mutate.specs.Changes.{Mutant, within, of_decision}
 

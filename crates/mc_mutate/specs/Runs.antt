@@ -7,8 +7,8 @@ use Rattle.mc_typed.specs.Views.{program_of}
 use Rattle.mc_typed.specs.Plans.{Plan, Fits, plan_of}
 use Rattle.mc_cover.specs.Model.{CoverView, PassView}
 use Rattle.mc_cover.specs.Views.{opener}
-use Rattle.mc_crew.specs.Crew.{HasWorked, IsAtWork}
-use Rattle.mc_crew.specs.Recorder.{RecorderView, bits_of, claimed, fresh, pass_of}
+use Rattle.cover_recorder.specs.Crew.{HasWorked, IsAtWork}
+use Rattle.cover_recorder.specs.Recorder.{RecorderView, bits_of, claimed, fresh, pass_of}
 use Rattle.mc_mutate.specs.declared.kills.original.Original.{Original}
 use Rattle.mc_mutate.specs.declared.kills.runs.Job.{Job}
 use Rattle.mc_mutate.specs.declared.kills.runs.Task.{Task}

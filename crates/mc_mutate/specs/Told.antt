@@ -1,8 +1,8 @@
 -- What the mutants of a program change, told from the roots of its decisions.
 use Rattle.std.specs.Prelude.{Bool, true, false, List, [], ◌∷◌, ◌++◌}
 use Rattle.mc_span.specs.declared.span.Span.{Span}
-use Rattle.mc_roots.specs.Nodes.{Node, Constant, Not, Logic, Expression, Whole, Top, Operator, Other}
-use Rattle.mc_roots.specs.Roots.{Found}
+use Rattle.decide_rules.specs.Nodes.{Node, Constant, Not, Logic, Expression, Whole, Top, Operator, Other}
+use Rattle.decide_rules.specs.Roots.{Found}
 use Rattle.mc_mutate.specs.declared.changes.Change.{Change}
 use Rattle.mc_mutate.specs.declared.changes.MutantKind.{MutantKind}
 use Rattle.mc_mutate.specs.declared.changes.MutantKind.TheVariants.{Exchanged, Negated, FixedTrue, FixedFalse, Shifted}

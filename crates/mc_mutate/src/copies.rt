@@ -4,7 +4,7 @@ ghost use Rattle.mc_typed.specs.Sound.{IsSound};
 ghost use Rattle.mc_typed.specs.Views.{function_of, program_of};
 ghost use Rattle.mc_probe.specs.Views as probed;
 ghost use Rattle.mc_probe.specs.Bare.{bare_function, bare_tree};
-ghost use Rattle.mc_roots.specs.Nodes as nodes;
+ghost use Rattle.decide_rules.specs.Nodes as nodes;
 ghost use Rattle.mc_mutate.specs.Mutants.{IsMutant, count};
 ghost use Rattle.mc_mutate.specs.steps.Bared.{HasMutant};
 ghost use Rattle.mc_mutate.specs.steps.Search.{inside_parts};
@@ -19,9 +19,9 @@ mod statements;
 
 use crate::copies::statements::statements;
 use crate::search::Sought;
-use mc_bare::{all_structures, local_objects, parameters, result_type, static_objects};
+use decide_rules::Decision;
+use instrument_copies::{all_structures, local_objects, parameters, result_type, static_objects};
 use mc_probe::Instrumented;
-use mc_roots::Decision;
 use mc_typed::{Function, Program};
 use std::alloc::{AllocError, Global};
 

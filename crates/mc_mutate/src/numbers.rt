@@ -2,14 +2,14 @@
 ghost use Rattle.std.specs.Prelude.{◌≡◌, ◌≤◌, map};
 ghost use Rattle.mc_typed.specs.Levels.{limited};
 ghost use Rattle.mc_typed.specs.Views.{program_of};
-ghost use Rattle.mc_roots.specs.Decisions.{AreDecisions};
-ghost use Rattle.mc_roots.specs.Seen.{decision_of};
+ghost use Rattle.decide_rules.specs.Decisions.{AreDecisions};
+ghost use Rattle.decide_rules.specs.Seen.{decision_of};
 ghost use Rattle.mc_mutate.specs.Laws.{conditions_in};
 ghost use Rattle.mc_mutate.specs.Mutants.{IsChange, count};
 
 use crate::changes::Change;
 use crate::search::{Sought, in_functions};
-use mc_roots::Decision;
+use decide_rules::Decision;
 use mc_typed::Program;
 
 /// How many mutants the program with these decisions has: exactly, where the decisions have at most

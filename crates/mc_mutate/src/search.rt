@@ -1,7 +1,7 @@
 //! The search for a mutant by its number.
 ghost use Rattle.std.specs.Prelude.{◌≡◌, map};
 ghost use Rattle.mc_typed.specs.Views.{function_of};
-ghost use Rattle.mc_roots.specs.Nodes as nodes;
+ghost use Rattle.decide_rules.specs.Nodes as nodes;
 ghost use Rattle.mc_mutate.specs.steps.Search.{inside_parts};
 
 mod decision;

@@ -1,10 +1,10 @@
 -- Faults that are moved, and what is found of any part but an expression.
 use Rattle.std.proofs.Common.{◌≡◌, ℕ, Bool, true, false, List, [], ◌∷◌, ◌++◌, Option, Some, None, option_map, option_and_then, refl, sym, ap, ◌∙◌}
-use Rattle.mc_faults.specs.declared.fault.Fault.{Fault}
-use Rattle.mc_faults.specs.declared.fault.FaultKind.{FaultKind}
-use Rattle.mc_faults.specs.Faults.{fault, fault_if, unless_faulty}
-use Rattle.mc_typing.specs.Values.{Judged, lift2}
-use Rattle.mc_typing.specs.Declarators.{Listed}
+use Rattle.types_faults.specs.declared.fault.Fault.{Fault}
+use Rattle.types_faults.specs.declared.fault.FaultKind.{FaultKind}
+use Rattle.types_faults.specs.Faults.{fault, fault_if, unless_faulty}
+use Rattle.types_rules.specs.Values.{Judged, lift2}
+use Rattle.types_rules.specs.Declarators.{Listed}
 use Rattle.mc_alike.specs.Moves.{Move}
 use Rattle.mc_natural.specs.Moved.{moved_fault, moved_faults}
 

@@ -5,13 +5,13 @@ use Rattle.mc_tree.specs.Tree.{Expression, Expressions, Declaration, ForStart, S
 use Rattle.mc_tree.specs.Tree as tree
 use Rattle.mc_typed.specs.Tree.{Effect}
 use Rattle.mc_typed.specs.Tree as t
-use Rattle.mc_faults.specs.declared.fault.FaultKind.TheVariants.{Mismatch}
-use Rattle.mc_typing.specs.Scopes.{Scope, block}
-use Rattle.mc_typing.specs.Values.{Judged}
-use Rattle.mc_typing.specs.Declarations.{append, judge_declaration}
-use Rattle.mc_typing.specs.Judgement.{judge}
-use Rattle.mc_typing.specs.Statements.{Around, inside, in_loop, in_switch, compound_scope, declaration_judged, case_judged}
-use Rattle.mc_typing.specs.Bodies.{listed, judge_effect, judge_clauses, judge_part, judge_optional_part, judge_start, judge_test, no_start, no_step, span_of_declaration, judge_statement, judge_block}
+use Rattle.types_faults.specs.declared.fault.FaultKind.TheVariants.{Mismatch}
+use Rattle.types_rules.specs.Scopes.{Scope, block}
+use Rattle.types_rules.specs.Values.{Judged}
+use Rattle.types_rules.specs.Declarations.{append, judge_declaration}
+use Rattle.types_rules.specs.Judgement.{judge}
+use Rattle.types_rules.specs.Statements.{Around, inside, in_loop, in_switch, compound_scope, declaration_judged, case_judged}
+use Rattle.types_rules.specs.Bodies.{listed, judge_effect, judge_clauses, judge_part, judge_optional_part, judge_start, judge_test, no_start, no_step, span_of_declaration, judge_statement, judge_block}
 use Rattle.mc_alike.specs.Moves.{Move, moved_span}
 use Rattle.mc_alike.specs.Trees.{moved, moved_expressions, moved_declaration, moved_optional, moved_start, moved_statement, moved_block}
 use Rattle.mc_natural.specs.Moved.{moved_effect, moved_effects}

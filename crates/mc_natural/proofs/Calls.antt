@@ -5,14 +5,14 @@ use Rattle.mc_tree.specs.Tree.{Name, Expression, Expressions, span_of}
 use Rattle.mc_tree.specs.Tree as tree
 use Rattle.mc_typed.specs.Tree.{Place, Argument, Arguments, Effect}
 use Rattle.mc_typed.specs.Tree as t
-use Rattle.mc_faults.specs.declared.fault.FaultKind.TheVariants.{Undeclared, Mismatch, NoBody}
-use Rattle.mc_typing.specs.Profile.{sum_of}
-use Rattle.mc_typing.specs.Types.{Base, Void, Integer, Tagged, CType, Structure, is_complete, ParameterKind, ByValue, ByArray, Signature}
-use Rattle.mc_typing.specs.Scopes.{Meaning, Function, Scope, function_number, is_input, is_output, is_external, next_slot, with_counted, cells_counted}
-use Rattle.mc_typing.specs.Scopes as scope
-use Rattle.mc_typing.specs.Values.{Value, Number, Stored, Borrowed, Returned, Assigned, Kind, Found, fails, number_in, structure_in, lift2}
-use Rattle.mc_typing.specs.Expressions.{convert_to}
-use Rattle.mc_typing.specs.Calls.{array_fits, argument_fits, argument_faults, stored_array, array_argument, argument_of, copy_of, argument_value, Given, argument_judged, no_more, arguments_judged, argument_count, gives, signature_faults, body_faults, callee_faults, output_of, returned, called, call_value, after_call, call_found, comma_found}
+use Rattle.types_faults.specs.declared.fault.FaultKind.TheVariants.{Undeclared, Mismatch, NoBody}
+use Rattle.types_rules.specs.Profile.{sum_of}
+use Rattle.types_rules.specs.Types.{Base, Void, Integer, Tagged, CType, Structure, is_complete, ParameterKind, ByValue, ByArray, Signature}
+use Rattle.types_rules.specs.Scopes.{Meaning, Function, Scope, function_number, is_input, is_output, is_external, next_slot, with_counted, cells_counted}
+use Rattle.types_rules.specs.Scopes as scope
+use Rattle.types_rules.specs.Values.{Value, Number, Stored, Borrowed, Returned, Assigned, Kind, Found, fails, number_in, structure_in, lift2}
+use Rattle.types_rules.specs.Expressions.{convert_to}
+use Rattle.types_rules.specs.Calls.{array_fits, argument_fits, argument_faults, stored_array, array_argument, argument_of, copy_of, argument_value, Given, argument_judged, no_more, arguments_judged, argument_count, gives, signature_faults, body_faults, callee_faults, output_of, returned, called, call_value, after_call, call_found, comma_found}
 use Rattle.mc_alike.specs.Moves.{Move, moved_span}
 use Rattle.mc_alike.specs.Trees.{moved, moved_name, moved_expressions}
 use Rattle.mc_natural.specs.Moved.{moved_place, moved_number, moved_structure, moved_argument, moved_arguments}

@@ -6,15 +6,15 @@ use Rattle.mc_typed.specs.declared.expressions.Slot.{Slot}
 use Rattle.mc_typed.specs.Layout.{ObjectType}
 use Rattle.mc_typed.specs.Tree.{Declarator}
 use Rattle.mc_typed.specs.Tree as t
-use Rattle.mc_faults.specs.declared.fault.Fault.{Fault}
-use Rattle.mc_faults.specs.declared.fault.FaultKind.TheVariants.{Redeclared, Mismatch, Limit}
-use Rattle.mc_typing.specs.Types.{CType, ParameterKind, Signature}
-use Rattle.mc_typing.specs.Scopes.{Meaning, Automatic, Stored, Function, Typedef, Scope, meaning_here, with_name, next_slot, next_static, with_counted, cells_counted, with_static, prototype}
-use Rattle.mc_typing.specs.Scopes as scope
-use Rattle.mc_typing.specs.Values.{Judged, lift2}
-use Rattle.mc_typing.specs.Declarators.{Listed}
-use Rattle.mc_typing.specs.Judgement.{judge_specifiers}
-use Rattle.mc_typing.specs.Declarations.{Storage, TypedefStorage, StaticStorage, AutomaticStorage, storage_of, count_listed, judge_optional_initializer, object_faults, layout_counted, after_initializer, counted_after, declarator_value, automatic_judged, static_faults_with, static_scope, static_value, static_judged, typedef_faults, typedef_judged, object_judged, all_of, result_of, signature_of, repeated_faults, external_faults, function_faults, function_form_faults, again_faults, function_meaning, function_judged, judge_init, judge_init_declarator, append, both_lists, judge_init_declarators, is_tag_alone, empty_faults, judge_declaration}
+use Rattle.types_faults.specs.declared.fault.Fault.{Fault}
+use Rattle.types_faults.specs.declared.fault.FaultKind.TheVariants.{Redeclared, Mismatch, Limit}
+use Rattle.types_rules.specs.Types.{CType, ParameterKind, Signature}
+use Rattle.types_rules.specs.Scopes.{Meaning, Automatic, Stored, Function, Typedef, Scope, meaning_here, with_name, next_slot, next_static, with_counted, cells_counted, with_static, prototype}
+use Rattle.types_rules.specs.Scopes as scope
+use Rattle.types_rules.specs.Values.{Judged, lift2}
+use Rattle.types_rules.specs.Declarators.{Listed}
+use Rattle.types_rules.specs.Judgement.{judge_specifiers}
+use Rattle.types_rules.specs.Declarations.{Storage, TypedefStorage, StaticStorage, AutomaticStorage, storage_of, count_listed, judge_optional_initializer, object_faults, layout_counted, after_initializer, counted_after, declarator_value, automatic_judged, static_faults_with, static_scope, static_value, static_judged, typedef_faults, typedef_judged, object_judged, all_of, result_of, signature_of, repeated_faults, external_faults, function_faults, function_form_faults, again_faults, function_meaning, function_judged, judge_init, judge_init_declarator, append, both_lists, judge_init_declarators, is_tag_alone, empty_faults, judge_declaration}
 use Rattle.mc_alike.specs.Moves.{Move}
 use Rattle.mc_alike.specs.Trees.{moved_name, moved_specifiers, moved_lengths, moved_declarator, moved_initializer, moved_init_declarator, moved_init_declarators, moved_declaration}
 use Rattle.mc_natural.specs.Moved.{moved_faults, moved_filling, moved_object, moved_objects}

@@ -2,16 +2,16 @@
 use Rattle.std.proofs.Common.{◌≡◌, ℕ, ◌+◌, ℤ, pos, ◌+ℤ◌, Bool, true, false, not, ◌&&◌, ◌||◌, List, [], ◌∷◌, ◌++◌, slice_get, is_none, is_some, Option, Some, None, option_map, option_and_then, refl, sym, ap, subst, ◌∙◌}
 use Rattle.mc_span.specs.declared.span.Span.{Span}
 use Rattle.mc_tree.specs.Tree.{Name, ArrayLengths, Specifiers}
-use Rattle.mc_faults.specs.declared.fault.Fault.{Fault}
-use Rattle.mc_faults.specs.declared.fault.FaultKind.TheVariants.{Undeclared, Redeclared, Mismatch, Limit}
-use Rattle.mc_faults.specs.Faults.{unless_faulty}
-use Rattle.mc_typing.specs.Types.{CType, Tagged, plain, int, Member, Structure, Incomplete, is_complete, ParameterKind, ByValue, ByArray, type_of_specifiers}
-use Rattle.mc_typing.specs.Scopes.{Meaning, Constant, Typedef, TagMeaning, StructureTag, EnumerationTag, Scope, meaning_of, meaning_here, tag_of, tag_here, is_external, with_name, with_structure_at, with_objects_of}
-use Rattle.mc_typing.specs.Values.{Judged, judged, Found, lift2}
-use Rattle.mc_typing.specs.Limits.{object_limit_faults, member_limit_faults, is_too_large}
-use Rattle.mc_typing.specs.Declarators.{Listed, after_faults, redeclared_faults, misnamed_faults, name_start, typedef_type, declared_tag, used_structure_tag, structure_tag, used_enumeration_tag, Opened, opened_again, opened_tag, opened, completed, structure_judged, enumeration_scope, enumeration_faults, enumeration_judged, fits_int, in_int, enumerator_judged, valued_enumerator_judged, length_of, is_no_length, lengths_judged, declared_type, absent_faults, incomplete_faults, has_member, cells_of_members, declared_member_faults, with_member, member_listed, function_member_listed, parameter_kind, parameter_limit_faults, parameter_name_faults, parameter_faults, declared_parameter, parameter_listed}
-use Rattle.mc_typing.specs.Declarators as d
-use Rattle.mc_typing.specs.Judgement.{typed_by, one_of, specifiers_judged, after, uncalled}
+use Rattle.types_faults.specs.declared.fault.Fault.{Fault}
+use Rattle.types_faults.specs.declared.fault.FaultKind.TheVariants.{Undeclared, Redeclared, Mismatch, Limit}
+use Rattle.types_faults.specs.Faults.{unless_faulty}
+use Rattle.types_rules.specs.Types.{CType, Tagged, plain, int, Member, Structure, Incomplete, is_complete, ParameterKind, ByValue, ByArray, type_of_specifiers}
+use Rattle.types_rules.specs.Scopes.{Meaning, Constant, Typedef, TagMeaning, StructureTag, EnumerationTag, Scope, meaning_of, meaning_here, tag_of, tag_here, is_external, with_name, with_structure_at, with_objects_of}
+use Rattle.types_rules.specs.Values.{Judged, judged, Found, lift2}
+use Rattle.types_rules.specs.Limits.{object_limit_faults, member_limit_faults, is_too_large}
+use Rattle.types_rules.specs.Declarators.{Listed, after_faults, redeclared_faults, misnamed_faults, name_start, typedef_type, declared_tag, used_structure_tag, structure_tag, used_enumeration_tag, Opened, opened_again, opened_tag, opened, completed, structure_judged, enumeration_scope, enumeration_faults, enumeration_judged, fits_int, in_int, enumerator_judged, valued_enumerator_judged, length_of, is_no_length, lengths_judged, declared_type, absent_faults, incomplete_faults, has_member, cells_of_members, declared_member_faults, with_member, member_listed, function_member_listed, parameter_kind, parameter_limit_faults, parameter_name_faults, parameter_faults, declared_parameter, parameter_listed}
+use Rattle.types_rules.specs.Declarators as d
+use Rattle.types_rules.specs.Judgement.{typed_by, one_of, specifiers_judged, after, uncalled}
 use Rattle.mc_alike.specs.Moves.{Move, moved_span}
 use Rattle.mc_alike.specs.Trees.{moved_name, moved_tag, moved_specifiers, moved_lengths}
 use Rattle.mc_natural.specs.Moved.{moved_faults}

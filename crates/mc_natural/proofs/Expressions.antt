@@ -19,13 +19,13 @@ use Rattle.mc_typed.specs.Layout.{start}
 use Rattle.mc_typed.specs.Sound.{type_of}
 use Rattle.mc_typed.specs.Tree.{Place, Effect}
 use Rattle.mc_typed.specs.Tree as t
-use Rattle.mc_faults.specs.declared.fault.FaultKind.TheVariants.{Undeclared, Mismatch}
-use Rattle.mc_typing.specs.Profile.{counted}
-use Rattle.mc_typing.specs.Types.{Base, Void, Integer, Tagged, CType, plain, Structure, Member, members_of, cells_of, same_integer}
-use Rattle.mc_typing.specs.Scopes.{Meaning, Automatic, Constant, Function, Typedef, Scope, meaning_of}
-use Rattle.mc_typing.specs.Scopes as scope
-use Rattle.mc_typing.specs.Values.{Judged, Value, Number, Stored, Borrowed, Done, Assigned, Kind, IsStructure, Found, kind_found, is_integer, is_array, is_structure, fails, number_in, number_found, structure_in, discarded_in, lift2}
-use Rattle.mc_typing.specs.Expressions.{convert_to, common_type, name_faults, value_of_name, name_found, literal, stored_element, element_of, index_value, index_found, Selected, selected, undeclared_member, member_type, layouts_of, member_at, stored_member, member_of, member_found, typed_unary, is_arithmetic, unary_found, cast_base, cast_faults_to, cast_faults, cast_value_to, cast_value, may_cast_to_integer, cast_found, typed_binary, binary_found, arms_fail, choice_of, arms_value, conditional_value, conditional_found, is_assigned, is_const_value, target_fails, sides_fail, assign_effect, update_in_common_type, update_of, update_effect, effect_on, assignment_value, assign_found, update_found, assignment_found, step_operator, step_found}
+use Rattle.types_faults.specs.declared.fault.FaultKind.TheVariants.{Undeclared, Mismatch}
+use Rattle.types_rules.specs.Profile.{counted}
+use Rattle.types_rules.specs.Types.{Base, Void, Integer, Tagged, CType, plain, Structure, Member, members_of, cells_of, same_integer}
+use Rattle.types_rules.specs.Scopes.{Meaning, Automatic, Constant, Function, Typedef, Scope, meaning_of}
+use Rattle.types_rules.specs.Scopes as scope
+use Rattle.types_rules.specs.Values.{Judged, Value, Number, Stored, Borrowed, Done, Assigned, Kind, IsStructure, Found, kind_found, is_integer, is_array, is_structure, fails, number_in, number_found, structure_in, discarded_in, lift2}
+use Rattle.types_rules.specs.Expressions.{convert_to, common_type, name_faults, value_of_name, name_found, literal, stored_element, element_of, index_value, index_found, Selected, selected, undeclared_member, member_type, layouts_of, member_at, stored_member, member_of, member_found, typed_unary, is_arithmetic, unary_found, cast_base, cast_faults_to, cast_faults, cast_value_to, cast_value, may_cast_to_integer, cast_found, typed_binary, binary_found, arms_fail, choice_of, arms_value, conditional_value, conditional_found, is_assigned, is_const_value, target_fails, sides_fail, assign_effect, update_in_common_type, update_of, update_effect, effect_on, assignment_value, assign_found, update_found, assignment_found, step_operator, step_found}
 use Rattle.mc_alike.specs.Moves.{Move, moved_span}
 use Rattle.mc_alike.specs.Trees.{moved, moved_name}
 use Rattle.mc_natural.specs.Moved.{moved_place, moved_number, moved_structure, moved_effect}

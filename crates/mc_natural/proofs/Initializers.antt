@@ -4,14 +4,14 @@ use Rattle.mc_tree.specs.Tree.{Expression, Initializer, Initializers, span_of}
 use Rattle.mc_tree.specs.Tree as tree
 use Rattle.mc_typed.specs.Tree.{Effect}
 use Rattle.mc_typed.specs.Tree as t
-use Rattle.mc_faults.specs.declared.fault.FaultKind.TheVariants.{Mismatch}
-use Rattle.mc_typing.specs.Types.{Base, Void, Integer, Tagged, CType, Structure, cells_of}
-use Rattle.mc_typing.specs.Scopes.{Scope}
-use Rattle.mc_typing.specs.Values.{Judged, Value, Assigned, Kind, Found, is_integer, fails, number_in, structure_in, number_found, lift2}
-use Rattle.mc_typing.specs.Constants.{constant_found, is_zero_constant}
-use Rattle.mc_typing.specs.Expressions.{convert_to}
-use Rattle.mc_typing.specs.Judgement.{judge}
-use Rattle.mc_typing.specs.Initializers.{Target, Missing, ScalarTarget, ArrayTarget, StructureTarget, target_of, Parts, parts_of, first_part, later_parts, is_kind, item_faults, static_faults, scalar_value, item_value, single_judged, item_count, room_of, is_below, lacks_item, only_item, list_value, zero_value, zero_judged, list_judged, braced_judged, only_expression, items_judged, judge_initializer, judge_items, filled, values_of, values_of_items}
+use Rattle.types_faults.specs.declared.fault.FaultKind.TheVariants.{Mismatch}
+use Rattle.types_rules.specs.Types.{Base, Void, Integer, Tagged, CType, Structure, cells_of}
+use Rattle.types_rules.specs.Scopes.{Scope}
+use Rattle.types_rules.specs.Values.{Judged, Value, Assigned, Kind, Found, is_integer, fails, number_in, structure_in, number_found, lift2}
+use Rattle.types_rules.specs.Constants.{constant_found, is_zero_constant}
+use Rattle.types_rules.specs.Expressions.{convert_to}
+use Rattle.types_rules.specs.Judgement.{judge}
+use Rattle.types_rules.specs.Initializers.{Target, Missing, ScalarTarget, ArrayTarget, StructureTarget, target_of, Parts, parts_of, first_part, later_parts, is_kind, item_faults, static_faults, scalar_value, item_value, single_judged, item_count, room_of, is_below, lacks_item, only_item, list_value, zero_value, zero_judged, list_judged, braced_judged, only_expression, items_judged, judge_initializer, judge_items, filled, values_of, values_of_items}
 use Rattle.mc_alike.specs.Moves.{Move}
 use Rattle.mc_alike.specs.Trees.{moved, moved_initializer, moved_initializers}
 use Rattle.mc_natural.specs.Moved.{moved_number, moved_structure, moved_filling, moved_fillings}

@@ -4,13 +4,13 @@ use Rattle.mc_tree.specs.Tree.{Expression, Expressions, TypeName, Specifier, Spe
 use Rattle.mc_tree.specs.Tree as tree
 use Rattle.mc_value.specs.IntTypes.{in_range}
 use Rattle.mc_value.specs.declared.int_type.IntType.TheVariants as the
-use Rattle.mc_typing.specs.Types.{CType, Member, ParameterKind}
-use Rattle.mc_typing.specs.Scopes.{Scope, meaning_of, prototype}
-use Rattle.mc_typing.specs.Constants.{type_of_constant}
-use Rattle.mc_typing.specs.Expressions.{operator_after, operator_before}
-use Rattle.mc_typing.specs.Calls.{first_of, rest_of, parameters_of, argument_count}
-use Rattle.mc_typing.specs.Declarators.{name_start}
-use Rattle.mc_typing.specs.Judgement.{judge, judge_arguments, judge_type, judge_specifier, judge_specifiers, judge_member, judge_members, judge_enumerator, judge_enumerators, judge_declarator, judge_declarators, judge_lengths, judge_parameters, judge_parameter, judge_parameter_list}
+use Rattle.types_rules.specs.Types.{CType, Member, ParameterKind}
+use Rattle.types_rules.specs.Scopes.{Scope, meaning_of, prototype}
+use Rattle.types_rules.specs.Constants.{type_of_constant}
+use Rattle.types_rules.specs.Expressions.{operator_after, operator_before}
+use Rattle.types_rules.specs.Calls.{first_of, rest_of, parameters_of, argument_count}
+use Rattle.types_rules.specs.Declarators.{name_start}
+use Rattle.types_rules.specs.Judgement.{judge, judge_arguments, judge_type, judge_specifier, judge_specifiers, judge_member, judge_members, judge_enumerator, judge_enumerators, judge_declarator, judge_declarators, judge_lengths, judge_parameters, judge_parameter, judge_parameter_list}
 use Rattle.mc_alike.specs.Moves.{Move, moved_span}
 use Rattle.mc_alike.specs.Trees.{moved, moved_expressions, moved_type_name, moved_specifier, moved_specifiers, moved_member, moved_members, moved_enumerator, moved_enumerators, moved_declarator, moved_declarators, moved_lengths, moved_parameters, moved_parameter, moved_parameter_list}
 use Rattle.mc_natural.specs.Moved.{moved_arguments}

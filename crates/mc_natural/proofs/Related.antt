@@ -1,7 +1,7 @@
 -- Values that are there in both or in neither, and stand in a relation where they are there.
 use Rattle.std.proofs.Common.{◌≡◌, unwrap_or, Option, Some, None, option_map, option_and_then, refl, ap}
-use Rattle.mc_typing.specs.Values.{lift2, lift3}
-use Rattle.mc_typing.specs.Statements.{lift4}
+use Rattle.types_rules.specs.Values.{lift2, lift3}
+use Rattle.types_rules.specs.Statements.{lift4}
 
 pub data Both {A : Type 0} (R : A → A → Type 0) : Option A → Option A → Type 0 where
   neither : Both R None None

@@ -5,18 +5,18 @@ use Rattle.mc_tree.specs.Tree.{Name, Expression, Specifiers, Parameters, Paramet
 use Rattle.mc_tree.specs.Tree as tree
 use Rattle.mc_limits.specs.Limits.{most_frame_cells}
 use Rattle.mc_typed.specs.Tree.{Statements, Function, Program}
-use Rattle.mc_faults.specs.declared.fault.Fault.{Fault}
-use Rattle.mc_faults.specs.declared.fault.FaultKind.TheVariants.{Redeclared, Mismatch, Limit}
-use Rattle.mc_typing.specs.Profile.{most_numbered}
-use Rattle.mc_typing.specs.Types.{Base, CType, Signature, structures_from}
-use Rattle.mc_typing.specs.Scopes.{Meaning, Scope, file_scope, meaning_here, is_external, prototype, body_scope, left_function}
-use Rattle.mc_typing.specs.Values.{Value, Judged, Found}
-use Rattle.mc_typing.specs.Limits.{frame_faults}
-use Rattle.mc_typing.specs.Judgement.{judge}
-use Rattle.mc_typing.specs.Declarations.{append, all_of, has_body, result_of, signature_of, repeated_faults, function_faults}
-use Rattle.mc_typing.specs.Statements.{outermost}
-use Rattle.mc_typing.specs.Bodies.{judge_block}
-use Rattle.mc_typing.specs.Typing.{parameter_names_faults, list_names_faults, names_faults, is_incomplete, definition_faults, parameter_type, result_type, function_from, with_function, function_listed, judge_definition, judge_item, judge_unit, found_of, faults_of, program_from, typing_of, IsTypingOf}
+use Rattle.types_faults.specs.declared.fault.Fault.{Fault}
+use Rattle.types_faults.specs.declared.fault.FaultKind.TheVariants.{Redeclared, Mismatch, Limit}
+use Rattle.types_rules.specs.Profile.{most_numbered}
+use Rattle.types_rules.specs.Types.{Base, CType, Signature, structures_from}
+use Rattle.types_rules.specs.Scopes.{Meaning, Scope, file_scope, meaning_here, is_external, prototype, body_scope, left_function}
+use Rattle.types_rules.specs.Values.{Value, Judged, Found}
+use Rattle.types_rules.specs.Limits.{frame_faults}
+use Rattle.types_rules.specs.Judgement.{judge}
+use Rattle.types_rules.specs.Declarations.{append, all_of, has_body, result_of, signature_of, repeated_faults, function_faults}
+use Rattle.types_rules.specs.Statements.{outermost}
+use Rattle.types_rules.specs.Bodies.{judge_block}
+use Rattle.types_rules.specs.Typing.{parameter_names_faults, list_names_faults, names_faults, is_incomplete, definition_faults, parameter_type, result_type, function_from, with_function, function_listed, judge_definition, judge_item, judge_unit, found_of, faults_of, program_from, typing_of, IsTypingOf}
 use Rattle.mc_alike.specs.Moves.{Move, moved_span}
 use Rattle.mc_alike.specs.Trees.{moved, moved_name, moved_specifiers, moved_parameters, moved_parameter, moved_parameter_list, moved_block, moved_item, moved_unit}
 use Rattle.mc_natural.specs.Moved.{moved_faults, moved_objects, moved_function, moved_functions, moved_program}

@@ -4,12 +4,12 @@ use Rattle.mc_tree.specs.declared.declarations.specifier_word.SpecifierWord.{Spe
 use Rattle.mc_tree.specs.declared.declarations.specifier_word.SpecifierWord.TheVariants as word
 use Rattle.mc_tree.specs.Tree.{Expression, Specifier, Specifiers, Declarator, ArrayLengths, Initializer, Initializers, InitDeclarator, Statement, Item, span_of, name_of}
 use Rattle.mc_tree.specs.Tree as tree
-use Rattle.mc_typing.specs.Types.{CType, count, has, is_word, any_is_no_word, has_type, base_of_words, type_of_specifiers}
-use Rattle.mc_typing.specs.Declarators.{is_first_absent, has_absent, is_later_absent, declared_type}
-use Rattle.mc_typing.specs.Initializers.{item_count, only_expression}
-use Rattle.mc_typing.specs.Declarations.{storage_of, count_listed, is_tag_alone, declares, any_declares}
-use Rattle.mc_typing.specs.Statements.{is_compound}
-use Rattle.mc_typing.specs.Typing.{bodies_of}
+use Rattle.types_rules.specs.Types.{CType, count, has, is_word, any_is_no_word, has_type, base_of_words, type_of_specifiers}
+use Rattle.types_rules.specs.Declarators.{is_first_absent, has_absent, is_later_absent, declared_type}
+use Rattle.types_rules.specs.Initializers.{item_count, only_expression}
+use Rattle.types_rules.specs.Declarations.{storage_of, count_listed, is_tag_alone, declares, any_declares}
+use Rattle.types_rules.specs.Statements.{is_compound}
+use Rattle.types_rules.specs.Typing.{bodies_of}
 use Rattle.mc_alike.specs.Moves.{Move}
 use Rattle.mc_alike.specs.Trees.{moved, moved_specifier, moved_specifiers, moved_lengths, moved_declarator, moved_initializer, moved_initializers, moved_init_declarators, moved_statement, moved_unit}
 

@@ -3,9 +3,9 @@
 use Rattle.std.specs.Prelude.{◌≡◌, List, option_map}
 use Rattle.mc_tree.specs.Tree.{Expression, Item}
 use Rattle.mc_typed.specs.Tree.{Program}
-use Rattle.mc_typing.specs.Scopes.{Scope}
-use Rattle.mc_typing.specs.Judgement.{judge}
-use Rattle.mc_typing.specs.Typing.{faults_of, typing_of, IsTypingOf}
+use Rattle.types_rules.specs.Scopes.{Scope}
+use Rattle.types_rules.specs.Judgement.{judge}
+use Rattle.types_rules.specs.Typing.{faults_of, typing_of, IsTypingOf}
 use Rattle.mc_alike.specs.Moves.{Move}
 use Rattle.mc_alike.specs.Trees.{moved, moved_unit}
 use Rattle.mc_natural.specs.Moved.{moved_faults, moved_program}

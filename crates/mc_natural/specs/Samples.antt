@@ -11,7 +11,7 @@ use Rattle.mc_typed.specs.declared.operators.Operator.TheVariants.{Binary}
 use Rattle.mc_typed.specs.Layout as layout
 use Rattle.mc_typed.specs.Tree.{Program}
 use Rattle.mc_typed.specs.Tree as typed
-use Rattle.mc_typing.specs.Sampled.{int, name, span, void}
+use Rattle.types_rules.specs.Sampled.{int, name, span, void}
 use Rattle.mc_alike.specs.Moves.{Move}
 
 abbrev pub doubled : Move

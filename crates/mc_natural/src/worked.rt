@@ -1,6 +1,6 @@
 //! A text, and the same where each byte stands twice as far.
 ghost use Rattle.std.specs.Prelude.{◌≡◌, Some};
-ghost use Rattle.mc_typing.specs.Typing.{typing_of};
+ghost use Rattle.types_rules.specs.Typing.{typing_of};
 ghost use Rattle.mc_alike.specs.Trees.{moved_unit};
 ghost use Rattle.mc_natural.specs.Moved.{moved_program};
 ghost use Rattle.mc_natural.specs.Settled.{settled};

@@ -4,7 +4,7 @@ use Rattle.std.specs.Prelude.{slice_get, Some}
 use Rattle.std.proofs.lemmas.List.{take_more, length-take-le, length-map, get_or-map, append-nil}
 use Rattle.std.proofs.lemmas.Option.{slice_get_read}
 use Rattle.mc_span.specs.declared.span.Span.{Span}
-use Rattle.mc_roots.specs.Seen.{decision_of}
+use Rattle.decide_rules.specs.Seen.{decision_of}
 use Rattle.mc_probe.specs.declared.mapped.MappedDecision.{MappedDecision}
 use Rattle.mc_probe.specs.Mapped.{mapped_of}
 use Rattle.mc_probe.specs.Maps.{Mapped}

@@ -2,7 +2,7 @@
 -- decision its two outcomes and its conditions (DO-178C 6.4.4.2), in this order.
 use Rattle.std.specs.Prelude.{ℕ, ◌+◌, true, false, List, [], ◌∷◌, ◌++◌}
 use Rattle.mc_span.specs.declared.span.Span.{Span}
-use Rattle.mc_roots.specs.Decisions.{Decision}
+use Rattle.decide_rules.specs.Decisions.{Decision}
 use Rattle.mc_probe.specs.Maps.{Mapped, Map}
 use Rattle.mc_oblige.specs.declared.obligation.ObligationId.{ObligationId}
 use Rattle.mc_oblige.specs.declared.obligation.ObligationId.TheVariants.{Entry, Exit, Statement, Label, Outcome, Condition}

@@ -1,7 +1,7 @@
 //! The list of a program's obligations.
 ghost use Rattle.std.specs.Prelude.{◌≡◌, ◌≤◌, ◌++◌, map, length, true, false, IfOk};
 ghost use Rattle.mc_limits.specs.Limits.{most_bits};
-ghost use Rattle.mc_roots.specs.Seen.{decision_of};
+ghost use Rattle.decide_rules.specs.Seen.{decision_of};
 ghost use Rattle.mc_probe.specs.Mapped.{mapped_of};
 ghost use Rattle.mc_probe.specs.BitMaps.{map_of};
 ghost use Rattle.mc_oblige.specs.Obligations.{of_places, of_decision, of_decisions, obligations_of};

@@ -7,13 +7,13 @@ use Rattle.mc_tree.specs.Tree as tree
 use Rattle.mc_typed.specs.declared.probes.Probe.TheVariants as probe
 use Rattle.mc_typed.specs.Tree.{Effect, Declarator, Statements}
 use Rattle.mc_typed.specs.Tree as typed
-use Rattle.mc_roots.specs.declared.role.Role.TheVariants.{Plain}
-use Rattle.mc_roots.specs.Nodes as nodes
-use Rattle.mc_roots.specs.Counts.{roots}
+use Rattle.decide_rules.specs.declared.role.Role.TheVariants.{Plain}
+use Rattle.decide_rules.specs.Nodes as nodes
+use Rattle.decide_rules.specs.Counts.{roots}
 use Rattle.mc_steps.specs.Points.{initializes, has_default}
 use Rattle.mc_probe.specs.Maps.{Map}
 use Rattle.mc_probe.specs.Table.{Loose, At, past, absent_mark, put_effects, put_initializer, put_initializers, put_initial, put_declarators, put_start, put_optional, put_return, put_statement, put_statements}
-use Rattle.mc_strip.specs.declared.piece.What.TheVariants as what
+use Rattle.reread_pieces.specs.declared.piece.What.TheVariants as what
 use Rattle.mc_inserted.specs.Rows.{Row, Rows, row, counted_declaration, absent_default, rows_in_effects, rows_in_initializer, rows_in_initializers, rows_in_initial, rows_in_declarators, rows_in_start, rows_in_optional, rows_in_return, rows_in_statement, rows_in_statements}
 use Rattle.mc_parts.specs.Stands.{AreInOrder}
 use Rattle.laws_types.specs.SourceUnits.{IsInitializerOf, AreInitializersOf, AreObjectsOf, AreDeclaredBy, AreClausesOf, ArePartOf, IsStartOf, IsTestOf, IsReturnOf, AreStatementsOf, AreItemsOf, joined, span_of_declaration}

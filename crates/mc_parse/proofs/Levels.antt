@@ -9,10 +9,10 @@ use Rattle.mc_grammar.specs.Words.{Lexeme, sees, sees_keyword, sees_label}
 use Rattle.mc_grammar.specs.Nonterminal as n
 use Rattle.mc_grammar.specs.Places.{at, to}
 use Rattle.mc_grammar.specs.steps.Parsers.{Parser, ◌>>=◌, and_then, expect, expect_keyword, pure, take}
-use Rattle.mc_reading.specs.Rooms.{reading}
-use Rattle.mc_reading.specs.Items.{body_of}
-use Rattle.mc_reading.specs.Statements as spec
-use Rattle.mc_reading.specs.Statements.{Block, compound_of, optional_of, statement_by, statement_of, test_of}
+use Rattle.laws_grammar.specs.Rooms.{reading}
+use Rattle.laws_grammar.specs.Items.{body_of}
+use Rattle.laws_grammar.specs.Statements as spec
+use Rattle.laws_grammar.specs.Statements.{Block, compound_of, optional_of, statement_by, statement_of, test_of}
 use Rattle.mc_parse.specs.declared.statements.beginnings.Beginning.{Beginning}
 use Rattle.mc_parse.specs.declared.statements.beginnings.Beginning.TheVariants as beginning
 use Rattle.mc_parse.specs.declared.statements.beginnings.Opener.{Opener}

@@ -8,9 +8,9 @@ use Rattle.mc_tree.specs.Length.{token_count}
 use Rattle.mc_grammar.specs.Words.{Lexeme, lexemes_of}
 use Rattle.mc_grammar.specs.Items.{IsTreeWithin}
 use Rattle.mc_grammar.proofs.Counted.{tree_counted}
-use Rattle.mc_reading.specs.Items.{unit_of}
-use Rattle.mc_reading.proofs.CompleteItems.{complete_unit}
-use Rattle.mc_reading.proofs.SoundItems.{sound_whole}
+use Rattle.laws_grammar.specs.Items.{unit_of}
+use Rattle.laws_grammar.proofs.CompleteItems.{complete_unit}
+use Rattle.laws_grammar.proofs.SoundItems.{sound_whole}
 use Rattle.mc_parse.specs.declared.fault.ParseFault.{ParseFault}
 use Rattle.mc_parse.specs.declared.fault.ParseFault.TheVariants.{Syntax, OutOfMemory}
 use Rattle.mc_parse.specs.steps.Wholes.{RefusesWhole, tree_in}

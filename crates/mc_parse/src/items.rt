@@ -4,21 +4,21 @@ ghost use Rattle.mc_tree.specs.Tree as tree;
 ghost use Rattle.mc_tree.specs.Units.{block_from, item_of, items_of};
 ghost use Rattle.mc_tree.specs.Views.{declarator_of};
 ghost use Rattle.mc_grammar.specs.Places as places;
-ghost use Rattle.mc_reading.specs.Items as spec;
-ghost use Rattle.mc_cursor.specs.Cursors.{Gives, left_of};
-ghost use Rattle.mc_descent.specs.Heads.{words_of};
+ghost use Rattle.laws_grammar.specs.Items as spec;
+ghost use Rattle.parse_cursor.specs.Cursors.{Gives, left_of};
+ghost use Rattle.parse_expressions.specs.Heads.{words_of};
 ghost use Rattle.mc_parse.specs.steps.Headed.{head_item_of};
 ghost use Rattle.mc_parse.specs.steps.Made.{block_of, heap_item_of};
 
 use crate::statements::blocks::{Block, compound};
-use mc_cursor::cursor::Cursor;
-use mc_cursor::fault::Fault;
-use mc_cursor::to;
-use mc_cursor::values::{on_heap, push_boxed};
-use mc_descent::allowed::{Allowed, is_typedef};
-use mc_descent::declarations::{Head, declared, undeclared};
-use mc_descent::knot::{declarator, specifiers};
 use mc_tree::{Declarator, Item};
+use parse_cursor::cursor::Cursor;
+use parse_cursor::fault::Fault;
+use parse_cursor::to;
+use parse_cursor::values::{on_heap, push_boxed};
+use parse_expressions::allowed::{Allowed, is_typedef};
+use parse_expressions::declarations::{Head, declared, undeclared};
+use parse_expressions::knot::{declarator, specifiers};
 use std::alloc::{AllocError, Global};
 
 fn is_function(declarator: &Declarator<'_>) -> bool
@@ -43,7 +43,7 @@ fn definition<'a>(head: Head<'a>, declarator: Declarator<'a>, block: Block<'a>) 
 
 /// The body of a function, whose declarator is read.
 #[inline(never)]
-#[tactic(auto, using(crate::proofs::Levels::body_steps), unfolding(mc_reading::specs::Items::defined_of))]
+#[tactic(auto, using(crate::proofs::Levels::body_steps), unfolding(laws_grammar::specs::Items::defined_of))]
 fn defined<'a>(
     alloc: Global,
     room: u32,
@@ -117,7 +117,7 @@ fn after_head<'a>(
 
 /// Reads an external declaration of fewer than `room` levels.
 #[inline(never)]
-#[tactic(auto, unfolding(mc_reading::specs::Items::item_of))]
+#[tactic(auto, unfolding(laws_grammar::specs::Items::item_of))]
 fn item<'a>(alloc: Global, room: u32, tokens: &mut Cursor<'_, 'a>) -> Result<Box<Item<'a>>, Fault>
     requires { room ≤ 1000 }
     ensures { Gives heap_item_of (spec.item_of room (left_of tokens.old)) result
@@ -133,7 +133,7 @@ fn item<'a>(alloc: Global, room: u32, tokens: &mut Cursor<'_, 'a>) -> Result<Box
     }
 }
 
-#[tactic(auto, using(mc_descent::proofs::Lists::map_push))]
+#[tactic(auto, using(parse_expressions::proofs::Lists::map_push))]
 fn push<'a>(all: &mut Vec<Item<'a>>, one: Box<Item<'a>>) -> Result<(), AllocError>
     ensures { IfOk result (λ _. items_of all.new.items ≡ items_of all.old.items
         ++ heap_item_of one.entry ∷ []) }
@@ -142,7 +142,7 @@ fn push<'a>(all: &mut Vec<Item<'a>>, one: Box<Item<'a>>) -> Result<(), AllocErro
 }
 
 /// Reads external declarations of fewer than `room` levels, up to the end.
-#[tactic(auto, using(mc_descent::proofs::Lists::until_steps), unfolding(mc_reading::specs::Items::unit_of))]
+#[tactic(auto, using(parse_expressions::proofs::Lists::until_steps), unfolding(laws_grammar::specs::Items::unit_of))]
 pub fn items<'a>(
     alloc: Global,
     room: u32,

@@ -1,10 +1,10 @@
 //! Statements (C17 6.8): a statement is read by its front, the statements that are its parts, and
 //! its end, so that few functions call one another.
 ghost use Rattle.std.specs.Prelude.{◌≤◌};
-ghost use Rattle.mc_reading.specs.Statements as spec;
-ghost use Rattle.mc_cursor.specs.Cursors.{Gives, left_of};
+ghost use Rattle.laws_grammar.specs.Statements as spec;
+ghost use Rattle.parse_cursor.specs.Cursors.{Gives, left_of};
 ghost use Rattle.mc_parse.specs.steps.Fronts as fronts;
-ghost use Rattle.mc_makers.specs.Made.{body_of};
+ghost use Rattle.parse_makers.specs.Made.{body_of};
 ghost use Rattle.mc_tree.specs.Units.{value_of};
 
 mod beginnings;
@@ -21,11 +21,11 @@ use crate::statements::ends::{end, end_of_do};
 use crate::statements::openings::read_opening;
 use crate::statements::parts::{Headed, keyword_and_test};
 use crate::statements::wholes::whole;
-use mc_cursor::cursor::{Cursor, place};
-use mc_cursor::fault::Fault;
-use mc_makers::statements::{if_else, if_only};
 use mc_span::Span;
 use mc_tree::{Expression, Statement};
+use parse_cursor::cursor::{Cursor, place};
+use parse_cursor::fault::Fault;
+use parse_makers::statements::{if_else, if_only};
 use std::alloc::Global;
 
 /// Reads a statement of fewer than `room` levels.

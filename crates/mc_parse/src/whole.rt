@@ -5,15 +5,15 @@ ghost use Rattle.mc_tree.specs.Tree as source_tree;
 ghost use Rattle.mc_tree.specs.Units.{items_of};
 ghost use Rattle.mc_grammar.specs.Items.{IsSyntaxOf, IsTreeWithin, greatest_height};
 ghost use Rattle.mc_grammar.specs.Words.{lexemes_of};
-ghost use Rattle.mc_reading.specs.Items.{unit_of};
+ghost use Rattle.laws_grammar.specs.Items.{unit_of};
 ghost use Rattle.mc_parse.specs.steps.Wholes.{GivesWhole, tree_in};
 
 use crate::fault::ParseFault;
 use crate::items::items;
-use mc_cursor::cursor::Cursor;
-use mc_cursor::fault::Fault;
 use mc_lex::{Dialect, Token};
 use mc_tree::{Item, Unit};
+use parse_cursor::cursor::Cursor;
+use parse_cursor::fault::Fault;
 use std::alloc::Global;
 
 /// Reads external declarations of fewer than `room` levels.

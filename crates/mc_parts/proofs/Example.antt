@@ -6,7 +6,7 @@ use Rattle.std.specs.List.{AllByRecursion as Each}
 use Rattle.mc_span.specs.declared.span.Span.{Span}
 use Rattle.mc_lex.specs.Tokens.{Tok}
 use Rattle.mc_lex.proofs.Texts.{both}
-use Rattle.mc_strip.specs.Words.{specifiers}
+use Rattle.reread_pieces.specs.Words.{specifiers}
 use Rattle.mc_alike.specs.Moves.{FollowFrom, end_of}
 use Rattle.mc_inserted.specs.Rows.{rows_of}
 use Rattle.mc_inserted.specs.Fits.{IsBalanced, nothing, other, pair, StandsAmong, IsOperandAmong, IsStatementAmong, ReturnsAmong}

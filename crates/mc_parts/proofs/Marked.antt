@@ -9,15 +9,15 @@ use Rattle.mc_lex.specs.declared.token.TokenKind.{TokenKind}
 use Rattle.mc_lex.specs.declared.token.TokenKind.TheVariants.{Keyword}
 use Rattle.mc_lex.specs.Tokens.{Tok}
 use Rattle.mc_lex.proofs.Texts.{same_text}
-use Rattle.mc_strip.specs.declared.piece.What.{What}
-use Rattle.mc_strip.specs.declared.without.Stand.{Stand}
-use Rattle.mc_strip.specs.declared.without.Stand.TheVariants.{Opens, Closes, Own, Nowhere}
-use Rattle.mc_strip.specs.declared.piece.What.TheVariants as what
-use Rattle.mc_strip.specs.Words.{is}
-use Rattle.mc_strip.specs.Pieces.{Mark}
-use Rattle.mc_strip.specs.Plain.{place_after, first_start, laid, placed}
-use Rattle.mc_strip.specs.Plain as plain
-use Rattle.mc_shape.specs.Probes.{is_own, next_start, probes_from}
+use Rattle.reread_pieces.specs.declared.piece.What.{What}
+use Rattle.reread_pieces.specs.declared.without.Stand.{Stand}
+use Rattle.reread_pieces.specs.declared.without.Stand.TheVariants.{Opens, Closes, Own, Nowhere}
+use Rattle.reread_pieces.specs.declared.piece.What.TheVariants as what
+use Rattle.reread_pieces.specs.Words.{is}
+use Rattle.reread_pieces.specs.Pieces.{Mark}
+use Rattle.reread_pieces.specs.Plain.{place_after, first_start, laid, placed}
+use Rattle.reread_pieces.specs.Plain as plain
+use Rattle.reread_probes.specs.Probes.{is_own, next_start, probes_from}
 use Rattle.mc_alike.specs.Moves.{FollowFrom, end_of, without_place}
 use Rattle.mc_brackets.specs.Signs.{Sign, poured, before}
 use Rattle.mc_print.specs.Insertions.{value_exit}

@@ -1,6 +1,6 @@
 -- The printed text of a program is read as its parts.
 use Rattle.std.proofs.Common.{subst}
-use Rattle.mc_strip.specs.Pieces.{ArePieces, start}
+use Rattle.reread_pieces.specs.Pieces.{ArePieces, start}
 use Rattle.mc_parts.specs.Parts.{parts_of}
 use Rattle.mc_parts.specs.Marks.{marks}
 use Rattle.mc_parts.specs.Shaped.{tokens_at}

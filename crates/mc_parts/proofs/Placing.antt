@@ -4,13 +4,13 @@ use Rattle.std.specs.List.{slice_get}
 use Rattle.std.specs.Prelude.{option_to_list}
 use Rattle.mc_lex.specs.Tokens.{Tok}
 use Rattle.mc_lex.proofs.Texts.{same_text}
-use Rattle.mc_strip.specs.declared.bracket.Bracket.{Bracket}
-use Rattle.mc_strip.specs.declared.bracket.Bracket.TheVariants as bracket
-use Rattle.mc_strip.specs.declared.piece.What.{What}
-use Rattle.mc_strip.specs.declared.piece.What.TheVariants as what
-use Rattle.mc_strip.specs.Words.{word_of}
-use Rattle.mc_strip.specs.Rows.{is_value, is_body}
-use Rattle.mc_strip.specs.Pieces.{Here, innermost, brackets_after, opened, closes}
+use Rattle.reread_pieces.specs.declared.bracket.Bracket.{Bracket}
+use Rattle.reread_pieces.specs.declared.bracket.Bracket.TheVariants as bracket
+use Rattle.reread_pieces.specs.declared.piece.What.{What}
+use Rattle.reread_pieces.specs.declared.piece.What.TheVariants as what
+use Rattle.reread_pieces.specs.Words.{word_of}
+use Rattle.reread_pieces.specs.Rows.{is_value, is_body}
+use Rattle.reread_pieces.specs.Pieces.{Here, innermost, brackets_after, opened, closes}
 use Rattle.mc_parts.specs.Parts.{Part, row_texts, words_of}
 use Rattle.mc_parts.specs.Marks as marks
 use Rattle.mc_parts.specs.Closed.{top, below, open_after, closes_with, MayClose, AllClose}

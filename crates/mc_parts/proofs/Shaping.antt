@@ -7,17 +7,17 @@ use Rattle.std.specs.Str.{bytes_eq}
 use Rattle.mc_lex.specs.declared.token.TokenKind.TheVariants.{Constant}
 use Rattle.mc_lex.specs.Tokens.{Tok}
 use Rattle.mc_lex.proofs.Texts.{text_itself}
-use Rattle.mc_strip.specs.declared.bracket.Bracket.{Bracket}
-use Rattle.mc_strip.specs.declared.bracket.Bracket.TheVariants as bracket
-use Rattle.mc_strip.specs.declared.word.Word.{Word}
-use Rattle.mc_strip.specs.declared.word.Word.TheVariants as word
-use Rattle.mc_strip.specs.declared.piece.What.{What}
-use Rattle.mc_strip.specs.declared.piece.What.TheVariants as what
-use Rattle.mc_strip.specs.Words.{word_of, begins_declaration, may_begin_declaration}
-use Rattle.mc_strip.specs.Shapes.{hit, registers, label, statement, value_end, bare_return, decision, condition, switch, is_number, is_number_kind, value_of, begins, number_at}
-use Rattle.mc_strip.specs.Rows.{after_tokens, is_front, is_at_front, is_after_statement, is_colon, is_name, is_body, is_statement, is_value, begins_body, sees_brace, is_hit, is_label, is_decision, is_condition, is_switch, is_return, is_counted, is_no_declaration, is_value_end, is_registers, brace, brace_end_in, parenthesis_end, square_end, exit_row, row_of, row_at}
-use Rattle.mc_strip.specs.Pieces.{Here, Shaped, innermost, site_of, size, later, next, marked, word_start, word_is_second}
-use Rattle.mc_strip.specs.Pieces as pieces
+use Rattle.reread_pieces.specs.declared.bracket.Bracket.{Bracket}
+use Rattle.reread_pieces.specs.declared.bracket.Bracket.TheVariants as bracket
+use Rattle.reread_pieces.specs.declared.word.Word.{Word}
+use Rattle.reread_pieces.specs.declared.word.Word.TheVariants as word
+use Rattle.reread_pieces.specs.declared.piece.What.{What}
+use Rattle.reread_pieces.specs.declared.piece.What.TheVariants as what
+use Rattle.reread_pieces.specs.Words.{word_of, begins_declaration, may_begin_declaration}
+use Rattle.reread_pieces.specs.Shapes.{hit, registers, label, statement, value_end, bare_return, decision, condition, switch, is_number, is_number_kind, value_of, begins, number_at}
+use Rattle.reread_pieces.specs.Rows.{after_tokens, is_front, is_at_front, is_after_statement, is_colon, is_name, is_body, is_statement, is_value, begins_body, sees_brace, is_hit, is_label, is_decision, is_condition, is_switch, is_return, is_counted, is_no_declaration, is_value_end, is_registers, brace, brace_end_in, parenthesis_end, square_end, exit_row, row_of, row_at}
+use Rattle.reread_pieces.specs.Pieces.{Here, Shaped, innermost, site_of, size, later, next, marked, word_start, word_is_second}
+use Rattle.reread_pieces.specs.Pieces as pieces
 use Rattle.mc_spelled.specs.Words.{kind_in, number}
 use Rattle.mc_parts.specs.Parts.{Part, own, row_part, row_texts, words_of}
 use Rattle.mc_parts.specs.Marks.{mark_of, marks_from, first_token}

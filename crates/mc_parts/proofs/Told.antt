@@ -5,11 +5,11 @@ use Rattle.std.specs.List.{AllByRecursion as Each}
 use Rattle.mc_span.specs.declared.span.Span.{Span}
 use Rattle.mc_lex.specs.Tokens.{Tok}
 use Rattle.mc_lex.proofs.Texts.{same_text}
-use Rattle.mc_strip.specs.declared.bracket.Bracket.{Bracket}
-use Rattle.mc_strip.specs.declared.bracket.Bracket.TheVariants as bracket
-use Rattle.mc_strip.specs.declared.piece.What.{What}
-use Rattle.mc_strip.specs.declared.piece.What.TheVariants as what
-use Rattle.mc_strip.specs.Words.{is}
+use Rattle.reread_pieces.specs.declared.bracket.Bracket.{Bracket}
+use Rattle.reread_pieces.specs.declared.bracket.Bracket.TheVariants as bracket
+use Rattle.reread_pieces.specs.declared.piece.What.{What}
+use Rattle.reread_pieces.specs.declared.piece.What.TheVariants as what
+use Rattle.reread_pieces.specs.Words.{is}
 use Rattle.mc_probe.specs.Tree as p
 use Rattle.mc_print.specs.Pens.{texts_of}
 use Rattle.mc_inserted.specs.Rows.{Row, register_row, entry_row, exit_row, rows_in_statements, rows_in_function, rows_in_functions}

@@ -3,12 +3,12 @@
 use Rattle.std.specs.Prelude.{◌≡◌, ℕ, Bool, true, false, ◌&&◌, List, [], ◌∷◌, ◌++◌, Option, Some}
 use Rattle.std.specs.Prelude.{None, option_to_list, codes, if◌then◌else◌}
 use Rattle.std.specs.Str.{bytes_eq}
-use Rattle.mc_strip.specs.declared.bracket.Bracket.{Bracket}
-use Rattle.mc_strip.specs.declared.bracket.Bracket.TheVariants as bracket
-use Rattle.mc_strip.specs.declared.piece.What.{What}
-use Rattle.mc_strip.specs.declared.piece.What.TheVariants as what
-use Rattle.mc_strip.specs.Rows.{is_value}
-use Rattle.mc_strip.specs.Pieces.{opened, closes}
+use Rattle.reread_pieces.specs.declared.bracket.Bracket.{Bracket}
+use Rattle.reread_pieces.specs.declared.bracket.Bracket.TheVariants as bracket
+use Rattle.reread_pieces.specs.declared.piece.What.{What}
+use Rattle.reread_pieces.specs.declared.piece.What.TheVariants as what
+use Rattle.reread_pieces.specs.Rows.{is_value}
+use Rattle.reread_pieces.specs.Pieces.{opened, closes}
 use Rattle.mc_probe.specs.Tree as p
 use Rattle.mc_lex.specs.Tokens.{Tok}
 use Rattle.mc_inserted.specs.Fits.{IsBalanced, is_bracket}

@@ -3,9 +3,9 @@ use Rattle.std.specs.Prelude.{◌≡◌, ◌≤◌, ℕ, List, [], All, map, Non
 use Rattle.mc_lex.specs.declared.token.Dialect.TheVariants.{Plain}
 use Rattle.mc_lex.specs.Tokens.{Tok}
 use Rattle.mc_lex.specs.Scans.{Scans}
-use Rattle.mc_strip.specs.Pieces.{ArePieces, start}
-use Rattle.mc_strip.specs.Plain.{plain_of}
-use Rattle.mc_shape.specs.Probes.{probes}
+use Rattle.reread_pieces.specs.Pieces.{ArePieces, start}
+use Rattle.reread_pieces.specs.Plain.{plain_of}
+use Rattle.reread_probes.specs.Probes.{probes}
 use Rattle.mc_probe.specs.Tree as p
 use Rattle.mc_alike.specs.Moves.{Move, FollowFrom, AreAlike, end_of, moved_tokens}
 use Rattle.mc_alike.specs.Moves as alike

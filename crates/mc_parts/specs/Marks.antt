@@ -2,10 +2,10 @@
 -- starts. After each token of a printed text stands one byte.
 use Rattle.std.specs.Prelude.{ℕ, ◌+◌, List, [], ◌∷◌, length, if◌then◌else◌}
 use Rattle.mc_lex.specs.Tokens.{Tok}
-use Rattle.mc_strip.specs.declared.piece.What.{What}
-use Rattle.mc_strip.specs.Pieces.{Mark, word_is_second}
-use Rattle.mc_strip.specs.Plain.{token_of}
-use Rattle.mc_shape.specs.Probes.{has_place}
+use Rattle.reread_pieces.specs.declared.piece.What.{What}
+use Rattle.reread_pieces.specs.Pieces.{Mark, word_is_second}
+use Rattle.reread_pieces.specs.Plain.{token_of}
+use Rattle.reread_probes.specs.Probes.{has_place}
 use Rattle.mc_spelled.specs.Words.{kind_in}
 use Rattle.mc_parts.specs.Parts.{Part}
 

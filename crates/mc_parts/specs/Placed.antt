@@ -2,12 +2,12 @@
 -- directly before it, and what follows it.
 use Rattle.std.specs.Prelude.{◌≡◌, ◌⊎◌, ℕ, true, false, List, [], ◌∷◌, codes}
 use Rattle.mc_lex.specs.Tokens.{Tok}
-use Rattle.mc_strip.specs.declared.word.Word.TheVariants as word
-use Rattle.mc_strip.specs.declared.piece.What.{What}
-use Rattle.mc_strip.specs.declared.piece.What.TheVariants as what
-use Rattle.mc_strip.specs.Words.{is, word_of}
-use Rattle.mc_strip.specs.Rows.{is_front, is_at_front, is_after_statement, sees_brace}
-use Rattle.mc_strip.specs.Pieces.{Here}
+use Rattle.reread_pieces.specs.declared.word.Word.TheVariants as word
+use Rattle.reread_pieces.specs.declared.piece.What.{What}
+use Rattle.reread_pieces.specs.declared.piece.What.TheVariants as what
+use Rattle.reread_pieces.specs.Words.{is, word_of}
+use Rattle.reread_pieces.specs.Rows.{is_front, is_at_front, is_after_statement, sees_brace}
+use Rattle.reread_pieces.specs.Pieces.{Here}
 use Rattle.mc_spelled.specs.Numbers.{IsShort}
 use Rattle.mc_parts.specs.Parts.{Part, own, row_part, words_of}
 use Rattle.mc_parts.specs.Marks as marks

@@ -4,16 +4,16 @@ use Rattle.std.specs.Prelude.{codes}
 use Rattle.std.specs.List.{list_any}
 use Rattle.std.specs.Str.{bytes_eq}
 use Rattle.mc_lex.specs.Tokens.{Tok}
-use Rattle.mc_strip.specs.declared.bracket.Bracket.TheVariants as bracket
-use Rattle.mc_strip.specs.declared.word.Word.TheVariants as word
-use Rattle.mc_strip.specs.declared.piece.What.{What}
-use Rattle.mc_strip.specs.declared.piece.What.TheVariants as what
-use Rattle.mc_strip.specs.Words.{word_of, begins_declaration, may_begin_declaration}
-use Rattle.mc_strip.specs.Shapes.{begins}
-use Rattle.mc_strip.specs.Rows.{is_front, is_at_front, is_after_statement, is_colon, is_name}
-use Rattle.mc_strip.specs.Rows.{is_body, is_statement, is_value, begins_body, is_counted, is_hit}
-use Rattle.mc_strip.specs.Rows.{is_no_declaration, sees_brace, after_tokens}
-use Rattle.mc_strip.specs.Pieces.{Here, innermost, site_of, after}
+use Rattle.reread_pieces.specs.declared.bracket.Bracket.TheVariants as bracket
+use Rattle.reread_pieces.specs.declared.word.Word.TheVariants as word
+use Rattle.reread_pieces.specs.declared.piece.What.{What}
+use Rattle.reread_pieces.specs.declared.piece.What.TheVariants as what
+use Rattle.reread_pieces.specs.Words.{word_of, begins_declaration, may_begin_declaration}
+use Rattle.reread_pieces.specs.Shapes.{begins}
+use Rattle.reread_pieces.specs.Rows.{is_front, is_at_front, is_after_statement, is_colon, is_name}
+use Rattle.reread_pieces.specs.Rows.{is_body, is_statement, is_value, begins_body, is_counted, is_hit}
+use Rattle.reread_pieces.specs.Rows.{is_no_declaration, sees_brace, after_tokens}
+use Rattle.reread_pieces.specs.Pieces.{Here, innermost, site_of, after}
 use Rattle.mc_spelled.specs.Numbers.{IsShort}
 use Rattle.mc_spelled.specs.Words.{laid, tokens_in}
 use Rattle.mc_parts.specs.Parts.{Part, own, row_part, words_of}

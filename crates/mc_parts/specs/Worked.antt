@@ -4,8 +4,8 @@ use Rattle.mc_span.specs.declared.span.Span.{Span}
 use Rattle.mc_value.specs.declared.int_type.IntType.TheVariants as int_type
 use Rattle.mc_lex.specs.Tokens.{Tok}
 use Rattle.mc_lex.specs.declared.token.TokenKind.TheVariants.{Identifier, Keyword, Punctuator}
-use Rattle.mc_strip.specs.declared.bracket.Bracket.TheVariants as bracket
-use Rattle.mc_strip.specs.declared.piece.What.TheVariants as what
+use Rattle.reread_pieces.specs.declared.bracket.Bracket.TheVariants as bracket
+use Rattle.reread_pieces.specs.declared.piece.What.TheVariants as what
 use Rattle.mc_typed.specs.Tree.{NumberParameter, NumberResult}
 use Rattle.mc_typed.specs.declared.operators.LogicOperator.TheVariants as logic
 use Rattle.mc_typed.specs.declared.probes.Probe.TheVariants as probe

@@ -2,14 +2,14 @@
 use Rattle.std.proofs.Common.{◌≡◌, ◌≤◌, ◌<◌, ◌⊎◌, inl, inr, ℕ, true, false, List, [], ◌∷◌, ◌++◌, length, codes, refl, sym, ap, subst, ◌∙◌, arith, true≢false}
 use Rattle.mc_span.specs.declared.span.Span.{Span}
 use Rattle.mc_lex.specs.Tokens.{Tok}
-use Rattle.mc_strip.specs.declared.site.Before.{Before}
-use Rattle.mc_strip.specs.declared.site.Before.TheVariants as before
-use Rattle.mc_strip.specs.declared.piece.What.{What}
-use Rattle.mc_strip.specs.declared.piece.What.TheVariants as what
-use Rattle.mc_strip.specs.Words.{is, is_name}
-use Rattle.mc_strip.specs.Rows.{is_after_statement, is_colon}
-use Rattle.mc_strip.specs.Rows as site
-use Rattle.mc_strip.specs.Pieces.{Here, before_after}
+use Rattle.reread_pieces.specs.declared.site.Before.{Before}
+use Rattle.reread_pieces.specs.declared.site.Before.TheVariants as before
+use Rattle.reread_pieces.specs.declared.piece.What.{What}
+use Rattle.reread_pieces.specs.declared.piece.What.TheVariants as what
+use Rattle.reread_pieces.specs.Words.{is, is_name}
+use Rattle.reread_pieces.specs.Rows.{is_after_statement, is_colon}
+use Rattle.reread_pieces.specs.Rows as site
+use Rattle.reread_pieces.specs.Pieces.{Here, before_after}
 use Rattle.mc_alike.specs.Moves.{FollowFrom, end_of}
 use Rattle.mc_inserted.specs.Fits.{Fits, IsOperandAmong, IsLabelAmong, IsSwitchAmong, last_is, first_is}
 use Rattle.mc_parts.specs.Parts.{place_by}

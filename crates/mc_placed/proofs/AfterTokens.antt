@@ -5,14 +5,14 @@ use Rattle.std.specs.Str.{bytes_eq}
 use Rattle.mc_lex.specs.declared.token.TokenKind.TheVariants.{Punctuator}
 use Rattle.mc_lex.specs.Tokens.{Tok}
 use Rattle.mc_lex.proofs.Texts.{same_text}
-use Rattle.mc_strip.specs.declared.bracket.Bracket.TheVariants as bracket
-use Rattle.mc_strip.specs.declared.site.Before.{Before}
-use Rattle.mc_strip.specs.declared.site.Before.TheVariants as before
-use Rattle.mc_strip.specs.declared.piece.What.{What}
-use Rattle.mc_strip.specs.declared.piece.What.TheVariants as what
-use Rattle.mc_strip.specs.Words.{is, is_name, is_identifier_kind, before_of}
-use Rattle.mc_strip.specs.Rows as site
-use Rattle.mc_strip.specs.Pieces.{before_after}
+use Rattle.reread_pieces.specs.declared.bracket.Bracket.TheVariants as bracket
+use Rattle.reread_pieces.specs.declared.site.Before.{Before}
+use Rattle.reread_pieces.specs.declared.site.Before.TheVariants as before
+use Rattle.reread_pieces.specs.declared.piece.What.{What}
+use Rattle.reread_pieces.specs.declared.piece.What.TheVariants as what
+use Rattle.reread_pieces.specs.Words.{is, is_name, is_identifier_kind, before_of}
+use Rattle.reread_pieces.specs.Rows as site
+use Rattle.reread_pieces.specs.Pieces.{before_after}
 use Rattle.mc_probe.specs.Tree as p
 use Rattle.mc_inserted.specs.Rows.{Row, entry_row}
 use Rattle.mc_spelled.specs.Words.{kind_in}

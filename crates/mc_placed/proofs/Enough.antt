@@ -2,17 +2,17 @@
 use Rattle.std.proofs.Common.{◌≡◌, inl, inr, ℕ, Bool, true, false, ◌&&◌, ◌||◌, cond, List, [], ◌∷◌, codes, refl, sym, ap, ◌∙◌, append_assoc}
 use Rattle.mc_lex.specs.Tokens.{Tok}
 use Rattle.mc_lex.proofs.Texts.{same_text}
-use Rattle.mc_strip.specs.declared.bracket.Bracket.TheVariants as bracket
-use Rattle.mc_strip.specs.declared.word.Word.{Word}
-use Rattle.mc_strip.specs.declared.word.Word.TheVariants as word
-use Rattle.mc_strip.specs.declared.site.Before.{Before}
-use Rattle.mc_strip.specs.declared.site.Before.TheVariants as before
-use Rattle.mc_strip.specs.declared.piece.What.{What}
-use Rattle.mc_strip.specs.declared.piece.What.TheVariants as what
-use Rattle.mc_strip.specs.Words.{is, word_of, probe_word}
-use Rattle.mc_strip.specs.Shapes.{hit, statement}
-use Rattle.mc_strip.specs.Rows.{is_after_statement, is_parenthesis, is_nothing, is_counted, is_hit, is_no_declaration, after_tokens}
-use Rattle.mc_strip.specs.Pieces.{Here, innermost}
+use Rattle.reread_pieces.specs.declared.bracket.Bracket.TheVariants as bracket
+use Rattle.reread_pieces.specs.declared.word.Word.{Word}
+use Rattle.reread_pieces.specs.declared.word.Word.TheVariants as word
+use Rattle.reread_pieces.specs.declared.site.Before.{Before}
+use Rattle.reread_pieces.specs.declared.site.Before.TheVariants as before
+use Rattle.reread_pieces.specs.declared.piece.What.{What}
+use Rattle.reread_pieces.specs.declared.piece.What.TheVariants as what
+use Rattle.reread_pieces.specs.Words.{is, word_of, probe_word}
+use Rattle.reread_pieces.specs.Shapes.{hit, statement}
+use Rattle.reread_pieces.specs.Rows.{is_after_statement, is_parenthesis, is_nothing, is_counted, is_hit, is_no_declaration, after_tokens}
+use Rattle.reread_pieces.specs.Pieces.{Here, innermost}
 use Rattle.mc_parts.specs.Parts.{Part, what_of, row_texts, words_of}
 use Rattle.mc_parts.specs.Marks as marks
 use Rattle.mc_parts.specs.Shaped.{tokens_at, after_part}

@@ -5,14 +5,14 @@ use Rattle.std.specs.Str.{bytes_eq}
 use Rattle.mc_span.specs.declared.span.Span.{Span}
 use Rattle.mc_lex.specs.declared.token.Dialect.TheVariants.{Plain}
 use Rattle.mc_lex.specs.Tokens.{Tok}
-use Rattle.mc_strip.specs.declared.bracket.Bracket.{Bracket}
-use Rattle.mc_strip.specs.declared.bracket.Bracket.TheVariants as bracket
-use Rattle.mc_strip.specs.declared.piece.What.{What}
-use Rattle.mc_strip.specs.declared.piece.What.TheVariants as what
-use Rattle.mc_strip.specs.Words.{is}
-use Rattle.mc_strip.specs.Rows.{is_hit, sees_brace}
-use Rattle.mc_strip.specs.Shapes.{hit}
-use Rattle.mc_strip.specs.Pieces.{Here}
+use Rattle.reread_pieces.specs.declared.bracket.Bracket.{Bracket}
+use Rattle.reread_pieces.specs.declared.bracket.Bracket.TheVariants as bracket
+use Rattle.reread_pieces.specs.declared.piece.What.{What}
+use Rattle.reread_pieces.specs.declared.piece.What.TheVariants as what
+use Rattle.reread_pieces.specs.Words.{is}
+use Rattle.reread_pieces.specs.Rows.{is_hit, sees_brace}
+use Rattle.reread_pieces.specs.Shapes.{hit}
+use Rattle.reread_pieces.specs.Pieces.{Here}
 use Rattle.mc_spelled.specs.Words.{IsToken}
 use Rattle.mc_probe.specs.Tree as p
 use Rattle.mc_inserted.specs.Rows.{entry_row}

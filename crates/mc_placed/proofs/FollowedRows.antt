@@ -4,12 +4,12 @@ use Rattle.std.specs.List.{AllByRecursion as Each}
 use Rattle.mc_span.specs.declared.span.Span.{Span}
 use Rattle.mc_lex.specs.declared.token.Dialect.TheVariants.{Plain}
 use Rattle.mc_lex.specs.Tokens.{Tok}
-use Rattle.mc_strip.specs.declared.bracket.Bracket.TheVariants as bracket
-use Rattle.mc_strip.specs.declared.piece.What.{What}
-use Rattle.mc_strip.specs.declared.piece.What.TheVariants as what
-use Rattle.mc_strip.specs.Words.{is, begins_declaration}
-use Rattle.mc_strip.specs.Shapes.{begins}
-use Rattle.mc_strip.specs.Rows.{is_hit}
+use Rattle.reread_pieces.specs.declared.bracket.Bracket.TheVariants as bracket
+use Rattle.reread_pieces.specs.declared.piece.What.{What}
+use Rattle.reread_pieces.specs.declared.piece.What.TheVariants as what
+use Rattle.reread_pieces.specs.Words.{is, begins_declaration}
+use Rattle.reread_pieces.specs.Shapes.{begins}
+use Rattle.reread_pieces.specs.Rows.{is_hit}
 use Rattle.mc_spelled.specs.Words.{IsToken}
 use Rattle.mc_alike.specs.Moves.{FollowFrom, end_of}
 use Rattle.mc_print.specs.Pens.{Pen}

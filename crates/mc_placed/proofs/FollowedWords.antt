@@ -9,14 +9,14 @@ use Rattle.mc_lex.specs.Tokens.{Tok}
 use Rattle.mc_lex.specs.Words.{one_of, probe_names}
 use Rattle.mc_lex.specs.Scans.{Means}
 use Rattle.mc_lex.proofs.Texts.{same_text, not_both}
-use Rattle.mc_strip.specs.declared.bracket.Bracket.TheVariants as bracket
-use Rattle.mc_strip.specs.declared.word.Word.{Word}
-use Rattle.mc_strip.specs.declared.word.Word.TheVariants as word
-use Rattle.mc_strip.specs.declared.piece.What.{What}
-use Rattle.mc_strip.specs.declared.piece.What.TheVariants as what
-use Rattle.mc_strip.specs.Words.{is, is_identifier_kind, is_identifier, is_one_of, specifiers, begins_declaration, begins_product}
-use Rattle.mc_strip.specs.Shapes.{hit}
-use Rattle.mc_strip.specs.Rows.{is_hit, is_no_declaration, sees_brace, after_tokens}
+use Rattle.reread_pieces.specs.declared.bracket.Bracket.TheVariants as bracket
+use Rattle.reread_pieces.specs.declared.word.Word.{Word}
+use Rattle.reread_pieces.specs.declared.word.Word.TheVariants as word
+use Rattle.reread_pieces.specs.declared.piece.What.{What}
+use Rattle.reread_pieces.specs.declared.piece.What.TheVariants as what
+use Rattle.reread_pieces.specs.Words.{is, is_identifier_kind, is_identifier, is_one_of, specifiers, begins_declaration, begins_product}
+use Rattle.reread_pieces.specs.Shapes.{hit}
+use Rattle.reread_pieces.specs.Rows.{is_hit, is_no_declaration, sees_brace, after_tokens}
 use Rattle.mc_spelled.specs.Words.{IsToken, IsInserted, inserted_words, inserted_punctuators, kind_in}
 use Rattle.mc_spelled.specs.Words as inserted
 use Rattle.mc_spelled.proofs.Meanings.{kept}

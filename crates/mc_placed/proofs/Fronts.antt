@@ -4,14 +4,14 @@ use Rattle.std.specs.List.{AllByRecursion as Each}
 use Rattle.std.proofs.lemmas.List.Elements.{recursion_from_All}
 use Rattle.mc_span.specs.declared.span.Span.{Span}
 use Rattle.mc_lex.specs.Tokens.{Tok}
-use Rattle.mc_strip.specs.declared.bracket.Bracket.TheVariants as bracket
-use Rattle.mc_strip.specs.declared.site.Before.{Before}
-use Rattle.mc_strip.specs.declared.site.Before.TheVariants as before
-use Rattle.mc_strip.specs.declared.piece.What.{What}
-use Rattle.mc_strip.specs.declared.piece.What.TheVariants as what
-use Rattle.mc_strip.specs.Words.{is, is_name}
-use Rattle.mc_strip.specs.Rows.{is_front, is_at_front}
-use Rattle.mc_strip.specs.Pieces.{Here, before_after}
+use Rattle.reread_pieces.specs.declared.bracket.Bracket.TheVariants as bracket
+use Rattle.reread_pieces.specs.declared.site.Before.{Before}
+use Rattle.reread_pieces.specs.declared.site.Before.TheVariants as before
+use Rattle.reread_pieces.specs.declared.piece.What.{What}
+use Rattle.reread_pieces.specs.declared.piece.What.TheVariants as what
+use Rattle.reread_pieces.specs.Words.{is, is_name}
+use Rattle.reread_pieces.specs.Rows.{is_front, is_at_front}
+use Rattle.reread_pieces.specs.Pieces.{Here, before_after}
 use Rattle.mc_probe.specs.Tree as p
 use Rattle.mc_alike.specs.Moves.{FollowFrom, end_of}
 use Rattle.mc_inserted.specs.Rows.{Row, entry_row, rows_in_functions, rows_of}

@@ -5,14 +5,14 @@ use Rattle.std.specs.Prelude.{option_to_list}
 use Rattle.std.specs.Str.{bytes_eq}
 use Rattle.mc_lex.specs.Tokens.{Tok}
 use Rattle.mc_lex.proofs.Texts.{same_text}
-use Rattle.mc_strip.specs.declared.bracket.Bracket.{Bracket}
-use Rattle.mc_strip.specs.declared.bracket.Bracket.TheVariants as bracket
-use Rattle.mc_strip.specs.declared.site.Before.TheVariants as before
-use Rattle.mc_strip.specs.declared.piece.What.{What}
-use Rattle.mc_strip.specs.declared.piece.What.TheVariants as what
-use Rattle.mc_strip.specs.Words.{is, is_name, before_of}
-use Rattle.mc_strip.specs.Rows.{is_parenthesis, is_body, is_statement, is_nothing}
-use Rattle.mc_strip.specs.Pieces.{Here, innermost, brackets_after, before_after, is_front, opened, closes}
+use Rattle.reread_pieces.specs.declared.bracket.Bracket.{Bracket}
+use Rattle.reread_pieces.specs.declared.bracket.Bracket.TheVariants as bracket
+use Rattle.reread_pieces.specs.declared.site.Before.TheVariants as before
+use Rattle.reread_pieces.specs.declared.piece.What.{What}
+use Rattle.reread_pieces.specs.declared.piece.What.TheVariants as what
+use Rattle.reread_pieces.specs.Words.{is, is_name, before_of}
+use Rattle.reread_pieces.specs.Rows.{is_parenthesis, is_body, is_statement, is_nothing}
+use Rattle.reread_pieces.specs.Pieces.{Here, innermost, brackets_after, before_after, is_front, opened, closes}
 use Rattle.mc_parts.specs.Parts.{Part, words_of}
 use Rattle.mc_parts.specs.Marks.{first_token}
 use Rattle.mc_parts.specs.Marks as marks

@@ -12,8 +12,8 @@ use Rattle.mc_lex.specs.steps.Scanner.{punctuators_and_openings, starts_with_byt
 use Rattle.mc_lex.specs.declared.candidate.Class.TheVariants as class
 use Rattle.mc_lex.proofs.Texts.{same_text}
 use Rattle.mc_lex.proofs.Candidates.{Stands, stood}
-use Rattle.mc_strip.specs.declared.word.Word.TheVariants as word
-use Rattle.mc_strip.specs.Words.{is, probe_word}
+use Rattle.reread_pieces.specs.declared.word.Word.TheVariants as word
+use Rattle.reread_pieces.specs.Words.{is, probe_word}
 use Rattle.mc_spelled.specs.Words.{IsToken}
 use Rattle.mc_spelled.proofs.Meanings.{tokens_mean, kept}
 use Rattle.mc_typed.specs.Tree as typed

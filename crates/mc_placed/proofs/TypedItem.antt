@@ -5,13 +5,13 @@ use Rattle.std.specs.List.{AllByRecursion as Each}
 use Rattle.std.specs.Str.{bytes_eq}
 use Rattle.mc_lex.specs.Tokens.{Tok}
 use Rattle.mc_lex.proofs.Texts.{same_text}
-use Rattle.mc_strip.specs.declared.bracket.Bracket.{Bracket}
-use Rattle.mc_strip.specs.declared.bracket.Bracket.TheVariants as bracket
-use Rattle.mc_strip.specs.declared.piece.What.{What}
-use Rattle.mc_strip.specs.declared.piece.What.TheVariants as what
-use Rattle.mc_strip.specs.Words.{is}
-use Rattle.mc_strip.specs.Rows.{is_nothing, is_body}
-use Rattle.mc_strip.specs.Pieces.{Here, innermost, site_of, brackets_after, ends_item, value_shape, is_front}
+use Rattle.reread_pieces.specs.declared.bracket.Bracket.{Bracket}
+use Rattle.reread_pieces.specs.declared.bracket.Bracket.TheVariants as bracket
+use Rattle.reread_pieces.specs.declared.piece.What.{What}
+use Rattle.reread_pieces.specs.declared.piece.What.TheVariants as what
+use Rattle.reread_pieces.specs.Words.{is}
+use Rattle.reread_pieces.specs.Rows.{is_nothing, is_body}
+use Rattle.reread_pieces.specs.Pieces.{Here, innermost, site_of, brackets_after, ends_item, value_shape, is_front}
 use Rattle.mc_print.specs.Pens.{texts_of}
 use Rattle.mc_inserted.specs.Fits.{IsBalanced, nothing, other, pair, is_pair, is_bracket, last_is}
 use Rattle.mc_parts.specs.Parts.{Part, what_of, own, copied, words_of}

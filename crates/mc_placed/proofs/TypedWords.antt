@@ -4,9 +4,9 @@ use Rattle.std.specs.List.{AllByRecursion as Each}
 use Rattle.std.specs.Str.{bytes_eq}
 use Rattle.mc_lex.specs.Tokens.{Tok}
 use Rattle.mc_lex.specs.Words.{one_of}
-use Rattle.mc_strip.specs.Words.{is}
-use Rattle.mc_strip.specs.Pieces.{word}
-use Rattle.mc_strip.specs.Pieces as pieces
+use Rattle.reread_pieces.specs.Words.{is}
+use Rattle.reread_pieces.specs.Pieces.{word}
+use Rattle.reread_pieces.specs.Pieces as pieces
 use Rattle.mc_print.specs.Pens.{texts_of, type_words}
 use Rattle.mc_inserted.specs.Fits.{is_bracket}
 use Rattle.mc_parts.specs.Parts.{Part, copied, words_of}

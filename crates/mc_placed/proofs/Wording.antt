@@ -4,12 +4,12 @@ use Rattle.std.specs.List.{AllByRecursion as Each, list_any}
 use Rattle.std.specs.Str.{bytes_eq}
 use Rattle.mc_lex.specs.Tokens.{Tok}
 use Rattle.mc_lex.specs.Words.{one_of}
-use Rattle.mc_strip.specs.declared.bracket.Bracket.TheVariants as bracket
-use Rattle.mc_strip.specs.declared.word.Word.{Word}
-use Rattle.mc_strip.specs.declared.word.Word.TheVariants as word
-use Rattle.mc_strip.specs.declared.piece.What.{What}
-use Rattle.mc_strip.specs.declared.piece.What.TheVariants as what
-use Rattle.mc_strip.specs.Words.{is, probe_word}
+use Rattle.reread_pieces.specs.declared.bracket.Bracket.TheVariants as bracket
+use Rattle.reread_pieces.specs.declared.word.Word.{Word}
+use Rattle.reread_pieces.specs.declared.word.Word.TheVariants as word
+use Rattle.reread_pieces.specs.declared.piece.What.{What}
+use Rattle.reread_pieces.specs.declared.piece.What.TheVariants as what
+use Rattle.reread_pieces.specs.Words.{is, probe_word}
 use Rattle.mc_probe.specs.Tree as p
 use Rattle.mc_print.specs.Pens.{before, since, ends_item, last_item, type_words}
 use Rattle.mc_inserted.specs.Rows.{Row, register_row, entry_row, exit_row, rows_in_statements, rows_in_functions}

@@ -2,7 +2,7 @@
 use Rattle.std.specs.Prelude.{◌≡◌, ◌⊎◌, Bool, true, false, ◌&&◌, ◌||◌, List, [], ◌∷◌, ◌++◌, codes}
 use Rattle.std.specs.List.{list_any}
 use Rattle.mc_lex.specs.Tokens.{Tok}
-use Rattle.mc_strip.specs.Words.{is}
+use Rattle.reread_pieces.specs.Words.{is}
 use Rattle.mc_probe.specs.Tree as p
 use Rattle.mc_inserted.specs.Fits.{IsBalanced, is_bracket, last_is}
 use Rattle.mc_parts.specs.Stands.{AreAmong}

@@ -4,8 +4,8 @@ use Rattle.std.specs.List.{AllByRecursion as Each}
 use Rattle.mc_lex.specs.declared.token.Dialect.TheVariants.{Plain}
 use Rattle.mc_lex.specs.Tokens.{Tok}
 use Rattle.mc_lex.specs.Scans.{Scans}
-use Rattle.mc_strip.specs.Rows.{is_front}
-use Rattle.mc_strip.specs.Pieces.{Here, start}
+use Rattle.reread_pieces.specs.Rows.{is_front}
+use Rattle.reread_pieces.specs.Pieces.{Here, start}
 use Rattle.mc_typed.specs.Tree as typed
 use Rattle.mc_probe.specs.Tree as p
 use Rattle.mc_probe.specs.Maps.{Map}

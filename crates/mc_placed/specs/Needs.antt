@@ -3,16 +3,16 @@
 use Rattle.std.specs.Prelude.{◌≡◌, ◌==◌, ◌&&◌, ℕ, true, false, List, [], ◌∷◌, drop, codes}
 use Rattle.std.specs.List.{AllByRecursion as Each}
 use Rattle.mc_lex.specs.Tokens.{Tok}
-use Rattle.mc_strip.specs.declared.bracket.Bracket.TheVariants as bracket
-use Rattle.mc_strip.specs.declared.word.Word.TheVariants as word
-use Rattle.mc_strip.specs.declared.piece.What.{What}
-use Rattle.mc_strip.specs.declared.piece.What.TheVariants as what
-use Rattle.mc_strip.specs.Words.{is, probe_word, begins_declaration, may_begin_declaration}
-use Rattle.mc_strip.specs.Shapes.{begins}
-use Rattle.mc_strip.specs.Rows.{is_front, is_at_front, is_after_statement, is_colon, is_name}
-use Rattle.mc_strip.specs.Rows.{is_parenthesis, is_statement, is_nothing, is_hit, is_no_declaration}
-use Rattle.mc_strip.specs.Rows.{sees_brace, after_tokens}
-use Rattle.mc_strip.specs.Pieces.{Here, innermost}
+use Rattle.reread_pieces.specs.declared.bracket.Bracket.TheVariants as bracket
+use Rattle.reread_pieces.specs.declared.word.Word.TheVariants as word
+use Rattle.reread_pieces.specs.declared.piece.What.{What}
+use Rattle.reread_pieces.specs.declared.piece.What.TheVariants as what
+use Rattle.reread_pieces.specs.Words.{is, probe_word, begins_declaration, may_begin_declaration}
+use Rattle.reread_pieces.specs.Shapes.{begins}
+use Rattle.reread_pieces.specs.Rows.{is_front, is_at_front, is_after_statement, is_colon, is_name}
+use Rattle.reread_pieces.specs.Rows.{is_parenthesis, is_statement, is_nothing, is_hit, is_no_declaration}
+use Rattle.reread_pieces.specs.Rows.{sees_brace, after_tokens}
+use Rattle.reread_pieces.specs.Pieces.{Here, innermost}
 use Rattle.mc_spelled.specs.Numbers.{IsShort}
 use Rattle.mc_inserted.specs.Rows.{Row}
 use Rattle.mc_parts.specs.Parts.{Part, what_of, own, row_part, words_of}

@@ -1,5 +1,5 @@
 -- What a decision with its first bit stands for.
-use Rattle.mc_roots.specs.Seen.{decision_of}
+use Rattle.decide_rules.specs.Seen.{decision_of}
 use Rattle.mc_probe.specs.declared.mapped.MappedDecision.{MappedDecision}
 use Rattle.mc_probe.specs.Maps.{Mapped}
 

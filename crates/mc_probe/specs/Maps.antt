@@ -6,7 +6,7 @@ use Rattle.mc_cond.specs.Tree.{size, IsNumbered}
 use Rattle.mc_cond.specs.Vectors.{Evaluation}
 use Rattle.mc_paths.specs.Paths.{count_of, path_of}
 use Rattle.mc_typed.specs.Tree.{Program}
-use Rattle.mc_roots.specs.Decisions.{Decision, AreDecisions}
+use Rattle.decide_rules.specs.Decisions.{Decision, AreDecisions}
 use Rattle.mc_steps.specs.Events.{Event, Entered, Exited, Started, Chosen, Evaluated}
 use Rattle.mc_probe.specs.Obligations.{entry_spans, exit_spans, statement_spans, label_spans}
 

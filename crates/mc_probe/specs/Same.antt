@@ -6,7 +6,7 @@ use Rattle.mc_cond.specs.declared.tree.CondTree.{CondTree}
 use Rattle.mc_cond.specs.Tree.{Tree, Leaf, Not, And, Or, FullAnd, FullOr, FullXor, tree_of, size, IsNumberedFrom}
 use Rattle.mc_paths.specs.Paths.{count_of}
 use Rattle.mc_probe.specs.Maps.{Mapped, AreBased, IsPlaced}
-use Rattle.mc_roots.specs.Decisions.{Decision}
+use Rattle.decide_rules.specs.Decisions.{Decision}
 
 -- the two are one tree
 abbrev pub IsSame : Tree → Tree → Type 0

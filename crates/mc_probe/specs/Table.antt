@@ -6,14 +6,14 @@ use Rattle.mc_typed.specs.declared.probes.Probe.TheVariants as probe
 use Rattle.mc_typed.specs.declared.probes.Mark.{Mark}
 use Rattle.mc_typed.specs.Tree as typed
 use Rattle.mc_paths.specs.Paths.{increments}
-use Rattle.mc_roots.specs.declared.role.Role.{Role}
-use Rattle.mc_roots.specs.declared.role.Role.TheVariants.{Controlling, Inner, Plain}
-use Rattle.mc_roots.specs.declared.operators.FullOperator.{FullOperator}
-use Rattle.mc_roots.specs.Nodes.{Node, full_operator}
-use Rattle.mc_roots.specs.Nodes as nodes
-use Rattle.mc_roots.specs.Roots.{is_root}
-use Rattle.mc_roots.specs.Conditions.{width, is_operator}
-use Rattle.mc_roots.specs.Counts.{one_where, roots, roots_in}
+use Rattle.decide_rules.specs.declared.role.Role.{Role}
+use Rattle.decide_rules.specs.declared.role.Role.TheVariants.{Controlling, Inner, Plain}
+use Rattle.decide_rules.specs.declared.operators.FullOperator.{FullOperator}
+use Rattle.decide_rules.specs.Nodes.{Node, full_operator}
+use Rattle.decide_rules.specs.Nodes as nodes
+use Rattle.decide_rules.specs.Roots.{is_root}
+use Rattle.decide_rules.specs.Conditions.{width, is_operator}
+use Rattle.decide_rules.specs.Counts.{one_where, roots, roots_in}
 use Rattle.mc_probe.specs.Tree as probed
 use Rattle.mc_steps.specs.Points.{Points, no_points, ◌⊕◌, points_of, points_of_all, points_of_function, all_complete, has_default, initializes}
 use Rattle.mc_probe.specs.Bare.{bare_expression}

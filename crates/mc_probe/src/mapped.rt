@@ -1,10 +1,10 @@
 //! Decisions with the bits of their paths.
-ghost use Rattle.mc_roots.specs.Seen.{decision_of};
+ghost use Rattle.decide_rules.specs.Seen.{decision_of};
 ghost use Rattle.mc_probe.specs.Maps.{IsPlaced};
 ghost use Rattle.mc_probe.specs.Same.{Numbers, Numbers-prop, IsPlaced-prop};
 
+use decide_rules::Decision;
 use mc_paths::Numbering;
-use mc_roots::Decision;
 
 /// A decision, the numbers of its paths, and the bit of its first path: path k has the bit
 /// `base + k`.

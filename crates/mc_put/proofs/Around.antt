@@ -4,9 +4,9 @@ use Rattle.std.proofs.lemmas.Bool.{eqb-true}
 use Rattle.mc_limits.specs.Limits.{most_bits}
 use Rattle.mc_span.specs.declared.span.Span.{Span}
 use Rattle.mc_value.specs.declared.int_type.IntType.{IntType}
-use Rattle.mc_strip.specs.declared.piece.What.{What}
-use Rattle.mc_strip.specs.declared.piece.What.TheVariants as what
-use Rattle.mc_strip.specs.declared.placed.Placed.{Placed}
+use Rattle.reread_pieces.specs.declared.piece.What.{What}
+use Rattle.reread_pieces.specs.declared.piece.What.TheVariants as what
+use Rattle.reread_pieces.specs.declared.placed.Placed.{Placed}
 use Rattle.mc_typed.specs.declared.probes.Probe as code
 use Rattle.mc_typed.specs.declared.probes.Probe.TheVariants as probe
 use Rattle.mc_typed.specs.Sound.{type_of}
@@ -17,10 +17,10 @@ use Rattle.mc_probe.specs.Tree as p
 use Rattle.mc_probe.specs.WellFormed.{register_of}
 use Rattle.mc_inserted.specs.Rows.{Row, row, row_of_probe, extent, rows}
 use Rattle.mc_inserted.specs.Seats.{ArePlaced, is_placed, placed_rows, seat_of, seat_of_row}
-use Rattle.mc_back.specs.Pens.{Pen, go_on, is_below, is_same, noted}
-use Rattle.mc_back.specs.Rows as taken
-use Rattle.mc_back.specs.Back.{around, back, end_round, has_round, is_outer, is_round, is_there, leading, round, surrounded}
-use Rattle.mc_back.specs.steps.Inside.{inside}
+use Rattle.reread_put_back.specs.Pens.{Pen, go_on, is_below, is_same, noted}
+use Rattle.reread_put_back.specs.Rows as taken
+use Rattle.reread_put_back.specs.Back.{around, back, end_round, has_round, is_outer, is_round, is_there, leading, round, surrounded}
+use Rattle.reread_put_back.specs.steps.Inside.{inside}
 use Rattle.mc_apart.specs.Distinct.{IsDistinct}
 use Rattle.mc_put.specs.Places.{parts}
 use Rattle.mc_put.specs.Takes.{IsInside, Takes}

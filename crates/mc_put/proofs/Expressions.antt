@@ -2,15 +2,15 @@
 use Rattle.std.proofs.Common.{refl, sym, subst, ℕ, ◌≤◌, true, false, List, ◌∷◌}
 use Rattle.mc_limits.specs.Limits.{most_bits}
 use Rattle.mc_span.specs.declared.span.Span.{Span}
-use Rattle.mc_strip.specs.declared.piece.What.TheVariants as what
+use Rattle.reread_pieces.specs.declared.piece.What.TheVariants as what
 use Rattle.mc_probe.specs.Erase.{erase_place, erase_expression, erase_structure, erase_call, erase_argument, erase_arguments}
 use Rattle.mc_probe.specs.Tree as p
 use Rattle.mc_probe.specs.WellFormed.{FitsPlace, Fits, FitsStructure, FitsCall, FitsArgument, FitArguments}
 use Rattle.mc_inserted.specs.Rows.{Row, row, extent, rows, rows_in_place, rows_in_structure, rows_in_call, rows_in_argument, rows_in_arguments}
 use Rattle.mc_inserted.specs.Seats.{ArePlaced}
-use Rattle.mc_back.specs.Pens.{Pen, Walk, gives, ◌>>=◌}
-use Rattle.mc_back.specs.Back.{back, back_place, back_structure, back_call, back_argument, back_arguments}
-use Rattle.mc_back.specs.steps.Inside.{inside}
+use Rattle.reread_put_back.specs.Pens.{Pen, Walk, gives, ◌>>=◌}
+use Rattle.reread_put_back.specs.Back.{back, back_place, back_structure, back_call, back_argument, back_arguments}
+use Rattle.reread_put_back.specs.steps.Inside.{inside}
 use Rattle.mc_apart.specs.Distinct.{IsDistinct}
 use Rattle.mc_put.specs.Places.{in_place, parts, in_structure, in_call, in_argument, in_arguments}
 use Rattle.mc_put.specs.Ends.{EndPlace, End, EndStructure, EndCall, EndArgument, EndArguments}

@@ -4,9 +4,9 @@ use Rattle.mc_typed.specs.Tree as t
 use Rattle.mc_steps.specs.Points.{no_points}
 use Rattle.mc_probe.specs.Tree as p
 use Rattle.mc_probe.specs.Table.{instrumented}
-use Rattle.mc_simulation.proofs.Erased.{program_away}
-use Rattle.mc_simulation.proofs.Fitting.{well_formed}
-use Rattle.mc_back.specs.Back.{put_back}
+use Rattle.laws_simulation.proofs.Erased.{program_away}
+use Rattle.laws_simulation.proofs.Fitting.{well_formed}
+use Rattle.reread_put_back.specs.Back.{put_back}
 use Rattle.mc_put.specs.Laws.{TablesArePutBack}
 use Rattle.mc_put.proofs.Programs.{put_back_is}
 use Rattle.mc_put.proofs.Tables.{functions_take}

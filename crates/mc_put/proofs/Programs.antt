@@ -3,17 +3,17 @@ use Rattle.std.proofs.Common.{◌≡◌, ◌==◌, refl, sym, ap, subst, ◌∙�
 use Rattle.std.proofs.lemmas.Bool.{eqb-true}
 use Rattle.mc_limits.specs.Limits.{most_bits}
 use Rattle.mc_span.specs.declared.span.Span.{Span}
-use Rattle.mc_strip.specs.declared.piece.What.{What}
-use Rattle.mc_strip.specs.declared.piece.What.TheVariants as what
-use Rattle.mc_strip.specs.declared.placed.Placed.{Placed}
+use Rattle.reread_pieces.specs.declared.piece.What.{What}
+use Rattle.reread_pieces.specs.declared.piece.What.TheVariants as what
+use Rattle.reread_pieces.specs.declared.placed.Placed.{Placed}
 use Rattle.mc_probe.specs.Erase.{erase_function, erase_statements}
 use Rattle.mc_probe.specs.Tree as p
 use Rattle.mc_probe.specs.WellFormed.{FitStatements, FitFunctions}
 use Rattle.mc_inserted.specs.Rows.{Row, of_function, entry_row, exit_row, rows_in_statements, rows_in_function, rows_in_functions}
 use Rattle.mc_inserted.specs.Seats.{ArePlaced}
-use Rattle.mc_back.specs.Pens.{Pen, Walk, begun, each, gives, is_same, next_at, put, put_found, ◌>>=◌}
-use Rattle.mc_back.specs.Rows.{end_of, entry_bit, exit_bit, register_count}
-use Rattle.mc_back.specs.Back.{back_function, back_statements, first_fault, unless}
+use Rattle.reread_put_back.specs.Pens.{Pen, Walk, begun, each, gives, is_same, next_at, put, put_found, ◌>>=◌}
+use Rattle.reread_put_back.specs.Rows.{end_of, entry_bit, exit_bit, register_count}
+use Rattle.reread_put_back.specs.Back.{back_function, back_statements, first_fault, unless}
 use Rattle.mc_apart.specs.Distinct.{IsDistinct}
 use Rattle.mc_put.specs.Places.{in_statements, in_functions}
 use Rattle.mc_put.specs.Ends.{EndBit, EndFunction, EndFunctions}

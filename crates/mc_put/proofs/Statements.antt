@@ -2,7 +2,7 @@
 use Rattle.std.proofs.Common.{◌≡◌, refl, ℕ, ◌<◌, ◌≤◌, Bool, true, false, List, map, option_map, Option, Some, None, arith}
 use Rattle.mc_limits.specs.Limits.{most_bits}
 use Rattle.mc_span.specs.declared.span.Span.{Span}
-use Rattle.mc_strip.specs.declared.piece.What.TheVariants as what
+use Rattle.reread_pieces.specs.declared.piece.What.TheVariants as what
 use Rattle.mc_typed.specs.declared.probes.Mark.{Mark}
 use Rattle.mc_typed.specs.Tree as t
 use Rattle.mc_steps.specs.Points.{has_default, initializes}
@@ -11,9 +11,9 @@ use Rattle.mc_probe.specs.Tree as p
 use Rattle.mc_probe.specs.WellFormed.{FitsReturn, FitsMark, FitsAbsent, FitsStatement, FitStatements}
 use Rattle.mc_inserted.specs.Rows.{Row, row, rows, rows_in_structure, rows_in_effect, rows_in_effects, rows_in_declarators, rows_in_start, rows_in_optional, rows_in_statement, rows_in_statements, counted_declaration, label, absent_default, with_exit}
 use Rattle.mc_inserted.specs.Seats.{ArePlaced}
-use Rattle.mc_back.specs.Pens.{Pen, each, is_below, put}
-use Rattle.mc_back.specs.Rows.{declaration_bit, default_mark, end_of, label_mark, return_bit, statement_bit}
-use Rattle.mc_back.specs.Back.{Head, back, back_structure, back_effect, back_declarator, back_declared, back_absent, back_head, back_return, back_statement, back_statements}
+use Rattle.reread_put_back.specs.Pens.{Pen, each, is_below, put}
+use Rattle.reread_put_back.specs.Rows.{declaration_bit, default_mark, end_of, label_mark, return_bit, statement_bit}
+use Rattle.reread_put_back.specs.Back.{Head, back, back_structure, back_effect, back_declarator, back_declared, back_absent, back_head, back_return, back_statement, back_statements}
 use Rattle.mc_apart.specs.Distinct.{IsDistinct}
 use Rattle.mc_put.specs.Places.{places, in_effects, in_optional, in_value, in_statement, in_statements}
 use Rattle.mc_put.specs.Ends.{EndBit, EndMark, EndStart, EndTest, EndEffects, EndValue, EndStatement, EndStatements}

@@ -1,18 +1,18 @@
 -- The probes of the table stand where the walk looks for them.
 use Rattle.std.proofs.Common.{◌≡◌, ◌∙◌, refl, sym, ap, subst, ℕ, ◌+◌, Bool, true, false, if◌then◌else◌, List, [], ◌∷◌, Option, Some, None}
 use Rattle.mc_span.specs.declared.span.Span.{Span}
-use Rattle.mc_strip.specs.declared.piece.What.TheVariants as what
+use Rattle.reread_pieces.specs.declared.piece.What.TheVariants as what
 use Rattle.mc_typed.specs.declared.probes.Probe.TheVariants as probe
 use Rattle.mc_typed.specs.Sound.{type_of}
 use Rattle.mc_typed.specs.Tree.{span_of, span_of_place, span_of_call}
 use Rattle.mc_typed.specs.Tree as t
-use Rattle.mc_roots.specs.declared.operators.FullOperator.{FullOperator}
-use Rattle.mc_roots.specs.declared.role.Role.TheVariants.{Controlling, Inner, Plain}
-use Rattle.mc_roots.specs.Nodes.{Node, full_operator, is_flag}
-use Rattle.mc_roots.specs.Nodes as n
-use Rattle.mc_roots.specs.Roots.{is_root}
-use Rattle.mc_roots.specs.Conditions.{width, is_operator}
-use Rattle.mc_roots.specs.Counts.{roots, roots_in}
+use Rattle.decide_rules.specs.declared.operators.FullOperator.{FullOperator}
+use Rattle.decide_rules.specs.declared.role.Role.TheVariants.{Controlling, Inner, Plain}
+use Rattle.decide_rules.specs.Nodes.{Node, full_operator, is_flag}
+use Rattle.decide_rules.specs.Nodes as n
+use Rattle.decide_rules.specs.Roots.{is_root}
+use Rattle.decide_rules.specs.Conditions.{width, is_operator}
+use Rattle.decide_rules.specs.Counts.{roots, roots_in}
 use Rattle.mc_steps.specs.Points.{Points, ◌⊕◌, points_of_function, has_default, initializes}
 use Rattle.mc_probe.specs.Bare.{bare_expression}
 use Rattle.mc_probe.specs.Erase.{erase_place, erase_expression, erase_call}
@@ -21,9 +21,9 @@ use Rattle.mc_probe.specs.Maps.{Map, exit_bit, statement_bit, label_bit}
 use Rattle.mc_probe.specs.Table.{Stand, Loose, InTree, role_of, operand, under, beside, inner, base_of, increment_of, mapped, round_condition, round, put, put_place, put_structure, put_call, put_argument, put_arguments, put_effect, put_effects, put_initializer, put_initializers, put_initial, put_declarators, put_start, put_optional, put_return, At, decided, absent_mark, put_statement, put_statements, put_functions, decisions_in}
 use Rattle.mc_probe.specs.Table as table
 use Rattle.mc_probe.proofs.Backs.{expression_back}
-use Rattle.mc_simulation.proofs.Erased.{declarators_away, statements_away}
+use Rattle.laws_simulation.proofs.Erased.{declarators_away, statements_away}
 use Rattle.mc_inserted.specs.Rows.{extent, row_of_probe}
-use Rattle.mc_back.specs.Back.{has_round, is_round}
+use Rattle.reread_put_back.specs.Back.{has_round, is_round}
 use Rattle.mc_put.specs.Conversions.{IsWritten, IsFlagged, AreFlagged, ConvertsPlace, Converts, ConvertsStructure, ConvertsCall, ConvertsArgument, ConvertsArguments, ConvertsEffect, ConvertsEffects, ConvertsInitializer, ConvertsInitializers, ConvertsInitial, ConvertsDeclarators, ConvertsStart, ConvertsOptional, ConvertsValue, ConvertsStatement, ConvertsStatements, ConvertsFunctions}
 use Rattle.mc_put.specs.Takes.{IsSetWhere, IsSetUnless, IsInside, TakesPlace, Takes, TakesStructure, TakesCall, TakesArgument, TakesArguments, TakesEffect, TakesEffects, TakesInitializer, TakesInitializers, TakesInitial, TakesDeclarators, TakesStart, TakesTest, TakesValue, TakesStatement, TakesStatements, TakesFunctions}
 

@@ -2,13 +2,13 @@
 use Rattle.std.proofs.Common.{◌≡◌, ◌∙◌, refl, sym, ap, subst, ℕ, ◌≤◌, max, Bool, true, false, if◌then◌else◌, List, [], ◌∷◌, map, Option, Some, None, option_and_then, arith}
 use Rattle.mc_limits.specs.Limits.{most_bits}
 use Rattle.mc_span.specs.declared.span.Span.{Span}
-use Rattle.mc_strip.specs.declared.piece.What.{What}
-use Rattle.mc_strip.specs.declared.piece.What.TheVariants as what
-use Rattle.mc_strip.specs.declared.placed.Placed.{Placed}
+use Rattle.reread_pieces.specs.declared.piece.What.{What}
+use Rattle.reread_pieces.specs.declared.piece.What.TheVariants as what
+use Rattle.reread_pieces.specs.declared.placed.Placed.{Placed}
 use Rattle.mc_inserted.specs.Rows.{Row, row}
 use Rattle.mc_inserted.specs.Seats.{Seat, ArePlaced, is_placed, placed_rows, seat_of, seat_of_row}
-use Rattle.mc_back.specs.Pens.{Pen, Walk, gives, is_below, is_same, next_at, noted, put, put_found, ◌>>=◌}
-use Rattle.mc_back.specs.Rows.{end_of, register_of}
+use Rattle.reread_put_back.specs.Pens.{Pen, Walk, gives, is_below, is_same, next_at, noted, put, put_found, ◌>>=◌}
+use Rattle.reread_put_back.specs.Rows.{end_of, register_of}
 
 -- ---- a walk over a part
 

@@ -3,7 +3,7 @@ use Rattle.std.specs.Prelude.{ℕ, ◌<◌, ◌≤◌, List, [], ◌∷◌, Opti
 use Rattle.mc_typed.specs.declared.probes.Mark.{Mark}
 use Rattle.mc_probe.specs.Tree as p
 use Rattle.mc_inserted.specs.Rows.{row_of_probe}
-use Rattle.mc_back.specs.Back.{end_round}
+use Rattle.reread_put_back.specs.Back.{end_round}
 
 module _ (limit : ℕ) where
   abbrev pub EndBit : Option ℕ → Type 0

@@ -1,7 +1,7 @@
 -- Probes that are put back.
 use Rattle.std.specs.Prelude.{◌≡◌, ℕ, ◌≤◌, List, Ok}
 use Rattle.mc_limits.specs.Limits.{most_bits}
-use Rattle.mc_strip.specs.declared.placed.Placed.{Placed}
+use Rattle.reread_pieces.specs.declared.placed.Placed.{Placed}
 use Rattle.mc_typed.specs.Sound.{IsSound}
 use Rattle.mc_typed.specs.Tree.{Program}
 use Rattle.mc_probe.specs.Erase.{erase}
@@ -11,7 +11,7 @@ use Rattle.mc_probe.specs.Tree as p
 use Rattle.mc_probe.specs.WellFormed.{FitFunctions}
 use Rattle.mc_inserted.specs.Rows.{rows_of}
 use Rattle.mc_inserted.specs.Seats.{ArePlaced}
-use Rattle.mc_back.specs.Back.{put_back}
+use Rattle.reread_put_back.specs.Back.{put_back}
 use Rattle.mc_apart.specs.Distinct.{IsDistinct}
 use Rattle.mc_put.specs.Places.{places_of}
 use Rattle.mc_put.specs.Conversions.{ConversionsStand}

@@ -7,7 +7,7 @@ use Rattle.mc_limits.specs.Limits.{most_bits, most_tests, most_words}
 use Rattle.mc_core.specs.Matrix.{HasNoSpareBit}
 use Rattle.mc_core.specs.Shape.{word_count}
 use Rattle.mc_core.specs.declared.shape.Shape.{Shape}
-use Rattle.mc_rows.specs.Numbers.{number_of}
+use Rattle.csv_records.specs.Numbers.{number_of}
 use Rattle.mc_record.specs.Bits.{bits_in}
 use Rattle.mc_record.specs.Kept.{Kept, IsKept}
 use Rattle.mc_record.specs.Parts.{read_on, strip, until, with_part}

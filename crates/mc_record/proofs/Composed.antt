@@ -10,8 +10,8 @@ use Rattle.std.proofs.lemmas.List.Folds.{concat-append}
 use Rattle.std.proofs.lemmas.Slice.Eq.{bytes_eq-Decides}
 use Rattle.mc_limits.specs.Limits.{most_tests, most_words}
 use Rattle.mc_core.specs.Shape.{word_count}
-use Rattle.mc_rows.specs.Numbers.{is_digit, number_of}
-use Rattle.mc_wording.specs.Hexadecimal.{hexadecimal}
+use Rattle.csv_records.specs.Numbers.{is_digit, number_of}
+use Rattle.report_words.specs.Hexadecimal.{hexadecimal}
 use Rattle.mc_record.specs.Bits.{bits_in}
 use Rattle.mc_record.specs.Digits.{bytes_in}
 use Rattle.mc_record.specs.Kept.{Kept}

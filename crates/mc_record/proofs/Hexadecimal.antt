@@ -9,7 +9,7 @@ use Rattle.std.proofs.Math.Nat.{mod-lt}
 use Rattle.std.proofs.Math.ListN.{set, length-set}
 use Rattle.std.proofs.Math.Seq.{take-suc-set}
 use mir.Syntax.{w64}
-use Rattle.mc_wording.specs.Hexadecimal.{byte_text, hexadecimal, hexadecimal_digit}
+use Rattle.report_words.specs.Hexadecimal.{byte_text, hexadecimal, hexadecimal_digit}
 use Rattle.mc_record.specs.Digits.{byte_in, bytes_in, digit_of, word_in, words_in}
 use Rattle.mc_record.specs.Lines.{word_text}
 use Rattle.mc_record.specs.Parts.{with_part}

@@ -12,7 +12,7 @@ use Rattle.mc_limits.specs.Limits.{most_tests, most_words}
 use Rattle.mc_core.specs.Merged.{words_of_both}
 use Rattle.mc_core.specs.Shape.{word_count}
 use Rattle.mc_core.specs.declared.shape.Shape.{Shape}
-use Rattle.mc_rows.specs.Names.{is_name}
+use Rattle.csv_records.specs.Names.{is_name}
 use Rattle.mc_typed.specs.declared.plans.Ending.TheVariants.{Returned}
 use Rattle.mc_typed.specs.declared.plans.TestState.TheVariants.{Ended}
 use Rattle.mc_record.specs.Kept.{Kept, IsKept, are_distinct}

@@ -4,7 +4,7 @@ use Rattle.std.specs.Prelude.{flat_map, codes}
 use Rattle.std.specs.Int.{to_be_bytes}
 use mir.Syntax.{w64}
 use Rattle.std.proofs.lemmas.List.{take_all}
-use Rattle.mc_wording.specs.Hexadecimal.{hexadecimal}
+use Rattle.report_words.specs.Hexadecimal.{hexadecimal}
 use Rattle.mc_record.specs.Lines.{word_text}
 
 -- the first of some words, and the others

@@ -15,12 +15,12 @@ use Rattle.mc_core.specs.declared.shape.Shape.{Shape}
 use Rattle.mc_port.proofs.Puts.{part_after, puts_stops, puts_then}
 use Rattle.mc_port.specs.Sink.{Puts}
 use Rattle.mc_port.specs.declared.sink.PutFault.{PutFault}
-use Rattle.mc_rows.specs.Names.{is_name, is_name_byte}
+use Rattle.csv_records.specs.Names.{is_name, is_name_byte}
 use Rattle.mc_typed.specs.declared.plans.Ending.TheVariants as ending
 use Rattle.mc_typed.specs.declared.plans.TestState.{TestState}
 use Rattle.mc_typed.specs.declared.plans.TestState.TheVariants.{Pass, Fail, Ended}
 use Rattle.mc_value.specs.declared.trap.Trap.TheVariants.{Overflow, Division, Shift, Index, Unset, NoReturn, InputEnd}
-use Rattle.mc_wording.specs.Words.{state_word}
+use Rattle.report_words.specs.Words.{state_word}
 use Rattle.mc_record.specs.Kept.{Kept}
 use Rattle.mc_record.specs.Lines.{bit_line, bit_lines, bits_line, end_line, header_line, most_row_words, record_lines, row_of, source_line, test_line, test_lines, tests_line}
 use Rattle.mc_record.proofs.Numbers.{and_parts}

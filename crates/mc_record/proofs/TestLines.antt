@@ -8,14 +8,14 @@ use Rattle.std.proofs.lemmas.List.{append-nil, length_push}
 use Rattle.std.proofs.lemmas.List.Elements.{All-push}
 use Rattle.std.proofs.lemmas.List.Folds.{list_all-append}
 use Rattle.std.proofs.lemmas.Slice.Eq.{bytes_eq-Decides}
-use Rattle.mc_rows.specs.Names.{is_name, is_name_byte}
+use Rattle.csv_records.specs.Names.{is_name, is_name_byte}
 use Rattle.mc_typed.specs.declared.plans.Ending.TheVariants as ending
 use Rattle.mc_typed.specs.declared.plans.TestState.{TestState}
 use Rattle.mc_typed.specs.declared.plans.TestState.TheVariants.{Pass, Fail, Ended}
 use Rattle.mc_value.specs.declared.trap.Trap.TheVariants.{Overflow, Division, Shift, Index, Unset, NoReturn, InputEnd}
-use Rattle.mc_wording.specs.Words.{state_word}
-use Rattle.mc_wording.specs.Named.{state_named}
-use Rattle.mc_wording.proofs.Naming.{named_by_word, named_have_words}
+use Rattle.report_words.specs.Words.{state_word}
+use Rattle.report_words.specs.Named.{state_named}
+use Rattle.report_words.proofs.Naming.{named_by_word, named_have_words}
 use Rattle.mc_record.specs.Kept.{are_distinct}
 use Rattle.mc_record.specs.Lines.{newline, test_line, test_lines}
 use Rattle.mc_record.specs.Parts.{read_on, strip, until, with_part}

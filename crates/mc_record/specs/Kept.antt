@@ -5,7 +5,7 @@ use Rattle.std.specs.Str.{bytes_eq}
 use Rattle.mc_limits.specs.Limits.{most_bits, most_tests, most_words}
 use Rattle.mc_core.specs.Matrix.{MatrixView}
 use Rattle.mc_core.specs.Shape.{word_count}
-use Rattle.mc_rows.specs.Names.{is_name}
+use Rattle.csv_records.specs.Names.{is_name}
 use Rattle.mc_typed.specs.declared.plans.Ending.TheVariants.{Returned}
 use Rattle.mc_typed.specs.declared.plans.TestState.{TestState}
 use Rattle.mc_typed.specs.declared.plans.TestState.TheVariants.{Ended}

@@ -8,8 +8,8 @@ use Rattle.mc_limits.specs.Limits.{most_tests}
 use Rattle.mc_core.specs.Matrix.{MatrixView}
 use Rattle.mc_core.specs.Shape.{rows}
 use Rattle.mc_typed.specs.declared.plans.TestState.{TestState}
-use Rattle.mc_wording.specs.Hexadecimal.{hexadecimal}
-use Rattle.mc_wording.specs.Words.{state_word}
+use Rattle.report_words.specs.Hexadecimal.{hexadecimal}
+use Rattle.report_words.specs.Words.{state_word}
 use Rattle.mc_record.specs.Kept.{Kept}
 
 abbrev pub newline : List ℕ

@@ -4,7 +4,7 @@ use Rattle.std.specs.Str.{bytes_eq}
 use Rattle.mc_limits.specs.Limits.{most_tests, most_words}
 use Rattle.mc_core.specs.Shape.{word_count}
 use Rattle.mc_core.specs.declared.shape.Shape.{Shape}
-use Rattle.mc_rows.specs.Numbers.{number_of}
+use Rattle.csv_records.specs.Numbers.{number_of}
 use Rattle.mc_record.specs.Kept.{Kept}
 use Rattle.mc_record.specs.Lines.{bits_line, end_line, header_line, newline, old_header_line}
 use Rattle.mc_record.specs.Parts.{read_on, strip, until, with_part}

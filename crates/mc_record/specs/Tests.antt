@@ -2,9 +2,9 @@
 use Rattle.std.specs.Prelude.{ℕ, zero, suc, ◌+◌, List, [], ◌∷◌, ◌++◌, length, codes, Option, Some, None, Result, Ok, Err, if◌then◌else◌}
 use Rattle.std.specs.List.{list_any}
 use Rattle.std.specs.Str.{bytes_eq}
-use Rattle.mc_rows.specs.Names.{is_name}
+use Rattle.csv_records.specs.Names.{is_name}
 use Rattle.mc_typed.specs.declared.plans.TestState.{TestState}
-use Rattle.mc_wording.specs.Named.{state_named}
+use Rattle.report_words.specs.Named.{state_named}
 use Rattle.mc_record.specs.Parts.{read_on, strip, until, with_part}
 use Rattle.mc_record.specs.declared.fault.RecordFault.{RecordFault}
 use Rattle.mc_record.specs.declared.fault.RecordFault.TheVariants as fault

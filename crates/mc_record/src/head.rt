@@ -7,9 +7,9 @@ use crate::digits::read_bytes;
 use crate::fault::RecordFault;
 use crate::lines::bits_line;
 use crate::parts::{strip, until};
+use csv_records::read_number;
 use mc_core::{Shape, words};
 use mc_limits::{MOST_TESTS, MOST_WORDS};
-use mc_rows::read_number;
 
 const MAX_TESTS: i128 = MOST_TESTS as i128;
 

@@ -2,13 +2,13 @@
 ghost use Rattle.std.specs.Prelude.{◌≡◌, ◌≤◌, ◌+◌, ◌*◌, ◌++◌, length};
 ghost use Rattle.std.specs.Fmt.{decimal};
 ghost use Rattle.arrayvec.specs.ArrayVec.{array_vec_len};
-ghost use Rattle.mc_wording.specs.Hexadecimal.{hexadecimal};
+ghost use Rattle.report_words.specs.Hexadecimal.{hexadecimal};
 ghost use Rattle.mc_record.specs.Lines.{most_line_bytes};
 
 use arrayvec::ArrayVec;
 use itoa::Buffer;
 use mc_limits::MOST_TESTS;
-use mc_wording::byte_digits;
+use report_words::byte_digits;
 
 /// The bytes of the longest line, that of a bit: `bit `, a number of 10 digits, a space and 16
 /// digits for each word of 64 tests, and LF.

@@ -1,12 +1,12 @@
 //! The lines of a record.
 ghost use Rattle.std.specs.Prelude.{◌≡◌, ◌≤◌, ◌+◌, ◌*◌, ◌++◌, true, flat_map, length};
 ghost use Rattle.arrayvec.specs.ArrayVec.{array_vec_len};
-ghost use Rattle.mc_rows.specs.Names.{is_name};
+ghost use Rattle.csv_records.specs.Names.{is_name};
 ghost use Rattle.mc_record.specs.Lines.{bit_front, bit_line, bits_line, most_line_bytes, most_row_words, source_line, test_line, tests_line, word_text};
 
 use crate::line::{Line, extend, push_digits, push_number};
 use mc_typed::{Name, TestState};
-use mc_wording::state_word;
+use report_words::state_word;
 
 /// The line of the digest.
 pub(crate) fn source_line(digest: &[u8; 32]) -> Line

@@ -8,9 +8,9 @@ ghost use Rattle.mc_record.specs.declared.fault.RecordFault.TheVariants.{OutOfMe
 
 use crate::fault::RecordFault;
 use crate::parts::{strip, until};
-use mc_rows::is_name;
+use csv_records::is_name;
 use mc_typed::{Name, TestState};
-use mc_wording::state_named;
+use report_words::state_named;
 use std::alloc::{AllocError, Global};
 use std::collections::BTreeSet;
 

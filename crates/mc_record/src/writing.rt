@@ -4,7 +4,7 @@ ghost use Rattle.std.specs.List.{concat, list_all};
 ghost use Rattle.mc_limits.specs.Limits.{most_tests};
 ghost use Rattle.mc_core.specs.Matrix.{IsSound};
 ghost use Rattle.mc_port.specs.Sink.{Puts};
-ghost use Rattle.mc_rows.specs.Names.{is_name};
+ghost use Rattle.csv_records.specs.Names.{is_name};
 ghost use Rattle.mc_record.specs.Kept.{IsKept};
 ghost use Rattle.mc_record.specs.Lines.{bit_lines, bits_line, end_line, header_line, record_lines, source_line, test_lines, tests_line};
 ghost use Rattle.mc_record.specs.Seen.{kept_of};

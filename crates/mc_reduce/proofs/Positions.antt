@@ -4,7 +4,7 @@ use Rattle.std.specs.Prelude.{slice_get}
 use Rattle.std.proofs.lemmas.Bool.{cases_lt}
 use Rattle.std.proofs.lemmas.List.{length-append}
 use Rattle.mc_span.specs.declared.span.Span.{Span}
-use Rattle.mc_roots.specs.Decisions.{Decision}
+use Rattle.decide_rules.specs.Decisions.{Decision}
 use Rattle.mc_probe.specs.Maps.{Mapped, Map, first_exit, first_statement, first_label, first_path}
 use Rattle.mc_oblige.specs.declared.mode.Mode.{Mode}
 use Rattle.mc_oblige.specs.declared.obligation.Obligation.{Obligation}

@@ -5,7 +5,7 @@ use Rattle.std.proofs.lemmas.Bool.{cases_lt}
 use Rattle.std.proofs.lemmas.Option.{slice_get_within, slice_get_read, get_or_from_slice_get}
 use Rattle.mc_span.specs.declared.span.Span.{Span}
 use Rattle.mc_core.specs.Matrix.{MatrixView}
-use Rattle.mc_roots.specs.Decisions.{Decision}
+use Rattle.decide_rules.specs.Decisions.{Decision}
 use Rattle.mc_probe.specs.Maps.{Mapped, Map, first_path}
 use Rattle.mc_oblige.specs.declared.mode.Mode.{Mode}
 use Rattle.mc_oblige.specs.declared.obligation.Obligation.{Obligation}

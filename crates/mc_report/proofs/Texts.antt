@@ -7,7 +7,7 @@ use Rattle.std.proofs.lemmas.Str.{IsAscii-append, IsUtf8-from_ascii}
 use Rattle.std.proofs.lemmas.Str.Ascii.{IsAscii-nil}
 use Rattle.mc_cond.specs.Vectors.{Evaluation}
 use Rattle.mc_probe.specs.Maps.{Mapped}
-use Rattle.mc_wording.specs.Hexadecimal.{byte_text, hexadecimal_digit}
+use Rattle.report_words.specs.Hexadecimal.{byte_text, hexadecimal_digit}
 use Rattle.mc_report.specs.Lines.{path_vector}
 use Rattle.mc_report.specs.Vectors.{vector_at}
 use Rattle.mc_report.specs.steps.Texts.{AreTexts}

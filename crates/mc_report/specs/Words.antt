@@ -8,8 +8,8 @@ use Rattle.mc_oblige.specs.declared.mode.Mode.TheVariants.{Unique, Masking}
 use Rattle.mc_oblige.specs.declared.verdict.VerdictState.{VerdictState}
 use Rattle.mc_oblige.specs.declared.verdict.VerdictState.TheVariants.{Met, Justified, Stale, Missing}
 pub use Rattle.mc_oblige.specs.Ids.{id_text}
-pub use Rattle.mc_wording.specs.Hexadecimal.{hexadecimal}
-pub use Rattle.mc_wording.specs.Words.{state_word}
+pub use Rattle.report_words.specs.Hexadecimal.{hexadecimal}
+pub use Rattle.report_words.specs.Words.{state_word}
 
 -- each line ends with LF
 abbrev pub newline : List ℕ

@@ -2,7 +2,7 @@
 ghost use Rattle.std.specs.Prelude.{◌≡◌, ◌≤◌, ◌<◌, ◌++◌, length, All, IfOk, IsUtf8, OnOk, string_bytes};
 ghost use Rattle.std.specs.List.{concat};
 ghost use Rattle.serde_json.specs.Written.{compact_text};
-ghost use Rattle.mc_wording.specs.Hexadecimal.{byte_text};
+ghost use Rattle.report_words.specs.Hexadecimal.{byte_text};
 ghost use Rattle.mc_report.specs.Json.{json_data, json_lines, json_text};
 ghost use Rattle.mc_report.specs.Report.{IsReport};
 ghost use Rattle.mc_report.specs.Seen.{bytes_of, report_of};
@@ -21,9 +21,9 @@ use crate::settled::status;
 use crate::words::mode_word;
 use counts::push_counts;
 use mc_port::{Sink, put_lines};
-use mc_wording::byte_digits;
 use members::{push_key, push_number, push_string};
 use obligations::push_obligations;
+use report_words::byte_digits;
 use std::alloc::{AllocError, Global};
 use tests::push_tests;
 

@@ -9,7 +9,7 @@ ghost use Rattle.mc_report.specs.Words.{number_text, value_text};
 use crate::report::Report;
 use mc_meaning::TestResult;
 use mc_typed::{Name, TestState};
-use mc_wording::state_word;
+use report_words::state_word;
 use std::alloc::{AllocError, Global};
 
 /// The name of a test and its state, without the line's end.

@@ -15,7 +15,7 @@ use crate::test_lines::push_tests;
 use crate::verdicts::push_verdicts;
 use crate::words::mode_word;
 use mc_port::{Sink, put_lines};
-use mc_wording::push_hexadecimal;
+use report_words::push_hexadecimal;
 use std::alloc::{AllocError, Global};
 
 fn push_mode(alloc: Global, lines: &mut Vec<Vec<u8>>, report: &Report<'_>) -> Result<(), AllocError>

@@ -10,9 +10,9 @@ use Rattle.mc_typed.specs.Tree.{ResultType, NoResult, NumberResult, StructureRes
 use Rattle.mc_typed.specs.Tree as t
 use Rattle.mc_typed.specs.Sound.{IsSound, IsFunction, AreFunctions, scope_of, outermost, labels_of, result_at}
 use Rattle.mc_typed.specs.Plans.{Call, Plan}
-use Rattle.mc_roots.specs.declared.role.Role.TheVariants.{Controlling, Plain}
-use Rattle.mc_roots.specs.Nodes as n
-use Rattle.mc_roots.specs.Counts.{roots_before}
+use Rattle.decide_rules.specs.declared.role.Role.TheVariants.{Controlling, Plain}
+use Rattle.decide_rules.specs.Nodes as n
+use Rattle.decide_rules.specs.Counts.{roots_before}
 use Rattle.mc_steps.specs.Events.{Event, Entered, Exited, Started, Chosen, Evaluated}
 use Rattle.mc_steps.specs.Runs.{State, Out, Gave, Stopped, Run, go_on, gives, stops, lists, after, with_some, changes}
 use Rattle.mc_steps.specs.Statements.{Given, Nothing, Flow, Completed, Broke, Continued, Left, Seek, Running, is_absent, sought, has_label, effect_does, switch_does, do_does, loop_does, where_switch_ends}
@@ -30,7 +30,7 @@ use Rattle.mc_meaning.specs.Calls.{Open, with_one, enter, call_in}
 use Rattle.mc_meaning.specs.Tests.{none_open, call_made, first_state as first_state, plain_run}
 use Rattle.mc_meaning.proofs.Listed as l
 use Rattle.mc_meaning.proofs.Runs.{IsGiven, Gives}
-use Rattle.mc_simulation.proofs.Completes.{Ends, items_end}
+use Rattle.laws_simulation.proofs.Completes.{Ends, items_end}
 use Rattle.mc_runner.proofs.Numbers as numbers
 
 -- so many entries, and so many exits, statements and labels

@@ -9,9 +9,9 @@ use Rattle.mc_cover.specs.declared.view.View.{View}
 use Rattle.mc_cover.specs.Model.{CoverView, PassView}
 use Rattle.mc_cover.specs.Tells.{IsSettled}
 use Rattle.mc_cover.specs.Views.{opener, after_join}
-use Rattle.mc_crew.specs.Crew.{IsGathered, HasWorked, HasAll}
-use Rattle.mc_crew.specs.Recorder.{RecorderView}
-use Rattle.mc_crew.proofs.Crew.{none_hit, gathered_more, all_claimed}
+use Rattle.cover_recorder.specs.Crew.{IsGathered, HasWorked, HasAll}
+use Rattle.cover_recorder.specs.Recorder.{RecorderView}
+use Rattle.cover_recorder.proofs.Crew.{none_hit, gathered_more, all_claimed}
 use Rattle.mc_meaning.specs.declared.result.TestResult.{TestResult}
 use Rattle.mc_meaning.specs.Seen.{Told, told_of}
 use Rattle.mc_probe.specs.Tree.{Tree}

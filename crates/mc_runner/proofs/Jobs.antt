@@ -10,10 +10,10 @@ use Rattle.mc_cover.specs.declared.view.View.{View}
 use Rattle.mc_cover.specs.Model.{CoverView}
 use Rattle.mc_cover.proofs.Counts.{contains_of_times, once_in}
 use Rattle.mc_core.specs.Counts.{times, once_below}
-use Rattle.mc_crew.specs.Crew.{HasWorked, IsAtWork}
-use Rattle.mc_crew.specs.Recorder.{RecorderView, claimed, ended, pass_of, Leads}
-use Rattle.mc_crew.proofs.Crew.{claims_are_worked}
-use Rattle.mc_crew.proofs.Stamps.{only}
+use Rattle.cover_recorder.specs.Crew.{HasWorked, IsAtWork}
+use Rattle.cover_recorder.specs.Recorder.{RecorderView, claimed, ended, pass_of, Leads}
+use Rattle.cover_recorder.proofs.Crew.{claims_are_worked}
+use Rattle.cover_recorder.proofs.Stamps.{only}
 use Rattle.mc_meaning.specs.declared.result.TestResult.{TestResult}
 use Rattle.mc_meaning.specs.Seen.{Told, told_of}
 use Rattle.mc_probe.specs.Tests.{run_of}

@@ -20,7 +20,7 @@ use Rattle.mc_runner.specs.contracts.job.Job
 use Rattle.mc_stack.proofs.stack.Stack.TheSendSync as stacks
 use Rattle.mc_interp.proofs.call_done.CallDone.TheSendSync as calls
 use Rattle.mc_interp.proofs.store.Store.TheSendSync as stores
-use Rattle.mc_crew.proofs.recorder.Recorder.TheSendSync as recorders
+use Rattle.cover_recorder.proofs.recorder.Recorder.TheSendSync as recorders
 use Rattle.mc_interp.proofs.prepared.questions.Question.TheLaws.TheKnot as questions
 use Rattle.mc_interp.proofs.prepared.statements.Prepared.TheLaws.TheKnot as statements
 

@@ -9,7 +9,7 @@ use Rattle.mc_cond.specs.Vectors.{Evaluation, IsVector}
 use Rattle.mc_typed.specs.Tree.{Program}
 use Rattle.mc_typed.specs.Sound.{IsSound}
 use Rattle.mc_typed.specs.Plans.{Plan, Fits}
-use Rattle.mc_roots.specs.Decisions.{Decision}
+use Rattle.decide_rules.specs.Decisions.{Decision}
 use Rattle.mc_steps.specs.Events.{Event, Entered, Exited, Started, Chosen, Evaluated}
 use Rattle.mc_steps.specs.Tests.{CallDone}
 use Rattle.mc_meaning.specs.Seen.{plainly_told}
@@ -22,8 +22,8 @@ use Rattle.mc_probe.specs.Tree.{Tree}
 use Rattle.mc_probe.specs.Tests.{run_of}
 use Rattle.mc_probe.specs.Table.{IsInstrumented}
 use Rattle.mc_probe.proofs.Counted.{events_listed}
-use Rattle.mc_simulation.specs.Simulation.{RunsAs}
-use Rattle.mc_simulation.proofs.Tests.{simulated}
+use Rattle.laws_simulation.specs.Simulation.{RunsAs}
+use Rattle.laws_simulation.proofs.Tests.{simulated}
 use Rattle.mc_core.specs.Matrix.{Holds}
 use Rattle.mc_oblige.specs.Shown.{IsEvent, IsVectorOf}
 use Rattle.mc_runner.specs.Recorded.{told_by}

@@ -9,8 +9,8 @@ use Rattle.mc_cover.specs.declared.view.Role.TheVariants.{Worker}
 use Rattle.mc_cover.specs.Model.{CoverView, PassView}
 use Rattle.mc_cover.specs.Tells.{IsSettled}
 use Rattle.mc_cover.specs.Views.{opener, worker, after_join}
-use Rattle.mc_crew.specs.Crew.{AreHits, IsGathered, HasAll}
-use Rattle.mc_crew.proofs.Crew.{all_settled}
+use Rattle.cover_recorder.specs.Crew.{AreHits, IsGathered, HasAll}
+use Rattle.cover_recorder.proofs.Crew.{all_settled}
 use Rattle.mc_meaning.specs.Seen.{Told}
 use Rattle.mc_meaning.specs.declared.result.TestResult.{TestResult}
 use Rattle.mc_watch.specs.Looks.{most_looks, AreLooks}

@@ -4,8 +4,8 @@ use Rattle.std.specs.declared.alloc.AllocError.{AllocError}
 use Rattle.mc_cover.specs.declared.view.View.{View}
 use Rattle.mc_cover.specs.Model.{CoverView}
 use Rattle.mc_cover.specs.Views.{opener}
-use Rattle.mc_crew.specs.Crew.{HasWorked}
-use Rattle.mc_crew.specs.Recorder.{RecorderView, fresh}
+use Rattle.cover_recorder.specs.Crew.{HasWorked}
+use Rattle.cover_recorder.specs.Recorder.{RecorderView, fresh}
 use Rattle.mc_meaning.specs.declared.result.TestResult.{TestResult}
 use Rattle.mc_meaning.specs.Seen.{Told, told_of}
 use Rattle.mc_probe.specs.Erase.{erase}

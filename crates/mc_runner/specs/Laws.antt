@@ -2,7 +2,7 @@
 use Rattle.std.specs.Prelude.{◌≡◌, ℕ, ◌↔◌, List, length, map, All, Contains}
 use Rattle.mc_core.specs.Matrix.{MatrixView, Holds}
 use Rattle.mc_cover.specs.Model.{CoverView, PassView}
-use Rattle.mc_crew.specs.Crew.{HasAll}
+use Rattle.cover_recorder.specs.Crew.{HasAll}
 use Rattle.mc_typed.specs.Tree.{Program}
 use Rattle.mc_typed.specs.Sound.{IsSound}
 use Rattle.mc_typed.specs.Plans.{Plan, Fits}

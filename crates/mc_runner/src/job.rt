@@ -3,8 +3,8 @@ ghost use Rattle.std.specs.Prelude.{◌≡◌, ◌<◌, ◌≤◌, All, length, 
 ghost use Rattle.mc_limits.specs.Limits.{most_workers};
 ghost use Rattle.mc_cover.specs.Model.{IsOf};
 ghost use Rattle.mc_cover.specs.Views.{after_fork};
-ghost use Rattle.mc_crew.specs.Recorder.{Leads, bits_of, pass_of};
-ghost use Rattle.mc_crew.specs.Crew.{HasWorked};
+ghost use Rattle.cover_recorder.specs.Recorder.{Leads, bits_of, pass_of};
+ghost use Rattle.cover_recorder.specs.Crew.{HasWorked};
 ghost use Rattle.mc_meaning.specs.Seen.{told_of};
 ghost use Rattle.mc_probe.specs.Erase.{erase};
 ghost use Rattle.mc_probe.specs.Tests.{run_of};
@@ -15,9 +15,9 @@ ghost use Rattle.mc_runner.specs.Recorded.{told_by};
 
 use crate::done::Done;
 use crate::results::told;
+use cover_recorder::Recorder;
 use mc_core::Shape;
 use mc_cover::{Cover, Pass, Role};
-use mc_crew::Recorder;
 use mc_interp::Machine;
 use mc_meaning::TestResult;
 use mc_port::Gate;

@@ -7,7 +7,7 @@ ghost use Rattle.mc_typed.specs.Plans.{Fits, plan_of};
 ghost use Rattle.mc_runner.specs.Recorded.{told_by};
 
 use crate::results::state;
-use mc_hits::ListProbe;
+use hit_sink::ListProbe;
 use mc_interp::Machine;
 use mc_probe::Instrumented;
 use mc_typed::{TestPlan, TestState};

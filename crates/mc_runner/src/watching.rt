@@ -5,7 +5,7 @@ ghost use Rattle.mc_core.specs.Shape.{word_count};
 ghost use Rattle.mc_limits.specs.Limits.{most_tests, most_workers};
 ghost use Rattle.mc_cover.specs.Model.{IsOf};
 ghost use Rattle.mc_cover.specs.Views.{opener};
-ghost use Rattle.mc_crew.specs.Crew.{HasAll};
+ghost use Rattle.cover_recorder.specs.Crew.{HasAll};
 ghost use Rattle.mc_meaning.specs.Seen.{told_of};
 ghost use Rattle.mc_probe.specs.Erase.{erase};
 ghost use Rattle.mc_probe.specs.Trees.{tree_of};

@@ -1,12 +1,12 @@
 -- What is counted in a part of a program does not depend on places.
 use Rattle.std.proofs.Common.{◌≡◌, ℕ, ◌+◌, Bool, List, Option, if◌then◌else◌, option_map, refl, sym, ap, ◌∙◌}
 use Rattle.mc_typed.specs.Tree as t
-use Rattle.mc_roots.specs.declared.role.Role.{Role}
-use Rattle.mc_roots.specs.declared.role.Role.TheVariants.{Controlling, Plain}
-use Rattle.mc_roots.specs.Nodes.{Node}
-use Rattle.mc_roots.specs.Nodes as n
-use Rattle.mc_roots.specs.Conditions.{width}
-use Rattle.mc_roots.specs.Counts.{one_where, roots, roots_in}
+use Rattle.decide_rules.specs.declared.role.Role.{Role}
+use Rattle.decide_rules.specs.declared.role.Role.TheVariants.{Controlling, Plain}
+use Rattle.decide_rules.specs.Nodes.{Node}
+use Rattle.decide_rules.specs.Nodes as n
+use Rattle.decide_rules.specs.Conditions.{width}
+use Rattle.decide_rules.specs.Counts.{one_where, roots, roots_in}
 use Rattle.mc_steps.specs.Points.{points_of, points_of_all, points_of_function, all_complete, has_default}
 use Rattle.mc_probe.specs.Switches.{switches, switches_all}
 use Rattle.mc_probe.specs.Table.{Stand, Loose, InTree, operand, inner, decisions_in}

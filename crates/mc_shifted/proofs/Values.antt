@@ -4,14 +4,14 @@ use Rattle.mc_typed.specs.Tree.{span_of_place, span_of_call}
 use Rattle.mc_typed.specs.Tree as t
 use Rattle.mc_typed.specs.declared.probes.Probe.{Probe}
 use Rattle.mc_typed.specs.declared.probes.Probe.TheVariants as probe
-use Rattle.mc_roots.specs.declared.role.Role.TheVariants.{Controlling, Plain}
-use Rattle.mc_roots.specs.declared.operators.FullOperator.{FullOperator}
-use Rattle.mc_roots.specs.Nodes.{Node, full_operator}
-use Rattle.mc_roots.specs.Nodes as n
-use Rattle.mc_roots.specs.Roots.{is_root}
-use Rattle.mc_roots.specs.Conditions.{width, is_operator}
-use Rattle.mc_roots.specs.Counts.{roots}
-use Rattle.mc_strip.specs.declared.piece.What.TheVariants as what
+use Rattle.decide_rules.specs.declared.role.Role.TheVariants.{Controlling, Plain}
+use Rattle.decide_rules.specs.declared.operators.FullOperator.{FullOperator}
+use Rattle.decide_rules.specs.Nodes.{Node, full_operator}
+use Rattle.decide_rules.specs.Nodes as n
+use Rattle.decide_rules.specs.Roots.{is_root}
+use Rattle.decide_rules.specs.Conditions.{width, is_operator}
+use Rattle.decide_rules.specs.Counts.{roots}
+use Rattle.reread_pieces.specs.declared.piece.What.TheVariants as what
 use Rattle.mc_probe.specs.Bare.{bare_place, bare_expression, bare_structure, bare_call, bare_argument, bare_arguments}
 use Rattle.mc_probe.specs.Erase.{erase_place, erase_call}
 use Rattle.mc_probe.specs.Maps.{Map}

@@ -12,7 +12,7 @@ use Rattle.mc_probe.specs.Switches.{switches_all}
 use Rattle.mc_probe.specs.Table.{At, put_statements, decisions_in, put_function, put_functions, instrumented}
 use Rattle.mc_alike.specs.Moves.{Move, AllFit, moved_span}
 use Rattle.mc_alike.specs.Trees.{moved_unit}
-use Rattle.mc_typing.specs.Typing.{typing_of}
+use Rattle.types_rules.specs.Typing.{typing_of}
 use Rattle.mc_natural.specs.Laws.{TypingsMove}
 use Rattle.mc_natural.specs.Moved.{moved_typed_statements, moved_function, moved_functions, moved_program}
 use Rattle.mc_natural.specs.Settled.{settled_statements, settled_function, settled_functions, settled}

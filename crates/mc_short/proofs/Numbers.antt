@@ -7,13 +7,13 @@ use Rattle.mc_paths.specs.steps.Bounds.{AddAtMost}
 use Rattle.mc_paths.proofs.Increments.{edges_most}
 use Rattle.std.specs.Prelude.{max}
 use Rattle.mc_typed.specs.Tree.{Function, Program}
-use Rattle.mc_roots.specs.declared.role.Role.TheVariants.{Plain}
-use Rattle.mc_roots.specs.Decisions.{AreDecisions}
-use Rattle.mc_roots.specs.Nodes.{functions, program}
-use Rattle.mc_roots.specs.Counts.{roots_in}
-use Rattle.mc_roots.specs.steps.Walk.{decided}
-use Rattle.mc_roots.proofs.Once.{one_list}
-use Rattle.mc_roots.proofs.Told.{are_decisions}
+use Rattle.decide_rules.specs.declared.role.Role.TheVariants.{Plain}
+use Rattle.decide_rules.specs.Decisions.{AreDecisions}
+use Rattle.decide_rules.specs.Nodes.{functions, program}
+use Rattle.decide_rules.specs.Counts.{roots_in}
+use Rattle.decide_rules.specs.steps.Walk.{decided}
+use Rattle.decide_rules.proofs.Once.{one_list}
+use Rattle.decide_rules.proofs.Told.{are_decisions}
 use Rattle.mc_meaning.proofs.Numbered.{trees_length}
 use Rattle.mc_meaning.proofs.Decided.{decided_trees}
 use Rattle.mc_probe.specs.Maps.{Mapped, AreBased, ArePlaced}

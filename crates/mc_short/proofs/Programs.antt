@@ -2,8 +2,8 @@
 use Rattle.std.proofs.Common.{◌≡◌, ◌∙◌, ap, ◌+◌, ◌≤◌, length, arith}
 use Rattle.std.proofs.lemmas.List.{length-map}
 use Rattle.mc_limits.specs.Limits.{most_bits}
-use Rattle.mc_roots.specs.Nodes.{functions}
-use Rattle.mc_roots.specs.Counts.{roots_in}
+use Rattle.decide_rules.specs.Nodes.{functions}
+use Rattle.decide_rules.specs.Counts.{roots_in}
 use Rattle.mc_steps.specs.Points.{no_points}
 use Rattle.mc_probe.specs.Maps.{first_path}
 use Rattle.mc_probe.proofs.Counted.{events_listed}

@@ -4,14 +4,14 @@ use Rattle.mc_typed.specs.declared.probes.Probe.TheVariants as probe
 use Rattle.mc_typed.specs.Tree as t
 use Rattle.mc_span.specs.declared.span.Span.{Span}
 use Rattle.mc_typed.specs.declared.operators.Operator.{Operator}
-use Rattle.mc_roots.specs.declared.operators.FullOperator.{FullOperator}
-use Rattle.mc_roots.specs.declared.role.Role.{Role}
-use Rattle.mc_roots.specs.declared.role.Role.TheVariants.{Controlling, Inner, Plain}
-use Rattle.mc_roots.specs.Nodes.{Node}
-use Rattle.mc_roots.specs.Nodes as n
-use Rattle.mc_roots.specs.Roots.{is_root}
-use Rattle.mc_roots.specs.Conditions.{width, is_operator}
-use Rattle.mc_roots.specs.Counts.{one_where, roots, roots_in}
+use Rattle.decide_rules.specs.declared.operators.FullOperator.{FullOperator}
+use Rattle.decide_rules.specs.declared.role.Role.{Role}
+use Rattle.decide_rules.specs.declared.role.Role.TheVariants.{Controlling, Inner, Plain}
+use Rattle.decide_rules.specs.Nodes.{Node}
+use Rattle.decide_rules.specs.Nodes as n
+use Rattle.decide_rules.specs.Roots.{is_root}
+use Rattle.decide_rules.specs.Conditions.{width, is_operator}
+use Rattle.decide_rules.specs.Counts.{one_where, roots, roots_in}
 use Rattle.mc_steps.specs.Points.{Points, ◌⊕◌, where_absent, points_of, points_of_all, points_of_function, points_before, all_complete, has_default, initializes}
 use Rattle.mc_probe.specs.Tree as p
 use Rattle.mc_probe.specs.Maps.{Map, first_exit, first_statement, first_label, exit_bit, statement_bit, label_bit}
@@ -19,8 +19,8 @@ use Rattle.mc_probe.specs.Switches.{switches, switches_all}
 use Rattle.mc_probe.specs.Table.{Stand, Loose, InTree, role_of, operand, under, beside, inner, base_of, increment_of, mapped, round_condition, round, put, put_place, put_structure, put_call, put_argument, put_arguments, put_effect, put_effects, put_initializer, put_initializers, put_initial, put_declarators, put_start, put_optional, put_return, At, decided, absent_mark, put_statement, put_statements, put_functions, decisions_in}
 use Rattle.mc_probe.specs.Table as table
 use Rattle.mc_probe.specs.Bare.{bare_place, bare_expression, bare_structure, bare_call, bare_argument, bare_arguments}
-use Rattle.mc_simulation.specs.Expressions.{Stands}
-use Rattle.mc_simulation.proofs.Decisions.{inner_is, role_same, stands_inside}
+use Rattle.laws_simulation.specs.Expressions.{Stands}
+use Rattle.laws_simulation.proofs.Decisions.{inner_is, role_same, stands_inside}
 use Rattle.mc_spelled.specs.Numbers.{IsShort, IsShortBit, IsShortMark, ShortPlace, Short, ShortStructure, ShortCall, ShortArgument, ShortArguments, ShortEffect, ShortEffects, ShortInitializer, ShortInitializers, ShortInitial, ShortDeclarators, ShortStart, ShortTest, ShortValue, ShortStatement, ShortStatements, ShortFunctions}
 
 -- ---- copies without probes

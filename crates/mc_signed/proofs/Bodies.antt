@@ -7,9 +7,9 @@ use Rattle.mc_tree.specs.Tree as tree
 use Rattle.mc_typed.specs.declared.probes.Probe.TheVariants as probe
 use Rattle.mc_typed.specs.Tree.{Place, FunctionCall, Arguments, Argument, StructureValue, Effect, Declarator, Statement, Statements}
 use Rattle.mc_typed.specs.Tree as typed
-use Rattle.mc_roots.specs.declared.role.Role.TheVariants.{Plain}
-use Rattle.mc_roots.specs.Nodes as nodes
-use Rattle.mc_roots.specs.Counts.{roots}
+use Rattle.decide_rules.specs.declared.role.Role.TheVariants.{Plain}
+use Rattle.decide_rules.specs.Nodes as nodes
+use Rattle.decide_rules.specs.Counts.{roots}
 use Rattle.mc_steps.specs.Points.{initializes, has_default}
 use Rattle.mc_probe.specs.Maps.{Map}
 use Rattle.mc_probe.specs.Bare.{bare_place, bare_expression, bare_structure, bare_call, bare_argument, bare_arguments}

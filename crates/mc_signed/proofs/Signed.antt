@@ -5,7 +5,7 @@ use Rattle.mc_span.specs.declared.span.Span.{Span}
 use Rattle.mc_typed.specs.declared.probes.Probe.{Probe}
 use Rattle.mc_typed.specs.declared.probes.Probe.TheVariants as probe
 use Rattle.mc_probe.specs.Tree as p
-use Rattle.mc_strip.specs.declared.piece.What.TheVariants as what
+use Rattle.reread_pieces.specs.declared.piece.What.TheVariants as what
 use Rattle.mc_weave.specs.Brackets.{Brackets, sign}
 use Rattle.mc_brackets.specs.Signs.{Sign, opened, closed, once}
 use Rattle.mc_inserted.specs.Rows.{Row, row, row_of_probe, extent, rows}

@@ -4,12 +4,12 @@ use Rattle.mc_span.specs.declared.span.Span.{Span}
 use Rattle.mc_tree.specs.Tree.{Name, BlockItems, Item}
 use Rattle.mc_typed.specs.Tree.{Program}
 use Rattle.mc_typed.specs.Tree as typed
-use Rattle.mc_typing.specs.Typing.{typing_of}
+use Rattle.types_rules.specs.Typing.{typing_of}
 use Rattle.mc_steps.specs.Points.{Points, no_points, all_complete}
 use Rattle.mc_probe.specs.Maps.{Map}
 use Rattle.mc_probe.specs.Tree as p
 use Rattle.mc_probe.specs.Table.{put_function, put_functions, instrumented}
-use Rattle.mc_strip.specs.declared.piece.What.TheVariants as what
+use Rattle.reread_pieces.specs.declared.piece.What.TheVariants as what
 use Rattle.mc_weave.specs.Brackets.{Brackets}
 use Rattle.mc_brackets.specs.Signs.{Sign, signs_in_block, signs_in_unit}
 use Rattle.mc_inserted.specs.Rows.{Row, exit_row, rows_in_function, rows_in_functions, rows_of}

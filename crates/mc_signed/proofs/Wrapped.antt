@@ -5,12 +5,12 @@ use Rattle.mc_value.specs.declared.int_type.IntType.{IntType}
 use Rattle.mc_typed.specs.declared.probes.Probe.{Probe}
 use Rattle.mc_typed.specs.declared.probes.Probe.TheVariants as probe
 use Rattle.mc_typed.specs.Tree as typed
-use Rattle.mc_roots.specs.declared.operators.FullOperator.{FullOperator}
-use Rattle.mc_roots.specs.declared.role.Role.TheVariants.{Controlling, Inner, Plain}
-use Rattle.mc_roots.specs.Nodes.{Node}
-use Rattle.mc_roots.specs.Nodes as nodes
-use Rattle.mc_roots.specs.Roots.{is_root}
-use Rattle.mc_roots.specs.Conditions.{is_operator}
+use Rattle.decide_rules.specs.declared.operators.FullOperator.{FullOperator}
+use Rattle.decide_rules.specs.declared.role.Role.TheVariants.{Controlling, Inner, Plain}
+use Rattle.decide_rules.specs.Nodes.{Node}
+use Rattle.decide_rules.specs.Nodes as nodes
+use Rattle.decide_rules.specs.Roots.{is_root}
+use Rattle.decide_rules.specs.Conditions.{is_operator}
 use Rattle.mc_probe.specs.Erase.{erase_place}
 use Rattle.mc_probe.specs.Maps.{Map}
 use Rattle.mc_probe.specs.Tree as p

@@ -2,7 +2,7 @@
 use Rattle.std.specs.Prelude.{◌≡◌, List, Some}
 use Rattle.mc_tree.specs.Tree.{Item}
 use Rattle.mc_typed.specs.Tree.{Program}
-use Rattle.mc_typing.specs.Typing.{typing_of}
+use Rattle.types_rules.specs.Typing.{typing_of}
 use Rattle.mc_probe.specs.Maps.{Map}
 use Rattle.mc_probe.specs.Table.{instrumented}
 use Rattle.mc_weave.specs.Brackets.{AreAfterTokens, AreAtMost}

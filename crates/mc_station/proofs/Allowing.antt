@@ -7,8 +7,8 @@ use Rattle.mc_command.specs.Seen.{seen_task}
 use Rattle.mc_command.specs.declared.task.Task.{Task as Given}
 use Rattle.mc_command.specs.declared.task.Task.TheVariants as task
 use Rattle.mc_typed.specs.Plans.{Plan}
-use Rattle.mc_replies.specs.Phases.{IsOne}
-use Rattle.mc_replies.specs.Reply.{Reply}
+use Rattle.station_replies.specs.Phases.{IsOne}
+use Rattle.station_replies.specs.Reply.{Reply}
 use Rattle.mc_station.specs.Causes.{IsToMutate}
 use Rattle.mc_station.specs.Seen.{IsOnProgram}
 use Rattle.mc_station.specs.Source.{Accepted}

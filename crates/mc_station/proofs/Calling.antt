@@ -3,11 +3,11 @@ use Rattle.std.proofs.Common.{◌≡◌, ◌∙◌, ℕ, List, Option, Some, Non
 use Rattle.mc_command.specs.Command as command
 use Rattle.mc_command.specs.Command.{Command, command_of}
 use Rattle.mc_port.specs.Store.{Files, and_asked}
-use Rattle.mc_replies.specs.Files.{File, Holds, request_of, status_of}
-use Rattle.mc_replies.specs.Reply.{Reply, longer}
-use Rattle.mc_replies.specs.Status.{IsAnswer}
-use Rattle.mc_replies.specs.declared.status.Status.{Status}
-use Rattle.mc_replies.specs.declared.status.Status.TheVariants as status
+use Rattle.station_replies.specs.Files.{File, Holds, request_of, status_of}
+use Rattle.station_replies.specs.Reply.{Reply, longer}
+use Rattle.station_replies.specs.Status.{IsAnswer}
+use Rattle.station_replies.specs.declared.status.Status.{Status}
+use Rattle.station_replies.specs.declared.status.Status.TheVariants as status
 use Rattle.mc_station.specs.Calls as calls
 use Rattle.mc_station.specs.Calls.{Call, CallsFor, Leads, Requests}
 use Rattle.mc_station.specs.Causes.{AsksReasons, MatrixIsRefusedAfter, MutantsAreRefusedAfter, TestsOrRecordsAreRefusedAfter, IsOfRefusal, MatrixIsRefused, MutantsAreRefused, PairIsRefused, ReasonsAreRefused, SourceIsRefused, TestsOrRecordsAreRefused, FileIsRefused, SourceIs}

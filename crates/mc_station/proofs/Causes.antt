@@ -12,11 +12,11 @@ use Rattle.mc_record.specs.declared.pair_fault.PairFault.TheVariants as pair
 use Rattle.mc_record.specs.Merged.{pair_fault}
 use Rattle.mc_oblige.specs.declared.justification.Justification.{Justification}
 use Rattle.mc_typed.specs.Plans.{Plan}
-use Rattle.mc_replies.specs.Files.{File, Holds, limit_of, request_of}
-use Rattle.mc_replies.specs.Reply.{Reply, longer, written}
-use Rattle.mc_replies.specs.declared.status.Status.{Status}
-use Rattle.mc_replies.specs.declared.status.Status.TheVariants as status
-use Rattle.mc_replies.proofs.Phases.{refusal_status}
+use Rattle.station_replies.specs.Files.{File, Holds, limit_of, request_of}
+use Rattle.station_replies.specs.Reply.{Reply, longer, written}
+use Rattle.station_replies.specs.declared.status.Status.{Status}
+use Rattle.station_replies.specs.declared.status.Status.TheVariants as status
+use Rattle.station_replies.proofs.Phases.{refusal_status}
 use Rattle.mc_station.specs.Calls as calls
 use Rattle.mc_station.specs.Calls.{Answers, Fails, Leads, Requests}
 use Rattle.mc_station.specs.Causes.{AsksReasons, Cause, IsAsked, IsOfText, MatrixIsRefused, MutantsAreRefused, ReasonsAreRefused, RecordIs, SourceIs, SourceIsRefused, TestsOrRecordsAreRefused}

@@ -1,7 +1,7 @@
 -- A file that is told has one content.
 use Rattle.std.proofs.Common.{◌≡◌, ℕ, List, Some, length, refl, ap, arith}
 use Rattle.mc_port.specs.Store.{Files, IsLonger}
-use Rattle.mc_replies.specs.Files.{File, Holds, limit_of}
+use Rattle.station_replies.specs.Files.{File, Holds, limit_of}
 
 module _ (files : Files) where
   pub same_bytes : (file : File) (a b : List ℕ) → Holds (Some files) file a → Holds (Some files) file b → a ≡ b

@@ -4,8 +4,8 @@ use Rattle.std.specs.Prelude.{All}
 use Rattle.std.proofs.lemmas.List.Elements.{All-nil, All-cons}
 use Rattle.mc_typed.specs.Levels.{limited}
 use Rattle.mc_typed.specs.Tree.{Program}
-use Rattle.mc_roots.specs.Decisions.{Decision, AreDecisions, IsSmall, IsFirstLarge}
-use Rattle.mc_roots.proofs.Once as decided
+use Rattle.decide_rules.specs.Decisions.{Decision, AreDecisions, IsSmall, IsFirstLarge}
+use Rattle.decide_rules.proofs.Once as decided
 use Rattle.mc_probe.specs.Maps.{ArePlaced, IsMapOf, Map, Mapped}
 use Rattle.mc_oblige.proofs.Bounds.{few_places}
 use Rattle.mc_mutate.specs.Laws.{conditions_in}

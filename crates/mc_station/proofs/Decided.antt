@@ -3,20 +3,20 @@ use Rattle.std.proofs.Common.{◌≡◌, ◌∙◌, ◌≤◌, ℕ, List, codes,
 use Rattle.std.proofs.lemmas.List.Elements.{All-nil, All-cons, All-head, All-tail, All-map}
 use Rattle.mc_limits.specs.Limits.{most_conditions}
 use Rattle.mc_cond.specs.Tree.{tree_of, size, IsNumbered}
-use Rattle.mc_roots.specs.declared.decision.Decision as code
+use Rattle.decide_rules.specs.declared.decision.Decision as code
 use Rattle.mc_typed.specs.Tree.{Function, Program}
 use Rattle.mc_probe.specs.Maps.{Map, IsMapOf}
-use Rattle.mc_map.specs.Faults.{HasFewPaths, IsFault, IsFirstWithMany}
-use Rattle.mc_map.specs.declared.fault.InstrumentFault.TheVariants.{TooManyPaths, TooManyBits}
-use Rattle.mc_roots.specs.Roots.{Found}
-use Rattle.mc_roots.specs.Decisions.{Decision, Tells, AreTold, AreDecisions, IsSmall, IsFirstLarge}
-use Rattle.mc_roots.specs.Seen.{decision_of}
-use Rattle.mc_roots.proofs.Trees.{size_of_tree}
+use Rattle.instrument_bits.specs.Faults.{HasFewPaths, IsFault, IsFirstWithMany}
+use Rattle.instrument_bits.specs.declared.fault.InstrumentFault.TheVariants.{TooManyPaths, TooManyBits}
+use Rattle.decide_rules.specs.Roots.{Found}
+use Rattle.decide_rules.specs.Decisions.{Decision, Tells, AreTold, AreDecisions, IsSmall, IsFirstLarge}
+use Rattle.decide_rules.specs.Seen.{decision_of}
+use Rattle.decide_rules.proofs.Trees.{size_of_tree}
 use Rattle.mc_lex.specs.Lines.{column_of, line_of}
-use Rattle.mc_replies.specs.Phases.{Then}
-use Rattle.mc_replies.specs.Reply.{Reply, refusal}
-use Rattle.mc_replies.specs.Texts.{bits_line, many_line}
-use Rattle.mc_replies.specs.declared.status.Status.TheVariants.{SourceRefused}
+use Rattle.station_replies.specs.Phases.{Then}
+use Rattle.station_replies.specs.Reply.{Reply, refusal}
+use Rattle.station_replies.specs.Texts.{bits_line, many_line}
+use Rattle.station_replies.specs.declared.status.Status.TheVariants.{SourceRefused}
 use Rattle.mc_station.specs.Source.{Accepted, Accepts, Maps, PathsAreFew}
 
 -- ---- conditions

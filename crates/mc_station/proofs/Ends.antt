@@ -6,14 +6,14 @@ use Rattle.mc_port.specs.Store.{Files, and_asked}
 use Rattle.mc_typed.specs.Plans.{Plan}
 use Rattle.mc_oblige.specs.Shown.{HasEvent}
 use Rattle.mc_oblige.specs.declared.justification.Justification.{Justification}
-use Rattle.mc_replies.specs.Files.{File, request_of}
-use Rattle.mc_replies.specs.Phases.{IsRefusal, IsSilent}
-use Rattle.mc_replies.specs.Reply.{Reply, longer}
-use Rattle.mc_replies.specs.Status.{IsAfterSource, IsAnswer}
-use Rattle.mc_replies.specs.declared.file.FileKind.TheVariants.{Source}
-use Rattle.mc_replies.specs.declared.status.Status.TheVariants as status
-use Rattle.mc_replies.proofs.Phases.{refusal_silent, refusal_status}
-use Rattle.mc_replies.proofs.Statuses.{after_source_answers}
+use Rattle.station_replies.specs.Files.{File, request_of}
+use Rattle.station_replies.specs.Phases.{IsRefusal, IsSilent}
+use Rattle.station_replies.specs.Reply.{Reply, longer}
+use Rattle.station_replies.specs.Status.{IsAfterSource, IsAnswer}
+use Rattle.station_replies.specs.declared.file.FileKind.TheVariants.{Source}
+use Rattle.station_replies.specs.declared.status.Status.TheVariants as status
+use Rattle.station_replies.proofs.Phases.{refusal_silent, refusal_status}
+use Rattle.station_replies.proofs.Statuses.{after_source_answers}
 use Rattle.mc_station.specs.Calls as calls
 use Rattle.mc_station.specs.Calls.{Answers, Fails, Leads, Requests}
 use Rattle.mc_station.specs.Laws.{IsLater, NoCommandAlone, RefusalsAreSilent, SourceAlone}

@@ -1,9 +1,9 @@
 -- A list of faults has at most one first fault.
 use Rattle.std.proofs.Common.{◌≡◌, ◌∙◌, ℕ, nat_eq, if◌then◌else◌, List, [], ◌∷◌, refl, sym, ap, subst, inl, inr, arith}
-use Rattle.mc_faults.specs.declared.fault.Fault.{Fault}
-use Rattle.mc_faults.specs.declared.fault.FaultKind.{FaultKind}
-use Rattle.mc_faults.specs.declared.fault.FaultKind.TheVariants.{Undeclared, Redeclared, Mismatch, NotConstant, DuplicateLabel, NoBody, Limit}
-use Rattle.mc_faults.specs.Faults.{number_of, NotAfter, IsAmong, NoneBefore, IsFirst}
+use Rattle.types_faults.specs.declared.fault.Fault.{Fault}
+use Rattle.types_faults.specs.declared.fault.FaultKind.{FaultKind}
+use Rattle.types_faults.specs.declared.fault.FaultKind.TheVariants.{Undeclared, Redeclared, Mismatch, NotConstant, DuplicateLabel, NoBody, Limit}
+use Rattle.types_faults.specs.Faults.{number_of, NotAfter, IsAmong, NoneBefore, IsFirst}
 
 abbrev kind_numbered : ℕ → FaultKind
 kind_numbered n =

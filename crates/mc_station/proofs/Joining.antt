@@ -11,10 +11,10 @@ use Rattle.mc_record.specs.Reading.{record_of}
 use Rattle.mc_record.specs.declared.fault.RecordFault.{RecordFault}
 use Rattle.mc_record.specs.declared.pair_fault.PairFault.{PairFault}
 use Rattle.mc_record.specs.declared.pair_fault.PairFault.TheVariants as pair
-use Rattle.mc_replies.specs.Phases.{IsOne, Reads}
-use Rattle.mc_replies.specs.Reply.{Reply, refusal}
-use Rattle.mc_replies.specs.declared.status.Status.TheVariants.{TestsRefused}
-use Rattle.mc_replies.proofs.Phases.{one_read}
+use Rattle.station_replies.specs.Phases.{IsOne, Reads}
+use Rattle.station_replies.specs.Reply.{Reply, refusal}
+use Rattle.station_replies.specs.declared.status.Status.TheVariants.{TestsRefused}
+use Rattle.station_replies.proofs.Phases.{one_read}
 use Rattle.mc_station.specs.Laws.{IsLater}
 use Rattle.mc_station.specs.Records.{JudgesRecord, record_fault_line}
 use Rattle.mc_station.specs.Source.{Accepted}

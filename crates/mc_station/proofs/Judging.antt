@@ -5,16 +5,16 @@ use Rattle.mc_lex.specs.Tokens.{Tok}
 use Rattle.mc_tree.specs.Tree.{Item}
 use Rattle.mc_typed.specs.Tree.{Program}
 use Rattle.mc_typed.specs.Views.{program_of}
-use Rattle.mc_roots.specs.Decisions.{Decision}
-use Rattle.mc_roots.specs.Seen.{decision_of}
+use Rattle.decide_rules.specs.Decisions.{Decision}
+use Rattle.decide_rules.specs.Seen.{decision_of}
 use Rattle.std.specs.Prelude.{map, Vec}
 use Rattle.std.specs.declared.alloc.Global.{Global}
-use Rattle.mc_roots.specs.declared.decision.Decision as code
-use Rattle.mc_replies.specs.Phases.{Then}
-use Rattle.mc_replies.specs.Reply.{Reply}
-use Rattle.mc_replies.specs.Seen.{Gives}
-use Rattle.mc_replies.specs.declared.stop.Stop.{Stop}
-use Rattle.mc_replies.proofs.Phases.{goes_on, stops}
+use Rattle.decide_rules.specs.declared.decision.Decision as code
+use Rattle.station_replies.specs.Phases.{Then}
+use Rattle.station_replies.specs.Reply.{Reply}
+use Rattle.station_replies.specs.Seen.{Gives}
+use Rattle.station_replies.specs.declared.stop.Stop.{Stop}
+use Rattle.station_replies.proofs.Phases.{goes_on, stops}
 use Rattle.mc_station.specs.Seen.{seen_accepted}
 use Rattle.mc_station.specs.Source as spec
 use Rattle.mc_station.specs.Source.{Accepts, Admits, Decides, JudgesSource, Lexes, Maps, PathsAreFew, Parses, Types}

@@ -8,11 +8,11 @@ use Rattle.mc_record.specs.declared.fault.RecordFault.TheVariants as fault
 use Rattle.mc_record.specs.declared.kept.Record.{Record}
 use Rattle.mc_record.specs.declared.pair_fault.PairFault.{PairFault}
 use Rattle.mc_record.specs.declared.pair_fault.PairFault.TheVariants as pair
-use Rattle.mc_replies.specs.Phases.{Then}
-use Rattle.mc_replies.specs.Reply.{Reply}
-use Rattle.mc_replies.specs.Seen.{Gives}
-use Rattle.mc_replies.specs.declared.stop.Stop.{Stop}
-use Rattle.mc_replies.proofs.Phases.{goes_on, stops}
+use Rattle.station_replies.specs.Phases.{Then}
+use Rattle.station_replies.specs.Reply.{Reply}
+use Rattle.station_replies.specs.Seen.{Gives}
+use Rattle.station_replies.specs.declared.stop.Stop.{Stop}
+use Rattle.station_replies.proofs.Phases.{goes_on, stops}
 use Rattle.mc_station.specs.Ran.{AreTold}
 use Rattle.mc_station.specs.Records.{GivesFault, GivesPair, JudgesRecord}
 use Rattle.mc_station.specs.Seen.{IsRecordIn, seen_accepted, seen_stage}

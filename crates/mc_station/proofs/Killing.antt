@@ -7,11 +7,11 @@ use Rattle.std.proofs.lemmas.List.{length-map, map-append, map_more}
 use Rattle.std.proofs.lemmas.Option.{slice_get_cases}
 use Rattle.mc_core.specs.Matrix.{Holds, MatrixView}
 use Rattle.mc_cover.specs.Model.{CoverView, PassView}
-use Rattle.mc_crew.specs.Crew.{HasAll}
-use Rattle.mc_killed.specs.Killers.{AreKillers, IsRecorded}
-use Rattle.mc_killed.specs.Lines.{AreOf, Told, mutant_lines}
-use Rattle.mc_killed.specs.Seen.{told_of}
-use Rattle.mc_killed.specs.declared.change.ChangeLine.{ChangeLine}
+use Rattle.cover_recorder.specs.Crew.{HasAll}
+use Rattle.mutate_lines.specs.Killers.{AreKillers, IsRecorded}
+use Rattle.mutate_lines.specs.Lines.{AreOf, Told, mutant_lines}
+use Rattle.mutate_lines.specs.Seen.{told_of}
+use Rattle.mutate_lines.specs.declared.change.ChangeLine.{ChangeLine}
 use Rattle.mc_mutate.specs.declared.changes.Change.{Change}
 use Rattle.mc_mutate.specs.Kills as items
 use Rattle.mc_mutate.specs.Kills.{does_of, most_mutants}
@@ -30,7 +30,7 @@ use Rattle.mc_runner.specs.Laws.{ResultsArePlain}
 use Rattle.mc_runner.specs.Recorded.{told_by}
 use Rattle.mc_tests.specs.File.{AllFit}
 use Rattle.mc_tests.specs.Seen.{seen_plans}
-use Rattle.mc_replies.specs.Reply.{Reply, written}
+use Rattle.station_replies.specs.Reply.{Reply, written}
 use Rattle.mc_station.specs.Seen.{ArePlanned, HasItsTree}
 use Rattle.mc_station.specs.Source.{Accepted as AcceptedAs}
 use Rattle.mc_station.specs.Tests.{names, states}

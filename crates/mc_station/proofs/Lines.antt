@@ -7,7 +7,7 @@ use Rattle.mc_report.specs.Report as text
 use Rattle.mc_report.specs.Report.{IsReport}
 use Rattle.mc_report.specs.Status.{status_of}
 use Rattle.mc_report.proofs.Turns.{judged_length}
-use Rattle.mc_replies.specs.Reply.{Reply, listing_pieces, written}
+use Rattle.station_replies.specs.Reply.{Reply, listing_pieces, written}
 use Rattle.mc_station.specs.Laws.{IsLater}
 use Rattle.mc_station.specs.Source.{Accepted}
 use Rattle.mc_station.specs.Tests.{Tested}

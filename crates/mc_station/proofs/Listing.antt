@@ -6,7 +6,7 @@ use Rattle.mc_meaning.specs.Seen.{Told}
 use Rattle.mc_oblige.specs.declared.evaluated.EvaluatedPath.{EvaluatedPath}
 use Rattle.mc_oblige.proofs.Ascending.{one_list_of_paths, same_paths}
 use Rattle.mc_report.specs.VectorsText.{vectors_lines}
-use Rattle.mc_replies.specs.Reply.{Reply, written}
+use Rattle.station_replies.specs.Reply.{Reply, written}
 use Rattle.mc_station.specs.Laws.{IsLater}
 use Rattle.mc_station.specs.Source.{Accepted}
 use Rattle.mc_station.specs.Tests.{status_where}

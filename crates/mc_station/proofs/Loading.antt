@@ -5,14 +5,14 @@ use Rattle.std.specs.declared.alloc.AllocError.{AllocError}
 use Rattle.mc_limits.specs.Limits.{usual_fuel}
 use Rattle.mc_gen.specs.Source.{source_text}
 use Rattle.mc_gen.specs.Tests.{tests_text}
-use Rattle.mc_replies.specs.Phases.{AreOne, IsOne, Reaches}
-use Rattle.mc_replies.specs.Reply.{Reply}
-use Rattle.mc_replies.specs.Seen.{Gives, IsReplyTo, reply_to, seen_reply}
-use Rattle.mc_replies.specs.declared.reply.Reply.{Reply as Given}
-use Rattle.mc_replies.specs.declared.stop.Stop.{Stop}
-use Rattle.mc_replies.specs.declared.stop.Stop.TheVariants as stop
-use Rattle.mc_replies.specs.Texts.{matrix_line, tests_line}
-use Rattle.mc_replies.specs.declared.status.Status.TheVariants as status
+use Rattle.station_replies.specs.Phases.{AreOne, IsOne, Reaches}
+use Rattle.station_replies.specs.Reply.{Reply}
+use Rattle.station_replies.specs.Seen.{Gives, IsReplyTo, reply_to, seen_reply}
+use Rattle.station_replies.specs.declared.reply.Reply.{Reply as Given}
+use Rattle.station_replies.specs.declared.stop.Stop.{Stop}
+use Rattle.station_replies.specs.declared.stop.Stop.TheVariants as stop
+use Rattle.station_replies.specs.Texts.{matrix_line, tests_line}
+use Rattle.station_replies.specs.declared.status.Status.TheVariants as status
 use Rattle.mc_station.specs.Laws.{IsLater}
 use Rattle.mc_station.specs.Seen.{seen_accepted}
 use Rattle.mc_station.specs.Source.{Accepted, JudgesSource}

@@ -1,11 +1,11 @@
 -- A program has one map.
 use Rattle.std.proofs.Common.{◌≡◌, ◌∙◌, ◌+◌, ◌<◌, ℕ, List, [], ◌∷◌, length, map, refl, sym, ap, subst, arith}
 use Rattle.mc_typed.specs.Tree.{Program}
-use Rattle.mc_roots.specs.Decisions.{Decision, AreDecisions}
-use Rattle.mc_roots.proofs.Once as decided
+use Rattle.decide_rules.specs.Decisions.{Decision, AreDecisions}
+use Rattle.decide_rules.proofs.Once as decided
 use Rattle.mc_paths.specs.Paths.{count_of}
 use Rattle.mc_probe.specs.Maps.{AreBased, IsMapOf, Map, Mapped, first_path}
-use Rattle.mc_map.specs.Faults.{bits_of, most_bits, paths_of, places_of}
+use Rattle.instrument_bits.specs.Faults.{bits_of, most_bits, paths_of, places_of}
 
 abbrev decision_in : Mapped → Decision
 decision_in d = d.decision

@@ -3,14 +3,14 @@ use Rattle.std.proofs.Common.{◌≡◌, ◌∙◌, ◌+◌, ◌*◌, ◌/◌, �
 use Rattle.std.specs.Prelude.{◌↔◌}
 use Rattle.std.proofs.lemmas.Nat.{div-mul-add, mod-mul-add}
 use Rattle.mc_core.specs.Matrix.{Holds, MatrixView}
-use Rattle.mc_killed.specs.Killers.{AreKillers, IsKiller, IsRecorded, item}
-use Rattle.mc_killed.specs.Lines.{AreOf, IsOf, mutant_lines}
-use Rattle.mc_killed.proofs.Least.{items_within, killers_are_one}
+use Rattle.mutate_lines.specs.Killers.{AreKillers, IsKiller, IsRecorded, item}
+use Rattle.mutate_lines.specs.Lines.{AreOf, IsOf, mutant_lines}
+use Rattle.mutate_lines.proofs.Least.{items_within, killers_are_one}
 use Rattle.mc_mutate.specs.Mutants.{count}
 use Rattle.mc_mutate.specs.Kills as items
 use Rattle.mc_typed.specs.Plans.{Plan}
 use Rattle.mc_typed.specs.Tree.{Program}
-use Rattle.mc_replies.specs.Reply.{Reply, written}
+use Rattle.station_replies.specs.Reply.{Reply, written}
 use Rattle.mc_station.specs.Laws.{IsLater}
 use Rattle.mc_station.specs.Source.{Accepted}
 use Rattle.mc_station.specs.Tests.{names, states}

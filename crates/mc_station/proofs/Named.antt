@@ -6,7 +6,7 @@ use Rattle.std.specs.Str.{IsAscii}
 use Rattle.std.proofs.lemmas.List.Elements.{All-nil, All-cons}
 use Rattle.std.proofs.lemmas.Str.{IsUtf8-from_ascii}
 use Rattle.mc_typed.specs.Plans.{Plan}
-use Rattle.mc_rows.specs.Names.{is_name, is_name_byte}
+use Rattle.csv_records.specs.Names.{is_name, is_name_byte}
 use Rattle.mc_tests.specs.File.{AreNamed}
 use Rattle.mc_station.specs.Tests.{names}
 

@@ -10,12 +10,12 @@ use Rattle.mc_probe.specs.declared.mapped.MappedDecision.{MappedDecision}
 use Rattle.mc_record.specs.Kept.{Kept}
 use Rattle.mc_record.specs.Reading.{record_of}
 use Rattle.mc_record.specs.Seen.{kept_of}
-use Rattle.mc_replies.specs.Phases.{Reads}
-use Rattle.mc_replies.specs.Reply.{refusal}
-use Rattle.mc_replies.specs.Seen.{Gives}
-use Rattle.mc_replies.specs.declared.status.Status.TheVariants.{TestsRefused}
-use Rattle.mc_replies.specs.declared.stop.Stop.{Stop}
-use Rattle.mc_replies.specs.declared.stop.Stop.TheVariants as stop
+use Rattle.station_replies.specs.Phases.{Reads}
+use Rattle.station_replies.specs.Reply.{refusal}
+use Rattle.station_replies.specs.Seen.{Gives}
+use Rattle.station_replies.specs.declared.status.Status.TheVariants.{TestsRefused}
+use Rattle.station_replies.specs.declared.stop.Stop.{Stop}
+use Rattle.station_replies.specs.declared.stop.Stop.TheVariants as stop
 use Rattle.mc_station.specs.Records.{HasOldBits, JudgesRecord, record_fault_line}
 use Rattle.mc_station.specs.Source.{Accepted}
 

@@ -4,10 +4,10 @@ use Rattle.std.proofs.lemmas.List.{append-nil}
 use Rattle.mc_command.specs.Command as command
 use Rattle.mc_command.specs.Command.{command_of}
 use Rattle.mc_port.specs.Store.{Files, Request, and_asked}
-use Rattle.mc_replies.specs.Files.{File, request_of}
-use Rattle.mc_replies.specs.Reply.{Reply, cannot_read}
-use Rattle.mc_replies.specs.Status.{IsAnswer}
-use Rattle.mc_replies.specs.declared.status.Status.TheVariants as status
+use Rattle.station_replies.specs.Files.{File, request_of}
+use Rattle.station_replies.specs.Reply.{Reply, cannot_read}
+use Rattle.station_replies.specs.Status.{IsAnswer}
+use Rattle.station_replies.specs.declared.status.Status.TheVariants as status
 use Rattle.mc_station.specs.Calls as calls
 use Rattle.mc_station.specs.Calls.{Leads, Requests}
 use Rattle.mc_station.specs.Laws.{AskedInOrder, LastIsNamed, and_all}

@@ -5,20 +5,20 @@ use Rattle.mc_lex.specs.Tokens.{Tok}
 use Rattle.mc_lex.proofs.Scanning.{one_scan}
 use Rattle.mc_lex.specs.Lines.{column_of, line_of}
 use Rattle.mc_tree.specs.Tree.{Item}
-use Rattle.mc_reading.proofs.OneTree.{one_tree}
+use Rattle.laws_grammar.proofs.OneTree.{one_tree}
 use Rattle.mc_typed.specs.Tree.{Program}
 use Rattle.mc_typed.specs.Plans.{Plan}
 use Rattle.mc_tests.specs.File.{tests_file}
-use Rattle.mc_faults.specs.declared.fault.Fault.{Fault}
-use Rattle.mc_typing.specs.Typing.{faults_of}
+use Rattle.types_faults.specs.declared.fault.Fault.{Fault}
+use Rattle.types_rules.specs.Typing.{faults_of}
 use Rattle.mc_paths.specs.Paths.{count_of}
-use Rattle.mc_roots.specs.Decisions.{AreDecisions, Decision, IsFirstLarge}
-use Rattle.mc_roots.proofs.Once as decided
-use Rattle.mc_replies.specs.Phases.{IsOne, IsOnSyntax}
-use Rattle.mc_replies.specs.Reply.{Reply, refusal}
-use Rattle.mc_replies.specs.Texts.{conditions_line, fault_line, outside_line, paths_line, start_of, syntax_line, tests_line}
-use Rattle.mc_replies.specs.declared.status.Status.TheVariants.{SourceRefused, TestsRefused}
-use Rattle.mc_replies.proofs.Phases.{one_ok, one_read, one_then}
+use Rattle.decide_rules.specs.Decisions.{AreDecisions, Decision, IsFirstLarge}
+use Rattle.decide_rules.proofs.Once as decided
+use Rattle.station_replies.specs.Phases.{IsOne, IsOnSyntax}
+use Rattle.station_replies.specs.Reply.{Reply, refusal}
+use Rattle.station_replies.specs.Texts.{conditions_line, fault_line, outside_line, paths_line, start_of, syntax_line, tests_line}
+use Rattle.station_replies.specs.declared.status.Status.TheVariants.{SourceRefused, TestsRefused}
+use Rattle.station_replies.proofs.Phases.{one_ok, one_read, one_then}
 use Rattle.mc_station.specs.Source.{Accepted, Admits, Decides, JudgesSource, Lexes, Maps, PathsAreFew, Parses, Types, type_line}
 use Rattle.mc_station.specs.Tests.{MatrixFits, JudgesTests}
 use Rattle.mc_station.proofs.Firsts.{one_first, none_first}

@@ -6,7 +6,7 @@ use Rattle.std.proofs.lemmas.List.{length-map}
 use Rattle.mc_lex.specs.Returned.{IsSlice}
 use Rattle.mc_lex.specs.Tokens.{tok_of, toks_of}
 use Rattle.mc_lex.specs.declared.token.Token.{Token}
-use Rattle.mc_replies.specs.Texts.{start_of}
+use Rattle.station_replies.specs.Texts.{start_of}
 
 -- tokens that are slices of a short source end where a short source may
 pub slices_short : (source : List ℕ) (tokens : List Token) → length source < 2 ^ 31 → All (IsSlice source) (toks_of tokens) → All (λ (token : Token). token.start + length token.text.now < 2 ^ 31) tokens

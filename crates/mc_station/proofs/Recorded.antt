@@ -5,7 +5,7 @@ use Rattle.std.specs.declared.alloc.AllocError.{AllocError}
 use Rattle.std.specs.declared.alloc.Global.{Global}
 use Rattle.mc_core.specs.Matrix.{Holds, MatrixView}
 use Rattle.mc_cover.specs.Model.{PassView}
-use Rattle.mc_crew.specs.Crew.{HasAll}
+use Rattle.cover_recorder.specs.Crew.{HasAll}
 use Rattle.mc_meaning.specs.declared.result.TestResult.{TestResult}
 use Rattle.mc_typed.specs.declared.plans.TestPlan.{TestPlan}
 use Rattle.mc_meaning.specs.Seen.{told_of}

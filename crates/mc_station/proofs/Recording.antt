@@ -18,12 +18,12 @@ use Rattle.mc_typed.specs.declared.plans.TestPlan.{TestPlan}
 use Rattle.mc_typed.specs.declared.plans.TestState.{TestState}
 use Rattle.mc_typed.specs.declared.plans.TestState.TheVariants.{Ended}
 use Rattle.mc_meaning.specs.Tests.{are_met, plain_run, plain_state, state_where}
-use Rattle.mc_rows.specs.Names.{is_name}
+use Rattle.csv_records.specs.Names.{is_name}
 use Rattle.mc_tests.specs.Seen.{seen_plans}
 use Rattle.mc_tests.specs.Tests as tests
 use Rattle.mc_record.specs.Kept.{IsKept, Kept, are_distinct}
 use Rattle.mc_record.specs.Lines.{record_lines}
-use Rattle.mc_replies.specs.Reply.{Reply, written}
+use Rattle.station_replies.specs.Reply.{Reply, written}
 use Rattle.mc_station.specs.Laws.{IsLater}
 use Rattle.mc_station.specs.Ran.{IsRun, kept_in}
 use Rattle.mc_station.specs.Seen.{ArePlanned, HasItsTree, seen_accepted}

@@ -14,7 +14,7 @@ use Rattle.mc_reduce.specs.Kept.{IsFirstLost, IsReduced}
 use Rattle.mc_reduce.proofs.Alike.{same_reduced}
 use Rattle.mc_reduce.proofs.Ascending.{kept_ascend}
 use Rattle.mc_reduce.proofs.Keeping.{reduced_one}
-use Rattle.mc_replies.specs.Reply.{Reply, written}
+use Rattle.station_replies.specs.Reply.{Reply, written}
 use Rattle.mc_station.specs.Laws.{IsLater}
 use Rattle.mc_station.specs.Ran.{AreIn}
 use Rattle.mc_station.specs.Source.{Accepted}

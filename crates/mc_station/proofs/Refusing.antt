@@ -2,11 +2,11 @@
 use Rattle.std.proofs.Common.{◌≡◌, ℕ, List, Err, refl, sym, subst, inl, inr}
 use Rattle.mc_command.specs.Command as command
 use Rattle.mc_record.specs.Kept.{Kept}
-use Rattle.mc_replies.specs.Phases.{IsRefusal}
-use Rattle.mc_replies.specs.Reply.{Reply, refusal}
-use Rattle.mc_replies.specs.Texts.{matrix_line, mutants_line, tests_line}
-use Rattle.mc_replies.specs.declared.status.Status.{Status}
-use Rattle.mc_replies.specs.declared.status.Status.TheVariants as status
+use Rattle.station_replies.specs.Phases.{IsRefusal}
+use Rattle.station_replies.specs.Reply.{Reply, refusal}
+use Rattle.station_replies.specs.Texts.{matrix_line, mutants_line, tests_line}
+use Rattle.station_replies.specs.declared.status.Status.{Status}
+use Rattle.station_replies.specs.declared.status.Status.TheVariants as status
 use Rattle.mc_station.specs.Justified.{reasons_line}
 use Rattle.mc_station.specs.Records.{JudgesRecord, record_fault_line}
 use Rattle.mc_station.specs.Laws.{IsLater}

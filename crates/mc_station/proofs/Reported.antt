@@ -27,9 +27,9 @@ use Rattle.mc_report.specs.Report.{AreJudged, IsReport}
 use Rattle.mc_report.specs.VectorsText.{IsPresent, vectors_lines}
 use Rattle.mc_report.proofs.Judging.{reported}
 use Rattle.mc_report.proofs.Present.{present}
-use Rattle.mc_replies.specs.Reply.{Reply, written}
-use Rattle.mc_replies.specs.Seen.{seen_reply}
-use Rattle.mc_replies.specs.declared.reply.Reply.{Reply as Given}
+use Rattle.station_replies.specs.Reply.{Reply, written}
+use Rattle.station_replies.specs.Seen.{seen_reply}
+use Rattle.station_replies.specs.declared.reply.Reply.{Reply as Given}
 use Rattle.mc_station.specs.Ran.{AreTold, IsRun, seen_ran}
 use Rattle.mc_station.specs.Tests.{Tested, names, results, stands, states, status_where, tested_of}
 use Rattle.mc_station.specs.commands.List.{Listing, ListingOn}

@@ -10,7 +10,7 @@ use Rattle.mc_oblige.proofs.Single.{one}
 use Rattle.mc_report.specs.Report as text
 use Rattle.mc_report.specs.Status.{status_of}
 use Rattle.mc_report.specs.Forms.{lines_in_form}
-use Rattle.mc_replies.specs.Reply.{Reply, written}
+use Rattle.station_replies.specs.Reply.{Reply, written}
 use Rattle.mc_station.specs.Laws.{IsLater}
 use Rattle.mc_station.specs.Source.{Accepted}
 use Rattle.mc_station.specs.Tests.{Tested}

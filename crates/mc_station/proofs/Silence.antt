@@ -5,11 +5,11 @@ use Rattle.std.specs.List.{concat}
 use Rattle.mc_command.specs.Command.{Command, command_of}
 use Rattle.mc_port.specs.Sink.{AppendsPart}
 use Rattle.mc_port.specs.Store.{Files}
-use Rattle.mc_replies.specs.Phases.{IsSilent}
-use Rattle.mc_replies.specs.Reply.{Reply, out_of_memory}
-use Rattle.mc_replies.specs.Status.{number_of}
-use Rattle.mc_replies.specs.declared.status.Status.{Status}
-use Rattle.mc_replies.specs.declared.status.Status.TheVariants as status
+use Rattle.station_replies.specs.Phases.{IsSilent}
+use Rattle.station_replies.specs.Reply.{Reply, out_of_memory}
+use Rattle.station_replies.specs.Status.{number_of}
+use Rattle.station_replies.specs.declared.status.Status.{Status}
+use Rattle.station_replies.specs.declared.status.Status.TheVariants as status
 use Rattle.mc_station.specs.Causes.{Cause, IsOfText}
 use Rattle.mc_station.specs.Statuses.{MemoryWritesNothing, PartsWriteNothing, RefusalsWriteNothing}
 use Rattle.mc_station.proofs.Causes.{statuses_have_causes}

@@ -4,7 +4,7 @@ use Rattle.mc_command.specs.declared.independence.Independence.TheVariants.{Mask
 use Rattle.mc_steps.specs.Events.{Event}
 use Rattle.mc_report.specs.Report as text
 use Rattle.mc_report.specs.Summary.{summary_lines}
-use Rattle.mc_replies.specs.Reply.{Reply, written}
+use Rattle.station_replies.specs.Reply.{Reply, written}
 use Rattle.mc_station.specs.Laws.{IsLater}
 use Rattle.mc_station.specs.Source.{Accepted}
 use Rattle.mc_station.specs.Tests.{Tested}

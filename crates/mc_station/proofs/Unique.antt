@@ -8,12 +8,12 @@ use Rattle.mc_port.specs.Store.{Files, IsLonger, and_asked}
 use Rattle.mc_oblige.specs.Obligations.{obligations_of}
 use Rattle.mc_oblige.specs.declared.justification.Justification.{Justification}
 use Rattle.mc_justify.specs.Justifications.{justifications_of}
-use Rattle.mc_replies.specs.Files.{File, Holds, limit_of, request_of}
-use Rattle.mc_replies.specs.Phases.{Agree, AreOne, IsOne}
-use Rattle.mc_replies.specs.Reply.{Reply, longer, refusal}
-use Rattle.mc_replies.specs.Status.{IsAnswer}
-use Rattle.mc_replies.specs.declared.status.Status.TheVariants.{JustificationsRefused}
-use Rattle.mc_replies.proofs.Phases.{one_ok, one_read, one_then}
+use Rattle.station_replies.specs.Files.{File, Holds, limit_of, request_of}
+use Rattle.station_replies.specs.Phases.{Agree, AreOne, IsOne}
+use Rattle.station_replies.specs.Reply.{Reply, longer, refusal}
+use Rattle.station_replies.specs.Status.{IsAnswer}
+use Rattle.station_replies.specs.declared.status.Status.TheVariants.{JustificationsRefused}
+use Rattle.station_replies.proofs.Phases.{one_ok, one_read, one_then}
 use Rattle.mc_station.specs.Calls as calls
 use Rattle.mc_station.specs.Calls.{Answers, Call, CallsFor, Fails, IsKnown, Leads, Requests}
 use Rattle.mc_station.specs.Justified.{reasons_line}

@@ -10,7 +10,7 @@ use Rattle.mc_core.specs.Matrix.{Holds, MatrixView}
 use Rattle.mc_core.specs.Shape.{rows, word_count}
 use Rattle.mc_core.specs.declared.shape.Shape.{Shape}
 use Rattle.mc_cover.specs.Model.{PassView}
-use Rattle.mc_crew.specs.Crew.{HasAll}
+use Rattle.cover_recorder.specs.Crew.{HasAll}
 use Rattle.mc_meaning.specs.Seen.{told_of}
 use Rattle.mc_meaning.specs.declared.result.TestResult.{TestResult}
 use Rattle.mc_probe.specs.Trees.{tree_of}
@@ -23,9 +23,9 @@ use Rattle.mc_runner.specs.Recorded.{told_by}
 use Rattle.mc_oblige.specs.declared.justification.Justification.{Justification}
 use Rattle.mc_watch.specs.Watched.{AreSoMany, IsWatched}
 use Rattle.mc_watch.proofs.SoMany.{only_one, so_many_same}
-use Rattle.mc_replies.specs.Phases.{AreOne}
-use Rattle.mc_replies.specs.Reply.{Reply, written}
-use Rattle.mc_replies.proofs.Phases as phases
+use Rattle.station_replies.specs.Phases.{AreOne}
+use Rattle.station_replies.specs.Reply.{Reply, written}
+use Rattle.station_replies.proofs.Phases as phases
 use Rattle.mc_station.specs.Laws.{IsLater, IsToWatch, IsWatch}
 use Rattle.mc_station.specs.Looked.{IsLooked}
 use Rattle.mc_station.specs.Ran.{IsRun}

@@ -1,7 +1,7 @@
 -- A text that is written whole is an answer.
 use Rattle.std.proofs.Common.{ℕ, List}
-use Rattle.mc_replies.specs.Reply.{written}
-use Rattle.mc_replies.proofs.Phases.{written_answers, written_silent}
+use Rattle.station_replies.specs.Reply.{written}
+use Rattle.station_replies.proofs.Phases.{written_answers, written_silent}
 use Rattle.mc_station.specs.Laws.{IsLater}
 
 pub written_later : (number : ℕ) (lines : List (List ℕ)) → IsLater (written number lines)

@@ -2,10 +2,10 @@
 use Rattle.std.specs.Prelude.{◌≡◌, ◌⊎◌, ℕ, List, Option, Some, None, Ok, Err}
 use Rattle.mc_command.specs.Command.{command_of}
 use Rattle.mc_port.specs.Store.{Files, IsLonger, Request, State, and_asked}
-use Rattle.mc_replies.specs.Files.{File, Holds, limit_of, request_of}
-use Rattle.mc_replies.specs.Reply.{Reply, cannot_read, longer, out_of_memory}
+use Rattle.station_replies.specs.Files.{File, Holds, limit_of, request_of}
+use Rattle.station_replies.specs.Reply.{Reply, cannot_read, longer, out_of_memory}
 use Rattle.mc_station.specs.Stages.{Ends, Judges, Stage, file_of, first_stage}
-use Rattle.mc_replies.specs.Status.{IsAnswer}
+use Rattle.station_replies.specs.Status.{IsAnswer}
 
 -- what was asked of the store, where it is told
 abbrev pub Requests : Type 0

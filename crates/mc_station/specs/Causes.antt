@@ -8,11 +8,11 @@ use Rattle.mc_gen.specs.Tests.{tests_text}
 use Rattle.mc_port.specs.Store.{Files, IsLonger}
 use Rattle.mc_record.specs.Kept.{Kept}
 use Rattle.mc_typed.specs.Plans.{Plan}
-use Rattle.mc_replies.specs.Files.{File, Holds, limit_of}
-use Rattle.mc_replies.specs.Reply.{Reply, cannot_read, longer, out_of_memory, refusal}
-use Rattle.mc_replies.specs.Texts.{usage_text}
-use Rattle.mc_replies.specs.declared.status.Status.{Status}
-use Rattle.mc_replies.specs.declared.status.Status.TheVariants.{Done, Incomplete, NoCommand, SourceRefused, TestsRefused, JustificationsRefused, CannotRead, CannotWrite, OutOfMemory, TooLarge, TooManyMutants}
+use Rattle.station_replies.specs.Files.{File, Holds, limit_of}
+use Rattle.station_replies.specs.Reply.{Reply, cannot_read, longer, out_of_memory, refusal}
+use Rattle.station_replies.specs.Texts.{usage_text}
+use Rattle.station_replies.specs.declared.status.Status.{Status}
+use Rattle.station_replies.specs.declared.status.Status.TheVariants.{Done, Incomplete, NoCommand, SourceRefused, TestsRefused, JustificationsRefused, CannotRead, CannotWrite, OutOfMemory, TooLarge, TooManyMutants}
 use Rattle.mc_station.specs.Records.{JudgesRecord}
 use Rattle.mc_station.specs.Source.{Accepted, JudgesSource}
 use Rattle.mc_station.specs.Stages.{JudgesReasons, justified_by, reasons_named, record_named, source_named, tests_named}

@@ -2,7 +2,7 @@
 use Rattle.std.specs.Prelude.{ℕ, List, codes}
 use Rattle.mc_justify.specs.Faults as fault
 use Rattle.mc_justify.specs.Faults.{Fault}
-use Rattle.mc_replies.specs.Texts.{entry_line, justifications_line, quote_line}
+use Rattle.station_replies.specs.Texts.{entry_line, justifications_line, quote_line}
 
 abbrev pub reasons_line : Fault → List ℕ
 reasons_line fault.Json = justifications_line (codes "json")

@@ -5,12 +5,12 @@ use Rattle.mc_command.specs.Command.{Command, Task, command_of}
 use Rattle.mc_port.specs.Store.{Request, and_asked}
 use Rattle.mc_typed.specs.Plans.{Plan}
 use Rattle.mc_record.specs.Kept.{Kept}
-use Rattle.mc_replies.specs.Files.{File, request_of}
-use Rattle.mc_replies.specs.Phases.{AreOne, IsSilent}
-use Rattle.mc_replies.specs.Reply.{Reply, cannot_read}
-use Rattle.mc_replies.specs.Status.{IsAfterSource, IsAnswer}
-use Rattle.mc_replies.specs.declared.file.FileKind.TheVariants.{Source}
-use Rattle.mc_replies.specs.declared.status.Status.TheVariants.{CannotRead, NoCommand, SourceRefused}
+use Rattle.station_replies.specs.Files.{File, request_of}
+use Rattle.station_replies.specs.Phases.{AreOne, IsSilent}
+use Rattle.station_replies.specs.Reply.{Reply, cannot_read}
+use Rattle.station_replies.specs.Status.{IsAfterSource, IsAnswer}
+use Rattle.station_replies.specs.declared.file.FileKind.TheVariants.{Source}
+use Rattle.station_replies.specs.declared.status.Status.TheVariants.{CannotRead, NoCommand, SourceRefused}
 use Rattle.mc_station.specs.Calls.{Call, CallsFor, IsKnown, LeadsTo, Requests}
 use Rattle.mc_station.specs.Source.{Accepted}
 use Rattle.mc_station.specs.commands.Merge.{IsJoined}

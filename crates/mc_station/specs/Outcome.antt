@@ -6,9 +6,9 @@ use Rattle.mc_port.specs.Causes.{Rose}
 use Rattle.mc_port.specs.Sink.{AppendsPart}
 use Rattle.mc_port.specs.Store.{State}
 use Rattle.mc_station.specs.Calls.{Call, LeadsTo, Requests}
-use Rattle.mc_replies.specs.Reply.{Reply}
-use Rattle.mc_replies.specs.Status.{number_of}
-use Rattle.mc_replies.specs.declared.status.Status.TheVariants.{CannotRead, OutOfMemory}
+use Rattle.station_replies.specs.Reply.{Reply}
+use Rattle.station_replies.specs.Status.{number_of}
+use Rattle.station_replies.specs.declared.status.Status.TheVariants.{CannotRead, OutOfMemory}
 
 -- the texts of a reply were put whole
 abbrev pub PutWhole : Reply → (out out_after diag diag_after : Option (List ℕ)) → Type 0

@@ -8,10 +8,10 @@ use Rattle.mc_record.specs.declared.fault.RecordFault.{RecordFault}
 use Rattle.mc_record.specs.declared.fault.RecordFault.TheVariants as fault
 use Rattle.mc_record.specs.declared.pair_fault.PairFault.{PairFault}
 use Rattle.mc_record.specs.declared.pair_fault.PairFault.TheVariants as pair
-use Rattle.mc_replies.specs.Phases.{Reads}
-use Rattle.mc_replies.specs.Reply.{Reply, refusal}
-use Rattle.mc_replies.specs.Texts.{kept_line}
-use Rattle.mc_replies.specs.declared.status.Status.TheVariants.{TestsRefused}
+use Rattle.station_replies.specs.Phases.{Reads}
+use Rattle.station_replies.specs.Reply.{Reply, refusal}
+use Rattle.station_replies.specs.Texts.{kept_line}
+use Rattle.station_replies.specs.declared.status.Status.TheVariants.{TestsRefused}
 use Rattle.mc_station.specs.Source.{Accepted}
 
 -- the line on the first fault of the record with this name

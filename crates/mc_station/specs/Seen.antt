@@ -11,9 +11,9 @@ use Rattle.mc_lex.specs.Tokens.{Tok}
 use Rattle.mc_meaning.specs.Seen.{told_of}
 use Rattle.mc_mutate.specs.Kills.{most_mutants}
 use Rattle.mc_mutate.specs.Mutants.{count}
-use Rattle.mc_roots.specs.Decisions.{AreDecisions}
-use Rattle.mc_roots.specs.Seen.{decision_of}
-use Rattle.mc_roots.specs.declared.decision.Decision as code
+use Rattle.decide_rules.specs.Decisions.{AreDecisions}
+use Rattle.decide_rules.specs.Seen.{decision_of}
+use Rattle.decide_rules.specs.declared.decision.Decision as code
 use Rattle.mc_typed.specs.Sound.{IsSound}
 use Rattle.mc_typed.specs.Views.{program_of}
 use Rattle.mc_typed.specs.declared.plans.TestPlan.{TestPlan}

@@ -9,19 +9,19 @@ use Rattle.mc_tree.specs.Tree.{Item}
 use Rattle.mc_grammar.specs.Items.{IsSyntaxOf}
 use Rattle.mc_subset.specs.Forms.{first_outside}
 use Rattle.mc_subset.specs.Nodes.{nodes_of_unit}
-use Rattle.mc_forms.specs.declared.outside.Outside.{Outside}
+use Rattle.subset_forms.specs.declared.outside.Outside.{Outside}
 use Rattle.mc_typed.specs.Tree.{Program}
-use Rattle.mc_faults.specs.declared.fault.Fault.{Fault}
-use Rattle.mc_typing.specs.Typing.{IsTypingOf, IsFirstFaultOf}
-use Rattle.mc_roots.specs.Decisions.{Decision, AreDecisions, IsSmall, IsFirstLarge}
+use Rattle.types_faults.specs.declared.fault.Fault.{Fault}
+use Rattle.types_rules.specs.Typing.{IsTypingOf, IsFirstFaultOf}
+use Rattle.decide_rules.specs.Decisions.{Decision, AreDecisions, IsSmall, IsFirstLarge}
 use Rattle.mc_paths.specs.Paths.{count_of}
 use Rattle.mc_probe.specs.Maps.{Map, IsMapOf}
-use Rattle.mc_map.specs.Faults.{HasFewPaths, IsFirstWithMany, bits_of, most_bits}
+use Rattle.instrument_bits.specs.Faults.{HasFewPaths, IsFirstWithMany, bits_of, most_bits}
 use Rattle.mc_types.specs.Faults.{kind_word}
-use Rattle.mc_replies.specs.Phases.{Then}
-use Rattle.mc_replies.specs.Reply.{Reply, refusal}
-use Rattle.mc_replies.specs.Texts.{bits_line, conditions_line, fault_line, line_at, outside_line, paths_line, syntax_line}
-use Rattle.mc_replies.specs.declared.status.Status.TheVariants.{SourceRefused}
+use Rattle.station_replies.specs.Phases.{Then}
+use Rattle.station_replies.specs.Reply.{Reply, refusal}
+use Rattle.station_replies.specs.Texts.{bits_line, conditions_line, fault_line, line_at, outside_line, paths_line, syntax_line}
+use Rattle.station_replies.specs.declared.status.Status.TheVariants.{SourceRefused}
 
 -- the tokens of a source, or the first place without a token (C17 6.4)
 abbrev pub Lexes : List ℕ → Result (List Tok) Reply → Type 0

@@ -9,12 +9,12 @@ use Rattle.mc_oblige.specs.Obligations.{obligations_of}
 use Rattle.mc_oblige.specs.declared.justification.Justification.{Justification}
 use Rattle.mc_justify.specs.Justifications.{justifications_of}
 use Rattle.mc_record.specs.Kept.{Kept}
-use Rattle.mc_replies.specs.Files.{File, limit_of, request_of}
-use Rattle.mc_replies.specs.Phases.{Reads, Then}
-use Rattle.mc_replies.specs.Reply.{Reply, refusal}
-use Rattle.mc_replies.specs.Texts.{usage_text}
-use Rattle.mc_replies.specs.declared.file.FileKind.TheVariants as kind
-use Rattle.mc_replies.specs.declared.status.Status.TheVariants.{NoCommand, JustificationsRefused}
+use Rattle.station_replies.specs.Files.{File, limit_of, request_of}
+use Rattle.station_replies.specs.Phases.{Reads, Then}
+use Rattle.station_replies.specs.Reply.{Reply, refusal}
+use Rattle.station_replies.specs.Texts.{usage_text}
+use Rattle.station_replies.specs.declared.file.FileKind.TheVariants as kind
+use Rattle.station_replies.specs.declared.status.Status.TheVariants.{NoCommand, JustificationsRefused}
 use Rattle.mc_station.specs.Justified.{reasons_line}
 use Rattle.mc_station.specs.Records.{JudgesRecord}
 use Rattle.mc_station.specs.Source.{Accepted, JudgesSource}

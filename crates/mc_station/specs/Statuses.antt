@@ -2,15 +2,15 @@
 use Rattle.std.specs.Prelude.{◌≡◌, ◌≢◌, ◌⊎◌, ℕ, All, List, [], Option, map}
 use Rattle.std.specs.Io.KnownBytes.{Appends}
 use Rattle.mc_command.specs.Command.{command_of}
-use Rattle.mc_replies.specs.Files.{File, request_of}
-use Rattle.mc_replies.specs.Reply.{Reply}
-use Rattle.mc_replies.specs.declared.status.Status.{Status}
+use Rattle.station_replies.specs.Files.{File, request_of}
+use Rattle.station_replies.specs.Reply.{Reply}
+use Rattle.station_replies.specs.declared.status.Status.{Status}
 use Rattle.mc_station.specs.Calls.{Call, CallsFor, LeadsTo, Requests}
 use Rattle.mc_station.specs.Causes.{Cause, IsAsked, IsOfRefusal, IsOfText}
 use Rattle.mc_station.specs.Laws.{and_all}
 use Rattle.mc_station.specs.Outcome.{Told, ToldPart}
 use Rattle.mc_port.specs.Store.{State}
-use Rattle.mc_replies.specs.declared.status.Status.TheVariants.{Done, Incomplete}
+use Rattle.station_replies.specs.declared.status.Status.TheVariants.{Done, Incomplete}
 
 -- a status that is not told with a text comes only where it has its cause
 abbrev pub StatusesHaveCauses : Type 0

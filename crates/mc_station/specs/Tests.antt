@@ -12,10 +12,10 @@ use Rattle.mc_meaning.specs.Seen.{Told, plainly_told}
 use Rattle.mc_meaning.specs.Tests.{Stands, plain_state}
 use Rattle.mc_tests.specs.File.{tests_file}
 use Rattle.mc_report.specs.Status.{passed}
-use Rattle.mc_replies.specs.Phases.{Reads}
-use Rattle.mc_replies.specs.Reply.{Reply, refusal}
-use Rattle.mc_replies.specs.Texts.{matrix_line, tests_line}
-use Rattle.mc_replies.specs.declared.status.Status.TheVariants.{TestsRefused, TooLarge}
+use Rattle.station_replies.specs.Phases.{Reads}
+use Rattle.station_replies.specs.Reply.{Reply, refusal}
+use Rattle.station_replies.specs.Texts.{matrix_line, tests_line}
+use Rattle.station_replies.specs.declared.status.Status.TheVariants.{TestsRefused, TooLarge}
 use Rattle.mc_station.specs.Source.{Accepted}
 
 -- the plans of a tests file that is accepted, or its first fault

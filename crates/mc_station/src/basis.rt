@@ -1,9 +1,9 @@
 //! What the last stage of a command stands on.
 
 use crate::opened::Opened;
+use decide_rules::Decision;
 use mc_command::{Report, Run};
 use mc_record::Record;
-use mc_roots::Decision;
 use mc_typed::TestPlan;
 
 /// What the last stage of a command stands on, beside its source.

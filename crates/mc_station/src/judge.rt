@@ -7,10 +7,10 @@ ghost use Rattle.mc_oblige.specs.declared.justification.Justification.{Justifica
 ghost use Rattle.mc_justify.specs.Faults.{Fault};
 ghost use Rattle.mc_justify.specs.Returned.{GivesFault};
 ghost use Rattle.mc_limits.specs.Limits.{most_fuel, most_source_bytes};
-ghost use Rattle.mc_replies.specs.Phases.{Reads};
-ghost use Rattle.mc_replies.specs.Reply.{refusal};
-ghost use Rattle.mc_replies.specs.Seen.{Gives};
-ghost use Rattle.mc_replies.specs.declared.status.Status.TheVariants.{JustificationsRefused};
+ghost use Rattle.station_replies.specs.Phases.{Reads};
+ghost use Rattle.station_replies.specs.Reply.{refusal};
+ghost use Rattle.station_replies.specs.Seen.{Gives};
+ghost use Rattle.station_replies.specs.declared.status.Status.TheVariants.{JustificationsRefused};
 ghost use Rattle.mc_station.specs.Justified.{reasons_line};
 ghost use Rattle.mc_station.specs.Seen.{AreMutable, ArePlanned, AreReasons, HasTokens, IsBasis, HasItsTree, IsOnProgram, IsOpened, IsReady, seen_accepted, seen_basis, seen_stage};
 ghost use Rattle.mc_station.specs.Stages.{AfterPlans, AsksUpTo, Judges, JudgesReasons, after_source, after_tests, justified_by, reasons, source, tested, tests};
@@ -23,16 +23,16 @@ use crate::opened::Opened;
 use crate::records::{after_kept, after_left, after_right};
 use crate::source::{decisions_again, judge_source};
 use crate::stage::{Stage, with_basis};
+use decide_rules::Decision;
 use mc_command::{Action, Run, Task};
 use mc_core::Shape;
 use mc_cover::{OpenFault, open};
 use mc_justify::{JustifyFault, read_justifications};
 use mc_mutate::count_mutants;
 use mc_oblige::{Justification, obligations};
-use mc_replies::{Refusal, Stop};
-use mc_roots::Decision;
 use mc_tests::{TestFault, read_tests};
 use mc_typed::TestPlan;
+use station_replies::{Refusal, Stop};
 use std::alloc::Global;
 
 /// How many mutants a program may have for `mutate`.

@@ -5,12 +5,12 @@ ghost use Rattle.mc_record.specs.Kept.{IsKept, Kept};
 ghost use Rattle.mc_record.specs.Merged.{pair_fault};
 ghost use Rattle.mc_record.specs.Seen.{kept_of};
 ghost use Rattle.mc_record.specs.declared.fault.RecordFault.{RecordFault as Fault};
-ghost use Rattle.mc_replies.specs.Phases.{Reads};
-ghost use Rattle.mc_replies.specs.Reply.{refusal};
-ghost use Rattle.mc_replies.specs.Seen.{Gives};
-ghost use Rattle.mc_replies.specs.declared.refusal.Refusal.TheVariants as why;
-ghost use Rattle.mc_replies.specs.declared.status.Status.TheVariants.{TestsRefused};
-ghost use Rattle.mc_replies.specs.declared.stop.Stop.TheVariants as stop;
+ghost use Rattle.station_replies.specs.Phases.{Reads};
+ghost use Rattle.station_replies.specs.Reply.{refusal};
+ghost use Rattle.station_replies.specs.Seen.{Gives};
+ghost use Rattle.station_replies.specs.declared.refusal.Refusal.TheVariants as why;
+ghost use Rattle.station_replies.specs.declared.status.Status.TheVariants.{TestsRefused};
+ghost use Rattle.station_replies.specs.declared.stop.Stop.TheVariants as stop;
 ghost use Rattle.mc_station.specs.Records.{GivesFault, GivesPair, HasOldBits, JudgesRecord, record_fault_line};
 ghost use Rattle.mc_station.specs.Seen.{HasItsTree, IsReady, IsRecordIn, seen_accepted, seen_stage};
 ghost use Rattle.mc_station.specs.Stages.{Judges, kept, left, right};
@@ -24,7 +24,7 @@ use crate::words::words_fit;
 use mc_command::Report;
 use mc_cond::is_short;
 use mc_record::{PairFault, Record, RecordFault, merge_records, read_record};
-use mc_replies::{Refusal, Stop};
+use station_replies::{Refusal, Stop};
 use std::alloc::Global;
 
 // That the record with this name is refused, by the kind of its fault and the line.

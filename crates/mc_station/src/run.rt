@@ -1,8 +1,8 @@
 //! The one function that sees the store.
 ghost use Rattle.std.specs.Prelude.{◌≡◌, ◌≢◌, ◌≤◌, IfOk, length};
 ghost use Rattle.mc_port.specs.Causes.{Rose};
-ghost use Rattle.mc_replies.specs.Seen.{outcome_of};
-ghost use Rattle.mc_replies.specs.declared.status.Status.TheVariants.{CannotRead, OutOfMemory};
+ghost use Rattle.station_replies.specs.Seen.{outcome_of};
+ghost use Rattle.station_replies.specs.declared.status.Status.TheVariants.{CannotRead, OutOfMemory};
 ghost use Rattle.mc_station.specs.Calls.{Leads};
 ghost use Rattle.mc_station.specs.Seen.{IsReady, seen_stage};
 ghost use Rattle.mc_station.specs.Stages.{requests_left};
@@ -12,7 +12,7 @@ use crate::means::Means;
 use crate::stage::Stage;
 use mc_cover::Closer;
 use mc_port::{Gate, LoadFault, Store};
-use mc_replies::{Refusal, Reply};
+use station_replies::{Refusal, Reply};
 use std::alloc::{AllocError, Global};
 use std::thread::Threads;
 

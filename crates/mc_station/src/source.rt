@@ -9,11 +9,11 @@ ghost use Rattle.mc_typed.specs.Views.{program_of};
 ghost use Rattle.mc_subset.specs.Forms.{first_outside};
 ghost use Rattle.mc_subset.specs.Nodes.{nodes_of_unit};
 ghost use Rattle.mc_cond.specs.Tree.{tree_of, IsNumbered};
-ghost use Rattle.mc_roots.specs.Decisions.{AreDecisions};
-ghost use Rattle.mc_roots.specs.Seen.{decision_of};
-ghost use Rattle.mc_replies.specs.Phases.{Then};
-ghost use Rattle.mc_replies.specs.Seen.{Gives};
-ghost use Rattle.mc_replies.specs.Texts.{start_of};
+ghost use Rattle.decide_rules.specs.Decisions.{AreDecisions};
+ghost use Rattle.decide_rules.specs.Seen.{decision_of};
+ghost use Rattle.station_replies.specs.Phases.{Then};
+ghost use Rattle.station_replies.specs.Seen.{Gives};
+ghost use Rattle.station_replies.specs.Texts.{start_of};
 ghost use Rattle.mc_station.specs.Seen.{HasItsTree, seen_accepted};
 ghost use Rattle.mc_station.specs.Source.{Accepts, Admits, Decides, JudgesSource, Lexes, Maps, PathsAreFew, Parses, Types};
 
@@ -22,11 +22,11 @@ use mc_decide::{DecideFault, Decision, decisions};
 use mc_instrument::{InstrumentFault, instrument};
 use mc_lex::{Dialect, Place, Token, lex, place_of};
 use mc_parse::{ParseFault, parse};
-use mc_replies::{Refusal, Stop};
 use mc_subset::check;
 use mc_tree::Unit;
 use mc_typed::Program;
 use mc_types::type_unit;
+use station_replies::{Refusal, Stop};
 use std::alloc::{AllocError, Global};
 
 // The phase of the tokens.

@@ -4,7 +4,7 @@ ghost use Rattle.mc_command.specs.Command.{command_of};
 ghost use Rattle.mc_command.specs.Line.{words_of};
 ghost use Rattle.mc_command.specs.Seen.{RunIsInRange, seen_run};
 ghost use Rattle.mc_tests.specs.Seen.{seen_plans};
-ghost use Rattle.mc_replies.specs.Seen.{seen_file, seen_reply};
+ghost use Rattle.station_replies.specs.Seen.{seen_file, seen_reply};
 ghost use Rattle.mc_station.specs.Looked.{IsOnMatrix};
 ghost use Rattle.mc_station.specs.Seen.{ArePlanned, AreReasons, IsBasis, HasItsTree, IsOnProgram, IsOpened, IsReady, seen_accepted, seen_basis, seen_stage};
 ghost use Rattle.mc_station.specs.Stages.{Ends, Tells, after_tests, file_of, first_stage, last};
@@ -26,8 +26,8 @@ use mc_cover::Closer;
 use mc_oblige::Justification;
 use mc_port::Gate;
 use mc_record::Record;
-use mc_replies::{File, FileKind, Reply, Status, usage_text};
 use mc_typed::TestPlan;
+use station_replies::{File, FileKind, Reply, Status, usage_text};
 use std::alloc::{AllocError, Global};
 use std::thread::Threads;
 

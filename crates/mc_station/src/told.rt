@@ -4,7 +4,7 @@ ghost use Rattle.mc_command.specs.Seen.{seen_listing, seen_report, seen_task};
 ghost use Rattle.mc_oblige.specs.Shown.{HasEvent};
 ghost use Rattle.mc_tests.specs.Seen.{seen_plans};
 ghost use Rattle.mc_record.specs.Kept.{IsKept};
-ghost use Rattle.mc_replies.specs.Seen.{seen_reply};
+ghost use Rattle.station_replies.specs.Seen.{seen_reply};
 ghost use Rattle.mc_station.specs.Looked.{IsOnMatrix};
 ghost use Rattle.mc_station.specs.Ran.{AreTold, IsRun, kept_in, seen_ran};
 ghost use Rattle.mc_station.specs.Seen.{AreReasons, HasItsTree, seen_accepted};
@@ -21,8 +21,8 @@ use crate::commands::vectors::vectors;
 use crate::ran::Ran;
 use mc_command::{Listing, Report, Task};
 use mc_oblige::Justification;
-use mc_replies::Reply;
 use mc_typed::TestPlan;
+use station_replies::Reply;
 use std::alloc::{AllocError, Global};
 
 // The report on a run of the tests.

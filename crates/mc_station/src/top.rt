@@ -4,10 +4,10 @@ ghost use Rattle.mc_port.specs.Causes.{Rose};
 ghost use Rattle.mc_port.specs.Sink.{Puts};
 ghost use Rattle.mc_station.specs.Calls.{CallsFor, IsKnown, LeadsTo, call_of};
 ghost use Rattle.mc_station.specs.Outcome.{PutPart, PutWhole, Told, ToldPart};
-ghost use Rattle.mc_replies.specs.Reply.{Reply as CalledFor};
-ghost use Rattle.mc_replies.specs.Seen.{outcome_of, seen_reply};
-ghost use Rattle.mc_replies.specs.Status.{number_of};
-ghost use Rattle.mc_replies.specs.declared.status.Status.TheVariants.{CannotRead, OutOfMemory};
+ghost use Rattle.station_replies.specs.Reply.{Reply as CalledFor};
+ghost use Rattle.station_replies.specs.Seen.{outcome_of, seen_reply};
+ghost use Rattle.station_replies.specs.Status.{number_of};
+ghost use Rattle.station_replies.specs.declared.status.Status.TheVariants.{CannotRead, OutOfMemory};
 
 use crate::laws::one_reply;
 use crate::means::Means;
@@ -16,7 +16,7 @@ use crate::stage::first_stage;
 use mc_command::line_of;
 use mc_cover::Closer;
 use mc_port::{Gate, PutFault, Sink, Store, Words};
-use mc_replies::{Reply, Status};
+use station_replies::{Reply, Status};
 use std::alloc::{AllocError, Global};
 use std::thread::Threads;
 

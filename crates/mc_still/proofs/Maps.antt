@@ -5,14 +5,14 @@ use Rattle.mc_span.specs.declared.span.Span.{Span}
 use Rattle.mc_cond.specs.Tree.{Tree, size, IsNumbered}
 use Rattle.mc_paths.specs.Paths.{count_of, increments}
 use Rattle.mc_typed.specs.Tree as t
-use Rattle.mc_roots.specs.Nodes.{Node}
-use Rattle.mc_roots.specs.Nodes as n
-use Rattle.mc_roots.specs.Conditions.{tree_from}
-use Rattle.mc_roots.specs.Decisions.{Decision, AreDecisions}
-use Rattle.mc_roots.specs.steps.Walk.{inside, spans, decision, decided}
-use Rattle.mc_roots.proofs.Once.{one_list}
-use Rattle.mc_roots.proofs.Told.{are_decisions, told_as}
-use Rattle.mc_roots.proofs.Trees.{size_of_tree, length_spans}
+use Rattle.decide_rules.specs.Nodes.{Node}
+use Rattle.decide_rules.specs.Nodes as n
+use Rattle.decide_rules.specs.Conditions.{tree_from}
+use Rattle.decide_rules.specs.Decisions.{Decision, AreDecisions}
+use Rattle.decide_rules.specs.steps.Walk.{inside, spans, decision, decided}
+use Rattle.decide_rules.proofs.Once.{one_list}
+use Rattle.decide_rules.proofs.Told.{are_decisions, told_as}
+use Rattle.decide_rules.proofs.Trees.{size_of_tree, length_spans}
 use Rattle.mc_steps.specs.Points.{Points, no_points, ◌⊕◌, points_of_function}
 use Rattle.mc_probe.specs.Maps.{Mapped, Map, AreBased, IsPlaced, ArePlaced, IsMap, IsMapOf, first_path, first_label, first_statement, first_exit}
 use Rattle.mc_probe.specs.Obligations.{exits, counted_spans_all, labels_all, entry_spans, exit_spans, statement_spans, label_spans}

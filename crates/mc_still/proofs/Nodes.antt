@@ -5,16 +5,16 @@ use Rattle.mc_span.specs.declared.span.Span.{Span}
 use Rattle.mc_cond.specs.Tree as conditions
 use Rattle.mc_typed.specs.declared.operators.Operator as code
 use Rattle.mc_typed.specs.Tree as t
-use Rattle.mc_roots.specs.declared.role.Role.{Role}
-use Rattle.mc_roots.specs.declared.role.Role.TheVariants.{Controlling, Inner, Plain}
-use Rattle.mc_roots.specs.declared.operators.FullOperator.{FullOperator}
-use Rattle.mc_roots.specs.declared.operators.Junction.TheVariants.{Short}
-use Rattle.mc_roots.specs.Nodes.{Node, Constant, Not, Logic, Expression, Whole, Parts, no_parts, part, controlling, Operator, Other}
-use Rattle.mc_roots.specs.Nodes as n
-use Rattle.mc_roots.specs.Roots.{is_constant, are_constant, is_boolean, is_candidate, is_root, operand_role, is_inner}
-use Rattle.mc_roots.specs.Conditions.{width, tree_from, joined, is_operator}
-use Rattle.mc_roots.specs.Counts.{one_where, roots, roots_in}
-use Rattle.mc_roots.specs.steps.Walk.{pushed, kept, entered, inside, inside_parts, visited}
+use Rattle.decide_rules.specs.declared.role.Role.{Role}
+use Rattle.decide_rules.specs.declared.role.Role.TheVariants.{Controlling, Inner, Plain}
+use Rattle.decide_rules.specs.declared.operators.FullOperator.{FullOperator}
+use Rattle.decide_rules.specs.declared.operators.Junction.TheVariants.{Short}
+use Rattle.decide_rules.specs.Nodes.{Node, Constant, Not, Logic, Expression, Whole, Parts, no_parts, part, controlling, Operator, Other}
+use Rattle.decide_rules.specs.Nodes as n
+use Rattle.decide_rules.specs.Roots.{is_constant, are_constant, is_boolean, is_candidate, is_root, operand_role, is_inner}
+use Rattle.decide_rules.specs.Conditions.{width, tree_from, joined, is_operator}
+use Rattle.decide_rules.specs.Counts.{one_where, roots, roots_in}
+use Rattle.decide_rules.specs.steps.Walk.{pushed, kept, entered, inside, inside_parts, visited}
 use Rattle.mc_alike.specs.Moves.{Move, moved_span}
 use Rattle.mc_natural.specs.Moved.{moved_place, moved_number, moved_structure, moved_call, moved_argument, moved_arguments, moved_effect, moved_effects, moved_filling, moved_fillings, moved_object, moved_objects, moved_for_start, moved_return_value, moved_typed_statement, moved_typed_statements, moved_function, moved_functions}
 

@@ -2,7 +2,7 @@
 -- numbers.
 use Rattle.std.specs.Prelude.{◌≡◌, List, map, All}
 use Rattle.mc_typed.specs.Tree.{Program}
-use Rattle.mc_roots.specs.Decisions.{Decision, AreDecisions}
+use Rattle.decide_rules.specs.Decisions.{Decision, AreDecisions}
 use Rattle.mc_probe.specs.Maps.{Map, IsMapOf}
 use Rattle.mc_probe.specs.Table.{instrumented}
 use Rattle.mc_alike.specs.Moves.{Move}

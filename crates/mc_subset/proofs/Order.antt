@@ -1,14 +1,14 @@
 -- The first node outside of two lists after each other.
 use Rattle.std.proofs.Common.{◌≡◌, List, [], ◌∷◌, ◌++◌, Option, Some, None, refl, ap, ◌∙◌}
 use Rattle.std.proofs.lemmas.Grind.{common_steps}
-use Rattle.mc_forms.specs.declared.outside.Outside.{Outside}
-use Rattle.mc_forms.specs.declared.context.Region.{Region}
-use Rattle.mc_forms.specs.declared.context.Role.{Role}
-use Rattle.mc_forms.specs.declared.context.Standing.{Standing}
+use Rattle.subset_forms.specs.declared.outside.Outside.{Outside}
+use Rattle.subset_forms.specs.declared.context.Region.{Region}
+use Rattle.subset_forms.specs.declared.context.Role.{Role}
+use Rattle.subset_forms.specs.declared.context.Standing.{Standing}
 use Rattle.mc_tree.specs.Tree.{Expression, Statement}
 use Rattle.mc_tree.specs.Tree as t
 use Rattle.mc_subset.specs.Nodes.{Node, an_expression, a_statement, nodes_of_expression, nodes_of_statement, after_first}
-use Rattle.mc_forms.specs.Order.{or_else}
+use Rattle.subset_forms.specs.Order.{or_else}
 use Rattle.mc_subset.specs.Forms.{form_of, place_of, outside_at, first_outside}
 
 pub or_else_assoc : (a b c : Option Outside) → or_else a (or_else b c) ≡ or_else (or_else a b) c

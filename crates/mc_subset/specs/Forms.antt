@@ -6,14 +6,14 @@ use Rattle.mc_tree.specs.declared.expressions.unary_operator.UnaryOperator.TheVa
 use Rattle.mc_tree.specs.declared.declarations.specifier_word.SpecifierWord.TheVariants as word
 use Rattle.mc_tree.specs.Tree.{Statement, Specifier, Specifiers, Parameters, span_of, span_of_specifier, span_of_statement, span_of_parameters}
 use Rattle.mc_tree.specs.Tree as tree
-use Rattle.mc_forms.specs.declared.context.Role.{Role}
-use Rattle.mc_forms.specs.declared.context.Role.TheVariants as role
-use Rattle.mc_forms.specs.declared.context.Standing.{Standing}
-use Rattle.mc_forms.specs.declared.context.Standing.TheVariants as standing
-use Rattle.mc_forms.specs.declared.form.Form.{Form}
-use Rattle.mc_forms.specs.declared.form.Form.TheVariants as form
-use Rattle.mc_forms.specs.declared.outside.Outside.{Outside}
-use Rattle.mc_forms.specs.Order.{or_else}
+use Rattle.subset_forms.specs.declared.context.Role.{Role}
+use Rattle.subset_forms.specs.declared.context.Role.TheVariants as role
+use Rattle.subset_forms.specs.declared.context.Standing.{Standing}
+use Rattle.subset_forms.specs.declared.context.Standing.TheVariants as standing
+use Rattle.subset_forms.specs.declared.form.Form.{Form}
+use Rattle.subset_forms.specs.declared.form.Form.TheVariants as form
+use Rattle.subset_forms.specs.declared.outside.Outside.{Outside}
+use Rattle.subset_forms.specs.Order.{or_else}
 use Rattle.mc_subset.specs.Nodes.{Node, an_expression, a_type_name, a_specifier, a_member, a_declarator, a_parameter_list, a_parameter, a_declaration, a_statement, is_local}
 
 -- `*` and `&` before an operand (C17 6.5.3.2)

@@ -6,13 +6,13 @@ use Rattle.std.specs.Prelude.{Bool, true, false, ◌||◌, List, [], ◌∷◌, 
 use Rattle.mc_tree.specs.declared.declarations.specifier_word.SpecifierWord.TheVariants as word
 use Rattle.mc_tree.specs.Tree.{Expression, Expressions, TypeName, Specifier, Specifiers, StructMember, Members, Enumerator, Enumerators, Declarator, Declarators, ArrayLengths, Parameters, Parameter, ParameterList, Initializer, Initializers, InitDeclarator, Declaration, ForStart, Statement, BlockItems, Item}
 use Rattle.mc_tree.specs.Tree as tree
-use Rattle.mc_forms.specs.declared.context.Region.{Region}
-use Rattle.mc_forms.specs.declared.context.Region.TheVariants.{File, Function}
-use Rattle.mc_forms.specs.declared.context.Role.{Role}
-use Rattle.mc_forms.specs.declared.context.Role.TheVariants as role
-use Rattle.mc_forms.specs.declared.context.Standing.{Standing}
-use Rattle.mc_forms.specs.declared.context.Standing.TheVariants as standing
-use Rattle.mc_forms.specs.Contexts.{role_of_operands, role_in_parentheses, standing_of_items, standing_of_label}
+use Rattle.subset_forms.specs.declared.context.Region.{Region}
+use Rattle.subset_forms.specs.declared.context.Region.TheVariants.{File, Function}
+use Rattle.subset_forms.specs.declared.context.Role.{Role}
+use Rattle.subset_forms.specs.declared.context.Role.TheVariants as role
+use Rattle.subset_forms.specs.declared.context.Standing.{Standing}
+use Rattle.subset_forms.specs.declared.context.Standing.TheVariants as standing
+use Rattle.subset_forms.specs.Contexts.{role_of_operands, role_in_parentheses, standing_of_items, standing_of_label}
 
 pub data Node : Type 0 where
   an_expression : Expression → Role → Node

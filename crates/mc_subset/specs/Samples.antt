@@ -6,11 +6,11 @@ use Rattle.mc_tree.specs.declared.declarations.specifier_word.SpecifierWord.{Spe
 use Rattle.mc_tree.specs.declared.declarations.specifier_word.SpecifierWord.TheVariants as word
 use Rattle.mc_tree.specs.Tree.{BlockItems, Declaration, Declarator, Expression, InitDeclarator, Item, Name, Parameters, Specifier, Specifiers, Statement}
 use Rattle.mc_tree.specs.Tree as tree
-use Rattle.mc_forms.specs.declared.outside.Outside.{Outside}
-use Rattle.mc_forms.specs.declared.form.Form.{Form}
+use Rattle.subset_forms.specs.declared.outside.Outside.{Outside}
+use Rattle.subset_forms.specs.declared.form.Form.{Form}
 use Rattle.mc_subset.specs.Forms.{first_outside}
 use Rattle.mc_subset.specs.Nodes.{nodes_of_statement, nodes_of_unit}
-use Rattle.mc_forms.specs.declared.context.Standing.TheVariants as standing
+use Rattle.subset_forms.specs.declared.context.Standing.TheVariants as standing
 
 abbrev pub span : ℕ → ℕ → Span
 span from to = record { start = from; end = to }

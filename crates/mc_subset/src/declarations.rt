@@ -8,8 +8,8 @@ ghost use Rattle.mc_subset.specs.Forms.{first_outside};
 
 use crate::expressions::{declarator, expression, part, specifiers};
 use crate::rows::{declaration_form, has_extern, is_local, judge};
-use mc_forms::{Outside, Region, Role, Standing, first_of};
 use mc_tree::{Declaration, Expression, ForStart, InitDeclarator, Initializer};
+use subset_forms::{Outside, Region, Role, Standing, first_of};
 
 #[cycle(initializers)]
 fn initializer(tree: &Initializer<'_>, region: Region) -> Option<Outside>

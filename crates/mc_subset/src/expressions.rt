@@ -5,17 +5,17 @@ ghost use Rattle.std.specs.Prelude.{◌≡◌, map};
 ghost use Rattle.mc_tree.specs.Views.{array_length_of, declarator_of, declarators_from, enumerator_of, enumerators_from, expression_of, expressions_from, lengths_from, member_of, members_from, parameter_of, parameters_from, specifier_of, specifiers_from};
 ghost use Rattle.mc_tree.specs.Tree as source_tree;
 ghost use Rattle.mc_subset.specs.Nodes as nodes;
-ghost use Rattle.mc_forms.specs.declared.context.Role.TheVariants.{Part};
-ghost use Rattle.mc_forms.specs.Order.{or_else};
+ghost use Rattle.subset_forms.specs.declared.context.Role.TheVariants.{Part};
+ghost use Rattle.subset_forms.specs.Order.{or_else};
 ghost use Rattle.mc_subset.specs.Forms.{first_outside};
 
 use crate::rows::{
     closing_of, expression_form, function_form, has_extern, judge, member_form, object_form,
     pointer_form, tag_form,
 };
-use mc_forms::{Form, Outside, Region, Role, first_of};
 use mc_span::Span;
 use mc_tree::{ArrayLength, Declarator, Enumerator, Expression, Member, Parameter, Specifier};
+use subset_forms::{Form, Outside, Region, Role, first_of};
 
 #[cycle(check)]
 #[tactic(auto, using(crate::proofs::Order::first_of_expression))]

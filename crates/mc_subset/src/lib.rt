@@ -8,5 +8,5 @@ mod statements;
 mod units;
 pub mod worked;
 
-pub use mc_forms::{Form, Outside};
+pub use subset_forms::{Form, Outside};
 pub use units::check;

@@ -2,15 +2,15 @@
 ghost use Rattle.std.specs.Prelude.{◌≡◌, ◌||◌, map, nat_lt, if◌then◌else◌};
 ghost use Rattle.mc_tree.specs.Views.{expression_of, specifier_of, specifiers_from};
 ghost use Rattle.mc_tree.specs.Units.{statement_of};
-ghost use Rattle.mc_forms.specs.declared.form.Form.TheVariants as form;
+ghost use Rattle.subset_forms.specs.declared.form.Form.TheVariants as form;
 ghost use Rattle.mc_subset.specs.Nodes.{an_expression, a_statement};
 ghost use Rattle.mc_subset.specs.Nodes as nodes;
 ghost use Rattle.mc_subset.specs.Forms.{closing, form_of, outside_at};
 ghost use Rattle.mc_subset.specs.Forms as forms;
 
-use mc_forms::{Form, Outside, Region, Role, Standing};
 use mc_span::Span;
 use mc_tree::{Expression, Specifier, SpecifierWord, Statement, UnaryOperator};
+use subset_forms::{Form, Outside, Region, Role, Standing};
 
 /// What is said of a node of that form at that place.
 pub(crate) fn judge(form: Option<Form>, span: Span) -> Option<Outside>

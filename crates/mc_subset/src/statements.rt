@@ -5,14 +5,14 @@ ghost use Rattle.std.specs.Prelude.{◌≡◌, map};
 ghost use Rattle.mc_tree.specs.Units.{block_from, block_item_of, statement_of};
 ghost use Rattle.mc_tree.specs.Tree as source_tree;
 ghost use Rattle.mc_subset.specs.Nodes as nodes;
-ghost use Rattle.mc_forms.specs.Order.{or_else};
+ghost use Rattle.subset_forms.specs.Order.{or_else};
 ghost use Rattle.mc_subset.specs.Forms.{first_outside};
 
 use crate::declarations::{declaration, for_parts, optional};
 use crate::expressions::{expression, part};
 use crate::rows::{judge, standing_from, statement_form};
-use mc_forms::{Outside, Region, Role, Standing, first_of};
 use mc_tree::{BlockItem, Statement};
+use subset_forms::{Outside, Region, Role, Standing, first_of};
 
 #[cycle(check)]
 #[tactic(auto, using(crate::proofs::Order::first_of_statement))]

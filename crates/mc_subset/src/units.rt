@@ -10,8 +10,8 @@ use crate::declarations::declaration;
 use crate::expressions::{declarator, specifiers};
 use crate::rows::has_extern;
 use crate::statements::block;
-use mc_forms::{Outside, Region, Standing, first_of};
 use mc_tree::{Item, Unit};
+use subset_forms::{Outside, Region, Standing, first_of};
 
 /// Accepts a tree without a node outside, and else gives the first one in preorder: a node comes
 /// before its parts, and parts come in the order of the text. Takes no memory.

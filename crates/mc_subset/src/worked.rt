@@ -4,7 +4,7 @@
 ghost use Rattle.std.specs.Prelude.{◌≡◌, [], ◌∷◌, None, codes};
 ghost use Rattle.mc_tree.specs.declared.declarations.specifier_word.SpecifierWord.TheVariants as word;
 ghost use Rattle.mc_tree.specs.Tree as tree;
-ghost use Rattle.mc_forms.specs.declared.form.Form.TheVariants as form;
+ghost use Rattle.subset_forms.specs.declared.form.Form.TheVariants as form;
 ghost use Rattle.mc_subset.specs.Samples.{a, alone, assigned, case_at, declared, enumeration_cast, for_of, function_at, in_function, int_at, name, null, object_at, of_statement, of_unit, outside, span, structure, structure_of_const, switch_of, with_commas, word_at};
 
 /// `int *a;` has a pointer, whose place is that of the declarator.

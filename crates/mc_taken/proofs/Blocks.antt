@@ -4,10 +4,10 @@ use Rattle.std.proofs.lemmas.Bool.{eq-eqb, ne_eqb}
 use Rattle.mc_span.specs.declared.span.Span.{Span}
 use Rattle.mc_tree.specs.Tree.{Specifier, Specifiers, Declarator, InitDeclarator, Declaration, Statement, BlockItems, name_of, span_of_statement}
 use Rattle.mc_tree.specs.Tree as tree
-use Rattle.mc_shape.specs.declared.counted.Counted.{Counted}
-use Rattle.mc_shape.specs.declared.spot.Spot.TheVariants as spot
-use Rattle.mc_shape.specs.Walks.{Walk, must_take}
-use Rattle.mc_shape.specs.Statements.{is_static, has_static, is_initialized, initializes, is_counted_local, span_of_declaration, take_local, enter_local, is_default, default_among, has_default, lacks_default, is_counted, counted_first, starts_at, enter_counted, enter_braces, take_default, leave_counted, leave_braces, walk_statement, walk_block}
+use Rattle.reread_probes.specs.declared.counted.Counted.{Counted}
+use Rattle.reread_probes.specs.declared.spot.Spot.TheVariants as spot
+use Rattle.reread_probes.specs.Walks.{Walk, must_take}
+use Rattle.reread_probes.specs.Statements.{is_static, has_static, is_initialized, initializes, is_counted_local, span_of_declaration, take_local, enter_local, is_default, default_among, has_default, lacks_default, is_counted, counted_first, starts_at, enter_counted, enter_braces, take_default, leave_counted, leave_braces, walk_statement, walk_block}
 use Rattle.mc_weave.specs.Brackets.{Brackets}
 use Rattle.mc_weave.specs.Trees.{braced_by, bracketed, bracketed_specifier, bracketed_specifiers, bracketed_declarator, bracketed_init_declarator, bracketed_init_declarators, bracketed_declaration, bracketed_optional, bracketed_start, bracketed_statement, bracketed_block}
 use Rattle.mc_inserted.specs.Rows.{Row}

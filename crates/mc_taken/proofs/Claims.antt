@@ -2,10 +2,10 @@
 -- each expression, and that a declaration without a row is not taken for another one.
 use Rattle.std.proofs.Common.{◌≡◌, ℕ, ◌+◌, Bool, true, false, List, [], ◌∷◌, Option, length}
 use Rattle.mc_span.specs.declared.span.Span.{Span}
-use Rattle.mc_strip.specs.declared.piece.What.{What}
-use Rattle.mc_strip.specs.declared.piece.What.TheVariants as what
+use Rattle.reread_pieces.specs.declared.piece.What.{What}
+use Rattle.reread_pieces.specs.declared.piece.What.TheVariants as what
 use Rattle.mc_tree.specs.Tree.{Expression, Expressions, Initializer, Initializers, InitDeclarator, Declaration, ForStart, Statement, BlockItems, Item, span_of}
-use Rattle.mc_shape.specs.Statements.{span_of_declaration}
+use Rattle.reread_probes.specs.Statements.{span_of_declaration}
 use Rattle.mc_weave.specs.Brackets.{Brackets}
 use Rattle.mc_inserted.specs.Rows.{Row}
 use Rattle.mc_inserted.specs.Signs.{is_same}

@@ -9,14 +9,14 @@ use Rattle.mc_typed.specs.declared.probes.Probe.{Probe}
 use Rattle.mc_typed.specs.declared.probes.Probe.TheVariants as probe
 use Rattle.mc_typed.specs.Tree.{Place, FunctionCall, Arguments, Argument, StructureValue, Effect, span_of_place, span_of_call, span_of}
 use Rattle.mc_typed.specs.Tree as typed
-use Rattle.mc_strip.specs.declared.piece.What.TheVariants as what
-use Rattle.mc_roots.specs.declared.role.Role.TheVariants.{Controlling, Plain}
-use Rattle.mc_roots.specs.Nodes.{Node, full_operator}
-use Rattle.mc_roots.specs.Nodes as nodes
-use Rattle.mc_roots.specs.Roots.{is_root}
-use Rattle.mc_roots.specs.Conditions.{width, is_operator}
-use Rattle.mc_roots.specs.Counts.{roots}
-use Rattle.mc_shape.specs.Expressions.{bare}
+use Rattle.reread_pieces.specs.declared.piece.What.TheVariants as what
+use Rattle.decide_rules.specs.declared.role.Role.TheVariants.{Controlling, Plain}
+use Rattle.decide_rules.specs.Nodes.{Node, full_operator}
+use Rattle.decide_rules.specs.Nodes as nodes
+use Rattle.decide_rules.specs.Roots.{is_root}
+use Rattle.decide_rules.specs.Conditions.{width, is_operator}
+use Rattle.decide_rules.specs.Counts.{roots}
+use Rattle.reread_probes.specs.Expressions.{bare}
 use Rattle.mc_probe.specs.Tree as probed
 use Rattle.mc_probe.specs.Erase.{erase_place, erase_call}
 use Rattle.mc_probe.specs.Maps.{Map}

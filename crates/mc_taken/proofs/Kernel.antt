@@ -4,9 +4,9 @@ use Rattle.std.proofs.lemmas.Bool.{eq-eqb, ne_eqb}
 use Rattle.mc_span.specs.declared.span.Span.{Span}
 use Rattle.mc_tree.specs.Tree.{Expression, TypeName, span_of}
 use Rattle.mc_tree.specs.Tree as tree
-use Rattle.mc_shape.specs.declared.spot.Spot.TheVariants as spot
-use Rattle.mc_shape.specs.Walks.{Walk, must_take, refused_if}
-use Rattle.mc_shape.specs.Expressions.{is_cond, bare, enter_operand, enter_parentheses, enter_cast, walk_expression}
+use Rattle.reread_probes.specs.declared.spot.Spot.TheVariants as spot
+use Rattle.reread_probes.specs.Walks.{Walk, must_take, refused_if}
+use Rattle.reread_probes.specs.Expressions.{is_cond, bare, enter_operand, enter_parentheses, enter_cast, walk_expression}
 use Rattle.mc_grammar.specs.Extent.{span_of_type_name}
 use Rattle.mc_weave.specs.Brackets.{Brackets}
 use Rattle.mc_weave.specs.Trees.{around_by, bracketed, bracketed_expressions, bracketed_type_name}

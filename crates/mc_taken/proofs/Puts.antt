@@ -9,10 +9,10 @@ use Rattle.mc_tree.specs.declared.expressions.assignment_operator.AssignmentOper
 use Rattle.mc_tree.specs.Tree.{Name, Expression, Expressions, TypeName, Specifiers, Declarator, Initializer, Initializers, InitDeclarator, Declaration, ForStart, Statement, BlockItems, Item, name_of, span_of, span_of_statement}
 use Rattle.mc_tree.specs.Tree as tree
 use Rattle.mc_typed.specs.declared.probes.Probe.{Probe}
-use Rattle.mc_strip.specs.declared.piece.What.{What}
-use Rattle.mc_strip.specs.declared.piece.What.TheVariants as what
-use Rattle.mc_shape.specs.Probes.{is_probe}
-use Rattle.mc_shape.specs.Statements.{is_counted_local, span_of_declaration, lacks_default}
+use Rattle.reread_pieces.specs.declared.piece.What.{What}
+use Rattle.reread_pieces.specs.declared.piece.What.TheVariants as what
+use Rattle.reread_probes.specs.Probes.{is_probe}
+use Rattle.reread_probes.specs.Statements.{is_counted_local, span_of_declaration, lacks_default}
 use Rattle.mc_inserted.specs.Rows.{Row, row, row_of_probe}
 
 -- ---- expressions

@@ -5,7 +5,7 @@ use Rattle.mc_typed.specs.declared.probes.Probe.{Probe}
 use Rattle.mc_typed.specs.declared.probes.Probe.TheVariants as probe
 use Rattle.mc_tree.specs.Tree.{Expression, Expressions, Initializer, Initializers, InitDeclarator, Declaration, ForStart, Statement, BlockItems, Item, span_of}
 use Rattle.mc_tree.specs.Tree as tree
-use Rattle.mc_shape.specs.Statements.{span_of_declaration}
+use Rattle.reread_probes.specs.Statements.{span_of_declaration}
 use Rattle.mc_inserted.specs.Rows.{Row, row, row_of_probe}
 use Rattle.mc_apart.specs.Distinct.{Each, IsDistinct}
 use Rattle.mc_taken.specs.Locals.{local_starts, local_starts_in_block, local_starts_in_unit}

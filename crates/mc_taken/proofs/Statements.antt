@@ -11,18 +11,18 @@ use Rattle.mc_typed.specs.declared.probes.Probe.TheVariants as probe
 use Rattle.mc_typed.specs.Tree.{Place, FunctionCall, Arguments, Argument, StructureValue, Effect, Declarator, Statements, Function}
 use Rattle.mc_typed.specs.Tree as typed
 use Rattle.mc_typed.specs.Sound.{labels_of}
-use Rattle.mc_strip.specs.declared.piece.What.TheVariants as what
-use Rattle.mc_roots.specs.declared.role.Role.TheVariants.{Controlling, Plain}
-use Rattle.mc_roots.specs.Nodes.{Node}
-use Rattle.mc_roots.specs.Nodes as nodes
-use Rattle.mc_roots.specs.Roots.{is_root}
-use Rattle.mc_roots.specs.Conditions.{is_operator}
-use Rattle.mc_roots.specs.Counts.{roots, roots_in}
+use Rattle.reread_pieces.specs.declared.piece.What.TheVariants as what
+use Rattle.decide_rules.specs.declared.role.Role.TheVariants.{Controlling, Plain}
+use Rattle.decide_rules.specs.Nodes.{Node}
+use Rattle.decide_rules.specs.Nodes as nodes
+use Rattle.decide_rules.specs.Roots.{is_root}
+use Rattle.decide_rules.specs.Conditions.{is_operator}
+use Rattle.decide_rules.specs.Counts.{roots, roots_in}
 use Rattle.mc_steps.specs.Points.{Points, ◌⊕◌, points_of_all, points_of_function, all_complete}
 use Rattle.mc_steps.specs.Points as points
 use Rattle.mc_steps.specs.Statements.{has_label}
-use Rattle.mc_shape.specs.Statements.{has_static, initializes, is_counted_local, is_default, default_among, has_default, lacks_default}
-use Rattle.mc_shape.specs.Statements as shape
+use Rattle.reread_probes.specs.Statements.{has_static, initializes, is_counted_local, is_default, default_among, has_default, lacks_default}
+use Rattle.reread_probes.specs.Statements as shape
 use Rattle.mc_probe.specs.Bare.{bare_place, bare_expression, bare_structure, bare_call, bare_argument, bare_arguments}
 use Rattle.mc_probe.specs.Tree as probed
 use Rattle.mc_probe.specs.Maps.{Map, entry_bit, exit_bit, statement_bit, label_bit}

@@ -3,13 +3,13 @@ use Rattle.std.proofs.Common.{◌≡◌, ℕ, zero, suc, Bool, true, false, ◌&
 use Rattle.mc_span.specs.declared.span.Span.{Span}
 use Rattle.mc_typed.specs.declared.probes.Probe.{Probe as Inserted}
 use Rattle.mc_typed.specs.declared.probes.Probe.TheVariants as probe
-use Rattle.mc_strip.specs.declared.piece.What.TheVariants as what
-use Rattle.mc_strip.specs.declared.placed.Placed.{Placed}
-use Rattle.mc_shape.specs.declared.probe.Probe.{Probe}
-use Rattle.mc_shape.specs.declared.spot.Spot.{Spot}
-use Rattle.mc_shape.specs.declared.spot.Spot.TheVariants as spot
-use Rattle.mc_shape.specs.Probes.{is_probe}
-use Rattle.mc_shape.specs.Walks.{Walk, is_row, is_there, stands, after_first, passed, placed_at, taken, refused, may_take, must_take}
+use Rattle.reread_pieces.specs.declared.piece.What.TheVariants as what
+use Rattle.reread_pieces.specs.declared.placed.Placed.{Placed}
+use Rattle.reread_probes.specs.declared.probe.Probe.{Probe}
+use Rattle.reread_probes.specs.declared.spot.Spot.{Spot}
+use Rattle.reread_probes.specs.declared.spot.Spot.TheVariants as spot
+use Rattle.reread_probes.specs.Probes.{is_probe}
+use Rattle.reread_probes.specs.Walks.{Walk, is_row, is_there, stands, after_first, passed, placed_at, taken, refused, may_take, must_take}
 use Rattle.mc_weave.specs.Brackets.{Brackets}
 use Rattle.mc_inserted.specs.Rows.{Row, row, row_of_probe}
 use Rattle.mc_inserted.specs.Signs.{encloses, is_counted}

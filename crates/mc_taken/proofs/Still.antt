@@ -3,9 +3,9 @@ use Rattle.std.proofs.Common.{◌≡◌, List, [], ◌∷◌, refl, ap, ◌∙�
 use Rattle.mc_span.specs.declared.span.Span.{Span}
 use Rattle.mc_tree.specs.Tree.{Expression, Expressions, TypeName, Specifier, Specifiers, StructMember, Members, Enumerator, Enumerators, Declarator, Declarators, ArrayLengths, Parameters, Parameter, ParameterList, Initializer, Initializers, InitDeclarator, Declaration}
 use Rattle.mc_tree.specs.Tree as tree
-use Rattle.mc_shape.specs.Walks.{Walk}
-use Rattle.mc_shape.specs.Expressions.{walk_expression, walk_expressions, walk_type, walk_specifier, walk_specifiers, walk_member, walk_members, walk_enumerator, walk_enumerators, walk_declarator, walk_declarators, walk_lengths, walk_parameters, walk_parameter, walk_parameter_list}
-use Rattle.mc_shape.specs.Statements.{walk_initializer, walk_initializers, walk_init_declarator, walk_init_declarators, walk_declaration}
+use Rattle.reread_probes.specs.Walks.{Walk}
+use Rattle.reread_probes.specs.Expressions.{walk_expression, walk_expressions, walk_type, walk_specifier, walk_specifiers, walk_member, walk_members, walk_enumerator, walk_enumerators, walk_declarator, walk_declarators, walk_lengths, walk_parameters, walk_parameter, walk_parameter_list}
+use Rattle.reread_probes.specs.Statements.{walk_initializer, walk_initializers, walk_init_declarator, walk_init_declarators, walk_declaration}
 use Rattle.mc_weave.specs.Brackets.{Brackets}
 use Rattle.mc_weave.specs.Trees.{bracketed, bracketed_expressions, bracketed_type_name, bracketed_specifier, bracketed_specifiers, bracketed_member, bracketed_members, bracketed_enumerator, bracketed_enumerators, bracketed_declarator, bracketed_declarators, bracketed_lengths, bracketed_parameters, bracketed_parameter, bracketed_parameter_list, bracketed_initializer, bracketed_initializers, bracketed_init_declarator, bracketed_init_declarators, bracketed_declaration}
 use Rattle.mc_apart.specs.Distinct.{Each}

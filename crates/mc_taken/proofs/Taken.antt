@@ -1,9 +1,9 @@
 -- Probes that stand where the rows of the table do are all placed.
 use Rattle.std.proofs.Common.{◌≡◌, Bool, List, [], ◌∷◌, ◌++◌, map, Some, refl, sym, ap, ap₂, subst, ◌∙◌}
 use Rattle.mc_tree.specs.Tree.{Item}
-use Rattle.mc_shape.specs.declared.probe.Probe.{Probe}
-use Rattle.mc_shape.specs.Walks.{Walk, start, answer_of, answer}
-use Rattle.mc_shape.specs.Statements.{walk_items}
+use Rattle.reread_probes.specs.declared.probe.Probe.{Probe}
+use Rattle.reread_probes.specs.Walks.{Walk, start, answer_of, answer}
+use Rattle.reread_probes.specs.Statements.{walk_items}
 use Rattle.mc_steps.specs.Points.{no_points}
 use Rattle.mc_weave.specs.Brackets.{Brackets}
 use Rattle.mc_weave.specs.Trees.{bracketed_unit}

@@ -3,9 +3,9 @@ use Rattle.std.proofs.Common.{◌≡◌, List, [], ◌∷◌, Option, length, sy
 use Rattle.mc_span.specs.declared.span.Span.{Span}
 use Rattle.mc_tree.specs.Tree.{Expression, Expressions, Initializer, Initializers, InitDeclarator, Declaration, span_of}
 use Rattle.mc_tree.specs.Tree as tree
-use Rattle.mc_shape.specs.Walks.{Walk}
-use Rattle.mc_shape.specs.Expressions.{walk_expression, walk_expressions, walk_type}
-use Rattle.mc_shape.specs.Statements.{walk_initializer, walk_initializers, walk_init_declarators, walk_declaration, walk_optional, walk_start}
+use Rattle.reread_probes.specs.Walks.{Walk}
+use Rattle.reread_probes.specs.Expressions.{walk_expression, walk_expressions, walk_type}
+use Rattle.reread_probes.specs.Statements.{walk_initializer, walk_initializers, walk_init_declarators, walk_declaration, walk_optional, walk_start}
 use Rattle.mc_weave.specs.Brackets.{Brackets}
 use Rattle.mc_weave.specs.Trees.{bracketed, bracketed_expressions, bracketed_type_name, bracketed_initializer, bracketed_initializers, bracketed_init_declarators, bracketed_declaration, bracketed_optional, bracketed_start}
 use Rattle.mc_inserted.specs.Rows.{Row}

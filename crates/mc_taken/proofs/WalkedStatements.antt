@@ -4,14 +4,14 @@ use Rattle.std.proofs.lemmas.Bool.{eqb-true, ne_eqb}
 use Rattle.mc_span.specs.declared.span.Span.{Span}
 use Rattle.mc_tree.specs.Tree.{Statement, BlockItems, Item, name_of, span_of_statement}
 use Rattle.mc_tree.specs.Tree as tree
-use Rattle.mc_strip.specs.declared.piece.What.{What}
-use Rattle.mc_strip.specs.declared.piece.What.TheVariants as what
-use Rattle.mc_shape.specs.declared.probe.Probe.{Probe}
-use Rattle.mc_shape.specs.declared.spot.Spot.{Spot}
-use Rattle.mc_shape.specs.declared.spot.Spot.TheVariants as spot
-use Rattle.mc_shape.specs.Walks.{Walk, is_row, stands, passed, passed_if, may_take, must_take}
-use Rattle.mc_shape.specs.Expressions.{walk_expression, walk_specifiers, walk_declarator}
-use Rattle.mc_shape.specs.Statements.{walk_declaration, walk_optional, walk_start, is_counted_local, span_of_declaration, take_local, lacks_default, take_default, take_label, leave_value, walk_statement, walk_block, enter_body, leave_body, walk_items}
+use Rattle.reread_pieces.specs.declared.piece.What.{What}
+use Rattle.reread_pieces.specs.declared.piece.What.TheVariants as what
+use Rattle.reread_probes.specs.declared.probe.Probe.{Probe}
+use Rattle.reread_probes.specs.declared.spot.Spot.{Spot}
+use Rattle.reread_probes.specs.declared.spot.Spot.TheVariants as spot
+use Rattle.reread_probes.specs.Walks.{Walk, is_row, stands, passed, passed_if, may_take, must_take}
+use Rattle.reread_probes.specs.Expressions.{walk_expression, walk_specifiers, walk_declarator}
+use Rattle.reread_probes.specs.Statements.{walk_declaration, walk_optional, walk_start, is_counted_local, span_of_declaration, take_local, lacks_default, take_default, take_label, leave_value, walk_statement, walk_block, enter_body, leave_body, walk_items}
 use Rattle.mc_weave.specs.Brackets.{Brackets}
 use Rattle.mc_weave.specs.Trees.{bracketed, bracketed_specifiers, bracketed_declarator, bracketed_declaration, bracketed_optional, bracketed_start, bracketed_statement, bracketed_block, bracketed_unit}
 use Rattle.mc_inserted.specs.Rows.{Row, row}

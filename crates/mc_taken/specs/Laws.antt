@@ -6,11 +6,11 @@ use Rattle.mc_tree.specs.Tree.{Item}
 use Rattle.mc_grammar.specs.Items.{IsTree}
 use Rattle.mc_alike.specs.Moves.{FollowFrom}
 use Rattle.mc_typed.specs.Tree.{Program}
-use Rattle.mc_typing.specs.Typing.{typing_of}
-use Rattle.mc_strip.specs.declared.placed.Placed.{Placed}
-use Rattle.mc_shape.specs.declared.probe.Probe.{Probe}
-use Rattle.mc_shape.specs.Walks.{start, answer}
-use Rattle.mc_shape.specs.Statements.{walk_items}
+use Rattle.types_rules.specs.Typing.{typing_of}
+use Rattle.reread_pieces.specs.declared.placed.Placed.{Placed}
+use Rattle.reread_probes.specs.declared.probe.Probe.{Probe}
+use Rattle.reread_probes.specs.Walks.{start, answer}
+use Rattle.reread_probes.specs.Statements.{walk_items}
 use Rattle.mc_weave.specs.Trees.{bracketed_unit}
 use Rattle.mc_probe.specs.Maps.{Map}
 use Rattle.mc_probe.specs.Table.{instrumented}

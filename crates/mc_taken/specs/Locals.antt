@@ -2,7 +2,7 @@
 use Rattle.std.specs.Prelude.{ℕ, List, [], ◌∷◌}
 use Rattle.mc_tree.specs.Tree.{Statement, BlockItems, Item}
 use Rattle.mc_tree.specs.Tree as tree
-use Rattle.mc_shape.specs.Statements.{span_of_declaration}
+use Rattle.reread_probes.specs.Statements.{span_of_declaration}
 
 -- the first bytes in a part of a tree, before those of what follows
 abbrev pub Starts : Type 0

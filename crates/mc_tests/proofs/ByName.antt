@@ -5,7 +5,7 @@ use Rattle.std.specs.Str.{bytes_eq}
 use Rattle.mc_typed.specs.declared.functions.Function.{Function}
 use Rattle.mc_typed.specs.Tree as t
 use Rattle.mc_typed.specs.Views.{function_of}
-use Rattle.mc_names.specs.Tables.{Named, last_of, later_or}
+use Rattle.name_table.specs.Tables.{Named, last_of, later_or}
 use Rattle.mc_tests.specs.Lines.{function_named}
 
 -- the last of some elements, and those before it

@@ -4,7 +4,7 @@ use Rattle.std.proofs.lemmas.List.{length_push, map_push}
 use Rattle.mc_typed.specs.declared.plans.Call as code_call
 use Rattle.mc_typed.specs.Plans.{Call, Plan, expected_outputs, outputs_of, plan_call_of}
 use Rattle.mc_tests.specs.Lines.{Line}
-use Rattle.mc_fields.specs.Seen.{seen_output}
+use Rattle.plan_fields.specs.Seen.{seen_output}
 use Rattle.mc_tests.specs.Tests.{is_small, test_of}
 use Rattle.mc_tests.specs.steps.Adding.{extended}
 

@@ -4,7 +4,7 @@ use Rattle.std.specs.List.{list_all}
 use Rattle.std.specs.Str.{bytes_eq}
 use Rattle.std.proofs.lemmas.Bool.{cases_Bool, false≢true}
 use Rattle.std.proofs.lemmas.Bool.Decides.{nat_tests}
-use Rattle.mc_rows.specs.Rows.{Fields}
+use Rattle.csv_records.specs.Rows.{Fields}
 use Rattle.mc_value.specs.declared.int_type.IntType.{IntType}
 use Rattle.mc_value.specs.declared.int_type.IntType.TheVariants.{Int}
 use Rattle.mc_value.specs.IntTypes.{InRange, in_range, least_of, greatest_of}
@@ -14,11 +14,11 @@ use Rattle.mc_typed.specs.Tree as t
 use Rattle.mc_typed.specs.Plans.{AreInts, AreOutputs, AreValues, Call, CallFits, CallsFit, Fits, IsExpected, Plan, expected_outputs, outputs_of}
 use Rattle.mc_tests.specs.declared.fault.TestFault.{TestFault}
 use Rattle.mc_tests.specs.declared.fault.TestFault.TheVariants as fault
-use Rattle.mc_fields.specs.Fields.{Numbers, all_four, arguments_field, call_field, expected_output, expected_value, expect_field, inputs_field, is_header, is_readable, numbers_in, output_field, test_field}
-use Rattle.mc_rows.specs.Names.{is_name}
-use Rattle.mc_rows.specs.Numbers.{number_of}
-use Rattle.mc_fields.specs.Numbers.{all_numbers, and_number, if_int, int_of, numbers_of, pieces_of}
-use Rattle.mc_fields.specs.Calls.{are_values, gives_structure, integer_types, is_callable, may_expect, takes_integers}
+use Rattle.plan_fields.specs.Fields.{Numbers, all_four, arguments_field, call_field, expected_output, expected_value, expect_field, inputs_field, is_header, is_readable, numbers_in, output_field, test_field}
+use Rattle.csv_records.specs.Names.{is_name}
+use Rattle.csv_records.specs.Numbers.{number_of}
+use Rattle.plan_fields.specs.Numbers.{all_numbers, and_number, if_int, int_of, numbers_of, pieces_of}
+use Rattle.plan_fields.specs.Calls.{are_values, gives_structure, integer_types, is_callable, may_expect, takes_integers}
 use Rattle.mc_tests.specs.Lines.{Line, called, function_named, line_of, numbered}
 use Rattle.mc_tests.specs.Tests.{are_distinct, before_test, before_tests, is_small, keeps_limits, names_of, test_of, tests_of, tests_fault}
 use Rattle.mc_tests.specs.File.{AllFit, AreNamed, after_line, records_from, rows_file, unless_fault}

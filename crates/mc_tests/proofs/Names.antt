@@ -14,7 +14,7 @@ use Rattle.std.specs.Str.{bytes_eq}
 use Rattle.std.proofs.lemmas.Bool.{cases_Bool, false≢true}
 use Rattle.std.proofs.lemmas.Map.Text.{is_eq-slice_cmp}
 use Rattle.std.proofs.lemmas.Slice.Eq.{bytes_eq-Decides}
-use Rattle.mc_names.specs.Latest.{hash_of}
+use Rattle.name_table.specs.Latest.{hash_of}
 use Rattle.mc_tests.specs.Seen.{Names, has_name, name_cmp}
 
 -- ---- the order: numbers first, and then bytes

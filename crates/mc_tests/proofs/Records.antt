@@ -4,7 +4,7 @@ use Rattle.std.specs.List.{list_all}
 use Rattle.std.specs.Str.{bytes_eq}
 use Rattle.std.proofs.lemmas.Bool.{cases_Bool}
 use Rattle.std.proofs.lemmas.Bool.Decides.{nat_tests}
-use Rattle.mc_rows.specs.Rows.{Fields}
+use Rattle.csv_records.specs.Rows.{Fields}
 use Rattle.mc_typed.specs.Plans.{Plan, expected_outputs}
 use Rattle.mc_typed.specs.Tree.{Function}
 use Rattle.mc_tests.specs.declared.fault.TestFault.{TestFault}

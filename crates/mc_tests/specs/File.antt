@@ -1,13 +1,13 @@
 -- The plans that a tests file stands for, or its first fault.
 use Rattle.std.specs.Prelude.{◌≡◌, true, ℕ, ◌+◌, List, [], ◌∷◌, ◌++◌, Option, Some, None, Result, Ok, Err, if◌then◌else◌}
 use Rattle.std.specs.List.{list_all}
-use Rattle.mc_rows.specs.Rows.{Fields, rows_of}
+use Rattle.csv_records.specs.Rows.{Fields, rows_of}
 use Rattle.mc_typed.specs.Tree.{Function, Program}
 use Rattle.mc_typed.specs.Plans.{Fits, Plan}
 use Rattle.mc_tests.specs.declared.fault.TestFault.{TestFault}
 use Rattle.mc_tests.specs.declared.fault.TestFault.TheVariants as fault
-use Rattle.mc_rows.specs.Names.{is_name}
-use Rattle.mc_fields.specs.Fields.{is_header}
+use Rattle.csv_records.specs.Names.{is_name}
+use Rattle.plan_fields.specs.Fields.{is_header}
 use Rattle.mc_tests.specs.Lines.{Line, line_of}
 use Rattle.mc_tests.specs.Tests.{are_distinct, names_of, tests_of, tests_fault}
 

@@ -2,11 +2,11 @@
 -- which answers.
 use Rattle.std.specs.Prelude.{ℕ, ◌+◌, not, ◌&&◌, List, [], ◌∷◌, length, Option, Some, None, Result, Ok, Err, if◌then◌else◌, ◌==◌, ℤ}
 use Rattle.std.specs.Str.{bytes_eq}
-use Rattle.mc_rows.specs.Rows.{Fields}
+use Rattle.csv_records.specs.Rows.{Fields}
 use Rattle.mc_typed.specs.Tree.{Function}
 use Rattle.mc_typed.specs.Plans.{Call}
-use Rattle.mc_fields.specs.Calls.{are_values, integer_types, is_callable, may_expect}
-use Rattle.mc_fields.specs.Fields.{Numbers, call_field, is_readable, numbers_in, test_field}
+use Rattle.plan_fields.specs.Calls.{are_values, integer_types, is_callable, may_expect}
+use Rattle.plan_fields.specs.Fields.{Numbers, call_field, is_readable, numbers_in, test_field}
 use Rattle.mc_tests.specs.declared.fault.TestFault.{TestFault}
 use Rattle.mc_tests.specs.declared.fault.TestFault.TheVariants as fault
 

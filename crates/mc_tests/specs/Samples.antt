@@ -1,7 +1,7 @@
 -- Functions and records for worked examples.
 use Rattle.std.specs.Prelude.{ℕ, List, [], ◌∷◌, codes}
 use Rattle.mc_value.specs.declared.int_type.IntType.TheVariants.{Bool, Int}
-use Rattle.mc_rows.specs.Rows.{Fields}
+use Rattle.csv_records.specs.Rows.{Fields}
 use Rattle.mc_typed.specs.Layout.{Scalar}
 use Rattle.mc_typed.specs.Tree.{Function, Object, ParameterType, ResultType}
 use Rattle.mc_typed.specs.Tree as typed

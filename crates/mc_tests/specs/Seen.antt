@@ -7,8 +7,8 @@ use Rattle.std.specs.BTreeSet.{BTreeSet, contains_by}
 use Rattle.std.specs.Cmp.Lexicographic.{slice_cmp}
 use Rattle.std.specs.Ordering.{nat_cmp, ordering_then}
 use Rattle.std.specs.declared.cmp.Ordering.{Ordering}
-use Rattle.mc_names.specs.Tables.{Named, last_of}
-use Rattle.mc_names.specs.Latest.{hash_of}
+use Rattle.name_table.specs.Tables.{Named, last_of}
+use Rattle.name_table.specs.Latest.{hash_of}
 use Rattle.mc_typed.specs.Plans.{Plan, expected_outputs, plan_call_of, plan_of}
 use Rattle.mc_typed.specs.declared.plans.TestPlan.{TestPlan}
 use Rattle.mc_typed.specs.Tree.{Function}

@@ -2,7 +2,7 @@
 ghost use Rattle.std.specs.Prelude.{◌≡◌, ◌≤◌, ◌&&◌, ℕ, IfOk, length, nat_le};
 ghost use Rattle.mc_limits.specs.Limits.{most_calls, most_expected, most_inputs};
 ghost use Rattle.mc_typed.specs.Plans.{outputs_of, plan_of};
-ghost use Rattle.mc_fields.specs.Seen.{seen_output};
+ghost use Rattle.plan_fields.specs.Seen.{seen_output};
 ghost use Rattle.mc_tests.specs.Seen.{IsCounted, seen_draft, seen_line};
 ghost use Rattle.mc_tests.specs.Tests.{is_small, test_of};
 ghost use Rattle.mc_tests.specs.steps.Adding.{extended};

@@ -3,8 +3,8 @@ ghost use Rattle.std.specs.Prelude.{◌<◌, ◌^◌, IfOk, length, map};
 ghost use Rattle.mc_typed.specs.Views.{function_of};
 ghost use Rattle.mc_tests.specs.Seen.{AreNumbers};
 
-use mc_names::Table;
 use mc_typed::Function;
+use name_table::Table;
 use std::alloc::{AllocError, Global};
 
 /// The number of each function by its name; of functions with one name it is that of the first. In

@@ -2,18 +2,18 @@
 ghost use Rattle.std.specs.Prelude.{◌≡◌, ◌≢◌, ◌<◌, Ok, Err, Some, IfOk, IfErr, length, map, option_map};
 ghost use Rattle.mc_typed.specs.Views.{function_of};
 ghost use Rattle.mc_tests.specs.Lines.{called, function_named, line_of};
-ghost use Rattle.mc_fields.specs.Seen.{seen_numbers};
-ghost use Rattle.mc_names.specs.Tables.{last_of};
+ghost use Rattle.plan_fields.specs.Seen.{seen_numbers};
+ghost use Rattle.name_table.specs.Tables.{last_of};
 ghost use Rattle.mc_tests.specs.Seen.{AreNumbers, seen_line};
 ghost use Rattle.mc_tests.specs.declared.fault.TestFault.TheVariants.{OutOfMemory};
 
 use crate::fault::TestFault;
-use mc_fields::{
+use csv_records::Row;
+use mc_typed::{Call, Function};
+use name_table::Table;
+use plan_fields::{
     Numbers, are_values, has_six_fields, is_callable, is_readable, may_expect, read_all_numbers,
 };
-use mc_names::Table;
-use mc_rows::Row;
-use mc_typed::{Call, Function};
 use std::alloc::Global;
 
 /// One call of the test with that name, and the inputs that its record adds to those of the test.

@@ -10,9 +10,9 @@ use crate::fault::TestFault;
 use crate::functions::numbers_by_name;
 use crate::line::read_line;
 use crate::tests::{add, no_tests, to_plans};
-use mc_fields::is_header;
-use mc_rows::Rows;
+use csv_records::Rows;
 use mc_typed::{Function, Program, TestPlan};
+use plan_fields::is_header;
 use std::alloc::Global;
 
 // The plans of the records that are left, the first of which is record 2.

@@ -11,8 +11,8 @@ use crate::draft::{Draft, extend, fits_alone, has_room, start, to_plan};
 use crate::fault::TestFault;
 use crate::line::Line;
 use mc_limits::MOST_TESTS;
-use mc_names::hash;
 use mc_typed::TestPlan;
+use name_table::hash;
 use std::alloc::{AllocError, Global};
 use std::collections::BTreeSet;
 

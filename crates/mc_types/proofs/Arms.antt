@@ -11,21 +11,21 @@ use Rattle.mc_tree.specs.Views.{expression_of, expressions_from}
 use Rattle.mc_tree.specs.Tree.{span_of}
 use Rattle.mc_tree.specs.Tree as t
 use Rattle.mc_typed.specs.Tree.{Argument, Arguments}
-use Rattle.mc_faults.specs.declared.fault.Fault.{Fault}
-use Rattle.mc_typing.specs.Profile.{most_summed, sum_of}
-use Rattle.mc_typing.specs.Types.{CType, ParameterKind}
-use Rattle.mc_typing.specs.Scopes.{Meaning, Scope, meaning_of}
-use Rattle.mc_typing.specs.Values.{Judged, Found, lift2}
-use Rattle.mc_typing.specs.Calls.{Given, judged_given, argument_judged, first_of, rest_of, arguments_judged, parameters_of, argument_count, call_found, comma_found}
-use Rattle.mc_typing.specs.Expressions.{operator_after, operator_before, index_found, member_found, step_found, unary_found, cast_found, binary_found, conditional_found, assignment_found}
-use Rattle.mc_typing.specs.Judgement.{judge, judge_arguments, judge_specifiers, typed_by}
-use Rattle.mc_faults.specs.Kept.{listed, least}
-use Rattle.mc_typing.proofs.Sums.{start_most, sum_first}
-use Rattle.mc_scopes.specs.steps.Squeezed.{squeezed, squeezed_part}
-use Rattle.mc_expressions.specs.steps.Gathered.{squeezed_given, before, gathered, with_last, extended}
-use Rattle.mc_expressions.proofs.Nodes.{index_node, member_node, step_node, unary_node, cast_node, binary_node, conditional_node, assignment_node, argument_node, call_node, comma_node}
-use Rattle.mc_scopes.proofs.Squeezed.{least_back, least_least}
-use Rattle.mc_expressions.proofs.Gathered.{gathered_step}
+use Rattle.types_faults.specs.declared.fault.Fault.{Fault}
+use Rattle.types_rules.specs.Profile.{most_summed, sum_of}
+use Rattle.types_rules.specs.Types.{CType, ParameterKind}
+use Rattle.types_rules.specs.Scopes.{Meaning, Scope, meaning_of}
+use Rattle.types_rules.specs.Values.{Judged, Found, lift2}
+use Rattle.types_rules.specs.Calls.{Given, judged_given, argument_judged, first_of, rest_of, arguments_judged, parameters_of, argument_count, call_found, comma_found}
+use Rattle.types_rules.specs.Expressions.{operator_after, operator_before, index_found, member_found, step_found, unary_found, cast_found, binary_found, conditional_found, assignment_found}
+use Rattle.types_rules.specs.Judgement.{judge, judge_arguments, judge_specifiers, typed_by}
+use Rattle.types_faults.specs.Kept.{listed, least}
+use Rattle.types_rules.proofs.Sums.{start_most, sum_first}
+use Rattle.types_scopes.specs.steps.Squeezed.{squeezed, squeezed_part}
+use Rattle.types_expressions.specs.steps.Gathered.{squeezed_given, before, gathered, with_last, extended}
+use Rattle.types_expressions.proofs.Nodes.{index_node, member_node, step_node, unary_node, cast_node, binary_node, conditional_node, assignment_node, argument_node, call_node, comma_node}
+use Rattle.types_scopes.proofs.Squeezed.{least_back, least_least}
+use Rattle.types_expressions.proofs.Gathered.{gathered_step}
 use Rattle.mc_types.proofs.Turns.{turn}
 
 -- ---- any node

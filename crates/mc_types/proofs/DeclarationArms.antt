@@ -4,21 +4,21 @@ use Rattle.std.proofs.Common.{◌≡◌, ◌∙◌, ℕ, Bool, true, false, List
 use Rattle.mc_span.specs.declared.span.Span.{Span}
 use Rattle.mc_tree.specs.Tree as t
 use Rattle.mc_typed.specs.Tree.{Declarator, Initializer}
-use Rattle.mc_faults.specs.declared.fault.Fault.{Fault}
-use Rattle.mc_faults.specs.Faults.{unless_faulty}
-use Rattle.mc_typing.specs.Types.{CType, ParameterKind}
-use Rattle.mc_typing.specs.Scopes.{Scope}
-use Rattle.mc_typing.specs.Values.{Judged}
-use Rattle.mc_typing.specs.Declarators.{Listed, declared_type}
-use Rattle.mc_typing.specs.Judgement.{after, judge_lengths, judge_specifiers, typed_by}
-use Rattle.mc_typing.specs.Initializers.{judge_initializer}
-use Rattle.mc_typing.specs.Declarations.{Storage, TypedefStorage, StaticStorage, AutomaticStorage, automatic_judged, count_listed, empty_faults, function_judged, is_tag_alone, judge_declaration, judge_init, judge_init_declarators, judge_optional_initializer, object_judged, static_judged, storage_of, typedef_judged}
-use Rattle.mc_declarations.specs.Declarations.{squeezed_listed}
-use Rattle.mc_declarations.specs.Halves.{Begun, Local, StaticBegun, automatic_begun, automatic_ended, declared_ended, function_begun, optional_judged, squeezed_begun, squeezed_local, squeezed_static, static_begun, static_ended, typedef_begun}
-use Rattle.mc_faults.specs.Kept.{listed, least}
-use Rattle.mc_scopes.specs.steps.Squeezed.{squeezed_part}
-use Rattle.mc_scopes.proofs.Squeezed.{least_front, least_back, least_least, unless_least}
-use Rattle.mc_declarations.proofs.Halves.{automatic_begun_node, automatic_ended_node, automatic_halves, declared_ended_node, function_begun_node, function_halves, static_begun_node, static_ended_node, static_halves, typedef_begun_node, typedef_halves}
+use Rattle.types_faults.specs.declared.fault.Fault.{Fault}
+use Rattle.types_faults.specs.Faults.{unless_faulty}
+use Rattle.types_rules.specs.Types.{CType, ParameterKind}
+use Rattle.types_rules.specs.Scopes.{Scope}
+use Rattle.types_rules.specs.Values.{Judged}
+use Rattle.types_rules.specs.Declarators.{Listed, declared_type}
+use Rattle.types_rules.specs.Judgement.{after, judge_lengths, judge_specifiers, typed_by}
+use Rattle.types_rules.specs.Initializers.{judge_initializer}
+use Rattle.types_rules.specs.Declarations.{Storage, TypedefStorage, StaticStorage, AutomaticStorage, automatic_judged, count_listed, empty_faults, function_judged, is_tag_alone, judge_declaration, judge_init, judge_init_declarators, judge_optional_initializer, object_judged, static_judged, storage_of, typedef_judged}
+use Rattle.types_declarations.specs.Declarations.{squeezed_listed}
+use Rattle.types_declarations.specs.Halves.{Begun, Local, StaticBegun, automatic_begun, automatic_ended, declared_ended, function_begun, optional_judged, squeezed_begun, squeezed_local, squeezed_static, static_begun, static_ended, typedef_begun}
+use Rattle.types_faults.specs.Kept.{listed, least}
+use Rattle.types_scopes.specs.steps.Squeezed.{squeezed_part}
+use Rattle.types_scopes.proofs.Squeezed.{least_front, least_back, least_least, unless_least}
+use Rattle.types_declarations.proofs.Halves.{automatic_begun_node, automatic_ended_node, automatic_halves, declared_ended_node, function_begun_node, function_halves, static_begun_node, static_ended_node, static_halves, typedef_begun_node, typedef_halves}
 
 pub in_optional : (static : Bool) (u : Option CType) (i : t.Initializer) (s : Scope)
     (x : Judged Initializer)

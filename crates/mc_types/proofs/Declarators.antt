@@ -5,18 +5,18 @@ use Rattle.std.proofs.lemmas.Result.{IfOk-weaker}
 use Rattle.mc_span.specs.declared.span.Span.{Span}
 use Rattle.mc_tree.specs.Tree.{span_of}
 use Rattle.mc_tree.specs.Tree as t
-use Rattle.mc_faults.specs.declared.fault.Fault.{Fault}
-use Rattle.mc_typing.specs.Types.{CType, Member, ParameterKind}
-use Rattle.mc_typing.specs.Scopes.{Scope, prototype, with_objects_of}
-use Rattle.mc_typing.specs.Values.{Judged, Found}
-use Rattle.mc_typing.specs.Declarators.{Listed, Opened, opened, structure_judged, enumeration_faults, enumeration_scope, enumeration_judged, valued_enumerator_judged, member_listed, function_member_listed, name_start, parameter_listed}
-use Rattle.mc_typing.specs.Judgement.{judge, judge_specifier, judge_specifiers, judge_members, judge_enumerator, judge_enumerators, judge_declarator, judge_lengths, judge_parameter, judge_parameter_list, judge_parameters, typed_by, uncalled}
-use Rattle.mc_scopes.specs.Prototypes.{AroundPrototype, around_prototype, counted, cut_to, prototype_left_by}
-use Rattle.mc_declarations.specs.declared.parameters.Parameters.{Parameters}
-use Rattle.mc_declarations.specs.Declarations.{listed_parameters, squeezed_listed}
-use Rattle.mc_scopes.specs.steps.Squeezed.{squeezed, squeezed_part}
-use Rattle.mc_declarations.proofs.DeclarationNodes.{typed_node, structure_node, enumeration_node, valued_enumerator_node, member_node, function_member_node, parameter_node}
-use Rattle.mc_declarations.proofs.Growth.{prototype_left, uncalled_cut}
+use Rattle.types_faults.specs.declared.fault.Fault.{Fault}
+use Rattle.types_rules.specs.Types.{CType, Member, ParameterKind}
+use Rattle.types_rules.specs.Scopes.{Scope, prototype, with_objects_of}
+use Rattle.types_rules.specs.Values.{Judged, Found}
+use Rattle.types_rules.specs.Declarators.{Listed, Opened, opened, structure_judged, enumeration_faults, enumeration_scope, enumeration_judged, valued_enumerator_judged, member_listed, function_member_listed, name_start, parameter_listed}
+use Rattle.types_rules.specs.Judgement.{judge, judge_specifier, judge_specifiers, judge_members, judge_enumerator, judge_enumerators, judge_declarator, judge_lengths, judge_parameter, judge_parameter_list, judge_parameters, typed_by, uncalled}
+use Rattle.types_scopes.specs.Prototypes.{AroundPrototype, around_prototype, counted, cut_to, prototype_left_by}
+use Rattle.types_declarations.specs.declared.parameters.Parameters.{Parameters}
+use Rattle.types_declarations.specs.Declarations.{listed_parameters, squeezed_listed}
+use Rattle.types_scopes.specs.steps.Squeezed.{squeezed, squeezed_part}
+use Rattle.types_declarations.proofs.DeclarationNodes.{typed_node, structure_node, enumeration_node, valued_enumerator_node, member_node, function_member_node, parameter_node}
+use Rattle.types_declarations.proofs.Growth.{prototype_left, uncalled_cut}
 use Rattle.mc_types.proofs.Arms.{one_arm}
 
 pub in_typed : (at : ℕ) (alone : Bool) (all : t.Specifiers) (s : Scope) (x : Judged CType)

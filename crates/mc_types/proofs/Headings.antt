@@ -3,12 +3,12 @@ use Rattle.std.proofs.Common.{◌≡◌, ◌∙◌, ℕ, Option, ap, subst}
 use Rattle.mc_tree.specs.Tree as t
 use Rattle.mc_typed.specs.Tree as typed
 use Rattle.mc_typed.specs.Views.{start_of}
-use Rattle.mc_typing.specs.Scopes.{Scope}
-use Rattle.mc_typing.specs.Values.{Judged}
-use Rattle.mc_typing.specs.Bodies.{judge_optional_part, judge_start, judge_test}
-use Rattle.mc_scopes.specs.Found.{judged_of}
-use Rattle.mc_scopes.specs.Statements.{effects_of, test_of}
-use Rattle.mc_scopes.specs.steps.Squeezed.{squeezed_part}
+use Rattle.types_rules.specs.Scopes.{Scope}
+use Rattle.types_rules.specs.Values.{Judged}
+use Rattle.types_rules.specs.Bodies.{judge_optional_part, judge_start, judge_test}
+use Rattle.types_scopes.specs.Found.{judged_of}
+use Rattle.types_scopes.specs.Statements.{effects_of, test_of}
+use Rattle.types_scopes.specs.steps.Squeezed.{squeezed_part}
 use Rattle.mc_types.specs.declared.steps.statements.ForHead.{ForHead}
 use Rattle.mc_types.specs.Headings.{ArePartsOf, after_start, after_test}
 

@@ -7,18 +7,18 @@ use Rattle.mc_tree.specs.declared.declarations.initializer.Initializer as writte
 use Rattle.mc_tree.specs.Units.{initializer_of, initializers_from}
 use Rattle.mc_typed.specs.Tree.{Initializer, Initializers}
 use Rattle.mc_typed.specs.Tree as typed
-use Rattle.mc_faults.specs.declared.fault.Fault.{Fault}
-use Rattle.mc_typing.specs.Types.{CType}
-use Rattle.mc_typing.specs.Scopes.{Scope}
-use Rattle.mc_typing.specs.Values.{Judged, judged, lift2, Found}
-use Rattle.mc_typing.specs.Judgement.{judge}
-use Rattle.mc_typing.specs.Initializers.{Parts, braced_judged, item_count, first_part, is_zero, items_judged, judge_initializer, judge_items, later_parts, list_judged, only_expression, parts_of, single_judged, target_of, zero_judged}
-use Rattle.mc_faults.specs.Kept.{least}
-use Rattle.mc_scopes.specs.steps.Squeezed.{squeezed, squeezed_part}
-use Rattle.mc_scopes.proofs.Squeezed.{least_front}
-use Rattle.mc_statements.specs.Initializers.{parts_from}
-use Rattle.mc_statements.proofs.ItemParts.{later}
-use Rattle.mc_statements.proofs.InitializerNodes.{single_node, list_node, zero_node}
+use Rattle.types_faults.specs.declared.fault.Fault.{Fault}
+use Rattle.types_rules.specs.Types.{CType}
+use Rattle.types_rules.specs.Scopes.{Scope}
+use Rattle.types_rules.specs.Values.{Judged, judged, lift2, Found}
+use Rattle.types_rules.specs.Judgement.{judge}
+use Rattle.types_rules.specs.Initializers.{Parts, braced_judged, item_count, first_part, is_zero, items_judged, judge_initializer, judge_items, later_parts, list_judged, only_expression, parts_of, single_judged, target_of, zero_judged}
+use Rattle.types_faults.specs.Kept.{least}
+use Rattle.types_scopes.specs.steps.Squeezed.{squeezed, squeezed_part}
+use Rattle.types_scopes.proofs.Squeezed.{least_front}
+use Rattle.types_statements.specs.Initializers.{parts_from}
+use Rattle.types_statements.proofs.ItemParts.{later}
+use Rattle.types_statements.proofs.InitializerNodes.{single_node, list_node, zero_node}
 use Rattle.mc_types.proofs.Arms.{one_arm}
 
 pub in_single : (static : Bool) (u : Option CType) (e : t.Expression) (s : Scope) (x : Found)

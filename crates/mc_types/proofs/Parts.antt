@@ -1,27 +1,27 @@
 -- Parts that are gathered from the left: lists of each kind.
 use Rattle.std.proofs.Common.{◌≡◌, ◌∙◌, ℕ, List, [], ◌++◌, Option, Some, None, sym, refl, ap, append_assoc, append-nil}
 use Rattle.mc_typed.specs.Tree.{Initializer, Initializers, Statements, no_initializers, initializers, no_statements, statements}
-use Rattle.mc_faults.specs.declared.fault.Fault.{Fault}
-use Rattle.mc_faults.specs.Faults.{least_of}
-use Rattle.mc_typing.specs.Scopes.{Scope}
-use Rattle.mc_typing.specs.Values.{Judged, judged, judged_two, lift2, Found}
-use Rattle.mc_typing.specs.Declarators.{Listed, after_faults, joined, lengths_judged, listed_none}
-use Rattle.mc_typing.specs.Judgement.{after, one_of, specifiers_judged}
-use Rattle.mc_typing.specs.Initializers.{items_judged}
-use Rattle.mc_typing.specs.Declarations.{append, both_lists}
-use Rattle.mc_typing.specs.Statements.{followed, followed_judged}
-use Rattle.mc_statements.specs.Items.{then_item, item_then, joined_items, items_joined}
-use Rattle.mc_statements.proofs.Folds.{followed_left, both_lists_left, items_left}
-use Rattle.mc_declarations.proofs.DeclarationNodes.{specifiers_step, parameters_step, lengths_step}
-use Rattle.mc_faults.specs.Kept.{listed, least}
-use Rattle.mc_scopes.specs.steps.Squeezed.{squeezed, squeezed_part}
-use Rattle.mc_declarations.specs.Declarations.{length_then, squeezed_listed}
-use Rattle.mc_scopes.proofs.Squeezed.{least_alone, least_front, least_back, least_least, least_listed}
-use Rattle.mc_typing.specs.Types.{CType, ParameterKind}
-use Rattle.mc_scopes.specs.Found.{judged_of}
-use Rattle.mc_scopes.specs.declared.found.Judged as found
-use Rattle.mc_declarations.specs.Declarations.{listed_parameters}
-use Rattle.mc_declarations.specs.declared.parameters.Parameters.{Parameters}
+use Rattle.types_faults.specs.declared.fault.Fault.{Fault}
+use Rattle.types_faults.specs.Faults.{least_of}
+use Rattle.types_rules.specs.Scopes.{Scope}
+use Rattle.types_rules.specs.Values.{Judged, judged, judged_two, lift2, Found}
+use Rattle.types_rules.specs.Declarators.{Listed, after_faults, joined, lengths_judged, listed_none}
+use Rattle.types_rules.specs.Judgement.{after, one_of, specifiers_judged}
+use Rattle.types_rules.specs.Initializers.{items_judged}
+use Rattle.types_rules.specs.Declarations.{append, both_lists}
+use Rattle.types_rules.specs.Statements.{followed, followed_judged}
+use Rattle.types_statements.specs.Items.{then_item, item_then, joined_items, items_joined}
+use Rattle.types_statements.proofs.Folds.{followed_left, both_lists_left, items_left}
+use Rattle.types_declarations.proofs.DeclarationNodes.{specifiers_step, parameters_step, lengths_step}
+use Rattle.types_faults.specs.Kept.{listed, least}
+use Rattle.types_scopes.specs.steps.Squeezed.{squeezed, squeezed_part}
+use Rattle.types_declarations.specs.Declarations.{length_then, squeezed_listed}
+use Rattle.types_scopes.proofs.Squeezed.{least_alone, least_front, least_back, least_least, least_listed}
+use Rattle.types_rules.specs.Types.{CType, ParameterKind}
+use Rattle.types_scopes.specs.Found.{judged_of}
+use Rattle.types_scopes.specs.declared.found.Judged as found
+use Rattle.types_declarations.specs.Declarations.{listed_parameters}
+use Rattle.types_declarations.specs.declared.parameters.Parameters.{Parameters}
 use Rattle.mc_types.proofs.Turns.{turn}
 
 abbrev left : {A : Type 0} → Judged A → Scope

@@ -6,21 +6,21 @@ use Rattle.mc_tree.specs.Tree.{span_of}
 use Rattle.mc_tree.specs.Tree as t
 use Rattle.mc_typed.specs.Tree.{Declarator, Effect, ForStart, Statements}
 use Rattle.mc_typed.specs.Tree as typed
-use Rattle.mc_faults.specs.declared.fault.Fault.{Fault}
-use Rattle.mc_faults.specs.declared.fault.FaultKind.TheVariants.{Mismatch}
-use Rattle.mc_faults.specs.Faults.{fault}
-use Rattle.mc_typing.specs.Scopes.{Scope, block}
-use Rattle.mc_typing.specs.Values.{Judged, judged, Found, lift2}
-use Rattle.mc_typing.specs.Judgement.{judge}
-use Rattle.mc_typing.specs.Declarations.{judge_declaration}
-use Rattle.mc_typing.specs.Statements.{Around, inside, in_loop, in_switch, closed, compound_scope, compound_judged, declaration_judged, declaration_start, default_judged, do_judged, effect_judged, effect_statement_judged, effects_start, case_judged, followed, followed_judged, if_judged, if_else_judged, loop_judged, return_judged, switch_judged, switch_scope, test_judged}
-use Rattle.mc_typing.specs.Bodies.{judge_block, judge_clauses, judge_effect, judge_optional_part, judge_part, judge_start, judge_statement, judge_test, no_start, no_step, span_of_declaration}
-use Rattle.mc_typing.specs.Bodies as bodies
-use Rattle.mc_scopes.specs.Blocks.{around, left_by}
-use Rattle.mc_faults.specs.Kept.{listed, least}
-use Rattle.mc_scopes.specs.steps.Squeezed.{squeezed, squeezed_part}
-use Rattle.mc_scopes.proofs.Squeezed.{least_back, least_least}
-use Rattle.mc_statements.proofs.StatementNodes.{compound_node, declaration_node, declaration_start_node, do_node, effect_node, effect_statement_node, effects_start_node, case_node, followed_node, if_node, if_else_node, loop_node, return_node, switch_node, test_node}
+use Rattle.types_faults.specs.declared.fault.Fault.{Fault}
+use Rattle.types_faults.specs.declared.fault.FaultKind.TheVariants.{Mismatch}
+use Rattle.types_faults.specs.Faults.{fault}
+use Rattle.types_rules.specs.Scopes.{Scope, block}
+use Rattle.types_rules.specs.Values.{Judged, judged, Found, lift2}
+use Rattle.types_rules.specs.Judgement.{judge}
+use Rattle.types_rules.specs.Declarations.{judge_declaration}
+use Rattle.types_rules.specs.Statements.{Around, inside, in_loop, in_switch, closed, compound_scope, compound_judged, declaration_judged, declaration_start, default_judged, do_judged, effect_judged, effect_statement_judged, effects_start, case_judged, followed, followed_judged, if_judged, if_else_judged, loop_judged, return_judged, switch_judged, switch_scope, test_judged}
+use Rattle.types_rules.specs.Bodies.{judge_block, judge_clauses, judge_effect, judge_optional_part, judge_part, judge_start, judge_statement, judge_test, no_start, no_step, span_of_declaration}
+use Rattle.types_rules.specs.Bodies as bodies
+use Rattle.types_scopes.specs.Blocks.{around, left_by}
+use Rattle.types_faults.specs.Kept.{listed, least}
+use Rattle.types_scopes.specs.steps.Squeezed.{squeezed, squeezed_part}
+use Rattle.types_scopes.proofs.Squeezed.{least_back, least_least}
+use Rattle.types_statements.proofs.StatementNodes.{compound_node, declaration_node, declaration_start_node, do_node, effect_node, effect_statement_node, effects_start_node, case_node, followed_node, if_node, if_else_node, loop_node, return_node, switch_node, test_node}
 use Rattle.mc_types.specs.Operands.{operands_in}
 use Rattle.mc_types.proofs.Parts.{two_front}
 use Rattle.mc_types.proofs.Arms.{one_arm, two_arm, three_arm}

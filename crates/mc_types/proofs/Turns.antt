@@ -1,7 +1,7 @@
 -- A turn of a loop over parts, which are gathered from the left.
 use Rattle.std.proofs.Common.{◌≡◌, ◌∙◌, ◌<◌, ◌≤◌, ◌+◌, ℕ, List, [], ◌∷◌, drop, get_or, length, sym, ap}
 use Rattle.std.proofs.lemmas.List.{at_drop_all, at_drop_more}
-use Rattle.mc_typing.specs.Scopes.{Scope}
+use Rattle.types_rules.specs.Scopes.{Scope}
 
 -- Parts so far, one more, and those that are left: `total` is all of them, where the rest stands
 -- behind `cons`. Of each the least fault is kept.

@@ -6,27 +6,27 @@ use Rattle.mc_span.specs.declared.span.Span.{Span}
 use Rattle.mc_tree.specs.Tree as t
 use Rattle.mc_tree.specs.Length.{of_item, token_count}
 use Rattle.mc_typed.specs.Tree.{Function, Statements}
-use Rattle.mc_faults.specs.declared.fault.Fault.{Fault}
-use Rattle.mc_faults.specs.Faults.{least_of}
-use Rattle.mc_typing.specs.Types.{CType, ParameterKind}
-use Rattle.mc_typing.specs.Scopes.{Entry, Scope, prototype}
-use Rattle.mc_typing.specs.Values.{Judged}
-use Rattle.mc_typing.specs.Declarators.{Listed}
-use Rattle.mc_typing.specs.Declarations.{result_of}
-use Rattle.mc_typing.specs.Judgement.{judge_parameters, judge_specifiers, typed_by}
-use Rattle.mc_typing.specs.Statements.{outermost}
-use Rattle.mc_typing.specs.Bodies.{judge_block}
-use Rattle.mc_typing.specs.Typing.{IsFirstFaultOf, IsTypingOf, faults_of, found_of, judge_definition, program_from, with_function}
-use Rattle.mc_faults.proofs.Leasts.{least_is_first, no_least}
-use Rattle.mc_soundness.specs.Laws.{IsAccepted}
-use Rattle.mc_soundness.proofs.Units.{units_typed}
-use Rattle.mc_scopes.specs.Blocks.{Around, around}
-use Rattle.mc_faults.specs.Kept.{listed, least}
-use Rattle.mc_scopes.specs.steps.Squeezed.{squeezed_part}
-use Rattle.mc_declarations.specs.Bodies.{BodyBegun, definition_begun, definition_ended, squeezed_body}
-use Rattle.mc_declarations.specs.Declarations.{squeezed_listed}
-use Rattle.mc_declarations.proofs.BodyHalves.{definition_begun_node, definition_ended_node, definition_halves}
-use Rattle.mc_declarations.proofs.Growth.{names_before}
+use Rattle.types_faults.specs.declared.fault.Fault.{Fault}
+use Rattle.types_faults.specs.Faults.{least_of}
+use Rattle.types_rules.specs.Types.{CType, ParameterKind}
+use Rattle.types_rules.specs.Scopes.{Entry, Scope, prototype}
+use Rattle.types_rules.specs.Values.{Judged}
+use Rattle.types_rules.specs.Declarators.{Listed}
+use Rattle.types_rules.specs.Declarations.{result_of}
+use Rattle.types_rules.specs.Judgement.{judge_parameters, judge_specifiers, typed_by}
+use Rattle.types_rules.specs.Statements.{outermost}
+use Rattle.types_rules.specs.Bodies.{judge_block}
+use Rattle.types_rules.specs.Typing.{IsFirstFaultOf, IsTypingOf, faults_of, found_of, judge_definition, program_from, with_function}
+use Rattle.types_faults.proofs.Leasts.{least_is_first, no_least}
+use Rattle.laws_soundness.specs.Laws.{IsAccepted}
+use Rattle.laws_soundness.proofs.Units.{units_typed}
+use Rattle.types_scopes.specs.Blocks.{Around, around}
+use Rattle.types_faults.specs.Kept.{listed, least}
+use Rattle.types_scopes.specs.steps.Squeezed.{squeezed_part}
+use Rattle.types_declarations.specs.Bodies.{BodyBegun, definition_begun, definition_ended, squeezed_body}
+use Rattle.types_declarations.specs.Declarations.{squeezed_listed}
+use Rattle.types_declarations.proofs.BodyHalves.{definition_begun_node, definition_ended_node, definition_halves}
+use Rattle.types_declarations.proofs.Growth.{names_before}
 
 -- the names of before stay where the parameters are
 pub names_stay : (ps : t.Parameters) (s : Scope) (y : Listed (Option ParameterKind))

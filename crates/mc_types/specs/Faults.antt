@@ -1,10 +1,10 @@
 -- What a fault of names and types is called, and what a refusal of a unit says.
 use Rattle.std.specs.Prelude.{ℕ, List, [], Option, Some, None, option_map, codes}
 use Rattle.mc_tree.specs.Tree.{Item}
-use Rattle.mc_typing.specs.Typing.{IsFirstFaultOf}
-use Rattle.mc_faults.specs.declared.fault.Fault.{Fault}
-use Rattle.mc_faults.specs.declared.fault.FaultKind.{FaultKind}
-use Rattle.mc_faults.specs.declared.fault.FaultKind.TheVariants as kind
+use Rattle.types_rules.specs.Typing.{IsFirstFaultOf}
+use Rattle.types_faults.specs.declared.fault.Fault.{Fault}
+use Rattle.types_faults.specs.declared.fault.FaultKind.{FaultKind}
+use Rattle.types_faults.specs.declared.fault.FaultKind.TheVariants as kind
 use Rattle.mc_types.specs.declared.fault.TypeFault.{TypeFault}
 use Rattle.mc_types.specs.declared.fault.TypeFault.TheVariants as fault
 

@@ -2,11 +2,11 @@
 use Rattle.std.specs.Prelude.{◌≡◌, ℕ, Option}
 use Rattle.mc_tree.specs.Tree as tree
 use Rattle.mc_typed.specs.Views.{start_of}
-use Rattle.mc_typing.specs.Scopes.{Scope}
-use Rattle.mc_typing.specs.Bodies.{judge_optional_part, judge_start, judge_test}
-use Rattle.mc_scopes.specs.Found.{judged_of}
-use Rattle.mc_scopes.specs.Statements.{effects_of, test_of}
-use Rattle.mc_scopes.specs.steps.Squeezed.{squeezed_part}
+use Rattle.types_rules.specs.Scopes.{Scope}
+use Rattle.types_rules.specs.Bodies.{judge_optional_part, judge_start, judge_test}
+use Rattle.types_scopes.specs.Found.{judged_of}
+use Rattle.types_scopes.specs.Statements.{effects_of, test_of}
+use Rattle.types_scopes.specs.steps.Squeezed.{squeezed_part}
 use Rattle.mc_types.specs.declared.steps.statements.ForHead.{ForHead}
 
 abbrev pub after_start : tree.ForStart → Scope → Scope

@@ -5,28 +5,28 @@ use Rattle.std.specs.declared.alloc.Global.{Global}
 use Rattle.mc_tree.specs.Tree as tree
 use Rattle.mc_typed.specs.declared.expressions.Argument.{Argument}
 use Rattle.mc_typed.specs.declared.statements.Statement.{Statement}
-use Rattle.mc_typing.specs.Types as types
-use Rattle.mc_typing.specs.Types.{ParameterKind}
-use Rattle.mc_typing.specs.Scopes.{Scope}
-use Rattle.mc_typing.specs.Values as values
-use Rattle.mc_typing.specs.Calls.{first_of, rest_of}
-use Rattle.mc_typing.specs.Declarators.{Listed, joined}
-use Rattle.mc_typing.specs.Declarations.{both_lists}
-use Rattle.mc_typing.specs.Statements as statements
-use Rattle.mc_typing.specs.Statements.{followed_judged}
-use Rattle.mc_typing.specs.Bodies.{judge_block}
-use Rattle.mc_typing.specs.Judgement.{judge_arguments, judge_lengths, specifiers_judged}
-use Rattle.mc_scopes.specs.declared.found.Given.{Given}
-use Rattle.mc_scopes.specs.declared.found.Judged.{Judged}
-use Rattle.mc_scopes.specs.Found.{judged_of}
-use Rattle.mc_scopes.specs.Given.{given_of, items_of}
-use Rattle.mc_scopes.specs.declared.types.CType.{CType}
-use Rattle.mc_scopes.specs.Types.{type_of}
-use Rattle.mc_declarations.specs.declared.parameters.Parameters.{Parameters}
-use Rattle.mc_declarations.specs.Declarations.{lengths_in, listed_parameters, squeezed_listed}
-use Rattle.mc_scopes.specs.Statements.{statements_of}
-use Rattle.mc_scopes.specs.steps.Squeezed.{squeezed_part}
-use Rattle.mc_expressions.specs.steps.Gathered.{gathered, squeezed_given}
+use Rattle.types_rules.specs.Types as types
+use Rattle.types_rules.specs.Types.{ParameterKind}
+use Rattle.types_rules.specs.Scopes.{Scope}
+use Rattle.types_rules.specs.Values as values
+use Rattle.types_rules.specs.Calls.{first_of, rest_of}
+use Rattle.types_rules.specs.Declarators.{Listed, joined}
+use Rattle.types_rules.specs.Declarations.{both_lists}
+use Rattle.types_rules.specs.Statements as statements
+use Rattle.types_rules.specs.Statements.{followed_judged}
+use Rattle.types_rules.specs.Bodies.{judge_block}
+use Rattle.types_rules.specs.Judgement.{judge_arguments, judge_lengths, specifiers_judged}
+use Rattle.types_scopes.specs.declared.found.Given.{Given}
+use Rattle.types_scopes.specs.declared.found.Judged.{Judged}
+use Rattle.types_scopes.specs.Found.{judged_of}
+use Rattle.types_scopes.specs.Given.{given_of, items_of}
+use Rattle.types_scopes.specs.declared.types.CType.{CType}
+use Rattle.types_scopes.specs.Types.{type_of}
+use Rattle.types_declarations.specs.declared.parameters.Parameters.{Parameters}
+use Rattle.types_declarations.specs.Declarations.{lengths_in, listed_parameters, squeezed_listed}
+use Rattle.types_scopes.specs.Statements.{statements_of}
+use Rattle.types_scopes.specs.steps.Squeezed.{squeezed_part}
+use Rattle.types_expressions.specs.steps.Gathered.{gathered, squeezed_given}
 
 -- an argument for this parameter, after those that are given: x in s becomes y in u
 abbrev pub TakesArgument : Option ParameterKind → tree.Expression → Given (Vec Argument Global)

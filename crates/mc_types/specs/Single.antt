@@ -1,9 +1,9 @@
 -- An initializer without braces, and what the items of a list are for.
 use Rattle.std.specs.Prelude.{◌≡◌, ◌<◌, ℕ, Option, Some, None}
 use Rattle.mc_tree.specs.Tree.{Expression, Initializer, Single, Braced}
-use Rattle.mc_typing.specs.Initializers.{Parts, first_part}
-use Rattle.mc_statements.specs.declared.initializers.parts.PartTypes.{PartTypes}
-use Rattle.mc_statements.specs.Initializers.{part_at, parts_from}
+use Rattle.types_rules.specs.Initializers.{Parts, first_part}
+use Rattle.types_statements.specs.declared.initializers.parts.PartTypes.{PartTypes}
+use Rattle.types_statements.specs.Initializers.{part_at, parts_from}
 
 abbrev pub single_in : Initializer → Option Expression
 single_in (Single e) = Some e

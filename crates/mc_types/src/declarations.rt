@@ -5,26 +5,26 @@ ghost use Rattle.mc_tree.specs.Tree as source_tree;
 ghost use Rattle.mc_tree.specs.Units as units;
 ghost use Rattle.mc_tree.specs.Views.{name_of, declarator_of, parameters_from, parameter_of, specifier_of, specifiers_from};
 ghost use Rattle.mc_typed.specs.Views.{initializer_of};
-ghost use Rattle.mc_typing.specs.Scopes as scopes;
-ghost use Rattle.mc_typing.specs.Declarators as declarators;
-ghost use Rattle.mc_typing.specs.Declarations as declarations;
-ghost use Rattle.mc_scopes.specs.Types.{type_of};
-ghost use Rattle.mc_scopes.specs.Views.{scope_of};
-ghost use Rattle.mc_scopes.specs.Found.{judged_of};
-ghost use Rattle.mc_declarations.specs.Declarations.{listed_parameters, optional_of, squeezed_listed, storage_from, written};
-ghost use Rattle.mc_scopes.specs.Statements.{declarators_of};
-ghost use Rattle.mc_faults.specs.Kept.{listed};
-ghost use Rattle.mc_scopes.specs.steps.Squeezed.{squeezed_part};
+ghost use Rattle.types_rules.specs.Scopes as scopes;
+ghost use Rattle.types_rules.specs.Declarators as declarators;
+ghost use Rattle.types_rules.specs.Declarations as declarations;
+ghost use Rattle.types_scopes.specs.Types.{type_of};
+ghost use Rattle.types_scopes.specs.Views.{scope_of};
+ghost use Rattle.types_scopes.specs.Found.{judged_of};
+ghost use Rattle.types_declarations.specs.Declarations.{listed_parameters, optional_of, squeezed_listed, storage_from, written};
+ghost use Rattle.types_scopes.specs.Statements.{declarators_of};
+ghost use Rattle.types_faults.specs.Kept.{listed};
+ghost use Rattle.types_scopes.specs.steps.Squeezed.{squeezed_part};
 
 use crate::expressions::{lengths, prototype, typed};
 use crate::initializers::initializer;
-use mc_declarations::{Parameters, Storage};
-use mc_faults::Fault;
-use mc_scopes::found::Judged;
-use mc_scopes::{CType, Scope};
 use mc_tree::{ArrayLength, Declaration, Declarator, Identifier, InitDeclarator, Initializer};
 use mc_typed as typed_tree;
 use std::alloc::{AllocError, Global};
+use types_declarations::{Parameters, Storage};
+use types_faults::Fault;
+use types_scopes::found::Judged;
+use types_scopes::{CType, Scope};
 
 /// An initializer, where there is one.
 fn optional_initializer<'a>(
@@ -41,10 +41,10 @@ fn optional_initializer<'a>(
 {
     match tree {
         Some(tree) => match initializer(alloc, scope, is_static, of, tree) {
-            Ok(found) => Ok(mc_declarations::optional_initializer(found)),
+            Ok(found) => Ok(types_declarations::optional_initializer(found)),
             Err(error) => Err(error),
         },
-        None => Ok(mc_declarations::no_initializer()),
+        None => Ok(types_declarations::no_initializer()),
     }
 }
 
@@ -67,11 +67,11 @@ fn local<'a>(
         (option_map type_of base.now) (option_map type_of of.now)
         (option_map units.initializer_of (option_copied value.entry)) (scope_of scope.old))) }
 {
-    let count = mc_declarations::count_listed(value);
-    let begun = mc_declarations::begin_local(alloc, scope, fault, name, all, count, base, of)?;
-    let fit = mc_declarations::type_to_fit(begun.own, of);
+    let count = types_declarations::count_listed(value);
+    let begun = types_declarations::begin_local(alloc, scope, fault, name, all, count, base, of)?;
+    let fit = types_declarations::type_to_fit(begun.own, of);
     match optional_initializer(alloc, scope, false, fit, value) {
-        Ok(value) => mc_declarations::end_local(alloc, scope, name, begun, value),
+        Ok(value) => types_declarations::end_local(alloc, scope, name, begun, value),
         Err(error) => Err(error),
     }
 }
@@ -94,11 +94,11 @@ fn stored<'a>(
         (option_map type_of base.now) (option_map type_of of.now)
         (option_map units.initializer_of (option_copied value.entry)) (scope_of scope.old))) }
 {
-    let count = mc_declarations::count_listed(value);
-    let begun = mc_declarations::begin_static(scope, fault, name, all, count, base, of)?;
-    let fit = mc_declarations::type_to_fit(begun.own, of);
+    let count = types_declarations::count_listed(value);
+    let begun = types_declarations::begin_static(scope, fault, name, all, count, base, of)?;
+    let fit = types_declarations::type_to_fit(begun.own, of);
     match optional_initializer(alloc, scope, true, fit, value) {
-        Ok(value) => mc_declarations::end_static(alloc, scope, name, of, begun, value),
+        Ok(value) => types_declarations::end_static(alloc, scope, name, of, begun, value),
         Err(error) => Err(error),
     }
 }
@@ -121,9 +121,9 @@ fn typedef<'a>(
         (option_map type_of base.now) (option_map type_of of.now)
         (option_map units.initializer_of (option_copied value.entry)) (scope_of scope.old))) }
 {
-    let begun = mc_declarations::begin_typedef(scope, fault, name, all, value, of)?;
+    let begun = types_declarations::begin_typedef(scope, fault, name, all, value, of)?;
     match optional_initializer(alloc, scope, true, None, value) {
-        Ok(value) => Ok(mc_declarations::end_declared(alloc, begun, value)),
+        Ok(value) => Ok(types_declarations::end_declared(alloc, begun, value)),
         Err(error) => Err(error),
     }
 }
@@ -146,8 +146,8 @@ fn object<'a>(
         (option_map units.initializer_of (option_copied value.entry)) (scope_of scope.old))) }
 {
     let given = lengths(alloc, scope, all)?;
-    let count = mc_declarations::count_listed(value);
-    let of = mc_declarations::declared_type(alloc, all, &given.value, count, base)?;
+    let count = types_declarations::count_listed(value);
+    let of = types_declarations::declared_type(alloc, all, &given.value, count, base)?;
     match storage {
         Storage::Typedef => typedef(alloc, scope, given.fault, name, all, base, &of, value),
         Storage::Static => stored(alloc, scope, given.fault, name, all, base, &of, value),
@@ -171,11 +171,11 @@ fn function<'a>(
         (option_map type_of base.now) (listed_parameters parameters.now u)
         (option_map units.initializer_of (option_copied value.entry)) (scope_of scope.old))) }
 {
-    let begun = mc_declarations::begin_function(
+    let begun = types_declarations::begin_function(
         alloc, scope, storage, name, base, parameters, value,
     )?;
     match optional_initializer(alloc, scope, true, None, value) {
-        Ok(value) => Ok(mc_declarations::end_declared(alloc, begun, value)),
+        Ok(value) => Ok(types_declarations::end_declared(alloc, begun, value)),
         Err(error) => Err(error),
     }
 }
@@ -202,7 +202,7 @@ fn declarator<'a>(
             ..
         } => object(alloc, scope, storage, base, name, all, value),
         Declarator::EmptyFunction { name, .. } | Declarator::VoidFunction { name, .. } => {
-            let none = mc_declarations::no_parameters(alloc);
+            let none = types_declarations::no_parameters(alloc);
             function(alloc, scope, storage, base, name, &none, value)
         }
         Declarator::Function {
@@ -250,10 +250,10 @@ fn init_declarators<'a>(
         (option_map type_of base.now) (map units.init_declarator_of trees.now)
         (scope_of scope.old))) }
 {
-    let mut list = mc_statements::no_declarators(alloc);
+    let mut list = types_statements::no_declarators(alloc);
     for tree in trees {
         let one = init_declarator(alloc, scope, storage, base, tree)?;
-        list = mc_statements::more_declarators(list, one)?;
+        list = types_statements::more_declarators(list, one)?;
     }
     Ok(list)
 }
@@ -269,10 +269,10 @@ pub(crate) fn declaration<'a>(
         (scope_of scope.old))) }
 {
     let all = &tree.specifiers;
-    let alone = mc_declarations::is_tag_alone(all, &tree.declarators);
-    let storage = mc_declarations::storage_of(all, scope.is_file);
+    let alone = types_declarations::is_tag_alone(all, &tree.declarators);
+    let storage = types_declarations::storage_of(all, scope.is_file);
     let of = typed(alloc, scope, tree.span.start, alone, all)?;
-    let empty = mc_declarations::empty_fault(all, &tree.declarators, tree.span.start);
+    let empty = types_declarations::empty_fault(all, &tree.declarators, tree.span.start);
     let list = init_declarators(alloc, scope, storage, &of.value, &tree.declarators)?;
-    Ok(mc_declarations::declaration(of.fault, empty, list))
+    Ok(types_declarations::declaration(of.fault, empty, list))
 }

@@ -6,31 +6,31 @@
 ghost use Rattle.std.specs.Prelude.{◌≡◌, ℕ, IfOk, Some, false, pos, map, option_map};
 ghost use Rattle.mc_tree.specs.Views.{name_of, expression_of, expressions_from, specifier_of, specifiers_from, member_of, members_from, enumerator_of, enumerators_from, declarator_of, declarators_from, array_length_of, lengths_from, parameter_of, parameters_from};
 ghost use Rattle.mc_tree.specs.Tree as source_tree;
-ghost use Rattle.mc_typing.specs.Scopes as scopes;
-ghost use Rattle.mc_typing.specs.Judgement as judgement;
-ghost use Rattle.mc_scopes.specs.Types.{type_of, kind_of};
-ghost use Rattle.mc_scopes.specs.Listed.{listed_of};
-ghost use Rattle.mc_scopes.specs.Views.{scope_of};
-ghost use Rattle.mc_scopes.specs.Found.{found_of, judged_of};
-ghost use Rattle.mc_scopes.specs.Given.{arguments_of, given_of};
-ghost use Rattle.mc_declarations.specs.Declarations.{lengths_in, listed_members, listed_parameters, number_judged, squeezed_listed};
-ghost use Rattle.mc_scopes.specs.steps.Squeezed.{squeezed, squeezed_part};
-ghost use Rattle.mc_expressions.specs.steps.Gathered.{squeezed_given};
+ghost use Rattle.types_rules.specs.Scopes as scopes;
+ghost use Rattle.types_rules.specs.Judgement as judgement;
+ghost use Rattle.types_scopes.specs.Types.{type_of, kind_of};
+ghost use Rattle.types_scopes.specs.Listed.{listed_of};
+ghost use Rattle.types_scopes.specs.Views.{scope_of};
+ghost use Rattle.types_scopes.specs.Found.{found_of, judged_of};
+ghost use Rattle.types_scopes.specs.Given.{arguments_of, given_of};
+ghost use Rattle.types_declarations.specs.Declarations.{lengths_in, listed_members, listed_parameters, number_judged, squeezed_listed};
+ghost use Rattle.types_scopes.specs.steps.Squeezed.{squeezed, squeezed_part};
+ghost use Rattle.types_expressions.specs.steps.Gathered.{squeezed_given};
 ghost use Rattle.mc_types.specs.Loops.{TakesLength};
 
 use crate::leaves::{callee, character, named};
 use crate::steps::{declarators as declared, expressions as steps};
 use crate::unused;
-use mc_declarations::Parameters;
-use mc_faults::Fault;
-use mc_scopes::found::{Found, Given, Judged};
-use mc_scopes::{CType, Members, ParameterKind, Scope};
 use mc_tree::{
     ArrayLength, BinaryOperator, Declarator, Enumerator, Expression, Identifier, Member, Parameter,
     Specifier,
 };
 use mc_typed::{Argument, Span};
 use std::alloc::{AllocError, Global};
+use types_declarations::Parameters;
+use types_faults::Fault;
+use types_scopes::found::{Found, Given, Judged};
+use types_scopes::{CType, Members, ParameterKind, Scope};
 
 /// An expression (C17 6.5). Names, constants, parentheses and operators with two operands, which
 /// most nodes are, are told apart first: a function clears all its values as it begins, and the one
@@ -52,7 +52,7 @@ pub(crate) fn expression<'a>(
             unsigned,
             longs,
             span,
-        } => Ok(mc_expressions::constant(*value, *decimal, *unsigned, *longs, *span)),
+        } => Ok(types_expressions::constant(*value, *decimal, *unsigned, *longs, *span)),
         Expression::Parenthesized { inner, .. } => expression(alloc, scope, inner),
         Expression::Binary {
             operator,
@@ -96,7 +96,7 @@ fn any_expression<'a>(
             unsigned,
             longs,
             span,
-        } => Ok(mc_expressions::constant(*value, *decimal, *unsigned, *longs, *span)),
+        } => Ok(types_expressions::constant(*value, *decimal, *unsigned, *longs, *span)),
         Expression::Character { value, span } => Ok(character(value, *span)),
         Expression::Parenthesized { inner, .. } => expression(alloc, scope, inner),
         Expression::Call {
@@ -297,7 +297,7 @@ fn arguments<'a>(
         ≡ squeezed_given (judgement.judge_arguments (expressions_from (map expression_of trees.now))
         (map kind_of parameters.now) (scope_of scope.old))) }
 {
-    let mut given = mc_expressions::none_given(alloc);
+    let mut given = types_expressions::none_given(alloc);
     let mut left = parameters;
     for tree in trees {
         let found = expression(alloc, scope, tree);
@@ -305,13 +305,13 @@ fn arguments<'a>(
             alloc,
             scope,
             given,
-            mc_expressions::first_of(left),
+            types_expressions::first_of(left),
             tree,
             found,
         )?;
-        left = mc_expressions::rest_of(left);
+        left = types_expressions::rest_of(left);
     }
-    Ok(mc_expressions::given_for(given, left))
+    Ok(types_expressions::given_for(given, left))
 }
 
 /// The type of specifiers that stand at `at` (C17 6.7, 6.7.7).
@@ -329,7 +329,7 @@ pub(crate) fn typed<'a>(
         (judgement.judge_specifiers alone all (scope_of scope.old)))) }
 {
     let found = specifiers(alloc, scope, alone, trees)?;
-    Ok(mc_declarations::typed_by(alloc, at, trees, found))
+    Ok(types_declarations::typed_by(alloc, at, trees, found))
 }
 
 /// The type of the specifiers that are no words (C17 6.7.2).
@@ -345,7 +345,7 @@ fn specifiers<'a>(
         (specifiers_from (map specifier_of trees.now))
         (scope_of scope.old))) }
 {
-    let mut found = mc_declarations::no_specifier();
+    let mut found = types_declarations::no_specifier();
     for tree in trees {
         let one = specifier(alloc, scope, alone, tree);
         found = declared::specifiers(found, one)?;
@@ -366,32 +366,32 @@ fn specifier<'a>(
         (scope_of scope.old))) }
 {
     match tree {
-        Specifier::Word { .. } => Ok(mc_declarations::no_specifier()),
-        Specifier::TypedefName { name } => mc_declarations::typedef_name(scope, name),
+        Specifier::Word { .. } => Ok(types_declarations::no_specifier()),
+        Specifier::TypedefName { name } => types_declarations::typedef_name(scope, name),
         Specifier::StructureTag { tag, span } => {
-            mc_declarations::structure_tag(alloc, scope, alone, tag, *span)
+            types_declarations::structure_tag(alloc, scope, alone, tag, *span)
         }
         Specifier::Structure {
             tag,
             members: list,
             ..
         } => {
-            let opened = mc_declarations::open_structure(scope, tag)?;
+            let opened = types_declarations::open_structure(scope, tag)?;
             let mut parts = Members::new(alloc);
             let fault = members(alloc, scope, list, &mut parts);
             declared::structure(alloc, scope, opened, fault, parts)
         }
         Specifier::EnumerationTag { tag, span } => {
-            Ok(mc_declarations::enumeration_tag(alloc, scope, tag, *span))
+            Ok(types_declarations::enumeration_tag(alloc, scope, tag, *span))
         }
         Specifier::Enumeration {
             tag,
             enumerators: list,
             ..
         } => {
-            let own = mc_declarations::enter_enumeration(scope, tag)?;
+            let own = types_declarations::enter_enumeration(scope, tag)?;
             let found = enumerators(alloc, scope, list)?;
-            Ok(mc_declarations::enumeration(alloc, own, found))
+            Ok(types_declarations::enumeration(alloc, own, found))
         }
     }
 }
@@ -412,7 +412,7 @@ fn members<'a>(
     let mut fault = None;
     for tree in trees {
         let one = member(alloc, scope, tree, parts)?;
-        fault = mc_declarations::first_fault(fault, one);
+        fault = types_declarations::first_fault(fault, one);
     }
     Ok(fault)
 }
@@ -451,7 +451,7 @@ fn declarators<'a>(
     let mut fault = None;
     for tree in trees {
         let one = declarator(alloc, scope, base, tree, parts)?;
-        fault = mc_declarations::first_fault(fault, one);
+        fault = types_declarations::first_fault(fault, one);
     }
     Ok(fault)
 }
@@ -476,10 +476,10 @@ fn declarator<'a>(
             ..
         } => {
             let given = lengths(alloc, scope, list)?;
-            mc_declarations::structure_member(alloc, scope, base, name, list, given, parts)
+            types_declarations::structure_member(alloc, scope, base, name, list, given, parts)
         }
         Declarator::EmptyFunction { name, .. } | Declarator::VoidFunction { name, .. } => {
-            let none = mc_declarations::no_parameters(alloc);
+            let none = types_declarations::no_parameters(alloc);
             declared::function_member(alloc, scope, name, Ok(none), parts)
         }
         Declarator::Function {
@@ -530,7 +530,7 @@ fn enumerators<'a>(
     let mut value = Some(0);
     for tree in trees {
         let one = enumerator(alloc, scope, value, tree)?;
-        fault = mc_declarations::first_fault(fault, one.fault);
+        fault = types_declarations::first_fault(fault, one.fault);
         value = one.value;
     }
     Ok(Judged { fault, value })
@@ -549,7 +549,7 @@ fn enumerator<'a>(
         (scope_of scope.old))) }
 {
     match tree {
-        Enumerator::Bare { name } => mc_declarations::enumerator(scope, name, value),
+        Enumerator::Bare { name } => types_declarations::enumerator(scope, name, value),
         Enumerator::Valued { name, value: given } => {
             let found = expression(alloc, scope, given);
             declared::valued_enumerator(scope, name, given, found)
@@ -568,7 +568,7 @@ pub(crate) fn lengths<'a>(
         ≡ squeezed_part (judgement.judge_lengths (lengths_from (map array_length_of trees.now))
         (scope_of scope.old))) }
 {
-    let mut list = mc_declarations::no_lengths(alloc);
+    let mut list = types_declarations::no_lengths(alloc);
     for tree in trees {
         list = more_lengths(alloc, scope, list, tree)?;
     }
@@ -607,7 +607,7 @@ pub(crate) fn parameters<'a>(
         (parameters_from (map parameter_of trees.now))
         (scope_of scope.old))) }
 {
-    let mut list = mc_declarations::no_parameters(alloc);
+    let mut list = types_declarations::no_parameters(alloc);
     for tree in trees {
         let one = parameter(alloc, scope, tree);
         list = declared::parameters(list, one)?;

@@ -1,8 +1,8 @@
 //! Why a unit has no typed program.
 
-use mc_faults::{Fault, FaultKind};
 use std::alloc::AllocError;
 use thiserror::Error;
+use types_faults::{Fault, FaultKind};
 
 /// The first fault of the names and types of a unit, or that memory ran out. `at` is the byte at
 /// which the fault stands.

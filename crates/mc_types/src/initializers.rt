@@ -4,22 +4,22 @@ ghost use Rattle.mc_tree.specs.Tree as source_tree;
 ghost use Rattle.mc_tree.specs.Units as units;
 ghost use Rattle.mc_tree.specs.Views.{expression_of};
 ghost use Rattle.mc_typed.specs.Views.{initializer_of};
-ghost use Rattle.mc_typing.specs.Initializers as initializer_rules;
-ghost use Rattle.mc_scopes.specs.Types.{type_of};
-ghost use Rattle.mc_scopes.specs.Views.{scope_of};
-ghost use Rattle.mc_scopes.specs.Found.{judged_of};
-ghost use Rattle.mc_scopes.specs.steps.Squeezed.{squeezed_part};
-ghost use Rattle.mc_statements.specs.Items.{items_of};
+ghost use Rattle.types_rules.specs.Initializers as initializer_rules;
+ghost use Rattle.types_scopes.specs.Types.{type_of};
+ghost use Rattle.types_scopes.specs.Views.{scope_of};
+ghost use Rattle.types_scopes.specs.Found.{judged_of};
+ghost use Rattle.types_scopes.specs.steps.Squeezed.{squeezed_part};
+ghost use Rattle.types_statements.specs.Items.{items_of};
 ghost use Rattle.mc_types.specs.Single.{AreParts, single_in};
 
 use crate::expressions::expression;
-use mc_scopes::count::count_of;
-use mc_scopes::found::Judged;
-use mc_scopes::{CType, Scope};
-use mc_statements::PartTypes;
 use mc_tree::{Expression, Initializer};
 use mc_typed::{self as typed, Span};
 use std::alloc::{AllocError, Global};
+use types_scopes::count::count_of;
+use types_scopes::found::Judged;
+use types_scopes::{CType, Scope};
+use types_statements::PartTypes;
 
 /// An initializer of an object of this type; `is_static` says that the object has static storage
 /// duration.
@@ -38,7 +38,7 @@ pub(crate) fn initializer<'a>(
 {
     match tree {
         Initializer::Single { value } => match expression(alloc, scope, value) {
-            Ok(found) => mc_statements::single_initializer(
+            Ok(found) => types_statements::single_initializer(
                 alloc,
                 is_static,
                 scope,
@@ -96,10 +96,10 @@ fn only_expression<'a>(
         (source_tree.Single (expression_of tree.now)) source_tree.no_initializers) span)
         (scope_of scope.old))) }
 {
-    let parts = mc_statements::parts(alloc, scope, of, 1)?;
+    let parts = types_statements::parts(alloc, scope, of, 1)?;
     let start = tree.span().start;
     match expression(alloc, scope, tree) {
-        Ok(found) => mc_statements::braced_expression(
+        Ok(found) => types_statements::braced_expression(
             alloc,
             is_static,
             scope,
@@ -132,9 +132,9 @@ fn list<'a>(
         (initializer_rules.parts_of (initializer_rules.target_of (scope_of scope.old).structures
         u)) all (scope_of scope.old)))) }
 {
-    let parts = mc_statements::parts(alloc, scope, of, trees.len())?;
+    let parts = types_statements::parts(alloc, scope, of, trees.len())?;
     let found = items(alloc, scope, is_static, &parts, trees)?;
-    Ok(mc_statements::list_initializer(scope, of, span.start, count_of(trees), found))
+    Ok(types_statements::list_initializer(scope, of, span.start, count_of(trees), found))
 }
 
 /// The items of a list, which are for these parts.
@@ -151,10 +151,10 @@ fn items<'a>(
         ≡ squeezed_part (initializer_rules.judge_items is_static p
         (units.initializers_from (map units.initializer_of trees.now)) (scope_of scope.old))) }
 {
-    let mut list = mc_statements::no_items(alloc);
+    let mut list = types_statements::no_items(alloc);
     for (place, tree) in trees.iter().enumerate() {
         let one = initializer(alloc, scope, is_static, parts.get(place), tree)?;
-        list = mc_statements::more_items(list, one)?;
+        list = types_statements::more_items(list, one)?;
     }
     Ok(list)
 }

@@ -7,15 +7,15 @@ ghost use Rattle.mc_tree.specs.Tree as source_tree;
 ghost use Rattle.mc_tree.specs.Units as units;
 ghost use Rattle.mc_tree.specs.Views.{expression_of, expressions_from};
 ghost use Rattle.mc_typed.specs.Views.{effect_of, start_of};
-ghost use Rattle.mc_typing.specs.Scopes as scopes;
-ghost use Rattle.mc_typing.specs.Judgement as judgement;
-ghost use Rattle.mc_typing.specs.Statements as statement_rules;
-ghost use Rattle.mc_typing.specs.Bodies as bodies;
-ghost use Rattle.mc_scopes.specs.Blocks as blocks;
-ghost use Rattle.mc_scopes.specs.Views.{scope_of};
-ghost use Rattle.mc_scopes.specs.Found.{judged_of};
-ghost use Rattle.mc_scopes.specs.Statements.{around_of, effects_of, statements_of, test_of};
-ghost use Rattle.mc_scopes.specs.steps.Squeezed.{squeezed_part};
+ghost use Rattle.types_rules.specs.Scopes as scopes;
+ghost use Rattle.types_rules.specs.Judgement as judgement;
+ghost use Rattle.types_rules.specs.Statements as statement_rules;
+ghost use Rattle.types_rules.specs.Bodies as bodies;
+ghost use Rattle.types_scopes.specs.Blocks as blocks;
+ghost use Rattle.types_scopes.specs.Views.{scope_of};
+ghost use Rattle.types_scopes.specs.Found.{judged_of};
+ghost use Rattle.types_scopes.specs.Statements.{around_of, effects_of, statements_of, test_of};
+ghost use Rattle.types_scopes.specs.steps.Squeezed.{squeezed_part};
 ghost use Rattle.mc_types.specs.Loops.{TakesItem};
 ghost use Rattle.mc_types.specs.Operands.{operands_in};
 ghost use Rattle.mc_types.specs.Headings.{ArePartsOf};
@@ -24,13 +24,13 @@ use crate::declarations::declaration;
 use crate::expressions::expression;
 use crate::steps::statements as steps;
 use crate::steps::statements::{ForBegun, ForHead};
-use mc_scopes::Scope;
-use mc_scopes::around::Around;
-use mc_scopes::found::Judged;
 use mc_tree::{BlockItem, Expression, ForStart, Statement};
 use mc_typed as typed;
 use mc_typed::{Effect, Span};
 use std::alloc::{AllocError, Global};
+use types_scopes::Scope;
+use types_scopes::around::Around;
+use types_scopes::found::Judged;
 
 /// A statement, as a list of one, or of more where labels stand before it. Those without statements
 /// in them that come most often are told apart first, as names are among expressions.
@@ -46,7 +46,7 @@ pub(crate) fn statement<'a>(
         (scope_of scope.old))) }
 {
     match tree {
-        Statement::Null { span } => mc_statements::null_statement(alloc, *span),
+        Statement::Null { span } => types_statements::null_statement(alloc, *span),
         Statement::Expression { value, span } => expression_statement(alloc, scope, value, *span),
         Statement::Compound { .. }
         | Statement::If { .. }
@@ -80,12 +80,12 @@ fn any_statement<'a>(
 {
     match tree {
         Statement::Compound { items, span } => {
-            let outer = mc_statements::enter_compound(scope, around)?;
+            let outer = types_statements::enter_compound(scope, around)?;
             let found = block(alloc, scope, around.inside(), items);
             scope.leave(outer);
             steps::compound(alloc, *span, found)
         }
-        Statement::Null { span } => mc_statements::null_statement(alloc, *span),
+        Statement::Null { span } => types_statements::null_statement(alloc, *span),
         Statement::Expression { value, span } => expression_statement(alloc, scope, value, *span),
         Statement::If { test, chosen, span } => {
             let test = expression(alloc, scope, test)?;
@@ -106,7 +106,7 @@ fn any_statement<'a>(
         }
         Statement::Switch { value, body, span } => {
             let value = expression(alloc, scope, value)?;
-            let outer = mc_statements::enter_switch(alloc, scope, &value);
+            let outer = types_statements::enter_switch(alloc, scope, &value);
             let found = statement(alloc, scope, around.in_switch(), body);
             scope.leave(outer);
             steps::switch_on(alloc, *span, body, value, found)
@@ -143,19 +143,19 @@ fn any_statement<'a>(
             steps::followed(first, rest)
         }
         Statement::Default { label, body, .. } => {
-            let first = mc_jumps::default_label(alloc, scope, *label)?;
+            let first = types_jumps::default_label(alloc, scope, *label)?;
             let rest = statement(alloc, scope, around.inside(), body);
             steps::followed(first, rest)
         }
         Statement::Label { body, span, .. } => {
             match statement(alloc, scope, around.inside(), body) {
-                Ok(found) => Ok(mc_statements::named_label(*span, found)),
+                Ok(found) => Ok(types_statements::named_label(*span, found)),
                 Err(error) => Err(error),
             }
         }
-        Statement::Goto { span, .. } => Ok(mc_statements::goto_statement(*span)),
-        Statement::Break { span } => mc_jumps::break_statement(alloc, around, *span),
-        Statement::Continue { span } => mc_jumps::continue_statement(alloc, around, *span),
+        Statement::Goto { span, .. } => Ok(types_statements::goto_statement(*span)),
+        Statement::Break { span } => types_jumps::break_statement(alloc, around, *span),
+        Statement::Continue { span } => types_jumps::continue_statement(alloc, around, *span),
         Statement::Return { value, span } => return_statement(alloc, scope, around, value, *span),
     }
 }
@@ -191,7 +191,7 @@ pub(crate) fn block<'a>(
         ≡ squeezed_part (bodies.judge_block (around_of around)
         (units.block_from (map units.block_item_of trees.now)) (scope_of scope.old))) }
 {
-    let mut list = mc_statements::no_statements(alloc);
+    let mut list = types_statements::no_statements(alloc);
     for tree in trees {
         let one = block_item(alloc, scope, around, tree);
         list = steps::with_item(list, one)?;
@@ -212,7 +212,7 @@ fn block_item<'a>(
 {
     match tree {
         BlockItem::Local { declaration: local } => match declaration(alloc, scope, local) {
-            Ok(found) => mc_statements::declaration_statement(alloc, local.span, found),
+            Ok(found) => types_statements::declaration_statement(alloc, local.span, found),
             Err(error) => Err(error),
         },
         BlockItem::Statement { statement: one } => statement(alloc, scope, around, one),
@@ -235,7 +235,7 @@ fn expression_statement<'a>(
         (source_tree.ExpressionStatement (expression_of tree.now) span) (scope_of scope.old))) }
 {
     match effect(alloc, scope, tree) {
-        Ok(found) => mc_statements::effect_statement(alloc, span, found),
+        Ok(found) => types_statements::effect_statement(alloc, span, found),
         Err(error) => Err(error),
     }
 }
@@ -254,7 +254,7 @@ fn case_label<'a>(
         (judgement.judge e (scope_of scope.old)))) }
 {
     match expression(alloc, scope, tree) {
-        Ok(found) => mc_jumps::case_label(alloc, scope, label, tree.span().start, found),
+        Ok(found) => types_jumps::case_label(alloc, scope, label, tree.span().start, found),
         Err(error) => Err(error),
     }
 }
@@ -274,10 +274,10 @@ fn return_statement<'a>(
 {
     match value {
         Some(tree) => match expression(alloc, scope, tree) {
-            Ok(found) => mc_jumps::return_statement(alloc, scope, around.result, span, found),
+            Ok(found) => types_jumps::return_statement(alloc, scope, around.result, span, found),
             Err(error) => Err(error),
         },
-        None => mc_jumps::return_nothing(alloc, around.result, span),
+        None => types_jumps::return_nothing(alloc, around.result, span),
     }
 }
 
@@ -293,7 +293,7 @@ fn effect<'a>(
         ≡ squeezed_part (bodies.judge_effect (expression_of tree.now) (scope_of scope.old))) }
 {
     match expression(alloc, scope, tree) {
-        Ok(found) => Ok(mc_statements::effect(tree, found)),
+        Ok(found) => Ok(types_statements::effect(tree, found)),
         Err(error) => Err(error),
     }
 }
@@ -309,11 +309,11 @@ fn clauses<'a>(
         ≡ squeezed_part (bodies.judge_clauses (expressions_from (map expression_of trees.now))
         (scope_of scope.old))) }
 {
-    let mut list = mc_statements::no_clauses(alloc);
+    let mut list = types_statements::no_clauses(alloc);
     for tree in trees {
         let found = effect(alloc, scope, tree)?;
-        let one = mc_statements::clause(alloc, found)?;
-        list = mc_statements::more_clauses(list, one)?;
+        let one = types_statements::clause(alloc, found)?;
+        list = types_statements::more_clauses(list, one)?;
     }
     Ok(list)
 }
@@ -354,7 +354,7 @@ fn part<'a>(
     match operands(tree) {
         Some(all) => clauses(alloc, scope, all),
         None => match effect(alloc, scope, tree) {
-            Ok(found) => mc_statements::clause(alloc, found),
+            Ok(found) => types_statements::clause(alloc, found),
             Err(error) => Err(error),
         },
     }
@@ -371,7 +371,7 @@ fn optional_part<'a>(
 {
     match tree {
         Some(tree) => part(alloc, scope, tree),
-        None => Ok(mc_statements::no_clauses(alloc)),
+        None => Ok(types_statements::no_clauses(alloc)),
     }
 }
 
@@ -385,11 +385,11 @@ fn for_start<'a>(
 {
     match tree {
         ForStart::Local { declaration: local } => match declaration(alloc, scope, local) {
-            Ok(found) => Ok(mc_statements::declaration_start(found)),
+            Ok(found) => Ok(types_statements::declaration_start(found)),
             Err(error) => Err(error),
         },
         ForStart::Expression { value } => match optional_part(alloc, scope, value) {
-            Ok(found) => Ok(mc_statements::effects_start(found)),
+            Ok(found) => Ok(types_statements::effects_start(found)),
             Err(error) => Err(error),
         },
     }
@@ -407,10 +407,10 @@ fn optional_test<'a>(
 {
     match tree {
         Some(tree) => match expression(alloc, scope, tree) {
-            Ok(found) => Ok(mc_statements::loop_test(at, found)),
+            Ok(found) => Ok(types_statements::loop_test(at, found)),
             Err(error) => Err(error),
         },
-        None => Ok(mc_statements::no_test()),
+        None => Ok(types_statements::no_test()),
     }
 }
 

@@ -5,25 +5,25 @@ ghost use Rattle.mc_tree.specs.Tree as source_tree;
 ghost use Rattle.mc_tree.specs.Units as units;
 ghost use Rattle.mc_tree.specs.Views.{name_of, parameter_of, parameters_from, specifier_of, specifiers_from};
 ghost use Rattle.mc_typed.specs.Views.{program_of};
-ghost use Rattle.mc_soundness.specs.Laws.{IsAccepted};
-ghost use Rattle.mc_typing.specs.Scopes as scopes;
-ghost use Rattle.mc_typing.specs.Typing as typing_rules;
-ghost use Rattle.mc_scopes.specs.Views.{scope_of};
-ghost use Rattle.mc_scopes.specs.Found.{judged_of};
-ghost use Rattle.mc_declarations.specs.Declarations.{functions_of};
-ghost use Rattle.mc_scopes.specs.steps.Squeezed.{squeezed_part};
+ghost use Rattle.laws_soundness.specs.Laws.{IsAccepted};
+ghost use Rattle.types_rules.specs.Scopes as scopes;
+ghost use Rattle.types_rules.specs.Typing as typing_rules;
+ghost use Rattle.types_scopes.specs.Views.{scope_of};
+ghost use Rattle.types_scopes.specs.Found.{judged_of};
+ghost use Rattle.types_declarations.specs.Declarations.{functions_of};
+ghost use Rattle.types_scopes.specs.steps.Squeezed.{squeezed_part};
 ghost use Rattle.mc_types.specs.Faults.{IsRefused};
 
 use crate::declarations::declaration;
 use crate::expressions::{parameters, typed};
 use crate::fault::TypeFault;
 use crate::statements::block;
-use mc_scopes::around::Around;
-use mc_scopes::found::Judged;
-use mc_scopes::{Scope, structure_types};
 use mc_tree::{BlockItem, Declarator, Identifier, Item, Parameter, Specifier, Unit};
 use mc_typed::{Function, Program, Span};
 use std::alloc::{AllocError, Global};
+use types_scopes::around::Around;
+use types_scopes::found::Judged;
+use types_scopes::{Scope, structure_types};
 
 /// A function definition (C17 6.9.1).
 fn definition<'a>(
@@ -41,16 +41,16 @@ fn definition<'a>(
         (units.block_from (map units.block_item_of body.now)) span (scope_of scope.old))) }
 {
     let of = typed(alloc, scope, span.start, false, all)?;
-    let heading = mc_declarations::heading_of(scope, name, &of.value)?;
-    let around = Around::outermost(mc_declarations::result_of(&of.value));
+    let heading = types_declarations::heading_of(scope, name, &of.value)?;
+    let around = Around::outermost(types_declarations::result_of(&of.value));
     let outer = scope.enter_prototype(alloc);
     let found = parameters(alloc, scope, list)?;
-    let unnamed = mc_declarations::names_fault(list);
-    let begun = mc_declarations::begin_definition(
+    let unnamed = types_declarations::names_fault(list);
+    let begun = types_declarations::begin_definition(
         alloc, scope, outer, &heading, name, &of, unnamed, &found,
     )?;
     let statements = block(alloc, scope, around, body)?;
-    mc_declarations::end_definition(alloc, scope, name, span, begun, statements)
+    types_declarations::end_definition(alloc, scope, name, span, begun, statements)
 }
 
 /// A declaration or a function definition.
@@ -65,7 +65,7 @@ fn item<'a>(
     match tree {
         Item::Declared { declaration: one } => {
             let found = declaration(alloc, scope, one)?;
-            Ok(mc_declarations::declared_item(alloc, found))
+            Ok(types_declarations::declared_item(alloc, found))
         }
         Item::Defined {
             specifiers: all,
@@ -73,7 +73,7 @@ fn item<'a>(
             body,
             span,
         } => match declarator {
-            Declarator::Object { .. } => Ok(mc_declarations::wrong_definition(*span)),
+            Declarator::Object { .. } => Ok(types_declarations::wrong_definition(*span)),
             Declarator::EmptyFunction { name, .. } | Declarator::VoidFunction { name, .. } => {
                 definition(alloc, scope, all, name, &[], body, *span)
             }
@@ -95,10 +95,10 @@ fn items<'a>(
     ensures { IfOk result (λ r. judged_of functions_of r (scope_of scope.new)
         ≡ squeezed_part (typing_rules.judge_unit (units.items_of trees.now) (scope_of scope.old))) }
 {
-    let mut list = mc_declarations::no_functions(alloc);
+    let mut list = types_declarations::no_functions(alloc);
     for tree in trees {
         let one = item(alloc, scope, tree)?;
-        list = mc_declarations::more_functions(list, one)?;
+        list = types_declarations::more_functions(list, one)?;
     }
     Ok(list)
 }
@@ -166,7 +166,7 @@ pub fn type_unit<'a>(alloc: Global, unit: &Unit<'a>) -> Result<Program<'a>, Type
         typing_rules.IsTypingOf (units.items_of unit.now.items.items) (program_of p)) }
     ensures refused { IfErr result (IsRefused (units.items_of unit.now.items.items)) }
 {
-    let bodies = mc_declarations::bodies_of(alloc, &unit.items)?;
+    let bodies = types_declarations::bodies_of(alloc, &unit.items)?;
     let mut scope = Scope::of_file(alloc, bodies);
     let typed = program_in(alloc, &mut scope, unit);
     drop(scope);

@@ -1,7 +1,7 @@
 //! What is found of a part and not used, since another part ran out of memory. To let such a value
 //! go is dear to prove, so it is proved once for each type.
-use mc_scopes::found::{Found, Given, Judged};
 use mc_typed::{Argument, Statement};
+use types_scopes::found::{Found, Given, Judged};
 
 pub(crate) fn found(one: Found) {
     drop(one)

@@ -5,7 +5,7 @@ use Rattle.std.proofs.lemmas.Bool.{eq-eqb}
 use Rattle.mc_span.specs.declared.span.Span.{Span}
 use Rattle.mc_tree.specs.Tree.{Expression, Expressions, TypeName, Specifier, Specifiers, StructMember, Members, Enumerator, Enumerators, Declarator, Declarators, ArrayLengths, Parameters, Parameter, ParameterList, Initializer, Initializers, InitDeclarator, Declaration, ForStart, Statement, BlockItems, Item, span_of, span_of_statement}
 use Rattle.mc_tree.specs.Tree as t
-use Rattle.mc_unprobed.specs.Unprobed.{is_at, is_probes, parenthesized, compound, unprobed, unprobed_expressions, unprobed_type_name, unprobed_specifier, unprobed_specifiers, unprobed_member, unprobed_members, unprobed_enumerator, unprobed_enumerators, unprobed_declarator, unprobed_declarators, unprobed_lengths, unprobed_parameters, unprobed_parameter, unprobed_parameter_list, unprobed_initializer, unprobed_initializers, unprobed_init_declarator, unprobed_init_declarators, unprobed_declaration, unprobed_optional, unprobed_start, unprobed_statement, unprobed_block, unprobed_item, unprobed_unit}
+use Rattle.reread_plain_tree.specs.Unprobed.{is_at, is_probes, parenthesized, compound, unprobed, unprobed_expressions, unprobed_type_name, unprobed_specifier, unprobed_specifiers, unprobed_member, unprobed_members, unprobed_enumerator, unprobed_enumerators, unprobed_declarator, unprobed_declarators, unprobed_lengths, unprobed_parameters, unprobed_parameter, unprobed_parameter_list, unprobed_initializer, unprobed_initializers, unprobed_init_declarator, unprobed_init_declarators, unprobed_declaration, unprobed_optional, unprobed_start, unprobed_statement, unprobed_block, unprobed_item, unprobed_unit}
 use Rattle.mc_weave.specs.Brackets.{Brackets}
 use Rattle.mc_weave.specs.Trees.{around_by, braced_by, bracketed, bracketed_expressions, bracketed_type_name, bracketed_specifier, bracketed_specifiers, bracketed_member, bracketed_members, bracketed_enumerator, bracketed_enumerators, bracketed_declarator, bracketed_declarators, bracketed_lengths, bracketed_parameters, bracketed_parameter, bracketed_parameter_list, bracketed_initializer, bracketed_initializers, bracketed_init_declarator, bracketed_init_declarators, bracketed_declaration, bracketed_optional, bracketed_start, bracketed_statement, bracketed_block, bracketed_item, bracketed_unit}
 use Rattle.mc_weave.proofs.Stand.{around_stands, stands, statement_stands}

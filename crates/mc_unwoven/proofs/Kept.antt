@@ -19,7 +19,7 @@ use Rattle.mc_grammar.specs.Items as i
 use Rattle.mc_grammar.proofs.Ends.{stars_ends, expression_ends, type_name_ends, specifiers_ends, members_ends, member_ends, enumerators_ends, enumerator_ends, declarator_ends, parameters_ends, parameter_ends, initializer_ends}
 use Rattle.mc_grammar.proofs.Extent.{stands, statement_stands}
 use Rattle.mc_alike.specs.Moves.{FollowFrom}
-use Rattle.mc_unprobed.specs.Unprobed.{is_at, is_probes, parenthesized, compound, unprobed, unprobed_expressions, unprobed_type_name, unprobed_specifiers, unprobed_member, unprobed_members, unprobed_enumerator, unprobed_enumerators, unprobed_declarator, unprobed_declarators, unprobed_lengths, unprobed_parameters, unprobed_parameter, unprobed_parameter_list, unprobed_initializer, unprobed_initializers, unprobed_init_declarator, unprobed_init_declarators, unprobed_declaration, unprobed_optional, unprobed_start, unprobed_statement, unprobed_block, unprobed_item, unprobed_unit}
+use Rattle.reread_plain_tree.specs.Unprobed.{is_at, is_probes, parenthesized, compound, unprobed, unprobed_expressions, unprobed_type_name, unprobed_specifiers, unprobed_member, unprobed_members, unprobed_enumerator, unprobed_enumerators, unprobed_declarator, unprobed_declarators, unprobed_lengths, unprobed_parameters, unprobed_parameter, unprobed_parameter_list, unprobed_initializer, unprobed_initializers, unprobed_init_declarator, unprobed_init_declarators, unprobed_declaration, unprobed_optional, unprobed_start, unprobed_statement, unprobed_block, unprobed_item, unprobed_unit}
 use Rattle.mc_unwoven.proofs.Ascend.{Later, Ascend, left, follow_ascend, starts_later, after_ascend, init_declarator_left, declaration_left, optional_left, test_left, for_start_left, statement_left, item_left}
 
 -- a bracket that starts before what it encloses

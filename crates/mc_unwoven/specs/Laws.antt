@@ -7,7 +7,7 @@ use Rattle.mc_grammar.specs.Items.{IsTree}
 use Rattle.mc_alike.specs.Moves.{FollowFrom}
 use Rattle.mc_weave.specs.Brackets.{Brackets}
 use Rattle.mc_weave.specs.Trees.{bracketed_unit}
-use Rattle.mc_unprobed.specs.Unprobed.{unprobed_unit}
+use Rattle.reread_plain_tree.specs.Unprobed.{unprobed_unit}
 
 -- Without the brackets of probes a tree is the same, whether or not brackets were put into it.
 abbrev pub BracketsGo : Type 0

@@ -10,7 +10,7 @@ use Rattle.mc_typed.specs.declared.operators.Operator.TheVariants.{Binary}
 use Rattle.mc_typed.specs.Tree.{Argument, Declarator, Effect, Expression, Function, FunctionCall, Initializer, Place, Statement, Statements}
 use Rattle.mc_typed.specs.Tree as t
 use Rattle.mc_cond.specs.Tree.{Tree, Leaf}
-use Rattle.mc_roots.specs.Decisions.{AreDecisions, Decision}
+use Rattle.decide_rules.specs.Decisions.{AreDecisions, Decision}
 
 abbrev pub span : ℕ → ℕ → Span
 span start end = record { start = start; end = end }

@@ -9,7 +9,7 @@ ghost use Rattle.mc_tests.specs.Seen.{seen_plans};
 
 use crate::fail::Fail;
 use crate::row::Row;
-use mc_bare::bare;
+use instrument_copies::bare;
 use mc_decide::decisions;
 use mc_instrument::instrument;
 use mc_interp::{CallDone, ListProbe, Machine};

@@ -4,8 +4,8 @@ ghost use Rattle.std.specs.Thread.{IsSync};
 ghost use Rattle.mc_limits.specs.Limits.{most_tests, most_workers};
 ghost use Rattle.mc_mutate.specs.Kills.{most_mutants};
 ghost use Rattle.mc_mutate.specs.Mutants.{count};
-ghost use Rattle.mc_roots.specs.Decisions.{AreDecisions};
-ghost use Rattle.mc_roots.specs.Seen.{decision_of};
+ghost use Rattle.decide_rules.specs.Decisions.{AreDecisions};
+ghost use Rattle.decide_rules.specs.Seen.{decision_of};
 ghost use Rattle.mc_typed.specs.Plans.{Fits, plan_of};
 ghost use Rattle.mc_typed.specs.Views.{program_of};
 

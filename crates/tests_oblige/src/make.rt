@@ -2,11 +2,11 @@
 ghost use Rattle.std.specs.Prelude.{◌≡◌, ◌+◌, ◌*◌, ◌≤◌, length, IfOk};
 ghost use Rattle.mc_cond.specs.Tree.{And, FullXor, IsNumbered, Leaf, Or, tree_of};
 
+use decide_rules::Decision;
 use mc_cond::{CondTree, conditions};
 use mc_core::{Matrix, Shape};
 use mc_paths::number;
 use mc_probe::{BitMap, MappedDecision};
-use mc_roots::Decision;
 use mc_span::Span;
 use std::alloc::{AllocError, Global};
 use std::process::Abort;

@@ -1,6 +1,6 @@
 -- The map of the program that counts.
 use Rattle.std.proofs.Common.{refl, map, arith}
-use Rattle.mc_roots.proofs.Told.{told_as}
+use Rattle.decide_rules.proofs.Told.{told_as}
 use Rattle.tests_probe.specs.Counting.{counting, counting_map, IsItsMap}
 
 pub its_map : IsItsMap

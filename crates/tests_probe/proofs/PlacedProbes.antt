@@ -3,9 +3,9 @@ use Rattle.std.proofs.Common.{◌≡◌, ◌∙◌, ℕ, suc, ◌+◌, Bool, tru
 use Rattle.std.proofs.lemmas.List.{length-append}
 use Rattle.mc_span.specs.declared.span.Span.{Span}
 use Rattle.mc_typed.specs.Tree as t
-use Rattle.mc_roots.specs.declared.role.Role.TheVariants.{Controlling, Plain}
-use Rattle.mc_roots.specs.Nodes as n
-use Rattle.mc_roots.specs.Counts.{roots, roots_in}
+use Rattle.decide_rules.specs.declared.role.Role.TheVariants.{Controlling, Plain}
+use Rattle.decide_rules.specs.Nodes as n
+use Rattle.decide_rules.specs.Counts.{roots, roots_in}
 use Rattle.mc_steps.specs.Points.{Points, no_points, ◌⊕◌, where_counted, where_absent, points_of, points_of_all, points_of_function, all_complete, has_default, initializes}
 use Rattle.mc_probe.specs.Obligations as places
 use Rattle.mc_probe.specs.Maps.{Map, exit_bit, statement_bit, label_bit}

@@ -3,8 +3,8 @@ use Rattle.std.specs.Prelude.{◌≡◌, ℕ, ◌+◌, List, [], ◌∷◌, leng
 use Rattle.mc_paths.specs.Paths.{count_of}
 use Rattle.mc_typed.specs.Tree.{Program}
 use Rattle.mc_typed.specs.Plans.{Plan}
-use Rattle.mc_roots.specs.Decisions.{Decision}
-use Rattle.mc_roots.specs.steps.Walk.{decided}
+use Rattle.decide_rules.specs.Decisions.{Decision}
+use Rattle.decide_rules.specs.steps.Walk.{decided}
 use Rattle.mc_steps.specs.Tests.{TestRun}
 use Rattle.mc_probe.specs.Obligations.{entry_spans, exit_spans, statement_spans, label_spans}
 use Rattle.mc_probe.specs.Maps.{Mapped, Map, image}

@@ -5,6 +5,7 @@ ghost use Rattle.mc_probe.specs.BitMaps.{map_of};
 ghost use Rattle.mc_report.specs.Report.{AreJudged, IsReport};
 ghost use Rattle.mc_report.specs.Seen.{report_of};
 
+use decide_rules::Decision;
 use mc_cond::CondTree;
 use mc_core::{Matrix, Shape};
 use mc_meaning::TestResult;
@@ -12,7 +13,6 @@ use mc_oblige::{Mode, Obligation, Verdict, judge, obligations};
 use mc_paths::number;
 use mc_probe::{BitMap, MappedDecision};
 use mc_report::Report;
-use mc_roots::Decision;
 use mc_span::Span;
 use mc_typed::{Ending, Name, TestState};
 use std::alloc::{AllocError, Global};

@@ -9,12 +9,12 @@ use mc_parse::parse;
 use mc_port::MemorySink;
 use mc_print::print;
 use mc_probe::Instrumented;
-use mc_reread::reread;
-use mc_strip::{Piece, What, pieces};
 use mc_subset::check;
 use mc_tree::Unit;
 use mc_typed::Program;
 use mc_types::type_unit;
+use reread_pieces::{Piece, What, pieces};
+use reread_program::reread;
 use std::alloc::Global;
 
 /// How much room a sink has.

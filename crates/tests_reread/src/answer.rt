@@ -2,7 +2,7 @@
 
 use crate::fail::Fail;
 use mc_parse::ParseFault;
-use mc_reread::{RereadFault, reread};
+use reread_program::{RereadFault, reread};
 use std::alloc::Global;
 
 /// The number of bits of a text that is read, or why it is not, with the place.

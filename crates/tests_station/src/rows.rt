@@ -1,6 +1,6 @@
 //! What a text of comma-separated fields is read as.
 
-use mc_rows::Rows;
+use csv_records::Rows;
 use std::alloc::{AllocError, Global};
 use std::test::Fail;
 

@@ -1,12 +1,12 @@
 //! Roots in expressions.
 ghost use Rattle.std.specs.Prelude.{◌≡◌, ◌&&◌, map, IfOk};
 ghost use Rattle.mc_typed.specs.Views.{expression_of, place_of, structure_of, call_of, argument_of, arguments_from};
-ghost use Rattle.mc_roots.specs.Nodes as nodes;
-ghost use Rattle.mc_roots.specs.Roots.{is_constant};
-ghost use Rattle.mc_gather.specs.steps.Gathering.{gathered_of, inside, inside_parts, role_under, visited};
+ghost use Rattle.decide_rules.specs.Nodes as nodes;
+ghost use Rattle.decide_rules.specs.Roots.{is_constant};
+ghost use Rattle.decide_walk.specs.steps.Gathering.{gathered_of, inside, inside_parts, role_under, visited};
 
-use mc_gather::{Gathered, call_parts, enter, mark_of, settle};
-use mc_roots::{FullOperator, Role, full_operator};
+use decide_rules::{FullOperator, Role, full_operator};
+use decide_walk::{Gathered, call_parts, enter, mark_of, settle};
 use mc_typed::{Argument, Expression, FunctionCall, Place, Structure};
 use std::alloc::AllocError;
 

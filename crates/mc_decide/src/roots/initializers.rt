@@ -1,12 +1,12 @@
 //! Roots in initializers.
 ghost use Rattle.std.specs.Prelude.{◌≡◌, map, option_map, IfOk};
 ghost use Rattle.mc_typed.specs.Views.{declarator_of, initializer_of, initializers_from};
-ghost use Rattle.mc_roots.specs.Nodes as nodes;
-ghost use Rattle.mc_gather.specs.steps.Gathering.{gathered_of, inside_parts, visited};
+ghost use Rattle.decide_rules.specs.Nodes as nodes;
+ghost use Rattle.decide_walk.specs.steps.Gathering.{gathered_of, inside_parts, visited};
 
 use crate::roots::expressions::{structure, value};
-use mc_gather::Gathered;
-use mc_roots::Role;
+use decide_rules::Role;
+use decide_walk::Gathered;
 use mc_typed::{Declarator, Initializer};
 use std::alloc::AllocError;
 

@@ -1,14 +1,14 @@
 //! Roots in statements.
 ghost use Rattle.std.specs.Prelude.{◌≡◌, map, option_map, IfOk};
 ghost use Rattle.mc_typed.specs.Views.{effect_of, expression_of, return_value_of, start_of, statement_of, statements_from};
-ghost use Rattle.mc_roots.specs.Nodes as nodes;
-ghost use Rattle.mc_gather.specs.steps.Gathering.{gathered_of, inside_parts, visited};
+ghost use Rattle.decide_rules.specs.Nodes as nodes;
+ghost use Rattle.decide_walk.specs.steps.Gathering.{gathered_of, inside_parts, visited};
 
 use crate::roots::effects::{effect, effects};
 use crate::roots::expressions::{structure, value};
 use crate::roots::initializers::declarators;
-use mc_gather::Gathered;
-use mc_roots::Role;
+use decide_rules::Role;
+use decide_walk::Gathered;
 use mc_typed::{Effect, Expression, ForStart, ReturnValue, Statement};
 use std::alloc::AllocError;
 

@@ -1,9 +1,9 @@
 -- Counters of bits and registers.
 use Rattle.std.specs.Prelude.{◌≡◌, ℕ, ◌+◌, ◌==◌, if◌then◌else◌, List, [], ◌∷◌, length}
 use Rattle.mc_typed.specs.Tree.{Statement, Statements, Function}
-use Rattle.mc_roots.specs.declared.role.Role.TheVariants.{Plain}
-use Rattle.mc_roots.specs.Nodes as nodes
-use Rattle.mc_roots.specs.Counts.{roots, roots_in}
+use Rattle.decide_rules.specs.declared.role.Role.TheVariants.{Plain}
+use Rattle.decide_rules.specs.Nodes as nodes
+use Rattle.decide_rules.specs.Counts.{roots, roots_in}
 use Rattle.mc_steps.specs.Points.{Points, points_of, points_of_all, points_of_function, points_before}
 use Rattle.mc_probe.specs.Maps.{Map, Mapped, exit_bit, label_bit, statement_bit}
 use Rattle.mc_probe.specs.Table.{At, decisions_in}

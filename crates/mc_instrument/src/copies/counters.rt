@@ -2,7 +2,7 @@
 ghost use Rattle.std.specs.Prelude.{◌≡◌, ◌+◌, ◌<◌, ◌^◌, map, if◌then◌else◌, Some, None};
 ghost use Rattle.mc_typed.specs.Views as plain;
 ghost use Rattle.mc_steps.specs.Points as points;
-ghost use Rattle.mc_map.specs.Marks.{mark_where};
+ghost use Rattle.instrument_bits.specs.Marks.{mark_where};
 
 use mc_typed::{Declarator, Mark, Statement};
 
@@ -12,7 +12,7 @@ pub(crate) fn count(counter: &mut u32) -> u32
     ensures number { result ≡ counter.old }
     ensures more { counter.new ≡ counter.old + 1 }
 {
-    mc_map::count(counter)
+    instrument_bits::count(counter)
 }
 
 /// The bit of a declaration, which has one where it initializes something.
@@ -31,7 +31,7 @@ pub(crate) fn declaration_bit(counter: &mut u32, declarators: &[Declarator]) -> 
     ensures no_label { (points.where_counted
         (points.initializes (map plain.declarator_of declarators.now))).labels ≡ 0 }
 {
-    mc_map::declaration_bit(counter, declarators)
+    instrument_bits::declaration_bit(counter, declarators)
 }
 
 /// The probe of a `default` that is absent.
@@ -55,5 +55,5 @@ pub(crate) fn absent_mark(label: &mut u32, register: u32, items: &[Statement]) -
         (points.has_default (plain.statements_from (map plain.statement_of items.now)))).statements
         ≡ 0 }
 {
-    mc_map::absent_mark(label, register, items)
+    instrument_bits::absent_mark(label, register, items)
 }

@@ -1,9 +1,9 @@
 //! Effects with their probes.
 ghost use Rattle.std.specs.Prelude.{◌≡◌, ◌+◌, ◌<◌, ◌^◌, map, IfOk};
 ghost use Rattle.mc_typed.specs.Views as plain;
-ghost use Rattle.mc_roots.specs.Counts.{roots, roots_in};
-ghost use Rattle.mc_roots.specs.Nodes as nodes;
-ghost use Rattle.mc_roots.specs.declared.role.Role.TheVariants as role;
+ghost use Rattle.decide_rules.specs.Counts.{roots, roots_in};
+ghost use Rattle.decide_rules.specs.Nodes as nodes;
+ghost use Rattle.decide_rules.specs.declared.role.Role.TheVariants as role;
 ghost use Rattle.mc_probe.specs.BitMaps.{map_of};
 ghost use Rattle.mc_probe.specs.Table.{put_effect, put_effects};
 ghost use Rattle.mc_probe.specs.Views as probed;

@@ -1,10 +1,10 @@
 //! Expressions with their probes.
 ghost use Rattle.std.specs.Prelude.{◌≡◌, ◌+◌, ◌-◌, ◌<◌, ◌^◌, map, min, IfOk};
 ghost use Rattle.mc_typed.specs.Views as plain;
-ghost use Rattle.mc_roots.specs.Conditions.{width};
-ghost use Rattle.mc_roots.specs.Counts.{roots, roots_in};
-ghost use Rattle.mc_roots.specs.Nodes as nodes;
-ghost use Rattle.mc_roots.specs.declared.role.Role.TheVariants as role;
+ghost use Rattle.decide_rules.specs.Conditions.{width};
+ghost use Rattle.decide_rules.specs.Counts.{roots, roots_in};
+ghost use Rattle.decide_rules.specs.Nodes as nodes;
+ghost use Rattle.decide_rules.specs.declared.role.Role.TheVariants as role;
 ghost use Rattle.mc_probe.specs.BitMaps.{map_of};
 ghost use Rattle.mc_probe.specs.Table.{InTree, Loose, put, put_argument, put_arguments, put_call, put_place, put_structure};
 ghost use Rattle.mc_probe.specs.Views as probed;
@@ -12,8 +12,8 @@ ghost use Rattle.mc_instrument.specs.steps.Inside as inside_rules;
 
 use crate::copies::counters::count;
 use crate::copies::walk::{Walk, with_probe};
-use mc_map::{is_root, is_root_as_test};
-use mc_roots::full_operator;
+use decide_rules::full_operator;
+use instrument_bits::{is_root, is_root_as_test};
 use mc_typed::{Argument, Expression, FunctionCall, Place, Probe, Structure};
 use std::alloc::AllocError;
 
@@ -221,7 +221,7 @@ fn one_condition(
     ensures condition { IfOk result (λ _.
         condition.new ≡ min (condition.old + 1) (2 ^ 32 - 1)) }
 {
-    let number = mc_map::count(condition);
+    let number = instrument_bits::count(condition);
     let on_false = walk.increment(k, number);
     let operand = inside(walk, next, tree)?;
     let probe = Probe::Condition {

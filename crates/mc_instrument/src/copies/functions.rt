@@ -1,7 +1,7 @@
 //! Functions with their probes.
 ghost use Rattle.std.specs.Prelude.{◌≡◌, ◌==◌, ℕ, ◌+◌, ◌<◌, ◌^◌, map, drop, length, IfOk};
 ghost use Rattle.mc_typed.specs.Views as plain;
-ghost use Rattle.mc_roots.specs.Decisions.{AreDecisions};
+ghost use Rattle.decide_rules.specs.Decisions.{AreDecisions};
 ghost use Rattle.mc_steps.specs.Points.{◌⊕◌};
 ghost use Rattle.mc_steps.specs.Points as points;
 ghost use Rattle.mc_probe.specs.BitMaps.{map_of};
@@ -13,7 +13,7 @@ ghost use Rattle.mc_instrument.specs.steps.Counters.{all_points, leading, taken_
 
 use crate::copies::statements::{At, statements};
 use crate::copies::walk::Walk;
-use mc_map::closing_exit;
+use instrument_bits::closing_exit;
 use mc_probe::{BitMap, MappedDecision};
 use mc_typed::{Function, Span};
 use std::alloc::{AllocError, Global};
@@ -79,9 +79,9 @@ fn function<'a>(
     let decisions = decisions_of(walk.map, walk.first, number);
     at.decision = 0;
     at.switch = decisions;
-    let parameters = mc_bare::parameters(walk.alloc, &tree.parameters)?;
-    let result = mc_bare::result_type(&tree.result)?;
-    let objects = mc_bare::local_objects(walk.alloc, &tree.objects)?;
+    let parameters = instrument_copies::parameters(walk.alloc, &tree.parameters)?;
+    let result = instrument_copies::result_type(&tree.result)?;
+    let objects = instrument_copies::local_objects(walk.alloc, &tree.objects)?;
     let body = statements(walk, 0, at, &tree.body)?;
     let exit = closing_exit(&mut at.exit, &tree.body);
     Ok(Function {

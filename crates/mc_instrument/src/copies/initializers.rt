@@ -1,9 +1,9 @@
 //! Initializers with their probes.
 ghost use Rattle.std.specs.Prelude.{◌≡◌, ◌+◌, ◌<◌, ◌^◌, map, option_map, IfOk};
 ghost use Rattle.mc_typed.specs.Views as plain;
-ghost use Rattle.mc_roots.specs.Counts.{roots, roots_in};
-ghost use Rattle.mc_roots.specs.Nodes as nodes;
-ghost use Rattle.mc_roots.specs.declared.role.Role.TheVariants as role;
+ghost use Rattle.decide_rules.specs.Counts.{roots, roots_in};
+ghost use Rattle.decide_rules.specs.Nodes as nodes;
+ghost use Rattle.decide_rules.specs.declared.role.Role.TheVariants as role;
 ghost use Rattle.mc_probe.specs.Bare.{bare_expression};
 ghost use Rattle.mc_probe.specs.BitMaps.{map_of};
 ghost use Rattle.mc_probe.specs.Table.{put_declarators, put_initial, put_initializer, put_initializers};
@@ -73,7 +73,7 @@ fn without_probes(
 {
     let numbered = expression(walk, next, tree)?;
     drop(numbered);
-    mc_bare::expression(walk.alloc, tree)
+    instrument_copies::expression(walk.alloc, tree)
 }
 
 #[cycle(initializer)]

@@ -2,10 +2,10 @@
 -- makes the number one less, and the one at which it is 0 is found.
 use Rattle.std.specs.Prelude.{◌-◌, ◌==◌, Bool, true, false, if◌then◌else◌, List, [], ◌∷◌}
 use Rattle.mc_span.specs.declared.span.Span.{Span}
-use Rattle.mc_roots.specs.declared.role.Role.{Role}
-use Rattle.mc_roots.specs.declared.role.Role.TheVariants.{Controlling, Plain}
-use Rattle.mc_roots.specs.Nodes.{Node, Constant, Not, Logic, Expression, Whole, Parts, no_parts, part, controlling, Top, Operator, Other}
-use Rattle.mc_roots.specs.Roots.{is_root}
+use Rattle.decide_rules.specs.declared.role.Role.{Role}
+use Rattle.decide_rules.specs.declared.role.Role.TheVariants.{Controlling, Plain}
+use Rattle.decide_rules.specs.Nodes.{Node, Constant, Not, Logic, Expression, Whole, Parts, no_parts, part, controlling, Top, Operator, Other}
+use Rattle.decide_rules.specs.Roots.{is_root}
 use Rattle.mc_mutate.specs.declared.changes.Change.{Change}
 use Rattle.mc_mutate.specs.declared.changes.MutantKind.{MutantKind}
 use Rattle.mc_mutate.specs.declared.changes.MutantKind.TheVariants.{Exchanged, Negated, FixedTrue, FixedFalse, Shifted}

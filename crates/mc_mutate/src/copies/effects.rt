@@ -4,13 +4,13 @@ ghost use Rattle.mc_typed.specs.Tree as typed;
 ghost use Rattle.mc_typed.specs.Views.{effect_of, expression_of, place_of, structure_of};
 ghost use Rattle.mc_probe.specs.Views as probed;
 ghost use Rattle.mc_probe.specs.Bare.{bare_effect};
-ghost use Rattle.mc_roots.specs.Nodes as nodes;
+ghost use Rattle.decide_rules.specs.Nodes as nodes;
 ghost use Rattle.mc_mutate.specs.steps.Search.{inside_parts, searched};
 ghost use Rattle.mc_mutate.specs.steps.Changed.{effect_changed, effects_changed};
 
 use crate::copies::expressions::{call, expression, place, structure};
 use crate::search::Sought;
-use mc_roots::Role;
+use decide_rules::Role;
 use mc_typed::{Effect, Expression, Operator, Place, Span, Structure};
 use mc_value::IntType;
 use std::alloc::{AllocError, Global};

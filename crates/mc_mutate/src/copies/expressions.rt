@@ -3,14 +3,14 @@ ghost use Rattle.std.specs.Prelude.{◌≡◌, map, IfOk};
 ghost use Rattle.mc_typed.specs.Views.{expression_of, place_of, structure_of, call_of, argument_of, arguments_from};
 ghost use Rattle.mc_probe.specs.Views as probed;
 ghost use Rattle.mc_probe.specs.Bare.{bare_argument, bare_arguments, bare_call, bare_expression, bare_place, bare_structure};
-ghost use Rattle.mc_roots.specs.Nodes as nodes;
+ghost use Rattle.decide_rules.specs.Nodes as nodes;
 ghost use Rattle.mc_mutate.specs.Changes.{of_decision};
 ghost use Rattle.mc_mutate.specs.steps.Search.{in_decision, inside, inside_parts, searched};
 ghost use Rattle.mc_mutate.specs.steps.Changed as changed;
 
 use crate::copies::decision::replaced;
 use crate::search::{Sought, in_decision, is_root, under};
-use mc_roots::{Role, full_operator};
+use decide_rules::{Role, full_operator};
 use mc_typed::{Argument, Expression, FunctionCall, Place, Structure};
 use std::alloc::{AllocError, Global};
 

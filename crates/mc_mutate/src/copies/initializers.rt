@@ -3,13 +3,13 @@ ghost use Rattle.std.specs.Prelude.{◌≡◌, map, option_map, IfOk};
 ghost use Rattle.mc_typed.specs.Views.{declarator_of, initializer_of, initializers_from};
 ghost use Rattle.mc_probe.specs.Views as probed;
 ghost use Rattle.mc_probe.specs.Bare.{bare_declarator, bare_initializer, bare_initializers};
-ghost use Rattle.mc_roots.specs.Nodes as nodes;
+ghost use Rattle.decide_rules.specs.Nodes as nodes;
 ghost use Rattle.mc_mutate.specs.steps.Search.{inside_parts, searched};
 ghost use Rattle.mc_mutate.specs.steps.Changed as changed;
 
 use crate::copies::expressions::{expression, structure};
 use crate::search::Sought;
-use mc_roots::Role;
+use decide_rules::Role;
 use mc_typed::{Declarator, Initializer};
 use std::alloc::{AllocError, Global};
 

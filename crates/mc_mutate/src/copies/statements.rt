@@ -4,7 +4,7 @@ ghost use Rattle.mc_typed.specs.Tree as typed;
 ghost use Rattle.mc_typed.specs.Views.{declarator_of, effect_of, expression_of, return_value_of, start_of, statement_of, statements_from};
 ghost use Rattle.mc_probe.specs.Views as probed;
 ghost use Rattle.mc_probe.specs.Bare.{bare_expression, bare_return, bare_start, bare_statement, bare_statements};
-ghost use Rattle.mc_roots.specs.Nodes as nodes;
+ghost use Rattle.decide_rules.specs.Nodes as nodes;
 ghost use Rattle.mc_mutate.specs.steps.Search.{inside_parts, searched};
 ghost use Rattle.mc_mutate.specs.steps.Changed as changed;
 
@@ -12,7 +12,7 @@ use crate::copies::effects::{effect, effects};
 use crate::copies::expressions::{expression, structure};
 use crate::copies::initializers::declarators;
 use crate::search::Sought;
-use mc_roots::Role;
+use decide_rules::Role;
 use mc_typed::{Declarator, Effect, Expression, ForStart, ReturnValue, Span, Statement};
 use std::alloc::{AllocError, Global};
 

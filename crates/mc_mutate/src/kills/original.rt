@@ -10,7 +10,7 @@ ghost use Rattle.mc_mutate.specs.Kills.{shown, shown_from};
 ghost use Rattle.mc_mutate.specs.Runs.{AreKept, kept_of};
 
 use crate::kills::silent::Silent;
-use mc_bare::bare;
+use instrument_copies::bare;
 use mc_interp::{CallDone, Machine};
 use mc_typed::{Ending, Program, TestPlan};
 use std::alloc::{AllocError, Global};

@@ -1,16 +1,16 @@
 //! The runs of one worker.
 ghost use Rattle.std.specs.Prelude.{◌≡◌, ◌+◌, ◌≤◌, ◌/◌, length, IfOk, option_to_list};
 ghost use Rattle.mc_typed.specs.Views.{program_of};
-ghost use Rattle.mc_crew.specs.Crew.{IsAtWork};
+ghost use Rattle.cover_recorder.specs.Crew.{IsAtWork};
 ghost use Rattle.mc_mutate.specs.Runs.{CanWork, HasDrawn, HasCome, IsDone, IsReady, worker_does};
 ghost use Rattle.mc_mutate.specs.steps.Bared.{HasMutant};
 
 use crate::copies::bare_mutant;
 use crate::kills::original::Original;
 use crate::kills::silent::Silent;
+use cover_recorder::Recorder;
+use hit_sink::Probe;
 use mc_cover::Pass;
-use mc_crew::Recorder;
-use mc_hits::Probe;
 use mc_interp::Machine;
 use mc_port::Gate;
 use mc_typed::{Program, TestPlan};

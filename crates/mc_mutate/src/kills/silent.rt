@@ -1,5 +1,5 @@
 //! A probe for runs of which only the result counts.
-use mc_hits::Probe;
+use hit_sink::Probe;
 
 /// Keeps nothing of what is hit.
 #[derive(Drop)]

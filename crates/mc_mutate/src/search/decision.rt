@@ -1,15 +1,15 @@
 //! The search in one decision.
 ghost use Rattle.std.specs.Prelude.{◌≡◌};
 ghost use Rattle.mc_typed.specs.Views.{expression_of};
-ghost use Rattle.mc_roots.specs.Nodes as nodes;
-ghost use Rattle.mc_roots.specs.Roots as roots;
+ghost use Rattle.decide_rules.specs.Nodes as nodes;
+ghost use Rattle.decide_rules.specs.Roots as roots;
 ghost use Rattle.mc_mutate.specs.Mutants.{under};
 ghost use Rattle.mc_mutate.specs.steps.Search as search;
 
 use crate::changes::MutantKind;
 use crate::search::sought::{Sought, pass};
-use mc_map::is_root_as_test;
-use mc_roots::{FullOperator, Role, full_operator, is_boolean};
+use decide_rules::{FullOperator, Role, full_operator, is_boolean};
+use instrument_bits::is_root_as_test;
 use mc_typed::{Expression, Span};
 
 /// Whether an expression that stands so in what is around it is the root of a decision.
@@ -19,7 +19,7 @@ pub(crate) fn is_root(role: Role, tree: &Expression) -> bool
     match role {
         Role::Controlling => is_root_as_test(tree),
         Role::Inner => false,
-        Role::Plain => mc_map::is_root(tree),
+        Role::Plain => instrument_bits::is_root(tree),
     }
 }
 

@@ -1,12 +1,12 @@
 //! The search in effects.
 ghost use Rattle.std.specs.Prelude.{◌≡◌, map};
 ghost use Rattle.mc_typed.specs.Views.{effect_of};
-ghost use Rattle.mc_roots.specs.Nodes as nodes;
+ghost use Rattle.decide_rules.specs.Nodes as nodes;
 ghost use Rattle.mc_mutate.specs.steps.Search.{inside_parts, searched};
 
 use crate::search::expressions::{call, expression, place, structure};
 use crate::search::sought::Sought;
-use mc_roots::Role;
+use decide_rules::Role;
 use mc_typed::Effect;
 
 /// Goes on in an effect.

@@ -1,12 +1,12 @@
 //! The search in expressions.
 ghost use Rattle.std.specs.Prelude.{◌≡◌, map};
 ghost use Rattle.mc_typed.specs.Views.{expression_of, place_of, structure_of, call_of, argument_of, arguments_from};
-ghost use Rattle.mc_roots.specs.Nodes as nodes;
+ghost use Rattle.decide_rules.specs.Nodes as nodes;
 ghost use Rattle.mc_mutate.specs.steps.Search.{inside, inside_parts, searched};
 
 use crate::search::decision::{own, under};
 use crate::search::sought::Sought;
-use mc_roots::{Role, full_operator};
+use decide_rules::{Role, full_operator};
 use mc_typed::{Argument, Expression, FunctionCall, Place, Structure};
 
 /// Goes on in an expression that stands so in what is around it.

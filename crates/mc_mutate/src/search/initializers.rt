@@ -1,12 +1,12 @@
 //! The search in initializers.
 ghost use Rattle.std.specs.Prelude.{◌≡◌, map, option_map};
 ghost use Rattle.mc_typed.specs.Views.{declarator_of, initializer_of, initializers_from};
-ghost use Rattle.mc_roots.specs.Nodes as nodes;
+ghost use Rattle.decide_rules.specs.Nodes as nodes;
 ghost use Rattle.mc_mutate.specs.steps.Search.{inside_parts, searched};
 
 use crate::search::expressions::{expression, structure};
 use crate::search::sought::Sought;
-use mc_roots::Role;
+use decide_rules::Role;
 use mc_typed::{Declarator, Initializer};
 
 /// Goes on in an initializer.

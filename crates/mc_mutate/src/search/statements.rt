@@ -1,14 +1,14 @@
 //! The search in statements.
 ghost use Rattle.std.specs.Prelude.{◌≡◌, map, option_map};
 ghost use Rattle.mc_typed.specs.Views.{effect_of, expression_of, return_value_of, start_of, statement_of, statements_from};
-ghost use Rattle.mc_roots.specs.Nodes as nodes;
+ghost use Rattle.decide_rules.specs.Nodes as nodes;
 ghost use Rattle.mc_mutate.specs.steps.Search.{inside_parts, searched};
 
 use crate::search::effects::{effect, effects};
 use crate::search::expressions::{expression, structure};
 use crate::search::initializers::declarators;
 use crate::search::sought::Sought;
-use mc_roots::Role;
+use decide_rules::Role;
 use mc_typed::{Effect, Expression, ForStart, ReturnValue, Statement};
 
 fn optional_test(sought: Sought, tree: &Option<Expression>) -> Sought

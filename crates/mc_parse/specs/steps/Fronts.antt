@@ -7,9 +7,9 @@ use Rattle.mc_grammar.specs.Words.{sees, sees_keyword}
 use Rattle.mc_grammar.specs.Places.{at, name_at, to}
 use Rattle.mc_grammar.specs.Nonterminal as nonterminal
 use Rattle.mc_grammar.specs.steps.Parsers.{Parser, ◌>>=◌, pure, ask, take, expect, expect_keyword}
-use Rattle.mc_reading.specs.Rooms.{reading}
-use Rattle.mc_reading.specs.Statements as spec
-use Rattle.mc_reading.specs.Statements.{optional_of, test_of}
+use Rattle.laws_grammar.specs.Rooms.{reading}
+use Rattle.laws_grammar.specs.Statements as spec
+use Rattle.laws_grammar.specs.Statements.{optional_of, test_of}
 use Rattle.mc_parse.specs.declared.statements.beginnings.Beginning.{Beginning}
 use Rattle.mc_parse.specs.declared.statements.beginnings.Beginning.TheVariants as beginning
 use Rattle.mc_parse.specs.declared.statements.beginnings.Opener.{Opener}

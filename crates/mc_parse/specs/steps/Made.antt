@@ -7,7 +7,7 @@ use Rattle.mc_tree.specs.declared.statements.for_start.ForStart.{ForStart}
 use Rattle.mc_tree.specs.Views.{name_of}
 use Rattle.mc_tree.specs.declared.units.item.Item.{Item}
 use Rattle.mc_tree.specs.Units.{block_item_of, item_of, option_of, start_of, value_of}
-use Rattle.mc_reading.specs.Statements as spec
+use Rattle.laws_grammar.specs.Statements as spec
 use Rattle.mc_parse.specs.declared.statements.blocks.Block.{Block}
 use Rattle.mc_parse.specs.declared.statements.ends.Tested.{Tested}
 use Rattle.mc_parse.specs.declared.statements.openings.Opening as code

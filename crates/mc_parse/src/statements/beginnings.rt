@@ -1,9 +1,9 @@
 //! What begins a statement that is not a block (C17 6.8).
 ghost use Rattle.std.specs.Prelude.{◌≡◌};
-ghost use Rattle.mc_cursor.specs.Cursors.{left_of};
+ghost use Rattle.parse_cursor.specs.Cursors.{left_of};
 ghost use Rattle.mc_parse.specs.steps.Beginnings as spec;
 
-use mc_cursor::cursor::Cursor;
+use parse_cursor::cursor::Cursor;
 
 /// A statement that has no statement as a part.
 #[derive(Clone, Copy)]

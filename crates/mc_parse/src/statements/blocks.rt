@@ -2,19 +2,19 @@
 ghost use Rattle.std.specs.Prelude.{◌≡◌, ◌≤◌, ◌∷◌, ◌++◌, [], IfOk, codes, map};
 ghost use Rattle.mc_tree.specs.Units.{block_item_of};
 ghost use Rattle.mc_grammar.specs.Words.{sees};
-ghost use Rattle.mc_reading.specs.Lists.{listed, until_list};
-ghost use Rattle.mc_reading.specs.Statements as spec;
-ghost use Rattle.mc_cursor.specs.Cursors.{Gives, left_of};
+ghost use Rattle.laws_grammar.specs.Lists.{listed, until_list};
+ghost use Rattle.laws_grammar.specs.Statements as spec;
+ghost use Rattle.parse_cursor.specs.Cursors.{Gives, left_of};
 ghost use Rattle.mc_parse.specs.steps.Made.{block_of};
 
 use crate::statements::statement;
-use mc_cursor::cursor::{Cursor, place};
-use mc_cursor::fault::Fault;
-use mc_cursor::to;
-use mc_descent::allowed::Allowed;
-use mc_descent::declarations::local;
 use mc_span::Span;
 use mc_tree::BlockItem;
+use parse_cursor::cursor::{Cursor, place};
+use parse_cursor::fault::Fault;
+use parse_cursor::to;
+use parse_expressions::allowed::Allowed;
+use parse_expressions::declarations::local;
 use std::alloc::{AllocError, Global};
 
 /// The items of a block, and where it stands.
@@ -25,18 +25,18 @@ pub struct Block<'a> {
 }
 
 #[inline(never)]
-#[tactic(auto, using(mc_descent::proofs::Lists::map_push))]
+#[tactic(auto, using(parse_expressions::proofs::Lists::map_push))]
 fn push<'a>(all: &mut Vec<BlockItem<'a>>, one: BlockItem<'a>) -> Result<(), AllocError>
     ensures { IfOk result (λ _. map block_item_of all.new.items ≡ map block_item_of all.old.items
         ++ block_item_of one.entry ∷ []) }
 {
-    mc_cursor::values::push(all, one)
+    parse_cursor::values::push(all, one)
 }
 
 /// A declaration or a statement.
 #[cycle(statements)]
 #[inline(never)]
-#[tactic(auto, unfolding(mc_reading::specs::Statements::block_item_of))]
+#[tactic(auto, unfolding(laws_grammar::specs::Statements::block_item_of))]
 fn block_item<'a>(
     alloc: Global,
     tokens: &mut Cursor<'_, 'a>,
@@ -56,7 +56,7 @@ fn block_item<'a>(
 
 /// What stands between the braces.
 #[cycle(statements)]
-#[tactic(auto, using(mc_descent::proofs::Lists::until_steps))]
+#[tactic(auto, using(parse_expressions::proofs::Lists::until_steps))]
 fn block_items<'a>(
     alloc: Global,
     tokens: &mut Cursor<'_, 'a>,
@@ -81,7 +81,7 @@ fn block_items<'a>(
 
 /// A block whose items have fewer than `room` levels.
 #[cycle(statements)]
-#[tactic(auto, unfolding(mc_reading::specs::Statements::compound_of))]
+#[tactic(auto, unfolding(laws_grammar::specs::Statements::compound_of))]
 pub fn compound<'a>(
     alloc: Global,
     tokens: &mut Cursor<'_, 'a>,

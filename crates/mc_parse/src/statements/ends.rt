@@ -1,20 +1,20 @@
 //! The end of a statement, after the statement that is a part of it.
 ghost use Rattle.std.specs.Prelude.{◌≡◌, ◌≤◌};
 ghost use Rattle.mc_tree.specs.Units.{statement_of};
-ghost use Rattle.mc_cursor.specs.Cursors.{Gives, left_of};
+ghost use Rattle.parse_cursor.specs.Cursors.{Gives, left_of};
 ghost use Rattle.mc_parse.specs.steps.Fronts as fronts;
 ghost use Rattle.mc_parse.specs.steps.Made.{opening_of, seen_opening, seen_test};
-ghost use Rattle.mc_makers.specs.Made.{IsMade, body_of};
+ghost use Rattle.parse_makers.specs.Made.{IsMade, body_of};
 
 use crate::statements::nodes::{case, default, do_while, for_loop, labeled, switch, while_loop};
 use crate::statements::openings::Opening;
 use crate::statements::parts::test;
-use mc_cursor::cursor::{Cursor, place};
-use mc_cursor::fault::Fault;
-use mc_cursor::to;
-use mc_cursor::values::on_heap;
 use mc_span::Span;
 use mc_tree::{Expression, Statement};
+use parse_cursor::cursor::{Cursor, place};
+use parse_cursor::fault::Fault;
+use parse_cursor::to;
+use parse_cursor::values::on_heap;
 use std::alloc::Global;
 
 /// The test of a `do`, and where it ends.

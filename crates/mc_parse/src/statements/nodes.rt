@@ -6,14 +6,14 @@ ghost use Rattle.mc_tree.specs.Tree.{span_of_statement};
 ghost use Rattle.mc_tree.specs.Views.{name_of};
 ghost use Rattle.mc_tree.specs.Units.{block_from, block_item_of, option_of, start_of, statement_of, value_of};
 ghost use Rattle.mc_grammar.specs.Places as places;
-ghost use Rattle.mc_makers.specs.Made.{IsMade, body_of};
+ghost use Rattle.parse_makers.specs.Made.{IsMade, body_of};
 
-use mc_cursor::fault::Fault;
-use mc_cursor::to;
-use mc_cursor::values::on_heap;
-use mc_makers::statements::place_of;
 use mc_span::Span;
 use mc_tree::{BlockItem, Expression, ForStart, Identifier, Statement};
+use parse_cursor::fault::Fault;
+use parse_cursor::to;
+use parse_cursor::values::on_heap;
+use parse_makers::statements::place_of;
 use std::alloc::Global;
 
 /// A block on the heap. It is kept out of the frames of the recursion.

@@ -1,21 +1,21 @@
 //! The opening of a statement: what stands before the statement that is a part of it (C17 6.8).
 ghost use Rattle.std.specs.Prelude.{◌≤◌};
-ghost use Rattle.mc_reading.specs.Statements as spec;
-ghost use Rattle.mc_cursor.specs.Cursors.{Gives, left_of};
+ghost use Rattle.laws_grammar.specs.Statements as spec;
+ghost use Rattle.parse_cursor.specs.Cursors.{Gives, left_of};
 ghost use Rattle.mc_parse.specs.steps.Fronts as fronts;
 ghost use Rattle.mc_parse.specs.steps.Made.{heap_start_of, opening_of};
 
 use crate::statements::beginnings::Opener;
 use crate::statements::parts::{Headed, ended, keyword_and_test, optional, value};
-use mc_cursor::cursor::{Cursor, identifier, place};
-use mc_cursor::fault::Fault;
-use mc_cursor::rule::Rule;
-use mc_cursor::to;
-use mc_cursor::values::on_heap;
-use mc_descent::allowed::Allowed;
-use mc_descent::declarations::local;
 use mc_span::Span;
 use mc_tree::{Expression, ForStart, Identifier};
+use parse_cursor::cursor::{Cursor, identifier, place};
+use parse_cursor::fault::Fault;
+use parse_cursor::rule::Rule;
+use parse_cursor::to;
+use parse_cursor::values::on_heap;
+use parse_expressions::allowed::Allowed;
+use parse_expressions::declarations::local;
 use std::alloc::Global;
 
 /// What stands before the one statement that is a part of another.
@@ -115,7 +115,7 @@ fn while_loop<'a>(
 
 /// What stands before the first `;` of a `for`, and that `;`.
 #[inline(never)]
-#[tactic(auto, unfolding(mc_reading::specs::Statements::for_start_of))]
+#[tactic(auto, unfolding(laws_grammar::specs::Statements::for_start_of))]
 fn for_start<'a>(
     alloc: Global,
     tokens: &mut Cursor<'_, 'a>,

@@ -1,20 +1,20 @@
 //! Expressions in statements.
 ghost use Rattle.std.specs.Prelude.{◌≤◌};
-ghost use Rattle.mc_reading.specs.Rooms.{reading};
-ghost use Rattle.mc_reading.specs.Statements as spec;
-ghost use Rattle.mc_cursor.specs.Cursors.{Gives, left_of};
+ghost use Rattle.laws_grammar.specs.Rooms.{reading};
+ghost use Rattle.laws_grammar.specs.Statements as spec;
+ghost use Rattle.parse_cursor.specs.Cursors.{Gives, left_of};
 ghost use Rattle.mc_tree.specs.Units.{option_of, value_of};
-ghost use Rattle.mc_cursor.specs.Rules.{nonterminal_of};
+ghost use Rattle.parse_cursor.specs.Rules.{nonterminal_of};
 ghost use Rattle.mc_parse.specs.steps.Fronts.{ended_optional, tested};
 ghost use Rattle.mc_parse.specs.steps.Made.{seen_head};
 
-use mc_cursor::cursor::{Cursor, place};
-use mc_cursor::fault::Fault;
-use mc_cursor::rule::Rule;
-use mc_descent::knot::expression;
-use mc_descent::read::Read;
 use mc_span::Span;
 use mc_tree::Expression;
+use parse_cursor::cursor::{Cursor, place};
+use parse_cursor::fault::Fault;
+use parse_cursor::rule::Rule;
+use parse_expressions::knot::expression;
+use parse_expressions::read::Read;
 use std::alloc::Global;
 
 /// A keyword and the expression between parentheses after it.
@@ -40,7 +40,7 @@ pub fn value<'a>(
 }
 
 /// Reads an expression that may be left out before this punctuator.
-#[tactic(auto, unfolding(mc_reading::specs::Statements::optional_of))]
+#[tactic(auto, unfolding(laws_grammar::specs::Statements::optional_of))]
 pub fn optional<'a>(
     alloc: Global,
     tokens: &mut Cursor<'_, 'a>,
@@ -76,7 +76,7 @@ pub fn ended<'a>(
 }
 
 /// Reads an expression between parentheses.
-#[tactic(auto, unfolding(mc_reading::specs::Statements::test_of))]
+#[tactic(auto, unfolding(laws_grammar::specs::Statements::test_of))]
 pub fn test<'a>(
     alloc: Global,
     tokens: &mut Cursor<'_, 'a>,

@@ -1,21 +1,21 @@
 //! Statements that have no statement as a part: jumps, expression statements and null statements
 //! (C17 6.8.3, 6.8.6).
 ghost use Rattle.std.specs.Prelude.{◌≤◌};
-ghost use Rattle.mc_reading.specs.Rooms.{reading};
-ghost use Rattle.mc_reading.specs.Statements as spec;
-ghost use Rattle.mc_cursor.specs.Cursors.{Gives, left_of};
-ghost use Rattle.mc_makers.specs.Made.{body_of};
+ghost use Rattle.laws_grammar.specs.Rooms.{reading};
+ghost use Rattle.laws_grammar.specs.Statements as spec;
+ghost use Rattle.parse_cursor.specs.Cursors.{Gives, left_of};
+ghost use Rattle.parse_makers.specs.Made.{body_of};
 ghost use Rattle.mc_parse.specs.steps.Fronts.{whole_by};
 
 use crate::statements::beginnings::Whole;
 use crate::statements::nodes;
 use crate::statements::parts::{optional, value};
-use mc_cursor::cursor::{Cursor, identifier, place};
-use mc_cursor::fault::Fault;
-use mc_cursor::rule::Rule;
-use mc_cursor::to;
-use mc_cursor::values::on_heap;
 use mc_tree::Statement;
+use parse_cursor::cursor::{Cursor, identifier, place};
+use parse_cursor::fault::Fault;
+use parse_cursor::rule::Rule;
+use parse_cursor::to;
+use parse_cursor::values::on_heap;
 use std::alloc::Global;
 
 #[inline(never)]

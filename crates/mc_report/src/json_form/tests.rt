@@ -14,7 +14,7 @@ use crate::quoted::text_of;
 use crate::report::Report;
 use mc_meaning::TestResult;
 use mc_typed::{Name, TestState};
-use mc_wording::state_word;
+use report_words::state_word;
 use std::alloc::{AllocError, Global};
 
 /// Adds what a call returned.

@@ -4,7 +4,7 @@ use Rattle.mc_command.specs.Command as command
 use Rattle.mc_oblige.specs.Shown.{HasEvent}
 use Rattle.mc_oblige.specs.declared.justification.Justification.{Justification}
 use Rattle.mc_record.specs.Kept.{Kept}
-use Rattle.mc_replies.specs.Reply.{Reply}
+use Rattle.station_replies.specs.Reply.{Reply}
 use Rattle.mc_station.specs.Source.{Accepted}
 use Rattle.mc_station.specs.Tests.{Tested}
 use Rattle.mc_station.specs.commands.Report.{ReportsOn}

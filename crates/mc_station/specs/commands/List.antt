@@ -6,7 +6,7 @@ use Rattle.mc_steps.specs.Events.{Event}
 use Rattle.mc_oblige.specs.declared.justification.Justification.{Justification}
 use Rattle.mc_report.specs.Report as text
 use Rattle.mc_report.specs.Status.{status_of}
-use Rattle.mc_replies.specs.Reply.{Reply, listing_pieces, written}
+use Rattle.station_replies.specs.Reply.{Reply, listing_pieces, written}
 use Rattle.mc_station.specs.Source.{Accepted}
 use Rattle.mc_station.specs.Tests.{Tested, stands, tested_of}
 use Rattle.mc_station.specs.commands.Report.{IsReportOn}

@@ -6,9 +6,9 @@ use Rattle.mc_record.specs.Lines.{record_lines}
 use Rattle.mc_record.specs.Merged.{IsMerged, pair_fault}
 use Rattle.mc_record.specs.declared.pair_fault.PairFault.{PairFault}
 use Rattle.mc_record.specs.declared.pair_fault.PairFault.TheVariants as fault
-use Rattle.mc_replies.specs.Reply.{Reply, out_of_memory, refusal, written}
-use Rattle.mc_replies.specs.Texts.{many_tests_line, matrix_line, same_test_line}
-use Rattle.mc_replies.specs.declared.status.Status.TheVariants.{TestsRefused, TooLarge}
+use Rattle.station_replies.specs.Reply.{Reply, out_of_memory, refusal, written}
+use Rattle.station_replies.specs.Texts.{many_tests_line, matrix_line, same_test_line}
+use Rattle.station_replies.specs.declared.status.Status.TheVariants.{TestsRefused, TooLarge}
 
 -- what is said of two records that have no common one
 abbrev pub pair_reply : PairFault → Reply

@@ -1,7 +1,7 @@
 -- The command `mutate`: which mutants of the decisions the tests kill, and which survive.
 use Rattle.std.specs.Prelude.{◌≡◌, ◌<◌, ◌≤◌, ℕ, ◌+◌, ◌==◌, if◌then◌else◌, List, Option, Some, Result, Ok, Err, codes, length, map, slice_get}
-use Rattle.mc_killed.specs.Killers.{AreKillers}
-use Rattle.mc_killed.specs.Lines.{Told, mutant_lines, survived_of}
+use Rattle.mutate_lines.specs.Killers.{AreKillers}
+use Rattle.mutate_lines.specs.Lines.{Told, mutant_lines, survived_of}
 use Rattle.mc_lex.specs.Lines.{column_of, line_of}
 use Rattle.mc_mutate.specs.Kills.{IsKilled, most_mutants}
 use Rattle.mc_mutate.specs.Mutants.{IsMutant, count, mutants}
@@ -11,9 +11,9 @@ use Rattle.mc_mutate.specs.declared.changes.MutantKind.TheVariants.{Exchanged, N
 use Rattle.mc_typed.specs.Plans.{Plan}
 use Rattle.mc_typed.specs.Tree.{Program}
 use Rattle.mc_typed.specs.declared.plans.TestState.{TestState}
-use Rattle.mc_replies.specs.Reply.{Reply, refusal, written}
-use Rattle.mc_replies.specs.Texts.{mutants_line}
-use Rattle.mc_replies.specs.declared.status.Status.TheVariants.{TooManyMutants}
+use Rattle.station_replies.specs.Reply.{Reply, refusal, written}
+use Rattle.station_replies.specs.Texts.{mutants_line}
+use Rattle.station_replies.specs.declared.status.Status.TheVariants.{TooManyMutants}
 use Rattle.mc_station.specs.Source.{Accepted}
 use Rattle.mc_station.specs.Tests.{names, states, status_where}
 

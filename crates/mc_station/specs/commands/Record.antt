@@ -7,7 +7,7 @@ use Rattle.mc_typed.specs.Plans.{Plan}
 use Rattle.mc_record.specs.Kept.{Kept}
 use Rattle.mc_record.specs.Lines.{record_lines}
 use Rattle.mc_runner.specs.Laws.{IsMarked}
-use Rattle.mc_replies.specs.Reply.{Reply, written}
+use Rattle.station_replies.specs.Reply.{Reply, written}
 use Rattle.mc_station.specs.Source.{Accepted}
 use Rattle.mc_station.specs.Tests.{names, shape_of, states, status_where}
 

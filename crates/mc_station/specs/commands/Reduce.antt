@@ -10,8 +10,8 @@ use Rattle.mc_oblige.specs.Ids.{id_text}
 use Rattle.mc_oblige.specs.Obligations.{obligations_of}
 use Rattle.mc_oblige.specs.declared.obligation.Obligation.{Obligation}
 use Rattle.mc_reduce.specs.Kept.{IsReduced}
-use Rattle.mc_replies.specs.Reply.{Reply, written}
-use Rattle.mc_replies.specs.Texts.{newline}
+use Rattle.station_replies.specs.Reply.{Reply, written}
+use Rattle.station_replies.specs.Texts.{newline}
 use Rattle.mc_station.specs.Source.{Accepted}
 use Rattle.mc_station.specs.Tests.{names, stands, states, status_where}
 use Rattle.mc_station.specs.commands.Report.{mode_of}

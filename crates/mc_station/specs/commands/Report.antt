@@ -19,7 +19,7 @@ use Rattle.mc_report.specs.Status.{status_of}
 use Rattle.mc_report.specs.Forms.{lines_in_form}
 use Rattle.mc_report.specs.declared.form.Form.{Form}
 use Rattle.mc_report.specs.declared.form.Form.TheVariants as given
-use Rattle.mc_replies.specs.Reply.{Reply, written}
+use Rattle.station_replies.specs.Reply.{Reply, written}
 use Rattle.mc_station.specs.Source.{Accepted}
 use Rattle.mc_station.specs.Tests.{Tested, stands, tested_of}
 

@@ -8,8 +8,8 @@ use Rattle.mc_typed.specs.Plans.{Plan}
 use Rattle.mc_steps.specs.Events.{Event}
 use Rattle.mc_report.specs.Report as text
 use Rattle.mc_report.specs.Summary.{summary_lines}
-use Rattle.mc_replies.specs.Phases.{Reaches}
-use Rattle.mc_replies.specs.Reply.{Reply, written}
+use Rattle.station_replies.specs.Phases.{Reaches}
+use Rattle.station_replies.specs.Reply.{Reply, written}
 use Rattle.mc_station.specs.Source.{Accepted, JudgesSource}
 use Rattle.mc_station.specs.Tests.{MatrixFits, JudgesTests, Tested, stands, tested_of}
 use Rattle.mc_station.specs.commands.Report.{IsReportOn}

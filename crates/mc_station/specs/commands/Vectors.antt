@@ -7,7 +7,7 @@ use Rattle.mc_meaning.specs.Seen.{Told}
 use Rattle.mc_oblige.specs.Evaluated.{AreEvaluated}
 use Rattle.mc_oblige.specs.declared.evaluated.EvaluatedPath.{EvaluatedPath}
 use Rattle.mc_report.specs.VectorsText.{vectors_lines}
-use Rattle.mc_replies.specs.Reply.{Reply, written}
+use Rattle.station_replies.specs.Reply.{Reply, written}
 use Rattle.mc_station.specs.Source.{Accepted}
 use Rattle.mc_station.specs.Tests.{names, results, stands, states, status_where}
 

@@ -5,8 +5,8 @@ use Rattle.std.specs.List.{concat}
 use Rattle.std.specs.List.Sorted.{IsNonDecreasing}
 use Rattle.mc_typed.specs.Plans.{Plan}
 use Rattle.mc_watch.specs.Watched.{AreSoMany}
-use Rattle.mc_replies.specs.Reply.{Reply, written}
-use Rattle.mc_replies.specs.Texts.{newline}
+use Rattle.station_replies.specs.Reply.{Reply, written}
+use Rattle.station_replies.specs.Texts.{newline}
 use Rattle.mc_station.specs.Source.{Accepted}
 use Rattle.mc_station.specs.Tests.{states, status_where}
 use Rattle.mc_station.specs.commands.Record.{marked}

@@ -2,7 +2,7 @@
 ghost use Rattle.std.specs.Prelude.{IfOk};
 ghost use Rattle.mc_command.specs.Seen.{seen_report};
 ghost use Rattle.mc_record.specs.Seen.{kept_of};
-ghost use Rattle.mc_replies.specs.Seen.{seen_reply};
+ghost use Rattle.station_replies.specs.Seen.{seen_reply};
 ghost use Rattle.mc_station.specs.Seen.{AreReasons, HasItsTree, IsRecordIn, seen_accepted};
 ghost use Rattle.mc_station.specs.commands.Analyse.{Analyses};
 
@@ -12,7 +12,7 @@ use crate::tested::Tested;
 use mc_command::Report;
 use mc_oblige::Justification;
 use mc_record::Record;
-use mc_replies::Reply;
+use station_replies::Reply;
 use std::alloc::{AllocError, Global};
 
 /// The reply of `analyse`: a report on the events that a record of the source has.

@@ -2,7 +2,7 @@
 ghost use Rattle.std.specs.Prelude.{IfOk};
 ghost use Rattle.mc_command.specs.Seen.{seen_listing};
 ghost use Rattle.mc_oblige.specs.Shown.{HasEvent};
-ghost use Rattle.mc_replies.specs.Seen.{seen_reply};
+ghost use Rattle.station_replies.specs.Seen.{seen_reply};
 ghost use Rattle.mc_station.specs.Ran.{AreTold};
 ghost use Rattle.mc_station.specs.Seen.{AreReasons, HasItsTree, seen_accepted, seen_tested};
 ghost use Rattle.mc_station.specs.commands.List.{ListingOn};
@@ -13,8 +13,8 @@ use crate::tested::Tested;
 use mc_command::Listing;
 use mc_core::Matrix;
 use mc_oblige::Justification;
-use mc_replies::Reply;
 use mc_report::{Report, status};
+use station_replies::Reply;
 use std::alloc::{AllocError, Global};
 
 /// The reply of `list`: the lines of the source, each with the mark of its worst verdict.

@@ -3,7 +3,7 @@ ghost use Rattle.std.specs.Prelude.{◌≡◌, ◌<◌, ◌++◌, ◌∷◌, [],
 ghost use Rattle.mc_oblige.specs.Ids.{id_text};
 ghost use Rattle.mc_oblige.specs.Shown.{HasEvent};
 ghost use Rattle.mc_port.specs.Lines.{bytes_of};
-ghost use Rattle.mc_replies.specs.Seen.{seen_reply};
+ghost use Rattle.station_replies.specs.Seen.{seen_reply};
 ghost use Rattle.mc_station.specs.Ran.{AreIn, AreTold, seen_ran};
 ghost use Rattle.mc_station.specs.Seen.{HasItsTree, seen_accepted};
 ghost use Rattle.mc_station.specs.commands.Reduce.{ReducesOn, keep_line, keep_lines, kept_line, reduced_lines, text_in};
@@ -14,8 +14,8 @@ use crate::ran::{Ran, number_of};
 use mc_command::Independence;
 use mc_oblige::{Obligation, ObligationId, id_text, obligations};
 use mc_reduce::{Reduced, reduce as reduced_of};
-use mc_replies::Reply;
 use mc_typed::Name;
+use station_replies::Reply;
 use std::alloc::{AllocError, Global};
 
 // The line of a test that is kept, and of the obligation that is lost without it.

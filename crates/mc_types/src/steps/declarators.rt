@@ -3,29 +3,29 @@ ghost use Rattle.std.specs.Prelude.{◌≡◌, ℕ, ℤ, Bool, IfOk, List, [], O
 ghost use Rattle.mc_span.specs.declared.span.Span.{Span};
 ghost use Rattle.mc_tree.specs.Tree as source_tree;
 ghost use Rattle.mc_tree.specs.Views.{expression_of, lengths_from, array_length_of, name_of, parameter_of, specifier_of, specifiers_from};
-ghost use Rattle.mc_names.specs.Tables.{Named};
-ghost use Rattle.mc_typing.specs.Types as types;
-ghost use Rattle.mc_typing.specs.Scopes as scopes;
-ghost use Rattle.mc_typing.specs.Values as values;
-ghost use Rattle.mc_typing.specs.Declarators as declarators;
-ghost use Rattle.mc_typing.specs.Judgement as judgement;
-ghost use Rattle.mc_scopes.specs.declared.member.Member.{Member};
-ghost use Rattle.mc_scopes.specs.Types.{type_of};
-ghost use Rattle.mc_scopes.specs.Listed.{listed_of};
-ghost use Rattle.mc_scopes.specs.Prototypes.{counted, counted_of};
-ghost use Rattle.mc_scopes.specs.Views.{scope_of};
-ghost use Rattle.mc_scopes.specs.Found.{found_of, judged_of};
-ghost use Rattle.mc_declarations.specs.Declarations.{lengths_in, listed_members, listed_parameters, number_judged, opened_of, squeezed_listed};
-ghost use Rattle.mc_scopes.specs.steps.Squeezed.{squeezed, squeezed_part};
+ghost use Rattle.name_table.specs.Tables.{Named};
+ghost use Rattle.types_rules.specs.Types as types;
+ghost use Rattle.types_rules.specs.Scopes as scopes;
+ghost use Rattle.types_rules.specs.Values as values;
+ghost use Rattle.types_rules.specs.Declarators as declarators;
+ghost use Rattle.types_rules.specs.Judgement as judgement;
+ghost use Rattle.types_scopes.specs.declared.member.Member.{Member};
+ghost use Rattle.types_scopes.specs.Types.{type_of};
+ghost use Rattle.types_scopes.specs.Listed.{listed_of};
+ghost use Rattle.types_scopes.specs.Prototypes.{counted, counted_of};
+ghost use Rattle.types_scopes.specs.Views.{scope_of};
+ghost use Rattle.types_scopes.specs.Found.{found_of, judged_of};
+ghost use Rattle.types_declarations.specs.Declarations.{lengths_in, listed_members, listed_parameters, number_judged, opened_of, squeezed_listed};
+ghost use Rattle.types_scopes.specs.steps.Squeezed.{squeezed, squeezed_part};
 ghost use Rattle.mc_types.specs.Loops.{TakesLength, TakesParameter, TakesSpecifier};
 
 use crate::unused;
-use mc_declarations::{Opened, Parameters};
-use mc_faults::Fault;
-use mc_scopes::found::{Found, Judged};
-use mc_scopes::{CType, Members, Objects, Scope};
 use mc_tree::{Expression, Identifier, Parameter};
 use std::alloc::{AllocError, Global};
+use types_declarations::{Opened, Parameters};
+use types_faults::Fault;
+use types_scopes::found::{Found, Judged};
+use types_scopes::{CType, Members, Objects, Scope};
 
 /// Specifiers, and one more after them.
 pub(crate) fn specifiers(
@@ -37,7 +37,7 @@ pub(crate) fn specifiers(
         → IfOk result (λ r. TakesSpecifier x found first r last) }
 {
     match more {
-        Ok(more) => Ok(mc_declarations::specifiers(found, more)),
+        Ok(more) => Ok(types_declarations::specifiers(found, more)),
         Err(error) => {
             drop(found);
             Err(error)
@@ -65,7 +65,7 @@ pub(crate) fn structure<'a>(
         first)) }
 {
     match fault {
-        Ok(fault) => mc_declarations::close_structure(alloc, scope, opened, fault, members),
+        Ok(fault) => types_declarations::close_structure(alloc, scope, opened, fault, members),
         Err(error) => {
             drop(opened);
             drop(members);
@@ -95,7 +95,7 @@ pub(crate) fn member(
     let before = of.fault;
     drop(of);
     match fault {
-        Ok(fault) => Ok(mc_declarations::first_fault(before, fault)),
+        Ok(fault) => Ok(types_declarations::first_fault(before, fault)),
         Err(error) => Err(error),
     }
 }
@@ -122,7 +122,7 @@ pub(crate) fn function_member<'a>(
 {
     match found {
         Ok(found) => {
-            let fault = mc_declarations::function_member(alloc, scope, name, &found, members);
+            let fault = types_declarations::function_member(alloc, scope, name, &found, members);
             drop(found);
             fault
         }
@@ -148,7 +148,7 @@ pub(crate) fn valued_enumerator<'a>(
     match found {
         Ok(found) => {
             let at = tree.span().start;
-            let next = mc_declarations::valued_enumerator(scope, name, at, &found);
+            let next = types_declarations::valued_enumerator(scope, name, at, &found);
             unused::found(found);
             next
         }
@@ -170,7 +170,7 @@ pub(crate) fn more_lengths(
 {
     match found {
         Ok(found) => {
-            let list = mc_declarations::more_lengths(list, tree.span().start, &found);
+            let list = types_declarations::more_lengths(list, tree.span().start, &found);
             unused::found(found);
             list
         }
@@ -191,7 +191,7 @@ pub(crate) fn parameters(
         → IfOk result (λ r. TakesParameter x list first r last) }
 {
     match more {
-        Ok(more) => mc_declarations::join_parameters(list, more),
+        Ok(more) => types_declarations::join_parameters(list, more),
         Err(error) => {
             drop(list);
             Err(error)
@@ -223,9 +223,9 @@ pub(crate) fn parameter<'a>(
     match given {
         Ok(given) => {
             let name = &tree.name;
-            let at = mc_declarations::name_start(name, tree.span);
+            let at = types_declarations::name_start(name, tree.span);
             let lengths = &tree.lengths;
-            let found = mc_declarations::parameter(
+            let found = types_declarations::parameter(
                 alloc, scope, before, name, at, lengths, of.fault, &of.value, given,
             );
             drop(of);

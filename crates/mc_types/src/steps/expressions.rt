@@ -3,27 +3,27 @@ ghost use Rattle.std.specs.Prelude.{◌≡◌, ℕ, IfOk, [], false, option_copi
 ghost use Rattle.mc_tree.specs.Tree as source_tree;
 ghost use Rattle.mc_tree.specs.Views.{expression_of, name_of};
 ghost use Rattle.mc_typed.specs.Tree.{Arguments};
-ghost use Rattle.mc_typing.specs.Scopes as scopes;
-ghost use Rattle.mc_typing.specs.Calls as calls;
-ghost use Rattle.mc_typing.specs.Judgement as judgement;
-ghost use Rattle.mc_scopes.specs.Given.{arguments_of, given_of};
-ghost use Rattle.mc_scopes.specs.Types.{kind_of, type_of};
-ghost use Rattle.mc_scopes.specs.Views.{scope_of};
-ghost use Rattle.mc_scopes.specs.Found.{found_of, judged_of};
-ghost use Rattle.mc_scopes.specs.steps.Squeezed.{squeezed, squeezed_part};
-ghost use Rattle.mc_expressions.specs.steps.Callees.{meaning_of_callee};
-ghost use Rattle.mc_expressions.specs.steps.Gathered.{squeezed_given};
+ghost use Rattle.types_rules.specs.Scopes as scopes;
+ghost use Rattle.types_rules.specs.Calls as calls;
+ghost use Rattle.types_rules.specs.Judgement as judgement;
+ghost use Rattle.types_scopes.specs.Given.{arguments_of, given_of};
+ghost use Rattle.types_scopes.specs.Types.{kind_of, type_of};
+ghost use Rattle.types_scopes.specs.Views.{scope_of};
+ghost use Rattle.types_scopes.specs.Found.{found_of, judged_of};
+ghost use Rattle.types_scopes.specs.steps.Squeezed.{squeezed, squeezed_part};
+ghost use Rattle.types_expressions.specs.steps.Callees.{meaning_of_callee};
+ghost use Rattle.types_expressions.specs.steps.Gathered.{squeezed_given};
 ghost use Rattle.mc_types.specs.Loops.{TakesArgument};
 
 use crate::unused;
-use mc_expressions::Callee;
-use mc_scopes::found::{Found, Given, Judged};
-use mc_scopes::{CType, ParameterKind, Scope};
 use mc_tree::{
     AssignmentOperator, BinaryOperator, Expression, Identifier, StepOperator, UnaryOperator,
 };
 use mc_typed::{Argument, Span};
 use std::alloc::{AllocError, Global};
+use types_expressions::Callee;
+use types_scopes::found::{Found, Given, Judged};
+use types_scopes::{CType, ParameterKind, Scope};
 
 /// Arguments so far, and one more for its parameter where there is one.
 #[inline(never)]
@@ -43,8 +43,8 @@ pub(crate) fn argument(
 {
     match found {
         Ok(found) => {
-            match mc_expressions::argument(alloc, scope, tree.span().start, parameter, found) {
-                Ok(one) => mc_expressions::gather(given, one),
+            match types_expressions::argument(alloc, scope, tree.span().start, parameter, found) {
+                Ok(one) => types_expressions::gather(given, one),
                 Err(error) => {
                     unused::given(given);
                     Err(error)
@@ -83,7 +83,7 @@ pub(crate) fn call(
 {
     match given {
         Ok(given) => {
-            let found = mc_expressions::call(alloc, scope, name, count, span, &callee, given);
+            let found = types_expressions::call(alloc, scope, name, count, span, &callee, given);
             drop(callee);
             found
         }
@@ -110,7 +110,7 @@ pub(crate) fn index(
         ≡ squeezed (judgement.judge (source_tree.Index a b span) start)) }
 {
     match second {
-        Ok(second) => mc_expressions::index(alloc, scope, span, first, second),
+        Ok(second) => types_expressions::index(alloc, scope, span, first, second),
         Err(error) => {
             unused::found(first);
             Err(error)
@@ -133,7 +133,7 @@ pub(crate) fn member(
         ≡ squeezed (judgement.judge (source_tree.Member a (name_of name.now) span) first)) }
 {
     match found {
-        Ok(object) => mc_expressions::member(alloc, scope, name, span, object),
+        Ok(object) => types_expressions::member(alloc, scope, name, span, object),
         Err(error) => Err(error),
     }
 }
@@ -152,7 +152,7 @@ pub(crate) fn postfix_step(
         ≡ squeezed (judgement.judge (source_tree.PostfixStep operator a span) first)) }
 {
     match found {
-        Ok(operand) => mc_expressions::postfix_step(alloc, operator, span, operand),
+        Ok(operand) => types_expressions::postfix_step(alloc, operator, span, operand),
         Err(error) => Err(error),
     }
 }
@@ -171,7 +171,7 @@ pub(crate) fn prefix_step(
         ≡ squeezed (judgement.judge (source_tree.PrefixStep operator a span) first)) }
 {
     match found {
-        Ok(operand) => mc_expressions::prefix_step(alloc, operator, span, operand),
+        Ok(operand) => types_expressions::prefix_step(alloc, operator, span, operand),
         Err(error) => Err(error),
     }
 }
@@ -190,7 +190,7 @@ pub(crate) fn unary(
         ≡ squeezed (judgement.judge (source_tree.Unary operator a span) first)) }
 {
     match found {
-        Ok(operand) => mc_expressions::unary(alloc, operator, span, operand),
+        Ok(operand) => types_expressions::unary(alloc, operator, span, operand),
         Err(error) => Err(error),
     }
 }
@@ -208,7 +208,7 @@ pub(crate) fn comma(
         ≡ squeezed (judgement.judge (source_tree.Comma all span) first)) }
 {
     match given {
-        Ok(given) => Ok(mc_expressions::comma(span.start, given)),
+        Ok(given) => Ok(types_expressions::comma(span.start, given)),
         Err(error) => Err(error),
     }
 }
@@ -234,7 +234,7 @@ pub(crate) fn cast(
         first)) }
 {
     match found {
-        Ok(found) => mc_expressions::cast(alloc, span, of, operand, found),
+        Ok(found) => types_expressions::cast(alloc, span, of, operand, found),
         Err(error) => {
             drop(of);
             Err(error)
@@ -258,7 +258,7 @@ pub(crate) fn binary(
         ≡ squeezed (judgement.judge (source_tree.Binary operator a b span) start)) }
 {
     match second {
-        Ok(second) => mc_expressions::binary(alloc, operator, span, first, second),
+        Ok(second) => types_expressions::binary(alloc, operator, span, first, second),
         Err(error) => {
             unused::found(first);
             Err(error)
@@ -283,7 +283,7 @@ pub(crate) fn conditional(
         ≡ squeezed (judgement.judge (source_tree.Conditional a b c span) start)) }
 {
     match other {
-        Ok(other) => mc_expressions::conditional(alloc, span, test, chosen, other),
+        Ok(other) => types_expressions::conditional(alloc, span, test, chosen, other),
         Err(error) => {
             unused::found(test);
             unused::found(chosen);
@@ -309,7 +309,7 @@ pub(crate) fn assignment(
         ≡ squeezed (judgement.judge (source_tree.Assignment operator a b span) start)) }
 {
     match second {
-        Ok(second) => mc_expressions::assignment(alloc, scope, operator, span, first, second),
+        Ok(second) => types_expressions::assignment(alloc, scope, operator, span, first, second),
         Err(error) => {
             unused::found(first);
             Err(error)

@@ -3,25 +3,25 @@ ghost use Rattle.std.specs.Prelude.{◌≡◌, IfOk, Ok, Option};
 ghost use Rattle.mc_tree.specs.Tree as source_tree;
 ghost use Rattle.mc_tree.specs.Units.{statement_of};
 ghost use Rattle.mc_typed.specs.Tree.{Statements};
-ghost use Rattle.mc_typing.specs.Scopes as scopes;
-ghost use Rattle.mc_typing.specs.Values as values;
-ghost use Rattle.mc_typing.specs.Judgement as judgement;
-ghost use Rattle.mc_typing.specs.Statements as statement_rules;
-ghost use Rattle.mc_typing.specs.Bodies as bodies;
-ghost use Rattle.mc_scopes.specs.Blocks as blocks;
-ghost use Rattle.mc_scopes.specs.Views.{scope_of};
-ghost use Rattle.mc_scopes.specs.Found.{found_of, judged_of};
-ghost use Rattle.mc_scopes.specs.Statements.{statements_of};
-ghost use Rattle.mc_scopes.specs.steps.Squeezed.{squeezed, squeezed_part};
+ghost use Rattle.types_rules.specs.Scopes as scopes;
+ghost use Rattle.types_rules.specs.Values as values;
+ghost use Rattle.types_rules.specs.Judgement as judgement;
+ghost use Rattle.types_rules.specs.Statements as statement_rules;
+ghost use Rattle.types_rules.specs.Bodies as bodies;
+ghost use Rattle.types_scopes.specs.Blocks as blocks;
+ghost use Rattle.types_scopes.specs.Views.{scope_of};
+ghost use Rattle.types_scopes.specs.Found.{found_of, judged_of};
+ghost use Rattle.types_scopes.specs.Statements.{statements_of};
+ghost use Rattle.types_scopes.specs.steps.Squeezed.{squeezed, squeezed_part};
 ghost use Rattle.mc_types.specs.Headings.{ArePartsOf};
 ghost use Rattle.mc_types.specs.Loops.{FollowsItem, TakesItem};
 
 use crate::unused;
-use mc_scopes::found::{Found, Judged};
-use mc_scopes::{Block, Scope};
 use mc_tree as tree;
 use mc_typed::{Effect, Expression, ForStart, Span, Statement};
 use std::alloc::{AllocError, Global};
+use types_scopes::found::{Found, Judged};
+use types_scopes::{Block, Scope};
 
 /// A compound statement (C17 6.8.2).
 #[inline(never)]
@@ -40,7 +40,7 @@ pub(crate) fn compound(
         ≡ squeezed_part (bodies.judge_statement a (source_tree.Compound items span) first)) }
 {
     match found {
-        Ok(found) => mc_statements::compound_statement(alloc, span, found),
+        Ok(found) => types_statements::compound_statement(alloc, span, found),
         Err(error) => Err(error),
     }
 }
@@ -63,7 +63,7 @@ pub(crate) fn if_then(
         ≡ squeezed_part (bodies.judge_statement a (source_tree.If e one span) first)) }
 {
     match chosen {
-        Ok(chosen) => mc_statements::if_statement(alloc, span, test, chosen),
+        Ok(chosen) => types_statements::if_statement(alloc, span, test, chosen),
         Err(error) => {
             unused::found(test);
             Err(error)
@@ -118,7 +118,7 @@ pub(crate) fn if_else(
 {
     match other {
         Ok(other) => {
-            mc_statements::if_else_statement(alloc, span, tested.test, tested.chosen, other)
+            types_statements::if_else_statement(alloc, span, tested.test, tested.chosen, other)
         }
         Err(error) => {
             unused::found(tested.test);
@@ -149,7 +149,7 @@ pub(crate) fn switch_on(
         (source_tree.Switch e (statement_of body.now) span) first)) }
 {
     match found {
-        Ok(found) => mc_statements::switch_statement(alloc, span, body, value, found),
+        Ok(found) => types_statements::switch_statement(alloc, span, body, value, found),
         Err(error) => {
             unused::found(value);
             Err(error)
@@ -176,10 +176,10 @@ pub(crate) fn while_loop(
 {
     match body {
         Ok(body) => {
-            let test = mc_statements::loop_test(span.start, test);
-            let start = mc_statements::no_start(alloc);
-            let step = mc_statements::no_clauses(alloc);
-            mc_statements::loop_statement(alloc, 5, span, start, test, step, body)
+            let test = types_statements::loop_test(span.start, test);
+            let start = types_statements::no_start(alloc);
+            let step = types_statements::no_clauses(alloc);
+            types_statements::loop_statement(alloc, 5, span, start, test, step, body)
         }
         Err(error) => {
             unused::found(test);
@@ -205,7 +205,7 @@ pub(crate) fn do_loop(
         ≡ squeezed_part (bodies.judge_statement a (source_tree.DoWhile one e span) first)) }
 {
     match test {
-        Ok(test) => mc_statements::do_statement(alloc, span, body, test),
+        Ok(test) => types_statements::do_statement(alloc, span, body, test),
         Err(error) => {
             unused::statements(body);
             Err(error)
@@ -253,7 +253,15 @@ pub(crate) fn for_loop(
         Ok(body) => {
             let parts = heading.parts;
             scope.leave(heading.outer);
-            mc_statements::loop_statement(alloc, 3, span, parts.start, parts.test, parts.step, body)
+            types_statements::loop_statement(
+                alloc,
+                3,
+                span,
+                parts.start,
+                parts.test,
+                parts.step,
+                body,
+            )
         }
         Err(error) => {
             drop(heading);
@@ -274,7 +282,7 @@ pub(crate) fn followed(
         ≡ squeezed_part (statement_rules.followed_judged (judged_of statements_of list last) x)) }
 {
     match rest {
-        Ok(rest) => mc_statements::followed(list, rest),
+        Ok(rest) => types_statements::followed(list, rest),
         Err(error) => {
             unused::statements(list);
             Err(error)
@@ -294,7 +302,7 @@ pub(crate) fn with_item(
         → IfOk result (λ r. FollowsItem a f list first r last) }
 {
     match one {
-        Ok(one) => mc_statements::followed(list, one),
+        Ok(one) => types_statements::followed(list, one),
         Err(error) => {
             unused::statements(list);
             Err(error)

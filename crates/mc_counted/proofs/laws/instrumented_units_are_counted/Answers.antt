@@ -1,4 +1,4 @@
-use Rattle.mc_soundness.proofs.PlainUnits.{units_plain}
+use Rattle.laws_soundness.proofs.PlainUnits.{units_plain}
 use Rattle.mc_counted.proofs.Programs.{are_counted}
 use Rattle.mc_counted.proofs.laws.instrumented_units_are_counted.Goals as goal
 

@@ -1,6 +1,6 @@
 use Rattle.std.proofs.Common.{◌∙◌, ap, map}
 use Rattle.mc_typed.specs.Views.{function_of}
-use Rattle.mc_gather.specs.steps.Gathering.{in_functions}
+use Rattle.decide_walk.specs.steps.Gathering.{in_functions}
 use Rattle.mc_decide.proofs.Gathers.{answers_decisions, answers_numbered, answers_fault}
 use Rattle.mc_decide.proofs.find.decisions_of.Goals as goal
 

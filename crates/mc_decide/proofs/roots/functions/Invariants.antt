@@ -1,7 +1,7 @@
 -- What is found so far, and then what is still to come, is what is found in all.
 use Rattle.std.proofs.Common.{◌≡◌, drop, map}
 use Rattle.mc_typed.specs.Views.{function_of}
-use Rattle.mc_gather.specs.steps.Gathering.{gathered_of, in_functions}
+use Rattle.decide_walk.specs.steps.Gathering.{gathered_of, in_functions}
 use Rattle.mc_decide.proofs.roots.functions.Given as goal
 
 abbrev pub invariant-loop-number : goal.invariant-loop-number

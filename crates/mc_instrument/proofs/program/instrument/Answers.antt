@@ -4,8 +4,8 @@ use Rattle.mc_probe.specs.BitMaps.{map_of}
 use Rattle.mc_probe.specs.Erase.{erase}
 use Rattle.mc_probe.specs.Trees.{tree_of}
 use Rattle.mc_probe.specs.Tree as p
-use Rattle.mc_simulation.proofs.Erased.{program_away}
-use Rattle.mc_simulation.proofs.Tests.{simulated}
+use Rattle.laws_simulation.proofs.Erased.{program_away}
+use Rattle.laws_simulation.proofs.Tests.{simulated}
 use Rattle.mc_instrument.proofs.program.instrument.Goals as goal
 
 pub with_probes-requires : goal.with_probes-requires

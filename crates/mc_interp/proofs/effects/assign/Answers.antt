@@ -1,5 +1,5 @@
 use Rattle.std.proofs.Common.{subst, ◌∙◌}
-use Rattle.mc_words.specs.Words.{Holds}
+use Rattle.interp_words.specs.Words.{Holds}
 use Rattle.mc_probe.specs.Views as view
 use Rattle.mc_probe.specs.Expressions as does
 use Rattle.mc_interp.specs.Stores.{state_of}

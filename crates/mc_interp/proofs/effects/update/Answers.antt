@@ -1,7 +1,7 @@
 use Rattle.std.proofs.Common.{◌∙◌}
 use Rattle.mc_typed.specs.Sound.{type_of}
 use Rattle.mc_typed.specs.Views as plain
-use Rattle.mc_words.specs.Words.{number_of}
+use Rattle.interp_words.specs.Words.{number_of}
 use Rattle.mc_probe.specs.Views as view
 use Rattle.mc_probe.specs.Expressions as does
 use Rattle.mc_interp.specs.Stores.{state_of}

@@ -1,5 +1,5 @@
 use Rattle.std.proofs.Common.{◌+◌, ◌||◌, Some, drop, sym, ap, ◌∙◌}
-use Rattle.mc_words.specs.Words.{number_of}
+use Rattle.interp_words.specs.Words.{number_of}
 use Rattle.mc_interp.proofs.Lists.{has, case_end, case_step}
 use Rattle.mc_interp.proofs.labels.has_case.Goals as goal
 

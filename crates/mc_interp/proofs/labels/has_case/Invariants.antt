@@ -1,5 +1,5 @@
 use Rattle.std.proofs.Common.{◌≡◌, Some, drop}
-use Rattle.mc_words.specs.Words.{number_of}
+use Rattle.interp_words.specs.Words.{number_of}
 use Rattle.mc_interp.proofs.Lists.{has}
 use Rattle.mc_interp.proofs.labels.has_case.Given as goal
 

@@ -2,7 +2,7 @@ use Rattle.std.proofs.Common.{ap, refl}
 use Rattle.mc_steps.specs.Statements as give
 use Rattle.mc_typed.specs.Sound.{type_of}
 use Rattle.mc_typed.specs.Views as plain
-use Rattle.mc_words.specs.Words.{number_of}
+use Rattle.interp_words.specs.Words.{number_of}
 use Rattle.mc_probe.specs.Expressions.{evaluate_structure, evaluate}
 use Rattle.mc_probe.specs.Views as view
 use Rattle.mc_interp.specs.declared.values.Given.TheVariants as given

@@ -4,7 +4,7 @@ use Rattle.mc_value.specs.declared.operators.BinOp.TheVariants.{Add}
 use Rattle.mc_typed.specs.declared.operators.Operator.TheVariants.{Binary}
 use Rattle.mc_typed.specs.Sound.{type_of}
 use Rattle.mc_typed.specs.Tree as t
-use Rattle.mc_words.specs.Words.{number_of}
+use Rattle.interp_words.specs.Words.{number_of}
 use Rattle.mc_probe.specs.Erase.{erase_expression}
 use Rattle.mc_probe.proofs.ErasedPrograms.{effect_erases}
 use Rattle.mc_interp.specs.Effects.{IsAnyEffect}

@@ -4,7 +4,7 @@ use Rattle.mc_typed.specs.Views as plain
 use Rattle.mc_steps.specs.Runs.{gives}
 use Rattle.mc_steps.specs.Statements.{Completed}
 use Rattle.mc_steps.specs.Expressions.{as_does, is_true}
-use Rattle.mc_words.specs.Words.{number_of}
+use Rattle.interp_words.specs.Words.{number_of}
 use Rattle.mc_probe.specs.Expressions.{evaluate}
 use Rattle.mc_probe.specs.Probes.{mark_does}
 use Rattle.mc_probe.specs.Statements as does

@@ -1,7 +1,7 @@
 use Rattle.std.proofs.Common.{◌∙◌, ◌-◌, ap, map, List}
 use Rattle.mc_typed.specs.declared.functions.Function.{Function}
 use Rattle.mc_typed.specs.Views.{function_of, program_of}
-use Rattle.mc_roots.specs.Nodes as n
+use Rattle.decide_rules.specs.Nodes as n
 use Rattle.mc_mutate.specs.declared.search.sought.Sought.TheVariants.{Left}
 use Rattle.mc_mutate.specs.steps.Search.{inside_parts}
 use Rattle.mc_mutate.proofs.Numbered.{change_is, none_left}

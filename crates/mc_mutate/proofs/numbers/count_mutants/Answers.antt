@@ -1,8 +1,8 @@
 use Rattle.std.proofs.Common.{◌∙◌, ap, map, List}
 use Rattle.mc_typed.specs.declared.functions.Function.{Function}
 use Rattle.mc_typed.specs.Views.{function_of, program_of}
-use Rattle.mc_roots.specs.Nodes as n
-use Rattle.mc_roots.specs.Seen.{decision_of}
+use Rattle.decide_rules.specs.Nodes as n
+use Rattle.decide_rules.specs.Seen.{decision_of}
 use Rattle.mc_mutate.specs.declared.search.sought.Sought.TheVariants.{Left}
 use Rattle.mc_mutate.specs.steps.Search.{inside_parts}
 use Rattle.mc_mutate.proofs.Numbered.{counted_few, counted_many, exact_few, exact_many}

@@ -1,6 +1,6 @@
 use Rattle.std.proofs.Common.{arith}
-use Rattle.mc_reading.specs.Items.{unit_of}
-use Rattle.mc_descent.proofs.Lists.{until_steps}
+use Rattle.laws_grammar.specs.Items.{unit_of}
+use Rattle.parse_expressions.proofs.Lists.{until_steps}
 use Rattle.mc_parse.proofs.items.items.Goals as goal
 
 pub loop-turn-preserved : goal.loop-turn-preserved

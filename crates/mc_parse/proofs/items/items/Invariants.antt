@@ -1,9 +1,9 @@
 use Rattle.std.proofs.Common.{◌≡◌, ◌-◌}
 use Rattle.mc_tree.specs.Units.{items_of}
 use Rattle.mc_grammar.specs.steps.Next.{ended}
-use Rattle.mc_reading.specs.Items as spec
-use Rattle.mc_reading.specs.Lists.{until_list}
-use Rattle.mc_cursor.specs.Cursors.{left_of}
+use Rattle.laws_grammar.specs.Items as spec
+use Rattle.laws_grammar.specs.Lists.{until_list}
+use Rattle.parse_cursor.specs.Cursors.{left_of}
 use Rattle.mc_parse.proofs.items.items.Given as goal
 
 abbrev pub invariant-loop-turn : goal.invariant-loop-turn

@@ -1,6 +1,6 @@
 -- The loop over the items of a block.
 use Rattle.std.proofs.Common.{arith}
-use Rattle.mc_descent.proofs.Lists.{until_steps}
+use Rattle.parse_expressions.proofs.Lists.{until_steps}
 use Rattle.mc_parse.proofs.statements.+statements.Goals as goal
 
 pub blocks::block_items-loop-turn-preserved : goal.blocks::block_items-loop-turn-preserved

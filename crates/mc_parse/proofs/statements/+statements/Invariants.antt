@@ -2,9 +2,9 @@ use Rattle.mc_parse.proofs.statements.+statements.Given as goal
 use Rattle.std.proofs.Common.{◌≡◌, ◌+◌, ◌*◌, ◌-◌, [], map, codes}
 use Rattle.mc_tree.specs.Units.{block_item_of}
 use Rattle.mc_grammar.specs.Words.{sees}
-use Rattle.mc_reading.specs.Lists.{listed, until_list}
-use Rattle.mc_reading.specs.Statements as spec
-use Rattle.mc_cursor.specs.Cursors.{left_of}
+use Rattle.laws_grammar.specs.Lists.{listed, until_list}
+use Rattle.laws_grammar.specs.Statements as spec
+use Rattle.parse_cursor.specs.Cursors.{left_of}
 
 -- a statement is read with less room than its block or what is not a block
 abbrev pub decreases-statement : goal.decreases-statement

@@ -1,6 +1,6 @@
 use Rattle.std.proofs.Common.{◌≡◌, ◌+◌, ◌*◌, ◌++◌, length}
 use Rattle.arrayvec.specs.ArrayVec.{array_vec_len}
-use Rattle.mc_wording.specs.Hexadecimal.{hexadecimal}
+use Rattle.report_words.specs.Hexadecimal.{hexadecimal}
 use Rattle.mc_record.proofs.line.push_digits.Given as goal
 
 abbrev pub invariant-loop-left : goal.invariant-loop-left

@@ -1,7 +1,7 @@
 use Rattle.std.proofs.Common.{◌≡◌, ◌≤◌, ◌++◌, ℕ, List, length, true}
 use Rattle.std.specs.List.{concat, list_all}
 use Rattle.std.specs.Io.KnownBytes.{Appends}
-use Rattle.mc_rows.specs.Names.{is_name}
+use Rattle.csv_records.specs.Names.{is_name}
 use Rattle.mc_record.specs.Lines.{test_lines}
 use Rattle.mc_record.proofs.writing.put_tests.Given as goal
 

@@ -1,7 +1,7 @@
 use Rattle.std.proofs.Common.{◌≡◌, ◌∙◌, ◌<◌, Some, List, ℕ, length, map, option_map, ap, subst, sym}
 use Rattle.std.specs.Prelude.{slice_get}
 use Rattle.std.proofs.lemmas.Option.{slice_get-map}
-use Rattle.mc_crew.specs.Recorder.{RecorderView}
+use Rattle.cover_recorder.specs.Recorder.{RecorderView}
 use Rattle.mc_cover.specs.declared.view.View.{View}
 use Rattle.mc_meaning.specs.declared.result.TestResult.{TestResult}
 use Rattle.mc_meaning.specs.Seen.{Told, told_of}

@@ -1,5 +1,5 @@
 use Rattle.std.proofs.Common.{◌≡◌, ◌-◌, length, map}
-use Rattle.mc_crew.specs.Crew.{IsAtWork}
+use Rattle.cover_recorder.specs.Crew.{IsAtWork}
 use Rattle.mc_probe.specs.Trees.{tree_of}
 use Rattle.mc_typed.specs.Plans.{plan_of}
 use Rattle.mc_runner.specs.Jobs.{AreTold, does_of, told_all}

@@ -1,6 +1,6 @@
 use Rattle.std.proofs.Common.{◌≡◌, ◌+◌, [], All, length, map, vec_len}
 use Rattle.std.specs.Prelude.{IfOk}
-use Rattle.mc_crew.specs.Crew.{IsGathered}
+use Rattle.cover_recorder.specs.Crew.{IsGathered}
 use Rattle.mc_probe.specs.Trees.{tree_of}
 use Rattle.mc_typed.specs.Plans.{plan_of}
 use Rattle.mc_runner.specs.Jobs.{AreFilled, HasDone, does_of, told_all}

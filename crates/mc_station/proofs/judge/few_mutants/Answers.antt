@@ -1,11 +1,11 @@
 use Rattle.std.proofs.Common.{◌≡◌, map, ap, arith}
 use Rattle.mc_typed.specs.Views.{program_of}
-use Rattle.mc_roots.specs.Seen.{decision_of}
+use Rattle.decide_rules.specs.Seen.{decision_of}
 use Rattle.mc_probe.specs.BitMaps.{map_of}
 use Rattle.mc_mutate.specs.Mutants.{count}
-use Rattle.mc_replies.specs.Reply.{refusal}
-use Rattle.mc_replies.specs.Texts.{mutants_line}
-use Rattle.mc_replies.specs.declared.status.Status.TheVariants.{TooManyMutants}
+use Rattle.station_replies.specs.Reply.{refusal}
+use Rattle.station_replies.specs.Texts.{mutants_line}
+use Rattle.station_replies.specs.declared.status.Status.TheVariants.{TooManyMutants}
 use Rattle.mc_station.proofs.Counted.{is_count}
 use Rattle.mc_station.proofs.judge.few_mutants.Goals as goal
 

@@ -2,7 +2,7 @@ use Rattle.std.proofs.Common.{map}
 use Rattle.mc_lex.specs.Tokens.{toks_of}
 use Rattle.mc_tree.specs.Units.{items_of}
 use Rattle.mc_typed.specs.Views.{program_of}
-use Rattle.mc_roots.specs.Seen.{decision_of}
+use Rattle.decide_rules.specs.Seen.{decision_of}
 use Rattle.mc_station.specs.Source.{JudgesSource}
 use Rattle.mc_station.proofs.Judging.{at_decisions, at_types, goes_through, handed_on}
 use Rattle.mc_station.proofs.source.judge_source.Goals as goal

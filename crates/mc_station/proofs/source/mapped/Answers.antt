@@ -1,6 +1,6 @@
 use Rattle.std.proofs.Common.{map}
 use Rattle.mc_typed.specs.Views.{program_of}
-use Rattle.mc_roots.specs.Seen.{decision_of}
+use Rattle.decide_rules.specs.Seen.{decision_of}
 use Rattle.mc_probe.specs.BitMaps.{map_of}
 use Rattle.mc_station.specs.Seen.{seen_accepted}
 use Rattle.mc_station.specs.declared.accepted.Accepted.{Accepted}

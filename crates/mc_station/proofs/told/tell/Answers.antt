@@ -1,6 +1,6 @@
 use Rattle.mc_command.specs.Seen.{seen_listing, seen_report}
 use Rattle.mc_tests.specs.Seen.{seen_plans}
-use Rattle.mc_replies.specs.Seen.{seen_reply}
+use Rattle.station_replies.specs.Seen.{seen_reply}
 use Rattle.mc_station.specs.Seen.{seen_accepted}
 use Rattle.mc_station.proofs.Recording.{run_records}
 use Rattle.mc_station.proofs.Reported.{run_listing, run_lists, run_reduces, run_reports}

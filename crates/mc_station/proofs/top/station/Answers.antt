@@ -1,9 +1,9 @@
 use Rattle.std.proofs.Common.{◌∙◌, ap, inl, sym}
 use Rattle.mc_station.specs.Calls.{call_of}
-use Rattle.mc_replies.specs.Reply.{out_of_memory}
-use Rattle.mc_replies.specs.Seen.{seen_reply}
-use Rattle.mc_replies.specs.Status.{number_of}
-use Rattle.mc_replies.proofs.Statuses.{is_answer, seven}
+use Rattle.station_replies.specs.Reply.{out_of_memory}
+use Rattle.station_replies.specs.Seen.{seen_reply}
+use Rattle.station_replies.specs.Status.{number_of}
+use Rattle.station_replies.proofs.Statuses.{is_answer, seven}
 use Rattle.mc_station.proofs.Parts.{nothing_put}
 use Rattle.mc_station.proofs.Ends.{never_unwritten}
 use Rattle.mc_station.proofs.Watching.{same_status}

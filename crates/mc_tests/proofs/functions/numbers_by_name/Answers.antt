@@ -2,7 +2,7 @@ use Rattle.std.proofs.Common.{◌≡◌, ◌∙◌, ◌+◌, ◌-◌, ◌++◌, 
 use Rattle.std.specs.Str.{bytes_eq}
 use Rattle.std.proofs.lemmas.List.{drop_all, nil_from_length, length_push}
 use Rattle.mc_tests.proofs.ByName.{by_name, last_apart, last_more, none_after, one_back}
-use Rattle.mc_names.specs.Tables.{last_of}
+use Rattle.name_table.specs.Tables.{last_of}
 use Rattle.mc_tests.proofs.functions.numbers_by_name.Goals as goal
 
 pub loop-left-init : goal.loop-left-init

@@ -1,6 +1,6 @@
 use Rattle.std.proofs.Common.{◌≡◌, ◌++◌, ℕ, List, length, map, drop, option_map}
 use Rattle.mc_typed.specs.Views.{function_of}
-use Rattle.mc_names.specs.Tables.{last_of}
+use Rattle.name_table.specs.Tables.{last_of}
 use Rattle.mc_tests.specs.Lines.{function_named}
 use Rattle.mc_tests.proofs.functions.numbers_by_name.Given as goal
 

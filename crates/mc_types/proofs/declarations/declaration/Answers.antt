@@ -1,11 +1,11 @@
 use Rattle.std.proofs.Common.{◌∙◌, map}
 use Rattle.mc_tree.specs.Units as units
 use Rattle.mc_tree.specs.Views.{specifier_of, specifiers_from}
-use Rattle.mc_scopes.specs.Types.{type_of}
-use Rattle.mc_scopes.specs.Views.{scope_of}
-use Rattle.mc_scopes.specs.Found.{judged_of}
-use Rattle.mc_scopes.specs.Statements.{declarators_of}
-use Rattle.mc_faults.specs.Kept.{listed}
+use Rattle.types_scopes.specs.Types.{type_of}
+use Rattle.types_scopes.specs.Views.{scope_of}
+use Rattle.types_scopes.specs.Found.{judged_of}
+use Rattle.types_scopes.specs.Statements.{declarators_of}
+use Rattle.types_faults.specs.Kept.{listed}
 use Rattle.mc_types.proofs.DeclarationArms.{in_declaration}
 use Rattle.mc_types.proofs.declarations.declaration.Goals as goal
 

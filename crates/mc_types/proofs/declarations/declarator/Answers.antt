@@ -1,17 +1,17 @@
 use Rattle.std.proofs.Common.{◌∙◌, map, option_map, option_copied, Option, ap, inl, inr}
 use Rattle.mc_tree.specs.Units as units
 use Rattle.mc_tree.specs.Views.{name_of, parameter_of, parameters_from}
-use Rattle.mc_typing.specs.Types.{ParameterKind}
-use Rattle.mc_typing.specs.Scopes.{Scope, prototype}
-use Rattle.mc_typing.specs.Declarators.{Listed}
-use Rattle.mc_typing.specs.Declarations.{function_judged}
-use Rattle.mc_typing.specs.Judgement.{judge_parameter_list}
-use Rattle.mc_scopes.specs.Types.{type_of}
-use Rattle.mc_scopes.specs.Views.{scope_of}
-use Rattle.mc_scopes.specs.Found.{judged_of}
-use Rattle.mc_scopes.specs.Statements.{declarators_of}
-use Rattle.mc_scopes.specs.steps.Squeezed.{squeezed_part}
-use Rattle.mc_declarations.specs.Declarations.{listed_parameters, storage_from}
+use Rattle.types_rules.specs.Types.{ParameterKind}
+use Rattle.types_rules.specs.Scopes.{Scope, prototype}
+use Rattle.types_rules.specs.Declarators.{Listed}
+use Rattle.types_rules.specs.Declarations.{function_judged}
+use Rattle.types_rules.specs.Judgement.{judge_parameter_list}
+use Rattle.types_scopes.specs.Types.{type_of}
+use Rattle.types_scopes.specs.Views.{scope_of}
+use Rattle.types_scopes.specs.Found.{judged_of}
+use Rattle.types_scopes.specs.Statements.{declarators_of}
+use Rattle.types_scopes.specs.steps.Squeezed.{squeezed_part}
+use Rattle.types_declarations.specs.Declarations.{listed_parameters, storage_from}
 use Rattle.mc_types.proofs.Exits.{found_as}
 use Rattle.mc_types.proofs.Trees.{declarator_of-EmptyFunction, declarator_of-Function, declarator_of-Object, declarator_of-VoidFunction}
 use Rattle.mc_types.proofs.DeclarationArms.{function_of_least}

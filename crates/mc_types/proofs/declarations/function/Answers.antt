@@ -1,11 +1,11 @@
 use Rattle.std.proofs.Common.{◌∙◌, option_map, option_copied}
 use Rattle.mc_tree.specs.Units as units
 use Rattle.mc_tree.specs.Views.{name_of}
-use Rattle.mc_scopes.specs.Types.{type_of}
-use Rattle.mc_scopes.specs.Views.{scope_of}
-use Rattle.mc_scopes.specs.Found.{judged_of}
-use Rattle.mc_declarations.specs.Declarations.{listed_parameters, optional_of, storage_from}
-use Rattle.mc_declarations.specs.Halves.{begun}
+use Rattle.types_scopes.specs.Types.{type_of}
+use Rattle.types_scopes.specs.Views.{scope_of}
+use Rattle.types_scopes.specs.Found.{judged_of}
+use Rattle.types_declarations.specs.Declarations.{listed_parameters, optional_of, storage_from}
+use Rattle.types_declarations.specs.Halves.{begun}
 use Rattle.mc_types.proofs.DeclarationArms.{in_function}
 use Rattle.mc_types.proofs.declarations.function.Goals as goal
 

@@ -2,15 +2,15 @@ use Rattle.std.proofs.Common.{◌∙◌, ◌+◌, drop, map, option_map, List, s
 use Rattle.mc_tree.specs.Tree as tree
 use Rattle.mc_tree.specs.Units as units
 use Rattle.mc_typed.specs.Tree.{Declarator}
-use Rattle.mc_typing.specs.Values.{Judged}
-use Rattle.mc_typing.specs.Declarations.{both_lists, judge_init_declarator, judge_init_declarators}
-use Rattle.mc_scopes.specs.Types.{type_of}
-use Rattle.mc_scopes.specs.Views.{scope_of}
-use Rattle.mc_scopes.specs.Found.{judged_of}
-use Rattle.mc_scopes.specs.Statements.{declarators_of}
-use Rattle.mc_scopes.specs.steps.Squeezed.{squeezed_part}
-use Rattle.mc_declarations.specs.Declarations.{storage_from}
-use Rattle.mc_statements.proofs.Folds.{both_lists_last}
+use Rattle.types_rules.specs.Values.{Judged}
+use Rattle.types_rules.specs.Declarations.{both_lists, judge_init_declarator, judge_init_declarators}
+use Rattle.types_scopes.specs.Types.{type_of}
+use Rattle.types_scopes.specs.Views.{scope_of}
+use Rattle.types_scopes.specs.Found.{judged_of}
+use Rattle.types_scopes.specs.Statements.{declarators_of}
+use Rattle.types_scopes.specs.steps.Squeezed.{squeezed_part}
+use Rattle.types_declarations.specs.Declarations.{storage_from}
+use Rattle.types_statements.proofs.Folds.{both_lists_last}
 use Rattle.mc_types.proofs.Turns.{last_turn, next_turn}
 use Rattle.mc_types.proofs.Parts.{lists_first, lists_turn}
 use Rattle.mc_types.proofs.declarations.init_declarators.Goals as goal

@@ -1,13 +1,13 @@
 -- What is found so far, with what is still to come, is what is found of the whole list.
 use Rattle.std.proofs.Common.{◌≡◌, drop, map, option_map}
 use Rattle.mc_tree.specs.Units.{init_declarator_of}
-use Rattle.mc_typing.specs.Declarations.{both_lists, judge_init_declarators}
-use Rattle.mc_scopes.specs.Types.{type_of}
-use Rattle.mc_scopes.specs.Views.{scope_of}
-use Rattle.mc_scopes.specs.Found.{judged_of}
-use Rattle.mc_scopes.specs.Statements.{declarators_of}
-use Rattle.mc_scopes.specs.steps.Squeezed.{squeezed_part}
-use Rattle.mc_declarations.specs.Declarations.{storage_from}
+use Rattle.types_rules.specs.Declarations.{both_lists, judge_init_declarators}
+use Rattle.types_scopes.specs.Types.{type_of}
+use Rattle.types_scopes.specs.Views.{scope_of}
+use Rattle.types_scopes.specs.Found.{judged_of}
+use Rattle.types_scopes.specs.Statements.{declarators_of}
+use Rattle.types_scopes.specs.steps.Squeezed.{squeezed_part}
+use Rattle.types_declarations.specs.Declarations.{storage_from}
 use Rattle.mc_types.proofs.declarations.init_declarators.Given as goal
 
 abbrev pub invariant-loop-tree : goal.invariant-loop-tree

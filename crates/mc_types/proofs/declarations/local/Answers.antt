@@ -1,13 +1,13 @@
 use Rattle.std.proofs.Common.{option_map, option_copied}
 use Rattle.mc_tree.specs.Units as units
 use Rattle.mc_tree.specs.Views.{name_of}
-use Rattle.mc_scopes.specs.Types.{type_of}
-use Rattle.mc_scopes.specs.Views.{scope_of}
-use Rattle.mc_scopes.specs.Found.{judged_of}
-use Rattle.mc_scopes.specs.Statements.{declarators_of}
-use Rattle.mc_faults.specs.Kept.{listed}
-use Rattle.mc_declarations.specs.Declarations.{optional_of, written}
-use Rattle.mc_declarations.specs.Halves.{local_of}
+use Rattle.types_scopes.specs.Types.{type_of}
+use Rattle.types_scopes.specs.Views.{scope_of}
+use Rattle.types_scopes.specs.Found.{judged_of}
+use Rattle.types_scopes.specs.Statements.{declarators_of}
+use Rattle.types_faults.specs.Kept.{listed}
+use Rattle.types_declarations.specs.Declarations.{optional_of, written}
+use Rattle.types_declarations.specs.Halves.{local_of}
 use Rattle.mc_types.proofs.Exits.{found_each}
 use Rattle.mc_types.proofs.DeclarationArms.{in_automatic}
 use Rattle.mc_types.proofs.declarations.local.Goals as goal

@@ -1,12 +1,12 @@
 use Rattle.std.proofs.Common.{option_map, option_copied}
 use Rattle.mc_tree.specs.Units as units
 use Rattle.mc_tree.specs.Views.{name_of}
-use Rattle.mc_typing.specs.Declarations.{TypedefStorage, StaticStorage, AutomaticStorage}
-use Rattle.mc_scopes.specs.Types.{type_of}
-use Rattle.mc_scopes.specs.Views.{scope_of}
-use Rattle.mc_scopes.specs.Found.{judged_of}
-use Rattle.mc_scopes.specs.Statements.{declarators_of}
-use Rattle.mc_declarations.specs.Declarations.{lengths_in, written}
+use Rattle.types_rules.specs.Declarations.{TypedefStorage, StaticStorage, AutomaticStorage}
+use Rattle.types_scopes.specs.Types.{type_of}
+use Rattle.types_scopes.specs.Views.{scope_of}
+use Rattle.types_scopes.specs.Found.{judged_of}
+use Rattle.types_scopes.specs.Statements.{declarators_of}
+use Rattle.types_declarations.specs.Declarations.{lengths_in, written}
 use Rattle.mc_types.proofs.Exits.{found_as}
 use Rattle.mc_types.proofs.DeclarationArms.{in_object}
 use Rattle.mc_types.proofs.declarations.object.Goals as goal

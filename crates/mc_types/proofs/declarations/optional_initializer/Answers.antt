@@ -2,9 +2,9 @@ use Rattle.std.proofs.Common.{◌∙◌, option_map, option_copied}
 use Rattle.mc_tree.specs.Tree as tree
 use Rattle.mc_tree.specs.Units as units
 use Rattle.mc_typed.specs.Views.{initializer_of}
-use Rattle.mc_scopes.specs.Types.{type_of}
-use Rattle.mc_scopes.specs.Views.{scope_of}
-use Rattle.mc_scopes.specs.Found.{judged_of}
+use Rattle.types_scopes.specs.Types.{type_of}
+use Rattle.types_scopes.specs.Views.{scope_of}
+use Rattle.types_scopes.specs.Found.{judged_of}
 use Rattle.mc_types.proofs.DeclarationArms.{in_optional}
 use Rattle.mc_types.proofs.declarations.optional_initializer.Goals as goal
 

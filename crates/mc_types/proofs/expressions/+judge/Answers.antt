@@ -4,24 +4,24 @@ use Rattle.std.proofs.lemmas.Result.{IfOk-weaker}
 use Rattle.mc_tree.specs.Tree as tree
 use Rattle.mc_tree.specs.Views.{name_of, tag_of, array_length_of, declarator_of, declarators_from, enumerator_of, enumerators_from, expression_of, expressions_from, lengths_from, member_of, members_from, parameter_of, parameters_from, specifier_of, specifiers_from}
 use Rattle.mc_typed.specs.Tree.{Argument}
-use Rattle.mc_typing.specs.Values.{Judged}
-use Rattle.mc_typing.specs.Declarators.{Listed}
-use Rattle.mc_typing.specs.Types.{CType, ParameterKind}
-use Rattle.mc_typing.specs.Calls.{Given}
-use Rattle.mc_typing.specs.Declarators.{after_faults, joined}
-use Rattle.mc_typing.specs.Declarations.{both_lists}
-use Rattle.mc_typing.specs.Judgement.{after, judge_arguments, judge_declarator, judge_declarators, judge_enumerator, judge_enumerators, judge_lengths, judge_member, judge_members, judge_parameter, judge_parameter_list, judge_specifier, judge_specifiers, specifiers_judged, typed_by}
-use Rattle.mc_scopes.specs.Types.{kind_of, type_of}
-use Rattle.mc_scopes.specs.Listed.{listed_of}
-use Rattle.mc_scopes.specs.Prototypes.{prototype_of}
-use Rattle.mc_scopes.specs.Views.{scope_of}
-use Rattle.mc_scopes.specs.Found.{found_of, judged_of}
-use Rattle.mc_scopes.specs.Given.{arguments_of, given_of, items_of}
-use Rattle.mc_declarations.specs.Declarations.{lengths_in, listed_members, listed_parameters, number_judged, squeezed_listed}
-use Rattle.mc_expressions.specs.steps.Gathered.{gathered, squeezed_given}
-use Rattle.mc_faults.specs.Kept.{listed}
-use Rattle.mc_scopes.specs.steps.Squeezed.{squeezed_part}
-use Rattle.mc_declarations.proofs.DeclarationNodes.{lengths_end, parameters_end, specifiers_end}
+use Rattle.types_rules.specs.Values.{Judged}
+use Rattle.types_rules.specs.Declarators.{Listed}
+use Rattle.types_rules.specs.Types.{CType, ParameterKind}
+use Rattle.types_rules.specs.Calls.{Given}
+use Rattle.types_rules.specs.Declarators.{after_faults, joined}
+use Rattle.types_rules.specs.Declarations.{both_lists}
+use Rattle.types_rules.specs.Judgement.{after, judge_arguments, judge_declarator, judge_declarators, judge_enumerator, judge_enumerators, judge_lengths, judge_member, judge_members, judge_parameter, judge_parameter_list, judge_specifier, judge_specifiers, specifiers_judged, typed_by}
+use Rattle.types_scopes.specs.Types.{kind_of, type_of}
+use Rattle.types_scopes.specs.Listed.{listed_of}
+use Rattle.types_scopes.specs.Prototypes.{prototype_of}
+use Rattle.types_scopes.specs.Views.{scope_of}
+use Rattle.types_scopes.specs.Found.{found_of, judged_of}
+use Rattle.types_scopes.specs.Given.{arguments_of, given_of, items_of}
+use Rattle.types_declarations.specs.Declarations.{lengths_in, listed_members, listed_parameters, number_judged, squeezed_listed}
+use Rattle.types_expressions.specs.steps.Gathered.{gathered, squeezed_given}
+use Rattle.types_faults.specs.Kept.{listed}
+use Rattle.types_scopes.specs.steps.Squeezed.{squeezed_part}
+use Rattle.types_declarations.proofs.DeclarationNodes.{lengths_end, parameters_end, specifiers_end}
 use Rattle.mc_types.proofs.Exits.{at_ok, found_as}
 use Rattle.mc_types.proofs.Trees.{array_length_of-Absent, array_length_of-Given, declarator_of-EmptyFunction, declarator_of-Function, declarator_of-VoidFunction, declarator_of-Object, enumerator_of-Bare, enumerator_of-Valued, expression_of-Assignment, expression_of-Binary, expression_of-Call, expression_of-Cast, expression_of-Character, expression_of-Constant, expression_of-Comma, expression_of-Conditional, expression_of-Index, expression_of-Member, expression_of-Name, expression_of-Parenthesized, expression_of-PostfixStep, expression_of-PrefixStep, expression_of-Unary, member_of-parts, specifier_of-Enumeration, specifier_of-EnumerationTag, specifier_of-Structure, specifier_of-StructureTag, specifier_of-TypedefName, specifier_of-Word}
 use Rattle.mc_types.proofs.Falls.{assignment_target, assignment_value, binary_left, binary_right, conditional_chosen, conditional_other, conditional_test, from_first, from_later, from_operand, index_array, index_index, member_object, parenthesized_inner, postfix_operand, prefix_operand, to_any_expression, to_later, to_operand, unary_operand}

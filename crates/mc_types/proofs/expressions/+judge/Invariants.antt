@@ -1,18 +1,18 @@
 -- What is found so far, with what is still to come, is what is found of the whole list.
 use Rattle.std.proofs.Common.{◌≡◌, pos, Some, drop, map, option_map}
 use Rattle.mc_tree.specs.Views.{array_length_of, declarator_of, declarators_from, enumerator_of, enumerators_from, expression_of, expressions_from, lengths_from, member_of, members_from, parameter_of, parameters_from, specifier_of, specifiers_from}
-use Rattle.mc_typing.specs.Declarators.{after_faults, joined}
-use Rattle.mc_typing.specs.Declarations.{both_lists}
-use Rattle.mc_typing.specs.Judgement.{after, judge_arguments, judge_declarators, judge_enumerators, judge_lengths, judge_members, judge_parameter_list, judge_specifiers, specifiers_judged}
-use Rattle.mc_scopes.specs.Types.{kind_of, type_of}
-use Rattle.mc_scopes.specs.Listed.{listed_of}
-use Rattle.mc_scopes.specs.Views.{scope_of}
-use Rattle.mc_scopes.specs.Found.{judged_of}
-use Rattle.mc_scopes.specs.Given.{given_of, items_of}
-use Rattle.mc_declarations.specs.Declarations.{lengths_in, listed_parameters, squeezed_listed}
-use Rattle.mc_faults.specs.Kept.{listed}
-use Rattle.mc_scopes.specs.steps.Squeezed.{squeezed_part}
-use Rattle.mc_expressions.specs.steps.Gathered.{gathered, squeezed_given}
+use Rattle.types_rules.specs.Declarators.{after_faults, joined}
+use Rattle.types_rules.specs.Declarations.{both_lists}
+use Rattle.types_rules.specs.Judgement.{after, judge_arguments, judge_declarators, judge_enumerators, judge_lengths, judge_members, judge_parameter_list, judge_specifiers, specifiers_judged}
+use Rattle.types_scopes.specs.Types.{kind_of, type_of}
+use Rattle.types_scopes.specs.Listed.{listed_of}
+use Rattle.types_scopes.specs.Views.{scope_of}
+use Rattle.types_scopes.specs.Found.{judged_of}
+use Rattle.types_scopes.specs.Given.{given_of, items_of}
+use Rattle.types_declarations.specs.Declarations.{lengths_in, listed_parameters, squeezed_listed}
+use Rattle.types_faults.specs.Kept.{listed}
+use Rattle.types_scopes.specs.steps.Squeezed.{squeezed_part}
+use Rattle.types_expressions.specs.steps.Gathered.{gathered, squeezed_given}
 use Rattle.mc_types.proofs.expressions.+judge.Given as goal
 
 abbrev pub invariant-arguments-loop-tree : goal.invariant-arguments-loop-tree

@@ -5,18 +5,18 @@ use Rattle.mc_tree.specs.Units.{initializer_of, initializers_from}
 use Rattle.mc_tree.specs.Views.{expression_of}
 use Rattle.mc_typed.specs.Tree.{Initializers}
 use Rattle.mc_typed.specs.Views as typed
-use Rattle.mc_typing.specs.Scopes.{Scope}
-use Rattle.mc_typing.specs.Values.{Judged}
-use Rattle.mc_typing.specs.Initializers.{Parts, first_part, judge_initializer, judge_items, later_parts, parts_of, target_of}
-use Rattle.mc_scopes.specs.Types.{type_of}
-use Rattle.mc_scopes.specs.Views.{scope_of}
-use Rattle.mc_scopes.specs.Found.{found_of, judged_of}
-use Rattle.mc_statements.specs.Initializers.{parts_from}
-use Rattle.mc_statements.specs.Items.{items_joined, items_of}
-use Rattle.mc_scopes.specs.steps.Squeezed.{squeezed_part}
+use Rattle.types_rules.specs.Scopes.{Scope}
+use Rattle.types_rules.specs.Values.{Judged}
+use Rattle.types_rules.specs.Initializers.{Parts, first_part, judge_initializer, judge_items, later_parts, parts_of, target_of}
+use Rattle.types_scopes.specs.Types.{type_of}
+use Rattle.types_scopes.specs.Views.{scope_of}
+use Rattle.types_scopes.specs.Found.{found_of, judged_of}
+use Rattle.types_statements.specs.Initializers.{parts_from}
+use Rattle.types_statements.specs.Items.{items_joined, items_of}
+use Rattle.types_scopes.specs.steps.Squeezed.{squeezed_part}
 use Rattle.mc_types.proofs.Exits.{found_as}
 use Rattle.mc_types.proofs.Bodies.{initializer_of-Braced, initializer_of-Single}
-use Rattle.mc_statements.proofs.ItemParts.{from_first}
+use Rattle.types_statements.proofs.ItemParts.{from_first}
 use Rattle.mc_types.proofs.InitializerArms.{in_items, in_list, in_single, later_parts_from, only_item}
 use Rattle.mc_types.proofs.Turns.{last_turn, next_turn}
 use Rattle.mc_types.proofs.Parts.{items_first, items_last, items_turn, squeezed_judged}

@@ -1,12 +1,12 @@
 -- What is found so far, with what is still to come, is what is found of the whole list.
 use Rattle.std.proofs.Common.{◌≡◌, drop, length, map}
 use Rattle.mc_tree.specs.Units.{initializer_of, initializers_from}
-use Rattle.mc_typing.specs.Initializers.{Parts, judge_items}
-use Rattle.mc_scopes.specs.Views.{scope_of}
-use Rattle.mc_scopes.specs.Found.{judged_of}
-use Rattle.mc_statements.specs.Initializers.{parts_from}
-use Rattle.mc_statements.specs.Items.{items_joined, items_of}
-use Rattle.mc_scopes.specs.steps.Squeezed.{squeezed_part}
+use Rattle.types_rules.specs.Initializers.{Parts, judge_items}
+use Rattle.types_scopes.specs.Views.{scope_of}
+use Rattle.types_scopes.specs.Found.{judged_of}
+use Rattle.types_statements.specs.Initializers.{parts_from}
+use Rattle.types_statements.specs.Items.{items_joined, items_of}
+use Rattle.types_scopes.specs.steps.Squeezed.{squeezed_part}
 use Rattle.mc_types.specs.Single.{AreParts}
 use Rattle.mc_types.proofs.initializers.+initializers.Given as goal
 

@@ -1,11 +1,11 @@
 use Rattle.std.proofs.Common.{◌∙◌, option_copied, option_map, ap, arith}
 use Rattle.mc_tree.specs.Views.{expression_of}
-use Rattle.mc_typing.specs.Initializers.{first_part, parts_of, target_of}
-use Rattle.mc_statements.proofs.ItemParts.{from_first}
-use Rattle.mc_scopes.specs.Types.{type_of}
-use Rattle.mc_scopes.specs.Views.{scope_of}
+use Rattle.types_rules.specs.Initializers.{first_part, parts_of, target_of}
+use Rattle.types_statements.proofs.ItemParts.{from_first}
+use Rattle.types_scopes.specs.Types.{type_of}
+use Rattle.types_scopes.specs.Views.{scope_of}
 use Rattle.mc_typed.specs.Views.{initializer_of}
-use Rattle.mc_scopes.specs.Found.{found_of, judged_of}
+use Rattle.types_scopes.specs.Found.{found_of, judged_of}
 use Rattle.mc_types.proofs.Exits.{found_as}
 use Rattle.mc_types.proofs.InitializerArms.{in_braces}
 use Rattle.mc_types.proofs.initializers.only_expression.Goals as goal

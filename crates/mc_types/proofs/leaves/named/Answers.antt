@@ -1,10 +1,10 @@
 -- A name, by its meaning in the scope.
 use Rattle.std.proofs.Common.{Option, ap}
-use Rattle.mc_typing.specs.Scopes.{Meaning}
-use Rattle.mc_scopes.specs.Views.{scope_of}
-use Rattle.mc_scopes.specs.Found.{found_of}
-use Rattle.mc_scopes.specs.steps.Squeezed.{squeezed}
-use Rattle.mc_expressions.specs.steps.Names.{named_found}
+use Rattle.types_rules.specs.Scopes.{Meaning}
+use Rattle.types_scopes.specs.Views.{scope_of}
+use Rattle.types_scopes.specs.Found.{found_of}
+use Rattle.types_scopes.specs.steps.Squeezed.{squeezed}
+use Rattle.types_expressions.specs.steps.Names.{named_found}
 use Rattle.mc_types.proofs.Exits.{found_with}
 use Rattle.mc_types.proofs.leaves.named.Goals as goal
 

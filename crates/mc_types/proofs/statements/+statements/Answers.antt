@@ -3,15 +3,15 @@ use Rattle.std.proofs.Common.{◌∙◌, ◌+◌, drop, map, refl, sym, ap, rule
 use Rattle.mc_tree.specs.Units.{block_from, block_item_of, declaration_of, option_of, start_of, statement_of}
 use Rattle.mc_tree.specs.Views.{expression_of, name_of}
 use Rattle.mc_typed.specs.Tree.{Statements}
-use Rattle.mc_typing.specs.Scopes.{block}
-use Rattle.mc_typing.specs.Values.{Judged}
-use Rattle.mc_typing.specs.Statements.{compound_scope, followed_judged, in_switch, inside, switch_scope}
-use Rattle.mc_typing.specs.Bodies.{judge_block, judge_statement}
-use Rattle.mc_scopes.specs.Blocks.{Around, left_by}
-use Rattle.mc_scopes.specs.Views.{scope_of}
-use Rattle.mc_scopes.specs.Found.{found_of, judged_of}
-use Rattle.mc_scopes.specs.Statements.{around_of, declarators_of, statements_of}
-use Rattle.mc_scopes.specs.steps.Squeezed.{squeezed_part}
+use Rattle.types_rules.specs.Scopes.{block}
+use Rattle.types_rules.specs.Values.{Judged}
+use Rattle.types_rules.specs.Statements.{compound_scope, followed_judged, in_switch, inside, switch_scope}
+use Rattle.types_rules.specs.Bodies.{judge_block, judge_statement}
+use Rattle.types_scopes.specs.Blocks.{Around, left_by}
+use Rattle.types_scopes.specs.Views.{scope_of}
+use Rattle.types_scopes.specs.Found.{found_of, judged_of}
+use Rattle.types_scopes.specs.Statements.{around_of, declarators_of, statements_of}
+use Rattle.types_scopes.specs.steps.Squeezed.{squeezed_part}
 use Rattle.std.proofs.lemmas.Result.{IfOk-weaker}
 use Rattle.mc_types.proofs.Exits.{at_ok, found_as, found_with}
 use Rattle.mc_types.proofs.Bodies.{block_item_of-Local, block_item_of-Statement, statement_of-Break, statement_of-Case, statement_of-Compound, statement_of-Continue, statement_of-Default, statement_of-DoWhile, statement_of-Expression, statement_of-For, statement_of-Goto, statement_of-If, statement_of-IfElse, statement_of-Label, statement_of-Null, statement_of-Return, statement_of-Switch, statement_of-While}

@@ -1,7 +1,7 @@
 use Rattle.mc_tree.specs.Views.{expression_of}
-use Rattle.mc_scopes.specs.Views.{scope_of}
-use Rattle.mc_scopes.specs.Found.{found_of, judged_of}
-use Rattle.mc_scopes.specs.Statements.{statements_of}
+use Rattle.types_scopes.specs.Views.{scope_of}
+use Rattle.types_scopes.specs.Found.{found_of, judged_of}
+use Rattle.types_scopes.specs.Statements.{statements_of}
 use Rattle.mc_types.proofs.Exits.{found_as}
 use Rattle.mc_types.proofs.StatementArms.{in_case_label}
 use Rattle.mc_types.proofs.statements.case_label.Goals as goal

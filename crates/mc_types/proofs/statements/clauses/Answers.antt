@@ -1,15 +1,15 @@
 use Rattle.std.proofs.Common.{◌∙◌, ◌+◌, drop, map, option_map, List, sym, ap, rules}
 use Rattle.mc_tree.specs.Views.{expression_of, expressions_from}
 use Rattle.mc_typed.specs.Tree.{Effect}
-use Rattle.mc_typing.specs.Values.{Judged}
-use Rattle.mc_typing.specs.Declarations.{both_lists}
-use Rattle.mc_typing.specs.Bodies as b
-use Rattle.mc_typing.specs.Bodies.{judge_clauses, judge_effect}
-use Rattle.mc_scopes.specs.Views.{scope_of}
-use Rattle.mc_scopes.specs.Found.{judged_of}
-use Rattle.mc_scopes.specs.Statements.{effects_of}
-use Rattle.mc_scopes.specs.steps.Squeezed.{squeezed_part}
-use Rattle.mc_statements.proofs.Folds.{both_lists_last}
+use Rattle.types_rules.specs.Values.{Judged}
+use Rattle.types_rules.specs.Declarations.{both_lists}
+use Rattle.types_rules.specs.Bodies as b
+use Rattle.types_rules.specs.Bodies.{judge_clauses, judge_effect}
+use Rattle.types_scopes.specs.Views.{scope_of}
+use Rattle.types_scopes.specs.Found.{judged_of}
+use Rattle.types_scopes.specs.Statements.{effects_of}
+use Rattle.types_scopes.specs.steps.Squeezed.{squeezed_part}
+use Rattle.types_statements.proofs.Folds.{both_lists_last}
 use Rattle.mc_types.proofs.Turns.{last_turn, next_turn}
 use Rattle.mc_types.proofs.Parts.{lists_first, lists_turn}
 use Rattle.mc_types.proofs.statements.clauses.Goals as goal

@@ -1,12 +1,12 @@
 -- What is found so far, with what is still to come, is what is found of the whole list.
 use Rattle.std.proofs.Common.{◌≡◌, drop, map}
 use Rattle.mc_tree.specs.Views.{expression_of, expressions_from}
-use Rattle.mc_typing.specs.Declarations.{both_lists}
-use Rattle.mc_typing.specs.Bodies.{judge_clauses}
-use Rattle.mc_scopes.specs.Views.{scope_of}
-use Rattle.mc_scopes.specs.Found.{judged_of}
-use Rattle.mc_scopes.specs.Statements.{effects_of}
-use Rattle.mc_scopes.specs.steps.Squeezed.{squeezed_part}
+use Rattle.types_rules.specs.Declarations.{both_lists}
+use Rattle.types_rules.specs.Bodies.{judge_clauses}
+use Rattle.types_scopes.specs.Views.{scope_of}
+use Rattle.types_scopes.specs.Found.{judged_of}
+use Rattle.types_scopes.specs.Statements.{effects_of}
+use Rattle.types_scopes.specs.steps.Squeezed.{squeezed_part}
 use Rattle.mc_types.proofs.statements.clauses.Given as goal
 
 abbrev pub invariant-loop-tree : goal.invariant-loop-tree

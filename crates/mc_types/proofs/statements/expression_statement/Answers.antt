@@ -1,8 +1,8 @@
 use Rattle.mc_tree.specs.Views.{expression_of}
 use Rattle.mc_typed.specs.Views.{effect_of}
-use Rattle.mc_scopes.specs.Views.{scope_of}
-use Rattle.mc_scopes.specs.Found.{judged_of}
-use Rattle.mc_scopes.specs.Statements.{statements_of}
+use Rattle.types_scopes.specs.Views.{scope_of}
+use Rattle.types_scopes.specs.Found.{judged_of}
+use Rattle.types_scopes.specs.Statements.{statements_of}
 use Rattle.mc_types.proofs.Exits.{found_with}
 use Rattle.mc_types.proofs.StatementArms.{in_effect_statement}
 use Rattle.mc_types.proofs.statements.expression_statement.Goals as goal

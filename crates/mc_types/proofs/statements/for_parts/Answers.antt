@@ -1,5 +1,5 @@
 use Rattle.mc_tree.specs.Units.{option_of, start_of}
-use Rattle.mc_scopes.specs.Views.{scope_of}
+use Rattle.types_scopes.specs.Views.{scope_of}
 use Rattle.mc_types.proofs.Headings.{parts_found}
 use Rattle.mc_types.proofs.statements.for_parts.Goals as goal
 

@@ -1,8 +1,8 @@
 use Rattle.std.proofs.Common.{◌∙◌}
 use Rattle.mc_tree.specs.Units.{declaration_of, option_of}
-use Rattle.mc_scopes.specs.Views.{scope_of}
-use Rattle.mc_scopes.specs.Found.{judged_of}
-use Rattle.mc_scopes.specs.Statements.{declarators_of, effects_of}
+use Rattle.types_scopes.specs.Views.{scope_of}
+use Rattle.types_scopes.specs.Found.{judged_of}
+use Rattle.types_scopes.specs.Statements.{declarators_of, effects_of}
 use Rattle.mc_types.proofs.StatementArms.{in_declaration_start, in_effects_start}
 use Rattle.mc_types.proofs.statements.for_start.Goals as goal
 

@@ -1,4 +1,4 @@
-use Rattle.mc_scopes.specs.Views.{scope_of}
+use Rattle.types_scopes.specs.Views.{scope_of}
 use Rattle.mc_types.proofs.statements.optional_part.Goals as goal
 
 pub returns-in-None : goal.returns-in-None

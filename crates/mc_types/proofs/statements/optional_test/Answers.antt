@@ -1,7 +1,7 @@
 use Rattle.std.proofs.Common.{◌∙◌}
 use Rattle.mc_tree.specs.Views.{expression_of}
-use Rattle.mc_scopes.specs.Views.{scope_of}
-use Rattle.mc_scopes.specs.Found.{found_of}
+use Rattle.types_scopes.specs.Views.{scope_of}
+use Rattle.types_scopes.specs.Found.{found_of}
 use Rattle.mc_types.proofs.StatementArms.{in_test}
 use Rattle.mc_types.proofs.statements.optional_test.Goals as goal
 

@@ -1,12 +1,12 @@
 use Rattle.std.proofs.Common.{◌∙◌, map, ap}
 use Rattle.mc_tree.specs.Views.{expression_of, expressions_from}
 use Rattle.mc_typed.specs.Tree.{Effect}
-use Rattle.mc_typing.specs.Values.{Judged}
-use Rattle.mc_typing.specs.Bodies as b
-use Rattle.mc_scopes.specs.Views.{scope_of}
-use Rattle.mc_scopes.specs.Found.{judged_of}
-use Rattle.mc_scopes.specs.Statements.{effects_of}
-use Rattle.mc_scopes.specs.steps.Squeezed.{squeezed_part}
+use Rattle.types_rules.specs.Values.{Judged}
+use Rattle.types_rules.specs.Bodies as b
+use Rattle.types_scopes.specs.Views.{scope_of}
+use Rattle.types_scopes.specs.Found.{judged_of}
+use Rattle.types_scopes.specs.Statements.{effects_of}
+use Rattle.types_scopes.specs.steps.Squeezed.{squeezed_part}
 use Rattle.mc_types.proofs.Exits.{found_as, found_with}
 use Rattle.mc_types.proofs.StatementArms.{part_of_operands, part_of_other}
 use Rattle.mc_types.proofs.statements.part.Goals as goal

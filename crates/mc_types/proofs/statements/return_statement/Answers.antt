@@ -1,8 +1,8 @@
 use Rattle.std.proofs.Common.{refl}
 use Rattle.mc_tree.specs.Views.{expression_of}
-use Rattle.mc_scopes.specs.Views.{scope_of}
-use Rattle.mc_scopes.specs.Found.{found_of, judged_of}
-use Rattle.mc_scopes.specs.Statements.{around_of, statements_of}
+use Rattle.types_scopes.specs.Views.{scope_of}
+use Rattle.types_scopes.specs.Found.{found_of, judged_of}
+use Rattle.types_scopes.specs.Statements.{around_of, statements_of}
 use Rattle.mc_types.proofs.Exits.{found_as, found_with}
 use Rattle.mc_types.proofs.StatementArms.{in_return}
 use Rattle.mc_types.proofs.statements.return_statement.Goals as goal

@@ -2,15 +2,15 @@ use Rattle.std.proofs.Common.{◌∙◌, map, ap}
 use Rattle.mc_tree.specs.Tree as tree
 use Rattle.mc_tree.specs.Units as units
 use Rattle.mc_tree.specs.Views.{name_of, parameter_of, parameters_from, specifier_of, specifiers_from}
-use Rattle.mc_typing.specs.Scopes.{Scope}
-use Rattle.mc_typing.specs.Judgement.{judge_parameter_list}
-use Rattle.mc_scopes.specs.Blocks.{Around, around_of}
-use Rattle.mc_scopes.specs.Types.{type_of}
-use Rattle.mc_scopes.specs.Views.{entry_of, scope_of}
-use Rattle.mc_scopes.specs.Found.{judged_of}
-use Rattle.mc_scopes.specs.Statements.{statements_of}
-use Rattle.mc_declarations.specs.Bodies.{body_of}
-use Rattle.mc_declarations.specs.Declarations.{functions_of, listed_parameters, squeezed_listed}
+use Rattle.types_rules.specs.Scopes.{Scope}
+use Rattle.types_rules.specs.Judgement.{judge_parameter_list}
+use Rattle.types_scopes.specs.Blocks.{Around, around_of}
+use Rattle.types_scopes.specs.Types.{type_of}
+use Rattle.types_scopes.specs.Views.{entry_of, scope_of}
+use Rattle.types_scopes.specs.Found.{judged_of}
+use Rattle.types_scopes.specs.Statements.{statements_of}
+use Rattle.types_declarations.specs.Bodies.{body_of}
+use Rattle.types_declarations.specs.Declarations.{functions_of, listed_parameters, squeezed_listed}
 use Rattle.mc_types.proofs.Exits.{found_each}
 use Rattle.mc_types.proofs.UnitArms.{in_definition, names_stay, within}
 use Rattle.mc_types.proofs.units.definition.Goals as goal

@@ -2,11 +2,11 @@ use Rattle.std.proofs.Common.{◌∙◌, map, List, ap, inl, inr}
 use Rattle.mc_tree.specs.Units as units
 use Rattle.mc_tree.specs.Views.{name_of, specifier_of, specifiers_from}
 use Rattle.mc_typed.specs.Tree.{Declarator, Function}
-use Rattle.mc_typing.specs.Values.{Judged}
-use Rattle.mc_typing.specs.Typing.{declared_only}
-use Rattle.mc_scopes.specs.Views.{scope_of}
-use Rattle.mc_scopes.specs.Found.{judged_of}
-use Rattle.mc_declarations.specs.Declarations.{functions_of}
+use Rattle.types_rules.specs.Values.{Judged}
+use Rattle.types_rules.specs.Typing.{declared_only}
+use Rattle.types_scopes.specs.Views.{scope_of}
+use Rattle.types_scopes.specs.Found.{judged_of}
+use Rattle.types_declarations.specs.Declarations.{functions_of}
 use Rattle.mc_types.proofs.Exits.{found_as}
 use Rattle.mc_types.proofs.Trees.{declarator_of-EmptyFunction, declarator_of-Function, declarator_of-Object, declarator_of-VoidFunction}
 use Rattle.mc_types.proofs.UnitArms.{in_empty, in_void}

@@ -2,14 +2,14 @@ use Rattle.std.proofs.Common.{◌∙◌, ◌+◌, drop, option_map, List, sym, a
 use Rattle.mc_tree.specs.Tree as tree
 use Rattle.mc_tree.specs.Units as units
 use Rattle.mc_typed.specs.Tree.{Function}
-use Rattle.mc_typing.specs.Values.{Judged}
-use Rattle.mc_typing.specs.Declarations.{both_lists}
-use Rattle.mc_typing.specs.Typing.{judge_item, judge_unit}
-use Rattle.mc_scopes.specs.Views.{scope_of}
-use Rattle.mc_scopes.specs.Found.{judged_of}
-use Rattle.mc_scopes.specs.steps.Squeezed.{squeezed_part}
-use Rattle.mc_declarations.specs.Declarations.{functions_of}
-use Rattle.mc_statements.proofs.Folds.{both_lists_last}
+use Rattle.types_rules.specs.Values.{Judged}
+use Rattle.types_rules.specs.Declarations.{both_lists}
+use Rattle.types_rules.specs.Typing.{judge_item, judge_unit}
+use Rattle.types_scopes.specs.Views.{scope_of}
+use Rattle.types_scopes.specs.Found.{judged_of}
+use Rattle.types_scopes.specs.steps.Squeezed.{squeezed_part}
+use Rattle.types_declarations.specs.Declarations.{functions_of}
+use Rattle.types_statements.proofs.Folds.{both_lists_last}
 use Rattle.mc_types.proofs.Turns.{last_turn, next_turn}
 use Rattle.mc_types.proofs.Parts.{lists_first, lists_turn}
 use Rattle.mc_types.proofs.units.items.Goals as goal

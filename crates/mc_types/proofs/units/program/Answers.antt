@@ -3,11 +3,11 @@ use Rattle.mc_tree.specs.Units as units
 use Rattle.mc_typed.specs.Tree.{Program}
 use Rattle.mc_typed.specs.Views.{program_of}
 use Rattle.mc_typed.specs.Layout.{ObjectType}
-use Rattle.mc_typing.specs.Typing.{IsTypingOf, program_from}
-use Rattle.mc_scopes.specs.Views.{scope_of}
-use Rattle.mc_declarations.specs.Declarations.{functions_of}
-use Rattle.mc_soundness.proofs.Counts.{units_are_few}
-use Rattle.mc_soundness.proofs.Units.{units_sound}
+use Rattle.types_rules.specs.Typing.{IsTypingOf, program_from}
+use Rattle.types_scopes.specs.Views.{scope_of}
+use Rattle.types_declarations.specs.Declarations.{functions_of}
+use Rattle.laws_soundness.proofs.Counts.{units_are_few}
+use Rattle.laws_soundness.proofs.Units.{units_sound}
 use Rattle.mc_types.proofs.Exits.{at_ok}
 use Rattle.mc_types.proofs.units.program.Goals as goal
 

@@ -1,10 +1,10 @@
 use Rattle.std.proofs.Common.{ap, option_map, subst, sym}
 use Rattle.mc_tree.specs.Units as units
-use Rattle.mc_typing.specs.Typing.{IsTypingOf, program_from}
-use Rattle.mc_scopes.specs.Views.{scope_of}
-use Rattle.mc_scopes.specs.Found.{judged_of}
-use Rattle.mc_faults.specs.Kept.{listed}
-use Rattle.mc_declarations.specs.Declarations.{functions_of}
+use Rattle.types_rules.specs.Typing.{IsTypingOf, program_from}
+use Rattle.types_scopes.specs.Views.{scope_of}
+use Rattle.types_scopes.specs.Found.{judged_of}
+use Rattle.types_faults.specs.Kept.{listed}
+use Rattle.types_declarations.specs.Declarations.{functions_of}
 use Rattle.mc_types.specs.Faults.{IsFirstIn}
 use Rattle.mc_types.proofs.UnitArms.{typed_program, typed_value, unit_first}
 use Rattle.mc_types.proofs.units.program_in.Goals as goal

@@ -1,5 +1,5 @@
 use Rattle.std.proofs.Common.{refl}
-use Rattle.mc_roots.proofs.Told.{told_as}
+use Rattle.decide_rules.proofs.Told.{told_as}
 use Rattle.tests_decide.proofs.laws.decisions_of_statements.Goals as goal
 
 pub returns : goal.returns

@@ -2,11 +2,11 @@ use Rattle.std.proofs.Common.{◌≡◌, ◌∙◌, ap, sym, subst, IfOk}
 use Rattle.mc_typed.specs.declared.expressions.Expression.{Expression}
 use Rattle.mc_typed.specs.declared.expressions.Place.{Place}
 use Rattle.mc_typed.specs.Views.{expression_of}
-use Rattle.mc_roots.specs.declared.role.Role.TheVariants.{Controlling, Inner, Plain}
-use Rattle.mc_roots.specs.Nodes as n
-use Rattle.mc_roots.specs.Roots.{is_constant}
-use Rattle.mc_gather.specs.steps.Gathering.{gathered_of, inside, role_under, visited}
-use Rattle.mc_gather.proofs.Shapes.{node, constant_node, input_node, read_node, call_node}
+use Rattle.decide_rules.specs.declared.role.Role.TheVariants.{Controlling, Inner, Plain}
+use Rattle.decide_rules.specs.Nodes as n
+use Rattle.decide_rules.specs.Roots.{is_constant}
+use Rattle.decide_walk.specs.steps.Gathering.{gathered_of, inside, role_under, visited}
+use Rattle.decide_walk.proofs.Shapes.{node, constant_node, input_node, read_node, call_node}
 use Rattle.mc_decide.proofs.Gathers.{settles}
 use Rattle.mc_decide.proofs.Steps.{if_as, then_found, one_constant, both_constant, three_constant}
 use Rattle.mc_decide.proofs.Operands.{is_not, is_binary, same_full, both_walked, both_settled, is_logic, is_choice, is_probe, carried_found, carried_constant}

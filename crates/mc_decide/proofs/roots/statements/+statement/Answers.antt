@@ -1,9 +1,9 @@
 use Rattle.std.proofs.Common.{◌≡◌, ◌∙◌, ap, sym, subst, IfOk}
 use Rattle.mc_typed.specs.declared.statements.Statement.{Statement}
-use Rattle.mc_roots.specs.declared.role.Role.TheVariants.{Controlling, Plain}
-use Rattle.mc_roots.specs.Nodes as n
-use Rattle.mc_gather.specs.steps.Gathering.{gathered_of, visited}
-use Rattle.mc_gather.proofs.Shapes.{node}
+use Rattle.decide_rules.specs.declared.role.Role.TheVariants.{Controlling, Plain}
+use Rattle.decide_rules.specs.Nodes as n
+use Rattle.decide_walk.specs.steps.Gathering.{gathered_of, visited}
+use Rattle.decide_walk.proofs.Shapes.{node}
 use Rattle.mc_decide.proofs.Steps.{then_found}
 use Rattle.mc_decide.proofs.Statements.{stands, effect_node, if_node, if_else_node, do_while_node, return_node}
 use Rattle.mc_decide.proofs.roots.statements.+statement.Goals as goal

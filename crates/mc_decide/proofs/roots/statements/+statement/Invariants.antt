@@ -1,8 +1,8 @@
 -- What is found so far, and then what is still to come, is what is found in all.
 use Rattle.std.proofs.Common.{◌≡◌, drop, map}
 use Rattle.mc_typed.specs.Views.{statement_of, statements_from}
-use Rattle.mc_roots.specs.Nodes as n
-use Rattle.mc_gather.specs.steps.Gathering.{gathered_of, inside_parts}
+use Rattle.decide_rules.specs.Nodes as n
+use Rattle.decide_walk.specs.steps.Gathering.{gathered_of, inside_parts}
 use Rattle.mc_decide.proofs.roots.statements.+statement.Given as goal
 
 abbrev pub invariant-statements-loop-tree : goal.invariant-statements-loop-tree

@@ -1,10 +1,10 @@
 use denote.Param.Weighed.{at_most}
 use Rattle.mc_instrument.proofs.Rooted.{root_counted, root_fits}
-use Rattle.mc_map.proofs.Operands.{plain_binary}
+use Rattle.instrument_bits.proofs.Operands.{plain_binary}
 use Rattle.mc_instrument.proofs.Room.{binary_roots, full_copied, logic_copied, plain_logic, probed_binary, probed_logic}
-use Rattle.mc_roots.specs.declared.role.Role.TheVariants as role
+use Rattle.decide_rules.specs.declared.role.Role.TheVariants as role
 use Rattle.mc_typed.specs.Views as plain
-use Rattle.mc_roots.specs.Nodes as n
+use Rattle.decide_rules.specs.Nodes as n
 use Rattle.std.proofs.lemmas.Result.{IfOk-weaker}
 use Rattle.std.proofs.Common.{◌∙◌, refl, ap, sym, arith, rules}
 use Rattle.mc_typed.specs.declared.expressions.Argument.{size-Argument}

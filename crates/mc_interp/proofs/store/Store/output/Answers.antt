@@ -1,5 +1,5 @@
 use Rattle.mc_value.specs.declared.int_type.IntType.TheVariants.{Int}
-use Rattle.mc_words.specs.Words.{number_of}
+use Rattle.interp_words.specs.Words.{number_of}
 use Rattle.mc_interp.specs.Stores.{state_of}
 use Rattle.mc_interp.specs.Effects.{appends}
 use Rattle.std.proofs.Common.{◌∙◌}

@@ -1,4 +1,4 @@
-use Rattle.mc_words.specs.Words.{number_of}
+use Rattle.interp_words.specs.Words.{number_of}
 use Rattle.mc_interp.specs.Stores.{state_of}
 use Rattle.mc_interp.proofs.Kept.{kept_then}
 use Rattle.mc_interp.proofs.Stopped.{update_unread, update_trapped, update_stored}

@@ -1,4 +1,4 @@
-use Rattle.mc_words.specs.Words.{number_of}
+use Rattle.interp_words.specs.Words.{number_of}
 use Rattle.mc_interp.proofs.Rows.{write_ran, write_kept}
 use Rattle.mc_interp.proofs.store.Store.write.Goals as goal
 

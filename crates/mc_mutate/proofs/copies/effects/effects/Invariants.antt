@@ -3,7 +3,7 @@ use Rattle.std.proofs.Common.{◌≡◌, ◌++◌, drop, map}
 use Rattle.mc_typed.specs.Views.{effect_of}
 use Rattle.mc_probe.specs.Views as probed
 use Rattle.mc_probe.specs.Bare.{bare_effect}
-use Rattle.mc_roots.specs.Nodes as n
+use Rattle.decide_rules.specs.Nodes as n
 use Rattle.mc_mutate.specs.steps.Search.{inside_parts}
 use Rattle.mc_mutate.specs.steps.Changed.{effects_changed}
 use Rattle.mc_mutate.proofs.copies.effects.effects.Given as goal

@@ -1,7 +1,7 @@
 use Rattle.std.proofs.Common.{arith, ◌≡◌, ◌∙◌, ap, map}
 use Rattle.std.proofs.lemmas.Grind.{common_steps}
 use Rattle.mc_typed.specs.Views.{argument_of, expression_of}
-use Rattle.mc_roots.specs.Nodes as n
+use Rattle.decide_rules.specs.Nodes as n
 use Rattle.mc_mutate.specs.Changes.{of_decision}
 use Rattle.mc_mutate.specs.steps.Search.{in_decision, inside}
 use Rattle.mc_mutate.specs.steps.Changed.{at_number, inside_changed, settled}

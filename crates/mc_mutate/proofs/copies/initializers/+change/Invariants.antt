@@ -2,7 +2,7 @@
 use Rattle.std.proofs.Common.{◌≡◌, ◌++◌, drop, map}
 use Rattle.mc_typed.specs.Views.{initializer_of, initializers_from}
 use Rattle.mc_probe.specs.Views as probed
-use Rattle.mc_roots.specs.Nodes as n
+use Rattle.decide_rules.specs.Nodes as n
 use Rattle.mc_mutate.specs.steps.Search.{inside_parts}
 use Rattle.mc_mutate.proofs.Lists.{all_initializers}
 use Rattle.mc_mutate.proofs.copies.initializers.+change.Given as goal

@@ -1,5 +1,5 @@
 use Rattle.std.proofs.Common.{◌≡◌, ◌≤◌, ◌-◌, length}
-use Rattle.mc_crew.specs.Crew.{IsAtWork}
+use Rattle.cover_recorder.specs.Crew.{IsAtWork}
 use Rattle.mc_mutate.specs.Runs.{worker_does}
 use Rattle.mc_mutate.proofs.kills.runs.run_items.Given as goal
 

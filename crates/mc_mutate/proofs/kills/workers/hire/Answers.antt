@@ -1,7 +1,7 @@
 use Rattle.std.proofs.Common.{rules, ◌∙◌, ap, sym, subst, refl, All, List}
 use Rattle.std.proofs.lemmas.List.Elements.{All-push}
 use Rattle.mc_cover.specs.Views.{after_fork}
-use Rattle.mc_crew.specs.Recorder.{fresh}
+use Rattle.cover_recorder.specs.Recorder.{fresh}
 use Rattle.mc_mutate.specs.declared.kills.runs.Job.{Job}
 use Rattle.mc_mutate.specs.Runs.{IsHired}
 use Rattle.mc_mutate.proofs.kills.workers.hire.Goals as goal

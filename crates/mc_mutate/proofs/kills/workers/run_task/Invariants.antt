@@ -1,7 +1,7 @@
 use Rattle.std.proofs.Common.{◌≡◌, ◌+◌, [], All, vec_len}
 use Rattle.std.specs.Prelude.{IfOk}
 use Rattle.mc_cover.specs.Tells.{IsSettled}
-use Rattle.mc_crew.specs.Crew.{HasWorked, IsGathered}
+use Rattle.cover_recorder.specs.Crew.{HasWorked, IsGathered}
 use Rattle.mc_mutate.specs.Runs.{worker_does}
 use Rattle.mc_mutate.proofs.kills.workers.run_task.Given as goal
 

@@ -1,7 +1,7 @@
 -- What the search has come to, and then what is still to come, is what it comes to in all.
 use Rattle.std.proofs.Common.{◌≡◌, drop, map}
 use Rattle.mc_typed.specs.Views.{initializer_of, initializers_from}
-use Rattle.mc_roots.specs.Nodes as n
+use Rattle.decide_rules.specs.Nodes as n
 use Rattle.mc_mutate.specs.steps.Search.{inside_parts}
 use Rattle.mc_mutate.proofs.search.initializers.+initializer.Given as goal
 

@@ -1,6 +1,6 @@
 use Rattle.std.proofs.Common.{◌∙◌, ℕ, ap}
 use Rattle.mc_report.specs.Seen.{report_of}
-use Rattle.mc_replies.specs.Reply.{listing_pieces, written}
+use Rattle.station_replies.specs.Reply.{listing_pieces, written}
 use Rattle.mc_station.proofs.Lines.{as_many_verdicts}
 use Rattle.mc_station.proofs.commands.list.list.Goals as goal
 

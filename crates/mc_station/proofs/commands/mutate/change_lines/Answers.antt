@@ -1,5 +1,5 @@
 use Rattle.std.proofs.Common.{◌∙◌, map, ap}
-use Rattle.mc_killed.specs.Seen.{told_of}
+use Rattle.mutate_lines.specs.Seen.{told_of}
 use Rattle.mc_typed.specs.Views.{program_of}
 use Rattle.mc_station.proofs.Killing.{one_more}
 use Rattle.mc_station.proofs.commands.mutate.change_lines.Goals as goal

@@ -1,5 +1,5 @@
 use Rattle.std.proofs.Common.{◌≡◌, map, take}
-use Rattle.mc_killed.specs.Seen.{told_of}
+use Rattle.mutate_lines.specs.Seen.{told_of}
 use Rattle.mc_mutate.specs.Mutants.{mutants}
 use Rattle.mc_typed.specs.Views.{program_of}
 use Rattle.mc_station.specs.commands.Mutate.{change_told}

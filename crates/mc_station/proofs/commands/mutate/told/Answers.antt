@@ -1,10 +1,10 @@
 use Rattle.std.proofs.Common.{◌∙◌, map, ap, sym}
-use Rattle.mc_killed.specs.Seen.{told_of}
+use Rattle.mutate_lines.specs.Seen.{told_of}
 use Rattle.mc_mutate.specs.Mutants.{count}
 use Rattle.mc_port.specs.Lines.{bytes_of}
 use Rattle.mc_typed.specs.Views.{program_of}
 use Rattle.mc_tests.specs.Seen.{seen_plans}
-use Rattle.mc_replies.specs.Seen.{seen_reply}
+use Rattle.station_replies.specs.Seen.{seen_reply}
 use Rattle.mc_station.specs.Seen.{seen_accepted}
 use Rattle.mc_station.proofs.Killing.{counted, reply_is, tests_of, told_changes}
 use Rattle.mc_station.proofs.commands.mutate.told.Goals as goal

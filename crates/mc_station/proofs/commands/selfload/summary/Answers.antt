@@ -5,7 +5,7 @@ use Rattle.mc_oblige.specs.Shown.{HasEvent}
 use Rattle.mc_port.specs.Lines.{bytes_of}
 use Rattle.mc_report.specs.Seen.{report_of}
 use Rattle.mc_report.specs.Summary.{summary_lines}
-use Rattle.mc_replies.specs.Reply.{written}
+use Rattle.station_replies.specs.Reply.{written}
 use Rattle.mc_station.specs.Ran.{seen_ran}
 use Rattle.mc_station.specs.Seen.{seen_accepted}
 use Rattle.mc_station.specs.Tests.{Tested}

@@ -1,10 +1,10 @@
 use Rattle.std.proofs.Common.{◌≡◌, ◌∙◌, ap, map}
 use Rattle.mc_tree.specs.Views.{name_of}
-use Rattle.mc_typing.specs.Declarators.{function_member_listed}
-use Rattle.mc_typing.specs.Scopes.{Scope}
-use Rattle.mc_scopes.specs.Listed.{listed_of}
-use Rattle.mc_scopes.specs.Views.{scope_of}
-use Rattle.mc_declarations.specs.Declarations.{listed_members, listed_parameters, squeezed_listed}
+use Rattle.types_rules.specs.Declarators.{function_member_listed}
+use Rattle.types_rules.specs.Scopes.{Scope}
+use Rattle.types_scopes.specs.Listed.{listed_of}
+use Rattle.types_scopes.specs.Views.{scope_of}
+use Rattle.types_declarations.specs.Declarations.{listed_members, listed_parameters, squeezed_listed}
 use Rattle.mc_types.proofs.Declarators.{in_function_member}
 use Rattle.mc_types.proofs.Exits.{at_ok, found_each}
 use Rattle.mc_types.proofs.steps.declarators.function_member.Goals as goal

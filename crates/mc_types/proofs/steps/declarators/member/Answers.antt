@@ -1,8 +1,8 @@
 use Rattle.std.proofs.Common.{false}
-use Rattle.mc_typing.specs.Judgement.{judge_declarators, judge_specifiers, typed_by}
-use Rattle.mc_scopes.specs.Types.{type_of}
-use Rattle.mc_scopes.specs.Found.{judged_of}
-use Rattle.mc_declarations.specs.Declarations.{listed_members}
+use Rattle.types_rules.specs.Judgement.{judge_declarators, judge_specifiers, typed_by}
+use Rattle.types_scopes.specs.Types.{type_of}
+use Rattle.types_scopes.specs.Found.{judged_of}
+use Rattle.types_declarations.specs.Declarations.{listed_members}
 use Rattle.mc_types.proofs.Exits.{at_ok}
 use Rattle.mc_types.proofs.Parts.{listed_after}
 use Rattle.mc_types.proofs.steps.declarators.member.Goals as goal

@@ -1,9 +1,9 @@
 use Rattle.std.proofs.lemmas.Result.{IfOk-weaker}
 use Rattle.mc_tree.specs.Tree.{span_of}
 use Rattle.mc_tree.specs.Views.{expression_of}
-use Rattle.mc_typing.specs.Judgement.{judge, judge_lengths}
-use Rattle.mc_scopes.specs.Found.{found_of, judged_of}
-use Rattle.mc_declarations.specs.Declarations.{lengths_in}
+use Rattle.types_rules.specs.Judgement.{judge, judge_lengths}
+use Rattle.types_scopes.specs.Found.{found_of, judged_of}
+use Rattle.types_declarations.specs.Declarations.{lengths_in}
 use Rattle.mc_types.proofs.Exits.{at_ok}
 use Rattle.mc_types.proofs.Parts.{lengths_turn}
 use Rattle.mc_types.proofs.steps.declarators.more_lengths.Goals as goal

@@ -1,11 +1,11 @@
 use Rattle.std.proofs.Common.{ap, map}
 use Rattle.std.proofs.lemmas.Result.{IfOk-weaker}
 use Rattle.mc_tree.specs.Views.{array_length_of, lengths_from, specifier_of, specifiers_from, tag_of}
-use Rattle.mc_scopes.specs.Types.{type_of}
-use Rattle.mc_scopes.specs.Prototypes.{counted_of, cut_to}
-use Rattle.mc_scopes.specs.Views.{scope_of}
-use Rattle.mc_scopes.specs.Found.{judged_of}
-use Rattle.mc_declarations.specs.Declarations.{lengths_in, listed_parameters}
+use Rattle.types_scopes.specs.Types.{type_of}
+use Rattle.types_scopes.specs.Prototypes.{counted_of, cut_to}
+use Rattle.types_scopes.specs.Views.{scope_of}
+use Rattle.types_scopes.specs.Found.{judged_of}
+use Rattle.types_declarations.specs.Declarations.{lengths_in, listed_parameters}
 use Rattle.mc_types.proofs.Trees.{parameter_of-parts}
 use Rattle.mc_types.proofs.Declarators.{in_parameter}
 use Rattle.mc_types.proofs.Exits.{at_ok}

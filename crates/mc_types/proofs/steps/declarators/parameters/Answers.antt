@@ -1,5 +1,5 @@
 use Rattle.std.proofs.lemmas.Result.{IfOk-weaker}
-use Rattle.mc_declarations.specs.Declarations.{listed_parameters}
+use Rattle.types_declarations.specs.Declarations.{listed_parameters}
 use Rattle.mc_types.proofs.Exits.{at_ok}
 use Rattle.mc_types.proofs.Parts.{parameters_turn}
 use Rattle.mc_types.proofs.steps.declarators.parameters.Goals as goal

@@ -1,5 +1,5 @@
-use Rattle.mc_scopes.specs.Types.{type_of}
-use Rattle.mc_scopes.specs.Found.{judged_of}
+use Rattle.types_scopes.specs.Types.{type_of}
+use Rattle.types_scopes.specs.Found.{judged_of}
 use Rattle.mc_types.proofs.Exits.{at_ok}
 use Rattle.mc_types.proofs.Parts.{specifiers_turn}
 use Rattle.mc_types.proofs.steps.declarators.specifiers.Goals as goal

@@ -1,7 +1,7 @@
-use Rattle.mc_scopes.specs.Types.{type_of}
-use Rattle.mc_scopes.specs.Views.{scope_of}
-use Rattle.mc_scopes.specs.Found.{judged_of}
-use Rattle.mc_declarations.specs.Declarations.{opened_of}
+use Rattle.types_scopes.specs.Types.{type_of}
+use Rattle.types_scopes.specs.Views.{scope_of}
+use Rattle.types_scopes.specs.Found.{judged_of}
+use Rattle.types_declarations.specs.Declarations.{opened_of}
 use Rattle.mc_types.proofs.Declarators.{in_structure}
 use Rattle.mc_types.proofs.Exits.{at_ok, found_each}
 use Rattle.mc_types.proofs.steps.declarators.structure.Goals as goal

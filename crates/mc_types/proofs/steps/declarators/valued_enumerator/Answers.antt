@@ -1,7 +1,7 @@
 use Rattle.mc_tree.specs.Views.{expression_of, name_of}
-use Rattle.mc_scopes.specs.Views.{scope_of}
-use Rattle.mc_scopes.specs.Found.{found_of}
-use Rattle.mc_declarations.specs.Declarations.{number_judged}
+use Rattle.types_scopes.specs.Views.{scope_of}
+use Rattle.types_scopes.specs.Found.{found_of}
+use Rattle.types_declarations.specs.Declarations.{number_judged}
 use Rattle.mc_types.proofs.Declarators.{in_valued}
 use Rattle.mc_types.proofs.Exits.{at_ok, found_as}
 use Rattle.mc_types.proofs.steps.declarators.valued_enumerator.Goals as goal

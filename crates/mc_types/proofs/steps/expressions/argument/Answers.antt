@@ -1,9 +1,9 @@
 use Rattle.std.proofs.lemmas.Result.{IfOk-weaker}
 use Rattle.mc_tree.specs.Views.{expression_of}
 use Rattle.mc_typed.specs.Views.{argument_of}
-use Rattle.mc_scopes.specs.Views.{scope_of}
-use Rattle.mc_scopes.specs.Found.{found_of}
-use Rattle.mc_scopes.specs.Given.{given_of, items_of}
+use Rattle.types_scopes.specs.Views.{scope_of}
+use Rattle.types_scopes.specs.Found.{found_of}
+use Rattle.types_scopes.specs.Given.{given_of, items_of}
 use Rattle.mc_types.proofs.Arms.{argument_turn}
 use Rattle.mc_types.proofs.Exits.{at_ok}
 use Rattle.mc_types.proofs.steps.expressions.argument.Goals as goal

@@ -1,10 +1,10 @@
 use Rattle.std.proofs.Common.{refl}
 use Rattle.mc_tree.specs.Views.{name_of}
-use Rattle.mc_typing.specs.Calls.{parameters_of}
-use Rattle.mc_scopes.specs.Views.{scope_of}
-use Rattle.mc_scopes.specs.Found.{found_of}
-use Rattle.mc_scopes.specs.Given.{arguments_of, given_of}
-use Rattle.mc_expressions.specs.steps.Callees.{meaning_of_callee}
+use Rattle.types_rules.specs.Calls.{parameters_of}
+use Rattle.types_scopes.specs.Views.{scope_of}
+use Rattle.types_scopes.specs.Found.{found_of}
+use Rattle.types_scopes.specs.Given.{arguments_of, given_of}
+use Rattle.types_expressions.specs.steps.Callees.{meaning_of_callee}
 use Rattle.mc_types.proofs.Arms.{in_call}
 use Rattle.mc_types.proofs.Exits.{at_ok, found_as}
 use Rattle.mc_types.proofs.steps.expressions.call.Goals as goal

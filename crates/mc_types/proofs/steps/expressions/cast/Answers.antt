@@ -1,6 +1,6 @@
 use Rattle.mc_tree.specs.Views.{expression_of}
-use Rattle.mc_scopes.specs.Types.{type_of}
-use Rattle.mc_scopes.specs.Found.{found_of, judged_of}
+use Rattle.types_scopes.specs.Types.{type_of}
+use Rattle.types_scopes.specs.Found.{found_of, judged_of}
 use Rattle.mc_types.proofs.Exits.{at_ok, found_with}
 use Rattle.mc_types.proofs.Arms.{in_cast}
 use Rattle.mc_types.proofs.steps.expressions.cast.Goals as goal

@@ -1,5 +1,5 @@
 use Rattle.std.proofs.Common.{◌∙◌}
-use Rattle.mc_scopes.specs.Given.{arguments_of, given_of}
+use Rattle.types_scopes.specs.Given.{arguments_of, given_of}
 use Rattle.mc_types.proofs.Exits.{at_ok}
 use Rattle.mc_types.proofs.Arms.{in_comma}
 use Rattle.mc_types.proofs.steps.expressions.comma.Goals as goal

@@ -1,6 +1,6 @@
 use Rattle.mc_tree.specs.Views.{name_of}
-use Rattle.mc_scopes.specs.Views.{scope_of}
-use Rattle.mc_scopes.specs.Found.{found_of}
+use Rattle.types_scopes.specs.Views.{scope_of}
+use Rattle.types_scopes.specs.Found.{found_of}
 use Rattle.mc_types.proofs.Exits.{at_ok, found_as}
 use Rattle.mc_types.proofs.Arms.{in_member}
 use Rattle.mc_types.proofs.steps.expressions.member.Goals as goal

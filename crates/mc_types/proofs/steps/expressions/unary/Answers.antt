@@ -1,4 +1,4 @@
-use Rattle.mc_scopes.specs.Found.{found_of}
+use Rattle.types_scopes.specs.Found.{found_of}
 use Rattle.mc_types.proofs.Exits.{at_ok, found_with}
 use Rattle.mc_types.proofs.Arms.{in_unary}
 use Rattle.mc_types.proofs.steps.expressions.unary.Goals as goal

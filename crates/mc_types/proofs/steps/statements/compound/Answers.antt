@@ -1,5 +1,5 @@
-use Rattle.mc_scopes.specs.Found.{judged_of}
-use Rattle.mc_scopes.specs.Statements.{statements_of}
+use Rattle.types_scopes.specs.Found.{judged_of}
+use Rattle.types_scopes.specs.Statements.{statements_of}
 use Rattle.mc_types.proofs.Exits.{at_ok, found_with}
 use Rattle.mc_types.proofs.StatementArms.{in_compound}
 use Rattle.mc_types.proofs.steps.statements.compound.Goals as goal

@@ -1,5 +1,5 @@
-use Rattle.mc_scopes.specs.Found.{found_of, judged_of}
-use Rattle.mc_scopes.specs.Statements.{statements_of}
+use Rattle.types_scopes.specs.Found.{found_of, judged_of}
+use Rattle.types_scopes.specs.Statements.{statements_of}
 use Rattle.mc_types.proofs.Exits.{at_ok, found_with}
 use Rattle.mc_types.proofs.StatementArms.{in_do}
 use Rattle.mc_types.proofs.steps.statements.do_loop.Goals as goal

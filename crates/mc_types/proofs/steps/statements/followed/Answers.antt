@@ -1,10 +1,10 @@
 use Rattle.std.proofs.Common.{ap}
 use Rattle.mc_typed.specs.Tree.{Statements}
-use Rattle.mc_typing.specs.Values.{Judged}
-use Rattle.mc_typing.specs.Statements.{followed_judged}
-use Rattle.mc_scopes.specs.Found.{judged_of}
-use Rattle.mc_scopes.specs.Statements.{statements_of}
-use Rattle.mc_scopes.specs.steps.Squeezed.{squeezed_part}
+use Rattle.types_rules.specs.Values.{Judged}
+use Rattle.types_rules.specs.Statements.{followed_judged}
+use Rattle.types_scopes.specs.Found.{judged_of}
+use Rattle.types_scopes.specs.Statements.{statements_of}
+use Rattle.types_scopes.specs.steps.Squeezed.{squeezed_part}
 use Rattle.mc_types.proofs.Exits.{at_ok, found_with}
 use Rattle.mc_types.proofs.steps.statements.followed.Goals as goal
 

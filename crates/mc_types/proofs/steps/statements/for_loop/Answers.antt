@@ -1,10 +1,10 @@
 use Rattle.std.proofs.Common.{◌∙◌, ap}
 use Rattle.mc_typed.specs.Views as typed
-use Rattle.mc_typing.specs.Scopes.{block}
-use Rattle.mc_scopes.specs.Blocks.{Around, left_by}
-use Rattle.mc_scopes.specs.Views.{scope_of}
-use Rattle.mc_scopes.specs.Found.{judged_of}
-use Rattle.mc_scopes.specs.Statements.{effects_of, statements_of, test_of}
+use Rattle.types_rules.specs.Scopes.{block}
+use Rattle.types_scopes.specs.Blocks.{Around, left_by}
+use Rattle.types_scopes.specs.Views.{scope_of}
+use Rattle.types_scopes.specs.Found.{judged_of}
+use Rattle.types_scopes.specs.Statements.{effects_of, statements_of, test_of}
 use Rattle.mc_types.specs.Headings.{after_start, after_test}
 use Rattle.mc_types.proofs.Exits.{at_ok, found_with}
 use Rattle.mc_types.proofs.StatementArms.{in_for}

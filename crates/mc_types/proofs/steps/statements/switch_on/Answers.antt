@@ -1,6 +1,6 @@
 use Rattle.mc_tree.specs.Units.{statement_of}
-use Rattle.mc_scopes.specs.Found.{found_of, judged_of}
-use Rattle.mc_scopes.specs.Statements.{statements_of}
+use Rattle.types_scopes.specs.Found.{found_of, judged_of}
+use Rattle.types_scopes.specs.Statements.{statements_of}
 use Rattle.mc_types.proofs.Exits.{at_ok, found_with}
 use Rattle.mc_types.proofs.StatementArms.{in_switch_statement}
 use Rattle.mc_types.proofs.steps.statements.switch_on.Goals as goal

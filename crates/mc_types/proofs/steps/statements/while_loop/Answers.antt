@@ -1,6 +1,6 @@
 use Rattle.mc_typed.specs.Views as typed
-use Rattle.mc_scopes.specs.Found.{found_of, judged_of}
-use Rattle.mc_scopes.specs.Statements.{effects_of, statements_of, test_of}
+use Rattle.types_scopes.specs.Found.{found_of, judged_of}
+use Rattle.types_scopes.specs.Statements.{effects_of, statements_of, test_of}
 use Rattle.mc_types.proofs.Exits.{at_ok, found_with}
 use Rattle.mc_types.proofs.StatementArms.{in_while}
 use Rattle.mc_types.proofs.steps.statements.while_loop.Goals as goal

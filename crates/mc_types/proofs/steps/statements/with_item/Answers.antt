@@ -1,7 +1,7 @@
 use Rattle.std.proofs.lemmas.Result.{IfOk-weaker}
-use Rattle.mc_typing.specs.Bodies.{judge_block}
-use Rattle.mc_scopes.specs.Found.{judged_of}
-use Rattle.mc_scopes.specs.Statements.{statements_of}
+use Rattle.types_rules.specs.Bodies.{judge_block}
+use Rattle.types_scopes.specs.Found.{judged_of}
+use Rattle.types_scopes.specs.Statements.{statements_of}
 use Rattle.mc_types.proofs.Exits.{at_ok}
 use Rattle.mc_types.proofs.Parts.{followed_item}
 use Rattle.mc_types.proofs.steps.statements.with_item.Goals as goal

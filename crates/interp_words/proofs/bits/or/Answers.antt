@@ -1,0 +1,8 @@
+use Rattle.std.proofs.Common.{arith}
+use Rattle.interp_words.proofs.Patterns.{or_words}
+use Rattle.interp_words.proofs.bits.or.Goals as goal
+
+pub returns : goal.returns
+returns c =
+    or_words c.args.of c.requires.type_promoted c.args.left c.args.right
+    (omega (arith, c.ranges.left.fits)) (omega (arith, c.ranges.right.fits)) c.requires.left c.requires.right

@@ -1,5 +1,0 @@
-use Rattle.mc_again.proofs.SeparateFunctions.{rows_are_separate}
-use Rattle.mc_again.proofs.separate.rows_are_separate.Goals as goal
-
-pub returns : goal.returns
-returns c = rows_are_separate c.programs_have_their_source.ensures c.blocks_are_nested.ensures

@@ -1,5 +1,0 @@
-use Rattle.std.proofs.Common.{refl}
-use Rattle.mc_back.proofs.laws.function_with_probes.Goals as goal
-
-pub returns : goal.returns
-returns c = refl

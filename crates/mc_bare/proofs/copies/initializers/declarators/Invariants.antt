@@ -1,9 +1,0 @@
--- What is copied, with what is still to come, is the whole.
-use Rattle.std.proofs.Common.{◌≡◌, ◌++◌, drop, map}
-use Rattle.mc_typed.specs.Views as plain
-use Rattle.mc_probe.specs.Views as probed
-use Rattle.mc_probe.specs.Bare.{bare_declarator}
-use Rattle.mc_bare.proofs.copies.initializers.declarators.Given as goal
-
-abbrev pub invariant-loop-tree : goal.invariant-loop-tree
-invariant-loop-tree l = map probed.declarator_of l.copies.items ++ map bare_declarator (map plain.declarator_of (drop l.tree-index l.trees)) ≡ map bare_declarator (map plain.declarator_of l.trees)

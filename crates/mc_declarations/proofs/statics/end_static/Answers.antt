@@ -1,4 +1,0 @@
-use Rattle.mc_declarations.proofs.statics.end_static.Goals as goal
-
-pub returns : goal.returns
-returns c = c.end_stored-ended.ensures

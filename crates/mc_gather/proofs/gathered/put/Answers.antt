@@ -1,4 +1,0 @@
-use Rattle.mc_gather.proofs.gathered.put.Goals as goal
-
-pub returns : goal.returns
-returns c = c.in_ok-push.ensures.items

@@ -1,6 +1,0 @@
--- What is seen of the lines that tell of changes.
-use Rattle.mc_killed.specs.Lines.{Told}
-use Rattle.mc_killed.specs.declared.change.ChangeLine.{ChangeLine}
-
-abbrev pub told_of : ChangeLine → Told
-told_of c = record { line = c.place.line; column = c.place.column; kind = c.kind.now }

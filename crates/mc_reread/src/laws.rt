@@ -1,7 +1,0 @@
-//! Laws of what is read.
-ghost use Rattle.mc_reread.specs.Laws.{ReadsAsOne};
-
-/// A text is read as at most one tree, or refused with one fault.
-pub fn reads_as_one()
-    ensures { ReadsAsOne }
-{}

@@ -1,5 +1,0 @@
-use Rattle.mc_roots.proofs.InOrder.{starts_are_in_order}
-use Rattle.mc_roots.proofs.laws.starts_are_in_order.Goals as goal
-
-pub returns : goal.returns
-returns c = starts_are_in_order

@@ -1,6 +1,0 @@
-use Rattle.std.proofs.Common.{◌≡◌, take, min}
-use Rattle.mc_rows.specs.Numbers.{magnitude_of}
-use Rattle.mc_rows.proofs.numbers.magnitude.Given as goal
-
-abbrev pub invariant-loop-digit : goal.invariant-loop-digit
-invariant-loop-digit l = l.value ≡ min (magnitude_of (take l.digit-index l.digits)) 18446744073709551616

@@ -1,7 +1,0 @@
-use Rattle.std.proofs.Common.{refl}
-use Rattle.mc_scopes.proofs.Mapped.{objects_taken}
-use Rattle.mc_scopes.proofs.scope.Scope.cut_objects.Goals as goal
-
-pub returns : goal.returns
-returns c =
-    rw (objects_taken c.args.before.count c.args.self.now.objects.items c.truncate.new.self.items c.truncate.ensures.items) refl

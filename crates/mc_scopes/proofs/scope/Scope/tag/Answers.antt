@@ -1,7 +1,0 @@
-use Rattle.std.proofs.Common.{◌∙◌, ap, sym, option_map}
-use Rattle.mc_scopes.specs.Views.{tag_of}
-use Rattle.mc_scopes.proofs.Mapped.{tagged}
-use Rattle.mc_scopes.proofs.scope.Scope.tag.Goals as goal
-
-pub returns : goal.returns
-returns c = ap (option_map tag_of) c.get.ensures ∙ sym (tagged c.args.tag.now.text.now c.args.self.now.tags)

@@ -1,6 +1,0 @@
-use Rattle.std.proofs.Common.{◌∙◌, ap}
-use Rattle.mc_typing.specs.Constants.{is_zero_constant}
-use Rattle.mc_scopes.proofs.values.is_zero_found.Goals as goal
-
-pub returns : goal.returns
-returns c = λ s. c.is_zero_constant.ensures ∙ ap is_zero_constant (c.constant_found.ensures s)

@@ -1,9 +1,0 @@
--- What a walk keeps of faults: the least alone.
-use Rattle.mc_faults.specs.Kept.{least}
-use Rattle.mc_typing.specs.Values.{Found, Judged}
-
-abbrev pub squeezed : Found → Found
-squeezed x = record x { faults = least x.faults }
-
-abbrev pub squeezed_part : {A : Type 0} → Judged A → Judged A
-squeezed_part x = record x { faults = least x.faults }

@@ -1,7 +1,0 @@
-use Rattle.std.proofs.Common.{◌≡◌, map, drop}
-use Rattle.mc_tree.specs.Units.{init_declarator_of}
-use Rattle.mc_shape.specs.Statements.{initializes}
-use Rattle.mc_shape.proofs.declarations.initializes.Given as goal
-
-abbrev pub invariant-loop-tree : goal.invariant-loop-tree
-invariant-loop-tree l = initializes (map init_declarator_of (drop l.tree-index l.trees)) ≡ initializes (map init_declarator_of l.trees)

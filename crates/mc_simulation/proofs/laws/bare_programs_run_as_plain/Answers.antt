@@ -1,5 +1,0 @@
-use Rattle.mc_simulation.proofs.BareRuns.{bare_simulated}
-use Rattle.mc_simulation.proofs.laws.bare_programs_run_as_plain.Goals as goal
-
-pub returns : goal.returns
-returns c = bare_simulated

@@ -1,5 +1,0 @@
-use Rattle.mc_simulation.proofs.Tests.{simulated}
-use Rattle.mc_simulation.proofs.laws.instrumented_programs_run_as_plain.Goals as goal
-
-pub returns : goal.returns
-returns c = simulated

@@ -1,5 +1,0 @@
-use Rattle.mc_simulation.proofs.Keep.{kept}
-use Rattle.mc_simulation.proofs.laws.stores_are_kept.Goals as goal
-
-pub returns : goal.returns
-returns c = kept

@@ -1,5 +1,0 @@
-use Rattle.mc_soundness.proofs.Bodies.{block_run}
-use Rattle.mc_soundness.proofs.laws.bodies_are_sound.Goals as goal
-
-pub returns : goal.returns
-returns c = block_run

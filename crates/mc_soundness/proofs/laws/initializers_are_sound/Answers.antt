@@ -1,5 +1,0 @@
-use Rattle.mc_soundness.proofs.Initializers.{initializer_well}
-use Rattle.mc_soundness.proofs.laws.initializers_are_sound.Goals as goal
-
-pub returns : goal.returns
-returns c = initializer_well

@@ -1,5 +1,0 @@
-use Rattle.mc_soundness.proofs.Grows.{expressions_grow}
-use Rattle.mc_soundness.proofs.laws.scopes_grow.Goals as goal
-
-pub returns : goal.returns
-returns c = expressions_grow

@@ -1,8 +1,0 @@
-use Rattle.mc_typed.specs.Views.{effect_of}
-use Rattle.mc_scopes.proofs.Items.{both_ok, lists_joined}
-use Rattle.mc_statements.proofs.statements.clauses.more_clauses.Goals as goal
-
-pub returns : goal.returns
-returns c =
-    both_ok (λ r fault value s. lists_joined effect_of r c.args.list c.args.more s fault value)
-    c.joined_lists.result c.joined_lists.ensures.fault c.joined_lists.ensures.value

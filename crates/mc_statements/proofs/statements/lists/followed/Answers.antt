@@ -1,8 +1,0 @@
-use Rattle.mc_scopes.proofs.Items.{both_ok}
-use Rattle.mc_statements.proofs.Lists.{statements_joined}
-use Rattle.mc_statements.proofs.statements.lists.followed.Goals as goal
-
-pub returns : goal.returns
-returns c =
-    both_ok (λ r fault value s. statements_joined r c.args.list c.args.more s fault value)
-    c.joined_lists.result c.joined_lists.ensures.fault c.joined_lists.ensures.value

@@ -1,5 +1,0 @@
-use Rattle.mc_wording.proofs.Naming.{named_by_word}
-use Rattle.mc_wording.proofs.laws.words_name_states.Goals as goal
-
-pub returns : goal.returns
-returns c = named_by_word

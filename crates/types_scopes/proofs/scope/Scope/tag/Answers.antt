@@ -1,0 +1,7 @@
+use Rattle.std.proofs.Common.{◌∙◌, ap, sym, option_map}
+use Rattle.types_scopes.specs.Views.{tag_of}
+use Rattle.types_scopes.proofs.Mapped.{tagged}
+use Rattle.types_scopes.proofs.scope.Scope.tag.Goals as goal
+
+pub returns : goal.returns
+returns c = ap (option_map tag_of) c.get.ensures ∙ sym (tagged c.args.tag.now.text.now c.args.self.now.tags)
