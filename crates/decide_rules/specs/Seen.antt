@@ -1,4 +1,4 @@
--- Views.
+-- What the code calls a decision, as a value of the definitions.
 use Rattle.std.specs.Prelude.{List}
 use Rattle.mc_cond.specs.Tree.{tree_of}
 use Rattle.mc_typed.specs.Tree.{Function}

@@ -1,4 +1,5 @@
 //! A probe that keeps hits.
+ghost use Rattle.mc_limits.specs.Limits.{most_bits};
 ghost use Rattle.std.specs.Prelude.{◌≡◌, [], IfOk};
 ghost use Rattle.hit_sink.specs.Lists.{Leads};
 
@@ -46,7 +47,7 @@ impl Probe for ListProbe {
     ghost use Rattle.hit_sink.specs.Lists.{Leads};
     ghost use Rattle.hit_sink.specs.Joined.{stays, joins};
 
-    ghost bits = { λ p. 65536 };
+    ghost bits = { λ p. most_bits };
 
     ghost leads = { Leads };
 

@@ -48,16 +48,16 @@ pub fn declaration_bit(counter: &mut u32, declarators: &[Declarator]) -> Option<
 
 /// The probe of a `default` that is absent. `label` is the bit of the next label, and goes on as
 /// far as its type.
-pub fn absent_mark(label: &mut u32, register: u32, items: &[Statement]) -> Option<Mark>
+pub fn mark_unless_default(label: &mut u32, register: u32, items: &[Statement]) -> Option<Mark>
     ensures mark { result
         ≡ mark_where (points.has_default (plain.statements_from (map plain.statement_of items.now)))
         register label.old }
     ensures next { label.new
         ≡ (if points.has_default (plain.statements_from (map plain.statement_of items.now))
         then label.old else min (label.old + 1) (2 ^ 32 - 1)) }
-    ensures no_exit { (points.where_absent
+    ensures no_exit { (points.unless_default
         (points.has_default (plain.statements_from (map plain.statement_of items.now)))).exits ≡ 0 }
-    ensures no_statement { (points.where_absent
+    ensures no_statement { (points.unless_default
         (points.has_default (plain.statements_from (map plain.statement_of items.now)))).statements
         ≡ 0 }
 {

@@ -1,4 +1,4 @@
-//! Counters.
+//! Counters of bits, labels and registers, which go on as the walk comes to each part.
 ghost use Rattle.std.specs.Prelude.{◌≡◌, ◌+◌, ◌-◌, ◌^◌, min};
 
 /// Counts one on, as far as the type goes, and gives the number before.

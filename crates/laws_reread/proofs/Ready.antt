@@ -4,7 +4,7 @@ use Rattle.std.proofs.Common.{◌≡◌, ◌≤◌, ◌<◌, ◌+◌, ◌-◌, �
 use Rattle.mc_span.specs.declared.span.Span.{Span}
 use Rattle.mc_lex.specs.Tokens.{Tok}
 use Rattle.mc_probe.specs.Maps.{Map}
-use Rattle.mc_probe.specs.Table.{At, absent_mark}
+use Rattle.mc_probe.specs.Table.{At, mark_unless_default}
 use Rattle.reread_pieces.specs.declared.piece.What.{What}
 use Rattle.reread_pieces.specs.declared.piece.What.TheVariants as what
 use Rattle.mc_inserted.specs.Rows.{Row, Rows, row, absent_default}
@@ -132,18 +132,18 @@ braced {tokens = tokens} {b = b} bit span h l q g = record {
 -- the end of a `switch`, after its absent `default`
 absent_ended : (tokens : List Tok) (m : Map) (first : ℕ) (has : Bool) (at : At m first) (span : Span) {k e : ℕ} (w : What) (other : Span) (later : List Row)
     → Ready tokens true k e w other → k ≤ span.end → e ≤ span.end → AreSeparateAfter tokens what.StatementEnd span later
-    → AreSeparateAfter tokens w other (absent_default (absent_mark m first has at) span (row what.StatementEnd span later))
+    → AreSeparateAfter tokens w other (absent_default (mark_unless_default m first has at) span (row what.StatementEnd span later))
 absent_ended tokens m first true at span w other later x l q rest = put what.StatementEnd span _ x q (is_later tokens true _ _ w other what.StatementEnd span l x.ready) rest
 absent_ended tokens m first false at span w other later x l q rest = put (what.Default at.switch at.label) span (row what.StatementEnd span later) x q tt (tt, (refl, refl), rest)
 
 pub braced_switch : {tokens : List Tok} {b : Bool} (m : Map) (first : ℕ) (has : Bool) (at : At m first) (bit : ℕ) (span : Span) {n k e : ℕ} {mine : Rows}
     → span.start < n → k ≤ span.end → e ≤ span.end → Goes tokens true n span.start k e mine
     → Goes tokens b span.start span.start span.end span.end
-    (λ later. row (what.Statement bit) span (mine (absent_default (absent_mark m first has at) span (row what.StatementEnd span later))))
+    (λ later. row (what.Statement bit) span (mine (absent_default (mark_unless_default m first has at) span (row what.StatementEnd span later))))
 braced_switch {tokens = tokens} {b = b} m first has at bit span h l q g = record {
   goes = λ v place later r rest.
       put (what.Statement bit) span _ r (same span.start) (is_later tokens b _ _ v place (what.Statement bit) span (same span.start) r.ready)
-      (g.goes (what.Statement bit) span (absent_default (absent_mark m first has at) span (row what.StatementEnd span later)) (record { past = same span.start; ready = h })
+      (g.goes (what.Statement bit) span (absent_default (mark_unless_default m first has at) span (row what.StatementEnd span later)) (record { past = same span.start; ready = h })
       (λ w other x. absent_ended tokens m first has at span w other later x l q (rest what.StatementEnd span (ended tokens b span))));
 }
 

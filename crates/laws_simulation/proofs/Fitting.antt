@@ -19,7 +19,7 @@ use Rattle.mc_steps.specs.Points.{Points, no_points, ◌⊕◌, points_of_functi
 use Rattle.mc_probe.specs.Tree as p
 use Rattle.mc_probe.specs.Maps.{Map, exit_bit, statement_bit, label_bit}
 use Rattle.mc_probe.specs.Switches.{switches, switches_all}
-use Rattle.mc_probe.specs.Table.{Stand, Loose, InTree, role_of, operand, under, beside, inner, base_of, increment_of, mapped, round_condition, round, put, put_place, put_structure, put_call, put_argument, put_arguments, put_effect, put_effects, put_initializer, put_initializers, put_initial, put_declarators, put_start, put_optional, put_return, At, decided, absent_mark, put_statement, put_statements, put_function, put_functions, decisions_in, instrumented}
+use Rattle.mc_probe.specs.Table.{Stand, Loose, InTree, role_of, operand, under, beside, inner, base_of, increment_of, mapped, round_condition, round, put, put_place, put_structure, put_call, put_argument, put_arguments, put_effect, put_effects, put_initializer, put_initializers, put_initial, put_declarators, put_start, put_optional, put_return, At, decided, mark_unless_default, put_statement, put_statements, put_function, put_functions, decisions_in, instrumented}
 use Rattle.mc_probe.specs.Table as table
 use Rattle.mc_probe.specs.WellFormed.{IsBarePlace, IsBare, IsBareStructure, IsBareCall, IsBareArgument, AreBareArguments, FitsPlace, Fits, FitsStructure, FitsCall, FitsArgument, FitArguments, FitsEffect, FitEffects, FitsInitializer, FitInitializers, FitsInitial, FitDeclarators, FitsStart, FitsTest, FitsReturn, FitsDeclaration, FitsAbsent, FitsStatement, FitStatements, FitFunctions}
 use Rattle.mc_probe.specs.Bare.{bare_place, bare_expression, bare_structure, bare_call, bare_argument, bare_arguments}
@@ -270,7 +270,7 @@ module _ (m : Map) (first most : ℕ) where
   bit_fits true k = tt
   bit_fits false k = refl
 
-  absent_fits : (b : Bool) (at : At m first) → at.switch < most → FitsAbsent most b (absent_mark m first b at)
+  absent_fits : (b : Bool) (at : At m first) → at.switch < most → FitsAbsent most b (mark_unless_default m first b at)
   absent_fits true at lt = refl
   absent_fits false at lt = lt
 
@@ -304,7 +304,7 @@ module _ (m : Map) (first most : ℕ) where
           let lt : at.switch < most = omega (arith, sw) in (
             (lt, put_fits (Loose Plain) at.decision e tt (omega (arith, le))),
             statements_fit at.switch z items (sound.in_switch around (type_of e)) k.2 (λ a e. lt) (omega (arith, le)) (omega (arith, sw)),
-            subst (λ (xs : t.Statements). FitsAbsent most (has_default xs) (absent_mark m first (has_default items) at)) (sym (statements_away m first at.switch z items)) (absent_fits (has_default items) at lt),
+            subst (λ (xs : t.Statements). FitsAbsent most (has_default xs) (mark_unless_default m first (has_default items) at)) (sym (statements_away m first at.switch z items)) (absent_fits (has_default items) at lt),
           )
       statement_fits r at (t.For start test step x keyword span) around k l le sw =
           let d : ℕ = at.decision + roots Plain (n.start start) in

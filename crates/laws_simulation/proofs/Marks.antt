@@ -15,7 +15,7 @@ use Rattle.mc_meaning.specs.Stores.{Store}
 use Rattle.mc_meaning.specs.Decisions.{choose}
 use Rattle.mc_probe.specs.Flat.{Flat, Activation, register, with_register}
 use Rattle.mc_probe.specs.Flat as f
-use Rattle.mc_probe.specs.Probes.{mark_does, where_set}
+use Rattle.mc_probe.specs.Probes.{mark_does, unless_cleared}
 use Rattle.mc_probe.specs.Maps.{Map, image, label_bit}
 use Rattle.laws_simulation.specs.Follows.{Kept, Alike, Follows, Does}
 use Rattle.laws_simulation.specs.Expressions.{bit_of}
@@ -101,7 +101,7 @@ module _ (ms : Members) (rooms : ℕ) (m : Map) (v : Activation) (bits : v.bits 
   mark_follows r k bit true is lt room s t a reg =
       let mark : Mark = record { register = r; bit = bit } in
       let e : (register (v.first + r) t.memory == 0) ≡ false = ap (λ (z : ℕ). z == 0) reg in
-      subst (λ (b : Bool). Follows ms rooms (bit_of m) (λ a b n. Kept (Before r) t.memory n × Reg r true n) (choose k true s) (where_set v b mark t)) (sym e)
+      subst (λ (b : Bool). Follows ms rooms (bit_of m) (λ a b n. Kept (Before r) t.memory n × Reg r true n) (choose k true s) (unless_cleared v b mark t)) (sym e)
       (record {
         told = ap (λ (xs : List ℕ). xs ++ []) (hit_is bit lt) ∙ ap (λ (z : ℕ). z ∷ []) (sym is);
         out = (
@@ -112,5 +112,5 @@ module _ (ms : Members) (rooms : ℕ) (m : Map) (v : Activation) (bits : v.bits 
   mark_follows r k bit false is lt room s t a reg =
       let mark : Mark = record { register = r; bit = bit } in
       let e : (register (v.first + r) t.memory == 0) ≡ true = ap (λ (z : ℕ). z == 0) reg in
-      subst (λ (b : Bool). Follows ms rooms (bit_of m) (λ a b n. Kept (Before r) t.memory n × Reg r true n) (choose k false s) (where_set v b mark t)) (sym e)
+      subst (λ (b : Bool). Follows ms rooms (bit_of m) (λ a b n. Kept (Before r) t.memory n × Reg r true n) (choose k false s) (unless_cleared v b mark t)) (sym e)
       (record { told = refl; out = (a, ((λ i p. refl), reg)) })

@@ -18,7 +18,7 @@ use Rattle.mc_steps.specs.Events.{Event, Exited, Started}
 use Rattle.mc_steps.specs.Expressions.{where_true, as_does, choice_does, is_true}
 use Rattle.mc_steps.specs.Statements.{Given, Number, Flow, Completed, Broke, Continued, Left, Body, Seek, Running, For, is_running, at_label, sought, has_label, is_absent, same_label, counted_does, effect_does, then_does, loop_does, do_does, where_completed, label_does, item_runs, switch_does, where_switch_ends}
 use Rattle.mc_steps.specs.Statements as give
-use Rattle.mc_steps.specs.Points.{Points, no_points, ◌⊕◌, a_statement, an_exit, a_label, initializes, has_default, where_absent, where_counted, points_of, points_of_all}
+use Rattle.mc_steps.specs.Points.{Points, no_points, ◌⊕◌, a_statement, an_exit, a_label, initializes, has_default, unless_default, where_counted, points_of, points_of_all}
 use Rattle.mc_meaning.specs.Stores.{Path, Store}
 use Rattle.mc_meaning.specs.Within as plain
 use Rattle.mc_meaning.specs.Within.{Within}
@@ -35,7 +35,7 @@ use Rattle.mc_probe.specs.Expressions as expr
 use Rattle.mc_probe.specs.Statements as act
 use Rattle.mc_probe.specs.Maps.{Map, IsMap, exit_bit, statement_bit, label_bit, first_path}
 use Rattle.mc_probe.specs.Switches.{switches, switches_all}
-use Rattle.mc_probe.specs.Table.{Stand, Loose, put, put_structure, put_effect, put_effects, put_declarators, put_start, put_optional, put_return, At, decided, absent_mark, put_statement, put_statements}
+use Rattle.mc_probe.specs.Table.{Stand, Loose, put, put_structure, put_effect, put_effects, put_declarators, put_start, put_optional, put_return, At, decided, mark_unless_default, put_statement, put_statements}
 use Rattle.mc_probe.specs.Table as table
 use Rattle.laws_simulation.specs.Follows.{Kept, Alike, Follows, Does}
 use Rattle.laws_simulation.specs.Activations.{IsGiven}
@@ -166,9 +166,9 @@ module _ (ms : Members) (rooms : ℕ) (m : Map) (first count : ℕ) (v : Activat
 
   -- the body of a `switch`, which has a `default` or not
   abbrev absent_in : Bool → Within → Within
-  absent_in b w = record w { points = w.points ⊕ where_absent b }
+  absent_in b w = record w { points = w.points ⊕ unless_default b }
 
-  switch_at : (b : Bool) (w : Within) (at : At m first) (a : Node) (ts : List Tree) (q : Points) (sw : ℕ) → IsAt w at (trees Plain a ++ ts) (a_statement ⊕ where_absent b ⊕ q) (1 + sw) → IsAt (absent_in b (past Plain a (into_statement w))) (decided m first (roots Plain a) (table.in_switch m first b at)) ts q sw
+  switch_at : (b : Bool) (w : Within) (at : At m first) (a : Node) (ts : List Tree) (q : Points) (sw : ℕ) → IsAt w at (trees Plain a ++ ts) (a_statement ⊕ unless_default b ⊕ q) (1 + sw) → IsAt (absent_in b (past Plain a (into_statement w))) (decided m first (roots Plain a) (table.in_switch m first b at)) ts q sw
   switch_at true w at a ts q sw h = record {
     here = here_past ms rooms m first count v w.decisions at.decision Plain a ts h.here;
     exit = omega (arith, h.exit);
@@ -346,7 +346,7 @@ module _ (ms : Members) (rooms : ℕ) (m : Map) (first count : ℕ) (v : Activat
           (ended i t1 q.0)
 
   -- the label that is absent
-  absent_follows : (has : Bool) (w : Within) (at : At m first) (ts : List Tree) (q : Points) (sw : ℕ) (ls : List (Option ℤ)) → has_label None ls ≡ has → IsAt w at ts (a_statement ⊕ where_absent has ⊕ q) (1 + sw) → EndMarks at.switch (choose (into_statement w).points.labels) (mark_does v (absent_mark m first has at)) ls
+  absent_follows : (has : Bool) (w : Within) (at : At m first) (ts : List Tree) (q : Points) (sw : ℕ) (ls : List (Option ℤ)) → has_label None ls ≡ has → IsAt w at ts (a_statement ⊕ unless_default has ⊕ q) (1 + sw) → EndMarks at.switch (choose (into_statement w).points.labels) (mark_does v (mark_unless_default m first has at)) ls
   absent_follows true w at ts q sw ls e h x s t a reg =
       subst (λ (b : Bool). Follows ms rooms (bit_of m) (λ a b z. Kept (Before ms rooms m v bits at.switch) t.memory z × Done a b) (choose (into_statement w).points.labels b s) (gives tt t)) (sym (none_absent (has_label (Some x) ls)))
       (record { told = refl; out = (a, ((λ i p. refl), tt)) })
@@ -486,17 +486,17 @@ module _ (ms : Members) (rooms : ℕ) (m : Map) (first count : ℕ) (v : Activat
         let y : Within = absent_in has (past Plain (n.expression e) u) in
         let z : At m first = decided m first (roots Plain (n.expression e)) (table.in_switch m first has at) in
         let rest : List Tree = trees_in (n.statements items) ++ [] in
-        let q : Points = where_absent has ⊕ points_of_all items in
+        let q : Points = unless_default has ⊕ points_of_all items in
         let sw : ℕ = switches_all items in
         let x : p.Expression = put m first (Loose Plain) at.decision e in
         let body : p.Statements = put_statements m first at.switch z items in
         let inner = left_trees y z (trees_in (n.statements items)) [] (points_of_all items) sw (switch_at has w at (n.expression e) rest (points_of_all items) sw h) in
         counts w at (trees Plain (n.expression e) ++ rest) q (1 + sw)
         (λ w. switch_does (value (evaluate e Plain w)) (labels_of items) (λ seek. run_from items seek (in_switch items (past Plain (n.expression e) w))) (choose w.points.labels))
-        (switch_does (expr.evaluate v (p.Probe (probe.Switch at.switch) x)) (labels_of (erase_statements body)) (act.run_from v body) (mark_does v (absent_mark m first has at))) h
-        (subst (λ (ls : Statements). Flows at.switch (switch_does (value (evaluate e Plain u)) (labels_of items) (λ seek. run_from items seek y) (choose u.points.labels)) (switch_does (expr.evaluate v (p.Probe (probe.Switch at.switch) x)) (labels_of ls) (act.run_from v body) (mark_does v (absent_mark m first has at))))
+        (switch_does (expr.evaluate v (p.Probe (probe.Switch at.switch) x)) (labels_of (erase_statements body)) (act.run_from v body) (mark_does v (mark_unless_default m first has at))) h
+        (subst (λ (ls : Statements). Flows at.switch (switch_does (value (evaluate e Plain u)) (labels_of items) (λ seek. run_from items seek y) (choose u.points.labels)) (switch_does (expr.evaluate v (p.Probe (probe.Switch at.switch) x)) (labels_of ls) (act.run_from v body) (mark_does v (mark_unless_default m first has at))))
         (sym (statements_away m first at.switch z items))
-        (switch_follows at.switch (labels_of items) (value (evaluate e Plain u)) (expr.evaluate v x) (λ seek. run_from items seek y) (act.run_from v body) (choose u.points.labels) (mark_does v (absent_mark m first has at))
+        (switch_follows at.switch (labels_of items) (value (evaluate e Plain u)) (expr.evaluate v x) (λ seek. run_from items seek y) (act.run_from v body) (choose u.points.labels) (mark_does v (mark_unless_default m first has at))
         (omega (arith, h.switches)) h.counted
         (of_part at.decision at.switch Equal (value (evaluate e Plain u)) (expr.evaluate v x) (number_follows ms rooms m first count v c is room bits e u at.decision g k.0 (here_left ms rooms m first count v u.decisions at.decision (trees Plain (n.expression e)) rest h.here)))
         (λ seek s t a reg. search_follows items seek (sound.in_switch around (type_of e)) at.switch y z g k.2 (omega arith) h.counted (omega (arith, h.switches)) inner s t a reg)

@@ -13,7 +13,7 @@ use Rattle.decide_rules.specs.Nodes as nodes
 use Rattle.decide_rules.specs.Counts.{roots}
 use Rattle.mc_steps.specs.Points.{initializes, has_default}
 use Rattle.mc_probe.specs.Maps.{Map}
-use Rattle.mc_probe.specs.Table.{Loose, At, past, absent_mark, put_effects, put_initializer, put_initializers, put_initial, put_declarators, put_start, put_optional, put_return, put_statement, put_statements}
+use Rattle.mc_probe.specs.Table.{Loose, At, past, mark_unless_default, put_effects, put_initializer, put_initializers, put_initial, put_declarators, put_start, put_optional, put_return, put_statement, put_statements}
 use Rattle.mc_inserted.specs.Rows.{Row, counted_declaration, absent_default, rows_in_effects, rows_in_initializer, rows_in_initializers, rows_in_initial, rows_in_declarators, rows_in_start, rows_in_optional, rows_in_return, rows_in_statement, rows_in_statements}
 use Rattle.mc_inserted.specs.Fits.{IsDeclarationAmong, IsSwitchAmong}
 use Rattle.laws_types.specs.SourceUnits.{IsInitializerOf, AreInitializersOf, AreObjectsOf, AreDeclaredBy, AreClausesOf, ArePartOf, IsStartOf, IsTestOf, IsReturnOf, AreStatementsOf, AreItemsOf, joined, span_of_declaration}
@@ -31,7 +31,7 @@ declaration_row ts true n span h t = some h t
 declaration_row ts false n span h t = t
 
 absent_row : (ts : List Tok) (m : Map) (first : ℕ) (b : Bool) (at : At m first) (span : Span) {mine : List Row} → IsSwitchAmong ts span → Sit ts mine
-    → Sit ts (absent_default (absent_mark m first b at) span mine)
+    → Sit ts (absent_default (mark_unless_default m first b at) span mine)
 absent_row ts m first true at span h t = t
 absent_row ts m first false at span h t = some h t
 

@@ -1,8 +1,8 @@
 -- What clauses see of commands.
 use Rattle.std.specs.Prelude.{◌≤◌, ℕ, ⊤, option_map}
-use Rattle.mc_limits.specs.Limits.{most_fuel, most_functions, most_workers}
+use Rattle.mc_limits.specs.Limits.{most_fuel, most_functions, most_looks, most_workers}
 use Rattle.mc_command.specs.Command.{Action, Command, Listing, Report, Run, Task, analyse, instrument, listed, merge, mutated, on_source, recorded, reduced, report, run, selfload, vectors, watched}
-use Rattle.mc_command.specs.Values.{most_looks, most_watched_workers}
+use Rattle.mc_command.specs.Values.{most_watched_workers}
 use Rattle.mc_command.specs.declared.action.Action.{Action as ActionGiven}
 use Rattle.mc_command.specs.declared.action.Action.TheVariants as action
 use Rattle.mc_command.specs.declared.command.Command.{Command as Given}

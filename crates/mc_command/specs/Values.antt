@@ -5,7 +5,7 @@ use Rattle.std.specs.List.{list_all}
 use Rattle.std.specs.Str.{bytes_eq}
 use Rattle.std.specs.Str.Parse.{digits_value}
 use Rattle.clap.specs.Walk.{Row, Text, first_of}
-use Rattle.mc_limits.specs.Limits.{most_fuel, most_functions, most_workers, usual_fuel}
+use Rattle.mc_limits.specs.Limits.{most_fuel, most_functions, most_looks, most_workers, usual_fuel}
 use Rattle.mc_command.specs.declared.form.Form.{Form}
 use Rattle.mc_command.specs.declared.form.Form.TheVariants as form
 use Rattle.mc_command.specs.declared.independence.Independence.{Independence}
@@ -59,12 +59,9 @@ usual_workers = 4
 abbrev pub most_watched_workers : ℕ
 most_watched_workers = most_workers - 1
 
--- how often the words are looked at while workers run, where the command does not say, and at most
+-- how often the words are looked at while workers run, where the command does not say
 abbrev pub usual_looks : ℕ
 usual_looks = 10
-
-abbrev pub most_looks : ℕ
-most_looks = 100
 
 -- `N`, the functions of a source that the program makes itself, from 1 on
 abbrev pub count_in : List Row → Option ℕ

@@ -21,7 +21,6 @@ pub use form::Form;
 pub use independence::Independence;
 pub use line::line_of;
 pub use listing::Listing;
-pub use looks::MOST_LOOKS;
 pub use report::Report;
 pub use run::{MOST_WATCHED_WORKERS, Run};
 pub use task::Task;

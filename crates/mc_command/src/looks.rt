@@ -2,17 +2,16 @@
 ghost use Rattle.std.specs.Prelude.{◌≡◌, IfSome};
 ghost use Rattle.clap.specs.Words.{found_of, rows_of};
 ghost use Rattle.mc_command.specs.Seen.{IsWithin};
-ghost use Rattle.mc_command.specs.Values.{looks_in, most_looks};
+ghost use Rattle.mc_command.specs.Values.{looks_in};
+ghost use Rattle.mc_limits.specs.Limits.{most_looks};
 
 use crate::number::read_number;
 use crate::values::text_at;
 use clap::ArgMatches;
+use mc_limits::MOST_LOOKS;
 
 /// The looks of a run where `--looks` is not given.
 const USUAL_LOOKS: u32 = 10;
-
-/// How often the words are looked at most.
-pub const MOST_LOOKS: u32 = 100;
 
 /// How often the words are looked at while workers run: `[--looks N]`.
 pub(crate) fn read_looks(values: &ArgMatches<'_>) -> Option<u32>

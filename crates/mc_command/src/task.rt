@@ -21,7 +21,7 @@ pub enum Task<'w> {
     Record,
     /// How many bits are recorded while the tests run: `watch`
     Watch {
-        /// How often the words are looked at, from 1 to `MOST_LOOKS`.
+        /// How often the words are looked at, from 1 to 100.
         looks: u32,
     },
     /// Tests that show what all of them show, and none of which can go: `reduce`

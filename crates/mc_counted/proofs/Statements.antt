@@ -8,11 +8,11 @@ use Rattle.decide_rules.specs.Nodes.{Whole}
 use Rattle.decide_rules.specs.Nodes as n
 use Rattle.decide_rules.specs.Counts.{roots, roots_in}
 use Rattle.mc_meaning.proofs.Numbered.{trees, trees_in, StandsAt}
-use Rattle.mc_steps.specs.Points.{where_absent, where_counted, points_of_all, has_default, initializes}
+use Rattle.mc_steps.specs.Points.{unless_default, where_counted, points_of_all, has_default, initializes}
 use Rattle.mc_probe.specs.Tree as p
 use Rattle.mc_probe.specs.Maps.{Map}
 use Rattle.mc_probe.specs.Switches.{switches_all}
-use Rattle.mc_probe.specs.Table.{Loose, At, decided, within, past, in_switch, absent_mark, put, put_statement, put_statements}
+use Rattle.mc_probe.specs.Table.{Loose, At, decided, within, past, in_switch, mark_unless_default, put, put_statement, put_statements}
 use Rattle.laws_soundness.specs.Plain.{IsPlainStatement, ArePlainStatements}
 use Rattle.mc_put.specs.Ends.{End, EndBit, EndMark, EndStatement, EndStatements}
 use Rattle.mc_counted.proofs.Ranges.{Pos, Same, none, same_as, join, ends_at, statement_bit, exit_bit, label_bit, three, four, five}
@@ -69,12 +69,12 @@ module _ (m : Map) (first limit entry : ℕ) where
       ends_at m limit (spot at) (spot at) _ (record { entry = refl; decision = refl; statement = omega arith; exit = refl; label = refl }) (none m limit (spot at))
 
   -- an absent `default`
-  where_no_default : (b : Bool) (at : At m first) → Bits (EndMark limit (absent_mark m first b at)) (within m first at) (record at { statement = at.statement + 1; label = at.label + (where_absent b).labels })
+  where_no_default : (b : Bool) (at : At m first) → Bits (EndMark limit (mark_unless_default m first b at)) (within m first at) (record at { statement = at.statement + 1; label = at.label + (unless_default b).labels })
   where_no_default true at =
       ends_at m limit (spot (within m first at)) (spot (within m first at)) _ (record { entry = refl; decision = refl; statement = refl; exit = refl; label = omega arith }) (none m limit (spot (within m first at)))
   where_no_default false at = label_bit m limit (spot (within m first at))
 
-  past_default : (b : Bool) (l : ℕ) → (if b then l else l + 1) ≡ l + (where_absent b).labels
+  past_default : (b : Bool) (l : ℕ) → (if b then l else l + 1) ≡ l + (unless_default b).labels
   past_default true l = omega arith
   past_default false l = refl
 
@@ -87,11 +87,11 @@ module _ (m : Map) (first limit entry : ℕ) where
   no_labels true = refl
   no_labels false = refl
 
-  no_absent_exits : (b : Bool) → (where_absent b).exits ≡ 0
+  no_absent_exits : (b : Bool) → (unless_default b).exits ≡ 0
   no_absent_exits true = refl
   no_absent_exits false = refl
 
-  no_absent_statements : (b : Bool) → (where_absent b).statements ≡ 0
+  no_absent_statements : (b : Bool) → (unless_default b).statements ≡ 0
   no_absent_statements true = refl
   no_absent_statements false = refl
 
@@ -152,7 +152,7 @@ module _ (m : Map) (first limit entry : ℕ) where
     statement_same r at (t.Switch c items keyword span) f h =
         let b : Bool = has_default items in
         let y : At m first = within m first at in
-        let q : At m first = record y { label = at.label + (where_absent b).labels } in
+        let q : At m first = record y { label = at.label + (unless_default b).labels } in
         let g : At m first = decided m first (roots Plain (n.expression c)) q in
         let z : At m first = decided m first (roots Plain (n.expression c)) (in_switch m first b at) in
         let w : At m first = after items z in

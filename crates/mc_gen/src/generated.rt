@@ -1,4 +1,4 @@
-//! Both files.
+//! The source and the tests file that `selfload` makes.
 ghost use Rattle.std.specs.Prelude.{◌≡◌, ◌≤◌, IfOk};
 ghost use Rattle.mc_limits.specs.Limits.{most_functions};
 ghost use Rattle.mc_gen.specs.Source.{source_text};

@@ -5,8 +5,9 @@
 -- A nonterminal reads the front of a list of tokens as a tree, and leaves the rest. A repetition
 -- goes on, and an optional part is there, exactly where the next token can begin it.
 --
--- `dialect` is the dialect of the source. These are the productions of the plain dialect, and stand
--- in every other one too: a dialect with more of them adds constructors that ask for it.
+-- `dialect` is the dialect of the text. The productions are the same in both: the words of probes
+-- are taken out of an instrumented text before it is read by them. The dialect decides alone how
+-- high a tree may be (`greatest_height`).
 use Rattle.std.specs.Prelude.{◌≡◌, ℕ, zero, suc, Bool, true, false, ◌&&◌, ◌||◌, List, ◌∷◌, Some, None, codes}
 use Rattle.mc_lex.specs.declared.token.Dialect.{Dialect}
 use Rattle.mc_lex.specs.declared.token.TokenKind.TheVariants as kind

@@ -1,6 +1,7 @@
 -- The grammar of external declarations, and of a whole source: one case for each alternative of a
 -- production.
 use Rattle.std.specs.Prelude.{◌≡◌, ◌≤◌, ℕ, Bool, true, false, not, ◌&&◌, List, [], ◌∷◌}
+use Rattle.mc_limits.specs.Limits.{most_height, most_instrumented_height}
 use Rattle.mc_lex.specs.declared.token.Dialect.{Dialect}
 use Rattle.mc_lex.specs.declared.token.Dialect.TheVariants.{Plain, Instrumented}
 use Rattle.mc_lex.specs.Tokens.{Tok}
@@ -51,8 +52,8 @@ IsTreeWithin limit dialect tokens unit = IsTree dialect tokens unit × (height_u
 
 -- the greatest height of a tree that is read
 abbrev pub greatest_height : Dialect → ℕ
-greatest_height Plain = 200
-greatest_height Instrumented = 800
+greatest_height Plain = most_height
+greatest_height Instrumented = most_instrumented_height
 
 -- The syntax of a text: its tree, where that is not too high.
 abbrev pub IsSyntaxOf : Dialect → List Tok → List Item → Type 0

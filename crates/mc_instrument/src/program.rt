@@ -1,4 +1,4 @@
-//! Whole programs.
+//! A whole program with its probes: its objects, and each function in turn.
 ghost use Rattle.std.specs.Prelude.{◌≡◌, map, All, IfOk, IfErr};
 ghost use Rattle.mc_cond.specs.Tree as conditions;
 ghost use Rattle.mc_typed.specs.Plans.{Fits, Plan};

@@ -1,4 +1,4 @@
-//! Numbers.
+//! Integer constants, with their base, digits and suffix.
 ghost use Rattle.std.specs.Prelude.{◌≡◌, ◌+◌, ◌≤◌, length};
 ghost use Rattle.mc_lex.specs.Numbers as numbers;
 ghost use Rattle.mc_lex.specs.steps.Scanner as spec;

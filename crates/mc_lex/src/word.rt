@@ -1,4 +1,4 @@
-//! Words.
+//! Keywords and names: the letters, digits and `_` that stand together.
 ghost use Rattle.std.specs.Prelude.{◌≡◌, ◌≤◌, length};
 ghost use Rattle.std.specs.List.{prefix_len};
 ghost use Rattle.mc_lex.specs.Bytes.{is_word_byte};

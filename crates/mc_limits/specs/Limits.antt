@@ -95,6 +95,22 @@ most_functions = 200
 abbrev pub most_words : ℕ
 most_words = 1048576
 
+-- mutants of a program
+abbrev pub most_mutants : ℕ
+most_mutants = 4096
+
+-- looks at the shared words while the tests run
+abbrev pub most_looks : ℕ
+most_looks = 100
+
+-- levels of a tree that is read from a source
+abbrev pub most_height : ℕ
+most_height = 200
+
+-- levels of a tree that is read from an instrumented text, whose probes bring brackets
+abbrev pub most_instrumented_height : ℕ
+most_instrumented_height = 800
+
 -- workers that share a matrix of coverage
 abbrev pub most_workers : ℕ
 most_workers = 64

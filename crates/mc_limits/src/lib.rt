@@ -12,7 +12,8 @@ pub const MOST_CONDITIONS: u32 = 64;
 /// Paths of a decision.
 pub const MOST_PATHS: u32 = 4_096;
 
-/// Bits of a program, one for each of its obligations.
+/// Bits of a program: one for each entry, exit, statement and label, and for each path number of
+/// each decision.
 pub const MOST_BITS: u32 = 65_536;
 
 /// Parameters of a function.
@@ -74,6 +75,18 @@ pub const MOST_FUNCTIONS: u32 = 200;
 
 /// Words, of 64 bits each, of a matrix of coverage.
 pub const MOST_WORDS: u64 = 1_048_576;
+
+/// Mutants of a program.
+pub const MOST_MUTANTS: u32 = 4_096;
+
+/// Looks at the shared words while the tests run.
+pub const MOST_LOOKS: u32 = 100;
+
+/// Levels of a tree that is read from a source.
+pub const MOST_HEIGHT: u32 = 200;
+
+/// Levels of a tree that is read from an instrumented text, whose probes bring brackets.
+pub const MOST_INSTRUMENTED_HEIGHT: u32 = 800;
 
 /// Workers that share a matrix of coverage.
 pub const MOST_WORKERS: u32 = 64;

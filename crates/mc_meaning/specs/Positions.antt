@@ -8,7 +8,7 @@ use Rattle.decide_rules.specs.Nodes.{Node}
 use Rattle.decide_rules.specs.Nodes as nodes
 use Rattle.decide_rules.specs.Roots.{is_root}
 use Rattle.decide_rules.specs.Counts.{one_where, roots}
-use Rattle.mc_steps.specs.Points.{Points, ◌⊕◌, a_statement, has_default, where_absent, points_of, points_of_all}
+use Rattle.mc_steps.specs.Points.{Points, ◌⊕◌, a_statement, has_default, unless_default, points_of, points_of_all}
 use Rattle.mc_meaning.specs.Within.{Within}
 
 -- after a node
@@ -29,7 +29,7 @@ into_statement w = record w { points = w.points ⊕ a_statement }
 
 -- in the items of a `switch`, whose absent `default` is numbered before its labels
 abbrev pub in_switch : Statements → Within → Within
-in_switch items w = record w { points = w.points ⊕ where_absent (has_default items) }
+in_switch items w = record w { points = w.points ⊕ unless_default (has_default items) }
 
 -- after the first clause of a `for`, its test, its step
 abbrev pub past_start : ForStart → Within → Within

@@ -37,7 +37,3 @@ pub record KillsAtItem (p : Program) (plans : List Plan) (item : ℕ) : Type 0 w
 -- bit 0 is hit under an item that kills, and there is no other bit
 abbrev pub does_of : Program → List Plan → ℕ → ℕ → Type 0
 does_of p plans item bit = (bit ≡ 0) × KillsAtItem p plans item
-
--- the most mutants that tests are run on
-abbrev pub most_mutants : ℕ
-most_mutants = 4096

@@ -1,6 +1,6 @@
 -- The runs of tests on mutants, by workers.
 use Rattle.std.specs.Prelude.{◌≡◌, ◌<◌, ◌≤◌, ◌+◌, ◌*◌, ℕ, List, Option, Some, None, All, length, map}
-use Rattle.mc_limits.specs.Limits.{most_tests}
+use Rattle.mc_limits.specs.Limits.{most_mutants, most_tests}
 use Rattle.mc_typed.specs.Sound.{IsSound}
 use Rattle.mc_typed.specs.Tree.{Program}
 use Rattle.mc_typed.specs.Views.{program_of}
@@ -12,7 +12,7 @@ use Rattle.cover_recorder.specs.Recorder.{RecorderView, bits_of, claimed, fresh,
 use Rattle.mc_mutate.specs.declared.kills.original.Original.{Original}
 use Rattle.mc_mutate.specs.declared.kills.runs.Job.{Job}
 use Rattle.mc_mutate.specs.declared.kills.runs.Task.{Task}
-use Rattle.mc_mutate.specs.Kills.{Shown, does_of, most_mutants, shown}
+use Rattle.mc_mutate.specs.Kills.{Shown, does_of, shown}
 use Rattle.mc_mutate.specs.Mutants.{count}
 
 -- ---- the program's own runs

@@ -1,4 +1,5 @@
 //! How many mutants a program has, and what is changed in each.
+ghost use Rattle.mc_limits.specs.Limits.{most_bits};
 ghost use Rattle.std.specs.Prelude.{◌≡◌, ◌≤◌, map};
 ghost use Rattle.mc_typed.specs.Levels.{limited};
 ghost use Rattle.mc_typed.specs.Views.{program_of};
@@ -17,7 +18,7 @@ use mc_typed::Program;
 pub fn count_mutants(decisions: &[Decision], program: &Program<'_>) -> u32
     ensures known { result ≡ limited (count (program_of program.now)) }
     ensures exact { AreDecisions (program_of program.now).functions (map decision_of decisions.now)
-        → conditions_in (map decision_of decisions.now) ≤ 65536
+        → conditions_in (map decision_of decisions.now) ≤ most_bits
         → result ≡ count (program_of program.now) }
 {
     match in_functions(Sought::Left(u32::MAX), program.functions()) {

@@ -12,7 +12,7 @@ use Rattle.decide_rules.specs.Nodes as nodes
 use Rattle.decide_rules.specs.Counts.{roots}
 use Rattle.mc_steps.specs.Points.{initializes, has_default}
 use Rattle.mc_probe.specs.Maps.{Map}
-use Rattle.mc_probe.specs.Table.{Loose, At, past, absent_mark, put_effects, put_initializer, put_initializers, put_initial, put_declarators, put_start, put_optional, put_return, put_statement, put_statements}
+use Rattle.mc_probe.specs.Table.{Loose, At, past, mark_unless_default, put_effects, put_initializer, put_initializers, put_initial, put_declarators, put_start, put_optional, put_return, put_statement, put_statements}
 use Rattle.reread_pieces.specs.declared.piece.What.TheVariants as what
 use Rattle.mc_inserted.specs.Rows.{Row, Rows, row, counted_declaration, absent_default, rows_in_effects, rows_in_initializer, rows_in_initializers, rows_in_initial, rows_in_declarators, rows_in_start, rows_in_optional, rows_in_return, rows_in_statement, rows_in_statements}
 use Rattle.mc_parts.specs.Stands.{AreInOrder}
@@ -39,7 +39,7 @@ declared_at : (b : Bool) (n : ℕ) (span : Span) (from to : ℕ) (later : List R
 declared_at true n span from to later h k = (h, k span.start (same span.start))
 declared_at false n span from to later h k = k from h
 
-absent_at : (m : Map) (first : ℕ) (b : Bool) (at : At m first) (span : Span) → {s : ℕ} → s ≤ span.end → Goes s span.end (absent_default (absent_mark m first b at) span)
+absent_at : (m : Map) (first : ℕ) (b : Bool) (at : At m first) (span : Span) → {s : ℕ} → s ≤ span.end → Goes s span.end (absent_default (mark_unless_default m first b at) span)
 absent_at m first true at span l = nothing l
 absent_at m first false at span l = record { goes = λ from to later f k. (le f l, k span.end (same span.end)) }
 

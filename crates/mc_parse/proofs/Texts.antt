@@ -1,4 +1,5 @@
 -- From the reading of a whole text to the grammar.
+use Rattle.mc_limits.specs.Limits.{most_instrumented_height}
 use Rattle.std.proofs.Common.{◌≡◌, ◌≤◌, ◌<◌, ◌+◌, ◌^◌, ℕ, List, length, Option, Some, None, refl, sym, ◌∙◌, ap, arith}
 use Rattle.mc_lex.specs.Tokens.{Tok}
 use Rattle.mc_lex.specs.declared.token.Dialect.{Dialect}
@@ -45,8 +46,8 @@ is_memory d limit count tokens tree (Syntax at) gives p = let clash : None ≡ S
 is_memory d limit count tokens tree OutOfMemory gives p = refl
 
 -- the bounds that the type of a unit keeps
-pub is_low : (d : Dialect) (limit : ℕ) (tokens : List Tok) (unit : List t.Item) → limit ≤ 800
-    → tree_in (unit_of (limit + 1) (lexemes_of tokens)) ≡ Some unit → height_unit unit ≤ 800
+pub is_low : (d : Dialect) (limit : ℕ) (tokens : List Tok) (unit : List t.Item) → limit ≤ most_instrumented_height
+    → tree_in (unit_of (limit + 1) (lexemes_of tokens)) ≡ Some unit → height_unit unit ≤ most_instrumented_height
 is_low d limit tokens unit low e = omega (arith, low, (is_tree d limit tokens unit e).1)
 
 pub is_short : (d : Dialect) (limit : ℕ) (tokens : List Tok) (unit : List t.Item) → length tokens < 2 ^ 31

@@ -1,4 +1,5 @@
 //! The tree of a whole source.
+ghost use Rattle.mc_limits.specs.Limits.{most_instrumented_height};
 ghost use Rattle.std.specs.Prelude.{◌≡◌, ◌+◌, ◌≤◌, ◌<◌, ◌^◌, All, IfOk, IsErrOf, List, MatchResult, length, ℕ};
 ghost use Rattle.mc_lex.specs.Tokens.{toks_of};
 ghost use Rattle.mc_tree.specs.Tree as source_tree;
@@ -11,6 +12,7 @@ ghost use Rattle.mc_parse.specs.steps.Wholes.{GivesWhole, tree_in};
 use crate::fault::ParseFault;
 use crate::items::items;
 use mc_lex::{Dialect, Token};
+use mc_limits::{MOST_HEIGHT, MOST_INSTRUMENTED_HEIGHT};
 use mc_tree::{Item, Unit};
 use parse_cursor::cursor::Cursor;
 use parse_cursor::fault::Fault;
@@ -43,7 +45,7 @@ pub fn parse_within<'a>(
 ) -> Result<Unit<'a>, ParseFault>
     requires short { All (λ token. token.start + length token.text.now < 2 ^ 31) tokens.now }
     requires few { length tokens.now < 2 ^ 31 }
-    requires limit { limit ≤ 800 }
+    requires limit { limit ≤ most_instrumented_height }
     // What is read is a tree of the tokens, no higher than the limit.
     ensures tree { (dialect : Dialect)
         → IfOk result (λ unit. IsTreeWithin limit dialect (toks_of tokens.now)
@@ -65,11 +67,11 @@ pub fn parse_within<'a>(
 /// The greatest height of a tree that is read.
 fn limit_of(dialect: Dialect) -> u32
     ensures limit { result ≡ greatest_height dialect }
-    ensures small { result ≤ 800 }
+    ensures small { result ≤ most_instrumented_height }
 {
     match dialect {
-        Dialect::Plain => 200,
-        Dialect::Instrumented => 800,
+        Dialect::Plain => MOST_HEIGHT,
+        Dialect::Instrumented => MOST_INSTRUMENTED_HEIGHT,
     }
 }
 

@@ -1,4 +1,4 @@
-//! Printing.
+//! A program with its probes, put piece by piece.
 ghost use Rattle.std.specs.Prelude.{◌≡◌, ◌≤◌, ℕ, List, Option};
 ghost use Rattle.mc_lex.specs.Tokens.{toks_of};
 ghost use Rattle.mc_port.specs.Sink.{Puts};

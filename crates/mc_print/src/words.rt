@@ -1,4 +1,4 @@
-//! Words.
+//! Whether a text is a given word.
 ghost use Rattle.std.specs.Prelude.{◌≡◌};
 ghost use Rattle.std.specs.Str.{bytes_eq};
 

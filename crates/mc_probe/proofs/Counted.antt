@@ -4,7 +4,7 @@ use Rattle.std.proofs.lemmas.List.{length-append}
 use Rattle.mc_span.specs.declared.span.Span.{Span}
 use Rattle.mc_typed.specs.Tree.{Statement, Statements, Function}
 use Rattle.mc_typed.specs.Tree as t
-use Rattle.mc_steps.specs.Points.{Points, ◌⊕◌, a_statement, where_counted, where_absent, where_completes, points_of, points_of_all, points_of_function, points_before, all_complete, has_default, initializes}
+use Rattle.mc_steps.specs.Points.{Points, ◌⊕◌, a_statement, where_counted, unless_default, where_completes, points_of, points_of_all, points_of_function, points_before, all_complete, has_default, initializes}
 use Rattle.mc_probe.specs.Obligations.{returns, returns_all, exits, counted_spans, counted_spans_all, labels, labels_all}
 use Rattle.mc_probe.specs.Laws.{AreCounted, EventsAreListed}
 
@@ -29,7 +29,7 @@ declared : (span : Span) (b : Bool) → AreCounted (if b then span ∷ [] else [
 declared span true = record { statements = refl; exits = refl; labels = refl }
 declared span false = record { statements = refl; exits = refl; labels = refl }
 
-absent : (span : Span) (b : Bool) → AreCounted [] [] (if b then [] else span ∷ []) (where_absent b)
+absent : (span : Span) (b : Bool) → AreCounted [] [] (if b then [] else span ∷ []) (unless_default b)
 absent span true = record { statements = refl; exits = refl; labels = refl }
 absent span false = record { statements = refl; exits = refl; labels = refl }
 
@@ -52,8 +52,8 @@ mutual
       (statement_counted s) (statement_counted u))
   statement_counted (t.Switch e items keyword span) =
       begun keyword (counted_spans_all items) (returns_all items) ((if has_default items then [] else keyword ∷ []) ++ labels_all items)
-      (where_absent (has_default items) ⊕ points_of_all items)
-      (joined [] [] (if has_default items then [] else keyword ∷ []) (where_absent (has_default items))
+      (unless_default (has_default items) ⊕ points_of_all items)
+      (joined [] [] (if has_default items then [] else keyword ∷ []) (unless_default (has_default items))
       (counted_spans_all items) (returns_all items) (labels_all items) (points_of_all items)
       (absent keyword (has_default items)) (items_counted items))
   statement_counted (t.For start test step s keyword span) =

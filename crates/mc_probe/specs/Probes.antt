@@ -36,11 +36,11 @@ module _ (w : Activation) where
   probe_does (probe.Switch r) e s = switch_probe_does r e s
 
   -- a label whose register is not 0 is the one that the switch chose
-  abbrev pub where_set : Bool → Mark → Does (Unit {0})
-  where_set true mark s = gives tt s
-  where_set false mark s = (hits w mark.bit >>= λ _. sets w mark.register 0) s
+  abbrev pub unless_cleared : Bool → Mark → Does (Unit {0})
+  unless_cleared true mark s = gives tt s
+  unless_cleared false mark s = (hits w mark.bit >>= λ _. sets w mark.register 0) s
 
   abbrev pub mark_does : Option Mark → Bool → Does (Unit {0})
   mark_does None chosen s = gives tt s
   mark_does (Some mark) chosen s =
-      where_set (register (w.first + mark.register) s.memory == 0) mark s
+      unless_cleared (register (w.first + mark.register) s.memory == 0) mark s

@@ -266,9 +266,9 @@ module _ (m : Map) (first : ℕ) where
         switch = at.switch + 1;
       }
 
-  abbrev pub absent_mark : Bool → At → Option Mark
-  absent_mark true at = None
-  absent_mark false at = Some (record { register = at.switch; bit = at.label })
+  abbrev pub mark_unless_default : Bool → At → Option Mark
+  mark_unless_default true at = None
+  mark_unless_default false at = Some (record { register = at.switch; bit = at.label })
 
   -- `r` is the register of the switch in whose body the statement stands.
   abbrev mutual
@@ -295,7 +295,7 @@ module _ (m : Map) (first : ℕ) where
         probed.Switch (probed.Probe (probe.Switch at.switch) (put_plain at.decision e))
         (put_statements at.switch (decided (plain_roots e) (in_switch (has_default items) at))
         items)
-        keyword span (Some at.statement) (absent_mark (has_default items) at)
+        keyword span (Some at.statement) (mark_unless_default (has_default items) at)
     put_statement r at (typed.For start test step s keyword span) =
         probed.For (put_start at.decision start)
         (put_optional (at.decision + roots Plain (nodes.start start)) test)

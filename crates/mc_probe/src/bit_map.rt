@@ -1,4 +1,5 @@
 //! The map of the bits.
+ghost use Rattle.mc_limits.specs.Limits.{most_bits};
 ghost use Rattle.std.specs.Prelude.{◌+◌, ◌≤◌, map, length};
 ghost use Rattle.mc_probe.specs.Maps.{AreBased};
 ghost use Rattle.mc_probe.specs.Same.{AreBased-prop};
@@ -21,5 +22,5 @@ pub struct BitMap {
     ghost based: { AreBased (map mapped_of decisions.items)
         (length entries.items + length exits.items + length statements.items + length labels.items)
         bits } by { AreBased-prop _ _ _ },
-    ghost few: { bits ≤ 65536 },
+    ghost few: { bits ≤ most_bits },
 }

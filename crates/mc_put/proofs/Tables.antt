@@ -18,7 +18,7 @@ use Rattle.mc_probe.specs.Bare.{bare_expression}
 use Rattle.mc_probe.specs.Erase.{erase_place, erase_expression, erase_call}
 use Rattle.mc_probe.specs.Tree as p
 use Rattle.mc_probe.specs.Maps.{Map, exit_bit, statement_bit, label_bit}
-use Rattle.mc_probe.specs.Table.{Stand, Loose, InTree, role_of, operand, under, beside, inner, base_of, increment_of, mapped, round_condition, round, put, put_place, put_structure, put_call, put_argument, put_arguments, put_effect, put_effects, put_initializer, put_initializers, put_initial, put_declarators, put_start, put_optional, put_return, At, decided, absent_mark, put_statement, put_statements, put_functions, decisions_in}
+use Rattle.mc_probe.specs.Table.{Stand, Loose, InTree, role_of, operand, under, beside, inner, base_of, increment_of, mapped, round_condition, round, put, put_place, put_structure, put_call, put_argument, put_arguments, put_effect, put_effects, put_initializer, put_initializers, put_initial, put_declarators, put_start, put_optional, put_return, At, decided, mark_unless_default, put_statement, put_statements, put_functions, decisions_in}
 use Rattle.mc_probe.specs.Table as table
 use Rattle.mc_probe.proofs.Backs.{expression_back}
 use Rattle.laws_simulation.proofs.Erased.{declarators_away, statements_away}
@@ -323,7 +323,7 @@ module _ (m : Map) (first : ℕ) where
   set_where true k = tt
   set_where false k = refl
 
-  set_unless : (b : Bool) (at : At m first) → IsSetUnless b (absent_mark m first b at)
+  set_unless : (b : Bool) (at : At m first) → IsSetUnless b (mark_unless_default m first b at)
   set_unless true at = refl
   set_unless false at = tt
 
@@ -354,7 +354,7 @@ module _ (m : Map) (first : ℕ) where
           tt,
           (switch_round (erase_expression (put m first (Loose Plain) at.decision e)) at.switch, put_takes (Loose Plain) at.decision e tt h.0),
           statements_take at.switch z items h.1,
-          subst (λ (xs : t.Statements). IsSetUnless (has_default xs) (absent_mark m first (has_default items) at)) (sym (statements_away m first at.switch z items)) (set_unless (has_default items) at),
+          subst (λ (xs : t.Statements). IsSetUnless (has_default xs) (mark_unless_default m first (has_default items) at)) (sym (statements_away m first at.switch z items)) (set_unless (has_default items) at),
         )
     statement_takes r at (t.For start test step x keyword span) h =
         let d : ℕ = at.decision + roots Plain (n.start start) in

@@ -18,7 +18,7 @@ use Rattle.mc_steps.specs.Runs.{State, Out, Gave, Stopped, Run, go_on, gives, st
 use Rattle.mc_steps.specs.Statements.{Given, Nothing, Flow, Completed, Broke, Continued, Left, Seek, Running, is_absent, sought, has_label, effect_does, switch_does, do_does, loop_does, where_switch_ends}
 use Rattle.mc_steps.specs.Calls.{Passed, PassedNumber, lent_of, where_left, number_given, leaves, body_does}
 use Rattle.mc_steps.specs.Tests.{TestRun, where_returned, calls_do, value_given}
-use Rattle.mc_steps.specs.Points.{Points, ◌⊕◌, no_points, a_statement, an_exit, a_label, where_counted, where_absent, where_completes, has_default, initializes, points_of, points_of_all, points_of_function, points_before, all_complete, some_breaks}
+use Rattle.mc_steps.specs.Points.{Points, ◌⊕◌, no_points, a_statement, an_exit, a_label, where_counted, unless_default, where_completes, has_default, initializes, points_of, points_of_all, points_of_function, points_before, all_complete, some_breaks}
 use Rattle.mc_steps.specs.Expressions.{as_does, choice_does, is_true}
 use Rattle.mc_meaning.specs.Stores.{Path, Store, on_places}
 use Rattle.mc_meaning.specs.Within.{Does, Within}
@@ -114,7 +114,7 @@ module _ (entries : ℕ) (all : Points) where
   never_absent : (v : ℤ) (ls : List (Option ℤ)) → has_label None ls ≡ true → is_absent v ls ≡ false
   never_absent v ls e = ap (λ (z : Bool). not (has_label (Some v) ls || z)) e ∙ ap not (or_true (has_label (Some v) ls))
 
-  absent_below : (b : Bool) (at : Points) (v : ℤ) (ls : List (Option ℤ)) → has_label None ls ≡ b → Under all at (where_absent b) → is_absent v ls ≡ true → at.labels < all.labels
+  absent_below : (b : Bool) (at : Points) (v : ℤ) (ls : List (Option ℤ)) → has_label None ls ≡ b → Under all at (unless_default b) → is_absent v ls ≡ true → at.labels < all.labels
   absent_below true at v ls e h is = true_not (sym (never_absent v ls e) ∙ is)
   absent_below false at v ls e h is = (let x : at.labels + 1 ≤ all.labels = h.labels in omega arith)
 
@@ -124,7 +124,7 @@ module _ (entries : ℕ) (all : Points) where
   ends_in Continued mark k s = tt
   ends_in (Left v) mark k s = tt
 
-  switch_in : (e : Does ℤ) (ls : List (Option ℤ)) (items : Seek → Does (Flow Path)) (at : Points) → Keeps e → ((seek : Seek) → Keeps (items seek)) → Under all at (where_absent (has_label None ls)) → Keeps (switch_does e ls items (choose at.labels))
+  switch_in : (e : Does ℤ) (ls : List (Option ℤ)) (items : Seek → Does (Flow Path)) (at : Points) → Keeps e → ((seek : Seek) → Keeps (items seek)) → Under all at (unless_default (has_label None ls)) → Keeps (switch_does e ls items (choose at.labels))
   switch_in e ls items at k j h s =
       l.after_keeps P (e s) _ (k s)
       (λ v s. l.after_keeps P (items (sought v ls) s) (λ flow s. where_switch_ends flow (choose at.labels (is_absent v ls)) s) (j (sought v ls) s)
@@ -164,7 +164,7 @@ module _ (entries : ℕ) (all : Points) where
     run_in (t.Switch e items keyword span) w c h =
         let x : Within = into_statement w in
         let v : Within = in_switch items (past Plain (n.expression e) x) in
-        let absent : Points = where_absent (has_default items) in
+        let absent : Points = unless_default (has_default items) in
         let inner = later_under w.points a_statement (absent ⊕ points_of_all items) h in
         counted_in w
         (λ w. switch_does (value (evaluate e Plain w)) (labels_of items) (λ seek. run_from items seek (in_switch items (past Plain (n.expression e) w))) (choose w.points.labels))

@@ -13,7 +13,8 @@ use Rattle.cover_recorder.specs.Crew.{AreHits, IsGathered, HasAll}
 use Rattle.cover_recorder.proofs.Crew.{all_settled}
 use Rattle.mc_meaning.specs.Seen.{Told}
 use Rattle.mc_meaning.specs.declared.result.TestResult.{TestResult}
-use Rattle.mc_watch.specs.Looks.{most_looks, AreLooks}
+use Rattle.mc_limits.specs.Limits.{most_looks}
+use Rattle.mc_watch.specs.Looks.{AreLooks}
 use Rattle.mc_watch.specs.Watched.{CanWatch, HasLooked, IsWatched}
 use Rattle.mc_watch.proofs.Looks.{within}
 use Rattle.mc_runner.specs.Jobs.{AreFilled}

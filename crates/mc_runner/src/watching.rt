@@ -2,7 +2,7 @@
 ghost use Rattle.std.specs.Prelude.{◌≡◌, ◌<◌, ◌≤◌, All, length, map, IfOk, vec_len, vec_capacity};
 ghost use Rattle.std.specs.Thread.{IsSync};
 ghost use Rattle.mc_core.specs.Shape.{word_count};
-ghost use Rattle.mc_limits.specs.Limits.{most_tests, most_workers};
+ghost use Rattle.mc_limits.specs.Limits.{most_looks, most_tests, most_workers};
 ghost use Rattle.mc_cover.specs.Model.{IsOf};
 ghost use Rattle.mc_cover.specs.Views.{opener};
 ghost use Rattle.cover_recorder.specs.Crew.{HasAll};
@@ -10,7 +10,6 @@ ghost use Rattle.mc_meaning.specs.Seen.{told_of};
 ghost use Rattle.mc_probe.specs.Erase.{erase};
 ghost use Rattle.mc_probe.specs.Trees.{tree_of};
 ghost use Rattle.mc_typed.specs.Plans.{Fits, plan_of};
-ghost use Rattle.mc_watch.specs.Looks.{most_looks};
 ghost use Rattle.mc_watch.specs.Watched.{CanWatch, HasLooked, IsWatched};
 ghost use Rattle.mc_runner.specs.Jobs.{CanWork, AreDone, does_of};
 ghost use Rattle.mc_runner.specs.Recorded.{told_by};

@@ -9,7 +9,7 @@ use Rattle.decide_rules.specs.Counts.{roots, roots_in}
 use Rattle.mc_steps.specs.Points.{has_default, initializes}
 use Rattle.reread_pieces.specs.declared.piece.What.TheVariants as what
 use Rattle.mc_probe.specs.Maps.{Map}
-use Rattle.mc_probe.specs.Table.{Loose, put, put_effect, put_effects, put_declarators, put_start, put_optional, put_return, At, decided, past, within, in_switch, absent_mark, put_statement, put_statements}
+use Rattle.mc_probe.specs.Table.{Loose, put, put_effect, put_effects, put_declarators, put_start, put_optional, put_return, At, decided, past, within, in_switch, mark_unless_default, put_statement, put_statements}
 use Rattle.mc_probe.specs.Tree as p
 use Rattle.mc_alike.specs.Moves.{Move, moved_span}
 use Rattle.mc_natural.specs.Moved.{moved_number, moved_effect, moved_effects, moved_objects, moved_for_start, moved_return_value, moved_typed_statement, moved_typed_statements}
@@ -43,7 +43,7 @@ module _ (move : Move) where
       switch = at.switch + switches_same move s i;
     }
 
-    absent_carries : (at : At m first) (span : Span) (b : Bool) → Carries move (absent_default (absent_mark m first b at) span) (absent_default (absent_mark w first b (over at)) (moved_span move span))
+    absent_carries : (at : At m first) (span : Span) (b : Bool) → Carries move (absent_default (mark_unless_default m first b at) span) (absent_default (mark_unless_default w first b (over at)) (moved_span move span))
     absent_carries at span true l = refl
     absent_carries at span false l = refl
 
@@ -107,9 +107,9 @@ module _ (move : Move) where
           let one : Rows = rows (p.Probe (probe.Switch at.switch) (put m first (Loose Plain) at.decision e)) in
           let first_one : Rows = rows (p.Probe (probe.Switch at.switch) (put w first (Loose Plain) at.decision (moved_number move e))) in
           let second : Rows = rows_in_statements (put_statements m first at.switch inside items) in
-          let third : Rows = absent_default (absent_mark m first (has_default items) at) span in
+          let third : Rows = absent_default (mark_unless_default m first (has_default items) at) span in
           let two : ℕ → Bool → Rows = λ j b. rows_in_statements (put_statements w first at.switch (decided w first j (in_switch w first b (over at))) (moved_typed_statements move items)) in
-          let three : Bool → Rows = λ b. absent_default (absent_mark w first b (over at)) (moved_span move span) in
+          let three : Bool → Rows = λ b. absent_default (mark_unless_default w first b (over at)) (moved_span move span) in
           let other : ℕ = roots Plain (n.expression (moved_number move e)) in
           let has : Bool = has_default (moved_typed_statements move items) in
           counted_carries at.statement span (λ l. one (second (third l))) (λ l. first_one (two other has (three has l)))

@@ -8,7 +8,7 @@ use Rattle.decide_rules.specs.Counts.{roots, roots_in}
 use Rattle.mc_steps.specs.Points.{has_default}
 use Rattle.reread_pieces.specs.declared.piece.What.TheVariants as what
 use Rattle.mc_probe.specs.Maps.{Map}
-use Rattle.mc_probe.specs.Table.{Loose, put_place, put, put_effect, put_effects, put_start, put_optional, At, decided, past, within, in_switch, absent_mark, put_statement, put_statements}
+use Rattle.mc_probe.specs.Table.{Loose, put_place, put, put_effect, put_effects, put_start, put_optional, At, decided, past, within, in_switch, mark_unless_default, put_statement, put_statements}
 use Rattle.mc_probe.specs.Tree as p
 use Rattle.mc_natural.specs.Settled.{settled_operand, settled_effect, settled_effects, settled_for_start, settled_statement, settled_statements}
 use Rattle.mc_inserted.specs.Rows.{Row, Rows, row, rows_in_place, rows, rows_in_effect, rows_in_effects, rows_in_start, rows_in_optional, absent_default, rows_in_statement, rows_in_statements}
@@ -100,8 +100,8 @@ module _ (w : Map) (first : ℕ) where
         let inside : Bool → At w first = λ b. decided w first (roots Plain (n.expression e)) (in_switch w first b at) in
         let front : Rows = λ l. row (what.Statement at.statement) span (rows (p.Probe (probe.Switch at.switch) (put w first (Loose Plain) at.decision e)) l) in
         let end : List Row = row what.StatementEnd span later in
-        ap (λ (b : Bool). front (rows_in_statements (put_statements w first at.switch (inside b) (settled_statements items)) (absent_default (absent_mark w first b at) span end))) (default_clear items)
-        ∙ ap front (statements_rows at.switch (inside (has_default items)) items (absent_default (absent_mark w first (has_default items) at) span end))
+        ap (λ (b : Bool). front (rows_in_statements (put_statements w first at.switch (inside b) (settled_statements items)) (absent_default (mark_unless_default w first b at) span end))) (default_clear items)
+        ∙ ap front (statements_rows at.switch (inside (has_default items)) items (absent_default (mark_unless_default w first (has_default items) at) span end))
     statement_rows r at (t.For start test step s keyword span) later =
         let y : ℕ = roots Plain (n.optional_test test) in
         let end : List Row = row what.StatementEnd span later in

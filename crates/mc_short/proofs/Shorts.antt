@@ -12,11 +12,11 @@ use Rattle.decide_rules.specs.Nodes as n
 use Rattle.decide_rules.specs.Roots.{is_root}
 use Rattle.decide_rules.specs.Conditions.{width, is_operator}
 use Rattle.decide_rules.specs.Counts.{one_where, roots, roots_in}
-use Rattle.mc_steps.specs.Points.{Points, ◌⊕◌, where_absent, points_of, points_of_all, points_of_function, points_before, all_complete, has_default, initializes}
+use Rattle.mc_steps.specs.Points.{Points, ◌⊕◌, unless_default, points_of, points_of_all, points_of_function, points_before, all_complete, has_default, initializes}
 use Rattle.mc_probe.specs.Tree as p
 use Rattle.mc_probe.specs.Maps.{Map, first_exit, first_statement, first_label, exit_bit, statement_bit, label_bit}
 use Rattle.mc_probe.specs.Switches.{switches, switches_all}
-use Rattle.mc_probe.specs.Table.{Stand, Loose, InTree, role_of, operand, under, beside, inner, base_of, increment_of, mapped, round_condition, round, put, put_place, put_structure, put_call, put_argument, put_arguments, put_effect, put_effects, put_initializer, put_initializers, put_initial, put_declarators, put_start, put_optional, put_return, At, decided, absent_mark, put_statement, put_statements, put_functions, decisions_in}
+use Rattle.mc_probe.specs.Table.{Stand, Loose, InTree, role_of, operand, under, beside, inner, base_of, increment_of, mapped, round_condition, round, put, put_place, put_structure, put_call, put_argument, put_arguments, put_effect, put_effects, put_initializer, put_initializers, put_initial, put_declarators, put_start, put_optional, put_return, At, decided, mark_unless_default, put_statement, put_statements, put_functions, decisions_in}
 use Rattle.mc_probe.specs.Table as table
 use Rattle.mc_probe.specs.Bare.{bare_place, bare_expression, bare_structure, bare_call, bare_argument, bare_arguments}
 use Rattle.laws_simulation.specs.Expressions.{Stands}
@@ -263,12 +263,12 @@ module _ (m : Map) (first most : ℕ) (few : most ≤ 4294967295) (bases : (k : 
   bit_short true k h = h
   bit_short false k h = tt
 
-  mark_short : (b : Bool) (at : At m first) → IsShort at.switch → IsShort at.label → IsShortMark (absent_mark m first b at)
+  mark_short : (b : Bool) (at : At m first) → IsShort at.switch → IsShort at.label → IsShortMark (mark_unless_default m first b at)
   mark_short true at h k = tt
   mark_short false at h k = (h, k)
 
   -- an absent `default` takes a label
-  past_absent : (b : Bool) (l x : ℕ) → l + ((where_absent b).labels + x) ≤ Great → (if b then l else l + 1) + x ≤ Great
+  past_absent : (b : Bool) (l x : ℕ) → l + ((unless_default b).labels + x) ≤ Great → (if b then l else l + 1) + x ≤ Great
   past_absent true l x h = omega (arith, h)
   past_absent false l x h = omega (arith, h)
 
@@ -296,7 +296,7 @@ module _ (m : Map) (first most : ℕ) (few : most ≤ 4294967295) (bases : (k : 
         let b : Bool = has_default items in
         let z : At m first = decided m first (roots Plain (n.expression c)) (table.in_switch m first b at) in
         let turn : IsShort at.switch = omega (arith, sw, few) in
-        let l1 : at.label + ((where_absent b).labels + (points_of_all items).labels) ≤ Great = omega (arith, l) in
+        let l1 : at.label + ((unless_default b).labels + (points_of_all items).labels) ≤ Great = omega (arith, l) in
         let label = past_absent b at.label (points_of_all items).labels l1 in (
           omega (arith, s),
           (turn, put_short (Loose Plain) at.decision c tt (omega (arith, le))),

@@ -13,7 +13,7 @@ use Rattle.decide_rules.specs.Counts.{roots}
 use Rattle.mc_steps.specs.Points.{initializes, has_default}
 use Rattle.mc_probe.specs.Maps.{Map}
 use Rattle.mc_probe.specs.Bare.{bare_place, bare_expression, bare_structure, bare_call, bare_argument, bare_arguments}
-use Rattle.mc_probe.specs.Table.{Loose, At, past, absent_mark, put_effects, put_initializer, put_initializers, put_initial, put_declarators, put_start, put_optional, put_return, put_statement, put_statements}
+use Rattle.mc_probe.specs.Table.{Loose, At, past, mark_unless_default, put_effects, put_initializer, put_initializers, put_initial, put_declarators, put_start, put_optional, put_return, put_statement, put_statements}
 use Rattle.mc_weave.specs.Brackets.{Brackets}
 use Rattle.mc_brackets.specs.Signs.{Sign, signs_in_expressions, signs_in_optional, signs_in_initializer, signs_in_initializers, signs_in_init_declarators, signs_in_declaration, signs_in_start, signs_in_statement, signs_in_block}
 use Rattle.mc_inserted.specs.Rows.{Row, rows, rows_in_place, rows_in_structure, rows_in_call, rows_in_argument, rows_in_arguments, rows_in_effects, rows_in_initializer, rows_in_initializers, rows_in_initial, rows_in_declarators, rows_in_start, rows_in_optional, rows_in_return, counted_declaration, absent_default, rows_in_statement, rows_in_statements}
@@ -75,7 +75,7 @@ declaration_row w true n span t = other w _ refl refl (λ later. refl) t
 declaration_row w false n span t = t
 
 absent_row : (w : Brackets) (m : Map) (first : ℕ) (b : Bool) (at : At m first) (span : Span) {o : List Level} {own held : List Span} {mine : List Row} {ps : List Sign}
-    → Signed w o own held mine ps → Signed w o own held (absent_default (absent_mark m first b at) span mine) ps
+    → Signed w o own held mine ps → Signed w o own held (absent_default (mark_unless_default m first b at) span mine) ps
 absent_row w m first true at span t = t
 absent_row w m first false at span t = other w _ refl refl (λ later. refl) t
 

@@ -14,7 +14,8 @@ use Rattle.mutate_lines.specs.Seen.{told_of}
 use Rattle.mutate_lines.specs.declared.change.ChangeLine.{ChangeLine}
 use Rattle.mc_mutate.specs.declared.changes.Change.{Change}
 use Rattle.mc_mutate.specs.Kills as items
-use Rattle.mc_mutate.specs.Kills.{does_of, most_mutants}
+use Rattle.mc_limits.specs.Limits.{most_mutants}
+use Rattle.mc_mutate.specs.Kills.{does_of}
 use Rattle.mc_mutate.specs.Mutants.{IsChange, count, mutants}
 use Rattle.mc_typed.specs.Levels.{limited}
 use Rattle.mc_typed.specs.Plans.{Fits, Plan, plan_of}

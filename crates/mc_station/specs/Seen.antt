@@ -9,7 +9,6 @@ use Rattle.mc_cover.specs.Model.{IsOf}
 use Rattle.mc_cover.specs.Views.{opener}
 use Rattle.mc_lex.specs.Tokens.{Tok}
 use Rattle.mc_meaning.specs.Seen.{told_of}
-use Rattle.mc_mutate.specs.Kills.{most_mutants}
 use Rattle.mc_mutate.specs.Mutants.{count}
 use Rattle.decide_rules.specs.Decisions.{AreDecisions}
 use Rattle.decide_rules.specs.Seen.{decision_of}
@@ -25,7 +24,7 @@ use Rattle.mc_probe.specs.Table as table
 use Rattle.mc_oblige.specs.Obligations.{obligations_of}
 use Rattle.mc_oblige.specs.declared.justification.Justification.{Justification}
 use Rattle.mc_justify.specs.Returned.{AreFit}
-use Rattle.mc_limits.specs.Limits.{most_functions, most_source_bytes, most_tests, most_words, most_workers}
+use Rattle.mc_limits.specs.Limits.{most_functions, most_mutants, most_source_bytes, most_tests, most_words, most_workers}
 use Rattle.mc_record.specs.Kept.{IsKept}
 use Rattle.mc_record.specs.Seen.{kept_of}
 use Rattle.mc_record.specs.declared.kept.Record.{Record}

@@ -28,15 +28,13 @@ use mc_command::{Action, Run, Task};
 use mc_core::Shape;
 use mc_cover::{OpenFault, open};
 use mc_justify::{JustifyFault, read_justifications};
+use mc_limits::MOST_MUTANTS;
 use mc_mutate::count_mutants;
 use mc_oblige::{Justification, obligations};
 use mc_tests::{TestFault, read_tests};
 use mc_typed::TestPlan;
 use station_replies::{Refusal, Stop};
 use std::alloc::Global;
-
-/// How many mutants a program may have for `mutate`.
-const MOST_MUTANTS: u32 = 4_096;
 
 /// The tests of a tests file.
 pub fn judge_tests<'a>(

@@ -129,9 +129,9 @@ where_counted true = a_statement
 where_counted false = no_points
 
 -- a `default` that is absent has a point at the `switch`, before the labels in it
-abbrev pub where_absent : Bool → Points
-where_absent true = no_points
-where_absent false = a_label
+abbrev pub unless_default : Bool → Points
+unless_default true = no_points
+unless_default false = a_label
 
 -- A statement's own point is before those of its parts.
 abbrev mutual
@@ -144,7 +144,7 @@ abbrev mutual
   points_of (typed.If e s keyword span) = a_statement ⊕ points_of s
   points_of (typed.IfElse e s u keyword span) = a_statement ⊕ points_of s ⊕ points_of u
   points_of (typed.Switch e items keyword span) =
-      a_statement ⊕ where_absent (has_default items) ⊕ points_of_all items
+      a_statement ⊕ unless_default (has_default items) ⊕ points_of_all items
   points_of (typed.For start test step s keyword span) = a_statement ⊕ points_of s
   points_of (typed.DoWhile s e keyword span) = a_statement ⊕ points_of s
   points_of (typed.Break span) = a_statement

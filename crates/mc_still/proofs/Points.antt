@@ -5,7 +5,7 @@ use Rattle.mc_typed.specs.Constants.{constant_value, unary_value, converted_valu
 use Rattle.mc_typed.specs.Sound.{labels_of}
 use Rattle.mc_typed.specs.Tree as t
 use Rattle.mc_steps.specs.Statements.{has_label}
-use Rattle.mc_steps.specs.Points.{Points, no_points, ◌⊕◌, a_statement, where_counted, where_absent, where_completes, is_constant, is_nonzero, is_always_true, is_always, breaks, some_breaks, has_default, completes, all_complete, last_completes, initializes, points_of, points_of_all, points_of_function}
+use Rattle.mc_steps.specs.Points.{Points, no_points, ◌⊕◌, a_statement, where_counted, unless_default, where_completes, is_constant, is_nonzero, is_always_true, is_always, breaks, some_breaks, has_default, completes, all_complete, last_completes, initializes, points_of, points_of_all, points_of_function}
 use Rattle.mc_probe.specs.Switches.{switches, switches_all}
 use Rattle.mc_probe.specs.Obligations.{returns, returns_all, exits, counted_spans, counted_spans_all, labels, labels_all}
 use Rattle.mc_alike.specs.Moves.{Move, moved_span}
@@ -139,7 +139,7 @@ mutual
   points_same m (t.IfElse e s u keyword span) =
       ap₂ (λ x y. a_statement ⊕ x ⊕ y) (points_same m s) (points_same m u)
   points_same m (t.Switch e items keyword span) =
-      ap₂ (λ x y. a_statement ⊕ where_absent x ⊕ y) (default_same m items) (all_points_same m items)
+      ap₂ (λ x y. a_statement ⊕ unless_default x ⊕ y) (default_same m items) (all_points_same m items)
   points_same m (t.For start test step s keyword span) = ap (λ x. a_statement ⊕ x) (points_same m s)
   points_same m (t.DoWhile s e keyword span) = ap (λ x. a_statement ⊕ x) (points_same m s)
   points_same m (t.Break span) = refl

@@ -15,7 +15,7 @@ use Rattle.mc_steps.specs.Points.{Points, no_points, ◌⊕◌, points_of, point
 use Rattle.mc_probe.specs.Bare.{bare_place, bare_expression, bare_structure, bare_call, bare_argument, bare_arguments}
 use Rattle.mc_probe.specs.Maps.{Map, entry_bit, exit_bit, statement_bit, label_bit, first_exit, first_statement, first_label}
 use Rattle.mc_probe.specs.Switches.{switches, switches_all}
-use Rattle.mc_probe.specs.Table.{base_of, increment_of, Stand, Loose, InTree, role_of, operand, under, beside, inner, mapped, round_condition, round, wrap, put_place, put, put_structure, put_call, put_argument, put_arguments, put_plain, put_test, put_effect, put_effects, put_initializer, put_initializers, put_initial, put_declarators, put_start, put_optional, put_return, At, decided, past, within, in_switch, absent_mark, put_statement, put_statements, decisions_in, put_function, put_functions}
+use Rattle.mc_probe.specs.Table.{base_of, increment_of, Stand, Loose, InTree, role_of, operand, under, beside, inner, mapped, round_condition, round, wrap, put_place, put, put_structure, put_call, put_argument, put_arguments, put_plain, put_test, put_effect, put_effects, put_initializer, put_initializers, put_initial, put_declarators, put_start, put_optional, put_return, At, decided, past, within, in_switch, mark_unless_default, put_statement, put_statements, decisions_in, put_function, put_functions}
 use Rattle.mc_probe.specs.Tree as p
 use Rattle.mc_alike.specs.Moves.{Move}
 use Rattle.mc_natural.specs.Moved.{moved_place, moved_number, moved_structure, moved_call, moved_argument, moved_arguments, moved_effect, moved_effects, moved_filling, moved_fillings, moved_object, moved_objects, moved_for_start, moved_return_value, moved_typed_statement, moved_typed_statements, moved_function, moved_functions}
@@ -358,7 +358,7 @@ module _ (m w : Map) (same : SameNumbers m w) (first : ℕ) where
     switch = at.switch + switches_same still s i;
   }
 
-  absent_kept : (at : At m first) (b : Bool) → absent_mark m first b at ≡ absent_mark w first b (over at)
+  absent_kept : (at : At m first) (b : Bool) → mark_unless_default m first b at ≡ mark_unless_default w first b (over at)
   absent_kept at true = refl
   absent_kept at false = refl
 
@@ -387,7 +387,7 @@ module _ (m w : Map) (same : SameNumbers m w) (first : ℕ) where
         same3 (λ x y (b : Option Mark). p.Switch (p.Probe (probe.Switch at.switch) x) y nowhere nowhere (Some at.statement) b) (put_kept (Loose Plain) at.decision e)
         (put_statements_kept at.switch (decided m first (roots Plain (n.expression e)) (in_switch m first (has_default items) at)) items
         ∙ ap₂ (λ (k : ℕ) (b : Bool). put_statements w first at.switch (decided w first k (in_switch w first b (over at))) (moved_typed_statements still items)) (sym (plain_same e)) (sym (default_same still items)))
-        (absent_kept at (has_default items) ∙ ap (λ (b : Bool). absent_mark w first b (over at)) (sym (default_same still items)))
+        (absent_kept at (has_default items) ∙ ap (λ (b : Bool). mark_unless_default w first b (over at)) (sym (default_same still items)))
     put_statement_kept r at (t.For start test step s keyword span) =
         let rs : roots Plain (n.start (moved_for_start still start)) ≡ roots Plain (n.start start) = roots_of Plain (n.start start) (start_node still start) in
         let rt : roots Plain (n.optional_test (option_map (moved_number still) test)) ≡ roots Plain (n.optional_test test) = roots_of Plain (n.optional_test test) (test_node still test) in

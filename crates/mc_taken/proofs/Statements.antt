@@ -26,7 +26,7 @@ use Rattle.reread_probes.specs.Statements as shape
 use Rattle.mc_probe.specs.Bare.{bare_place, bare_expression, bare_structure, bare_call, bare_argument, bare_arguments}
 use Rattle.mc_probe.specs.Tree as probed
 use Rattle.mc_probe.specs.Maps.{Map, entry_bit, exit_bit, statement_bit, label_bit}
-use Rattle.mc_probe.specs.Table.{Stand, Loose, InTree, round_condition, round, inner, base_of, increment_of, mapped, put, put_effects, put_initializer, put_initializers, put_initial, put_declarators, put_start, put_optional, put_return, At, decided, past, within, in_switch, absent_mark, put_statement, put_statements, decisions_in, put_function, put_functions}
+use Rattle.mc_probe.specs.Table.{Stand, Loose, InTree, round_condition, round, inner, base_of, increment_of, mapped, put, put_effects, put_initializer, put_initializers, put_initial, put_declarators, put_start, put_optional, put_return, At, decided, past, within, in_switch, mark_unless_default, put_statement, put_statements, decisions_in, put_function, put_functions}
 use Rattle.mc_inserted.specs.Rows.{Row, row, extent, rows, rows_in_place, rows_in_structure, rows_in_call, rows_in_argument, rows_in_arguments, rows_in_effects, rows_in_initializer, rows_in_initializers, rows_in_initial, rows_in_declarators, rows_in_start, rows_in_optional, counted_declaration, absent_default, with_exit, rows_in_statement, rows_in_statements, register_row, entry_row, exit_row, rows_in_functions}
 use Rattle.laws_types.specs.Source.{IsOperandOf}
 use Rattle.laws_types.specs.Source as of
@@ -276,7 +276,7 @@ module _ (m : Map) (first : ℕ) where
       puts.return_value (structure_puts m first p d (row (what.ValueEnd b) span later))
 
   default_puts : (s : Statement) (b : Bool) (at : At m first) (later : List Row) → lacks_default s ≡ not b
-      → PutsDefault s (absent_default (absent_mark m first b at) (tree.span_of_statement s) later) later
+      → PutsDefault s (absent_default (mark_unless_default m first b at) (tree.span_of_statement s) later) later
   default_puts s true at later e = puts.no_default e
   default_puts s false at later e = puts.absent_default e
 
@@ -327,7 +327,7 @@ module _ (m : Map) (first : ℕ) where
         let end = row what.StatementEnd span later in
         let has = points.has_default all in
         let next = decided m first (roots Plain (nodes.expression e)) (in_switch m first has at) in
-        let mid = absent_default (absent_mark m first has at) span end in
+        let mid = absent_default (mark_unless_default m first has at) span end in
         puts.counted (puts.switch
         (switch_puts p at.switch at.decision (rows_in_statements (put_statements m first at.switch next all) mid))
         (statement_puts q at.switch next mid))

@@ -1,4 +1,4 @@
-//! Whole programs.
+//! A typed program: its structure types, objects and functions.
 ghost use Rattle.std.specs.Prelude.{◌≡◌, ◌<◌, length, slice_get, Some, IfSome};
 ghost use Rattle.mc_typed.specs.Sound.{IsFunction, IsSound};
 ghost use Rattle.mc_typed.specs.Views.{function_of, program_of};

@@ -1,5 +1,5 @@
 //! What is found of a part and not used, since another part ran out of memory. To let such a value
-//! go is dear to prove, so it is proved once for each type.
+//! go is costly to prove, so it is proved once for each type.
 use mc_typed::{Argument, Statement};
 use types_scopes::found::{Found, Given, Judged};
 

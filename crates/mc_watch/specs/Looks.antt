@@ -3,10 +3,6 @@ use Rattle.std.specs.Prelude.{◌≡◌, ◌≤◌, ℕ, ◌^◌, ◌<◌, List,
 use Rattle.std.specs.Int.{bit_at}
 use Rattle.mc_cover.specs.declared.view.View.{View}
 
--- looks that can be asked for
-abbrev pub most_looks : ℕ
-most_looks = 100
-
 -- A look loads each of so many words once, in order of index: of each load the index of the word
 -- and the value found there, of 64 bits.
 pub record IsLook (words : ℕ) (loads : List (ℕ × ℕ)) : Type 0 where

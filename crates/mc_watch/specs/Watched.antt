@@ -6,7 +6,8 @@ use Rattle.mc_core.specs.Shape.{word_count}
 use Rattle.mc_core.specs.declared.shape.Shape.{Shape}
 use Rattle.mc_cover.specs.declared.view.View.{View}
 use Rattle.mc_cover.specs.Model.{CoverView, PassView, IsOf}
-use Rattle.mc_watch.specs.Looks.{AreLooks, most_looks}
+use Rattle.mc_limits.specs.Limits.{most_looks}
+use Rattle.mc_watch.specs.Looks.{AreLooks}
 
 -- there are n different pairs of a bit and a test of which it holds
 pub record AreSoMany (has : ℕ → ℕ → Type 0) (n : ℕ) : Type 0 where

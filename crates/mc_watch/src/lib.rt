@@ -8,4 +8,4 @@ mod counting;
 mod watching;
 
 pub use counting::pairs;
-pub use watching::{MOST_LOOKS, watch};
+pub use watching::watch;

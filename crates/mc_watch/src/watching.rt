@@ -6,13 +6,11 @@ ghost use Rattle.mc_watch.specs.Looks.{LooksOnce};
 ghost use Rattle.mc_watch.specs.Watched.{CanWatch, HasLooked};
 
 use mc_cover::{Cover, Pass, look};
+use mc_limits::MOST_TESTS;
 use mc_port::Gate;
 
-/// Looks that can be asked for.
-pub const MOST_LOOKS: u32 = 100;
-
 /// The number with which the gate is passed after the first look. No test has it.
-const FIRST_LOOK: u32 = 4_096;
+const FIRST_LOOK: u32 = MOST_TESTS;
 
 /// So many looks. A look loads every coverage word once and counts the bits that are set; then the
 /// gate is passed, with 4,096 after the first look, and with one more after each. The counts go to

@@ -1,5 +1,5 @@
 //! Statements with `if` on the heap. The values are made in functions of their own: a statement is
-//! dear to prove where it is handed on in the function that makes it.
+//! costly to prove where it is handed on in the function that makes it.
 ghost use Rattle.std.specs.Prelude.{◌≡◌};
 ghost use Rattle.mc_tree.specs.Tree as tree;
 ghost use Rattle.mc_tree.specs.Tree.{span_of_statement};

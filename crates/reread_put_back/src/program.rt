@@ -1,4 +1,4 @@
-//! Whole programs.
+//! A whole program, with the probes of its text put back into each function.
 ghost use Rattle.std.specs.Prelude.{◌≡◌, None, Ok, IfErr, IfOk};
 ghost use Rattle.mc_typed.specs.Views.{program_of};
 ghost use Rattle.mc_probe.specs.Erase.{erase};

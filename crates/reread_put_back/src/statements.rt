@@ -106,7 +106,7 @@ fn declaration(
 }
 
 /// The probe of an absent `default`.
-fn absent_mark(walk: &Walk, pen: &mut Pen<'_>, items: &[Statement], span: Span) -> Option<Mark>
+fn mark_unless_default(walk: &Walk, pen: &mut Pen<'_>, items: &[Statement], span: Span) -> Option<Mark>
     ensures part { result ≡ (spec.back_absent walk.now.registers
         (points.has_default (plain.statements_from (map plain.statement_of items.now))) span
         (pen_of pen.old)).0 }
@@ -408,7 +408,7 @@ fn switch(
     let bit = statement_bit(pen, walk.registers, span);
     let value = expression(walk, pen, value)?;
     let items = statements(walk, pen, trees)?;
-    let absent = absent_mark(walk, pen, trees, span);
+    let absent = mark_unless_default(walk, pen, trees, span);
     Ok(Statement::Switch {
         value,
         items,

@@ -2,7 +2,7 @@
 ghost use Rattle.std.specs.Prelude.{◌≡◌, ◌≤◌, ◌<◌, ◌+◌, ◌*◌, ◌^◌, length, map, All, IfSome};
 ghost use Rattle.std.specs.Thread.{IsSync};
 ghost use Rattle.mc_limits.specs.Limits.{most_tests, most_workers};
-ghost use Rattle.mc_mutate.specs.Kills.{most_mutants};
+ghost use Rattle.mc_limits.specs.Limits.{most_mutants};
 ghost use Rattle.mc_mutate.specs.Mutants.{count};
 ghost use Rattle.decide_rules.specs.Decisions.{AreDecisions};
 ghost use Rattle.decide_rules.specs.Seen.{decision_of};

@@ -6,10 +6,10 @@ use Rattle.mc_typed.specs.Tree as t
 use Rattle.decide_rules.specs.declared.role.Role.TheVariants.{Controlling, Plain}
 use Rattle.decide_rules.specs.Nodes as n
 use Rattle.decide_rules.specs.Counts.{roots, roots_in}
-use Rattle.mc_steps.specs.Points.{Points, no_points, ◌⊕◌, where_counted, where_absent, points_of, points_of_all, points_of_function, all_complete, has_default, initializes}
+use Rattle.mc_steps.specs.Points.{Points, no_points, ◌⊕◌, where_counted, unless_default, points_of, points_of_all, points_of_function, all_complete, has_default, initializes}
 use Rattle.mc_probe.specs.Obligations as places
 use Rattle.mc_probe.specs.Maps.{Map, exit_bit, statement_bit, label_bit}
-use Rattle.mc_probe.specs.Table.{At, decided, past, within, in_switch, absent_mark, put_statement, put_statements, put_function, put_functions, decisions_in}
+use Rattle.mc_probe.specs.Table.{At, decided, past, within, in_switch, mark_unless_default, put_statement, put_statements, put_function, put_functions, decisions_in}
 use Rattle.mc_probe.proofs.Counted.{function_counted}
 use Rattle.tests_probe.specs.Places.{Placed, placed, at_bit, at_mark, starts, starts_all, leaves, leaves_all, choices, choices_all, enters, exits, numbered, ProbesHavePlaces}
 
@@ -29,7 +29,7 @@ joined k j xs ys us vs a b e =
 
 -- ---- as many as are counted
 
-no_statement : (b : Bool) → (where_absent b).statements ≡ 0
+no_statement : (b : Bool) → (unless_default b).statements ≡ 0
 no_statement true = refl
 no_statement false = refl
 
@@ -60,7 +60,7 @@ mutual
   items_length (t.statements s rest) =
       length-append (places.counted_spans s) (places.counted_spans_all rest) ∙ (λ i. statement_length s i + items_length rest i)
 
-no_exit : (b : Bool) → (where_absent b).exits ≡ 0
+no_exit : (b : Bool) → (unless_default b).exits ≡ 0
 no_exit true = refl
 no_exit false = refl
 
@@ -72,7 +72,7 @@ no_label_declared : (b : Bool) → (where_counted b).labels ≡ 0
 no_label_declared true = refl
 no_label_declared false = refl
 
-absent_length : (span : Span) (b : Bool) → length (if b then [] else span ∷ []) ≡ (where_absent b).labels
+absent_length : (span : Span) (b : Bool) → length (if b then [] else span ∷ []) ≡ (unless_default b).labels
 absent_length span true = refl
 absent_length span false = refl
 
@@ -193,7 +193,7 @@ module _ (m : Map) (first : ℕ) where
         (put_leaves r at s) (put_leaves_all r (past m first s at) rest) (ap (λ (j : ℕ). at.exit + j) (exit_length s))
 
   -- a `switch`, from what is put in its items
-  absent_first : (at : At m first) (keyword : Span) (b : Bool) (xs : List Placed) (ls : List Span) → xs ≡ numbered (in_switch m first b at).label ls → at_mark keyword (absent_mark m first b at) ++ xs ≡ numbered at.label ((if b then [] else keyword ∷ []) ++ ls)
+  absent_first : (at : At m first) (keyword : Span) (b : Bool) (xs : List Placed) (ls : List Span) → xs ≡ numbered (in_switch m first b at).label ls → at_mark keyword (mark_unless_default m first b at) ++ xs ≡ numbered at.label ((if b then [] else keyword ∷ []) ++ ls)
   absent_first at keyword true xs ls h = h
   absent_first at keyword false xs ls h = ap (λ (zs : List Placed). placed keyword at.label ∷ zs) h
 

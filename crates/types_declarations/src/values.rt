@@ -1,5 +1,5 @@
 //! Values, or none where there is a fault, by a function of any type: what is proved of a type of
-//! trees at such a step is dear.
+//! trees at such a step is costly.
 ghost use Rattle.std.specs.Prelude.{◌≡◌};
 ghost use Rattle.types_faults.specs.Faults.{unless_faulty};
 ghost use Rattle.types_faults.specs.Kept.{listed};

@@ -1,5 +1,5 @@
 //! Values on the heap, in lists, or none, by functions of any type: what is proved of a type of
-//! trees at such a step is dear.
+//! trees at such a step is costly.
 ghost use Rattle.std.specs.Prelude.{◌≡◌, ◌++◌, ◌∷◌, [], IfOk, OnOk, IsOk, option_map};
 ghost use Rattle.types_faults.specs.Faults.{least_of};
 ghost use Rattle.types_faults.specs.Kept.{listed};

@@ -36,8 +36,8 @@ pub(crate) fn declaration_bit(counter: &mut u32, declarators: &[Declarator]) -> 
 
 /// The probe of a `default` that is absent.
 #[tactic(auto, using(crate::proofs::Counted::label_after, crate::proofs::Counted::labels_after))]
-pub(crate) fn absent_mark(label: &mut u32, register: u32, items: &[Statement]) -> Option<Mark>
-    requires { label.now + (points.where_absent
+pub(crate) fn mark_unless_default(label: &mut u32, register: u32, items: &[Statement]) -> Option<Mark>
+    requires { label.now + (points.unless_default
         (points.has_default (plain.statements_from (map plain.statement_of items.now)))).labels
         < 2 ^ 32 }
     ensures mark { result
@@ -47,13 +47,13 @@ pub(crate) fn absent_mark(label: &mut u32, register: u32, items: &[Statement]) -
         ≡ (if points.has_default (plain.statements_from (map plain.statement_of items.now))
         then label.old else label.old + 1) }
     ensures more { label.new ≡ label.old
-        + (points.where_absent
+        + (points.unless_default
         (points.has_default (plain.statements_from (map plain.statement_of items.now)))).labels }
-    ensures no_exit { (points.where_absent
+    ensures no_exit { (points.unless_default
         (points.has_default (plain.statements_from (map plain.statement_of items.now)))).exits ≡ 0 }
-    ensures no_statement { (points.where_absent
+    ensures no_statement { (points.unless_default
         (points.has_default (plain.statements_from (map plain.statement_of items.now)))).statements
         ≡ 0 }
 {
-    instrument_bits::absent_mark(label, register, items)
+    instrument_bits::mark_unless_default(label, register, items)
 }

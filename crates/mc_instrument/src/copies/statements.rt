@@ -11,7 +11,7 @@ ghost use Rattle.mc_probe.specs.Table.{put_effects, put_optional, put_return, pu
 ghost use Rattle.mc_probe.specs.Views as probed;
 ghost use Rattle.mc_instrument.specs.steps.Counters.{at_of, given, taken, taken_by_all};
 
-use crate::copies::counters::{absent_mark, count, declaration_bit};
+use crate::copies::counters::{mark_unless_default, count, declaration_bit};
 use crate::copies::effects::{effect, effects};
 use crate::copies::expressions::{expression, structure, test};
 use crate::copies::initializers::declarators;
@@ -265,7 +265,7 @@ fn statement(
         } => {
             let bit = count(&mut at.statement);
             let own = count(&mut at.switch);
-            let absent = absent_mark(&mut at.label, own, items);
+            let absent = mark_unless_default(&mut at.label, own, items);
             let value = expression(walk, &mut at.decision, value)?;
             let value = with_probe(walk.alloc, Probe::Switch { register: own }, value)?;
             let items = statements(walk, own, at, items)?;

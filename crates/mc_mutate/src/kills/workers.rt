@@ -1,7 +1,7 @@
 //! Runs of tests on mutants, by workers in threads of their own.
 ghost use Rattle.std.specs.Prelude.{◌≡◌, ◌<◌, ◌≤◌, ◌*◌, ℕ, All, length, map, slice_index_or, IfOk, Result, vec_len};
 ghost use Rattle.std.specs.declared.alloc.AllocError.{AllocError};
-ghost use Rattle.mc_limits.specs.Limits.{most_tests, most_workers};
+ghost use Rattle.mc_limits.specs.Limits.{most_mutants, most_tests, most_workers};
 ghost use Rattle.mc_typed.specs.Plans.{Fits, plan_of};
 ghost use Rattle.mc_typed.specs.Sound.{IsSound};
 ghost use Rattle.mc_typed.specs.Views.{program_of};
@@ -11,7 +11,7 @@ ghost use Rattle.mc_cover.specs.Model.{IsOf, PassView};
 ghost use Rattle.mc_cover.specs.Views.{opener};
 ghost use Rattle.cover_recorder.specs.Crew.{HasAll};
 ghost use Rattle.mc_mutate.specs.declared.kills.runs.Job.{Job};
-ghost use Rattle.mc_mutate.specs.Kills.{does_of, most_mutants};
+ghost use Rattle.mc_mutate.specs.Kills.{does_of};
 ghost use Rattle.mc_mutate.specs.Mutants.{count};
 ghost use Rattle.mc_mutate.specs.Runs.{CanWork, IsDone, IsHired, IsReady, worker_does};
 

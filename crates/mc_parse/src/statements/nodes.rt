@@ -1,4 +1,4 @@
-//! Makers of statements, one for each kind: a statement is dear to prove where it is made in a
+//! Makers of statements, one for each kind: a statement is costly to prove where it is made in a
 //! branch or handed on at once.
 ghost use Rattle.std.specs.Prelude.{◌≡◌, map};
 ghost use Rattle.mc_tree.specs.Tree as tree;

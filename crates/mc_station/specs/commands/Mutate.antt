@@ -3,7 +3,8 @@ use Rattle.std.specs.Prelude.{◌≡◌, ◌<◌, ◌≤◌, ℕ, ◌+◌, ◌==
 use Rattle.mutate_lines.specs.Killers.{AreKillers}
 use Rattle.mutate_lines.specs.Lines.{Told, mutant_lines, survived_of}
 use Rattle.mc_lex.specs.Lines.{column_of, line_of}
-use Rattle.mc_mutate.specs.Kills.{IsKilled, most_mutants}
+use Rattle.mc_limits.specs.Limits.{most_mutants}
+use Rattle.mc_mutate.specs.Kills.{IsKilled}
 use Rattle.mc_mutate.specs.Mutants.{IsMutant, count, mutants}
 use Rattle.mc_mutate.specs.declared.changes.Change.{Change}
 use Rattle.mc_mutate.specs.declared.changes.MutantKind.{MutantKind}

@@ -5,7 +5,7 @@ ghost use Rattle.mc_limits.specs.Limits.{most_words, most_workers};
 ghost use Rattle.mc_port.specs.Lines.{bytes_of};
 ghost use Rattle.station_replies.specs.Seen.{seen_reply};
 ghost use Rattle.mc_tests.specs.Seen.{seen_plans};
-ghost use Rattle.mc_watch.specs.Looks.{most_looks};
+ghost use Rattle.mc_limits.specs.Limits.{most_looks};
 ghost use Rattle.mc_station.specs.Looked.{IsLooked};
 ghost use Rattle.mc_station.specs.Ran.{IsRun};
 ghost use Rattle.mc_station.specs.Seen.{ArePlanned, HasItsTree, IsOpened, seen_accepted};

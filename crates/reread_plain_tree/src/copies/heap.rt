@@ -1,5 +1,5 @@
 //! Values on the heap and at the end of lists, by functions of any type: what is proved of a type
-//! of trees at such a step is dear.
+//! of trees at such a step is costly.
 ghost use Rattle.std.specs.Prelude.{◌≡◌, ◌++◌, ◌∷◌, [], IfOk};
 
 use std::alloc::{AllocError, Global};
