@@ -9,7 +9,7 @@ use Rattle.mc_paths.specs.Paths.{count_of, path_of, IsPath, IsInUse}
 use Rattle.mc_paths.proofs.Numbers.{vector_below}
 use Rattle.mc_steps.specs.Events.{Event, Entered, Exited, Started, Chosen, Evaluated}
 use Rattle.mc_probe.specs.Maps.{Mapped, Map, image, path_bit, entry_bit, exit_bit, statement_bit, label_bit}
-use Rattle.mc_oblige.specs.declared.mode.Mode.{Mode}
+use Rattle.report_options.specs.declared.mode.Mode.{Mode}
 use Rattle.mc_oblige.specs.declared.obligation.ObligationId.{ObligationId}
 use Rattle.mc_oblige.specs.declared.obligation.ObligationId.TheVariants.{Entry, Exit, Statement, Label, Outcome}
 use Rattle.mc_oblige.specs.declared.verdict.Evidence.{Evidence}

@@ -8,7 +8,7 @@ use Rattle.mc_core.specs.Matrix.{MatrixView, Holds}
 use Rattle.mc_paths.specs.Paths.{count_of}
 use Rattle.mc_steps.specs.Events.{Event}
 use Rattle.mc_probe.specs.Maps.{Mapped, Map, IsMap, IsPlaced, first_path, exit_bit, statement_bit, label_bit}
-use Rattle.mc_oblige.specs.declared.mode.Mode.{Mode}
+use Rattle.report_options.specs.declared.mode.Mode.{Mode}
 use Rattle.mc_oblige.specs.declared.obligation.ObligationId.{ObligationId}
 use Rattle.mc_oblige.specs.declared.obligation.ObligationId.TheVariants.{Entry, Exit, Statement, Label, Condition}
 use Rattle.mc_oblige.specs.declared.obligation.Obligation.{Obligation}

@@ -4,7 +4,7 @@ use Rattle.std.specs.Prelude.{zero, suc, map}
 use Rattle.std.proofs.lemmas.List.{append-nil, drop_more}
 use Rattle.mc_steps.specs.Events.{Event}
 use Rattle.mc_probe.specs.Maps.{Map}
-use Rattle.mc_oblige.specs.declared.mode.Mode.{Mode}
+use Rattle.report_options.specs.declared.mode.Mode.{Mode}
 use Rattle.mc_oblige.specs.declared.obligation.Obligation.{Obligation}
 use Rattle.mc_oblige.specs.declared.justification.Justification.{Justification}
 use Rattle.mc_oblige.specs.declared.verdict.Evidence.{Evidence}

@@ -3,7 +3,7 @@ use Rattle.std.proofs.Common.{◌≡◌, ℕ, ◌+◌, ◌++◌, Option, List, [
 use Rattle.std.proofs.lemmas.Bool.{cases_lt}
 use Rattle.std.proofs.lemmas.List.{get_or_append_left, get_or_push, length_push}
 use Rattle.mc_cond.specs.Tree.{Tree}
-use Rattle.mc_oblige.specs.declared.mode.Mode.{Mode}
+use Rattle.report_options.specs.declared.mode.Mode.{Mode}
 use Rattle.mc_oblige.specs.declared.verdict.Evidence.{Evidence}
 use Rattle.mc_oblige.specs.declared.verdict.Evidence.TheVariants.{Absent}
 use Rattle.mc_oblige.specs.steps.Found.{IsFoundCondition, AreFoundBelow}

@@ -10,8 +10,8 @@ use Rattle.mc_unique.specs.Unique.{IsUniquePair}
 use Rattle.mc_masking.specs.Masking.{IsMaskingPair}
 use Rattle.mc_steps.specs.Events.{Event, Evaluated}
 use Rattle.mc_probe.specs.Maps.{Mapped, Map}
-use Rattle.mc_oblige.specs.declared.mode.Mode.{Mode}
-use Rattle.mc_oblige.specs.declared.mode.Mode.TheVariants.{Unique, Masking}
+use Rattle.report_options.specs.declared.mode.Mode.{Mode}
+use Rattle.report_options.specs.declared.mode.Mode.TheVariants.{Unique, Masking}
 use Rattle.mc_oblige.specs.declared.obligation.ObligationId.{ObligationId}
 use Rattle.mc_oblige.specs.declared.obligation.ObligationId.TheVariants.{Condition}
 use Rattle.mc_oblige.specs.declared.verdict.Evidence.{Evidence}

@@ -2,7 +2,7 @@
 use Rattle.std.specs.Prelude.{◌≡◌, List}
 use Rattle.mc_core.specs.Matrix.{MatrixView}
 use Rattle.mc_probe.specs.Maps.{Map}
-use Rattle.mc_oblige.specs.declared.mode.Mode.{Mode}
+use Rattle.report_options.specs.declared.mode.Mode.{Mode}
 use Rattle.mc_oblige.specs.declared.justification.Justification.{Justification}
 use Rattle.mc_oblige.specs.declared.verdict.Verdict.{Verdict}
 use Rattle.mc_oblige.specs.declared.evaluated.EvaluatedPath.{EvaluatedPath}

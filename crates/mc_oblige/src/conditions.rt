@@ -9,12 +9,12 @@ ghost use Rattle.mc_oblige.specs.Evidence.{pairs_of};
 ghost use Rattle.mc_oblige.specs.steps.Table.{IsAt, AreSeenBelow};
 ghost use Rattle.mc_oblige.specs.steps.Found.{IsFoundCondition, AreFoundBelow};
 
-use crate::mode::Mode;
 use crate::seen::seen_paths;
 use crate::verdict::Evidence;
 use mc_masking::masking_pair;
 use mc_probe::MappedDecision;
 use mc_unique::unique_pair;
+use report_options::Mode;
 use std::alloc::{AllocError, Global};
 
 /// The evidence of each condition, in order.

@@ -7,10 +7,10 @@ ghost use Rattle.mc_oblige.specs.steps.Table.{AreInUse};
 ghost use Rattle.mc_oblige.specs.steps.Found.{AreFound};
 
 use crate::conditions::condition_evidence;
-use crate::mode::Mode;
 use crate::outcomes::outcome_evidence;
 use crate::verdict::Evidence;
 use mc_probe::MappedDecision;
+use report_options::Mode;
 use std::alloc::{AllocError, Global};
 
 /// The evidence of the outcomes, true first, and of the conditions. `tests` has the least test of

@@ -7,12 +7,12 @@ ghost use Rattle.mc_oblige.specs.Shown.{HasEvent};
 ghost use Rattle.mc_oblige.specs.steps.Found.{AreEvidence};
 
 use crate::decisions::decision_evidence;
-use crate::mode::Mode;
 use crate::paths::path_tests;
 use crate::table::{least_tests, test_evidence};
 use crate::verdict::Evidence;
 use mc_core::Matrix;
 use mc_probe::BitMap;
+use report_options::Mode;
 use std::alloc::{AllocError, Global};
 
 /// The evidence of each obligation of the map, in order.

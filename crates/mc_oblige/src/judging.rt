@@ -8,10 +8,10 @@ ghost use Rattle.mc_oblige.specs.steps.Named.{unnamed, all_named};
 
 use crate::evidence::all_evidence;
 use crate::justification::Justification;
-use crate::mode::Mode;
 use crate::verdict::{Evidence, Verdict};
 use mc_core::Matrix;
 use mc_probe::BitMap;
+use report_options::Mode;
 use std::alloc::{AllocError, Global};
 
 /// The verdicts on the obligations of the map, in their order. An event is one that stands under a

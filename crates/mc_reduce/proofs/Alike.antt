@@ -5,7 +5,7 @@ use Rattle.std.specs.Prelude.{◌↔◌, Contains}
 use Rattle.std.specs.List.{AllZip}
 use Rattle.mc_steps.specs.Events.{Event}
 use Rattle.mc_probe.specs.Maps.{Map}
-use Rattle.mc_oblige.specs.declared.mode.Mode.{Mode}
+use Rattle.report_options.specs.declared.mode.Mode.{Mode}
 use Rattle.mc_oblige.specs.declared.obligation.ObligationId.{ObligationId}
 use Rattle.mc_reduce.specs.Shown.{StandsKept, IsShownByAll, IsShownBy}
 use Rattle.mc_reduce.specs.Kept.{AreEnough, IsStillKept, Leaves, IsOther, IsLost, IsFirstLost, IsReduced}

@@ -6,7 +6,7 @@ use Rattle.mc_paths.specs.Paths.{path_of}
 use Rattle.mc_core.specs.Matrix.{MatrixView, Holds}
 use Rattle.mc_steps.specs.Events.{Event, Entered, Exited, Started, Chosen, Evaluated}
 use Rattle.mc_probe.specs.Maps.{Mapped, Map, image, path_bit}
-use Rattle.mc_oblige.specs.declared.mode.Mode.{Mode}
+use Rattle.report_options.specs.declared.mode.Mode.{Mode}
 use Rattle.mc_oblige.specs.declared.obligation.ObligationId.{ObligationId}
 use Rattle.mc_oblige.specs.declared.obligation.ObligationId.TheVariants.{Entry, Exit, Statement, Label, Outcome, Condition}
 use Rattle.mc_oblige.specs.Shown.{Shows, IsEvent, IsVectorOf, HasEvent}

@@ -6,7 +6,7 @@ use Rattle.std.proofs.lemmas.Bool.{cases_lt}
 use Rattle.std.proofs.lemmas.List.{get_or_append_left, get_or_push, length_push}
 use Rattle.mc_cond.specs.Tree.{Tree, size}
 use Rattle.mc_paths.specs.Paths.{count_of}
-use Rattle.mc_oblige.specs.declared.mode.Mode.{Mode}
+use Rattle.report_options.specs.declared.mode.Mode.{Mode}
 use Rattle.mc_reduce.specs.steps.Bits.{ShowAt}
 use Rattle.mc_reduce.specs.steps.Counts.{HasCounts, IsSingle}
 use Rattle.mc_reduce.specs.steps.Loss.{IsCounted, IsLeft, along, ArePathsOn, AreKnown, AreShownFrom, IsFirstAt, NoneAt, IsFirstOf, NoneOf, AreTrueFrom}

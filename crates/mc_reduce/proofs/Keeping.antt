@@ -5,7 +5,7 @@ use Rattle.std.specs.List.{AllZip}
 use Rattle.std.proofs.lemmas.Bool.{cases_lt}
 use Rattle.mc_steps.specs.Events.{Event}
 use Rattle.mc_probe.specs.Maps.{Map}
-use Rattle.mc_oblige.specs.declared.mode.Mode.{Mode}
+use Rattle.report_options.specs.declared.mode.Mode.{Mode}
 use Rattle.mc_reduce.specs.Kept.{AreEnough, IsStillKept, Leaves, AreKept, IsOther, IsFirstLost, IsReduced}
 use Rattle.mc_reduce.specs.Laws.{ShowTheSame}
 use Rattle.mc_reduce.proofs.Showing.{more_kept, all_show, shown_by_each}

@@ -6,7 +6,7 @@ use Rattle.std.proofs.lemmas.List.{length-drop, get_or-drop, take_rest}
 use Rattle.std.proofs.lemmas.List.Elements.{All-contains, All-drop}
 use Rattle.mc_cond.specs.Tree.{Tree}
 use Rattle.mc_pairs.specs.Pairs.{IsChosen}
-use Rattle.mc_oblige.specs.declared.mode.Mode.{Mode}
+use Rattle.report_options.specs.declared.mode.Mode.{Mode}
 use Rattle.mc_oblige.specs.Evidence.{pairs_of}
 use Rattle.mc_reduce.specs.steps.Bits.{HasPairOn}
 

@@ -7,7 +7,7 @@ use Rattle.std.proofs.lemmas.List.{get_or_past}
 use Rattle.mc_core.specs.Matrix.{MatrixView}
 use Rattle.mc_steps.specs.Events.{Event}
 use Rattle.mc_probe.specs.Maps.{Map}
-use Rattle.mc_oblige.specs.declared.mode.Mode.{Mode}
+use Rattle.report_options.specs.declared.mode.Mode.{Mode}
 use Rattle.mc_oblige.specs.Shown.{HasEvent}
 use Rattle.mc_reduce.specs.Kept.{AreEnough, IsStillKept, Leaves, AreKept, IsOther, IsFirstLost}
 use Rattle.mc_reduce.specs.steps.Bits.{HasBit}

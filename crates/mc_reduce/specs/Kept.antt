@@ -4,7 +4,7 @@ use Rattle.std.specs.Prelude.{◌≡◌, ◌≢◌, ℕ, zero, suc, ◌<◌, ◌
 use Rattle.std.specs.List.{AllZip}
 use Rattle.mc_steps.specs.Events.{Event}
 use Rattle.mc_probe.specs.Maps.{Map}
-use Rattle.mc_oblige.specs.declared.mode.Mode.{Mode}
+use Rattle.report_options.specs.declared.mode.Mode.{Mode}
 use Rattle.mc_oblige.specs.declared.obligation.ObligationId.{ObligationId}
 use Rattle.mc_oblige.specs.declared.obligation.Obligation.{Obligation}
 use Rattle.mc_oblige.specs.Obligations.{obligations_of}

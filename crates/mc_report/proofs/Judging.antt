@@ -5,7 +5,7 @@ use Rattle.mc_cond.specs.Tree.{Tree}
 use Rattle.mc_paths.specs.Paths.{IsInUse}
 use Rattle.mc_steps.specs.Events.{Event}
 use Rattle.mc_probe.specs.Maps.{Map, Mapped}
-use Rattle.mc_oblige.specs.declared.mode.Mode.{Mode}
+use Rattle.report_options.specs.declared.mode.Mode.{Mode}
 use Rattle.mc_oblige.specs.declared.obligation.ObligationId.{ObligationId}
 use Rattle.mc_oblige.specs.declared.obligation.ObligationId.TheVariants.{Entry, Exit, Statement, Label, Outcome, Condition}
 use Rattle.mc_oblige.specs.declared.obligation.Obligation.{Obligation}

@@ -1,7 +1,7 @@
 -- The forms of a report.
 use Rattle.std.specs.Prelude.{ℕ, List}
-use Rattle.mc_report.specs.declared.form.Form.{Form}
-use Rattle.mc_report.specs.declared.form.Form.TheVariants.{Text, Csv, Json}
+use Rattle.report_options.specs.declared.form.Form.{Form}
+use Rattle.report_options.specs.declared.form.Form.TheVariants.{Text, Csv, Json}
 use Rattle.mc_report.specs.Report.{Report}
 use Rattle.mc_report.specs.Text.{report_lines}
 use Rattle.mc_report.specs.Csv.{csv_lines}

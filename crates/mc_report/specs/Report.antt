@@ -4,7 +4,7 @@ use Rattle.mc_paths.specs.Paths.{IsInUse}
 use Rattle.mc_typed.specs.declared.plans.TestState.{TestState}
 use Rattle.mc_meaning.specs.Seen.{Told}
 use Rattle.mc_probe.specs.Maps.{Mapped}
-use Rattle.mc_oblige.specs.declared.mode.Mode.{Mode}
+use Rattle.report_options.specs.declared.mode.Mode.{Mode}
 use Rattle.mc_oblige.specs.declared.obligation.ObligationId.{ObligationId}
 use Rattle.mc_oblige.specs.declared.obligation.ObligationId.TheVariants.{Condition}
 use Rattle.mc_oblige.specs.declared.obligation.Obligation.{Obligation}

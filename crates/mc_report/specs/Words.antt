@@ -3,8 +3,8 @@ use Rattle.std.specs.Prelude.{ℕ, Bool, true, false, Option, Some, None, List, 
 use Rattle.std.specs.Fmt.{signed_decimal}
 use Rattle.mc_cond.specs.Order.{Answer}
 use Rattle.mc_cond.specs.Vectors.{Evaluation}
-use Rattle.mc_oblige.specs.declared.mode.Mode.{Mode}
-use Rattle.mc_oblige.specs.declared.mode.Mode.TheVariants.{Unique, Masking}
+use Rattle.report_options.specs.declared.mode.Mode.{Mode}
+use Rattle.report_options.specs.declared.mode.Mode.TheVariants.{Unique, Masking}
 use Rattle.mc_oblige.specs.declared.verdict.VerdictState.{VerdictState}
 use Rattle.mc_oblige.specs.declared.verdict.VerdictState.TheVariants.{Met, Justified, Stale, Missing}
 pub use Rattle.mc_oblige.specs.Ids.{id_text}

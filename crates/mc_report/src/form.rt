@@ -1,4 +1,4 @@
-//! The forms of a report.
+//! The lines of a report in each of its forms.
 ghost use Rattle.std.specs.Prelude.{◌≡◌, All, IfOk, IsUtf8};
 ghost use Rattle.mc_report.specs.Forms.{lines_in_form};
 ghost use Rattle.mc_report.specs.Report.{IsReport};
@@ -8,18 +8,8 @@ use crate::csv_form::csv_report_lines;
 use crate::json_form::json_report_lines;
 use crate::report::Report;
 use crate::text::report_lines;
+use report_options::Form;
 use std::alloc::{AllocError, Global};
-
-/// How a report is written.
-#[derive(Clone, Copy, Debug, PartialEq, Eq)]
-pub enum Form {
-    /// Lines of words, as a person reads them.
-    Text,
-    /// Rows of comma-separated fields (RFC 4180): a header, and a row for each obligation.
-    Csv,
-    /// One JSON object (RFC 8259), on one line.
-    Json,
-}
 
 /// The lines of the report in this form, each of which is to be put as one piece.
 #[tactic(auto, unfolding(crate::specs::Forms::lines_in_form))]

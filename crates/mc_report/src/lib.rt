@@ -26,13 +26,14 @@ mod words;
 
 pub use csv_form::{csv_report_lines, write_csv};
 pub use fault::ReportFault;
-pub use form::{Form, lines_in};
+pub use form::lines_in;
 pub use json_form::{json_report_line, write_json};
 pub use laws::{
     evaluated_are_present, reports_have_no_float, vector_is_of_path, verdicts_are_reported,
 };
 pub use mc_port::put_lines;
 pub use report::Report;
+pub use report_options::Form;
 pub use settled::{all_passed, status};
 pub use summary::summary_lines;
 pub use text::{report_lines, write_text};

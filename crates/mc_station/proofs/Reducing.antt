@@ -8,7 +8,7 @@ use Rattle.mc_typed.specs.declared.plans.TestState.{TestState}
 use Rattle.mc_steps.specs.Events.{Event}
 use Rattle.mc_probe.specs.Maps.{Map}
 use Rattle.mc_oblige.specs.Obligations.{obligations_of}
-use Rattle.mc_oblige.specs.declared.mode.Mode.{Mode}
+use Rattle.report_options.specs.declared.mode.Mode.{Mode}
 use Rattle.mc_oblige.specs.declared.obligation.Obligation.{Obligation}
 use Rattle.mc_reduce.specs.Kept.{IsFirstLost, IsReduced}
 use Rattle.mc_reduce.proofs.Alike.{same_reduced}

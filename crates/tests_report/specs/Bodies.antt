@@ -3,7 +3,7 @@ use Rattle.std.specs.Prelude.{◌≡◌, ℕ, ◌+◌, true, List, [], ◌∷◌
 use Rattle.mc_value.specs.declared.int_type.IntType.TheVariants.{Int}
 use Rattle.mc_typed.specs.Tree.{Expression, Declarator, Statement, Statements, Function}
 use Rattle.mc_typed.specs.Tree as t
-use Rattle.mc_oblige.specs.declared.mode.Mode.TheVariants.{Unique}
+use Rattle.report_options.specs.declared.mode.Mode.TheVariants.{Unique}
 use Rattle.mc_oblige.specs.declared.obligation.Obligation.{Obligation}
 use Rattle.mc_report.specs.Report.{Report}
 use Rattle.mc_report.specs.Lines.{verdict_lines}

@@ -7,7 +7,7 @@ use Rattle.mc_typed.specs.declared.plans.TestState.TheVariants.{Pass}
 use Rattle.mc_cond.specs.Tree.{Leaf, And, Or}
 use Rattle.mc_meaning.specs.Seen.{Told}
 use Rattle.mc_probe.specs.Maps.{Mapped, Map}
-use Rattle.mc_oblige.specs.declared.mode.Mode.TheVariants.{Unique}
+use Rattle.report_options.specs.declared.mode.Mode.TheVariants.{Unique}
 use Rattle.mc_oblige.specs.declared.verdict.Verdict.{Verdict}
 use Rattle.mc_report.specs.Report.{Report}
 use Rattle.mc_report.specs.Text.{report_lines}

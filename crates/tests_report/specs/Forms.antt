@@ -3,10 +3,10 @@ use Rattle.std.specs.Prelude.{◌≡◌, ℕ, List, [], ◌∷◌, ◌++◌, map
 use Rattle.serde_json.specs.Data.{array}
 use Rattle.serde_json.specs.View.{items_of}
 use Rattle.serde_json.specs.Written.{compact_text}
-use Rattle.mc_oblige.specs.declared.mode.Mode.TheVariants.{Unique}
+use Rattle.report_options.specs.declared.mode.Mode.TheVariants.{Unique}
 use Rattle.mc_oblige.specs.declared.obligation.Obligation.{Obligation}
 use Rattle.mc_oblige.specs.declared.obligation.ObligationId.TheVariants.{Statement}
-use Rattle.mc_report.specs.declared.form.Form.TheVariants.{Csv, Json}
+use Rattle.report_options.specs.declared.form.Form.TheVariants.{Csv, Json}
 use Rattle.mc_report.specs.Csv.{csv_row, csv_rows}
 use Rattle.mc_report.specs.Forms.{lines_in_form}
 use Rattle.mc_report.specs.Json.{obligations_data, tests_data}

@@ -7,8 +7,8 @@ use Rattle.mc_typed.specs.declared.plans.TestState.TheVariants.{Pass, Fail, Ende
 use Rattle.mc_cond.specs.Tree.{Leaf, Not, And, Or}
 use Rattle.mc_meaning.specs.Seen.{Told}
 use Rattle.mc_probe.specs.Maps.{Map}
-use Rattle.mc_oblige.specs.declared.mode.Mode.{Mode}
-use Rattle.mc_oblige.specs.declared.mode.Mode.TheVariants.{Unique, Masking}
+use Rattle.report_options.specs.declared.mode.Mode.{Mode}
+use Rattle.report_options.specs.declared.mode.Mode.TheVariants.{Unique, Masking}
 use Rattle.mc_oblige.specs.declared.obligation.ObligationId.TheVariants.{Entry, Exit, Statement, Label, Outcome, Condition}
 use Rattle.mc_oblige.specs.declared.verdict.Verdict.{Verdict}
 use Rattle.mc_oblige.specs.declared.verdict.VerdictState.TheVariants.{Stale}

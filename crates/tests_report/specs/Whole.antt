@@ -8,8 +8,8 @@ use Rattle.mc_cond.specs.Tree.{Leaf, And}
 use Rattle.mc_meaning.specs.Seen.{Told}
 use Rattle.mc_probe.specs.Maps.{Map, Mapped}
 use Rattle.mc_oblige.specs.declared.evaluated.EvaluatedPath.{EvaluatedPath}
-use Rattle.mc_oblige.specs.declared.mode.Mode.TheVariants.{Masking}
-use Rattle.mc_report.specs.declared.form.Form.TheVariants.{Text, Csv, Json}
+use Rattle.report_options.specs.declared.mode.Mode.TheVariants.{Masking}
+use Rattle.report_options.specs.declared.form.Form.TheVariants.{Text, Csv, Json}
 use Rattle.mc_report.specs.Forms.{lines_in_form}
 use Rattle.mc_report.specs.Report.{Report}
 use Rattle.mc_report.specs.VectorsText.{vectors_lines}

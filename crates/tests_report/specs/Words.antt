@@ -7,7 +7,7 @@ use Rattle.mc_cond.specs.Tree.{Tree}
 use Rattle.mc_meaning.specs.Seen.{Told}
 use Rattle.mc_probe.specs.Maps.{Map}
 use Rattle.mc_oblige.specs.Obligations.{obligations_of}
-use Rattle.mc_oblige.specs.declared.mode.Mode.{Mode}
+use Rattle.report_options.specs.declared.mode.Mode.{Mode}
 use Rattle.mc_oblige.specs.declared.verdict.Evidence.TheVariants.{Absent, One, Pair}
 use Rattle.mc_oblige.specs.declared.verdict.VerdictState.TheVariants.{Met, Justified, Stale, Missing}
 use Rattle.mc_oblige.specs.declared.verdict.Verdict.{Verdict}

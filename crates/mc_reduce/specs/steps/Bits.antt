@@ -4,7 +4,7 @@ use Rattle.mc_cond.specs.Tree.{Tree}
 use Rattle.mc_pairs.specs.Pairs.{ArePaired}
 use Rattle.mc_core.specs.Matrix.{MatrixView, Holds}
 use Rattle.mc_probe.specs.Maps.{Mapped, Map, entry_bit, exit_bit, statement_bit, label_bit}
-use Rattle.mc_oblige.specs.declared.mode.Mode.{Mode}
+use Rattle.report_options.specs.declared.mode.Mode.{Mode}
 use Rattle.mc_oblige.specs.declared.obligation.ObligationId.{ObligationId}
 use Rattle.mc_oblige.specs.declared.obligation.ObligationId.TheVariants.{Entry, Exit, Statement, Label, Outcome, Condition}
 use Rattle.mc_oblige.specs.Evidence.{pairs_of}

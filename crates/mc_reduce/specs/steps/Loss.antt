@@ -4,7 +4,7 @@ use Rattle.std.specs.Int.{bit_at}
 use Rattle.std.specs.List.Sorted.{IsStrictlyIncreasing}
 use Rattle.mc_cond.specs.Tree.{Tree, size}
 use Rattle.mc_probe.specs.Maps.{Map}
-use Rattle.mc_oblige.specs.declared.mode.Mode.{Mode}
+use Rattle.report_options.specs.declared.mode.Mode.{Mode}
 use Rattle.mc_oblige.specs.declared.obligation.Obligation.{Obligation}
 use Rattle.mc_oblige.specs.Obligations.{obligations_of}
 use Rattle.mc_reduce.specs.steps.Bits.{See, ShowAt}

@@ -8,8 +8,8 @@ use Rattle.mc_command.specs.declared.form.Form as form
 use Rattle.mc_command.specs.declared.form.Form.TheVariants as option
 use Rattle.mc_typed.specs.Plans.{Plan}
 use Rattle.mc_steps.specs.Events.{Event}
-use Rattle.mc_oblige.specs.declared.mode.Mode.{Mode}
-use Rattle.mc_oblige.specs.declared.mode.Mode.TheVariants as mode
+use Rattle.report_options.specs.declared.mode.Mode.{Mode}
+use Rattle.report_options.specs.declared.mode.Mode.TheVariants as mode
 use Rattle.mc_oblige.specs.declared.verdict.Verdict.{Verdict}
 use Rattle.mc_oblige.specs.declared.justification.Justification.{Justification}
 use Rattle.mc_oblige.specs.Obligations.{obligations_of}
@@ -17,8 +17,8 @@ use Rattle.mc_oblige.specs.Verdicts.{AreVerdicts}
 use Rattle.mc_report.specs.Report as text
 use Rattle.mc_report.specs.Status.{status_of}
 use Rattle.mc_report.specs.Forms.{lines_in_form}
-use Rattle.mc_report.specs.declared.form.Form.{Form}
-use Rattle.mc_report.specs.declared.form.Form.TheVariants as given
+use Rattle.report_options.specs.declared.form.Form.{Form}
+use Rattle.report_options.specs.declared.form.Form.TheVariants as given
 use Rattle.station_replies.specs.Reply.{Reply, written}
 use Rattle.mc_station.specs.Source.{Accepted}
 use Rattle.mc_station.specs.Tests.{Tested, stands, tested_of}

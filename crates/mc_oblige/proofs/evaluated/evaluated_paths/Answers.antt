@@ -6,7 +6,7 @@ use Rattle.mc_probe.specs.BitMaps.{map_of}
 use Rattle.mc_probe.specs.Mapped.{mapped_of}
 use Rattle.mc_probe.proofs.Kept.{kept}
 use Rattle.mc_oblige.specs.declared.evaluated.EvaluatedPath.{EvaluatedPath}
-use Rattle.mc_oblige.specs.declared.mode.Mode.TheVariants.{Unique}
+use Rattle.report_options.specs.declared.mode.Mode.TheVariants.{Unique}
 use Rattle.mc_oblige.specs.Shown.{HasEvent}
 use Rattle.mc_oblige.specs.Evidence.{IsEvaluated}
 use Rattle.mc_oblige.specs.steps.Table.{IsLeastIf, AreTestsOf}

@@ -1,6 +1,6 @@
 use Rattle.std.proofs.Common.{arith, subst, sym, []}
 use Rattle.std.specs.Prelude.{List}
-use Rattle.mc_oblige.specs.declared.mode.Mode.TheVariants.{Unique}
+use Rattle.report_options.specs.declared.mode.Mode.TheVariants.{Unique}
 use Rattle.mc_oblige.specs.declared.obligation.Obligation.{Obligation}
 use Rattle.mc_probe.specs.BitMaps.{map_of}
 use Rattle.mc_report.specs.Report.{AreJudged}

@@ -1,7 +1,7 @@
 use Rattle.std.proofs.Common.{arith, refl, subst}
 use Rattle.mc_oblige.specs.Shown.{HasEvent}
 use Rattle.mc_oblige.specs.Verdicts.{AreVerdicts}
-use Rattle.mc_oblige.specs.declared.mode.Mode.{Mode}
+use Rattle.report_options.specs.declared.mode.Mode.{Mode}
 use Rattle.mc_station.specs.commands.Report.{mode_of}
 use Rattle.mc_station.specs.Seen.{seen_accepted, seen_tested}
 use Rattle.mc_station.proofs.Reported.{can_be_written, report_is}
