@@ -12,7 +12,7 @@ mod mapped;
 mod places;
 mod whole;
 
-pub use choices::{mark_unless_default, closing_exit, declaration_bit};
+pub use choices::{closing_exit, declaration_bit, mark_unless_default};
 pub use counting::count;
 pub use fault::InstrumentFault;
 pub use loose::{is_root, is_root_as_test};

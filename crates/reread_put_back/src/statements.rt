@@ -106,7 +106,12 @@ fn declaration(
 }
 
 /// The probe of an absent `default`.
-fn mark_unless_default(walk: &Walk, pen: &mut Pen<'_>, items: &[Statement], span: Span) -> Option<Mark>
+fn mark_unless_default(
+    walk: &Walk,
+    pen: &mut Pen<'_>,
+    items: &[Statement],
+    span: Span,
+) -> Option<Mark>
     ensures part { result ≡ (spec.back_absent walk.now.registers
         (points.has_default (plain.statements_from (map plain.statement_of items.now))) span
         (pen_of pen.old)).0 }

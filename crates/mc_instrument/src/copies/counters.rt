@@ -36,7 +36,11 @@ pub(crate) fn declaration_bit(counter: &mut u32, declarators: &[Declarator]) -> 
 
 /// The probe of a `default` that is absent.
 #[tactic(auto, using(crate::proofs::Counted::label_after, crate::proofs::Counted::labels_after))]
-pub(crate) fn mark_unless_default(label: &mut u32, register: u32, items: &[Statement]) -> Option<Mark>
+pub(crate) fn mark_unless_default(
+    label: &mut u32,
+    register: u32,
+    items: &[Statement],
+) -> Option<Mark>
     requires { label.now + (points.unless_default
         (points.has_default (plain.statements_from (map plain.statement_of items.now)))).labels
         < 2 ^ 32 }

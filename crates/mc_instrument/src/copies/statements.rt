@@ -11,7 +11,7 @@ ghost use Rattle.mc_probe.specs.Table.{put_effects, put_optional, put_return, pu
 ghost use Rattle.mc_probe.specs.Views as probed;
 ghost use Rattle.mc_instrument.specs.steps.Counters.{at_of, given, taken, taken_by_all};
 
-use crate::copies::counters::{mark_unless_default, count, declaration_bit};
+use crate::copies::counters::{count, declaration_bit, mark_unless_default};
 use crate::copies::effects::{effect, effects};
 use crate::copies::expressions::{expression, structure, test};
 use crate::copies::initializers::declarators;
