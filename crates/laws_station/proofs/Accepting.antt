@@ -80,29 +80,29 @@ module _ (files : Files) where
   tests_not_refused : (action : Action) (accepted : Accepted) (r : Reply) → OthersAreAccepted (Some files) action accepted → TestsOrRecordsAreRefusedAfter (Some files) action accepted r → ⊥
   tests_not_refused (command.run run) accepted r ((plans, (bytes, holds, judges), allows), reasons) refused =
       not_refused (stages.tests_named run.tests) (JudgesTests accepted.program run.fuel) plans bytes r (λ text. one_tests accepted.program run.fuel text) holds judges refused
-  tests_not_refused command.instrument accepted r others refused = refused
+  tests_not_refused (command.write text) accepted r others refused = refused
   tests_not_refused (command.merge left right) accepted r (first, second, are, none) (inl refused) = record_not_refused left accepted first r are.0 refused
   tests_not_refused (command.merge left right) accepted r (first, second, are, none) (inr (inl (k, is, refused))) = record_not_refused right accepted second r are.1 refused
   tests_not_refused (command.merge left right) accepted r (first, second, are, none) (inr (inr pair)) = pair_not_refused left right accepted first second status.TestsRefused r are none pair
-  tests_not_refused (command.analyse kept report) accepted r ((found, is), reasons) refused = record_not_refused kept accepted found r is refused
+  tests_not_refused (command.analyse kept judging) accepted r ((found, is), reasons) refused = record_not_refused kept accepted found r is refused
 
   matrix_not_refused : (action : Action) (accepted : Accepted) (r : Reply) → OthersAreAccepted (Some files) action accepted → MatrixIsRefusedAfter (Some files) action accepted r → ⊥
   matrix_not_refused (command.run run) accepted r ((plans, are, allows), reasons) (others, also, other, fits) =
       let same : others ≡ plans = same_plans run accepted others plans also are in
       one_allowed run.task accepted plans (Ok tt) (Err r) allows
       (subst (λ (ps : List Plan). Allows run.task accepted ps (Err r)) same (allows_matrix accepted others run.task (Err r) other fits))
-  matrix_not_refused command.instrument accepted r others refused = refused
+  matrix_not_refused (command.write text) accepted r others refused = refused
   matrix_not_refused (command.merge left right) accepted r (first, second, are, none) pair = pair_not_refused left right accepted first second status.TooLarge r are none pair
-  matrix_not_refused (command.analyse kept report) accepted r others refused = refused
+  matrix_not_refused (command.analyse kept judging) accepted r others refused = refused
 
   mutants_not_refused : (action : Action) (accepted : Accepted) (r : Reply) → OthersAreAccepted (Some files) action accepted → MutantsAreRefusedAfter (Some files) action accepted r → ⊥
   mutants_not_refused (command.run run) accepted r ((plans, are, allows), reasons) (others, also, is, few) =
       let same : others ≡ plans = same_plans run accepted others plans also are in
       one_allowed run.task accepted plans (Ok tt) (Err r) allows
       (subst (λ (ps : List Plan). Allows run.task accepted ps (Err r)) same (allows_mutants accepted others run.task (Err r) is few))
-  mutants_not_refused command.instrument accepted r others refused = refused
+  mutants_not_refused (command.write text) accepted r others refused = refused
   mutants_not_refused (command.merge left right) accepted r others refused = refused
-  mutants_not_refused (command.analyse kept report) accepted r others refused = refused
+  mutants_not_refused (command.analyse kept judging) accepted r others refused = refused
 
   these_not_refused : (name : List ℕ) (accepted : Accepted) (r : Reply) → ReasonsAreAccepted (Some files) (Some name) accepted → FileIsRefused (Some files) (stages.reasons_named name) (JudgesReasons accepted) r → ⊥
   these_not_refused name accepted r (js, (bytes, holds, judges)) refused =
@@ -116,9 +116,9 @@ module _ (files : Files) where
   reasons_not_refused : (action : Action) (accepted : Accepted) (name : List ℕ) (r : Reply) → OthersAreAccepted (Some files) action accepted → AsksReasons (Some files) action accepted name
       → FileIsRefused (Some files) (stages.reasons_named name) (JudgesReasons accepted) r → ⊥
   reasons_not_refused (command.run run) accepted name r (tests, reasons) asks refused = named_not_refused (justified_by run.task) name accepted r asks.0 reasons refused
-  reasons_not_refused command.instrument accepted name r others asks refused = asks
+  reasons_not_refused (command.write text) accepted name r others asks refused = asks
   reasons_not_refused (command.merge left right) accepted name r others asks refused = asks
-  reasons_not_refused (command.analyse kept report) accepted name r (record_is, reasons) asks refused = named_not_refused report.justify name accepted r asks.0 reasons refused
+  reasons_not_refused (command.analyse kept judging) accepted name r (record_is, reasons) asks refused = named_not_refused judging.justify name accepted r asks.0 reasons refused
 
   -- ---- a command on a source
 

@@ -36,11 +36,11 @@ use Rattle.mc_station.proofs.Order.{and_more, none_more, one_more}
 abbrev before : Stage → List Request
 before stages.usage = []
 before (stages.source name action) = request_of (stages.source_named name) ∷ requests_before action
-before (stages.instrumented accepted) = []
+before (stages.writes text accepted) = []
 before (stages.tests run accepted) = request_of (stages.tests_named run.tests) ∷ []
 before (stages.left name other accepted) = stages.record_and name (stages.record_and other [])
 before (stages.right name accepted first) = stages.record_and name []
-before (stages.kept name report accepted) = stages.record_and name []
+before (stages.kept name judging accepted) = stages.record_and name []
 before (stages.reasons name accepted basis) = []
 before (stages.last accepted basis js) = []
 before (stages.merged both) = []
@@ -53,9 +53,9 @@ before_first (Some (command.selfload count workers)) = refl
 
 before_after : (action : Action) (accepted : Accepted) → before (after_source action accepted) ≡ requests_before action
 before_after (command.run run) accepted = refl
-before_after command.instrument accepted = refl
+before_after (command.write text) accepted = refl
 before_after (command.merge left right) accepted = refl
-before_after (command.analyse kept report) accepted = refl
+before_after (command.analyse kept judging) accepted = refl
 
 none_after : (name : Option (List ℕ)) (accepted : Accepted) (basis : stages.Basis) → before (after_tests name accepted basis) ≡ []
 none_after None accepted basis = refl
@@ -64,11 +64,11 @@ none_after (Some name) accepted basis = refl
 before_end : (skipped : List ℕ) (s : Stage) (r : Reply) → Ends skipped s r → before s ≡ []
 before_end skipped stages.usage r ends = refl
 before_end skipped (stages.source name action) r ends = absurd ends
-before_end skipped (stages.instrumented accepted) r ends = refl
+before_end skipped (stages.writes text accepted) r ends = refl
 before_end skipped (stages.tests run accepted) r ends = absurd ends
 before_end skipped (stages.left name other accepted) r ends = absurd ends
 before_end skipped (stages.right name accepted first) r ends = absurd ends
-before_end skipped (stages.kept name report accepted) r ends = absurd ends
+before_end skipped (stages.kept name judging accepted) r ends = absurd ends
 before_end skipped (stages.reasons name accepted basis) r ends = absurd ends
 before_end skipped (stages.last accepted basis js) r ends = refl
 before_end skipped (stages.merged both) r ends = refl
@@ -89,7 +89,7 @@ before_refusal stages.usage f bytes r is judges large = absurd judges
 before_refusal (stages.source name action) f bytes r is (inl judges) large =
     absurd (apart r.status status.SourceRefused status.TooLarge (λ e. cc e) (of_source bytes r judges) large)
 before_refusal (stages.source name action) f bytes r is (inr (accepted, judges, next)) large = absurd (cc next)
-before_refusal (stages.instrumented accepted) f bytes r is judges large = absurd judges
+before_refusal (stages.writes text accepted) f bytes r is judges large = absurd judges
 before_refusal (stages.tests run accepted) f bytes r is judges large =
     let same : f ≡ stages.tests_named run.tests = cc is in ap (λ (x : File). request_of x ∷ []) (sym same)
 before_refusal (stages.left name other accepted) f bytes r is (inl judges) large =
@@ -97,7 +97,7 @@ before_refusal (stages.left name other accepted) f bytes r is (inl judges) large
 before_refusal (stages.left name other accepted) f bytes r is (inr (first, judges, next)) large = absurd (cc next)
 before_refusal (stages.right name accepted first) f bytes r is judges large =
     let same : f ≡ stages.record_named name = cc is in ap (λ (x : File). request_of x ∷ []) (sym same)
-before_refusal (stages.kept name report accepted) f bytes r is judges large =
+before_refusal (stages.kept name judging accepted) f bytes r is judges large =
     let same : f ≡ stages.record_named name = cc is in ap (λ (x : File). request_of x ∷ []) (sym same)
 before_refusal (stages.reasons name accepted basis) f bytes r is (inl (fault, reads, says)) large =
     absurd (apart r.status status.JustificationsRefused status.TooLarge (λ e. cc e) (ap (λ (x : Reply). x.status) says) large)
@@ -117,12 +117,12 @@ before_next (stages.source name action) t f bytes is (accepted, judges, next) =
     let stage : t ≡ after_source action accepted = cc next in
     let rest : requests_before action ≡ before t = sym (before_after action accepted) ∙ ap before (sym stage) in
     inl (ap (λ (x : File). request_of x ∷ requests_before action) (sym same) ∙ ap (λ (rs : List Request). request_of f ∷ rs) rest)
-before_next (stages.instrumented accepted) t f bytes is judges = absurd judges
+before_next (stages.writes text accepted) t f bytes is judges = absurd judges
 before_next (stages.tests run accepted) t f bytes is (plans, judges, (u, fits, next)) =
     let same : f ≡ stages.tests_named run.tests = cc is in
     let name = justified_by run.task in
-    let stage : t ≡ after_tests name accepted (stages.tested run plans) = cc next in
-    let rest : [] ≡ before t = sym (none_after name accepted (stages.tested run plans)) ∙ ap before (sym stage) in
+    let stage : t ≡ after_tests name accepted (stages.tested run.task plans) = cc next in
+    let rest : [] ≡ before t = sym (none_after name accepted (stages.tested run.task plans)) ∙ ap before (sym stage) in
     inl (ap (λ (x : File). request_of x ∷ []) (sym same) ∙ ap (λ (rs : List Request). request_of f ∷ rs) rest)
 before_next (stages.left name other accepted) t f bytes is (first, judges, next) =
     let same : f ≡ stages.record_named name = cc is in
@@ -134,10 +134,10 @@ before_next (stages.right name accepted first) t f bytes is (second, judges, (bo
     let stage : t ≡ stages.merged both = cc next in
     let rest : [] ≡ before t = ap before (sym stage) in
     inl (ap (λ (x : File). request_of x ∷ []) (sym same) ∙ ap (λ (rs : List Request). request_of f ∷ rs) rest)
-before_next (stages.kept name report accepted) t f bytes is (found, judges, next) =
+before_next (stages.kept name judging accepted) t f bytes is (found, judges, next) =
     let same : f ≡ stages.record_named name = cc is in
-    let stage : t ≡ after_tests report.justify accepted (stages.recorded report found) = cc next in
-    let rest : [] ≡ before t = sym (none_after report.justify accepted (stages.recorded report found)) ∙ ap before (sym stage) in
+    let stage : t ≡ after_tests judging.justify accepted (stages.recorded judging found) = cc next in
+    let rest : [] ≡ before t = sym (none_after judging.justify accepted (stages.recorded judging found)) ∙ ap before (sym stage) in
     inl (ap (λ (x : File). request_of x ∷ []) (sym same) ∙ ap (λ (rs : List Request). request_of f ∷ rs) rest)
 before_next (stages.reasons name accepted basis) t f bytes is (js, judges, next) =
     let stage : t ≡ stages.last accepted basis js = cc next in inr (accepted, basis, js, stage)
@@ -236,9 +236,9 @@ module _ (skipped : List ℕ) (files : Option Files) where
   run_fits run accepted name reasons bytes t is source holds (plans, reads, (u, allows, next)) =
       (accepted, source, (plans, (bytes, holds, reads), allowed_fits run.task reasons accepted plans u is allows))
 
-  kept_fits : (kept : List ℕ) (report : command.Report) (accepted : Accepted) (name bytes : List ℕ) (t : Stage) → accepted.map.bits ≤ most_bits → SourceIs files name accepted → Holds files (stages.record_named kept) bytes
-      → Judges (stages.kept kept report accepted) bytes (Ok t) → InLimit name (command.analyse kept report)
-  kept_fits kept report accepted name bytes t few source holds (found, reads, next) =
+  kept_fits : (kept : List ℕ) (judging : command.Judging) (accepted : Accepted) (name bytes : List ℕ) (t : Stage) → accepted.map.bits ≤ most_bits → SourceIs files name accepted → Holds files (stages.record_named kept) bytes
+      → Judges (stages.kept kept judging accepted) bytes (Ok t) → InLimit name (command.analyse kept judging)
+  kept_fits kept judging accepted name bytes t few source holds (found, reads, next) =
       (accepted, source, (found, (bytes, holds, reads), few_words accepted kept bytes found few reads))
 
   -- what is accepted of the second file
@@ -248,20 +248,20 @@ module _ (skipped : List ℕ) (files : Option Files) where
       let f : went.file ≡ stages.tests_named run.tests = cc went.asks in
       let held : Holds files (stages.tests_named run.tests) went.bytes = subst (λ (x : File). Holds files x went.bytes) f went.holds in
       run_fits run accepted name reasons went.bytes went.next is source held went.judges
-  second_fits command.instrument accepted name reasons asked after r is few source went = absurd (cc is)
+  second_fits (command.write text) accepted name reasons asked after r is few source went = absurd (cc is)
   second_fits (command.merge left right) accepted name reasons asked after r is few source went = absurd (cc is)
-  second_fits (command.analyse kept report) accepted name reasons asked after r is few source went =
+  second_fits (command.analyse kept judging) accepted name reasons asked after r is few source went =
       let f : went.file ≡ stages.record_named kept = cc went.asks in
       let held : Holds files (stages.record_named kept) went.bytes = subst (λ (x : File). Holds files x went.bytes) f went.holds in
-      kept_fits kept report accepted name went.bytes went.next few source held went.judges
+      kept_fits kept judging accepted name went.bytes went.next few source held went.judges
 
   -- the requests after the source
   two_requests : (action : Action) (reasons : List ℕ) → reasons_in action ≡ Some reasons → (p : Request) × (requests_of action ≡ p ∷ request_of (stages.reasons_named reasons) ∷ [])
   two_requests (command.run run) reasons is =
       (request_of (stages.tests_named run.tests), ap (λ (o : Option (List ℕ)). request_of (stages.tests_named run.tests) ∷ stages.reasons_of o) is)
-  two_requests command.instrument reasons is = absurd (cc is)
+  two_requests (command.write text) reasons is = absurd (cc is)
   two_requests (command.merge left right) reasons is = absurd (cc is)
-  two_requests (command.analyse kept report) reasons is =
+  two_requests (command.analyse kept judging) reasons is =
       (request_of (stages.record_named kept), ap (λ (o : Option (List ℕ)). request_of (stages.record_named kept) ∷ stages.reasons_of o) is)
 
   -- and of the first one
@@ -297,10 +297,10 @@ module _ (skipped : List ℕ) (files : Option Files) where
 one_longer : (action : Action) (reasons : List ℕ) → reasons_in action ≡ Some reasons → length (requests_of action) ≡ length (requests_before action) + 1
 one_longer (command.run run) reasons is =
     let one : length (stages.reasons_of (justified_by run.task)) ≡ 1 = ap (λ (o : Option (List ℕ)). length (stages.reasons_of o)) is in omega (arith, one)
-one_longer command.instrument reasons is = absurd (cc is)
+one_longer (command.write text) reasons is = absurd (cc is)
 one_longer (command.merge left right) reasons is = absurd (cc is)
-one_longer (command.analyse kept report) reasons is =
-    let one : length (stages.reasons_of report.justify) ≡ 1 = ap (λ (o : Option (List ℕ)). length (stages.reasons_of o)) is in omega (arith, one)
+one_longer (command.analyse kept judging) reasons is =
+    let one : length (stages.reasons_of judging.justify) ≡ 1 = ap (λ (o : Option (List ℕ)). length (stages.reasons_of o)) is in omega (arith, one)
 
 not_all : (name reasons : List ℕ) (action : Action) (b : List Request) → reasons_in action ≡ Some reasons → (Some (b ++ requests_left (stages.source name action))) ≢ and_all (Some b) (before (stages.source name action))
 not_all name reasons action b is all =

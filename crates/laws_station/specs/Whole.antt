@@ -23,16 +23,16 @@ use Rattle.mc_station.specs.Tests.{JudgesTests, words_needed}
 -- the name of the file of justifications that is asked for after the others, if one is
 abbrev pub reasons_in : Action → Option (List ℕ)
 reasons_in (command.run run) = justified_by run.task
-reasons_in command.instrument = None
+reasons_in (command.write text) = None
 reasons_in (command.merge left right) = None
-reasons_in (command.analyse kept report) = report.justify
+reasons_in (command.analyse kept judging) = judging.justify
 
 -- what is asked for after the source and before justifications, in order
 abbrev pub requests_before : Action → List Request
 requests_before (command.run run) = request_of (tests_named run.tests) ∷ []
-requests_before command.instrument = []
+requests_before (command.write text) = []
 requests_before (command.merge left right) = record_and left (record_and right [])
-requests_before (command.analyse kept report) = record_and kept []
+requests_before (command.analyse kept judging) = record_and kept []
 
 -- what the words ask for before justifications, in order
 abbrev pub before_reasons : Option Command → List Request
@@ -49,9 +49,9 @@ abbrev pub MatrixIsInLimit : Option Files → Action → Accepted → Type 0
 MatrixIsInLimit files (command.run run) accepted =
     (plans : List Plan) × TestsAre files run accepted plans
     × (words_needed accepted plans ≤ most_words)
-MatrixIsInLimit files command.instrument accepted = ⊥
+MatrixIsInLimit files (command.write text) accepted = ⊥
 MatrixIsInLimit files (command.merge left right) accepted = ⊥
-MatrixIsInLimit files (command.analyse kept report) accepted =
+MatrixIsInLimit files (command.analyse kept judging) accepted =
     (found : Kept) × RecordIs files kept accepted found
     × (word_count found.matrix.shape ≤ most_words)
 
@@ -79,13 +79,13 @@ abbrev pub OthersAreAccepted : Option Files → Action → Accepted → Type 0
 OthersAreAccepted files (command.run run) accepted =
     TestsAreAllowed files run accepted
     × ReasonsAreAccepted files (justified_by run.task) accepted
-OthersAreAccepted files command.instrument accepted = ⊤
+OthersAreAccepted files (command.write text) accepted = ⊤
 OthersAreAccepted files (command.merge left right) accepted =
     (first : Kept) × (second : Kept) × RecordsAre files left right accepted first second
     × (pair_fault first second ≡ None)
-OthersAreAccepted files (command.analyse kept report) accepted =
+OthersAreAccepted files (command.analyse kept judging) accepted =
     ((found : Kept) × RecordIs files kept accepted found)
-    × ReasonsAreAccepted files report.justify accepted
+    × ReasonsAreAccepted files judging.justify accepted
 
 -- The words are a command, all files that it asks for are accepted, and the matrix fits. The source
 -- and the tests that `selfload` makes itself count as its files.

@@ -5,55 +5,65 @@ use Rattle.clap.specs.Walk.{Row, Text, first_of}
 use Rattle.mc_limits.specs.Limits.{most_workers}
 use Rattle.mc_command.specs.Line.{matches_on}
 use Rattle.mc_command.specs.Values.{count_in, form_in, fuel_in, looks_in, mode_in, most_watched_workers, workers_in}
-use Rattle.mc_command.specs.declared.form.Form.{Form}
-use Rattle.mc_command.specs.declared.independence.Independence.{Independence}
+use Rattle.report_options.specs.declared.form.Form.{Form}
+use Rattle.report_options.specs.declared.mode.Mode.{Mode}
 
--- a report of coverage: how independence is to be shown, its form, and the file of justifications
-pub record Report : Type 0 where
-  pub mode : Independence
-  pub form : Form
+-- what is told of the obligations of a source once each has its verdict
+pub data Telling : Type 0 where
+  -- `report`, `analyse`: each verdict with its evidence, in this form
+  report : Form → Telling
+  -- `list`: the lines of the source, each with the mark of its worst verdict
+  listing : Telling
+
+-- how obligations are judged: what shows the independence of a condition, and the file of
+-- justifications; and what is told of them then
+pub record Judging : Type 0 where
+  pub mode : Mode
   pub justify : Option (List ℕ)
+  pub telling : Telling
 
--- a listing of the source: how independence is to be shown, and the file of justifications
-pub record Listing : Type 0 where
-  pub mode : Independence
-  pub justify : Option (List ℕ)
-
--- what is written of a run of the tests
-pub data Task : Type 0 where
-  -- `report`: the coverage of the source
-  report : Report → Task
+-- what is written of the matrix of what the tests evaluated, once all of them have run
+pub data MatrixTask : Type 0 where
+  -- `report`, `list`: the verdicts on the obligations
+  judged : Judging → MatrixTask
   -- `vectors`: the evaluated vectors of each decision
-  vectors : Task
-  -- `record`: the matrix of what was evaluated, to be kept in a file
-  recorded : Task
+  vectors : MatrixTask
+  -- `record`: the matrix itself, to be kept in a file
+  recorded : MatrixTask
+  -- `reduce`: tests that show what all of them show, and none of which can go
+  reduced : Mode → MatrixTask
+
+-- what the tests are run for
+pub data Task : Type 0 where
+  on_matrix : MatrixTask → Task
   -- `watch`: how many bits are recorded, looked at so often while the tests run
   watched : (looks : ℕ) → Task
-  -- `reduce`: tests that show what all of them show, and none of which can go
-  reduced : Independence → Task
   -- `mutate`: which changes of the decisions the tests notice
   mutated : Task
-  -- `list`: the lines of the source, each with the mark of its worst verdict
-  listed : Listing → Task
 
 -- a run of the tests: the name of their file, how many workers share them, the fuel of each, and
--- what is written of it
+-- what they are run for
 pub record Run : Type 0 where
   pub tests : List ℕ
   pub workers : ℕ
   pub fuel : ℕ
   pub task : Task
 
+-- a text that is made of a source alone
+pub data SourceText : Type 0 where
+  -- `instrument`: the program with its probes
+  instrumented : SourceText
+
 -- what is done with a source
 pub data Action : Type 0 where
-  -- its tests are run: `report`, `vectors`, `record`, `watch`, `reduce`, `mutate`, `list`
+  -- its tests are run
   run : Run → Action
-  -- `instrument`: its program is written with the probes
-  instrument : Action
+  -- a text is made of it alone
+  write : SourceText → Action
   -- `merge`: two records of its tests are joined, the left one first
   merge : (left right : List ℕ) → Action
-  -- `analyse`: a record of its tests is reported on
-  analyse : (kept : List ℕ) → Report → Action
+  -- `analyse`: its obligations are judged by a record of its tests
+  analyse : (kept : List ℕ) → Judging → Action
 
 pub data Command : Type 0 where
   -- a command on a source, which has this name
@@ -64,33 +74,34 @@ pub data Command : Type 0 where
 
 -- ---- what the matches of a subcommand ask for
 
-abbrev pub report_with : Option Independence → Option Form → Option Text → Option Report
-report_with (Some mode) (Some form) justify =
-    Some (record { mode = mode; form = form; justify = justify })
-report_with mode form justify = None
-
--- `[--mode M] [--justify NAME] [--format F]`
-abbrev pub report_in : List Row → Option Report
-report_in values = report_with (mode_in values) (form_in values) (first_of (codes "justify") values)
-
-abbrev pub listing_with : Option Independence → Option Text → Option Listing
-listing_with (Some mode) justify = Some (record { mode = mode; justify = justify })
-listing_with None justify = None
+abbrev pub judging_with : Telling → Option Mode → Option Text → Option Judging
+judging_with telling (Some mode) justify =
+    Some (record { mode = mode; justify = justify; telling = telling })
+judging_with telling None justify = None
 
 -- `[--mode M] [--justify NAME]`
-abbrev pub listing_in : List Row → Option Listing
-listing_in values = listing_with (mode_in values) (first_of (codes "justify") values)
+abbrev pub judging_in : Telling → List Row → Option Judging
+judging_in telling values =
+    judging_with telling (mode_in values) (first_of (codes "justify") values)
+
+-- `[--mode M] [--justify NAME] [--format F]`
+abbrev pub report_in : List Row → Option Judging
+report_in values = option_and_then (λ form. judging_in (report form) values) (form_in values)
+
+abbrev pub matrix_task_in : (name : Text) → List Row → Option MatrixTask
+matrix_task_in name values =
+    if bytes_eq name (codes "report") then option_map judged (report_in values)
+    else if bytes_eq name (codes "vectors") then Some vectors
+    else if bytes_eq name (codes "record") then Some recorded
+    else if bytes_eq name (codes "reduce") then option_map reduced (mode_in values)
+    else if bytes_eq name (codes "list") then option_map judged (judging_in listing values)
+    else None
 
 abbrev pub task_in : (name : Text) → List Row → Option Task
 task_in name values =
-    if bytes_eq name (codes "report") then option_map report (report_in values)
-    else if bytes_eq name (codes "vectors") then Some vectors
-    else if bytes_eq name (codes "record") then Some recorded
-    else if bytes_eq name (codes "watch") then option_map watched (looks_in values)
-    else if bytes_eq name (codes "reduce") then option_map reduced (mode_in values)
+    if bytes_eq name (codes "watch") then option_map watched (looks_in values)
     else if bytes_eq name (codes "mutate") then Some mutated
-    else if bytes_eq name (codes "list") then option_map listed (listing_in values)
-    else None
+    else option_map on_matrix (matrix_task_in name values)
 
 -- a watcher stands beside the workers of a run that is watched
 abbrev pub most_workers_of : Task → ℕ
@@ -121,7 +132,7 @@ merge_with left right = None
 abbrev pub merge_in : List Row → Option Action
 merge_in values = merge_with (first_of (codes "left") values) (first_of (codes "right") values)
 
-abbrev pub analyse_with : Option Text → Option Report → Option Action
+abbrev pub analyse_with : Option Text → Option Judging → Option Action
 analyse_with (Some kept) (Some how) = Some (analyse kept how)
 analyse_with kept how = None
 
@@ -133,7 +144,7 @@ abbrev pub action_in : (name : Text) → List Row → Option Action
 action_in name values =
     if bytes_eq name (codes "merge") then merge_in values
     else if bytes_eq name (codes "analyse") then analyse_in values
-    else if bytes_eq name (codes "instrument") then Some instrument
+    else if bytes_eq name (codes "instrument") then Some (write instrumented)
     else run_action_in name values
 
 abbrev pub on_source_with : Option Text → Option Action → Option Command

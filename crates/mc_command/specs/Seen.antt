@@ -1,43 +1,57 @@
 -- What clauses see of commands.
 use Rattle.std.specs.Prelude.{◌≤◌, ℕ, ⊤, option_map}
 use Rattle.mc_limits.specs.Limits.{most_fuel, most_functions, most_looks, most_workers}
-use Rattle.mc_command.specs.Command.{Action, Command, Listing, Report, Run, Task, analyse, instrument, listed, merge, mutated, on_source, recorded, reduced, report, run, selfload, vectors, watched}
+use Rattle.mc_command.specs.Command.{Action, Command, Judging, MatrixTask, Run, SourceText, Task, Telling, analyse, instrumented, judged, listing, merge, mutated, on_matrix, on_source, recorded, reduced, report, run, selfload, vectors, watched, write}
 use Rattle.mc_command.specs.Values.{most_watched_workers}
 use Rattle.mc_command.specs.declared.action.Action.{Action as ActionGiven}
 use Rattle.mc_command.specs.declared.action.Action.TheVariants as action
 use Rattle.mc_command.specs.declared.command.Command.{Command as Given}
 use Rattle.mc_command.specs.declared.command.Command.TheVariants as command
-use Rattle.mc_command.specs.declared.listing.Listing.{Listing as ListingGiven}
-use Rattle.mc_command.specs.declared.report.Report.{Report as ReportGiven}
+use Rattle.mc_command.specs.declared.judging.Judging.{Judging as JudgingGiven}
+use Rattle.mc_command.specs.declared.matrix_task.MatrixTask.{MatrixTask as MatrixTaskGiven}
+use Rattle.mc_command.specs.declared.matrix_task.MatrixTask.TheVariants as matrix_task
 use Rattle.mc_command.specs.declared.run.Run.{Run as RunGiven}
+use Rattle.mc_command.specs.declared.source_text.SourceText.{SourceText as SourceTextGiven}
+use Rattle.mc_command.specs.declared.source_text.SourceText.TheVariants as source_text
+use Rattle.mc_command.specs.declared.telling.Telling.{Telling as TellingGiven}
+use Rattle.mc_command.specs.declared.telling.Telling.TheVariants as telling
 use Rattle.mc_command.specs.declared.task.Task.{Task as TaskGiven}
 use Rattle.mc_command.specs.declared.task.Task.TheVariants as task
 
-abbrev pub seen_report : ReportGiven → Report
-seen_report r =
-    record { mode = r.mode; form = r.form; justify = option_map (λ name. name.now) r.justify }
+abbrev pub seen_telling : TellingGiven → Telling
+seen_telling (telling.Report form) = report form
+seen_telling telling.Listing = listing
 
-abbrev pub seen_listing : ListingGiven → Listing
-seen_listing l = record { mode = l.mode; justify = option_map (λ name. name.now) l.justify }
+abbrev pub seen_judging : JudgingGiven → Judging
+seen_judging j = record {
+  mode = j.mode;
+  justify = option_map (λ name. name.now) j.justify;
+  telling = seen_telling j.telling;
+}
+
+abbrev pub seen_matrix_task : MatrixTaskGiven → MatrixTask
+seen_matrix_task (matrix_task.Judge j) = judged (seen_judging j)
+seen_matrix_task matrix_task.Vectors = vectors
+seen_matrix_task matrix_task.Record = recorded
+seen_matrix_task (matrix_task.Reduce mode) = reduced mode
 
 abbrev pub seen_task : TaskGiven → Task
-seen_task (task.Report r) = report (seen_report r)
-seen_task task.Vectors = vectors
-seen_task task.Record = recorded
+seen_task (task.OnMatrix t) = on_matrix (seen_matrix_task t)
 seen_task (task.Watch looks) = watched looks
-seen_task (task.Reduce mode) = reduced mode
 seen_task task.Mutate = mutated
-seen_task (task.List l) = listed (seen_listing l)
 
 abbrev pub seen_run : RunGiven → Run
 seen_run r =
     record { tests = r.tests.now; workers = r.workers; fuel = r.fuel; task = seen_task r.task }
 
+abbrev pub seen_source_text : SourceTextGiven → SourceText
+seen_source_text source_text.Instrumented = instrumented
+
 abbrev pub seen_action : ActionGiven → Action
 seen_action (action.Run r) = run (seen_run r)
-seen_action action.Instrument = instrument
+seen_action (action.Write text) = write (seen_source_text text)
 seen_action (action.Merge left right) = merge left.now right.now
-seen_action (action.Analyse kept r) = analyse kept.now (seen_report r)
+seen_action (action.Analyse kept j) = analyse kept.now (seen_judging j)
 
 -- what a command of the program stands for
 abbrev pub seen_command : Given → Command

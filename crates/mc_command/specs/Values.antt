@@ -6,25 +6,25 @@ use Rattle.std.specs.Str.{bytes_eq}
 use Rattle.std.specs.Str.Parse.{digits_value}
 use Rattle.clap.specs.Walk.{Row, Text, first_of}
 use Rattle.mc_limits.specs.Limits.{most_fuel, most_functions, most_looks, most_workers, usual_fuel}
-use Rattle.mc_command.specs.declared.form.Form.{Form}
-use Rattle.mc_command.specs.declared.form.Form.TheVariants as form
-use Rattle.mc_command.specs.declared.independence.Independence.{Independence}
-use Rattle.mc_command.specs.declared.independence.Independence.TheVariants.{UniqueCause, Masking}
+use Rattle.report_options.specs.declared.form.Form.{Form}
+use Rattle.report_options.specs.declared.form.Form.TheVariants as form
+use Rattle.report_options.specs.declared.mode.Mode.{Mode}
+use Rattle.report_options.specs.declared.mode.Mode.TheVariants.{Unique, Masking}
 
 -- what an option stands for: what its value is read as, or this where the option is not given
 abbrev pub or_default : {A : Type 0} → A → (Text → Option A) → Option Text → Option A
 or_default default read None = Some default
 or_default default read (Some value) = read value
 
-abbrev pub mode_named : Text → Option Independence
+abbrev pub mode_named : Text → Option Mode
 mode_named value =
-    if bytes_eq value (codes "unique") then Some UniqueCause
+    if bytes_eq value (codes "unique") then Some Unique
     else if bytes_eq value (codes "masking") then Some Masking
     else None
 
 -- `[--mode unique|masking]`: without it, unique cause
-abbrev pub mode_in : List Row → Option Independence
-mode_in values = or_default UniqueCause mode_named (first_of (codes "mode") values)
+abbrev pub mode_in : List Row → Option Mode
+mode_in values = or_default Unique mode_named (first_of (codes "mode") values)
 
 abbrev pub form_named : Text → Option Form
 form_named value =

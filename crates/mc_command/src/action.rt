@@ -4,8 +4,9 @@ ghost use Rattle.clap.specs.Words.{found_of, rows_of};
 ghost use Rattle.mc_command.specs.Command.{action_in, analyse_in, merge_in, run_action_in};
 ghost use Rattle.mc_command.specs.Seen.{ActionIsInRange, seen_action};
 
-use crate::report::{Report, read_report};
+use crate::judging::{Judging, read_report};
 use crate::run::{Run, read_run};
+use crate::source_text::SourceText;
 use crate::task::read_task;
 use crate::values::text_at;
 use clap::ArgMatches;
@@ -15,8 +16,8 @@ use clap::ArgMatches;
 pub enum Action<'w> {
     /// Its tests are run: `report`, `vectors`, `record`, `watch`, `reduce`, `mutate`, `list`
     Run(Run<'w>),
-    /// Its program is written with the probes: `instrument`
-    Instrument,
+    /// A text that is made of the source alone is written: `instrument`
+    Write(SourceText),
     /// Two records of its tests are joined: `merge`
     Merge {
         /// The name of the record whose tests come first.
@@ -28,8 +29,8 @@ pub enum Action<'w> {
     Analyse {
         /// The name of the record.
         kept: &'w str,
-        /// How the report is to be made.
-        report: Report<'w>,
+        /// How the obligations are judged, and what is told.
+        judging: Judging<'w>,
     },
 }
 
@@ -49,8 +50,8 @@ fn read_analyse<'w>(values: &ArgMatches<'w>) -> Option<Action<'w>>
     ensures in_range { IfSome result ActionIsInRange }
 {
     let kept = text_at(values, "record")?;
-    let report = read_report(values)?;
-    Some(Action::Analyse { kept, report })
+    let judging = read_report(values)?;
+    Some(Action::Analyse { kept, judging })
 }
 
 // `NAME SOURCE TESTS [--workers N] [--fuel N]`, with the options of the task that has this name
@@ -73,7 +74,7 @@ pub fn read_action<'w>(name: &str, values: &ArgMatches<'w>) -> Option<Action<'w>
     match name {
         "merge" => read_merge(values),
         "analyse" => read_analyse(values),
-        "instrument" => Some(Action::Instrument),
+        "instrument" => Some(Action::Write(SourceText::Instrumented)),
         _ => read_run_action(name, values),
     }
 }

@@ -3,24 +3,25 @@
 
 mod action;
 mod command;
-mod form;
-mod independence;
+mod judging;
 mod line;
-mod listing;
 mod looks;
+mod matrix_task;
 mod number;
-mod report;
+mod options;
 mod run;
+mod source_text;
 mod task;
+mod telling;
 mod usage;
 mod values;
 
 pub use action::Action;
 pub use command::{Command, read_command};
-pub use form::Form;
-pub use independence::Independence;
+pub use judging::Judging;
 pub use line::line_of;
-pub use listing::Listing;
-pub use report::Report;
+pub use matrix_task::MatrixTask;
 pub use run::{MOST_WATCHED_WORKERS, Run};
+pub use source_text::SourceText;
 pub use task::Task;
+pub use telling::Telling;

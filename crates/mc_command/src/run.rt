@@ -28,7 +28,7 @@ pub struct Run<'w> {
     pub workers: u32,
     /// The fuel of each test, from 1 to `MOST_FUEL`.
     pub fuel: u32,
-    /// What is written of the run.
+    /// What the tests are run for.
     pub task: Task<'w>,
 }
 
@@ -53,12 +53,7 @@ fn most_workers_of(task: Task<'_>) -> u32
 {
     match task {
         Task::Watch { .. } => MOST_WATCHED_WORKERS,
-        Task::Report(_)
-        | Task::Vectors
-        | Task::Record
-        | Task::Reduce { .. }
-        | Task::Mutate
-        | Task::List(_) => MOST_WORKERS,
+        Task::OnMatrix(_) | Task::Mutate => MOST_WORKERS,
     }
 }
 

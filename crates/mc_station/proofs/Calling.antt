@@ -67,15 +67,15 @@ module _ (skipped : List ℕ) (files : Option Files) where
   after_tests_comes : (action : command.Action) (accepted : Accepted) (r : Reply) → TestsOrRecordsAreRefusedAfter files action accepted r → Comes (after_source action accepted) r
   after_tests_comes (command.run run) accepted r cause =
       refuse (stages.tests run accepted) (stages.tests_named run.tests) (JudgesTests accepted.program run.fuel) r refl (λ bytes judges. inl judges) cause
-  after_tests_comes command.instrument accepted r cause = absurd cause
+  after_tests_comes (command.write text) accepted r cause = absurd cause
   after_tests_comes (command.merge left right) accepted r (inl cause) =
       refuse (stages.left left right accepted) (stages.record_named left) (JudgesRecord accepted left) r refl (λ bytes judges. inl judges) cause
   after_tests_comes (command.merge left right) accepted r (inr (inl (first, (bytes, holds, judges), cause))) =
       accept (stages.left left right accepted) (stages.right right accepted first) (stages.record_named left) bytes r refl holds (first, judges, refl)
       (refuse (stages.right right accepted first) (stages.record_named right) (JudgesRecord accepted right) r refl (λ text refuses. inl refuses) cause)
   after_tests_comes (command.merge left right) accepted r (inr (inr cause)) = pair_comes left right accepted status.TestsRefused r cause
-  after_tests_comes (command.analyse kept report) accepted r cause =
-      refuse (stages.kept kept report accepted) (stages.record_named kept) (JudgesRecord accepted kept) r refl (λ bytes judges. inl judges) cause
+  after_tests_comes (command.analyse kept judging) accepted r cause =
+      refuse (stages.kept kept judging accepted) (stages.record_named kept) (JudgesRecord accepted kept) r refl (λ bytes judges. inl judges) cause
 
   tests_come : (given : Option Command) (r : Reply) → TestsOrRecordsAreRefused files given r → Comes (first_stage given) r
   tests_come None r cause = absurd cause
@@ -86,9 +86,9 @@ module _ (skipped : List ℕ) (files : Option Files) where
   after_matrix_comes : (action : command.Action) (accepted : Accepted) (r : Reply) → MatrixIsRefusedAfter files action accepted r → Comes (after_source action accepted) r
   after_matrix_comes (command.run run) accepted r (plans, (bytes, holds, judges), other, fits) =
       refused_at (stages.tests run accepted) (stages.tests_named run.tests) bytes r refl holds (inr (plans, judges, inl (allows_matrix accepted plans run.task (Err r) other fits)))
-  after_matrix_comes command.instrument accepted r cause = absurd cause
+  after_matrix_comes (command.write text) accepted r cause = absurd cause
   after_matrix_comes (command.merge left right) accepted r cause = pair_comes left right accepted status.TooLarge r cause
-  after_matrix_comes (command.analyse kept report) accepted r cause = absurd cause
+  after_matrix_comes (command.analyse kept judging) accepted r cause = absurd cause
 
   matrix_comes : (given : Option Command) (r : Reply) → MatrixIsRefused files given r → Comes (first_stage given) r
   matrix_comes None r cause = absurd cause
@@ -99,9 +99,9 @@ module _ (skipped : List ℕ) (files : Option Files) where
   after_mutants_come : (action : command.Action) (accepted : Accepted) (r : Reply) → MutantsAreRefusedAfter files action accepted r → Comes (after_source action accepted) r
   after_mutants_come (command.run run) accepted r (plans, (bytes, holds, judges), is, few) =
       refused_at (stages.tests run accepted) (stages.tests_named run.tests) bytes r refl holds (inr (plans, judges, inl (allows_mutants accepted plans run.task (Err r) is few)))
-  after_mutants_come command.instrument accepted r cause = absurd cause
+  after_mutants_come (command.write text) accepted r cause = absurd cause
   after_mutants_come (command.merge left right) accepted r cause = absurd cause
-  after_mutants_come (command.analyse kept report) accepted r cause = absurd cause
+  after_mutants_come (command.analyse kept judging) accepted r cause = absurd cause
 
   mutants_come : (given : Option Command) (r : Reply) → MutantsAreRefused files given r → Comes (first_stage given) r
   mutants_come None r cause = absurd cause
@@ -119,16 +119,16 @@ module _ (skipped : List ℕ) (files : Option Files) where
   after_reasons_come : (action : command.Action) (accepted : Accepted) (name : List ℕ) (r : Reply) → AsksReasons files action accepted name
       → FileIsRefused files (stages.reasons_named name) (JudgesReasons accepted) r → Comes (after_source action accepted) r
   after_reasons_come (command.run run) accepted name r (is, (plans, (bytes, holds, judges), few)) cause =
-      let basis = stages.tested run plans in
+      let basis = stages.tested run.task plans in
       accept (stages.tests run accepted) (after_tests (justified_by run.task) accepted basis) (stages.tests_named run.tests) bytes r refl holds
       (plans, judges, (tt, allows_matrix accepted plans run.task (Ok tt) (not_mutated run.task name is) few, refl))
       (reasons_at (justified_by run.task) name accepted basis r is cause)
-  after_reasons_come command.instrument accepted name r asks cause = absurd asks
+  after_reasons_come (command.write text) accepted name r asks cause = absurd asks
   after_reasons_come (command.merge left right) accepted name r asks cause = absurd asks
-  after_reasons_come (command.analyse kept report) accepted name r (is, (found, (bytes, holds, judges))) cause =
-      let basis = stages.recorded report found in
-      accept (stages.kept kept report accepted) (after_tests report.justify accepted basis) (stages.record_named kept) bytes r refl holds (found, judges, refl)
-      (reasons_at report.justify name accepted basis r is cause)
+  after_reasons_come (command.analyse kept judging) accepted name r (is, (found, (bytes, holds, judges))) cause =
+      let basis = stages.recorded judging found in
+      accept (stages.kept kept judging accepted) (after_tests judging.justify accepted basis) (stages.record_named kept) bytes r refl holds (found, judges, refl)
+      (reasons_at judging.justify name accepted basis r is cause)
 
   reasons_come : (given : Option Command) (r : Reply) → ReasonsAreRefused files given r → Comes (first_stage given) r
   reasons_come None r cause = absurd cause
@@ -156,11 +156,11 @@ module _ (files : Option Files) where
   after_tests_status : (action : command.Action) (accepted : Accepted) (r : Reply) → TestsOrRecordsAreRefusedAfter files action accepted r → r.status ≡ status.TestsRefused
   after_tests_status (command.run run) accepted r (inl (long, is)) = ap (λ (x : Reply). x.status) is
   after_tests_status (command.run run) accepted r (inr (bytes, holds, (fault, read, is))) = ap (λ (x : Reply). x.status) is
-  after_tests_status command.instrument accepted r cause = absurd cause
+  after_tests_status (command.write text) accepted r cause = absurd cause
   after_tests_status (command.merge left right) accepted r (inl cause) = record_status accepted left r cause
   after_tests_status (command.merge left right) accepted r (inr (inl (first, one, cause))) = record_status accepted right r cause
   after_tests_status (command.merge left right) accepted r (inr (inr (first, second, are, (joins, is)))) = is
-  after_tests_status (command.analyse kept report) accepted r cause = record_status accepted kept r cause
+  after_tests_status (command.analyse kept judging) accepted r cause = record_status accepted kept r cause
 
   tests_status : (given : Option Command) (r : Reply) → TestsOrRecordsAreRefused files given r → r.status ≡ status.TestsRefused
   tests_status None r cause = absurd cause
@@ -169,9 +169,9 @@ module _ (files : Option Files) where
 
   after_matrix_status : (action : command.Action) (accepted : Accepted) (r : Reply) → MatrixIsRefusedAfter files action accepted r → r.status ≡ status.TooLarge
   after_matrix_status (command.run run) accepted r (plans, are, other, fits) = of_matrix accepted plans r fits
-  after_matrix_status command.instrument accepted r cause = absurd cause
+  after_matrix_status (command.write text) accepted r cause = absurd cause
   after_matrix_status (command.merge left right) accepted r (first, second, are, (joins, is)) = is
-  after_matrix_status (command.analyse kept report) accepted r cause = absurd cause
+  after_matrix_status (command.analyse kept judging) accepted r cause = absurd cause
 
   matrix_status : (given : Option Command) (r : Reply) → MatrixIsRefused files given r → r.status ≡ status.TooLarge
   matrix_status None r cause = absurd cause
@@ -180,9 +180,9 @@ module _ (files : Option Files) where
 
   after_mutants_status : (action : command.Action) (accepted : Accepted) (r : Reply) → MutantsAreRefusedAfter files action accepted r → r.status ≡ status.TooManyMutants
   after_mutants_status (command.run run) accepted r (plans, are, is, few) = of_mutants accepted r few
-  after_mutants_status command.instrument accepted r cause = absurd cause
+  after_mutants_status (command.write text) accepted r cause = absurd cause
   after_mutants_status (command.merge left right) accepted r cause = absurd cause
-  after_mutants_status (command.analyse kept report) accepted r cause = absurd cause
+  after_mutants_status (command.analyse kept judging) accepted r cause = absurd cause
 
   mutants_status : (given : Option Command) (r : Reply) → MutantsAreRefused files given r → r.status ≡ status.TooManyMutants
   mutants_status None r cause = absurd cause

@@ -3,7 +3,7 @@ use Rattle.std.proofs.Common.{◌≡◌, ◌∙◌, ◌⊎◌, ℕ, List, Option
 use Rattle.std.specs.Prelude.{◌==◌, All, [], ◌∷◌, map, ⊤}
 use Rattle.std.proofs.lemmas.List.Elements.{All-nil, All-cons}
 use Rattle.mc_command.specs.Command as command
-use Rattle.mc_command.specs.Command.{Command, Task, command_of}
+use Rattle.mc_command.specs.Command.{Command, MatrixTask, SourceText, Task, command_of}
 use Rattle.mc_gen.specs.Source.{source_text}
 use Rattle.mc_port.specs.Store.{Files, IsLonger, and_asked}
 use Rattle.mc_record.specs.Kept.{Kept}
@@ -24,7 +24,7 @@ use Rattle.mc_station.specs.Laws.{and_all}
 use Rattle.mc_station.specs.Records.{JudgesRecord}
 use Rattle.mc_station.specs.Source.{Accepted, JudgesSource}
 use Rattle.mc_station.specs.Stages as stages
-use Rattle.mc_station.specs.Stages.{Ends, Judges, Stage, Tells, after_source, after_tests, file_of, first_stage, justified_by}
+use Rattle.mc_station.specs.Stages.{Ends, Judges, Stage, Tells, TellsOnMatrix, Writes, after_source, after_tests, file_of, first_stage, justified_by}
 use Rattle.mc_station.specs.Statuses.{AskedInTurn, StatusesHaveCauses, TextsAreAlone}
 use Rattle.mc_station.specs.Tests.{MatrixFits}
 use Rattle.mc_station.specs.commands.Merge.{Joins, pair_reply}
@@ -69,12 +69,12 @@ module _ (files : Option Files) (given : Option Command) where
   abbrev pub At : Stage → Type 0
   At stages.usage = given ≡ None
   At (stages.source name action) = given ≡ Some (command.on_source name action)
-  At (stages.instrumented accepted) = ⊤
+  At (stages.writes text accepted) = ⊤
   At (stages.tests run accepted) = (name : List ℕ) × (given ≡ Some (command.on_source name (command.run run))) × SourceIs files name accepted
   At (stages.left name other accepted) = (source : List ℕ) × (given ≡ Some (command.on_source source (command.merge name other))) × SourceIs files source accepted
   At (stages.right name accepted first) =
       (source : List ℕ) × (left : List ℕ) × (given ≡ Some (command.on_source source (command.merge left name))) × (SourceIs files source accepted × RecordIs files left accepted first)
-  At (stages.kept name report accepted) = (source : List ℕ) × (given ≡ Some (command.on_source source (command.analyse name report))) × SourceIs files source accepted
+  At (stages.kept name judging accepted) = (source : List ℕ) × (given ≡ Some (command.on_source source (command.analyse name judging))) × SourceIs files source accepted
   At (stages.reasons name accepted basis) =
       (source : List ℕ) × (action : command.Action) × (given ≡ Some (command.on_source source action)) × (SourceIs files source accepted × AsksReasons files action accepted name)
   At (stages.last accepted basis js) = ⊤
@@ -83,9 +83,9 @@ module _ (files : Option Files) (given : Option Command) where
 
   at_action : (name : List ℕ) (action : command.Action) (accepted : Accepted) → given ≡ Some (command.on_source name action) → SourceIs files name accepted → At (after_source action accepted)
   at_action name (command.run run) accepted is source = (name, is, source)
-  at_action name command.instrument accepted is source = tt
+  at_action name (command.write text) accepted is source = tt
   at_action name (command.merge left right) accepted is source = (name, is, source)
-  at_action name (command.analyse kept report) accepted is source = (name, is, source)
+  at_action name (command.analyse kept judging) accepted is source = (name, is, source)
 
   at_reasons : (asked : Option (List ℕ)) (source : List ℕ) (action : command.Action) (accepted : Accepted) (basis : stages.Basis) → given ≡ Some (command.on_source source action)
       → SourceIs files source accepted → ((name : List ℕ) → asked ≡ Some name → AsksReasons files action accepted name) → At (after_tests asked accepted basis)
@@ -103,22 +103,22 @@ module _ (files : Option Files) (given : Option Command) where
       let same : t ≡ after_source action accepted = cc next in
       let held = held_as f (stages.source_named name) bytes (cc is) holds in
       subst At (sym same) (at_action name action accepted at (bytes, held, judges))
-  goes_on (stages.instrumented accepted) t f bytes at is holds judges = absurd judges
+  goes_on (stages.writes text accepted) t f bytes at is holds judges = absurd judges
   goes_on (stages.tests run accepted) t f bytes (name, given_is, source) is holds (plans, judges, (u, fits, next)) =
       let asked = justified_by run.task in
-      let same : t ≡ after_tests asked accepted (stages.tested run plans) = cc next in
+      let same : t ≡ after_tests asked accepted (stages.tested run.task plans) = cc next in
       let held = held_as f (stages.tests_named run.tests) bytes (cc is) holds in
-      subst At (sym same) (at_reasons asked name (command.run run) accepted (stages.tested run plans) given_is source (λ reasons asks. (asks, (plans, (bytes, held, judges), allowed_fits run.task reasons accepted plans u asks fits))))
+      subst At (sym same) (at_reasons asked name (command.run run) accepted (stages.tested run.task plans) given_is source (λ reasons asks. (asks, (plans, (bytes, held, judges), allowed_fits run.task reasons accepted plans u asks fits))))
   goes_on (stages.left name other accepted) t f bytes (source, given_is, from) is holds (first, judges, next) =
       let same : t ≡ stages.right other accepted first = cc next in
       let held = held_as f (stages.record_named name) bytes (cc is) holds in
       subst At (sym same) (source, name, given_is, (from, (bytes, held, judges)))
   goes_on (stages.right name accepted first) t f bytes at is holds (second, judges, (both, joins, next)) =
       let same : t ≡ stages.merged both = cc next in subst At (sym same) tt
-  goes_on (stages.kept name report accepted) t f bytes (source, given_is, from) is holds (found, judges, next) =
-      let same : t ≡ after_tests report.justify accepted (stages.recorded report found) = cc next in
+  goes_on (stages.kept name judging accepted) t f bytes (source, given_is, from) is holds (found, judges, next) =
+      let same : t ≡ after_tests judging.justify accepted (stages.recorded judging found) = cc next in
       let held = held_as f (stages.record_named name) bytes (cc is) holds in
-      subst At (sym same) (at_reasons report.justify source (command.analyse name report) accepted (stages.recorded report found) given_is from (λ reasons asks. (asks, (found, (bytes, held, judges)))))
+      subst At (sym same) (at_reasons judging.justify source (command.analyse name judging) accepted (stages.recorded judging found) given_is from (λ reasons asks. (asks, (found, (bytes, held, judges)))))
   goes_on (stages.reasons name accepted basis) t f bytes at is holds (js, judges, next) =
       let same : t ≡ stages.last accepted basis js = cc next in subst At (sym same) tt
   goes_on (stages.last accepted basis js) t f bytes at is holds judges = absurd judges
@@ -130,14 +130,14 @@ module _ (files : Option Files) (given : Option Command) where
   asks stages.usage f at is = absurd (cc is)
   asks (stages.source name action) f at is =
       subst (λ (c : Option Command). IsAsked files c f) (sym at) (inl (cc is))
-  asks (stages.instrumented accepted) f at is = absurd (cc is)
+  asks (stages.writes text accepted) f at is = absurd (cc is)
   asks (stages.tests run accepted) f (name, given_is, source) is =
       subst (λ (c : Option Command). IsAsked files c f) (sym given_is) (inr (accepted, source, inl (cc is)))
   asks (stages.left name other accepted) f (source, given_is, from) is =
       subst (λ (c : Option Command). IsAsked files c f) (sym given_is) (inr (accepted, from, inl (inl (cc is))))
   asks (stages.right name accepted first) f (source, left, given_is, (from, record_is)) is =
       subst (λ (c : Option Command). IsAsked files c f) (sym given_is) (inr (accepted, from, inl (inr (first, record_is, cc is))))
-  asks (stages.kept name report accepted) f (source, given_is, from) is =
+  asks (stages.kept name judging accepted) f (source, given_is, from) is =
       subst (λ (c : Option Command). IsAsked files c f) (sym given_is) (inr (accepted, from, inl (cc is)))
   asks (stages.reasons name accepted basis) f (source, action, given_is, (from, after)) is =
       subst (λ (c : Option Command). IsAsked files c f) (sym given_is) (inr (accepted, from, inr (name, after, cc is)))
@@ -197,14 +197,19 @@ module _ (files : Option Files) (given : Option Command) where
       subst (λ (x : Reply). Because x x.status) (sym is)
       (elim (number == 0) as (λ b. Because (record { status = (if b then status.Done else status.Incomplete); diag = []; out = lines }) (if b then status.Done else status.Incomplete)) [ true ↦ refl | false ↦ refl ])
 
+  matrix_cause : (skipped : List ℕ) (task : MatrixTask) (accepted : Accepted) (plans : List Plan) (js : List Justification) (r : Reply) → TellsOnMatrix skipped task accepted plans js r → Because r r.status
+  matrix_cause skipped (command.judged asked) accepted plans js r (made, on, is) = is_written _ _ r is
+  matrix_cause skipped command.vectors accepted plans js r (paths, are, is) = is_written _ _ r is
+  matrix_cause skipped command.recorded accepted plans js r (kept, of, is) = is_written _ _ r is
+  matrix_cause skipped (command.reduced mode) accepted plans js r (kept, lost, reduced, is) = is_written _ _ r is
+
   tells_cause : (skipped : List ℕ) (task : Task) (accepted : Accepted) (plans : List Plan) (js : List Justification) (r : Reply) → Tells skipped task accepted plans js r → Because r r.status
-  tells_cause skipped (command.report asked) accepted plans js r (made, on, is) = is_written _ _ r is
-  tells_cause skipped command.vectors accepted plans js r (paths, are, is) = is_written _ _ r is
-  tells_cause skipped command.recorded accepted plans js r (kept, of, is) = is_written _ _ r is
+  tells_cause skipped (command.on_matrix task) accepted plans js r tells = matrix_cause skipped task accepted plans js r tells
   tells_cause skipped (command.watched looks) accepted plans js r (counts, recorded, counted, many, is) = is_written _ _ r is
-  tells_cause skipped (command.reduced mode) accepted plans js r (kept, lost, reduced, is) = is_written _ _ r is
   tells_cause skipped command.mutated accepted plans js r (killers, are, is) = is_written _ _ r is
-  tells_cause skipped (command.listed asked) accepted plans js r (made, on, is) = is_written _ _ r is
+
+  writes_cause : (text : SourceText) (accepted : Accepted) (r : Reply) → Writes text accepted r → Because r r.status
+  writes_cause command.instrumented accepted r (tokens, lexes, is) = is_written 0 _ r is
 
   on_source : (r : Reply) → SourceIsRefused files given r → r.status ≡ status.SourceRefused → Because r r.status
   on_source r cause is = with_status status.SourceRefused r is cause
@@ -230,13 +235,13 @@ module _ (files : Option Files) (given : Option Command) where
   ends_cause : (skipped : List ℕ) (s : Stage) (r : Reply) → At s → Ends skipped s r → Because r r.status
   ends_cause skipped stages.usage r at is = with_status status.NoCommand r (ap (λ (x : Reply). x.status) is) (at, is)
   ends_cause skipped (stages.source name action) r at ends = absurd ends
-  ends_cause skipped (stages.instrumented accepted) r at (tokens, lexes, is) = is_written 0 _ r is
+  ends_cause skipped (stages.writes text accepted) r at ends = writes_cause text accepted r ends
   ends_cause skipped (stages.tests run accepted) r at ends = absurd ends
   ends_cause skipped (stages.left name other accepted) r at ends = absurd ends
   ends_cause skipped (stages.right name accepted first) r at ends = absurd ends
-  ends_cause skipped (stages.kept name report accepted) r at ends = absurd ends
+  ends_cause skipped (stages.kept name judging accepted) r at ends = absurd ends
   ends_cause skipped (stages.reasons name accepted basis) r at ends = absurd ends
-  ends_cause skipped (stages.last accepted (stages.tested run plans) js) r at ends = tells_cause skipped run.task accepted plans js r ends
+  ends_cause skipped (stages.last accepted (stages.tested task plans) js) r at ends = tells_cause skipped task accepted plans js r ends
   ends_cause skipped (stages.last accepted (stages.recorded asked found) js) r at (made, on, is) = is_written _ _ r is
   ends_cause skipped (stages.merged both) r at is = is_written 0 _ r is
   ends_cause skipped (stages.load count workers) r at loads = loads_cause skipped count workers r at loads
@@ -286,12 +291,12 @@ module _ (files : Option Files) (given : Option Command) where
       on_pair source left name accepted first second r at from one (bytes, holds, judges) joins (of_pair first second r joins)
   on_right name accepted first r (source, left, at, (from, one)) (inr (bytes, holds, inr (second, judges, inr (both, joins, next)))) = absurd (cc next)
 
-  on_kept : (name : List ℕ) (report : command.Report) (accepted : Accepted) (r : Reply) → At (stages.kept name report accepted) → Bad (stages.record_named name) (λ bytes q. Judges (stages.kept name report accepted) bytes (Err q)) r → Because r r.status
-  on_kept name report accepted r (source, at, from) (inl (long, is)) =
+  on_kept : (name : List ℕ) (judging : command.Judging) (accepted : Accepted) (r : Reply) → At (stages.kept name judging accepted) → Bad (stages.record_named name) (λ bytes q. Judges (stages.kept name judging accepted) bytes (Err q)) r → Because r r.status
+  on_kept name judging accepted r (source, at, from) (inl (long, is)) =
       on_tests r (subst (λ (c : Option Command). TestsOrRecordsAreRefused files c r) (sym at) (accepted, from, inl (long, is))) (ap (λ (x : Reply). x.status) is)
-  on_kept name report accepted r (source, at, from) (inr (bytes, holds, inl judges)) =
+  on_kept name judging accepted r (source, at, from) (inr (bytes, holds, inl judges)) =
       on_tests r (subst (λ (c : Option Command). TestsOrRecordsAreRefused files c r) (sym at) (accepted, from, inr (bytes, holds, judges))) (of_record accepted name bytes r judges)
-  on_kept name report accepted r (source, at, from) (inr (bytes, holds, inr (found, judges, next))) = absurd (cc next)
+  on_kept name judging accepted r (source, at, from) (inr (bytes, holds, inr (found, judges, next))) = absurd (cc next)
 
   on_reasons : (name : List ℕ) (accepted : Accepted) (basis : stages.Basis) (r : Reply) → At (stages.reasons name accepted basis) → Bad (stages.reasons_named name) (λ bytes q. Judges (stages.reasons name accepted basis) bytes (Err q)) r → Because r r.status
   on_reasons name accepted basis r (source, action, at, (from, after)) (inl (long, is)) =
@@ -308,7 +313,7 @@ module _ (files : Option Files) (given : Option Command) where
   bad_cause (stages.source name action) f r at is bad =
       let same : f ≡ stages.source_named name = cc is in
       on_first name action r at (subst (λ (x : File). Bad x (λ bytes q. Judges (stages.source name action) bytes (Err q)) r) same bad)
-  bad_cause (stages.instrumented accepted) f r at is bad = absurd (cc is)
+  bad_cause (stages.writes text accepted) f r at is bad = absurd (cc is)
   bad_cause (stages.tests run accepted) f r at is bad =
       let same : f ≡ stages.tests_named run.tests = cc is in
       on_plans run accepted r at (subst (λ (x : File). Bad x (λ bytes q. Judges (stages.tests run accepted) bytes (Err q)) r) same bad)
@@ -318,9 +323,9 @@ module _ (files : Option Files) (given : Option Command) where
   bad_cause (stages.right name accepted first) f r at is bad =
       let same : f ≡ stages.record_named name = cc is in
       on_right name accepted first r at (subst (λ (x : File). Bad x (λ bytes q. Judges (stages.right name accepted first) bytes (Err q)) r) same bad)
-  bad_cause (stages.kept name report accepted) f r at is bad =
+  bad_cause (stages.kept name judging accepted) f r at is bad =
       let same : f ≡ stages.record_named name = cc is in
-      on_kept name report accepted r at (subst (λ (x : File). Bad x (λ bytes q. Judges (stages.kept name report accepted) bytes (Err q)) r) same bad)
+      on_kept name judging accepted r at (subst (λ (x : File). Bad x (λ bytes q. Judges (stages.kept name judging accepted) bytes (Err q)) r) same bad)
   bad_cause (stages.reasons name accepted basis) f r at is bad =
       let same : f ≡ stages.reasons_named name = cc is in
       on_reasons name accepted basis r at (subst (λ (x : File). Bad x (λ bytes q. Judges (stages.reasons name accepted basis) bytes (Err q)) r) same bad)

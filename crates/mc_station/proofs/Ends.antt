@@ -1,7 +1,7 @@
 -- Which replies each stage leads to.
 use Rattle.std.proofs.Common.{◌≡◌, ◌≢◌, ◌⊎◌, ℕ, List, Option, Some, None, Ok, refl, sym, ap, subst, inl, inr}
 use Rattle.mc_command.specs.Command as command
-use Rattle.mc_command.specs.Command.{Command, Task, command_of}
+use Rattle.mc_command.specs.Command.{Command, MatrixTask, SourceText, Task, command_of}
 use Rattle.mc_port.specs.Store.{Files, and_asked}
 use Rattle.mc_typed.specs.Plans.{Plan}
 use Rattle.mc_oblige.specs.Shown.{HasEvent}
@@ -19,43 +19,47 @@ use Rattle.mc_station.specs.Calls.{Answers, Fails, Leads, Requests}
 use Rattle.mc_station.specs.Laws.{IsLater, NoCommandAlone, RefusalsAreSilent, SourceAlone}
 use Rattle.mc_station.specs.Source.{Accepted}
 use Rattle.mc_station.specs.Stages as stages
-use Rattle.mc_station.specs.Stages.{Ends, Judges, Stage, Tells, after_source, after_tests, file_of, first_stage, justified_by}
+use Rattle.mc_station.specs.Stages.{Ends, Judges, Stage, Tells, TellsOnMatrix, Writes, after_source, after_tests, file_of, first_stage, justified_by}
 use Rattle.mc_station.specs.Tests.{names, results, stands, states, tested_of}
 use Rattle.mc_station.specs.commands.Analyse.{tested_in}
 use Rattle.mc_station.proofs.Joining.{merge_keeps}
-use Rattle.mc_station.proofs.Lines.{listing_keeps}
 use Rattle.mc_station.proofs.Listing.{list_keeps}
 use Rattle.mc_station.proofs.Loading.{load_keeps}
 use Rattle.mc_station.proofs.Mutating.{mutation_keeps}
 use Rattle.mc_station.proofs.Printing.{text_keeps}
 use Rattle.mc_station.proofs.Recording.{record_keeps}
 use Rattle.mc_station.proofs.Reducing.{reduction_keeps}
-use Rattle.mc_station.proofs.Reporting.{report_keeps}
+use Rattle.mc_station.proofs.Reporting.{judged_keeps}
 use Rattle.mc_station.proofs.Unique.{no_fault, no_file}
 use Rattle.mc_station.proofs.Watching.{watch_keeps}
 use Rattle.mc_station.proofs.Refusing.{IsRefused, reasons_later, refuses_first, refuses_kept, refuses_left, refuses_reasons, refuses_right, refuses_tests, tests_later}
 
 -- ---- ends
 
+matrix_keeps : (skipped : List ℕ) (task : MatrixTask) (accepted : Accepted) (plans : List Plan) (js : List Justification) (r : Reply) → TellsOnMatrix skipped task accepted plans js r → IsLater r
+matrix_keeps skipped (command.judged asked) accepted plans js r tells = judged_keeps (stands skipped accepted plans) asked accepted (tested_of accepted.program plans) js r tells
+matrix_keeps skipped command.vectors accepted plans js r tells = list_keeps (stands skipped accepted plans) accepted (names plans) (states accepted.program plans) (results accepted.program plans) r tells
+matrix_keeps skipped command.recorded accepted plans js r tells = record_keeps skipped accepted plans r tells
+matrix_keeps skipped (command.reduced mode) accepted plans js r tells = reduction_keeps (stands skipped accepted plans) mode accepted (names plans) (states accepted.program plans) r tells
+
 tells_keep : (skipped : List ℕ) (task : Task) (accepted : Accepted) (plans : List Plan) (js : List Justification) (r : Reply) → Tells skipped task accepted plans js r → IsLater r
-tells_keep skipped (command.report asked) accepted plans js r tells = report_keeps (stands skipped accepted plans) asked accepted (tested_of accepted.program plans) js r tells
-tells_keep skipped command.vectors accepted plans js r tells = list_keeps (stands skipped accepted plans) accepted (names plans) (states accepted.program plans) (results accepted.program plans) r tells
-tells_keep skipped command.recorded accepted plans js r tells = record_keeps skipped accepted plans r tells
+tells_keep skipped (command.on_matrix task) accepted plans js r tells = matrix_keeps skipped task accepted plans js r tells
 tells_keep skipped (command.watched looks) accepted plans js r tells = watch_keeps looks accepted plans r tells
-tells_keep skipped (command.reduced mode) accepted plans js r tells = reduction_keeps (stands skipped accepted plans) mode accepted (names plans) (states accepted.program plans) r tells
 tells_keep skipped command.mutated accepted plans js r tells = mutation_keeps accepted plans r tells
-tells_keep skipped (command.listed asked) accepted plans js r tells = listing_keeps (stands skipped accepted plans) asked accepted (tested_of accepted.program plans) js r tells
+
+written_keeps : (text : SourceText) (accepted : Accepted) (r : Reply) → Writes text accepted r → IsLater r
+written_keeps command.instrumented accepted r writes = text_keeps accepted r writes
 
 -- the replies that a stage may lead to, if nothing fails
 abbrev May : Stage → Reply → Type 0
 May stages.usage r = IsRefusal status.NoCommand r
 May (stages.source name action) r = IsRefused r ⊎ IsLater r
-May (stages.instrumented accepted) r = IsLater r
+May (stages.writes text accepted) r = IsLater r
 May (stages.tests run accepted) r = IsLater r
 May (stages.reasons name accepted basis) r = IsLater r
 May (stages.left name other accepted) r = IsLater r
 May (stages.right name accepted first) r = IsLater r
-May (stages.kept name report accepted) r = IsLater r
+May (stages.kept name judging accepted) r = IsLater r
 May (stages.last accepted basis js) r = IsLater r
 May (stages.merged both) r = IsLater r
 May (stages.load count workers) r = IsRefused r ⊎ IsLater r
@@ -63,14 +67,14 @@ May (stages.load count workers) r = IsRefused r ⊎ IsLater r
 may_end : (skipped : List ℕ) (s : Stage) (r : Reply) → Ends skipped s r → May s r
 may_end skipped stages.usage r is = (_, is)
 may_end skipped (stages.source name action) r ends = absurd ends
-may_end skipped (stages.instrumented accepted) r ends = text_keeps accepted r ends
+may_end skipped (stages.writes text accepted) r ends = written_keeps text accepted r ends
 may_end skipped (stages.tests run accepted) r ends = absurd ends
 may_end skipped (stages.left name other accepted) r ends = absurd ends
 may_end skipped (stages.right name accepted first) r ends = absurd ends
-may_end skipped (stages.kept name report accepted) r ends = absurd ends
+may_end skipped (stages.kept name judging accepted) r ends = absurd ends
 may_end skipped (stages.reasons name accepted basis) r ends = absurd ends
-may_end skipped (stages.last accepted (stages.tested run plans) js) r ends = tells_keep skipped run.task accepted plans js r ends
-may_end skipped (stages.last accepted (stages.recorded asked found) js) r ends = report_keeps (HasEvent accepted.map found.matrix) asked accepted (tested_in found) js r ends
+may_end skipped (stages.last accepted (stages.tested task plans) js) r ends = tells_keep skipped task accepted plans js r ends
+may_end skipped (stages.last accepted (stages.recorded asked found) js) r ends = judged_keeps (HasEvent accepted.map found.matrix) asked accepted (tested_in found) js r ends
 may_end skipped (stages.merged both) r ends = merge_keeps both r ends
 may_end skipped (stages.load count workers) r ends = load_keeps skipped count r ends
 
@@ -83,8 +87,8 @@ may_answer skipped files (stages.source name action) a b r (calls.too_long f is 
     inl (subst (λ (g : File). IsRefused (longer g)) (sym same) (_, refl))
 may_answer skipped files (stages.source name action) a b r (calls.refused f bytes x is holds judges) =
     inl (refuses_first name action bytes r judges)
-may_answer skipped files (stages.instrumented accepted) a b r (calls.too_long f is long) = absurd (cc is)
-may_answer skipped files (stages.instrumented accepted) a b r (calls.refused f bytes x is holds judges) = absurd judges
+may_answer skipped files (stages.writes text accepted) a b r (calls.too_long f is long) = absurd (cc is)
+may_answer skipped files (stages.writes text accepted) a b r (calls.refused f bytes x is holds judges) = absurd judges
 may_answer skipped files (stages.tests run accepted) a b r (calls.too_long f is long) =
     let same : f ≡ stages.tests_named run.tests = cc is in
     subst (λ (g : File). IsLater (longer g)) (sym same) (tests_later (longer (stages.tests_named run.tests)).diag)
@@ -97,10 +101,10 @@ may_answer skipped files (stages.right name accepted first) a b r (calls.too_lon
     let same : f ≡ stages.record_named name = cc is in
     subst (λ (g : File). IsLater (longer g)) (sym same) (tests_later (longer (stages.record_named name)).diag)
 may_answer skipped files (stages.right name accepted first) a b r (calls.refused f bytes x is holds judges) = refuses_right name accepted first bytes r judges
-may_answer skipped files (stages.kept name report accepted) a b r (calls.too_long f is long) =
+may_answer skipped files (stages.kept name judging accepted) a b r (calls.too_long f is long) =
     let same : f ≡ stages.record_named name = cc is in
     subst (λ (g : File). IsLater (longer g)) (sym same) (tests_later (longer (stages.record_named name)).diag)
-may_answer skipped files (stages.kept name report accepted) a b r (calls.refused f bytes x is holds judges) = refuses_kept name report accepted bytes r judges
+may_answer skipped files (stages.kept name judging accepted) a b r (calls.refused f bytes x is holds judges) = refuses_kept name judging accepted bytes r judges
 may_answer skipped files (stages.reasons name accepted basis) a b r (calls.too_long f is long) =
     let same : f ≡ stages.reasons_named name = cc is in
     subst (λ (g : File). IsLater (longer g)) (sym same) (reasons_later (longer (stages.reasons_named name)).diag)
@@ -115,9 +119,9 @@ may_answer skipped files (stages.load count workers) a b r (calls.refused f byte
 -- the stage after the source has been accepted
 after_keeps : (action : command.Action) (accepted : Accepted) (r : Reply) → May (after_source action accepted) r → IsLater r
 after_keeps (command.run run) accepted r may = may
-after_keeps command.instrument accepted r may = may
+after_keeps (command.write text) accepted r may = may
 after_keeps (command.merge name other) accepted r may = may
-after_keeps (command.analyse name report) accepted r may = may
+after_keeps (command.analyse name judging) accepted r may = may
 
 -- and the one after the tests, or after the record in their place
 tests_keep : (name : Option (List ℕ)) (accepted : Accepted) (basis : stages.Basis) (r : Reply) → May (after_tests name accepted basis) r → IsLater r
@@ -129,17 +133,17 @@ later_after : (s t : Stage) (bytes : List ℕ) (r : Reply) → Judges s bytes (O
 later_after stages.usage t bytes r judges may = absurd judges
 later_after (stages.source name action) t bytes r (accepted, judges, next) may =
     let same : t ≡ after_source action accepted = cc next in after_keeps action accepted r (subst (λ (x : Stage). May x r) same may)
-later_after (stages.instrumented accepted) t bytes r judges may = absurd judges
+later_after (stages.writes text accepted) t bytes r judges may = absurd judges
 later_after (stages.tests run accepted) t bytes r (plans, judges, (u, fits, next)) may =
-    let same : t ≡ after_tests (justified_by run.task) accepted (stages.tested run plans) = cc next in
-    tests_keep (justified_by run.task) accepted (stages.tested run plans) r (subst (λ (x : Stage). May x r) same may)
+    let same : t ≡ after_tests (justified_by run.task) accepted (stages.tested run.task plans) = cc next in
+    tests_keep (justified_by run.task) accepted (stages.tested run.task plans) r (subst (λ (x : Stage). May x r) same may)
 later_after (stages.left name other accepted) t bytes r (first, judges, next) may =
     let same : t ≡ stages.right other accepted first = cc next in subst (λ (x : Stage). May x r) same may
 later_after (stages.right name accepted first) t bytes r (second, judges, (both, joins, next)) may =
     let same : t ≡ stages.merged both = cc next in subst (λ (x : Stage). May x r) same may
-later_after (stages.kept name report accepted) t bytes r (found, judges, next) may =
-    let same : t ≡ after_tests report.justify accepted (stages.recorded report found) = cc next in
-    tests_keep report.justify accepted (stages.recorded report found) r (subst (λ (x : Stage). May x r) same may)
+later_after (stages.kept name judging accepted) t bytes r (found, judges, next) may =
+    let same : t ≡ after_tests judging.justify accepted (stages.recorded judging found) = cc next in
+    tests_keep judging.justify accepted (stages.recorded judging found) r (subst (λ (x : Stage). May x r) same may)
 later_after (stages.reasons name accepted basis) t bytes r (js, judges, next) may =
     let same : t ≡ stages.last accepted basis js = cc next in subst (λ (x : Stage). May x r) same may
 later_after (stages.last accepted basis js) t bytes r judges may = absurd judges
@@ -149,11 +153,11 @@ later_after (stages.load count workers) t bytes r judges may = absurd judges
 may_later : (s t : Stage) (bytes : List ℕ) (r : Reply) → Judges s bytes (Ok t) → IsLater r → May s r
 may_later stages.usage t bytes r judges is = absurd judges
 may_later (stages.source name action) t bytes r judges is = inr is
-may_later (stages.instrumented accepted) t bytes r judges is = absurd judges
+may_later (stages.writes text accepted) t bytes r judges is = absurd judges
 may_later (stages.tests run accepted) t bytes r judges is = is
 may_later (stages.left name other accepted) t bytes r judges is = is
 may_later (stages.right name accepted first) t bytes r judges is = is
-may_later (stages.kept name report accepted) t bytes r judges is = is
+may_later (stages.kept name judging accepted) t bytes r judges is = is
 may_later (stages.reasons name accepted basis) t bytes r judges is = is
 may_later (stages.last accepted basis js) t bytes r judges is = absurd judges
 may_later (stages.merged both) t bytes r judges is = absurd judges
@@ -176,11 +180,11 @@ judged_silent r (inr is) = is.1
 pub may_answers : (s : Stage) (r : Reply) → May s r → IsAnswer r.status
 may_answers stages.usage r may = subst IsAnswer (sym (refusal_status status.NoCommand r may)) tt
 may_answers (stages.source name action) r may = judged_answers r may
-may_answers (stages.instrumented accepted) r is = after_source_answers r.status is.0
+may_answers (stages.writes text accepted) r is = after_source_answers r.status is.0
 may_answers (stages.tests run accepted) r is = after_source_answers r.status is.0
 may_answers (stages.left name other accepted) r is = after_source_answers r.status is.0
 may_answers (stages.right name accepted first) r is = after_source_answers r.status is.0
-may_answers (stages.kept name report accepted) r is = after_source_answers r.status is.0
+may_answers (stages.kept name judging accepted) r is = after_source_answers r.status is.0
 may_answers (stages.reasons name accepted basis) r is = after_source_answers r.status is.0
 may_answers (stages.last accepted basis js) r is = after_source_answers r.status is.0
 may_answers (stages.merged both) r is = after_source_answers r.status is.0
@@ -189,11 +193,11 @@ may_answers (stages.load count workers) r may = judged_answers r may
 may_silent : (s : Stage) (r : Reply) → May s r → IsSilent r
 may_silent stages.usage r may = refusal_silent status.NoCommand r may
 may_silent (stages.source name action) r may = judged_silent r may
-may_silent (stages.instrumented accepted) r is = is.1
+may_silent (stages.writes text accepted) r is = is.1
 may_silent (stages.tests run accepted) r is = is.1
 may_silent (stages.left name other accepted) r is = is.1
 may_silent (stages.right name accepted first) r is = is.1
-may_silent (stages.kept name report accepted) r is = is.1
+may_silent (stages.kept name judging accepted) r is = is.1
 may_silent (stages.reasons name accepted basis) r is = is.1
 may_silent (stages.last accepted basis js) r is = is.1
 may_silent (stages.merged both) r is = is.1

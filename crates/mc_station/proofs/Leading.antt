@@ -8,7 +8,8 @@ use Rattle.mc_station.specs.Calls as calls
 use Rattle.mc_station.specs.Calls.{Leads, Requests}
 use Rattle.station_replies.specs.Files.{File, limit_of, request_of}
 use Rattle.station_replies.specs.Reply.{Reply, cannot_read, longer, out_of_memory}
-use Rattle.station_replies.specs.Seen.{Gives, IsReplyTo, outcome_of, reply_to, seen_reply}
+use Rattle.station_replies.specs.Seen.{Gives, IsReplyTo, reply_to}
+use Rattle.mc_station.specs.Replied.{outcome_of, seen_reply}
 use Rattle.mc_station.specs.Seen.{seen_stage}
 use Rattle.station_replies.specs.Status.{IsAnswer}
 use Rattle.station_replies.specs.declared.status.Status.TheVariants as status
@@ -16,7 +17,7 @@ use Rattle.mc_station.specs.Stages.{Ends, Judges, Stage, file_of}
 use Rattle.mc_station.proofs.Ends.{end_answers}
 use Rattle.station_replies.specs.declared.stop.Stop.{Stop}
 use Rattle.station_replies.specs.declared.stop.Stop.TheVariants as stop
-use Rattle.station_replies.specs.declared.reply.Reply.{Reply as Given}
+use Rattle.mc_station.specs.declared.reply.Reply.{Reply as Given}
 
 module _ (skipped : List ℕ) (files : Option Files) (s : Stage) (asked : Requests) where
   pub finished : (r : Reply) → Ends skipped s r → Leads skipped files s asked r asked

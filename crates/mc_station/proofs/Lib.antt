@@ -14,7 +14,6 @@ pub mod Judging
 pub mod Kept
 pub mod Killing
 pub mod Leading
-pub mod Lines
 pub mod Listing
 pub mod Loading
 pub mod Mapped

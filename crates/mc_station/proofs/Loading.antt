@@ -7,8 +7,9 @@ use Rattle.mc_gen.specs.Source.{source_text}
 use Rattle.mc_gen.specs.Tests.{tests_text}
 use Rattle.station_replies.specs.Phases.{AreOne, IsOne, Reaches}
 use Rattle.station_replies.specs.Reply.{Reply}
-use Rattle.station_replies.specs.Seen.{Gives, IsReplyTo, reply_to, seen_reply}
-use Rattle.station_replies.specs.declared.reply.Reply.{Reply as Given}
+use Rattle.station_replies.specs.Seen.{Gives, IsReplyTo, reply_to}
+use Rattle.mc_station.specs.Replied.{seen_reply}
+use Rattle.mc_station.specs.declared.reply.Reply.{Reply as Given}
 use Rattle.station_replies.specs.declared.stop.Stop.{Stop}
 use Rattle.station_replies.specs.declared.stop.Stop.TheVariants as stop
 use Rattle.station_replies.specs.Texts.{matrix_line, tests_line}

@@ -22,7 +22,7 @@ pub asks_first : (s : Stage) (f : File) → file_of s ≡ Some f → (rest : Lis
 asks_first stages.usage f is = absurd (cc is)
 asks_first (stages.source name action) f is =
     let same : f ≡ stages.source_named name = cc is in (stages.requests_of action, ap (λ (x : File). request_of x ∷ stages.requests_of action) (sym same))
-asks_first (stages.instrumented accepted) f is = absurd (cc is)
+asks_first (stages.writes text accepted) f is = absurd (cc is)
 asks_first (stages.tests run accepted) f is =
     let same : f ≡ stages.tests_named run.tests = cc is in
     (stages.reasons_of (justified_by run.task), ap (λ (x : File). request_of x ∷ stages.reasons_of (justified_by run.task)) (sym same))
@@ -31,9 +31,9 @@ asks_first (stages.left name other accepted) f is =
     (stages.record_and other [], ap (λ (x : File). request_of x ∷ stages.record_and other []) (sym same))
 asks_first (stages.right name accepted first) f is =
     let same : f ≡ stages.record_named name = cc is in ([], ap (λ (x : File). request_of x ∷ []) (sym same))
-asks_first (stages.kept name report accepted) f is =
+asks_first (stages.kept name judging accepted) f is =
     let same : f ≡ stages.record_named name = cc is in
-    (stages.reasons_of report.justify, ap (λ (x : File). request_of x ∷ stages.reasons_of report.justify) (sym same))
+    (stages.reasons_of judging.justify, ap (λ (x : File). request_of x ∷ stages.reasons_of judging.justify) (sym same))
 asks_first (stages.reasons name accepted basis) f is =
     let same : f ≡ stages.reasons_named name = cc is in ([], ap (λ (x : File). request_of x ∷ []) (sym same))
 asks_first (stages.last accepted basis js) f is = absurd (cc is)
@@ -42,9 +42,9 @@ asks_first (stages.load count workers) f is = absurd (cc is)
 
 left_after : (action : command.Action) (accepted : Accepted) → requests_left (after_source action accepted) ≡ stages.requests_of action
 left_after (command.run run) accepted = refl
-left_after command.instrument accepted = refl
+left_after (command.write text) accepted = refl
 left_after (command.merge name other) accepted = refl
-left_after (command.analyse name report) accepted = refl
+left_after (command.analyse name judging) accepted = refl
 
 left_after_tests : (name : Option (List ℕ)) (accepted : Accepted) (basis : stages.Basis) → requests_left (after_tests name accepted basis) ≡ stages.reasons_of name
 left_after_tests None accepted basis = refl
@@ -57,12 +57,12 @@ asks_then (stages.source name action) t f bytes is (accepted, judges, next) =
     let stage : t ≡ after_source action accepted = cc next in
     let rest : stages.requests_of action ≡ requests_left t = sym (left_after action accepted) ∙ ap requests_left (sym stage) in
     ap (λ (x : File). request_of x ∷ stages.requests_of action) (sym same) ∙ ap (λ (rs : List Request). request_of f ∷ rs) rest
-asks_then (stages.instrumented accepted) t f bytes is judges = absurd judges
+asks_then (stages.writes text accepted) t f bytes is judges = absurd judges
 asks_then (stages.tests run accepted) t f bytes is (plans, judges, (u, fits, next)) =
     let same : f ≡ stages.tests_named run.tests = cc is in
     let name = justified_by run.task in
-    let stage : t ≡ after_tests name accepted (stages.tested run plans) = cc next in
-    let rest : stages.reasons_of name ≡ requests_left t = sym (left_after_tests name accepted (stages.tested run plans)) ∙ ap requests_left (sym stage) in
+    let stage : t ≡ after_tests name accepted (stages.tested run.task plans) = cc next in
+    let rest : stages.reasons_of name ≡ requests_left t = sym (left_after_tests name accepted (stages.tested run.task plans)) ∙ ap requests_left (sym stage) in
     ap (λ (x : File). request_of x ∷ stages.reasons_of name) (sym same) ∙ ap (λ (rs : List Request). request_of f ∷ rs) rest
 asks_then (stages.left name other accepted) t f bytes is (first, judges, next) =
     let same : f ≡ stages.record_named name = cc is in
@@ -74,11 +74,11 @@ asks_then (stages.right name accepted first) t f bytes is (second, judges, (both
     let stage : t ≡ stages.merged both = cc next in
     let rest : [] ≡ requests_left t = ap requests_left (sym stage) in
     ap (λ (x : File). request_of x ∷ []) (sym same) ∙ ap (λ (rs : List Request). request_of f ∷ rs) rest
-asks_then (stages.kept name report accepted) t f bytes is (found, judges, next) =
+asks_then (stages.kept name judging accepted) t f bytes is (found, judges, next) =
     let same : f ≡ stages.record_named name = cc is in
-    let justify = report.justify in
-    let stage : t ≡ after_tests justify accepted (stages.recorded report found) = cc next in
-    let rest : stages.reasons_of justify ≡ requests_left t = sym (left_after_tests justify accepted (stages.recorded report found)) ∙ ap requests_left (sym stage) in
+    let justify = judging.justify in
+    let stage : t ≡ after_tests justify accepted (stages.recorded judging found) = cc next in
+    let rest : stages.reasons_of justify ≡ requests_left t = sym (left_after_tests justify accepted (stages.recorded judging found)) ∙ ap requests_left (sym stage) in
     ap (λ (x : File). request_of x ∷ stages.reasons_of justify) (sym same) ∙ ap (λ (rs : List Request). request_of f ∷ rs) rest
 asks_then (stages.reasons name accepted basis) t f bytes is (js, judges, next) =
     let same : f ≡ stages.reasons_named name = cc is in
@@ -96,11 +96,11 @@ fewer (stages.source name action) t bytes (accepted, judges, next) =
     let stage : t ≡ after_source action accepted = cc next in
     let rest : length (requests_left t) ≡ length (stages.requests_of action) = ap (λ (x : Stage). length (requests_left x)) stage ∙ ap length (left_after action accepted) in
     omega (arith, rest)
-fewer (stages.instrumented accepted) t bytes judges = absurd judges
+fewer (stages.writes text accepted) t bytes judges = absurd judges
 fewer (stages.tests run accepted) t bytes (plans, judges, (u, fits, next)) =
     let name = justified_by run.task in
-    let stage : t ≡ after_tests name accepted (stages.tested run plans) = cc next in
-    let rest : length (requests_left t) ≡ length (stages.reasons_of name) = ap (λ (x : Stage). length (requests_left x)) stage ∙ ap length (left_after_tests name accepted (stages.tested run plans)) in
+    let stage : t ≡ after_tests name accepted (stages.tested run.task plans) = cc next in
+    let rest : length (requests_left t) ≡ length (stages.reasons_of name) = ap (λ (x : Stage). length (requests_left x)) stage ∙ ap length (left_after_tests name accepted (stages.tested run.task plans)) in
     omega (arith, rest)
 fewer (stages.left name other accepted) t bytes (first, judges, next) =
     let stage : t ≡ stages.right other accepted first = cc next in
@@ -110,10 +110,10 @@ fewer (stages.right name accepted first) t bytes (second, judges, (both, joins, 
     let stage : t ≡ stages.merged both = cc next in
     let rest : length (requests_left t) ≡ 0 = ap (λ (x : Stage). length (requests_left x)) stage in
     omega (arith, rest)
-fewer (stages.kept name report accepted) t bytes (found, judges, next) =
-    let justify = report.justify in
-    let stage : t ≡ after_tests justify accepted (stages.recorded report found) = cc next in
-    let rest : length (requests_left t) ≡ length (stages.reasons_of justify) = ap (λ (x : Stage). length (requests_left x)) stage ∙ ap length (left_after_tests justify accepted (stages.recorded report found)) in
+fewer (stages.kept name judging accepted) t bytes (found, judges, next) =
+    let justify = judging.justify in
+    let stage : t ≡ after_tests justify accepted (stages.recorded judging found) = cc next in
+    let rest : length (requests_left t) ≡ length (stages.reasons_of justify) = ap (λ (x : Stage). length (requests_left x)) stage ∙ ap length (left_after_tests justify accepted (stages.recorded judging found)) in
     omega (arith, rest)
 fewer (stages.reasons name accepted basis) t bytes (js, judges, next) =
     let stage : t ≡ stages.last accepted basis js = cc next in
@@ -132,9 +132,9 @@ pub few_requests : (given : Option command.Command) → length (requests_left (f
 few_requests None = omega arith
 few_requests (Some (command.selfload count workers)) = omega arith
 few_requests (Some (command.on_source name (command.run run))) = let few = reasons_few (justified_by run.task) in omega (arith, few)
-few_requests (Some (command.on_source name command.instrument)) = omega arith
+few_requests (Some (command.on_source name (command.write text))) = omega arith
 few_requests (Some (command.on_source name (command.merge left right))) = omega arith
-few_requests (Some (command.on_source name (command.analyse record_name report))) = let few = reasons_few report.justify in omega (arith, few)
+few_requests (Some (command.on_source name (command.analyse record_name judging))) = let few = reasons_few judging.justify in omega (arith, few)
 
 -- ---- what was asked
 

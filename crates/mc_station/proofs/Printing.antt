@@ -4,7 +4,8 @@ use Rattle.mc_lex.specs.declared.token.Dialect.TheVariants.{Plain}
 use Rattle.mc_lex.specs.Tokens.{Tok}
 use Rattle.mc_lex.proofs.Scanning.{one_scan}
 use Rattle.mc_probe.specs.Table.{instrumented}
-use Rattle.station_replies.specs.Reply.{Reply, program_pieces, written}
+use Rattle.station_replies.specs.Reply.{Reply, written}
+use Rattle.mc_station.specs.Output.{program_pieces}
 use Rattle.mc_station.specs.Laws.{IsLater}
 use Rattle.mc_station.specs.Source.{Accepted, JudgesSource, Lexes}
 use Rattle.mc_station.specs.commands.Instrument.{Instruments}

@@ -3,7 +3,7 @@ use Rattle.std.proofs.Common.{◌≡◌, ◌↔◌, ◌∙◌, ◌<◌, ℕ, suc
 use Rattle.std.specs.Prelude.{Contains}
 use Rattle.std.specs.List.{AllZip}
 use Rattle.std.proofs.lemmas.Option.{slice_get_within}
-use Rattle.mc_command.specs.declared.independence.Independence.{Independence}
+use Rattle.report_options.specs.declared.mode.Mode.{Mode}
 use Rattle.mc_typed.specs.declared.plans.TestState.{TestState}
 use Rattle.mc_steps.specs.Events.{Event}
 use Rattle.mc_probe.specs.Maps.{Map}
@@ -20,13 +20,12 @@ use Rattle.mc_station.specs.Ran.{AreIn}
 use Rattle.mc_station.specs.Source.{Accepted}
 use Rattle.mc_station.specs.Tests.{status_where}
 use Rattle.mc_station.specs.commands.Reduce.{ReducesOn, reduced_lines}
-use Rattle.mc_station.specs.commands.Report.{mode_of}
 use Rattle.mc_station.proofs.Written.{written_later}
 
-module _ (shown : Event → ℕ → Type 0) (mode : Independence) (accepted : Accepted) (names : List (List ℕ)) (states : List TestState) where
+module _ (shown : Event → ℕ → Type 0) (mode : Mode) (accepted : Accepted) (names : List (List ℕ)) (states : List TestState) where
   pub one_reduction : (r q : Reply) → ReducesOn shown mode accepted names states r → ReducesOn shown mode accepted names states q → r ≡ q
   one_reduction r q (kept, lost, reduced, is) (others, losts, also, other) =
-      let (same, too) = reduced_one shown accepted.map (mode_of mode) (length names) kept lost others losts reduced also in
+      let (same, too) = reduced_one shown accepted.map mode (length names) kept lost others losts reduced also in
       is ∙ (λ i. written (status_where states) (reduced_lines names (obligations_of accepted.map) (same i) (too i))) ∙ sym other
 
   pub reduction_keeps : (r : Reply) → ReducesOn shown mode accepted names states r → IsLater r
@@ -36,7 +35,7 @@ module _ (shown : Event → ℕ → Type 0) (mode : Independence) (accepted : Ac
   pub also_reduces : (stand : Event → ℕ → Type 0) (r : Reply) → ((e : Event) (t : ℕ) → shown e t ↔ stand e t)
       → ReducesOn shown mode accepted names states r → ReducesOn stand mode accepted names states r
   also_reduces stand r same (kept, lost, reduced, is) =
-      (kept, lost, same_reduced shown stand same accepted.map (mode_of mode) (length names) kept lost reduced, is)
+      (kept, lost, same_reduced shown stand same accepted.map mode (length names) kept lost reduced, is)
 
 -- what is kept are tests, and what is lost without them are obligations
 module _ (shown : Event → ℕ → Type 0) (m : Map) (mode : Mode) (n : ℕ) (whole : List ℕ) where

@@ -72,7 +72,7 @@ refuses_right name accepted first bytes r (inl judges) = kept_later accepted nam
 refuses_right name accepted first bytes r (inr (second, judges, inl joins)) = join_refuses first second r joins
 refuses_right name accepted first bytes r (inr (second, judges, inr (both, joins, next))) = absurd (cc next)
 
-pub refuses_kept : (name : List ℕ) (report : command.Report) (accepted : Accepted) (bytes : List ℕ) (r : Reply) → Judges (stages.kept name report accepted) bytes (Err r) → IsLater r
+pub refuses_kept : (name : List ℕ) (judging : command.Judging) (accepted : Accepted) (bytes : List ℕ) (r : Reply) → Judges (stages.kept name judging accepted) bytes (Err r) → IsLater r
 refuses_kept name report accepted bytes r (inl judges) = kept_later accepted name bytes r judges
 refuses_kept name report accepted bytes r (inr (found, judges, next)) = absurd (cc next)
 

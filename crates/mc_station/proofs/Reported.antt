@@ -5,7 +5,7 @@ use Rattle.std.specs.declared.alloc.AllocError.{AllocError}
 use Rattle.std.proofs.lemmas.List.{length-map}
 use Rattle.sha2.specs.Sha256.{sha256}
 use Rattle.mc_command.specs.Command as command
-use Rattle.mc_command.specs.declared.independence.Independence.{Independence}
+use Rattle.report_options.specs.declared.mode.Mode.{Mode}
 use Rattle.mc_core.specs.Matrix.{MatrixView}
 use Rattle.mc_typed.specs.Plans.{Plan}
 use Rattle.mc_steps.specs.Events.{Event}
@@ -28,23 +28,21 @@ use Rattle.mc_report.specs.VectorsText.{IsPresent, vectors_lines}
 use Rattle.mc_report.proofs.Judging.{reported}
 use Rattle.mc_report.proofs.Present.{present}
 use Rattle.station_replies.specs.Reply.{Reply, written}
-use Rattle.station_replies.specs.Seen.{seen_reply}
-use Rattle.station_replies.specs.declared.reply.Reply.{Reply as Given}
+use Rattle.mc_station.specs.Replied.{seen_reply}
+use Rattle.mc_station.specs.declared.reply.Reply.{Reply as Given}
 use Rattle.mc_station.specs.Ran.{AreTold, IsRun, seen_ran}
 use Rattle.mc_station.specs.Tests.{Tested, names, results, stands, states, status_where, tested_of}
-use Rattle.mc_station.specs.commands.List.{Listing, ListingOn}
 use Rattle.mc_station.specs.commands.Reduce.{Reduces, ReducesOn}
-use Rattle.mc_station.specs.commands.Report.{Reports, ReportsOn, mode_of, report}
+use Rattle.mc_station.specs.commands.Report.{JudgesOn, JudgesRun, report}
 use Rattle.mc_station.specs.commands.Selfload.{Sums, SumsOn}
 use Rattle.mc_station.specs.commands.Vectors.{Lists, ListsOn}
 use Rattle.mc_station.specs.Source.{Accepted}
 use Rattle.mc_station.specs.declared.ran.Ran.{Ran}
-use Rattle.mc_station.proofs.Lines.{also_listing}
 use Rattle.mc_station.proofs.Listing.{also_lists}
 use Rattle.mc_station.proofs.Reducing.{also_reduces}
 use Rattle.mc_station.proofs.Summing.{also_sums}
 use Rattle.mc_station.proofs.Named.{names_are_texts}
-use Rattle.mc_station.proofs.Reporting.{also_reports}
+use Rattle.mc_station.proofs.Reporting.{also_judges}
 
 -- the state stands in what is told of a test
 pub states_told : (rs : List TestResult) (p : Program) (plans : List Plan) → map told_of rs ≡ results p plans → map (λ (r : TestResult). r.state) rs ≡ states p plans
@@ -85,11 +83,11 @@ module _ (skipped : List ℕ) (accepted : Accepted) (plans : List Plan) (ran : R
 
 -- ---- reports
 
-module _ (shown : Event → ℕ → Type 0) (shown_by : Independence) (accepted : Accepted) (tests : Tested) (js : List Justification) where
+module _ (shown : Event → ℕ → Type 0) (mode : Mode) (accepted : Accepted) (tests : Tested) (js : List Justification) where
   -- the parts of a report are those of its definition
-  pub report_is : (made : text.Report) (verdicts : List Verdict) → made.source ≡ accepted.source → made.digest ≡ sha256 accepted.source → made.mode ≡ mode_of shown_by → made.names ≡ tests.names
+  pub report_is : (made : text.Report) (verdicts : List Verdict) → made.source ≡ accepted.source → made.digest ≡ sha256 accepted.source → made.mode ≡ mode → made.names ≡ tests.names
       → made.states ≡ tests.states → made.results ≡ tests.results → made.decisions ≡ accepted.map.decisions → made.obligations ≡ obligations_of accepted.map
-      → made.verdicts ≡ verdicts → made ≡ report shown_by accepted tests verdicts
+      → made.verdicts ≡ verdicts → made ≡ report mode accepted tests verdicts
   report_is made verdicts source digest mode named state result decisions obligations verdict = λ i. record {
     source = source i;
     digest = digest i;
@@ -103,11 +101,11 @@ module _ (shown : Event → ℕ → Type 0) (shown_by : Independence) (accepted 
   }
 
 -- a report can be written
-pub can_be_written : (shown_by : Independence) (accepted : Accepted) (tests : Tested) (js : List Justification) (made : text.Report) (verdicts : List Verdict) (matrix : MatrixView)
-    → made ≡ report shown_by accepted tests verdicts → length accepted.source < 2 ^ 31 → AreTold accepted matrix tests → All (λ (j : Justification). IsUtf8 j.reason) js
-    → AreVerdicts (HasEvent accepted.map matrix) accepted.map (mode_of shown_by) js verdicts → IsReport made
-can_be_written shown_by accepted tests js made verdicts matrix is short told texts are =
-    let judged = reported accepted.map matrix (mode_of shown_by) js verdicts texts are in
+pub can_be_written : (mode : Mode) (accepted : Accepted) (tests : Tested) (js : List Justification) (made : text.Report) (verdicts : List Verdict) (matrix : MatrixView)
+    → made ≡ report mode accepted tests verdicts → length accepted.source < 2 ^ 31 → AreTold accepted matrix tests → All (λ (j : Justification). IsUtf8 j.reason) js
+    → AreVerdicts (HasEvent accepted.map matrix) accepted.map mode js verdicts → IsReport made
+can_be_written mode accepted tests js made verdicts matrix is short told texts are =
+    let judged = reported accepted.map matrix mode js verdicts texts are in
     subst IsReport (sym is) record {
       short = short;
       states = told.states;
@@ -131,13 +129,13 @@ module _ (accepted : Accepted) (names : List (List ℕ)) (states : List TestStat
 -- ---- what is told by the plain runs
 
 module _ (skipped : List ℕ) (accepted : Accepted) (plans : List Plan) (ran : Ran) (js : List Justification) (run : IsRun skipped accepted plans ran) where
-  -- a report on the matrix of a run
-  pub run_reports : (asked : command.Report) (given : Result Given AllocError) → IfOk given (λ reply. ReportsOn (HasEvent accepted.map ran.matrix) asked accepted (seen_ran ran) js (seen_reply reply))
-      → IfOk given (λ reply. Reports skipped asked accepted plans js (seen_reply reply))
-  run_reports asked (Ok reply) reports =
-      let stood = also_reports (HasEvent accepted.map ran.matrix) asked accepted (seen_ran ran) js (stands skipped accepted plans) (seen_reply reply) run.events reports in
-      subst (λ (tests : Tested). ReportsOn (stands skipped accepted plans) asked accepted tests js (seen_reply reply)) (told_is skipped accepted plans ran run) stood
-  run_reports asked (Err e) reports = tt
+  -- the obligations judged by the matrix of a run
+  pub run_judges : (asked : command.Judging) (given : Result Given AllocError) → IfOk given (λ reply. JudgesOn (HasEvent accepted.map ran.matrix) asked accepted (seen_ran ran) js (seen_reply reply))
+      → IfOk given (λ reply. JudgesRun skipped asked accepted plans js (seen_reply reply))
+  run_judges asked (Ok reply) reports =
+      let stood = also_judges (HasEvent accepted.map ran.matrix) asked accepted (seen_ran ran) js (stands skipped accepted plans) (seen_reply reply) run.events reports in
+      subst (λ (tests : Tested). JudgesOn (stands skipped accepted plans) asked accepted tests js (seen_reply reply)) (told_is skipped accepted plans ran run) stood
+  run_judges asked (Err e) reports = tt
 
   -- and the vectors
   pub run_lists : (given : Result Given AllocError) → IfOk given (λ reply. ListsOn (HasEvent accepted.map ran.matrix) accepted ran.names.items ran.states.items (map told_of ran.results.items) (seen_reply reply))
@@ -150,21 +148,13 @@ module _ (skipped : List ℕ) (accepted : Accepted) (plans : List Plan) (ran : R
   run_lists (Err e) lists = tt
 
 -- the tests that are kept of a run
-pub run_reduces : (skipped : List ℕ) (accepted : Accepted) (plans : List Plan) (ran : Ran) → IsRun skipped accepted plans ran → (mode : Independence) (given : Result Given AllocError)
+pub run_reduces : (skipped : List ℕ) (accepted : Accepted) (plans : List Plan) (ran : Ran) → IsRun skipped accepted plans ran → (mode : Mode) (given : Result Given AllocError)
     → IfOk given (λ reply. ReducesOn (HasEvent accepted.map ran.matrix) mode accepted ran.names.items ran.states.items (seen_reply reply)) → IfOk given (λ reply. Reduces skipped mode accepted plans (seen_reply reply))
 run_reduces skipped accepted plans ran run mode (Ok reply) reduces =
     let stood = also_reduces (HasEvent accepted.map ran.matrix) mode accepted ran.names.items ran.states.items (stands skipped accepted plans) (seen_reply reply) run.events reduces in
     subst (λ (ss : List TestState). ReducesOn (stands skipped accepted plans) mode accepted (names plans) ss (seen_reply reply)) run.states
     (subst (λ (ns : List (List ℕ)). ReducesOn (stands skipped accepted plans) mode accepted ns ran.states.items (seen_reply reply)) run.names stood)
 run_reduces skipped accepted plans ran run mode (Err e) reduces = tt
-
--- the listing after a run
-pub run_listing : (skipped : List ℕ) (accepted : Accepted) (plans : List Plan) (ran : Ran) (js : List Justification) → IsRun skipped accepted plans ran → (asked : command.Listing) (given : Result Given AllocError)
-    → IfOk given (λ reply. ListingOn (HasEvent accepted.map ran.matrix) asked accepted (seen_ran ran) js (seen_reply reply)) → IfOk given (λ reply. Listing skipped asked accepted plans js (seen_reply reply))
-run_listing skipped accepted plans ran js run asked (Ok reply) listing =
-    let stood = also_listing (HasEvent accepted.map ran.matrix) asked accepted (seen_ran ran) js (stands skipped accepted plans) (seen_reply reply) run.events listing in
-    subst (λ (tests : Tested). ListingOn (stands skipped accepted plans) asked accepted tests js (seen_reply reply)) (told_is skipped accepted plans ran run) stood
-run_listing skipped accepted plans ran js run asked (Err e) listing = tt
 
 -- the summary of a run
 pub run_sums : (skipped : List ℕ) (accepted : Accepted) (plans : List Plan) (ran : Ran) → IsRun skipped accepted plans ran → (count : ℕ) (given : Result Given AllocError)

@@ -1,6 +1,6 @@
 -- The summary of `selfload`.
 use Rattle.std.proofs.Common.{◌≡◌, ◌↔◌, ◌∙◌, ℕ, [], sym, ap, subst}
-use Rattle.mc_command.specs.declared.independence.Independence.TheVariants.{Masking}
+use Rattle.report_options.specs.declared.mode.Mode.TheVariants.{Masking}
 use Rattle.mc_steps.specs.Events.{Event}
 use Rattle.mc_report.specs.Report as text
 use Rattle.mc_report.specs.Summary.{summary_lines}

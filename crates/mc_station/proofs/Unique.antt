@@ -2,7 +2,7 @@
 use Rattle.std.proofs.Common.{◌≡◌, ◌∙◌, ◌⊎◌, ℕ, List, Option, Some, None, Result, Ok, Err, sym, ap, subst, inl, inr}
 use Rattle.mc_core.specs.Laws.{WordsFollowFromPairs}
 use Rattle.mc_command.specs.Command as command
-use Rattle.mc_command.specs.Command.{Task, command_of}
+use Rattle.mc_command.specs.Command.{MatrixTask, SourceText, Task, command_of}
 use Rattle.mc_typed.specs.Plans.{Plan}
 use Rattle.mc_port.specs.Store.{Files, IsLonger, and_asked}
 use Rattle.mc_oblige.specs.Obligations.{obligations_of}
@@ -20,12 +20,11 @@ use Rattle.mc_station.specs.Justified.{reasons_line}
 use Rattle.mc_station.specs.Laws.{IsToWatch, IsWatch}
 use Rattle.mc_station.specs.Source.{Accepted}
 use Rattle.mc_station.specs.Stages as stages
-use Rattle.mc_station.specs.Stages.{Ends, Judges, Stage, Tells, after_source, after_tests, file_of, first_stage, justified_by}
+use Rattle.mc_station.specs.Stages.{Ends, Judges, Stage, Tells, TellsOnMatrix, Writes, after_source, after_tests, file_of, first_stage, justified_by}
 use Rattle.mc_station.specs.Tests.{names, results, stands, states, tested_of}
-use Rattle.mc_station.proofs.Lines.{one_listing}
 use Rattle.mc_station.proofs.Listing.{one_list}
 use Rattle.mc_station.proofs.Reducing.{one_reduction}
-use Rattle.mc_station.proofs.Reporting.{one_report}
+use Rattle.mc_station.proofs.Reporting.{one_judged}
 use Rattle.mc_oblige.specs.Shown.{HasEvent}
 use Rattle.mc_station.specs.commands.Analyse.{tested_in}
 use Rattle.mc_station.specs.commands.Watch.{AreOnLooks}
@@ -45,17 +44,17 @@ one_verdict : WordsFollowFromPairs → (s : Stage) (bytes : List ℕ) → IsOne 
 one_verdict law stages.usage bytes = λ u v p q. absurd p
 one_verdict law (stages.source name action) bytes =
     one_then _ _ (one_source bytes) (λ accepted is. one_ok (after_source action accepted))
-one_verdict law (stages.instrumented accepted) bytes = λ u v p q. absurd p
+one_verdict law (stages.writes text accepted) bytes = λ u v p q. absurd p
 one_verdict law (stages.tests run accepted) bytes =
     one_then _ _ (one_tests accepted.program run.fuel bytes) (λ plans is.
-    one_then _ _ (one_allowed run.task accepted plans) (λ u allows. one_ok (after_tests (justified_by run.task) accepted (stages.tested run plans))))
+    one_then _ _ (one_allowed run.task accepted plans) (λ u allows. one_ok (after_tests (justified_by run.task) accepted (stages.tested run.task plans))))
 one_verdict law (stages.left name other accepted) bytes =
     one_then _ _ (one_record_in accepted name bytes) (λ first is. one_ok (stages.right other accepted first))
 one_verdict law (stages.right name accepted first) bytes =
     one_then _ _ (one_record_in accepted name bytes) (λ second is.
     one_then _ _ (one_join law first second) (λ both joins. one_ok (stages.merged both)))
-one_verdict law (stages.kept name report accepted) bytes =
-    one_then _ _ (one_record_in accepted name bytes) (λ found is. one_ok (after_tests report.justify accepted (stages.recorded report found)))
+one_verdict law (stages.kept name judging accepted) bytes =
+    one_then _ _ (one_record_in accepted name bytes) (λ found is. one_ok (after_tests judging.justify accepted (stages.recorded judging found)))
 one_verdict law (stages.reasons name accepted basis) bytes =
     one_then _ _ (one_read (justifications_of bytes (obligations_of accepted.map) accepted.source) (λ fault. refusal JustificationsRefused (reasons_line fault))) (λ js is. one_ok (stages.last accepted basis js))
 one_verdict law (stages.last accepted basis js) bytes = λ u v p q. absurd p
@@ -68,28 +67,34 @@ one_verdict law (stages.load count workers) bytes = λ u v p q. absurd p
 abbrev OneIf : Type 0 → Reply → Reply → Type 0
 OneIf watched r q = AreOne r q ⊎ (watched × AreOnLooks r q)
 
+one_on_matrix : WordsFollowFromPairs → (skipped : List ℕ) (task : MatrixTask) (accepted : Accepted) (plans : List Plan) (js : List Justification) (r q : Reply) → TellsOnMatrix skipped task accepted plans js r
+    → TellsOnMatrix skipped task accepted plans js q → r ≡ q
+one_on_matrix law skipped (command.judged asked) accepted plans js r q tells others = one_judged (stands skipped accepted plans) asked accepted (tested_of accepted.program plans) js r q tells others
+one_on_matrix law skipped command.vectors accepted plans js r q tells others = one_list (stands skipped accepted plans) accepted (names plans) (states accepted.program plans) (results accepted.program plans) r q tells others
+one_on_matrix law skipped command.recorded accepted plans js r q tells others = one_record skipped accepted plans law r q tells others
+one_on_matrix law skipped (command.reduced mode) accepted plans js r q tells others = one_reduction (stands skipped accepted plans) mode accepted (names plans) (states accepted.program plans) r q tells others
+
 one_told : WordsFollowFromPairs → (skipped : List ℕ) (task : Task) (accepted : Accepted) (plans : List Plan) (js : List Justification) (r q : Reply) → Tells skipped task accepted plans js r → Tells skipped task accepted plans js q
     → OneIf (IsToWatch task) r q
-one_told law skipped (command.report asked) accepted plans js r q tells others = inl (inl (one_report (stands skipped accepted plans) asked accepted (tested_of accepted.program plans) js r q tells others))
-one_told law skipped command.vectors accepted plans js r q tells others = inl (inl (one_list (stands skipped accepted plans) accepted (names plans) (states accepted.program plans) (results accepted.program plans) r q tells others))
-one_told law skipped command.recorded accepted plans js r q tells others = inl (inl (one_record skipped accepted plans law r q tells others))
+one_told law skipped (command.on_matrix task) accepted plans js r q tells others = inl (inl (one_on_matrix law skipped task accepted plans js r q tells others))
 one_told law skipped (command.watched looks) accepted plans js r q tells others = inr (tt, one_watch looks accepted plans r q tells others)
-one_told law skipped (command.reduced mode) accepted plans js r q tells others = inl (inl (one_reduction (stands skipped accepted plans) mode accepted (names plans) (states accepted.program plans) r q tells others))
 one_told law skipped command.mutated accepted plans js r q tells others = inl (inl (one_mutation accepted plans r q tells others))
-one_told law skipped (command.listed asked) accepted plans js r q tells others = inl (inl (one_listing (stands skipped accepted plans) asked accepted (tested_of accepted.program plans) js r q tells others))
+
+one_written : (text : SourceText) (accepted : Accepted) (r q : Reply) → Writes text accepted r → Writes text accepted q → r ≡ q
+one_written command.instrumented accepted r q writes also = one_text accepted r q writes also
 
 -- a stage ends with one reply
 one_end_reply : WordsFollowFromPairs → (skipped : List ℕ) (s : Stage) (r q : Reply) → Ends skipped s r → Ends skipped s q → OneIf (IsAt s) r q
 one_end_reply law skipped stages.usage r q is also = inl (inl (is ∙ sym also))
 one_end_reply law skipped (stages.source name action) r q ends also = absurd ends
-one_end_reply law skipped (stages.instrumented accepted) r q ends also = inl (inl (one_text accepted r q ends also))
+one_end_reply law skipped (stages.writes text accepted) r q ends also = inl (inl (one_written text accepted r q ends also))
 one_end_reply law skipped (stages.tests run accepted) r q ends also = absurd ends
 one_end_reply law skipped (stages.left name other accepted) r q ends also = absurd ends
 one_end_reply law skipped (stages.right name accepted first) r q ends also = absurd ends
-one_end_reply law skipped (stages.kept name report accepted) r q ends also = absurd ends
+one_end_reply law skipped (stages.kept name judging accepted) r q ends also = absurd ends
 one_end_reply law skipped (stages.reasons name accepted basis) r q ends also = absurd ends
-one_end_reply law skipped (stages.last accepted (stages.tested run plans) js) r q ends also = one_told law skipped run.task accepted plans js r q ends also
-one_end_reply law skipped (stages.last accepted (stages.recorded asked found) js) r q ends also = inl (inl (one_report (HasEvent accepted.map found.matrix) asked accepted (tested_in found) js r q ends also))
+one_end_reply law skipped (stages.last accepted (stages.tested task plans) js) r q ends also = one_told law skipped task accepted plans js r q ends also
+one_end_reply law skipped (stages.last accepted (stages.recorded asked found) js) r q ends also = inl (inl (one_judged (HasEvent accepted.map found.matrix) asked accepted (tested_in found) js r q ends also))
 one_end_reply law skipped (stages.merged both) r q is also = inl (inl (is ∙ sym also))
 one_end_reply law skipped (stages.load count workers) r q ends also = inl (one_load skipped count r q ends also)
 
@@ -97,11 +102,11 @@ one_end_reply law skipped (stages.load count workers) r q ends also = inl (one_l
 pub no_file : (skipped : List ℕ) (s : Stage) (r : Reply) (f : File) → Ends skipped s r → file_of s ≡ Some f → ⊥
 no_file skipped stages.usage r f ends is = cc is
 no_file skipped (stages.source name action) r f ends is = absurd ends
-no_file skipped (stages.instrumented accepted) r f ends is = cc is
+no_file skipped (stages.writes text accepted) r f ends is = cc is
 no_file skipped (stages.tests run accepted) r f ends is = absurd ends
 no_file skipped (stages.left name other accepted) r f ends is = absurd ends
 no_file skipped (stages.right name accepted first) r f ends is = absurd ends
-no_file skipped (stages.kept name report accepted) r f ends is = absurd ends
+no_file skipped (stages.kept name judging accepted) r f ends is = absurd ends
 no_file skipped (stages.reasons name accepted basis) r f ends is = absurd ends
 no_file skipped (stages.last accepted basis js) r f ends is = cc is
 no_file skipped (stages.merged both) r f ends is = cc is

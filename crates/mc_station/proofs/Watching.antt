@@ -5,7 +5,7 @@ use Rattle.std.specs.declared.alloc.Global.{Global}
 use Rattle.std.proofs.Math.Nat.{mul-le-mul_left}
 use Rattle.mc_limits.specs.Limits.{most_words}
 use Rattle.mc_command.specs.Command as command
-use Rattle.mc_command.specs.Command.{Action, Command, Run}
+use Rattle.mc_command.specs.Command.{Action, Command, Task}
 use Rattle.mc_core.specs.Matrix.{Holds, MatrixView}
 use Rattle.mc_core.specs.Shape.{rows, word_count}
 use Rattle.mc_core.specs.declared.shape.Shape.{Shape}
@@ -117,26 +117,26 @@ same_status W r q (inr (is, looks)) = ap (λ (x : Reply). x.status) looks.first 
 abbrev pub IsAt : Stage → Type 0
 IsAt (stages.source name (command.run run)) = IsToWatch run.task
 IsAt (stages.tests run accepted) = IsToWatch run.task
-IsAt (stages.reasons name accepted (stages.tested run plans)) = IsToWatch run.task
-IsAt (stages.last accepted (stages.tested run plans) js) = IsToWatch run.task
+IsAt (stages.reasons name accepted (stages.tested task plans)) = IsToWatch task
+IsAt (stages.last accepted (stages.tested task plans) js) = IsToWatch task
 IsAt stage = ⊥
 
 at_source : (name : List ℕ) (action : Action) (accepted : Accepted) → IsAt (after_source action accepted) → IsAt (stages.source name action)
 at_source name (command.run run) accepted at = at
-at_source name command.instrument accepted at = absurd at
+at_source name (command.write text) accepted at = absurd at
 at_source name (command.merge left right) accepted at = absurd at
 at_source name (command.analyse kept how) accepted at = absurd at
 
-at_tests : (name : Option (List ℕ)) (accepted : Accepted) (run : Run) (plans : List Plan) → IsAt (after_tests name accepted (stages.tested run plans)) → IsToWatch run.task
-at_tests None accepted run plans at = at
-at_tests (Some name) accepted run plans at = at
+at_tests : (name : Option (List ℕ)) (accepted : Accepted) (task : Task) (plans : List Plan) → IsAt (after_tests name accepted (stages.tested task plans)) → IsToWatch task
+at_tests None accepted task plans at = at
+at_tests (Some name) accepted task plans at = at
 
-not_at_record : (name : Option (List ℕ)) (accepted : Accepted) (how : command.Report) (found : Kept) → IsAt (after_tests name accepted (stages.recorded how found)) → ⊥
+not_at_record : (name : Option (List ℕ)) (accepted : Accepted) (how : command.Judging) (found : Kept) → IsAt (after_tests name accepted (stages.recorded how found)) → ⊥
 not_at_record None accepted how found at = at
 not_at_record (Some name) accepted how found at = at
 
 at_reasons : (name : List ℕ) (accepted : Accepted) (basis : Basis) (js : List Justification) → IsAt (stages.last accepted basis js) → IsAt (stages.reasons name accepted basis)
-at_reasons name accepted (stages.tested run plans) js at = at
+at_reasons name accepted (stages.tested task plans) js at = at
 at_reasons name accepted (stages.recorded how found) js at = absurd at
 
 -- and so is the one before
@@ -144,10 +144,10 @@ pub at_before : (s t : Stage) (bytes : List ℕ) → Judges s bytes (Ok t) → I
 at_before stages.usage t bytes judges at = absurd judges
 at_before (stages.source name action) t bytes (accepted, judges, next) at =
     let stage : t ≡ after_source action accepted = cc next in at_source name action accepted (subst IsAt stage at)
-at_before (stages.instrumented accepted) t bytes judges at = absurd judges
+at_before (stages.writes text accepted) t bytes judges at = absurd judges
 at_before (stages.tests run accepted) t bytes (plans, judges, (u, fits, next)) at =
     let name = justified_by run.task in
-    let stage : t ≡ after_tests name accepted (stages.tested run plans) = cc next in at_tests name accepted run plans (subst IsAt stage at)
+    let stage : t ≡ after_tests name accepted (stages.tested run.task plans) = cc next in at_tests name accepted run.task plans (subst IsAt stage at)
 at_before (stages.left name other accepted) t bytes (first, judges, next) at =
     let stage : t ≡ stages.right other accepted first = cc next in absurd (subst IsAt stage at)
 at_before (stages.right name accepted first) t bytes (second, judges, (both, joins, next)) at =
@@ -164,6 +164,6 @@ pub at_first : (given : Option Command) → IsAt (first_stage given) → IsWatch
 at_first None at = absurd at
 at_first (Some (command.selfload count workers)) at = absurd at
 at_first (Some (command.on_source name (command.run run))) at = at
-at_first (Some (command.on_source name command.instrument)) at = absurd at
+at_first (Some (command.on_source name (command.write text))) at = absurd at
 at_first (Some (command.on_source name (command.merge left right))) at = absurd at
 at_first (Some (command.on_source name (command.analyse kept how))) at = absurd at

@@ -54,19 +54,19 @@ AsksReasons files (command.run run) accepted name =
     (justified_by run.task ≡ Some name)
     × ((plans : List Plan) × TestsAre files run accepted plans
     × (words_needed accepted plans ≤ most_words))
-AsksReasons files command.instrument accepted name = ⊥
+AsksReasons files (command.write text) accepted name = ⊥
 AsksReasons files (command.merge left right) accepted name = ⊥
-AsksReasons files (command.analyse kept report) accepted name =
-    (report.justify ≡ Some name) × ((found : Kept) × RecordIs files kept accepted found)
+AsksReasons files (command.analyse kept judging) accepted name =
+    (judging.justify ≡ Some name) × ((found : Kept) × RecordIs files kept accepted found)
 
 -- the tests file or a record, after an accepted source; the right record, after the left one
 abbrev pub AsksTestsOrRecord : Option Files → Action → Accepted → File → Type 0
 AsksTestsOrRecord files (command.run run) accepted file = file ≡ tests_named run.tests
-AsksTestsOrRecord files command.instrument accepted file = ⊥
+AsksTestsOrRecord files (command.write text) accepted file = ⊥
 AsksTestsOrRecord files (command.merge left right) accepted file =
     (file ≡ record_named left)
     ⊎ ((first : Kept) × RecordIs files left accepted first × (file ≡ record_named right))
-AsksTestsOrRecord files (command.analyse kept report) accepted file = file ≡ record_named kept
+AsksTestsOrRecord files (command.analyse kept judging) accepted file = file ≡ record_named kept
 
 -- a command asks for a file, with what is accepted before
 abbrev pub IsAsked : Option Files → Option Command → File → Type 0
@@ -106,13 +106,13 @@ PairIsRefused files left right accepted status r =
 abbrev pub TestsOrRecordsAreRefusedAfter : Option Files → Action → Accepted → Reply → Type 0
 TestsOrRecordsAreRefusedAfter files (command.run run) accepted r =
     FileIsRefused files (tests_named run.tests) (JudgesTests accepted.program run.fuel) r
-TestsOrRecordsAreRefusedAfter files command.instrument accepted r = ⊥
+TestsOrRecordsAreRefusedAfter files (command.write text) accepted r = ⊥
 TestsOrRecordsAreRefusedAfter files (command.merge left right) accepted r =
     FileIsRefused files (record_named left) (JudgesRecord accepted left) r
     ⊎ (((first : Kept) × RecordIs files left accepted first
     × FileIsRefused files (record_named right) (JudgesRecord accepted right) r)
     ⊎ PairIsRefused files left right accepted TestsRefused r)
-TestsOrRecordsAreRefusedAfter files (command.analyse kept report) accepted r =
+TestsOrRecordsAreRefusedAfter files (command.analyse kept judging) accepted r =
     FileIsRefused files (record_named kept) (JudgesRecord accepted kept) r
 
 abbrev pub TestsOrRecordsAreRefused : Option Files → Option Command → Reply → Type 0
@@ -134,10 +134,10 @@ abbrev pub MatrixIsRefusedAfter : Option Files → Action → Accepted → Reply
 MatrixIsRefusedAfter files (command.run run) accepted r =
     (plans : List Plan) × TestsAre files run accepted plans × ¬ IsToMutate run.task
     × MatrixFits accepted plans (Err r)
-MatrixIsRefusedAfter files command.instrument accepted r = ⊥
+MatrixIsRefusedAfter files (command.write text) accepted r = ⊥
 MatrixIsRefusedAfter files (command.merge left right) accepted r =
     PairIsRefused files left right accepted TooLarge r
-MatrixIsRefusedAfter files (command.analyse kept report) accepted r = ⊥
+MatrixIsRefusedAfter files (command.analyse kept judging) accepted r = ⊥
 
 abbrev pub MatrixIsRefused : Option Files → Option Command → Reply → Type 0
 MatrixIsRefused files None r = ⊥
@@ -154,9 +154,9 @@ abbrev pub MutantsAreRefusedAfter : Option Files → Action → Accepted → Rep
 MutantsAreRefusedAfter files (command.run run) accepted r =
     (plans : List Plan) × TestsAre files run accepted plans × IsToMutate run.task
     × FewMutants accepted (Err r)
-MutantsAreRefusedAfter files command.instrument accepted r = ⊥
+MutantsAreRefusedAfter files (command.write text) accepted r = ⊥
 MutantsAreRefusedAfter files (command.merge left right) accepted r = ⊥
-MutantsAreRefusedAfter files (command.analyse kept report) accepted r = ⊥
+MutantsAreRefusedAfter files (command.analyse kept judging) accepted r = ⊥
 
 abbrev pub MutantsAreRefused : Option Files → Option Command → Reply → Type 0
 MutantsAreRefused files None r = ⊥

@@ -1,4 +1,5 @@
 -- What words and files call for: the status, the texts, and the files that are asked for.
+pub mod Output
 pub mod Source
 pub mod Tests
 pub mod Records
@@ -12,6 +13,7 @@ pub mod Statuses
 -- What the top call leaves.
 pub mod Outcome
 -- What clauses see of the program's types.
+pub mod Replied
 pub mod Seen
 -- What the tests gave, for the proofs alone.
 pub mod Ran

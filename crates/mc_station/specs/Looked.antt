@@ -1,8 +1,6 @@
 -- What a watcher found while the tests were run, for the proofs alone.
-use Rattle.std.specs.Prelude.{◌≡◌, ◌≤◌, ℕ, List, All, length, ⊤}
+use Rattle.std.specs.Prelude.{◌≡◌, ◌≤◌, ℕ, List, All, length}
 use Rattle.std.specs.List.Sorted.{IsNonDecreasing}
-use Rattle.mc_command.specs.declared.task.Task.{Task}
-use Rattle.mc_command.specs.declared.task.Task.TheVariants as task
 use Rattle.mc_core.specs.Matrix.{Holds, MatrixView}
 use Rattle.mc_watch.specs.Watched.{AreSoMany}
 
@@ -12,9 +10,3 @@ pub record IsLooked (looks : ℕ) (matrix : MatrixView) (counts : List ℕ) : Ty
   pub as_many : length counts ≡ looks
   pub rising : IsNonDecreasing counts
   pub within : (n : ℕ) → AreSoMany (Holds matrix) n → All (λ count. count ≤ n) counts
-
--- a task that stands on what the tests recorded of the program, at the end alone
-abbrev pub IsOnMatrix : Task → Type 0
-IsOnMatrix (task.Watch looks) = ⊥
-IsOnMatrix task.Mutate = ⊥
-IsOnMatrix given = ⊤

@@ -1,9 +1,9 @@
 -- What clauses see of accepted sources and of stages.
 use Rattle.std.specs.Prelude.{◌≡◌, ◌≤◌, List, Ok, length, map, option_map, ⊤}
 use Rattle.sha2.specs.Sha256.{sha256}
-use Rattle.mc_command.specs.declared.task.Task.{Task}
-use Rattle.mc_command.specs.declared.task.Task.TheVariants as task
-use Rattle.mc_command.specs.Seen.{ActionIsInRange, IsWithin, RunIsInRange, seen_action, seen_report, seen_run}
+use Rattle.mc_command.specs.Command.{mutated, on_matrix, watched}
+use Rattle.mc_command.specs.Seen.{ActionIsInRange, IsWithin, RunIsInRange, seen_action, seen_judging, seen_matrix_task, seen_run, seen_source_text}
+use Rattle.mc_command.specs.Values.{most_watched_workers}
 use Rattle.mc_core.specs.Shape.{word_count}
 use Rattle.mc_cover.specs.Model.{IsOf}
 use Rattle.mc_cover.specs.Views.{opener}
@@ -24,12 +24,12 @@ use Rattle.mc_probe.specs.Table as table
 use Rattle.mc_oblige.specs.Obligations.{obligations_of}
 use Rattle.mc_oblige.specs.declared.justification.Justification.{Justification}
 use Rattle.mc_justify.specs.Returned.{AreFit}
-use Rattle.mc_limits.specs.Limits.{most_functions, most_mutants, most_source_bytes, most_tests, most_words, most_workers}
+use Rattle.mc_limits.specs.Limits.{most_functions, most_looks, most_mutants, most_source_bytes, most_tests, most_words, most_workers}
 use Rattle.mc_record.specs.Kept.{IsKept}
 use Rattle.mc_record.specs.Seen.{kept_of}
 use Rattle.mc_record.specs.declared.kept.Record.{Record}
 use Rattle.mc_station.specs.Source.{Accepted as AcceptedAs, Lexes}
-use Rattle.mc_station.specs.Stages.{Basis as BasisOf, Stage as StageOf, instrumented, kept, last, left, load, merged, reasons, recorded, right, source, tested, tests, usage}
+use Rattle.mc_station.specs.Stages.{Basis as BasisOf, Stage as StageOf, kept, last, left, load, merged, reasons, recorded, right, source, tested, tests, usage, writes}
 use Rattle.mc_station.specs.Tests.{Tested as TestedAs, shape_of}
 use Rattle.mc_station.specs.declared.accepted.Accepted.{Accepted}
 use Rattle.mc_station.specs.declared.basis.Basis.{Basis}
@@ -48,21 +48,24 @@ seen_accepted a = record {
 }
 
 abbrev pub seen_basis : Basis → BasisOf
-seen_basis (basis.Tested run plans opened) = tested (seen_run run) (seen_plans plans.items)
-seen_basis (basis.Mutated run plans decisions) = tested (seen_run run) (seen_plans plans.items)
-seen_basis (basis.Recorded report r) = recorded (seen_report report) (kept_of r)
+seen_basis (basis.Tested task workers plans opened) =
+    tested (on_matrix (seen_matrix_task task)) (seen_plans plans.items)
+seen_basis (basis.Watched looks workers plans opened) =
+    tested (watched looks) (seen_plans plans.items)
+seen_basis (basis.Mutated workers plans decisions) = tested mutated (seen_plans plans.items)
+seen_basis (basis.Recorded judging r) = recorded (seen_judging judging) (kept_of r)
 
 abbrev pub seen_stage : Stage → StageOf
 seen_stage stage.Usage = usage
 seen_stage (stage.Source name action) = source name.now (seen_action action)
-seen_stage (stage.Instrumented accepted) = instrumented (seen_accepted accepted)
+seen_stage (stage.Writes text accepted) = writes (seen_source_text text) (seen_accepted accepted)
 seen_stage (stage.Tests run accepted) = tests (seen_run run) (seen_accepted accepted)
 seen_stage (stage.Left name other accepted) =
     left name.now other.now (seen_accepted accepted)
 seen_stage (stage.Right name accepted first) =
     right name.now (seen_accepted accepted) (kept_of first)
-seen_stage (stage.Kept name report accepted) =
-    kept name.now (seen_report report) (seen_accepted accepted)
+seen_stage (stage.Kept name judging accepted) =
+    kept name.now (seen_judging judging) (seen_accepted accepted)
 seen_stage (stage.Reasons name accepted basis) =
     reasons name.now (seen_accepted accepted) (seen_basis basis)
 seen_stage (stage.Last accepted basis js) =
@@ -108,11 +111,6 @@ pub record IsRecordIn (accepted : Accepted) (r : Record) : Type 0 where
   pub digest : r.digest ≡ sha256 accepted.source.now
   pub bits : r.matrix.shape.bits ≡ accepted.map.bits
 
--- a task that is told from the runs of the tests on the program alone, and not on its mutants
-abbrev pub IsOnProgram : Task → Type 0
-IsOnProgram task.Mutate = ⊥
-IsOnProgram given = ⊤
-
 -- the decisions of the program, which has few enough mutants
 pub record AreMutable (accepted : Accepted) (ds : List code.Decision) : Type 0 where
   pub decisions : AreDecisions (program_of accepted.tree.program).functions (map decision_of ds)
@@ -121,13 +119,16 @@ pub record AreMutable (accepted : Accepted) (ds : List code.Decision) : Type 0 w
 -- what the last stage stands on: tests of the program, and shared words for them or the decisions
 -- whose mutants they are tried on, or a record
 abbrev pub IsBasis : Accepted → Basis → Type 0
-IsBasis accepted (basis.Tested run plans opened) =
-    RunIsInRange run × (IsOnProgram run.task × (ArePlanned accepted plans.items
-    × IsOpened accepted plans.items opened))
-IsBasis accepted (basis.Mutated run plans decisions) =
-    RunIsInRange run × ((run.task ≡ task.Mutate) × (ArePlanned accepted plans.items
-    × AreMutable accepted decisions.items))
-IsBasis accepted (basis.Recorded report r) = IsRecordIn accepted r
+IsBasis accepted (basis.Tested task workers plans opened) =
+    IsWithin 1 most_workers workers × (ArePlanned accepted plans.items
+    × IsOpened accepted plans.items opened)
+IsBasis accepted (basis.Watched looks workers plans opened) =
+    (IsWithin 1 most_looks looks × IsWithin 1 most_watched_workers workers)
+    × (ArePlanned accepted plans.items × IsOpened accepted plans.items opened)
+IsBasis accepted (basis.Mutated workers plans decisions) =
+    IsWithin 1 most_workers workers × (ArePlanned accepted plans.items
+    × AreMutable accepted decisions.items)
+IsBasis accepted (basis.Recorded judging r) = IsRecordIn accepted r
 
 -- the justifications are of the program's obligations
 abbrev pub AreReasons : Accepted → List Justification → Type 0
@@ -136,11 +137,11 @@ AreReasons accepted js = AreFit (length (obligations_of (map_of accepted.map))) 
 abbrev pub IsReady : Stage → Type 0
 IsReady stage.Usage = ⊤
 IsReady (stage.Source name action) = ActionIsInRange action
-IsReady (stage.Instrumented accepted) = HasItsTree accepted × HasTokens accepted
+IsReady (stage.Writes text accepted) = HasItsTree accepted × HasTokens accepted
 IsReady (stage.Tests run accepted) = RunIsInRange run × HasItsTree accepted
 IsReady (stage.Left name other accepted) = HasItsTree accepted
 IsReady (stage.Right name accepted first) = HasItsTree accepted × IsRecordIn accepted first
-IsReady (stage.Kept name report accepted) = HasItsTree accepted
+IsReady (stage.Kept name judging accepted) = HasItsTree accepted
 IsReady (stage.Reasons name accepted basis) = HasItsTree accepted × IsBasis accepted basis
 IsReady (stage.Last accepted basis js) =
     HasItsTree accepted × (IsBasis accepted basis × AreReasons accepted js.items)

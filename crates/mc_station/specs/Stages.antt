@@ -2,7 +2,7 @@
 -- stage, or refuses it; the last stage of a command asks for none and makes the texts.
 use Rattle.std.specs.Prelude.{◌≡◌, ◌≤◌, ℕ, List, [], ◌∷◌, Option, Some, None, Result, Ok}
 use Rattle.mc_command.specs.Command as command
-use Rattle.mc_command.specs.Command.{Action, Command, Report, Run, Task}
+use Rattle.mc_command.specs.Command.{Action, Command, Judging, MatrixTask, Run, SourceText, Task}
 use Rattle.mc_port.specs.Store.{Request}
 use Rattle.mc_typed.specs.Plans.{Plan}
 use Rattle.mc_oblige.specs.Obligations.{obligations_of}
@@ -21,38 +21,37 @@ use Rattle.mc_station.specs.Source.{Accepted, JudgesSource}
 use Rattle.mc_station.specs.Tests.{MatrixFits, JudgesTests}
 use Rattle.mc_station.specs.commands.Analyse.{Analyses}
 use Rattle.mc_station.specs.commands.Instrument.{Instruments}
-use Rattle.mc_station.specs.commands.List.{Listing}
 use Rattle.mc_station.specs.commands.Merge.{Joins, Merges}
 use Rattle.mc_station.specs.commands.Mutate.{FewMutants, Mutates}
 use Rattle.mc_station.specs.commands.Record.{Records}
 use Rattle.mc_station.specs.commands.Reduce.{Reduces}
-use Rattle.mc_station.specs.commands.Report.{Reports}
+use Rattle.mc_station.specs.commands.Report.{JudgesRun}
 use Rattle.mc_station.specs.commands.Selfload.{LoadsItself}
 use Rattle.mc_station.specs.commands.Vectors.{Lists}
 use Rattle.mc_station.specs.commands.Watch.{Watches}
 
 -- what the last stage of a command stands on, beside its source
 pub data Basis : Type 0 where
-  -- the tests of a run
-  tested : Run → List Plan → Basis
-  -- a record that is to be reported on
-  recorded : Report → Kept → Basis
+  -- the tests, and what they are run for
+  tested : Task → List Plan → Basis
+  -- a record, and how the obligations are judged by it
+  recorded : Judging → Kept → Basis
 
 pub data Stage : Type 0 where
   -- the words are not a command
   usage : Stage
   -- the source is asked for
   source : (name : List ℕ) → Action → Stage
-  -- the source is accepted, and no other file is asked for
-  instrumented : Accepted → Stage
+  -- the source is accepted, and a text is made of it alone
+  writes : SourceText → Accepted → Stage
   -- the source is accepted, and the tests file is asked for
   tests : Run → Accepted → Stage
   -- the source is accepted, and the first of two records is asked for
   left : (left right : List ℕ) → Accepted → Stage
   -- the first one is accepted, and the second one is asked for
   right : (name : List ℕ) → Accepted → Kept → Stage
-  -- the source is accepted, and the record that is to be reported on is asked for
-  kept : (name : List ℕ) → Report → Accepted → Stage
+  -- the source is accepted, and the record by which it is judged is asked for
+  kept : (name : List ℕ) → Judging → Accepted → Stage
   -- what goes before is accepted, and the file of justifications is asked for
   reasons : (name : List ℕ) → Accepted → Basis → Stage
   -- all files are accepted
@@ -76,25 +75,20 @@ record_named name = record { kind = kind.Record; name = name }
 abbrev pub reasons_named : List ℕ → File
 reasons_named name = record { kind = kind.Justifications; name = name }
 
--- the name of the file of justifications that a command asks for, if it does
+-- the name of the file of justifications that a task asks for, if it does
 abbrev pub justified_by : Task → Option (List ℕ)
-justified_by (command.report report) = report.justify
-justified_by command.vectors = None
-justified_by command.recorded = None
-justified_by (command.watched looks) = None
-justified_by (command.reduced mode) = None
-justified_by command.mutated = None
-justified_by (command.listed listing) = listing.justify
+justified_by (command.on_matrix (command.judged judging)) = judging.justify
+justified_by task = None
 
 -- the file that a stage asks for
 abbrev pub file_of : Stage → Option File
 file_of usage = None
 file_of (source name action) = Some (source_named name)
-file_of (instrumented accepted) = None
+file_of (writes text accepted) = None
 file_of (tests run accepted) = Some (tests_named run.tests)
 file_of (left name other accepted) = Some (record_named name)
 file_of (right name accepted first) = Some (record_named name)
-file_of (kept name report accepted) = Some (record_named name)
+file_of (kept name judging accepted) = Some (record_named name)
 file_of (reasons name accepted basis) = Some (reasons_named name)
 file_of (last accepted basis js) = None
 file_of (merged both) = None
@@ -116,19 +110,19 @@ record_and name later = request_of (record_named name) ∷ later
 -- what is asked for after the source
 abbrev pub requests_of : Action → List Request
 requests_of (command.run run) = tests_and_reasons run
-requests_of command.instrument = []
+requests_of (command.write text) = []
 requests_of (command.merge name other) = record_and name (record_and other [])
-requests_of (command.analyse name report) = record_and name (reasons_of report.justify)
+requests_of (command.analyse name judging) = record_and name (reasons_of judging.justify)
 
 -- what a stage and those after it ask for, in order
 abbrev pub requests_left : Stage → List Request
 requests_left usage = []
 requests_left (source name action) = request_of (source_named name) ∷ requests_of action
-requests_left (instrumented accepted) = []
+requests_left (writes text accepted) = []
 requests_left (tests run accepted) = tests_and_reasons run
 requests_left (left name other accepted) = record_and name (record_and other [])
 requests_left (right name accepted first) = record_and name []
-requests_left (kept name report accepted) = record_and name (reasons_of report.justify)
+requests_left (kept name judging accepted) = record_and name (reasons_of judging.justify)
 requests_left (reasons name accepted basis) = request_of (reasons_named name) ∷ []
 requests_left (last accepted basis js) = []
 requests_left (merged both) = []
@@ -149,9 +143,9 @@ first_stage (Some (command.selfload count workers)) = load count workers
 -- the stage after the source
 abbrev pub after_source : Action → Accepted → Stage
 after_source (command.run run) accepted = tests run accepted
-after_source command.instrument accepted = instrumented accepted
+after_source (command.write text) accepted = writes text accepted
 after_source (command.merge name other) accepted = left name other accepted
-after_source (command.analyse name report) accepted = kept name report accepted
+after_source (command.analyse name judging) accepted = kept name judging accepted
 
 -- the stage after the tests, or after the record that stands in their place
 abbrev pub after_tests : Option (List ℕ) → Accepted → Basis → Stage
@@ -171,28 +165,28 @@ JudgesReasons accepted bytes =
     (λ fault. refusal JustificationsRefused (reasons_line fault))
 
 -- tests that are accepted lead to another stage, or to a refusal
-abbrev pub AfterPlans : Run → Accepted → List Plan → Result Stage Reply → Type 0
-AfterPlans run accepted plans =
-    Then (Allows run.task accepted plans)
-    (λ u v. v ≡ Ok (after_tests (justified_by run.task) accepted (tested run plans)))
+abbrev pub AfterPlans : Task → Accepted → List Plan → Result Stage Reply → Type 0
+AfterPlans task accepted plans =
+    Then (Allows task accepted plans)
+    (λ u v. v ≡ Ok (after_tests (justified_by task) accepted (tested task plans)))
 
 -- the bytes of the file that a stage asks for lead to another stage, or to a refusal
 abbrev pub Judges : Stage → List ℕ → Result Stage Reply → Type 0
 Judges usage bytes = λ verdict. ⊥
 Judges (source name action) bytes =
     Then (JudgesSource bytes) (λ accepted v. v ≡ Ok (after_source action accepted))
-Judges (instrumented accepted) bytes = λ verdict. ⊥
+Judges (writes text accepted) bytes = λ verdict. ⊥
 Judges (tests run accepted) bytes =
     Then (JudgesTests accepted.program run.fuel bytes)
-    (AfterPlans run accepted)
+    (AfterPlans run.task accepted)
 Judges (left name other accepted) bytes =
     Then (JudgesRecord accepted name bytes) (λ first v. v ≡ Ok (right other accepted first))
 Judges (right name accepted first) bytes =
     Then (JudgesRecord accepted name bytes) (λ second.
     Then (Joins first second) (λ both v. v ≡ Ok (merged both)))
-Judges (kept name report accepted) bytes =
+Judges (kept name judging accepted) bytes =
     Then (JudgesRecord accepted name bytes)
-    (λ found v. v ≡ Ok (after_tests report.justify accepted (recorded report found)))
+    (λ found v. v ≡ Ok (after_tests judging.justify accepted (recorded judging found)))
 Judges (reasons name accepted basis) bytes =
     Then (JudgesReasons accepted bytes) (λ js v. v ≡ Ok (last accepted basis js))
 Judges (last accepted basis js) bytes = λ verdict. ⊥
@@ -201,30 +195,40 @@ Judges (load count workers) bytes = λ verdict. ⊥
 
 -- ---- the end
 
--- what a command tells of the tests, whose matrix leaves out those that are skipped
+-- what is told of the matrix of the tests, which leaves out those that are skipped
+abbrev pub TellsOnMatrix : (skipped : List ℕ) → MatrixTask → Accepted → List Plan
+    → List Justification → Reply → Type 0
+TellsOnMatrix skipped (command.judged judging) accepted plans js =
+    JudgesRun skipped judging accepted plans js
+TellsOnMatrix skipped command.vectors accepted plans js = Lists skipped accepted plans
+TellsOnMatrix skipped command.recorded accepted plans js = Records skipped accepted plans
+TellsOnMatrix skipped (command.reduced mode) accepted plans js = Reduces skipped mode accepted plans
+
+-- what a task tells of the tests
 abbrev pub Tells : (skipped : List ℕ) → Task → Accepted → List Plan → List Justification → Reply
     → Type 0
-Tells skipped (command.report report) accepted plans js = Reports skipped report accepted plans js
-Tells skipped command.vectors accepted plans js = Lists skipped accepted plans
-Tells skipped command.recorded accepted plans js = Records skipped accepted plans
+Tells skipped (command.on_matrix task) accepted plans js =
+    TellsOnMatrix skipped task accepted plans js
 Tells skipped (command.watched looks) accepted plans js = Watches looks accepted plans
-Tells skipped (command.reduced mode) accepted plans js = Reduces skipped mode accepted plans
 Tells skipped command.mutated accepted plans js = Mutates accepted plans
-Tells skipped (command.listed listing) accepted plans js = Listing skipped listing accepted plans js
+
+-- the text that is made of a source alone
+abbrev pub Writes : SourceText → Accepted → Reply → Type 0
+Writes command.instrumented accepted = Instruments accepted
 
 -- the reply of a stage that asks for no file
 abbrev pub Ends : (skipped : List ℕ) → Stage → Reply → Type 0
 Ends skipped usage reply = reply ≡ refusal NoCommand usage_text
 Ends skipped (source name action) reply = ⊥
-Ends skipped (instrumented accepted) reply = Instruments accepted reply
+Ends skipped (writes text accepted) reply = Writes text accepted reply
 Ends skipped (tests run accepted) reply = ⊥
 Ends skipped (left name other accepted) reply = ⊥
 Ends skipped (right name accepted first) reply = ⊥
-Ends skipped (kept name report accepted) reply = ⊥
+Ends skipped (kept name judging accepted) reply = ⊥
 Ends skipped (reasons name accepted basis) reply = ⊥
-Ends skipped (last accepted (tested run plans) js) reply =
-    Tells skipped run.task accepted plans js reply
-Ends skipped (last accepted (recorded report found) js) reply =
-    Analyses report accepted found js reply
+Ends skipped (last accepted (tested task plans) js) reply =
+    Tells skipped task accepted plans js reply
+Ends skipped (last accepted (recorded judging found) js) reply =
+    Analyses judging accepted found js reply
 Ends skipped (merged both) reply = Merges both reply
 Ends skipped (load count workers) reply = LoadsItself skipped count reply

@@ -7,5 +7,4 @@ pub mod Analyse
 pub mod Instrument
 pub mod Selfload
 pub mod Reduce
-pub mod List
 pub mod Watch

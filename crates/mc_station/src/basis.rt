@@ -2,17 +2,20 @@
 
 use crate::opened::Opened;
 use decide_rules::Decision;
-use mc_command::{Report, Run};
+use mc_command::{Judging, MatrixTask};
 use mc_record::Record;
 use mc_typed::TestPlan;
 
-/// What the last stage of a command stands on, beside its source.
+/// What the last stage of a command stands on, beside its source. A number of workers stands before
+/// the tests that they share.
 #[derive(Drop)]
 pub enum Basis<'a> {
-    /// The tests of a run, and the shared words that it records in.
-    Tested(Run<'a>, Vec<TestPlan>, Opened),
-    /// The tests of a run, and the decisions on whose mutants they are tried.
-    Mutated(Run<'a>, Vec<TestPlan>, Vec<Decision>),
-    /// A record that is to be reported on.
-    Recorded(Report<'a>, Record),
+    /// What is told of the matrix of the tests, and the shared words that they record in.
+    Tested(MatrixTask<'a>, u32, Vec<TestPlan>, Opened),
+    /// How often the shared words are looked at while the tests run.
+    Watched(u32, u32, Vec<TestPlan>, Opened),
+    /// The decisions on whose mutants the tests are tried.
+    Mutated(u32, Vec<TestPlan>, Vec<Decision>),
+    /// A record, and how the obligations are judged by it.
+    Recorded(Judging<'a>, Record),
 }

@@ -2,6 +2,7 @@
 
 pub mod analyse;
 pub mod instrument;
+pub mod judge;
 pub mod list;
 pub mod merge;
 pub mod mutate;

@@ -1,19 +1,20 @@
 //! How a stage judges the bytes of the file that it asked for.
 ghost use Rattle.std.specs.Prelude.{◌≡◌, ◌≤◌, List, Result, Err, IfOk, length, option_map};
 ghost use Rattle.mc_tests.specs.Seen.{seen_plans};
-ghost use Rattle.mc_command.specs.Seen.{ActionIsInRange, RunIsInRange, seen_action, seen_run, seen_task};
-ghost use Rattle.mc_command.specs.declared.task.Task.TheVariants as task;
+ghost use Rattle.mc_command.specs.Command.{mutated, on_matrix, watched};
+ghost use Rattle.mc_command.specs.Seen.{ActionIsInRange, IsWithin, RunIsInRange, seen_action, seen_matrix_task, seen_run};
+ghost use Rattle.mc_command.specs.Values.{most_watched_workers};
 ghost use Rattle.mc_oblige.specs.declared.justification.Justification.{Justification};
 ghost use Rattle.mc_justify.specs.Faults.{Fault};
 ghost use Rattle.mc_justify.specs.Returned.{GivesFault};
-ghost use Rattle.mc_limits.specs.Limits.{most_fuel, most_source_bytes};
+ghost use Rattle.mc_limits.specs.Limits.{most_fuel, most_looks, most_source_bytes, most_workers};
 ghost use Rattle.station_replies.specs.Phases.{Reads};
 ghost use Rattle.station_replies.specs.Reply.{refusal};
 ghost use Rattle.station_replies.specs.Seen.{Gives};
 ghost use Rattle.station_replies.specs.declared.status.Status.TheVariants.{JustificationsRefused};
 ghost use Rattle.mc_station.specs.Justified.{reasons_line};
-ghost use Rattle.mc_station.specs.Seen.{AreMutable, ArePlanned, AreReasons, HasTokens, IsBasis, HasItsTree, IsOnProgram, IsOpened, IsReady, seen_accepted, seen_basis, seen_stage};
-ghost use Rattle.mc_station.specs.Stages.{AfterPlans, AsksUpTo, Judges, JudgesReasons, after_source, after_tests, justified_by, reasons, source, tested, tests};
+ghost use Rattle.mc_station.specs.Seen.{AreMutable, ArePlanned, AreReasons, HasTokens, IsBasis, HasItsTree, IsOpened, IsReady, seen_accepted, seen_basis, seen_stage};
+ghost use Rattle.mc_station.specs.Stages.{AfterPlans, AsksUpTo, Judges, JudgesReasons, after_source, justified_by, reasons, source, tests};
 ghost use Rattle.mc_station.specs.Tests.{MatrixFits, JudgesTests};
 ghost use Rattle.mc_station.specs.commands.Mutate.{FewMutants};
 
@@ -24,7 +25,7 @@ use crate::records::{after_kept, after_left, after_right};
 use crate::source::{decisions_again, judge_source};
 use crate::stage::{Stage, with_basis};
 use decide_rules::Decision;
-use mc_command::{Action, Run, Task};
+use mc_command::{Action, MatrixTask, Run, Task};
 use mc_core::Shape;
 use mc_cover::{OpenFault, open};
 use mc_justify::{JustifyFault, read_justifications};
@@ -103,9 +104,9 @@ fn with_source<'a>(action: Action<'a>, accepted: Accepted<'a>) -> Stage<'a>
 {
     match action {
         Action::Run(run) => Stage::Tests(run, accepted),
-        Action::Instrument => Stage::Instrumented(accepted),
+        Action::Write(text) => Stage::Writes(text, accepted),
         Action::Merge { left, right } => Stage::Left(left, right, accepted),
-        Action::Analyse { kept, report } => Stage::Kept(kept, report, accepted),
+        Action::Analyse { kept, judging } => Stage::Kept(kept, judging, accepted),
     }
 }
 
@@ -126,58 +127,66 @@ fn after_source<'a>(
     Ok(with_source(action, accepted))
 }
 
-// The name of the file of justifications that a command asks for.
-fn justified_by(task: Task<'_>) -> Option<&str>
-    ensures { option_map (λ name. name.now) result ≡ justified_by (seen_task task.entry) }
+// The name of the file of justifications that a task asks for.
+fn justified_by(task: MatrixTask<'_>) -> Option<&str>
+    ensures { option_map (λ name. name.now) result
+        ≡ justified_by (on_matrix (seen_matrix_task task.entry)) }
 {
     match task {
-        Task::Report(report) => report.justify,
-        Task::List(listing) => listing.justify,
-        Task::Vectors | Task::Record | Task::Watch { .. } | Task::Reduce { .. } | Task::Mutate =>
-            None,
+        MatrixTask::Judge(judging) => judging.justify,
+        MatrixTask::Vectors | MatrixTask::Record | MatrixTask::Reduce { .. } => None,
     }
 }
 
-// The stage after tests that are run on the program, for which there are shared words.
-fn with_opened<'a>(
-    alloc: Global,
-    run: Run<'a>,
-    accepted: Accepted<'a>,
-    plans: Vec<TestPlan>,
-    opened: Opened,
-) -> Stage<'a>
-    requires range { RunIsInRange run }
-    requires task { IsOnProgram run.task }
-    requires instrumented { HasItsTree accepted }
-    requires planned { ArePlanned accepted plans.items }
-    requires opened { IsOpened accepted plans.items opened }
-    ensures stage { seen_stage result ≡ after_tests (justified_by (seen_run run.entry).task)
-        (seen_accepted accepted.entry) (tested (seen_run run.entry) (seen_plans plans.items)) }
-    ensures ready { IsReady result }
-{
-    let name = justified_by(run.task);
-    with_basis(alloc, name, accepted, Basis::Tested(run, plans, opened))
-}
-
-// The stage after tests that are run on the program, where their matrix fits.
-#[tactic(auto, using(crate::proofs::Allowing::matrix_allows))]
+// The stage after tests whose matrix is told of, where it fits.
 fn with_matrix<'a>(
     alloc: Global,
-    run: Run<'a>,
+    task: MatrixTask<'a>,
+    workers: u32,
     accepted: Accepted<'a>,
     plans: Vec<TestPlan>,
 ) -> Result<Stage<'a>, Stop<'a>>
-    requires range { RunIsInRange run }
-    requires task { IsOnProgram run.task }
+    requires workers { IsWithin 1 most_workers workers }
     requires instrumented { HasItsTree accepted }
     requires planned { ArePlanned accepted plans.items }
-    ensures judges { Gives seen_stage
-        (AfterPlans (seen_run run.entry) (seen_accepted accepted.entry) (seen_plans plans.items))
-        result }
+    ensures judges { Gives seen_stage (AfterPlans (on_matrix (seen_matrix_task task.entry))
+        (seen_accepted accepted.entry) (seen_plans plans.items)) result }
     ensures ready { IfOk result IsReady }
 {
     match open_for(alloc, &accepted, &plans) {
-        Ok(opened) => Ok(with_opened(alloc, run, accepted, plans, opened)),
+        Ok(opened) => {
+            let name = justified_by(task);
+            let basis = Basis::Tested(task, workers, plans, opened);
+            Ok(with_basis(alloc, name, accepted, basis))
+        }
+        Err(stop) => {
+            drop(accepted);
+            Err(stop)
+        }
+    }
+}
+
+// The stage after tests whose matrix is looked at while they run, where it fits.
+fn with_looks<'a>(
+    alloc: Global,
+    looks: u32,
+    workers: u32,
+    accepted: Accepted<'a>,
+    plans: Vec<TestPlan>,
+) -> Result<Stage<'a>, Stop<'a>>
+    requires looks { IsWithin 1 most_looks looks }
+    requires workers { IsWithin 1 most_watched_workers workers }
+    requires instrumented { HasItsTree accepted }
+    requires planned { ArePlanned accepted plans.items }
+    ensures judges { Gives seen_stage (AfterPlans (watched looks)
+        (seen_accepted accepted.entry) (seen_plans plans.items)) result }
+    ensures ready { IfOk result IsReady }
+{
+    match open_for(alloc, &accepted, &plans) {
+        Ok(opened) => {
+            let basis = Basis::Watched(looks, workers, plans, opened);
+            Ok(with_basis(alloc, None, accepted, basis))
+        }
         Err(stop) => {
             drop(accepted);
             Err(stop)
@@ -186,26 +195,23 @@ fn with_matrix<'a>(
 }
 
 // The stage after tests that are tried on the mutants of the program, where these are few enough.
-#[tactic(auto, using(crate::proofs::Allowing::mutants_allow, crate::proofs::Allowing::none_justified))]
 fn with_mutants<'a>(
     alloc: Global,
-    run: Run<'a>,
+    workers: u32,
     accepted: Accepted<'a>,
     plans: Vec<TestPlan>,
 ) -> Result<Stage<'a>, Stop<'a>>
-    requires range { RunIsInRange run }
-    requires task { run.task ≡ task.Mutate }
+    requires workers { IsWithin 1 most_workers workers }
     requires instrumented { HasItsTree accepted }
     requires planned { ArePlanned accepted plans.items }
-    ensures judges { Gives seen_stage
-        (AfterPlans (seen_run run.entry) (seen_accepted accepted.entry) (seen_plans plans.items))
-        result }
+    ensures judges { Gives seen_stage (AfterPlans mutated
+        (seen_accepted accepted.entry) (seen_plans plans.items)) result }
     ensures ready { IfOk result IsReady }
 {
     match few_mutants(alloc, &accepted) {
         Ok(decisions) => {
-            let basis = Basis::Mutated(run, plans, decisions);
-            Ok(Stage::Last(accepted, basis, Vec::new(alloc)))
+            let basis = Basis::Mutated(workers, plans, decisions);
+            Ok(with_basis(alloc, None, accepted, basis))
         }
         Err(stop) => {
             drop(accepted);
@@ -224,19 +230,14 @@ fn with_plans<'a>(
     requires range { RunIsInRange run }
     requires instrumented { HasItsTree accepted }
     requires planned { ArePlanned accepted plans.items }
-    ensures judges { Gives seen_stage
-        (AfterPlans (seen_run run.entry) (seen_accepted accepted.entry) (seen_plans plans.items))
-        result }
+    ensures judges { Gives seen_stage (AfterPlans (seen_run run.entry).task
+        (seen_accepted accepted.entry) (seen_plans plans.items)) result }
     ensures ready { IfOk result IsReady }
 {
     match run.task {
-        Task::Mutate => with_mutants(alloc, run, accepted, plans),
-        Task::Report(_)
-        | Task::Vectors
-        | Task::Record
-        | Task::Watch { .. }
-        | Task::Reduce { .. }
-        | Task::List(_) => with_matrix(alloc, run, accepted, plans),
+        Task::OnMatrix(task) => with_matrix(alloc, task, run.workers, accepted, plans),
+        Task::Watch { looks } => with_looks(alloc, looks, run.workers, accepted, plans),
+        Task::Mutate => with_mutants(alloc, run.workers, accepted, plans),
     }
 }
 
@@ -344,14 +345,11 @@ pub fn judge<'a>(alloc: Global, stage: Stage<'a>, bytes: &'a [u8]) -> Result<Sta
         Stage::Tests(run, accepted) => after_tests(alloc, run, accepted, bytes),
         Stage::Left(name, other, accepted) => after_left(alloc, name, other, accepted, bytes),
         Stage::Right(name, accepted, first) => after_right(alloc, name, accepted, first, bytes),
-        Stage::Kept(name, report, accepted) => after_kept(alloc, name, report, accepted, bytes),
+        Stage::Kept(name, judging, accepted) => after_kept(alloc, name, judging, accepted, bytes),
         Stage::Reasons(name, accepted, basis) => {
             after_reasons(alloc, name, accepted, basis, bytes)
         }
-        Stage::Usage
-        | Stage::Instrumented(_)
-        | Stage::Last(..)
-        | Stage::Merged(..)
-        | Stage::Load(..) => unreachable!(),
+        Stage::Usage | Stage::Writes(..) | Stage::Last(..) | Stage::Merged(..) | Stage::Load(..) =>
+            unreachable!(),
     }
 }

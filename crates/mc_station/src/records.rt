@@ -1,6 +1,6 @@
 //! How the stages of records judge the bytes of their files.
 ghost use Rattle.std.specs.Prelude.{◌≡◌, ◌↔◌, IfOk, IsTrue, Result, Err};
-ghost use Rattle.mc_command.specs.Seen.{seen_report};
+ghost use Rattle.mc_command.specs.Seen.{seen_judging};
 ghost use Rattle.mc_record.specs.Kept.{IsKept, Kept};
 ghost use Rattle.mc_record.specs.Merged.{pair_fault};
 ghost use Rattle.mc_record.specs.Seen.{kept_of};
@@ -21,7 +21,7 @@ use crate::basis::Basis;
 use crate::digest::digest_of;
 use crate::stage::{Stage, with_basis};
 use crate::words::words_fit;
-use mc_command::Report;
+use mc_command::Judging;
 use mc_cond::is_short;
 use mc_record::{PairFault, Record, RecordFault, merge_records, read_record};
 use station_replies::{Refusal, Stop};
@@ -158,23 +158,23 @@ pub fn after_right<'a>(
     Ok(Stage::Merged(both))
 }
 
-/// The stage after a record that is to be reported on.
+/// The stage after a record by which the obligations are judged.
 pub fn after_kept<'a>(
     alloc: Global,
     name: &'a str,
-    report: Report<'a>,
+    judging: Judging<'a>,
     accepted: Accepted<'a>,
     bytes: &[u8],
 ) -> Result<Stage<'a>, Stop<'a>>
     requires { HasItsTree accepted }
-    ensures judges { Gives seen_stage (Judges (kept name.now (seen_report report.entry)
+    ensures judges { Gives seen_stage (Judges (kept name.now (seen_judging judging.entry)
         (seen_accepted accepted.entry)) bytes.now) result }
     ensures ready { IfOk result IsReady }
 {
     match judge_record(alloc, &accepted, name, bytes) {
         Ok(found) => {
-            let basis = Basis::Recorded(report, found);
-            Ok(with_basis(alloc, report.justify, accepted, basis))
+            let basis = Basis::Recorded(judging, found);
+            Ok(with_basis(alloc, judging.justify, accepted, basis))
         }
         Err(stop) => {
             drop(accepted);

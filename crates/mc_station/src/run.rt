@@ -1,7 +1,7 @@
 //! The one function that sees the store.
 ghost use Rattle.std.specs.Prelude.{◌≡◌, ◌≢◌, ◌≤◌, IfOk, length};
 ghost use Rattle.mc_port.specs.Causes.{Rose};
-ghost use Rattle.station_replies.specs.Seen.{outcome_of};
+ghost use Rattle.mc_station.specs.Replied.{outcome_of};
 ghost use Rattle.station_replies.specs.declared.status.Status.TheVariants.{CannotRead, OutOfMemory};
 ghost use Rattle.mc_station.specs.Calls.{Leads};
 ghost use Rattle.mc_station.specs.Seen.{IsReady, seen_stage};
@@ -9,10 +9,11 @@ ghost use Rattle.mc_station.specs.Stages.{requests_left};
 
 use crate::judge::judge;
 use crate::means::Means;
+use crate::reply::Reply;
 use crate::stage::Stage;
 use mc_cover::Closer;
 use mc_port::{Gate, LoadFault, Store};
-use station_replies::{Refusal, Reply};
+use station_replies::Refusal;
 use std::alloc::{AllocError, Global};
 use std::thread::Threads;
 

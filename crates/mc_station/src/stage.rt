@@ -2,12 +2,13 @@
 ghost use Rattle.std.specs.Prelude.{◌≡◌, None, IfOk, option_map};
 ghost use Rattle.mc_command.specs.Command.{command_of};
 ghost use Rattle.mc_command.specs.Line.{words_of};
-ghost use Rattle.mc_command.specs.Seen.{RunIsInRange, seen_run};
+ghost use Rattle.mc_command.specs.Seen.{IsWithin, seen_matrix_task, seen_source_text};
+ghost use Rattle.mc_limits.specs.Limits.{most_workers};
 ghost use Rattle.mc_tests.specs.Seen.{seen_plans};
-ghost use Rattle.station_replies.specs.Seen.{seen_file, seen_reply};
-ghost use Rattle.mc_station.specs.Looked.{IsOnMatrix};
-ghost use Rattle.mc_station.specs.Seen.{ArePlanned, AreReasons, IsBasis, HasItsTree, IsOnProgram, IsOpened, IsReady, seen_accepted, seen_basis, seen_stage};
-ghost use Rattle.mc_station.specs.Stages.{Ends, Tells, after_tests, file_of, first_stage, last};
+ghost use Rattle.station_replies.specs.Seen.{seen_file};
+ghost use Rattle.mc_station.specs.Replied.{seen_reply};
+ghost use Rattle.mc_station.specs.Seen.{ArePlanned, AreReasons, IsBasis, HasItsTree, HasTokens, IsOpened, IsReady, seen_accepted, seen_basis, seen_stage};
+ghost use Rattle.mc_station.specs.Stages.{Ends, TellsOnMatrix, Writes, after_tests, file_of, first_stage, last};
 
 use crate::accepted::Accepted;
 use crate::basis::Basis;
@@ -20,14 +21,15 @@ use crate::commands::watch::watch;
 use crate::means::Means;
 use crate::opened::Opened;
 use crate::ran::run_all;
+use crate::reply::Reply;
 use crate::told::tell;
-use mc_command::{Action, Command, Report, Run, Task, read_command};
+use mc_command::{Action, Command, Judging, MatrixTask, Run, SourceText, read_command};
 use mc_cover::Closer;
 use mc_oblige::Justification;
 use mc_port::Gate;
 use mc_record::Record;
 use mc_typed::TestPlan;
-use station_replies::{File, FileKind, Reply, Status, usage_text};
+use station_replies::{File, FileKind, Status, usage_text};
 use std::alloc::{AllocError, Global};
 use std::thread::Threads;
 
@@ -38,16 +40,16 @@ pub enum Stage<'a> {
     Usage,
     /// The source of this name is asked for.
     Source(&'a str, Action<'a>),
-    /// The source is accepted, and no other file is asked for.
-    Instrumented(Accepted<'a>),
+    /// The source is accepted, and a text is made of it alone.
+    Writes(SourceText, Accepted<'a>),
     /// The source is accepted, and the tests file is asked for.
     Tests(Run<'a>, Accepted<'a>),
     /// The source is accepted, and the first of two records is asked for.
     Left(&'a str, &'a str, Accepted<'a>),
     /// The first one is accepted, and the second one, of this name, is asked for.
     Right(&'a str, Accepted<'a>, Record),
-    /// The source is accepted, and the record that is to be reported on is asked for.
-    Kept(&'a str, Report<'a>, Accepted<'a>),
+    /// The source is accepted, and the record by which it is judged is asked for.
+    Kept(&'a str, Judging<'a>, Accepted<'a>),
     /// What goes before is accepted, and the file of justifications of this name is asked for.
     Reasons(&'a str, Accepted<'a>, Basis<'a>),
     /// All files are accepted.
@@ -90,60 +92,31 @@ pub fn first_stage<'a>(alloc: Global, line: &'a [&'a str]) -> Result<Stage<'a>, 
     }
 }
 
-// What the command of a run tells of its tests once all of them have run.
+// What a task tells of the matrix of its tests once all of them have run.
 fn tested<'a, R: Threads + Sync, G: Gate, C: Closer>(
     alloc: Global,
     means: Means<'_, R, G, C>,
-    run: Run<'_>,
+    task: MatrixTask<'_>,
+    workers: u32,
     accepted: Accepted<'a>,
     plans: &[TestPlan],
     opened: Opened,
     justifications: &[Justification],
 ) -> Result<Reply<'a>, AllocError>
-    requires range { RunIsInRange run }
-    requires task { IsOnMatrix run.task }
+    requires workers { IsWithin 1 most_workers workers }
     requires instrumented { HasItsTree accepted }
     requires planned { ArePlanned accepted plans.now }
     requires opened { IsOpened accepted plans.now opened }
     requires reasons { AreReasons accepted justifications.now }
-    ensures { IfOk result (λ reply. Tells (C.skipped means.entry.closer.now)
-        (seen_run run.entry).task (seen_accepted accepted.entry) (seen_plans plans.now)
+    ensures { IfOk result (λ reply. TellsOnMatrix (C.skipped means.entry.closer.now)
+        (seen_matrix_task task.entry) (seen_accepted accepted.entry) (seen_plans plans.now)
         justifications.now (seen_reply reply)) }
 {
-    match run_all(alloc, means, run.workers, &accepted, plans, opened) {
-        Ok(ran) => tell(alloc, run.task, accepted, plans, ran, justifications),
+    match run_all(alloc, means, workers, &accepted, plans, opened) {
+        Ok(ran) => tell(alloc, task, accepted, plans, ran, justifications),
         Err(error) => {
             drop(accepted);
             Err(error)
-        }
-    }
-}
-
-// What the command of a run tells of its tests.
-fn run_for<'a, R: Threads + Sync, G: Gate, C: Closer>(
-    alloc: Global,
-    means: Means<'_, R, G, C>,
-    run: Run<'_>,
-    accepted: Accepted<'a>,
-    plans: &[TestPlan],
-    opened: Opened,
-    justifications: &[Justification],
-) -> Result<Reply<'a>, AllocError>
-    requires range { RunIsInRange run }
-    requires task { IsOnProgram run.task }
-    requires instrumented { HasItsTree accepted }
-    requires planned { ArePlanned accepted plans.now }
-    requires opened { IsOpened accepted plans.now opened }
-    requires reasons { AreReasons accepted justifications.now }
-    ensures { IfOk result (λ reply. Tells (C.skipped means.entry.closer.now)
-        (seen_run run.entry).task (seen_accepted accepted.entry) (seen_plans plans.now)
-        justifications.now (seen_reply reply)) }
-{
-    match run.task {
-        Task::Watch { looks } => watch(alloc, means, run.workers, looks, accepted, plans, opened),
-        Task::Mutate => unreachable!(),
-        Task::Report(_) | Task::Vectors | Task::Record | Task::Reduce { .. } | Task::List(_) => {
-            tested(alloc, means, run, accepted, plans, opened, justifications)
         }
     }
 }
@@ -164,13 +137,41 @@ fn finished<'a, R: Threads + Sync, G: Gate, C: Closer>(
         (seen_reply reply)) }
 {
     match basis {
-        Basis::Tested(run, plans, opened) => {
-            run_for(alloc, means, run, accepted, &plans, opened, justifications)
+        Basis::Tested(task, workers, plans, opened) => {
+            tested(
+                alloc,
+                means,
+                task,
+                workers,
+                accepted,
+                &plans,
+                opened,
+                justifications,
+            )
         }
-        Basis::Mutated(run, plans, decisions) => {
-            mutate(alloc, means, run.workers, accepted, &plans, &decisions)
+        Basis::Watched(looks, workers, plans, opened) => {
+            watch(alloc, means, workers, looks, accepted, &plans, opened)
+        }
+        Basis::Mutated(workers, plans, decisions) => {
+            mutate(alloc, means, workers, accepted, &plans, &decisions)
         }
         Basis::Recorded(asked, kept) => analyse(alloc, asked, accepted, kept, justifications),
+    }
+}
+
+// The text that is made of an accepted source alone.
+fn write<'a>(
+    alloc: Global,
+    text: SourceText,
+    accepted: Accepted<'a>,
+) -> Result<Reply<'a>, AllocError>
+    requires instrumented { HasItsTree accepted }
+    requires tokens { HasTokens accepted }
+    ensures { IfOk result (λ reply.
+        Writes (seen_source_text text) (seen_accepted accepted.entry) (seen_reply reply)) }
+{
+    match text {
+        SourceText::Instrumented => instrument(alloc, accepted),
     }
 }
 
@@ -197,7 +198,7 @@ impl<'a> Stage<'a> {
                 name,
             }),
             Stage::Usage
-            | Stage::Instrumented(_)
+            | Stage::Writes(..)
             | Stage::Last(..)
             | Stage::Merged(..)
             | Stage::Load(..) => None,
@@ -220,7 +221,7 @@ impl<'a> Stage<'a> {
                 let text = usage_text(alloc)?;
                 Ok(Reply::of_text(alloc, Status::NoCommand, text))
             }
-            Stage::Instrumented(accepted) => instrument(alloc, accepted),
+            Stage::Writes(text, accepted) => write(alloc, text, accepted),
             Stage::Last(accepted, basis, justifications) => {
                 finished(alloc, means, accepted, basis, &justifications)
             }

@@ -5,18 +5,19 @@ ghost use Rattle.mc_port.specs.Sink.{Puts};
 ghost use Rattle.mc_station.specs.Calls.{CallsFor, IsKnown, LeadsTo, call_of};
 ghost use Rattle.mc_station.specs.Outcome.{PutPart, PutWhole, Told, ToldPart};
 ghost use Rattle.station_replies.specs.Reply.{Reply as CalledFor};
-ghost use Rattle.station_replies.specs.Seen.{outcome_of, seen_reply};
+ghost use Rattle.mc_station.specs.Replied.{outcome_of, seen_reply};
 ghost use Rattle.station_replies.specs.Status.{number_of};
 ghost use Rattle.station_replies.specs.declared.status.Status.TheVariants.{CannotRead, OutOfMemory};
 
 use crate::laws::one_reply;
 use crate::means::Means;
+use crate::reply::Reply;
 use crate::run::run;
 use crate::stage::first_stage;
 use mc_command::line_of;
 use mc_cover::Closer;
 use mc_port::{Gate, PutFault, Sink, Store, Words};
-use station_replies::{Reply, Status};
+use station_replies::Status;
 use std::alloc::{AllocError, Global};
 use std::thread::Threads;
 

@@ -1,12 +1,5 @@
 -- Replies: a status, the text for the errors' sink, and the lines for the output's.
-use Rattle.std.specs.Prelude.{ℕ, List, [], ◌∷◌}
-use Rattle.mc_lex.specs.Tokens.{Tok}
-use Rattle.mc_list.specs.Listing.{listing}
-use Rattle.mc_oblige.specs.declared.obligation.Obligation.{Obligation}
-use Rattle.mc_oblige.specs.declared.verdict.Verdict.{Verdict}
-use Rattle.mc_print.specs.Pens.{spaced}
-use Rattle.mc_print.specs.Texts.{text_of}
-use Rattle.mc_probe.specs.Tree.{Tree}
+use Rattle.std.specs.Prelude.{ℕ, List, []}
 use Rattle.station_replies.specs.Files.{File, limit_of, status_of}
 use Rattle.station_replies.specs.Texts.{cannot_read_line, longer_line}
 use Rattle.station_replies.specs.Status.{status_written}
@@ -21,15 +14,6 @@ pub record Reply : Type 0 where
 -- all was written; the number is 0, or 1 where the text says that something is missing
 abbrev pub written : ℕ → List (List ℕ) → Reply
 written number lines = record { status = status_written number; diag = []; out = lines }
-
--- the text of an instrumented program, as one piece: the tokens of its source with what the probes
--- insert, and a blank or the end of a line after each
-abbrev pub program_pieces : List Tok → Tree → List (List ℕ)
-program_pieces tokens tree = spaced (text_of tokens tree) ∷ []
-
--- the listing of a source with the verdicts on its obligations, as one piece
-abbrev pub listing_pieces : List ℕ → List Obligation → List Verdict → List (List ℕ)
-listing_pieces source os vs = listing source os vs ∷ []
 
 abbrev pub refusal : Status → List ℕ → Reply
 refusal status line = record { status = status; diag = line; out = [] }

@@ -1,23 +1,14 @@
--- What clauses see of files, refusals and replies.
-use Rattle.std.specs.Prelude.{◌≡◌, ℕ, List, Result, Ok, Err, ⊤}
-use Rattle.std.specs.declared.alloc.AllocError.{AllocError}
+-- What clauses see of files and refusals.
+use Rattle.std.specs.Prelude.{◌≡◌, Result, Ok, Err, ⊤}
 use Rattle.subset_forms.specs.Names.{name_of}
-use Rattle.mc_lex.specs.Tokens.{toks_of}
-use Rattle.mc_port.specs.Lines.{bytes_of}
-use Rattle.mc_probe.specs.Trees.{tree_of}
-use Rattle.mc_record.specs.Lines.{record_lines}
-use Rattle.mc_record.specs.Seen.{kept_of}
 use Rattle.station_replies.specs.Files.{File as AskedFile}
-use Rattle.station_replies.specs.Reply.{Reply as CalledFor, listing_pieces, longer, out_of_memory, program_pieces, refusal}
+use Rattle.station_replies.specs.Reply.{Reply as CalledFor, longer, refusal}
 use Rattle.station_replies.specs.Texts.{bits_line, entry_line, form_line, justifications_line, kept_line, many_line, many_tests_line, matrix_line, mutants_line, place_line, quote_line, same_test_line, tests_line}
 use Rattle.station_replies.specs.declared.file.File.{File}
-use Rattle.station_replies.specs.declared.output.Output.{Output}
-use Rattle.station_replies.specs.declared.output.Output.TheVariants as output
 use Rattle.station_replies.specs.declared.refusal.Refusal.{Refusal}
 use Rattle.station_replies.specs.declared.refusal.Refusal.TheVariants as why
 use Rattle.station_replies.specs.declared.stop.Stop.{Stop}
 use Rattle.station_replies.specs.declared.stop.Stop.TheVariants as stop
-use Rattle.station_replies.specs.declared.reply.Reply.{Reply}
 use Rattle.station_replies.specs.declared.status.Status.TheVariants.{SourceRefused, TestsRefused, JustificationsRefused, TooLarge, TooManyMutants}
 
 abbrev pub seen_file : File → AskedFile
@@ -50,21 +41,6 @@ reply_to (why.TooManyMutants count) = refusal TooManyMutants (mutants_line count
 abbrev pub IsReplyTo : Stop → CalledFor → Type 0
 IsReplyTo (stop.Refused refusal) reply = reply ≡ reply_to refusal
 IsReplyTo stop.OutOfMemory reply = ⊥
-
--- the pieces that are put on the output
-abbrev pub pieces_of : Output → List (List ℕ)
-pieces_of (output.Lines lines) = bytes_of lines.items
-pieces_of (output.Record writable) = record_lines (kept_of writable.kept)
-pieces_of (output.Program p) = program_pieces (toks_of p.tokens.items) (tree_of p.tree)
-pieces_of (output.Listing l) = listing_pieces l.source.now l.obligations.items l.verdicts.items
-
--- a reply of the program; where there is none, memory did not suffice
-abbrev pub seen_reply : Reply → CalledFor
-seen_reply r = record { status = r.status; diag = r.diag.items; out = pieces_of r.out }
-
-abbrev pub outcome_of : Result Reply AllocError → CalledFor
-outcome_of (Ok reply) = seen_reply reply
-outcome_of (Err e) = out_of_memory
 
 -- a phase holds of what a function gives, of the reply where it refuses; out of memory says nothing
 abbrev pub Gives : {A B : Type 0} → (A → B) → (Result B CalledFor → Type 0) → Result A Stop → Type 0

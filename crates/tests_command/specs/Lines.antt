@@ -1,10 +1,10 @@
 -- Worked lines of words, and the commands that they are.
 use Rattle.std.specs.Prelude.{◌≡◌, ℕ, List, [], ◌∷◌, Option, Some, None, if◌then◌else◌, ◌==◌, ⊤, codes}
-use Rattle.mc_command.specs.Command.{Command, Task, analyse, command_of, on_source, report, run, vectors}
-use Rattle.mc_command.specs.declared.form.Form.{Form}
-use Rattle.mc_command.specs.declared.form.Form.TheVariants.{Text}
-use Rattle.mc_command.specs.declared.independence.Independence.{Independence}
-use Rattle.mc_command.specs.declared.independence.Independence.TheVariants.{UniqueCause}
+use Rattle.mc_command.specs.Command.{Command, MatrixTask, Task, analyse, command_of, judged, on_matrix, on_source, report, run, vectors}
+use Rattle.report_options.specs.declared.form.Form.{Form}
+use Rattle.report_options.specs.declared.form.Form.TheVariants.{Text}
+use Rattle.report_options.specs.declared.mode.Mode.{Mode}
+use Rattle.report_options.specs.declared.mode.Mode.TheVariants.{Unique}
 
 -- this byte before the words of a text; 32 is a blank
 abbrev pub byte_before : ℕ → List (List ℕ) → List (List ℕ)
@@ -40,30 +40,34 @@ run_by source tests workers fuel task =
 abbrev pub run_of : List ℕ → List ℕ → ℕ → Task → Command
 run_of source tests fuel task = run_by source tests 4 fuel task
 
-abbrev pub report_by : Independence → Form → Option (List ℕ) → ℕ → Command
-report_by mode form justify fuel = run_of (codes "a.c") (codes "a.csv") fuel
-    (report (record { mode = mode; form = form; justify = justify }))
+-- what is told of the matrix of the tests `a.csv` of the source `a.c`
+abbrev pub matrix_of : ℕ → MatrixTask → Command
+matrix_of fuel task = run_of (codes "a.c") (codes "a.csv") fuel (on_matrix task)
+
+abbrev pub report_by : Mode → Form → Option (List ℕ) → ℕ → Command
+report_by mode form justify fuel = matrix_of fuel
+    (judged (record { mode = mode; justify = justify; telling = report form }))
 
 -- a report in text without justifications
-abbrev pub plain_report : Independence → ℕ → Command
+abbrev pub plain_report : Mode → ℕ → Command
 plain_report mode fuel = report_by mode Text None fuel
 
 -- a report with the justifications of a file
 abbrev pub justified_by : List ℕ → Command
-justified_by name = report_by UniqueCause Text (Some name) 1000000
+justified_by name = report_by Unique Text (Some name) 1000000
 
 -- a report of the record `a.rec`
-abbrev pub analysis : Independence → Form → Option (List ℕ) → Command
+abbrev pub analysis : Mode → Form → Option (List ℕ) → Command
 analysis mode form justify = on_source (codes "a.c")
-    (analyse (codes "a.rec") (record { mode = mode; form = form; justify = justify }))
+    (analyse (codes "a.rec") (record { mode = mode; justify = justify; telling = report form }))
 
 abbrev pub vectors_by : ℕ → Command
-vectors_by fuel = run_of (codes "a.c") (codes "a.csv") fuel vectors
+vectors_by fuel = matrix_of fuel vectors
 
 -- the vectors, found by so many workers
 abbrev pub vectors_shared : (workers fuel : ℕ) → Command
-vectors_shared workers fuel = run_by (codes "a.c") (codes "a.csv") workers fuel vectors
+vectors_shared workers fuel = run_by (codes "a.c") (codes "a.csv") workers fuel (on_matrix vectors)
 
 -- the vectors of these files
 abbrev pub vectors_of : List ℕ → List ℕ → Command
-vectors_of source tests = run_of source tests 1000000 vectors
+vectors_of source tests = run_of source tests 1000000 (on_matrix vectors)

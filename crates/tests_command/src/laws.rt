@@ -3,15 +3,15 @@
 #![tactic(auto, unfolding(mc_command::specs::Command::command_of, clap::proofs::OnLiterals::clap_on_literals))]
 
 ghost use Rattle.std.specs.Prelude.{◌∷◌, [], None, Some, codes};
-ghost use Rattle.mc_command.specs.Command.{instrument, listed, merge, mutated, on_source, recorded, reduced, selfload, vectors, watched};
-ghost use Rattle.mc_command.specs.declared.form.Form.TheVariants.{Csv, Json, Text};
-ghost use Rattle.mc_command.specs.declared.independence.Independence.TheVariants.{UniqueCause, Masking};
-ghost use Rattle.tests_command.specs.Lines.{AreAll, Is, analysis, justified_by, plain_report, report_by, run_by, run_of, vectors_by, vectors_of, vectors_shared};
+ghost use Rattle.mc_command.specs.Command.{instrumented, judged, listing, merge, mutated, on_matrix, on_source, recorded, reduced, selfload, vectors, watched, write};
+ghost use Rattle.report_options.specs.declared.form.Form.TheVariants.{Csv, Json, Text};
+ghost use Rattle.report_options.specs.declared.mode.Mode.TheVariants.{Masking, Unique};
+ghost use Rattle.tests_command.specs.Lines.{AreAll, Is, analysis, justified_by, matrix_of, plain_report, report_by, run_by, run_of, vectors_by, vectors_of, vectors_shared};
 
 /// Without options independence is unique cause, the form text, and the fuel 1,000,000; 4 workers
 /// share the tests.
 pub fn defaults()
-    ensures report { Is (codes "report a.c a.csv") (plain_report UniqueCause 1000000) }
+    ensures report { Is (codes "report a.c a.csv") (plain_report Unique 1000000) }
     ensures vectors { Is (codes "vectors a.c a.csv") (vectors_by 1000000) }
 {}
 
@@ -38,12 +38,12 @@ pub fn places_of_options()
 
 /// The values of options.
 pub fn values()
-    ensures unique { Is (codes "report a.c a.csv --mode unique") (plain_report UniqueCause 1000000) }
-    ensures text { Is (codes "report a.c a.csv --format text") (plain_report UniqueCause 1000000) }
+    ensures unique { Is (codes "report a.c a.csv --mode unique") (plain_report Unique 1000000) }
+    ensures text { Is (codes "report a.c a.csv --format text") (plain_report Unique 1000000) }
     ensures csv { Is (codes "report a.c a.csv --format csv")
-        (report_by UniqueCause Csv None 1000000) }
+        (report_by Unique Csv None 1000000) }
     ensures json { Is (codes "report a.c a.csv --format json")
-        (report_by UniqueCause Json None 1000000) }
+        (report_by Unique Json None 1000000) }
     ensures one_worker { Is (codes "vectors a.c a.csv --workers 1") (vectors_shared 1 1000000) }
     ensures most_workers { Is (codes "vectors a.c a.csv --workers 64")
         (vectors_shared 64 1000000) }
@@ -72,16 +72,16 @@ pub fn names_of_files()
     ensures separated { AreAll (vectors_by 1000000) (codes "vectors -- a.c a.csv"
         ∷ codes "vectors a.c -- a.csv" ∷ codes "vectors a.c a.csv --" ∷ []) }
     ensures options { Is (codes "vectors --fuel 8 -- -a.c --fuel")
-        (run_of (codes "-a.c") (codes "--fuel") 8 vectors) }
+        (run_of (codes "-a.c") (codes "--fuel") 8 (on_matrix vectors)) }
 {}
 
 /// The commands other than `report` and `vectors`.
 pub fn other_commands()
-    ensures recorded { AreAll (run_of (codes "a.c") (codes "a.csv") 8 recorded)
+    ensures recorded { AreAll (matrix_of 8 recorded)
         (codes "record a.c a.csv --fuel 8" ∷ codes "record --fuel=8 a.c a.csv" ∷ []) }
     ensures recorded_by_two { Is (codes "record a.c a.csv --workers 2 --fuel 8")
-        (run_by (codes "a.c") (codes "a.csv") 2 8 recorded) }
-    ensures instrument { AreAll (on_source (codes "a.c") instrument)
+        (run_by (codes "a.c") (codes "a.csv") 2 8 (on_matrix recorded)) }
+    ensures instrument { AreAll (on_source (codes "a.c") (write instrumented))
         (codes "instrument a.c" ∷ codes "instrument -- a.c" ∷ codes "instrument a.c --" ∷ []) }
     ensures merge { Is (codes "merge a.c a.rec b.rec")
         (on_source (codes "a.c") (merge (codes "a.rec") (codes "b.rec"))) }
@@ -99,11 +99,11 @@ pub fn commands_of_testers()
         ∷ codes "watch --looks=100 --workers=63 --fuel=8 -- a.c a.csv" ∷ []) }
     ensures watched_least { Is (codes "watch a.c a.csv --workers 1 --fuel 8 --looks 1")
         (run_by (codes "a.c") (codes "a.csv") 1 8 (watched 1)) }
-    ensures reduced { AreAll (run_of (codes "a.c") (codes "a.csv") 8 (reduced UniqueCause))
+    ensures reduced { AreAll (matrix_of 8 (reduced Unique))
         (codes "reduce a.c a.csv --fuel 8" ∷ codes "reduce a.c a.csv --mode unique --fuel 8"
         ∷ []) }
     ensures reduced_by_masking { Is (codes "reduce --mode=masking a.c a.csv --workers 64 --fuel 8")
-        (run_by (codes "a.c") (codes "a.csv") 64 8 (reduced Masking)) }
+        (run_by (codes "a.c") (codes "a.csv") 64 8 (on_matrix (reduced Masking))) }
     ensures mutated { AreAll (run_of (codes "a.c") (codes "a.csv") 8 mutated)
         (codes "mutate a.c a.csv --fuel 8" ∷ codes "mutate --workers=4 --fuel=8 -- a.c a.csv"
         ∷ []) }
@@ -112,16 +112,18 @@ pub fn commands_of_testers()
     ensures mutated_by_one { Is (codes "mutate --workers 1 a.c a.csv --fuel 8")
         (run_by (codes "a.c") (codes "a.csv") 1 8 mutated) }
     ensures listed { Is (codes "list a.c a.csv --fuel 8")
-        (run_of (codes "a.c") (codes "a.csv") 8
-        (listed (record { mode = UniqueCause; justify = None }))) }
+        (matrix_of 8 (judged (record { mode = Unique; justify = None; telling = listing }))) }
     ensures listed_with { Is (codes "list a.c a.csv --justify j.json --mode masking --fuel 8")
-        (run_of (codes "a.c") (codes "a.csv") 8
-        (listed (record { mode = Masking; justify = Some (codes "j.json") }))) }
+        (matrix_of 8 (judged (record {
+          mode = Masking;
+          justify = Some (codes "j.json");
+          telling = listing;
+        }))) }
 {}
 
 /// The options of a report of a record.
 pub fn reports_of_records()
-    ensures plain { Is (codes "analyse a.c a.rec") (analysis UniqueCause Text None) }
+    ensures plain { Is (codes "analyse a.c a.rec") (analysis Unique Text None) }
     ensures all { AreAll (analysis Masking Json (Some (codes "j.json")))
         (codes "analyse a.c a.rec --mode masking --justify j.json --format json"
         ∷ codes "analyse --format=json a.c --justify=j.json a.rec --mode=masking" ∷ []) }

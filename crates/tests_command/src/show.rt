@@ -1,12 +1,13 @@
 //! What a command is, as text.
 
-use mc_command::{Action, Command, Form, Independence, Listing, Report, Run, Task};
+use mc_command::{Action, Command, Judging, MatrixTask, Run, SourceText, Task, Telling};
+use report_options::{Form, Mode};
 use std::alloc::{AllocError, Global};
 
-fn mode_word(mode: Independence) -> &'static str {
+fn mode_word(mode: Mode) -> &'static str {
     match mode {
-        Independence::UniqueCause => "unique",
-        Independence::Masking => "masking",
+        Mode::Unique => "unique",
+        Mode::Masking => "masking",
     }
 }
 
@@ -28,35 +29,50 @@ fn push_justify(text: &mut String, justify: Option<&str>) -> Result<(), AllocErr
     }
 }
 
-fn push_report(text: &mut String, report: Report<'_>) -> Result<(), AllocError> {
-    text.push_str("report|")?;
-    text.push_str(mode_word(report.mode))?;
-    text.push_str("|")?;
-    text.push_str(form_word(report.form))?;
-    push_justify(text, report.justify)
+fn telling_word(telling: Telling) -> &'static str {
+    match telling {
+        Telling::Report(_) => "report|",
+        Telling::Listing => "list|",
+    }
 }
 
-fn push_listing(text: &mut String, listing: Listing<'_>) -> Result<(), AllocError> {
-    text.push_str("list|")?;
-    text.push_str(mode_word(listing.mode))?;
-    push_justify(text, listing.justify)
+fn push_form(text: &mut String, telling: Telling) -> Result<(), AllocError> {
+    match telling {
+        Telling::Report(form) => {
+            text.push_str("|")?;
+            text.push_str(form_word(form))
+        }
+        Telling::Listing => Ok(()),
+    }
+}
+
+fn push_judging(text: &mut String, judging: Judging<'_>) -> Result<(), AllocError> {
+    text.push_str(telling_word(judging.telling))?;
+    text.push_str(mode_word(judging.mode))?;
+    push_form(text, judging.telling)?;
+    push_justify(text, judging.justify)
+}
+
+fn push_matrix_task(text: &mut String, task: MatrixTask<'_>) -> Result<(), AllocError> {
+    match task {
+        MatrixTask::Judge(judging) => push_judging(text, judging),
+        MatrixTask::Vectors => text.push_str("vectors"),
+        MatrixTask::Record => text.push_str("record"),
+        MatrixTask::Reduce { mode } => {
+            text.push_str("reduce|")?;
+            text.push_str(mode_word(mode))
+        }
+    }
 }
 
 fn push_task(alloc: Global, text: &mut String, task: Task<'_>) -> Result<(), AllocError> {
     match task {
-        Task::Report(report) => push_report(text, report),
-        Task::Vectors => text.push_str("vectors"),
-        Task::Record => text.push_str("record"),
+        Task::OnMatrix(task) => push_matrix_task(text, task),
         Task::Watch { looks } => {
             text.push_str("watch|")?;
             push_number(alloc, text, looks)
         }
-        Task::Reduce { mode } => {
-            text.push_str("reduce|")?;
-            text.push_str(mode_word(mode))
-        }
         Task::Mutate => text.push_str("mutate"),
-        Task::List(listing) => push_listing(text, listing),
     }
 }
 
@@ -80,18 +96,18 @@ fn push_run(alloc: Global, text: &mut String, run: Run<'_>) -> Result<(), AllocE
 fn push_action(alloc: Global, text: &mut String, action: Action<'_>) -> Result<(), AllocError> {
     match action {
         Action::Run(run) => push_run(alloc, text, run),
-        Action::Instrument => text.push_str("instrument"),
+        Action::Write(SourceText::Instrumented) => text.push_str("instrument"),
         Action::Merge { left, right } => {
             text.push_str("merge|")?;
             text.push_str(left)?;
             text.push_str("|")?;
             text.push_str(right)
         }
-        Action::Analyse { kept, report } => {
+        Action::Analyse { kept, judging } => {
             text.push_str("analyse|")?;
             text.push_str(kept)?;
             text.push_str("|")?;
-            push_report(text, report)
+            push_judging(text, judging)
         }
     }
 }

@@ -2,7 +2,8 @@
 use Rattle.std.specs.Prelude.{◌≡◌, List, Ok}
 use Rattle.mc_lex.specs.Tokens.{Tok}
 use Rattle.mc_probe.specs.Table.{instrumented}
-use Rattle.station_replies.specs.Reply.{Reply, program_pieces, written}
+use Rattle.station_replies.specs.Reply.{Reply, written}
+use Rattle.mc_station.specs.Output.{program_pieces}
 use Rattle.mc_station.specs.Source.{Accepted, Lexes}
 
 abbrev pub Instruments : Accepted → Reply → Type 0

@@ -2,7 +2,7 @@
 use Rattle.std.specs.Prelude.{◌≡◌, ℕ, Option, Some, None, List, [], ◌∷◌, ◌++◌, length, codes, slice_get, slice_index_or}
 use Rattle.std.specs.Fmt.{decimal}
 use Rattle.std.specs.List.{concat}
-use Rattle.mc_command.specs.declared.independence.Independence.{Independence}
+use Rattle.report_options.specs.declared.mode.Mode.{Mode}
 use Rattle.mc_typed.specs.Plans.{Plan}
 use Rattle.mc_typed.specs.declared.plans.TestState.{TestState}
 use Rattle.mc_steps.specs.Events.{Event}
@@ -14,7 +14,6 @@ use Rattle.station_replies.specs.Reply.{Reply, written}
 use Rattle.station_replies.specs.Texts.{newline}
 use Rattle.mc_station.specs.Source.{Accepted}
 use Rattle.mc_station.specs.Tests.{names, stands, states, status_where}
-use Rattle.mc_station.specs.commands.Report.{mode_of}
 
 -- a test that is kept, and the first obligation that is lost without it
 abbrev pub keep_line : (name id : List ℕ) → List ℕ
@@ -43,15 +42,15 @@ reduced_lines names os kept lost =
     keep_lines names os kept lost ++ kept_line (length kept) (length names) ∷ []
 
 -- of the events that are shown, each under its test
-abbrev pub ReducesOn : (shown : Event → ℕ → Type 0) → Independence → Accepted
+abbrev pub ReducesOn : (shown : Event → ℕ → Type 0) → Mode → Accepted
     → (names : List (List ℕ)) → (states : List TestState) → Reply → Type 0
 ReducesOn shown mode accepted names states reply =
     (kept : List ℕ) × (lost : List ℕ)
-    × IsReduced shown accepted.map (mode_of mode) (length names) kept lost
+    × IsReduced shown accepted.map mode (length names) kept lost
     × (reply ≡ written (status_where states)
     (reduced_lines names (obligations_of accepted.map) kept lost))
 
 -- of tests that were run
-abbrev pub Reduces : (skipped : List ℕ) → Independence → Accepted → List Plan → Reply → Type 0
+abbrev pub Reduces : (skipped : List ℕ) → Mode → Accepted → List Plan → Reply → Type 0
 Reduces skipped mode accepted plans = ReducesOn (stands skipped accepted plans) mode accepted
     (names plans) (states accepted.program plans)

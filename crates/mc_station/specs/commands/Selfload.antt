@@ -1,7 +1,7 @@
 -- The command `selfload`: the summary of a source that the program makes itself, with its tests.
 use Rattle.std.specs.Prelude.{◌≡◌, ℕ, List, []}
 use Rattle.mc_limits.specs.Limits.{usual_fuel}
-use Rattle.mc_command.specs.declared.independence.Independence.TheVariants.{Masking}
+use Rattle.report_options.specs.declared.mode.Mode.TheVariants.{Masking}
 use Rattle.mc_gen.specs.Source.{source_text}
 use Rattle.mc_gen.specs.Tests.{tests_text}
 use Rattle.mc_typed.specs.Plans.{Plan}

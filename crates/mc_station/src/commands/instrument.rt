@@ -1,14 +1,14 @@
 //! The command `instrument`.
 ghost use Rattle.std.specs.Prelude.{◌<◌, ◌^◌, IfOk, Ok, length};
 ghost use Rattle.mc_lex.specs.Tokens.{toks_of};
-ghost use Rattle.station_replies.specs.Seen.{seen_reply};
+ghost use Rattle.mc_station.specs.Replied.{seen_reply};
 ghost use Rattle.mc_station.specs.Seen.{HasTokens, HasItsTree, seen_accepted};
 ghost use Rattle.mc_station.specs.Source.{Lexes};
 ghost use Rattle.mc_station.specs.commands.Instrument.{Instruments};
 
 use crate::accepted::Accepted;
+use crate::reply::Reply;
 use mc_lex::{Dialect, LexFault, Token, lex};
-use station_replies::Reply;
 use std::alloc::{AllocError, Global};
 
 // The tokens of a source that has them, read again.

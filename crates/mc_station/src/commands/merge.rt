@@ -1,11 +1,11 @@
 //! The command `merge`.
 ghost use Rattle.mc_record.specs.Kept.{IsKept};
 ghost use Rattle.mc_record.specs.Seen.{kept_of};
-ghost use Rattle.station_replies.specs.Seen.{seen_reply};
+ghost use Rattle.mc_station.specs.Replied.{seen_reply};
 ghost use Rattle.mc_station.specs.commands.Merge.{Merges};
 
+use crate::reply::Reply;
 use mc_record::Record;
-use station_replies::Reply;
 use std::alloc::Global;
 
 /// The reply of `merge`: the record of two records.

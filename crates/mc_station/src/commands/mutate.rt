@@ -5,7 +5,7 @@ ghost use Rattle.mc_limits.specs.Limits.{most_source_bytes, most_workers};
 ghost use Rattle.mutate_lines.specs.Seen.{told_of};
 ghost use Rattle.mc_mutate.specs.Kills as items;
 ghost use Rattle.mc_mutate.specs.Mutants.{count, mutants as mutants_of};
-ghost use Rattle.station_replies.specs.Seen.{seen_reply};
+ghost use Rattle.mc_station.specs.Replied.{seen_reply};
 ghost use Rattle.mc_tests.specs.Seen.{seen_plans};
 ghost use Rattle.mc_typed.specs.Views.{program_of};
 ghost use Rattle.mc_station.specs.Seen.{AreMutable, ArePlanned, HasItsTree, seen_accepted};
@@ -15,6 +15,7 @@ ghost use Rattle.mc_station.specs.commands.Mutate.{AreKilled, Mutates, change_to
 use crate::accepted::Accepted;
 use crate::means::Means;
 use crate::ran::{names, number_of};
+use crate::reply::Reply;
 use crate::source::place_within;
 use decide_rules::Decision;
 use mc_core::{Matrix, Shape};
@@ -24,7 +25,6 @@ use mc_port::Gate;
 use mc_runner::test_states;
 use mc_typed::{Program, TestPlan, TestState};
 use mutate_lines::{ChangeLine, killers, mutant_lines, survived};
-use station_replies::Reply;
 use std::alloc::{AllocError, Global};
 use std::thread::Threads;
 

@@ -4,15 +4,15 @@ ghost use Rattle.mc_core.specs.Laws.{AreWords};
 ghost use Rattle.mc_record.specs.Kept.{IsKept};
 ghost use Rattle.mc_record.specs.Lines.{record_lines};
 ghost use Rattle.station_replies.specs.Reply.{written};
-ghost use Rattle.station_replies.specs.Seen.{seen_reply};
+ghost use Rattle.mc_station.specs.Replied.{seen_reply};
 ghost use Rattle.mc_station.specs.Ran.{kept_in};
 ghost use Rattle.mc_station.specs.Tests.{status_where};
 
 use crate::digest::digest_of;
 use crate::ran::{Ran, number_of};
+use crate::reply::Reply;
 use crate::words::words_fit;
 use mc_record::Record;
-use station_replies::Reply;
 use std::alloc::Global;
 
 /// The reply of `record`: what is kept of the tests that were run on the source.

@@ -3,19 +3,17 @@ ghost use Rattle.std.specs.Prelude.{◌≡◌, ◌<◌, ◌++◌, ◌∷◌, [],
 ghost use Rattle.mc_oblige.specs.Ids.{id_text};
 ghost use Rattle.mc_oblige.specs.Shown.{HasEvent};
 ghost use Rattle.mc_port.specs.Lines.{bytes_of};
-ghost use Rattle.station_replies.specs.Seen.{seen_reply};
+ghost use Rattle.mc_station.specs.Replied.{seen_reply};
 ghost use Rattle.mc_station.specs.Ran.{AreIn, AreTold, seen_ran};
 ghost use Rattle.mc_station.specs.Seen.{HasItsTree, seen_accepted};
 ghost use Rattle.mc_station.specs.commands.Reduce.{ReducesOn, keep_line, keep_lines, kept_line, reduced_lines, text_in};
 
 use crate::accepted::Accepted;
-use crate::commands::report::mode_of;
 use crate::ran::{Ran, number_of};
-use mc_command::Independence;
-use mc_oblige::{Obligation, ObligationId, id_text, obligations};
+use crate::reply::Reply;
+use mc_oblige::{Mode, Obligation, ObligationId, id_text, obligations};
 use mc_reduce::{Reduced, reduce as reduced_of};
 use mc_typed::Name;
-use station_replies::Reply;
 use std::alloc::{AllocError, Global};
 
 // The line of a test that is kept, and of the obligation that is lost without it.
@@ -125,7 +123,7 @@ fn reduced_lines(
 // The reply of `reduce`, from a source that is lent.
 fn reduced<'a>(
     alloc: Global,
-    mode: Independence,
+    mode: Mode,
     accepted: &Accepted<'_>,
     ran: &Ran,
 ) -> Result<Reply<'a>, AllocError>
@@ -137,7 +135,7 @@ fn reduced<'a>(
 {
     let map = &accepted.map;
     let obligations = obligations(alloc, map)?;
-    let reduced = reduced_of(alloc, map, &ran.matrix, mode_of(mode))?;
+    let reduced = reduced_of(alloc, map, &ran.matrix, mode)?;
     let lines = reduced_lines(alloc, &ran.names, &obligations, &reduced)?;
     Ok(Reply::of_lines(alloc, number_of(&ran.states), lines))
 }
@@ -145,7 +143,7 @@ fn reduced<'a>(
 /// The reply of `reduce`: tests that show what all of them show, and what each is kept for.
 pub fn reduce<'a>(
     alloc: Global,
-    mode: Independence,
+    mode: Mode,
     accepted: Accepted<'_>,
     ran: &Ran,
 ) -> Result<Reply<'a>, AllocError>

@@ -1,51 +1,28 @@
 //! The command `report`.
 ghost use Rattle.std.specs.Prelude.{◌≡◌, All, IfOk, IsUtf8};
-ghost use Rattle.mc_command.specs.Seen.{seen_report};
 ghost use Rattle.mc_oblige.specs.Shown.{HasEvent};
 ghost use Rattle.mc_report.specs.Report.{IsReport};
 ghost use Rattle.mc_report.specs.Seen.{report_of};
 ghost use Rattle.mc_report.specs.Status.{status_of};
 ghost use Rattle.mc_report.specs.Forms.{lines_in_form};
-ghost use Rattle.station_replies.specs.Reply as spec;
-ghost use Rattle.station_replies.specs.Seen.{seen_reply};
+ghost use Rattle.station_replies.specs.Reply.{written};
+ghost use Rattle.mc_station.specs.Replied.{seen_reply};
 ghost use Rattle.mc_station.specs.Ran.{AreTold};
 ghost use Rattle.mc_station.specs.Seen.{AreReasons, HasItsTree, seen_accepted, seen_tested};
-ghost use Rattle.mc_station.specs.commands.Report.{IsReportOn, ReportsOn, form_of, mode_of};
+ghost use Rattle.mc_station.specs.commands.Report.{IsReportOn};
 
 use crate::accepted::Accepted;
 use crate::digest::digest_of;
+use crate::reply::Reply;
 use crate::tested::Tested;
-use mc_command::{Form as AskedForm, Independence, Report as Asked};
 use mc_core::Matrix;
 use mc_oblige::{Justification, Mode, judge, obligations};
 use mc_report::{Form, Report, lines_in, status};
-use station_replies::Reply;
 use std::alloc::{AllocError, Global};
 use std::mem::forget;
 
-// The form that an option names.
-fn form_of(form: AskedForm) -> Form
-    ensures { result ≡ form_of form }
-{
-    match form {
-        AskedForm::Text => Form::Text,
-        AskedForm::Csv => Form::Csv,
-        AskedForm::Json => Form::Json,
-    }
-}
-
-/// The kind of independence that an option names.
-pub fn mode_of(mode: Independence) -> Mode
-    ensures { result ≡ mode_of mode }
-{
-    match mode {
-        Independence::UniqueCause => Mode::Unique,
-        Independence::Masking => Mode::Masking,
-    }
-}
-
-// The reply with the lines of a report in a form, and its status.
-fn written_report<'a>(
+/// The lines of a report in a form, with its status.
+pub fn written_report<'a>(
     alloc: Global,
     form: Form,
     report: Report<'_>,
@@ -53,7 +30,7 @@ fn written_report<'a>(
     requires report { IsReport (report_of report) }
     requires names { All IsUtf8 (report_of report).names }
     ensures { IfOk result (λ reply. let r = report_of report.entry in
-        seen_reply reply ≡ spec.written (status_of r) (lines_in_form form r)) }
+        seen_reply reply ≡ written (status_of r) (lines_in_form form r)) }
 {
     let number = status(&report);
     let lines = lines_in(alloc, form, &report);
@@ -64,7 +41,7 @@ fn written_report<'a>(
 /// A report on the events of a matrix, whose conditions are shown by this kind of independence.
 pub fn report_on<'a>(
     alloc: Global,
-    independence: Independence,
+    mode: Mode,
     accepted: Accepted<'a>,
     matrix: &Matrix,
     tests: Tested,
@@ -74,14 +51,13 @@ pub fn report_on<'a>(
     requires told { AreTold (seen_accepted accepted) matrix.now (seen_tested tests) }
     requires reasons { AreReasons accepted justifications.now }
     ensures made { IfOk result (λ report. let a = seen_accepted accepted.entry in
-        IsReportOn (HasEvent a.map matrix.now) independence a (seen_tested tests)
+        IsReportOn (HasEvent a.map matrix.now) mode a (seen_tested tests)
         justifications.now (report_of report)) }
     ensures whole { IfOk result (λ report. IsReport (report_of report)) }
     ensures texts { IfOk result (λ report. All IsUtf8 (report_of report).names) }
 {
     let Accepted { source, tree, map } = accepted;
     forget(tree);
-    let mode = mode_of(independence);
     let obligations = obligations(alloc, &map)?;
     let verdicts = judge(alloc, &map, matrix, mode, justifications)?;
     Ok(Report {
@@ -95,24 +71,4 @@ pub fn report_on<'a>(
         obligations,
         verdicts,
     })
-}
-
-/// The reply of `report`, and of each command that reports on tests: on the events of a matrix.
-pub fn report<'a>(
-    alloc: Global,
-    asked: Asked<'_>,
-    accepted: Accepted<'_>,
-    matrix: &Matrix,
-    tests: Tested,
-    justifications: &[Justification],
-) -> Result<Reply<'a>, AllocError>
-    requires instrumented { HasItsTree accepted }
-    requires told { AreTold (seen_accepted accepted) matrix.now (seen_tested tests) }
-    requires reasons { AreReasons accepted justifications.now }
-    ensures { IfOk result (λ reply. let a = seen_accepted accepted.entry in
-        ReportsOn (HasEvent a.map matrix.now) (seen_report asked.entry) a
-        (seen_tested tests) justifications.now (seen_reply reply)) }
-{
-    let report = report_on(alloc, asked.mode, accepted, matrix, tests, justifications)?;
-    written_report(alloc, form_of(asked.form), report)
 }

@@ -6,7 +6,7 @@ ghost use Rattle.mc_gen.specs.Tests.{tests_text};
 ghost use Rattle.mc_limits.specs.Limits.{most_functions, most_workers, usual_fuel};
 ghost use Rattle.mc_oblige.specs.Shown.{HasEvent};
 ghost use Rattle.station_replies.specs.Phases.{Reaches};
-ghost use Rattle.station_replies.specs.Seen.{seen_reply};
+ghost use Rattle.mc_station.specs.Replied.{seen_reply};
 ghost use Rattle.mc_tests.specs.Seen.{seen_plans};
 ghost use Rattle.mc_station.specs.Ran.{AreTold, seen_ran};
 ghost use Rattle.mc_station.specs.Seen.{ArePlanned, HasItsTree, IsOpened, seen_accepted};
@@ -19,15 +19,15 @@ use crate::judge::{judge_tests, open_for};
 use crate::means::Means;
 use crate::opened::Opened;
 use crate::ran::{Ran, run_all};
+use crate::reply::Reply;
 use crate::source::judge_source;
-use mc_command::Independence;
 use mc_cover::Closer;
 use mc_gen::generate;
 use mc_limits::USUAL_FUEL;
+use mc_oblige::Mode;
 use mc_port::Gate;
 use mc_report::summary_lines;
 use mc_typed::TestPlan;
-use station_replies::Reply;
 use std::alloc::{AllocError, Global};
 use std::thread::Threads;
 
@@ -52,7 +52,7 @@ fn summary<'a>(
         (seen_reply reply)) }
 {
     let (matrix, tests) = ran.into_parts();
-    let report = report_on(alloc, Independence::Masking, accepted, &matrix, tests, &[])?;
+    let report = report_on(alloc, Mode::Masking, accepted, &matrix, tests, &[])?;
     let lines = summary_lines(alloc, count, &report);
     drop(report);
     Ok(Reply::of_lines(alloc, 0, lines?))

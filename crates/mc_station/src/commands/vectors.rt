@@ -2,16 +2,16 @@
 ghost use Rattle.std.specs.Prelude.{IfOk, map};
 ghost use Rattle.mc_meaning.specs.Seen.{told_of};
 ghost use Rattle.mc_oblige.specs.Shown.{HasEvent};
-ghost use Rattle.station_replies.specs.Seen.{seen_reply};
+ghost use Rattle.mc_station.specs.Replied.{seen_reply};
 ghost use Rattle.mc_station.specs.Ran.{AreTold, seen_ran};
 ghost use Rattle.mc_station.specs.Seen.{HasItsTree, seen_accepted};
 ghost use Rattle.mc_station.specs.commands.Vectors.{ListsOn};
 
 use crate::accepted::Accepted;
 use crate::ran::{Ran, number_of};
+use crate::reply::Reply;
 use mc_oblige::evaluated_paths;
 use mc_report::vectors_lines;
-use station_replies::Reply;
 use std::alloc::{AllocError, Global};
 
 // The reply of `vectors`, from a source that is lent.

@@ -3,7 +3,7 @@ ghost use Rattle.std.specs.Prelude.{◌≡◌, ◌≤◌, ◌<◌, ◌++◌, [],
 ghost use Rattle.mc_core.specs.Shape.{word_count};
 ghost use Rattle.mc_limits.specs.Limits.{most_words, most_workers};
 ghost use Rattle.mc_port.specs.Lines.{bytes_of};
-ghost use Rattle.station_replies.specs.Seen.{seen_reply};
+ghost use Rattle.mc_station.specs.Replied.{seen_reply};
 ghost use Rattle.mc_tests.specs.Seen.{seen_plans};
 ghost use Rattle.mc_limits.specs.Limits.{most_looks};
 ghost use Rattle.mc_station.specs.Looked.{IsLooked};
@@ -15,12 +15,12 @@ use crate::accepted::Accepted;
 use crate::means::Means;
 use crate::opened::Opened;
 use crate::ran::{Ran, gathered, number_of};
+use crate::reply::Reply;
 use mc_cover::{Closer, close};
 use mc_port::Gate;
 use mc_runner::watch_tests;
 use mc_typed::TestPlan;
 use mc_watch::pairs;
-use station_replies::Reply;
 use std::alloc::{AllocError, Global};
 use std::thread::Threads;
 

@@ -1,5 +1,6 @@
 use Rattle.std.proofs.Common.{◌-◌, ℕ, List, Err, ap, arith, drop, length, length-drop, subst, take_all}
-use Rattle.station_replies.specs.Seen.{Gives, outcome_of, seen_file}
+use Rattle.station_replies.specs.Seen.{Gives, seen_file}
+use Rattle.mc_station.specs.Replied.{outcome_of}
 use Rattle.mc_station.specs.Seen.{seen_stage}
 use Rattle.mc_station.specs.Stages.{Judges}
 use Rattle.mc_station.proofs.Leading.{accepted, ended, no_memory, refused, too_long, unreadable}

@@ -1,14 +1,14 @@
-use Rattle.mc_command.specs.Seen.{seen_listing, seen_report}
+use Rattle.mc_command.specs.Seen.{seen_judging}
 use Rattle.mc_tests.specs.Seen.{seen_plans}
-use Rattle.station_replies.specs.Seen.{seen_reply}
+use Rattle.mc_station.specs.Replied.{seen_reply}
 use Rattle.mc_station.specs.Seen.{seen_accepted}
 use Rattle.mc_station.proofs.Recording.{run_records}
-use Rattle.mc_station.proofs.Reported.{run_listing, run_lists, run_reduces, run_reports}
+use Rattle.mc_station.proofs.Reported.{run_judges, run_lists, run_reduces}
 use Rattle.mc_station.proofs.told.tell.Goals as goal
 
-pub returns-in-Report : goal.returns-in-Report
-returns-in-Report c = rw c.in-Report.is (λ skipped run.
-    run_reports skipped (seen_accepted c.args.accepted) (seen_plans c.args.plans.now) c.args.ran c.args.justifications.now run (seen_report c.in-Report.asked) c.reported.result c.reported.ensures)
+pub returns-in-Judge : goal.returns-in-Judge
+returns-in-Judge c = rw c.in-Judge.is (λ skipped run.
+    run_judges skipped (seen_accepted c.args.accepted) (seen_plans c.args.plans.now) c.args.ran c.args.justifications.now run (seen_judging c.in-Judge.asked) c.judged.result c.judged.ensures)
 
 pub returns-in-Vectors : goal.returns-in-Vectors
 returns-in-Vectors c = rw c.in-Vectors.is (λ skipped run.
@@ -17,10 +17,6 @@ returns-in-Vectors c = rw c.in-Vectors.is (λ skipped run.
 pub returns-in-Reduce : goal.returns-in-Reduce
 returns-in-Reduce c = rw c.in-Reduce.is (λ skipped run.
     run_reduces skipped (seen_accepted c.args.accepted) (seen_plans c.args.plans.now) c.args.ran run c.in-Reduce.mode c.reduce.result c.reduce.ensures)
-
-pub returns-in-List : goal.returns-in-List
-returns-in-List c = rw c.in-List.is (λ skipped run.
-    run_listing skipped (seen_accepted c.args.accepted) (seen_plans c.args.plans.now) c.args.ran c.args.justifications.now run (seen_listing c.in-List.asked) c.listed.result c.listed.ensures)
 
 pub returns : goal.returns
 returns c = rw c.in-Record.is (λ skipped run.

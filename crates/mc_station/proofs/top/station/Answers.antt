@@ -1,7 +1,7 @@
 use Rattle.std.proofs.Common.{◌∙◌, ap, inl, sym}
 use Rattle.mc_station.specs.Calls.{call_of}
 use Rattle.station_replies.specs.Reply.{out_of_memory}
-use Rattle.station_replies.specs.Seen.{seen_reply}
+use Rattle.mc_station.specs.Replied.{seen_reply}
 use Rattle.station_replies.specs.Status.{number_of}
 use Rattle.station_replies.proofs.Statuses.{is_answer, seven}
 use Rattle.mc_station.proofs.Parts.{nothing_put}

@@ -1,7 +1,8 @@
 use Rattle.std.proofs.Common.{◌∙◌, ap}
 use Rattle.mc_lex.specs.Tokens.{toks_of}
 use Rattle.mc_probe.specs.Tree.{Tree}
-use Rattle.station_replies.specs.Reply.{program_pieces, written}
+use Rattle.station_replies.specs.Reply.{written}
+use Rattle.mc_station.specs.Output.{program_pieces}
 use Rattle.mc_station.proofs.commands.instrument.instrument.Goals as goal
 
 pub returns-in-Ok : goal.returns-in-Ok

@@ -4,7 +4,7 @@ use Rattle.mc_mutate.specs.Mutants.{count}
 use Rattle.mc_port.specs.Lines.{bytes_of}
 use Rattle.mc_typed.specs.Views.{program_of}
 use Rattle.mc_tests.specs.Seen.{seen_plans}
-use Rattle.station_replies.specs.Seen.{seen_reply}
+use Rattle.mc_station.specs.Replied.{seen_reply}
 use Rattle.mc_station.specs.Seen.{seen_accepted}
 use Rattle.mc_station.proofs.Killing.{counted, reply_is, tests_of, told_changes}
 use Rattle.mc_station.proofs.commands.mutate.told.Goals as goal

@@ -1,8 +1,6 @@
-use Rattle.std.proofs.Common.{arith, refl, subst}
+use Rattle.std.proofs.Common.{arith, refl}
 use Rattle.mc_oblige.specs.Shown.{HasEvent}
 use Rattle.mc_oblige.specs.Verdicts.{AreVerdicts}
-use Rattle.report_options.specs.declared.mode.Mode.{Mode}
-use Rattle.mc_station.specs.commands.Report.{mode_of}
 use Rattle.mc_station.specs.Seen.{seen_accepted, seen_tested}
 use Rattle.mc_station.proofs.Reported.{can_be_written, report_is}
 use Rattle.mc_station.proofs.commands.report.report_on.Goals as goal
@@ -14,8 +12,8 @@ returns-clause-made c =
     let shown = HasEvent a.map c.args.matrix.now in
     let vs = c.in_ok-verdicts.verdicts.items in
     let js = c.args.justifications.now in
-    let are : AreVerdicts shown a.map (mode_of c.args.independence) js vs = subst (λ (m : Mode). AreVerdicts shown a.map m js vs) c.mode_of-mode.ensures c.in_ok-verdicts.ensures in
-    (vs, are, report_is shown c.args.independence a tests js _ vs refl c.digest_of.ensures c.mode_of-mode.ensures refl refl refl refl c.in_ok-obligations.ensures refl)
+    let are : AreVerdicts shown a.map c.args.mode js vs = c.in_ok-verdicts.ensures in
+    (vs, are, report_is shown c.args.mode a tests js _ vs refl c.digest_of.ensures refl refl refl refl refl c.in_ok-obligations.ensures refl)
 
 pub returns-clause-whole : goal.returns-clause-whole
 returns-clause-whole c =
@@ -24,9 +22,9 @@ returns-clause-whole c =
     let shown = HasEvent a.map c.args.matrix.now in
     let vs = c.in_ok-verdicts.verdicts.items in
     let js = c.args.justifications.now in
-    let are : AreVerdicts shown a.map (mode_of c.args.independence) js vs = subst (λ (m : Mode). AreVerdicts shown a.map m js vs) c.mode_of-mode.ensures c.in_ok-verdicts.ensures in
-    can_be_written c.args.independence a tests js _ vs c.args.matrix.now
-    (report_is shown c.args.independence a tests js _ vs refl c.digest_of.ensures c.mode_of-mode.ensures refl refl refl refl c.in_ok-obligations.ensures refl)
+    let are : AreVerdicts shown a.map c.args.mode js vs = c.in_ok-verdicts.ensures in
+    can_be_written c.args.mode a tests js _ vs c.args.matrix.now
+    (report_is shown c.args.mode a tests js _ vs refl c.digest_of.ensures refl refl refl refl refl c.in_ok-obligations.ensures refl)
     (omega (arith, (let short = c.requires.instrumented.short in short))) c.requires.told c.requires.reasons.text are
 
 pub returns-clause-texts : goal.returns-clause-texts

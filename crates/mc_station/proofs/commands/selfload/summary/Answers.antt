@@ -1,5 +1,5 @@
 use Rattle.std.proofs.Common.{◌≡◌, ◌∙◌, [], subst}
-use Rattle.mc_command.specs.declared.independence.Independence.TheVariants.{Masking}
+use Rattle.report_options.specs.declared.mode.Mode.TheVariants.{Masking}
 use Rattle.mc_core.specs.Matrix.{MatrixView}
 use Rattle.mc_oblige.specs.Shown.{HasEvent}
 use Rattle.mc_port.specs.Lines.{bytes_of}

@@ -2,7 +2,7 @@ use Rattle.std.proofs.Common.{ap, map}
 use Rattle.mc_meaning.specs.Seen.{told_of}
 use Rattle.mc_oblige.specs.Shown.{HasEvent}
 use Rattle.mc_port.specs.Lines.{bytes_of}
-use Rattle.station_replies.specs.Seen.{seen_reply}
+use Rattle.mc_station.specs.Replied.{seen_reply}
 use Rattle.mc_station.specs.Seen.{seen_accepted}
 use Rattle.mc_station.proofs.Reported.{are_present, lists}
 use Rattle.mc_station.proofs.commands.vectors.listed.Goals as goal

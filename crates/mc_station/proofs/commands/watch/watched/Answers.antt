@@ -1,7 +1,7 @@
 use Rattle.std.proofs.Common.{◌∙◌, ◌*◌, ℕ, ap, sym}
 use Rattle.std.proofs.lemmas.List.{length-map}
 use Rattle.mc_port.specs.Lines.{bytes_of}
-use Rattle.station_replies.specs.Seen.{seen_reply}
+use Rattle.mc_station.specs.Replied.{seen_reply}
 use Rattle.mc_tests.specs.Seen.{seen_plans}
 use Rattle.mc_typed.specs.Plans.{plan_of}
 use Rattle.mc_station.specs.Seen.{seen_accepted}

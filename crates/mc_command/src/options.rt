@@ -1,20 +1,22 @@
-//! The form of a report.
+//! The options of a report.
 ghost use Rattle.std.specs.Prelude.{◌≡◌};
 ghost use Rattle.clap.specs.Words.{found_of, rows_of};
-ghost use Rattle.mc_command.specs.Values.{form_in};
+ghost use Rattle.mc_command.specs.Values.{form_in, mode_in};
 
 use crate::values::text_at;
 use clap::ArgMatches;
+use report_options::{Form, Mode};
 
-/// The form in which a report is written.
-#[derive(Clone, Copy)]
-pub enum Form {
-    /// Lines of text: `--format text`
-    Text,
-    /// Comma-separated values: `--format csv`
-    Csv,
-    /// One JSON object: `--format json`
-    Json,
+/// What `--mode` names; unique cause where it is not given.
+pub fn read_mode(values: &ArgMatches<'_>) -> Option<Mode>
+    ensures { result ≡ mode_in (rows_of (found_of values.now)) }
+{
+    match text_at(values, "mode") {
+        None => Some(Mode::Unique),
+        Some("unique") => Some(Mode::Unique),
+        Some("masking") => Some(Mode::Masking),
+        Some(_) => None,
+    }
 }
 
 /// The form that `--format` names; text where it is not given.

@@ -7,23 +7,21 @@ ghost use Rattle.mc_probe.specs.Trees.{tree_of};
 ghost use Rattle.mc_record.specs.Kept.{IsKept};
 ghost use Rattle.mc_record.specs.Lines.{record_lines};
 ghost use Rattle.mc_record.specs.Seen.{kept_of};
-ghost use Rattle.station_replies.specs.Reply.{cannot_read, listing_pieces, program_pieces, written};
+ghost use Rattle.station_replies.specs.Reply.{cannot_read, written};
+ghost use Rattle.mc_station.specs.Output.{listing_pieces, program_pieces};
 ghost use Rattle.station_replies.specs.Reply as spec;
-ghost use Rattle.station_replies.specs.Seen.{IsReplyTo, reply_to, seen_file, seen_reply};
+ghost use Rattle.station_replies.specs.Seen.{IsReplyTo, reply_to, seen_file};
+ghost use Rattle.mc_station.specs.Replied.{seen_reply};
 
-use crate::file::File;
 use crate::listed::Listed;
 use crate::output::Output;
 use crate::printable::Printable;
-use crate::refusal::Refusal;
-use crate::status::Status;
-use crate::stop::Stop;
-use crate::text::{cannot_read_line, refusal_line};
 use crate::writable::Writable;
 use mc_lex::Token;
 use mc_oblige::{Obligation, Verdict};
 use mc_probe::Instrumented;
 use mc_record::Record;
+use station_replies::{File, Refusal, Status, Stop, cannot_read_line, refusal_line};
 use std::alloc::{AllocError, Global};
 
 /// A status, the text for the errors' sink, and what goes to the output.

@@ -2,7 +2,7 @@
 ghost use Rattle.std.specs.Prelude.{◌≡◌, ◌≤◌};
 ghost use Rattle.std.specs.List.{concat};
 ghost use Rattle.mc_port.specs.Sink.{Puts};
-ghost use Rattle.station_replies.specs.Seen.{pieces_of};
+ghost use Rattle.mc_station.specs.Replied.{pieces_of};
 
 use crate::listed::Listed;
 use crate::printable::Printable;

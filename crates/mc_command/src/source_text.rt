@@ -1,0 +1,8 @@
+//! The texts that are made of a source alone.
+
+/// A text that is made of a source, without its tests.
+#[derive(Clone, Copy)]
+pub enum SourceText {
+    /// The program with its probes: `instrument`
+    Instrumented,
+}

@@ -1,0 +1,57 @@
+//! The commands that judge the obligations: `report`, `analyse` and `list`.
+ghost use Rattle.std.specs.Prelude.{◌≡◌, ◌≤◌, All, IfOk, IsUtf8, length};
+ghost use Rattle.mc_command.specs.Seen.{seen_judging, seen_telling};
+ghost use Rattle.mc_limits.specs.Limits.{most_source_bytes};
+ghost use Rattle.mc_oblige.specs.Shown.{HasEvent};
+ghost use Rattle.mc_report.specs.Report.{IsReport};
+ghost use Rattle.mc_report.specs.Seen.{report_of};
+ghost use Rattle.station_replies.specs.Reply.{written};
+ghost use Rattle.mc_station.specs.Ran.{AreTold};
+ghost use Rattle.mc_station.specs.Replied.{seen_reply};
+ghost use Rattle.mc_station.specs.Seen.{AreReasons, HasItsTree, seen_accepted, seen_tested};
+ghost use Rattle.mc_station.specs.commands.Report.{JudgesOn, number_in, pieces_in};
+
+use crate::accepted::Accepted;
+use crate::commands::list::listing;
+use crate::commands::report::{report_on, written_report};
+use crate::reply::Reply;
+use crate::tested::Tested;
+use mc_command::{Judging, Telling};
+use mc_core::Matrix;
+use mc_oblige::Justification;
+use mc_report::Report;
+use std::alloc::{AllocError, Global};
+
+// What is told of a report.
+fn told<'a>(alloc: Global, telling: Telling, report: Report<'a>) -> Result<Reply<'a>, AllocError>
+    requires report { IsReport (report_of report) }
+    requires names { All IsUtf8 (report_of report).names }
+    requires short { length report.source.now ≤ most_source_bytes }
+    ensures { IfOk result (λ reply. let r = report_of report.entry in seen_reply reply
+        ≡ written (number_in (seen_telling telling) r) (pieces_in (seen_telling telling) r)) }
+{
+    match telling {
+        Telling::Report(form) => written_report(alloc, form, report),
+        Telling::Listing => Ok(listing(alloc, report)),
+    }
+}
+
+/// The reply of a command that judges the obligations, by the events of a matrix.
+pub fn judge<'a>(
+    alloc: Global,
+    asked: Judging<'_>,
+    accepted: Accepted<'a>,
+    matrix: &Matrix,
+    tests: Tested,
+    justifications: &[Justification],
+) -> Result<Reply<'a>, AllocError>
+    requires instrumented { HasItsTree accepted }
+    requires told { AreTold (seen_accepted accepted) matrix.now (seen_tested tests) }
+    requires reasons { AreReasons accepted justifications.now }
+    ensures { IfOk result (λ reply. let a = seen_accepted accepted.entry in
+        JudgesOn (HasEvent a.map matrix.now) (seen_judging asked.entry) a
+        (seen_tested tests) justifications.now (seen_reply reply)) }
+{
+    let report = report_on(alloc, asked.mode, accepted, matrix, tests, justifications)?;
+    told(alloc, asked.telling, report)
+}
