@@ -23,7 +23,8 @@ use Rattle.mc_station.specs.Causes.{AsksReasons, Cause, FileIsRefused, IsOfText,
 use Rattle.mc_station.specs.Justified.{reasons_line}
 use Rattle.laws_station.specs.Laws.{AcceptedFilesEndWell, AcceptedFilesGiveTexts}
 use Rattle.mc_station.specs.Records.{JudgesRecord}
-use Rattle.mc_station.specs.Source.{Accepted, JudgesSource}
+use Rattle.mc_station.specs.Named.{JudgesSourceOf}
+use Rattle.mc_station.specs.Source.{Accepted}
 use Rattle.mc_station.specs.Stages as stages
 use Rattle.mc_station.specs.Stages.{Allows, JudgesReasons, file_of, first_stage, justified_by}
 use Rattle.mc_station.specs.Tests.{JudgesTests, MatrixFits}
@@ -32,6 +33,7 @@ use Rattle.mc_station.proofs.Allowing.{allows_matrix, allows_mutants, one_allowe
 use Rattle.mc_station.proofs.Causes.{statuses_have_causes}
 use Rattle.mc_station.proofs.Contents.{not_both, same_bytes}
 use Rattle.mc_station.proofs.Joining.{one_record_in}
+use Rattle.mc_station.proofs.Naming.{one_source_of}
 use Rattle.mc_station.proofs.Phases.{one_fit, one_source, one_tests}
 
 one_reasons : (accepted : Accepted) (bytes : List ℕ) → IsOne (JudgesReasons accepted bytes)
@@ -47,10 +49,10 @@ module _ (files : Files) where
       let same : bytes ≡ text = same_bytes files f bytes text holds also in
       one text (Ok a) (Err r) (subst (λ (x : List ℕ). Judging x (Ok a)) same judges) refuses
 
-  same_source : (name : List ℕ) (a b : Accepted) → SourceIs (Some files) name a → SourceIs (Some files) name b → a ≡ b
-  same_source name a b (bytes, holds, judges) (text, also, other) =
+  same_source : (name : List ℕ) (action : Action) (a b : Accepted) → SourceIs (Some files) name action a → SourceIs (Some files) name action b → a ≡ b
+  same_source name action a b (bytes, holds, judges) (text, also, other) =
       let same : bytes ≡ text = same_bytes files (stages.source_named name) bytes text holds also in
-      one_source text (Ok a) (Ok b) (subst (λ (x : List ℕ). JudgesSource x (Ok a)) same judges) other
+      one_source_of action text (Ok a) (Ok b) (subst (λ (x : List ℕ). JudgesSourceOf action x (Ok a)) same judges) other
 
   same_plans : (run : command.Run) (accepted : Accepted) (ps qs : List Plan) → TestsAre (Some files) run accepted ps → TestsAre (Some files) run accepted qs → ps ≡ qs
   same_plans run accepted ps qs (bytes, holds, judges) (text, also, other) =
@@ -126,28 +128,28 @@ module _ (files : Files) where
   Fine name action = FilesAreAccepted (Some files) (Some (command.on_source name action))
 
   -- what is refused after an accepted source is so after this one
-  at_source : (name : List ℕ) (a b : Accepted) (Refused : Accepted → Type 0) → SourceIs (Some files) name a → SourceIs (Some files) name b → Refused b → Refused a
-  at_source name a b Refused is also refused = subst Refused (same_source name b a also is) refused
+  at_source : (name : List ℕ) (action : Action) (a b : Accepted) (Refused : Accepted → Type 0) → SourceIs (Some files) name action a → SourceIs (Some files) name action b → Refused b → Refused a
+  at_source name action a b Refused is also refused = subst Refused (same_source name action b a also is) refused
 
   no_cause : (name : List ℕ) (action : Action) (r : Reply) (s : Status) → Fine name action → IsAnswer s → Cause (Some files) (Some (command.on_source name action)) r s → ⊥
   no_cause name action r status.Done fine answer cause = cause
   no_cause name action r status.Incomplete fine answer cause = cause
   no_cause name action r status.NoCommand fine answer (none, is) = absurd (cc none)
   no_cause name action r status.SourceRefused (accepted, (bytes, holds, judges), others) answer refused =
-      not_refused (stages.source_named name) JudgesSource accepted bytes r one_source holds judges refused
+      not_refused (stages.source_named name) (JudgesSourceOf action) accepted bytes r (one_source_of action) holds judges refused
   no_cause name action r status.TestsRefused (accepted, is, others) answer (b, also, refused) =
-      tests_not_refused action accepted r others (at_source name accepted b (λ (x : Accepted). TestsOrRecordsAreRefusedAfter (Some files) action x r) is also refused)
+      tests_not_refused action accepted r others (at_source name action accepted b (λ (x : Accepted). TestsOrRecordsAreRefusedAfter (Some files) action x r) is also refused)
   no_cause name action r status.JustificationsRefused (accepted, is, others) answer (b, also, (reasons, asks, refused)) =
-      let same : b ≡ accepted = same_source name b accepted also is in
+      let same : b ≡ accepted = same_source name action b accepted also is in
       reasons_not_refused action accepted reasons r others (subst (λ (x : Accepted). AsksReasons (Some files) action x reasons) same asks)
       (subst (λ (x : Accepted). FileIsRefused (Some files) (stages.reasons_named reasons) (JudgesReasons x) r) same refused)
   no_cause name action r status.CannotRead fine answer cause = answer
   no_cause name action r status.CannotWrite fine answer cause = answer
   no_cause name action r status.OutOfMemory fine answer cause = answer
   no_cause name action r status.TooLarge (accepted, is, others) answer (b, also, refused) =
-      matrix_not_refused action accepted r others (at_source name accepted b (λ (x : Accepted). MatrixIsRefusedAfter (Some files) action x r) is also refused)
+      matrix_not_refused action accepted r others (at_source name action accepted b (λ (x : Accepted). MatrixIsRefusedAfter (Some files) action x r) is also refused)
   no_cause name action r status.TooManyMutants (accepted, is, others) answer (b, also, refused) =
-      mutants_not_refused action accepted r others (at_source name accepted b (λ (x : Accepted). MutantsAreRefusedAfter (Some files) action x r) is also refused)
+      mutants_not_refused action accepted r others (at_source name action accepted b (λ (x : Accepted). MutantsAreRefusedAfter (Some files) action x r) is also refused)
 
 -- ---- a source that the program makes itself
 

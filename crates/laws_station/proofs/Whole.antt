@@ -26,6 +26,7 @@ use Rattle.mc_station.specs.Source.{Accepted, JudgesSource}
 use Rattle.mc_station.specs.Stages as stages
 use Rattle.mc_station.specs.Stages.{Ends, Judges, Stage, after_source, after_tests, file_of, first_stage, justified_by, requests_left, requests_of}
 use Rattle.laws_station.specs.Whole.{MatrixIsInLimit, before_reasons, reasons_in, requests_before}
+use Rattle.mc_station.proofs.Naming.{source_of}
 use Rattle.mc_station.proofs.Allowing.{allowed_fits}
 use Rattle.mc_station.proofs.Causes.{Because, leads_cause, of_record, of_source}
 use Rattle.mc_station.proofs.Order.{and_more, none_more, one_more}
@@ -229,20 +230,20 @@ module _ (skipped : List ℕ) (files : Option Files) where
       (record_is_kept (sha256 accepted.source) accepted.map.bits old bytes found few reads).few_words
 
   abbrev InLimit : List ℕ → Action → Type 0
-  InLimit name action = (accepted : Accepted) × SourceIs files name accepted × MatrixIsInLimit files action accepted
+  InLimit name action = (accepted : Accepted) × SourceIs files name action accepted × MatrixIsInLimit files action accepted
 
-  run_fits : (run : command.Run) (accepted : Accepted) (name reasons : List ℕ) (bytes : List ℕ) (t : Stage) → justified_by run.task ≡ Some reasons → SourceIs files name accepted
+  run_fits : (run : command.Run) (accepted : Accepted) (name reasons : List ℕ) (bytes : List ℕ) (t : Stage) → justified_by run.task ≡ Some reasons → SourceIs files name (command.run run) accepted
       → Holds files (stages.tests_named run.tests) bytes → Judges (stages.tests run accepted) bytes (Ok t) → InLimit name (command.run run)
   run_fits run accepted name reasons bytes t is source holds (plans, reads, (u, allows, next)) =
       (accepted, source, (plans, (bytes, holds, reads), allowed_fits run.task reasons accepted plans u is allows))
 
-  kept_fits : (kept : List ℕ) (judging : command.Judging) (accepted : Accepted) (name bytes : List ℕ) (t : Stage) → accepted.map.bits ≤ most_bits → SourceIs files name accepted → Holds files (stages.record_named kept) bytes
+  kept_fits : (kept : List ℕ) (judging : command.Judging) (accepted : Accepted) (name bytes : List ℕ) (t : Stage) → accepted.map.bits ≤ most_bits → SourceIs files name (command.analyse kept judging) accepted → Holds files (stages.record_named kept) bytes
       → Judges (stages.kept kept judging accepted) bytes (Ok t) → InLimit name (command.analyse kept judging)
   kept_fits kept judging accepted name bytes t few source holds (found, reads, next) =
       (accepted, source, (found, (bytes, holds, reads), few_words accepted kept bytes found few reads))
 
   -- what is accepted of the second file
-  second_fits : (action : Action) (accepted : Accepted) (name reasons : List ℕ) (asked after : Requests) (r : Reply) → reasons_in action ≡ Some reasons → accepted.map.bits ≤ most_bits → SourceIs files name accepted
+  second_fits : (action : Action) (accepted : Accepted) (name reasons : List ℕ) (asked after : Requests) (r : Reply) → reasons_in action ≡ Some reasons → accepted.map.bits ≤ most_bits → SourceIs files name action accepted
       → Accepts (after_source action accepted) asked after r → InLimit name action
   second_fits (command.run run) accepted name reasons asked after r is few source went =
       let f : went.file ≡ stages.tests_named run.tests = cc went.asks in
@@ -279,7 +280,7 @@ module _ (skipped : List ℕ) (files : Option Files) where
       let later : Leads skipped files (after_source action accepted) asked r all = subst (λ (s : Stage). Leads skipped files s asked r all) stage leads in
       let went : Accepts (after_source action accepted) asked all r =
       went_on (after_source action accepted) asked all r p q (b ++ y ∷ []) [] refl (two_left b x y p q (requests_of action) (ap request_of (sym same)) two) later in
-      second_fits action accepted name reasons asked all r is (few_bits bytes accepted judges) (bytes, held, judges) went
+      second_fits action accepted name reasons asked all r is (few_bits bytes accepted (source_of action bytes accepted judges)) (bytes, held, judges) went
 
   pub fits : (name reasons : List ℕ) (action : Action) (b : List Request) (r : Reply) → reasons_in action ≡ Some reasons
       → Leads skipped files (stages.source name action) (Some b) r (Some (b ++ requests_left (stages.source name action))) → InLimit name action

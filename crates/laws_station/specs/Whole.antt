@@ -92,7 +92,7 @@ OthersAreAccepted files (command.analyse kept judging) accepted =
 abbrev pub FilesAreAccepted : Option Files → Option Command → Type 0
 FilesAreAccepted files None = ⊥
 FilesAreAccepted files (Some (command.on_source name action)) =
-    (accepted : Accepted) × SourceIs files name accepted × OthersAreAccepted files action accepted
+    (accepted : Accepted) × SourceIs files name action accepted × OthersAreAccepted files action accepted
 FilesAreAccepted files (Some (command.selfload count workers)) =
     (accepted : Accepted) × JudgesSource (source_text count) (Ok accepted)
     × ((plans : List Plan) × JudgesTests accepted.program usual_fuel (tests_text count) (Ok plans)

@@ -14,6 +14,8 @@ pub data Telling : Type 0 where
   report : Form → Telling
   -- `list`: the lines of the source, each with the mark of its worst verdict
   listing : Telling
+  -- `functions`: how many are met in each function, of one file of the source or of all of it
+  functions : (of : Option (List ℕ)) → Telling
 
 -- how obligations are judged: what shows the independence of a condition, and the file of
 -- justifications; and what is told of them then
@@ -24,7 +26,7 @@ pub record Judging : Type 0 where
 
 -- what is written of the matrix of what the tests evaluated, once all of them have run
 pub data MatrixTask : Type 0 where
-  -- `report`, `list`: the verdicts on the obligations
+  -- `report`, `list`, `functions`: the verdicts on the obligations
   judged : Judging → MatrixTask
   -- `vectors`: the evaluated vectors of each decision
   vectors : MatrixTask
@@ -88,6 +90,10 @@ judging_in telling values =
 abbrev pub report_in : List Row → Option Judging
 report_in values = option_and_then (λ form. judging_in (report form) values) (form_in values)
 
+-- `[--mode M] [--justify NAME] [--of NAME]`
+abbrev pub functions_in : List Row → Option Judging
+functions_in values = judging_in (functions (first_of (codes "of") values)) values
+
 abbrev pub matrix_task_in : (name : Text) → List Row → Option MatrixTask
 matrix_task_in name values =
     if bytes_eq name (codes "report") then option_map judged (report_in values)
@@ -95,6 +101,7 @@ matrix_task_in name values =
     else if bytes_eq name (codes "record") then Some recorded
     else if bytes_eq name (codes "reduce") then option_map reduced (mode_in values)
     else if bytes_eq name (codes "list") then option_map judged (judging_in listing values)
+    else if bytes_eq name (codes "functions") then option_map judged (functions_in values)
     else None
 
 abbrev pub task_in : (name : Text) → List Row → Option Task

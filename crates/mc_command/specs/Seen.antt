@@ -1,7 +1,7 @@
 -- What clauses see of commands.
 use Rattle.std.specs.Prelude.{◌≤◌, ℕ, ⊤, option_map}
 use Rattle.mc_limits.specs.Limits.{most_fuel, most_functions, most_looks, most_workers}
-use Rattle.mc_command.specs.Command.{Action, Command, Judging, MatrixTask, Run, SourceText, Task, Telling, analyse, instrumented, judged, listing, merge, mutated, on_matrix, on_source, recorded, reduced, report, run, selfload, vectors, watched, write}
+use Rattle.mc_command.specs.Command.{Action, Command, Judging, MatrixTask, Run, SourceText, Task, Telling, analyse, functions, instrumented, judged, listing, merge, mutated, on_matrix, on_source, recorded, reduced, report, run, selfload, vectors, watched, write}
 use Rattle.mc_command.specs.Values.{most_watched_workers}
 use Rattle.mc_command.specs.declared.action.Action.{Action as ActionGiven}
 use Rattle.mc_command.specs.declared.action.Action.TheVariants as action
@@ -21,6 +21,7 @@ use Rattle.mc_command.specs.declared.task.Task.TheVariants as task
 abbrev pub seen_telling : TellingGiven → Telling
 seen_telling (telling.Report form) = report form
 seen_telling telling.Listing = listing
+seen_telling (telling.Functions of) = functions (option_map (λ name. name.now) of)
 
 abbrev pub seen_judging : JudgingGiven → Judging
 seen_judging j = record {

@@ -61,6 +61,12 @@ list_app =
     with_rules (run_app (codes "list"))
     (option_rule (codes "mode") ∷ option_rule (codes "justify") ∷ [])
 
+-- `functions SOURCE TESTS [--workers N] [--fuel N] [--mode M] [--justify NAME] [--of NAME]`
+abbrev pub functions_app : App
+functions_app =
+    with_rules (run_app (codes "functions"))
+    (option_rule (codes "mode") ∷ option_rule (codes "justify") ∷ option_rule (codes "of") ∷ [])
+
 -- `instrument SOURCE`
 abbrev pub instrument_app : App
 instrument_app = with_rule (new_app (codes "instrument")) (positional_rule (codes "source"))
@@ -107,7 +113,12 @@ with_other_commands line =
     with_subcommand (with_subcommand (with_subcommand line list_app.top) instrument_app.top)
     selfload_app.top
 
+-- the commands that help to close a report
+abbrev pub with_closing_commands : App → App
+with_closing_commands line = with_subcommand line functions_app.top
+
 abbrev pub line_app : App
 line_app =
-    with_other_commands
-    (with_record_commands (with_tester_commands (with_run_commands (new_app (codes "mcdc")))))
+    with_closing_commands
+    (with_other_commands
+    (with_record_commands (with_tester_commands (with_run_commands (new_app (codes "mcdc"))))))

@@ -4,7 +4,7 @@ ghost use Rattle.clap.specs.Words.{found_of, rows_of};
 ghost use Rattle.mc_command.specs.Command.{matrix_task_in};
 ghost use Rattle.mc_command.specs.Seen.{seen_matrix_task};
 
-use crate::judging::{Judging, read_judging, read_report};
+use crate::judging::{Judging, read_functions, read_judging, read_report};
 use crate::options::read_mode;
 use crate::telling::Telling;
 use clap::ArgMatches;
@@ -13,7 +13,7 @@ use report_options::Mode;
 /// What is written of what the tests evaluated, once all of them have run.
 #[derive(Clone, Copy)]
 pub enum MatrixTask<'w> {
-    /// The verdicts on the obligations: `report`, `list`
+    /// The verdicts on the obligations: `report`, `list`, `functions`
     Judge(Judging<'w>),
     /// The evaluated vectors of each decision: `vectors`
     Vectors,
@@ -44,6 +44,10 @@ pub fn read_matrix_task<'w>(name: &str, values: &ArgMatches<'w>) -> Option<Matri
         }
         "list" => {
             let judging = read_judging(values, Telling::Listing)?;
+            Some(MatrixTask::Judge(judging))
+        }
+        "functions" => {
+            let judging = read_functions(values)?;
             Some(MatrixTask::Judge(judging))
         }
         _ => None,

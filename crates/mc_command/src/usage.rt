@@ -2,7 +2,7 @@
 ghost use Rattle.std.specs.Prelude.{◌≡◌, IfOk, codes, false};
 ghost use Rattle.clap.specs.declared.builder.command.Command.TheViews.{out-Command as fields_of};
 ghost use Rattle.clap.specs.Words.{app_of, new_app, rule_of};
-ghost use Rattle.mc_command.specs.Usage.{analyse_app, files_app, instrument_app, line_app, list_app, merge_app, mutate_app, option_rule, positional_rule, reduce_app, report_app, report_rules, run_app, selfload_app, watch_app, with_other_commands, with_record_commands, with_rules, with_run_commands, with_tester_commands};
+ghost use Rattle.mc_command.specs.Usage.{analyse_app, files_app, functions_app, instrument_app, line_app, list_app, merge_app, mutate_app, option_rule, positional_rule, reduce_app, report_app, report_rules, run_app, selfload_app, watch_app, with_closing_commands, with_other_commands, with_record_commands, with_rules, with_run_commands, with_tester_commands};
 
 use clap::{Arg, Command};
 use std::alloc::{AllocError, Global};
@@ -117,6 +117,18 @@ fn list<'w>(alloc: Global) -> Result<Command<'w>, AllocError>
         .arg(option(alloc, "justify"))
 }
 
+// `functions SOURCE TESTS [--workers N] [--fuel N] [--mode M] [--justify NAME] [--of NAME]`
+fn functions<'w>(alloc: Global) -> Result<Command<'w>, AllocError>
+    ensures app { IfOk result (λ c. app_of c ≡ functions_app) }
+    ensures local { IfOk result (λ c. (fields_of c).has_globals ≡ false) }
+{
+    let command = run(alloc, "functions")?;
+    command
+        .arg(option(alloc, "mode"))?
+        .arg(option(alloc, "justify"))?
+        .arg(option(alloc, "of"))
+}
+
 // `instrument SOURCE`
 fn instrument<'w>(alloc: Global) -> Result<Command<'w>, AllocError>
     ensures app { IfOk result (λ c. app_of c ≡ instrument_app) }
@@ -196,6 +208,14 @@ fn with_other_commands<'w>(alloc: Global, line: Command<'w>) -> Result<Command<'
         .subcommand(selfload)
 }
 
+// The commands that help to close a report.
+fn with_closing_commands<'w>(alloc: Global, line: Command<'w>) -> Result<Command<'w>, AllocError>
+    ensures { IfOk result (λ c. app_of c ≡ with_closing_commands (app_of line.entry)) }
+{
+    let functions = functions(alloc)?;
+    line.subcommand(functions)
+}
+
 /// The command line of the program.
 pub fn line_command<'w>(alloc: Global) -> Result<Command<'w>, AllocError>
     ensures { IfOk result (λ c. app_of c ≡ line_app) }
@@ -203,5 +223,6 @@ pub fn line_command<'w>(alloc: Global) -> Result<Command<'w>, AllocError>
     let line = with_run_commands(alloc, Command::new(alloc, "mcdc"))?;
     let line = with_tester_commands(alloc, line)?;
     let line = with_record_commands(alloc, line)?;
-    with_other_commands(alloc, line)
+    let line = with_other_commands(alloc, line)?;
+    with_closing_commands(alloc, line)
 }

@@ -12,14 +12,15 @@ use Rattle.mc_station.specs.Calls as calls
 use Rattle.mc_station.specs.Calls.{Call, CallsFor, Leads, Requests}
 use Rattle.mc_station.specs.Causes.{AsksReasons, MatrixIsRefusedAfter, MutantsAreRefusedAfter, TestsOrRecordsAreRefusedAfter, IsOfRefusal, MatrixIsRefused, MutantsAreRefused, PairIsRefused, ReasonsAreRefused, SourceIsRefused, TestsOrRecordsAreRefused, FileIsRefused, SourceIs}
 use Rattle.mc_station.specs.Records.{JudgesRecord}
-use Rattle.mc_station.specs.Source.{Accepted, JudgesSource}
+use Rattle.mc_station.specs.Named.{JudgesSourceOf}
+use Rattle.mc_station.specs.Source.{Accepted}
 use Rattle.mc_station.specs.Stages as stages
 use Rattle.mc_station.specs.Stages.{Judges, JudgesReasons, Stage, after_source, after_tests, file_of, first_stage, justified_by}
 use Rattle.mc_station.specs.Statuses.{CausesCall}
 use Rattle.mc_station.specs.Tests.{JudgesTests}
 use Rattle.mc_gen.specs.Source.{source_text}
 use Rattle.mc_station.proofs.Allowing.{allows_matrix, allows_mutants, not_mutated}
-use Rattle.mc_station.proofs.Causes.{of_matrix, of_mutants, of_record, of_source}
+use Rattle.mc_station.proofs.Causes.{of_matrix, of_mutants, of_record, of_source, of_source_of}
 
 module _ (skipped : List ℕ) (files : Option Files) where
   -- a stage leads to the reply, whatever was asked for before
@@ -44,7 +45,7 @@ module _ (skipped : List ℕ) (files : Option Files) where
       let (after, leads) = comes (and_asked asked (request_of f)) in
       (after, calls.accepted s t f bytes asked after r is holds judges leads)
 
-  from_source : (name : List ℕ) (action : command.Action) (accepted : Accepted) (r : Reply) → SourceIs files name accepted → Comes (after_source action accepted) r → Comes (stages.source name action) r
+  from_source : (name : List ℕ) (action : command.Action) (accepted : Accepted) (r : Reply) → SourceIs files name action accepted → Comes (after_source action accepted) r → Comes (stages.source name action) r
   from_source name action accepted r (bytes, holds, judges) comes =
       accept (stages.source name action) (after_source action accepted) (stages.source_named name) bytes r refl holds (accepted, judges, refl) comes
 
@@ -53,7 +54,7 @@ module _ (skipped : List ℕ) (files : Option Files) where
   source_comes : (given : Option Command) (r : Reply) → SourceIsRefused files given r → Comes (first_stage given) r
   source_comes None r cause = absurd cause
   source_comes (Some (command.on_source name action)) r cause =
-      refuse (stages.source name action) (stages.source_named name) JudgesSource r refl (λ bytes judges. inl judges) cause
+      refuse (stages.source name action) (stages.source_named name) (JudgesSourceOf action) r refl (λ bytes judges. inl judges) cause
   source_comes (Some (command.selfload count workers)) r cause =
       λ asked. (asked, calls.answers (stages.load count workers) asked asked r (calls.finished r (inl cause)))
 
@@ -146,7 +147,7 @@ module _ (files : Option Files) where
   source_status : (given : Option Command) (r : Reply) → SourceIsRefused files given r → r.status ≡ status.SourceRefused
   source_status None r cause = absurd cause
   source_status (Some (command.on_source name action)) r cause =
-      refused_status (stages.source_named name) JudgesSource status.SourceRefused r refl (λ bytes judges. of_source bytes r judges) cause
+      refused_status (stages.source_named name) (JudgesSourceOf action) status.SourceRefused r refl (λ bytes judges. of_source_of action bytes r judges) cause
   source_status (Some (command.selfload count workers)) r cause = of_source (source_text count) r cause
 
   record_status : (accepted : Accepted) (name : List ℕ) (r : Reply) → FileIsRefused files (stages.record_named name) (JudgesRecord accepted name) r → r.status ≡ status.TestsRefused

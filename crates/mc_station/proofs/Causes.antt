@@ -22,6 +22,7 @@ use Rattle.mc_station.specs.Calls.{Answers, Fails, Leads, Requests}
 use Rattle.mc_station.specs.Causes.{AsksReasons, Cause, IsAsked, IsOfText, MatrixIsRefused, MutantsAreRefused, ReasonsAreRefused, RecordIs, SourceIs, SourceIsRefused, TestsOrRecordsAreRefused}
 use Rattle.mc_station.specs.Laws.{and_all}
 use Rattle.mc_station.specs.Records.{JudgesRecord}
+use Rattle.mc_station.specs.Named.{JudgesSourceOf}
 use Rattle.mc_station.specs.Source.{Accepted, JudgesSource}
 use Rattle.mc_station.specs.Stages as stages
 use Rattle.mc_station.specs.Stages.{Ends, Judges, Stage, Tells, TellsOnMatrix, Writes, after_source, after_tests, file_of, first_stage, justified_by}
@@ -33,12 +34,15 @@ use Rattle.mc_station.specs.commands.Selfload.{LoadsItself}
 use Rattle.mc_station.proofs.Allowing.{allowed_fits, asked}
 use Rattle.mc_station.proofs.Joining.{no_memory}
 use Rattle.mc_station.proofs.Order.{and_more, none_more, one_more}
-use Rattle.mc_station.proofs.Refusing.{refuses_source}
+use Rattle.mc_station.proofs.Refusing.{refuses_source, refuses_source_of}
 
 -- ---- the status of a refusal
 
 pub of_source : (bytes : List ℕ) (r : Reply) → JudgesSource bytes (Err r) → r.status ≡ status.SourceRefused
 of_source bytes r judges = refusal_status status.SourceRefused r (refuses_source bytes r judges)
+
+pub of_source_of : (action : command.Action) (bytes : List ℕ) (r : Reply) → JudgesSourceOf action bytes (Err r) → r.status ≡ status.SourceRefused
+of_source_of action bytes r judges = refusal_status status.SourceRefused r (refuses_source_of action bytes r judges)
 
 pub of_record : (accepted : Accepted) (name bytes : List ℕ) (r : Reply) → JudgesRecord accepted name bytes (Err r) → r.status ≡ status.TestsRefused
 of_record accepted name bytes r (old, holds, (fault, given, is)) = ap (λ (x : Reply). x.status) is
@@ -70,25 +74,25 @@ module _ (files : Option Files) (given : Option Command) where
   At stages.usage = given ≡ None
   At (stages.source name action) = given ≡ Some (command.on_source name action)
   At (stages.writes text accepted) = ⊤
-  At (stages.tests run accepted) = (name : List ℕ) × (given ≡ Some (command.on_source name (command.run run))) × SourceIs files name accepted
-  At (stages.left name other accepted) = (source : List ℕ) × (given ≡ Some (command.on_source source (command.merge name other))) × SourceIs files source accepted
+  At (stages.tests run accepted) = (name : List ℕ) × (given ≡ Some (command.on_source name (command.run run))) × SourceIs files name (command.run run) accepted
+  At (stages.left name other accepted) = (source : List ℕ) × (given ≡ Some (command.on_source source (command.merge name other))) × SourceIs files source (command.merge name other) accepted
   At (stages.right name accepted first) =
-      (source : List ℕ) × (left : List ℕ) × (given ≡ Some (command.on_source source (command.merge left name))) × (SourceIs files source accepted × RecordIs files left accepted first)
-  At (stages.kept name judging accepted) = (source : List ℕ) × (given ≡ Some (command.on_source source (command.analyse name judging))) × SourceIs files source accepted
+      (source : List ℕ) × (left : List ℕ) × (given ≡ Some (command.on_source source (command.merge left name))) × (SourceIs files source (command.merge left name) accepted × RecordIs files left accepted first)
+  At (stages.kept name judging accepted) = (source : List ℕ) × (given ≡ Some (command.on_source source (command.analyse name judging))) × SourceIs files source (command.analyse name judging) accepted
   At (stages.reasons name accepted basis) =
-      (source : List ℕ) × (action : command.Action) × (given ≡ Some (command.on_source source action)) × (SourceIs files source accepted × AsksReasons files action accepted name)
+      (source : List ℕ) × (action : command.Action) × (given ≡ Some (command.on_source source action)) × (SourceIs files source action accepted × AsksReasons files action accepted name)
   At (stages.last accepted basis js) = ⊤
   At (stages.merged both) = ⊤
   At (stages.load count workers) = given ≡ Some (command.selfload count workers)
 
-  at_action : (name : List ℕ) (action : command.Action) (accepted : Accepted) → given ≡ Some (command.on_source name action) → SourceIs files name accepted → At (after_source action accepted)
+  at_action : (name : List ℕ) (action : command.Action) (accepted : Accepted) → given ≡ Some (command.on_source name action) → SourceIs files name action accepted → At (after_source action accepted)
   at_action name (command.run run) accepted is source = (name, is, source)
   at_action name (command.write text) accepted is source = tt
   at_action name (command.merge left right) accepted is source = (name, is, source)
   at_action name (command.analyse kept judging) accepted is source = (name, is, source)
 
   at_reasons : (asked : Option (List ℕ)) (source : List ℕ) (action : command.Action) (accepted : Accepted) (basis : stages.Basis) → given ≡ Some (command.on_source source action)
-      → SourceIs files source accepted → ((name : List ℕ) → asked ≡ Some name → AsksReasons files action accepted name) → At (after_tests asked accepted basis)
+      → SourceIs files source action accepted → ((name : List ℕ) → asked ≡ Some name → AsksReasons files action accepted name) → At (after_tests asked accepted basis)
   at_reasons None source action accepted basis is held asks = tt
   at_reasons (Some name) source action accepted basis is held asks = (source, action, is, (held, asks name refl))
 
@@ -254,7 +258,7 @@ module _ (files : Option Files) (given : Option Command) where
   on_first name action r at (inl (long, is)) =
       on_source r (subst (λ (c : Option Command). SourceIsRefused files c r) (sym at) (inl (long, is))) (ap (λ (x : Reply). x.status) is)
   on_first name action r at (inr (bytes, holds, inl judges)) =
-      on_source r (subst (λ (c : Option Command). SourceIsRefused files c r) (sym at) (inr (bytes, holds, judges))) (of_source bytes r judges)
+      on_source r (subst (λ (c : Option Command). SourceIsRefused files c r) (sym at) (inr (bytes, holds, judges))) (of_source_of action bytes r judges)
   on_first name action r at (inr (bytes, holds, inr (accepted, judges, next))) = absurd (cc next)
 
   on_plans : (run : command.Run) (accepted : Accepted) (r : Reply) → At (stages.tests run accepted) → Bad (stages.tests_named run.tests) (λ bytes q. Judges (stages.tests run accepted) bytes (Err q)) r → Because r r.status
@@ -275,7 +279,7 @@ module _ (files : Option Files) (given : Option Command) where
       on_tests r (subst (λ (c : Option Command). TestsOrRecordsAreRefused files c r) (sym at) (accepted, from, inl (inr (bytes, holds, judges)))) (of_record accepted name bytes r judges)
   on_left name other accepted r (source, at, from) (inr (bytes, holds, inr (first, judges, next))) = absurd (cc next)
 
-  on_pair : (source left right : List ℕ) (accepted : Accepted) (first second : Kept) (r : Reply) → given ≡ Some (command.on_source source (command.merge left right)) → SourceIs files source accepted
+  on_pair : (source left right : List ℕ) (accepted : Accepted) (first second : Kept) (r : Reply) → given ≡ Some (command.on_source source (command.merge left right)) → SourceIs files source (command.merge left right) accepted
       → RecordIs files left accepted first → RecordIs files right accepted second → Joins first second (Err r) → IsOfPair r.status → Because r r.status
   on_pair source left right accepted first second r at from one other joins (inl is) =
       on_tests r (subst (λ (c : Option Command). TestsOrRecordsAreRefused files c r) (sym at) (accepted, from, inr (inr (first, second, (one, other), (joins, is))))) is

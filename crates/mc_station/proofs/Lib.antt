@@ -19,6 +19,7 @@ pub mod Loading
 pub mod Mapped
 pub mod Mutating
 pub mod Named
+pub mod Naming
 pub mod Older
 pub mod Order
 pub mod Parts

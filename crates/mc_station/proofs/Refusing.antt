@@ -1,15 +1,16 @@
 -- How the stages refuse their files.
-use Rattle.std.proofs.Common.{◌≡◌, ℕ, List, Err, refl, sym, subst, inl, inr}
+use Rattle.std.proofs.Common.{◌≡◌, ℕ, List, Option, Some, None, Err, refl, sym, subst, inl, inr}
 use Rattle.mc_command.specs.Command as command
 use Rattle.mc_record.specs.Kept.{Kept}
 use Rattle.station_replies.specs.Phases.{IsRefusal}
 use Rattle.station_replies.specs.Reply.{Reply, refusal}
-use Rattle.station_replies.specs.Texts.{matrix_line, mutants_line, tests_line}
+use Rattle.station_replies.specs.Texts.{matrix_line, mutants_line, nothing_line, tests_line}
 use Rattle.station_replies.specs.declared.status.Status.{Status}
 use Rattle.station_replies.specs.declared.status.Status.TheVariants as status
 use Rattle.mc_station.specs.Justified.{reasons_line}
 use Rattle.mc_station.specs.Records.{JudgesRecord, record_fault_line}
 use Rattle.mc_station.specs.Laws.{IsLater}
+use Rattle.mc_station.specs.Named.{HasFile, JudgesSourceOf, file_of_action}
 use Rattle.mc_station.specs.Source.{Accepted, JudgesSource}
 use Rattle.mc_station.specs.Stages as stages
 use Rattle.mc_station.specs.Stages.{Judges}
@@ -32,8 +33,17 @@ refuses_source bytes r (inr (tokens, lexes, inr (unit, parses, inr (u, admits, i
 refuses_source bytes r (inr (tokens, lexes, inr (unit, parses, inr (u, admits, inr (program, types, inr (ds, decides, inr (v, numbers, inl (many, is)))))))) = (_, is)
 refuses_source bytes r (inr (tokens, lexes, inr (unit, parses, inr (u, admits, inr (program, types, inr (ds, decides, inr (v, numbers, inr (m, maps, accepts)))))))) = absurd (cc accepts)
 
+refuses_file : (file : Option (List ℕ)) (accepted : Accepted) (r : Reply) → HasFile file accepted (Err r) → IsRefused r
+refuses_file None accepted r refuses = absurd refuses
+refuses_file (Some name) accepted r (not, is) = (nothing_line name, is)
+
+pub refuses_source_of : (action : command.Action) (bytes : List ℕ) (r : Reply) → JudgesSourceOf action bytes (Err r) → IsRefused r
+refuses_source_of action bytes r (inl refuses) = refuses_source bytes r refuses
+refuses_source_of action bytes r (inr (accepted, judges, inl refuses)) = refuses_file (file_of_action action) accepted r refuses
+refuses_source_of action bytes r (inr (accepted, judges, inr (u, named, is))) = absurd (cc is)
+
 pub refuses_first : (name : List ℕ) (action : command.Action) (bytes : List ℕ) (r : Reply) → Judges (stages.source name action) bytes (Err r) → IsRefused r
-refuses_first name action bytes r (inl judges) = refuses_source bytes r judges
+refuses_first name action bytes r (inl judges) = refuses_source_of action bytes r judges
 refuses_first name action bytes r (inr (accepted, judges, next)) = absurd (cc next)
 
 -- a refusal after the source

@@ -33,7 +33,8 @@ use Rattle.mc_station.proofs.Contents.{not_both, same_bytes}
 use Rattle.mc_station.proofs.Joining.{one_join, one_record_in}
 use Rattle.mc_station.proofs.Loading.{one_load}
 use Rattle.mc_station.proofs.Mutating.{one_mutation}
-use Rattle.mc_station.proofs.Phases.{one_source, one_tests}
+use Rattle.mc_station.proofs.Naming.{one_source_of}
+use Rattle.mc_station.proofs.Phases.{one_tests}
 use Rattle.mc_station.proofs.Printing.{one_text}
 use Rattle.mc_station.proofs.Recording.{one_record}
 use Rattle.mc_station.proofs.Watching.{IsAt, at_before, at_first, one_watch}
@@ -43,7 +44,7 @@ use Rattle.mc_station.proofs.Watching.{IsAt, at_before, at_first, one_watch}
 one_verdict : WordsFollowFromPairs → (s : Stage) (bytes : List ℕ) → IsOne (Judges s bytes)
 one_verdict law stages.usage bytes = λ u v p q. absurd p
 one_verdict law (stages.source name action) bytes =
-    one_then _ _ (one_source bytes) (λ accepted is. one_ok (after_source action accepted))
+    one_then _ _ (one_source_of action bytes) (λ accepted is. one_ok (after_source action accepted))
 one_verdict law (stages.writes text accepted) bytes = λ u v p q. absurd p
 one_verdict law (stages.tests run accepted) bytes =
     one_then _ _ (one_tests accepted.program run.fuel bytes) (λ plans is.

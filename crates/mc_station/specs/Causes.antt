@@ -14,6 +14,7 @@ use Rattle.station_replies.specs.Texts.{usage_text}
 use Rattle.station_replies.specs.declared.status.Status.{Status}
 use Rattle.station_replies.specs.declared.status.Status.TheVariants.{Done, Incomplete, NoCommand, SourceRefused, TestsRefused, JustificationsRefused, CannotRead, CannotWrite, OutOfMemory, TooLarge, TooManyMutants}
 use Rattle.mc_station.specs.Records.{JudgesRecord}
+use Rattle.mc_station.specs.Named.{JudgesSourceOf}
 use Rattle.mc_station.specs.Source.{Accepted, JudgesSource}
 use Rattle.mc_station.specs.Stages.{JudgesReasons, justified_by, reasons_named, record_named, source_named, tests_named}
 use Rattle.mc_station.specs.Tests.{MatrixFits, JudgesTests, words_needed}
@@ -22,10 +23,11 @@ use Rattle.mc_station.specs.commands.Mutate.{FewMutants}
 
 -- ---- files that are accepted
 
--- the source of this name
-abbrev pub SourceIs : Option Files → (name : List ℕ) → Accepted → Type 0
-SourceIs files name accepted =
-    (bytes : List ℕ) × Holds files (source_named name) bytes × JudgesSource bytes (Ok accepted)
+-- the source of this name, for what is done with it
+abbrev pub SourceIs : Option Files → (name : List ℕ) → Action → Accepted → Type 0
+SourceIs files name action accepted =
+    (bytes : List ℕ) × Holds files (source_named name) bytes
+    × JudgesSourceOf action bytes (Ok accepted)
 
 -- the tests of a run of an accepted source
 abbrev pub TestsAre : Option Files → Run → Accepted → List Plan → Type 0
@@ -73,7 +75,7 @@ abbrev pub IsAsked : Option Files → Option Command → File → Type 0
 IsAsked files None file = ⊥
 IsAsked files (Some (command.on_source name action)) file =
     (file ≡ source_named name)
-    ⊎ ((accepted : Accepted) × SourceIs files name accepted
+    ⊎ ((accepted : Accepted) × SourceIs files name action accepted
     × (AsksTestsOrRecord files action accepted file
     ⊎ ((reasons : List ℕ) × AsksReasons files action accepted reasons
     × (file ≡ reasons_named reasons))))
@@ -92,7 +94,7 @@ FileIsRefused files file Judging r =
 abbrev pub SourceIsRefused : Option Files → Option Command → Reply → Type 0
 SourceIsRefused files None r = ⊥
 SourceIsRefused files (Some (command.on_source name action)) r =
-    FileIsRefused files (source_named name) JudgesSource r
+    FileIsRefused files (source_named name) (JudgesSourceOf action) r
 SourceIsRefused files (Some (command.selfload count workers)) r =
     JudgesSource (source_text count) (Err r)
 
@@ -118,7 +120,7 @@ TestsOrRecordsAreRefusedAfter files (command.analyse kept judging) accepted r =
 abbrev pub TestsOrRecordsAreRefused : Option Files → Option Command → Reply → Type 0
 TestsOrRecordsAreRefused files None r = ⊥
 TestsOrRecordsAreRefused files (Some (command.on_source name action)) r =
-    (accepted : Accepted) × SourceIs files name accepted
+    (accepted : Accepted) × SourceIs files name action accepted
     × TestsOrRecordsAreRefusedAfter files action accepted r
 TestsOrRecordsAreRefused files (Some (command.selfload count workers)) r =
     (accepted : Accepted) × JudgesSource (source_text count) (Ok accepted)
@@ -142,7 +144,7 @@ MatrixIsRefusedAfter files (command.analyse kept judging) accepted r = ⊥
 abbrev pub MatrixIsRefused : Option Files → Option Command → Reply → Type 0
 MatrixIsRefused files None r = ⊥
 MatrixIsRefused files (Some (command.on_source name action)) r =
-    (accepted : Accepted) × SourceIs files name accepted
+    (accepted : Accepted) × SourceIs files name action accepted
     × MatrixIsRefusedAfter files action accepted r
 MatrixIsRefused files (Some (command.selfload count workers)) r =
     (accepted : Accepted) × JudgesSource (source_text count) (Ok accepted)
@@ -161,7 +163,7 @@ MutantsAreRefusedAfter files (command.analyse kept judging) accepted r = ⊥
 abbrev pub MutantsAreRefused : Option Files → Option Command → Reply → Type 0
 MutantsAreRefused files None r = ⊥
 MutantsAreRefused files (Some (command.on_source name action)) r =
-    (accepted : Accepted) × SourceIs files name accepted
+    (accepted : Accepted) × SourceIs files name action accepted
     × MutantsAreRefusedAfter files action accepted r
 MutantsAreRefused files (Some (command.selfload count workers)) r = ⊥
 
@@ -169,7 +171,7 @@ MutantsAreRefused files (Some (command.selfload count workers)) r = ⊥
 abbrev pub ReasonsAreRefused : Option Files → Option Command → Reply → Type 0
 ReasonsAreRefused files None r = ⊥
 ReasonsAreRefused files (Some (command.on_source name action)) r =
-    (accepted : Accepted) × SourceIs files name accepted
+    (accepted : Accepted) × SourceIs files name action accepted
     × ((reasons : List ℕ) × AsksReasons files action accepted reasons
     × FileIsRefused files (reasons_named reasons) (JudgesReasons accepted) r)
 ReasonsAreRefused files (Some (command.selfload count workers)) r = ⊥

@@ -1,6 +1,7 @@
 -- What words and files call for: the status, the texts, and the files that are asked for.
 pub mod Output
 pub mod Source
+pub mod Named
 pub mod Tests
 pub mod Records
 pub mod commands

@@ -17,7 +17,8 @@ use Rattle.station_replies.specs.declared.file.FileKind.TheVariants as kind
 use Rattle.station_replies.specs.declared.status.Status.TheVariants.{NoCommand, JustificationsRefused}
 use Rattle.mc_station.specs.Justified.{reasons_line}
 use Rattle.mc_station.specs.Records.{JudgesRecord}
-use Rattle.mc_station.specs.Source.{Accepted, JudgesSource}
+use Rattle.mc_station.specs.Named.{JudgesSourceOf}
+use Rattle.mc_station.specs.Source.{Accepted}
 use Rattle.mc_station.specs.Tests.{MatrixFits, JudgesTests}
 use Rattle.mc_station.specs.commands.Analyse.{Analyses}
 use Rattle.mc_station.specs.commands.Instrument.{Instruments}
@@ -174,7 +175,7 @@ AfterPlans task accepted plans =
 abbrev pub Judges : Stage → List ℕ → Result Stage Reply → Type 0
 Judges usage bytes = λ verdict. ⊥
 Judges (source name action) bytes =
-    Then (JudgesSource bytes) (λ accepted v. v ≡ Ok (after_source action accepted))
+    Then (JudgesSourceOf action bytes) (λ accepted v. v ≡ Ok (after_source action accepted))
 Judges (writes text accepted) bytes = λ verdict. ⊥
 Judges (tests run accepted) bytes =
     Then (JudgesTests accepted.program run.fuel bytes)

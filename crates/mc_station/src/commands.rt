@@ -1,6 +1,7 @@
 //! The commands: each gives the reply to what its files were accepted as.
 
 pub mod analyse;
+pub mod functions;
 pub mod instrument;
 pub mod judge;
 pub mod list;

@@ -2,7 +2,7 @@
 ghost use Rattle.std.specs.Prelude.{◌≡◌, ◌≤◌, List, Result, Err, IfOk, length, option_map};
 ghost use Rattle.mc_tests.specs.Seen.{seen_plans};
 ghost use Rattle.mc_command.specs.Command.{mutated, on_matrix, watched};
-ghost use Rattle.mc_command.specs.Seen.{ActionIsInRange, IsWithin, RunIsInRange, seen_action, seen_matrix_task, seen_run};
+ghost use Rattle.mc_command.specs.Seen.{ActionIsInRange, IsWithin, RunIsInRange, seen_action, seen_matrix_task, seen_run, seen_task, seen_telling};
 ghost use Rattle.mc_command.specs.Values.{most_watched_workers};
 ghost use Rattle.mc_oblige.specs.declared.justification.Justification.{Justification};
 ghost use Rattle.mc_justify.specs.Faults.{Fault};
@@ -13,6 +13,7 @@ ghost use Rattle.station_replies.specs.Reply.{refusal};
 ghost use Rattle.station_replies.specs.Seen.{Gives};
 ghost use Rattle.station_replies.specs.declared.status.Status.TheVariants.{JustificationsRefused};
 ghost use Rattle.mc_station.specs.Justified.{reasons_line};
+ghost use Rattle.mc_station.specs.Named.{HasFile, JudgesSourceOf, file_of_action, file_of_task, file_told};
 ghost use Rattle.mc_station.specs.Seen.{AreMutable, ArePlanned, AreReasons, HasTokens, IsBasis, HasItsTree, IsOpened, IsReady, seen_accepted, seen_basis, seen_stage};
 ghost use Rattle.mc_station.specs.Stages.{AfterPlans, AsksUpTo, Judges, JudgesReasons, after_source, justified_by, reasons, source, tests};
 ghost use Rattle.mc_station.specs.Tests.{MatrixFits, JudgesTests};
@@ -25,13 +26,14 @@ use crate::records::{after_kept, after_left, after_right};
 use crate::source::{decisions_again, judge_source};
 use crate::stage::{Stage, with_basis};
 use decide_rules::Decision;
-use mc_command::{Action, MatrixTask, Run, Task};
+use mc_command::{Action, MatrixTask, Run, Task, Telling};
 use mc_core::Shape;
 use mc_cover::{OpenFault, open};
 use mc_justify::{JustifyFault, read_justifications};
 use mc_limits::MOST_MUTANTS;
 use mc_mutate::count_mutants;
 use mc_oblige::{Justification, obligations};
+use mc_places::Places;
 use mc_tests::{TestFault, read_tests};
 use mc_typed::TestPlan;
 use station_replies::{Refusal, Stop};
@@ -110,6 +112,78 @@ fn with_source<'a>(action: Action<'a>, accepted: Accepted<'a>) -> Stage<'a>
     }
 }
 
+// The file of whose obligations alone something is told, where one is named.
+fn file_told(telling: Telling<'_>) -> Option<&str>
+    ensures { option_map (λ name. name.now) result ≡ file_told (seen_telling telling.entry) }
+{
+    match telling {
+        Telling::Functions { of } => of,
+        Telling::Report(_) | Telling::Listing => None,
+    }
+}
+
+fn file_of_task(task: Task<'_>) -> Option<&str>
+    ensures { option_map (λ name. name.now) result ≡ file_of_task (seen_task task.entry) }
+{
+    match task {
+        Task::OnMatrix(MatrixTask::Judge(judging)) => file_told(judging.telling),
+        _ => None,
+    }
+}
+
+fn file_of_action(action: Action<'_>) -> Option<&str>
+    ensures { option_map (λ name. name.now) result ≡ file_of_action (seen_action action.entry) }
+{
+    match action {
+        Action::Run(run) => file_of_task(run.task),
+        Action::Analyse { judging, .. } => file_told(judging.telling),
+        Action::Write(_) | Action::Merge { .. } => None,
+    }
+}
+
+// Whether some line marker of an accepted source names the file, where one is asked for.
+fn has_file<'a>(
+    alloc: Global,
+    file: Option<&'a str>,
+    accepted: &Accepted<'_>,
+) -> Result<(), Stop<'a>>
+    requires short { length accepted.now.source.now ≤ most_source_bytes }
+    ensures { Gives (λ u. tt) (HasFile (option_map (λ name. name.now) file.entry)
+        (seen_accepted accepted.now)) result }
+{
+    let Some(name) = file else {
+        return Ok(());
+    };
+    let places = Places::of(alloc, accepted.source)?;
+    if places.names(name.as_bytes()) {
+        Ok(())
+    } else {
+        Err(Stop::Refused(Refusal::NothingOf { name }))
+    }
+}
+
+// The accepted source of a command.
+fn source_of<'a>(
+    alloc: Global,
+    action: Action<'a>,
+    bytes: &'a [u8],
+) -> Result<Accepted<'a>, Stop<'a>>
+    requires short { length bytes.now ≤ most_source_bytes }
+    ensures judges { Gives seen_accepted
+        (JudgesSourceOf (seen_action action.entry) bytes.now) result }
+    ensures ready { IfOk result HasItsTree }
+    ensures tokens { IfOk result HasTokens }
+{
+    let accepted = judge_source(alloc, bytes)?;
+    match has_file(alloc, file_of_action(action), &accepted) {
+        Ok(()) => Ok(accepted),
+        Err(stop) => {
+            drop(accepted);
+            Err(stop)
+        }
+    }
+}
+
 // The stage after the source of a command.
 fn after_source<'a>(
     alloc: Global,
@@ -123,7 +197,7 @@ fn after_source<'a>(
         (Judges (source name.now (seen_action action.entry)) bytes.now) result }
     ensures ready { IfOk result IsReady }
 {
-    let accepted = judge_source(alloc, bytes)?;
+    let accepted = source_of(alloc, action, bytes)?;
     Ok(with_source(action, accepted))
 }
 

@@ -30,7 +30,9 @@ usage_text =
     ∷ newline
     ∷ codes "       mcdc mutate SOURCE TESTS [--workers N] [--fuel N]" ∷ newline
     ∷ codes "       mcdc list SOURCE TESTS [--mode unique|masking] [--workers N] [--fuel N]"
-    ∷ codes " [--justify NAME]" ∷ newline ∷ [])
+    ∷ codes " [--justify NAME]" ∷ newline
+    ∷ codes "       mcdc functions SOURCE TESTS [--mode unique|masking] [--workers N] [--fuel N]"
+    ∷ codes " [--justify NAME] [--of NAME]" ∷ newline ∷ [])
 
 abbrev pub cannot_read_line : List ℕ → List ℕ
 cannot_read_line name = concat (codes "mcdc: cannot read " ∷ name ∷ newline ∷ [])
@@ -92,6 +94,10 @@ conditions_line source at count = many_line_at source at (codes "conditions") co
 -- the line on the first decision with too many paths
 abbrev pub paths_line : (source : List ℕ) (at count : ℕ) → List ℕ
 paths_line source at count = many_line_at source at (codes "paths") count
+
+-- no marker of the source names this file
+abbrev pub nothing_line : (name : List ℕ) → List ℕ
+nothing_line name = concat (codes "mcdc: source: nothing of " ∷ name ∷ newline ∷ [])
 
 -- the line on a program with too many bits
 abbrev pub bits_line : (count : ℕ) → List ℕ

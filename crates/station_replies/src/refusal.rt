@@ -29,6 +29,10 @@ pub enum Refusal<'a> {
         what: &'static str,
         count: u128,
     },
+    /// No line of the source is of the file with this name.
+    NothingOf {
+        name: &'a str,
+    },
     /// The program has too many bits.
     TooManyBits {
         count: u64,
@@ -86,6 +90,7 @@ impl Refusal<'_> {
             Refusal::Fault { .. }
             | Refusal::Outside { .. }
             | Refusal::TooMany { .. }
+            | Refusal::NothingOf { .. }
             | Refusal::TooManyBits { .. } => Status::SourceRefused,
             Refusal::Tests(_)
             | Refusal::Record { .. }

@@ -1,7 +1,7 @@
 //! The texts on the errors' sink.
 ghost use Rattle.std.specs.Prelude.{◌≡◌, IfOk};
 ghost use Rattle.station_replies.specs.Seen.{reply_to};
-ghost use Rattle.station_replies.specs.Texts.{bits_line, cannot_read_line, entry_line, form_line, justifications_line, kept_line, longer_line, many_line, many_tests_line, matrix_line, mutants_line, place_line, quote_line, record_line, same_test_line, tests_line, usage_text};
+ghost use Rattle.station_replies.specs.Texts.{bits_line, cannot_read_line, entry_line, form_line, justifications_line, kept_line, longer_line, many_line, many_tests_line, matrix_line, mutants_line, nothing_line, place_line, quote_line, record_line, same_test_line, tests_line, usage_text};
 
 use crate::refusal::Refusal;
 use mc_lex::Place;
@@ -27,7 +27,9 @@ pub fn usage_text(alloc: Global) -> Result<Vec<u8>, AllocError>
         mcdc reduce SOURCE TESTS [--mode unique|masking] [--workers N] [--fuel N]\n       \
         mcdc mutate SOURCE TESTS [--workers N] [--fuel N]\n       \
         mcdc list SOURCE TESTS [--mode unique|masking] [--workers N] [--fuel N] \
-        [--justify NAME]\n",
+        [--justify NAME]\n       \
+        mcdc functions SOURCE TESTS [--mode unique|masking] [--workers N] [--fuel N] \
+        [--justify NAME] [--of NAME]\n",
     )?;
     Ok(text.into_bytes())
 }
@@ -78,6 +80,14 @@ fn many_line(alloc: Global, place: Place, what: &str, count: u128) -> Result<Vec
     let line = place.line;
     let column = place.column;
     let text = format!(in alloc; "mcdc: source {line}:{column}: too many {what} {count}\n")?;
+    Ok(text.into_bytes())
+}
+
+// The line on a file that no marker of the source names.
+fn nothing_line(alloc: Global, name: &str) -> Result<Vec<u8>, AllocError>
+    ensures { IfOk result (λ text. text.items ≡ nothing_line name.now) }
+{
+    let text = format!(in alloc; "mcdc: source: nothing of {name}\n")?;
     Ok(text.into_bytes())
 }
 
@@ -195,6 +205,7 @@ pub fn refusal_line(alloc: Global, refusal: &Refusal<'_>) -> Result<Vec<u8>, All
         Refusal::Fault { place, word } => place_line(alloc, *place, word),
         Refusal::Outside { place, form } => form_line(alloc, *place, form.as_str()),
         Refusal::TooMany { place, what, count } => many_line(alloc, *place, what, *count),
+        Refusal::NothingOf { name } => nothing_line(alloc, name),
         Refusal::TooManyBits { count } => bits_line(alloc, *count),
         Refusal::Tests(fault) => tests_line(alloc, *fault),
         Refusal::Record { name, line, word } => kept_line(alloc, name, *line, word),

@@ -1,8 +1,12 @@
--- The commands that judge the obligations, `report`, `analyse` and `list`: each tells of one report.
-use Rattle.std.specs.Prelude.{◌≡◌, ℕ, List}
+-- The commands that judge the obligations, `report`, `analyse`, `list` and `functions`: each tells of
+-- one report.
+use Rattle.std.specs.Prelude.{◌≡◌, ℕ, List, Option}
 use Rattle.sha2.specs.Sha256.{sha256}
 use Rattle.mc_command.specs.Command as command
 use Rattle.mc_command.specs.Command.{Judging, Telling}
+use Rattle.mc_functions.specs.Measured.{Measured}
+use Rattle.mc_functions.specs.Status.{status_of as functions_status}
+use Rattle.mc_functions.specs.Text.{function_lines}
 use Rattle.mc_typed.specs.Plans.{Plan}
 use Rattle.mc_steps.specs.Events.{Event}
 use Rattle.report_options.specs.declared.mode.Mode.{Mode}
@@ -42,15 +46,27 @@ IsReportOn shown mode accepted tests js r =
 
 -- ---- what is told of a report
 
+-- what is counted by function: of this file of the source, or of all of it
+abbrev pub measured : Option (List ℕ) → text.Report → Measured
+measured of r = record {
+  source = r.source;
+  obligations = r.obligations;
+  verdicts = r.verdicts;
+  states = r.states;
+  file = of;
+}
+
 -- 0 where nothing is missing, else 1
 abbrev pub number_in : Telling → text.Report → ℕ
 number_in (command.report form) r = status_of r
 number_in command.listing r = status_of r
+number_in (command.functions of) r = functions_status (measured of r)
 
 -- the pieces that are written
 abbrev pub pieces_in : Telling → text.Report → List (List ℕ)
 pieces_in (command.report form) r = lines_in_form form r
 pieces_in command.listing r = listing_pieces r.source r.obligations r.verdicts
+pieces_in (command.functions of) r = function_lines (measured of r)
 
 -- of the events that are shown, each under its test
 abbrev pub JudgesOn : (shown : Event → ℕ → Type 0) → Judging → Accepted → Tested

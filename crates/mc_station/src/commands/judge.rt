@@ -1,4 +1,4 @@
-//! The commands that judge the obligations: `report`, `analyse` and `list`.
+//! The commands that judge the obligations: `report`, `analyse`, `list` and `functions`.
 ghost use Rattle.std.specs.Prelude.{◌≡◌, ◌≤◌, All, IfOk, IsUtf8, length};
 ghost use Rattle.mc_command.specs.Seen.{seen_judging, seen_telling};
 ghost use Rattle.mc_limits.specs.Limits.{most_source_bytes};
@@ -12,6 +12,7 @@ ghost use Rattle.mc_station.specs.Seen.{AreReasons, HasItsTree, seen_accepted, s
 ghost use Rattle.mc_station.specs.commands.Report.{JudgesOn, number_in, pieces_in};
 
 use crate::accepted::Accepted;
+use crate::commands::functions::functions;
 use crate::commands::list::listing;
 use crate::commands::report::{report_on, written_report};
 use crate::reply::Reply;
@@ -23,16 +24,25 @@ use mc_report::Report;
 use std::alloc::{AllocError, Global};
 
 // What is told of a report.
-fn told<'a>(alloc: Global, telling: Telling, report: Report<'a>) -> Result<Reply<'a>, AllocError>
+fn told<'a>(
+    alloc: Global,
+    telling: Telling<'_>,
+    report: Report<'a>,
+) -> Result<Reply<'a>, AllocError>
     requires report { IsReport (report_of report) }
     requires names { All IsUtf8 (report_of report).names }
     requires short { length report.source.now ≤ most_source_bytes }
     ensures { IfOk result (λ reply. let r = report_of report.entry in seen_reply reply
-        ≡ written (number_in (seen_telling telling) r) (pieces_in (seen_telling telling) r)) }
+        ≡ written (number_in (seen_telling telling.entry) r) (pieces_in (seen_telling telling.entry) r)) }
 {
     match telling {
         Telling::Report(form) => written_report(alloc, form, report),
         Telling::Listing => Ok(listing(alloc, report)),
+        Telling::Functions { of } => {
+            let reply = functions(alloc, of, &report);
+            drop(report);
+            reply
+        }
     }
 }
 
