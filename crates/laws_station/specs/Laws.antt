@@ -25,7 +25,7 @@ ReasonsAfterMatrix =
     → reasons_in action ≡ Some reasons
     → LeadsTo call (Some before) r
     (Some (before ++ requests_left (first_stage (command_of call.words))))
-    → ((accepted : Accepted) × SourceIs call.files name accepted
+    → ((accepted : Accepted) × SourceIs call.files name action accepted
     × MatrixIsInLimit call.files action accepted)
     × (r.status ≢ TooLarge)
 
