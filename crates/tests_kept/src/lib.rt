@@ -12,6 +12,8 @@ mod closed;
 #[cfg(test)]
 mod compared;
 #[cfg(test)]
+mod counted;
+#[cfg(test)]
 mod fail;
 #[cfg(test)]
 mod faults;

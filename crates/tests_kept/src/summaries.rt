@@ -3,6 +3,7 @@
 
 use crate::fail::Fail;
 use crate::run::{gives, of_tests};
+use station_replies::usage_text;
 use std::alloc::Global;
 use std::thread::Threads;
 
@@ -69,23 +70,6 @@ conditions met 500 justified 0 stale 0 missing 200 of 700
 status 1
 ";
 
-const USAGE: &str = "\
-usage: mcdc report SOURCE TESTS [--mode unique|masking] [--workers N] [--fuel N] \
-[--justify NAME] [--format text|csv|json]
-       mcdc vectors SOURCE TESTS [--workers N] [--fuel N]
-       mcdc instrument SOURCE
-       mcdc record SOURCE TESTS [--workers N] [--fuel N]
-       mcdc merge SOURCE LEFT RIGHT
-       mcdc analyse SOURCE RECORD [--mode unique|masking] [--justify NAME] \
-[--format text|csv|json]
-       mcdc selfload N [--workers N]
-       mcdc watch SOURCE TESTS [--workers N] [--fuel N] [--looks N]
-       mcdc reduce SOURCE TESTS [--mode unique|masking] [--workers N] [--fuel N]
-       mcdc mutate SOURCE TESTS [--workers N] [--fuel N]
-       mcdc list SOURCE TESTS [--mode unique|masking] [--workers N] [--fuel N] \
-[--justify NAME]
-";
-
 /// Words, and the summary. The status is 0 whatever is missing.
 static SUMMARIES: [(&str, &str); 8] = [
     ("selfload|1", ONE),
@@ -137,23 +121,17 @@ fn is_written<R: Threads + Sync>(
     rt: &R,
     alloc: Global,
     words: &str,
-    want: (u8, &str, &str),
+    want: (u8, &[u8], &[u8]),
 ) -> Result<bool, Fail> {
-    let (status, out, diag) = want;
     let setting = of_tests(words, b"", b"");
-    gives(
-        rt,
-        alloc,
-        &setting,
-        (status, out.as_bytes(), diag.as_bytes()),
-    )
+    gives(rt, alloc, &setting, want)
 }
 
 #[test]
 fn summaries(rt: HostRuntime) -> Result<(), Fail> {
     for (words, out) in &SUMMARIES {
         assert!(rt;
-            is_written(&rt, rt.alloc(), words, (0, out, ""))?,
+            is_written(&rt, rt.alloc(), words, (0, out.as_bytes(), b""))?,
             "{words}"
         );
     }
@@ -164,7 +142,7 @@ fn summaries(rt: HostRuntime) -> Result<(), Fail> {
 fn the_largest_summary(rt: HostRuntime) -> Result<(), Fail> {
     for (words, out) in &LARGE {
         assert!(rt;
-            is_written(&rt, rt.alloc(), words, (0, out, ""))?,
+            is_written(&rt, rt.alloc(), words, (0, out.as_bytes(), b""))?,
             "{words}"
         );
     }
@@ -173,11 +151,13 @@ fn the_largest_summary(rt: HostRuntime) -> Result<(), Fail> {
 
 #[test]
 fn words_that_are_refused(rt: HostRuntime) -> Result<(), Fail> {
+    let usage = usage_text(rt.alloc())?;
     for words in &REFUSED {
         assert!(rt;
-            is_written(&rt, rt.alloc(), words, (2, "", USAGE))?,
+            is_written(&rt, rt.alloc(), words, (2, b"", &usage))?,
             "{words}"
         );
     }
+    drop(usage);
     Ok(())
 }

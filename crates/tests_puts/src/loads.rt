@@ -18,6 +18,7 @@ s.c,BOTH,j.json,@analyse|--justify|j.json|s.c|BOTH
 s.c,t.csv,@reduce|s.c|t.csv
 s.c,t.csv,@mutate|s.c|t.csv
 s.c,t.csv,j.json,@list|--justify|j.json|s.c|t.csv
+s.c,t.csv,j.json,@functions|--justify|j.json|s.c|t.csv
 ,@selfload|1
 ";
 

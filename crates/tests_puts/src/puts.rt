@@ -30,6 +30,7 @@ lines@9@0@selfload|1
 lines@4@0@reduce|s.c|t.csv
 lines@8@0@mutate|s.c|t.csv
 listing@2@0@list|s.c|t.csv
+lines@8@0@functions|s.c|t.csv
 listing@6@1@list|l.c|none.csv
 ";
 

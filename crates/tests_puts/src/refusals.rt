@@ -18,6 +18,7 @@ const ROWS: &str = "\
 3@mcdc: source 1:20: undeclared@instrument|bad.c
 3@mcdc: source 1:20: undeclared@merge|bad.c|LEFT|RIGHT
 3@mcdc: source 1:20: undeclared@list|bad.c|t.csv
+3@mcdc: source: nothing of u.c@functions|s.c|absent|--of|u.c
 4@mcdc: tests record 2: arguments@vectors|s.c|bad.csv
 4@mcdc: tests record 2: arguments@record|s.c|bad.csv
 4@mcdc: tests record 2: arguments@reduce|s.c|bad.csv

@@ -2,23 +2,9 @@
 
 use crate::fail::Fail;
 use crate::run::{SOURCE, TESTS, gives, plain};
+use station_replies::usage_text;
 use std::alloc::Global;
 use std::thread::Threads;
-
-const USAGE: &str = "usage: mcdc report SOURCE TESTS [--mode unique|masking] [--workers N] \
-    [--fuel N] [--justify NAME] [--format text|csv|json]\n\
-    \x20      mcdc vectors SOURCE TESTS [--workers N] [--fuel N]\n\
-    \x20      mcdc instrument SOURCE\n\
-    \x20      mcdc record SOURCE TESTS [--workers N] [--fuel N]\n\
-    \x20      mcdc merge SOURCE LEFT RIGHT\n\
-    \x20      mcdc analyse SOURCE RECORD [--mode unique|masking] [--justify NAME] \
-    [--format text|csv|json]\n\
-    \x20      mcdc selfload N [--workers N]\n\
-    \x20      mcdc watch SOURCE TESTS [--workers N] [--fuel N] [--looks N]\n\
-    \x20      mcdc reduce SOURCE TESTS [--mode unique|masking] [--workers N] [--fuel N]\n\
-    \x20      mcdc mutate SOURCE TESTS [--workers N] [--fuel N]\n\
-    \x20      mcdc list SOURCE TESTS [--mode unique|masking] [--workers N] [--fuel N] \
-    [--justify NAME]\n";
 
 /// Words with `|` between each two; the first line has none.
 const NOT_A_COMMAND: &str = "\n\
@@ -63,6 +49,10 @@ vectors|-s.c|t.csv
 vectors|s.c|-t.csv
 vectors|s.c|--
 vectors|--|s.c|t.csv|--fuel|8
+functions|s.c
+functions|s.c|t.csv|--of
+functions|s.c|t.csv|--format|text
+vectors|s.c|t.csv|--of|s.c
 watch|s.c|t.csv|--looks|0
 watch|s.c|t.csv|--looks|101
 watch|s.c|t.csv|--looks|01
@@ -85,14 +75,16 @@ vectors|s.c|t.csv|--help
 
 #[test]
 fn words_that_are_not_a_command(rt: HostRuntime) -> Result<(), Fail> {
+    let usage = usage_text(rt.alloc())?;
     for words in NOT_A_COMMAND.lines() {
         let mut setting = plain(SOURCE.as_bytes(), TESTS.as_bytes());
         setting.words = words;
         assert!(rt;
-            gives(&rt, rt.alloc(), &setting, (2, b"", USAGE.as_bytes()))?,
+            gives(&rt, rt.alloc(), &setting, (2, b"", &usage))?,
             "{words}"
         );
     }
+    drop(usage);
     Ok(())
 }
 
