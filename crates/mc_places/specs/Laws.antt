@@ -1,10 +1,9 @@
 -- What follows from the definitions of markers and places.
-use Rattle.std.specs.Prelude.{◌≡◌, ℕ, ◌+◌, ◌-◌, ◌<◌, ◌≤◌, ◌↔◌, List, ◌++◌, length, slice_get, Option, Some, None, IsSome}
-use Rattle.std.specs.List.{list_all}
+use Rattle.std.specs.Prelude.{◌≡◌, ℕ, ◌+◌, ◌-◌, ◌<◌, ◌≤◌, ◌↔◌, List, length, slice_get, Option, Some, None, IsSome}
 use Rattle.mc_lex.specs.Bytes.{is_white_space_in_line}
 use Rattle.mc_lex.specs.Gaps.{IsMarker}
 use Rattle.mc_lex.specs.Lines.{line_of}
-use Rattle.mc_places.specs.Markers.{Marker, greatest_line, marker_of, markers_of}
+use Rattle.mc_places.specs.Markers.{Marker, greatest_line, marker_of, markers_of, past}
 use Rattle.mc_places.specs.Names.{decoded}
 use Rattle.mc_places.specs.Origins.{Origin, origin_at, origins}
 
@@ -39,5 +38,4 @@ NoMarkerNoPlace =
 -- a line is a marker exactly where, after white space, it is one for the tokens of a source
 abbrev pub MarkersAreLexers : Type 0
 MarkersAreLexers =
-    (space line : List ℕ) → list_all is_white_space_in_line space ≡ true → IsMarker line →
-    IsSome (marker_of (space ++ line))
+    (line : List ℕ) → IsSome (marker_of line) ↔ IsMarker (past is_white_space_in_line line)

@@ -64,19 +64,19 @@ abbrev pub marker_of : List ℕ → Option Marker
 marker_of line = hashed (past is_white_space_in_line line)
 
 -- a line that begins inside a comment is none
-abbrev pub marker_on : (open : Bool) → List ℕ → Option Marker
+abbrev pub marker_on : (inside : Bool) → List ℕ → Option Marker
 marker_on true line = None
 marker_on false line = marker_of line
 
 -- whether a comment is open after the line
-abbrev pub open_after : Option Marker → (open : Bool) → List ℕ → Bool
-open_after (Some m) open line = false
-open_after None open line = stays_open open line
+abbrev pub open_after : Option Marker → (inside : Bool) → List ℕ → Bool
+open_after (Some m) inside line = false
+open_after None inside line = stays_open inside line
 
-abbrev pub markers_from : (open : Bool) → List (List ℕ) → List (Option Marker)
-markers_from open [] = []
-markers_from open (line ∷ lines) =
-    marker_on open line ∷ markers_from (open_after (marker_on open line) open line) lines
+abbrev pub markers_from : (inside : Bool) → List (List ℕ) → List (Option Marker)
+markers_from inside [] = []
+markers_from inside (line ∷ lines) =
+    marker_on inside line ∷ markers_from (open_after (marker_on inside line) inside line) lines
 
 -- for each line of a text the marker that it is, where it is one
 abbrev pub markers_of : List ℕ → List (Option Marker)

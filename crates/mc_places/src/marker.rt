@@ -3,7 +3,7 @@ ghost use Rattle.std.specs.Prelude.{◌≡◌, ◌≤◌, ◌+◌, ◌*◌, leng
 ghost use Rattle.std.specs.Char.{digit_value};
 ghost use Rattle.std.specs.List.{list_all, prefix_len};
 ghost use Rattle.std.specs.Str.Parse.{digits_value};
-ghost use Rattle.mc_lex.specs.Bytes as bytes;
+ghost use Rattle.mc_lex.specs.Bytes as sets;
 ghost use Rattle.mc_lex.specs.Gaps as gaps;
 ghost use Rattle.mc_places.specs.Markers as spec;
 ghost use Rattle.mc_places.specs.Seen.{marker_seen};
@@ -15,21 +15,21 @@ pub(crate) const GREATEST_LINE: u32 = 2_147_483_647;
 
 /// What a line marker says: the number of the line after it, where C has it, and the name of its
 /// file as it is written there, where it has one.
-#[derive(Clone, Copy, Debug, PartialEq, Eq)]
+#[derive(Clone, Copy)]
 pub(crate) struct Marker<'a> {
     pub(crate) number: Option<u32>,
     pub(crate) name: Option<&'a [u8]>,
 }
 
 fn digits_len(bytes: &[u8]) -> usize
-    ensures value { result ≡ prefix_len bytes.is_digit bytes.now }
+    ensures value { result ≡ prefix_len sets.is_digit bytes.now }
     ensures within { result ≤ length bytes.now }
 {
     bytes.iter().take_while(|b| is_digit(**b)).count()
 }
 
 fn white_space_len(bytes: &[u8]) -> usize
-    ensures value { result ≡ prefix_len bytes.is_white_space_in_line bytes.now }
+    ensures value { result ≡ prefix_len sets.is_white_space_in_line bytes.now }
     ensures within { result ≤ length bytes.now }
 {
     bytes
@@ -47,7 +47,7 @@ fn quoted_len(bytes: &[u8]) -> usize
 
 /// What stands after the white space.
 fn past_white_space(bytes: &[u8]) -> &[u8]
-    ensures { result.now ≡ spec.past bytes.is_white_space_in_line bytes.now }
+    ensures { result.now ≡ spec.past sets.is_white_space_in_line bytes.now }
 {
     bytes.split_at(white_space_len(bytes)).1
 }
@@ -91,6 +91,7 @@ fn with_digit(value: u32, digit: u8) -> Option<u32>
 }
 
 /// The number that digits write, where it is that of a line.
+#[tactic(auto, using(crate::proofs::Reading::none_after))]
 fn number_of(digits: &[u8]) -> Option<u32>
     ensures { result ≡ spec.line_number (digits_value 10 digits.now) }
 {

@@ -8,7 +8,7 @@ use crate::line::split_line;
 use crate::marker::{Marker, marker_of};
 
 /// The lines that are left of a text, and whether a comment is open where they begin.
-#[derive(Clone, Copy, Debug)]
+#[derive(Clone, Copy)]
 pub(crate) struct Markers<'a> {
     left: Option<&'a [u8]>,
     is_open: bool,
@@ -23,7 +23,7 @@ fn marker_on(is_open: bool, line: &[u8]) -> Option<Marker<'_>>
 
 /// Whether a comment is open after the line.
 fn open_after(marker: Option<Marker<'_>>, is_open: bool, line: &[u8]) -> bool
-    ensures { result ≡ open_after (option_map marker_seen marker) is_open line.now }
+    ensures { result ≡ open_after (option_map marker_seen marker.entry) is_open line.now }
 {
     match marker {
         Some(_) => false,

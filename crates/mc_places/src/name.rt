@@ -9,7 +9,7 @@ use crate::byte::is_octal;
 use std::alloc::AllocError;
 
 /// A byte of a name, and how many more bytes it takes to write it.
-#[derive(Clone, Copy, Debug, PartialEq, Eq)]
+#[derive(Clone, Copy)]
 struct Written {
     byte: u8,
     more: usize,

@@ -32,7 +32,7 @@ impl<'a> Origin<'a> {
 
     /// The next line of the file, where C has a number for it.
     fn one_on(self) -> Option<Origin<'a>>
-        ensures { option_map origin_of result ≡ one_on (Some (origin_of self)) }
+        ensures { option_map origin_of result ≡ one_on (Some (origin_of self.entry)) }
     {
         if self.line < GREATEST_LINE {
             Some(Origin {
@@ -47,7 +47,7 @@ impl<'a> Origin<'a> {
 
 /// The file goes on at another line.
 fn moved_to<'a>(number: u32, now: Option<Origin<'a>>) -> Option<Origin<'a>>
-    ensures { option_map origin_of result ≡ moved_to number (option_map origin_of now) }
+    ensures { option_map origin_of result ≡ moved_to number (option_map origin_of now.entry) }
 {
     match now {
         Some(origin) => Some(Origin {
@@ -61,7 +61,7 @@ fn moved_to<'a>(number: u32, now: Option<Origin<'a>>) -> Option<Origin<'a>>
 /// Of the line after a marker.
 fn said<'a>(marker: Marker<'a>, now: Option<Origin<'a>>) -> Option<Origin<'a>>
     ensures { option_map origin_of result
-        ≡ said marker.number (name_of marker.name) (option_map origin_of now) }
+        ≡ said marker.entry.number (name_of marker.entry.name) (option_map origin_of now.entry) }
 {
     match (marker.number, marker.name) {
         (None, _) => None,
@@ -76,7 +76,7 @@ pub(crate) fn next_origin<'a>(
     marker: Option<Marker<'a>>,
 ) -> Option<Origin<'a>>
     ensures { option_map origin_of result
-        ≡ next_origin (option_map origin_of now) (option_map marker_seen marker) }
+        ≡ next_origin (option_map origin_of now.entry) (option_map marker_seen marker.entry) }
 {
     match (marker, now) {
         (Some(marker), _) => said(marker, now),

@@ -26,8 +26,8 @@ pub struct Places<'a> {
     starts: Vec<u32>,
     origins: Vec<Option<Origin<'a>>>,
     ghost short: { length text.now < 2 ^ 31 },
-    ghost starts: { AreStarts text.now (length text.now) starts.items } by { AreStarts-prop _ _ _ },
-    ghost origins: { AreOrigins text.now origins.items } by { AreOrigins-prop _ _ },
+    ghost found_starts: { AreStarts text.now (length text.now) starts.items } by { AreStarts-prop text.now (length text.now) starts.items },
+    ghost found_origins: { AreOrigins text.now origins.items } by { AreOrigins-prop text.now origins.items },
 }
 
 /// The file and line of each line of the text.
@@ -64,7 +64,7 @@ fn push_origin(
     here: &str,
 ) -> Result<(), AllocError>
     ensures { OnOk result (line.new.items ≡ line.old.items
-        ++ concat ((origin_of origin).file ∷ codes ":" ∷ decimal origin.line ∷ codes " (" ∷ here.now
+        ++ concat ((origin_of origin.entry).file ∷ codes ":" ∷ decimal origin.entry.line ∷ codes " (" ∷ here.now
         ∷ codes ")" ∷ [])) }
 {
     let number = origin.line;
@@ -75,7 +75,7 @@ fn push_origin(
 
 /// Whether the marker names the file.
 fn names_file(marker: Option<Marker<'_>>, name: &[u8]) -> bool
-    ensures { result ≡ names_file name.now (option_map marker_seen marker) }
+    ensures { result ≡ names_file name.now (option_map marker_seen marker.entry) }
 {
     match marker {
         Some(marker) => has_name(marker.name, name),
@@ -84,7 +84,7 @@ fn names_file(marker: Option<Marker<'_>>, name: &[u8]) -> bool
 }
 
 fn has_name(written: Option<&[u8]>, name: &[u8]) -> bool
-    ensures { result ≡ has_name name.now (name_of written) }
+    ensures { result ≡ has_name name.now (name_of written.entry) }
 {
     match written {
         Some(written) => is_name(written, name),
@@ -100,7 +100,7 @@ fn push_with(
     place: Place,
 ) -> Result<(), AllocError>
     ensures { OnOk result (line.new.items ≡ line.old.items
-        ++ place_with (option_map origin_of origin) place.line place.column) }
+        ++ place_with (option_map origin_of origin.entry) place.line place.column) }
 {
     let here = here_text(alloc, place)?;
     match origin {
@@ -169,12 +169,7 @@ impl<'a> Places<'a> {
 
     /// Adds the place of the byte at an offset: `modes.c:12 (1042:7)`, the second one that in the
     /// text, or that alone where no marker says a file and line.
-    pub fn push_place(
-        &self,
-        alloc: Global,
-        line: &mut Vec<u8>,
-        at: u32,
-    ) -> Result<(), AllocError>
+    pub fn push_place(&self, alloc: Global, line: &mut Vec<u8>, at: u32) -> Result<(), AllocError>
         ensures { OnOk result (line.new.items
             ≡ line.old.items ++ place_text self.now.text.now at) }
     {

@@ -3,7 +3,7 @@ use Rattle.std.specs.Prelude.{◌≡◌, ℕ, List, Option, map, option_map}
 use Rattle.std.proofs.Common.{ap}
 use Rattle.std.proofs.Math.Nat.{ℕ_set}
 use Rattle.std.specs.Coded.{le_prop}
-use Rattle.core.proofs.Props.{Option-set}
+use Rattle.std.proofs.Props.{props}
 use mathlib.Core.List.{is_set}
 use Rattle.mc_places.specs.declared.origin.Origin as code_origin
 use Rattle.mc_places.specs.Origins.{Origin, origins}
@@ -20,9 +20,12 @@ Origin-set a b p q = λ i j. record {
   line = ℕ_set a.line b.line (ap (λ (o : Origin). o.line) p) (ap (λ (o : Origin). o.line) q) i j;
 }
 
+options_set : IsSet (Option Origin)
+options_set = hlevel (props, Origin-set)
+
 pub AreOrigins-prop : (text : List ℕ) (found : List (Option code_origin.Origin))
     → IsProp (AreOrigins text found)
-AreOrigins-prop text found = is_set (Option-set Origin-set) (origins_of found) (origins text)
+AreOrigins-prop text found = is_set options_set (origins_of found) (origins text)
 
 pub AreStarts-prop : (text : List ℕ) (n : ℕ) (starts : List ℕ) → IsProp (AreStarts text n starts)
 AreStarts-prop text n starts = hlevel (le_prop, ℕ_set)
