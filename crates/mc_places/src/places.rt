@@ -124,6 +124,13 @@ impl<'a> Places<'a> {
         })
     }
 
+    /// The text.
+    pub fn text(&self) -> &'a [u8]
+        ensures { result.now ≡ self.now.text.now }
+    {
+        self.text
+    }
+
     /// The line and column of the byte at an offset, or of the text's end where the offset is
     /// greater. Takes no memory.
     pub fn place(&self, at: u32) -> Place
