@@ -1,5 +1,5 @@
 -- What follows from the definitions of markers and places.
-use Rattle.std.specs.Prelude.{◌≡◌, ℕ, ◌+◌, ◌-◌, ◌<◌, ◌≤◌, ◌↔◌, List, length, slice_get, Option, Some, None, IsSome}
+use Rattle.std.specs.Prelude.{◌≡◌, ℕ, ◌+◌, ◌-◌, ◌<◌, ◌≤◌, ◌↔◌, List, length, slice_get, Some, None, IsSome}
 use Rattle.mc_lex.specs.Bytes.{is_white_space_in_line}
 use Rattle.mc_lex.specs.Gaps.{IsMarker}
 use Rattle.mc_lex.specs.Lines.{line_of}

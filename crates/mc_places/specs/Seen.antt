@@ -1,5 +1,5 @@
 -- What the program's markers and places stand for.
-use Rattle.std.specs.Prelude.{ℕ, List, [], ◌∷◌, Option, Some, None, option_map, map}
+use Rattle.std.specs.Prelude.{ℕ, List, [], Option, Some, None, option_map, map}
 use denote.Ref.{Bor}
 use Rattle.mc_places.specs.declared.marker.Marker as code_marker
 use Rattle.mc_places.specs.declared.markers.Markers as code_markers

@@ -1,5 +1,5 @@
 -- What a value of places keeps, and that there is one proof of it.
-use Rattle.std.specs.Prelude.{◌≡◌, ℕ, List, Option, map, option_map}
+use Rattle.std.specs.Prelude.{◌≡◌, ℕ, List, Option}
 use Rattle.std.proofs.Common.{ap}
 use Rattle.std.proofs.Math.Nat.{ℕ_set}
 use Rattle.std.specs.Coded.{le_prop}
