@@ -1,0 +1,10 @@
+pub mod Kinds
+pub mod Counts
+pub mod Standing
+pub mod Measured
+pub mod Status
+pub mod Text
+pub mod Sums
+pub mod Seen
+pub mod Laws
+pub mod steps

@@ -1,0 +1,19 @@
+//! The counts of a program's obligations by function.
+#![tactic(auto)]
+
+mod counts;
+mod functions;
+mod kind;
+mod kind_line;
+mod laws;
+mod lines;
+mod measured;
+mod padding;
+mod row;
+mod status;
+mod table;
+
+pub use laws::{full_is_all_met, functions_are_all, stands_in_one};
+pub use lines::function_lines;
+pub use measured::Measured;
+pub use status::functions_status;

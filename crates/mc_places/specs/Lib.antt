@@ -1,0 +1,9 @@
+pub mod Lines
+pub mod Comments
+pub mod Names
+pub mod Markers
+pub mod Origins
+pub mod Places
+pub mod Seen
+pub mod Laws
+pub mod steps

@@ -1,0 +1,231 @@
+//! Counts by function, written out by hand.
+ghost use Rattle.std.specs.Prelude.{◌≡◌, length, vec_len, IfOk};
+
+use mc_functions::{Measured, function_lines, functions_status};
+use mc_oblige::{Evidence, Obligation, ObligationId, Verdict, VerdictState};
+use mc_places::Places;
+use mc_span::Span;
+use mc_typed::TestState;
+use std::alloc::{AllocError, Global};
+use std::process::Abort;
+use std::test::Fail;
+
+const MET: VerdictState = VerdictState::Met;
+
+const MISSING: VerdictState = VerdictState::Missing;
+
+const JUSTIFIED: VerdictState = VerdictState::Justified;
+
+const STALE: VerdictState = VerdictState::Stale;
+
+/// An obligation, the bytes at which it stands, and its verdict.
+type Found = (ObligationId, u32, u32, VerdictState);
+
+/// Three functions of two files.
+const THREE: &[u8] = b"# 70 \"modes.c\"\n\
+int up(void){return 1;}\n\
+# 3 \"low.h\"\n\
+int low(void){return 2;}\n\
+# 80 \"modes.c\"\n\
+int off(void){return 3;}\n";
+
+const FOUND: &[Found] = &[
+    (ObligationId::Entry(0), 19, 21, MET),
+    (ObligationId::Entry(1), 55, 58, MISSING),
+    (ObligationId::Entry(2), 95, 98, MET),
+    (ObligationId::Exit(0), 28, 37, MET),
+    (ObligationId::Exit(1), 65, 74, MISSING),
+    (ObligationId::Exit(2), 105, 114, JUSTIFIED),
+    (ObligationId::Statement(0), 28, 37, MET),
+    (ObligationId::Statement(1), 65, 74, MISSING),
+    (ObligationId::Statement(2), 105, 114, STALE),
+];
+
+/// A text with what is found in it, the states of its tests, the file, the lines, and the status.
+struct Row<'a> {
+    source: &'a [u8],
+    found: &'a [Found],
+    states: &'a [TestState],
+    file: Option<&'a [u8]>,
+    lines: &'a [u8],
+    status: u8,
+}
+
+static ROWS: [Row<'static>; 7] = [
+    Row {
+        source: THREE,
+        found: FOUND,
+        states: &[TestState::Pass],
+        file: None,
+        lines: b"up modes.c:70 (2:5)\n\
+\x20 entries     1 of 1  100 %\n\
+\x20 exits       1 of 1  100 %\n\
+\x20 statements  1 of 1  100 %\n\
+low low.h:3 (4:5)\n\
+\x20 entries     0 of 1    0 %\n\
+\x20 exits       0 of 1    0 %\n\
+\x20 statements  0 of 1    0 %\n\
+off modes.c:80 (6:5)\n\
+\x20 entries     1 of 1  100 %\n\
+\x20 exits       0 of 1    0 %   justified 1\n\
+\x20 statements  0 of 1    0 %   stale 1\n\
+all: 4 of 9 met, 1 justified, 1 stale, 3 missing\n\
+status 1\n",
+        status: 1,
+    },
+    Row {
+        source: THREE,
+        found: FOUND,
+        states: &[TestState::Pass],
+        file: Some(b"modes.c"),
+        lines: b"up modes.c:70 (2:5)\n\
+\x20 entries     1 of 1  100 %\n\
+\x20 exits       1 of 1  100 %\n\
+\x20 statements  1 of 1  100 %\n\
+off modes.c:80 (6:5)\n\
+\x20 entries     1 of 1  100 %\n\
+\x20 exits       0 of 1    0 %   justified 1\n\
+\x20 statements  0 of 1    0 %   stale 1\n\
+all of modes.c: 4 of 6 met, 1 justified, 1 stale, 0 missing; 3 more in other files\n\
+status 1\n",
+        status: 1,
+    },
+    Row {
+        source: THREE,
+        found: FOUND,
+        states: &[TestState::Pass],
+        file: Some(b"low.h"),
+        lines: b"low low.h:3 (4:5)\n\
+\x20 entries     0 of 1    0 %\n\
+\x20 exits       0 of 1    0 %\n\
+\x20 statements  0 of 1    0 %\n\
+all of low.h: 0 of 3 met, 0 justified, 0 stale, 3 missing; 6 more in other files\n\
+status 1\n",
+        status: 1,
+    },
+    Row {
+        source: THREE,
+        found: FOUND,
+        states: &[],
+        file: Some(b"none.c"),
+        lines: b"all of none.c: 0 of 0 met, 0 justified, 0 stale, 0 missing; 9 more in other files\n\
+status 0\n",
+        status: 0,
+    },
+    Row {
+        source: b"int f(int a,int b){return a&&b;}",
+        found: &[
+            (ObligationId::Entry(0), 4, 5, MET),
+            (ObligationId::Outcome(0, true), 19, 23, JUSTIFIED),
+        ],
+        states: &[TestState::Pass],
+        file: None,
+        lines: b"f 1:5\n\
+\x20 entries     1 of 1  100 %\n\
+\x20 outcomes    0 of 1    0 %   justified 1\n\
+all: 1 of 2 met, 1 justified, 0 stale, 0 missing\n\
+status 0\n",
+        status: 0,
+    },
+    Row {
+        source: b"int f(int a,int b){return a&&b;}",
+        found: &[
+            (ObligationId::Entry(0), 4, 5, MET),
+            (ObligationId::Outcome(0, true), 19, 23, JUSTIFIED),
+        ],
+        states: &[TestState::Pass, TestState::Fail],
+        file: None,
+        lines: b"f 1:5\n\
+\x20 entries     1 of 1  100 %\n\
+\x20 outcomes    0 of 1    0 %   justified 1\n\
+all: 1 of 2 met, 1 justified, 0 stale, 0 missing\n\
+status 1\n",
+        status: 1,
+    },
+    Row {
+        source: b"int f(int a,int b){return a&&b;}",
+        found: &[
+            (ObligationId::Entry(0), 4, 5, MET),
+            (ObligationId::Condition(0, 0), 19, 20, MET),
+            (ObligationId::Label(0), 9, 10, MET),
+        ],
+        states: &[TestState::Pass],
+        file: None,
+        lines: b"f 1:5\n\
+\x20 entries     1 of 1  100 %\n\
+\x20 labels      1 of 1  100 %\n\
+\x20 conditions  1 of 1  100 %\n\
+all: 3 of 3 met, 0 justified, 0 stale, 0 missing\n\
+status 0\n",
+        status: 0,
+    },
+];
+
+fn obligation(found: &Found) -> Obligation {
+    Obligation {
+        id: found.0,
+        span: Span {
+            start: found.1,
+            end: found.2,
+        },
+    }
+}
+
+fn verdict(state: VerdictState) -> Verdict {
+    Verdict {
+        state,
+        evidence: Evidence::Absent,
+        reason: None,
+    }
+}
+
+fn obligations(alloc: Global, found: &[Found]) -> Result<Vec<Obligation>, AllocError>
+    ensures { IfOk result (λ v. vec_len v ≡ length found.now) }
+{
+    found.iter().map(|one| obligation(one)).collect(alloc)
+}
+
+fn verdicts(alloc: Global, found: &[Found]) -> Result<Vec<Verdict>, AllocError>
+    ensures { IfOk result (λ v. vec_len v ≡ length found.now) }
+{
+    found.iter().map(|one| verdict(one.3)).collect(alloc)
+}
+
+/// Whether the lines one after the other are the text.
+fn are_lines(lines: &[Vec<u8>], text: &[u8]) -> bool {
+    let mut left = text;
+    for line in lines {
+        if !left.starts_with(line) {
+            return false;
+        }
+        left = &left[line.len().min(left.len())..];
+    }
+    left.is_empty()
+}
+
+fn check(rt: &impl Abort, alloc: Global, row: &Row<'_>) -> Result<(), Fail> {
+    assert!(rt; row.source.len() <= 1000);
+    let places = Places::of(alloc, row.source)?;
+    let obligations = obligations(alloc, row.found)?;
+    let verdicts = verdicts(alloc, row.found)?;
+    let measured = Measured {
+        places: &places,
+        obligations: &obligations,
+        verdicts: &verdicts,
+        states: row.states,
+        file: row.file,
+    };
+    let lines = function_lines(alloc, &measured)?;
+    assert!(rt; are_lines(&lines, row.lines));
+    assert_eq!(rt; functions_status(&measured), row.status);
+    Ok(())
+}
+
+#[test]
+fn counts_of_rows(rt: HostRuntime) -> Result<(), Fail> {
+    let alloc = rt.alloc();
+    for row in &ROWS {
+        check(&rt, alloc, row)?;
+    }
+    Ok(())
+}
