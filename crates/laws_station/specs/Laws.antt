@@ -35,8 +35,8 @@ TooLargeBeforeReasons =
     (call : Call) (asked after : Requests) (r : Reply) → LeadsTo call asked r after
     → r.status ≡ TooLarge → after ≡ and_all asked (before_reasons (command_of call.words))
 
--- where all files are accepted and the matrix fits, a reply that neither the outside nor memory
--- decides has status 0 or 1
+-- where all files are accepted and the matrix fits, or there are few enough mutants, a reply that
+-- neither the outside nor memory decides has status 0 or 1
 abbrev pub AcceptedFilesGiveTexts : Type 0
 AcceptedFilesGiveTexts =
     (call : Call) (asked after : Requests) (r : Reply) → LeadsTo call asked r after

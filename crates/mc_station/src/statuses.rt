@@ -4,7 +4,7 @@ ghost use Rattle.mc_station.specs.Statuses as laws;
 /// A status other than 0 and 1 comes only where it has its cause: with 2 the words are no command,
 /// with 3 the source is refused, with 4 the tests, a record or a pair of records, after a source
 /// that is accepted, with 5 the justifications, after what goes before them, with 6 a file that is
-/// asked for cannot be read, and with 9 a matrix does not fit.
+/// asked for cannot be read, with 9 a matrix does not fit, and with 10 there are too many mutants.
 pub fn statuses_have_causes()
     ensures { laws.StatusesHaveCauses }
 {}
@@ -14,8 +14,8 @@ pub fn texts_are_alone()
     ensures { laws.TextsAreAlone }
 {}
 
-/// Where the words, a file or the matrix is refused, and what goes before it is accepted, a reply
-/// with this status is called for.
+/// Where the words, a file, the matrix or the mutants are refused, and what goes before them is
+/// accepted, a reply with this status is called for.
 pub fn causes_call()
     ensures { laws.CausesCall }
 {}

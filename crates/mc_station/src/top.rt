@@ -66,14 +66,16 @@ fn reply_to<'a, 'w, S: Store, R: Threads + Sync, G: Gate, C: Closer>(
 /// its probes as C text, `record` what is kept of the tests, `merge` the record of two records,
 /// `analyse` the report of a record, `selfload` the summary of a source that the program makes
 /// itself, `watch` how much is recorded at each look and at the end, `reduce` the tests that are
-/// kept, and `list` the source with its marks. Everything is computed, and all memory taken, before
-/// the first `put`; a line is one `put`, and of C text a token is one, and so is what stands after
-/// it.
+/// kept, `mutate` which test kills which mutant, `list` the source with its marks, and `functions`
+/// how many obligations are met in each function. Everything is computed, and all memory taken,
+/// before the first `put`; a line is one `put`, and of C text a token is one, and so is what stands
+/// after it.
 ///
 /// Tests run on as many workers as the words ask for, each in a thread of its own where one can be
-/// made. A worker passes the gate with the number of each test before it runs it, and the watcher
-/// of `watch` with 4,096 after its first look and one more after each. Of the other commands that
-/// run tests the closer makes the matrix of what was recorded; that of the program skips no test.
+/// made; but for `mutate` there are no more workers than tests. A worker passes the gate with the
+/// number of each test before it runs it, and the watcher of `watch` with 4,096 after its first
+/// look and one more after each. Of the commands that run tests but `watch` and `mutate` the closer
+/// makes the matrix of what was recorded; that of the program skips no test.
 pub fn station<R: Threads + Sync, S: Store, K: Sink, E: Sink, G: Gate, C: Closer>(
     rt: &R,
     alloc: Global,

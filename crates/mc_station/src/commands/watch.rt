@@ -78,6 +78,20 @@ fn watch_lines(
     Ok(lines)
 }
 
+// As many workers as are asked for, but no more than there are tests, and at least one.
+fn needed(workers: u32, tests: usize) -> u32
+    requires { (1 ≤ workers) × (workers < most_workers) }
+    ensures { (1 ≤ result) × (result ≤ workers) }
+{
+    if tests >= workers as usize {
+        workers
+    } else if tests == 0 {
+        1
+    } else {
+        tests as u32
+    }
+}
+
 // Runs the tests while a watcher looks: what they gave, and what its looks counted. The matrix is
 // that of all tests, whatever a closer would skip.
 fn run_watched<R: Threads + Sync, G: Gate, C: Closer>(
@@ -101,8 +115,9 @@ fn run_watched<R: Threads + Sync, G: Gate, C: Closer>(
 {
     let Opened { cover, pass } = opened;
     let tree = &accepted.tree;
+    let hired = needed(workers, plans.len());
     match watch_tests(
-        means.rt, alloc, &cover, pass, tree, plans, workers, looks, means.gate,
+        means.rt, alloc, &cover, pass, tree, plans, hired, looks, means.gate,
     ) {
         Ok((pass, results, counts)) => {
             let matrix = close(cover, pass);
