@@ -1,5 +1,5 @@
 //! How a stage judges the bytes of the file that it asked for.
-ghost use Rattle.std.specs.Prelude.{◌≡◌, ◌≤◌, List, Result, Err, IfOk, length, option_map};
+ghost use Rattle.std.specs.Prelude.{◌≡◌, ◌≤◌, List, Result, Err, IfOk, Some, length, option_map};
 ghost use Rattle.mc_tests.specs.Seen.{seen_plans};
 ghost use Rattle.mc_command.specs.Command.{mutated, on_matrix, watched};
 ghost use Rattle.mc_command.specs.Seen.{ActionIsInRange, IsWithin, RunIsInRange, seen_action, seen_matrix_task, seen_run, seen_task, seen_telling};
@@ -7,6 +7,7 @@ ghost use Rattle.mc_command.specs.Values.{most_watched_workers};
 ghost use Rattle.mc_oblige.specs.declared.justification.Justification.{Justification};
 ghost use Rattle.mc_justify.specs.Faults.{Fault};
 ghost use Rattle.mc_justify.specs.Returned.{GivesFault};
+ghost use Rattle.mc_places.specs.Origins.{is_named};
 ghost use Rattle.mc_limits.specs.Limits.{most_fuel, most_looks, most_source_bytes, most_workers};
 ghost use Rattle.station_replies.specs.Phases.{Reads};
 ghost use Rattle.station_replies.specs.Reply.{refusal};
@@ -37,7 +38,7 @@ use mc_places::Places;
 use mc_tests::{TestFault, read_tests};
 use mc_typed::TestPlan;
 use station_replies::{Refusal, Stop};
-use std::alloc::Global;
+use std::alloc::{AllocError, Global};
 
 /// The tests of a tests file.
 pub fn judge_tests<'a>(
@@ -141,7 +142,29 @@ fn file_of_action(action: Action<'_>) -> Option<&str>
     }
 }
 
-// Whether some line marker of an accepted source names the file, where one is asked for.
+// Whether some line marker of an accepted source names the file.
+fn is_of_file(alloc: Global, name: &str, accepted: &Accepted<'_>) -> Result<bool, AllocError>
+    requires short { length accepted.now.source.now ≤ most_source_bytes }
+    ensures { IfOk result (λ named. named ≡ is_named accepted.now.source.now name.now) }
+{
+    let places = Places::of(alloc, accepted.source)?;
+    Ok(places.names(name.as_bytes()))
+}
+
+// Whether an accepted source has something of a file, or why it is refused.
+fn has_named<'a>(alloc: Global, name: &'a str, accepted: &Accepted<'_>) -> Result<(), Stop<'a>>
+    requires short { length accepted.now.source.now ≤ most_source_bytes }
+    ensures { Gives (λ u. tt) (HasFile (Some name.now) (seen_accepted accepted.now)) result }
+{
+    let is_of_file = is_of_file(alloc, name, accepted)?;
+    if is_of_file {
+        Ok(())
+    } else {
+        Err(Stop::Refused(Refusal::NothingOf { name }))
+    }
+}
+
+// Whether an accepted source has something of the file, where one is asked for.
 fn has_file<'a>(
     alloc: Global,
     file: Option<&'a str>,
@@ -151,14 +174,9 @@ fn has_file<'a>(
     ensures { Gives (λ u. tt) (HasFile (option_map (λ name. name.now) file.entry)
         (seen_accepted accepted.now)) result }
 {
-    let Some(name) = file else {
-        return Ok(());
-    };
-    let places = Places::of(alloc, accepted.source)?;
-    if places.names(name.as_bytes()) {
-        Ok(())
-    } else {
-        Err(Stop::Refused(Refusal::NothingOf { name }))
+    match file {
+        Some(name) => has_named(alloc, name, accepted),
+        None => Ok(()),
     }
 }
 

@@ -10,7 +10,9 @@ use Rattle.mc_functions.specs.Text.{function_lines}
 use Rattle.mc_typed.specs.Plans.{Plan}
 use Rattle.mc_steps.specs.Events.{Event}
 use Rattle.report_options.specs.declared.mode.Mode.{Mode}
+use Rattle.mc_oblige.specs.declared.obligation.Obligation.{Obligation}
 use Rattle.mc_oblige.specs.declared.verdict.Verdict.{Verdict}
+use Rattle.mc_typed.specs.declared.plans.TestState.{TestState}
 use Rattle.mc_oblige.specs.declared.justification.Justification.{Justification}
 use Rattle.mc_oblige.specs.Obligations.{obligations_of}
 use Rattle.mc_oblige.specs.Verdicts.{AreVerdicts}
@@ -46,15 +48,20 @@ IsReportOn shown mode accepted tests js r =
 
 -- ---- what is told of a report
 
--- what is counted by function: of this file of the source, or of all of it
-abbrev pub measured : Option (List ℕ) → text.Report → Measured
-measured of r = record {
-  source = r.source;
-  obligations = r.obligations;
-  verdicts = r.verdicts;
-  states = r.states;
-  file = of;
+-- what is counted by function: the obligations of a source with their verdicts, and how its tests
+-- ended; of one file of the source where it is named
+abbrev pub parts_measured : (source : List ℕ) → List Obligation → List Verdict → List TestState
+    → Option (List ℕ) → Measured
+parts_measured source obligations verdicts states file = record {
+  source = source;
+  obligations = obligations;
+  verdicts = verdicts;
+  states = states;
+  file = file;
 }
+
+abbrev pub measured : Option (List ℕ) → text.Report → Measured
+measured file r = parts_measured r.source r.obligations r.verdicts r.states file
 
 -- 0 where nothing is missing, else 1
 abbrev pub number_in : Telling → text.Report → ℕ
