@@ -38,7 +38,7 @@ with_one Conditions s r = record r { conditions = one_more s r.conditions }
 
 -- the row of function k, after one obligation in `function`
 abbrev pub added : ℕ → Kind → VerdictState → ℕ → Row → Row
-added function kind state k row = if k == function then with_one kind state row else row
+added function kind state k row = if function == k then with_one kind state row else row
 
 pub record AreEmpty (count : ℕ) (rows : List Row) : Type 0 where
   pub whole : length rows ≡ count
