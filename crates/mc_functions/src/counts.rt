@@ -45,7 +45,8 @@ impl Counts {
 
     /// How many there are; no such sum is too great for 128 bits.
     pub(crate) fn total(self) -> u128
-        ensures { result ≡ total self }
+        ensures value { result ≡ total self }
+        ensures small { result < 2 ^ 66 }
     {
         self.met as u128 + self.justified as u128 + self.stale as u128 + self.missing as u128
     }
