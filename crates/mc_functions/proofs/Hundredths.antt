@@ -1,5 +1,5 @@
 -- When all are met.
-use Rattle.std.proofs.Common.{◌≡◌, ◌+◌, ◌*◌, ◌/◌, ◌≤◌, ℕ, ap, arith}
+use Rattle.std.proofs.Common.{◌≡◌, ◌∙◌, ◌+◌, ◌*◌, ◌/◌, ◌≤◌, ℕ, ap, arith}
 use Rattle.std.proofs.Math.Nat.{mul-div-le, div-eq_of_lt-le}
 use Rattle.mc_functions.specs.declared.counts.Counts.{Counts}
 use Rattle.mc_functions.specs.Counts.{percentage, total}
@@ -17,4 +17,4 @@ pub full : (c : Counts) → 1 ≤ total c → percentage c ≡ 100 → c.met ≡
 full c some is = whole c.met (total c) some (omega arith) is
 
 pub all_met : (c : Counts) → 1 ≤ total c → c.met ≡ total c → percentage c ≡ 100
-all_met c some is = rw is (hundred (total c) some)
+all_met c some is = ap (λ (n : ℕ). (n * 100) / total c) is ∙ hundred (total c) some

@@ -31,17 +31,18 @@ not_begun : (found k at name : ℕ) (names : List ℕ) (result : ℕ) → at < n
 not_begun found k at name names result below (kept is each) = kept is (first_after at name names below each)
 not_begun found k at name names result below (moved j is lt low each) = moved (suc j) (omega (arith, is)) (omega (arith, lt)) low (later_after at name j names each)
 
+by_test : (t : Bool) (found k at name : ℕ) (names : List ℕ) → nat_le name at ≡ t → ((now : ℕ) → Walk now (k + 1) at names (function_from now (k + 1) at names))
+    → Walk found k at (name ∷ names) (function_from (if t then k else found) (k + 1) at names)
+by_test true found k at name names is rest =
+    let le : name ≤ at = grind (arith, nat_tests) in
+    begun found k at name names (function_from k (k + 1) at names) le (rest k)
+by_test false found k at name names is rest =
+    let below : at < name = grind (arith, nat_tests) in
+    not_begun found k at name names (function_from found (k + 1) at names) below (rest found)
+
 walk : (found k at : ℕ) (names : List ℕ) → Walk found k at names (function_from found k at names)
 walk found k at [] = kept refl (λ j lt. absurd (omega arith))
-walk found k at (name ∷ names) = by_test (nat_le name at) refl
-  where
-    by_test : (t : Bool) → nat_le name at ≡ t → Walk found k at (name ∷ names) (function_from (if t then k else found) (k + 1) at names)
-    by_test true is =
-        let le : name ≤ at = grind (arith, nat_tests) in
-        begun found k at name names _ le (walk k (k + 1) at names)
-    by_test false is =
-        let below : at < name = grind (arith, nat_tests) in
-        not_begun found k at name names _ below (walk found (k + 1) at names)
+walk found k at (name ∷ names) = by_test (nat_le name at) found k at name names refl (λ now. walk now (k + 1) at names)
 
 found_one : (names : List ℕ) (at result : ℕ) → 1 ≤ length names → Walk 0 0 at names result → StandsIn names result at
 found_one names at result some (kept is each) = record {
