@@ -1,6 +1,6 @@
+pub mod Firsts
 pub mod Standing
 pub mod Rows
 pub mod Adding
 pub mod Hundredths
-pub mod Measuring
 pub mod Writing

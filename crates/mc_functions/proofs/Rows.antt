@@ -1,5 +1,5 @@
 -- Rows to which obligations are added.
-use Rattle.std.proofs.Common.{◌≡◌, ◌∙◌, ◌+◌, ◌<◌, ◌≤◌, ℕ, zero, suc, Bool, true, false, nat_eq, List, [], ◌∷◌, length, get_or, refl, sym, ap, subst, arith}
+use Rattle.std.proofs.Common.{◌≡◌, ◌∙◌, ◌+◌, ◌-◌, ◌<◌, ◌≤◌, ℕ, zero, suc, Bool, true, false, nat_eq, List, [], ◌∷◌, length, take, drop, get_or, refl, sym, ap, subst, arith}
 use Rattle.std.specs.Prelude.{if◌then◌else◌, ◌&&◌, ◌==◌}
 use Rattle.std.proofs.lemmas.Bool.Decides.{nat_tests}
 use Rattle.mc_oblige.specs.declared.obligation.Obligation.{Obligation}
@@ -14,6 +14,7 @@ use Rattle.mc_functions.specs.Kinds.{kind_of, same_kind}
 use Rattle.mc_functions.specs.Counts.{counted, counts_of, is_verdict, of_kind, of_verdict}
 use Rattle.mc_functions.specs.Standing.{function_of}
 use Rattle.mc_functions.specs.Measured.{Measured, all_counts, is_counted, is_in, names_of, row_of}
+use Rattle.mc_functions.proofs.Firsts.{first_is}
 use Rattle.mc_functions.specs.steps.Table.{AreEmpty, AreRows, added, no_counts, no_row, one_more, with_one}
 
 -- ---- what a row has after one more
@@ -40,42 +41,42 @@ more_of Missing Stale c = omega arith
 more_of Missing Missing c = omega arith
 
 kind_more : (asked kind : Kind) (state : VerdictState) (r : Row) → of_kind asked (with_one kind state r) ≡ (if same_kind asked kind then one_more state (of_kind asked r) else of_kind asked r)
-kind_more Entries Entries state r = refl
-kind_more Entries Exits state r = refl
-kind_more Entries Statements state r = refl
-kind_more Entries Labels state r = refl
-kind_more Entries Outcomes state r = refl
-kind_more Entries Conditions state r = refl
-kind_more Exits Entries state r = refl
-kind_more Exits Exits state r = refl
-kind_more Exits Statements state r = refl
-kind_more Exits Labels state r = refl
-kind_more Exits Outcomes state r = refl
-kind_more Exits Conditions state r = refl
-kind_more Statements Entries state r = refl
-kind_more Statements Exits state r = refl
-kind_more Statements Statements state r = refl
-kind_more Statements Labels state r = refl
-kind_more Statements Outcomes state r = refl
-kind_more Statements Conditions state r = refl
-kind_more Labels Entries state r = refl
-kind_more Labels Exits state r = refl
-kind_more Labels Statements state r = refl
-kind_more Labels Labels state r = refl
-kind_more Labels Outcomes state r = refl
-kind_more Labels Conditions state r = refl
-kind_more Outcomes Entries state r = refl
-kind_more Outcomes Exits state r = refl
-kind_more Outcomes Statements state r = refl
-kind_more Outcomes Labels state r = refl
-kind_more Outcomes Outcomes state r = refl
-kind_more Outcomes Conditions state r = refl
-kind_more Conditions Entries state r = refl
-kind_more Conditions Exits state r = refl
-kind_more Conditions Statements state r = refl
-kind_more Conditions Labels state r = refl
-kind_more Conditions Outcomes state r = refl
-kind_more Conditions Conditions state r = refl
+kind_more Entries Entries _ r = refl
+kind_more Entries Exits _ r = refl
+kind_more Entries Statements _ r = refl
+kind_more Entries Labels _ r = refl
+kind_more Entries Outcomes _ r = refl
+kind_more Entries Conditions _ r = refl
+kind_more Exits Entries _ r = refl
+kind_more Exits Exits _ r = refl
+kind_more Exits Statements _ r = refl
+kind_more Exits Labels _ r = refl
+kind_more Exits Outcomes _ r = refl
+kind_more Exits Conditions _ r = refl
+kind_more Statements Entries _ r = refl
+kind_more Statements Exits _ r = refl
+kind_more Statements Statements _ r = refl
+kind_more Statements Labels _ r = refl
+kind_more Statements Outcomes _ r = refl
+kind_more Statements Conditions _ r = refl
+kind_more Labels Entries _ r = refl
+kind_more Labels Exits _ r = refl
+kind_more Labels Statements _ r = refl
+kind_more Labels Labels _ r = refl
+kind_more Labels Outcomes _ r = refl
+kind_more Labels Conditions _ r = refl
+kind_more Outcomes Entries _ r = refl
+kind_more Outcomes Exits _ r = refl
+kind_more Outcomes Statements _ r = refl
+kind_more Outcomes Labels _ r = refl
+kind_more Outcomes Outcomes _ r = refl
+kind_more Outcomes Conditions _ r = refl
+kind_more Conditions Entries _ r = refl
+kind_more Conditions Exits _ r = refl
+kind_more Conditions Statements _ r = refl
+kind_more Conditions Labels _ r = refl
+kind_more Conditions Outcomes _ r = refl
+kind_more Conditions Conditions _ r = refl
 
 by_kind : (t : Bool) (asked state : VerdictState) (c : Counts) → of_verdict asked (if t then one_more state c else c) ≡ of_verdict asked c + one_if (t && is_verdict asked state)
 by_kind true asked state c = more_of asked state c
@@ -105,22 +106,22 @@ of_row m k Outcomes asked = of_counts asked (belongs m k Outcomes) m.obligations
 of_row m k Conditions asked = of_counts asked (belongs m k Conditions) m.obligations m.verdicts
 
 pub same_counts : (a b : Counts) → ((asked : VerdictState) → of_verdict asked a ≡ of_verdict asked b) → a ≡ b
-same_counts a b each =
-    let met : a.met ≡ b.met = each Met in
-    let justified : a.justified ≡ b.justified = each Justified in
-    let stale : a.stale ≡ b.stale = each Stale in
-    let missing : a.missing ≡ b.missing = each Missing in
-    cc
+same_counts a b each = λ i. record {
+  met = each Met i;
+  justified = each Justified i;
+  stale = each Stale i;
+  missing = each Missing i;
+}
 
 pub same_row : (a b : Row) → ((kind : Kind) (asked : VerdictState) → of_verdict asked (of_kind kind a) ≡ of_verdict asked (of_kind kind b)) → a ≡ b
-same_row a b each =
-    let entries : a.entries ≡ b.entries = same_counts a.entries b.entries (each Entries) in
-    let exits : a.exits ≡ b.exits = same_counts a.exits b.exits (each Exits) in
-    let statements : a.statements ≡ b.statements = same_counts a.statements b.statements (each Statements) in
-    let labels : a.labels ≡ b.labels = same_counts a.labels b.labels (each Labels) in
-    let outcomes : a.outcomes ≡ b.outcomes = same_counts a.outcomes b.outcomes (each Outcomes) in
-    let conditions : a.conditions ≡ b.conditions = same_counts a.conditions b.conditions (each Conditions) in
-    cc
+same_row a b each = λ i. record {
+  entries = same_counts a.entries b.entries (each Entries) i;
+  exits = same_counts a.exits b.exits (each Exits) i;
+  statements = same_counts a.statements b.statements (each Statements) i;
+  labels = same_counts a.labels b.labels (each Labels) i;
+  outcomes = same_counts a.outcomes b.outcomes (each Outcomes) i;
+  conditions = same_counts a.conditions b.conditions (each Conditions) i;
+}
 
 -- ---- so many at most
 
@@ -199,7 +200,7 @@ module _ (m : Measured) where
 
   module _ (o : Obligation) (v : Verdict) (os : List Obligation) (vs : List Verdict) where
     -- how many the obligation is of those
-    own : ℕ → Kind → VerdictState → ℕ
+    abbrev own : ℕ → Kind → VerdictState → ℕ
     own k kind asked = one_if (belongs m k kind o && is_verdict asked v.state)
 
     own_none : (c b t : Bool) → c ≡ false → one_if ((c && b) && t) ≡ 0
@@ -252,3 +253,39 @@ module _ (m : Measured) where
         own_one (is_counted m o) (is_in (names_of m) function (kind_of o.id) o) (is_verdict v.state v.state) chosen
         (both (function == function) (same_kind (kind_of o.id) (kind_of o.id)) (itself function) (same_self (kind_of o.id))) (verdict_self v.state) in
         omega (arith, at.each function lt (kind_of o.id) v.state, one, of_row m function (kind_of o.id) v.state, few (belongs m function (kind_of o.id)) v.state m.obligations m.verdicts)
+
+  -- ---- the same of lists of which something is left
+
+  any_first : (os : List Obligation) (d e : Obligation) → 1 ≤ length os → get_or os 0 d ≡ get_or os 0 e
+  any_first [] d e some = absurd (omega arith)
+  any_first (o ∷ os) d e some = refl
+
+  split : (rows : List Row) (os : List Obligation) (vs : List Verdict) (d : Obligation) (v : Verdict) → IsAt rows os vs → 1 ≤ length os → 1 ≤ length vs → v ≡ get_or vs 0 v
+      → IsAt rows (get_or os 0 d ∷ take (length os - 1) (drop 1 os)) (v ∷ take (length vs - 1) (drop 1 vs))
+  split rows os vs d v at some some_too is =
+      let o : Obligation = get_or os 0 d in
+      let whole : os ≡ o ∷ take (length os - 1) (drop 1 os) = first_is os o some (any_first os d o some) in
+      let whole_too : vs ≡ v ∷ take (length vs - 1) (drop 1 vs) = first_is vs v some_too is in
+      subst (λ (ws : List Verdict). IsAt rows (o ∷ take (length os - 1) (drop 1 os)) ws) whole_too (subst (λ (ps : List Obligation). IsAt rows ps vs) whole at)
+
+  pub room_left : (rows : List Row) (os : List Obligation) (vs : List Verdict) (d : Obligation) (v : Verdict) → IsAt rows os vs → 1 ≤ length os → 1 ≤ length vs → v ≡ get_or vs 0 v
+      → is_counted m (get_or os 0 d) ≡ true → function_of (names_of m) (get_or os 0 d).span.start < length rows
+      → of_verdict v.state (of_kind (kind_of (get_or os 0 d).id) (get_or rows (function_of (names_of m) (get_or os 0 d).span.start) no_row)) + 1 ≤ length m.obligations
+  room_left rows os vs d v at some some_too is chosen lt =
+      room (get_or os 0 d) v (take (length os - 1) (drop 1 os)) (take (length vs - 1) (drop 1 vs)) rows (split rows os vs d v at some some_too is) chosen lt
+
+  pub next_left : (rows more : List Row) (os : List Obligation) (vs : List Verdict) (d : Obligation) (v : Verdict) → IsAt rows os vs → 1 ≤ length os → 1 ≤ length vs → v ≡ get_or vs 0 v
+      → is_counted m (get_or os 0 d) ≡ true → length more ≡ length rows
+      → ((k : ℕ) → k < length rows → get_or more k no_row ≡ added (function_of (names_of m) (get_or os 0 d).span.start) (kind_of (get_or os 0 d).id) v.state k (get_or rows k no_row))
+      → IsAt more (take (length os - 1) (drop 1 os)) (take (length vs - 1) (drop 1 vs))
+  next_left rows more os vs d v at some some_too is chosen same turned =
+      one_on (get_or os 0 d) v (take (length os - 1) (drop 1 os)) (take (length vs - 1) (drop 1 vs)) rows more (split rows os vs d v at some some_too is) chosen same turned
+
+  pub out_left : (rows : List Row) (os : List Obligation) (vs : List Verdict) (d : Obligation) (v : Verdict) → IsAt rows os vs → 1 ≤ length os → 1 ≤ length vs → v ≡ get_or vs 0 v
+      → is_counted m (get_or os 0 d) ≡ false → IsAt rows (take (length os - 1) (drop 1 os)) (take (length vs - 1) (drop 1 vs))
+  out_left rows os vs d v at some some_too is out =
+      left_out (get_or os 0 d) v (take (length os - 1) (drop 1 os)) (take (length vs - 1) (drop 1 vs)) rows (split rows os vs d v at some some_too is) out
+
+  pub none_left : (rows : List Row) (os : List Obligation) (vs : List Verdict) → IsAt rows os vs → length os < 1 → AreRows m rows
+  none_left rows [] vs at few = at_end rows vs at
+  none_left rows (o ∷ os) vs at few = absurd (omega arith)

@@ -39,13 +39,15 @@ numbers_text places c =
     ∷ [])
 
 -- how many are justified, and how many stale
+abbrev pub notes_text : Counts → List ℕ
+notes_text c = noted (codes "justified") c.justified ++ noted (codes "stale") c.stale
+
+abbrev pub word_text : Kind → List ℕ
+word_text kind = concat (codes "  " ∷ left_in 10 (kind_word kind) ∷ codes "  " ∷ [])
+
 abbrev pub kind_line : (places : ℕ) → Kind → Counts → List ℕ
 kind_line places kind c =
-    concat (codes "  " ∷ left_in 10 (kind_word kind) ∷ codes "  " ∷ numbers_text places c
-    ∷ noted (codes "justified") c.justified
-    ∷ noted (codes "stale") c.stale
-    ∷ newline
-    ∷ [])
+    concat (word_text kind ∷ numbers_text places c ∷ notes_text c ∷ newline ∷ [])
 
 -- a kind of which there is none has no line
 abbrev pub kind_lines : ℕ → Kind → Counts → List (List ℕ)

@@ -2,7 +2,7 @@
 ghost use Rattle.std.specs.Prelude.{◌≡◌, ◌++◌, ◌≤◌, IfOk, OnOk};
 ghost use Rattle.mc_functions.specs.Counts.{total};
 ghost use Rattle.mc_functions.specs.Seen.{bytes_of};
-ghost use Rattle.mc_functions.specs.Text.{kind_line, kind_lines, noted, numbers_text};
+ghost use Rattle.mc_functions.specs.Text.{kind_line, kind_lines, noted, notes_text, numbers_text, word_text};
 
 use crate::counts::Counts;
 use crate::kind::Kind;
@@ -41,6 +41,24 @@ fn push_noted(alloc: Global, line: &mut Vec<u8>, word: &str, count: usize) -> Re
     line.extend_from_slice(text.as_bytes())
 }
 
+/// Adds how many are justified, and how many stale.
+fn push_notes(alloc: Global, line: &mut Vec<u8>, counts: Counts) -> Result<(), AllocError>
+    ensures { OnOk result (line.new.items ≡ line.old.items ++ notes_text counts) }
+{
+    push_noted(alloc, line, "justified", counts.justified)?;
+    push_noted(alloc, line, "stale", counts.stale)?;
+    Ok(())
+}
+
+fn push_word(line: &mut Vec<u8>, kind: Kind) -> Result<(), AllocError>
+    ensures { OnOk result (line.new.items ≡ line.old.items ++ word_text kind) }
+{
+    line.extend_from_slice(b"  ")?;
+    push_left(line, 10, kind.word())?;
+    line.extend_from_slice(b"  ")?;
+    Ok(())
+}
+
 fn kind_line(
     alloc: Global,
     places: usize,
@@ -51,12 +69,9 @@ fn kind_line(
     ensures { IfOk result (λ line. line.items ≡ kind_line places kind counts) }
 {
     let mut line = Vec::new(alloc);
-    line.extend_from_slice(b"  ")?;
-    push_left(&mut line, 10, kind.word())?;
-    line.extend_from_slice(b"  ")?;
+    push_word(&mut line, kind)?;
     push_numbers(alloc, &mut line, places, counts)?;
-    push_noted(alloc, &mut line, "justified", counts.justified)?;
-    push_noted(alloc, &mut line, "stale", counts.stale)?;
+    push_notes(alloc, &mut line, counts)?;
     line.push(b'\n')?;
     Ok(line)
 }

@@ -3,7 +3,7 @@ ghost use Rattle.std.specs.Prelude.{◌≡◌, ◌++◌, ◌∷◌, [], length, 
 ghost use Rattle.mc_functions.specs.Measured.{all_counts, elsewhere};
 ghost use Rattle.mc_functions.specs.Seen.{bytes_of, measured_of};
 ghost use Rattle.mc_functions.specs.Status.{status_of};
-ghost use Rattle.mc_functions.specs.Text.{all_line, all_word, function_lines, function_text, head_line, others, row_lines, status_line, sums_text, texts_from};
+ghost use Rattle.mc_functions.specs.Text.{all_line, all_word, function_lines, function_text, head_line, others, places_for, row_lines, status_line, sums_text, texts_from};
 ghost use Rattle.mc_functions.specs.steps.Table.{AreRows};
 
 use crate::counts::Counts;
@@ -48,6 +48,25 @@ fn push_row(
     push_kind(alloc, lines, places, Kind::Conditions, row.conditions)
 }
 
+/// Adds the head line of a function and the lines of its kinds.
+fn push_counted(
+    alloc: Global,
+    lines: &mut Vec<Vec<u8>>,
+    places: &Places<'_>,
+    entry: &Obligation,
+    row: Row,
+) -> Result<(), AllocError>
+    ensures { OnOk result (bytes_of lines.new.items ≡ bytes_of lines.old.items
+        ++ head_line places.now.text.now entry.now ∷ row_lines (places_for row) row) }
+{
+    let most = row.most();
+    let widest = format!(in alloc; "{most}")?;
+    let line = head_line(alloc, places, entry)?;
+    lines.push(line)?;
+    push_row(alloc, lines, widest.len(), row)?;
+    Ok(())
+}
+
 /// Adds the lines of a function; one of which nothing is counted has none.
 fn push_function(
     alloc: Global,
@@ -62,11 +81,8 @@ fn push_function(
     if row.all() == 0 {
         return Ok(());
     }
-    let most = row.most();
-    let widest = format!(in alloc; "{most}")?;
-    let line = head_line(alloc, places, entry)?;
-    lines.push(line)?;
-    push_row(alloc, lines, widest.len(), row)
+    push_counted(alloc, lines, places, entry, row)?;
+    Ok(())
 }
 
 /// Adds the lines of all functions.

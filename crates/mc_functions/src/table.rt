@@ -26,12 +26,12 @@ fn empty(alloc: Global, count: usize) -> Result<Vec<Row>, AllocError>
 }
 
 /// Adds one obligation to a row.
-fn add(rows: &mut [Row], function: usize, kind: Kind, state: VerdictState)
-    requires { function < length rows.old → of_verdict state
-        (of_kind kind (slice_index_or rows.old function no_row)) + 1 < 2 ^ 64 }
-    ensures whole { length rows.new ≡ length rows.old }
-    ensures each { (k : ℕ) → k < length rows.old → slice_index_or rows.new k no_row
-        ≡ added function kind state k (slice_index_or rows.old k no_row) }
+fn add(rows: &mut Vec<Row>, function: usize, kind: Kind, state: VerdictState)
+    requires { function < length rows.old.items → of_verdict state
+        (of_kind kind (slice_index_or rows.old.items function no_row)) + 1 < 2 ^ 64 }
+    ensures whole { length rows.new.items ≡ length rows.old.items }
+    ensures each { (k : ℕ) → k < length rows.old.items → slice_index_or rows.new.items k no_row
+        ≡ added function kind state k (slice_index_or rows.old.items k no_row) }
 {
     if function < rows.len() {
         rows[function] = rows[function].with(kind, state);
