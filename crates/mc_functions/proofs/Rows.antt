@@ -1,5 +1,5 @@
 -- Rows to which obligations are added.
-use Rattle.std.proofs.Common.{◌≡◌, ◌∙◌, ◌+◌, ◌-◌, ◌<◌, ◌≤◌, ℕ, zero, suc, Bool, true, false, nat_eq, List, [], ◌∷◌, length, take, drop, get_or, refl, sym, ap, subst, arith}
+use Rattle.std.proofs.Common.{◌≡◌, ◌∙◌, ◌+◌, ◌-◌, ◌<◌, ◌≤◌, ℕ, Bool, true, false, nat_eq, List, [], ◌∷◌, length, take, drop, get_or, refl, sym, ap, subst, arith}
 use Rattle.std.specs.Prelude.{if◌then◌else◌, ◌&&◌, ◌==◌}
 use Rattle.std.proofs.lemmas.Bool.Decides.{nat_tests}
 use Rattle.mc_oblige.specs.declared.obligation.Obligation.{Obligation}
@@ -13,9 +13,9 @@ use Rattle.mc_functions.specs.declared.kind.Kind.TheVariants.{Entries, Exits, St
 use Rattle.mc_functions.specs.Kinds.{kind_of, same_kind}
 use Rattle.mc_functions.specs.Counts.{counted, counts_of, is_verdict, of_kind, of_verdict}
 use Rattle.mc_functions.specs.Standing.{function_of}
-use Rattle.mc_functions.specs.Measured.{Measured, all_counts, is_counted, is_in, names_of, row_of}
+use Rattle.mc_functions.specs.Measured.{Measured, is_counted, is_in, names_of, row_of}
 use Rattle.mc_functions.proofs.Firsts.{first_is}
-use Rattle.mc_functions.specs.steps.Table.{AreEmpty, AreRows, added, no_counts, no_row, one_more, with_one}
+use Rattle.mc_functions.specs.steps.Table.{AreEmpty, AreRows, added, no_row, one_more, with_one}
 
 -- ---- what a row has after one more
 

@@ -1,6 +1,5 @@
 -- Lines of functions, one after the other.
-use Rattle.std.proofs.Common.{◌≡◌, ◌∙◌, ◌+◌, ◌-◌, ◌<◌, ◌≤◌, ℕ, suc, Bool, true, false, List, [], ◌∷◌, ◌++◌, Option, length, take, drop, get_or, append_assoc, refl, sym, ap, subst, arith}
-use Rattle.std.specs.Prelude.{if◌then◌else◌}
+use Rattle.std.proofs.Common.{◌≡◌, ◌∙◌, ◌+◌, ◌-◌, ◌<◌, ◌≤◌, ℕ, suc, true, List, [], ◌∷◌, ◌++◌, Option, length, take, drop, get_or, append_assoc, refl, sym, ap, arith}
 use Rattle.mc_oblige.specs.declared.obligation.Obligation.{Obligation}
 use Rattle.mc_functions.specs.declared.row.Row.{Row}
 use Rattle.mc_functions.specs.Standing.{is_entry, name_places}

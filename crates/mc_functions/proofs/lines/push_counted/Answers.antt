@@ -1,4 +1,4 @@
-use Rattle.std.proofs.Common.{◌≡◌, ◌∙◌, ℕ, ◌++◌, ap}
+use Rattle.std.proofs.Common.{◌∙◌, ℕ, ◌++◌, ap}
 use Rattle.mc_functions.specs.Seen.{bytes_of}
 use Rattle.mc_functions.specs.Text.{head_line, places_for, row_lines}
 use Rattle.mc_functions.proofs.Writing.{head_then}

@@ -1,4 +1,4 @@
-use Rattle.std.proofs.Common.{◌≡◌, ◌∙◌, ◌+◌, ◌<◌, ◌++◌, length, sym, arith}
+use Rattle.std.proofs.Common.{◌∙◌, ◌<◌, ◌++◌, length, sym, arith}
 use Rattle.mc_oblige.specs.declared.obligation.ObligationId.TheVariants.{Entry}
 use Rattle.mc_oblige.specs.declared.obligation.Obligation.{Obligation}
 use Rattle.mc_functions.specs.Seen.{bytes_of, measured_of}

@@ -1,5 +1,4 @@
-use Rattle.std.proofs.Common.{◌≡◌, ◌∙◌, ◌+◌, ◌<◌, ◌≤◌, ℕ, List, length, get_or, sym, ap, rules, arith}
-use Rattle.mc_span.specs.declared.span.Span.{Span}
+use Rattle.std.proofs.Common.{◌∙◌, ◌+◌, ◌≤◌, ℕ, List, length, get_or, sym, ap, rules, arith}
 use Rattle.mc_oblige.specs.declared.obligation.ObligationId.TheVariants.{Entry}
 use Rattle.mc_oblige.specs.declared.obligation.Obligation.{Obligation}
 use Rattle.mc_functions.specs.Counts.{of_kind, of_verdict}
