@@ -1,5 +1,5 @@
 -- The counts of all functions, added.
-use Rattle.std.proofs.Common.{◌≡◌, ◌∙◌, ◌+◌, ◌<◌, ◌≤◌, ℕ, zero, suc, Bool, true, false, nat_eq, List, [], ◌∷◌, length, refl, sym, ap, arith, inl, inr}
+use Rattle.std.proofs.Common.{◌≡◌, ◌∙◌, ◌+◌, ◌<◌, ◌≤◌, ℕ, zero, suc, Bool, true, false, nat_eq, List, [], ◌∷◌, length, refl, arith, inl, inr}
 use Rattle.std.specs.Prelude.{if◌then◌else◌, ◌&&◌, ◌==◌}
 use Rattle.std.proofs.lemmas.Bool.Decides.{nat_tests}
 use Rattle.std.proofs.lemmas.Bool.{cases_lt}
@@ -9,7 +9,7 @@ use Rattle.mc_oblige.specs.declared.verdict.VerdictState.{VerdictState}
 use Rattle.mc_functions.specs.declared.kind.Kind.{Kind}
 use Rattle.mc_functions.specs.Kinds.{kind_of, same_kind}
 use Rattle.mc_functions.specs.Counts.{counted, is_verdict, of_kind, of_verdict}
-use Rattle.mc_functions.specs.Standing.{StandsIn, function_of}
+use Rattle.mc_functions.specs.Standing.{function_of}
 use Rattle.mc_functions.specs.Measured.{Measured, is_counted, names_of, row_of}
 use Rattle.mc_functions.specs.Sums.{sum_below}
 use Rattle.mc_functions.proofs.Standing.{stands}

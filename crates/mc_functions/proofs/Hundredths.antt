@@ -1,5 +1,5 @@
 -- When all are met.
-use Rattle.std.proofs.Common.{◌≡◌, ◌∙◌, ◌+◌, ◌*◌, ◌/◌, ◌≤◌, ℕ, ap, arith}
+use Rattle.std.proofs.Common.{◌≡◌, ◌∙◌, ◌*◌, ◌/◌, ◌≤◌, ℕ, ap, arith}
 use Rattle.std.proofs.Math.Nat.{mul-div-le, div-eq_of_lt-le}
 use Rattle.mc_functions.specs.declared.counts.Counts.{Counts}
 use Rattle.mc_functions.specs.Counts.{percentage, total}

@@ -1,5 +1,5 @@
 -- Rows to which obligations are added.
-use Rattle.std.proofs.Common.{◌≡◌, ◌∙◌, ◌+◌, ◌-◌, ◌<◌, ◌≤◌, ℕ, zero, suc, Bool, true, false, nat_eq, List, [], ◌∷◌, length, take, drop, get_or, refl, sym, ap, subst, arith}
+use Rattle.std.proofs.Common.{◌≡◌, ◌∙◌, ◌+◌, ◌-◌, ◌<◌, ◌≤◌, ℕ, Bool, true, false, nat_eq, List, [], ◌∷◌, length, take, drop, get_or, refl, sym, ap, subst, arith}
 use Rattle.std.specs.Prelude.{if◌then◌else◌, ◌&&◌, ◌==◌}
 use Rattle.std.proofs.lemmas.Bool.Decides.{nat_tests}
 use Rattle.mc_oblige.specs.declared.obligation.Obligation.{Obligation}
@@ -13,9 +13,9 @@ use Rattle.mc_functions.specs.declared.kind.Kind.TheVariants.{Entries, Exits, St
 use Rattle.mc_functions.specs.Kinds.{kind_of, same_kind}
 use Rattle.mc_functions.specs.Counts.{counted, counts_of, is_verdict, of_kind, of_verdict}
 use Rattle.mc_functions.specs.Standing.{function_of}
-use Rattle.mc_functions.specs.Measured.{Measured, all_counts, is_counted, is_in, names_of, row_of}
+use Rattle.mc_functions.specs.Measured.{Measured, is_counted, is_in, names_of, row_of}
 use Rattle.mc_functions.proofs.Firsts.{first_is}
-use Rattle.mc_functions.specs.steps.Table.{AreEmpty, AreRows, added, no_counts, no_row, one_more, with_one}
+use Rattle.mc_functions.specs.steps.Table.{AreEmpty, AreRows, added, no_row, one_more, with_one}
 
 -- ---- what a row has after one more
 
@@ -289,3 +289,22 @@ module _ (m : Measured) where
   pub none_left : (rows : List Row) (os : List Obligation) (vs : List Verdict) → IsAt rows os vs → length os < 1 → AreRows m rows
   none_left rows [] vs at few = at_end rows vs at
   none_left rows (o ∷ os) vs at few = absurd (omega arith)
+
+  -- by a number and a kind that the code has found
+  pub room_for : (rows : List Row) (os : List Obligation) (vs : List Verdict) (d : Obligation) (v : Verdict) (function_found : ℕ) (kind : Kind) → IsAt rows os vs → 1 ≤ length os → 1 ≤ length vs → v ≡ get_or vs 0 v
+      → is_counted m (get_or os 0 d) ≡ true → function_found ≡ function_of (names_of m) (get_or os 0 d).span.start → kind ≡ kind_of (get_or os 0 d).id → function_found < length rows
+      → of_verdict v.state (of_kind kind (get_or rows function_found no_row)) + 1 ≤ length m.obligations
+  room_for rows os vs d v function_found kind at some some_too is chosen same same_too lt =
+      let room_there = room_left rows os vs d v at some some_too is chosen (subst (λ (k : ℕ). k < length rows) same lt) in
+      subst (λ (k : Kind). of_verdict v.state (of_kind k (get_or rows function_found no_row)) + 1 ≤ length m.obligations) (sym same_too)
+      (subst (λ (f : ℕ). of_verdict v.state (of_kind (kind_of (get_or os 0 d).id) (get_or rows f no_row)) + 1 ≤ length m.obligations) (sym same) room_there)
+
+  pub next_for : (rows more : List Row) (os : List Obligation) (vs : List Verdict) (d : Obligation) (v : Verdict) (function_found : ℕ) (kind : Kind) → IsAt rows os vs → 1 ≤ length os → 1 ≤ length vs → v ≡ get_or vs 0 v
+      → is_counted m (get_or os 0 d) ≡ true → function_found ≡ function_of (names_of m) (get_or os 0 d).span.start → kind ≡ kind_of (get_or os 0 d).id → length more ≡ length rows
+      → ((k : ℕ) → k < length rows → get_or more k no_row ≡ added function_found kind v.state k (get_or rows k no_row))
+      → IsAt more (take (length os - 1) (drop 1 os)) (take (length vs - 1) (drop 1 vs))
+  next_for rows more os vs d v function_found kind at some some_too is chosen same same_too whole turned =
+      next_left rows more os vs d v at some some_too is chosen whole (λ k lt.
+      turned k lt
+      ∙ ap (λ (f : ℕ). added f kind v.state k (get_or rows k no_row)) same
+      ∙ ap (λ (n : Kind). added (function_of (names_of m) (get_or os 0 d).span.start) n v.state k (get_or rows k no_row)) same_too)

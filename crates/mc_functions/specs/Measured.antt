@@ -1,5 +1,5 @@
 -- What is counted of a measured program.
-use Rattle.std.specs.Prelude.{ℕ, Bool, true, false, not, ◌&&◌, ◌==◌, List, count_by, Option, Some, None}
+use Rattle.std.specs.Prelude.{ℕ, Bool, true, not, ◌&&◌, ◌==◌, List, count_by, Option, Some, None}
 use Rattle.mc_typed.specs.declared.plans.TestState.{TestState}
 use Rattle.mc_oblige.specs.declared.obligation.Obligation.{Obligation}
 use Rattle.mc_oblige.specs.declared.verdict.Verdict.{Verdict}
@@ -9,7 +9,7 @@ use Rattle.mc_functions.specs.declared.row.Row.{Row}
 use Rattle.mc_functions.specs.declared.kind.Kind.{Kind}
 use Rattle.mc_functions.specs.declared.kind.Kind.TheVariants.{Entries, Exits, Statements, Labels, Outcomes, Conditions}
 use Rattle.mc_functions.specs.Kinds.{kind_of, same_kind}
-use Rattle.mc_functions.specs.Counts.{counted, counts_of}
+use Rattle.mc_functions.specs.Counts.{counts_of}
 use Rattle.mc_functions.specs.Standing.{function_of, name_places}
 
 -- the preprocessed source, its obligations with a verdict for each, how the tests ended, and the

@@ -1,7 +1,7 @@
 -- In which function an obligation stands.
-use Rattle.std.specs.Prelude.{◌≡◌, ℕ, ◌+◌, ◌<◌, ◌≤◌, ◌⊎◌, Bool, true, false, nat_le, if◌then◌else◌, List, [], ◌∷◌, length, filter, slice_index_or, EachIndex}
+use Rattle.std.specs.Prelude.{◌≡◌, ℕ, ◌+◌, ◌<◌, ◌≤◌, ◌⊎◌, Bool, true, false, nat_le, if◌then◌else◌, List, [], ◌∷◌, length, slice_index_or}
 use Rattle.mc_oblige.specs.declared.obligation.ObligationId.{ObligationId}
-use Rattle.mc_oblige.specs.declared.obligation.ObligationId.TheVariants.{Entry, Exit, Statement, Label, Outcome, Condition}
+use Rattle.mc_oblige.specs.declared.obligation.ObligationId.TheVariants.{Entry}
 use Rattle.mc_oblige.specs.declared.obligation.Obligation.{Obligation}
 
 abbrev pub is_entry : ObligationId → Bool

@@ -48,6 +48,29 @@ fn push_row(
     push_kind(alloc, lines, places, Kind::Conditions, row.conditions)
 }
 
+fn push_head(
+    alloc: Global,
+    lines: &mut Vec<Vec<u8>>,
+    places: &Places<'_>,
+    entry: &Obligation,
+) -> Result<(), AllocError>
+    ensures { OnOk result (bytes_of lines.new.items ≡ bytes_of lines.old.items
+        ++ head_line places.now.text.now entry.now ∷ []) }
+{
+    let line = head_line(alloc, places, entry)?;
+    lines.push(line)?;
+    Ok(())
+}
+
+/// How many places the greatest number of the row takes.
+fn places_for(alloc: Global, row: Row) -> Result<usize, AllocError>
+    ensures { IfOk result (λ count. count ≡ places_for row) }
+{
+    let most = row.most();
+    let widest = format!(in alloc; "{most}")?;
+    Ok(widest.as_bytes().len())
+}
+
 /// Adds the head line of a function and the lines of its kinds.
 fn push_counted(
     alloc: Global,
@@ -59,11 +82,9 @@ fn push_counted(
     ensures { OnOk result (bytes_of lines.new.items ≡ bytes_of lines.old.items
         ++ head_line places.now.text.now entry.now ∷ row_lines (places_for row) row) }
 {
-    let most = row.most();
-    let widest = format!(in alloc; "{most}")?;
-    let line = head_line(alloc, places, entry)?;
-    lines.push(line)?;
-    push_row(alloc, lines, widest.len(), row)?;
+    let count = places_for(alloc, row)?;
+    push_head(alloc, lines, places, entry)?;
+    push_row(alloc, lines, count, row)?;
     Ok(())
 }
 

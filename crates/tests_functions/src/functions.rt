@@ -229,3 +229,57 @@ fn counts_of_rows(rt: HostRuntime) -> Result<(), Fail> {
     }
     Ok(())
 }
+
+/// A text of two lines for each of so many functions.
+fn thousand(alloc: Global) -> Result<Vec<u8>, AllocError> {
+    let mut source = Vec::new(alloc);
+    for _function in 0..1000 {
+        source.extend_from_slice(b"# 5 \"m.c\"\nint f(void){return 1;}\n")?;
+    }
+    Ok(source)
+}
+
+/// The entry and the statement of each of them.
+fn found_in_thousand(alloc: Global) -> Result<Vec<Found>, AllocError> {
+    let mut found: Vec<Found> = Vec::new(alloc);
+    for number in 0..1000u32 {
+        let start = number * 33;
+        found.push((ObligationId::Entry(number), start + 14, start + 15, MET))?;
+        found.push((ObligationId::Statement(number), start + 22, start + 31, MET))?;
+    }
+    Ok(found)
+}
+
+fn is_line(lines: &[Vec<u8>], number: usize, text: &[u8]) -> bool {
+    match lines.get(number) {
+        Some(line) => line.as_slice() == text,
+        None => false,
+    }
+}
+
+#[test]
+fn counts_of_a_thousand_functions(rt: HostRuntime) -> Result<(), Fail> {
+    let alloc = rt.alloc();
+    let source = thousand(alloc)?;
+    assert!(rt; source.len() == 33_000);
+    let found = found_in_thousand(alloc)?;
+    let places = Places::of(alloc, &source)?;
+    let obligations = obligations(alloc, &found)?;
+    let verdicts = verdicts(alloc, &found)?;
+    let measured = Measured {
+        places: &places,
+        obligations: &obligations,
+        verdicts: &verdicts,
+        states: &[],
+        file: Some(b"m.c"),
+    };
+    let lines = function_lines(alloc, &measured)?;
+    assert_eq!(rt; lines.len(), 3002);
+    assert!(rt; is_line(&lines, 0, b"f m.c:5 (2:5)\n"));
+    assert!(rt; is_line(&lines, 2997, b"f m.c:5 (2000:5)\n"));
+    assert!(rt; is_line(&lines, 2999, b"  statements  1 of 1  100 %\n"));
+    let all =
+        b"all of m.c: 2000 of 2000 met, 0 justified, 0 stale, 0 missing; 0 more in other files\n";
+    assert!(rt; is_line(&lines, 3000, all.as_slice()));
+    Ok(())
+}

@@ -1,4 +1,4 @@
-use Rattle.std.proofs.Common.{◌≡◌, ◌+◌, ◌<◌, ◌≤◌, ℕ, length, get_or}
+use Rattle.std.proofs.Common.{◌≡◌, ◌+◌, ◌<◌, ℕ, length, get_or}
 use Rattle.mc_functions.specs.steps.Table.{no_row}
 use Rattle.mc_functions.proofs.table.empty.Given as goal
 
