@@ -27,12 +27,6 @@ MCDC_FUNCTION int mcdc_condition(unsigned *sum, unsigned if_true, unsigned if_fa
   return truth;
 }
 
-/* A decision has its outcome: the sum tells which path its conditions took. */
-MCDC_FUNCTION int mcdc_decision(const unsigned *sum, unsigned first, int outcome) {
-  mcdc_hit(first + *sum);
-  return outcome;
-}
-
 #else
 
 #ifndef MCDC_BITS
@@ -56,7 +50,7 @@ MCDC_FUNCTION void mcdc_hit(unsigned bit) {
   if (bit < MCDC_BITS) mcdc_row[bit] = 1;
 }
 
-/* As above, with a way of its own for each truth and each outcome: on it a compiler may know the sum. */
+/* As above, with a way of its own for each truth: on it a compiler may know the sum. */
 MCDC_FUNCTION int mcdc_condition(unsigned *sum, unsigned if_true, unsigned if_false, int truth) {
   if (truth) {
     *sum += if_true;
@@ -66,20 +60,17 @@ MCDC_FUNCTION int mcdc_condition(unsigned *sum, unsigned if_true, unsigned if_fa
   return 0;
 }
 
-MCDC_FUNCTION int mcdc_decision(const unsigned *sum, unsigned first, int outcome) {
-  if (outcome) {
-    mcdc_hit(first + *sum);
-    return 1;
-  }
-  mcdc_hit(first + *sum);
-  return 0;
-}
-
 #endif
 
 /* A decision begins: none of its conditions has been evaluated. */
 MCDC_FUNCTION void mcdc_begin(unsigned *sum) {
   *sum = 0;
+}
+
+/* A decision has its outcome: the sum tells which path its conditions took. */
+MCDC_FUNCTION int mcdc_decision(const unsigned *sum, unsigned first, int outcome) {
+  mcdc_hit(first + *sum);
+  return outcome;
 }
 
 /* A switch begins: none of its labels has been chosen. */
