@@ -1,13 +1,16 @@
 #!/bin/sh
 # Writes a driver in C that makes the calls of a tests file on an instrumented text:
 #
-#   sh runtime/driver.sh TEXT TESTS RECORD >driver.c
+#   sh runtime/driver.sh [--all] TEXT TESTS RECORD >driver.c
 #
 # TEXT is what `mcdc instrument` wrote; the driver includes it by its name without folders, so it is to lie in the same
 # folder. RECORD is what `mcdc record` wrote on the source and TESTS: its first three lines begin the target's records
-# too, and only tests that returned there are in the driver, since after a trap C promises nothing. docs/TARGET.md says
-# how to compile and run it.
-[ $# -eq 3 ] || { echo "usage: sh driver.sh TEXT TESTS RECORD >driver.c" >&2; exit 2; }
+# too, and only tests that returned there are in the driver, since after a trap C promises nothing. With --all each test is
+# in the driver, and RECORD may be of no test: then what runs the driver has to notice traps. docs/TARGET.md says how to
+# compile and run it.
+all=0
+[ "$1" != --all ] || { all=1; shift; }
+[ $# -eq 3 ] || { echo "usage: sh driver.sh [--all] TEXT TESTS RECORD >driver.c" >&2; exit 2; }
 for file in "$@"; do
   [ -r "$file" ] || { echo "driver.sh: cannot read $file" >&2; exit 6; }
 done
@@ -16,7 +19,7 @@ trap 'rm -rf "$work"' EXIT
 
 # The fields of an accepted tests file need no quotation marks, and its records end with LF, CR or both.
 tr -d '"' <"$2" | tr '\r' '\n' >"$work/tests"
-awk -v text="${1##*/}" -v tests="${2##*/}" -v driver="$work/driver" '
+awk -v all="$all" -v text="${1##*/}" -v tests="${2##*/}" -v driver="$work/driver" '
   # The record: what it begins with, and the state of each test.
   part == 1 && FNR == 1 && $1 != "mcdc-record" { refuse("that is no record: " $0) }
   part == 1 && FNR <= 3 { head = head $0 "\\n" }
@@ -34,7 +37,8 @@ awk -v text="${1##*/}" -v tests="${2##*/}" -v driver="$work/driver" '
     split($0, field, ",")
     if (field[1] != name) finish()
     name = field[1]
-    if (!(name in state)) refuse("the record has no test " name)
+    if (all) call(field)
+    else if (!(name in state)) refuse("the record has no test " name)
     else if (state[name] == "pass" || state[name] == "fail") call(field)
     else left[name] = state[name]
   }
@@ -119,6 +123,7 @@ awk -v text="${1##*/}" -v tests="${2##*/}" -v driver="$work/driver" '
   function write(  bytes, at, line) {
     bytes = int((bits + 7) / 8) + (bits == 0)
     printf "/* Made by runtime/driver.sh from %s: %d tests. */\n", tests, count
+    printf "#define MCDC_BITS %d\n", bits + (bits == 0)
     printf "#include \"mcdc.h\"\n#include \"mcdc_record.h\"\n\n"
     if (has_main) printf "/* The host has a main of its own. */\n#define main mcdc_main\n"
     printf "#include \"%s\"\n\n", text
@@ -129,6 +134,7 @@ awk -v text="${1##*/}" -v tests="${2##*/}" -v driver="$work/driver" '
     printf "const unsigned mcdc_rows = MCDC_ROWS;\nconst unsigned long mcdc_row_bytes = %d;\n", bytes
     printf "unsigned char mcdc_hits[%dul * MCDC_ROWS];\n", bytes
     printf "const char *mcdc_names[MCDC_ROWS], *mcdc_states[MCDC_ROWS];\n"
+    printf "#ifdef MCDC_INLINE\nunsigned char mcdc_row[MCDC_BITS];\n#endif\n"
     close(driver)
     while (count > 0 && (getline line <driver) > 0) print line
     printf "\nvoid mcdc_run(unsigned mcdc_number) {\n  switch (mcdc_number) {\n"

@@ -1,7 +1,10 @@
 /* A host of an instrumented program: keeps which bits were hit under which test, and writes them as a record, which
    `mcdc merge` and `mcdc analyse` read. It takes no memory but the driver's. With MCDC_BOARD it includes nothing but
-   its own headers, and the board has `mcdc_put` and `main`; with MCDC_LOG it tells on standard error what each call gave. */
+   its own headers, and the board has `mcdc_put` and `main`; with MCDC_LOG it tells on standard error what each call gave;
+   with MCDC_INLINE hits are stores into `mcdc_row` in place of calls. */
+#ifndef MCDC_INLINE
 #include "mcdc.h"
+#endif
 #include "mcdc_record.h"
 
 #ifndef MCDC_BOARD
@@ -23,19 +26,40 @@ static void fail(void) {
   if (is_open) mcdc_states[run - 1] = "fail";
 }
 
-/* The test ends here for what is recorded, although the program goes on. */
-static void end(const char *state) {
-  if (is_open) mcdc_states[run - 1] = state;
-  is_open = 0;
+#ifdef MCDC_INLINE
+/* What the present test has hit goes into its row. */
+static void keep(void) {
+  if (!is_open) return;
+  for (unsigned long bit = 0; bit < mcdc_bits; bit++)
+    if (mcdc_row[bit]) mcdc_hits[(run - 1) * mcdc_row_bytes + bit / 8] |= 1u << bit % 8;
 }
+
+/* What was hit before a test begins is not its own. */
+static void forget(void) {
+  for (unsigned long bit = 0; bit < mcdc_bits; bit++) mcdc_row[bit] = 0;
+}
+#else
+static void keep(void) {}
+
+static void forget(void) {}
 
 void mcdc_hit(unsigned bit) {
   if (is_open && bit < mcdc_bits) mcdc_hits[(run - 1) * mcdc_row_bytes + bit / 8] |= 1u << bit % 8;
 }
+#endif
+
+/* The test ends here for what is recorded, although the program goes on. */
+static void end(const char *state) {
+  keep();
+  if (is_open) mcdc_states[run - 1] = state;
+  is_open = 0;
+}
 
 void mcdc_test(const char *name, const int *numbers, unsigned count) {
+  keep();
   is_open = run < mcdc_rows;
   if (!is_open) return;
+  forget();
   for (unsigned long at = 0; at < mcdc_row_bytes; at++) mcdc_hits[run * mcdc_row_bytes + at] = 0;
   mcdc_names[run] = name;
   mcdc_states[run] = "pass";
@@ -120,6 +144,7 @@ static void put_word(unsigned first, unsigned long bit) {
 
 int mcdc_write_record(void) {
   int has_failed = 0;
+  keep();
   put_text(mcdc_head);
   put_text("tests ");
   put_number(run);

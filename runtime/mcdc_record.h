@@ -13,6 +13,13 @@ extern unsigned char mcdc_hits[];
 extern const char *mcdc_names[];
 extern const char *mcdc_states[];
 
+#ifdef MCDC_INLINE
+/* Of the driver, where hits are stores (mcdc.h): a byte for each bit, which is 1 where the present test hit it. */
+extern unsigned char mcdc_row[];
+/* So the linker refuses a driver and an mcdc_record.c that differ in the form of hits. */
+#define mcdc_test mcdc_test_inline
+#endif
+
 /* Of the driver: runs the test of this number, counted from 1. Its calls meet the values that objects with static
    storage duration have then, so a test that is to find the initial ones is the first of its run. */
 void mcdc_run(unsigned number);
