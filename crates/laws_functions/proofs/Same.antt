@@ -1,11 +1,11 @@
 -- Counts and status, obligation after obligation.
-use Rattle.std.proofs.Common.{◌≡◌, ◌∙◌, ◌+◌, ◌≤◌, ℕ, suc, Bool, true, false, nat_eq, List, [], ◌∷◌, length, refl, sym, ap, arith}
+use Rattle.std.proofs.Common.{◌≡◌, ◌∙◌, ◌+◌, ℕ, Bool, true, false, List, [], ◌∷◌, length, refl, ap, arith}
 use Rattle.std.specs.Prelude.{◌&&◌, ◌==◌, if◌then◌else◌}
 use Rattle.std.specs.List.{list_all}
+use Rattle.std.proofs.lemmas.Bool.Decides.{nat_tests}
 use Rattle.mc_typed.specs.declared.plans.TestState.{TestState}
 use Rattle.mc_typed.specs.declared.plans.TestState.TheVariants.{Pass, Fail, Ended}
 use Rattle.mc_oblige.specs.declared.obligation.ObligationId.{ObligationId}
-use Rattle.mc_oblige.specs.declared.obligation.ObligationId.TheVariants.{Entry, Exit, Statement, Label, Outcome, Condition}
 use Rattle.mc_oblige.specs.declared.obligation.Obligation.{Obligation}
 use Rattle.mc_oblige.specs.declared.verdict.Verdict.{Verdict}
 use Rattle.mc_oblige.specs.declared.verdict.VerdictState.{VerdictState}
@@ -13,54 +13,13 @@ use Rattle.mc_oblige.specs.declared.verdict.VerdictState.TheVariants.{Met, Justi
 use Rattle.mc_report.specs.Counts as report
 use Rattle.mc_report.specs.Report.{Report}
 use Rattle.mc_report.specs.Status as report_status
-use Rattle.mc_functions.specs.declared.kind.Kind.{Kind}
-use Rattle.mc_functions.specs.declared.kind.Kind.TheVariants.{Entries, Exits, Statements, Labels, Outcomes, Conditions}
 use Rattle.mc_functions.specs.Kinds.{kind_of, same_kind}
 use Rattle.mc_functions.specs.Counts.{counted, is_verdict}
-use Rattle.mc_functions.specs.Measured.{Measured}
 use Rattle.mc_functions.specs.Status as status
-use Rattle.laws_functions.specs.Reports.{kind_in_report, measured}
+use Rattle.laws_functions.specs.Reports.{measured}
 
 abbrev one_if : Bool → ℕ
 one_if t = if t then 1 else 0
-
-same_kinds : (kind : Kind) (id : ObligationId) → same_kind kind (kind_of id) ≡ report.is_kind (kind_in_report kind) id
-same_kinds Entries (Entry k) = refl
-same_kinds Entries (Exit k) = refl
-same_kinds Entries (Statement k) = refl
-same_kinds Entries (Label k) = refl
-same_kinds Entries (Outcome d t) = refl
-same_kinds Entries (Condition d k) = refl
-same_kinds Exits (Entry k) = refl
-same_kinds Exits (Exit k) = refl
-same_kinds Exits (Statement k) = refl
-same_kinds Exits (Label k) = refl
-same_kinds Exits (Outcome d t) = refl
-same_kinds Exits (Condition d k) = refl
-same_kinds Statements (Entry k) = refl
-same_kinds Statements (Exit k) = refl
-same_kinds Statements (Statement k) = refl
-same_kinds Statements (Label k) = refl
-same_kinds Statements (Outcome d t) = refl
-same_kinds Statements (Condition d k) = refl
-same_kinds Labels (Entry k) = refl
-same_kinds Labels (Exit k) = refl
-same_kinds Labels (Statement k) = refl
-same_kinds Labels (Label k) = refl
-same_kinds Labels (Outcome d t) = refl
-same_kinds Labels (Condition d k) = refl
-same_kinds Outcomes (Entry k) = refl
-same_kinds Outcomes (Exit k) = refl
-same_kinds Outcomes (Statement k) = refl
-same_kinds Outcomes (Label k) = refl
-same_kinds Outcomes (Outcome d t) = refl
-same_kinds Outcomes (Condition d k) = refl
-same_kinds Conditions (Entry k) = refl
-same_kinds Conditions (Exit k) = refl
-same_kinds Conditions (Statement k) = refl
-same_kinds Conditions (Label k) = refl
-same_kinds Conditions (Outcome d t) = refl
-same_kinds Conditions (Condition d k) = refl
 
 same_verdicts : (a b : VerdictState) → is_verdict a b ≡ report.is_verdict a b
 same_verdicts Met Met = refl
@@ -80,16 +39,14 @@ same_verdicts Missing Justified = refl
 same_verdicts Missing Stale = refl
 same_verdicts Missing Missing = refl
 
-abbrev of_kind : Kind → Obligation → Bool
-of_kind kind o = true && same_kind kind (kind_of o.id)
-
-pub same_count : (kind : Kind) (asked : VerdictState) (os : List Obligation) (vs : List Verdict) → counted (of_kind kind) asked os vs ≡ report.counted (kind_in_report kind) asked os vs
-same_count kind asked [] vs = refl
-same_count kind asked (o ∷ os) [] = refl
-same_count kind asked (o ∷ os) (v ∷ vs) =
-    let own : one_if (same_kind kind (kind_of o.id) && is_verdict asked v.state) ≡ one_if (report.is_kind (kind_in_report kind) o.id && report.is_verdict asked v.state) =
-    ap (λ (t : Bool). one_if (t && is_verdict asked v.state)) (same_kinds kind o.id) ∙ ap (λ (t : Bool). one_if (report.is_kind (kind_in_report kind) o.id && t)) (same_verdicts asked v.state) in
-    omega (arith, own, same_count kind asked os vs)
+pub same_count : (kind : _) (reported : _) (asked : VerdictState) → ((id : ObligationId) → same_kind kind (kind_of id) ≡ report.is_kind reported id)
+    → (os : List Obligation) (vs : List Verdict) → counted (λ o. true && same_kind kind (kind_of o.id)) asked os vs ≡ report.counted reported asked os vs
+same_count kind reported asked same [] vs = refl
+same_count kind reported asked same (o ∷ os) [] = refl
+same_count kind reported asked same (o ∷ os) (v ∷ vs) =
+    let own : one_if (same_kind kind (kind_of o.id) && is_verdict asked v.state) ≡ one_if (report.is_kind reported o.id && report.is_verdict asked v.state) =
+    ap (λ (t : Bool). one_if (t && is_verdict asked v.state)) (same o.id) ∙ ap (λ (t : Bool). one_if (report.is_kind reported o.id && t)) (same_verdicts asked v.state) in
+    omega (arith, own, same_count kind reported asked same os vs)
 
 -- ---- the status
 
@@ -106,7 +63,7 @@ abbrev open_in : List Obligation → List Verdict → Bool
 open_in os vs = counted all_of Stale os vs == 0 && counted all_of Missing os vs == 0
 
 more_is_not_none : (n : ℕ) → (1 + n == 0) ≡ false
-more_is_not_none n = let next : 1 + n ≡ suc n = omega arith in ap (λ (k : ℕ). k == 0) next
+more_is_not_none n = grind (arith, nat_tests)
 
 and_false : (t : Bool) → (t && false) ≡ false
 and_false true = refl

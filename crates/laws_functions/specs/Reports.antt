@@ -1,13 +1,11 @@
 -- What the counts by function and a report have in common.
-use Rattle.std.specs.Prelude.{◌≡◌, ℕ, ◌≤◌, length, None}
+use Rattle.std.specs.Prelude.{◌≡◌, ◌≤◌, length, None}
+use Rattle.mc_oblige.specs.declared.obligation.ObligationId.{ObligationId}
 use Rattle.mc_oblige.specs.declared.verdict.VerdictState.{VerdictState}
 use Rattle.mc_report.specs.Report.{Report}
 use Rattle.mc_report.specs.Counts as report
 use Rattle.mc_report.specs.Status as report_status
-use Rattle.mc_report.specs.declared.kind.Kind as report_kind
-use Rattle.mc_report.specs.declared.kind.Kind.TheVariants as reported
-use Rattle.mc_functions.specs.declared.kind.Kind.{Kind}
-use Rattle.mc_functions.specs.declared.kind.Kind.TheVariants.{Entries, Exits, Statements, Labels, Outcomes, Conditions}
+use Rattle.mc_functions.specs.Kinds.{kind_of, same_kind}
 use Rattle.mc_functions.specs.Counts.{of_kind, of_verdict}
 use Rattle.mc_functions.specs.Measured.{Measured, names_of, row_of}
 use Rattle.mc_functions.specs.Status.{status_of}
@@ -24,22 +22,16 @@ measured r =
       file = None;
     }
 
--- the kind as the report has it
-abbrev pub kind_in_report : Kind → report_kind.Kind
-kind_in_report Entries = reported.Entries
-kind_in_report Exits = reported.Exits
-kind_in_report Statements = reported.Statements
-kind_in_report Labels = reported.Labels
-kind_in_report Outcomes = reported.Outcomes
-kind_in_report Conditions = reported.Conditions
-
--- the counts of a kind over all functions are those of the report
+-- the counts of a kind over all functions are those of the report, where both kinds have the same
+-- obligations
 abbrev pub FunctionsAreReports : Type 0
 FunctionsAreReports =
-    (r : Report) (kind : Kind) (state : VerdictState) → 1 ≤ length (names_of (measured r)) →
+    (r : Report) (kind : _) (reported : _) (state : VerdictState) →
+    ((id : ObligationId) → same_kind kind (kind_of id) ≡ report.is_kind reported id) →
+    1 ≤ length (names_of (measured r)) →
     sum_below (length (names_of (measured r)))
     (λ k. of_verdict state (of_kind kind (row_of (measured r) k)))
-    ≡ report.counted (kind_in_report kind) state r.obligations r.verdicts
+    ≡ report.counted reported state r.obligations r.verdicts
 
 -- the status of the counts in all files is that of the report
 abbrev pub StatusIsReports : Type 0

@@ -1,5 +1,5 @@
 //! Counts by function, written out by hand.
-ghost use Rattle.std.specs.Prelude.{◌≡◌, length, vec_len, IfOk};
+ghost use Rattle.std.specs.Prelude.{◌≡◌, ◌<◌, ◌^◌, length, vec_len, IfOk};
 
 use mc_functions::{Measured, function_lines, functions_status};
 use mc_oblige::{Evidence, Obligation, ObligationId, Verdict, VerdictState};
@@ -203,21 +203,58 @@ fn are_lines(lines: &[Vec<u8>], text: &[u8]) -> bool {
     left.is_empty()
 }
 
+/// The lines, and the status.
+fn counts_at(
+    alloc: Global,
+    places: &Places<'_>,
+    obligations: &[Obligation],
+    verdicts: &[Verdict],
+    states: &[TestState],
+    file: Option<&[u8]>,
+) -> Result<(Vec<Vec<u8>>, u8), AllocError>
+    requires { length verdicts.now ≡ length obligations.now }
+{
+    let measured = Measured {
+        places,
+        obligations,
+        verdicts,
+        states,
+        file,
+    };
+    let status = functions_status(&measured);
+    let lines = function_lines(alloc, &measured)?;
+    Ok((lines, status))
+}
+
+fn counts(
+    alloc: Global,
+    source: &[u8],
+    obligations: &[Obligation],
+    verdicts: &[Verdict],
+    states: &[TestState],
+    file: Option<&[u8]>,
+) -> Result<(Vec<Vec<u8>>, u8), AllocError>
+    requires short { length source.now < 2 ^ 31 }
+    requires same { length verdicts.now ≡ length obligations.now }
+{
+    let places = Places::of(alloc, source)?;
+    counts_at(alloc, &places, obligations, verdicts, states, file)
+}
+
 fn check(rt: &impl Abort, alloc: Global, row: &Row<'_>) -> Result<(), Fail> {
     assert!(rt; row.source.len() <= 1000);
-    let places = Places::of(alloc, row.source)?;
     let obligations = obligations(alloc, row.found)?;
     let verdicts = verdicts(alloc, row.found)?;
-    let measured = Measured {
-        places: &places,
-        obligations: &obligations,
-        verdicts: &verdicts,
-        states: row.states,
-        file: row.file,
-    };
-    let lines = function_lines(alloc, &measured)?;
+    let (lines, status) = counts(
+        alloc,
+        row.source,
+        &obligations,
+        &verdicts,
+        row.states,
+        row.file,
+    )?;
     assert!(rt; are_lines(&lines, row.lines));
-    assert_eq!(rt; functions_status(&measured), row.status);
+    assert_eq!(rt; status, row.status);
     Ok(())
 }
 
@@ -263,17 +300,10 @@ fn counts_of_a_thousand_functions(rt: HostRuntime) -> Result<(), Fail> {
     let source = thousand(alloc)?;
     assert!(rt; source.len() == 33_000);
     let found = found_in_thousand(alloc)?;
-    let places = Places::of(alloc, &source)?;
     let obligations = obligations(alloc, &found)?;
     let verdicts = verdicts(alloc, &found)?;
-    let measured = Measured {
-        places: &places,
-        obligations: &obligations,
-        verdicts: &verdicts,
-        states: &[],
-        file: Some(b"m.c"),
-    };
-    let lines = function_lines(alloc, &measured)?;
+    let (lines, status) = counts(alloc, &source, &obligations, &verdicts, &[], Some(b"m.c"))?;
+    assert_eq!(rt; status, 0);
     assert_eq!(rt; lines.len(), 3002);
     assert!(rt; is_line(&lines, 0, b"f m.c:5 (2:5)\n"));
     assert!(rt; is_line(&lines, 2997, b"f m.c:5 (2000:5)\n"));

@@ -5,4 +5,4 @@ use Rattle.laws_functions.proofs.Same.{same_count}
 use Rattle.laws_functions.proofs.laws.functions_are_reports.Goals as goal
 
 pub returns : goal.returns
-returns c = λ r kind state some. added_up (measured r) kind state some ∙ same_count kind state r.obligations r.verdicts
+returns c = λ r kind reported state same some. added_up (measured r) kind state some ∙ same_count kind reported state same r.obligations r.verdicts
