@@ -13,9 +13,9 @@ use Rattle.mc_probe.specs.Tree.{Tree}
 use Rattle.mc_probe.specs.Trees.{tree_of}
 use Rattle.mc_probe.specs.Maps.{Map}
 use Rattle.mc_probe.specs.Table.{instrumented}
-use Rattle.mc_alike.specs.Moves.{end_of, moved_tokens}
-use Rattle.mc_alike.specs.Trees.{moved_unit}
-use Rattle.mc_brackets.specs.Signs.{poured}
+use Rattle.reread_law_texts.specs.alike.Moves.{end_of, moved_tokens}
+use Rattle.reread_law_texts.specs.alike.Trees.{moved_unit}
+use Rattle.reread_law_texts.specs.brackets.Signs.{poured}
 use Rattle.mc_print.specs.Pens.{spaced}
 use Rattle.mc_print.specs.Texts.{text_of}
 use Rattle.mc_spelled.specs.Laws.{PrintedTextScans}

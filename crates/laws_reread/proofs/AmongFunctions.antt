@@ -20,8 +20,8 @@ use Rattle.mc_steps.specs.Points.{Points, no_points}
 use Rattle.mc_probe.specs.Maps.{Map}
 use Rattle.mc_probe.specs.Tree as p
 use Rattle.mc_probe.specs.Table.{put_function, put_functions}
-use Rattle.mc_alike.specs.Moves.{FollowFrom, end_of}
-use Rattle.mc_alike.specs.Laws.{TokensFollow}
+use Rattle.reread_law_texts.specs.alike.Moves.{FollowFrom, end_of}
+use Rattle.reread_law_texts.specs.alike.Laws.{TokensFollow}
 use Rattle.mc_inserted.specs.Rows.{Row}
 use Rattle.mc_fitting.specs.Laws.{ScannedTokensMeanTheirKinds, TextsFit}
 use Rattle.laws_types.specs.SourceUnits.{IsFunctionOf, AreFunctionsOf, ProgramsHaveTheirSource}

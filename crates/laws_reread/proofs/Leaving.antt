@@ -15,7 +15,7 @@ use Rattle.mc_grammar.specs.Spelling.{Spelled, Spells}
 use Rattle.mc_grammar.specs.Spelling as spelling
 use Rattle.mc_grammar.proofs.Storage.{local_typedef}
 use Rattle.mc_grammar.proofs.Spelling.{declaration_spells, statement_spells, item_spells}
-use Rattle.mc_alike.specs.Moves.{FollowFrom}
+use Rattle.reread_law_texts.specs.alike.Moves.{FollowFrom}
 use Rattle.laws_reread.proofs.Tokens.{AreClear}
 
 abbrev pub tk : List Lexeme → List Tok

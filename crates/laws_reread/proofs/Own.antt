@@ -8,7 +8,7 @@ use Rattle.mc_lex.specs.Words.{one_of}
 use Rattle.reread_pieces.specs.declared.piece.What.{What}
 use Rattle.reread_pieces.specs.declared.piece.What.TheVariants as what
 use Rattle.reread_pieces.specs.Pieces.{Mark}
-use Rattle.mc_alike.specs.Moves.{FollowFrom, end_of}
+use Rattle.reread_law_texts.specs.alike.Moves.{FollowFrom, end_of}
 use Rattle.mc_print.specs.Insertions.{value_exit}
 use Rattle.mc_print.specs.Pens.{spaced, gap_after}
 use Rattle.mc_print.specs.Texts.{text_of}

@@ -16,9 +16,9 @@ use Rattle.types_rules.specs.Typing.{IsTypingOf}
 use Rattle.mc_probe.specs.Tree.{Tree}
 use Rattle.mc_probe.specs.Maps.{Map, IsMapOf}
 use Rattle.mc_probe.specs.Table.{instrumented}
-use Rattle.mc_alike.specs.Moves.{Move, AllFit, FollowFrom, between, end_of, moved_tokens}
-use Rattle.mc_alike.specs.Trees.{moved_unit}
-use Rattle.mc_alike.specs.Laws.{TreeMoves, AlikeTokensAreMoved, HeightIsKept, RefusalIsKept}
+use Rattle.reread_law_texts.specs.alike.Moves.{Move, AllFit, FollowFrom, between, end_of, moved_tokens}
+use Rattle.reread_law_texts.specs.alike.Trees.{moved_unit}
+use Rattle.reread_law_texts.specs.alike.Laws.{TreeMoves, AlikeTokensAreMoved, HeightIsKept, RefusalIsKept}
 use Rattle.mc_natural.specs.Settled.{settled}
 use Rattle.mc_natural.specs.Laws.{ProgramsMove}
 use Rattle.laws_simulation.specs.Laws.{InstrumentedErases}

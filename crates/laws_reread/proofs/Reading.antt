@@ -16,10 +16,10 @@ use Rattle.mc_grammar.specs.Spelling.{Spelled, Spells}
 use Rattle.mc_grammar.specs.Spelling as spelling
 use Rattle.mc_grammar.proofs.Spelling.{spells, specifiers_spell, declarator_spells, declaration_spells, start_spells, statement_spells, item_spells}
 use Rattle.mc_grammar.proofs.Storage.{local_typedef}
-use Rattle.mc_weave.proofs.Next.{of_sign}
-use Rattle.mc_alike.specs.Moves.{FollowFrom, end_of}
-use Rattle.mc_apart.proofs.Ascending.{tk}
-use Rattle.mc_apart.proofs.ApartExpressions.{apart}
+use Rattle.reread_law_texts.proofs.Weave.Next.{of_sign}
+use Rattle.reread_law_texts.specs.alike.Moves.{FollowFrom, end_of}
+use Rattle.reread_law_texts.proofs.Apart.Ascending.{tk}
+use Rattle.reread_law_texts.proofs.Apart.ApartExpressions.{apart}
 use Rattle.mc_placed.specs.Separate.{HasTwoBefore}
 use Rattle.laws_reread.proofs.Ready.{le, less, same}
 use Rattle.laws_reread.proofs.Laid.{FirstFrom, FirstOf, IsFar, AreFar, IsFarIn, IsLaid, AreLaid}

@@ -18,8 +18,8 @@ use Rattle.mc_probe.specs.Tree as p
 use Rattle.mc_probe.specs.Table.{put_function, put_functions}
 use Rattle.reread_pieces.specs.declared.piece.What.{What}
 use Rattle.reread_pieces.specs.declared.piece.What.TheVariants as what
-use Rattle.mc_alike.specs.Moves.{FollowFrom, end_of}
-use Rattle.mc_apart.proofs.Ascending.{tk}
+use Rattle.reread_law_texts.specs.alike.Moves.{FollowFrom, end_of}
+use Rattle.reread_law_texts.proofs.Apart.Ascending.{tk}
 use Rattle.mc_inserted.specs.Rows.{Rows, exit_row, rows_in_function, rows_in_functions}
 use Rattle.mc_grammar.proofs.Spelling.{specifiers_spell, parameters_spell}
 use Rattle.mc_grammar.specs.Spelling as spelling

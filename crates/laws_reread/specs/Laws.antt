@@ -21,8 +21,8 @@ use Rattle.mc_probe.specs.Trees.{tree_of}
 use Rattle.mc_probe.specs.Erase.{erase}
 use Rattle.mc_probe.specs.Maps.{Map, IsMapOf}
 use Rattle.mc_probe.specs.Table.{instrumented}
-use Rattle.mc_alike.specs.Moves.{FollowFrom, end_of}
-use Rattle.mc_brackets.specs.Signs.{poured}
+use Rattle.reread_law_texts.specs.alike.Moves.{FollowFrom, end_of}
+use Rattle.reread_law_texts.specs.brackets.Signs.{poured}
 use Rattle.mc_still.specs.Unplaced.{unplaced}
 use Rattle.mc_still.specs.Laws.{IsMoved}
 use Rattle.mc_print.specs.Pens.{spaced}

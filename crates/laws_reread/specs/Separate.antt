@@ -10,7 +10,7 @@ use Rattle.mc_typed.specs.Tree.{Program}
 use Rattle.types_rules.specs.Typing.{typing_of}
 use Rattle.mc_probe.specs.Maps.{Map}
 use Rattle.mc_probe.specs.Table.{instrumented}
-use Rattle.mc_alike.specs.Moves.{FollowFrom}
+use Rattle.reread_law_texts.specs.alike.Moves.{FollowFrom}
 use Rattle.mc_inserted.specs.Rows.{rows_of}
 use Rattle.mc_placed.specs.Separate.{AreSeparate}
 

@@ -16,9 +16,6 @@ use crate::headed::{
 use crate::separate::rows_are_separate;
 use laws_simulation::instrumented_programs_erase;
 use laws_soundness::laws::units_are_sound;
-use mc_alike::laws::{alike_texts_have_moved_trees, forms_are_kept, height_is_kept, trees_move};
-use mc_apart::laws::{brackets_start_before, places_are_apart, places_have_bytes};
-use mc_brackets::laws::poured_texts_have_bracketed_trees;
 use mc_converted::laws::implied_conversions_stand;
 use mc_counted::laws::instrumented_units_are_counted;
 use mc_fitting::laws::scanned_tokens_mean_their_kinds;
@@ -39,8 +36,13 @@ use mc_signed::laws::{brackets_have_places, signs_are_those_of_the_tree};
 use mc_spelled::laws::printed_text_scans;
 use mc_stood::laws::{programs_stand_apart, stands_are_apart};
 use mc_taken::laws::{locals_are_apart, probes_are_taken};
-use mc_unwoven::laws::trees_come_back;
-use mc_weave::laws::height_is_within;
+use reread_law_texts::laws::alike::{
+    alike_texts_have_moved_trees, forms_are_kept, height_is_kept, trees_move,
+};
+use reread_law_texts::laws::apart::{brackets_start_before, places_are_apart, places_have_bytes};
+use reread_law_texts::laws::brackets::poured_texts_have_bracketed_trees;
+use reread_law_texts::laws::unwoven::trees_come_back;
+use reread_law_texts::laws::weave::height_is_within;
 use reread_program::laws::reads_as_one;
 
 /// The tokens of the source among the pieces of a printed text follow each other, and end in the

@@ -18,7 +18,7 @@ use Rattle.mc_grammar.specs.Expressions.{Reads, ReadsSpecifiers, ReadsStars, Rea
 use Rattle.mc_grammar.specs.Expressions as r
 use Rattle.mc_grammar.specs.Statements.{ReadsInitDeclarator, ReadsInitDeclarators}
 use Rattle.mc_grammar.specs.Statements as g
-use Rattle.mc_weave.proofs.Next.{of_sign}
+use Rattle.reread_law_texts.proofs.Weave.Next.{of_sign}
 use Rattle.mc_lex.proofs.Texts.{passes, is_false}
 use Rattle.mc_lex.specs.Words.{one_of}
 use Rattle.reread_pieces.specs.Words.{is_identifier_kind as identifies, is_identifier, is_one_of, specifiers, begins_declaration}

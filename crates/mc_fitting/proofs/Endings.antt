@@ -9,10 +9,10 @@ use Rattle.mc_tree.specs.Tree.{Expression}
 use Rattle.mc_grammar.specs.Words.{Lexeme, is_punctuator_kind, is_keyword_kind, is_punctuator, is_keyword}
 use Rattle.mc_grammar.specs.Nonterminal as n
 use Rattle.mc_grammar.specs.Expressions.{Reads}
-use Rattle.mc_weave.proofs.Next.{of_sign}
-use Rattle.mc_weave.proofs.First.{no_start, open_brace_no_start}
+use Rattle.reread_law_texts.proofs.Weave.Next.{of_sign}
+use Rattle.reread_law_texts.proofs.Weave.First.{no_start, open_brace_no_start}
 use Rattle.reread_pieces.specs.Words.{is, is_name}
-use Rattle.mc_alike.specs.Moves.{end_of}
+use Rattle.reread_law_texts.specs.alike.Moves.{end_of}
 use Rattle.mc_inserted.specs.Fits.{StartsAt, EndsAt, last_is, first_is}
 use Rattle.mc_fitting.proofs.Words.{AreClear}
 use Rattle.mc_fitting.proofs.Sections.{tk, Section, sample, left_of, right_of, keyword_text}

@@ -16,9 +16,9 @@ use Rattle.mc_grammar.specs.Statements.{ReadsOptional, ReadsTest, ReadsInitializ
 use Rattle.mc_grammar.specs.Statements as g
 use Rattle.mc_grammar.specs.Items.{ReadsItem, ReadsUnit, IsTree}
 use Rattle.mc_grammar.specs.Items as i
-use Rattle.mc_weave.proofs.Next.{of_sign}
+use Rattle.reread_law_texts.proofs.Weave.Next.{of_sign}
 use Rattle.reread_pieces.specs.Words.{is, is_name, begins_declaration}
-use Rattle.mc_alike.specs.Moves.{end_of}
+use Rattle.reread_law_texts.specs.alike.Moves.{end_of}
 use Rattle.mc_inserted.specs.Fits.{StartsAt, IsStatementAmong}
 use Rattle.mc_fitting.specs.Fitting.{FitsIn, FitsInOptional, FitsInInitializer, FitInInitializers, FitInObjects, FitsInDeclaration, FitsAsLocal, FitsInStart, FitsInStatement, FitInBlock, FitsInItem, FitInUnit}
 use Rattle.mc_fitting.proofs.Words.{Clear, AreClear}

@@ -18,7 +18,7 @@ use Rattle.mc_grammar.specs.Operators as o
 use Rattle.mc_grammar.specs.Nonterminal.{Level}
 use Rattle.mc_grammar.specs.Nonterminal as n
 use Rattle.mc_grammar.proofs.Spelling.{found, none}
-use Rattle.mc_weave.proofs.Next.{signed, of_sign}
+use Rattle.reread_law_texts.proofs.Weave.Next.{signed, of_sign}
 use Rattle.reread_pieces.specs.Words.{is, is_name as names, is_identifier, is_one_of, specifiers}
 use Rattle.mc_inserted.specs.Fits.{is_bracket, is_pair, IsBalanced}
 use Rattle.mc_inserted.specs.Fits as fit

@@ -16,7 +16,7 @@ use Rattle.mc_grammar.specs.Nonterminal.{Nonterminal, Level, operand}
 use Rattle.mc_grammar.specs.Nonterminal as n
 use Rattle.mc_grammar.specs.Expressions.{Reads, ReadsExpressions, ReadsTypeName, ReadsSpecifiers, ReadsStars}
 use Rattle.mc_grammar.specs.Expressions as r
-use Rattle.mc_weave.proofs.Next.{of_sign}
+use Rattle.reread_law_texts.proofs.Weave.Next.{of_sign}
 use Rattle.reread_pieces.specs.Words.{is}
 use Rattle.mc_fitting.proofs.Words.{Clear, AreClear}
 use Rattle.mc_fitting.proofs.Sections.{tk, assoc, comma_mild, question_mild, member_mild, star_mild, operator_mild, assignment_mild, step_mild, unary_mild, keyword_kind, identifier_no_sign, left_of}

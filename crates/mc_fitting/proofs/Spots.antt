@@ -5,9 +5,9 @@ use Rattle.mc_lex.specs.Tokens.{Tok}
 use Rattle.mc_tree.specs.Tree.{Expression, Expressions, span_of}
 use Rattle.mc_grammar.specs.Words.{Lexeme, is_punctuator}
 use Rattle.mc_grammar.specs.Places.{end_of_expressions}
-use Rattle.mc_weave.proofs.Next.{of_sign}
+use Rattle.reread_law_texts.proofs.Weave.Next.{of_sign}
 use Rattle.reread_pieces.specs.Words.{is_name}
-use Rattle.mc_alike.specs.Moves.{end_of}
+use Rattle.reread_law_texts.specs.alike.Moves.{end_of}
 use Rattle.mc_inserted.specs.Fits.{StartsAt, EndsAt, StandsAmong, last_is, IsOperandAmong}
 use Rattle.mc_fitting.specs.Fitting.{FitsIn, FitInExpressions}
 use Rattle.mc_fitting.proofs.Sections.{Section, assoc, join, sample}

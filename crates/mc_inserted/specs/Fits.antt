@@ -9,7 +9,7 @@ use Rattle.reread_pieces.specs.declared.bracket.Bracket.TheVariants as bracket
 use Rattle.reread_pieces.specs.declared.piece.What.{What}
 use Rattle.reread_pieces.specs.declared.piece.What.TheVariants as what
 use Rattle.reread_pieces.specs.Words.{is, is_name, begins_declaration}
-use Rattle.mc_alike.specs.Moves.{end_of}
+use Rattle.reread_law_texts.specs.alike.Moves.{end_of}
 use Rattle.mc_inserted.specs.Rows.{Row}
 
 -- ---- brackets of a source

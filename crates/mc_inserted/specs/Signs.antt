@@ -8,8 +8,8 @@ use Rattle.reread_pieces.specs.declared.piece.What.TheVariants as what
 use Rattle.reread_pieces.specs.declared.without.Stand.{Stand}
 use Rattle.reread_pieces.specs.declared.without.Stand.TheVariants.{Opens, Closes}
 use Rattle.reread_pieces.specs.Plain.{stand_of, text_for}
-use Rattle.mc_weave.specs.Brackets.{Brackets, sign}
-use Rattle.mc_brackets.specs.Signs.{Sign}
+use Rattle.reread_law_texts.specs.weave.Brackets.{Brackets, sign}
+use Rattle.reread_law_texts.specs.brackets.Signs.{Sign}
 use Rattle.mc_inserted.specs.Rows.{Row}
 
 -- the bracket of a row

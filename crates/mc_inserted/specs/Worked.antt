@@ -9,8 +9,8 @@ use Rattle.mc_typed.specs.declared.probes.Probe.TheVariants as probe
 use Rattle.mc_probe.specs.Tree as p
 use Rattle.reread_pieces.specs.declared.piece.What.{What}
 use Rattle.reread_pieces.specs.declared.piece.What.TheVariants as what
-use Rattle.mc_weave.specs.Brackets.{sign}
-use Rattle.mc_brackets.specs.Signs.{Sign}
+use Rattle.reread_law_texts.specs.weave.Brackets.{sign}
+use Rattle.reread_law_texts.specs.brackets.Signs.{Sign}
 use Rattle.mc_inserted.specs.Rows.{Row, rows_of}
 use Rattle.mc_inserted.specs.Signs.{signs_of, brackets_of}
 

@@ -5,7 +5,7 @@ use Rattle.types_faults.specs.declared.fault.FaultKind.{FaultKind}
 use Rattle.types_faults.specs.Faults.{fault, fault_if, unless_faulty}
 use Rattle.types_rules.specs.Values.{Judged, lift2}
 use Rattle.types_rules.specs.Declarators.{Listed}
-use Rattle.mc_alike.specs.Moves.{Move}
+use Rattle.reread_law_texts.specs.alike.Moves.{Move}
 use Rattle.mc_natural.specs.Moved.{moved_fault, moved_faults}
 
 -- ---- faults

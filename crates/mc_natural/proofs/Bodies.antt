@@ -12,8 +12,8 @@ use Rattle.types_rules.specs.Declarations.{append, judge_declaration}
 use Rattle.types_rules.specs.Judgement.{judge}
 use Rattle.types_rules.specs.Statements.{Around, inside, in_loop, in_switch, compound_scope, declaration_judged, case_judged}
 use Rattle.types_rules.specs.Bodies.{listed, judge_effect, judge_clauses, judge_part, judge_optional_part, judge_start, judge_test, no_start, no_step, span_of_declaration, judge_statement, judge_block}
-use Rattle.mc_alike.specs.Moves.{Move, moved_span}
-use Rattle.mc_alike.specs.Trees.{moved, moved_expressions, moved_declaration, moved_optional, moved_start, moved_statement, moved_block}
+use Rattle.reread_law_texts.specs.alike.Moves.{Move, moved_span}
+use Rattle.reread_law_texts.specs.alike.Trees.{moved, moved_expressions, moved_declaration, moved_optional, moved_start, moved_statement, moved_block}
 use Rattle.mc_natural.specs.Moved.{moved_effect, moved_effects}
 use Rattle.mc_natural.specs.Settled.{settled_effect, settled_effects}
 use Rattle.mc_natural.proofs.Basics.{both, none, same2, Goes}

@@ -13,8 +13,8 @@ use Rattle.types_rules.specs.Scopes as scope
 use Rattle.types_rules.specs.Values.{Value, Number, Stored, Borrowed, Returned, Assigned, Kind, Found, fails, number_in, structure_in, lift2}
 use Rattle.types_rules.specs.Expressions.{convert_to}
 use Rattle.types_rules.specs.Calls.{array_fits, argument_fits, argument_faults, stored_array, array_argument, argument_of, copy_of, argument_value, Given, argument_judged, no_more, arguments_judged, argument_count, gives, signature_faults, body_faults, callee_faults, output_of, returned, called, call_value, after_call, call_found, comma_found}
-use Rattle.mc_alike.specs.Moves.{Move, moved_span}
-use Rattle.mc_alike.specs.Trees.{moved, moved_name, moved_expressions}
+use Rattle.reread_law_texts.specs.alike.Moves.{Move, moved_span}
+use Rattle.reread_law_texts.specs.alike.Trees.{moved, moved_name, moved_expressions}
 use Rattle.mc_natural.specs.Moved.{moved_place, moved_number, moved_structure, moved_argument, moved_arguments}
 use Rattle.mc_natural.specs.Found.{moved_value}
 use Rattle.mc_natural.proofs.Basics.{Shifts, both, none, one, one_if, same2, same3, lift_moved, map_over, then_over}

@@ -15,8 +15,8 @@ use Rattle.types_rules.specs.Values.{Judged, lift2}
 use Rattle.types_rules.specs.Declarators.{Listed}
 use Rattle.types_rules.specs.Judgement.{judge_specifiers}
 use Rattle.types_rules.specs.Declarations.{Storage, TypedefStorage, StaticStorage, AutomaticStorage, storage_of, count_listed, judge_optional_initializer, object_faults, layout_counted, after_initializer, counted_after, declarator_value, automatic_judged, static_faults_with, static_scope, static_value, static_judged, typedef_faults, typedef_judged, object_judged, all_of, result_of, signature_of, repeated_faults, external_faults, function_faults, function_form_faults, again_faults, function_meaning, function_judged, judge_init, judge_init_declarator, append, both_lists, judge_init_declarators, is_tag_alone, empty_faults, judge_declaration}
-use Rattle.mc_alike.specs.Moves.{Move}
-use Rattle.mc_alike.specs.Trees.{moved_name, moved_specifiers, moved_lengths, moved_declarator, moved_initializer, moved_init_declarator, moved_init_declarators, moved_declaration}
+use Rattle.reread_law_texts.specs.alike.Moves.{Move}
+use Rattle.reread_law_texts.specs.alike.Trees.{moved_name, moved_specifiers, moved_lengths, moved_declarator, moved_initializer, moved_init_declarator, moved_init_declarators, moved_declaration}
 use Rattle.mc_natural.specs.Moved.{moved_faults, moved_filling, moved_object, moved_objects}
 use Rattle.mc_natural.proofs.Basics.{Shifts, both, none, one, one_if, unless_same, same2, same3, lift_moved, Goes, Same, Carried, Lists}
 use Rattle.mc_natural.proofs.Words.{listed_kept, storage_kept, alone_kept, any_declares_kept}

@@ -12,8 +12,8 @@ use Rattle.types_rules.specs.Limits.{object_limit_faults, member_limit_faults, i
 use Rattle.types_rules.specs.Declarators.{Listed, after_faults, redeclared_faults, misnamed_faults, name_start, typedef_type, declared_tag, used_structure_tag, structure_tag, used_enumeration_tag, Opened, opened_again, opened_tag, opened, completed, structure_judged, enumeration_scope, enumeration_faults, enumeration_judged, fits_int, in_int, enumerator_judged, valued_enumerator_judged, length_of, is_no_length, lengths_judged, declared_type, absent_faults, incomplete_faults, has_member, cells_of_members, declared_member_faults, with_member, member_listed, function_member_listed, parameter_kind, parameter_limit_faults, parameter_name_faults, parameter_faults, declared_parameter, parameter_listed}
 use Rattle.types_rules.specs.Declarators as d
 use Rattle.types_rules.specs.Judgement.{typed_by, one_of, specifiers_judged, after, uncalled}
-use Rattle.mc_alike.specs.Moves.{Move, moved_span}
-use Rattle.mc_alike.specs.Trees.{moved_name, moved_tag, moved_specifiers, moved_lengths}
+use Rattle.reread_law_texts.specs.alike.Moves.{Move, moved_span}
+use Rattle.reread_law_texts.specs.alike.Trees.{moved_name, moved_tag, moved_specifiers, moved_lengths}
 use Rattle.mc_natural.specs.Moved.{moved_faults}
 use Rattle.mc_natural.proofs.Basics.{Shifts, both, none, one, one_if, unless_same, same2, same3, Goes, Same, Lists}
 use Rattle.mc_natural.proofs.Values.{Follows, constant_same, constant_found_faults}

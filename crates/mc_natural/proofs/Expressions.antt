@@ -26,8 +26,8 @@ use Rattle.types_rules.specs.Scopes.{Meaning, Automatic, Constant, Function, Typ
 use Rattle.types_rules.specs.Scopes as scope
 use Rattle.types_rules.specs.Values.{Judged, Value, Number, Stored, Borrowed, Done, Assigned, Kind, IsStructure, Found, kind_found, is_integer, is_array, is_structure, fails, number_in, number_found, structure_in, discarded_in, lift2}
 use Rattle.types_rules.specs.Expressions.{convert_to, common_type, name_faults, value_of_name, name_found, literal, stored_element, element_of, index_value, index_found, Selected, selected, undeclared_member, member_type, layouts_of, member_at, stored_member, member_of, member_found, typed_unary, is_arithmetic, unary_found, cast_base, cast_faults_to, cast_faults, cast_value_to, cast_value, may_cast_to_integer, cast_found, typed_binary, binary_found, arms_fail, choice_of, arms_value, conditional_value, conditional_found, is_assigned, is_const_value, target_fails, sides_fail, assign_effect, update_in_common_type, update_of, update_effect, effect_on, assignment_value, assign_found, update_found, assignment_found, step_operator, step_found}
-use Rattle.mc_alike.specs.Moves.{Move, moved_span}
-use Rattle.mc_alike.specs.Trees.{moved, moved_name}
+use Rattle.reread_law_texts.specs.alike.Moves.{Move, moved_span}
+use Rattle.reread_law_texts.specs.alike.Trees.{moved, moved_name}
 use Rattle.mc_natural.specs.Moved.{moved_place, moved_number, moved_structure, moved_effect}
 use Rattle.mc_natural.specs.Settled.{settled_operand}
 use Rattle.mc_natural.specs.Found.{moved_value, settled_value}

@@ -12,8 +12,8 @@ use Rattle.types_rules.specs.Constants.{constant_found, is_zero_constant}
 use Rattle.types_rules.specs.Expressions.{convert_to}
 use Rattle.types_rules.specs.Judgement.{judge}
 use Rattle.types_rules.specs.Initializers.{Target, Missing, ScalarTarget, ArrayTarget, StructureTarget, target_of, Parts, parts_of, first_part, later_parts, is_kind, item_faults, static_faults, scalar_value, item_value, single_judged, item_count, room_of, is_below, lacks_item, only_item, list_value, zero_value, zero_judged, list_judged, braced_judged, only_expression, items_judged, judge_initializer, judge_items, filled, values_of, values_of_items}
-use Rattle.mc_alike.specs.Moves.{Move}
-use Rattle.mc_alike.specs.Trees.{moved, moved_initializer, moved_initializers}
+use Rattle.reread_law_texts.specs.alike.Moves.{Move}
+use Rattle.reread_law_texts.specs.alike.Trees.{moved, moved_initializer, moved_initializers}
 use Rattle.mc_natural.specs.Moved.{moved_number, moved_structure, moved_filling, moved_fillings}
 use Rattle.mc_natural.specs.Found.{moved_value}
 use Rattle.mc_natural.proofs.Basics.{Shifts, both, none, one, one_if, same2, lift_moved, map_over, then_over, Goes, Carried}

@@ -11,8 +11,8 @@ use Rattle.types_rules.specs.Expressions.{operator_after, operator_before}
 use Rattle.types_rules.specs.Calls.{first_of, rest_of, parameters_of, argument_count}
 use Rattle.types_rules.specs.Declarators.{name_start}
 use Rattle.types_rules.specs.Judgement.{judge, judge_arguments, judge_type, judge_specifier, judge_specifiers, judge_member, judge_members, judge_enumerator, judge_enumerators, judge_declarator, judge_declarators, judge_lengths, judge_parameters, judge_parameter, judge_parameter_list}
-use Rattle.mc_alike.specs.Moves.{Move, moved_span}
-use Rattle.mc_alike.specs.Trees.{moved, moved_expressions, moved_type_name, moved_specifier, moved_specifiers, moved_member, moved_members, moved_enumerator, moved_enumerators, moved_declarator, moved_declarators, moved_lengths, moved_parameters, moved_parameter, moved_parameter_list}
+use Rattle.reread_law_texts.specs.alike.Moves.{Move, moved_span}
+use Rattle.reread_law_texts.specs.alike.Trees.{moved, moved_expressions, moved_type_name, moved_specifier, moved_specifiers, moved_member, moved_members, moved_enumerator, moved_enumerators, moved_declarator, moved_declarators, moved_lengths, moved_parameters, moved_parameter, moved_parameter_list}
 use Rattle.mc_natural.specs.Moved.{moved_arguments}
 use Rattle.mc_natural.proofs.Basics.{none, one, Goes, Same, Lists}
 use Rattle.mc_natural.proofs.Values.{Follows}

@@ -18,7 +18,7 @@ use Rattle.types_faults.specs.declared.fault.FaultKind.TheVariants.{NotConstant}
 use Rattle.types_rules.specs.Types.{same_integer}
 use Rattle.types_rules.specs.Constants.{value_of_constant, traps, constant_faults}
 use Rattle.types_rules.specs.Expressions.{convert_to, promote, common_type, typed_unary, typed_binary, in_common_type, shifting}
-use Rattle.mc_alike.specs.Moves.{Move, moved_span}
+use Rattle.reread_law_texts.specs.alike.Moves.{Move, moved_span}
 use Rattle.mc_natural.specs.Moved.{moved_place, moved_number}
 use Rattle.mc_natural.proofs.Basics.{Shifts, one_if}
 

@@ -13,8 +13,8 @@ use Rattle.types_rules.specs.Scopes.{Labels, Scope, entered, left}
 use Rattle.types_rules.specs.Values.{Judged, Value, Assigned, Kind, Found, is_integer, fails, number_in, structure_in, number_found, effect_in, whole}
 use Rattle.types_rules.specs.Expressions.{convert_to, promote}
 use Rattle.types_rules.specs.Statements.{Around, closed, alone, only, followed, followed_judged, statement_found, leaf, keyword, compound_judged, declaration_judged, effect_judged, effect_statement_judged, if_judged, if_else_judged, label_type, switch_scope, items_of, switch_judged, label_value, is_repeated, place_faults, with_label, case_judged, default_judged, test_judged, do_judged, loop, loop_judged, effects_start, declaration_start, return_nothing_faults, return_nothing_judged, fits, return_faults, return_value, return_judged, break_judged, continue_judged}
-use Rattle.mc_alike.specs.Moves.{Move, moved_span}
-use Rattle.mc_alike.specs.Trees.{moved, moved_statement}
+use Rattle.reread_law_texts.specs.alike.Moves.{Move, moved_span}
+use Rattle.reread_law_texts.specs.alike.Trees.{moved, moved_statement}
 use Rattle.mc_natural.specs.Moved.{moved_number, moved_structure, moved_effect, moved_effects, moved_objects, moved_for_start, moved_return_value, moved_typed_statement, moved_typed_statements}
 use Rattle.mc_natural.specs.Settled.{nowhere, settled_effect, settled_effects, settled_for_start, settled_statement, settled_statements}
 use Rattle.mc_natural.specs.Found.{moved_value}

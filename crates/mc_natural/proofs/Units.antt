@@ -17,8 +17,8 @@ use Rattle.types_rules.specs.Declarations.{append, all_of, has_body, result_of, 
 use Rattle.types_rules.specs.Statements.{outermost}
 use Rattle.types_rules.specs.Bodies.{judge_block}
 use Rattle.types_rules.specs.Typing.{parameter_names_faults, list_names_faults, names_faults, is_incomplete, definition_faults, parameter_type, result_type, function_from, with_function, function_listed, judge_definition, judge_item, judge_unit, found_of, faults_of, program_from, typing_of, IsTypingOf}
-use Rattle.mc_alike.specs.Moves.{Move, moved_span}
-use Rattle.mc_alike.specs.Trees.{moved, moved_name, moved_specifiers, moved_parameters, moved_parameter, moved_parameter_list, moved_block, moved_item, moved_unit}
+use Rattle.reread_law_texts.specs.alike.Moves.{Move, moved_span}
+use Rattle.reread_law_texts.specs.alike.Trees.{moved, moved_name, moved_specifiers, moved_parameters, moved_parameter, moved_parameter_list, moved_block, moved_item, moved_unit}
 use Rattle.mc_natural.specs.Moved.{moved_faults, moved_objects, moved_function, moved_functions, moved_program}
 use Rattle.mc_natural.specs.Settled.{nowhere, settled_function, settled_functions, settled}
 use Rattle.mc_natural.specs.Found.{moved_value, settled_value, moved_found, settled_found}

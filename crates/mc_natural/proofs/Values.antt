@@ -8,8 +8,8 @@ use Rattle.types_faults.specs.declared.fault.FaultKind.TheVariants.{Mismatch}
 use Rattle.types_rules.specs.Types.{Base, Void, Integer, Tagged}
 use Rattle.types_rules.specs.Values.{Value, Number, Stored, Borrowed, Returned, Done, Assigned, Designator, Kind, IsVoid, IsAssignment, IsInteger, IsStructure, IsArray, IsFunction, kind_of, Found, kind_found, part, is_integer, is_effect, is_discarded, fails, integer_faults, number_stored, number_in, structure_stored, structure_in, any_structure_in, number_found, value_effect, discarded_in, effect_in, whole, bare_start, effect_faults, discarded_faults, lift2}
 use Rattle.types_rules.specs.Constants.{value_of_constant, constant_found, constant_faults}
-use Rattle.mc_alike.specs.Moves.{Move}
-use Rattle.mc_alike.specs.Trees.{moved}
+use Rattle.reread_law_texts.specs.alike.Moves.{Move}
+use Rattle.reread_law_texts.specs.alike.Trees.{moved}
 use Rattle.mc_natural.specs.Moved.{moved_place, moved_number, moved_structure, moved_call, moved_effect}
 use Rattle.mc_natural.specs.Settled.{settled_operand, settled_effect}
 use Rattle.mc_natural.specs.Found.{moved_value, settled_value}

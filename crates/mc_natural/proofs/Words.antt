@@ -10,8 +10,8 @@ use Rattle.types_rules.specs.Initializers.{item_count, only_expression}
 use Rattle.types_rules.specs.Declarations.{storage_of, count_listed, is_tag_alone, declares, any_declares}
 use Rattle.types_rules.specs.Statements.{is_compound}
 use Rattle.types_rules.specs.Typing.{bodies_of}
-use Rattle.mc_alike.specs.Moves.{Move}
-use Rattle.mc_alike.specs.Trees.{moved, moved_specifier, moved_specifiers, moved_lengths, moved_declarator, moved_initializer, moved_initializers, moved_init_declarators, moved_statement, moved_unit}
+use Rattle.reread_law_texts.specs.alike.Moves.{Move}
+use Rattle.reread_law_texts.specs.alike.Trees.{moved, moved_specifier, moved_specifiers, moved_lengths, moved_declarator, moved_initializer, moved_initializers, moved_init_declarators, moved_statement, moved_unit}
 
 pub start_kept : (m : Move) (a : Expression) → (span_of (moved m a)).start ≡ m.start (span_of a).start
 start_kept m (tree.Named name) = refl

@@ -1,7 +1,7 @@
 -- What is found of a node, at other places.
 use Rattle.std.specs.Prelude.{option_map}
 use Rattle.types_rules.specs.Values.{Value, Number, Stored, Borrowed, Returned, Done, Assigned, Designator, Found}
-use Rattle.mc_alike.specs.Moves.{Move, moved_span}
+use Rattle.reread_law_texts.specs.alike.Moves.{Move, moved_span}
 use Rattle.mc_natural.specs.Moved.{moved_faults, moved_place, moved_number, moved_call, moved_effect}
 use Rattle.mc_natural.specs.Settled.{settled_effect}
 

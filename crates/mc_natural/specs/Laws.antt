@@ -6,8 +6,8 @@ use Rattle.mc_typed.specs.Tree.{Program}
 use Rattle.types_rules.specs.Scopes.{Scope}
 use Rattle.types_rules.specs.Judgement.{judge}
 use Rattle.types_rules.specs.Typing.{faults_of, typing_of, IsTypingOf}
-use Rattle.mc_alike.specs.Moves.{Move}
-use Rattle.mc_alike.specs.Trees.{moved, moved_unit}
+use Rattle.reread_law_texts.specs.alike.Moves.{Move}
+use Rattle.reread_law_texts.specs.alike.Trees.{moved, moved_unit}
 use Rattle.mc_natural.specs.Moved.{moved_faults, moved_program}
 use Rattle.mc_natural.specs.Settled.{settled}
 use Rattle.mc_natural.specs.Found.{moved_found, settled_found}

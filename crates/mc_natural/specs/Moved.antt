@@ -3,7 +3,7 @@ use Rattle.std.specs.Prelude.{List, map, option_map}
 use Rattle.mc_typed.specs.Tree.{Place, Expression, StructureValue, FunctionCall, Argument, Arguments, Effect, Initializer, Initializers, Declarator, ForStart, ReturnValue, Statement, Statements, Function, Program}
 use Rattle.mc_typed.specs.Tree as typed
 use Rattle.types_faults.specs.declared.fault.Fault.{Fault}
-use Rattle.mc_alike.specs.Moves.{Move, moved_span}
+use Rattle.reread_law_texts.specs.alike.Moves.{Move, moved_span}
 
 -- ---- faults, which stand at the start of something
 

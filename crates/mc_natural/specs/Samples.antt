@@ -12,7 +12,7 @@ use Rattle.mc_typed.specs.Layout as layout
 use Rattle.mc_typed.specs.Tree.{Program}
 use Rattle.mc_typed.specs.Tree as typed
 use Rattle.types_rules.specs.Sampled.{int, name, span, void}
-use Rattle.mc_alike.specs.Moves.{Move}
+use Rattle.reread_law_texts.specs.alike.Moves.{Move}
 
 abbrev pub doubled : Move
 doubled = record { start = λ n. n + n; end = λ n. n + n }

@@ -1,7 +1,7 @@
 //! A text, and the same where each byte stands twice as far.
 ghost use Rattle.std.specs.Prelude.{◌≡◌, Some};
 ghost use Rattle.types_rules.specs.Typing.{typing_of};
-ghost use Rattle.mc_alike.specs.Trees.{moved_unit};
+ghost use Rattle.reread_law_texts.specs.alike.Trees.{moved_unit};
 ghost use Rattle.mc_natural.specs.Moved.{moved_program};
 ghost use Rattle.mc_natural.specs.Settled.{settled};
 ghost use Rattle.mc_natural.specs.Samples.{doubled, doubled_program, short_program, short_unit};

@@ -16,9 +16,9 @@ use Rattle.mc_grammar.specs.Expressions.{Reads, ReadsExpressions}
 use Rattle.mc_grammar.specs.Expressions as r
 use Rattle.mc_grammar.specs.Statements.{ReadsOptional, ReadsTest, ReadsInitializer, ReadsInitializers, ReadsInitDeclarator, ReadsInitDeclarators, ReadsDeclaration, ReadsForStart, ReadsStatement, ReadsCompound, ReadsBlockItems, after}
 use Rattle.mc_grammar.specs.Statements as g
-use Rattle.mc_alike.specs.Moves.{FollowFrom, end_of}
-use Rattle.mc_apart.proofs.Ascending.{tk}
-use Rattle.mc_apart.proofs.ApartExpressions.{apart_type_name, apart_specifiers, apart_declarator}
+use Rattle.reread_law_texts.specs.alike.Moves.{FollowFrom, end_of}
+use Rattle.reread_law_texts.proofs.Apart.Ascending.{tk}
+use Rattle.reread_law_texts.proofs.Apart.ApartExpressions.{apart_type_name, apart_specifiers, apart_declarator}
 use Rattle.mc_ordered.specs.Laws.{BlocksAreNested}
 use Rattle.mc_ordered.specs.Nested.{Nested, HoldsAll, InOptional, InInitializer, InInitializers, InObjects, InDeclaration, InStart, NestedStatement, InStatement, InBlock}
 use Rattle.mc_ordered.proofs.Going.{le, same, forward}

@@ -3,7 +3,7 @@ use Rattle.std.specs.Prelude.{ℕ, List, [], map}
 use Rattle.mc_lex.specs.declared.token.Dialect.{Dialect}
 use Rattle.mc_grammar.specs.Words.{Lexeme}
 use Rattle.mc_grammar.specs.Statements.{ReadsBlockItems}
-use Rattle.mc_alike.specs.Moves.{FollowFrom}
+use Rattle.reread_law_texts.specs.alike.Moves.{FollowFrom}
 use Rattle.mc_tree.specs.Tree.{BlockItems}
 use Rattle.mc_typed.specs.Tree.{Statements}
 use Rattle.mc_probe.specs.Maps.{Map}

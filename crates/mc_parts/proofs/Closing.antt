@@ -12,7 +12,7 @@ use Rattle.reread_pieces.specs.declared.piece.What.TheVariants as what
 use Rattle.reread_pieces.specs.Words.{is}
 use Rattle.reread_pieces.specs.Rows.{is_value}
 use Rattle.mc_print.specs.Pens.{Pen}
-use Rattle.mc_alike.specs.Moves.{FollowFrom, end_of}
+use Rattle.reread_law_texts.specs.alike.Moves.{FollowFrom, end_of}
 use Rattle.mc_inserted.specs.Rows.{Row, Rows, row}
 use Rattle.mc_inserted.specs.Fits.{IsBalanced, nothing, other, pair, is_bracket, is_pair, EndsAt, StandsAmong, IsReturnAmong, ReturnsAmong, StartsAt}
 use Rattle.mc_parts.specs.Parts.{Parts, what_of, own, copied, upto, place_by, place_of, without_first, put, inserted}

@@ -2,7 +2,7 @@
 use Rattle.std.proofs.Common.{◌≡◌, ◌≤◌, ◌<◌, ◌+◌, ℕ, suc, nat_lt, Bool, true, false, cond, List, [], ◌∷◌, ◌++◌, length, take, drop, refl, sym, ap, ◌∙◌, arith}
 use Rattle.std.proofs.lemmas.Bool.Decides.{nat_tests}
 use Rattle.mc_lex.specs.Tokens.{Tok}
-use Rattle.mc_alike.specs.Moves.{FollowFrom, end_of}
+use Rattle.reread_law_texts.specs.alike.Moves.{FollowFrom, end_of}
 use Rattle.mc_print.specs.Pens.{before}
 
 -- those that do not start before a byte, from the first such one on

@@ -7,7 +7,7 @@ use Rattle.mc_span.specs.declared.span.Span.{Span}
 use Rattle.mc_lex.specs.Tokens.{Tok}
 use Rattle.mc_lex.proofs.Texts.{both}
 use Rattle.reread_pieces.specs.Words.{specifiers}
-use Rattle.mc_alike.specs.Moves.{FollowFrom, end_of}
+use Rattle.reread_law_texts.specs.alike.Moves.{FollowFrom, end_of}
 use Rattle.mc_inserted.specs.Rows.{rows_of}
 use Rattle.mc_inserted.specs.Fits.{IsBalanced, nothing, other, pair, StandsAmong, IsOperandAmong, IsStatementAmong, ReturnsAmong}
 use Rattle.mc_parts.specs.Stands.{IsFunctionAmong}

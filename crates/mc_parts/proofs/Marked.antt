@@ -18,14 +18,14 @@ use Rattle.reread_pieces.specs.Pieces.{Mark}
 use Rattle.reread_pieces.specs.Plain.{place_after, first_start, laid, placed}
 use Rattle.reread_pieces.specs.Plain as plain
 use Rattle.reread_probes.specs.Probes.{is_own, next_start, probes_from}
-use Rattle.mc_alike.specs.Moves.{FollowFrom, end_of, without_place}
-use Rattle.mc_brackets.specs.Signs.{Sign, poured, before}
+use Rattle.reread_law_texts.specs.alike.Moves.{FollowFrom, end_of, without_place}
+use Rattle.reread_law_texts.specs.brackets.Signs.{Sign, poured, before}
 use Rattle.mc_print.specs.Insertions.{value_exit}
 use Rattle.mc_inserted.specs.Rows.{Row}
 use Rattle.mc_inserted.specs.Signs.{signs_of}
 use Rattle.mc_inserted.specs.Seats.{probe_rows, AreThere}
 use Rattle.mc_lex.specs.Words.{probe_names}
-use Rattle.mc_weave.specs.Brackets.{sign}
+use Rattle.reread_law_texts.specs.weave.Brackets.{sign}
 use Rattle.mc_spelled.specs.Words.{kind_in, IsInserted, word, inserted_words}
 use Rattle.mc_spelled.proofs.Printed.{kinds_kept}
 use Rattle.mc_parts.specs.Parts.{Part, own, row_part, row_texts}

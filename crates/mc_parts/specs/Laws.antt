@@ -7,9 +7,9 @@ use Rattle.reread_pieces.specs.Pieces.{ArePieces, start}
 use Rattle.reread_pieces.specs.Plain.{plain_of}
 use Rattle.reread_probes.specs.Probes.{probes}
 use Rattle.mc_probe.specs.Tree as p
-use Rattle.mc_alike.specs.Moves.{Move, FollowFrom, AreAlike, end_of, moved_tokens}
-use Rattle.mc_alike.specs.Moves as alike
-use Rattle.mc_brackets.specs.Signs.{poured}
+use Rattle.reread_law_texts.specs.alike.Moves.{Move, FollowFrom, AreAlike, end_of, moved_tokens}
+use Rattle.reread_law_texts.specs.alike.Moves as alike
+use Rattle.reread_law_texts.specs.brackets.Signs.{poured}
 use Rattle.mc_print.specs.Pens.{texts_of}
 use Rattle.mc_print.specs.Texts.{text_of}
 use Rattle.mc_spelled.specs.Words.{kind_in, number}

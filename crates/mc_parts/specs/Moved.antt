@@ -1,7 +1,7 @@
 -- The functions of a program at other places of its tokens.
 use Rattle.std.specs.Prelude.{◌≡◌, List, [], ◌∷◌, map}
 use Rattle.mc_probe.specs.Tree as p
-use Rattle.mc_alike.specs.Moves.{Move, moved_span}
+use Rattle.reread_law_texts.specs.alike.Moves.{Move, moved_span}
 use Rattle.mc_inserted.specs.Rows.{Row}
 use Rattle.mc_parts.specs.Parts.{body_rows}
 

@@ -10,7 +10,7 @@ use Rattle.reread_pieces.specs.declared.piece.What.{What}
 use Rattle.reread_pieces.specs.declared.piece.What.TheVariants as what
 use Rattle.reread_pieces.specs.Words.{is}
 use Rattle.reread_pieces.specs.Pieces.{Here, before_after}
-use Rattle.mc_alike.specs.Moves.{FollowFrom}
+use Rattle.reread_law_texts.specs.alike.Moves.{FollowFrom}
 use Rattle.mc_inserted.specs.Rows.{Row, rows_of}
 use Rattle.mc_spelled.specs.Words.{kind_in}
 use Rattle.mc_parts.specs.Parts.{Part, own, row_part, row_texts, words_of, is_row}

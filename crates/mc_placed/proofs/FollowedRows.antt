@@ -11,7 +11,7 @@ use Rattle.reread_pieces.specs.Words.{is, begins_declaration}
 use Rattle.reread_pieces.specs.Shapes.{begins}
 use Rattle.reread_pieces.specs.Rows.{is_hit}
 use Rattle.mc_spelled.specs.Words.{IsToken}
-use Rattle.mc_alike.specs.Moves.{FollowFrom, end_of}
+use Rattle.reread_law_texts.specs.alike.Moves.{FollowFrom, end_of}
 use Rattle.mc_print.specs.Pens.{Pen}
 use Rattle.mc_inserted.specs.Rows.{Row, Rows, row}
 use Rattle.mc_inserted.specs.Fits.{StartsAt, EndsAt, StandsAmong, IsStatementAmong, IsDeclarationAmong, IsReturnAmong}

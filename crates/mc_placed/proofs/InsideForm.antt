@@ -11,7 +11,7 @@ use Rattle.reread_pieces.specs.declared.piece.What.TheVariants as what
 use Rattle.reread_pieces.specs.Words.{is}
 use Rattle.mc_probe.specs.Tree as p
 use Rattle.mc_print.specs.Pens.{since, ends_item, last_item, type_words}
-use Rattle.mc_alike.specs.Moves.{FollowFrom, end_of}
+use Rattle.reread_law_texts.specs.alike.Moves.{FollowFrom, end_of}
 use Rattle.mc_inserted.specs.Rows.{Row, entry_row, rows_in_functions}
 use Rattle.mc_inserted.specs.Fits.{is_bracket, last_is}
 use Rattle.mc_parts.specs.Parts.{Part, Parts, own, copied, upto, into_body, row_part, put, inserted, all_put, front_rows, body_rows, exit_put, body, type_at, parts_in_function, parts_in_functions, place_of}

@@ -21,7 +21,7 @@ use Rattle.reread_put_back.specs.Pens.{Pen, go_on, is_below, is_same, noted}
 use Rattle.reread_put_back.specs.Rows as taken
 use Rattle.reread_put_back.specs.Back.{around, back, end_round, has_round, is_outer, is_round, is_there, leading, round, surrounded}
 use Rattle.reread_put_back.specs.steps.Inside.{inside}
-use Rattle.mc_apart.specs.Distinct.{IsDistinct}
+use Rattle.reread_law_texts.specs.apart.Distinct.{IsDistinct}
 use Rattle.mc_put.specs.Places.{parts}
 use Rattle.mc_put.specs.Takes.{IsInside, Takes}
 use Rattle.mc_put.proofs.Leads.{First, IsUnprobed, Leads, parts_lead}

@@ -10,7 +10,7 @@ use Rattle.mc_inserted.specs.Rows.{Row, rows, rows_in_structure, rows_in_effect,
 use Rattle.mc_inserted.specs.Seats.{ArePlaced}
 use Rattle.reread_put_back.specs.Pens.{Pen, each, gives}
 use Rattle.reread_put_back.specs.Back.{Head, back, back_place, back_structure, back_call, back_effect, back_initializer, back_initializers, back_initial, back_declarator, back_start, back_test, back_head}
-use Rattle.mc_apart.specs.Distinct.{IsDistinct}
+use Rattle.reread_law_texts.specs.apart.Distinct.{IsDistinct}
 use Rattle.mc_put.specs.Places.{places, in_structure, in_effect, in_effects, in_initializer, in_initializers, in_initial, in_declarators, in_start, in_optional}
 use Rattle.mc_put.specs.Ends.{EndEffect, EndEffects, EndInitializer, EndInitializers, EndInitial, EndDeclarators, EndStart, EndTest}
 use Rattle.mc_put.specs.Takes.{TakesEffect, TakesEffects, TakesInitializer, TakesInitializers, TakesInitial, TakesDeclarators, TakesStart, TakesTest}

@@ -11,7 +11,7 @@ use Rattle.mc_inserted.specs.Seats.{ArePlaced}
 use Rattle.reread_put_back.specs.Pens.{Pen, Walk, gives, ◌>>=◌}
 use Rattle.reread_put_back.specs.Back.{back, back_place, back_structure, back_call, back_argument, back_arguments}
 use Rattle.reread_put_back.specs.steps.Inside.{inside}
-use Rattle.mc_apart.specs.Distinct.{IsDistinct}
+use Rattle.reread_law_texts.specs.apart.Distinct.{IsDistinct}
 use Rattle.mc_put.specs.Places.{in_place, parts, in_structure, in_call, in_argument, in_arguments}
 use Rattle.mc_put.specs.Ends.{EndPlace, End, EndStructure, EndCall, EndArgument, EndArguments}
 use Rattle.mc_put.specs.Takes.{TakesPlace, Takes, TakesStructure, TakesCall, TakesArgument, TakesArguments}

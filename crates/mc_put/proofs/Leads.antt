@@ -12,7 +12,7 @@ use Rattle.reread_put_back.specs.Back.{is_round}
 use Rattle.mc_probe.specs.Bare.{bare_place, bare_expression, bare_structure, bare_call, bare_argument, bare_arguments}
 use Rattle.mc_probe.specs.Erase.{erase_expression}
 use Rattle.mc_typed.specs.Tree as t
-use Rattle.mc_apart.specs.Distinct.{Each}
+use Rattle.reread_law_texts.specs.apart.Distinct.{Each}
 use Rattle.mc_put.specs.Places.{in_place, parts, places, in_structure, in_call, in_argument, in_arguments, in_effect, in_effects, in_initializer, in_initializers, in_initial, in_declarators, in_start, in_optional, in_value, in_statement, in_statements}
 use Rattle.mc_put.specs.Takes.{IsSet, IsInside, TakesPlace, Takes, TakesStructure, TakesCall, TakesArgument, TakesArguments, TakesEffect, TakesEffects, TakesInitializer, TakesInitializers, TakesInitial, TakesDeclarators, TakesStart, TakesTest, TakesStatement, TakesStatements}
 use Rattle.mc_put.proofs.Walked.{false_true}

@@ -14,7 +14,7 @@ use Rattle.mc_inserted.specs.Seats.{ArePlaced}
 use Rattle.reread_put_back.specs.Pens.{Pen, Walk, begun, each, gives, is_same, next_at, put, put_found, ◌>>=◌}
 use Rattle.reread_put_back.specs.Rows.{end_of, entry_bit, exit_bit, register_count}
 use Rattle.reread_put_back.specs.Back.{back_function, back_statements, first_fault, unless}
-use Rattle.mc_apart.specs.Distinct.{IsDistinct}
+use Rattle.reread_law_texts.specs.apart.Distinct.{IsDistinct}
 use Rattle.mc_put.specs.Places.{in_statements, in_functions}
 use Rattle.mc_put.specs.Ends.{EndBit, EndFunction, EndFunctions}
 use Rattle.mc_put.specs.Takes.{IsSet, TakesFunction, TakesFunctions}

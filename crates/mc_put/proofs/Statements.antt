@@ -14,7 +14,7 @@ use Rattle.mc_inserted.specs.Seats.{ArePlaced}
 use Rattle.reread_put_back.specs.Pens.{Pen, each, is_below, put}
 use Rattle.reread_put_back.specs.Rows.{declaration_bit, default_mark, end_of, label_mark, return_bit, statement_bit}
 use Rattle.reread_put_back.specs.Back.{Head, back, back_structure, back_effect, back_declarator, back_declared, back_absent, back_head, back_return, back_statement, back_statements}
-use Rattle.mc_apart.specs.Distinct.{IsDistinct}
+use Rattle.reread_law_texts.specs.apart.Distinct.{IsDistinct}
 use Rattle.mc_put.specs.Places.{places, in_effects, in_optional, in_value, in_statement, in_statements}
 use Rattle.mc_put.specs.Ends.{EndBit, EndMark, EndStart, EndTest, EndEffects, EndValue, EndStatement, EndStatements}
 use Rattle.mc_put.specs.Takes.{IsSet, IsSetWhere, IsSetUnless, TakesValue, TakesStatement, TakesStatements}

@@ -12,7 +12,7 @@ use Rattle.mc_probe.specs.WellFormed.{FitFunctions}
 use Rattle.mc_inserted.specs.Rows.{rows_of}
 use Rattle.mc_inserted.specs.Seats.{ArePlaced}
 use Rattle.reread_put_back.specs.Back.{put_back}
-use Rattle.mc_apart.specs.Distinct.{IsDistinct}
+use Rattle.reread_law_texts.specs.apart.Distinct.{IsDistinct}
 use Rattle.mc_put.specs.Places.{places_of}
 use Rattle.mc_put.specs.Conversions.{ConversionsStand}
 use Rattle.mc_put.specs.Ends.{EndsBelow}

@@ -10,7 +10,7 @@ use Rattle.mc_probe.specs.Maps.{Map}
 use Rattle.mc_probe.specs.Table.{instrumented}
 use Rattle.mc_put.specs.Conversions.{ConversionsStand}
 use Rattle.mc_put.specs.Laws.{IsCounted}
-use Rattle.mc_apart.specs.Distinct.{IsDistinct}
+use Rattle.reread_law_texts.specs.apart.Distinct.{IsDistinct}
 use Rattle.mc_put.specs.Places.{places_of}
 
 abbrev span : ℕ → ℕ → Span

@@ -11,7 +11,7 @@ use Rattle.reread_pieces.specs.declared.piece.What.TheVariants as what
 use Rattle.mc_probe.specs.Maps.{Map}
 use Rattle.mc_probe.specs.Table.{Loose, put, put_effect, put_effects, put_declarators, put_start, put_optional, put_return, At, decided, past, within, in_switch, mark_unless_default, put_statement, put_statements}
 use Rattle.mc_probe.specs.Tree as p
-use Rattle.mc_alike.specs.Moves.{Move, moved_span}
+use Rattle.reread_law_texts.specs.alike.Moves.{Move, moved_span}
 use Rattle.mc_natural.specs.Moved.{moved_number, moved_effect, moved_effects, moved_objects, moved_for_start, moved_return_value, moved_typed_statement, moved_typed_statements}
 use Rattle.mc_still.proofs.Points.{default_same, initializes_same, points_same, switches_same}
 use Rattle.mc_still.proofs.Put.{SameNumbers}

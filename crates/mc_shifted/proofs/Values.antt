@@ -17,7 +17,7 @@ use Rattle.mc_probe.specs.Erase.{erase_place, erase_call}
 use Rattle.mc_probe.specs.Maps.{Map}
 use Rattle.mc_probe.specs.Table.{base_of, increment_of, Stand, Loose, InTree, role_of, operand, under, beside, inner, mapped, round_condition, round, wrap, put_place, put, put_structure, put_call, put_argument, put_arguments, put_effect, put_effects, put_initializer, put_initializers, put_initial, put_declarators, put_start, put_optional}
 use Rattle.mc_probe.specs.Tree as p
-use Rattle.mc_alike.specs.Moves.{Move, moved_span}
+use Rattle.reread_law_texts.specs.alike.Moves.{Move, moved_span}
 use Rattle.mc_natural.specs.Moved.{moved_place, moved_number, moved_structure, moved_call, moved_argument, moved_arguments, moved_effect, moved_effects, moved_filling, moved_fillings, moved_objects, moved_for_start}
 use Rattle.mc_still.proofs.Nodes.{moved_node, root_same, operator_same, full_same, number_node}
 use Rattle.mc_still.proofs.Put.{SameNumbers}

@@ -10,8 +10,8 @@ use Rattle.mc_steps.specs.Points.{Points, no_points, ◌⊕◌, points_of_all, p
 use Rattle.mc_probe.specs.Maps.{Map, exit_bit, statement_bit, label_bit}
 use Rattle.mc_probe.specs.Switches.{switches_all}
 use Rattle.mc_probe.specs.Table.{At, put_statements, decisions_in, put_function, put_functions, instrumented}
-use Rattle.mc_alike.specs.Moves.{Move, AllFit, moved_span}
-use Rattle.mc_alike.specs.Trees.{moved_unit}
+use Rattle.reread_law_texts.specs.alike.Moves.{Move, AllFit, moved_span}
+use Rattle.reread_law_texts.specs.alike.Trees.{moved_unit}
 use Rattle.types_rules.specs.Typing.{typing_of}
 use Rattle.mc_natural.specs.Laws.{TypingsMove}
 use Rattle.mc_natural.specs.Moved.{moved_typed_statements, moved_function, moved_functions, moved_program}

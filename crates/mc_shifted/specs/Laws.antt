@@ -7,8 +7,8 @@ use Rattle.mc_typed.specs.Tree.{Program}
 use Rattle.types_rules.specs.Typing.{typing_of}
 use Rattle.mc_probe.specs.Maps.{Map, IsMapOf}
 use Rattle.mc_probe.specs.Table.{instrumented}
-use Rattle.mc_alike.specs.Moves.{Move, AllFit}
-use Rattle.mc_alike.specs.Trees.{moved_unit}
+use Rattle.reread_law_texts.specs.alike.Moves.{Move, AllFit}
+use Rattle.reread_law_texts.specs.alike.Trees.{moved_unit}
 use Rattle.mc_still.specs.Unplaced.{unplaced}
 use Rattle.mc_parts.specs.Stands.{AreAmong}
 use Rattle.mc_parts.specs.Moved.{AreMoved}

@@ -14,10 +14,10 @@ use Rattle.mc_steps.specs.Points.{initializes, has_default}
 use Rattle.mc_probe.specs.Maps.{Map}
 use Rattle.mc_probe.specs.Bare.{bare_place, bare_expression, bare_structure, bare_call, bare_argument, bare_arguments}
 use Rattle.mc_probe.specs.Table.{Loose, At, past, mark_unless_default, put_effects, put_initializer, put_initializers, put_initial, put_declarators, put_start, put_optional, put_return, put_statement, put_statements}
-use Rattle.mc_weave.specs.Brackets.{Brackets}
-use Rattle.mc_brackets.specs.Signs.{Sign, signs_in_expressions, signs_in_optional, signs_in_initializer, signs_in_initializers, signs_in_init_declarators, signs_in_declaration, signs_in_start, signs_in_statement, signs_in_block}
+use Rattle.reread_law_texts.specs.weave.Brackets.{Brackets}
+use Rattle.reread_law_texts.specs.brackets.Signs.{Sign, signs_in_expressions, signs_in_optional, signs_in_initializer, signs_in_initializers, signs_in_init_declarators, signs_in_declaration, signs_in_start, signs_in_statement, signs_in_block}
 use Rattle.mc_inserted.specs.Rows.{Row, rows, rows_in_place, rows_in_structure, rows_in_call, rows_in_argument, rows_in_arguments, rows_in_effects, rows_in_initializer, rows_in_initializers, rows_in_initial, rows_in_declarators, rows_in_start, rows_in_optional, rows_in_return, counted_declaration, absent_default, rows_in_statement, rows_in_statements}
-use Rattle.mc_apart.specs.Places.{spans, spans_in_expressions, spans_in_optional, spans_in_initializer, spans_in_initializers, spans_in_init_declarators, spans_in_declaration, spans_in_start, spans_in_statement, spans_in_block, statement_spans, statement_spans_in_block}
+use Rattle.reread_law_texts.specs.apart.Places.{spans, spans_in_expressions, spans_in_optional, spans_in_initializer, spans_in_initializers, spans_in_init_declarators, spans_in_declaration, spans_in_start, spans_in_statement, spans_in_block, statement_spans, statement_spans_in_block}
 use Rattle.laws_types.specs.SourceUnits.{IsInitializerOf, AreInitializersOf, AreObjectsOf, AreDeclaredBy, AreClausesOf, ArePartOf, IsStartOf, IsTestOf, IsReturnOf, AreStatementsOf, AreItemsOf, joined}
 use Rattle.laws_types.specs.SourceUnits as of
 use Rattle.mc_signed.proofs.Signed.{Level, Signed, opens_none, closes, braces_open, braces_close, other}

@@ -6,11 +6,11 @@ use Rattle.mc_typed.specs.declared.probes.Probe.{Probe}
 use Rattle.mc_typed.specs.declared.probes.Probe.TheVariants as probe
 use Rattle.mc_probe.specs.Tree as p
 use Rattle.reread_pieces.specs.declared.piece.What.TheVariants as what
-use Rattle.mc_weave.specs.Brackets.{Brackets, sign}
-use Rattle.mc_brackets.specs.Signs.{Sign, opened, closed, once}
+use Rattle.reread_law_texts.specs.weave.Brackets.{Brackets, sign}
+use Rattle.reread_law_texts.specs.brackets.Signs.{Sign, opened, closed, once}
 use Rattle.mc_inserted.specs.Rows.{Row, row, row_of_probe, extent, rows}
 use Rattle.mc_inserted.specs.Signs.{sign_of_row, signs_of, is_round, is_enclosing}
-use Rattle.mc_apart.specs.Distinct.{Each, HasBytes, IsDistinct}
+use Rattle.reread_law_texts.specs.apart.Distinct.{Each, HasBytes, IsDistinct}
 use Rattle.mc_signed.proofs.Split.{probed_by, openings, endings, rows_probed, counted_openings, counted_endings, counted_other, Within, within_opens, within_closes, within_other, Right, right_opens, right_closes, right_other, right_braces, Few, EndsLate, BracesEndLate, few_opens, few_closes, few_other, late_opens, late_closes, late_other, braces_late}
 
 -- ---- brackets of rows

@@ -3,10 +3,10 @@ use Rattle.std.proofs.Common.{List, [], ◌∷◌}
 use Rattle.mc_span.specs.declared.span.Span.{Span}
 use Rattle.mc_tree.specs.Tree.{Expression, Expressions, TypeName, Specifier, Specifiers, StructMember, Members, Enumerator, Enumerators, Declarator, Declarators, ArrayLengths, Parameters, Parameter, ParameterList, Initializer, Initializers, InitDeclarator, Declaration}
 use Rattle.mc_tree.specs.Tree as tree
-use Rattle.mc_weave.specs.Brackets.{Brackets}
-use Rattle.mc_brackets.specs.Signs.{Sign, signs, signs_in_declaration, signs_in_declarator, signs_in_declarators, signs_in_enumerator, signs_in_enumerators, signs_in_expressions, signs_in_init_declarator, signs_in_init_declarators, signs_in_initializer, signs_in_initializers, signs_in_lengths, signs_in_member, signs_in_members, signs_in_parameter, signs_in_parameter_list, signs_in_parameters, signs_in_specifier, signs_in_specifiers, signs_in_type_name}
+use Rattle.reread_law_texts.specs.weave.Brackets.{Brackets}
+use Rattle.reread_law_texts.specs.brackets.Signs.{Sign, signs, signs_in_declaration, signs_in_declarator, signs_in_declarators, signs_in_enumerator, signs_in_enumerators, signs_in_expressions, signs_in_init_declarator, signs_in_init_declarators, signs_in_initializer, signs_in_initializers, signs_in_lengths, signs_in_member, signs_in_members, signs_in_parameter, signs_in_parameter_list, signs_in_parameters, signs_in_specifier, signs_in_specifiers, signs_in_type_name}
 use Rattle.mc_inserted.specs.Rows.{Row}
-use Rattle.mc_apart.specs.Places.{spans, spans_in_declaration, spans_in_declarator, spans_in_declarators, spans_in_enumerator, spans_in_enumerators, spans_in_expressions, spans_in_init_declarator, spans_in_init_declarators, spans_in_initializer, spans_in_initializers, spans_in_lengths, spans_in_member, spans_in_members, spans_in_parameter, spans_in_parameter_list, spans_in_parameters, spans_in_specifier, spans_in_specifiers, spans_in_type_name}
+use Rattle.reread_law_texts.specs.apart.Places.{spans, spans_in_declaration, spans_in_declarator, spans_in_declarators, spans_in_enumerator, spans_in_enumerators, spans_in_expressions, spans_in_init_declarator, spans_in_init_declarators, spans_in_initializer, spans_in_initializers, spans_in_lengths, spans_in_member, spans_in_members, spans_in_parameter, spans_in_parameter_list, spans_in_parameters, spans_in_specifier, spans_in_specifiers, spans_in_type_name}
 use Rattle.mc_signed.proofs.Signed.{Level, Signed, opens_none, closes}
 
 mutual

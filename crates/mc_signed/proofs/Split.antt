@@ -8,10 +8,10 @@ use Rattle.mc_typed.specs.declared.probes.Probe.{Probe}
 use Rattle.mc_typed.specs.declared.probes.Probe.TheVariants as probe
 use Rattle.mc_probe.specs.Tree as p
 use Rattle.reread_pieces.specs.declared.piece.What.TheVariants as what
-use Rattle.mc_weave.specs.Brackets.{Brackets}
+use Rattle.reread_law_texts.specs.weave.Brackets.{Brackets}
 use Rattle.mc_inserted.specs.Rows.{Row, row, row_of_probe, extent, rows}
 use Rattle.mc_inserted.specs.Signs.{is_same, is_round, is_enclosing, encloses, count_round, is_counted}
-use Rattle.mc_apart.specs.Distinct.{Each, HasBytes, IsDistinct}
+use Rattle.reread_law_texts.specs.apart.Distinct.{Each, HasBytes, IsDistinct}
 
 -- ---- probes round one expression
 

@@ -10,12 +10,12 @@ use Rattle.mc_probe.specs.Maps.{Map}
 use Rattle.mc_probe.specs.Tree as p
 use Rattle.mc_probe.specs.Table.{put_function, put_functions, instrumented}
 use Rattle.reread_pieces.specs.declared.piece.What.TheVariants as what
-use Rattle.mc_weave.specs.Brackets.{Brackets}
-use Rattle.mc_brackets.specs.Signs.{Sign, signs_in_block, signs_in_unit}
+use Rattle.reread_law_texts.specs.weave.Brackets.{Brackets}
+use Rattle.reread_law_texts.specs.brackets.Signs.{Sign, signs_in_block, signs_in_unit}
 use Rattle.mc_inserted.specs.Rows.{Row, exit_row, rows_in_function, rows_in_functions, rows_of}
 use Rattle.mc_inserted.specs.Signs.{count_round, brackets_of}
-use Rattle.mc_apart.specs.Places.{spans_in_block, spans_in_unit, statement_spans_in_block, statement_spans_in_unit}
-use Rattle.mc_apart.specs.Distinct.{Each}
+use Rattle.reread_law_texts.specs.apart.Places.{spans_in_block, spans_in_unit, statement_spans_in_block, statement_spans_in_unit}
+use Rattle.reread_law_texts.specs.apart.Distinct.{Each}
 use Rattle.laws_types.specs.SourceUnits.{IsFunctionOf, AreFunctionsOf, ProgramsHaveTheirSource}
 use Rattle.laws_types.specs.SourceUnits as of
 use Rattle.mc_signed.specs.Laws.{BracketsAreAfterTokens, BracketsAreFew, SignsAreThoseOfTheTree}

@@ -16,10 +16,10 @@ use Rattle.decide_rules.specs.Counts.{roots}
 use Rattle.mc_probe.specs.Maps.{Map}
 use Rattle.mc_probe.specs.Tree as p
 use Rattle.mc_probe.specs.Table.{Stand, Loose, role_of, under, beside, inner, put, put_place, put_call, put_structure, put_argument, put_arguments, put_effect}
-use Rattle.mc_weave.specs.Brackets.{Brackets}
-use Rattle.mc_brackets.specs.Signs.{Sign, signs, signs_in_expressions}
+use Rattle.reread_law_texts.specs.weave.Brackets.{Brackets}
+use Rattle.reread_law_texts.specs.brackets.Signs.{Sign, signs, signs_in_expressions}
 use Rattle.mc_inserted.specs.Rows.{Row, rows, rows_in_place, rows_in_structure, rows_in_argument, rows_in_arguments, rows_in_effect}
-use Rattle.mc_apart.specs.Places.{spans, spans_in_expressions}
+use Rattle.reread_law_texts.specs.apart.Places.{spans, spans_in_expressions}
 use Rattle.laws_types.specs.Source.{IsOneAt, IsNumberOf, IsOperandOf, IsPlaceOf, IsCallOf, AreArgumentsOf, IsArgumentOf, IsStructureOf, IsEffectOf}
 use Rattle.laws_types.specs.Source as of
 use Rattle.mc_signed.proofs.Split.{probed_by}

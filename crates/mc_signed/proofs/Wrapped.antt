@@ -15,8 +15,8 @@ use Rattle.mc_probe.specs.Erase.{erase_place}
 use Rattle.mc_probe.specs.Maps.{Map}
 use Rattle.mc_probe.specs.Tree as p
 use Rattle.mc_probe.specs.Table.{Stand, Loose, InTree, operand, under, beside, inner, base_of, increment_of, mapped, round_condition, round, wrap, put, put_place}
-use Rattle.mc_weave.specs.Brackets.{Brackets}
-use Rattle.mc_brackets.specs.Signs.{Sign}
+use Rattle.reread_law_texts.specs.weave.Brackets.{Brackets}
+use Rattle.reread_law_texts.specs.brackets.Signs.{Sign}
 use Rattle.mc_inserted.specs.Rows.{Row, extent, rows}
 use Rattle.mc_signed.proofs.Split.{probed_by, openings, endings, extent_probed, rows_probed}
 use Rattle.mc_signed.proofs.Signed.{Level, Signed}

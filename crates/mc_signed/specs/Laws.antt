@@ -5,12 +5,12 @@ use Rattle.mc_typed.specs.Tree.{Program}
 use Rattle.types_rules.specs.Typing.{typing_of}
 use Rattle.mc_probe.specs.Maps.{Map}
 use Rattle.mc_probe.specs.Table.{instrumented}
-use Rattle.mc_weave.specs.Brackets.{AreAfterTokens, AreAtMost}
-use Rattle.mc_brackets.specs.Signs.{signs_in_unit}
+use Rattle.reread_law_texts.specs.weave.Brackets.{AreAfterTokens, AreAtMost}
+use Rattle.reread_law_texts.specs.brackets.Signs.{signs_in_unit}
 use Rattle.mc_inserted.specs.Rows.{rows_of}
 use Rattle.mc_inserted.specs.Signs.{brackets_of, signs_of}
-use Rattle.mc_apart.specs.Distinct.{Each, HasBytes, IsDistinct}
-use Rattle.mc_apart.specs.Places.{spans_in_unit, statement_spans_in_unit}
+use Rattle.reread_law_texts.specs.apart.Distinct.{Each, HasBytes, IsDistinct}
+use Rattle.reread_law_texts.specs.apart.Places.{spans_in_unit, statement_spans_in_unit}
 
 -- Where no two expressions of a unit stand at one place, the brackets of the rows of its program
 -- are, one after the other, those of its tree: as many round each expression and each statement as

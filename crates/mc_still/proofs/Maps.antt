@@ -18,7 +18,7 @@ use Rattle.mc_probe.specs.Maps.{Mapped, Map, AreBased, IsPlaced, ArePlaced, IsMa
 use Rattle.mc_probe.specs.Obligations.{exits, counted_spans_all, labels_all, entry_spans, exit_spans, statement_spans, label_spans}
 use Rattle.mc_probe.specs.Table.{mapped, base_of, increment_of, instrumented, decisions_in, put_functions}
 use Rattle.mc_probe.specs.Tree as p
-use Rattle.mc_alike.specs.Moves.{Move, moved_span}
+use Rattle.reread_law_texts.specs.alike.Moves.{Move, moved_span}
 use Rattle.mc_natural.specs.Moved.{moved_function, moved_functions, moved_program}
 use Rattle.mc_natural.specs.Settled.{settled}
 use Rattle.mc_still.specs.Laws.{IsMoved, DecisionsStay, ProbesStay}

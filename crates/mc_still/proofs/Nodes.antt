@@ -15,7 +15,7 @@ use Rattle.decide_rules.specs.Roots.{is_constant, are_constant, is_boolean, is_c
 use Rattle.decide_rules.specs.Conditions.{width, tree_from, joined, is_operator}
 use Rattle.decide_rules.specs.Counts.{one_where, roots, roots_in}
 use Rattle.decide_rules.specs.steps.Walk.{pushed, kept, entered, inside, inside_parts, visited}
-use Rattle.mc_alike.specs.Moves.{Move, moved_span}
+use Rattle.reread_law_texts.specs.alike.Moves.{Move, moved_span}
 use Rattle.mc_natural.specs.Moved.{moved_place, moved_number, moved_structure, moved_call, moved_argument, moved_arguments, moved_effect, moved_effects, moved_filling, moved_fillings, moved_object, moved_objects, moved_for_start, moved_return_value, moved_typed_statement, moved_typed_statements, moved_function, moved_functions}
 
 -- ---- a node at other places

@@ -1,7 +1,7 @@
 -- A program where it stands no place: it is the same from wherever it is taken there.
 use Rattle.std.proofs.Common.{◌≡◌, ℕ, true, false, List, [], ◌∷◌, map, Option, Some, None, option_map, refl, sym, ap, ap₂, ◌∙◌}
 use Rattle.mc_typed.specs.Tree as t
-use Rattle.mc_alike.specs.Moves.{Move}
+use Rattle.reread_law_texts.specs.alike.Moves.{Move}
 use Rattle.mc_natural.specs.Moved.{moved_place, moved_number, moved_structure, moved_call, moved_argument, moved_arguments, moved_effect, moved_effects, moved_filling, moved_fillings, moved_object, moved_objects, moved_for_start, moved_return_value, moved_typed_statement, moved_typed_statements, moved_function, moved_functions, moved_program}
 use Rattle.mc_natural.specs.Settled.{nowhere, settled_operand, settled_effect, settled_effects, settled_for_start, settled_statement, settled_statements, settled_function, settled_functions, settled}
 use Rattle.mc_still.proofs.Put.{still}

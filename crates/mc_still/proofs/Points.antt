@@ -8,7 +8,7 @@ use Rattle.mc_steps.specs.Statements.{has_label}
 use Rattle.mc_steps.specs.Points.{Points, no_points, ◌⊕◌, a_statement, where_counted, unless_default, where_completes, is_constant, is_nonzero, is_always_true, is_always, breaks, some_breaks, has_default, completes, all_complete, last_completes, initializes, points_of, points_of_all, points_of_function}
 use Rattle.mc_probe.specs.Switches.{switches, switches_all}
 use Rattle.mc_probe.specs.Obligations.{returns, returns_all, exits, counted_spans, counted_spans_all, labels, labels_all}
-use Rattle.mc_alike.specs.Moves.{Move, moved_span}
+use Rattle.reread_law_texts.specs.alike.Moves.{Move, moved_span}
 use Rattle.mc_natural.specs.Moved.{moved_number, moved_filling, moved_object, moved_objects, moved_typed_statement, moved_typed_statements, moved_function, moved_functions}
 
 -- ---- constants

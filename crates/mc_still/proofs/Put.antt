@@ -17,7 +17,7 @@ use Rattle.mc_probe.specs.Maps.{Map, entry_bit, exit_bit, statement_bit, label_b
 use Rattle.mc_probe.specs.Switches.{switches, switches_all}
 use Rattle.mc_probe.specs.Table.{base_of, increment_of, Stand, Loose, InTree, role_of, operand, under, beside, inner, mapped, round_condition, round, wrap, put_place, put, put_structure, put_call, put_argument, put_arguments, put_plain, put_test, put_effect, put_effects, put_initializer, put_initializers, put_initial, put_declarators, put_start, put_optional, put_return, At, decided, past, within, in_switch, mark_unless_default, put_statement, put_statements, decisions_in, put_function, put_functions}
 use Rattle.mc_probe.specs.Tree as p
-use Rattle.mc_alike.specs.Moves.{Move}
+use Rattle.reread_law_texts.specs.alike.Moves.{Move}
 use Rattle.mc_natural.specs.Moved.{moved_place, moved_number, moved_structure, moved_call, moved_argument, moved_arguments, moved_effect, moved_effects, moved_filling, moved_fillings, moved_object, moved_objects, moved_for_start, moved_return_value, moved_typed_statement, moved_typed_statements, moved_function, moved_functions}
 use Rattle.mc_natural.specs.Settled.{nowhere}
 use Rattle.mc_still.specs.Unplaced.{unplaced_place, unplaced_expression, unplaced_structure, unplaced_call, unplaced_argument, unplaced_arguments, unplaced_effect, unplaced_initializer, unplaced_initializers, unplaced_declarator, unplaced_start, unplaced_return, unplaced_statement, unplaced_statements, unplaced_function}

@@ -5,7 +5,7 @@ use Rattle.mc_typed.specs.Tree.{Program}
 use Rattle.decide_rules.specs.Decisions.{Decision, AreDecisions}
 use Rattle.mc_probe.specs.Maps.{Map, IsMapOf}
 use Rattle.mc_probe.specs.Table.{instrumented}
-use Rattle.mc_alike.specs.Moves.{Move}
+use Rattle.reread_law_texts.specs.alike.Moves.{Move}
 use Rattle.mc_natural.specs.Moved.{moved_program}
 use Rattle.mc_natural.specs.Settled.{settled}
 use Rattle.mc_still.specs.Unplaced.{unplaced}

@@ -10,9 +10,9 @@ use Rattle.mc_tree.specs.Tree as t
 use Rattle.mc_grammar.specs.Words.{Lexeme, is_punctuator_kind, is_punctuator}
 use Rattle.mc_grammar.specs.Operators.{IsStep, increment, decrement}
 use Rattle.mc_grammar.specs.Places.{at, to}
-use Rattle.mc_alike.specs.Moves.{FollowFrom, end_of}
-use Rattle.mc_apart.specs.Places.{Spans}
-use Rattle.mc_apart.proofs.Ascending.{Sooner, Chain, From, Part}
+use Rattle.reread_law_texts.specs.alike.Moves.{FollowFrom, end_of}
+use Rattle.reread_law_texts.specs.apart.Places.{Spans}
+use Rattle.reread_law_texts.proofs.Apart.Ascending.{Sooner, Chain, From, Part}
 use Rattle.laws_types.specs.Source.{first_two, last_two}
 use Rattle.mc_stood.specs.Stands.{stands, stands_in_expressions}
 

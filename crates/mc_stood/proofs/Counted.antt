@@ -1,7 +1,7 @@
 -- Places that stand in a list as often as in another one, or less often.
 use Rattle.std.proofs.Common.{◌≡◌, ◌≤◌, ◌+◌, ◌==◌, ◌&&◌, ℕ, Bool, true, false, List, [], ◌∷◌, refl, sym, ap, subst, ◌∙◌, arith}
 use Rattle.mc_span.specs.declared.span.Span.{Span}
-use Rattle.mc_apart.specs.Distinct.{Each, IsDistinct}
+use Rattle.reread_law_texts.specs.apart.Distinct.{Each, IsDistinct}
 
 abbrev pub is_same : Span → Span → Bool
 is_same a b = (a.start == b.start) && (a.end == b.end)

@@ -11,9 +11,9 @@ use Rattle.mc_grammar.specs.Nonterminal.{Nonterminal, Level, operand}
 use Rattle.mc_grammar.specs.Nonterminal as n
 use Rattle.mc_grammar.specs.Expressions.{Reads, ReadsExpressions}
 use Rattle.mc_grammar.specs.Expressions as r
-use Rattle.mc_alike.specs.Moves.{FollowFrom, end_of}
-use Rattle.mc_apart.proofs.Ascending.{tk, Part, nothing, token, join, passed_goes, own}
-use Rattle.mc_apart.proofs.ApartExpressions.{apart_type_name}
+use Rattle.reread_law_texts.specs.alike.Moves.{FollowFrom, end_of}
+use Rattle.reread_law_texts.proofs.Apart.Ascending.{tk, Part, nothing, token, join, passed_goes, own}
+use Rattle.reread_law_texts.proofs.Apart.ApartExpressions.{apart_type_name}
 use Rattle.mc_stood.specs.Stands.{stands_in_expressions}
 use Rattle.mc_stood.proofs.Ascents.{Node, as_part, begun, past, grown, after, before}
 

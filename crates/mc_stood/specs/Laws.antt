@@ -8,9 +8,9 @@ use Rattle.mc_typed.specs.Tree.{Program}
 use Rattle.types_rules.specs.Typing.{typing_of}
 use Rattle.mc_probe.specs.Maps.{Map}
 use Rattle.mc_probe.specs.Table.{instrumented}
-use Rattle.mc_alike.specs.Moves.{FollowFrom}
+use Rattle.reread_law_texts.specs.alike.Moves.{FollowFrom}
 use Rattle.mc_put.specs.Places.{places_of}
-use Rattle.mc_apart.specs.Distinct.{IsDistinct}
+use Rattle.reread_law_texts.specs.apart.Distinct.{IsDistinct}
 use Rattle.mc_stood.specs.Stands.{stands_in_unit}
 
 -- No two expressions stand at one place, and none where a `++` or `--` stands.

@@ -6,7 +6,7 @@ use Rattle.mc_span.specs.declared.span.Span.{Span}
 use Rattle.mc_tree.specs.Tree.{Expression, Expressions, Initializer, Initializers, InitDeclarator}
 use Rattle.mc_tree.specs.Tree.{Declaration, ForStart, Statement, BlockItems, Item}
 use Rattle.mc_tree.specs.Tree as tree
-use Rattle.mc_apart.specs.Places.{Spans}
+use Rattle.reread_law_texts.specs.apart.Places.{Spans}
 use Rattle.laws_types.specs.Source.{first_two, last_two}
 
 -- ---- expressions: what stands in the name of a type is none of their parts

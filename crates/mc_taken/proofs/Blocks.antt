@@ -8,10 +8,10 @@ use Rattle.reread_probes.specs.declared.counted.Counted.{Counted}
 use Rattle.reread_probes.specs.declared.spot.Spot.TheVariants as spot
 use Rattle.reread_probes.specs.Walks.{Walk, must_take}
 use Rattle.reread_probes.specs.Statements.{is_static, has_static, is_initialized, initializes, is_counted_local, span_of_declaration, take_local, enter_local, is_default, default_among, has_default, lacks_default, is_counted, counted_first, starts_at, enter_counted, enter_braces, take_default, leave_counted, leave_braces, walk_statement, walk_block}
-use Rattle.mc_weave.specs.Brackets.{Brackets}
-use Rattle.mc_weave.specs.Trees.{braced_by, bracketed, bracketed_specifier, bracketed_specifiers, bracketed_declarator, bracketed_init_declarator, bracketed_init_declarators, bracketed_declaration, bracketed_optional, bracketed_start, bracketed_statement, bracketed_block}
+use Rattle.reread_law_texts.specs.weave.Brackets.{Brackets}
+use Rattle.reread_law_texts.specs.weave.Trees.{braced_by, bracketed, bracketed_specifier, bracketed_specifiers, bracketed_declarator, bracketed_init_declarator, bracketed_init_declarators, bracketed_declaration, bracketed_optional, bracketed_start, bracketed_statement, bracketed_block}
 use Rattle.mc_inserted.specs.Rows.{Row}
-use Rattle.mc_apart.specs.Enclosed.{StartsAfter}
+use Rattle.reread_law_texts.specs.apart.Enclosed.{StartsAfter}
 use Rattle.mc_taken.proofs.Puts.{PutsInside}
 use Rattle.mc_taken.proofs.Puts as puts
 

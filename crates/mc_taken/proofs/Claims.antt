@@ -6,11 +6,11 @@ use Rattle.reread_pieces.specs.declared.piece.What.{What}
 use Rattle.reread_pieces.specs.declared.piece.What.TheVariants as what
 use Rattle.mc_tree.specs.Tree.{Expression, Expressions, Initializer, Initializers, InitDeclarator, Declaration, ForStart, Statement, BlockItems, Item, span_of}
 use Rattle.reread_probes.specs.Statements.{span_of_declaration}
-use Rattle.mc_weave.specs.Brackets.{Brackets}
+use Rattle.reread_law_texts.specs.weave.Brackets.{Brackets}
 use Rattle.mc_inserted.specs.Rows.{Row}
 use Rattle.mc_inserted.specs.Signs.{is_same}
-use Rattle.mc_apart.specs.Places.{spans_in_expressions, spans_in_type_name, spans_in_specifiers, spans_in_declarator, spans_in_initializer, spans_in_declaration, spans}
-use Rattle.mc_apart.specs.Distinct.{Each}
+use Rattle.reread_law_texts.specs.apart.Places.{spans_in_expressions, spans_in_type_name, spans_in_specifiers, spans_in_declarator, spans_in_initializer, spans_in_declaration, spans}
+use Rattle.reread_law_texts.specs.apart.Distinct.{Each}
 use Rattle.mc_taken.proofs.Puts.{Bare, Puts, PutsAll, PutsInitial, PutsInitials, PutsDeclarators, PutsDeclaration, PutsOptional, PutsStart, PutsInside, PutsStatement, PutsBlock, PutsUnit}
 use Rattle.mc_taken.proofs.Puts as puts
 

@@ -8,8 +8,8 @@ use Rattle.reread_probes.specs.declared.spot.Spot.TheVariants as spot
 use Rattle.reread_probes.specs.Walks.{Walk, must_take, refused_if}
 use Rattle.reread_probes.specs.Expressions.{is_cond, bare, enter_operand, enter_parentheses, enter_cast, walk_expression}
 use Rattle.mc_grammar.specs.Extent.{span_of_type_name}
-use Rattle.mc_weave.specs.Brackets.{Brackets}
-use Rattle.mc_weave.specs.Trees.{around_by, bracketed, bracketed_expressions, bracketed_type_name}
+use Rattle.reread_law_texts.specs.weave.Brackets.{Brackets}
+use Rattle.reread_law_texts.specs.weave.Trees.{around_by, bracketed, bracketed_expressions, bracketed_type_name}
 use Rattle.mc_inserted.specs.Rows.{Row}
 use Rattle.mc_taken.proofs.Puts.{Bare}
 use Rattle.mc_taken.proofs.Puts as puts

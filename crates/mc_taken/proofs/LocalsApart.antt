@@ -11,8 +11,8 @@ use Rattle.mc_grammar.specs.Statements as g
 use Rattle.mc_grammar.specs.Items.{ReadsItem, ReadsUnit}
 use Rattle.mc_grammar.specs.Items as i
 use Rattle.mc_grammar.proofs.Ends.{IsEnd, whole, later, stars_ends, expression_ends, specifiers_ends, parameters_ends, declarator_ends, initializer_ends}
-use Rattle.mc_alike.specs.Moves.{FollowFrom, end_of}
-use Rattle.mc_apart.specs.Distinct.{Each, IsDistinct}
+use Rattle.reread_law_texts.specs.alike.Moves.{FollowFrom, end_of}
+use Rattle.reread_law_texts.specs.apart.Distinct.{Each, IsDistinct}
 use Rattle.mc_taken.specs.Locals.{local_starts, local_starts_in_block, local_starts_in_item, local_starts_in_unit}
 use Rattle.mc_taken.specs.Laws.{LocalsAreApart}
 

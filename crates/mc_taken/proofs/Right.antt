@@ -2,9 +2,9 @@
 use Rattle.std.proofs.Common.{◌≡◌, ℕ, ◌+◌, Bool, true, false, ◌&&◌, nat_eq, List, [], ◌∷◌, refl, sym, ap, ap₂, ◌∙◌, arith}
 use Rattle.std.proofs.lemmas.Bool.{eq-eqb, eqb-true}
 use Rattle.mc_span.specs.declared.span.Span.{Span}
-use Rattle.mc_weave.specs.Brackets.{Brackets}
+use Rattle.reread_law_texts.specs.weave.Brackets.{Brackets}
 use Rattle.mc_inserted.specs.Signs.{is_same}
-use Rattle.mc_apart.specs.Distinct.{Each, IsDistinct}
+use Rattle.reread_law_texts.specs.apart.Distinct.{Each, IsDistinct}
 use Rattle.mc_taken.proofs.Claims.{Claim, stands, starts, AreRight, more, total, places, AreStarts}
 
 pub same_self : (at : Span) → is_same at at ≡ true

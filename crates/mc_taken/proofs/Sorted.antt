@@ -7,7 +7,7 @@ use Rattle.mc_tree.specs.Tree.{Expression, Expressions, Initializer, Initializer
 use Rattle.mc_tree.specs.Tree as tree
 use Rattle.reread_probes.specs.Statements.{span_of_declaration}
 use Rattle.mc_inserted.specs.Rows.{Row, row, row_of_probe}
-use Rattle.mc_apart.specs.Distinct.{Each, IsDistinct}
+use Rattle.reread_law_texts.specs.apart.Distinct.{Each, IsDistinct}
 use Rattle.mc_taken.specs.Locals.{local_starts, local_starts_in_block, local_starts_in_unit}
 use Rattle.mc_taken.proofs.Puts.{opens, ends, Bare, Puts, PutsAll, PutsInitial, PutsInitials, PutsDeclarators, PutsDeclaration, PutsOptional, PutsStart, PutsDefault, PutsInside, PutsStatement, PutsBlock, PutsRegisters, PutsExit, PutsUnit}
 use Rattle.mc_taken.proofs.Puts as puts

@@ -10,7 +10,7 @@ use Rattle.reread_probes.specs.declared.spot.Spot.{Spot}
 use Rattle.reread_probes.specs.declared.spot.Spot.TheVariants as spot
 use Rattle.reread_probes.specs.Probes.{is_probe}
 use Rattle.reread_probes.specs.Walks.{Walk, is_row, is_there, stands, after_first, passed, placed_at, taken, refused, may_take, must_take}
-use Rattle.mc_weave.specs.Brackets.{Brackets}
+use Rattle.reread_law_texts.specs.weave.Brackets.{Brackets}
 use Rattle.mc_inserted.specs.Rows.{Row, row, row_of_probe}
 use Rattle.mc_inserted.specs.Signs.{encloses, is_counted}
 use Rattle.mc_inserted.specs.Seats.{probe_rows, spot_of, AreThere, is_placed, placed_rows, Seat, seat_of_row, seat_of}

@@ -6,11 +6,11 @@ use Rattle.mc_tree.specs.Tree as tree
 use Rattle.reread_probes.specs.Walks.{Walk}
 use Rattle.reread_probes.specs.Expressions.{walk_expression, walk_expressions, walk_type, walk_specifier, walk_specifiers, walk_member, walk_members, walk_enumerator, walk_enumerators, walk_declarator, walk_declarators, walk_lengths, walk_parameters, walk_parameter, walk_parameter_list}
 use Rattle.reread_probes.specs.Statements.{walk_initializer, walk_initializers, walk_init_declarator, walk_init_declarators, walk_declaration}
-use Rattle.mc_weave.specs.Brackets.{Brackets}
-use Rattle.mc_weave.specs.Trees.{bracketed, bracketed_expressions, bracketed_type_name, bracketed_specifier, bracketed_specifiers, bracketed_member, bracketed_members, bracketed_enumerator, bracketed_enumerators, bracketed_declarator, bracketed_declarators, bracketed_lengths, bracketed_parameters, bracketed_parameter, bracketed_parameter_list, bracketed_initializer, bracketed_initializers, bracketed_init_declarator, bracketed_init_declarators, bracketed_declaration}
-use Rattle.mc_apart.specs.Distinct.{Each}
-use Rattle.mc_apart.specs.Places.{spans, spans_in_expressions, spans_in_type_name, spans_in_specifier, spans_in_specifiers, spans_in_member, spans_in_members, spans_in_enumerator, spans_in_enumerators, spans_in_declarator, spans_in_declarators, spans_in_lengths, spans_in_parameters, spans_in_parameter, spans_in_parameter_list, spans_in_initializer, spans_in_initializers, spans_in_init_declarator, spans_in_init_declarators, spans_in_declaration}
-use Rattle.mc_apart.specs.Enclosed.{Encloses, EnclosesAll, EnclosesInTypeName, EnclosesInSpecifier, EnclosesInSpecifiers, EnclosesInMember, EnclosesInMembers, EnclosesInEnumerator, EnclosesInEnumerators, EnclosesInDeclarator, EnclosesInDeclarators, EnclosesInLengths, EnclosesInParameters, EnclosesInParameter, EnclosesInParameterList, EnclosesInInitializer, EnclosesInInitializers, EnclosesInInitDeclarator, EnclosesInInitDeclarators, EnclosesInDeclaration}
+use Rattle.reread_law_texts.specs.weave.Brackets.{Brackets}
+use Rattle.reread_law_texts.specs.weave.Trees.{bracketed, bracketed_expressions, bracketed_type_name, bracketed_specifier, bracketed_specifiers, bracketed_member, bracketed_members, bracketed_enumerator, bracketed_enumerators, bracketed_declarator, bracketed_declarators, bracketed_lengths, bracketed_parameters, bracketed_parameter, bracketed_parameter_list, bracketed_initializer, bracketed_initializers, bracketed_init_declarator, bracketed_init_declarators, bracketed_declaration}
+use Rattle.reread_law_texts.specs.apart.Distinct.{Each}
+use Rattle.reread_law_texts.specs.apart.Places.{spans, spans_in_expressions, spans_in_type_name, spans_in_specifier, spans_in_specifiers, spans_in_member, spans_in_members, spans_in_enumerator, spans_in_enumerators, spans_in_declarator, spans_in_declarators, spans_in_lengths, spans_in_parameters, spans_in_parameter, spans_in_parameter_list, spans_in_initializer, spans_in_initializers, spans_in_init_declarator, spans_in_init_declarators, spans_in_declaration}
+use Rattle.reread_law_texts.specs.apart.Enclosed.{Encloses, EnclosesAll, EnclosesInTypeName, EnclosesInSpecifier, EnclosesInSpecifiers, EnclosesInMember, EnclosesInMembers, EnclosesInEnumerator, EnclosesInEnumerators, EnclosesInDeclarator, EnclosesInDeclarators, EnclosesInLengths, EnclosesInParameters, EnclosesInParameter, EnclosesInParameterList, EnclosesInInitializer, EnclosesInInitializers, EnclosesInInitDeclarator, EnclosesInInitDeclarators, EnclosesInDeclaration}
 use Rattle.mc_taken.proofs.Kernel.{no_probes, own_parentheses, own_cast}
 use Rattle.mc_taken.proofs.Claims.{Claim, without, AreRight}
 

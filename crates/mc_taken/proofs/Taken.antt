@@ -5,15 +5,15 @@ use Rattle.reread_probes.specs.declared.probe.Probe.{Probe}
 use Rattle.reread_probes.specs.Walks.{Walk, start, answer_of, answer}
 use Rattle.reread_probes.specs.Statements.{walk_items}
 use Rattle.mc_steps.specs.Points.{no_points}
-use Rattle.mc_weave.specs.Brackets.{Brackets}
-use Rattle.mc_weave.specs.Trees.{bracketed_unit}
+use Rattle.reread_law_texts.specs.weave.Brackets.{Brackets}
+use Rattle.reread_law_texts.specs.weave.Trees.{bracketed_unit}
 use Rattle.mc_probe.specs.Table.{instrumented}
 use Rattle.mc_inserted.specs.Rows.{Row, rows_of}
 use Rattle.mc_inserted.specs.Signs.{brackets_of}
 use Rattle.mc_inserted.specs.Seats.{probe_rows, AreThere, placed_rows, Seat, seat_of_row, seat_of}
-use Rattle.mc_apart.specs.Places.{spans_in_unit}
-use Rattle.mc_apart.specs.Distinct.{IsDistinct}
-use Rattle.mc_apart.specs.Enclosed.{EnclosesInUnit}
+use Rattle.reread_law_texts.specs.apart.Places.{spans_in_unit}
+use Rattle.reread_law_texts.specs.apart.Distinct.{IsDistinct}
+use Rattle.reread_law_texts.specs.apart.Enclosed.{EnclosesInUnit}
 use Rattle.laws_types.specs.SourceUnits.{ProgramsHaveTheirSource}
 use Rattle.mc_taken.specs.Locals.{local_starts_in_unit}
 use Rattle.mc_taken.specs.Laws.{AreTaken, ProbesAreTaken}

@@ -6,12 +6,12 @@ use Rattle.mc_tree.specs.Tree as tree
 use Rattle.reread_probes.specs.Walks.{Walk}
 use Rattle.reread_probes.specs.Expressions.{walk_expression, walk_expressions, walk_type}
 use Rattle.reread_probes.specs.Statements.{walk_initializer, walk_initializers, walk_init_declarators, walk_declaration, walk_optional, walk_start}
-use Rattle.mc_weave.specs.Brackets.{Brackets}
-use Rattle.mc_weave.specs.Trees.{bracketed, bracketed_expressions, bracketed_type_name, bracketed_initializer, bracketed_initializers, bracketed_init_declarators, bracketed_declaration, bracketed_optional, bracketed_start}
+use Rattle.reread_law_texts.specs.weave.Brackets.{Brackets}
+use Rattle.reread_law_texts.specs.weave.Trees.{bracketed, bracketed_expressions, bracketed_type_name, bracketed_initializer, bracketed_initializers, bracketed_init_declarators, bracketed_declaration, bracketed_optional, bracketed_start}
 use Rattle.mc_inserted.specs.Rows.{Row}
 use Rattle.mc_inserted.specs.Seats.{Seat}
-use Rattle.mc_apart.specs.Places.{spans_in_expressions, spans_in_type_name, spans_in_specifiers, spans_in_declarator, spans_in_initializer, spans_in_declaration}
-use Rattle.mc_apart.specs.Enclosed.{Encloses, EnclosesAll, EnclosesInInitializer, EnclosesInInitializers, EnclosesInInitDeclarators, EnclosesInDeclaration, EnclosesInOptional, EnclosesInStart}
+use Rattle.reread_law_texts.specs.apart.Places.{spans_in_expressions, spans_in_type_name, spans_in_specifiers, spans_in_declarator, spans_in_initializer, spans_in_declaration}
+use Rattle.reread_law_texts.specs.apart.Enclosed.{Encloses, EnclosesAll, EnclosesInInitializer, EnclosesInInitializers, EnclosesInInitDeclarators, EnclosesInDeclaration, EnclosesInOptional, EnclosesInStart}
 use Rattle.mc_taken.proofs.Puts.{Bare, Puts, PutsAll, PutsInitial, PutsInitials, PutsDeclarators, PutsDeclaration, PutsOptional, PutsStart}
 use Rattle.mc_taken.proofs.Puts as puts
 use Rattle.mc_taken.proofs.Claims.{Claim, without, bare_claims, claims, all_claims, initial_claims, initials_claims, declarators_claims, declaration_claims, optional_claims, start_claims}

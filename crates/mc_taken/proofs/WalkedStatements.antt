@@ -12,14 +12,14 @@ use Rattle.reread_probes.specs.declared.spot.Spot.TheVariants as spot
 use Rattle.reread_probes.specs.Walks.{Walk, is_row, stands, passed, passed_if, may_take, must_take}
 use Rattle.reread_probes.specs.Expressions.{walk_expression, walk_specifiers, walk_declarator}
 use Rattle.reread_probes.specs.Statements.{walk_declaration, walk_optional, walk_start, is_counted_local, span_of_declaration, take_local, lacks_default, take_default, take_label, leave_value, walk_statement, walk_block, enter_body, leave_body, walk_items}
-use Rattle.mc_weave.specs.Brackets.{Brackets}
-use Rattle.mc_weave.specs.Trees.{bracketed, bracketed_specifiers, bracketed_declarator, bracketed_declaration, bracketed_optional, bracketed_start, bracketed_statement, bracketed_block, bracketed_unit}
+use Rattle.reread_law_texts.specs.weave.Brackets.{Brackets}
+use Rattle.reread_law_texts.specs.weave.Trees.{bracketed, bracketed_specifiers, bracketed_declarator, bracketed_declaration, bracketed_optional, bracketed_start, bracketed_statement, bracketed_block, bracketed_unit}
 use Rattle.mc_inserted.specs.Rows.{Row, row}
 use Rattle.mc_inserted.specs.Signs.{is_counted}
 use Rattle.mc_inserted.specs.Seats.{probe_rows, AreThere, Seat}
-use Rattle.mc_apart.specs.Distinct.{Each}
-use Rattle.mc_apart.specs.Places.{spans, spans_in_specifiers, spans_in_declarator, spans_in_declaration}
-use Rattle.mc_apart.specs.Enclosed.{EnclosesInStatement, EnclosesInBlock, EnclosesInUnit}
+use Rattle.reread_law_texts.specs.apart.Distinct.{Each}
+use Rattle.reread_law_texts.specs.apart.Places.{spans, spans_in_specifiers, spans_in_declarator, spans_in_declaration}
+use Rattle.reread_law_texts.specs.apart.Enclosed.{EnclosesInStatement, EnclosesInBlock, EnclosesInUnit}
 use Rattle.mc_taken.proofs.Puts.{is_exit, BeginsAnew, PutsDefault, PutsInside, PutsStatement, PutsBlock, PutsRegisters, PutsExit, PutsUnit}
 use Rattle.mc_taken.proofs.Puts as puts
 use Rattle.mc_taken.proofs.Claims.{Claim, StartsElsewhereBy, StartsElsewhere, without, claims, optional_claims, inside_claims, statement_claims, block_claims, unit_claims}

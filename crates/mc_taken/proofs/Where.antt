@@ -4,7 +4,7 @@ use Rattle.mc_span.specs.declared.span.Span.{Span}
 use Rattle.mc_tree.specs.Tree.{Expression, Expressions, TypeName, Specifier, Specifiers, StructMember, Members, Enumerator, Enumerators, Declarator, Declarators, ArrayLengths, Parameters, Parameter, ParameterList, Initializer, Initializers, InitDeclarator, Declaration, ForStart, Statement, BlockItems, Item, span_of}
 use Rattle.mc_tree.specs.Tree as tree
 use Rattle.mc_inserted.specs.Rows.{Row}
-use Rattle.mc_apart.specs.Places.{spans, spans_in_expressions, spans_in_type_name, spans_in_specifier, spans_in_specifiers, spans_in_member, spans_in_members, spans_in_enumerator, spans_in_enumerators, spans_in_declarator, spans_in_declarators, spans_in_lengths, spans_in_parameters, spans_in_parameter, spans_in_parameter_list, spans_in_initializer, spans_in_initializers, spans_in_init_declarator, spans_in_init_declarators, spans_in_declaration, spans_in_optional, spans_in_start, spans_in_statement, spans_in_block, spans_in_unit}
+use Rattle.reread_law_texts.specs.apart.Places.{spans, spans_in_expressions, spans_in_type_name, spans_in_specifier, spans_in_specifiers, spans_in_member, spans_in_members, spans_in_enumerator, spans_in_enumerators, spans_in_declarator, spans_in_declarators, spans_in_lengths, spans_in_parameters, spans_in_parameter, spans_in_parameter_list, spans_in_initializer, spans_in_initializers, spans_in_init_declarator, spans_in_init_declarators, spans_in_declaration, spans_in_optional, spans_in_start, spans_in_statement, spans_in_block, spans_in_unit}
 use Rattle.mc_taken.proofs.Puts.{Bare, Puts, PutsAll, PutsInitial, PutsInitials, PutsDeclarators, PutsDeclaration, PutsOptional, PutsStart, PutsInside, PutsStatement, PutsBlock, PutsUnit}
 use Rattle.mc_taken.proofs.Puts as puts
 use Rattle.mc_taken.proofs.Claims.{Claim, without, bare_claims, claims, all_claims, initial_claims, initials_claims, declarators_claims, declaration_claims, optional_claims, start_claims, inside_claims, statement_claims, block_claims, unit_claims, places}

@@ -4,22 +4,22 @@ use Rattle.mc_lex.specs.declared.token.Dialect.{Dialect}
 use Rattle.mc_lex.specs.Tokens.{Tok}
 use Rattle.mc_tree.specs.Tree.{Item}
 use Rattle.mc_grammar.specs.Items.{IsTree}
-use Rattle.mc_alike.specs.Moves.{FollowFrom}
+use Rattle.reread_law_texts.specs.alike.Moves.{FollowFrom}
 use Rattle.mc_typed.specs.Tree.{Program}
 use Rattle.types_rules.specs.Typing.{typing_of}
 use Rattle.reread_pieces.specs.declared.placed.Placed.{Placed}
 use Rattle.reread_probes.specs.declared.probe.Probe.{Probe}
 use Rattle.reread_probes.specs.Walks.{start, answer}
 use Rattle.reread_probes.specs.Statements.{walk_items}
-use Rattle.mc_weave.specs.Trees.{bracketed_unit}
+use Rattle.reread_law_texts.specs.weave.Trees.{bracketed_unit}
 use Rattle.mc_probe.specs.Maps.{Map}
 use Rattle.mc_probe.specs.Table.{instrumented}
 use Rattle.mc_inserted.specs.Rows.{Row, rows_of}
 use Rattle.mc_inserted.specs.Signs.{brackets_of}
 use Rattle.mc_inserted.specs.Seats.{probe_rows, AreThere, ArePlaced}
-use Rattle.mc_apart.specs.Places.{spans_in_unit}
-use Rattle.mc_apart.specs.Distinct.{IsDistinct}
-use Rattle.mc_apart.specs.Enclosed.{EnclosesInUnit}
+use Rattle.reread_law_texts.specs.apart.Places.{spans_in_unit}
+use Rattle.reread_law_texts.specs.apart.Distinct.{IsDistinct}
+use Rattle.reread_law_texts.specs.apart.Enclosed.{EnclosesInUnit}
 use Rattle.mc_taken.specs.Locals.{local_starts_in_unit}
 
 -- the walk over the tree with the brackets of these rows places them all

@@ -1,4 +1,4 @@
-use Rattle.mc_apart.proofs.Ascending.{distinct}
+use Rattle.reread_law_texts.proofs.Apart.Ascending.{distinct}
 use Rattle.mc_stood.specs.Stands.{stands_in_unit}
 use Rattle.mc_stood.proofs.StoodStatements.{stood_text}
 use Rattle.mc_stood.proofs.laws.stands_are_apart.Goals as goal

@@ -1,0 +1,5 @@
+mod Alike
+pub mod Weave
+mod Bracketed
+mod Unwoven
+pub mod Apart
