@@ -19,8 +19,8 @@ use Rattle.mc_probe.specs.Table.{instrumented}
 use Rattle.reread_law_texts.specs.alike.Moves.{Move, AllFit, FollowFrom, between, end_of, moved_tokens}
 use Rattle.reread_law_texts.specs.alike.Trees.{moved_unit}
 use Rattle.reread_law_texts.specs.alike.Laws.{TreeMoves, AlikeTokensAreMoved, HeightIsKept, RefusalIsKept}
-use Rattle.mc_natural.specs.Settled.{settled}
-use Rattle.mc_natural.specs.Laws.{ProgramsMove}
+use Rattle.reread_law_places.specs.natural.Settled.{settled}
+use Rattle.reread_law_places.specs.natural.Laws.{ProgramsMove}
 use Rattle.laws_simulation.specs.Laws.{InstrumentedErases}
 use Rattle.mc_print.specs.Pens.{spaced}
 use Rattle.mc_print.specs.Texts.{text_of}

@@ -23,8 +23,8 @@ use Rattle.mc_probe.specs.Maps.{Map, IsMapOf}
 use Rattle.mc_probe.specs.Table.{instrumented}
 use Rattle.reread_law_texts.specs.alike.Moves.{FollowFrom, end_of}
 use Rattle.reread_law_texts.specs.brackets.Signs.{poured}
-use Rattle.mc_still.specs.Unplaced.{unplaced}
-use Rattle.mc_still.specs.Laws.{IsMoved}
+use Rattle.reread_law_places.specs.still.Unplaced.{unplaced}
+use Rattle.reread_law_places.specs.still.Laws.{IsMoved}
 use Rattle.mc_print.specs.Pens.{spaced}
 use Rattle.mc_print.specs.Texts.{text_of}
 use Rattle.mc_inserted.specs.Rows.{rows_of}

@@ -20,7 +20,6 @@ use mc_converted::laws::implied_conversions_stand;
 use mc_counted::laws::instrumented_units_are_counted;
 use mc_fitting::laws::scanned_tokens_mean_their_kinds;
 use mc_grammar::laws::tree_is_no_longer_than_text;
-use mc_natural::laws::units_move;
 use mc_parts::laws::{
     own_tokens_are_alike, parts_move, pieces_of_parts, plain_is_poured, probes_are_there,
     words_of_parts,
@@ -36,6 +35,7 @@ use mc_signed::laws::{brackets_have_places, signs_are_those_of_the_tree};
 use mc_spelled::laws::printed_text_scans;
 use mc_stood::laws::{programs_stand_apart, stands_are_apart};
 use mc_taken::laws::{locals_are_apart, probes_are_taken};
+use reread_law_places::laws::natural::units_move;
 use reread_law_texts::laws::alike::{
     alike_texts_have_moved_trees, forms_are_kept, height_is_kept, trees_move,
 };

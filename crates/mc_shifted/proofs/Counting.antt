@@ -11,12 +11,12 @@ use Rattle.mc_steps.specs.Points.{points_of, points_of_all, points_of_function, 
 use Rattle.mc_probe.specs.Switches.{switches, switches_all}
 use Rattle.mc_probe.specs.Table.{Stand, Loose, InTree, operand, inner, decisions_in}
 use Rattle.reread_law_texts.specs.alike.Moves.{Move}
-use Rattle.mc_natural.specs.Moved.{moved_place, moved_number, moved_argument, moved_effect, moved_effects, moved_filling, moved_for_start, moved_typed_statement, moved_typed_statements, moved_function}
-use Rattle.mc_natural.specs.Settled.{settled_effect, settled_effects, settled_for_start, settled_statement, settled_statements, settled_function}
-use Rattle.mc_still.proofs.Nodes.{moved_node, root_same, width_same, roots_same, roots_in_same, place_node, number_node, argument_node, effect_node, effects_node, initializer_node, initial_node, start_node, test_node, statement_node, function_node}
-use Rattle.mc_still.proofs.Points.{default_same, complete_same, points_same, all_points_same, function_points_same, switches_same, all_switches_same}
-use Rattle.mc_still.proofs.Put.{still}
-use Rattle.mc_still.proofs.Placeless.{effect_settled, effects_settled, start_settled, statement_settled, statements_settled, function_settled}
+use Rattle.reread_law_places.specs.natural.Moved.{moved_place, moved_number, moved_argument, moved_effect, moved_effects, moved_filling, moved_for_start, moved_typed_statement, moved_typed_statements, moved_function}
+use Rattle.reread_law_places.specs.natural.Settled.{settled_effect, settled_effects, settled_for_start, settled_statement, settled_statements, settled_function}
+use Rattle.reread_law_places.proofs.Still.Nodes.{moved_node, root_same, width_same, roots_same, roots_in_same, place_node, number_node, argument_node, effect_node, effects_node, initializer_node, initial_node, start_node, test_node, statement_node, function_node}
+use Rattle.reread_law_places.proofs.Still.Points.{default_same, complete_same, points_same, all_points_same, function_points_same, switches_same, all_switches_same}
+use Rattle.reread_law_places.proofs.Still.Put.{still}
+use Rattle.reread_law_places.proofs.Still.Placeless.{effect_settled, effects_settled, start_settled, statement_settled, statements_settled, function_settled}
 
 -- ---- at other places
 

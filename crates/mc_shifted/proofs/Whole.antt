@@ -13,14 +13,14 @@ use Rattle.mc_probe.specs.Table.{At, put_statements, decisions_in, put_function,
 use Rattle.reread_law_texts.specs.alike.Moves.{Move, AllFit, moved_span}
 use Rattle.reread_law_texts.specs.alike.Trees.{moved_unit}
 use Rattle.types_rules.specs.Typing.{typing_of}
-use Rattle.mc_natural.specs.Laws.{TypingsMove}
-use Rattle.mc_natural.specs.Moved.{moved_typed_statements, moved_function, moved_functions, moved_program}
-use Rattle.mc_natural.specs.Settled.{settled_statements, settled_function, settled_functions, settled}
-use Rattle.mc_still.specs.Unplaced.{unplaced}
-use Rattle.mc_still.proofs.Points.{complete_same, all_points_same, function_points_same, all_switches_same}
-use Rattle.mc_still.proofs.Put.{still, SameNumbers, functions_kept}
-use Rattle.mc_still.proofs.Placeless.{functions_still}
-use Rattle.mc_still.proofs.Maps as maps
+use Rattle.reread_law_places.specs.natural.Laws.{TypingsMove}
+use Rattle.reread_law_places.specs.natural.Moved.{moved_typed_statements, moved_function, moved_functions, moved_program}
+use Rattle.reread_law_places.specs.natural.Settled.{settled_statements, settled_function, settled_functions, settled}
+use Rattle.reread_law_places.specs.still.Unplaced.{unplaced}
+use Rattle.reread_law_places.proofs.Still.Points.{complete_same, all_points_same, function_points_same, all_switches_same}
+use Rattle.reread_law_places.proofs.Still.Put.{still, SameNumbers, functions_kept}
+use Rattle.reread_law_places.proofs.Still.Placeless.{functions_still}
+use Rattle.reread_law_places.proofs.Still.Maps as maps
 use Rattle.mc_inserted.specs.Rows.{rows_in_statements}
 use Rattle.mc_parts.specs.Stands.{IsFunctionAmong, AreAmong}
 use Rattle.mc_parts.specs.Moved.{moved_row, IsMoved, AreMoved}

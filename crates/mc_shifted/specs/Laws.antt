@@ -9,7 +9,7 @@ use Rattle.mc_probe.specs.Maps.{Map, IsMapOf}
 use Rattle.mc_probe.specs.Table.{instrumented}
 use Rattle.reread_law_texts.specs.alike.Moves.{Move, AllFit}
 use Rattle.reread_law_texts.specs.alike.Trees.{moved_unit}
-use Rattle.mc_still.specs.Unplaced.{unplaced}
+use Rattle.reread_law_places.specs.still.Unplaced.{unplaced}
 use Rattle.mc_parts.specs.Stands.{AreAmong}
 use Rattle.mc_parts.specs.Moved.{AreMoved}
 

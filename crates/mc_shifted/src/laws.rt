@@ -2,7 +2,7 @@
 ghost use Rattle.mc_shifted.specs.Laws.{RowsAreMoved};
 
 use laws_types::programs_have_their_source;
-use mc_natural::laws::units_move;
+use reread_law_places::laws::natural::units_move;
 
 /// A program at other places of the same tokens has the same rows, at those places, and the same
 /// tree with probes, places left out.
