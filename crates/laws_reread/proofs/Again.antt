@@ -20,9 +20,9 @@ use Rattle.mc_print.specs.Pens.{spaced}
 use Rattle.mc_print.specs.Texts.{text_of}
 use Rattle.mc_spelled.specs.Laws.{PrintedTextScans}
 use Rattle.mc_short.specs.Laws.{InstrumentedNumbersAreShort}
-use Rattle.mc_inserted.specs.Rows.{rows_of}
-use Rattle.mc_inserted.specs.Signs.{signs_of}
-use Rattle.mc_inserted.specs.Seats.{probe_rows, AreThere}
+use Rattle.reread_law_rows.specs.inserted.Rows.{rows_of}
+use Rattle.reread_law_rows.specs.inserted.Signs.{signs_of}
+use Rattle.reread_law_rows.specs.inserted.Seats.{probe_rows, AreThere}
 use Rattle.mc_parts.specs.Parts.{Part, parts_of}
 use Rattle.mc_parts.specs.Marks.{marks, own_tokens}
 use Rattle.mc_parts.specs.Shaped.{tokens_at}

@@ -22,11 +22,11 @@ use Rattle.mc_probe.specs.Tree as p
 use Rattle.mc_probe.specs.Table.{put_function, put_functions}
 use Rattle.reread_law_texts.specs.alike.Moves.{FollowFrom, end_of}
 use Rattle.reread_law_texts.specs.alike.Laws.{TokensFollow}
-use Rattle.mc_inserted.specs.Rows.{Row}
-use Rattle.mc_fitting.specs.Laws.{ScannedTokensMeanTheirKinds, TextsFit}
+use Rattle.reread_law_rows.specs.inserted.Rows.{Row}
+use Rattle.reread_law_rows.specs.fitting.Laws.{ScannedTokensMeanTheirKinds, TextsFit}
 use Rattle.laws_types.specs.SourceUnits.{IsFunctionOf, AreFunctionsOf, ProgramsHaveTheirSource}
 use Rattle.laws_types.specs.SourceUnits as of
-use Rattle.mc_carried.specs.Laws.{RowsFit}
+use Rattle.reread_law_rows.specs.carried.Laws.{RowsFit}
 use Rattle.mc_parts.specs.Parts.{body_rows}
 use Rattle.mc_parts.specs.Stands.{past, AreInOrder, IsFunctionAmong, AreAmong}
 use Rattle.mc_ordered.specs.Laws.{RowsAreInOrder, BlocksAreNested}

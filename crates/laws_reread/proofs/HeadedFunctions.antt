@@ -25,7 +25,7 @@ use Rattle.mc_probe.specs.Tree as p
 use Rattle.mc_probe.specs.Table.{put_function, put_functions}
 use Rattle.reread_pieces.specs.Words.{is}
 use Rattle.reread_law_texts.specs.alike.Moves.{FollowFrom, end_of}
-use Rattle.mc_inserted.specs.Fits.{is_bracket, IsBalanced}
+use Rattle.reread_law_rows.specs.inserted.Fits.{is_bracket, IsBalanced}
 use Rattle.laws_types.specs.SourceUnits.{IsFunctionOf, AreFunctionsOf, ProgramsHaveTheirSource}
 use Rattle.laws_types.specs.SourceUnits as of
 use Rattle.mc_parts.specs.Stands.{is_brace, IsFunctionAmong, AreAmong}

@@ -21,8 +21,8 @@ use Rattle.mc_grammar.specs.Spelling as spelling
 use Rattle.mc_grammar.proofs.Spelling.{specifiers_spell, declarator_spells, parameter_spells, initializer_spells, declaration_spells, statement_spells}
 use Rattle.mc_grammar.proofs.Storage.{local_typedef}
 use Rattle.reread_pieces.specs.Words.{is}
-use Rattle.mc_inserted.specs.Fits.{IsBalanced, first_is, last_is}
-use Rattle.mc_inserted.specs.Fits as fit
+use Rattle.reread_law_rows.specs.inserted.Fits.{IsBalanced, first_is, last_is}
+use Rattle.reread_law_rows.specs.inserted.Fits as fit
 use Rattle.mc_parts.specs.Stands.{is_brace}
 use Rattle.mc_placed.specs.Heads.{has_body, is_apart}
 use Rattle.laws_reread.proofs.Signs.{AreClear, brackets, no_bracket, is_sign, sign_text, are_pair, neither}

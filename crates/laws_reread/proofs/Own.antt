@@ -12,7 +12,7 @@ use Rattle.reread_law_texts.specs.alike.Moves.{FollowFrom, end_of}
 use Rattle.mc_print.specs.Insertions.{value_exit}
 use Rattle.mc_print.specs.Pens.{spaced, gap_after}
 use Rattle.mc_print.specs.Texts.{text_of}
-use Rattle.mc_inserted.specs.Rows.{Row}
+use Rattle.reread_law_rows.specs.inserted.Rows.{Row}
 use Rattle.mc_parts.specs.Parts.{Part, own, row_part, row_texts, words_of, parts_of}
 use Rattle.mc_parts.specs.Marks.{after, mark_of, marks_from, marks, own_tokens}
 use Rattle.mc_parts.specs.Laws.{WordsOfParts}

@@ -6,8 +6,8 @@ use Rattle.mc_lex.specs.Scans.{Scans}
 use Rattle.mc_probe.specs.Tree.{Tree}
 use Rattle.mc_probe.specs.Table.{instrumented}
 use Rattle.mc_short.specs.Laws.{InstrumentedNumbersAreShort}
-use Rattle.mc_fitting.specs.Laws.{ScannedTokensMeanTheirKinds}
-use Rattle.mc_inserted.specs.Rows.{rows_of}
+use Rattle.reread_law_rows.specs.fitting.Laws.{ScannedTokensMeanTheirKinds}
+use Rattle.reread_law_rows.specs.inserted.Rows.{rows_of}
 use Rattle.mc_parts.specs.Closed.{AreBalanced}
 use Rattle.mc_parts.specs.Laws.{Stands, PiecesOfParts}
 use Rattle.mc_placed.specs.Heads.{HaveHeads}

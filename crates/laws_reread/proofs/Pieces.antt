@@ -28,14 +28,14 @@ use Rattle.reread_law_texts.specs.weave.Laws.{HeightIsWithin}
 use Rattle.reread_law_texts.specs.brackets.Signs.{poured, signs_in_unit}
 use Rattle.reread_law_texts.specs.brackets.Laws.{PouredTextsHaveBracketedTrees}
 use Rattle.reread_law_texts.specs.unwoven.Laws.{TreesComeBack}
-use Rattle.mc_inserted.specs.Rows.{Row, rows_of}
-use Rattle.mc_inserted.specs.Signs.{brackets_of, signs_of}
-use Rattle.mc_inserted.specs.Seats.{ArePlaced, probe_rows, AreThere}
+use Rattle.reread_law_rows.specs.inserted.Rows.{Row, rows_of}
+use Rattle.reread_law_rows.specs.inserted.Signs.{brackets_of, signs_of}
+use Rattle.reread_law_rows.specs.inserted.Seats.{ArePlaced, probe_rows, AreThere}
 use Rattle.reread_law_texts.specs.apart.Distinct.{IsDistinct}
 use Rattle.reread_law_texts.specs.apart.Places.{spans_in_unit}
 use Rattle.reread_law_texts.specs.apart.Laws.{ExpressionsAreApart, BracketsStartBefore, PlacesHaveBytes}
-use Rattle.mc_signed.specs.Laws.{SignsAreThoseOfTheTree, BracketsAreFew, BracketsAreAfterTokens}
-use Rattle.mc_taken.specs.Laws.{AreTaken, ProbesAreTaken, LocalsAreApart}
+use Rattle.reread_law_rows.specs.signed.Laws.{SignsAreThoseOfTheTree, BracketsAreFew, BracketsAreAfterTokens}
+use Rattle.reread_law_rows.specs.taken.Laws.{AreTaken, ProbesAreTaken, LocalsAreApart}
 use Rattle.reread_put_back.specs.Back.{put_back}
 use Rattle.mc_put.specs.Laws.{TablesArePutBack}
 use Rattle.mc_stood.specs.Laws.{StandsAreApart, ProgramsStandApart}

@@ -24,7 +24,7 @@ use Rattle.reread_law_places.specs.natural.Laws.{ProgramsMove}
 use Rattle.laws_simulation.specs.Laws.{InstrumentedErases}
 use Rattle.mc_print.specs.Pens.{spaced}
 use Rattle.mc_print.specs.Texts.{text_of}
-use Rattle.mc_fitting.specs.Laws.{MeanTheirKinds, ScannedTokensMeanTheirKinds}
+use Rattle.reread_law_rows.specs.fitting.Laws.{MeanTheirKinds, ScannedTokensMeanTheirKinds}
 use Rattle.mc_parts.specs.Parts.{parts_of}
 use Rattle.mc_parts.specs.Marks.{marks, own_tokens}
 use Rattle.mc_parts.specs.Laws.{Stands, OwnTokensAreAlike, PartsMove}

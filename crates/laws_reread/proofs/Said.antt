@@ -8,8 +8,8 @@ use Rattle.mc_grammar.specs.Words.{Lexeme, is_identifier_kind, is_punctuator, re
 use Rattle.mc_grammar.specs.Spelling.{Spelled, IsSpelled, Spells, Punctuator, Keyword, Identifier, TypedefName, Tag, Constant, Character, Typedef}
 use Rattle.mc_grammar.specs.Spelling as spelling
 use Rattle.reread_pieces.specs.Words.{is}
-use Rattle.mc_inserted.specs.Fits.{is_bracket, IsBalanced, first_is}
-use Rattle.mc_inserted.specs.Fits as fit
+use Rattle.reread_law_rows.specs.inserted.Fits.{is_bracket, IsBalanced, first_is}
+use Rattle.reread_law_rows.specs.inserted.Fits as fit
 use Rattle.mc_parts.specs.Stands.{is_brace}
 use Rattle.mc_placed.specs.Heads.{has_body, is_apart}
 use Rattle.laws_reread.proofs.Signs.{Clear, AreClear, brackets, signs, belong, no_bracket, no_sign, none_of, keyword_kind, identifier_no_sign, left_of, sign_text, are_pair, neither}

@@ -20,7 +20,7 @@ use Rattle.reread_pieces.specs.declared.piece.What.{What}
 use Rattle.reread_pieces.specs.declared.piece.What.TheVariants as what
 use Rattle.reread_law_texts.specs.alike.Moves.{FollowFrom, end_of}
 use Rattle.reread_law_texts.proofs.Apart.Ascending.{tk}
-use Rattle.mc_inserted.specs.Rows.{Rows, exit_row, rows_in_function, rows_in_functions}
+use Rattle.reread_law_rows.specs.inserted.Rows.{Rows, exit_row, rows_in_function, rows_in_functions}
 use Rattle.mc_grammar.proofs.Spelling.{specifiers_spell, parameters_spell}
 use Rattle.mc_grammar.specs.Spelling as spelling
 use Rattle.laws_types.specs.SourceUnits.{IsFunctionOf, AreFunctionsOf, ProgramsHaveTheirSource}

@@ -17,8 +17,8 @@ use Rattle.mc_lex.proofs.Texts.{passes}
 use Rattle.mc_lex.proofs.Candidates.{Stands, stood, one_class}
 use Rattle.mc_grammar.specs.Words.{Lexeme, is_punctuator_kind, is_keyword_kind, is_identifier_kind, is_punctuator, is_keyword}
 use Rattle.reread_pieces.specs.Words.{is}
-use Rattle.mc_inserted.specs.Fits.{is_bracket, is_pair}
-use Rattle.mc_fitting.specs.Laws.{MeanTheirKinds}
+use Rattle.reread_law_rows.specs.inserted.Fits.{is_bracket, is_pair}
+use Rattle.reread_law_rows.specs.fitting.Laws.{MeanTheirKinds}
 use Rattle.mc_placed.specs.Heads.{is_apart}
 
 -- ---- signs are punctuators

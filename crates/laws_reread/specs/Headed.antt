@@ -13,7 +13,7 @@ use Rattle.types_rules.specs.Typing.{typing_of}
 use Rattle.mc_probe.specs.Maps.{Map}
 use Rattle.mc_probe.specs.Table.{instrumented}
 use Rattle.reread_law_texts.specs.alike.Moves.{AreAlike}
-use Rattle.mc_fitting.specs.Laws.{MeanTheirKinds}
+use Rattle.reread_law_rows.specs.fitting.Laws.{MeanTheirKinds}
 use Rattle.mc_parts.specs.Closed.{AreBalanced}
 use Rattle.mc_parts.specs.Laws.{HasNumerals, Stands}
 use Rattle.mc_placed.specs.Heads.{HaveHeads}

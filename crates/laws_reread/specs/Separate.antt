@@ -11,7 +11,7 @@ use Rattle.types_rules.specs.Typing.{typing_of}
 use Rattle.mc_probe.specs.Maps.{Map}
 use Rattle.mc_probe.specs.Table.{instrumented}
 use Rattle.reread_law_texts.specs.alike.Moves.{FollowFrom}
-use Rattle.mc_inserted.specs.Rows.{rows_of}
+use Rattle.reread_law_rows.specs.inserted.Rows.{rows_of}
 use Rattle.mc_placed.specs.Separate.{AreSeparate}
 
 -- Of the rows of a text of the profile, at any places where its tokens follow each other, each may

@@ -18,7 +18,6 @@ use laws_simulation::instrumented_programs_erase;
 use laws_soundness::laws::units_are_sound;
 use mc_converted::laws::implied_conversions_stand;
 use mc_counted::laws::instrumented_units_are_counted;
-use mc_fitting::laws::scanned_tokens_mean_their_kinds;
 use mc_grammar::laws::tree_is_no_longer_than_text;
 use mc_parts::laws::{
     own_tokens_are_alike, parts_move, pieces_of_parts, plain_is_poured, probes_are_there,
@@ -31,11 +30,12 @@ use mc_placed::laws::{
 use mc_put::laws::tables_are_put_back;
 use mc_shifted::laws::rows_are_moved;
 use mc_short::laws::instrumented_numbers_are_short;
-use mc_signed::laws::{brackets_have_places, signs_are_those_of_the_tree};
 use mc_spelled::laws::printed_text_scans;
 use mc_stood::laws::{programs_stand_apart, stands_are_apart};
-use mc_taken::laws::{locals_are_apart, probes_are_taken};
 use reread_law_places::laws::natural::units_move;
+use reread_law_rows::laws::fitting::scanned_tokens_mean_their_kinds;
+use reread_law_rows::laws::signed::{brackets_have_places, signs_are_those_of_the_tree};
+use reread_law_rows::laws::taken::{locals_are_apart, probes_are_taken};
 use reread_law_texts::laws::alike::{
     alike_texts_have_moved_trees, forms_are_kept, height_is_kept, trees_move,
 };

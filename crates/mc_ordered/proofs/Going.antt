@@ -10,10 +10,10 @@ use Rattle.mc_probe.specs.Maps.{Map}
 use Rattle.mc_probe.specs.Tree as p
 use Rattle.mc_probe.specs.Table.{Stand, operand, inner, wrap}
 use Rattle.reread_pieces.specs.declared.piece.What.TheVariants as what
-use Rattle.mc_inserted.specs.Rows.{Row, Rows, row, row_of_probe, extent, rows}
+use Rattle.reread_law_rows.specs.inserted.Rows.{Row, Rows, row, row_of_probe, extent, rows}
 use Rattle.mc_parts.specs.Stands.{AreInOrder}
-use Rattle.mc_signed.proofs.Split.{probed_by, openings, endings, rows_probed}
-use Rattle.mc_signed.proofs.Wrapped.{own_probes, round_is, probed_both}
+use Rattle.reread_law_rows.proofs.Signed.Split.{probed_by, openings, endings, rows_probed}
+use Rattle.reread_law_rows.proofs.Signed.Wrapped.{own_probes, round_is, probed_both}
 use Rattle.mc_ordered.specs.Nested.{Nested, HoldsAll, InInitializer, InInitializers, InObjects}
 
 pub le : {a b c : ℕ} → a ≤ b → b ≤ c → a ≤ c

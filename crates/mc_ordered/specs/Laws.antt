@@ -8,7 +8,7 @@ use Rattle.mc_tree.specs.Tree.{BlockItems}
 use Rattle.mc_typed.specs.Tree.{Statements}
 use Rattle.mc_probe.specs.Maps.{Map}
 use Rattle.mc_probe.specs.Table.{At, put_statements}
-use Rattle.mc_inserted.specs.Rows.{rows_in_statements}
+use Rattle.reread_law_rows.specs.inserted.Rows.{rows_in_statements}
 use Rattle.mc_parts.specs.Stands.{AreInOrder}
 use Rattle.laws_types.specs.SourceUnits.{AreItemsOf}
 use Rattle.mc_ordered.specs.Nested.{InBlock}

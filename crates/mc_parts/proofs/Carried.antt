@@ -12,7 +12,7 @@ use Rattle.reread_pieces.specs.Words.{is}
 use Rattle.mc_probe.specs.Tree as p
 use Rattle.reread_law_texts.specs.alike.Moves.{Move, Fits, AllFit, FollowFrom, end_of, moved_span, moved_token, moved_tokens}
 use Rattle.mc_print.specs.Pens.{before, since, ends_item, last_item, type_words}
-use Rattle.mc_inserted.specs.Rows.{Row, entry_row, rows_in_functions, rows_of}
+use Rattle.reread_law_rows.specs.inserted.Rows.{Row, entry_row, rows_in_functions, rows_of}
 use Rattle.mc_parts.specs.Parts.{Parts, own, copied, upto, into_body, row_part, place_by, place_of, takes_token, without_first, put, inserted, all_put, body_rows, exit_put, body, type_at, parts_in_function, parts_in_functions}
 use Rattle.mc_parts.specs.Stands.{IsFunctionAmong, AreAmong}
 use Rattle.mc_parts.specs.Moved.{moved_row, IsMoved, AreMoved}

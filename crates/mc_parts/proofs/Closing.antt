@@ -13,8 +13,8 @@ use Rattle.reread_pieces.specs.Words.{is}
 use Rattle.reread_pieces.specs.Rows.{is_value}
 use Rattle.mc_print.specs.Pens.{Pen}
 use Rattle.reread_law_texts.specs.alike.Moves.{FollowFrom, end_of}
-use Rattle.mc_inserted.specs.Rows.{Row, Rows, row}
-use Rattle.mc_inserted.specs.Fits.{IsBalanced, nothing, other, pair, is_bracket, is_pair, EndsAt, StandsAmong, IsReturnAmong, ReturnsAmong, StartsAt}
+use Rattle.reread_law_rows.specs.inserted.Rows.{Row, Rows, row}
+use Rattle.reread_law_rows.specs.inserted.Fits.{IsBalanced, nothing, other, pair, is_bracket, is_pair, EndsAt, StandsAmong, IsReturnAmong, ReturnsAmong, StartsAt}
 use Rattle.mc_parts.specs.Parts.{Parts, what_of, own, copied, upto, place_by, place_of, without_first, put, inserted}
 use Rattle.mc_parts.specs.Stands.{past_by, past, AreInOrder}
 use Rattle.mc_parts.specs.Closed.{top, below, open_after, closes_with, MayClose, AllClose}

@@ -11,7 +11,7 @@ use Rattle.reread_pieces.specs.declared.piece.What.TheVariants as what
 use Rattle.reread_pieces.specs.Words.{is}
 use Rattle.mc_probe.specs.Tree as p
 use Rattle.reread_law_texts.specs.alike.Moves.{FollowFrom, end_of}
-use Rattle.mc_inserted.specs.Rows.{entry_row, rows_in_functions, rows_of}
+use Rattle.reread_law_rows.specs.inserted.Rows.{entry_row, rows_in_functions, rows_of}
 use Rattle.mc_parts.specs.Parts.{Part, Parts, what_of, own, copied, into_body, put, inserted, all_put, body_rows, exit_put, body, type_at, parts_in_function, parts_in_functions}
 use Rattle.mc_parts.specs.Stands.{is_brace, IsFunctionAmong, AreAmong}
 use Rattle.mc_parts.specs.Closed.{closes_with, AllClose, AreBalanced}

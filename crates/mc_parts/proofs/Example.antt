@@ -8,8 +8,8 @@ use Rattle.mc_lex.specs.Tokens.{Tok}
 use Rattle.mc_lex.proofs.Texts.{both}
 use Rattle.reread_pieces.specs.Words.{specifiers}
 use Rattle.reread_law_texts.specs.alike.Moves.{FollowFrom, end_of}
-use Rattle.mc_inserted.specs.Rows.{rows_of}
-use Rattle.mc_inserted.specs.Fits.{IsBalanced, nothing, other, pair, StandsAmong, IsOperandAmong, IsStatementAmong, ReturnsAmong}
+use Rattle.reread_law_rows.specs.inserted.Rows.{rows_of}
+use Rattle.reread_law_rows.specs.inserted.Fits.{IsBalanced, nothing, other, pair, StandsAmong, IsOperandAmong, IsStatementAmong, ReturnsAmong}
 use Rattle.mc_parts.specs.Stands.{IsFunctionAmong}
 use Rattle.mc_parts.specs.Worked.{keyword, name, mark, result, parameters, tokens, function, tree, TheyStand}
 use Rattle.mc_parts.proofs.Tied.{Fit}

@@ -21,9 +21,9 @@ use Rattle.reread_probes.specs.Probes.{is_own, next_start, probes_from}
 use Rattle.reread_law_texts.specs.alike.Moves.{FollowFrom, end_of, without_place}
 use Rattle.reread_law_texts.specs.brackets.Signs.{Sign, poured, before}
 use Rattle.mc_print.specs.Insertions.{value_exit}
-use Rattle.mc_inserted.specs.Rows.{Row}
-use Rattle.mc_inserted.specs.Signs.{signs_of}
-use Rattle.mc_inserted.specs.Seats.{probe_rows, AreThere}
+use Rattle.reread_law_rows.specs.inserted.Rows.{Row}
+use Rattle.reread_law_rows.specs.inserted.Signs.{signs_of}
+use Rattle.reread_law_rows.specs.inserted.Seats.{probe_rows, AreThere}
 use Rattle.mc_lex.specs.Words.{probe_names}
 use Rattle.reread_law_texts.specs.weave.Brackets.{sign}
 use Rattle.mc_spelled.specs.Words.{kind_in, IsInserted, word, inserted_words}

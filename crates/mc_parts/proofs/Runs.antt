@@ -10,8 +10,8 @@ use Rattle.reread_pieces.specs.declared.piece.What.TheVariants as what
 use Rattle.reread_pieces.specs.Words.{is}
 use Rattle.mc_probe.specs.Tree as p
 use Rattle.reread_law_texts.specs.alike.Moves.{FollowFrom, end_of}
-use Rattle.mc_inserted.specs.Rows.{Row, register_row, entry_row, exit_row, rows_in_statements, rows_in_function, rows_in_functions, rows_of}
-use Rattle.mc_inserted.specs.Fits.{StartsAt, EndsAt, IsReturnAmong, ReturnsAmong}
+use Rattle.reread_law_rows.specs.inserted.Rows.{Row, register_row, entry_row, exit_row, rows_in_statements, rows_in_function, rows_in_functions, rows_of}
+use Rattle.reread_law_rows.specs.inserted.Fits.{StartsAt, EndsAt, IsReturnAmong, ReturnsAmong}
 use Rattle.mc_parts.specs.Parts.{place_by, place_of, takes_token, without_first, body_rows}
 use Rattle.mc_parts.specs.Stands.{past_by, past, AreInOrder, is_brace, IsFunctionAmong, AreAmong}
 use Rattle.mc_parts.specs.Laws.{Stands}

@@ -7,8 +7,8 @@ use Rattle.reread_pieces.specs.declared.piece.What.{What}
 use Rattle.reread_pieces.specs.declared.piece.What.TheVariants as what
 use Rattle.mc_print.specs.Pens.{Pen, ◌▸◌, nothing}
 use Rattle.mc_print.specs.Insertions.{at, open_value, close_value}
-use Rattle.mc_inserted.specs.Rows.{Row, Rows, row, no_rows}
-use Rattle.mc_inserted.specs.Fits.{Fits, IsOperandAmong, IsStatementAmong, IsReturnAmong, ReturnsAmong}
+use Rattle.reread_law_rows.specs.inserted.Rows.{Row, Rows, row, no_rows}
+use Rattle.reread_law_rows.specs.inserted.Fits.{Fits, IsOperandAmong, IsStatementAmong, IsReturnAmong, ReturnsAmong}
 use Rattle.mc_parts.specs.Parts.{row_texts, place_by, is_row}
 
 -- ---- what the pen does at a row

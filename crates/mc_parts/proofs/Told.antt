@@ -12,7 +12,7 @@ use Rattle.reread_pieces.specs.declared.piece.What.TheVariants as what
 use Rattle.reread_pieces.specs.Words.{is}
 use Rattle.mc_probe.specs.Tree as p
 use Rattle.mc_print.specs.Pens.{texts_of}
-use Rattle.mc_inserted.specs.Rows.{Row, register_row, entry_row, exit_row, rows_in_statements, rows_in_function, rows_in_functions}
+use Rattle.reread_law_rows.specs.inserted.Rows.{Row, register_row, entry_row, exit_row, rows_in_statements, rows_in_function, rows_in_functions}
 use Rattle.mc_parts.specs.Parts.{Part, Parts, what_of, own, copied, upto, into_body, place_of, takes_token, without_first, put, inserted, all_put, body_rows, exit_put, body, type_at, parts_in_function, parts_in_functions, is_row, rows_among, own_texts}
 use Rattle.mc_parts.specs.Laws.{RowsOfParts, OwnTokensStay}
 use Rattle.mc_parts.proofs.Tied.{IsRow, added, rows_are}

@@ -12,8 +12,8 @@ use Rattle.reread_pieces.specs.declared.piece.What.TheVariants as what
 use Rattle.reread_pieces.specs.Words.{is}
 use Rattle.mc_probe.specs.Tree as p
 use Rattle.reread_law_texts.specs.alike.Moves.{FollowFrom, end_of}
-use Rattle.mc_inserted.specs.Rows.{Row, entry_row, exit_row, rows_in_statements, rows_in_function, rows_in_functions, rows_of}
-use Rattle.mc_inserted.specs.Fits.{StartsAt, EndsAt, StandsAmong}
+use Rattle.reread_law_rows.specs.inserted.Rows.{Row, entry_row, exit_row, rows_in_statements, rows_in_function, rows_in_functions, rows_of}
+use Rattle.reread_law_rows.specs.inserted.Fits.{StartsAt, EndsAt, StandsAmong}
 use Rattle.mc_parts.specs.Parts.{Part, Parts, what_of, own, copied, upto, into_body, row_part, place_by, place_of, without_first, put, inserted, all_put, body_rows, exit_put, body, type_at, parts_in_function, parts_in_functions, parts_of}
 use Rattle.mc_parts.specs.Stands.{past_by, AreInOrder, IsFunctionAmong, AreAmong}
 use Rattle.mc_parts.specs.Laws.{Stands}

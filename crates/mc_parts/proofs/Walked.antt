@@ -8,7 +8,7 @@ use Rattle.mc_probe.specs.Tree as p
 use Rattle.mc_print.specs.Pens.{Pen, ◌▸◌, nothing}
 use Rattle.mc_print.specs.Insertions.{before_counted, after_counted, hit_at, label_after}
 use Rattle.mc_print.specs.Texts.{write_place, write, write_structure, write_call, write_argument, write_arguments, write_effect, write_effects, write_initializer, write_initializers, write_initial, write_declarators, write_start, write_optional, write_value, write_exit, write_return, write_statement, write_statements}
-use Rattle.mc_inserted.specs.Rows.{Rows, no_rows, extent, rows_in_place, rows, rows_in_structure, rows_in_call, rows_in_argument, rows_in_arguments, rows_in_effect, rows_in_effects, rows_in_initializer, rows_in_initializers, rows_in_initial, rows_in_declarators, rows_in_start, rows_in_optional, rows_in_value, counted, counted_declaration, label, absent_default, with_exit, rows_in_return, rows_in_statement, rows_in_statements}
+use Rattle.reread_law_rows.specs.inserted.Rows.{Rows, no_rows, extent, rows_in_place, rows, rows_in_structure, rows_in_call, rows_in_argument, rows_in_arguments, rows_in_effect, rows_in_effects, rows_in_initializer, rows_in_initializers, rows_in_initial, rows_in_declarators, rows_in_start, rows_in_optional, rows_in_value, counted, counted_declaration, label, absent_default, with_exit, rows_in_return, rows_in_statement, rows_in_statements}
 use Rattle.mc_parts.proofs.Tied.{Tied, none, alone, round, seq}
 use Rattle.mc_parts.proofs.Tied as tied
 

@@ -12,7 +12,7 @@ use Rattle.mc_print.specs.Pens.{Pen, nothing, begun, before, through, texts_of, 
 use Rattle.mc_print.specs.Pens as nib
 use Rattle.mc_print.specs.Insertions.{hit, registers, value_exit, hit_at, put_registers, put_entry}
 use Rattle.mc_print.specs.Texts.{write_function, write_functions}
-use Rattle.mc_inserted.specs.Rows.{Row, entry_row}
+use Rattle.reread_law_rows.specs.inserted.Rows.{Row, entry_row}
 use Rattle.mc_parts.specs.Parts.{Part, Parts, copied, upto, into_body, row_texts, row_part, place_by, without_first, put, inserted, all_put, body_rows, exit_put, type_at, parts_in_function, parts_in_functions, words_of}
 use Rattle.mc_parts.specs.Parts as parts
 use Rattle.mc_parts.specs.Laws.{WordsOfParts}

@@ -11,7 +11,7 @@ use Rattle.reread_pieces.specs.Rows.{is_value}
 use Rattle.reread_pieces.specs.Pieces.{opened, closes}
 use Rattle.mc_probe.specs.Tree as p
 use Rattle.mc_lex.specs.Tokens.{Tok}
-use Rattle.mc_inserted.specs.Fits.{IsBalanced, is_bracket}
+use Rattle.reread_law_rows.specs.inserted.Fits.{IsBalanced, is_bracket}
 use Rattle.mc_parts.specs.Parts.{Part}
 use Rattle.mc_parts.specs.Stands.{AreAmong}
 

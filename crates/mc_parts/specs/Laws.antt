@@ -13,10 +13,10 @@ use Rattle.reread_law_texts.specs.brackets.Signs.{poured}
 use Rattle.mc_print.specs.Pens.{texts_of}
 use Rattle.mc_print.specs.Texts.{text_of}
 use Rattle.mc_spelled.specs.Words.{kind_in, number}
-use Rattle.mc_inserted.specs.Rows.{rows_of}
-use Rattle.mc_inserted.specs.Signs.{signs_of}
-use Rattle.mc_inserted.specs.Seats.{probe_rows, AreThere}
-use Rattle.mc_inserted.specs.Fits.{AllFit}
+use Rattle.reread_law_rows.specs.inserted.Rows.{rows_of}
+use Rattle.reread_law_rows.specs.inserted.Signs.{signs_of}
+use Rattle.reread_law_rows.specs.inserted.Seats.{probe_rows, AreThere}
+use Rattle.reread_law_rows.specs.inserted.Fits.{AllFit}
 use Rattle.mc_parts.specs.Parts.{Part, parts_of, words_of, rows_among, own_texts}
 use Rattle.mc_parts.specs.Stands.{AreAmong}
 use Rattle.mc_parts.specs.Marks.{marks, own_tokens}

@@ -2,7 +2,7 @@
 use Rattle.std.specs.Prelude.{◌≡◌, List, [], ◌∷◌, map}
 use Rattle.mc_probe.specs.Tree as p
 use Rattle.reread_law_texts.specs.alike.Moves.{Move, moved_span}
-use Rattle.mc_inserted.specs.Rows.{Row}
+use Rattle.reread_law_rows.specs.inserted.Rows.{Row}
 use Rattle.mc_parts.specs.Parts.{body_rows}
 
 abbrev pub moved_row : Move → Row → Row

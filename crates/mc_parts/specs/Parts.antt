@@ -12,7 +12,7 @@ use Rattle.mc_typed.specs.declared.probes.Probe.TheVariants as probe
 use Rattle.mc_probe.specs.Tree as p
 use Rattle.mc_print.specs.Pens.{before, last_item, type_words}
 use Rattle.mc_print.specs.Insertions.{hit, label, opening, registers, value_exit}
-use Rattle.mc_inserted.specs.Rows.{Row, register_row, entry_row, rows_in_statements}
+use Rattle.reread_law_rows.specs.inserted.Rows.{Row, register_row, entry_row, rows_in_statements}
 
 -- what a part is, and its tokens
 pub record Part : Type 0 where

@@ -9,7 +9,7 @@ use Rattle.reread_pieces.specs.declared.piece.What.TheVariants as what
 use Rattle.reread_pieces.specs.Words.{is}
 use Rattle.mc_probe.specs.Tree as p
 use Rattle.reread_law_texts.specs.alike.Moves.{end_of}
-use Rattle.mc_inserted.specs.Rows.{Row}
+use Rattle.reread_law_rows.specs.inserted.Rows.{Row}
 use Rattle.mc_parts.specs.Parts.{body_rows, place_by, place_of}
 
 -- ---- the order of rows

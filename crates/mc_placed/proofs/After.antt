@@ -11,7 +11,7 @@ use Rattle.reread_pieces.specs.declared.piece.What.TheVariants as what
 use Rattle.reread_pieces.specs.Words.{is}
 use Rattle.reread_pieces.specs.Pieces.{Here, before_after}
 use Rattle.reread_law_texts.specs.alike.Moves.{FollowFrom}
-use Rattle.mc_inserted.specs.Rows.{Row, rows_of}
+use Rattle.reread_law_rows.specs.inserted.Rows.{Row, rows_of}
 use Rattle.mc_spelled.specs.Words.{kind_in}
 use Rattle.mc_parts.specs.Parts.{Part, own, row_part, row_texts, words_of, is_row}
 use Rattle.mc_parts.specs.Marks as marks

@@ -11,7 +11,7 @@ use Rattle.reread_pieces.specs.Rows.{is_after_statement, is_colon}
 use Rattle.reread_pieces.specs.Rows as site
 use Rattle.reread_pieces.specs.Pieces.{Here, before_after}
 use Rattle.reread_law_texts.specs.alike.Moves.{FollowFrom, end_of}
-use Rattle.mc_inserted.specs.Fits.{Fits, IsOperandAmong, IsLabelAmong, IsSwitchAmong, last_is, first_is}
+use Rattle.reread_law_rows.specs.inserted.Fits.{Fits, IsOperandAmong, IsLabelAmong, IsSwitchAmong, last_is, first_is}
 use Rattle.mc_parts.specs.Parts.{place_by}
 use Rattle.mc_parts.proofs.Cut.{has_text}
 use Rattle.mc_parts.proofs.Trace.{At, FirstAt, last_end}

@@ -4,7 +4,7 @@ use Rattle.std.proofs.lemmas.List.{append_cancel_right}
 use Rattle.mc_span.specs.declared.span.Span.{Span}
 use Rattle.mc_lex.specs.Tokens.{Tok}
 use Rattle.reread_law_texts.specs.alike.Moves.{FollowFrom, end_of}
-use Rattle.mc_inserted.specs.Fits.{StartsAt, EndsAt, StandsAmong, last_is, first_is}
+use Rattle.reread_law_rows.specs.inserted.Fits.{StartsAt, EndsAt, StandsAmong, last_is, first_is}
 use Rattle.mc_parts.proofs.Cut.{past_place, found, beyond, not_past, follow_after}
 use Rattle.mc_parts.proofs.Trace.{FirstAt, last_end, last_of}
 

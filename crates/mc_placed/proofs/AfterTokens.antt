@@ -14,7 +14,7 @@ use Rattle.reread_pieces.specs.Words.{is, is_name, is_identifier_kind, before_of
 use Rattle.reread_pieces.specs.Rows as site
 use Rattle.reread_pieces.specs.Pieces.{before_after}
 use Rattle.mc_probe.specs.Tree as p
-use Rattle.mc_inserted.specs.Rows.{Row, entry_row}
+use Rattle.reread_law_rows.specs.inserted.Rows.{Row, entry_row}
 use Rattle.mc_spelled.specs.Words.{kind_in}
 use Rattle.mc_parts.specs.Parts.{Part, Parts, what_of, own, copied, upto, into_body, row_part, place_of, takes_token, without_first, put, inserted, all_put, body_rows, exit_put, body, type_at, parts_in_function, parts_in_functions, parts_of, is_row}
 use Rattle.mc_parts.specs.Closed.{first_text}

@@ -10,7 +10,7 @@ use Rattle.mc_spelled.specs.Words.{IsToken}
 use Rattle.mc_spelled.proofs.Meanings.{tokens_mean}
 use Rattle.mc_probe.specs.Tree as p
 use Rattle.reread_law_texts.specs.alike.Moves.{FollowFrom, end_of}
-use Rattle.mc_inserted.specs.Rows.{Row, entry_row, exit_row, rows_in_statements, rows_in_functions, rows_of}
+use Rattle.reread_law_rows.specs.inserted.Rows.{Row, entry_row, exit_row, rows_in_statements, rows_in_functions, rows_of}
 use Rattle.mc_parts.specs.Parts.{Parts, into_body, inserted, body_rows, exit_put, body, type_at, parts_in_function, parts_in_functions, parts_of}
 use Rattle.mc_parts.specs.Stands.{IsFunctionAmong, AreAmong}
 use Rattle.mc_parts.proofs.Cut.{past_place, Left, found}

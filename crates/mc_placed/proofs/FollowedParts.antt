@@ -15,7 +15,7 @@ use Rattle.reread_pieces.specs.Shapes.{hit}
 use Rattle.reread_pieces.specs.Pieces.{Here}
 use Rattle.mc_spelled.specs.Words.{IsToken}
 use Rattle.mc_probe.specs.Tree as p
-use Rattle.mc_inserted.specs.Rows.{entry_row}
+use Rattle.reread_law_rows.specs.inserted.Rows.{entry_row}
 use Rattle.mc_parts.specs.Parts.{Part, Parts, own, copied, upto, into_body, row_texts, without_first, put, all_put, exit_put, body, type_at, parts_in_functions, words_of}
 use Rattle.mc_parts.specs.Marks as marks
 use Rattle.mc_parts.specs.Closed.{open_after, MayClose, AllClose}

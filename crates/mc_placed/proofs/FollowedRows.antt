@@ -13,8 +13,8 @@ use Rattle.reread_pieces.specs.Rows.{is_hit}
 use Rattle.mc_spelled.specs.Words.{IsToken}
 use Rattle.reread_law_texts.specs.alike.Moves.{FollowFrom, end_of}
 use Rattle.mc_print.specs.Pens.{Pen}
-use Rattle.mc_inserted.specs.Rows.{Row, Rows, row}
-use Rattle.mc_inserted.specs.Fits.{StartsAt, EndsAt, StandsAmong, IsStatementAmong, IsDeclarationAmong, IsReturnAmong}
+use Rattle.reread_law_rows.specs.inserted.Rows.{Row, Rows, row}
+use Rattle.reread_law_rows.specs.inserted.Fits.{StartsAt, EndsAt, StandsAmong, IsStatementAmong, IsDeclarationAmong, IsReturnAmong}
 use Rattle.mc_parts.specs.Parts.{Part, Parts, copied, upto, row_part, row_texts, place_by, place_of, takes_token, without_first, put, inserted, words_of}
 use Rattle.mc_parts.specs.Shaped.{tokens_at}
 use Rattle.mc_parts.specs.Stands.{past_by, AreInOrder}

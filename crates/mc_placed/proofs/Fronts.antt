@@ -14,7 +14,7 @@ use Rattle.reread_pieces.specs.Rows.{is_front, is_at_front}
 use Rattle.reread_pieces.specs.Pieces.{Here, before_after}
 use Rattle.mc_probe.specs.Tree as p
 use Rattle.reread_law_texts.specs.alike.Moves.{FollowFrom, end_of}
-use Rattle.mc_inserted.specs.Rows.{Row, entry_row, rows_in_functions, rows_of}
+use Rattle.reread_law_rows.specs.inserted.Rows.{Row, entry_row, rows_in_functions, rows_of}
 use Rattle.mc_parts.specs.Parts.{Parts, what_of, own, copied, upto, into_body, row_part, row_texts, takes_token, without_first, put, inserted, all_put, body_rows, exit_put, body, type_at, parts_in_function, parts_in_functions, place_of, words_of}
 use Rattle.mc_parts.specs.Marks as marks
 use Rattle.mc_parts.specs.Marks.{first_token}

@@ -1,7 +1,7 @@
 -- The brackets that each part is in.
 use Rattle.std.proofs.Common.{◌≡◌, inl, false, List, [], refl, sym, subst}
 use Rattle.std.proofs.lemmas.List.Elements.{recursion_from_All}
-use Rattle.mc_inserted.specs.Rows.{rows_of}
+use Rattle.reread_law_rows.specs.inserted.Rows.{rows_of}
 use Rattle.mc_parts.specs.Parts.{parts_of}
 use Rattle.mc_parts.proofs.Tied.{Fit}
 use Rattle.mc_parts.proofs.Runs.{State}

@@ -14,8 +14,8 @@ use Rattle.reread_pieces.specs.Pieces.{is_front}
 use Rattle.mc_probe.specs.Tree as p
 use Rattle.mc_print.specs.Pens.{type_words}
 use Rattle.reread_law_texts.specs.alike.Moves.{FollowFrom, end_of}
-use Rattle.mc_inserted.specs.Rows.{Row, entry_row, rows_in_functions}
-use Rattle.mc_inserted.specs.Fits.{IsBalanced, is_bracket}
+use Rattle.reread_law_rows.specs.inserted.Rows.{Row, entry_row, rows_in_functions}
+use Rattle.reread_law_rows.specs.inserted.Fits.{IsBalanced, is_bracket}
 use Rattle.mc_parts.specs.Parts.{Part, Parts, what_of, own, copied, upto, takes_token, without_first, put, inserted, front_rows, body_rows, place_of}
 use Rattle.mc_parts.specs.Stands.{is_brace, IsFunctionAmong, AreAmong}
 use Rattle.mc_parts.specs.Closed.{top, below, open_after, closes_with, first_text, MayClose, AllClose, AreBalanced}

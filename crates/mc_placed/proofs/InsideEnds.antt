@@ -5,7 +5,7 @@ use Rattle.mc_lex.specs.Tokens.{Tok}
 use Rattle.reread_pieces.specs.declared.piece.What.{What}
 use Rattle.reread_pieces.specs.declared.piece.What.TheVariants as what
 use Rattle.reread_law_texts.specs.alike.Moves.{FollowFrom}
-use Rattle.mc_inserted.specs.Rows.{Row, rows_of}
+use Rattle.reread_law_rows.specs.inserted.Rows.{Row, rows_of}
 use Rattle.mc_probe.specs.Tree as p
 use Rattle.mc_parts.specs.Parts.{Part, parts_of}
 use Rattle.mc_parts.specs.Laws.{Stands}

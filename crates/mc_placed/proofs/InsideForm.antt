@@ -12,8 +12,8 @@ use Rattle.reread_pieces.specs.Words.{is}
 use Rattle.mc_probe.specs.Tree as p
 use Rattle.mc_print.specs.Pens.{since, ends_item, last_item, type_words}
 use Rattle.reread_law_texts.specs.alike.Moves.{FollowFrom, end_of}
-use Rattle.mc_inserted.specs.Rows.{Row, entry_row, rows_in_functions}
-use Rattle.mc_inserted.specs.Fits.{is_bracket, last_is}
+use Rattle.reread_law_rows.specs.inserted.Rows.{Row, entry_row, rows_in_functions}
+use Rattle.reread_law_rows.specs.inserted.Fits.{is_bracket, last_is}
 use Rattle.mc_parts.specs.Parts.{Part, Parts, own, copied, upto, into_body, row_part, put, inserted, all_put, front_rows, body_rows, exit_put, body, type_at, parts_in_function, parts_in_functions, place_of}
 use Rattle.mc_parts.specs.Stands.{past, AreInOrder, is_brace, IsFunctionAmong, AreAmong}
 use Rattle.mc_parts.proofs.Tied.{Fit, FitAll, all_fit}

@@ -8,7 +8,7 @@ use Rattle.mc_typed.specs.declared.probes.Probe.TheVariants as probe
 use Rattle.mc_probe.specs.Tree as p
 use Rattle.mc_spelled.specs.Numbers.{IsShortBit, IsShortMark, IsShortProbe, ShortPlace, Short, ShortStructure, ShortCall, ShortArgument, ShortArguments, ShortEffect, ShortEffects, ShortInitializer, ShortInitializers, ShortInitial, ShortDeclarators, ShortStart, ShortTest, ShortValue, ShortStatement, ShortStatements, ShortFunction, ShortFunctions, HasShortNumbers}
 use Rattle.mc_spelled.specs.Numbers as numbers
-use Rattle.mc_inserted.specs.Rows.{Row, Rows, row_of_probe, rows_in_place, rows, rows_in_structure, rows_in_call, rows_in_argument, rows_in_arguments, rows_in_effect, rows_in_effects, rows_in_initializer, rows_in_initializers, rows_in_initial, rows_in_declarators, rows_in_start, rows_in_optional, rows_in_value, counted, counted_declaration, label, absent_default, rows_in_return, rows_in_statement, rows_in_statements, register_row, entry_row, exit_row, rows_in_functions}
+use Rattle.reread_law_rows.specs.inserted.Rows.{Row, Rows, row_of_probe, rows_in_place, rows, rows_in_structure, rows_in_call, rows_in_argument, rows_in_arguments, rows_in_effect, rows_in_effects, rows_in_initializer, rows_in_initializers, rows_in_initial, rows_in_declarators, rows_in_start, rows_in_optional, rows_in_value, counted, counted_declaration, label, absent_default, rows_in_return, rows_in_statement, rows_in_statements, register_row, entry_row, exit_row, rows_in_functions}
 use Rattle.mc_placed.specs.Needs.{IsSaid, AreSaid}
 use Rattle.mc_placed.specs.Laws.{RowsAreSaid}
 

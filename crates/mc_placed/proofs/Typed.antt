@@ -13,8 +13,8 @@ use Rattle.mc_probe.specs.Tree as p
 use Rattle.mc_print.specs.Pens.{texts_of, type_words}
 use Rattle.mc_print.specs.Texts.{text_of}
 use Rattle.reread_law_texts.specs.alike.Moves.{FollowFrom, end_of}
-use Rattle.mc_inserted.specs.Rows.{Row, entry_row, rows_in_functions, rows_of}
-use Rattle.mc_inserted.specs.Fits.{is_bracket, last_is}
+use Rattle.reread_law_rows.specs.inserted.Rows.{Row, entry_row, rows_in_functions, rows_of}
+use Rattle.reread_law_rows.specs.inserted.Fits.{is_bracket, last_is}
 use Rattle.mc_parts.specs.Parts.{Part, Parts, what_of, own, copied, upto, row_texts, takes_token, without_first, put, inserted, front_rows, body_rows, place_of, words_of}
 use Rattle.mc_parts.specs.Marks as marks
 use Rattle.mc_parts.specs.Stands.{IsFunctionAmong, AreAmong}

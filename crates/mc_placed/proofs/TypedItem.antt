@@ -13,7 +13,7 @@ use Rattle.reread_pieces.specs.Words.{is}
 use Rattle.reread_pieces.specs.Rows.{is_nothing, is_body}
 use Rattle.reread_pieces.specs.Pieces.{Here, innermost, site_of, brackets_after, ends_item, value_shape, is_front}
 use Rattle.mc_print.specs.Pens.{texts_of}
-use Rattle.mc_inserted.specs.Fits.{IsBalanced, nothing, other, pair, is_pair, is_bracket, last_is}
+use Rattle.reread_law_rows.specs.inserted.Fits.{IsBalanced, nothing, other, pair, is_pair, is_bracket, last_is}
 use Rattle.mc_parts.specs.Parts.{Part, what_of, own, copied, words_of}
 use Rattle.mc_parts.specs.Marks.{first_token}
 use Rattle.mc_parts.specs.Marks as marks

@@ -8,7 +8,7 @@ use Rattle.reread_pieces.specs.Words.{is}
 use Rattle.reread_pieces.specs.Pieces.{word}
 use Rattle.reread_pieces.specs.Pieces as pieces
 use Rattle.mc_print.specs.Pens.{texts_of, type_words}
-use Rattle.mc_inserted.specs.Fits.{is_bracket}
+use Rattle.reread_law_rows.specs.inserted.Fits.{is_bracket}
 use Rattle.mc_parts.specs.Parts.{Part, copied, words_of}
 use Rattle.mc_parts.specs.Shaped.{tokens_at}
 use Rattle.mc_placed.proofs.InsideForm.{IsPlain}

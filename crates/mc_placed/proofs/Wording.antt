@@ -12,7 +12,7 @@ use Rattle.reread_pieces.specs.declared.piece.What.TheVariants as what
 use Rattle.reread_pieces.specs.Words.{is, probe_word}
 use Rattle.mc_probe.specs.Tree as p
 use Rattle.mc_print.specs.Pens.{before, since, ends_item, last_item, type_words}
-use Rattle.mc_inserted.specs.Rows.{Row, register_row, entry_row, exit_row, rows_in_statements, rows_in_functions}
+use Rattle.reread_law_rows.specs.inserted.Rows.{Row, register_row, entry_row, exit_row, rows_in_statements, rows_in_functions}
 use Rattle.mc_parts.specs.Parts.{Parts, own, copied, upto, into_body, takes_token, without_first, put, inserted, all_put, front_rows, body_rows, exit_put, body, type_at, parts_in_function, parts_in_functions, place_of}
 use Rattle.mc_parts.specs.Shaped.{AreWords}
 use Rattle.mc_parts.proofs.Tied.{added}

@@ -4,7 +4,7 @@ use Rattle.std.specs.List.{list_any}
 use Rattle.mc_lex.specs.Tokens.{Tok}
 use Rattle.reread_pieces.specs.Words.{is}
 use Rattle.mc_probe.specs.Tree as p
-use Rattle.mc_inserted.specs.Fits.{IsBalanced, is_bracket, last_is}
+use Rattle.reread_law_rows.specs.inserted.Fits.{IsBalanced, is_bracket, last_is}
 use Rattle.mc_parts.specs.Stands.{AreAmong}
 
 -- a `)` and a `{` directly after it

@@ -13,7 +13,7 @@ use Rattle.mc_probe.specs.Table.{instrumented}
 use Rattle.mc_print.specs.Texts.{text_of}
 use Rattle.mc_spelled.specs.Numbers.{HasShortNumbers}
 use Rattle.mc_spelled.specs.Words.{kind_in}
-use Rattle.mc_inserted.specs.Rows.{rows_of}
+use Rattle.reread_law_rows.specs.inserted.Rows.{rows_of}
 use Rattle.mc_parts.specs.Parts.{Part, parts_of}
 use Rattle.mc_parts.specs.Laws.{Stands}
 use Rattle.mc_parts.specs.Closed.{AreBalanced}

@@ -14,7 +14,7 @@ use Rattle.reread_pieces.specs.Rows.{is_parenthesis, is_statement, is_nothing, i
 use Rattle.reread_pieces.specs.Rows.{sees_brace, after_tokens}
 use Rattle.reread_pieces.specs.Pieces.{Here, innermost}
 use Rattle.mc_spelled.specs.Numbers.{IsShort}
-use Rattle.mc_inserted.specs.Rows.{Row}
+use Rattle.reread_law_rows.specs.inserted.Rows.{Row}
 use Rattle.mc_parts.specs.Parts.{Part, what_of, own, row_part, words_of}
 use Rattle.mc_parts.specs.Marks as marks
 use Rattle.mc_parts.specs.Shaped.{AreWords, tokens_at, after_part}

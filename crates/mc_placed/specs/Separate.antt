@@ -5,7 +5,7 @@ use Rattle.mc_lex.specs.Tokens.{Tok}
 use Rattle.reread_pieces.specs.declared.piece.What.{What}
 use Rattle.reread_pieces.specs.declared.piece.What.TheVariants as what
 use Rattle.reread_law_texts.specs.alike.Moves.{end_of}
-use Rattle.mc_inserted.specs.Rows.{Row}
+use Rattle.reread_law_rows.specs.inserted.Rows.{Row}
 use Rattle.mc_parts.specs.Parts.{place_by}
 use Rattle.mc_parts.specs.Stands.{past_by}
 

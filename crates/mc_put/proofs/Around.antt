@@ -15,8 +15,8 @@ use Rattle.mc_typed.specs.Tree as t
 use Rattle.mc_probe.specs.Erase.{erase_expression}
 use Rattle.mc_probe.specs.Tree as p
 use Rattle.mc_probe.specs.WellFormed.{register_of}
-use Rattle.mc_inserted.specs.Rows.{Row, row, row_of_probe, extent, rows}
-use Rattle.mc_inserted.specs.Seats.{ArePlaced, is_placed, placed_rows, seat_of, seat_of_row}
+use Rattle.reread_law_rows.specs.inserted.Rows.{Row, row, row_of_probe, extent, rows}
+use Rattle.reread_law_rows.specs.inserted.Seats.{ArePlaced, is_placed, placed_rows, seat_of, seat_of_row}
 use Rattle.reread_put_back.specs.Pens.{Pen, go_on, is_below, is_same, noted}
 use Rattle.reread_put_back.specs.Rows as taken
 use Rattle.reread_put_back.specs.Back.{around, back, end_round, has_round, is_outer, is_round, is_there, leading, round, surrounded}

@@ -6,8 +6,8 @@ use Rattle.mc_probe.specs.Bare.{bare_expression}
 use Rattle.mc_probe.specs.Erase.{erase_place, erase_expression, erase_structure, erase_call, erase_effect, erase_initializer, erase_initializers, erase_declarator, erase_start}
 use Rattle.mc_probe.specs.Tree as p
 use Rattle.mc_probe.specs.WellFormed.{FitsEffect, FitEffects, FitsInitializer, FitInitializers, FitsInitial, FitDeclarators, FitsStart, FitsTest}
-use Rattle.mc_inserted.specs.Rows.{Row, rows, rows_in_structure, rows_in_effect, rows_in_effects, rows_in_initializer, rows_in_initializers, rows_in_initial, rows_in_declarators, rows_in_start, rows_in_optional}
-use Rattle.mc_inserted.specs.Seats.{ArePlaced}
+use Rattle.reread_law_rows.specs.inserted.Rows.{Row, rows, rows_in_structure, rows_in_effect, rows_in_effects, rows_in_initializer, rows_in_initializers, rows_in_initial, rows_in_declarators, rows_in_start, rows_in_optional}
+use Rattle.reread_law_rows.specs.inserted.Seats.{ArePlaced}
 use Rattle.reread_put_back.specs.Pens.{Pen, each, gives}
 use Rattle.reread_put_back.specs.Back.{Head, back, back_place, back_structure, back_call, back_effect, back_initializer, back_initializers, back_initial, back_declarator, back_start, back_test, back_head}
 use Rattle.reread_law_texts.specs.apart.Distinct.{IsDistinct}

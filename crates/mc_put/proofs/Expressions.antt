@@ -6,8 +6,8 @@ use Rattle.reread_pieces.specs.declared.piece.What.TheVariants as what
 use Rattle.mc_probe.specs.Erase.{erase_place, erase_expression, erase_structure, erase_call, erase_argument, erase_arguments}
 use Rattle.mc_probe.specs.Tree as p
 use Rattle.mc_probe.specs.WellFormed.{FitsPlace, Fits, FitsStructure, FitsCall, FitsArgument, FitArguments}
-use Rattle.mc_inserted.specs.Rows.{Row, row, extent, rows, rows_in_place, rows_in_structure, rows_in_call, rows_in_argument, rows_in_arguments}
-use Rattle.mc_inserted.specs.Seats.{ArePlaced}
+use Rattle.reread_law_rows.specs.inserted.Rows.{Row, row, extent, rows, rows_in_place, rows_in_structure, rows_in_call, rows_in_argument, rows_in_arguments}
+use Rattle.reread_law_rows.specs.inserted.Seats.{ArePlaced}
 use Rattle.reread_put_back.specs.Pens.{Pen, Walk, gives, ◌>>=◌}
 use Rattle.reread_put_back.specs.Back.{back, back_place, back_structure, back_call, back_argument, back_arguments}
 use Rattle.reread_put_back.specs.steps.Inside.{inside}

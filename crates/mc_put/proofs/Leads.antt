@@ -6,8 +6,8 @@ use Rattle.mc_typed.specs.declared.probes.Mark.{Mark}
 use Rattle.mc_typed.specs.declared.probes.Probe as code
 use Rattle.mc_typed.specs.declared.probes.Probe.TheVariants as probe
 use Rattle.mc_probe.specs.Tree as p
-use Rattle.mc_inserted.specs.Rows.{Row, Rows, row, counted, counted_declaration, label, row_of_probe, extent, rows, rows_in_place, rows_in_structure, rows_in_call, rows_in_argument, rows_in_arguments, rows_in_effect, rows_in_effects, rows_in_initializer, rows_in_initializers, rows_in_initial, rows_in_declarators, rows_in_start, rows_in_optional, rows_in_statement, rows_in_statements}
-use Rattle.mc_inserted.specs.Seats.{placed_rows}
+use Rattle.reread_law_rows.specs.inserted.Rows.{Row, Rows, row, counted, counted_declaration, label, row_of_probe, extent, rows, rows_in_place, rows_in_structure, rows_in_call, rows_in_argument, rows_in_arguments, rows_in_effect, rows_in_effects, rows_in_initializer, rows_in_initializers, rows_in_initial, rows_in_declarators, rows_in_start, rows_in_optional, rows_in_statement, rows_in_statements}
+use Rattle.reread_law_rows.specs.inserted.Seats.{placed_rows}
 use Rattle.reread_put_back.specs.Back.{is_round}
 use Rattle.mc_probe.specs.Bare.{bare_place, bare_expression, bare_structure, bare_call, bare_argument, bare_arguments}
 use Rattle.mc_probe.specs.Erase.{erase_expression}

@@ -9,8 +9,8 @@ use Rattle.reread_pieces.specs.declared.placed.Placed.{Placed}
 use Rattle.mc_probe.specs.Erase.{erase_function, erase_statements}
 use Rattle.mc_probe.specs.Tree as p
 use Rattle.mc_probe.specs.WellFormed.{FitStatements, FitFunctions}
-use Rattle.mc_inserted.specs.Rows.{Row, of_function, entry_row, exit_row, rows_in_statements, rows_in_function, rows_in_functions}
-use Rattle.mc_inserted.specs.Seats.{ArePlaced}
+use Rattle.reread_law_rows.specs.inserted.Rows.{Row, of_function, entry_row, exit_row, rows_in_statements, rows_in_function, rows_in_functions}
+use Rattle.reread_law_rows.specs.inserted.Seats.{ArePlaced}
 use Rattle.reread_put_back.specs.Pens.{Pen, Walk, begun, each, gives, is_same, next_at, put, put_found, ◌>>=◌}
 use Rattle.reread_put_back.specs.Rows.{end_of, entry_bit, exit_bit, register_count}
 use Rattle.reread_put_back.specs.Back.{back_function, back_statements, first_fault, unless}

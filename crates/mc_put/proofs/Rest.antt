@@ -2,7 +2,7 @@
 use Rattle.std.proofs.Common.{List, [], ◌∷◌, true, false, Option, Some, None}
 use Rattle.mc_span.specs.declared.span.Span.{Span}
 use Rattle.mc_probe.specs.Tree as p
-use Rattle.mc_inserted.specs.Rows.{extent}
+use Rattle.reread_law_rows.specs.inserted.Rows.{extent}
 use Rattle.reread_law_texts.specs.apart.Distinct.{IsDistinct}
 use Rattle.mc_put.specs.Places.{in_place, parts, places, in_structure, in_call, in_argument, in_arguments, in_effect, in_effects, in_initializer, in_initializers, in_initial, in_declarators, in_start, in_optional, in_value, in_statement, in_statements}
 

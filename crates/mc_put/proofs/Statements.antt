@@ -9,8 +9,8 @@ use Rattle.mc_steps.specs.Points.{has_default, initializes}
 use Rattle.mc_probe.specs.Erase.{erase_expression, erase_structure, erase_effect, erase_declarator, erase_start, erase_return, erase_statement, erase_statements}
 use Rattle.mc_probe.specs.Tree as p
 use Rattle.mc_probe.specs.WellFormed.{FitsReturn, FitsMark, FitsAbsent, FitsStatement, FitStatements}
-use Rattle.mc_inserted.specs.Rows.{Row, row, rows, rows_in_structure, rows_in_effect, rows_in_effects, rows_in_declarators, rows_in_start, rows_in_optional, rows_in_statement, rows_in_statements, counted_declaration, label, absent_default, with_exit}
-use Rattle.mc_inserted.specs.Seats.{ArePlaced}
+use Rattle.reread_law_rows.specs.inserted.Rows.{Row, row, rows, rows_in_structure, rows_in_effect, rows_in_effects, rows_in_declarators, rows_in_start, rows_in_optional, rows_in_statement, rows_in_statements, counted_declaration, label, absent_default, with_exit}
+use Rattle.reread_law_rows.specs.inserted.Seats.{ArePlaced}
 use Rattle.reread_put_back.specs.Pens.{Pen, each, is_below, put}
 use Rattle.reread_put_back.specs.Rows.{declaration_bit, default_mark, end_of, label_mark, return_bit, statement_bit}
 use Rattle.reread_put_back.specs.Back.{Head, back, back_structure, back_effect, back_declarator, back_declared, back_absent, back_head, back_return, back_statement, back_statements}

@@ -22,7 +22,7 @@ use Rattle.mc_probe.specs.Table.{Stand, Loose, InTree, role_of, operand, under, 
 use Rattle.mc_probe.specs.Table as table
 use Rattle.mc_probe.proofs.Backs.{expression_back}
 use Rattle.laws_simulation.proofs.Erased.{declarators_away, statements_away}
-use Rattle.mc_inserted.specs.Rows.{extent, row_of_probe}
+use Rattle.reread_law_rows.specs.inserted.Rows.{extent, row_of_probe}
 use Rattle.reread_put_back.specs.Back.{has_round, is_round}
 use Rattle.mc_put.specs.Conversions.{IsWritten, IsFlagged, AreFlagged, ConvertsPlace, Converts, ConvertsStructure, ConvertsCall, ConvertsArgument, ConvertsArguments, ConvertsEffect, ConvertsEffects, ConvertsInitializer, ConvertsInitializers, ConvertsInitial, ConvertsDeclarators, ConvertsStart, ConvertsOptional, ConvertsValue, ConvertsStatement, ConvertsStatements, ConvertsFunctions}
 use Rattle.mc_put.specs.Takes.{IsSetWhere, IsSetUnless, IsInside, TakesPlace, Takes, TakesStructure, TakesCall, TakesArgument, TakesArguments, TakesEffect, TakesEffects, TakesInitializer, TakesInitializers, TakesInitial, TakesDeclarators, TakesStart, TakesTest, TakesValue, TakesStatement, TakesStatements, TakesFunctions}

@@ -5,8 +5,8 @@ use Rattle.mc_span.specs.declared.span.Span.{Span}
 use Rattle.reread_pieces.specs.declared.piece.What.{What}
 use Rattle.reread_pieces.specs.declared.piece.What.TheVariants as what
 use Rattle.reread_pieces.specs.declared.placed.Placed.{Placed}
-use Rattle.mc_inserted.specs.Rows.{Row, row}
-use Rattle.mc_inserted.specs.Seats.{Seat, ArePlaced, is_placed, placed_rows, seat_of, seat_of_row}
+use Rattle.reread_law_rows.specs.inserted.Rows.{Row, row}
+use Rattle.reread_law_rows.specs.inserted.Seats.{Seat, ArePlaced, is_placed, placed_rows, seat_of, seat_of_row}
 use Rattle.reread_put_back.specs.Pens.{Pen, Walk, gives, is_below, is_same, next_at, noted, put, put_found, ◌>>=◌}
 use Rattle.reread_put_back.specs.Rows.{end_of, register_of}
 

@@ -2,7 +2,7 @@
 use Rattle.std.specs.Prelude.{ℕ, ◌<◌, ◌≤◌, List, [], ◌∷◌, Option, Some, None}
 use Rattle.mc_typed.specs.declared.probes.Mark.{Mark}
 use Rattle.mc_probe.specs.Tree as p
-use Rattle.mc_inserted.specs.Rows.{row_of_probe}
+use Rattle.reread_law_rows.specs.inserted.Rows.{row_of_probe}
 use Rattle.reread_put_back.specs.Back.{end_round}
 
 module _ (limit : ℕ) where

@@ -9,8 +9,8 @@ use Rattle.mc_probe.specs.Maps.{Map, IsMap}
 use Rattle.mc_probe.specs.Table.{instrumented}
 use Rattle.mc_probe.specs.Tree as p
 use Rattle.mc_probe.specs.WellFormed.{FitFunctions}
-use Rattle.mc_inserted.specs.Rows.{rows_of}
-use Rattle.mc_inserted.specs.Seats.{ArePlaced}
+use Rattle.reread_law_rows.specs.inserted.Rows.{rows_of}
+use Rattle.reread_law_rows.specs.inserted.Seats.{ArePlaced}
 use Rattle.reread_put_back.specs.Back.{put_back}
 use Rattle.reread_law_texts.specs.apart.Distinct.{IsDistinct}
 use Rattle.mc_put.specs.Places.{places_of}

@@ -5,7 +5,7 @@
 use Rattle.std.specs.Prelude.{true, false, List, [], ◌∷◌, Option, Some, None}
 use Rattle.mc_span.specs.declared.span.Span.{Span}
 use Rattle.mc_probe.specs.Tree as p
-use Rattle.mc_inserted.specs.Rows.{extent}
+use Rattle.reread_law_rows.specs.inserted.Rows.{extent}
 
 -- the places in a part of a tree, before those of what follows
 abbrev pub Places : Type 0

@@ -8,7 +8,7 @@ use Rattle.mc_steps.specs.Points.{has_default, initializes}
 use Rattle.mc_probe.specs.Bare.{bare_expression}
 use Rattle.mc_probe.specs.Erase.{erase_declarator, erase_expression, erase_statements}
 use Rattle.mc_probe.specs.Tree as p
-use Rattle.mc_inserted.specs.Rows.{extent, row_of_probe}
+use Rattle.reread_law_rows.specs.inserted.Rows.{extent, row_of_probe}
 use Rattle.reread_put_back.specs.Back.{has_round, is_outer}
 
 abbrev pub IsSet : {A : Type 0} → Option A → Type 0

@@ -15,7 +15,7 @@ use Rattle.reread_law_texts.specs.alike.Moves.{Move, moved_span}
 use Rattle.reread_law_places.specs.natural.Moved.{moved_number, moved_effect, moved_effects, moved_objects, moved_for_start, moved_return_value, moved_typed_statement, moved_typed_statements}
 use Rattle.reread_law_places.proofs.Still.Points.{default_same, initializes_same, points_same, switches_same}
 use Rattle.reread_law_places.proofs.Still.Put.{SameNumbers}
-use Rattle.mc_inserted.specs.Rows.{Rows, row, rows, rows_in_effect, rows_in_effects, rows_in_declarators, rows_in_start, rows_in_optional, counted, counted_declaration, absent_default, rows_in_return, rows_in_statement, rows_in_statements}
+use Rattle.reread_law_rows.specs.inserted.Rows.{Rows, row, rows, rows_in_effect, rows_in_effects, rows_in_declarators, rows_in_start, rows_in_optional, counted, counted_declaration, absent_default, rows_in_return, rows_in_statement, rows_in_statements}
 use Rattle.mc_shifted.proofs.Counting.{test_same, plain_same, start_same, optional_same, effects_same, statement_same}
 use Rattle.mc_shifted.proofs.Values.{Carries, after, from, probe_goes, number_goes, structure_carries, effect_carries, effects_carry, declarators_carry, start_carries, optional_carries}
 

@@ -11,7 +11,7 @@ use Rattle.mc_probe.specs.Maps.{Map}
 use Rattle.mc_probe.specs.Table.{Loose, put_place, put, put_effect, put_effects, put_start, put_optional, At, decided, past, within, in_switch, mark_unless_default, put_statement, put_statements}
 use Rattle.mc_probe.specs.Tree as p
 use Rattle.reread_law_places.specs.natural.Settled.{settled_operand, settled_effect, settled_effects, settled_for_start, settled_statement, settled_statements}
-use Rattle.mc_inserted.specs.Rows.{Row, Rows, row, rows_in_place, rows, rows_in_effect, rows_in_effects, rows_in_start, rows_in_optional, absent_default, rows_in_statement, rows_in_statements}
+use Rattle.reread_law_rows.specs.inserted.Rows.{Row, Rows, row, rows_in_place, rows, rows_in_effect, rows_in_effects, rows_in_start, rows_in_optional, absent_default, rows_in_statement, rows_in_statements}
 use Rattle.mc_shifted.proofs.Counting.{effect_clear, effects_clear, start_clear, statement_clear, points_clear, switches_clear, default_clear}
 
 module _ (w : Map) (first : ℕ) where

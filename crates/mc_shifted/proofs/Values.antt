@@ -21,7 +21,7 @@ use Rattle.reread_law_texts.specs.alike.Moves.{Move, moved_span}
 use Rattle.reread_law_places.specs.natural.Moved.{moved_place, moved_number, moved_structure, moved_call, moved_argument, moved_arguments, moved_effect, moved_effects, moved_filling, moved_fillings, moved_objects, moved_for_start}
 use Rattle.reread_law_places.proofs.Still.Nodes.{moved_node, root_same, operator_same, full_same, number_node}
 use Rattle.reread_law_places.proofs.Still.Put.{SameNumbers}
-use Rattle.mc_inserted.specs.Rows.{Row, Rows, row, row_of_probe, extent, rows_in_place, rows, rows_in_structure, rows_in_call, rows_in_argument, rows_in_arguments, rows_in_effect, rows_in_effects, rows_in_initializer, rows_in_initializers, rows_in_initial, rows_in_declarators, rows_in_start, rows_in_optional}
+use Rattle.reread_law_rows.specs.inserted.Rows.{Row, Rows, row, row_of_probe, extent, rows_in_place, rows, rows_in_structure, rows_in_call, rows_in_argument, rows_in_arguments, rows_in_effect, rows_in_effects, rows_in_initializer, rows_in_initializers, rows_in_initial, rows_in_declarators, rows_in_start, rows_in_optional}
 use Rattle.mc_parts.specs.Moved.{moved_row}
 use Rattle.mc_shifted.proofs.Counting.{operand_same, inner_same, roots_of, plain_same, test_same, width_of, place_same, argument_same, effect_same, initializer_same, initial_same}
 

@@ -21,7 +21,7 @@ use Rattle.reread_law_places.proofs.Still.Points.{complete_same, all_points_same
 use Rattle.reread_law_places.proofs.Still.Put.{still, SameNumbers, functions_kept}
 use Rattle.reread_law_places.proofs.Still.Placeless.{functions_still}
 use Rattle.reread_law_places.proofs.Still.Maps as maps
-use Rattle.mc_inserted.specs.Rows.{rows_in_statements}
+use Rattle.reread_law_rows.specs.inserted.Rows.{rows_in_statements}
 use Rattle.mc_parts.specs.Stands.{IsFunctionAmong, AreAmong}
 use Rattle.mc_parts.specs.Moved.{moved_row, IsMoved, AreMoved}
 use Rattle.laws_types.specs.SourceUnits.{AreFunctionsOf, ProgramsHaveTheirSource}

@@ -12,7 +12,7 @@ use Rattle.mc_probe.specs.Erase.{erase_place, erase_call}
 use Rattle.mc_probe.specs.Maps.{Map}
 use Rattle.mc_probe.specs.Tree as p
 use Rattle.mc_probe.specs.Table.{Stand, Loose, InTree, operand, inner, base_of, increment_of, mapped, round_condition, round, wrap, put, put_place, put_call}
-use Rattle.mc_inserted.specs.Rows.{extent}
+use Rattle.reread_law_rows.specs.inserted.Rows.{extent}
 use Rattle.mc_put.specs.Places.{places, parts}
 use Rattle.mc_stood.proofs.Counted.{Within}
 

@@ -1,0 +1,4 @@
+mod Fitting
+pub mod Signed
+mod Taken
+mod Carried
