@@ -27,9 +27,9 @@ use Rattle.reread_law_rows.specs.fitting.Laws.{ScannedTokensMeanTheirKinds, Text
 use Rattle.laws_types.specs.SourceUnits.{IsFunctionOf, AreFunctionsOf, ProgramsHaveTheirSource}
 use Rattle.laws_types.specs.SourceUnits as of
 use Rattle.reread_law_rows.specs.carried.Laws.{RowsFit}
-use Rattle.mc_parts.specs.Parts.{body_rows}
-use Rattle.mc_parts.specs.Stands.{past, AreInOrder, IsFunctionAmong, AreAmong}
-use Rattle.mc_ordered.specs.Laws.{RowsAreInOrder, BlocksAreNested}
+use Rattle.reread_law_printed.specs.parts.Parts.{body_rows}
+use Rattle.reread_law_printed.specs.parts.Stands.{past, AreInOrder, IsFunctionAmong, AreAmong}
+use Rattle.reread_law_printed.specs.ordered.Laws.{RowsAreInOrder, BlocksAreNested}
 use Rattle.laws_reread.specs.Among.{SourcesStand, TextsStand}
 use Rattle.laws_reread.proofs.Tokens.{AreClear, are_clear, sign_text, is_sign}
 use Rattle.laws_reread.proofs.Leaving.{tk, same_tokens, assoc, join, followed, cleared, stars_leave, block_leaves, item_leaves, spelled}

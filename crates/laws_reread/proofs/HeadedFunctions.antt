@@ -28,9 +28,9 @@ use Rattle.reread_law_texts.specs.alike.Moves.{FollowFrom, end_of}
 use Rattle.reread_law_rows.specs.inserted.Fits.{is_bracket, IsBalanced}
 use Rattle.laws_types.specs.SourceUnits.{IsFunctionOf, AreFunctionsOf, ProgramsHaveTheirSource}
 use Rattle.laws_types.specs.SourceUnits as of
-use Rattle.mc_parts.specs.Stands.{is_brace, IsFunctionAmong, AreAmong}
-use Rattle.mc_parts.specs.Closed.{AreBalanced}
-use Rattle.mc_placed.specs.Heads.{is_apart, IsHead, HaveHeads}
+use Rattle.reread_law_printed.specs.parts.Stands.{is_brace, IsFunctionAmong, AreAmong}
+use Rattle.reread_law_printed.specs.parts.Closed.{AreBalanced}
+use Rattle.reread_law_printed.specs.placed.Heads.{is_apart, IsHead, HaveHeads}
 use Rattle.laws_reread.specs.Headed.{TextsAreBalanced, TextsHaveHeads}
 use Rattle.laws_reread.proofs.Signs.{AreClear, are_clear, sign_text, left_of, is_sign, no_semicolon, free_name}
 use Rattle.laws_reread.proofs.Profile.{head_inside, rest_inside, left_inside, right_inside, no_stars}

@@ -23,8 +23,8 @@ use Rattle.mc_grammar.proofs.Storage.{local_typedef}
 use Rattle.reread_pieces.specs.Words.{is}
 use Rattle.reread_law_rows.specs.inserted.Fits.{IsBalanced, first_is, last_is}
 use Rattle.reread_law_rows.specs.inserted.Fits as fit
-use Rattle.mc_parts.specs.Stands.{is_brace}
-use Rattle.mc_placed.specs.Heads.{has_body, is_apart}
+use Rattle.reread_law_printed.specs.parts.Stands.{is_brace}
+use Rattle.reread_law_printed.specs.placed.Heads.{has_body, is_apart}
 use Rattle.laws_reread.proofs.Signs.{AreClear, brackets, no_bracket, is_sign, sign_text, are_pair, neither}
 use Rattle.laws_reread.proofs.Stretch.{Stretch, empty, free, join, no_braces, no_body}
 use Rattle.laws_reread.proofs.Said.{tk, assoc, inside, splits, AreWords, append_balanced, balanced, braceless, first_or_later, holds_none}

@@ -25,10 +25,10 @@ use Rattle.laws_simulation.specs.Laws.{InstrumentedErases}
 use Rattle.mc_print.specs.Pens.{spaced}
 use Rattle.mc_print.specs.Texts.{text_of}
 use Rattle.reread_law_rows.specs.fitting.Laws.{MeanTheirKinds, ScannedTokensMeanTheirKinds}
-use Rattle.mc_parts.specs.Parts.{parts_of}
-use Rattle.mc_parts.specs.Marks.{marks, own_tokens}
-use Rattle.mc_parts.specs.Laws.{Stands, OwnTokensAreAlike, PartsMove}
-use Rattle.mc_shifted.specs.Laws.{RowsAreMoved}
+use Rattle.reread_law_printed.specs.parts.Parts.{parts_of}
+use Rattle.reread_law_printed.specs.parts.Marks.{marks, own_tokens}
+use Rattle.reread_law_printed.specs.parts.Laws.{Stands, OwnTokensAreAlike, PartsMove}
+use Rattle.reread_law_printed.specs.shifted.Laws.{RowsAreMoved}
 use Rattle.laws_reread.specs.Among.{TextsStand, SourcesStand}
 use Rattle.laws_reread.specs.Laws.{OwnTokensFollow, OwnTokensEnd, IsAsPrinted}
 

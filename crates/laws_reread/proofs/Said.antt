@@ -10,8 +10,8 @@ use Rattle.mc_grammar.specs.Spelling as spelling
 use Rattle.reread_pieces.specs.Words.{is}
 use Rattle.reread_law_rows.specs.inserted.Fits.{is_bracket, IsBalanced, first_is}
 use Rattle.reread_law_rows.specs.inserted.Fits as fit
-use Rattle.mc_parts.specs.Stands.{is_brace}
-use Rattle.mc_placed.specs.Heads.{has_body, is_apart}
+use Rattle.reread_law_printed.specs.parts.Stands.{is_brace}
+use Rattle.reread_law_printed.specs.placed.Heads.{has_body, is_apart}
 use Rattle.laws_reread.proofs.Signs.{Clear, AreClear, brackets, signs, belong, no_bracket, no_sign, none_of, keyword_kind, identifier_no_sign, left_of, sign_text, are_pair, neither}
 use Rattle.laws_reread.proofs.Stretch.{IsFree, begins_brace, Stretch, empty, free, round, square, curly, NoBrace, NoBraces, is_close, holds_body}
 

@@ -19,8 +19,8 @@ use Rattle.reread_law_rows.specs.inserted.Rows.{Row, Rows, counted_declaration, 
 use Rattle.laws_types.specs.SourceUnits.{IsInitializerOf, AreInitializersOf, AreObjectsOf, AreDeclaredBy, AreClausesOf, ArePartOf, IsStartOf, IsTestOf, AreStatementsOf, AreItemsOf, joined, span_of_declaration}
 use Rattle.laws_types.specs.SourceUnits as of
 use Rattle.reread_law_rows.proofs.Signed.Bodies.{bare_rows}
-use Rattle.mc_placed.specs.Separate.{AreSeparateAfter}
-use Rattle.mc_ordered.specs.Nested.{HoldsAll, InOptional, InInitializer, InInitializers, InObjects, InDeclaration, InStart, NestedStatement, InBlock}
+use Rattle.reread_law_printed.specs.placed.Separate.{AreSeparateAfter}
+use Rattle.reread_law_printed.specs.ordered.Nested.{HoldsAll, InOptional, InInitializer, InInitializers, InObjects, InDeclaration, InStart, NestedStatement, InBlock}
 use Rattle.laws_reread.proofs.Ready.{le, same, put, is_later, Goes, nothing, followed, wider, braced, braced_switch, labelled, returned, valued}
 use Rattle.laws_reread.proofs.Around.{silent, next, wide, forward, initializer_forward, objects_forward}
 use Rattle.laws_reread.proofs.Values.{number, operand, structure, effect}

@@ -25,8 +25,8 @@ use Rattle.mc_grammar.proofs.Spelling.{specifiers_spell, parameters_spell}
 use Rattle.mc_grammar.specs.Spelling as spelling
 use Rattle.laws_types.specs.SourceUnits.{IsFunctionOf, AreFunctionsOf, ProgramsHaveTheirSource}
 use Rattle.laws_types.specs.SourceUnits as of
-use Rattle.mc_placed.specs.Separate.{AreSeparateAfter}
-use Rattle.mc_ordered.specs.Laws.{BlocksAreNested}
+use Rattle.reread_law_printed.specs.placed.Separate.{AreSeparateAfter}
+use Rattle.reread_law_printed.specs.ordered.Laws.{BlocksAreNested}
 use Rattle.laws_reread.specs.Separate.{RowsAreSeparate}
 use Rattle.laws_reread.proofs.Ready.{le, same, Ready, ready_later, may_be_last, front, left, Goes, followed, wider}
 use Rattle.laws_reread.proofs.Labels.{left_inside, right_inside, labels_in_function}

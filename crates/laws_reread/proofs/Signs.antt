@@ -19,7 +19,7 @@ use Rattle.mc_grammar.specs.Words.{Lexeme, is_punctuator_kind, is_keyword_kind, 
 use Rattle.reread_pieces.specs.Words.{is}
 use Rattle.reread_law_rows.specs.inserted.Fits.{is_bracket, is_pair}
 use Rattle.reread_law_rows.specs.fitting.Laws.{MeanTheirKinds}
-use Rattle.mc_placed.specs.Heads.{is_apart}
+use Rattle.reread_law_printed.specs.placed.Heads.{is_apart}
 
 -- ---- signs are punctuators
 

@@ -26,7 +26,7 @@ use Rattle.mc_subset.specs.Forms.{form_of, place_of, outside_at, first_outside}
 use Rattle.mc_grammar.specs.Words.{Lexeme, is_identifier_kind}
 use Rattle.mc_grammar.specs.Spelling.{Spelled, IsSpelled, Spells, Punctuator, Keyword, Identifier, TypedefName, Tag, Constant, Character, Typedef, text_of_unary, text_of_step, text_of_binary, text_of_assignment, spell, spell_expressions, spell_type_name, spell_specifier, spell_specifiers, spell_stars, spell_name, spell_lengths, spell_parameters, spell_parameter, spell_parameter_list}
 use Rattle.mc_grammar.specs.Spelling as spelling
-use Rattle.mc_parts.specs.Stands.{is_brace}
+use Rattle.reread_law_printed.specs.parts.Stands.{is_brace}
 use Rattle.laws_reread.proofs.Tokens.{Clear, AreClear, keyword_kind, identifier_no_sign, left_of, sign_text}
 use Rattle.laws_reread.proofs.Leaving.{tk, retag_tokens}
 

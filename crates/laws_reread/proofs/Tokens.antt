@@ -17,7 +17,7 @@ use Rattle.mc_lex.proofs.Texts.{passes}
 use Rattle.mc_lex.proofs.Candidates.{Stands, stood, one_class}
 use Rattle.mc_grammar.specs.Words.{Lexeme, is_punctuator_kind, is_keyword_kind, is_identifier_kind, is_punctuator, is_keyword}
 use Rattle.reread_pieces.specs.Words.{is}
-use Rattle.mc_parts.specs.Stands.{is_brace}
+use Rattle.reread_law_printed.specs.parts.Stands.{is_brace}
 use Rattle.reread_law_rows.specs.fitting.Laws.{MeanTheirKinds}
 
 -- ---- a `{` is a punctuator

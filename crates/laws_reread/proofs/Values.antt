@@ -23,8 +23,8 @@ use Rattle.laws_types.specs.Source as of
 use Rattle.reread_law_rows.proofs.Signed.Split.{probed_by}
 use Rattle.reread_law_rows.proofs.Signed.Wrapped.{put_extent, converted_rows}
 use Rattle.reread_law_rows.proofs.Signed.Values.{one_silent}
-use Rattle.mc_placed.specs.Separate.{AreSeparateAfter}
-use Rattle.mc_ordered.specs.Nested.{Nested, HoldsAll}
+use Rattle.reread_law_printed.specs.placed.Separate.{AreSeparateAfter}
+use Rattle.reread_law_printed.specs.ordered.Nested.{Nested, HoldsAll}
 use Rattle.laws_reread.proofs.Ready.{le, same, Goes}
 use Rattle.laws_reread.proofs.Around.{silent, next, wide, node, wrapped, forward}
 

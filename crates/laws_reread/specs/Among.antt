@@ -14,7 +14,7 @@ use Rattle.mc_probe.specs.Maps.{Map}
 use Rattle.mc_probe.specs.Table.{instrumented}
 use Rattle.reread_law_texts.specs.alike.Moves.{FollowFrom}
 use Rattle.reread_law_rows.specs.fitting.Laws.{MeanTheirKinds}
-use Rattle.mc_parts.specs.Laws.{Stands}
+use Rattle.reread_law_printed.specs.parts.Laws.{Stands}
 
 -- of the tokens of a text of the profile, at any places where they follow each other
 abbrev pub TextsStand : Type 0

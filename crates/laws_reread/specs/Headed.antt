@@ -14,10 +14,10 @@ use Rattle.mc_probe.specs.Maps.{Map}
 use Rattle.mc_probe.specs.Table.{instrumented}
 use Rattle.reread_law_texts.specs.alike.Moves.{AreAlike}
 use Rattle.reread_law_rows.specs.fitting.Laws.{MeanTheirKinds}
-use Rattle.mc_parts.specs.Closed.{AreBalanced}
-use Rattle.mc_parts.specs.Laws.{HasNumerals, Stands}
-use Rattle.mc_placed.specs.Heads.{HaveHeads}
-use Rattle.mc_placed.specs.Laws.{KindsStay}
+use Rattle.reread_law_printed.specs.parts.Closed.{AreBalanced}
+use Rattle.reread_law_printed.specs.parts.Laws.{HasNumerals, Stands}
+use Rattle.reread_law_printed.specs.placed.Heads.{HaveHeads}
+use Rattle.reread_law_printed.specs.placed.Laws.{KindsStay}
 
 -- ---- words
 

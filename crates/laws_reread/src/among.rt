@@ -2,7 +2,7 @@
 ghost use Rattle.laws_reread.specs.Among.{SourcesStand, TextsStand};
 
 use laws_types::programs_have_their_source;
-use mc_ordered::laws::{blocks_are_nested, rows_are_in_order};
+use reread_law_printed::laws::ordered::{blocks_are_nested, rows_are_in_order};
 use reread_law_rows::laws::carried::rows_fit;
 use reread_law_rows::laws::fitting::{scanned_tokens_mean_their_kinds, texts_fit};
 use reread_law_texts::laws::alike::tokens_follow;

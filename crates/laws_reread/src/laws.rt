@@ -19,20 +19,20 @@ use laws_soundness::laws::units_are_sound;
 use mc_converted::laws::implied_conversions_stand;
 use mc_counted::laws::instrumented_units_are_counted;
 use mc_grammar::laws::tree_is_no_longer_than_text;
-use mc_parts::laws::{
+use mc_put::laws::tables_are_put_back;
+use mc_short::laws::instrumented_numbers_are_short;
+use mc_stood::laws::{programs_stand_apart, stands_are_apart};
+use reread_law_places::laws::natural::units_move;
+use reread_law_printed::laws::parts::{
     own_tokens_are_alike, parts_move, pieces_of_parts, plain_is_poured, probes_are_there,
     words_of_parts,
 };
-use mc_placed::laws::{
+use reread_law_printed::laws::placed::{
     functions_have_entries, parts_are_followed, parts_are_inside, parts_are_placed,
     parts_come_after, sources_have_own_words, values_are_typed,
 };
-use mc_put::laws::tables_are_put_back;
-use mc_shifted::laws::rows_are_moved;
-use mc_short::laws::instrumented_numbers_are_short;
-use mc_spelled::laws::printed_text_scans;
-use mc_stood::laws::{programs_stand_apart, stands_are_apart};
-use reread_law_places::laws::natural::units_move;
+use reread_law_printed::laws::shifted::rows_are_moved;
+use reread_law_printed::laws::spelled::printed_text_scans;
 use reread_law_rows::laws::fitting::scanned_tokens_mean_their_kinds;
 use reread_law_rows::laws::signed::{brackets_have_places, signs_are_those_of_the_tree};
 use reread_law_rows::laws::taken::{locals_are_apart, probes_are_taken};

@@ -21,7 +21,7 @@ use Rattle.mc_probe.specs.Table as table
 use Rattle.mc_probe.specs.Bare.{bare_place, bare_expression, bare_structure, bare_call, bare_argument, bare_arguments}
 use Rattle.laws_simulation.specs.Expressions.{Stands}
 use Rattle.laws_simulation.proofs.Decisions.{inner_is, role_same, stands_inside}
-use Rattle.mc_spelled.specs.Numbers.{IsShort, IsShortBit, IsShortMark, ShortPlace, Short, ShortStructure, ShortCall, ShortArgument, ShortArguments, ShortEffect, ShortEffects, ShortInitializer, ShortInitializers, ShortInitial, ShortDeclarators, ShortStart, ShortTest, ShortValue, ShortStatement, ShortStatements, ShortFunctions}
+use Rattle.reread_law_printed.specs.spelled.Numbers.{IsShort, IsShortBit, IsShortMark, ShortPlace, Short, ShortStructure, ShortCall, ShortArgument, ShortArguments, ShortEffect, ShortEffects, ShortInitializer, ShortInitializers, ShortInitial, ShortDeclarators, ShortStart, ShortTest, ShortValue, ShortStatement, ShortStatements, ShortFunctions}
 
 -- ---- copies without probes
 
