@@ -19,7 +19,7 @@ use Rattle.reread_law_texts.specs.brackets.Signs.{poured}
 use Rattle.mc_print.specs.Pens.{spaced}
 use Rattle.mc_print.specs.Texts.{text_of}
 use Rattle.reread_law_printed.specs.spelled.Laws.{PrintedTextScans}
-use Rattle.mc_short.specs.Laws.{InstrumentedNumbersAreShort}
+use Rattle.reread_law_probes.specs.short.Laws.{InstrumentedNumbersAreShort}
 use Rattle.reread_law_rows.specs.inserted.Rows.{rows_of}
 use Rattle.reread_law_rows.specs.inserted.Signs.{signs_of}
 use Rattle.reread_law_rows.specs.inserted.Seats.{probe_rows, AreThere}

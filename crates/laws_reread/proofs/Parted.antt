@@ -5,7 +5,7 @@ use Rattle.mc_lex.specs.Tokens.{Tok}
 use Rattle.mc_lex.specs.Scans.{Scans}
 use Rattle.mc_probe.specs.Tree.{Tree}
 use Rattle.mc_probe.specs.Table.{instrumented}
-use Rattle.mc_short.specs.Laws.{InstrumentedNumbersAreShort}
+use Rattle.reread_law_probes.specs.short.Laws.{InstrumentedNumbersAreShort}
 use Rattle.reread_law_rows.specs.fitting.Laws.{ScannedTokensMeanTheirKinds}
 use Rattle.reread_law_rows.specs.inserted.Rows.{rows_of}
 use Rattle.reread_law_printed.specs.parts.Closed.{AreBalanced}

@@ -37,10 +37,10 @@ use Rattle.reread_law_texts.specs.apart.Laws.{ExpressionsAreApart, BracketsStart
 use Rattle.reread_law_rows.specs.signed.Laws.{SignsAreThoseOfTheTree, BracketsAreFew, BracketsAreAfterTokens}
 use Rattle.reread_law_rows.specs.taken.Laws.{AreTaken, ProbesAreTaken, LocalsAreApart}
 use Rattle.reread_put_back.specs.Back.{put_back}
-use Rattle.mc_put.specs.Laws.{TablesArePutBack}
-use Rattle.mc_stood.specs.Laws.{StandsAreApart, ProgramsStandApart}
-use Rattle.mc_counted.specs.Laws.{InstrumentedUnitsAreCounted}
-use Rattle.mc_converted.specs.Laws.{ImpliedConversionsStand}
+use Rattle.reread_law_probes.specs.put.Laws.{TablesArePutBack}
+use Rattle.reread_law_probes.specs.stood.Laws.{StandsAreApart, ProgramsStandApart}
+use Rattle.reread_law_probes.specs.counted.Laws.{InstrumentedUnitsAreCounted}
+use Rattle.reread_law_probes.specs.converted.Laws.{ImpliedConversionsStand}
 use Rattle.reread_program.specs.Reading.{ReadsUnit}
 use Rattle.laws_reread.specs.Laws.{PiecesAreRead}
 

@@ -16,12 +16,7 @@ use crate::headed::{
 use crate::separate::rows_are_separate;
 use laws_simulation::instrumented_programs_erase;
 use laws_soundness::laws::units_are_sound;
-use mc_converted::laws::implied_conversions_stand;
-use mc_counted::laws::instrumented_units_are_counted;
 use mc_grammar::laws::tree_is_no_longer_than_text;
-use mc_put::laws::tables_are_put_back;
-use mc_short::laws::instrumented_numbers_are_short;
-use mc_stood::laws::{programs_stand_apart, stands_are_apart};
 use reread_law_places::laws::natural::units_move;
 use reread_law_printed::laws::parts::{
     own_tokens_are_alike, parts_move, pieces_of_parts, plain_is_poured, probes_are_there,
@@ -33,6 +28,11 @@ use reread_law_printed::laws::placed::{
 };
 use reread_law_printed::laws::shifted::rows_are_moved;
 use reread_law_printed::laws::spelled::printed_text_scans;
+use reread_law_probes::laws::converted::implied_conversions_stand;
+use reread_law_probes::laws::counted::instrumented_units_are_counted;
+use reread_law_probes::laws::put::tables_are_put_back;
+use reread_law_probes::laws::short::instrumented_numbers_are_short;
+use reread_law_probes::laws::stood::{programs_stand_apart, stands_are_apart};
 use reread_law_rows::laws::fitting::scanned_tokens_mean_their_kinds;
 use reread_law_rows::laws::signed::{brackets_have_places, signs_are_those_of_the_tree};
 use reread_law_rows::laws::taken::{locals_are_apart, probes_are_taken};
