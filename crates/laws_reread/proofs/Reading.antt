@@ -18,11 +18,11 @@ use Rattle.mc_grammar.proofs.Spelling.{spells, specifiers_spell, declarator_spel
 use Rattle.mc_grammar.proofs.Storage.{local_typedef}
 use Rattle.reread_law_texts.proofs.Weave.Next.{of_sign}
 use Rattle.reread_law_texts.specs.alike.Moves.{FollowFrom, end_of}
-use Rattle.reread_law_texts.proofs.Apart.Ascending.{tk}
 use Rattle.reread_law_texts.proofs.Apart.ApartExpressions.{apart}
 use Rattle.reread_law_printed.specs.placed.Separate.{HasTwoBefore}
 use Rattle.laws_reread.proofs.Ready.{le, less, same}
 use Rattle.laws_reread.proofs.Laid.{FirstFrom, FirstOf, IsFar, AreFar, IsFarIn, IsLaid, AreLaid}
+use Rattle.reread_law_texts.proofs.Tokens.{tk}
 
 -- ---- bytes
 

@@ -19,7 +19,6 @@ use Rattle.mc_probe.specs.Table.{put_function, put_functions}
 use Rattle.reread_pieces.specs.declared.piece.What.{What}
 use Rattle.reread_pieces.specs.declared.piece.What.TheVariants as what
 use Rattle.reread_law_texts.specs.alike.Moves.{FollowFrom, end_of}
-use Rattle.reread_law_texts.proofs.Apart.Ascending.{tk}
 use Rattle.reread_law_rows.specs.inserted.Rows.{Rows, exit_row, rows_in_function, rows_in_functions}
 use Rattle.mc_grammar.proofs.Spelling.{specifiers_spell, parameters_spell}
 use Rattle.mc_grammar.specs.Spelling as spelling
@@ -32,6 +31,7 @@ use Rattle.laws_reread.proofs.Ready.{le, same, Ready, ready_later, may_be_last, 
 use Rattle.laws_reread.proofs.Labels.{left_inside, right_inside, labels_in_function}
 use Rattle.laws_reread.proofs.Reading.{grows, spelled, item_leaves, Here, step, Later, passed, stars_leave, block_leaves, block_laid}
 use Rattle.laws_reread.proofs.SeparateBodies.{block_forward, items}
+use Rattle.reread_law_texts.proofs.Tokens.{tk}
 
 -- ---- rows of a function that are there or not
 

@@ -1,3 +1,4 @@
+pub mod Tokens
 mod Alike
 pub mod Weave
 mod Bracketed

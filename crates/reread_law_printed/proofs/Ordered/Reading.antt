@@ -17,11 +17,11 @@ use Rattle.mc_grammar.specs.Expressions as r
 use Rattle.mc_grammar.specs.Statements.{ReadsOptional, ReadsTest, ReadsInitializer, ReadsInitializers, ReadsInitDeclarator, ReadsInitDeclarators, ReadsDeclaration, ReadsForStart, ReadsStatement, ReadsCompound, ReadsBlockItems, after}
 use Rattle.mc_grammar.specs.Statements as g
 use Rattle.reread_law_texts.specs.alike.Moves.{FollowFrom, end_of}
-use Rattle.reread_law_texts.proofs.Apart.Ascending.{tk}
 use Rattle.reread_law_texts.proofs.Apart.ApartExpressions.{apart_type_name, apart_specifiers, apart_declarator}
 use Rattle.reread_law_printed.specs.ordered.Laws.{BlocksAreNested}
 use Rattle.reread_law_printed.specs.ordered.Nested.{Nested, HoldsAll, InOptional, InInitializer, InInitializers, InObjects, InDeclaration, InStart, NestedStatement, InStatement, InBlock}
 use Rattle.reread_law_printed.proofs.Ordered.Going.{le, same, forward}
+use Rattle.reread_law_texts.proofs.Tokens.{tk}
 
 -- ---- bytes
 

@@ -12,10 +12,11 @@ use Rattle.mc_grammar.specs.Nonterminal as n
 use Rattle.mc_grammar.specs.Expressions.{Reads, ReadsExpressions}
 use Rattle.mc_grammar.specs.Expressions as r
 use Rattle.reread_law_texts.specs.alike.Moves.{FollowFrom, end_of}
-use Rattle.reread_law_texts.proofs.Apart.Ascending.{tk, Part, nothing, token, join, passed_goes, own}
+use Rattle.reread_law_texts.proofs.Apart.Ascending.{Part, nothing, token, join, passed_goes, own}
 use Rattle.reread_law_texts.proofs.Apart.ApartExpressions.{apart_type_name}
 use Rattle.reread_law_probes.specs.stood.Stands.{stands_in_expressions}
 use Rattle.reread_law_probes.proofs.Stood.Ascents.{Node, as_part, begun, past, grown, after, before}
+use Rattle.reread_law_texts.proofs.Tokens.{tk}
 
 -- The rest of a repetition goes on from an expression that stands there.
 abbrev Stood : Nonterminal → List Lexeme → Expression → List Lexeme → Type 0

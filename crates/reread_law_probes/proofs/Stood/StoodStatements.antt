@@ -12,11 +12,12 @@ use Rattle.mc_grammar.specs.Statements as g
 use Rattle.mc_grammar.specs.Items.{ReadsItem, ReadsUnit, IsTree}
 use Rattle.mc_grammar.specs.Items as i
 use Rattle.reread_law_texts.specs.alike.Moves.{FollowFrom}
-use Rattle.reread_law_texts.proofs.Apart.Ascending.{tk, Goes, From, nothing, some, chain, one, passed_goes}
+use Rattle.reread_law_texts.proofs.Apart.Ascending.{Goes, From, nothing, some, chain, one, passed_goes}
 use Rattle.reread_law_texts.proofs.Apart.ApartExpressions.{stars_apart, apart_specifiers, apart_declarator, apart_parameters}
 use Rattle.reread_law_probes.specs.stood.Stands.{stands, stands_in_initializer, stands_in_initializers, stands_in_init_declarator, stands_in_init_declarators, stands_in_declaration, stands_in_optional, stands_in_start, stands_in_statement, stands_in_block, stands_in_item, stands_in_unit}
 use Rattle.reread_law_probes.proofs.Stood.Ascents.{as_part}
 use Rattle.reread_law_probes.proofs.Stood.StoodExpressions.{stood}
+use Rattle.reread_law_texts.proofs.Tokens.{tk}
 
 same_tokens : (tokens : List Tok) → tk (lexemes_of tokens) ≡ tokens
 same_tokens [] = refl

@@ -1,18 +1,18 @@
 -- The tokens that are left are the last of those that were given. What is marked as a typedef name
 -- stays the token that it is.
-use Rattle.std.proofs.Common.{◌≡◌, ℕ, Bool, true, false, ◌&&◌, List, [], ◌∷◌, Option, if◌then◌else◌, refl, sym, ap, subst, ◌∙◌}
-use Rattle.std.specs.Str.{bytes_eq}
+use Rattle.std.proofs.Common.{ℕ, Bool, List, Option, sym, ap, subst, ◌∙◌}
 use Rattle.mc_lex.specs.declared.token.Dialect.{Dialect}
 use Rattle.mc_lex.specs.Tokens.{Tok}
 use Rattle.mc_span.specs.declared.span.Span.{Span}
-use Rattle.mc_tree.specs.Tree.{Expression, Specifiers, Declarator, InitDeclarator, Declaration, ForStart, Statement, BlockItems, Item, name_of}
-use Rattle.mc_grammar.specs.Words.{Lexeme, is_identifier_kind, retag}
-use Rattle.mc_grammar.specs.Statements.{ReadsOptional, ReadsTest, ReadsInitDeclarator, ReadsInitDeclarators, ReadsDeclaration, ReadsForStart, ReadsStatement, ReadsCompound, ReadsBlockItems, after}
+use Rattle.mc_tree.specs.Tree.{Expression, Specifiers, InitDeclarator, Declaration, ForStart, Statement, BlockItems, Item}
+use Rattle.mc_grammar.specs.Words.{Lexeme}
+use Rattle.mc_grammar.specs.Statements.{ReadsOptional, ReadsTest, ReadsInitDeclarator, ReadsInitDeclarators, ReadsDeclaration, ReadsForStart, ReadsStatement, ReadsCompound, ReadsBlockItems}
 use Rattle.mc_grammar.specs.Statements as s
 use Rattle.mc_grammar.specs.Items.{ReadsItem}
 use Rattle.mc_grammar.specs.Items as i
 use Rattle.mc_grammar.proofs.Ends.{IsEnd, whole, later, join, stars_ends, expression_ends, specifiers_ends, parameters_ends, declarator_ends, initializer_ends}
 use Rattle.reread_law_texts.specs.alike.Moves.{Move, AllFit, tokens_of}
+use Rattle.reread_law_texts.proofs.Tokens.{after_tokens}
 
 pub tokens_end : {ts rest : List Lexeme} → IsEnd rest ts → IsEnd (tokens_of rest) (tokens_of ts)
 tokens_end whole = whole
@@ -22,26 +22,6 @@ tokens_end (later p) = later (tokens_end p)
 pub left_fits : (m : Move) {all left : List Tok} → IsEnd left all → AllFit m all → AllFit m left
 left_fits m whole h = h
 left_fits m (later p) h = left_fits m p h.1
-
--- ---- typedef names
-
-abbrev pub marked : Bool → Lexeme → Lexeme
-marked b x = if b then record { token = x.token; names_type = true } else x
-
-same_token : (b : Bool) (x : Lexeme) → (marked b x).token ≡ x.token
-same_token true x = refl
-same_token false x = refl
-
-retag_tokens : (name : List ℕ) (ts : List Lexeme) → tokens_of (retag name ts) ≡ tokens_of ts
-unfolding retag
-retag_tokens name [] = refl
-retag_tokens name (x ∷ ts) =
-    ap (λ t. t ∷ tokens_of (retag name ts)) (same_token (is_identifier_kind x.token.kind && bytes_eq x.token.text name) x)
-    ∙ ap (λ us. x.token ∷ us) (retag_tokens name ts)
-
-pub after_tokens : (typedef : Bool) (d : Declarator) (ts : List Lexeme) → tokens_of (after typedef d ts) ≡ tokens_of ts
-after_tokens true d ts = retag_tokens (name_of d).text ts
-after_tokens false d ts = refl
 
 -- ---- what is left
 

@@ -15,11 +15,12 @@ use Rattle.mc_grammar.specs.Items as i
 use Rattle.mc_grammar.proofs.Ends.{stars_ends, expression_ends, specifiers_ends, parameters_ends, declarator_ends, initializer_ends, initializers_ends}
 use Rattle.reread_law_texts.specs.alike.Moves.{Move, AllFit, moved_span, moved_tokens, moved_lexeme, moved_lexemes}
 use Rattle.reread_law_texts.specs.alike.Trees.{moved, moved_specifiers, moved_declarator, moved_initializer, moved_initializers, moved_init_declarator, moved_init_declarators, moved_declaration, moved_optional, moved_start, moved_statement, moved_block, moved_item, moved_unit}
-use Rattle.reread_law_texts.proofs.Alike.Left.{left_fits, marked, after_tokens, init_declarator_left, init_declarators_left, declaration_left, optional_left, test_left, for_start_left, statement_left, block_items_left, item_left}
+use Rattle.reread_law_texts.proofs.Alike.Left.{left_fits, init_declarator_left, init_declarators_left, declaration_left, optional_left, test_left, for_start_left, statement_left, block_items_left, item_left}
 use Rattle.reread_law_texts.proofs.Alike.Fitting.{Fit, end_fits}
 use Rattle.reread_law_texts.proofs.Alike.Tests.{seen, keyword_seen, specifiers_seen, label_seen}
 use Rattle.reread_law_texts.proofs.Alike.Spans.{start_kept, at_kept, parameters_end_kept, statement_end_kept, for_type_kept, for_local_kept, for_function_kept, item_of_kept}
 use Rattle.reread_law_texts.proofs.Alike.MovedExpressions.{moves, stars_from, stars_move, specifiers_move, declarator_moves, parameters_move}
+use Rattle.reread_law_texts.proofs.Tokens.{marked, after_tokens}
 
 -- ---- typedef names
 

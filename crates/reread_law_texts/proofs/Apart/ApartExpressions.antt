@@ -13,7 +13,8 @@ use Rattle.mc_grammar.specs.Expressions.{Reads, ReadsExpressions, ReadsTypeName,
 use Rattle.mc_grammar.specs.Expressions as r
 use Rattle.reread_law_texts.specs.alike.Moves.{FollowFrom, end_of}
 use Rattle.reread_law_texts.specs.apart.Places.{spans_in_expressions, spans_in_type_name, spans_in_specifiers, spans_in_members, spans_in_member, spans_in_declarators, spans_in_enumerators, spans_in_enumerator, spans_in_declarator, spans_in_lengths, spans_in_parameters, spans_in_parameter_list, spans_in_parameter}
-use Rattle.reread_law_texts.proofs.Apart.Ascending.{tk, Part, Goes, nothing, token, join, some, chain, one, Node, as_part, begun, past, grown, own}
+use Rattle.reread_law_texts.proofs.Apart.Ascending.{Part, Goes, nothing, token, join, some, chain, one, Node, as_part, begun, past, grown, own}
+use Rattle.reread_law_texts.proofs.Tokens.{tk}
 
 -- The rest of a repetition goes on from an expression that stands there.
 abbrev Apart : Nonterminal → List Lexeme → Expression → List Lexeme → Type 0

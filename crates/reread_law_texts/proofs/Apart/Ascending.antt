@@ -1,6 +1,6 @@
 -- Places of a part of a text: each stands later than the one before it, or starts where this does and
 -- ends sooner.
-use Rattle.std.proofs.Common.{◌≡◌, ◌≤◌, ◌<◌, ◌+◌, ◌⊎◌, inl, inr, ℕ, List, [], ◌∷◌, length, map, refl, sym, ap, subst, ◌∙◌, arith}
+use Rattle.std.proofs.Common.{◌≡◌, ◌≤◌, ◌<◌, ◌⊎◌, inl, inr, ℕ, List, [], ◌∷◌, length, refl, sym, ap, subst, ◌∙◌, arith}
 use Rattle.mc_span.specs.declared.span.Span.{Span}
 use Rattle.mc_lex.specs.Tokens.{Tok}
 use Rattle.mc_tree.specs.Tree.{Expression, span_of}
@@ -9,9 +9,7 @@ use Rattle.mc_grammar.specs.Words.{Lexeme}
 use Rattle.reread_law_texts.specs.alike.Moves.{FollowFrom, end_of}
 use Rattle.reread_law_texts.specs.apart.Places.{Spans, spans, spans_in_expressions, spans_in_type_name}
 use Rattle.reread_law_texts.specs.apart.Distinct.{Each, IsDistinct, HasBytes}
-
-abbrev pub tk : List Lexeme → List Tok
-tk ts = map (λ x. x.token) ts
+use Rattle.reread_law_texts.proofs.Tokens.{reflexive, transitive, ends_later, ends_after}
 
 -- ---- the order of places
 
@@ -82,18 +80,6 @@ pub record Part (c e : ℕ) (rest : List Tok) (i : Spans) : Type 0 where
 pub record Goes (c : ℕ) (rest : List Tok) (i : Spans) : Type 0 where
   pub end : ℕ
   pub part : Part c end rest i
-
-reflexive : (n : ℕ) → n ≤ n
-reflexive n = omega arith
-
-transitive : (a b c : ℕ) → a ≤ b → b ≤ c → a ≤ c
-transitive a b c h k = omega (arith, h, k)
-
-ends_later : (c start length : ℕ) → c ≤ start → c ≤ start + length
-ends_later c start length h = omega (arith, h)
-
-ends_after : (c start length : ℕ) → c ≤ start → 0 < length → c < start + length
-ends_after c start length h k = omega (arith, h, k)
 
 pub nothing : (c : ℕ) (ts : List Tok) → FollowFrom c ts → Part c c ts (λ ps. ps)
 nothing c ts h = record { forward = reflexive c; follow = h; goes = λ ps k. k }

@@ -18,9 +18,10 @@ use Rattle.mc_grammar.specs.Items as i
 use Rattle.mc_grammar.proofs.Extent.{statement_stands}
 use Rattle.reread_law_texts.specs.alike.Moves.{FollowFrom, end_of}
 use Rattle.reread_law_texts.specs.apart.Enclosed.{Encloses, EnclosesAll, EnclosesInTypeName, EnclosesInSpecifiers, EnclosesInMembers, EnclosesInMember, EnclosesInDeclarators, EnclosesInEnumerators, EnclosesInEnumerator, EnclosesInDeclarator, EnclosesInLengths, EnclosesInParameters, EnclosesInParameterList, EnclosesInParameter, EnclosesInInitializer, EnclosesInInitializers, EnclosesInInitDeclarator, EnclosesInInitDeclarators, EnclosesInDeclaration, EnclosesInOptional, EnclosesInStart, StartsAfter, EnclosesInStatement, EnclosesInBlock, EnclosesInItem, EnclosesInUnit}
-use Rattle.reread_law_texts.proofs.Apart.Ascending.{tk, own}
+use Rattle.reread_law_texts.proofs.Apart.Ascending.{own}
 use Rattle.reread_law_texts.proofs.Apart.ApartExpressions.{stars_apart, apart, operand_apart, apart_type_name, apart_specifiers, apart_members, apart_member, apart_enumerators, apart_enumerator, apart_declarator, apart_parameters, apart_parameter}
-use Rattle.reread_law_texts.proofs.Apart.ApartStatements.{after_tokens, same_tokens, apart_initializer, apart_init_declarator, apart_declaration, apart_optional, apart_test, apart_start, apart_statement, apart_item}
+use Rattle.reread_law_texts.proofs.Apart.ApartStatements.{apart_initializer, apart_init_declarator, apart_declaration, apart_optional, apart_test, apart_start, apart_statement, apart_item}
+use Rattle.reread_law_texts.proofs.Tokens.{tk, after_tokens, same_tokens}
 
 -- ---- what starts after a byte
 

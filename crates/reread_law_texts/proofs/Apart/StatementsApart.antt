@@ -12,9 +12,10 @@ use Rattle.mc_grammar.specs.Items.{ReadsItem, ReadsUnit, IsTree}
 use Rattle.mc_grammar.specs.Items as i
 use Rattle.reread_law_texts.specs.alike.Moves.{FollowFrom, end_of}
 use Rattle.reread_law_texts.specs.apart.Places.{statement_spans, statement_spans_in_block, statement_spans_in_item, statement_spans_in_unit}
-use Rattle.reread_law_texts.proofs.Apart.Ascending.{tk, Part, Goes, From, nothing, token, join, some, chain, one, as_part, passed, passed_goes, placed, own}
+use Rattle.reread_law_texts.proofs.Apart.Ascending.{Part, Goes, From, nothing, token, join, some, chain, one, as_part, passed, passed_goes, placed, own}
 use Rattle.reread_law_texts.proofs.Apart.ApartExpressions.{stars_apart, apart, apart_specifiers, apart_parameters}
-use Rattle.reread_law_texts.proofs.Apart.ApartStatements.{apart_declaration, apart_optional, apart_test, apart_start, same_tokens}
+use Rattle.reread_law_texts.proofs.Apart.ApartStatements.{apart_declaration, apart_optional, apart_test, apart_start}
+use Rattle.reread_law_texts.proofs.Tokens.{tk, same_tokens}
 
 mutual
   part_statement : {d : Dialect} {ts rest : List Lexeme} {a : Statement} (p : ReadsStatement d ts a rest) (c : ℕ) → FollowFrom c (tk ts) → Part c (span_of_statement a).end (tk rest) (statement_spans a)

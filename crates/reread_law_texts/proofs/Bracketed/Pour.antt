@@ -1,6 +1,5 @@
 -- Brackets that are put by places: one token, one bracket, and parts one after the other.
-use Rattle.std.proofs.Common.{◌≡◌, ◌≤◌, ◌<◌, ◌+◌, ◌-◌, ℕ, zero, suc, nat_lt, Bool, true, false, List, [], ◌∷◌, ◌++◌, take, drop, length, map, if◌then◌else◌, refl, sym, ap, ◌∙◌, codes, arith}
-use Rattle.std.proofs.lemmas.Bool.Decides.{nat_tests}
+use Rattle.std.proofs.Common.{◌≡◌, ◌≤◌, ◌<◌, ◌+◌, ◌-◌, ℕ, zero, suc, Bool, true, false, List, [], ◌∷◌, ◌++◌, take, drop, length, if◌then◌else◌, refl, sym, ap, ◌∙◌, codes, arith}
 use Rattle.mc_span.specs.declared.span.Span.{Span}
 use Rattle.mc_lex.specs.Tokens.{Tok}
 use Rattle.mc_grammar.specs.Words.{Lexeme, lexeme_of, lexemes_of}
@@ -11,9 +10,7 @@ use Rattle.reread_law_texts.specs.weave.Brackets.{Brackets, Step, copy, put, sig
 use Rattle.reread_law_texts.specs.weave.Weaving.{Steps}
 use Rattle.reread_law_texts.specs.alike.Moves.{FollowFrom, end_of}
 use Rattle.reread_law_texts.specs.brackets.Signs.{Sign, Signs, before, poured, opened, closed, parenthesized, once, braced}
-
-abbrev pub tk : List Lexeme → List Tok
-tk ts = map (λ x. x.token) ts
+use Rattle.reread_law_texts.proofs.Tokens.{tk, reflexive, ends_later, is_before, not_before}
 
 -- ---- steps on tokens alone
 
@@ -28,10 +25,6 @@ run_lexemes [] ts = refl
 run_lexemes (copy ∷ s) [] = refl
 run_lexemes (copy ∷ s) (x ∷ ts) = ap (λ us. lexeme_of x ∷ us) (run_lexemes s ts)
 run_lexemes (put text start ∷ s) ts = ap (λ us. lexeme_of (sign text start) ∷ us) (run_lexemes s ts)
-
-pub same_tokens : (tokens : List Tok) → tk (lexemes_of tokens) ≡ tokens
-same_tokens [] = refl
-same_tokens (x ∷ tokens) = ap (λ us. x ∷ us) (same_tokens tokens)
 
 -- ---- one token, one bracket
 
@@ -48,18 +41,6 @@ late_lower n m (p ∷ ps) h l = omega (arith, h, l)
 abbrev pub Head : ℕ → List Tok → Type 0
 Head n [] = Unit {0}
 Head n (x ∷ ts) = n ≤ x.start
-
-is_before : (n m : ℕ) → n < m → nat_lt n m ≡ true
-is_before n m h = grind (arith, nat_tests)
-
-not_before : (n m : ℕ) → m ≤ n → nat_lt n m ≡ false
-not_before n m h = grind (arith, nat_tests)
-
-pub reflexive : (n : ℕ) → n ≤ n
-reflexive n = omega arith
-
-ends_later : (c start length : ℕ) → c ≤ start → c ≤ start + length
-ends_later c start length h = omega (arith, h)
 
 longer_end : (start length : ℕ) → 0 < length → start < start + length
 longer_end start length h = omega (arith, h)

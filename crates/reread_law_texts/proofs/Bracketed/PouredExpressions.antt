@@ -15,8 +15,9 @@ use Rattle.mc_grammar.proofs.Extent.{stands}
 use Rattle.reread_law_texts.specs.weave.Brackets.{Brackets, copy, in_parentheses}
 use Rattle.reread_law_texts.specs.weave.Weaving.{Steps, none, in_expression, in_expressions, in_type_name, in_stars, in_specifiers, in_members, in_member, in_declarators, in_enumerators, in_enumerator, in_declarator, in_lengths, in_parameters, in_parameter_list, in_parameter}
 use Rattle.reread_law_texts.specs.alike.Moves.{FollowFrom, end_of}
-use Rattle.reread_law_texts.specs.brackets.Signs.{parenthesized, signs, signs_in_expressions, signs_in_type_name, signs_in_specifiers, signs_in_members, signs_in_member, signs_in_declarators, signs_in_enumerators, signs_in_enumerator, signs_in_declarator, signs_in_lengths, signs_in_parameters, signs_in_parameter_list, signs_in_parameter}
-use Rattle.reread_law_texts.proofs.Bracketed.Pour.{tk, Part, Goes, Placed, nothing, token, join, some, chain, one, wrap, placed, onward, begun}
+use Rattle.reread_law_texts.specs.brackets.Signs.{signs, signs_in_expressions, signs_in_type_name, signs_in_specifiers, signs_in_members, signs_in_member, signs_in_declarators, signs_in_enumerators, signs_in_enumerator, signs_in_declarator, signs_in_lengths, signs_in_parameters, signs_in_parameter_list, signs_in_parameter}
+use Rattle.reread_law_texts.proofs.Bracketed.Pour.{Part, Goes, Placed, nothing, token, join, some, chain, one, wrap, placed, onward, begun}
+use Rattle.reread_law_texts.proofs.Tokens.{tk}
 
 abbrev Pours : Brackets → Nonterminal → List Lexeme → Expression → List Lexeme → (Steps → Steps) → Type 0
 Pours w (n.operations k a) ts b rest f =

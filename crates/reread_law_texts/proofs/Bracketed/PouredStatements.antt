@@ -1,14 +1,13 @@
 -- The brackets of an initializer, a declaration, a statement and an item, put by their places: one
 -- case for each alternative of a production.
-use Rattle.std.proofs.Common.{◌≡◌, ℕ, Bool, true, false, ◌&&◌, List, [], ◌∷◌, Option, if◌then◌else◌, refl, sym, ap, subst, ◌∙◌}
-use Rattle.std.specs.Str.{bytes_eq}
+use Rattle.std.proofs.Common.{◌≡◌, ℕ, Bool, List, ◌∷◌, Option, refl, sym, ap, subst, ◌∙◌}
 use Rattle.mc_span.specs.declared.span.Span.{Span}
 use Rattle.mc_lex.specs.declared.token.Dialect.{Dialect}
 use Rattle.mc_lex.specs.Tokens.{Tok}
-use Rattle.mc_tree.specs.Tree.{Expression, Specifiers, Declarator, Initializer, Initializers, InitDeclarator, Declaration, ForStart, Statement, BlockItems, Item, name_of, span_of, span_of_statement}
-use Rattle.mc_grammar.specs.Words.{Lexeme, is_identifier_kind, retag, lexemes_of}
+use Rattle.mc_tree.specs.Tree.{Expression, Specifiers, Initializer, Initializers, InitDeclarator, Declaration, ForStart, Statement, BlockItems, Item, span_of, span_of_statement}
+use Rattle.mc_grammar.specs.Words.{Lexeme, lexemes_of}
 use Rattle.mc_grammar.specs.Places.{at, to}
-use Rattle.mc_grammar.specs.Statements.{ReadsOptional, ReadsTest, ReadsInitializer, ReadsInitializers, ReadsInitDeclarator, ReadsInitDeclarators, ReadsDeclaration, ReadsForStart, ReadsStatement, ReadsCompound, ReadsBlockItems, after}
+use Rattle.mc_grammar.specs.Statements.{ReadsOptional, ReadsTest, ReadsInitializer, ReadsInitializers, ReadsInitDeclarator, ReadsInitDeclarators, ReadsDeclaration, ReadsForStart, ReadsStatement, ReadsCompound, ReadsBlockItems}
 use Rattle.mc_grammar.specs.Statements as g
 use Rattle.mc_grammar.specs.Items.{ReadsItem, ReadsUnit, IsTree}
 use Rattle.mc_grammar.specs.Items as i
@@ -19,27 +18,9 @@ use Rattle.reread_law_texts.specs.weave.Weaving.{none, in_expression, in_declara
 use Rattle.reread_law_texts.proofs.Weave.WovenStatements.{weave_unit}
 use Rattle.reread_law_texts.specs.alike.Moves.{FollowFrom, end_of}
 use Rattle.reread_law_texts.specs.brackets.Signs.{poured, signs, signs_in_declarator, signs_in_initializer, signs_in_initializers, signs_in_init_declarator, signs_in_init_declarators, signs_in_declaration, signs_in_optional, signs_in_start, signs_in_statement, signs_in_block, signs_in_item, signs_in_unit}
-use Rattle.reread_law_texts.proofs.Bracketed.Pour.{tk, run_tokens, run_lexemes, same_tokens, Late, Part, Goes, nothing, token, join, some, chain, one, brace, placed, onward, begun}
+use Rattle.reread_law_texts.proofs.Bracketed.Pour.{run_tokens, run_lexemes, Late, Part, Goes, nothing, token, join, some, chain, one, brace, placed, onward, begun}
 use Rattle.reread_law_texts.proofs.Bracketed.PouredExpressions.{stars_pour, pour, pour_specifiers, pour_declarator, pour_parameters}
-
--- ---- typedef names
-
-abbrev marked : Bool → Lexeme → Lexeme
-marked b x = if b then record { token = x.token; names_type = true } else x
-
-same_token : (b : Bool) (x : Lexeme) → (marked b x).token ≡ x.token
-same_token true x = refl
-same_token false x = refl
-
-retag_tokens : (name : List ℕ) (ts : List Lexeme) → tk (retag name ts) ≡ tk ts
-unfolding retag
-retag_tokens name [] = refl
-retag_tokens name (x ∷ ts) =
-    ap (λ t. t ∷ tk (retag name ts)) (same_token (is_identifier_kind x.token.kind && bytes_eq x.token.text name) x) ∙ ap (λ us. x.token ∷ us) (retag_tokens name ts)
-
-after_tokens : (typedef : Bool) (d : Declarator) (ts : List Lexeme) → tk (after typedef d ts) ≡ tk ts
-after_tokens true d ts = retag_tokens (name_of d).text ts
-after_tokens false d ts = refl
+use Rattle.reread_law_texts.proofs.Tokens.{tk, same_tokens, after_tokens}
 
 -- ---- declarations
 

@@ -1,5 +1,5 @@
 -- Tokens that start one after the other, and those of them that are left.
-use Rattle.std.proofs.Common.{◌≡◌, ◌<◌, ℕ, Bool, true, false, ◌&&◌, List, [], ◌∷◌, Option, if◌then◌else◌, refl, sym, subst, arith}
+use Rattle.std.proofs.Common.{◌≡◌, ◌<◌, ℕ, Bool, true, false, ◌&&◌, List, [], ◌∷◌, Option, refl, sym, subst, arith}
 use Rattle.std.specs.Str.{bytes_eq}
 use Rattle.mc_span.specs.declared.span.Span.{Span}
 use Rattle.mc_lex.specs.declared.token.Dialect.{Dialect}
@@ -14,6 +14,7 @@ use Rattle.mc_grammar.specs.Items as i
 use Rattle.mc_grammar.proofs.Ends.{IsEnd, whole, later, stars_ends, expression_ends, specifiers_ends, parameters_ends, declarator_ends, initializer_ends}
 use Rattle.mc_lex.specs.Tokens.{Tok}
 use Rattle.reread_law_texts.specs.alike.Moves.{FollowFrom, end_of}
+use Rattle.reread_law_texts.proofs.Tokens.{marked}
 
 -- none of these starts at this byte or before
 abbrev pub Later : ℕ → List Lexeme → Type 0
@@ -54,9 +55,6 @@ pub starts_later : (n : ℕ) (span : Span) (ts rest : List Lexeme) → IsPlace s
 starts_later n span ts rest p h = place_later n p (same_later n ts h)
 
 -- ---- typedef names
-
-abbrev marked : Bool → Lexeme → Lexeme
-marked b x = if b then record { token = x.token; names_type = true } else x
 
 same_start : (b : Bool) (x : Lexeme) → (marked b x).token.start ≡ x.token.start
 same_start true x = refl
