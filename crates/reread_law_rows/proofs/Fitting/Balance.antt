@@ -8,7 +8,8 @@ use Rattle.mc_grammar.specs.Nonterminal.{Nonterminal}
 use Rattle.mc_grammar.specs.Expressions.{Reads, ReadsExpressions, ReadsTypeName, ReadsStars, ReadsSpecifiers, ReadsMembers, ReadsMember, ReadsDeclarators, ReadsEnumerators, ReadsEnumerator, ReadsDeclarator, ReadsArrayLengths, ReadsParameters, ReadsParameterList, ReadsParameter}
 use Rattle.mc_grammar.specs.Expressions as r
 use Rattle.reread_law_rows.proofs.Fitting.Words.{AreClear}
-use Rattle.reread_law_rows.proofs.Fitting.Sections.{tk, Some_, no_token, plain, chain, round, square, curly, semicolon_free, comma_mild, question_mild, colon_free, member_mild, star_mild, equals_mild, operator_mild, assignment_mild, step_mild, unary_mild, keyword_free, identifier_free, name_free, type_free, word_free}
+use Rattle.reread_law_rows.proofs.Fitting.Sections.{Some_, no_token, plain, chain, round, square, curly, semicolon_free, comma_mild, question_mild, colon_free, member_mild, star_mild, equals_mild, operator_mild, assignment_mild, step_mild, unary_mild, keyword_free, identifier_free, name_free, type_free, word_free}
+use Rattle.reread_law_texts.proofs.Tokens.{tk}
 
 pub stars : {before last : Span} {ts rest : List Lexeme} {k : ℕ} → ReadsStars before ts k last rest → AreClear (tk ts) → Some_ (tk ts) (tk rest)
 stars (r.star {x = x} e p) h = chain (plain x (star_mild x e).bracket h) (λ h. stars p h)

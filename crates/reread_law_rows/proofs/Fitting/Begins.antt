@@ -23,8 +23,9 @@ use Rattle.mc_lex.proofs.Texts.{passes, is_false}
 use Rattle.mc_lex.specs.Words.{one_of}
 use Rattle.reread_pieces.specs.Words.{is_identifier_kind as identifies, is_identifier, is_one_of, specifiers, begins_declaration}
 use Rattle.reread_law_rows.proofs.Fitting.Words.{Clear, AreClear}
-use Rattle.reread_law_rows.proofs.Fitting.Sections.{tk, Mild, comma_mild, question_mild, member_mild, operator_mild, assignment_mild, step_mild, unary_mild, left_of, keyword_text}
+use Rattle.reread_law_rows.proofs.Fitting.Sections.{Mild, comma_mild, question_mild, member_mild, operator_mild, assignment_mild, step_mild, unary_mild, left_of, keyword_text}
 use Rattle.reread_law_rows.proofs.Fitting.Profile.{stars_of, declarator_of}
+use Rattle.reread_law_texts.proofs.Tokens.{tk}
 
 -- ---- what does not begin so
 

@@ -15,8 +15,9 @@ use Rattle.reread_pieces.specs.Words.{is, is_name}
 use Rattle.reread_law_texts.specs.alike.Moves.{end_of}
 use Rattle.reread_law_rows.specs.inserted.Fits.{StartsAt, EndsAt, last_is, first_is}
 use Rattle.reread_law_rows.proofs.Fitting.Words.{AreClear}
-use Rattle.reread_law_rows.proofs.Fitting.Sections.{tk, Section, sample, left_of, right_of, keyword_text}
+use Rattle.reread_law_rows.proofs.Fitting.Sections.{Section, sample, left_of, right_of, keyword_text}
 use Rattle.reread_law_rows.proofs.Fitting.Spots.{At, Spot, past, last_snoc, last_of_both, ends_append, ends_last}
+use Rattle.reread_law_texts.proofs.Tokens.{tk}
 
 -- These tokens end at this byte, neither with a name nor with `:`.
 pub record Ending (e : ℕ) (i : List Tok) : Type 0 where

@@ -12,9 +12,10 @@ use Rattle.mc_grammar.specs.Nonterminal as n
 use Rattle.mc_grammar.specs.Expressions.{Reads, ReadsExpressions}
 use Rattle.mc_grammar.specs.Expressions as r
 use Rattle.reread_law_rows.proofs.Fitting.Words.{AreClear}
-use Rattle.reread_law_rows.proofs.Fitting.Sections.{tk, empty, token, join, put, enclosed, are_round, are_square, colon_free, comma_mild, question_mild, member_mild, operator_mild, assignment_mild, step_mild, unary_mild, name_free}
+use Rattle.reread_law_rows.proofs.Fitting.Sections.{empty, token, join, put, enclosed, are_round, are_square, colon_free, comma_mild, question_mild, member_mild, operator_mild, assignment_mild, step_mild, unary_mild, name_free}
 use Rattle.reread_law_rows.proofs.Fitting.Spots.{Spot, at, next, after, over, sign_name, Node, Nodes, whole, grown, ends_put, ends_append, ends_last}
 use Rattle.reread_law_rows.proofs.Fitting.Balance.{type_name}
+use Rattle.reread_law_texts.proofs.Tokens.{tk}
 
 abbrev Fits : List Tok → Nonterminal → List Lexeme → Expression → List Lexeme → Type 0
 Fits tokens (n.operations k a) ts b rest = (from : List Tok) → Spot tokens from → Node tokens from (tk ts) a → Node tokens from (tk rest) b

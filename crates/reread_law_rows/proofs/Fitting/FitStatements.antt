@@ -1,18 +1,17 @@
 -- Declarations and statements fit where they stand: one case for each alternative of a production.
-use Rattle.std.proofs.Common.{◌≡◌, ℕ, Bool, true, false, ◌&&◌, List, [], ◌∷◌, ◌++◌, Option, Some, None, if◌then◌else◌, refl, sym, ap, ◌∙◌, subst, codes}
+use Rattle.std.proofs.Common.{◌≡◌, ℕ, Bool, true, false, List, [], ◌∷◌, ◌++◌, Option, Some, None, refl, sym, ap, ◌∙◌, subst, codes}
 use Rattle.std.specs.List.{list_any}
-use Rattle.std.specs.Str.{bytes_eq}
 use Rattle.std.proofs.lemmas.List.{append_cancel_right}
 use Rattle.mc_span.specs.declared.span.Span.{Span}
 use Rattle.mc_lex.specs.declared.token.Dialect.{Dialect}
 use Rattle.mc_lex.specs.Tokens.{Tok}
 use Rattle.mc_lex.specs.Words.{one_of}
-use Rattle.mc_tree.specs.Tree.{Expression, Specifiers, Declarator, Initializer, Initializers, InitDeclarator, Declaration, ForStart, Statement, BlockItems, Item, name_of, span_of, span_of_statement}
+use Rattle.mc_tree.specs.Tree.{Expression, Specifiers, Initializer, Initializers, InitDeclarator, Declaration, ForStart, Statement, BlockItems, Item, span_of, span_of_statement}
 use Rattle.mc_tree.specs.Tree as t
-use Rattle.mc_grammar.specs.Words.{Lexeme, is_identifier_kind, is_keyword, is_punctuator, retag, lexemes_of}
+use Rattle.mc_grammar.specs.Words.{Lexeme, is_keyword, is_punctuator, lexemes_of}
 use Rattle.mc_grammar.specs.Places.{at as place_at, name_at, to}
 use Rattle.mc_grammar.specs.Extent.{span_of_declaration}
-use Rattle.mc_grammar.specs.Statements.{ReadsOptional, ReadsTest, ReadsInitializer, ReadsInitializers, ReadsInitDeclarator, ReadsInitDeclarators, ReadsDeclaration, ReadsForStart, ReadsStatement, ReadsCompound, ReadsBlockItems, after as after_declarator}
+use Rattle.mc_grammar.specs.Statements.{ReadsOptional, ReadsTest, ReadsInitializer, ReadsInitializers, ReadsInitDeclarator, ReadsInitDeclarators, ReadsDeclaration, ReadsForStart, ReadsStatement, ReadsCompound, ReadsBlockItems}
 use Rattle.mc_grammar.specs.Statements as g
 use Rattle.mc_grammar.specs.Items.{ReadsItem, ReadsUnit, IsTree}
 use Rattle.mc_grammar.specs.Items as i
@@ -22,7 +21,7 @@ use Rattle.reread_law_texts.specs.alike.Moves.{end_of}
 use Rattle.reread_law_rows.specs.inserted.Fits.{StartsAt, IsStatementAmong}
 use Rattle.reread_law_rows.specs.fitting.Fitting.{FitsIn, FitsInOptional, FitsInInitializer, FitInInitializers, FitInObjects, FitsInDeclaration, FitsAsLocal, FitsInStart, FitsInStatement, FitInBlock, FitsInItem, FitInUnit}
 use Rattle.reread_law_rows.proofs.Fitting.Words.{Clear, AreClear}
-use Rattle.reread_law_rows.proofs.Fitting.Sections.{tk, Section, empty, token, join, put, add, enclosed, are_round, are_curly, semicolon_free, colon_free, comma_mild, equals_mild, keyword_free, name_free, keyword_kind}
+use Rattle.reread_law_rows.proofs.Fitting.Sections.{Section, empty, token, join, put, add, enclosed, are_round, are_curly, semicolon_free, colon_free, comma_mild, equals_mild, keyword_free, name_free, keyword_kind}
 use Rattle.reread_law_rows.proofs.Fitting.Balance.{stars, specifiers, declarator, parameters}
 use Rattle.reread_law_rows.proofs.Fitting.Spots.{At, Spot, at, next, after, over, stands, sign_name, last_snoc, starts_append, ends_last}
 use Rattle.reread_law_rows.proofs.Fitting.FitExpressions.{fit}
@@ -30,25 +29,7 @@ use Rattle.reread_law_rows.proofs.Fitting.Begins.{calm, semicolon_wordless, stat
 use Rattle.reread_law_rows.proofs.Fitting.Profile.{BeginsPlain, IsAllowed, AreAllowed, IsAllowedItem, AreAllowedItems}
 use Rattle.reread_law_rows.proofs.Fitting.Silent.{quiet}
 use Rattle.reread_law_rows.proofs.Fitting.Endings.{Ending, ending_append, ending_sign, after_ending, sign_colon, is_sign, is_word, keyword_name, starts_by, first_by, brace_first}
-
--- ---- typedef names
-
-abbrev marked : Bool → Lexeme → Lexeme
-marked b x = if b then record { token = x.token; names_type = true } else x
-
-same_token : (b : Bool) (x : Lexeme) → (marked b x).token ≡ x.token
-same_token true x = refl
-same_token false x = refl
-
-retag_tokens : (name : List ℕ) (ts : List Lexeme) → tk (retag name ts) ≡ tk ts
-unfolding retag
-retag_tokens name [] = refl
-retag_tokens name (x ∷ ts) =
-    ap (λ t. t ∷ tk (retag name ts)) (same_token (is_identifier_kind x.token.kind && bytes_eq x.token.text name) x) ∙ ap (λ us. x.token ∷ us) (retag_tokens name ts)
-
-after_tokens : (typedef : Bool) (d : Declarator) (ts : List Lexeme) → tk (after_declarator typedef d ts) ≡ tk ts
-after_tokens true d ts = retag_tokens (name_of d).text ts
-after_tokens false d ts = refl
+use Rattle.reread_law_texts.proofs.Tokens.{tk, after_tokens}
 
 -- ---- signs
 

@@ -1,5 +1,5 @@
 -- Stretches of tokens with balanced brackets.
-use Rattle.std.proofs.Common.{◌≡◌, ℕ, Bool, true, false, not, ◌&&◌, ◌||◌, List, [], ◌∷◌, ◌++◌, map, Some, None, refl, sym, ap, ◌∙◌, subst, codes, true≢false}
+use Rattle.std.proofs.Common.{◌≡◌, ℕ, Bool, true, false, not, ◌&&◌, ◌||◌, List, [], ◌∷◌, ◌++◌, Some, None, refl, sym, ap, ◌∙◌, subst, codes, true≢false}
 use Rattle.std.specs.Str.{bytes_eq}
 use Rattle.std.proofs.lemmas.Slice.Eq.{bytes_eq-Decides}
 use Rattle.mc_lex.specs.declared.token.TokenKind.{TokenKind}
@@ -23,9 +23,6 @@ use Rattle.reread_pieces.specs.Words.{is, is_name as names, is_identifier, is_on
 use Rattle.reread_law_rows.specs.inserted.Fits.{is_bracket, is_pair, IsBalanced}
 use Rattle.reread_law_rows.specs.inserted.Fits as fit
 use Rattle.reread_law_rows.proofs.Fitting.Words.{Clear, AreClear, neither}
-
-abbrev pub tk : List Lexeme → List Tok
-tk ts = map (λ x. x.token) ts
 
 -- ---- lists
 

@@ -19,8 +19,9 @@ use Rattle.mc_grammar.specs.Expressions as r
 use Rattle.reread_law_texts.proofs.Weave.Next.{of_sign}
 use Rattle.reread_pieces.specs.Words.{is}
 use Rattle.reread_law_rows.proofs.Fitting.Words.{Clear, AreClear}
-use Rattle.reread_law_rows.proofs.Fitting.Sections.{tk, assoc, comma_mild, question_mild, member_mild, star_mild, operator_mild, assignment_mild, step_mild, unary_mild, keyword_kind, identifier_no_sign, left_of}
+use Rattle.reread_law_rows.proofs.Fitting.Sections.{assoc, comma_mild, question_mild, member_mild, star_mild, operator_mild, assignment_mild, step_mild, unary_mild, keyword_kind, identifier_no_sign, left_of}
 use Rattle.reread_law_rows.proofs.Fitting.Profile.{HasNoList, GivesNoList, NamesNoList, HaveNoList}
+use Rattle.reread_law_texts.proofs.Tokens.{tk}
 
 abbrev pub is_semicolon : Tok → Bool
 is_semicolon = is (codes ";")

@@ -1,5 +1,5 @@
 -- The declarations in the blocks of a text start one after the other: each has a token of its own.
-use Rattle.std.proofs.Common.{◌≡◌, ◌≤◌, ◌<◌, ℕ, suc, Bool, true, false, ◌&&◌, List, [], ◌∷◌, Option, if◌then◌else◌, refl, sym, subst, arith}
+use Rattle.std.proofs.Common.{◌≡◌, ◌≤◌, ◌<◌, ℕ, suc, Bool, true, false, ◌&&◌, List, [], ◌∷◌, Option, refl, sym, subst, arith}
 use Rattle.std.specs.Str.{bytes_eq}
 use Rattle.mc_lex.specs.declared.token.Dialect.{Dialect}
 use Rattle.mc_lex.specs.Tokens.{Tok}
@@ -15,6 +15,7 @@ use Rattle.reread_law_texts.specs.alike.Moves.{FollowFrom, end_of}
 use Rattle.reread_law_texts.specs.apart.Distinct.{Each, IsDistinct}
 use Rattle.reread_law_rows.specs.taken.Locals.{local_starts, local_starts_in_block, local_starts_in_item, local_starts_in_unit}
 use Rattle.reread_law_rows.specs.taken.Laws.{LocalsAreApart}
+use Rattle.reread_law_texts.proofs.Tokens.{marked}
 
 -- ---- bytes that rise
 
@@ -74,9 +75,6 @@ follow_ascend place (x ∷ tokens) h =
     (follow_low (end_of x) (suc x.start) tokens h.2 (omega (arith, h.1)), follow_ascend (end_of x) tokens h.2)
 
 -- ---- typedef names
-
-abbrev marked : Bool → Lexeme → Lexeme
-marked b x = if b then record { token = x.token; names_type = true } else x
 
 same_start : (b : Bool) (x : Lexeme) → (marked b x).token.start ≡ x.token.start
 same_start true x = refl
